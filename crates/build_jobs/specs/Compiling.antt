@@ -45,7 +45,8 @@ of_definition (Err f) = Refused f
 
 -- the body of a module in which no rule is broken
 abbrev pub typed_body : Module → (number : ℕ) → List Table → Result TypedModule Fault
-typed_body m number tables = let own = own_table m tables in checked least number m own (tables_behind own tables)
+typed_body m number tables =
+    let own = own_table m tables in checked least number m own (tables_behind own tables)
 
 -- Variables, texts or a frame that are too large are refused with 60. Else the module is emitted.
 abbrev pub of_fit : TypedModule → Option Pos → Compiled
@@ -59,10 +60,12 @@ of_checked (Err f) = Refused f
 -- ---- modules
 
 abbrev pub of_contents : Module → (number : ℕ) → List Table → Contents → Compiled
-of_contents m number tables (contents.Definition defs) = of_definition (types.compiled least number m tables)
+of_contents m number tables (contents.Definition defs) =
+    of_definition (types.compiled least number m tables)
 of_contents m number tables (contents.Implementation b) = of_checked (typed_body m number tables)
 of_contents m number tables (contents.Program b) = of_checked (typed_body m number tables)
 
 -- A module is blocked where one that it needs is refused or blocked.
 unfoldable pub compiled : Module → (number : ℕ) → List Compiled → Compiled
-compiled m number needed = cond (list_all is_sound needed) (of_contents m number (tables_of needed) m.contents) Blocked
+compiled m number needed =
+    cond (list_all is_sound needed) (of_contents m number (tables_of needed) m.contents) Blocked

@@ -13,15 +13,20 @@ encoded_in (Some m) job needed = IsEncoded m job needed
 
 -- that of a job, from what its prerequisites came to
 abbrev pub encoded_at : List Module → (files : List ℕ) → (job : ℕ) → List Compiled → Type 0
-encoded_at trees files job needed = encoded_in (slice_get trees (slice_index_or files job 0)) job needed
+encoded_at trees files job needed =
+    encoded_in (slice_get trees (slice_index_or files job 0)) job needed
 
 -- what becomes of a job, and that it has an encoding
 abbrev pub Defines : List Module → (files : List ℕ) → (job : ℕ) → List Compiled → Compiled → Type 0
-Defines trees files job needed c = (c ≡ compiled_at trees files job needed) × encoded_at trees files job needed
+Defines trees files job needed c =
+    (c ≡ compiled_at trees files job needed) × encoded_at trees files job needed
 
 -- what the prerequisites of a job come to
-abbrev pub needed_of : List Module → (files : List ℕ) → (jobs : List (List ℕ)) → (job : ℕ) → List Compiled
-needed_of trees files jobs job = picked (results_below jobs (compiled_at trees files) job) (prerequisites_of jobs job)
+abbrev pub needed_of : List Module → (files : List ℕ) → (jobs : List (List ℕ)) → (job : ℕ)
+    → List Compiled
+needed_of trees files jobs job =
+    picked (results_below jobs (compiled_at trees files) job) (prerequisites_of jobs job)
 
 pub record AreEncoded (trees : List Module) (files : List ℕ) (jobs : List (List ℕ)) : Type 0 where
-  pub each : (job : ℕ) → job < length jobs → encoded_at trees files job (needed_of trees files jobs job)
+  pub each : (job : ℕ) → job < length jobs
+      → encoded_at trees files job (needed_of trees files jobs job)

@@ -13,7 +13,8 @@ compiled_in (Some m) job needed = compiled m job needed
 
 -- what becomes of a job, where the file of each job is given by its place
 abbrev pub compiled_at : List Module → (files : List ℕ) → (job : ℕ) → List Compiled → Compiled
-compiled_at trees files job needed = compiled_in (slice_get trees (slice_index_or files job 0)) job needed
+compiled_at trees files job needed =
+    compiled_in (slice_get trees (slice_index_or files job 0)) job needed
 
 abbrev pub all_compiled : List Module → (files : List ℕ) → (jobs : List (List ℕ)) → List Compiled
 all_compiled trees files jobs = results jobs (compiled_at trees files)

@@ -7,12 +7,15 @@ use Rattle.build_jobs.specs.declared.made.Made.TheVariants.{Module, NoEncoding}
 abbrev pub modules : List Compiled → List Made
 modules cs = map Module cs
 
--- What a job may come to, where `defines` says what becomes of its module: a module comes of modules alone.
-pub record IsMadeOf (defines : ℕ → List Compiled → Compiled → Type 0) (job : ℕ) (outs : List Made) (c : Compiled) : Type 0 where
+-- What a job may come to, where `defines` says what becomes of its module: a module comes of
+-- modules alone.
+pub record IsMadeOf (defines : ℕ → List Compiled → Compiled → Type 0) (job : ℕ) (outs : List Made)
+    (c : Compiled) : Type 0 where
   pub needed : List Compiled
   pub outs_are : outs ≡ modules needed
   pub defined : defines job needed c
 
-abbrev pub MayMake : (defines : ℕ → List Compiled → Compiled → Type 0) → ℕ → List Made → Made → Type 0
+abbrev pub MayMake : (defines : ℕ → List Compiled → Compiled → Type 0) → ℕ → List Made → Made
+    → Type 0
 MayMake defines job outs (Module c) = IsMadeOf defines job outs c
 MayMake defines job outs NoEncoding = Unit {0}

@@ -26,9 +26,11 @@ checked_encoded (Err f) = Unit {0}
 
 abbrev pub contents_encoded : Module → (number : ℕ) → List Table → Contents → Type 0
 contents_encoded m number tables (contents.Definition defs) = Unit {0}
-contents_encoded m number tables (contents.Implementation b) = checked_encoded (typed_body m number tables)
+contents_encoded m number tables (contents.Implementation b) =
+    checked_encoded (typed_body m number tables)
 contents_encoded m number tables (contents.Program b) = checked_encoded (typed_body m number tables)
 
 -- and none that it needs is refused or blocked
 pub record IsEncoded (m : Module) (number : ℕ) (needed : List Compiled) : Type 0 where
-  pub encoded : list_all is_sound needed ≡ true → contents_encoded m number (tables_of needed) m.contents
+  pub encoded : list_all is_sound needed ≡ true
+      → contents_encoded m number (tables_of needed) m.contents

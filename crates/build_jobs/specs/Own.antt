@@ -1,4 +1,5 @@
--- The tables that a body is checked with: that of its own definition, and those of the modules that it imports.
+-- The tables that a body is checked with: that of its own definition, and those of the modules that
+-- it imports.
 use Rattle.std.specs.Prelude.{cond, List, [], ◌∷◌, Option, Some, None, drop}
 use Rattle.m2_tree.specs.declared.decl.Module.{Module}
 use Rattle.m2_tree.specs.Names.{same_name}

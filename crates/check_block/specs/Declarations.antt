@@ -29,19 +29,24 @@ use Rattle.check_block.specs.Headings.{standing_known, with_heading}
 -- ---- variables of a procedure, numbered behind its formals
 
 abbrev pub local_meaning : {T : Type 0} → (level number : ℕ) → Result TypeNo T → Result Meaning T
-local_meaning level n t = t ▷ λ x. Ok (meaning.Local (record { level = level; number = n; kind = kind.Variable; of = x }))
+local_meaning level n t =
+    t ▷ λ x. Ok (meaning.Local (record { level = level; number = n; kind = kind.Variable; of = x }))
 
 abbrev pub finished_local : {T : Type 0} → Result TypeNo T → Scope T → Ident → Scope T
-finished_local t s name = finished (with_variable_type s t) name (local_meaning s.level (length s.variables) t)
+finished_local t s name =
+    finished (with_variable_type s t) name (local_meaning s.level (length s.variables) t)
 
-abbrev pub with_locals : (g : Gathers) → State (Unit {0}) g.Reported → Variables → State (Unit {0}) g.Reported
+abbrev pub with_locals : (g : Gathers) → State (Unit {0}) g.Reported → Variables
+    → State (Unit {0}) g.Reported
 with_locals g st v =
     let b = fold (begun_name g) st v.names in
     let t = type_of g v.of b.0 in
     (fold (finished_local t.1) t.0 v.names, beside g b.1 (nothing_of t.1))
 
-abbrev pub with_variables_of : (g : Gathers) → State (Unit {0}) g.Reported → List Variables → State (Unit {0}) g.Reported
-with_variables_of g st vs = cond (st.0.level == 0) (fold (with_variables g) st vs) (fold (with_locals g) st vs)
+abbrev pub with_variables_of : (g : Gathers) → State (Unit {0}) g.Reported → List Variables
+    → State (Unit {0}) g.Reported
+with_variables_of g st vs =
+    cond (st.0.level == 0) (fold (with_variables g) st vs) (fold (with_locals g) st vs)
 
 -- ---- declarations, in order
 
@@ -52,19 +57,24 @@ Course T = Scope T × Result (Unit {0}) T × ℕ
 abbrev pub going_on : {T : Type 0} → State (Unit {0}) T → ℕ → Course T
 going_on st n = (st.0, st.1, n)
 
-abbrev pub with_procedure : (g : Gathers) → (ends : List ℕ) → Course g.Reported → Heading → Course g.Reported
-with_procedure g ends c h = let p = with_heading g c.0 c.2 h in (p.0, beside g c.1 p.1, number_behind ends c.2)
+abbrev pub with_procedure : (g : Gathers) → (ends : List ℕ) → Course g.Reported → Heading
+    → Course g.Reported
+with_procedure g ends c h =
+    let p = with_heading g c.0 c.2 h in (p.0, beside g c.1 p.1, number_behind ends c.2)
 
-abbrev pub decl_layer : (g : Gathers) → {A B : Type 0} → (ends : List ℕ) → Course g.Reported → Decl-F A B → Course g.Reported
+abbrev pub decl_layer : (g : Gathers) → {A B : Type 0} → (ends : List ℕ) → Course g.Reported
+    → Decl-F A B → Course g.Reported
 decl_layer g ends c (layer.Constants cs) = going_on (fold (with_constant g) (c.0, c.1) cs) c.2
 decl_layer g ends c (layer.Types ts) = going_on (fold (with_type g) (c.0, c.1) ts) c.2
 decl_layer g ends c (layer.Variables vs) = going_on (with_variables_of g (c.0, c.1) vs) c.2
 decl_layer g ends c (layer.Procedure h b) = with_procedure g ends c h
 
-abbrev pub with_decl : (g : Gathers) → (ends : List ℕ) → Course g.Reported → Decl → Course g.Reported
+abbrev pub with_decl : (g : Gathers) → (ends : List ℕ) → Course g.Reported → Decl
+    → Course g.Reported
 with_decl g ends c d = decl_layer g ends c (out-Decl d)
 
--- declarations of a block: the scope behind them, what is reported, and how many names stand before each
+-- declarations of a block: the scope behind them, what is reported, and how many names stand before
+-- each
 abbrev pub Declared : Type 0 → Type 0
 Declared T = Scope T × Result (Unit {0}) T × List ℕ
 
@@ -75,7 +85,8 @@ module _ {T X : Type 0} (marks : Scope T → X → Scope T) (declares : Course T
       let c = fold declares (m.0, st.1, first) xs in
       (c.0, c.1, m.1)
 
-abbrev pub declared_block : (g : Gathers) → (ends : List ℕ) → State (Unit {0}) g.Reported → (first : ℕ) → List Decl → Declared g.Reported
+abbrev pub declared_block : (g : Gathers) → (ends : List ℕ) → State (Unit {0}) g.Reported
+    → (first : ℕ) → List Decl → Declared g.Reported
 declared_block g ends st first decls = all_declared marked_decl (with_decl g ends) st first decls
 
 -- ---- a module's
@@ -96,7 +107,8 @@ abbrev pub reported_of_lack : (g : Gathers) → Pos → Scope g.Reported → Res
 reported_of_lack g at s = reported_where g (lacks s.own) at rule.MissingProcedure (Ok tt)
 
 -- the imports of a module, and what its block declares
-abbrev pub declared_module : (g : Gathers) → (modules : List (List ℕ × ℕ)) → (ends : List ℕ) → Scope g.Reported → Module → List Decl → Declared g.Reported
+abbrev pub declared_module : (g : Gathers) → (modules : List (List ℕ × ℕ)) → (ends : List ℕ)
+    → Scope g.Reported → Module → List Decl → Declared g.Reported
 declared_module g modules ends s m decls =
     let d = declared_block g ends (fold (with_import g modules) (s, Ok tt) m.imports) 0 decls in
     (d.0, beside g d.1 (reported_of_lack g m.name.pos d.0), d.2)

@@ -25,7 +25,8 @@ use Rattle.check_block.specs.declared.heading.Standing.{Standing}
 use Rattle.check_block.specs.declared.heading.Standing.TheVariants.{Free, Awaited, Taken}
 use Rattle.check_block.specs.Agreeing.{signature_of, agree}
 
--- ---- what stands under the name of a heading. A procedure of the module's own definition awaits its heading.
+-- ---- what stands under the name of a heading. A procedure of the module's own definition awaits
+-- its heading.
 
 abbrev pub standing_of : Meaning → Standing
 standing_of (meaning.Procedure p) = Awaited p
@@ -63,40 +64,55 @@ name_standing (Some k) = standing_known k
 
 -- a procedure in a procedure
 abbrev pub nested_meaning : {T : Type 0} → (level number : ℕ) → Result TypeNo T → Result Meaning T
-nested_meaning level n t = t ▷ λ x. Ok (meaning.LocalProcedure (record { level = level; number = n; heading = x }))
+nested_meaning level n t =
+    t ▷ λ x. Ok (meaning.LocalProcedure (record { level = level; number = n; heading = x }))
 
 abbrev pub headed : {T : Type 0} → List ℕ → Result Meaning T → Scope T → Scope T
 headed name m s = with_known name (Headed m) s
 
 abbrev pub module_procedure : {T : Type 0} → Scope T → List ℕ → Result TypeNo T → Scope T
-module_procedure s name t = headed name (procedure_meaning s.types.home (length s.procedures) t) (with_procedure_type s t)
+module_procedure s name t =
+    headed name (procedure_meaning s.types.home (length s.procedures) t) (with_procedure_type s t)
 
-abbrev pub new_procedure : {T : Type 0} → Scope T → List ℕ → (number : ℕ) → Result TypeNo T → Scope T
-new_procedure s name n t = cond (s.level == 0) (module_procedure s name t) (headed name (nested_meaning s.level n t) s)
+abbrev pub new_procedure : {T : Type 0} → Scope T → List ℕ → (number : ℕ) → Result TypeNo T
+    → Scope T
+new_procedure s name n t =
+    cond (s.level == 0) (module_procedure s name t) (headed name (nested_meaning s.level n t) s)
 
-abbrev pub with_new : {T : Type 0} → Scope T → List ℕ → (number : ℕ) → Result Made T → State (Unit {0}) T
+abbrev pub with_new : {T : Type 0} → Scope T → List ℕ → (number : ℕ) → Result Made T
+    → State (Unit {0}) T
 with_new s name n made = let t = with_made s made in (new_procedure t.0 name n t.1, nothing_of t.1)
 
 -- ---- a procedure of the module's own definition: its heading is the definition's
 
-abbrev pub reported_of_other : (g : Gathers) → Types → Pos → Procedure → Made → Result (Unit {0}) g.Reported
-reported_of_other g types at p m = reported_where g (not (agree (signature_of (Some m)) (signature_of (made_at types p.heading)))) at rule.OtherHeading (Ok tt)
+abbrev pub reported_of_other : (g : Gathers) → Types → Pos → Procedure → Made
+    → Result (Unit {0}) g.Reported
+reported_of_other g types at p m =
+    reported_where g (not (agree (signature_of (Some m)) (signature_of (made_at types p.heading))))
+    at rule.OtherHeading (Ok tt)
 
-abbrev pub with_awaited : (g : Gathers) → Scope g.Reported → Heading → Procedure → Result Made g.Reported → State (Unit {0}) g.Reported
-with_awaited g s h p made = (headed h.name.name (Ok (meaning.Procedure p)) s, made ▷ reported_of_other g s.types h.name.pos p)
+abbrev pub with_awaited : (g : Gathers) → Scope g.Reported → Heading → Procedure
+    → Result Made g.Reported → State (Unit {0}) g.Reported
+with_awaited g s h p made = (
+  headed h.name.name (Ok (meaning.Procedure p)) s,
+  made ▷ reported_of_other g s.types h.name.pos p,
+)
 
 -- ---- all of them
 
 abbrev pub nothing_made : {T : Type 0} → Result Made T → Result (Unit {0}) T
 nothing_made m = m ▷ λ x. Ok tt
 
-abbrev pub headed_as : (g : Gathers) → Scope g.Reported → Heading → (number : ℕ) → Result Made g.Reported → Standing → State (Unit {0}) g.Reported
+abbrev pub headed_as : (g : Gathers) → Scope g.Reported → Heading → (number : ℕ)
+    → Result Made g.Reported → Standing → State (Unit {0}) g.Reported
 headed_as g s h n made Free = with_new s h.name.name n made
 headed_as g s h n made (Awaited p) = with_awaited g s h p made
-headed_as g s h n made Taken = (s, beside g (nothing_made made) (reported g h.name.pos rule.DeclaredTwice))
+headed_as g s h n made Taken =
+    (s, beside g (nothing_made made) (reported g h.name.pos rule.DeclaredTwice))
 
 -- a heading in a block; the number is for a procedure in a procedure
-abbrev pub with_heading : (g : Gathers) → Scope g.Reported → (number : ℕ) → Heading → State (Unit {0}) g.Reported
+abbrev pub with_heading : (g : Gathers) → Scope g.Reported → (number : ℕ) → Heading
+    → State (Unit {0}) g.Reported
 with_heading g s n h =
     let st = headed_as g s h n (heading_of g s h) (name_standing (found h.name.name s.own)) in
     (st.0, beside g (names_of g h) st.1)

@@ -24,9 +24,15 @@ use Rattle.check_block.specs.declared.inner.Outside.{Outside}
 
 -- ---- inwards
 
--- in a procedure, before its formals are known: its block's names are around it, of which so many stand before it
+-- in a procedure, before its formals are known: its block's names are around it, of which so many
+-- stand before it
 abbrev pub inwards : {T : Type 0} → Scope T → (seen : ℕ) → Scope T
-inwards s seen = record s { level = length s.outer; own = []; outer = s.outer ++ record { names = s.own; seen = seen } ∷ []; variables = [] }
+inwards s seen = record s {
+  level = length s.outer;
+  own = [];
+  outer = s.outer ++ record { names = s.own; seen = seen } ∷ [];
+  variables = [];
+}
 
 -- what is put back behind the procedure
 abbrev pub outside : {T : Type 0} → Scope T → Outside
@@ -38,7 +44,9 @@ abbrev pub formal_kind : Formal → LocalKind
 formal_kind f = cond f.is_open kind.Open (cond f.is_var kind.Alias kind.Value)
 
 abbrev pub formal_meaning : {T : Type 0} → (level number : ℕ) → Result Formal T → Result Meaning T
-formal_meaning level n f = f ▷ λ x. Ok (meaning.Local (record { level = level; number = n; kind = formal_kind x; of = x.of }))
+formal_meaning level n f =
+    f ▷ λ x.
+    Ok (meaning.Local (record { level = level; number = n; kind = formal_kind x; of = x.of }))
 
 abbrev pub unless_found : {V : Type 0} → List ℕ → V → List (List ℕ × V) → List (List ℕ × V)
 unless_found name v ns = cond (is_some (found name ns)) ns (entered name v ns)
@@ -51,10 +59,15 @@ with_formal_type ts (Err e) = ts
 abbrev pub Formals : Type 0 → Type 0
 Formals T = List (List ℕ × Known T) × List TypeNo
 
-abbrev pub with_formal : {T : Type 0} → (level : ℕ) → Result Formal T → Formals T → Ident → Formals T
-with_formal level f fs name = (unless_found name.name (Declared Here (formal_meaning level (length fs.1) f)) fs.0, with_formal_type fs.1 f)
+abbrev pub with_formal : {T : Type 0} → (level : ℕ) → Result Formal T → Formals T → Ident
+    → Formals T
+with_formal level f fs name = (
+  unless_found name.name (Declared Here (formal_meaning level (length fs.1) f)) fs.0,
+  with_formal_type fs.1 f,
+)
 
-abbrev pub with_section : (g : Gathers) → Scope g.Reported → Formals g.Reported → Section → Formals g.Reported
+abbrev pub with_section : (g : Gathers) → Scope g.Reported → Formals g.Reported → Section
+    → Formals g.Reported
 with_section g s fs x = fold (with_formal s.level (formal_of g s x.is_var x.of)) fs x.names
 
 abbrev pub formals_in : (g : Gathers) → Scope g.Reported → List Section → Formals g.Reported
@@ -64,23 +77,28 @@ abbrev pub with_formals : {T : Type 0} → Scope T → Formals T → Scope T
 with_formals s fs = record s { own = fs.0; variables = fs.1 }
 
 -- the scope in which a procedure's block begins, and the type of what the procedure gives
-abbrev pub entered_in : (g : Gathers) → Scope g.Reported → Heading → State (Option TypeNo) g.Reported
+abbrev pub entered_in : (g : Gathers) → Scope g.Reported → Heading
+    → State (Option TypeNo) g.Reported
 entered_in g s h = (with_formals s (formals_in g s h.formals), result_of g s h.result)
 
-abbrev pub entered_procedure : (g : Gathers) → Scope g.Reported → (seen : ℕ) → Heading → State (Option TypeNo) g.Reported
+abbrev pub entered_procedure : (g : Gathers) → Scope g.Reported → (seen : ℕ) → Heading
+    → State (Option TypeNo) g.Reported
 entered_procedure g s seen h = entered_in g (inwards s seen) h
 
 -- ---- outwards: the types that were made stay
 
-abbrev pub outwards : {T : Type 0} → Outside → Scope T → List (Block T) → List (List ℕ × Known T) → Scope T
-outwards o s outer names = record s { level = o.level; own = names; outer = outer; variables = o.variables }
+abbrev pub outwards : {T : Type 0} → Outside → Scope T → List (Block T) → List (List ℕ × Known T)
+    → Scope T
+outwards o s outer names =
+    record s { level = o.level; own = names; outer = outer; variables = o.variables }
 
 abbrev pub split_last : {A : Type 0} → List A → Option (List A × A)
 split_last [] = None
 split_last (x ∷ xs) = elim (split_last xs) [ None ↦ Some ([], x) | Some p ↦ Some (x ∷ p.0, p.1) ]
 
 -- the blocks that stay, and the names of the one that is taken
-abbrev pub popped : {T : Type 0} → Option (List (Block T) × Block T) → List (Block T) × List (List ℕ × Known T)
+abbrev pub popped : {T : Type 0} → Option (List (Block T) × Block T)
+    → List (Block T) × List (List ℕ × Known T)
 popped None = ([], [])
 popped (Some p) = (p.0, p.1.names)
 

@@ -40,7 +40,8 @@ elements_suit types t u = elements_suit_in types t (array_at types u)
 -- ---- VAR formals: a variable of the same type
 
 abbrev pub variable_passed : (g : Gathers) → TypeNo → Pos → Designated → Result Argument g.Reported
-variable_passed g t at (designated.Variable u d) = reported_where g (not (are_same u t)) at rule.NoVariable (Ok (argument.Place d))
+variable_passed g t at (designated.Variable u d) =
+    reported_where g (not (are_same u t)) at rule.NoVariable (Ok (argument.Place d))
 variable_passed g t at (designated.Value x) = reported g at rule.NoVariable
 variable_passed g t at (designated.Open u slot) = reported g at rule.NoVariable
 variable_passed g t at (designated.Type u) = reported g at rule.NoVariable
@@ -49,9 +50,12 @@ variable_passed g t at (designated.Nested p) = reported g at rule.NoVariable
 variable_passed g t at (designated.Standard f) = reported g at rule.NoVariable
 variable_passed g t at (designated.Module k) = reported g at rule.NoVariable
 
-abbrev pub open_passed : (g : Gathers) → Types → TypeNo → Pos → Designated → Result Argument g.Reported
-open_passed g types t at (designated.Variable u d) = reported_where g (not (elements_suit types t u)) at rule.NoVariable (Ok (argument.Array u d))
-open_passed g types t at (designated.Open u slot) = reported_where g (not (are_same u t)) at rule.NoVariable (Ok (argument.Open slot))
+abbrev pub open_passed : (g : Gathers) → Types → TypeNo → Pos → Designated
+    → Result Argument g.Reported
+open_passed g types t at (designated.Variable u d) =
+    reported_where g (not (elements_suit types t u)) at rule.NoVariable (Ok (argument.Array u d))
+open_passed g types t at (designated.Open u slot) =
+    reported_where g (not (are_same u t)) at rule.NoVariable (Ok (argument.Open slot))
 open_passed g types t at (designated.Value x) = reported g at rule.NoVariable
 open_passed g types t at (designated.Type u) = reported g at rule.NoVariable
 open_passed g types t at (designated.Procedure p) = reported g at rule.NoVariable
@@ -62,7 +66,8 @@ open_passed g types t at (designated.Module k) = reported g at rule.NoVariable
 -- ---- value formals
 
 abbrev pub text_argument : (g : Gathers) → TypeNo → Pos → Value → Result Argument g.Reported
-text_argument g t at (constant.Text text) = reported_where g (not (are_same t char)) at rule.WrongArgument (Ok (argument.Text text))
+text_argument g t at (constant.Text text) =
+    reported_where g (not (are_same t char)) at rule.WrongArgument (Ok (argument.Text text))
 text_argument g t at (constant.Number n) = reported g at rule.WrongArgument
 text_argument g t at (constant.Scalar s) = reported g at rule.WrongArgument
 text_argument g t at (constant.Set bits) = reported g at rule.WrongArgument
@@ -77,9 +82,12 @@ text_passed g t at (value.Whole u d) = reported g at rule.WrongArgument
 text_passed g t at value.Untaken = reported g at rule.WrongArgument
 
 -- an open array, an array, or a string where the elements are CHAR
-abbrev pub open_value : (g : Gathers) → Types → TypeNo → Pos → Designated → Result Argument g.Reported
-open_value g types t at (designated.Variable u d) = reported_where g (not (elements_suit types t u)) at rule.WrongArgument (Ok (argument.Array u d))
-open_value g types t at (designated.Open u slot) = reported_where g (not (are_same u t)) at rule.WrongArgument (Ok (argument.Open slot))
+abbrev pub open_value : (g : Gathers) → Types → TypeNo → Pos → Designated
+    → Result Argument g.Reported
+open_value g types t at (designated.Variable u d) =
+    reported_where g (not (elements_suit types t u)) at rule.WrongArgument (Ok (argument.Array u d))
+open_value g types t at (designated.Open u slot) =
+    reported_where g (not (are_same u t)) at rule.WrongArgument (Ok (argument.Open slot))
 open_value g types t at (designated.Value x) = text_passed g t at x
 open_value g types t at (designated.Type u) = reported g at rule.WrongType
 open_value g types t at (designated.Procedure p) = reported g at rule.WrongArgument
@@ -89,7 +97,8 @@ open_value g types t at (designated.Module k) = reported g at rule.WrongType
 
 -- for an array or a record a variable of the same type
 abbrev pub whole_passed : (g : Gathers) → TypeNo → Pos → Designated → Result Argument g.Reported
-whole_passed g t at (designated.Variable u d) = reported_where g (not (are_same u t)) at rule.WrongArgument (Ok (argument.Place d))
+whole_passed g t at (designated.Variable u d) =
+    reported_where g (not (are_same u t)) at rule.WrongArgument (Ok (argument.Place d))
 whole_passed g t at (designated.Value x) = reported g at rule.WrongArgument
 whole_passed g t at (designated.Open u slot) = reported g at rule.WrongArgument
 whole_passed g t at (designated.Type u) = reported g at rule.WrongType
@@ -99,16 +108,22 @@ whole_passed g t at (designated.Standard f) = reported g at rule.NoProcedureValu
 whole_passed g t at (designated.Module k) = reported g at rule.WrongType
 
 -- else what is assignment compatible
-abbrev pub simple_passed : (g : Gathers) → Types → TypeNo → Pos → Designated → Result Argument g.Reported
-simple_passed g types t at d = taken g types at d ▷ λ x. value_suited g rule.WrongArgument types t at x ▷ λ e. Ok (argument.Value t e)
+abbrev pub simple_passed : (g : Gathers) → Types → TypeNo → Pos → Designated
+    → Result Argument g.Reported
+simple_passed g types t at d =
+    taken g types at d ▷ λ x.
+    value_suited g rule.WrongArgument types t at x ▷ λ e.
+    Ok (argument.Value t e)
 
-abbrev pub passed_as : (g : Gathers) → Types → TypeNo → Pos → Designated → Class → Result Argument g.Reported
+abbrev pub passed_as : (g : Gathers) → Types → TypeNo → Pos → Designated → Class
+    → Result Argument g.Reported
 passed_as g types t at d (class.Scalar s) = simple_passed g types t at d
 passed_as g types t at d class.Set = simple_passed g types t at d
 passed_as g types t at d class.Procedure = simple_passed g types t at d
 passed_as g types t at d class.Whole = whole_passed g t at d
 
-abbrev pub value_passed : (g : Gathers) → Types → TypeNo → Pos → Designated → Result Argument g.Reported
+abbrev pub value_passed : (g : Gathers) → Types → TypeNo → Pos → Designated
+    → Result Argument g.Reported
 value_passed g types t at d = passed_as g types t at d (class_at types t)
 
 -- ---- an argument at a place, for a formal
@@ -125,5 +140,6 @@ abbrev pub next_formal : List Formal → Option Formal × List Formal
 next_formal [] = (None, [])
 next_formal (f ∷ fs) = (Some f, fs)
 
-abbrev pub with_argument : (g : Gathers) → Result (List Argument) g.Reported → Result Argument g.Reported → Result (List Argument) g.Reported
+abbrev pub with_argument : (g : Gathers) → Result (List Argument) g.Reported
+    → Result Argument g.Reported → Result (List Argument) g.Reported
 with_argument g so x = both g so x ▷ λ p. Ok (p.0 ++ p.1 ∷ [])

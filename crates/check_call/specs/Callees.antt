@@ -40,21 +40,25 @@ callee_of g types at (designated.Module k) = reported g at rule.WrongType
 abbrev pub counted : (g : Gathers) → Pos → (asked there : ℕ) → Result (Unit {0}) g.Reported
 counted g at asked there = reported_where g (not (asked == there)) at rule.ArgumentCount (Ok tt)
 
-abbrev pub function_with : (g : Gathers) → Pos → (asked there : ℕ) → Option TypeNo → Result TypeNo g.Reported
+abbrev pub function_with : (g : Gathers) → Pos → (asked there : ℕ) → Option TypeNo
+    → Result TypeNo g.Reported
 function_with g at asked there None = reported g at rule.WrongType
 function_with g at asked there (Some t) = counted g at asked there ▷ λ fine. Ok t
 
 -- the type that a function gives, which is called with so many arguments
-abbrev pub function_of : (g : Gathers) → Pos → Option Signature → (arguments : ℕ) → Result TypeNo g.Reported
+abbrev pub function_of : (g : Gathers) → Pos → Option Signature → (arguments : ℕ)
+    → Result TypeNo g.Reported
 function_of g at None n = reported g at rule.WrongType
 function_of g at (Some h) n = function_with g at (length h.formals) n h.result
 
-abbrev pub proper_with : (g : Gathers) → Pos → (asked there : ℕ) → Option TypeNo → Result (Unit {0}) g.Reported
+abbrev pub proper_with : (g : Gathers) → Pos → (asked there : ℕ) → Option TypeNo
+    → Result (Unit {0}) g.Reported
 proper_with g at asked there None = counted g at asked there
 proper_with g at asked there (Some t) = reported g at rule.WrongType
 
 -- a procedure that is called as a statement with so many arguments
-abbrev pub proper_of : (g : Gathers) → Pos → Option Signature → (arguments : ℕ) → Result (Unit {0}) g.Reported
+abbrev pub proper_of : (g : Gathers) → Pos → Option Signature → (arguments : ℕ)
+    → Result (Unit {0}) g.Reported
 proper_of g at None n = reported g at rule.WrongType
 proper_of g at (Some h) n = proper_with g at (length h.formals) n h.result
 

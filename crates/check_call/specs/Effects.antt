@@ -43,7 +43,8 @@ target_of g at (designated.Nested p) = reported g at rule.WrongType
 target_of g at (designated.Standard f) = reported g at rule.WrongType
 target_of g at (designated.Module k) = reported g at rule.WrongType
 
-abbrev pub target_at : (g : Gathers) → Pos → Result Designated (Meaningless g.Reported) → Result Target g.Reported
+abbrev pub target_at : (g : Gathers) → Pos → Result Designated (Meaningless g.Reported)
+    → Result Target g.Reported
 target_at g at d = of_sort g at rule.WrongType d ▷ target_of g at
 
 abbrev pub stored : TypeNo → Place → Accepted → TypedStmt
@@ -52,16 +53,20 @@ stored t d (accepted.Whole from) = step.Copy d from t
 stored t d (accepted.Text text) = step.CopyText d t text
 
 -- nothing is assigned to an open array
-abbrev pub assigned_to : (g : Gathers) → Types → Target → Pos → Computed → Result TypedStmt g.Reported
+abbrev pub assigned_to : (g : Gathers) → Types → Target → Pos → Computed
+    → Result TypedStmt g.Reported
 assigned_to g types target.Open at x = reported g at rule.NotAssignable
-assigned_to g types (target.Variable t d) at x = suited g rule.NotAssignable types t at x ▷ λ a. Ok (stored t d a)
+assigned_to g types (target.Variable t d) at x =
+    suited g rule.NotAssignable types t at x ▷ λ a. Ok (stored t d a)
 
-abbrev pub assigned : (g : Gathers) → Types → Result Target g.Reported → Pos → Result Computed g.Reported → Result TypedStmt g.Reported
+abbrev pub assigned : (g : Gathers) → Types → Result Target g.Reported → Pos
+    → Result Computed g.Reported → Result TypedStmt g.Reported
 assigned g types left at x = both g left x ▷ λ p. assigned_to g types p.0 at p.1
 
 -- ---- INC and DEC: a scalar variable
 
-abbrev pub changed_as : (g : Gathers) → Pos → TypeNo → Place → Class → Result (TypeNo × Place) g.Reported
+abbrev pub changed_as : (g : Gathers) → Pos → TypeNo → Place → Class
+    → Result (TypeNo × Place) g.Reported
 changed_as g at t d (class.Scalar s) = Ok (t, d)
 changed_as g at t d class.Set = reported g at rule.NoVariable
 changed_as g at t d class.Procedure = reported g at rule.NoVariable
@@ -89,14 +94,16 @@ known_amount g at (Some a) = Ok (expr.Constant (untyped a.number a.sort) a.numbe
 -- an INTEGER, a CARDINAL or a number
 abbrev pub amount : (g : Gathers) → Pos → Computed → Result TypedExpr g.Reported
 amount g at (value.Constant v) = known_amount g at (whole_number v)
-amount g at (value.Scalar t b e) = reported_where g (not (is_numeric b)) at rule.WrongArgument (Ok e)
+amount g at (value.Scalar t b e) =
+    reported_where g (not (is_numeric b)) at rule.WrongArgument (Ok e)
 amount g at (value.Set e) = reported g at rule.WrongArgument
 amount g at (value.Routine t e) = reported g at rule.WrongArgument
 amount g at (value.Procedure p) = reported g at rule.WrongArgument
 amount g at (value.Whole t d) = reported g at rule.WrongArgument
 amount g at value.Untaken = reported g at rule.WrongArgument
 
-abbrev pub change_by : (g : Gathers) → Change → Result (TypeNo × Place) g.Reported → Result TypedExpr g.Reported → Result TypedStmt g.Reported
+abbrev pub change_by : (g : Gathers) → Change → Result (TypeNo × Place) g.Reported
+    → Result TypedExpr g.Reported → Result TypedStmt g.Reported
 change_by g o variable by = both g variable by ▷ λ p. Ok (step.Change o p.0.1 p.0.0 p.1)
 
 -- ---- INCL and EXCL: a BITSET variable, and an element from 0 to 31
@@ -119,18 +126,22 @@ set_variable g types at (designated.Module k) = reported g at rule.NoVariable
 
 abbrev pub element_known : (g : Gathers) → Pos → Option Ordinal → Result TypedExpr g.Reported
 element_known g at None = reported g at rule.WrongArgument
-element_known g at (Some a) = reported_where g (not (is_between (pos 0) a.number (pos 31))) at rule.OutOfRange (Ok (expr.Constant (untyped a.number a.sort) a.number))
+element_known g at (Some a) =
+    reported_where g (not (is_between (pos 0) a.number (pos 31))) at rule.OutOfRange
+    (Ok (expr.Constant (untyped a.number a.sort) a.number))
 
 abbrev pub element : (g : Gathers) → Pos → Computed → Result TypedExpr g.Reported
 element g at (value.Constant v) = element_known g at (whole_number v)
-element g at (value.Scalar t b e) = reported_where g (not (is_numeric b)) at rule.WrongArgument (Ok e)
+element g at (value.Scalar t b e) =
+    reported_where g (not (is_numeric b)) at rule.WrongArgument (Ok e)
 element g at (value.Set e) = reported g at rule.WrongArgument
 element g at (value.Routine t e) = reported g at rule.WrongArgument
 element g at (value.Procedure p) = reported g at rule.WrongArgument
 element g at (value.Whole t d) = reported g at rule.WrongArgument
 element g at value.Untaken = reported g at rule.WrongArgument
 
-abbrev pub membership_of : (g : Gathers) → Membership → Result Place g.Reported → Result TypedExpr g.Reported → Result TypedStmt g.Reported
+abbrev pub membership_of : (g : Gathers) → Membership → Result Place g.Reported
+    → Result TypedExpr g.Reported → Result TypedStmt g.Reported
 membership_of g o set x = both g set x ▷ λ p. Ok (step.Membership o p.0 p.1)
 
 -- ---- Put: a CHAR

@@ -58,8 +58,10 @@ unary_built unary.Chr b e = value.Scalar char char (expr.Chr e)
 unary_built unary.Odd b e = value.Scalar boolean boolean (expr.Odd e)
 unary_built unary.Ord b e = value.Scalar cardinal cardinal (expr.Ord e)
 
-abbrev pub unary_scalar : (g : Gathers) → Unary → Pos → TypeNo → TypedExpr → Result Computed g.Reported
-unary_scalar g u at b e = reported_where g (not (unary_takes u b)) at rule.WrongArgument (Ok (unary_built u b e))
+abbrev pub unary_scalar : (g : Gathers) → Unary → Pos → TypeNo → TypedExpr
+    → Result Computed g.Reported
+unary_scalar g u at b e =
+    reported_where g (not (unary_takes u b)) at rule.WrongArgument (Ok (unary_built u b e))
 
 abbrev pub unary_at : (g : Gathers) → Standard → Unary → Pos → Computed → Result Computed g.Reported
 unary_at g f u at (value.Constant v) = of_value (unary_of g f at v)
@@ -72,7 +74,8 @@ unary_at g f u at value.Untaken = reported g at rule.WrongArgument
 
 -- ---- of types
 
-abbrev pub type_named : (g : Gathers) → Types → Pos → Designated → Result (TypeNo × Range) g.Reported
+abbrev pub type_named : (g : Gathers) → Types → Pos → Designated
+    → Result (TypeNo × Range) g.Reported
 type_named g types at (designated.Type t) = scalar_type g at t (scalar_at types t)
 type_named g types at (designated.Value x) = reported g at rule.NoType
 type_named g types at (designated.Variable t d) = reported g at rule.NoType
@@ -85,10 +88,14 @@ type_named g types at (designated.Module k) = reported g at rule.NoType
 abbrev pub bound_at : {T : Type 0} → Standard → Result (TypeNo × Range) T → Result Computed T
 bound_at f x = x ▷ λ p. Ok (value.Constant (bound_by f p.0 p.1))
 
-abbrev pub converted_scalar : (g : Gathers) → TypeNo → Range → Pos → TypeNo → TypedExpr → Result Computed g.Reported
-converted_scalar g t s at b e = reported_where g (not (is_numeric b)) at rule.WrongArgument (Ok (value.Scalar t s.base (expr.Val t e)))
+abbrev pub converted_scalar : (g : Gathers) → TypeNo → Range → Pos → TypeNo → TypedExpr
+    → Result Computed g.Reported
+converted_scalar g t s at b e =
+    reported_where g (not (is_numeric b)) at rule.WrongArgument
+    (Ok (value.Scalar t s.base (expr.Val t e)))
 
-abbrev pub converted_value : (g : Gathers) → TypeNo → Range → Pos → Computed → Result Computed g.Reported
+abbrev pub converted_value : (g : Gathers) → TypeNo → Range → Pos → Computed
+    → Result Computed g.Reported
 converted_value g t s at (value.Constant v) = of_value (converted g t s at v)
 converted_value g t s at (value.Scalar u b e) = converted_scalar g t s at b e
 converted_value g t s at (value.Set e) = reported g at rule.WrongArgument
@@ -98,7 +105,8 @@ converted_value g t s at (value.Whole u d) = reported g at rule.WrongArgument
 converted_value g t s at value.Untaken = reported g at rule.WrongArgument
 
 -- VAL
-abbrev pub conversion_at : (g : Gathers) → Result (TypeNo × Range) g.Reported → Pos → Result Computed g.Reported → Result Computed g.Reported
+abbrev pub conversion_at : (g : Gathers) → Result (TypeNo × Range) g.Reported → Pos
+    → Result Computed g.Reported → Result Computed g.Reported
 conversion_at g to at x = both g to x ▷ λ p. converted_value g p.0.0 p.0.1 at p.1
 
 -- ---- HIGH

@@ -35,7 +35,8 @@ sort_of Put = Never
 
 -- ---- arguments that name a type
 
-abbrev pub scalar_type : (g : Gathers) → Pos → TypeNo → Option Scalar → Result (TypeNo × Scalar) g.Reported
+abbrev pub scalar_type : (g : Gathers) → Pos → TypeNo → Option Scalar
+    → Result (TypeNo × Scalar) g.Reported
 scalar_type g at t None = reported g at rule.NoType
 scalar_type g at t (Some s) = Ok (t, s)
 
@@ -48,11 +49,13 @@ type_in denoted.Procedure = None
 type_in (denoted.Standard f) = None
 type_in (denoted.Module k) = None
 
-abbrev pub named_scalar : (g : Gathers) → Types → Pos → Option TypeNo → Result (TypeNo × Scalar) g.Reported
+abbrev pub named_scalar : (g : Gathers) → Types → Pos → Option TypeNo
+    → Result (TypeNo × Scalar) g.Reported
 named_scalar g types at None = reported g at rule.NoType
 named_scalar g types at (Some t) = scalar_type g at t (scalar_at types t)
 
-abbrev pub type_argument : (g : Gathers) → Types → Pos → Result (Option TypeNo) g.Reported → Result (TypeNo × Scalar) g.Reported
+abbrev pub type_argument : (g : Gathers) → Types → Pos → Result (Option TypeNo) g.Reported
+    → Result (TypeNo × Scalar) g.Reported
 type_argument g types at t = t ▷ named_scalar g types at
 
 -- ---- what they give
@@ -74,7 +77,8 @@ unary_of g Excl at v = reported g at rule.NoConstant
 unary_of g Halt at v = reported g at rule.NoConstant
 unary_of g Put at v = reported g at rule.NoConstant
 
-abbrev pub unary : (g : Gathers) → Standard → Result (Pos × Value) g.Reported → Result Value g.Reported
+abbrev pub unary : (g : Gathers) → Standard → Result (Pos × Value) g.Reported
+    → Result Value g.Reported
 unary g f x = x ▷ λ p. unary_of g f p.0 p.1
 
 abbrev pub bound_by : Standard → TypeNo → Scalar → Value
@@ -97,5 +101,6 @@ bound_by Put t s = bound_of t s s.high
 abbrev pub bound : {T : Type 0} → Standard → Result (TypeNo × Scalar) T → Result Value T
 bound f x = x ▷ λ p. Ok (bound_by f p.0 p.1)
 
-abbrev pub converted_by : (g : Gathers) → Result (TypeNo × Scalar) g.Reported → Pos → Result Value g.Reported → Result Value g.Reported
+abbrev pub converted_by : (g : Gathers) → Result (TypeNo × Scalar) g.Reported → Pos
+    → Result Value g.Reported → Result Value g.Reported
 converted_by g to at v = both g to v ▷ λ p. converted g p.0.0 p.0.1 at p.1

@@ -51,7 +51,8 @@ abbrev pub of_value : {T : Type 0} → Result Value T → Result Denoted T
 of_value v = v ▷ λ x. Ok (denoted.Value x)
 
 abbrev pub is_bitset : (g : Gathers) → Pos → Meaning → Result (Unit {0}) g.Reported
-is_bitset g at (meaning.Type t n) = reported_where g (not (are_same t bitset)) at rule.NoType (Ok tt)
+is_bitset g at (meaning.Type t n) =
+    reported_where g (not (are_same t bitset)) at rule.NoType (Ok tt)
 is_bitset g at (meaning.Constant v) = reported g at rule.NoType
 is_bitset g at (meaning.Variable v) = reported g at rule.NoType
 is_bitset g at (meaning.Local v) = reported g at rule.NoType

@@ -35,8 +35,8 @@ use Rattle.check_const.specs.declared.call.Sort.TheVariants.{Unary, Bound, Conve
 use Rattle.check_const.specs.Denote.{denoted_by, denoted_of, constant_by, of_value, is_bitset, component, member}
 use Rattle.check_const.specs.Calls.{sort_of, type_in, type_argument, unary, bound, converted_by}
 
--- an expression or a designator: the place of its first token, what it stands for in a scope, and the type that it names
--- there, if it names one
+-- an expression or a designator: the place of its first token, what it stands for in a scope, and
+-- the type that it names there, if it names one
 pub record Part (T : Type 0) : Type 0 where
   pub at : Pos
   pub denotes : Scope T → Result Denoted T
@@ -78,21 +78,26 @@ single_of g at v = v ▷ single g at
 abbrev pub element_of : (g : Gathers) → Pos → Result Value g.Reported → Result Ordinal g.Reported
 element_of g at v = v ▷ element g at
 
-abbrev pub joined_bits : (g : Gathers) → Result ℕ g.Reported → Result ℕ g.Reported → Result ℕ g.Reported
+abbrev pub joined_bits : (g : Gathers) → Result ℕ g.Reported → Result ℕ g.Reported
+    → Result ℕ g.Reported
 joined_bits g so more = both g so more ▷ λ p. Ok (bit_or p.0 p.1)
 
-abbrev pub signed_first : (g : Gathers) → Option (Operator Sign) → Result Value g.Reported → Result Value g.Reported
+abbrev pub signed_first : (g : Gathers) → Option (Operator Sign) → Result Value g.Reported
+    → Result Value g.Reported
 signed_first g None v = v
 signed_first g (Some o) v = signed g o.op o.pos v
 
 abbrev pub set_type : (g : Gathers) → Scope g.Reported → Option Ident → Result (Unit {0}) g.Reported
 set_type g s None = Ok tt
-set_type g s (Some name) = of_sort g name.pos rule.NoType (looked_up g s name) ▷ is_bitset g name.pos
+set_type g s (Some name) =
+    of_sort g name.pos rule.NoType (looked_up g s name) ▷ is_bitset g name.pos
 
-abbrev pub set_of : (g : Gathers) → Result (Unit {0}) g.Reported → Result ℕ g.Reported → Result Denoted g.Reported
+abbrev pub set_of : (g : Gathers) → Result (Unit {0}) g.Reported → Result ℕ g.Reported
+    → Result Denoted g.Reported
 set_of g t bits = both g t bits ▷ λ p. Ok (denoted.Value (value.Set p.1))
 
-abbrev pub related : (g : Gathers) → Operator RelOp → Pos → Result Value g.Reported → Pos → Result Value g.Reported → Result Denoted g.Reported
+abbrev pub related : (g : Gathers) → Operator RelOp → Pos → Result Value g.Reported → Pos
+    → Result Value g.Reported → Result Denoted g.Reported
 related g o at a at' b = of_value (combined g (op.Relation o.op) o.pos at a at' b)
 
 -- ---- designators
@@ -103,7 +108,8 @@ named g s name = denoted_of (looked_up g s name)
 abbrev pub member_of : (g : Gathers) → Scope g.Reported → ℕ → Ident → Result Denoted g.Reported
 member_of g s k name = member g s.tables k name ▷ λ m. Ok (denoted_by m)
 
-abbrev pub field_of : (g : Gathers) → Scope g.Reported → Pos → Ident → Denoted → Result Denoted g.Reported
+abbrev pub field_of : (g : Gathers) → Scope g.Reported → Pos → Ident → Denoted
+    → Result Denoted g.Reported
 field_of g s at name (denoted.Module k) = member_of g s k name
 field_of g s at name denoted.Variable = component g at denoted.Variable
 field_of g s at name (denoted.Value v) = component g at (denoted.Value v)
@@ -123,7 +129,8 @@ module _ (g : Gathers) where
   one s at (x ∷ []) = value_at x.at (constant s x)
   one s at (x ∷ y ∷ xs) = reported g at rule.ArgumentCount
 
-  abbrev pub type_only : Scope g.Reported → Pos → List (Part g.Reported) → Result (TypeNo × Scalar) g.Reported
+  abbrev pub type_only : Scope g.Reported → Pos → List (Part g.Reported)
+      → Result (TypeNo × Scalar) g.Reported
   type_only s at [] = reported g at rule.ArgumentCount
   type_only s at (x ∷ []) = type_argument g s.types x.at (x.names s)
   type_only s at (x ∷ y ∷ xs) = reported g at rule.ArgumentCount
@@ -131,16 +138,19 @@ module _ (g : Gathers) where
   abbrev pub conversion : Scope g.Reported → Pos → List (Part g.Reported) → Result Value g.Reported
   conversion s at [] = reported g at rule.ArgumentCount
   conversion s at (t ∷ []) = reported g at rule.ArgumentCount
-  conversion s at (t ∷ x ∷ []) = converted_by g (type_argument g s.types t.at (t.names s)) x.at (constant s x)
+  conversion s at (t ∷ x ∷ []) =
+      converted_by g (type_argument g s.types t.at (t.names s)) x.at (constant s x)
   conversion s at (t ∷ x ∷ y ∷ xs) = reported g at rule.ArgumentCount
 
-  abbrev pub by_sort : Scope g.Reported → Pos → Standard → List (Part g.Reported) → Sort → Result Value g.Reported
+  abbrev pub by_sort : Scope g.Reported → Pos → Standard → List (Part g.Reported) → Sort
+      → Result Value g.Reported
   by_sort s at f args Unary = unary g f (one s at args)
   by_sort s at f args Bound = bound f (type_only s at args)
   by_sort s at f args Conversion = conversion s at args
   by_sort s at f args Never = reported g at rule.NoConstant
 
-  abbrev pub called_as : Scope g.Reported → Pos → Denoted → List (Part g.Reported) → Result Value g.Reported
+  abbrev pub called_as : Scope g.Reported → Pos → Denoted → List (Part g.Reported)
+      → Result Value g.Reported
   called_as s at (denoted.Standard f) args = by_sort s at f args (sort_of f)
   called_as s at (denoted.Value v) args = reported g at rule.NoConstant
   called_as s at (denoted.Type t) args = reported g at rule.NoConstant
@@ -148,7 +158,8 @@ module _ (g : Gathers) where
   called_as s at denoted.Procedure args = reported g at rule.NoConstant
   called_as s at (denoted.Module k) args = reported g at rule.NoConstant
 
-  abbrev pub called : Scope g.Reported → Pos → Result Denoted g.Reported → List (Part g.Reported) → Result Value g.Reported
+  abbrev pub called : Scope g.Reported → Pos → Result Denoted g.Reported → List (Part g.Reported)
+      → Result Value g.Reported
   called s at d args = d ▷ λ x. called_as s at x args
 
   abbrev pub used_with : Part g.Reported → Option (List (Part g.Reported)) → Part g.Reported
@@ -157,36 +168,52 @@ module _ (g : Gathers) where
 
   -- ---- operators
 
-  abbrev pub factor : Scope g.Reported → Pos → Result Value g.Reported → Operator MulOp × Part g.Reported → Result Value g.Reported
+  abbrev pub factor : Scope g.Reported → Pos → Result Value g.Reported
+      → Operator MulOp × Part g.Reported → Result Value g.Reported
   factor s at left x = combined g (mul_op x.0.op) x.0.pos at left x.1.at (constant s x.1)
 
-  abbrev pub term : Scope g.Reported → Pos → Result Value g.Reported → Operator AddOp × Part g.Reported → Result Value g.Reported
+  abbrev pub term : Scope g.Reported → Pos → Result Value g.Reported
+      → Operator AddOp × Part g.Reported → Result Value g.Reported
   term s at left x = combined g (add_op x.0.op) x.0.pos at left x.1.at (constant s x.1)
 
   -- ---- elements
 
-  abbrev pub added : Scope g.Reported → Part g.Reported → Option (Part g.Reported) → Result ℕ g.Reported
+  abbrev pub added : Scope g.Reported → Part g.Reported → Option (Part g.Reported)
+      → Result ℕ g.Reported
   added s low None = single_of g low.at (constant s low)
-  added s low (Some high) = spanned g low.at (element_of g low.at (constant s low)) high.at (element_of g high.at (constant s high))
+  added s low (Some high) =
+      spanned g low.at (element_of g low.at (constant s low)) high.at
+      (element_of g high.at (constant s high))
 
-  abbrev pub with_item : Scope g.Reported → Result ℕ g.Reported → Adds g.Reported → Result ℕ g.Reported
+  abbrev pub with_item : Scope g.Reported → Result ℕ g.Reported → Adds g.Reported
+      → Result ℕ g.Reported
   with_item s so i = joined_bits g so (i s)
 
   -- ---- the layers
 
-  abbrev pub expr_layer : Expr-F (Part g.Reported) (Pick g.Reported) (Part g.Reported) (Adds g.Reported) → Part g.Reported
+  abbrev pub expr_layer :
+      Expr-F (Part g.Reported) (Pick g.Reported) (Part g.Reported) (Adds g.Reported)
+      → Part g.Reported
   expr_layer (layer.Number at n) = standing at (λ s. Ok (denoted.Value (value.Number (pos n))))
   expr_layer (layer.Char at c) = standing at (λ s. Ok (denoted.Value (valued (Some char) (pos c))))
   expr_layer (layer.Text at t) = standing at (λ s. Ok (denoted.Value (value.Text t)))
-  expr_layer (layer.Set name at items) = standing (set_place name at) (λ s. set_of g (set_type g s name) (fold (with_item s) (Ok 0) items))
+  expr_layer (layer.Set name at items) =
+      standing (set_place name at) (λ s.
+      set_of g (set_type g s name) (fold (with_item s) (Ok 0) items))
   expr_layer (layer.Not at e) = standing at (λ s. of_value (negated g at (constant s e)))
   expr_layer (layer.Bracketed at e) = standing at (λ s. of_value (constant s e))
   expr_layer (layer.Use d args) = used_with d args
-  expr_layer (layer.Term e rest) = standing e.at (λ s. of_value (fold (factor s e.at) (constant s e) rest))
-  expr_layer (layer.Sum sign e rest) = standing (sign_place sign e.at) (λ s. of_value (fold (term s (sign_place sign e.at)) (signed_first g sign (constant s e)) rest))
-  expr_layer (layer.Relation a o b) = standing a.at (λ s. related g o a.at (constant s a) b.at (constant s b))
+  expr_layer (layer.Term e rest) =
+      standing e.at (λ s. of_value (fold (factor s e.at) (constant s e) rest))
+  expr_layer (layer.Sum sign e rest) =
+      standing (sign_place sign e.at) (λ s.
+      of_value (fold (term s (sign_place sign e.at)) (signed_first g sign (constant s e)) rest))
+  expr_layer (layer.Relation a o b) =
+      standing a.at (λ s. related g o a.at (constant s a) b.at (constant s b))
 
-  abbrev pub selector_layer : Selector-F (Part g.Reported) (Pick g.Reported) (Part g.Reported) (Adds g.Reported) → Pick g.Reported
+  abbrev pub selector_layer :
+      Selector-F (Part g.Reported) (Pick g.Reported) (Part g.Reported) (Adds g.Reported)
+      → Pick g.Reported
   selector_layer (layer.Field at name) = λ s d. d ▷ field_of g s at name
   selector_layer (layer.Index at index) = λ s d. d ▷ component g at
 
@@ -194,5 +221,7 @@ module _ (g : Gathers) where
   abbrev pub picked : Scope g.Reported → Ident → List (Pick g.Reported) → Result Denoted g.Reported
   picked s name picks = fold (λ x p. p s x) (named g s name) picks
 
-  abbrev pub item_layer : Item-F (Part g.Reported) (Pick g.Reported) (Part g.Reported) (Adds g.Reported) → Adds g.Reported
+  abbrev pub item_layer :
+      Item-F (Part g.Reported) (Pick g.Reported) (Part g.Reported) (Adds g.Reported)
+      → Adds g.Reported
   item_layer i = λ s. added s i.low i.high

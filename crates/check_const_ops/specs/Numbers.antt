@@ -17,7 +17,9 @@ is_between low n high = int_le low n && int_le n high
 -- INTEGER, or else CARDINAL, has the number; a number without a type may be as great
 abbrev pub fits : Option TypeNo → ℤ → Bool
 fits None n = is_between (negsuc 2147483647) n (pos 4294967295)
-fits (Some t) n = cond (is_integer t) (is_between (negsuc 2147483647) n (pos 2147483647)) (is_between (pos 0) n (pos 4294967295))
+fits (Some t) n =
+    cond (is_integer t) (is_between (negsuc 2147483647) n (pos 2147483647))
+    (is_between (pos 0) n (pos 4294967295))
 
 abbrev pub number_at : (g : Gathers) → Pos → Option TypeNo → ℤ → Result Value g.Reported
 number_at g at sort n = reported_where g (not (fits sort n)) at rule.OutOfRange (Ok (valued sort n))
@@ -33,7 +35,8 @@ evaluated And x y = pos 0
 evaluated Or x y = pos 0
 evaluated (Relation r) x y = pos 0
 
-abbrev pub evaluated_at : (g : Gathers) → Pos → Option TypeNo → BinaryOp → ℤ → ℤ → Result Value g.Reported
+abbrev pub evaluated_at : (g : Gathers) → Pos → Option TypeNo → BinaryOp → ℤ → ℤ
+    → Result Value g.Reported
 evaluated_at g at sort op x y = number_at g at sort (evaluated op x y)
 
 -- x = q * y + r with 0 <= r < y, where y is positive

@@ -43,7 +43,8 @@ compared Greater x y = int_lt y x
 compared AtLeast x y = int_le y x
 compared In x y = false
 
-abbrev pub applied : (g : Gathers) → BinaryOp → Pos → Option TypeNo → ℤ → ℤ → Result Value g.Reported
+abbrev pub applied : (g : Gathers) → BinaryOp → Pos → Option TypeNo → ℤ → ℤ
+    → Result Value g.Reported
 applied g Plus spot sort x y = evaluated_at g spot sort Plus x y
 applied g Minus spot sort x y = evaluated_at g spot sort Minus x y
 applied g Times spot sort x y = evaluated_at g spot sort Times x y
@@ -55,7 +56,8 @@ applied g Or spot sort x y = Ok (truth (int_lt (pos 0) x || int_lt (pos 0) y))
 applied g (Relation r) spot sort x y = Ok (truth (compared r x y))
 
 abbrev pub divisor : (g : Gathers) → BinaryOp → Pos → ℤ → Result (Unit {0}) g.Reported
-divisor g op spot y = reported_where g (is_division op && int_lt y (pos 1)) spot rule.OutOfRange (Ok tt)
+divisor g op spot y =
+    reported_where g (is_division op && int_lt y (pos 1)) spot rule.OutOfRange (Ok tt)
 
 -- a number without a type that the other's type does not have
 abbrev pub is_misfit : Option TypeNo → Option TypeNo → ℤ → Bool
@@ -66,17 +68,23 @@ is_misfit (Some t) None n = not (fits (Some t) n)
 abbrev pub fitting : (g : Gathers) → Option TypeNo → Pos → Ordinal → Result (Unit {0}) g.Reported
 fitting g sort at a = reported_where g (is_misfit sort a.sort a.number) at rule.OutOfRange (Ok tt)
 
-abbrev pub operated : (g : Gathers) → BinaryOp → Pos → Option TypeNo → Pos → Ordinal → Pos → Ordinal → Result Value g.Reported
+abbrev pub operated : (g : Gathers) → BinaryOp → Pos → Option TypeNo → Pos → Ordinal → Pos → Ordinal
+    → Result Value g.Reported
 operated g op spot sort at a at' b =
     reported_where g (not (takes op sort)) spot rule.WrongType
-    (beside g (divisor g op spot b.number) (beside g (fitting g sort at a) (fitting g sort at' b)) ▷ λ fine. applied g op spot sort a.number b.number)
+    (beside g (divisor g op spot b.number) (beside g (fitting g sort at a) (fitting g sort at' b))
+    ▷ λ fine.
+    applied g op spot sort a.number b.number)
 
-abbrev pub on_scalars : (g : Gathers) → BinaryOp → Pos → Pos → Ordinal → Pos → Ordinal → Option (Option TypeNo) → Result Value g.Reported
+abbrev pub on_scalars : (g : Gathers) → BinaryOp → Pos → Pos → Ordinal → Pos → Ordinal
+    → Option (Option TypeNo) → Result Value g.Reported
 on_scalars g op spot at a at' b None = reported g spot rule.WrongType
 on_scalars g op spot at a at' b (Some sort) = operated g op spot sort at a at' b
 
-abbrev pub binary : (g : Gathers) → BinaryOp → Pos → Pos → Option Operand → Pos → Option Operand → Result Value g.Reported
-binary g op spot at (Some (Scalar a)) at' (Some (Scalar b)) = on_scalars g op spot at a at' b (common a.sort b.sort)
+abbrev pub binary : (g : Gathers) → BinaryOp → Pos → Pos → Option Operand → Pos → Option Operand
+    → Result Value g.Reported
+binary g op spot at (Some (Scalar a)) at' (Some (Scalar b)) =
+    on_scalars g op spot at a at' b (common a.sort b.sort)
 binary g op spot at (Some (Scalar a)) at' (Some (Set b)) = member g op spot at a b
 binary g op spot at (Some (Scalar a)) at' None = reported g spot rule.WrongType
 binary g op spot at (Some (Set a)) at' (Some (Scalar b)) = reported g spot rule.WrongType
@@ -85,8 +93,10 @@ binary g op spot at (Some (Set a)) at' None = reported g spot rule.WrongType
 binary g op spot at None at' y = reported g spot rule.WrongType
 
 -- an operator at a place, between two parts at theirs
-abbrev pub combined : (g : Gathers) → BinaryOp → Pos → Pos → Result Value g.Reported → Pos → Result Value g.Reported → Result Value g.Reported
-combined g op spot at x at' y = both g x y ▷ λ v. binary g op spot at (operand_of v.0) at' (operand_of v.1)
+abbrev pub combined : (g : Gathers) → BinaryOp → Pos → Pos → Result Value g.Reported → Pos
+    → Result Value g.Reported → Result Value g.Reported
+combined g op spot at x at' y =
+    both g x y ▷ λ v. binary g op spot at (operand_of v.0) at' (operand_of v.1)
 
 -- ---- signs and NOT
 
@@ -96,8 +106,11 @@ is_signed None = true
 is_signed (Some t) = is_integer t
 
 abbrev pub signed_scalar : (g : Gathers) → Sign → Pos → Ordinal → Result Value g.Reported
-signed_scalar g sign.Plus spot a = reported_where g (not (is_number a.sort)) spot rule.WrongType (Ok (valued a.sort a.number))
-signed_scalar g sign.Minus spot a = reported_where g (not (is_signed a.sort)) spot rule.WrongType (evaluated_at g spot a.sort Minus (pos 0) a.number)
+signed_scalar g sign.Plus spot a =
+    reported_where g (not (is_number a.sort)) spot rule.WrongType (Ok (valued a.sort a.number))
+signed_scalar g sign.Minus spot a =
+    reported_where g (not (is_signed a.sort)) spot rule.WrongType
+    (evaluated_at g spot a.sort Minus (pos 0) a.number)
 
 abbrev pub signed_value : (g : Gathers) → Sign → Pos → Option Operand → Result Value g.Reported
 signed_value g o spot None = reported g spot rule.WrongType
@@ -110,7 +123,9 @@ signed g o spot x = x ▷ λ v. signed_value g o spot (operand_of v)
 abbrev pub negated_value : (g : Gathers) → Pos → Option Operand → Result Value g.Reported
 negated_value g spot None = reported g spot rule.WrongType
 negated_value g spot (Some (Set bits)) = reported g spot rule.WrongType
-negated_value g spot (Some (Scalar a)) = reported_where g (not (is_truth a.sort)) spot rule.WrongType (Ok (truth (not (int_lt (pos 0) a.number))))
+negated_value g spot (Some (Scalar a)) =
+    reported_where g (not (is_truth a.sort)) spot rule.WrongType
+    (Ok (truth (not (int_lt (pos 0) a.number))))
 
 abbrev pub negated : (g : Gathers) → Pos → Result Value g.Reported → Result Value g.Reported
 negated g spot x = x ▷ λ v. negated_value g spot (operand_of v)

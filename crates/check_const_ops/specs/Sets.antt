@@ -52,7 +52,10 @@ abbrev pub has : ℕ → ℤ → Bool
 has bits n = bits / 2 ^ place n % 2 == 1
 
 abbrev pub member_of : (g : Gathers) → Pos → Pos → Ordinal → ℕ → Result Value g.Reported
-member_of g spot at x bits = reported_where g (not (is_number x.sort)) spot rule.WrongType (reported_where g (not (is_between (pos 0) x.number (pos 31))) at rule.OutOfRange (Ok (truth (has bits x.number))))
+member_of g spot at x bits =
+    reported_where g (not (is_number x.sort)) spot rule.WrongType
+    (reported_where g (not (is_between (pos 0) x.number (pos 31))) at rule.OutOfRange
+    (Ok (truth (has bits x.number))))
 
 abbrev pub member : (g : Gathers) → BinaryOp → Pos → Pos → Ordinal → ℕ → Result Value g.Reported
 member g Plus spot at x bits = reported g spot rule.WrongType
@@ -89,7 +92,8 @@ abbrev pub element : (g : Gathers) → Pos → Value → Result Ordinal g.Report
 element g at v = numbered g at (whole_number v)
 
 abbrev pub is_element : (g : Gathers) → Pos → Ordinal → Result (Unit {0}) g.Reported
-is_element g at a = reported_where g (not (is_between (pos 0) a.number (pos 31))) at rule.OutOfRange (Ok tt)
+is_element g at a =
+    reported_where g (not (is_between (pos 0) a.number (pos 31))) at rule.OutOfRange (Ok tt)
 
 abbrev pub single : (g : Gathers) → Pos → Value → Result ℕ g.Reported
 single g at v = element g at v ▷ λ a. is_element g at a ▷ λ fine. Ok (with_span 0 a.number a.number)
@@ -109,12 +113,18 @@ abbrev pub in_set : (g : Gathers) → Pos → Result Ordinal g.Reported → Resu
 in_set g at a = a ▷ is_element g at
 
 abbrev pub related : (g : Gathers) → Pos → Pos → Ordinal → Ordinal → Result (Unit {0}) g.Reported
-related g at at' a b = reported_where g (is_unlike a b) at' rule.WrongType (ordered g at a.number b.number)
+related g at at' a b =
+    reported_where g (is_unlike a b) at' rule.WrongType (ordered g at a.number b.number)
 
-abbrev pub related_bounds : (g : Gathers) → Pos → Pos → Result Ordinal g.Reported → Result Ordinal g.Reported → Result (Unit {0}) g.Reported
+abbrev pub related_bounds : (g : Gathers) → Pos → Pos → Result Ordinal g.Reported
+    → Result Ordinal g.Reported → Result (Unit {0}) g.Reported
 related_bounds g at at' a b = both g a b ▷ λ p. related g at at' p.0 p.1
 
 -- a range of elements: each bound for itself, and both
-abbrev pub spanned : (g : Gathers) → Pos → Result Ordinal g.Reported → Pos → Result Ordinal g.Reported → Result ℕ g.Reported
+abbrev pub spanned : (g : Gathers) → Pos → Result Ordinal g.Reported → Pos
+    → Result Ordinal g.Reported → Result ℕ g.Reported
 spanned g at a at' b =
-    both g (both g a b) (beside g (beside g (in_set g at a) (in_set g at' b)) (related_bounds g at at' a b)) ▷ λ p. Ok (with_span 0 p.0.0.number p.0.1.number)
+    both g (both g a b)
+    (beside g (beside g (in_set g at a) (in_set g at' b)) (related_bounds g at at' a b))
+    ▷ λ p.
+    Ok (with_span 0 p.0.0.number p.0.1.number)

@@ -32,7 +32,9 @@ whole_number v = if_number (scalar_part (operand_of v))
 -- ABS
 abbrev pub absolute_part : (g : Gathers) → Pos → Option Ordinal → Result Value g.Reported
 absolute_part g at None = reported g at rule.WrongArgument
-absolute_part g at (Some a) = cond (int_lt a.number (pos 0)) (evaluated_at g at a.sort Minus (pos 0) a.number) (number_at g at a.sort a.number)
+absolute_part g at (Some a) =
+    cond (int_lt a.number (pos 0)) (evaluated_at g at a.sort Minus (pos 0) a.number)
+    (number_at g at a.sort a.number)
 
 abbrev pub absolute : (g : Gathers) → Pos → Value → Result Value g.Reported
 absolute g at v = absolute_part g at (whole_number v)
@@ -47,7 +49,9 @@ is_char (Some t) = are_same t char
 
 abbrev pub capital_part : (g : Gathers) → Pos → Option Ordinal → Result Value g.Reported
 capital_part g at None = reported g at rule.WrongArgument
-capital_part g at (Some a) = reported_where g (not (is_char a.sort)) at rule.WrongArgument (Ok (valued (Some char) (upper a.number)))
+capital_part g at (Some a) =
+    reported_where g (not (is_char a.sort)) at rule.WrongArgument
+    (Ok (valued (Some char) (upper a.number)))
 
 abbrev pub capital : (g : Gathers) → Pos → Value → Result Value g.Reported
 capital g at v = capital_part g at (scalar_part (operand_of v))
@@ -55,7 +59,9 @@ capital g at v = capital_part g at (scalar_part (operand_of v))
 -- CHR
 abbrev pub character_part : (g : Gathers) → Pos → Option Ordinal → Result Value g.Reported
 character_part g at None = reported g at rule.WrongArgument
-character_part g at (Some a) = reported_where g (not (is_between (pos 0) a.number (pos 255))) at rule.OutOfRange (Ok (valued (Some char) a.number))
+character_part g at (Some a) =
+    reported_where g (not (is_between (pos 0) a.number (pos 255))) at rule.OutOfRange
+    (Ok (valued (Some char) a.number))
 
 abbrev pub character : (g : Gathers) → Pos → Value → Result Value g.Reported
 character g at v = character_part g at (whole_number v)
@@ -81,9 +87,12 @@ abbrev pub bound_of : TypeNo → Scalar → ℤ → Value
 bound_of t s n = value.Scalar (record { of = t; base = s.base; number = n })
 
 -- VAL
-abbrev pub converted_part : (g : Gathers) → TypeNo → Scalar → Pos → Option Ordinal → Result Value g.Reported
+abbrev pub converted_part : (g : Gathers) → TypeNo → Scalar → Pos → Option Ordinal
+    → Result Value g.Reported
 converted_part g t s at None = reported g at rule.WrongArgument
-converted_part g t s at (Some a) = reported_where g (not (is_between s.low a.number s.high)) at rule.OutOfRange (Ok (bound_of t s a.number))
+converted_part g t s at (Some a) =
+    reported_where g (not (is_between s.low a.number s.high)) at rule.OutOfRange
+    (Ok (bound_of t s a.number))
 
 abbrev pub converted : (g : Gathers) → TypeNo → Scalar → Pos → Value → Result Value g.Reported
 converted g t s at v = converted_part g t s at (whole_number v)

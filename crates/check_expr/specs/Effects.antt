@@ -30,7 +30,8 @@ abbrev pub call_done : {T : Type 0} → Callee → Result (List Argument) T → 
 call_done c args = args ▷ λ xs. Ok (step.Call (call_by xs c))
 
 module _ (g : Gathers) where
-  abbrev pub routine_done : Scope g.Reported → Pos → TypeNo → Callee → List (Meant g.Reported) → Result TypedStmt g.Reported
+  abbrev pub routine_done : Scope g.Reported → Pos → TypeNo → Callee → List (Meant g.Reported)
+      → Result TypedStmt g.Reported
   routine_done s at h c args =
       ahead g (proper_of g at (signature_at s.types h) (length args)) (looked_at g s args)
       (λ fine. call_done c (actuals g s (formals_of (signature_at s.types h)) args))
@@ -40,20 +41,24 @@ module _ (g : Gathers) where
   changed_in s v = of_sort g v.fixed.at rule.NoVariable (v.means s) ▷ changed g s.types v.fixed.at
 
   -- by 1, where nothing is written
-  abbrev pub changed_by : Scope g.Reported → Pos → Change → List (Meant g.Reported) → Result TypedStmt g.Reported
+  abbrev pub changed_by : Scope g.Reported → Pos → Change → List (Meant g.Reported)
+      → Result TypedStmt g.Reported
   changed_by s at o [] = miscounted g s at []
   changed_by s at o (v ∷ []) = change_by g o (changed_in s v) (Ok (expr.Constant cardinal (pos 1)))
-  changed_by s at o (v ∷ n ∷ []) = change_by g o (changed_in s v) (value_of g s n ▷ amount g n.fixed.at)
+  changed_by s at o (v ∷ n ∷ []) =
+      change_by g o (changed_in s v) (value_of g s n ▷ amount g n.fixed.at)
   changed_by s at o (v ∷ n ∷ x ∷ xs) = miscounted g s at (v ∷ n ∷ x ∷ xs)
 
   -- the set of INCL or EXCL
   abbrev pub set_in : Scope g.Reported → Meant g.Reported → Result Place g.Reported
   set_in s v = of_sort g v.fixed.at rule.NoVariable (v.means s) ▷ set_variable g s.types v.fixed.at
 
-  abbrev pub member_by : Scope g.Reported → Pos → Membership → List (Meant g.Reported) → Result TypedStmt g.Reported
+  abbrev pub member_by : Scope g.Reported → Pos → Membership → List (Meant g.Reported)
+      → Result TypedStmt g.Reported
   member_by s at o [] = miscounted g s at []
   member_by s at o (v ∷ []) = miscounted g s at (v ∷ [])
-  member_by s at o (v ∷ n ∷ []) = membership_of g o (set_in s v) (value_of g s n ▷ element g n.fixed.at)
+  member_by s at o (v ∷ n ∷ []) =
+      membership_of g o (set_in s v) (value_of g s n ▷ element g n.fixed.at)
   member_by s at o (v ∷ n ∷ x ∷ xs) = miscounted g s at (v ∷ n ∷ x ∷ xs)
 
   abbrev pub halted : Scope g.Reported → Pos → List (Meant g.Reported) → Result TypedStmt g.Reported
@@ -66,10 +71,12 @@ module _ (g : Gathers) where
   put_by s at (x ∷ y ∷ xs) = miscounted g s at (x ∷ y ∷ xs)
 
   -- functions are no statements
-  abbrev pub function_done : Scope g.Reported → Pos → List (Meant g.Reported) → Result TypedStmt g.Reported
+  abbrev pub function_done : Scope g.Reported → Pos → List (Meant g.Reported)
+      → Result TypedStmt g.Reported
   function_done s at args = reported_beside g at rule.WrongType (looked_at g s args)
 
-  abbrev pub standard_done : Scope g.Reported → Pos → List (Meant g.Reported) → Standard → Result TypedStmt g.Reported
+  abbrev pub standard_done : Scope g.Reported → Pos → List (Meant g.Reported) → Standard
+      → Result TypedStmt g.Reported
   standard_done s at args Abs = function_done s at args
   standard_done s at args Cap = function_done s at args
   standard_done s at args Chr = function_done s at args
@@ -86,10 +93,14 @@ module _ (g : Gathers) where
   standard_done s at args Halt = halted s at args
   standard_done s at args Put = put_by s at args
 
-  abbrev pub done_as : Scope g.Reported → Pos → List (Meant g.Reported) → Called → Result TypedStmt g.Reported
+  abbrev pub done_as : Scope g.Reported → Pos → List (Meant g.Reported) → Called
+      → Result TypedStmt g.Reported
   done_as s at args (called.Routine h c) = routine_done s at h c args
   done_as s at args (called.Standard f) = standard_done s at args f
 
   -- a call of a designator as a statement
-  abbrev pub done_by : Scope g.Reported → Meant g.Reported → List (Meant g.Reported) → Result TypedStmt g.Reported
-  done_by s d args = ahead g (of_heading (d.means s) ▷ callee_of g s.types d.fixed.at) (looked_at g s args) (done_as s d.fixed.at args)
+  abbrev pub done_by : Scope g.Reported → Meant g.Reported → List (Meant g.Reported)
+      → Result TypedStmt g.Reported
+  done_by s d args =
+      ahead g (of_heading (d.means s) ▷ callee_of g s.types d.fixed.at) (looked_at g s args)
+      (done_as s d.fixed.at args)

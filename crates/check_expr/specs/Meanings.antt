@@ -52,8 +52,8 @@ use Rattle.check_call.specs.Callees.{callee_of, function_of, call_by}
 use Rattle.check_call.specs.Actuals.{actual, next_formal, with_argument}
 use Rattle.check_call.specs.Functions.{form_of, unary_at, type_named, bound_at, conversion_at, high_of}
 
--- an expression or a designator: what it is as a constant expression, with the place of its first token, and what it stands
--- for in a scope
+-- an expression or a designator: what it is as a constant expression, with the place of its first
+-- token, and what it stands for in a scope
 pub record Meant (T : Type 0) : Type 0 where
   pub fixed : Part T
   pub means : Scope T → Result Designated (Meaningless T)
@@ -68,26 +68,31 @@ pub record Picks (T : Type 0) : Type 0 where
 abbrev pub of_computed : {T : Type 0} → Result Computed T → Result Designated (Meaningless T)
 of_computed x = plain (x ▷ λ v. Ok (designated.Value v))
 
-abbrev pub taken_at : (g : Gathers) → Types → Pos → Result Designated (Meaningless g.Reported) → Result Computed g.Reported
+abbrev pub taken_at : (g : Gathers) → Types → Pos → Result Designated (Meaningless g.Reported)
+    → Result Computed g.Reported
 taken_at g types at d = of_heading d ▷ taken g types at
 
-abbrev pub signed_first : (g : Gathers) → Option (Operator Sign) → Result Computed g.Reported → Result Computed g.Reported
+abbrev pub signed_first : (g : Gathers) → Option (Operator Sign) → Result Computed g.Reported
+    → Result Computed g.Reported
 signed_first g None x = x
 signed_first g (Some o) x = signed g o.op o.pos x
 
-abbrev pub related : (g : Gathers) → Types → Operator RelOp → Pos → Result Computed g.Reported → Pos → Result Computed g.Reported → Result Computed g.Reported
+abbrev pub related : (g : Gathers) → Types → Operator RelOp → Pos → Result Computed g.Reported → Pos
+    → Result Computed g.Reported → Result Computed g.Reported
 related g types o at x at' y = combined g types (op.Relation o.op) o.pos at x at' y
 
 -- ---- designators
 
-abbrev pub named : (g : Gathers) → Scope g.Reported → Ident → Result Designated (Meaningless g.Reported)
+abbrev pub named : (g : Gathers) → Scope g.Reported → Ident
+    → Result Designated (Meaningless g.Reported)
 named g s name = looked_up g s name ▷ λ m. plain (designated_by g s.level name.pos m)
 
 abbrev pub member_of : (g : Gathers) → Scope g.Reported → ℕ → Ident → Result Designated g.Reported
 member_of g s k name = member g s.tables k name ▷ designated_by g s.level name.pos
 
 -- a name of a module, or a field of a record
-abbrev pub field_of : (g : Gathers) → Scope g.Reported → Pos → Ident → Designated → Result Designated g.Reported
+abbrev pub field_of : (g : Gathers) → Scope g.Reported → Pos → Ident → Designated
+    → Result Designated g.Reported
 field_of g s at name (designated.Module k) = member_of g s k name
 field_of g s at name (designated.Value x) = field g s.types at name (designated.Value x)
 field_of g s at name (designated.Variable t d) = field g s.types at name (designated.Variable t d)
@@ -97,12 +102,15 @@ field_of g s at name (designated.Procedure p) = field g s.types at name (designa
 field_of g s at name (designated.Nested p) = field g s.types at name (designated.Nested p)
 field_of g s at name (designated.Standard f) = field g s.types at name (designated.Standard f)
 
-abbrev pub field_at : (g : Gathers) → Scope g.Reported → Pos → Ident → Result Designated (Meaningless g.Reported) → Result Designated (Meaningless g.Reported)
+abbrev pub field_at : (g : Gathers) → Scope g.Reported → Pos → Ident
+    → Result Designated (Meaningless g.Reported) → Result Designated (Meaningless g.Reported)
 field_at g s at name d = plain (of_sort g at rule.WrongType d ▷ field_of g s at name)
 
 -- what stands before a bracket is elaborated beside the index
-abbrev pub index_at : (g : Gathers) → Types → Pos → Result Designated (Meaningless g.Reported) → Pos → Result Computed g.Reported → Result Designated (Meaningless g.Reported)
-index_at g types at d at' x = plain (indexed g types (of_sort g at rule.WrongType d ▷ indices g types at) at' x)
+abbrev pub index_at : (g : Gathers) → Types → Pos → Result Designated (Meaningless g.Reported) → Pos
+    → Result Computed g.Reported → Result Designated (Meaningless g.Reported)
+index_at g types at d at' x =
+    plain (indexed g types (of_sort g at rule.WrongType d ▷ indices g types at) at' x)
 
 -- ---- arguments that name a type
 
@@ -117,7 +125,8 @@ type_in (designated.Nested p) = None
 type_in (designated.Standard f) = None
 type_in (designated.Module k) = None
 
-abbrev pub type_of : (g : Gathers) → Pos → Result Designated (Meaningless g.Reported) → Result (Option TypeNo) g.Reported
+abbrev pub type_of : (g : Gathers) → Pos → Result Designated (Meaningless g.Reported)
+    → Result (Option TypeNo) g.Reported
 type_of g at d = of_sort g at rule.NoType d ▷ λ x. Ok (type_in x)
 
 -- a name with selectors is no constant expression
@@ -132,19 +141,23 @@ formals_of None = []
 formals_of (Some h) = h.formals
 
 -- for a VAR formal it counts that a procedure is no variable, for others what it is
-abbrev pub passed_for : (g : Gathers) → Formal → Pos → Result Designated (Meaningless g.Reported) → Result Designated g.Reported
+abbrev pub passed_for : (g : Gathers) → Formal → Pos → Result Designated (Meaningless g.Reported)
+    → Result Designated g.Reported
 passed_for g f at d = cond f.is_var (of_sort g at rule.NoVariable d) (of_heading d)
 
-abbrev pub argument_by : (g : Gathers) → Types → Option Formal → Pos → Result Designated (Meaningless g.Reported) → Result Argument g.Reported
+abbrev pub argument_by : (g : Gathers) → Types → Option Formal → Pos
+    → Result Designated (Meaningless g.Reported) → Result Argument g.Reported
 argument_by g types None at d = reported g at rule.ArgumentCount
 argument_by g types (Some f) at d = passed_for g f at d ▷ actual g types f at
 
-abbrev pub call_given : (g : Gathers) → Types → TypeNo → Callee → Result (List Argument) g.Reported → Result Computed g.Reported
+abbrev pub call_given : (g : Gathers) → Types → TypeNo → Callee → Result (List Argument) g.Reported
+    → Result Computed g.Reported
 call_given g types t c args = args ▷ λ xs. Ok (given types t (expr.Call t (call_by xs c)))
 
 module _ (g : Gathers) where
   -- a constant expression as it stands
-  abbrev pub as_constant : Scope g.Reported → Part g.Reported → Result Designated (Meaningless g.Reported)
+  abbrev pub as_constant : Scope g.Reported → Part g.Reported
+      → Result Designated (Meaningless g.Reported)
   as_constant s x = plain (constant g s x ▷ λ v. Ok (designated.Value (value.Constant v)))
 
   -- a part taken as a value
@@ -154,30 +167,38 @@ module _ (g : Gathers) where
   -- ---- calls
 
   -- what is broken in the arguments themselves
-  abbrev pub with_look : Scope g.Reported → Result (Unit {0}) g.Reported → Meant g.Reported → Result (Unit {0}) g.Reported
+  abbrev pub with_look : Scope g.Reported → Result (Unit {0}) g.Reported → Meant g.Reported
+      → Result (Unit {0}) g.Reported
   with_look s so x = beside g so (of_heading (x.means s) ▷ λ d. Ok tt)
 
   abbrev pub looked_at : Scope g.Reported → List (Meant g.Reported) → Result (Unit {0}) g.Reported
   looked_at s args = fold (with_look s) (Ok tt) args
 
   -- a wrong number of arguments
-  abbrev pub miscounted : {A : Type 0} → Scope g.Reported → Pos → List (Meant g.Reported) → Result A g.Reported
+  abbrev pub miscounted : {A : Type 0} → Scope g.Reported → Pos → List (Meant g.Reported)
+      → Result A g.Reported
   miscounted s at args = reported_beside g at rule.ArgumentCount (looked_at s args)
 
   -- the arguments, one after the other, with the formals that are left
-  abbrev pub with_actual : Scope g.Reported → List Formal × Result (List Argument) g.Reported → Meant g.Reported → List Formal × Result (List Argument) g.Reported
-  with_actual s st x = let n = next_formal st.0 in (n.1, with_argument g st.1 (argument_by g s.types n.0 x.fixed.at (x.means s)))
+  abbrev pub with_actual : Scope g.Reported → List Formal × Result (List Argument) g.Reported
+      → Meant g.Reported → List Formal × Result (List Argument) g.Reported
+  with_actual s st x =
+      let n = next_formal st.0 in
+      (n.1, with_argument g st.1 (argument_by g s.types n.0 x.fixed.at (x.means s)))
 
-  abbrev pub actuals : Scope g.Reported → List Formal → List (Meant g.Reported) → Result (List Argument) g.Reported
+  abbrev pub actuals : Scope g.Reported → List Formal → List (Meant g.Reported)
+      → Result (List Argument) g.Reported
   actuals s fs args = (fold (with_actual s) (fs, Ok []) args).1
 
   -- the number of arguments is checked before them
-  abbrev pub routine_called : Scope g.Reported → Pos → TypeNo → Callee → List (Meant g.Reported) → Result Computed g.Reported
+  abbrev pub routine_called : Scope g.Reported → Pos → TypeNo → Callee → List (Meant g.Reported)
+      → Result Computed g.Reported
   routine_called s at h c args =
       ahead g (function_of g at (signature_at s.types h) (length args)) (looked_at s args)
       (λ t. call_given g s.types t c (actuals s (formals_of (signature_at s.types h)) args))
 
-  abbrev pub unary : Scope g.Reported → Pos → Standard → Unary → List (Meant g.Reported) → Result Computed g.Reported
+  abbrev pub unary : Scope g.Reported → Pos → Standard → Unary → List (Meant g.Reported)
+      → Result Computed g.Reported
   unary s at f u [] = miscounted s at []
   unary s at f u (x ∷ []) = value_of s x ▷ unary_at g f u x.fixed.at
   unary s at f u (x ∷ y ∷ xs) = miscounted s at (x ∷ y ∷ xs)
@@ -185,12 +206,14 @@ module _ (g : Gathers) where
   abbrev pub scalar_named : Scope g.Reported → Meant g.Reported → Result (TypeNo × Range) g.Reported
   scalar_named s x = of_sort g x.fixed.at rule.NoType (x.means s) ▷ type_named g s.types x.fixed.at
 
-  abbrev pub bound : Scope g.Reported → Pos → Standard → List (Meant g.Reported) → Result Computed g.Reported
+  abbrev pub bound : Scope g.Reported → Pos → Standard → List (Meant g.Reported)
+      → Result Computed g.Reported
   bound s at f [] = miscounted s at []
   bound s at f (x ∷ []) = bound_at f (scalar_named s x)
   bound s at f (x ∷ y ∷ xs) = miscounted s at (x ∷ y ∷ xs)
 
-  abbrev pub conversion : Scope g.Reported → Pos → List (Meant g.Reported) → Result Computed g.Reported
+  abbrev pub conversion : Scope g.Reported → Pos → List (Meant g.Reported)
+      → Result Computed g.Reported
   conversion s at [] = miscounted s at []
   conversion s at (t ∷ []) = miscounted s at (t ∷ [])
   conversion s at (t ∷ x ∷ []) = conversion_at g (scalar_named s t) x.fixed.at (value_of s x)
@@ -201,43 +224,60 @@ module _ (g : Gathers) where
   high s at (x ∷ []) = of_sort g x.fixed.at rule.WrongArgument (x.means s) ▷ high_of g x.fixed.at
   high s at (x ∷ y ∷ xs) = miscounted s at (x ∷ y ∷ xs)
 
-  abbrev pub by_form : Scope g.Reported → Pos → Standard → List (Meant g.Reported) → Form → Result Computed g.Reported
+  abbrev pub by_form : Scope g.Reported → Pos → Standard → List (Meant g.Reported) → Form
+      → Result Computed g.Reported
   by_form s at f args (form.Unary u) = unary s at f u args
   by_form s at f args form.Bound = bound s at f args
   by_form s at f args form.Conversion = conversion s at args
   by_form s at f args form.High = high s at args
   by_form s at f args form.Proper = reported_beside g at rule.WrongType (looked_at s args)
 
-  abbrev pub called_as : Scope g.Reported → Pos → List (Meant g.Reported) → Called → Result Computed g.Reported
+  abbrev pub called_as : Scope g.Reported → Pos → List (Meant g.Reported) → Called
+      → Result Computed g.Reported
   called_as s at args (called.Routine h c) = routine_called s at h c args
   called_as s at args (called.Standard f) = by_form s at f args (form_of f)
 
   -- the arguments are looked at, also if nothing can be called so
-  abbrev pub called_by : Scope g.Reported → Pos → Result Designated (Meaningless g.Reported) → List (Meant g.Reported) → Result Computed g.Reported
-  called_by s at d args = ahead g (of_heading d ▷ callee_of g s.types at) (looked_at s args) (called_as s at args)
+  abbrev pub called_by : Scope g.Reported → Pos → Result Designated (Meaningless g.Reported)
+      → List (Meant g.Reported) → Result Computed g.Reported
+  called_by s at d args =
+      ahead g (of_heading d ▷ callee_of g s.types at) (looked_at s args) (called_as s at args)
 
-  abbrev pub used_with : Scope g.Reported → Meant g.Reported → Option (List (Meant g.Reported)) → Result Designated (Meaningless g.Reported)
+  abbrev pub used_with : Scope g.Reported → Meant g.Reported → Option (List (Meant g.Reported))
+      → Result Designated (Meaningless g.Reported)
   used_with s d None = d.means s
   used_with s d (Some args) = of_computed (called_by s d.fixed.at (d.means s) args)
 
   -- ---- operators
 
-  abbrev pub factor : Scope g.Reported → Pos → Result Computed g.Reported → Operator MulOp × Meant g.Reported → Result Computed g.Reported
-  factor s at left x = combined g s.types (mul_op x.0.op) x.0.pos at left x.1.fixed.at (value_of s x.1)
+  abbrev pub factor : Scope g.Reported → Pos → Result Computed g.Reported
+      → Operator MulOp × Meant g.Reported → Result Computed g.Reported
+  factor s at left x =
+      combined g s.types (mul_op x.0.op) x.0.pos at left x.1.fixed.at (value_of s x.1)
 
-  abbrev pub term : Scope g.Reported → Pos → Result Computed g.Reported → Operator AddOp × Meant g.Reported → Result Computed g.Reported
-  term s at left x = combined g s.types (add_op x.0.op) x.0.pos at left x.1.fixed.at (value_of s x.1)
+  abbrev pub term : Scope g.Reported → Pos → Result Computed g.Reported
+      → Operator AddOp × Meant g.Reported → Result Computed g.Reported
+  term s at left x =
+      combined g s.types (add_op x.0.op) x.0.pos at left x.1.fixed.at (value_of s x.1)
 
-  abbrev pub relation : Scope g.Reported → Meant g.Reported → Operator RelOp → Meant g.Reported → Result Computed g.Reported
+  abbrev pub relation : Scope g.Reported → Meant g.Reported → Operator RelOp → Meant g.Reported
+      → Result Computed g.Reported
   relation s a o b = related g s.types o a.fixed.at (value_of s a) b.fixed.at (value_of s b)
 
   -- ---- the layers
 
-  abbrev pub expr_fixed : Expr-F (Meant g.Reported) (Picks g.Reported) (Meant g.Reported) (Adds g.Reported) → Part g.Reported
-  expr_fixed x = constants.expr_layer g (map-Expr (Meant g.Reported) (Picks g.Reported) (Meant g.Reported) (Adds g.Reported) (Part g.Reported) (Pick g.Reported) (Part g.Reported) (Adds g.Reported) (λ e. e.fixed) (λ e. e.fixed) (λ e. e.fixed) (λ e. e) x)
+  abbrev pub expr_fixed :
+      Expr-F (Meant g.Reported) (Picks g.Reported) (Meant g.Reported) (Adds g.Reported)
+      → Part g.Reported
+  expr_fixed x =
+      constants.expr_layer g (map-Expr (Meant g.Reported) (Picks g.Reported) (Meant g.Reported)
+      (Adds g.Reported) (Part g.Reported) (Pick g.Reported) (Part g.Reported) (Adds g.Reported)
+      (λ e. e.fixed) (λ e. e.fixed) (λ e. e.fixed) (λ e. e) x)
 
   -- what stands for itself is a constant; sets have constant elements
-  abbrev pub expr_means : Expr-F (Meant g.Reported) (Picks g.Reported) (Meant g.Reported) (Adds g.Reported) → Part g.Reported → Scope g.Reported → Result Designated (Meaningless g.Reported)
+  abbrev pub expr_means :
+      Expr-F (Meant g.Reported) (Picks g.Reported) (Meant g.Reported) (Adds g.Reported)
+      → Part g.Reported → Scope g.Reported → Result Designated (Meaningless g.Reported)
   expr_means (layer.Number at n) fixed s = as_constant s fixed
   expr_means (layer.Char at c) fixed s = as_constant s fixed
   expr_means (layer.Text at t) fixed s = as_constant s fixed
@@ -245,54 +285,91 @@ module _ (g : Gathers) where
   expr_means (layer.Not at e) fixed s = of_computed (negated g at (value_of s e))
   expr_means (layer.Bracketed at e) fixed s = of_computed (value_of s e)
   expr_means (layer.Use d args) fixed s = used_with s d args
-  expr_means (layer.Term e rest) fixed s = of_computed (fold (factor s e.fixed.at) (value_of s e) rest)
-  expr_means (layer.Sum sign e rest) fixed s = of_computed (fold (term s (sign_place sign e.fixed.at)) (signed_first g sign (value_of s e)) rest)
+  expr_means (layer.Term e rest) fixed s =
+      of_computed (fold (factor s e.fixed.at) (value_of s e) rest)
+  expr_means (layer.Sum sign e rest) fixed s =
+      of_computed
+      (fold (term s (sign_place sign e.fixed.at)) (signed_first g sign (value_of s e)) rest)
   expr_means (layer.Relation a o b) fixed s = of_computed (relation s a o b)
 
-  abbrev pub expr_layer : Expr-F (Meant g.Reported) (Picks g.Reported) (Meant g.Reported) (Adds g.Reported) → Meant g.Reported
+  abbrev pub expr_layer :
+      Expr-F (Meant g.Reported) (Picks g.Reported) (Meant g.Reported) (Adds g.Reported)
+      → Meant g.Reported
   expr_layer x = record { fixed = expr_fixed x; means = expr_means x (expr_fixed x) }
 
-  abbrev pub selector_fixed : Selector-F (Meant g.Reported) (Picks g.Reported) (Meant g.Reported) (Adds g.Reported) → Pick g.Reported
-  selector_fixed x = constants.selector_layer g (map-Selector (Meant g.Reported) (Picks g.Reported) (Meant g.Reported) (Adds g.Reported) (Part g.Reported) (Pick g.Reported) (Part g.Reported) (Adds g.Reported) (λ e. e.fixed) (λ e. e.fixed) (λ e. e.fixed) (λ e. e) x)
+  abbrev pub selector_fixed :
+      Selector-F (Meant g.Reported) (Picks g.Reported) (Meant g.Reported) (Adds g.Reported)
+      → Pick g.Reported
+  selector_fixed x =
+      constants.selector_layer g (map-Selector (Meant g.Reported) (Picks g.Reported)
+      (Meant g.Reported) (Adds g.Reported) (Part g.Reported) (Pick g.Reported) (Part g.Reported)
+      (Adds g.Reported) (λ e. e.fixed) (λ e. e.fixed) (λ e. e.fixed) (λ e. e) x)
 
-  abbrev pub selector_picks : Selector-F (Meant g.Reported) (Picks g.Reported) (Meant g.Reported) (Adds g.Reported) → Scope g.Reported → Result Designated (Meaningless g.Reported) → Result Designated (Meaningless g.Reported)
+  abbrev pub selector_picks :
+      Selector-F (Meant g.Reported) (Picks g.Reported) (Meant g.Reported) (Adds g.Reported)
+      → Scope g.Reported → Result Designated (Meaningless g.Reported)
+      → Result Designated (Meaningless g.Reported)
   selector_picks (layer.Field at name) s d = field_at g s at name d
   selector_picks (layer.Index at x) s d = index_at g s.types at d x.fixed.at (value_of s x)
 
-  abbrev pub selector_layer : Selector-F (Meant g.Reported) (Picks g.Reported) (Meant g.Reported) (Adds g.Reported) → Picks g.Reported
+  abbrev pub selector_layer :
+      Selector-F (Meant g.Reported) (Picks g.Reported) (Meant g.Reported) (Adds g.Reported)
+      → Picks g.Reported
   selector_layer x = record { fixed = selector_fixed x; picks = selector_picks x }
 
-  abbrev pub designation : Scope g.Reported → Ident → List (Picks g.Reported) → Result Designated (Meaningless g.Reported)
+  abbrev pub designation : Scope g.Reported → Ident → List (Picks g.Reported)
+      → Result Designated (Meaningless g.Reported)
   designation s name selectors = fold (λ x p. p.picks s x) (named g s name) selectors
 
-  abbrev pub denotation : Scope g.Reported → Ident → List (Picks g.Reported) → Result Denoted g.Reported
+  abbrev pub denotation : Scope g.Reported → Ident → List (Picks g.Reported)
+      → Result Denoted g.Reported
   denotation s name selectors = constants.picked g s name (map (λ p. p.fixed) selectors)
 
   -- the type that it names is that of a body, if it has selectors
-  abbrev pub designator_fixed : Designator-F (Meant g.Reported) (Picks g.Reported) (Meant g.Reported) (Adds g.Reported) → Part g.Reported
+  abbrev pub designator_fixed :
+      Designator-F (Meant g.Reported) (Picks g.Reported) (Meant g.Reported) (Adds g.Reported)
+      → Part g.Reported
   designator_fixed d = record {
     at = d.name.pos;
     denotes = λ s. denotation s d.name d.selectors;
-    names = λ s. names_by d.selectors (named_type (denotation s d.name d.selectors)) (type_of g d.name.pos (designation s d.name d.selectors));
+    names = λ s.
+        names_by d.selectors (named_type (denotation s d.name d.selectors))
+        (type_of g d.name.pos (designation s d.name d.selectors));
   }
 
-  abbrev pub designator_layer : Designator-F (Meant g.Reported) (Picks g.Reported) (Meant g.Reported) (Adds g.Reported) → Meant g.Reported
-  designator_layer d = record { fixed = designator_fixed d; means = λ s. designation s d.name d.selectors }
+  abbrev pub designator_layer :
+      Designator-F (Meant g.Reported) (Picks g.Reported) (Meant g.Reported) (Adds g.Reported)
+      → Meant g.Reported
+  designator_layer d =
+      record { fixed = designator_fixed d; means = λ s. designation s d.name d.selectors }
 
-  abbrev pub item_layer : Item-F (Meant g.Reported) (Picks g.Reported) (Meant g.Reported) (Adds g.Reported) → Adds g.Reported
-  item_layer i = constants.item_layer g (map-Item (Meant g.Reported) (Picks g.Reported) (Meant g.Reported) (Adds g.Reported) (Part g.Reported) (Pick g.Reported) (Part g.Reported) (Adds g.Reported) (λ e. e.fixed) (λ e. e.fixed) (λ e. e.fixed) (λ e. e) i)
+  abbrev pub item_layer :
+      Item-F (Meant g.Reported) (Picks g.Reported) (Meant g.Reported) (Adds g.Reported)
+      → Adds g.Reported
+  item_layer i =
+      constants.item_layer g (map-Item (Meant g.Reported) (Picks g.Reported) (Meant g.Reported)
+      (Adds g.Reported) (Part g.Reported) (Pick g.Reported) (Part g.Reported) (Adds g.Reported)
+      (λ e. e.fixed) (λ e. e.fixed) (λ e. e.fixed) (λ e. e) i)
 
   unfoldable pub meant : Expr → Meant g.Reported
-  meant = fold-Expr (Meant g.Reported) (Picks g.Reported) (Meant g.Reported) (Adds g.Reported) expr_layer selector_layer designator_layer item_layer
+  meant =
+      fold-Expr (Meant g.Reported) (Picks g.Reported) (Meant g.Reported) (Adds g.Reported)
+      expr_layer selector_layer designator_layer item_layer
 
   unfoldable pub picks : Selector → Picks g.Reported
-  picks = fold-Selector (Meant g.Reported) (Picks g.Reported) (Meant g.Reported) (Adds g.Reported) expr_layer selector_layer designator_layer item_layer
+  picks =
+      fold-Selector (Meant g.Reported) (Picks g.Reported) (Meant g.Reported) (Adds g.Reported)
+      expr_layer selector_layer designator_layer item_layer
 
   unfoldable pub head : Designator → Meant g.Reported
-  head = fold-Designator (Meant g.Reported) (Picks g.Reported) (Meant g.Reported) (Adds g.Reported) expr_layer selector_layer designator_layer item_layer
+  head =
+      fold-Designator (Meant g.Reported) (Picks g.Reported) (Meant g.Reported) (Adds g.Reported)
+      expr_layer selector_layer designator_layer item_layer
 
   unfoldable pub item : Item → Adds g.Reported
-  item = fold-Item (Meant g.Reported) (Picks g.Reported) (Meant g.Reported) (Adds g.Reported) expr_layer selector_layer designator_layer item_layer
+  item =
+      fold-Item (Meant g.Reported) (Picks g.Reported) (Meant g.Reported) (Adds g.Reported)
+      expr_layer selector_layer designator_layer item_layer
 
 -- ---- constant expressions
 
@@ -301,36 +378,47 @@ part g e = (meant g e).fixed
 
 -- ---- the same, step by step
 
-abbrev pub constant_factor_in : Scope (least).Reported → Pos → Result Value (least).Reported → Operator MulOp × Expr → Result Value (least).Reported
+abbrev pub constant_factor_in : Scope (least).Reported → Pos → Result Value (least).Reported
+    → Operator MulOp × Expr → Result Value (least).Reported
 constant_factor_in s at v x = constants.factor least s at v (x.0, part least x.1)
 
-abbrev pub constant_term_in : Scope (least).Reported → Pos → Result Value (least).Reported → Operator AddOp × Expr → Result Value (least).Reported
+abbrev pub constant_term_in : Scope (least).Reported → Pos → Result Value (least).Reported
+    → Operator AddOp × Expr → Result Value (least).Reported
 constant_term_in s at v x = constants.term least s at v (x.0, part least x.1)
 
-abbrev pub constant_pick_in : Scope (least).Reported → Result Denoted (least).Reported → Selector → Result Denoted (least).Reported
+abbrev pub constant_pick_in : Scope (least).Reported → Result Denoted (least).Reported → Selector
+    → Result Denoted (least).Reported
 constant_pick_in s d x = (picks least x).fixed s d
 
-abbrev pub item_in : Scope (least).Reported → Result ℕ (least).Reported → Item → Result ℕ (least).Reported
+abbrev pub item_in : Scope (least).Reported → Result ℕ (least).Reported → Item
+    → Result ℕ (least).Reported
 item_in s so i = constants.with_item least s so (item least i)
 
-abbrev pub factor_in : Scope (least).Reported → Pos → Result Computed (least).Reported → Operator MulOp × Expr → Result Computed (least).Reported
+abbrev pub factor_in : Scope (least).Reported → Pos → Result Computed (least).Reported
+    → Operator MulOp × Expr → Result Computed (least).Reported
 factor_in s at v x = factor least s at v (x.0, meant least x.1)
 
-abbrev pub term_in : Scope (least).Reported → Pos → Result Computed (least).Reported → Operator AddOp × Expr → Result Computed (least).Reported
+abbrev pub term_in : Scope (least).Reported → Pos → Result Computed (least).Reported
+    → Operator AddOp × Expr → Result Computed (least).Reported
 term_in s at v x = term least s at v (x.0, meant least x.1)
 
-abbrev pub pick_in : Scope (least).Reported → Result Designated (Meaningless (least).Reported) → Selector → Result Designated (Meaningless (least).Reported)
+abbrev pub pick_in : Scope (least).Reported → Result Designated (Meaningless (least).Reported)
+    → Selector → Result Designated (Meaningless (least).Reported)
 pick_in s d x = (picks least x).picks s d
 
-abbrev pub actual_in : Scope (least).Reported → List Formal × Result (List Argument) (least).Reported → Expr → List Formal × Result (List Argument) (least).Reported
+abbrev pub actual_in : Scope (least).Reported
+    → List Formal × Result (List Argument) (least).Reported → Expr
+    → List Formal × Result (List Argument) (least).Reported
 actual_in s st x = with_actual least s st (meant least x)
 
 abbrev pub mapped : Option (List Expr) → Option (List (Meant (least).Reported))
 mapped None = None
 mapped (Some es) = Some (map (meant least) es)
 
-abbrev pub used : Scope (least).Reported → Meant (least).Reported → Option (List Expr) → Result Designated (Meaningless (least).Reported)
+abbrev pub used : Scope (least).Reported → Meant (least).Reported → Option (List Expr)
+    → Result Designated (Meaningless (least).Reported)
 used s d args = used_with least s d (mapped args)
 
-abbrev pub look_in : Scope (least).Reported → Result (Unit {0}) (least).Reported → Expr → Result (Unit {0}) (least).Reported
+abbrev pub look_in : Scope (least).Reported → Result (Unit {0}) (least).Reported → Expr
+    → Result (Unit {0}) (least).Reported
 look_in s so x = with_look least s so (meant least x)

@@ -28,7 +28,8 @@ result_agrees (Some t) (Some u) = are_same t u
 abbrev pub signatures_agree : Option Signature → Option Signature → Bool
 signatures_agree None h = false
 signatures_agree (Some g) None = false
-signatures_agree (Some g) (Some h) = formals_agree g.formals h.formals && result_agrees g.result h.result
+signatures_agree (Some g) (Some h) =
+    formals_agree g.formals h.formals && result_agrees g.result h.result
 
 abbrev pub headings_agree : Types → TypeNo → TypeNo → Bool
 headings_agree types t u = signatures_agree (signature_at types t) (signature_at types u)

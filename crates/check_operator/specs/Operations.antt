@@ -138,26 +138,35 @@ abbrev pub divisor_of : (g : Gathers) → BinaryOp → Pos → Amount → Result
 divisor_of g op spot (Known b) = divisor g op spot b.number
 divisor_of g op spot (Run b e) = Ok tt
 
-abbrev pub fitting_both : (g : Gathers) → BinaryOp → Pos → Option TypeNo → Pos → Amount → Pos → Amount → Result (Unit {0}) g.Reported
+abbrev pub fitting_both : (g : Gathers) → BinaryOp → Pos → Option TypeNo → Pos → Amount → Pos
+    → Amount → Result (Unit {0}) g.Reported
 fitting_both g op spot sort at a at' b =
-    reported_where g (not (takes op sort)) spot rule.WrongType (beside g (divisor_of g op spot b) (beside g (fitting_of g sort at a) (fitting_of g sort at' b)))
+    reported_where g (not (takes op sort)) spot rule.WrongType
+    (beside g (divisor_of g op spot b)
+    (beside g (fitting_of g sort at a) (fitting_of g sort at' b)))
 
-abbrev pub stepped : (g : Gathers) → Pos → Option TypeNo → Amount → Amount → Option Step → Result Computed g.Reported
+abbrev pub stepped : (g : Gathers) → Pos → Option TypeNo → Amount → Amount → Option Step
+    → Result Computed g.Reported
 stepped g spot sort a b None = reported g spot rule.WrongType
-stepped g spot sort a b (Some o) = Ok (built (or_cardinal sort) (run_of (or_cardinal sort) a) (run_of (or_cardinal sort) b) o)
+stepped g spot sort a b (Some o) =
+    Ok (built (or_cardinal sort) (run_of (or_cardinal sort) a) (run_of (or_cardinal sort) b) o)
 
-abbrev pub on_amounts : (g : Gathers) → BinaryOp → Pos → Pos → Amount → Pos → Amount → Option (Option TypeNo) → Result Computed g.Reported
+abbrev pub on_amounts : (g : Gathers) → BinaryOp → Pos → Pos → Amount → Pos → Amount
+    → Option (Option TypeNo) → Result Computed g.Reported
 on_amounts g op spot at a at' b None = reported g spot rule.WrongType
-on_amounts g op spot at a at' b (Some sort) = fitting_both g op spot sort at a at' b ▷ λ fine. stepped g spot sort a b (step_of op)
+on_amounts g op spot at a at' b (Some sort) =
+    fitting_both g op spot sort at a at' b ▷ λ fine. stepped g spot sort a b (step_of op)
 
 -- ---- sets
 
 -- a constant element is from 0 to 31
 abbrev pub element_fits : (g : Gathers) → Pos → Amount → Result (Unit {0}) g.Reported
-element_fits g at (Known a) = reported_where g (not (is_between (pos 0) a.number (pos 31))) at rule.OutOfRange (Ok tt)
+element_fits g at (Known a) =
+    reported_where g (not (is_between (pos 0) a.number (pos 31))) at rule.OutOfRange (Ok tt)
 element_fits g at (Run b e) = Ok tt
 
-abbrev pub member : (g : Gathers) → BinaryOp → Pos → Pos → Amount → TypedExpr → Result Computed g.Reported
+abbrev pub member : (g : Gathers) → BinaryOp → Pos → Pos → Amount → TypedExpr
+    → Result Computed g.Reported
 member g op spot at a s =
     reported_where g (not (is_in op && is_number (sort_of a))) spot rule.WrongType
     (element_fits g at a ▷ λ fine. Ok (truth_of (expr.In (run_of (or_cardinal (sort_of a)) a) s)))
@@ -167,21 +176,26 @@ set_built x y (set_step.Combine o) = value.Set (linked x (link.Combine o y))
 set_built x y (set_step.Compare c) = truth_of (expr.Compare c x y)
 set_built x y (set_step.Include i) = truth_of (expr.Include i x y)
 
-abbrev pub on_sets : (g : Gathers) → Pos → TypedExpr → TypedExpr → Option SetStep → Result Computed g.Reported
+abbrev pub on_sets : (g : Gathers) → Pos → TypedExpr → TypedExpr → Option SetStep
+    → Result Computed g.Reported
 on_sets g spot x y None = reported g spot rule.WrongType
 on_sets g spot x y (Some o) = Ok (set_built x y o)
 
 -- ---- procedures
 
-abbrev pub on_procedures : (g : Gathers) → Pos → (fit : Bool) → TypedExpr → TypedExpr → Option Comparison → Result Computed g.Reported
+abbrev pub on_procedures : (g : Gathers) → Pos → (fit : Bool) → TypedExpr → TypedExpr
+    → Option Comparison → Result Computed g.Reported
 on_procedures g spot fit x y None = reported g spot rule.WrongType
-on_procedures g spot fit x y (Some c) = reported_where g (not fit) spot rule.WrongType (Ok (truth_of (expr.Compare c x y)))
+on_procedures g spot fit x y (Some c) =
+    reported_where g (not fit) spot rule.WrongType (Ok (truth_of (expr.Compare c x y)))
 
 -- ---- all of them, where one side is no constant
 
-abbrev pub with_scalar : (g : Gathers) → BinaryOp → Pos → Pos → Amount → Pos → Option Side → Result Computed g.Reported
+abbrev pub with_scalar : (g : Gathers) → BinaryOp → Pos → Pos → Amount → Pos → Option Side
+    → Result Computed g.Reported
 with_scalar g op spot at a at' None = reported g spot rule.WrongType
-with_scalar g op spot at a at' (Some (side.Scalar b)) = on_amounts g op spot at a at' b (common (sort_of a) (sort_of b))
+with_scalar g op spot at a at' (Some (side.Scalar b)) =
+    on_amounts g op spot at a at' b (common (sort_of a) (sort_of b))
 with_scalar g op spot at a at' (Some (side.Set s)) = member g op spot at a s
 with_scalar g op spot at a at' (Some (side.Routine t e)) = reported g spot rule.WrongType
 with_scalar g op spot at a at' (Some (side.Procedure p)) = reported g spot rule.WrongType
@@ -193,7 +207,8 @@ set_in (Some (side.Set s)) = Some s
 set_in (Some (side.Routine t e)) = None
 set_in (Some (side.Procedure p)) = None
 
-abbrev pub with_set : (g : Gathers) → BinaryOp → Pos → TypedExpr → Option TypedExpr → Result Computed g.Reported
+abbrev pub with_set : (g : Gathers) → BinaryOp → Pos → TypedExpr → Option TypedExpr
+    → Result Computed g.Reported
 with_set g op spot x None = reported g spot rule.WrongType
 with_set g op spot x (Some s) = on_sets g spot x s (set_step_of op)
 
@@ -203,7 +218,8 @@ partner_of types t None = None
 partner_of types t (Some (side.Scalar b)) = None
 partner_of types t (Some (side.Set s)) = None
 partner_of types t (Some (side.Routine u e)) = Some (are_same t u, e)
-partner_of types t (Some (side.Procedure p)) = Some (headings_agree types t p.heading, expr.Procedure p)
+partner_of types t (Some (side.Procedure p)) =
+    Some (headings_agree types t p.heading, expr.Procedure p)
 
 abbrev pub routine_of : Types → Procedure → Option Side → Option (Bool × TypedExpr)
 routine_of types p None = None
@@ -212,30 +228,39 @@ routine_of types p (Some (side.Set s)) = None
 routine_of types p (Some (side.Routine t e)) = Some (headings_agree types t p.heading, e)
 routine_of types p (Some (side.Procedure q)) = None
 
-abbrev pub with_partner : (g : Gathers) → Pos → TypedExpr → Option Comparison → Option (Bool × TypedExpr) → Result Computed g.Reported
+abbrev pub with_partner : (g : Gathers) → Pos → TypedExpr → Option Comparison
+    → Option (Bool × TypedExpr) → Result Computed g.Reported
 with_partner g spot x c None = reported g spot rule.WrongType
 with_partner g spot x c (Some p) = on_procedures g spot p.0 x p.1 c
 
-abbrev pub between : (g : Gathers) → Types → BinaryOp → Pos → Pos → Option Side → Pos → Option Side → Result Computed g.Reported
+abbrev pub between : (g : Gathers) → Types → BinaryOp → Pos → Pos → Option Side → Pos → Option Side
+    → Result Computed g.Reported
 between g types op spot at None at' y = reported g spot rule.WrongType
 between g types op spot at (Some (side.Scalar a)) at' y = with_scalar g op spot at a at' y
 between g types op spot at (Some (side.Set e)) at' y = with_set g op spot e (set_in y)
-between g types op spot at (Some (side.Routine t e)) at' y = with_partner g spot e (equality_of op) (partner_of types t y)
-between g types op spot at (Some (side.Procedure p)) at' y = with_partner g spot (expr.Procedure p) (equality_of op) (routine_of types p y)
+between g types op spot at (Some (side.Routine t e)) at' y =
+    with_partner g spot e (equality_of op) (partner_of types t y)
+between g types op spot at (Some (side.Procedure p)) at' y =
+    with_partner g spot (expr.Procedure p) (equality_of op) (routine_of types p y)
 
 -- ---- what is made of two constants is a constant
 
-abbrev pub folded : (g : Gathers) → BinaryOp → Pos → Pos → Operand → Pos → Operand → Result Computed g.Reported
+abbrev pub folded : (g : Gathers) → BinaryOp → Pos → Pos → Operand → Pos → Operand
+    → Result Computed g.Reported
 folded g op spot at a at' b = of_value (binary g op spot at (Some a) at' (Some b))
 
-abbrev pub by_known : (g : Gathers) → Types → BinaryOp → Pos → Pos → Computed → Pos → Computed → Option Operand → Option Operand → Result Computed g.Reported
+abbrev pub by_known : (g : Gathers) → Types → BinaryOp → Pos → Pos → Computed → Pos → Computed
+    → Option Operand → Option Operand → Result Computed g.Reported
 by_known g types op spot at x at' y None b = between g types op spot at (side_of x) at' (side_of y)
-by_known g types op spot at x at' y (Some a) None = between g types op spot at (side_of x) at' (side_of y)
+by_known g types op spot at x at' y (Some a) None =
+    between g types op spot at (side_of x) at' (side_of y)
 by_known g types op spot at x at' y (Some a) (Some b) = folded g op spot at a at' b
 
-abbrev pub operated : (g : Gathers) → Types → BinaryOp → Pos → Pos → Computed → Pos → Computed → Result Computed g.Reported
+abbrev pub operated : (g : Gathers) → Types → BinaryOp → Pos → Pos → Computed → Pos → Computed
+    → Result Computed g.Reported
 operated g types op spot at x at' y = by_known g types op spot at x at' y (known_of x) (known_of y)
 
 -- an operator at a place, between two parts at theirs
-abbrev pub combined : (g : Gathers) → Types → BinaryOp → Pos → Pos → Result Computed g.Reported → Pos → Result Computed g.Reported → Result Computed g.Reported
+abbrev pub combined : (g : Gathers) → Types → BinaryOp → Pos → Pos → Result Computed g.Reported
+    → Pos → Result Computed g.Reported → Result Computed g.Reported
 combined g types op spot at x at' y = both g x y ▷ λ p. operated g types op spot at p.0 at' p.1

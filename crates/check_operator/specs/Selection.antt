@@ -38,12 +38,16 @@ abbrev pub field_named : (g : Gathers) → Pos → Option (ℕ × TypeNo) → Re
 field_named g at None = reported g at rule.Undeclared
 field_named g at (Some f) = Ok f
 
-abbrev pub record_field : (g : Gathers) → Pos → Ident → Option (List (List ℕ × TypeNo)) → Result (ℕ × TypeNo) g.Reported
+abbrev pub record_field : (g : Gathers) → Pos → Ident → Option (List (List ℕ × TypeNo))
+    → Result (ℕ × TypeNo) g.Reported
 record_field g at name None = reported g at rule.WrongType
 record_field g at name (Some fs) = field_named g name.pos (numbered_field name.name fs)
 
-abbrev pub component : (g : Gathers) → Types → Pos → Ident → TypeNo → Place → Result Designated g.Reported
-component g types at name t d = record_field g at name (fields_at types t) ▷ λ f. Ok (designated.Variable f.1 (behind d (part.Field t f.0)))
+abbrev pub component : (g : Gathers) → Types → Pos → Ident → TypeNo → Place
+    → Result Designated g.Reported
+component g types at name t d =
+    record_field g at name (fields_at types t) ▷ λ f.
+    Ok (designated.Variable f.1 (behind d (part.Field t f.0)))
 
 -- only variables have components
 abbrev pub field : (g : Gathers) → Types → Pos → Ident → Designated → Result Designated g.Reported
@@ -58,7 +62,8 @@ field g types at name (designated.Module k) = reported g at rule.WrongType
 
 -- ---- elements
 
-abbrev pub array_indexed : (g : Gathers) → Pos → TypeNo → Place → Option (TypeNo × TypeNo) → Result Subscripted g.Reported
+abbrev pub array_indexed : (g : Gathers) → Pos → TypeNo → Place → Option (TypeNo × TypeNo)
+    → Result Subscripted g.Reported
 array_indexed g at t d None = reported g at rule.WrongType
 array_indexed g at t d (Some a) = Ok (indexes.Array t a.0 a.1 d)
 
@@ -79,11 +84,15 @@ asked (indexes.Open t slot) = cardinal
 
 abbrev pub picked : TypedExpr → Subscripted → Designated
 picked x (indexes.Array t i e d) = designated.Variable e (behind d (part.Element t x))
-picked x (indexes.Open t slot) = designated.Variable t (behind (rooted (root.Open slot)) (part.OpenElement slot t x))
+picked x (indexes.Open t slot) =
+    designated.Variable t (behind (rooted (root.Open slot)) (part.OpenElement slot t x))
 
-abbrev pub with_index : (g : Gathers) → Types → Pos → Subscripted → Computed → Result Designated g.Reported
-with_index g types at a x = value_suited g rule.NotAssignable types (asked a) at x ▷ λ e. Ok (picked e a)
+abbrev pub with_index : (g : Gathers) → Types → Pos → Subscripted → Computed
+    → Result Designated g.Reported
+with_index g types at a x =
+    value_suited g rule.NotAssignable types (asked a) at x ▷ λ e. Ok (picked e a)
 
 -- the element of an array with this index
-abbrev pub indexed : (g : Gathers) → Types → Result Subscripted g.Reported → Pos → Result Computed g.Reported → Result Designated g.Reported
+abbrev pub indexed : (g : Gathers) → Types → Result Subscripted g.Reported → Pos
+    → Result Computed g.Reported → Result Designated g.Reported
 indexed g types a at x = both g a x ▷ λ p. with_index g types at p.0 p.1

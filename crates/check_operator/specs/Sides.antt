@@ -29,7 +29,8 @@ constant_side None = None
 constant_side (Some (operand.Scalar a)) = Some (side.Scalar (Known a))
 constant_side (Some (operand.Set bits)) = Some (side.Set (expr.Constant bitset (pos bits)))
 
--- a scalar in its base type, a set or a procedure; arrays, records and strings whose length is not 1 are no operands
+-- a scalar in its base type, a set or a procedure; arrays, records and strings whose length is not
+-- 1 are no operands
 abbrev pub side_of : Computed → Option Side
 side_of (value.Constant v) = constant_side (operand_of v)
 side_of (value.Scalar t b e) = Some (side.Scalar (Run b e))

@@ -15,9 +15,14 @@ use Rattle.check_operator.specs.declared.computed.Computed.TheVariants as value
 use Rattle.check_operator.specs.Operations.{of_value, truth_of}
 
 -- plus takes INTEGER and CARDINAL, minus INTEGER
-abbrev pub signed_scalar : (g : Gathers) → Sign → Pos → TypeNo → TypedExpr → Result Computed g.Reported
-signed_scalar g sign.Plus spot b e = reported_where g (not (is_numeric b)) spot rule.WrongType (Ok (value.Scalar b b (expr.Plus b e)))
-signed_scalar g sign.Minus spot b e = reported_where g (not (is_integer b)) spot rule.WrongType (Ok (value.Scalar b b (expr.Negate e)))
+abbrev pub signed_scalar : (g : Gathers) → Sign → Pos → TypeNo → TypedExpr
+    → Result Computed g.Reported
+signed_scalar g sign.Plus spot b e =
+    reported_where g (not (is_numeric b)) spot rule.WrongType
+    (Ok (value.Scalar b b (expr.Plus b e)))
+signed_scalar g sign.Minus spot b e =
+    reported_where g (not (is_integer b)) spot rule.WrongType
+    (Ok (value.Scalar b b (expr.Negate e)))
 
 abbrev pub signed_value : (g : Gathers) → Sign → Pos → Computed → Result Computed g.Reported
 signed_value g o spot (value.Constant v) = of_value (signed_constant g o spot (Ok v))
@@ -28,11 +33,13 @@ signed_value g o spot (value.Procedure p) = reported g spot rule.WrongType
 signed_value g o spot (value.Whole t d) = reported g spot rule.WrongType
 signed_value g o spot value.Untaken = reported g spot rule.WrongType
 
-abbrev pub signed : (g : Gathers) → Sign → Pos → Result Computed g.Reported → Result Computed g.Reported
+abbrev pub signed : (g : Gathers) → Sign → Pos → Result Computed g.Reported
+    → Result Computed g.Reported
 signed g o spot x = x ▷ signed_value g o spot
 
 abbrev pub negated_scalar : (g : Gathers) → Pos → TypeNo → TypedExpr → Result Computed g.Reported
-negated_scalar g spot b e = reported_where g (not (are_same b boolean)) spot rule.WrongType (Ok (truth_of (expr.Not e)))
+negated_scalar g spot b e =
+    reported_where g (not (are_same b boolean)) spot rule.WrongType (Ok (truth_of (expr.Not e)))
 
 abbrev pub negated_value : (g : Gathers) → Pos → Computed → Result Computed g.Reported
 negated_value g spot (value.Constant v) = of_value (negated_constant g spot (Ok v))

@@ -40,13 +40,19 @@ sort_suits asked None = is_numeric asked
 sort_suits asked (Some base) = bases_suit asked base
 
 -- a constant is one of the type
-abbrev pub known_suited : (g : Gathers) → Rule → TypeNo → Range → Pos → Ordinal → Result TypedExpr g.Reported
-known_suited g broken t s at a = reported_where g (not (sort_suits s.base a.sort)) at broken (reported_where g (not (is_between s.low a.number s.high)) at rule.OutOfRange (Ok (expr.Constant t a.number)))
+abbrev pub known_suited : (g : Gathers) → Rule → TypeNo → Range → Pos → Ordinal
+    → Result TypedExpr g.Reported
+known_suited g broken t s at a =
+    reported_where g (not (sort_suits s.base a.sort)) at broken
+    (reported_where g (not (is_between s.low a.number s.high)) at rule.OutOfRange
+    (Ok (expr.Constant t a.number)))
 
-abbrev pub run_suited : (g : Gathers) → Rule → Range → Pos → TypeNo → TypedExpr → Result TypedExpr g.Reported
+abbrev pub run_suited : (g : Gathers) → Rule → Range → Pos → TypeNo → TypedExpr
+    → Result TypedExpr g.Reported
 run_suited g broken s at b e = reported_where g (not (bases_suit s.base b)) at broken (Ok e)
 
-abbrev pub scalar_suited : (g : Gathers) → Rule → TypeNo → Range → Pos → Option Side → Result TypedExpr g.Reported
+abbrev pub scalar_suited : (g : Gathers) → Rule → TypeNo → Range → Pos → Option Side
+    → Result TypedExpr g.Reported
 scalar_suited g broken t s at None = reported g at broken
 scalar_suited g broken t s at (Some (side.Scalar (Known a))) = known_suited g broken t s at a
 scalar_suited g broken t s at (Some (side.Scalar (Run b e))) = run_suited g broken s at b e
@@ -64,21 +70,26 @@ set_suited g broken at (Some (side.Routine u e)) = reported g at broken
 set_suited g broken at (Some (side.Procedure p)) = reported g at broken
 
 -- a value of the type, or a procedure whose heading agrees
-abbrev pub procedure_suited : (g : Gathers) → Rule → Types → TypeNo → Pos → Option Side → Result TypedExpr g.Reported
+abbrev pub procedure_suited : (g : Gathers) → Rule → Types → TypeNo → Pos → Option Side
+    → Result TypedExpr g.Reported
 procedure_suited g broken types t at None = reported g at broken
 procedure_suited g broken types t at (Some (side.Scalar a)) = reported g at broken
 procedure_suited g broken types t at (Some (side.Set e)) = reported g at broken
-procedure_suited g broken types t at (Some (side.Routine u e)) = reported_where g (not (are_same u t)) at broken (Ok e)
-procedure_suited g broken types t at (Some (side.Procedure p)) = reported_where g (not (headings_agree types t p.heading)) at broken (Ok (expr.Procedure p))
+procedure_suited g broken types t at (Some (side.Routine u e)) =
+    reported_where g (not (are_same u t)) at broken (Ok e)
+procedure_suited g broken types t at (Some (side.Procedure p)) =
+    reported_where g (not (headings_agree types t p.heading)) at broken (Ok (expr.Procedure p))
 
-abbrev pub value_in : (g : Gathers) → Rule → Types → TypeNo → Pos → Option Side → Class → Result TypedExpr g.Reported
+abbrev pub value_in : (g : Gathers) → Rule → Types → TypeNo → Pos → Option Side → Class
+    → Result TypedExpr g.Reported
 value_in g broken types t at x (class.Scalar s) = scalar_suited g broken t s at x
 value_in g broken types t at x class.Set = set_suited g broken at x
 value_in g broken types t at x class.Procedure = procedure_suited g broken types t at x
 value_in g broken types t at x class.Whole = reported g at broken
 
 -- a value for a place of this type, which is no array and no record
-abbrev pub value_suited : (g : Gathers) → Rule → Types → TypeNo → Pos → Computed → Result TypedExpr g.Reported
+abbrev pub value_suited : (g : Gathers) → Rule → Types → TypeNo → Pos → Computed
+    → Result TypedExpr g.Reported
 value_suited g broken types t at x = value_in g broken types t at (side_of x) (class_at types t)
 
 -- ---- strings, arrays and records
@@ -96,16 +107,20 @@ text_fits_in types n (Some a) = are_same a.1 char && text_within n (scalar_at ty
 abbrev pub text_fits : Types → TypeNo → (length : ℕ) → Bool
 text_fits types t n = text_fits_in types n (array_at types t)
 
-abbrev pub text_suited : (g : Gathers) → Rule → Types → TypeNo → Pos → Value → Result Accepted g.Reported
+abbrev pub text_suited : (g : Gathers) → Rule → Types → TypeNo → Pos → Value
+    → Result Accepted g.Reported
 text_suited g broken types t at (constant.Number n) = reported g at broken
 text_suited g broken types t at (constant.Scalar s) = reported g at broken
 text_suited g broken types t at (constant.Set bits) = reported g at broken
-text_suited g broken types t at (constant.Text text) = reported_where g (not (text_fits types t (length text))) at broken (Ok (suits.Text text))
+text_suited g broken types t at (constant.Text text) =
+    reported_where g (not (text_fits types t (length text))) at broken (Ok (suits.Text text))
 
 -- one of the type, or a string that fits
-abbrev pub whole_suited : (g : Gathers) → Rule → Types → TypeNo → Pos → Computed → Result Accepted g.Reported
+abbrev pub whole_suited : (g : Gathers) → Rule → Types → TypeNo → Pos → Computed
+    → Result Accepted g.Reported
 whole_suited g broken types t at (value.Constant v) = text_suited g broken types t at v
-whole_suited g broken types t at (value.Whole u d) = reported_where g (not (are_same u t)) at broken (Ok (suits.Whole d))
+whole_suited g broken types t at (value.Whole u d) =
+    reported_where g (not (are_same u t)) at broken (Ok (suits.Whole d))
 whole_suited g broken types t at (value.Scalar u b e) = reported g at broken
 whole_suited g broken types t at (value.Set e) = reported g at broken
 whole_suited g broken types t at (value.Routine u e) = reported g at broken
@@ -115,12 +130,14 @@ whole_suited g broken types t at value.Untaken = reported g at broken
 abbrev pub of_expr : {T : Type 0} → Result TypedExpr T → Result Accepted T
 of_expr e = e ▷ λ x. Ok (suits.Value x)
 
-abbrev pub suited_in : (g : Gathers) → Rule → Types → TypeNo → Pos → Computed → Class → Result Accepted g.Reported
+abbrev pub suited_in : (g : Gathers) → Rule → Types → TypeNo → Pos → Computed → Class
+    → Result Accepted g.Reported
 suited_in g broken types t at x (class.Scalar s) = of_expr (value_suited g broken types t at x)
 suited_in g broken types t at x class.Set = of_expr (value_suited g broken types t at x)
 suited_in g broken types t at x class.Procedure = of_expr (value_suited g broken types t at x)
 suited_in g broken types t at x class.Whole = whole_suited g broken types t at x
 
 -- a value for a place of this type
-abbrev pub suited : (g : Gathers) → Rule → Types → TypeNo → Pos → Computed → Result Accepted g.Reported
+abbrev pub suited : (g : Gathers) → Rule → Types → TypeNo → Pos → Computed
+    → Result Accepted g.Reported
 suited g broken types t at x = suited_in g broken types t at x (class_at types t)

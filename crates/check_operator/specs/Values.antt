@@ -41,15 +41,18 @@ local_by level v kind.Open = designated.Open v.of (slot_of level v)
 
 -- a field of the record of a WITH
 abbrev pub opened_by : OpenedField → Designated
-opened_by f = designated.Variable f.of (behind (rooted (root.With f.with)) (part.Field f.whole f.number))
+opened_by f =
+    designated.Variable f.of (behind (rooted (root.With f.with)) (part.Field f.whole f.number))
 
 abbrev pub nested_by : (level : ℕ) → NestedProcedure → LocalProcedure
 nested_by level p = record { up = level - p.level; number = p.number; heading = p.heading }
 
-abbrev pub designated_by : (g : Gathers) → (level : ℕ) → Pos → Meaning → Result Designated g.Reported
+abbrev pub designated_by : (g : Gathers) → (level : ℕ) → Pos → Meaning
+    → Result Designated g.Reported
 designated_by g level at (meaning.Constant v) = Ok (designated.Value (value.Constant v))
 designated_by g level at (meaning.Type t n) = Ok (designated.Type t)
-designated_by g level at (meaning.Variable v) = Ok (designated.Variable v.of (rooted (root.Global v)))
+designated_by g level at (meaning.Variable v) =
+    Ok (designated.Variable v.of (rooted (root.Global v)))
 designated_by g level at (meaning.Local v) = Ok (local_by level v v.kind)
 designated_by g level at (meaning.Field f) = Ok (opened_by f)
 designated_by g level at (meaning.Procedure p) = Ok (designated.Procedure p)

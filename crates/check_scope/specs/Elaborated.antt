@@ -19,7 +19,10 @@ every = record { Reported = List Fault; one = λ f. f ∷ []; join = λ fs gs. f
 
 -- by place, and then by number
 abbrev pub is_less : Fault → Fault → Bool
-is_less f g = nat_lt f.pos.line g.pos.line || (f.pos.line == g.pos.line && (nat_lt f.pos.col g.pos.col || (f.pos.col == g.pos.col && nat_lt f.number g.number)))
+is_less f g =
+    nat_lt f.pos.line g.pos.line
+    || (f.pos.line == g.pos.line
+    && (nat_lt f.pos.col g.pos.col || (f.pos.col == g.pos.col && nat_lt f.number g.number)))
 
 abbrev pub lesser : Fault → Fault → Fault
 lesser f g = cond (is_less g f) g f
@@ -28,11 +31,13 @@ lesser f g = cond (is_less g f) g f
 abbrev pub least : Gathers
 least = record { Reported = Fault; one = λ f. f; join = lesser }
 
--- A part means something, or rules are broken in it. The use of a name in whose declaration rules are broken repeats these.
+-- A part means something, or rules are broken in it. The use of a name in whose declaration rules
+-- are broken repeats these.
 abbrev pub reported : (g : Gathers) {A : Type 0} → Pos → Rule → Result A g.Reported
 reported g pos broken = Err (g.one (record { pos = pos; number = number_of broken }))
 
-abbrev pub reported_where : (g : Gathers) {A : Type 0} → Bool → Pos → Rule → Result A g.Reported → Result A g.Reported
+abbrev pub reported_where : (g : Gathers) {A : Type 0} → Bool → Pos → Rule → Result A g.Reported
+    → Result A g.Reported
 reported_where g holds pos broken otherwise = cond holds (reported g pos broken) otherwise
 
 -- what looks at a meaning is silent where there is none
@@ -42,33 +47,40 @@ abbrev pub ◌▷◌ : {A B T : Type 0} → Result A T → (A → Result B T) �
 (Err e) ▷ f = Err e
 
 -- two parts that stand beside one another
-abbrev pub both : (g : Gathers) {A B : Type 0} → Result A g.Reported → Result B g.Reported → Result (A × B) g.Reported
+abbrev pub both : (g : Gathers) {A B : Type 0} → Result A g.Reported → Result B g.Reported
+    → Result (A × B) g.Reported
 both g (Ok a) (Ok b) = Ok (a, b)
 both g (Ok a) (Err e) = Err e
 both g (Err e) (Ok b) = Err e
 both g (Err e) (Err f) = Err (g.join e f)
 
 -- the same, where only what is reported counts
-abbrev pub beside : (g : Gathers) → Result (Unit {0}) g.Reported → Result (Unit {0}) g.Reported → Result (Unit {0}) g.Reported
+abbrev pub beside : (g : Gathers) → Result (Unit {0}) g.Reported → Result (Unit {0}) g.Reported
+    → Result (Unit {0}) g.Reported
 beside g a b = both g a b ▷ λ p. Ok tt
 
 -- ---- what stands behind a part is looked at, also if the part has no meaning
 
-abbrev pub refusal_beside : (g : Gathers) {A : Type 0} → g.Reported → Result (Unit {0}) g.Reported → Result A g.Reported
+abbrev pub refusal_beside : (g : Gathers) {A : Type 0} → g.Reported → Result (Unit {0}) g.Reported
+    → Result A g.Reported
 refusal_beside g e (Ok fine) = Err e
 refusal_beside g e (Err f) = Err (g.join e f)
 
-abbrev pub reported_beside : (g : Gathers) {A : Type 0} → Pos → Rule → Result (Unit {0}) g.Reported → Result A g.Reported
-reported_beside g pos broken rest = refusal_beside g (g.one (record { pos = pos; number = number_of broken })) rest
+abbrev pub reported_beside : (g : Gathers) {A : Type 0} → Pos → Rule → Result (Unit {0}) g.Reported
+    → Result A g.Reported
+reported_beside g pos broken rest =
+    refusal_beside g (g.one (record { pos = pos; number = number_of broken })) rest
 
-abbrev pub ahead : (g : Gathers) {A B : Type 0} → Result A g.Reported → Result (Unit {0}) g.Reported → (A → Result B g.Reported) → Result B g.Reported
+abbrev pub ahead : (g : Gathers) {A B : Type 0} → Result A g.Reported → Result (Unit {0}) g.Reported
+    → (A → Result B g.Reported) → Result B g.Reported
 ahead g (Ok x) rest f = f x
 ahead g (Err e) rest f = refusal_beside g e rest
 
 -- ---- names of procedures in whose headings rules are broken
 
 -- a rule that looks at what sort of thing a name is speaks of such a procedure too
-abbrev pub of_sort : (g : Gathers) {A : Type 0} → Pos → Rule → Result A (Meaningless g.Reported) → Result A g.Reported
+abbrev pub of_sort : (g : Gathers) {A : Type 0} → Pos → Rule → Result A (Meaningless g.Reported)
+    → Result A g.Reported
 of_sort g pos broken (Ok x) = Ok x
 of_sort g pos broken (Err (Broken e)) = Err e
 of_sort g pos broken (Err (Headless e)) = reported g pos broken

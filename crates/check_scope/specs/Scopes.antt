@@ -68,14 +68,16 @@ heading_means (Ok m) = Ok m
 heading_means (Err e) = Err (Headless e)
 
 -- names are declared before use, but procedures are known in all bodies of their block
-abbrev pub means_seen : (g : Gathers) → Pos → Known g.Reported → (seen : Bool) → Result Meaning (Meaningless g.Reported)
+abbrev pub means_seen : (g : Gathers) → Pos → Known g.Reported → (seen : Bool)
+    → Result Meaning (Meaningless g.Reported)
 means_seen g at Later seen = plain (reported g at rule.Undeclared)
 means_seen g at Ahead seen = Ok meaning.Ahead
 means_seen g at Begun seen = plain (reported g at rule.Undeclared)
 means_seen g at (Headed m) seen = heading_means m
 means_seen g at (Declared o m) seen = plain (cond seen m (reported g at rule.Undeclared))
 
-abbrev pub means_as : (g : Gathers) → Pos → Sight g.Reported → Result Meaning (Meaningless g.Reported)
+abbrev pub means_as : (g : Gathers) → Pos → Sight g.Reported
+    → Result Meaning (Meaningless g.Reported)
 means_as g at None = plain (reported g at rule.Undeclared)
 means_as g at (Some k) = means_seen g at k.0 k.1
 
@@ -98,7 +100,9 @@ fields_at types t = fields_made (made_at types t)
 
 abbrev pub field_numbered : OpenedRecord → List (List ℕ × TypeNo) → Option ℕ → Option OpenedField
 field_numbered r fs None = None
-field_numbered r fs (Some n) = option_map (λ e. record { with = r.number; whole = r.of; number = n; of = e.1 }) (slice_get fs n)
+field_numbered r fs (Some n) =
+    option_map (λ e. record { with = r.number; whole = r.of; number = n; of = e.1 })
+    (slice_get fs n)
 
 abbrev pub field_at : OpenedRecord → List ℕ → List (List ℕ × TypeNo) → Option OpenedField
 field_at r name fs = field_numbered r fs (place_of name fs)
@@ -118,8 +122,10 @@ abbrev pub means_or : {T : Type 0} → Option OpenedField → Result Meaning T �
 means_or (Some f) m = Ok (meaning.Field f)
 means_or None m = m
 
-abbrev pub looked_up : (g : Gathers) → Scope g.Reported → Ident → Result Meaning (Meaningless g.Reported)
-looked_up g s name = means_or (opened s.types name.name s.withs) (means_as g name.pos (known name.name s))
+abbrev pub looked_up : (g : Gathers) → Scope g.Reported → Ident
+    → Result Meaning (Meaningless g.Reported)
+looked_up g s name =
+    means_or (opened s.types name.name s.withs) (means_as g name.pos (known name.name s))
 
 -- ---- declarations
 
@@ -139,10 +145,14 @@ abbrev pub State : Type 0 → Type 0 → Type 0
 State A T = Scope T × Result A T
 
 -- the first declaration of a name holds
-abbrev pub unless_declared : (g : Gathers) → Scope g.Reported → Ident → Known g.Reported → State (Unit {0}) g.Reported
-unless_declared g s name k = cond (is_free (found name.name s.own)) (with_known name.name k s, Ok tt) (s, reported g name.pos rule.DeclaredTwice)
+abbrev pub unless_declared : (g : Gathers) → Scope g.Reported → Ident → Known g.Reported
+    → State (Unit {0}) g.Reported
+unless_declared g s name k =
+    cond (is_free (found name.name s.own)) (with_known name.name k s, Ok tt)
+    (s, reported g name.pos rule.DeclaredTwice)
 
-abbrev pub declared : (g : Gathers) → Scope g.Reported → Ident → Result Meaning g.Reported → State (Unit {0}) g.Reported
+abbrev pub declared : (g : Gathers) → Scope g.Reported → Ident → Result Meaning g.Reported
+    → State (Unit {0}) g.Reported
 declared g s name m = unless_declared g s name (Declared Here m)
 
 -- a name is taken from where it stands, and means something from the end of its declaration on
@@ -158,7 +168,8 @@ is_begun (Some (Headed m)) = false
 is_begun (Some (Declared o m)) = false
 
 abbrev pub finished : {T : Type 0} → Scope T → Ident → Result Meaning T → Scope T
-finished s name m = cond (is_begun (found name.name s.own)) (with_known name.name (Declared Here m) s) s
+finished s name m =
+    cond (is_begun (found name.name s.own)) (with_known name.name (Declared Here m) s) s
 
 -- ---- imports
 
@@ -180,10 +191,12 @@ is_again (Some (Headed m)) o = false
 is_again (Some (Declared first m)) o = is_one_origin first o
 
 -- the same declaration counts once
-abbrev pub imported : (g : Gathers) → Scope g.Reported → Pos → List ℕ → Origin → Result Meaning g.Reported → State (Unit {0}) g.Reported
+abbrev pub imported : (g : Gathers) → Scope g.Reported → Pos → List ℕ → Origin
+    → Result Meaning g.Reported → State (Unit {0}) g.Reported
 imported g s at name o m =
     cond (is_again (found name s.own) o) (s, Ok tt)
-    (cond (is_free (found name s.own)) (with_known name (Declared o m) s, Ok tt) (s, reported g at rule.DeclaredTwice))
+    (cond (is_free (found name s.own)) (with_known name (Declared o m) s, Ok tt)
+    (s, reported g at rule.DeclaredTwice))
 
 -- ---- the names that a block declares, wherever they stand
 

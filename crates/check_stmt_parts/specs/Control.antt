@@ -38,7 +38,8 @@ use Rattle.check_expr.specs.Meanings.{Meant, value_of}
 use Rattle.check_stmt_parts.specs.declared.control.Control.{Control}
 use Rattle.check_stmt_parts.specs.declared.control.Course.{Course}
 
--- ---- the control variable: a scalar variable of the module, or of the procedure itself, and no formal
+-- ---- the control variable: a scalar variable of the module, or of the procedure itself, and no
+-- formal
 
 abbrev pub controlled_as : (g : Gathers) → Pos → TypeNo → Place → Class → Result Control g.Reported
 controlled_as g at t d (class.Scalar s) = Ok (record { of = t; base = s.base; place = d })
@@ -58,8 +59,12 @@ is_own kind.Open = false
 abbrev pub control_by : (g : Gathers) → Scope g.Reported → Pos → Meaning → Result Control g.Reported
 control_by g s at (meaning.Constant v) = reported g at rule.WrongControl
 control_by g s at (meaning.Type t n) = reported g at rule.WrongControl
-control_by g s at (meaning.Variable v) = reported_where g (not (v.home == s.types.home)) at rule.WrongControl (controlled g s.types at v.of (rooted (root.Global v)))
-control_by g s at (meaning.Local v) = reported_where g (not (is_own v.kind && (v.level == s.level))) at rule.WrongControl (controlled g s.types at v.of (rooted (root.Local (slot_of s.level v))))
+control_by g s at (meaning.Variable v) =
+    reported_where g (not (v.home == s.types.home)) at rule.WrongControl
+    (controlled g s.types at v.of (rooted (root.Global v)))
+control_by g s at (meaning.Local v) =
+    reported_where g (not (is_own v.kind && (v.level == s.level))) at rule.WrongControl
+    (controlled g s.types at v.of (rooted (root.Local (slot_of s.level v))))
 control_by g s at (meaning.Field f) = reported g at rule.WrongControl
 control_by g s at (meaning.Procedure p) = reported g at rule.WrongControl
 control_by g s at (meaning.LocalProcedure p) = reported g at rule.WrongControl
@@ -68,28 +73,37 @@ control_by g s at (meaning.Standard f) = reported g at rule.WrongControl
 control_by g s at (meaning.Module k) = reported g at rule.WrongControl
 
 abbrev pub control_of : (g : Gathers) → Scope g.Reported → Ident → Result Control g.Reported
-control_of g s name = of_sort g name.pos rule.WrongControl (looked_up g s name) ▷ control_by g s name.pos
+control_of g s name =
+    of_sort g name.pos rule.WrongControl (looked_up g s name) ▷ control_by g s name.pos
 
 -- ---- the start is assigned to it
 
-abbrev pub start_at : (g : Gathers) → Types → Pos → Result TypeNo g.Reported → Result Computed g.Reported → Result TypedExpr g.Reported
+abbrev pub start_at : (g : Gathers) → Types → Pos → Result TypeNo g.Reported
+    → Result Computed g.Reported → Result TypedExpr g.Reported
 start_at g types at t x = both g t x ▷ λ p. value_suited g rule.NotAssignable types p.0 at p.1
 
--- ---- the limit is of a base type that goes with the one of the variable; a number without a type is one of it
+-- ---- the limit is of a base type that goes with the one of the variable; a number without a type
+-- is one of it
 
-abbrev pub limit_number : (g : Gathers) → TypeNo → Pos → ℤ → Option TypeNo → Result TypedExpr g.Reported
-limit_number g base at n None = reported_where g (not (fits (Some base) n)) at rule.OutOfRange (Ok (expr.Constant base n))
+abbrev pub limit_number : (g : Gathers) → TypeNo → Pos → ℤ → Option TypeNo
+    → Result TypedExpr g.Reported
+limit_number g base at n None =
+    reported_where g (not (fits (Some base) n)) at rule.OutOfRange (Ok (expr.Constant base n))
 limit_number g base at n (Some t) = Ok (expr.Constant t n)
 
 abbrev pub limit_by : (g : Gathers) → TypeNo → Pos → Option Side → Result TypedExpr g.Reported
 limit_by g base at None = reported g at rule.NotAssignable
-limit_by g base at (Some (side.Scalar (Known a))) = reported_where g (not (sort_suits base a.sort)) at rule.NotAssignable (limit_number g base at a.number a.sort)
-limit_by g base at (Some (side.Scalar (Run b e))) = reported_where g (not (bases_suit base b)) at rule.NotAssignable (Ok e)
+limit_by g base at (Some (side.Scalar (Known a))) =
+    reported_where g (not (sort_suits base a.sort)) at rule.NotAssignable
+    (limit_number g base at a.number a.sort)
+limit_by g base at (Some (side.Scalar (Run b e))) =
+    reported_where g (not (bases_suit base b)) at rule.NotAssignable (Ok e)
 limit_by g base at (Some (side.Set e)) = reported g at rule.NotAssignable
 limit_by g base at (Some (side.Routine t e)) = reported g at rule.NotAssignable
 limit_by g base at (Some (side.Procedure p)) = reported g at rule.NotAssignable
 
-abbrev pub limit_at : (g : Gathers) → Pos → Result TypeNo g.Reported → Result Computed g.Reported → Result TypedExpr g.Reported
+abbrev pub limit_at : (g : Gathers) → Pos → Result TypeNo g.Reported → Result Computed g.Reported
+    → Result TypedExpr g.Reported
 limit_at g at base x = both g base x ▷ λ p. limit_by g p.0 at (side_of p.1)
 
 -- ---- the step: a constant whole number that is not zero, or else 1
@@ -104,7 +118,8 @@ step_number g at (Some a) = reported_where g (is_zero a.number) at rule.ZeroStep
 abbrev pub step_by : (g : Gathers) → Pos → Value → Result ℤ g.Reported
 step_by g at v = step_number g at (whole_number v)
 
-abbrev pub step_of : (g : Gathers) → Scope g.Reported → Option (Meant g.Reported) → Result ℤ g.Reported
+abbrev pub step_of : (g : Gathers) → Scope g.Reported → Option (Meant g.Reported)
+    → Result ℤ g.Reported
 step_of g s None = Ok (pos 1)
 step_of g s (Some x) = constant g s x.fixed ▷ step_by g x.fixed.at
 
@@ -116,10 +131,14 @@ type_of v = v ▷ λ x. Ok x.of
 abbrev pub base_of : {T : Type 0} → Result Control T → Result TypeNo T
 base_of v = v ▷ λ x. Ok x.base
 
-abbrev pub course : (g : Gathers) → Result Control g.Reported → Result TypedExpr g.Reported → Result TypedExpr g.Reported → Result ℤ g.Reported → Result Course g.Reported
-course g v start limit by = both g (both g v start) (both g limit by) ▷ λ p. Ok (record { control = p.0.0; start = p.0.1; limit = p.1.0; by = p.1.1 })
+abbrev pub course : (g : Gathers) → Result Control g.Reported → Result TypedExpr g.Reported
+    → Result TypedExpr g.Reported → Result ℤ g.Reported → Result Course g.Reported
+course g v start limit by =
+    both g (both g v start) (both g limit by) ▷ λ p.
+    Ok (record { control = p.0.0; start = p.0.1; limit = p.1.0; by = p.1.1 })
 
-abbrev pub course_of : (g : Gathers) → Scope g.Reported → Ident → (start limit : Meant g.Reported) → Option (Meant g.Reported) → Result Course g.Reported
+abbrev pub course_of : (g : Gathers) → Scope g.Reported → Ident → (start limit : Meant g.Reported)
+    → Option (Meant g.Reported) → Result Course g.Reported
 course_of g s name start limit by =
     let v = control_of g s name in
     course g v
@@ -127,5 +146,8 @@ course_of g s name start limit by =
     (limit_at g limit.fixed.at (base_of v) (value_of g s limit))
     (step_of g s by)
 
-abbrev pub repeated_for : (g : Gathers) → Result Course g.Reported → Result (List TypedStmt) g.Reported → Result TypedStmt g.Reported
-repeated_for g c body = both g c body ▷ λ p. Ok (step.For p.0.control.place p.0.control.of p.0.start p.0.limit p.0.by p.1)
+abbrev pub repeated_for : (g : Gathers) → Result Course g.Reported
+    → Result (List TypedStmt) g.Reported → Result TypedStmt g.Reported
+repeated_for g c body =
+    both g c body ▷ λ p.
+    Ok (step.For p.0.control.place p.0.control.of p.0.start p.0.limit p.0.by p.1)

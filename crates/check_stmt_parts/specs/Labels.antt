@@ -30,7 +30,8 @@ use Rattle.check_stmt_parts.specs.Ranges.{taken}
 use Rattle.check_stmt_parts.specs.Lists.{with_next}
 use Rattle.check_stmt_parts.specs.Simple.{meant_if}
 
--- ---- The selector's base type, if the selector has a meaning. Else nothing is asked of the types of labels.
+-- ---- The selector's base type, if the selector has a meaning. Else nothing is asked of the types
+-- of labels.
 
 abbrev pub suits_selector : Option TypeNo → TypeNo → Bool
 suits_selector None b = true
@@ -46,10 +47,13 @@ ordinal_in g at (Some (operand.Scalar a)) = Ok a
 abbrev pub of_type : (g : Gathers) → (alike : Bool) → Pos → Result (Unit {0}) g.Reported
 of_type g alike at = reported_where g (not alike) at rule.WrongType (Ok tt)
 
-abbrev pub no_constant : (g : Gathers) → (alike : Bool) → (label at : Pos) → Result Ordinal g.Reported
-no_constant g alike label at = both g (of_type g alike at) (reported g {A = Ordinal} label rule.WrongLabel) ▷ λ p. Ok p.1
+abbrev pub no_constant : (g : Gathers) → (alike : Bool) → (label at : Pos)
+    → Result Ordinal g.Reported
+no_constant g alike label at =
+    both g (of_type g alike at) (reported g {A = Ordinal} label rule.WrongLabel) ▷ λ p. Ok p.1
 
-abbrev pub value_bound : (g : Gathers) → Option TypeNo → (label at : Pos) → Computed → Result Ordinal g.Reported
+abbrev pub value_bound : (g : Gathers) → Option TypeNo → (label at : Pos) → Computed
+    → Result Ordinal g.Reported
 value_bound g base label at (value.Constant v) = ordinal_in g at (operand_of v)
 value_bound g base label at (value.Scalar t b e) = no_constant g (suits_selector base b) label at
 value_bound g base label at (value.Set e) = no_constant g false label at
@@ -58,15 +62,19 @@ value_bound g base label at (value.Procedure p) = no_constant g false label at
 value_bound g base label at (value.Whole t d) = no_constant g false label at
 value_bound g base label at value.Untaken = no_constant g false label at
 
-abbrev pub variable_bound : (g : Gathers) → Option TypeNo → (label at : Pos) → Class → Result Ordinal g.Reported
-variable_bound g base label at (class.Scalar s) = no_constant g (suits_selector base s.base) label at
+abbrev pub variable_bound : (g : Gathers) → Option TypeNo → (label at : Pos) → Class
+    → Result Ordinal g.Reported
+variable_bound g base label at (class.Scalar s) =
+    no_constant g (suits_selector base s.base) label at
 variable_bound g base label at class.Set = no_constant g false label at
 variable_bound g base label at class.Procedure = no_constant g false label at
 variable_bound g base label at class.Whole = no_constant g false label at
 
-abbrev pub bound_by : (g : Gathers) → Types → Option TypeNo → (label at : Pos) → Designated → Result Ordinal g.Reported
+abbrev pub bound_by : (g : Gathers) → Types → Option TypeNo → (label at : Pos) → Designated
+    → Result Ordinal g.Reported
 bound_by g types base label at (designated.Value x) = value_bound g base label at x
-bound_by g types base label at (designated.Variable t d) = variable_bound g base label at (class_at types t)
+bound_by g types base label at (designated.Variable t d) =
+    variable_bound g base label at (class_at types t)
 bound_by g types base label at (designated.Open t slot) = no_constant g false label at
 bound_by g types base label at (designated.Type t) = no_constant g false label at
 bound_by g types base label at (designated.Procedure p) = no_constant g false label at
@@ -75,12 +83,14 @@ bound_by g types base label at (designated.Standard f) = reported g at rule.NoPr
 bound_by g types base label at (designated.Module k) = no_constant g false label at
 
 -- a procedure is no constant, whatever its heading
-abbrev pub bound_in : (g : Gathers) → Types → Option TypeNo → (label at : Pos) → Result Designated (Meaningless g.Reported) → Result Ordinal g.Reported
+abbrev pub bound_in : (g : Gathers) → Types → Option TypeNo → (label at : Pos)
+    → Result Designated (Meaningless g.Reported) → Result Ordinal g.Reported
 bound_in g types base label at (Ok d) = bound_by g types base label at d
 bound_in g types base label at (Err (Broken e)) = Err e
 bound_in g types base label at (Err (Headless e)) = no_constant g false label at
 
-abbrev pub bound_of : (g : Gathers) → Scope g.Reported → Option TypeNo → (label : Pos) → Meant g.Reported → Result Ordinal g.Reported
+abbrev pub bound_of : (g : Gathers) → Scope g.Reported → Option TypeNo → (label : Pos)
+    → Meant g.Reported → Result Ordinal g.Reported
 bound_of g s base label x = bound_in g s.types base label x.fixed.at (x.means s)
 
 -- ---- bounds have the base type of the selector
@@ -90,37 +100,54 @@ is_of_base base None = is_numeric base
 is_of_base base (Some t) = are_same t base
 
 -- a number without a type is one of the base type
-abbrev pub number_fits : (g : Gathers) → TypeNo → Pos → Ordinal → Option TypeNo → Result (Unit {0}) g.Reported
-number_fits g base at a None = reported_where g (not (fits (Some base) a.number)) at rule.OutOfRange (Ok tt)
+abbrev pub number_fits : (g : Gathers) → TypeNo → Pos → Ordinal → Option TypeNo
+    → Result (Unit {0}) g.Reported
+number_fits g base at a None =
+    reported_where g (not (fits (Some base) a.number)) at rule.OutOfRange (Ok tt)
 number_fits g base at a (Some t) = Ok tt
 
 abbrev pub suits_base : (g : Gathers) → Option TypeNo → Pos → Ordinal → Result (Unit {0}) g.Reported
 suits_base g None at a = Ok tt
-suits_base g (Some base) at a = reported_where g (not (is_of_base base a.sort)) at rule.WrongType (number_fits g base at a a.sort)
+suits_base g (Some base) at a =
+    reported_where g (not (is_of_base base a.sort)) at rule.WrongType
+    (number_fits g base at a a.sort)
 
-abbrev pub bound_suits : (g : Gathers) → Option TypeNo → Pos → Result Ordinal g.Reported → Result (Unit {0}) g.Reported
+abbrev pub bound_suits : (g : Gathers) → Option TypeNo → Pos → Result Ordinal g.Reported
+    → Result (Unit {0}) g.Reported
 bound_suits g base at a = a ▷ suits_base g base at
 
-abbrev pub single : (g : Gathers) → Option TypeNo → Pos → Result Ordinal g.Reported → Result Label g.Reported
-single g base at a = both g a (bound_suits g base at a) ▷ λ p. Ok (record { low = p.0.number; high = p.0.number })
+abbrev pub single : (g : Gathers) → Option TypeNo → Pos → Result Ordinal g.Reported
+    → Result Label g.Reported
+single g base at a =
+    both g a (bound_suits g base at a) ▷ λ p. Ok (record { low = p.0.number; high = p.0.number })
 
 -- ---- a range: each bound for itself, and both
 
-abbrev pub ordered_if : (g : Gathers) → Pos → Ordinal → Ordinal → Option (Option TypeNo) → Result (Unit {0}) g.Reported
+abbrev pub ordered_if : (g : Gathers) → Pos → Ordinal → Ordinal → Option (Option TypeNo)
+    → Result (Unit {0}) g.Reported
 ordered_if g at a b None = Ok tt
-ordered_if g at a b (Some sort) = reported_where g (int_lt b.number a.number) at rule.EmptyRange (Ok tt)
+ordered_if g at a b (Some sort) =
+    reported_where g (int_lt b.number a.number) at rule.EmptyRange (Ok tt)
 
-abbrev pub are_ordered : (g : Gathers) → Pos → Result Ordinal g.Reported → Result Ordinal g.Reported → Result (Unit {0}) g.Reported
+abbrev pub are_ordered : (g : Gathers) → Pos → Result Ordinal g.Reported → Result Ordinal g.Reported
+    → Result (Unit {0}) g.Reported
 are_ordered g at a b = both g a b ▷ λ p. ordered_if g at p.0 p.1 (common p.0.sort p.1.sort)
 
-abbrev pub spanned : (g : Gathers) → Option TypeNo → Pos → Result Ordinal g.Reported → Pos → Result Ordinal g.Reported → Result Label g.Reported
+abbrev pub spanned : (g : Gathers) → Option TypeNo → Pos → Result Ordinal g.Reported → Pos
+    → Result Ordinal g.Reported → Result Label g.Reported
 spanned g base at a at' b =
-    both g (both g a b) (beside g (beside g (bound_suits g base at a) (bound_suits g base at' b)) (are_ordered g at a b))
-    ▷ λ p. Ok (record { low = p.0.0.number; high = p.0.1.number })
+    both g (both g a b)
+    (beside g (beside g (bound_suits g base at a) (bound_suits g base at' b))
+    (are_ordered g at a b))
+    ▷ λ p.
+    Ok (record { low = p.0.0.number; high = p.0.1.number })
 
-abbrev pub label_between : (g : Gathers) → Scope g.Reported → Option TypeNo → Meant g.Reported → Option (Meant g.Reported) → Result Label g.Reported
+abbrev pub label_between : (g : Gathers) → Scope g.Reported → Option TypeNo → Meant g.Reported
+    → Option (Meant g.Reported) → Result Label g.Reported
 label_between g s base low None = single g base low.fixed.at (bound_of g s base low.fixed.at low)
-label_between g s base low (Some high) = spanned g base low.fixed.at (bound_of g s base low.fixed.at low) high.fixed.at (bound_of g s base low.fixed.at high)
+label_between g s base low (Some high) =
+    spanned g base low.fixed.at (bound_of g s base low.fixed.at low) high.fixed.at
+    (bound_of g s base low.fixed.at high)
 
 -- ---- one after another, with the values of the labels so far
 
@@ -129,17 +156,25 @@ Labels T = List (ℤ × ℤ) × Result (List Label) T
 
 -- no two labels have a value in common
 abbrev pub with_new : (g : Gathers) → Pos → Labels g.Reported → Label → Labels g.Reported
-with_new g at st l = let t = taken l.low l.high st.0 in (t.0, with_next g st.1 (reported_where g (not t.1) at rule.WrongLabel (Ok l)))
+with_new g at st l =
+    let t = taken l.low l.high st.0 in
+    (t.0, with_next g st.1 (reported_where g (not t.1) at rule.WrongLabel (Ok l)))
 
-abbrev pub with_label : (g : Gathers) → Pos → Labels g.Reported → Result Label g.Reported → Labels g.Reported
+abbrev pub with_label : (g : Gathers) → Pos → Labels g.Reported → Result Label g.Reported
+    → Labels g.Reported
 with_label g at st (Ok l) = with_new g at st l
 with_label g at st (Err e) = (st.0, with_next g st.1 (Err e))
 
-abbrev pub item_label : (g : Gathers) → Scope g.Reported → Option TypeNo → Item → Result Label g.Reported
-item_label g s base i = label_between g s base (meant g (out-Item i).low) (meant_if g (out-Item i).high)
+abbrev pub item_label : (g : Gathers) → Scope g.Reported → Option TypeNo → Item
+    → Result Label g.Reported
+item_label g s base i =
+    label_between g s base (meant g (out-Item i).low) (meant_if g (out-Item i).high)
 
-abbrev pub with_item : (g : Gathers) → Scope g.Reported → Option TypeNo → Labels g.Reported → Item → Labels g.Reported
-with_item g s base st i = with_label g (meant g (out-Item i).low).fixed.at st (item_label g s base i)
+abbrev pub with_item : (g : Gathers) → Scope g.Reported → Option TypeNo → Labels g.Reported → Item
+    → Labels g.Reported
+with_item g s base st i =
+    with_label g (meant g (out-Item i).low).fixed.at st (item_label g s base i)
 
-abbrev pub labels_in : (g : Gathers) → Scope g.Reported → Option TypeNo → List (ℤ × ℤ) → List Item → Labels g.Reported
+abbrev pub labels_in : (g : Gathers) → Scope g.Reported → Option TypeNo → List (ℤ × ℤ) → List Item
+    → Labels g.Reported
 labels_in g s base ranges items = fold (with_item g s base) (ranges, Ok []) items

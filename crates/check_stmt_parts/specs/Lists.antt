@@ -10,14 +10,16 @@ use Rattle.typed_tree.specs.declared.statement.TypedStmt.TheVariants as step
 use Rattle.check_scope.specs.Elaborated.{Gathers, both, ◌▷◌}
 
 -- one more of a list
-abbrev pub with_next : (g : Gathers) {A : Type 0} → Result (List A) g.Reported → Result A g.Reported → Result (List A) g.Reported
+abbrev pub with_next : (g : Gathers) {A : Type 0} → Result (List A) g.Reported → Result A g.Reported
+    → Result (List A) g.Reported
 with_next g so x = both g so x ▷ λ p. Ok (p.0 ++ p.1 ∷ [])
 
 -- statements behind an ELSE that stands
 abbrev pub standing : {T : Type 0} → Result (List TypedStmt) T → Result (Option (List TypedStmt)) T
 standing body = body ▷ λ x. Ok (Some x)
 
-abbrev pub chosen : (g : Gathers) → Result TypedExpr g.Reported → Result (List TypedStmt) g.Reported → Result (Option (List TypedStmt)) g.Reported → Result TypedStmt g.Reported
+abbrev pub chosen : (g : Gathers) → Result TypedExpr g.Reported → Result (List TypedStmt) g.Reported
+    → Result (Option (List TypedStmt)) g.Reported → Result TypedStmt g.Reported
 chosen g c body rest = both g c (both g body rest) ▷ λ p. Ok (step.If p.0 p.1.0 p.1.1)
 
 -- an ELSIF is an IF in the ELSE
@@ -29,16 +31,22 @@ abbrev pub base_in : {T : Type 0} → Result (TypeNo × TypedExpr) T → Option 
 base_in (Ok x) = Some x.0
 base_in (Err e) = None
 
-abbrev pub cased : (g : Gathers) → Result (TypeNo × TypedExpr) g.Reported → Result (List TypedArm) g.Reported → Result (Option (List TypedStmt)) g.Reported → Result TypedStmt g.Reported
-cased g selector arms otherwise = both g selector (both g arms otherwise) ▷ λ p. Ok (step.Case p.0.1 p.1.0 p.1.1)
+abbrev pub cased : (g : Gathers) → Result (TypeNo × TypedExpr) g.Reported
+    → Result (List TypedArm) g.Reported → Result (Option (List TypedStmt)) g.Reported
+    → Result TypedStmt g.Reported
+cased g selector arms otherwise =
+    both g selector (both g arms otherwise) ▷ λ p. Ok (step.Case p.0.1 p.1.0 p.1.1)
 
-abbrev pub armed : (g : Gathers) → Result (List Label) g.Reported → Result (List TypedStmt) g.Reported → Result TypedArm g.Reported
+abbrev pub armed : (g : Gathers) → Result (List Label) g.Reported
+    → Result (List TypedStmt) g.Reported → Result TypedArm g.Reported
 armed g labels body = both g labels body ▷ λ p. Ok (record { labels = p.0; body = p.1 })
 
-abbrev pub repeated_while : (g : Gathers) → Result TypedExpr g.Reported → Result (List TypedStmt) g.Reported → Result TypedStmt g.Reported
+abbrev pub repeated_while : (g : Gathers) → Result TypedExpr g.Reported
+    → Result (List TypedStmt) g.Reported → Result TypedStmt g.Reported
 repeated_while g c body = both g c body ▷ λ p. Ok (step.While p.0 p.1)
 
-abbrev pub repeated_until : (g : Gathers) → Result (List TypedStmt) g.Reported → Result TypedExpr g.Reported → Result TypedStmt g.Reported
+abbrev pub repeated_until : (g : Gathers) → Result (List TypedStmt) g.Reported
+    → Result TypedExpr g.Reported → Result TypedStmt g.Reported
 repeated_until g body c = both g body c ▷ λ p. Ok (step.Repeat p.0 p.1)
 
 abbrev pub looped : {T : Type 0} → Result (List TypedStmt) T → Result TypedStmt T

@@ -17,7 +17,8 @@ with_range low high ranges = cond (int_lt high low) ranges (insert_entry int_cmp
 
 -- one more range, if it is new, and whether it is
 abbrev pub taken : ℤ → ℤ → List (ℤ × ℤ) → List (ℤ × ℤ) × Bool
-taken low high ranges = cond (is_met low high ranges) (ranges, false) (with_range low high ranges, true)
+taken low high ranges =
+    cond (is_met low high ranges) (ranges, false) (with_range low high ranges, true)
 
 -- ranges that have values, in order, and none in common
 abbrev pub are_apart : List (ℤ × ℤ) → Bool

@@ -51,11 +51,14 @@ abbrev pub exited : (g : Gathers) → Pos → Around g.Reported → Result Typed
 exited g at w = reported_where g (not w.in_loop) at rule.LonelyExit (Ok step.Exit)
 
 -- a value is assignment compatible with the type of the result
-abbrev pub given_back : (g : Gathers) → Types → Result TypeNo g.Reported → Pos → Result Computed g.Reported → Result TypedStmt g.Reported
-given_back g types t at x = both g t x ▷ λ p. value_suited g rule.NotAssignable types p.0 at p.1 ▷ λ e. Ok (step.Give p.0 e)
+abbrev pub given_back : (g : Gathers) → Types → Result TypeNo g.Reported → Pos
+    → Result Computed g.Reported → Result TypedStmt g.Reported
+given_back g types t at x =
+    both g t x ▷ λ p. value_suited g rule.NotAssignable types p.0 at p.1 ▷ λ e. Ok (step.Give p.0 e)
 
 -- functions alone give a value, and always
-abbrev pub returned : (g : Gathers) → Scope g.Reported → Pos → Option (Result TypeNo g.Reported) → Option (Meant g.Reported) → Result TypedStmt g.Reported
+abbrev pub returned : (g : Gathers) → Scope g.Reported → Pos → Option (Result TypeNo g.Reported)
+    → Option (Meant g.Reported) → Result TypedStmt g.Reported
 returned g s at None None = Ok step.Return
 returned g s at None (Some x) = reported_beside g at rule.WrongReturn (value_of g s x ▷ λ v. Ok tt)
 returned g s at (Some t) None = reported g at rule.WrongReturn
@@ -63,11 +66,14 @@ returned g s at (Some t) (Some x) = given_back g s.types t x.fixed.at (value_of 
 
 -- ---- conditions and assignments
 
-abbrev pub condition : (g : Gathers) → Scope g.Reported → Meant g.Reported → Result TypedExpr g.Reported
+abbrev pub condition : (g : Gathers) → Scope g.Reported → Meant g.Reported
+    → Result TypedExpr g.Reported
 condition g s x = value_of g s x ▷ value_suited g rule.WrongType s.types boolean x.fixed.at
 
-abbrev pub assignment : (g : Gathers) → Scope g.Reported → Meant g.Reported → Meant g.Reported → Result TypedStmt g.Reported
-assignment g s d x = assigned g s.types (target_at g d.fixed.at (d.means s)) x.fixed.at (value_of g s x)
+abbrev pub assignment : (g : Gathers) → Scope g.Reported → Meant g.Reported → Meant g.Reported
+    → Result TypedStmt g.Reported
+assignment g s d x =
+    assigned g s.types (target_at g d.fixed.at (d.means s)) x.fixed.at (value_of g s x)
 
 -- ---- calls: no brackets are no arguments
 
@@ -75,10 +81,12 @@ abbrev pub or_none : {A : Type 0} → Option (List A) → List A
 or_none None = []
 or_none (Some xs) = xs
 
--- ---- the selector of a CASE: a scalar, with its base type; a number without a type is CARDINAL, a negative one INTEGER
+-- ---- the selector of a CASE: a scalar, with its base type; a number without a type is CARDINAL, a
+-- negative one INTEGER
 
 abbrev pub selector_amount : Amount → TypeNo × TypedExpr
-selector_amount (Known a) = (untyped a.number a.sort, expr.Constant (untyped a.number a.sort) a.number)
+selector_amount (Known a) =
+    (untyped a.number a.sort, expr.Constant (untyped a.number a.sort) a.number)
 selector_amount (Run b e) = (b, e)
 
 abbrev pub selector_of : (g : Gathers) → Pos → Option Side → Result (TypeNo × TypedExpr) g.Reported
@@ -88,13 +96,15 @@ selector_of g at (Some (side.Set e)) = reported g at rule.WrongType
 selector_of g at (Some (side.Routine t e)) = reported g at rule.WrongType
 selector_of g at (Some (side.Procedure p)) = reported g at rule.WrongType
 
-abbrev pub selected : (g : Gathers) → Scope g.Reported → Meant g.Reported → Result (TypeNo × TypedExpr) g.Reported
+abbrev pub selected : (g : Gathers) → Scope g.Reported → Meant g.Reported
+    → Result (TypeNo × TypedExpr) g.Reported
 selected g s x = value_of g s x ▷ λ v. selector_of g x.fixed.at (side_of v)
 
 -- ---- the record of a WITH, with its type
 
 abbrev pub record_by : (g : Gathers) → Types → Pos → Designated → Result (TypeNo × Place) g.Reported
-record_by g types at (designated.Variable t d) = reported_where g (not (is_some (fields_at types t))) at rule.WrongType (Ok (t, d))
+record_by g types at (designated.Variable t d) =
+    reported_where g (not (is_some (fields_at types t))) at rule.WrongType (Ok (t, d))
 record_by g types at (designated.Value x) = reported g at rule.WrongType
 record_by g types at (designated.Open t slot) = reported g at rule.WrongType
 record_by g types at (designated.Type t) = reported g at rule.WrongType
@@ -103,10 +113,12 @@ record_by g types at (designated.Nested p) = reported g at rule.WrongType
 record_by g types at (designated.Standard f) = reported g at rule.WrongType
 record_by g types at (designated.Module k) = reported g at rule.WrongType
 
-abbrev pub record_of : (g : Gathers) → Scope g.Reported → Meant g.Reported → Result (TypeNo × Place) g.Reported
+abbrev pub record_of : (g : Gathers) → Scope g.Reported → Meant g.Reported
+    → Result (TypeNo × Place) g.Reported
 record_of g s d = of_sort g d.fixed.at rule.WrongType (d.means s) ▷ record_by g s.types d.fixed.at
 
--- ---- The record type that a WITH opens, if its designator has no meaning: that to which it leads whatever its subscripts are.
+-- ---- The record type that a WITH opens, if its designator has no meaning: that to which it leads
+-- whatever its subscripts are.
 
 abbrev pub known_of : {T : Type 0} → Result Designated T → Option Designated
 known_of (Ok d) = Some d
@@ -126,7 +138,8 @@ element_of types (designated.Nested p) = None
 element_of types (designated.Standard f) = None
 element_of types (designated.Module k) = None
 
-abbrev pub led_by : (g : Gathers) → Scope g.Reported → Designated → Selector-F Expr Selector Designating Item → Option Designated
+abbrev pub led_by : (g : Gathers) → Scope g.Reported → Designated
+    → Selector-F Expr Selector Designating Item → Option Designated
 led_by g s d (layer.Field at name) = known_of (field_of g s at name d)
 led_by g s d (layer.Index at x) = element_of s.types d
 
@@ -149,7 +162,9 @@ record_led_to types None = None
 record_led_to types (Some d) = type_led_to types d
 
 abbrev pub opened_type : (g : Gathers) → Scope g.Reported → Designating → Option TypeNo
-opened_type g s d = record_led_to s.types (fold (led g s) (known_of (named g s (out-Designator d).name)) (out-Designator d).selectors)
+opened_type g s d =
+    record_led_to s.types
+    (fold (led g s) (known_of (named g s (out-Designator d).name)) (out-Designator d).selectors)
 
 -- inside, the fields of a record of this type stand for themselves
 abbrev pub opened : {T : Type 0} → Scope T → TypeNo → Scope T

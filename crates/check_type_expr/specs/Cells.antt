@@ -24,7 +24,8 @@ abbrev pub plus : ℕ → ℕ → ℕ
 plus a b = cond (nat_lt 131072 (a + b)) 131073 (a + b)
 
 abbrev pub array_cells : (g : Gathers) → Pos → (count cells : ℕ) → Result ℕ g.Reported
-array_cells g at count cells = reported_where g (nat_lt 131072 (count * cells)) at rule.LargeType (Ok (count * cells))
+array_cells g at count cells =
+    reported_where g (nat_lt 131072 (count * cells)) at rule.LargeType (Ok (count * cells))
 
 -- a scalar, but not INTEGER or CARDINAL as a whole
 abbrev pub is_index_scalar : TypeNo → Option Scalar → Bool

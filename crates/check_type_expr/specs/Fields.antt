@@ -13,9 +13,13 @@ abbrev pub no_fields : Fields
 no_fields = record { names = []; cells = 0 }
 
 -- the first of a name holds
-abbrev pub with_field : (g : Gathers) → TypeNo → ℕ → Fields → Ident → Fields × Result (Unit {0}) g.Reported
+abbrev pub with_field : (g : Gathers) → TypeNo → ℕ → Fields → Ident
+    → Fields × Result (Unit {0}) g.Reported
 with_field g t cells fs name =
-    cond (is_some (found name.name fs.names)) (fs, reported g name.pos rule.DeclaredTwice) (record { names = entered name.name t fs.names; cells = plus fs.cells cells }, Ok tt)
+    cond (is_some (found name.name fs.names)) (fs, reported g name.pos rule.DeclaredTwice)
+    (record { names = entered name.name t fs.names; cells = plus fs.cells cells }, Ok tt)
 
-abbrev pub with_name : (g : Gathers) → TypeNo → ℕ → Fields × Result (Unit {0}) g.Reported → Ident → Fields × Result (Unit {0}) g.Reported
-with_name g t cells st name = let one = with_field g t cells st.0 name in (one.0, beside g st.1 one.1)
+abbrev pub with_name : (g : Gathers) → TypeNo → ℕ → Fields × Result (Unit {0}) g.Reported → Ident
+    → Fields × Result (Unit {0}) g.Reported
+with_name g t cells st name =
+    let one = with_field g t cells st.0 name in (one.0, beside g st.1 one.1)

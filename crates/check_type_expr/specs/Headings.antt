@@ -22,48 +22,62 @@ use Rattle.check_type_expr.specs.declared.field.Fields.{Fields}
 use Rattle.check_type_expr.specs.Named.{first_of, named_type}
 use Rattle.check_type_expr.specs.Fields.{no_fields, with_name}
 
-abbrev pub formal_of : (g : Gathers) → Scope g.Reported → Bool → FormalType → Result Formal g.Reported
-formal_of g s is_var f = named_type g s f.of ▷ λ t. Ok (record { is_var = is_var; is_open = f.is_open; of = t })
+abbrev pub formal_of : (g : Gathers) → Scope g.Reported → Bool → FormalType
+    → Result Formal g.Reported
+formal_of g s is_var f =
+    named_type g s f.of ▷ λ t. Ok (record { is_var = is_var; is_open = f.is_open; of = t })
 
 -- a function gives no arrays and no records
 abbrev pub result_in : (g : Gathers) → Types → Pos → TypeNo → Result (Option TypeNo) g.Reported
 result_in g types at t = reported_where g (not (is_result types t)) at rule.NoType (Ok (Some t))
 
-abbrev pub result_of : (g : Gathers) → Scope g.Reported → Option Qualified → Result (Option TypeNo) g.Reported
+abbrev pub result_of : (g : Gathers) → Scope g.Reported → Option Qualified
+    → Result (Option TypeNo) g.Reported
 result_of g s None = Ok None
 result_of g s (Some q) = named_type g s q ▷ result_in g s.types (first_of q)
 
-abbrev pub procedure_made : (g : Gathers) → Result (List Formal) g.Reported → Result (Option TypeNo) g.Reported → Result Made g.Reported
-procedure_made g formals of = both g formals of ▷ λ p. Ok (record { shape = shape.Procedure (record { formals = p.0; result = p.1 }); cells = 1 })
+abbrev pub procedure_made : (g : Gathers) → Result (List Formal) g.Reported
+    → Result (Option TypeNo) g.Reported → Result Made g.Reported
+procedure_made g formals of =
+    both g formals of ▷ λ p.
+    Ok (record { shape = shape.Procedure (record { formals = p.0; result = p.1 }); cells = 1 })
 
 -- ---- procedure types
 
-abbrev pub joined_formal : (g : Gathers) → Result (List Formal) g.Reported → Result Formal g.Reported → Result (List Formal) g.Reported
+abbrev pub joined_formal : (g : Gathers) → Result (List Formal) g.Reported
+    → Result Formal g.Reported → Result (List Formal) g.Reported
 joined_formal g so f = both g so f ▷ λ p. Ok (p.0 ++ p.1 ∷ [])
 
-abbrev pub with_parameter : (g : Gathers) → Scope g.Reported → Result (List Formal) g.Reported → Parameter → Result (List Formal) g.Reported
+abbrev pub with_parameter : (g : Gathers) → Scope g.Reported → Result (List Formal) g.Reported
+    → Parameter → Result (List Formal) g.Reported
 with_parameter g s so p = joined_formal g so (formal_of g s p.is_var p.of)
 
-abbrev pub procedure_type : (g : Gathers) → Scope g.Reported → List Parameter → Option Qualified → Result Made g.Reported
-procedure_type g s ps of = procedure_made g (fold (with_parameter g s) (Ok []) ps) (result_of g s of)
+abbrev pub procedure_type : (g : Gathers) → Scope g.Reported → List Parameter → Option Qualified
+    → Result Made g.Reported
+procedure_type g s ps of =
+    procedure_made g (fold (with_parameter g s) (Ok []) ps) (result_of g s of)
 
 -- ---- headings
 
 abbrev pub repeated : Formal → List Ident → List Formal
 repeated f names = map (λ n. f) names
 
-abbrev pub joined_formals : (g : Gathers) → Result (List Formal) g.Reported → Result Formal g.Reported → List Ident → Result (List Formal) g.Reported
+abbrev pub joined_formals : (g : Gathers) → Result (List Formal) g.Reported
+    → Result Formal g.Reported → List Ident → Result (List Formal) g.Reported
 joined_formals g so f names = both g so f ▷ λ p. Ok (p.0 ++ repeated p.1 names)
 
-abbrev pub with_section : (g : Gathers) → Scope g.Reported → Result (List Formal) g.Reported → Section → Result (List Formal) g.Reported
+abbrev pub with_section : (g : Gathers) → Scope g.Reported → Result (List Formal) g.Reported
+    → Section → Result (List Formal) g.Reported
 with_section g s so x = joined_formals g so (formal_of g s x.is_var x.of) x.names
 
 -- what a heading means, whatever the names of its formals
 abbrev pub heading_of : (g : Gathers) → Scope g.Reported → Heading → Result Made g.Reported
-heading_of g s h = procedure_made g (fold (with_section g s) (Ok []) h.formals) (result_of g s h.result)
+heading_of g s h =
+    procedure_made g (fold (with_section g s) (Ok []) h.formals) (result_of g s h.result)
 
 -- the names of the formals so far, and what is reported of them
-abbrev pub with_names : (g : Gathers) → Fields × Result (Unit {0}) g.Reported → Section → Fields × Result (Unit {0}) g.Reported
+abbrev pub with_names : (g : Gathers) → Fields × Result (Unit {0}) g.Reported → Section
+    → Fields × Result (Unit {0}) g.Reported
 with_names g st x = fold (with_name g integer 0) st x.names
 
 abbrev pub names_of : (g : Gathers) → Heading → Result (Unit {0}) g.Reported

@@ -33,7 +33,8 @@ type_meant g at (meaning.Standard f) = reported g at rule.NoType
 type_meant g at (meaning.Module k) = reported g at rule.NoType
 
 -- M.x, where M means a module
-abbrev pub in_module : (g : Gathers) → Scope g.Reported → Pos → Ident → Meaning → Result TypeNo g.Reported
+abbrev pub in_module : (g : Gathers) → Scope g.Reported → Pos → Ident → Meaning
+    → Result TypeNo g.Reported
 in_module g s at name (meaning.Module k) = member g s.tables k name ▷ type_meant g at
 in_module g s at name (meaning.Type t n) = reported g at rule.NoType
 in_module g s at name (meaning.Constant v) = reported g at rule.NoType
@@ -45,9 +46,12 @@ in_module g s at name (meaning.LocalProcedure p) = reported g at rule.NoType
 in_module g s at name meaning.Ahead = reported g at rule.NoType
 in_module g s at name (meaning.Standard f) = reported g at rule.NoType
 
-abbrev pub of_module : (g : Gathers) → Scope g.Reported → Option Ident → Ident → Result TypeNo g.Reported
-of_module g s None name = of_sort g name.pos rule.NoType (looked_up g s name) ▷ type_meant g name.pos
-of_module g s (Some home) name = of_sort g home.pos rule.NoType (looked_up g s home) ▷ in_module g s home.pos name
+abbrev pub of_module : (g : Gathers) → Scope g.Reported → Option Ident → Ident
+    → Result TypeNo g.Reported
+of_module g s None name =
+    of_sort g name.pos rule.NoType (looked_up g s name) ▷ type_meant g name.pos
+of_module g s (Some home) name =
+    of_sort g home.pos rule.NoType (looked_up g s home) ▷ in_module g s home.pos name
 
 abbrev pub named_type : (g : Gathers) → Scope g.Reported → Qualified → Result TypeNo g.Reported
 named_type g s q = of_module g s q.module q.name

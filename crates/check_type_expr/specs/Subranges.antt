@@ -45,15 +45,20 @@ fits_at g at base None n = reported_where g (not (fits (Some base) n)) at rule.O
 
 abbrev pub based : (g : Gathers) → Pos → Ordinal → Pos → Ordinal → TypeNo → Result Scalar g.Reported
 based g at a at' b base =
-    beside g (ordered g at a.number b.number) (beside g (fits_at g at base a.sort a.number) (fits_at g at' base b.sort b.number))
-    ▷ λ fine. Ok (record { base = base; low = a.number; high = b.number })
+    beside g (ordered g at a.number b.number)
+    (beside g (fits_at g at base a.sort a.number) (fits_at g at' base b.sort b.number))
+    ▷ λ fine.
+    Ok (record { base = base; low = a.number; high = b.number })
 
-abbrev pub between : (g : Gathers) → Pos → Ordinal → Pos → Ordinal → Option (Option TypeNo) → Result Scalar g.Reported
+abbrev pub between : (g : Gathers) → Pos → Ordinal → Pos → Ordinal → Option (Option TypeNo)
+    → Result Scalar g.Reported
 between g at a at' b None = reported g at' rule.WrongType
 between g at a at' b (Some sort) = based g at a at' b (base_of sort a.number)
 
-abbrev pub unnamed : (g : Gathers) → Pos → Result Ordinal g.Reported → Pos → Result Ordinal g.Reported → Result Scalar g.Reported
-unnamed g at low at' high = both g low high ▷ λ p. between g at p.0 at' p.1 (common p.0.sort p.1.sort)
+abbrev pub unnamed : (g : Gathers) → Pos → Result Ordinal g.Reported → Pos
+    → Result Ordinal g.Reported → Result Scalar g.Reported
+unnamed g at low at' high =
+    both g low high ▷ λ p. between g at p.0 at' p.1 (common p.0.sort p.1.sort)
 
 -- ---- under a named type
 
@@ -62,24 +67,38 @@ is_of_base base None = is_numeric base
 is_of_base base (Some t) = are_same t base
 
 abbrev pub is_of : (g : Gathers) → Scalar → Pos → Ordinal → Result (Unit {0}) g.Reported
-is_of g of at a = reported_where g (not (is_of_base of.base a.sort)) at rule.WrongType (reported_where g (not (is_between of.low a.number of.high)) at rule.OutOfRange (Ok tt))
+is_of g of at a =
+    reported_where g (not (is_of_base of.base a.sort)) at rule.WrongType
+    (reported_where g (not (is_between of.low a.number of.high)) at rule.OutOfRange (Ok tt))
 
-abbrev pub bound_in : (g : Gathers) → Result Scalar g.Reported → Pos → Result Ordinal g.Reported → Result (Unit {0}) g.Reported
+abbrev pub bound_in : (g : Gathers) → Result Scalar g.Reported → Pos → Result Ordinal g.Reported
+    → Result (Unit {0}) g.Reported
 bound_in g of at a = both g of a ▷ λ p. is_of g p.0 at p.1
 
-abbrev pub ordered_if : (g : Gathers) → Pos → Ordinal → Ordinal → Option (Option TypeNo) → Result (Unit {0}) g.Reported
+abbrev pub ordered_if : (g : Gathers) → Pos → Ordinal → Ordinal → Option (Option TypeNo)
+    → Result (Unit {0}) g.Reported
 ordered_if g at a b None = Ok tt
 ordered_if g at a b (Some sort) = ordered g at a.number b.number
 
 -- the order of two bounds that go together
-abbrev pub alike_ordered : (g : Gathers) → Pos → Result Ordinal g.Reported → Result Ordinal g.Reported → Result (Unit {0}) g.Reported
-alike_ordered g at low high = both g low high ▷ λ p. ordered_if g at p.0 p.1 (common p.0.sort p.1.sort)
+abbrev pub alike_ordered : (g : Gathers) → Pos → Result Ordinal g.Reported
+    → Result Ordinal g.Reported → Result (Unit {0}) g.Reported
+alike_ordered g at low high =
+    both g low high ▷ λ p. ordered_if g at p.0 p.1 (common p.0.sort p.1.sort)
 
-abbrev pub are_bounds : (g : Gathers) → Result Scalar g.Reported → Pos → Result Ordinal g.Reported → Pos → Result Ordinal g.Reported → Result (Unit {0}) g.Reported
-are_bounds g of at low at' high = beside g (beside g (bound_in g of at low) (bound_in g of at' high)) (alike_ordered g at low high)
+abbrev pub are_bounds : (g : Gathers) → Result Scalar g.Reported → Pos → Result Ordinal g.Reported
+    → Pos → Result Ordinal g.Reported → Result (Unit {0}) g.Reported
+are_bounds g of at low at' high =
+    beside g (beside g (bound_in g of at low) (bound_in g of at' high))
+    (alike_ordered g at low high)
 
-abbrev pub limited : (g : Gathers) → Result (Scalar × (Ordinal × Ordinal)) g.Reported → Result (Unit {0}) g.Reported → Result Scalar g.Reported
-limited g parts fine = both g parts fine ▷ λ p. Ok (record { base = p.0.0.base; low = p.0.1.0.number; high = p.0.1.1.number })
+abbrev pub limited : (g : Gathers) → Result (Scalar × (Ordinal × Ordinal)) g.Reported
+    → Result (Unit {0}) g.Reported → Result Scalar g.Reported
+limited g parts fine =
+    both g parts fine ▷ λ p.
+    Ok (record { base = p.0.0.base; low = p.0.1.0.number; high = p.0.1.1.number })
 
-abbrev pub under : (g : Gathers) → Result Scalar g.Reported → Pos → Result Ordinal g.Reported → Pos → Result Ordinal g.Reported → Result Scalar g.Reported
-under g of at low at' high = limited g (both g of (both g low high)) (are_bounds g of at low at' high)
+abbrev pub under : (g : Gathers) → Result Scalar g.Reported → Pos → Result Ordinal g.Reported → Pos
+    → Result Ordinal g.Reported → Result Scalar g.Reported
+under g of at low at' high =
+    limited g (both g of (both g low high)) (are_bounds g of at low at' high)

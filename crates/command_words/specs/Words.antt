@@ -7,8 +7,10 @@ use Rattle.std.specs.Str.Parse.{digits_value}
 -- a number of decimal digits alone, from 1 to the bound
 abbrev pub number_of : (text : List ℕ) → (most : ℕ) → Option ℕ
 number_of text most =
-    if list_all is_ascii_digit text && (nat_le 1 (digits_value 10 text) && nat_le (digits_value 10 text) most)
-    then Some (digits_value 10 text) else None
+    if list_all is_ascii_digit text && (nat_le 1 (digits_value 10 text)
+    && nat_le (digits_value 10 text) most)
+    then Some (digits_value 10 text)
+    else None
 
 -- a name that is not empty
 abbrev pub has_letters : (name : List ℕ) → Bool

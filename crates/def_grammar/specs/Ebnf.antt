@@ -1,5 +1,5 @@
--- The grammar. `{}` of a grammar in EBNF is `many` here, `[]` is `opt`, `|` is `∣`, and two parts in a row have a
--- `·` between them; a word or a symbol stands before `▸` or behind `◂`.
+-- The grammar. `{}` of a grammar in EBNF is `many` here, `[]` is `opt`, `|` is `∣`, and two parts
+-- in a row have a `·` between them; a word or a symbol stands before `▸` or behind `◂`.
 use Rattle.std.specs.Prelude.{List, [], ◌∷◌, map}
 use Rattle.m2_tree.specs.declared.token.Symbol.{Symbol}
 use Rattle.m2_tree.specs.declared.token.Symbol.TheVariants.{And, Array, Begin, By, Case, Const, Definition, Div, Do, Else, Elsif, End, Exit, For, From, If, Implementation, Import, In, Loop, Mod, Module, Not, Of, Or, Procedure, Record, Repeat, Return, Then, To, «Type», Until, Var, While, With, Plus, Minus, Star, Slash, Assign, Dot, Comma, Semicolon, LeftParen, LeftBracket, LeftBrace, Equal, Unequal, Less, Greater, AtMost, AtLeast, DotDot, Colon, RightParen, RightBracket, RightBrace, Bar}
@@ -145,11 +145,13 @@ exprs = expr · many (Comma ▸ expr)
 abbrev pub items : Gr (both (ast item_rule) (list (ast item_rule)))
 items = item · many (Comma ▸ item)
 
-abbrev pub selector : Gr (either (both token token) (both token (both (ast expr_rule) (list (ast expr_rule)))))
+abbrev pub selector :
+    Gr (either (both token token) (both token (both (ast expr_rule) (list (ast expr_rule)))))
 selector = symbol Dot · ident ∣ nest (symbol LeftBracket · exprs ◂ RightBracket)
 
 -- what a definition module and every other one have in common
-abbrev pub common : Gr (either (list (ast constant_rule)) (either (list (ast type_decl_rule)) (list (ast variables_rule))))
+abbrev pub common : Gr (either (list (ast constant_rule))
+    (either (list (ast type_decl_rule)) (list (ast variables_rule))))
 common = Const ▸ many constant ∣ «Type» ▸ many type_decl ∣ Var ▸ many variables
 
 -- what stands between the two names of a definition module, of another module, and of a procedure
@@ -166,13 +168,18 @@ procedure = formals · Semicolon ▸ block
 abbrev pub array_type : Gr (both token (ast dims_rule))
 array_type = symbol Array · dims
 
-abbrev pub record_type : Gr (both token (both (maybe (ast field_rule)) (list (maybe (ast field_rule)))))
+abbrev pub record_type :
+    Gr (both token (both (maybe (ast field_rule)) (list (maybe (ast field_rule)))))
 record_type = symbol Record · fields ◂ End
 
-abbrev pub procedure_type : Gr (both token (maybe (both (maybe (both (ast parameter_rule) (list (ast parameter_rule)))) (maybe (ast qual_rule)))))
+abbrev pub procedure_type : Gr (both token (maybe
+    (both (maybe (both (ast parameter_rule) (list (ast parameter_rule)))) (maybe (ast qual_rule)))))
 procedure_type = symbol Procedure · opt (LeftParen ▸ opt parameters · RightParen ▸ result_type)
 
-abbrev pub structured_type : Gr (either (both token (ast dims_rule)) (either (both token (both (maybe (ast field_rule)) (list (maybe (ast field_rule))))) (both token (maybe (both (maybe (both (ast parameter_rule) (list (ast parameter_rule)))) (maybe (ast qual_rule)))))))
+abbrev pub structured_type : Gr (either (both token (ast dims_rule))
+    (either (both token (both (maybe (ast field_rule)) (list (maybe (ast field_rule)))))
+    (both token (maybe (both (maybe (both (ast parameter_rule) (list (ast parameter_rule))))
+    (maybe (ast qual_rule)))))))
 structured_type = array_type ∣ record_type ∣ procedure_type
 
 abbrev pub simple_stmt : Gr (both (ast desig_rule) (either (ast expr_rule) (maybe (ast args_rule))))
@@ -187,7 +194,8 @@ elsif_part = Elsif ▸ expr · Then ▸ stmts · rule rest_rule
 abbrev pub else_part : Gr (maybe (ast stmts_rule))
 else_part = opt (Else ▸ stmts)
 
-abbrev pub case_stmt : Gr (both (ast expr_rule) (both (both (maybe (ast arm_rule)) (list (maybe (ast arm_rule)))) (maybe (ast stmts_rule))))
+abbrev pub case_stmt : Gr (both (ast expr_rule)
+    (both (both (maybe (ast arm_rule)) (list (maybe (ast arm_rule)))) (maybe (ast stmts_rule))))
 case_stmt = Case ▸ expr · Of ▸ arms · else_part ◂ End
 
 abbrev pub while_stmt : Gr (both (ast expr_rule) (ast stmts_rule))
@@ -205,14 +213,22 @@ return_stmt = symbol Return · opt expr
 abbrev pub step : Gr (maybe (ast expr_rule))
 step = opt (By ▸ expr)
 
-abbrev pub for_stmt : Gr (both token (both (ast expr_rule) (both (ast expr_rule) (both (maybe (ast expr_rule)) (ast stmts_rule)))))
+abbrev pub for_stmt : Gr (both token
+    (both (ast expr_rule) (both (ast expr_rule) (both (maybe (ast expr_rule)) (ast stmts_rule)))))
 for_stmt = For ▸ ident · Assign ▸ expr · To ▸ expr · step · Do ▸ stmts ◂ End
 
 abbrev pub with_stmt : Gr (both (ast desig_rule) (ast stmts_rule))
 with_stmt = With ▸ desig · Do ▸ stmts ◂ End
 
-abbrev pub other_stmt : Gr (either (both (ast stmts_rule) (ast expr_rule)) (either (ast stmts_rule) (either token (either (both token (maybe (ast expr_rule))) (either (both token (both (ast expr_rule) (both (ast expr_rule) (both (maybe (ast expr_rule)) (ast stmts_rule))))) (both (ast desig_rule) (ast stmts_rule)))))))
-other_stmt = nest repeat_stmt ∣ nest loop_stmt ∣ symbol Exit ∣ return_stmt ∣ nest for_stmt ∣ nest with_stmt
+abbrev pub other_stmt : Gr (either (both (ast stmts_rule) (ast expr_rule))
+    (either (ast stmts_rule)
+    (either token (either (both token (maybe (ast expr_rule)))
+    (either
+    (both token
+    (both (ast expr_rule) (both (ast expr_rule) (both (maybe (ast expr_rule)) (ast stmts_rule)))))
+    (both (ast desig_rule) (ast stmts_rule)))))))
+other_stmt =
+    nest repeat_stmt ∣ nest loop_stmt ∣ symbol Exit ∣ return_stmt ∣ nest for_stmt ∣ nest with_stmt
 
 -- ---- the productions
 

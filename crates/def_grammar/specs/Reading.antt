@@ -1,4 +1,5 @@
--- Reading by one token ahead: what the parser's functions do. The contract of `parse` does not speak of it.
+-- Reading by one token ahead: what the parser's functions do. The contract of `parse` does not
+-- speak of it.
 use Rattle.std.specs.Prelude.{◌≡◌, ℕ, zero, suc, ◌+◌, ◌-◌, ◌*◌, ◌==◌, Bool, true, false, ◌||◌, ◌&&◌, if◌then◌else◌, List, [], ◌∷◌, ◌++◌, length, Option, Some, None, option_map, ◌⊎◌, Result, Ok, Err}
 use Rattle.std.proofs.Common.{inl, inr}
 use Rattle.std.specs.Str.{bytes_eq}
@@ -52,7 +53,8 @@ first g = first_by starters g
 abbrev pub Outcome : Type 0 → Type 0
 Outcome A = Result (A × List Token) (List Token × Fault)
 
--- what comes of a list: the value with what is left, or what was left at the fault, and which one it is
+-- what comes of a list: the value with what is left, or what was left at the fault, and which one
+-- it is
 abbrev pub Reader : Type 0 → Type 0
 Reader A = List Token → Outcome A
 
@@ -79,34 +81,50 @@ abbrev pub in_turn : {A B : Type 0} → Reader A → Reader B → Reader (A × B
 in_turn p q = λ ts. and_then (p ts) (λ x mid. and_then (q mid) (λ y rest. Ok ((x, y), rest)))
 
 abbrev pub either_of : {A B : Type 0} → List Kind → Reader A → Reader B → Reader (A ⊎ B)
-either_of ks p q = λ ts. if begins ks ts then and_then (p ts) (λ x rest. Ok (inl x, rest)) else and_then (q ts) (λ y rest. Ok (inr y, rest))
+either_of ks p q =
+    λ ts.
+    if begins ks ts
+    then and_then (p ts) (λ x rest. Ok (inl x, rest))
+    else and_then (q ts) (λ y rest. Ok (inr y, rest))
 
 abbrev pub after_word : {A : Type 0} → Kind → Reader A → Reader A
 after_word k p = λ ts. and_then (one_token (k ∷ []) ts) (λ t mid. p mid)
 
 abbrev pub with_end : {A : Type 0} → Reader A → Kind → Reader A
-with_end p k = λ ts. and_then (p ts) (λ x mid. and_then (one_token (k ∷ []) mid) (λ t rest. Ok (x, rest)))
+with_end p k =
+    λ ts. and_then (p ts) (λ x mid. and_then (one_token (k ∷ []) mid) (λ t rest. Ok (x, rest)))
 
 abbrev pub if_begun : {A : Type 0} → List Kind → Reader A → Reader (Option A)
-if_begun ks p = λ ts. if begins ks ts then and_then (p ts) (λ x rest. Ok (Some x, rest)) else Ok (None, ts)
+if_begun ks p =
+    λ ts. if begins ks ts then and_then (p ts) (λ x rest. Ok (Some x, rest)) else Ok (None, ts)
 
 -- The number bounds the turns. Each takes a token, so the count of tokens is enough.
 unfoldable pub turns : {A : Type 0} → List Kind → Reader A → ℕ → Reader (List A)
 turns ks p zero ts = Ok ([], ts)
-turns ks p (suc n) ts = if begins ks ts then and_then (p ts) (λ x mid. and_then (turns ks p n mid) (λ xs rest. Ok (x ∷ xs, rest))) else Ok ([], ts)
+turns ks p (suc n) ts =
+    if begins ks ts
+    then and_then (p ts) (λ x mid. and_then (turns ks p n mid) (λ xs rest. Ok (x ∷ xs, rest)))
+    else Ok ([], ts)
 
 unfoldable pub repeated : {A : Type 0} → List Kind → Reader A → Reader (List A)
 repeated ks p ts = turns ks p (length ts) ts
 
 abbrev pub no_deeper : {A : Type 0} → List Kind → Reader A
 no_deeper ks [] = Err ([], Unfit)
-no_deeper ks (t ∷ ts) = if is_among (kind_of t) ks then Err (t ∷ ts, TooDeep) else Err (t ∷ ts, Unfit)
+no_deeper ks (t ∷ ts) =
+    if is_among (kind_of t) ks then Err (t ∷ ts, TooDeep) else Err (t ∷ ts, Unfit)
 
 abbrev pub closing : List ℕ → Reader Token
-closing name ts = and_then (one_token (the.Name ∷ []) ts) (λ u rest. if bytes_eq name (name_of u) then Ok (u, rest) else Err (ts, Misnamed))
+closing name ts =
+    and_then (one_token (the.Name ∷ []) ts) (λ u rest.
+    if bytes_eq name (name_of u) then Ok (u, rest) else Err (ts, Misnamed))
 
 abbrev pub with_names : {A : Type 0} → Reader A → Reader (Token × A)
-with_names p = λ ts. and_then (one_token (the.Name ∷ []) ts) (λ t mid. and_then (p mid) (λ x rest. and_then (closing (name_of t) rest) (λ u after. Ok ((t, x), after))))
+with_names p =
+    λ ts.
+    and_then (one_token (the.Name ∷ []) ts) (λ t mid.
+    and_then (p mid) (λ x rest.
+    and_then (closing (name_of t) rest) (λ u after. Ok ((t, x), after))))
 
 -- ---- the grammar's readers. The number says how many levels of nesting are left.
 
@@ -155,8 +173,10 @@ ReadsAs view outcome (Err NoMemory) new = Unit {0}
 ReadsAs view outcome (Err (Refused f)) new = outcome ≡ Err (new, f)
 
 -- the same, where the function adds what it makes to a list
-abbrev pub ReadsOnto : {A B : Type 0} → (A → List B) → Outcome A → List B → Result (Unit {0}) Stop → List B → List Token → Type 0
-ReadsOnto {A} view outcome old (Ok b) found new = (x : A) × (outcome ≡ Ok (x, new)) × (found ≡ old ++ view x)
+abbrev pub ReadsOnto : {A B : Type 0} → (A → List B) → Outcome A → List B → Result (Unit {0}) Stop
+    → List B → List Token → Type 0
+ReadsOnto {A} view outcome old (Ok b) found new =
+    (x : A) × (outcome ≡ Ok (x, new)) × (found ≡ old ++ view x)
 ReadsOnto view outcome old (Err NoMemory) found new = Unit {0}
 ReadsOnto view outcome old (Err (Refused f)) found new = outcome ≡ Err (new, f)
 
@@ -166,7 +186,8 @@ abbrev pub mapped : {A B : Type 0} → (A → B) → Outcome A → Outcome B
 mapped f outcome = and_then outcome (λ x rest. Ok (f x, rest))
 
 -- what was found before, and what comes of the turns that follow
-abbrev pub gathered : {A B : Type 0} → (List A → List B) → List B → Outcome (List A) → Outcome (List B)
+abbrev pub gathered : {A B : Type 0} → (List A → List B) → List B → Outcome (List A)
+    → Outcome (List B)
 gathered collect front outcome = mapped (λ xs. front ++ collect xs) outcome
 
 -- the levels of nesting that are left inside of a part that begins with one of these kinds
@@ -175,16 +196,21 @@ entered ks n ts = if n == 0 then no_deeper ks ts else Ok (n - 1, ts)
 
 -- whether the token was taken
 abbrev pub AteIf : Kind → List Token → Bool → List Token → Type 0
-AteIf k ts true rest = (begins (k ∷ []) ts ≡ true) × (t : Token) × (one_token (k ∷ []) ts ≡ Ok (t, rest))
+AteIf k ts true rest =
+    (begins (k ∷ []) ts ≡ true) × (t : Token) × (one_token (k ∷ []) ts ≡ Ok (t, rest))
 AteIf k ts false rest = (begins (k ∷ []) ts ≡ false) × (rest ≡ ts)
 
 -- the same as one equation
 abbrev pub HadIf : Kind → List Token → Bool → List Token → Type 0
-HadIf k ts b rest = (o : Option Token) × (if_begun (k ∷ []) (one_token (k ∷ [])) ts ≡ Ok (o, rest)) × (b ≡ is_there o)
+HadIf k ts b rest =
+    (o : Option Token) × (if_begun (k ∷ []) (one_token (k ∷ [])) ts ≡ Ok (o, rest))
+    × (b ≡ is_there o)
 
 -- what one of these tokens says, if the token is one and was taken
-abbrev pub TookIf : {A : Type 0} → List Kind → (Token → A) → List Token → Option A → List Token → Type 0
-TookIf ks f ts (Some x) rest = (begins ks ts ≡ true) × (t : Token) × (one_token ks ts ≡ Ok (t, rest)) × (x ≡ f t)
+abbrev pub TookIf : {A : Type 0} → List Kind → (Token → A) → List Token → Option A → List Token
+    → Type 0
+TookIf ks f ts (Some x) rest =
+    (begins ks ts ≡ true) × (t : Token) × (one_token ks ts ≡ Ok (t, rest)) × (x ≡ f t)
 TookIf ks f ts None rest = (begins ks ts ≡ false) × (rest ≡ ts)
 
 -- what one of these lexemes says
@@ -193,5 +219,7 @@ SaysIf ks f l (Some x) = (is_among (kind_said l) ks ≡ true) × (x ≡ f l)
 SaysIf ks f l None = is_among (kind_said l) ks ≡ false
 
 -- the same as one equation
-abbrev pub TookAs : {A : Type 0} → List Kind → (Token → A) → List Token → Option A → List Token → Type 0
-TookAs ks f ts found rest = (o : Option Token) × (if_begun ks (one_token ks) ts ≡ Ok (o, rest)) × (found ≡ option_map f o)
+abbrev pub TookAs : {A : Type 0} → List Kind → (Token → A) → List Token → Option A → List Token
+    → Type 0
+TookAs ks f ts found rest =
+    (o : Option Token) × (if_begun ks (one_token ks) ts ≡ Ok (o, rest)) × (found ≡ option_map f o)

@@ -22,7 +22,8 @@ IsModule ts m = Spells (ast module_rule) (rule module_rule) m ts
 abbrev pub max_nesting : ℕ
 max_nesting = 200
 
--- A module, or the beginning of one, breaks the rule on closing names or the one on nesting where `at` is what is left.
+-- A module, or the beginning of one, breaks the rule on closing names or the one on nesting where
+-- `at` is what is left.
 abbrev pub BreaksRule : List Token → List Token → Fault → Type 0
 BreaksRule ts at f = Breaks (ast module_rule) (rule module_rule) max_nesting ts at f
 

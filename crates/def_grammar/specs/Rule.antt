@@ -27,10 +27,12 @@ use Rattle.m2_tree.specs.declared.stmt.Arm.{Arm}
 
 pub data Rule : Type 0 where
   module_rule import_rule idents_rule : Rule
-  def_rule block_rule decl_rule constant_rule type_decl_rule variables_rule formals_rule section_rule formal_rule : Rule
+  def_rule block_rule decl_rule constant_rule type_decl_rule variables_rule formals_rule
+      section_rule formal_rule : Rule
   qual_rule simple_rule type_rule dims_rule parameter_rule field_rule : Rule
   stmts_rule stmt_rule rest_rule arm_rule : Rule
-  item_rule desig_rule selectors_rule args_rule expr_rule sum_rule term_rule factor_rule set_rule : Rule
+  item_rule desig_rule selectors_rule args_rule expr_rule sum_rule term_rule factor_rule set_rule :
+      Rule
 
 abbrev pub Ast : Rule → Type 0
 Ast module_rule = Module

@@ -1,5 +1,5 @@
--- Tables of the grammar: what each production begins with, whether it can be nothing, and its rank. They are tested
--- against the grammar in proofs/OneAhead and proofs/Knot.
+-- Tables of the grammar: what each production begins with, whether it can be nothing, and its rank.
+-- They are tested against the grammar in proofs/OneAhead and proofs/Knot.
 use Rattle.std.specs.Prelude.{ℕ, Bool, true, false, List, [], ◌∷◌, ◌++◌, map}
 use Rattle.m2_tree.specs.declared.token.Symbol.{Symbol}
 use Rattle.m2_tree.specs.declared.token.Symbol.TheVariants.{And, Array, Case, Const, Definition, Div, Else, Elsif, Exit, For, From, If, Implementation, Import, In, Loop, Mod, Module, Not, Or, Procedure, Record, Repeat, Return, «Type», Var, While, With, Begin, End, Plus, Minus, Star, Slash, Dot, Semicolon, LeftParen, LeftBracket, LeftBrace, Equal, Unequal, Less, Greater, AtMost, AtLeast}

@@ -170,7 +170,10 @@ abbrev pub begun_by : Ident → (Pos × List Item) ⊎ (List Selector × Option 
 begun_by name (inl set) = e.Set (Some name) set.0 set.1
 begun_by name (inr p) = use_of name p
 
-abbrev pub factor_of : Token ⊎ ((Token × ((Pos × List Item) ⊎ (List Selector × Option (List Expr)))) ⊎ ((Pos × List Item) ⊎ ((Token × Expr) ⊎ (Token × Expr)))) → Expr
+abbrev pub factor_of : Token
+    ⊎ ((Token × ((Pos × List Item) ⊎ (List Selector × Option (List Expr))))
+    ⊎ ((Pos × List Item) ⊎ ((Token × Expr) ⊎ (Token × Expr))))
+    → Expr
 factor_of (inl t) = literal_of t
 factor_of (inr (inl p)) = begun_by (ident_of p.0) p.1
 factor_of (inr (inr (inl set))) = e.Set None set.0 set.1
@@ -190,7 +193,9 @@ abbrev pub named_simple : Qualified → Option (Token × (Expr × Expr)) → Sim
 named_simple name None = simple.Named name
 named_simple name (Some p) = subrange_of (Some name) p
 
-abbrev pub simple_of : (Qualified × Option (Token × (Expr × Expr))) ⊎ ((Token × List Ident) ⊎ (Token × (Expr × Expr))) → Simple
+abbrev pub simple_of :
+    (Qualified × Option (Token × (Expr × Expr))) ⊎ ((Token × List Ident) ⊎ (Token × (Expr × Expr)))
+    → Simple
 simple_of (inl p) = named_simple p.0 p.1
 simple_of (inr (inl p)) = simple.Enumeration p.0.pos p.1
 simple_of (inr (inr p)) = subrange_of None p
@@ -214,19 +219,27 @@ abbrev pub element_of : (Simple × TypeExpr) ⊎ TypeExpr → TypeExpr
 element_of (inl p) = ty.Array (simple_pos p.0) p.0 p.1
 element_of (inr type) = type
 
-abbrev pub formals_of : {A : Type 0} → Option (Option (A × List A) × Option Qualified) → List A × Option Qualified
+abbrev pub formals_of : {A : Type 0} → Option (Option (A × List A) × Option Qualified)
+    → List A × Option Qualified
 formals_of None = ([], None)
 formals_of (Some p) = (if_any p.0, p.1)
 
 abbrev pub procedure_type_of : Pos → List Parameter × Option Qualified → TypeExpr
 procedure_type_of pos p = ty.Procedure pos p.0 p.1
 
-abbrev pub structured_of : (Token × (Simple × TypeExpr)) ⊎ ((Token × (Option Field × List (Option Field))) ⊎ (Token × Option (Option (Parameter × List Parameter) × Option Qualified))) → TypeExpr
+abbrev pub structured_of : (Token × (Simple × TypeExpr))
+    ⊎ ((Token × (Option Field × List (Option Field)))
+    ⊎ (Token × Option (Option (Parameter × List Parameter) × Option Qualified)))
+    → TypeExpr
 structured_of (inl p) = ty.Array p.0.pos p.1.0 p.1.1
 structured_of (inr (inl p)) = ty.Record p.0.pos (present (with_first p.1))
 structured_of (inr (inr p)) = procedure_type_of p.0.pos (formals_of p.1)
 
-abbrev pub type_of : Simple ⊎ ((Token × (Simple × TypeExpr)) ⊎ ((Token × (Option Field × List (Option Field))) ⊎ (Token × Option (Option (Parameter × List Parameter) × Option Qualified)))) → TypeExpr
+abbrev pub type_of : Simple
+    ⊎ ((Token × (Simple × TypeExpr))
+    ⊎ ((Token × (Option Field × List (Option Field)))
+    ⊎ (Token × Option (Option (Parameter × List Parameter) × Option Qualified))))
+    → TypeExpr
 type_of (inl simple) = ty.Simple simple
 type_of (inr structured) = structured_of structured
 
@@ -295,13 +308,17 @@ rest_of (inr other) = rest.Else other
 abbrev pub heading_of : Token → List Section × Option Qualified → Heading
 heading_of name p = record { name = ident_of name; formals = p.0; result = p.1 }
 
-abbrev pub def_of : (List Constant ⊎ (List TypeDecl ⊎ List Variables)) ⊎ (Token × (List Section × Option Qualified)) → Def
+abbrev pub def_of :
+    (List Constant ⊎ (List TypeDecl ⊎ List Variables)) ⊎ (Token × (List Section × Option Qualified))
+    → Def
 def_of (inl (inl constants)) = def.Constants constants
 def_of (inl (inr (inl types))) = def.Types types
 def_of (inl (inr (inr variables))) = def.Variables variables
 def_of (inr p) = def.Procedure (heading_of p.0 p.1)
 
-abbrev pub decl_of : (List Constant ⊎ (List TypeDecl ⊎ List Variables)) ⊎ (Token × ((List Section × Option Qualified) × Block)) → Decl
+abbrev pub decl_of : (List Constant ⊎ (List TypeDecl ⊎ List Variables))
+    ⊎ (Token × ((List Section × Option Qualified) × Block))
+    → Decl
 decl_of (inl (inl constants)) = decl.Constants constants
 decl_of (inl (inr (inl types))) = decl.Types types
 decl_of (inl (inr (inr variables))) = decl.Variables variables
@@ -314,7 +331,8 @@ abbrev pub held_by : Bool → Block → Contents
 held_by true block = contents.Implementation block
 held_by false block = contents.Program block
 
-abbrev pub module_of : (Token × (List Import × List Def)) ⊎ (Option Token × (Token × (List Import × Block))) → Module
+abbrev pub module_of :
+    (Token × (List Import × List Def)) ⊎ (Option Token × (Token × (List Import × Block))) → Module
 module_of (inl p) = module_with p.0 p.1.0 (contents.Definition p.1.1)
 module_of (inr p) = module_with p.1.0 p.1.1.0 (held_by (is_there p.0) p.1.1.1)
 

@@ -18,7 +18,8 @@ Modules = List TypedModule
 abbrev pub module_place : Modules → ℕ → ℕ
 module_place p home = unwrap_or (position (λ m. m.types.home == home) p) 0
 
--- ---- procedures as values: 0 is the empty procedure, and the bodies and procedures of all modules are numbered from 1
+-- ---- procedures as values: 0 is the empty procedure, and the bodies and procedures of all modules
+-- are numbered from 1
 
 pub data Entry : Type 0 where
   Body : Entry
@@ -30,7 +31,8 @@ numbered_from place number (r ∷ rs) = Procedure place number ∷ numbered_from
 
 abbrev pub entries_from : (place : ℕ) → Modules → List Entry
 entries_from place [] = []
-entries_from place (m ∷ ms) = (Body ∷ numbered_from place 0 m.procedures) ++ entries_from (suc place) ms
+entries_from place (m ∷ ms) =
+    (Body ∷ numbered_from place 0 m.procedures) ++ entries_from (suc place) ms
 
 abbrev pub entries : Modules → List Entry
 entries p = entries_from 0 p
@@ -51,7 +53,8 @@ entry_of p (negsuc k) = None
 
 -- ---- names of procedures
 
--- what a formal or a variable of a procedure stands for: a location, or the elements of an open array with its HIGH
+-- what a formal or a variable of a procedure stands for: a location, or the elements of an open
+-- array with its HIGH
 pub data Named : Type 0 where
   At : (l : Location) → Named
   Elements : (l : Location) (high : ℕ) → Named
@@ -100,7 +103,8 @@ pub record Callee : Type 0 where
 
 abbrev pub callee_with : (place : ℕ) → Types → Frames → Option Routine → Option Callee
 callee_with place types frames None = None
-callee_with place types frames (Some r) = Some (record { place = place; types = types; routine = r; frames = frames })
+callee_with place types frames (Some r) =
+    Some (record { place = place; types = types; routine = r; frames = frames })
 
 -- a procedure of a module
 abbrev pub procedure_in : (place : ℕ) → Option TypedModule → (number : ℕ) → Option Callee
@@ -110,7 +114,8 @@ procedure_in place (Some m) number = callee_with place m.types [] (slice_get m.p
 -- a procedure of a procedure
 abbrev pub nested_in : (place : ℕ) → Option TypedModule → Frames → (number : ℕ) → Option Callee
 nested_in place None frames number = None
-nested_in place (Some m) frames number = callee_with place m.types frames (slice_get m.locals number)
+nested_in place (Some m) frames number =
+    callee_with place m.types frames (slice_get m.locals number)
 
 abbrev pub module_callee : Modules → (place number : ℕ) → Option Callee
 module_callee p place number = procedure_in place (slice_get p place) number

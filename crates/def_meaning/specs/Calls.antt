@@ -36,21 +36,28 @@ named_also e name store = record e { names = e.names ++ name ∷ []; store = sto
 
 -- the copy of an open array is an instance of its own
 abbrev pub copied_also : Entered → (high : ℕ) → Store → Entered
-copied_also e high store = record { names = e.names ++ Elements (e.next ∷ []) high ∷ []; next = suc e.next; store = store }
+copied_also e high store =
+    record { names = e.names ++ Elements (e.next ∷ []) high ∷ []; next = suc e.next; store = store }
 
 -- a number or a copy is the formal's own, a VAR formal is another name of the variable
 abbrev pub with_passed : (is_var : Bool) → (activation : ℕ) → Entered → Passed → Entered
-with_passed is_var activation e (Number v) = named_also e (At (variable_at activation (length e.names))) (assigned (variable_at activation (length e.names)) v e.store)
+with_passed is_var activation e (Number v) =
+    named_also e (At (variable_at activation (length e.names)))
+    (assigned (variable_at activation (length e.names)) v e.store)
 with_passed true activation e (Variable l) = named_also e (At l) e.store
-with_passed false activation e (Variable l) = named_also e (At (variable_at activation (length e.names))) (copied (variable_at activation (length e.names)) l e.store)
+with_passed false activation e (Variable l) =
+    named_also e (At (variable_at activation (length e.names)))
+    (copied (variable_at activation (length e.names)) l e.store)
 with_passed true activation e (Array l high) = named_also e (Elements l high) e.store
 with_passed false activation e (Array l high) = copied_also e high (copied (e.next ∷ []) l e.store)
-with_passed is_var activation e (Text text) = copied_also e (length (passed text) - 1) (placed (e.next ∷ []) (character text) e.store)
+with_passed is_var activation e (Text text) =
+    copied_also e (length (passed text) - 1) (placed (e.next ∷ []) (character text) e.store)
 
 abbrev pub with_all : (activation : ℕ) → List Formal → List Passed → Entered → Entered
 with_all activation [] vs e = e
 with_all activation (f ∷ fs) [] e = e
-with_all activation (f ∷ fs) (v ∷ vs) e = with_all activation fs vs (with_passed f.is_var activation e v)
+with_all activation (f ∷ fs) (v ∷ vs) e =
+    with_all activation fs vs (with_passed f.is_var activation e v)
 
 -- ---- storage
 
@@ -105,11 +112,16 @@ result function (Unfinished out) = Running out
 -- the names of the variables that stand behind the formals
 abbrev pub variables_from : (activation v : ℕ) → List TypeNo → List Named
 variables_from activation v [] = []
-variables_from activation v (t ∷ ts) = At (variable_at activation v) ∷ variables_from activation (suc v) ts
+variables_from activation v (t ∷ ts) =
+    At (variable_at activation v) ∷ variables_from activation (suc v) ts
 
 abbrev pub entered : Types → Routine → (activation : ℕ) → List Passed → Store → Entered
 entered types r activation vs store =
-    with_all activation (formals_of types r.heading) vs (record { names = []; next = suc activation; store = placed (activation ∷ []) (fresh (frame types r)) store })
+    with_all activation (formals_of types r.heading) vs (record {
+      names = [];
+      next = suc activation;
+      store = placed (activation ∷ []) (fresh (frame types r)) store;
+    })
 
 -- the body's names are the formals and then the variables
 abbrev pub around_of : Callee → (activation : ℕ) → Entered → (left : ℕ) → Around
@@ -127,13 +139,17 @@ module _ (p : Modules) (n : ℕ) where
   body_does ask body a st = in_turn (map (does p ask n) body) a st
 
   abbrev pub runs_in : Asks → Callee → (activation : ℕ) → Entered → (left : ℕ) → State → Answer ℤ
-  runs_in ask c activation e left st = result (is_function c.types c.routine) (body_does ask c.routine.body (around_of c activation e left) (record st { store = e.store }))
+  runs_in ask c activation e left st =
+      result (is_function c.types c.routine)
+      (body_does ask c.routine.body (around_of c activation e left) (record st { store = e.store }))
 
   -- a call whose frame and copies do not fit into the free storage is a fault
   abbrev pub runs : Asks → Callee → List Passed → (next left : ℕ) → State → Answer ℤ
   runs ask c vs next left st =
-      if nat_lt left (needed c.types c.routine vs) then Ended storage_fault st.out
-      else runs_in ask c next (entered c.types c.routine next vs st.store) (left - needed c.types c.routine vs) st
+      if nat_lt left (needed c.types c.routine vs)
+      then Ended storage_fault st.out
+      else runs_in ask c next (entered c.types c.routine next vs st.store)
+      (left - needed c.types c.routine vs) st
 
   -- calls nest at most d deep
   unfoldable pub calling : (d : ℕ) → Asks

@@ -63,10 +63,14 @@ expr_calls (layer.High slot) = false
 expr_calls (layer.Call t c) = c
 
 unfoldable pub calls : TypedExpr → Bool
-calls = fold-TypedExpr Bool Bool Bool Bool Bool Bool argument_calls call_calls component_calls link_calls expr_calls place_calls
+calls =
+    fold-TypedExpr Bool Bool Bool Bool Bool Bool argument_calls call_calls component_calls
+    link_calls expr_calls place_calls
 
 unfoldable pub calls_at : Place → Bool
-calls_at = fold-Place Bool Bool Bool Bool Bool Bool argument_calls call_calls component_calls link_calls expr_calls place_calls
+calls_at =
+    fold-Place Bool Bool Bool Bool Bool Bool argument_calls call_calls component_calls link_calls
+    expr_calls place_calls
 
 -- ---- the laws
 
@@ -77,8 +81,12 @@ pub data Leaves {A : Type 0} (st : State) : Answer A → Type 0 where
 
 -- an expression without calls changes nothing and prints nothing
 abbrev pub ChangesNothing : Type 0
-ChangesNothing = (p : Modules) (ask : Asks) (e : TypedExpr) (a : Around) (st : State) → calls e ≡ false → Leaves st (value p ask e a st)
+ChangesNothing =
+    (p : Modules) (ask : Asks) (e : TypedExpr) (a : Around) (st : State) → calls e ≡ false
+    → Leaves st (value p ask e a st)
 
 -- nor does a designator without calls
 abbrev pub FindsAlone : Type 0
-FindsAlone = (p : Modules) (ask : Asks) (d : Place) (a : Around) (st : State) → calls_at d ≡ false → Leaves st (locate p ask d a st)
+FindsAlone =
+    (p : Modules) (ask : Asks) (d : Place) (a : Around) (st : State) → calls_at d ≡ false
+    → Leaves st (locate p ask d a st)

@@ -1,5 +1,5 @@
--- What expressions, designators, calls and arguments give. Operands are evaluated from left to right, and what is checked is
--- checked as soon as it is there.
+-- What expressions, designators, calls and arguments give. Operands are evaluated from left to
+-- right, and what is checked is checked as soon as it is there.
 use Rattle.std.specs.Prelude.{ℕ, ◌-◌, ℤ, pos, ◌+ℤ◌, ◌-ℤ◌, ◌*ℤ◌, true, false, not, int_lt, unsigned_abs, List, [], ◌∷◌, ◌++◌, drop, Option, Some, None, slice_get, if◌then◌else◌}
 use Rattle.typed_tree.specs.declared.computed.Argument.{Argument-F}
 use Rattle.typed_tree.specs.declared.computed.Argument.TheOpen as layer
@@ -67,7 +67,10 @@ high_index types t = elements_of (index_range types t) - 1
 
 -- the element with this index, where the least index is low
 abbrev pub element : Location → (low high index : ℤ) → State → Answer Location
-element l low high i st = if is_between low i high then Gave (l ++ unsigned_abs (i -ℤ low) ∷ []) st else Ended index_fault st.out
+element l low high i st =
+    if is_between low i high
+    then Gave (l ++ unsigned_abs (i -ℤ low) ∷ []) st
+    else Ended index_fault st.out
 
 abbrev pub element_in : Location → Option Range → ℤ → State → Answer Location
 element_in l None i st = Ended index_fault st.out
@@ -89,8 +92,8 @@ operated types op.Remainder t x y st = divided remainder x y st
 abbrev pub ordinal : ℤ → State → Answer ℤ
 ordinal v st = if int_lt v (pos 0) then Ended range_fault st.out else Gave v st
 
--- ---- what is asked of a call: the procedure, if there is one, its arguments, the number of the next instance, and the bytes
--- of storage that are free
+-- ---- what is asked of a call: the procedure, if there is one, its arguments, the number of the
+-- next instance, and the bytes of storage that are free
 
 abbrev pub Asks : Type 0
 Asks = Option Callee → List Passed → (next left : ℕ) → State → Answer ℤ
@@ -113,7 +116,8 @@ module _ (p : Modules) (ask : Asks) where
   -- one argument after the other
   abbrev pub all_given : List (Gives Passed) → Around → State → Answer (List Passed)
   all_given [] a st = Gave [] st
-  all_given (x ∷ xs) a st = then_give (x a st) (λ v st. then_give (all_given xs a st) (λ vs st. Gave (v ∷ vs) st))
+  all_given (x ∷ xs) a st =
+      then_give (x a st) (λ v st. then_give (all_given xs a st) (λ vs st. Gave (v ∷ vs) st))
 
   abbrev pub asked : Option Callee → List (Gives Passed) → Around → State → Answer ℤ
   asked callee args a st = then_give (all_given args a st) (λ vs st. ask callee vs a.next a.left st)
@@ -123,17 +127,26 @@ module _ (p : Modules) (ask : Asks) where
   asked_if None args a st = Ended empty_procedure st.out
   asked_if (Some callee) args a st = asked (Some callee) args a st
 
-  abbrev pub argument_layer : Argument-F (Gives Passed) (Gives ℤ) Reaches Continues (Gives ℤ) (Gives Location) → Gives Passed
-  argument_layer (layer.Value t e) a st = then_give (e a st) (λ v st. then_give (as_type a.types t v st) (λ v st. Gave (Number v) st))
+  abbrev pub argument_layer :
+      Argument-F (Gives Passed) (Gives ℤ) Reaches Continues (Gives ℤ) (Gives Location)
+      → Gives Passed
+  argument_layer (layer.Value t e) a st =
+      then_give (e a st) (λ v st. then_give (as_type a.types t v st) (λ v st. Gave (Number v) st))
   argument_layer (layer.Place d) a st = then_give (d a st) (λ l st. Gave (Variable l) st)
-  argument_layer (layer.Array t d) a st = then_give (d a st) (λ l st. Gave (Array l (high_index a.types t)) st)
-  argument_layer (layer.Open slot) a st = Gave (Array (location_of (named a slot)) (high_of (named a slot))) st
+  argument_layer (layer.Array t d) a st =
+      then_give (d a st) (λ l st. Gave (Array l (high_index a.types t)) st)
+  argument_layer (layer.Open slot) a st =
+      Gave (Array (location_of (named a slot)) (high_of (named a slot))) st
   argument_layer (layer.Text text) a st = Gave (Text text) st
 
-  abbrev pub call_layer : Call-F (Gives Passed) (Gives ℤ) Reaches Continues (Gives ℤ) (Gives Location) → Gives ℤ
-  call_layer (layer.Module f args) a st = asked (module_callee p (module_place p f.home) f.number) args a st
-  call_layer (layer.Nested f args) a st = asked (nested_in a.place (slice_get p a.place) (drop f.up a.frames) f.number) args a st
-  call_layer (layer.Variable t d args) a st = then_give (d a st) (λ l st. asked_if (entry_callee p (entry_of p (st.store l))) args a st)
+  abbrev pub call_layer :
+      Call-F (Gives Passed) (Gives ℤ) Reaches Continues (Gives ℤ) (Gives Location) → Gives ℤ
+  call_layer (layer.Module f args) a st =
+      asked (module_callee p (module_place p f.home) f.number) args a st
+  call_layer (layer.Nested f args) a st =
+      asked (nested_in a.place (slice_get p a.place) (drop f.up a.frames) f.number) args a st
+  call_layer (layer.Variable t d args) a st =
+      then_give (d a st) (λ l st. asked_if (entry_callee p (entry_of p (st.store l))) args a st)
 
   abbrev pub root_layer : Root → Around → Location
   root_layer (root.Global v) a = module_place p v.home ∷ v.number ∷ []
@@ -143,12 +156,16 @@ module _ (p : Modules) (ask : Asks) where
   root_layer (root.With k) a = or_root (slice_get a.withs k)
 
   -- left to right: an index is evaluated, and checked, behind what stands before its bracket
-  abbrev pub component_layer : Component-F (Gives Passed) (Gives ℤ) Reaches Continues (Gives ℤ) (Gives Location) → Reaches
+  abbrev pub component_layer :
+      Component-F (Gives Passed) (Gives ℤ) Reaches Continues (Gives ℤ) (Gives Location) → Reaches
   component_layer (layer.Field t k) l a st = Gave (l ++ k ∷ []) st
-  component_layer (layer.Element t i) l a st = then_give (i a st) (λ v st. element_in l (index_range a.types t) v st)
-  component_layer (layer.OpenElement slot t i) l a st = then_give (i a st) (λ v st. element l (pos 0) (pos (high_of (named a slot))) v st)
+  component_layer (layer.Element t i) l a st =
+      then_give (i a st) (λ v st. element_in l (index_range a.types t) v st)
+  component_layer (layer.OpenElement slot t i) l a st =
+      then_give (i a st) (λ v st. element l (pos 0) (pos (high_of (named a slot))) v st)
 
-  abbrev pub place_layer : Place-F (Gives Passed) (Gives ℤ) Reaches Continues (Gives ℤ) (Gives Location) → Gives Location
+  abbrev pub place_layer :
+      Place-F (Gives Passed) (Gives ℤ) Reaches Continues (Gives ℤ) (Gives Location) → Gives Location
   place_layer d a st = one_by_one d.components (root_layer d.root a) a st
 
   abbrev pub unary : Gives ℤ → (ℤ → State → Answer ℤ) → Gives ℤ
@@ -158,23 +175,31 @@ module _ (p : Modules) (ask : Asks) where
   binary e e' f a st = then_give (e a st) (λ x st. then_give (e' a st) (λ y st. f x y st))
 
   -- AND and OR evaluate their second operand only where the first does not decide
-  abbrev pub link_layer : Link-F (Gives Passed) (Gives ℤ) Reaches Continues (Gives ℤ) (Gives Location) → Continues
-  link_layer (layer.Arithmetic o t e) x a st = then_give (e a st) (λ y st. operated a.types o t x y st)
+  abbrev pub link_layer :
+      Link-F (Gives Passed) (Gives ℤ) Reaches Continues (Gives ℤ) (Gives Location) → Continues
+  link_layer (layer.Arithmetic o t e) x a st =
+      then_give (e a st) (λ y st. operated a.types o t x y st)
   link_layer (layer.And e) v a st = if is_true v then e a st else Gave (truth false) st
   link_layer (layer.Or e) v a st = if is_true v then Gave (truth true) st else e a st
   link_layer (layer.Combine o e) x a st = then_give (e a st) (λ y st. Gave (combined o x y) st)
 
-  abbrev pub expr_layer : TypedExpr-F (Gives Passed) (Gives ℤ) Reaches Continues (Gives ℤ) (Gives Location) → Gives ℤ
+  abbrev pub expr_layer :
+      TypedExpr-F (Gives Passed) (Gives ℤ) Reaches Continues (Gives ℤ) (Gives Location) → Gives ℤ
   expr_layer (layer.Constant t n) a st = Gave n st
   expr_layer (layer.Load t d) a st = then_give (d a st) (λ l st. Gave (st.store l) st)
   expr_layer (layer.Procedure f) a st = Gave (procedure_value p f.home f.number) st
   expr_layer (layer.Plus t e) a st = e a st
   expr_layer (layer.Negate e) a st = unary e (λ v st. in_base a.types integer (pos 0 -ℤ v) st) a st
   expr_layer (layer.Chain e links) a st = then_give (e a st) (λ v st. one_by_one links v a st)
-  expr_layer (layer.Compare o e e') a st = binary e e' (λ x y st. Gave (truth (compared o x y)) st) a st
+  expr_layer (layer.Compare o e e') a st =
+      binary e e' (λ x y st. Gave (truth (compared o x y)) st) a st
   expr_layer (layer.Not e) a st = unary e (λ v st. Gave (truth (not (is_true v))) st) a st
-  expr_layer (layer.Include o e e') a st = binary e e' (λ x y st. Gave (truth (included o x y)) st) a st
-  expr_layer (layer.In e e') a st = then_give (e a st) (λ x st. then_give (within (pos 0) (pos 31) range_fault x st) (λ x st. then_give (e' a st) (λ s st. Gave (truth (has s x)) st)))
+  expr_layer (layer.Include o e e') a st =
+      binary e e' (λ x y st. Gave (truth (included o x y)) st) a st
+  expr_layer (layer.In e e') a st =
+      then_give (e a st) (λ x st.
+      then_give (within (pos 0) (pos 31) range_fault x st) (λ x st.
+      then_give (e' a st) (λ s st. Gave (truth (has s x)) st)))
   expr_layer (layer.Abs t e) a st = unary e (λ v st. in_base a.types t (absolute v) st) a st
   expr_layer (layer.Cap e) a st = unary e (λ v st. Gave (capital v) st) a st
   expr_layer (layer.Chr e) a st = unary e (λ v st. within (pos 0) (pos 255) range_fault v st) a st
@@ -185,10 +210,16 @@ module _ (p : Modules) (ask : Asks) where
   expr_layer (layer.Call t c) a st = c a st
 
   unfoldable pub value : TypedExpr → Gives ℤ
-  value = fold-TypedExpr (Gives Passed) (Gives ℤ) Reaches Continues (Gives ℤ) (Gives Location) argument_layer call_layer component_layer link_layer expr_layer place_layer
+  value =
+      fold-TypedExpr (Gives Passed) (Gives ℤ) Reaches Continues (Gives ℤ) (Gives Location)
+      argument_layer call_layer component_layer link_layer expr_layer place_layer
 
   unfoldable pub locate : Place → Gives Location
-  locate = fold-Place (Gives Passed) (Gives ℤ) Reaches Continues (Gives ℤ) (Gives Location) argument_layer call_layer component_layer link_layer expr_layer place_layer
+  locate =
+      fold-Place (Gives Passed) (Gives ℤ) Reaches Continues (Gives ℤ) (Gives Location)
+      argument_layer call_layer component_layer link_layer expr_layer place_layer
 
   unfoldable pub called : Call → Gives ℤ
-  called = fold-Call (Gives Passed) (Gives ℤ) Reaches Continues (Gives ℤ) (Gives Location) argument_layer call_layer component_layer link_layer expr_layer place_layer
+  called =
+      fold-Call (Gives Passed) (Gives ℤ) Reaches Continues (Gives ℤ) (Gives Location) argument_layer
+      call_layer component_layer link_layer expr_layer place_layer

@@ -18,8 +18,12 @@ pub record Begins (xs ys : List ℕ) : Type 0 where
 
 -- a run that ended with a bound ends alike with every greater one
 abbrev pub EndsAlike : Type 0
-EndsAlike = (p : Modules) (pages n m k : ℕ) (out : List ℕ) → n ≤ m → run p pages n ≡ Stopped k out → run p pages m ≡ Stopped k out
+EndsAlike =
+    (p : Modules) (pages n m k : ℕ) (out : List ℕ) → n ≤ m → run p pages n ≡ Stopped k out
+    → run p pages m ≡ Stopped k out
 
 -- what is printed with a bound is a beginning of what is printed with every greater one
 abbrev pub PrintsOn : Type 0
-PrintsOn = (p : Modules) (pages n m : ℕ) → n ≤ m → Begins (printed (run p pages n)) (printed (run p pages m))
+PrintsOn =
+    (p : Modules) (pages n m : ℕ) → n ≤ m
+    → Begins (printed (run p pages n)) (printed (run p pages m))

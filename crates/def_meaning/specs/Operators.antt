@@ -1,4 +1,5 @@
--- What operators and standard functions make of numbers. TRUE is 1 and FALSE 0; in a set, element k is there where bit k is 1.
+-- What operators and standard functions make of numbers. TRUE is 1 and FALSE 0; in a set, element k
+-- is there where bit k is 1.
 use Rattle.std.specs.Prelude.{ℕ, ◌/◌, ◌%◌, ◌^◌, ◌==◌, ℤ, pos, ◌-ℤ◌, Bool, true, false, not, ◌&&◌, int_le, int_lt, bit_and, bit_or, bit_xor, unsigned_abs, if◌then◌else◌}
 use Rattle.std.specs.Int.{int_div_euclid, int_rem_euclid}
 use Rattle.typed_tree.specs.declared.computed.Comparison.{Comparison}

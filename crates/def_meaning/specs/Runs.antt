@@ -29,9 +29,17 @@ body_frame = size (frame_of [])
 abbrev pub first_state : Modules → State
 first_state p = record { store = fresh (row (map module_row p)); out = [] }
 
--- what stands around the body of a module. The instance behind those of the modules is the body's frame.
+-- what stands around the body of a module. The instance behind those of the modules is the body's
+-- frame.
 abbrev pub around_body : Modules → (place : ℕ) → TypedModule → (left : ℕ) → Around
-around_body p place m left = record { place = place; types = m.types; frames = []; withs = []; next = suc (length p); left = left }
+around_body p place m left = record {
+  place = place;
+  types = m.types;
+  frames = [];
+  withs = [];
+  next = suc (length p);
+  left = left;
+}
 
 -- a body that comes to its end or returns is followed by the next
 abbrev pub then_body : Outcome → (State → Outcome) → Outcome
@@ -44,8 +52,11 @@ then_body (Unfinished out) next = Unfinished out
 -- after the last body the end is 0
 abbrev pub bodies : Modules → (n left place : ℕ) → Modules → State → Outcome
 bodies p n left place [] st = Stopped 0 st.out
-bodies p n left place (m ∷ ms) st = then_body (body_does p n (calling p n n) m.body (around_body p place m left) st) (bodies p n left (suc place) ms)
+bodies p n left place (m ∷ ms) st =
+    then_body (body_does p n (calling p n n) m.body (around_body p place m left) st)
+    (bodies p n left (suc place) ms)
 
--- The run of a program with the bound n: each loop makes at most n turns, and calls nest at most n deep.
+-- The run of a program with the bound n: each loop makes at most n turns, and calls nest at most n
+-- deep.
 unfoldable pub run : Modules → (pages n : ℕ) → Outcome
 run p pages n = bodies p n (storage p pages - body_frame) 0 p (first_state p)

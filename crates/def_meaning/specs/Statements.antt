@@ -63,32 +63,44 @@ looped (suc n) body st = loop_left (body st) (looped n body)
 -- WHILE: the condition is evaluated before each turn
 abbrev pub while_true : ℕ → (State → Answer ℤ) → (State → Outcome) → State → Outcome
 while_true zero test body st = Unfinished st.out
-while_true (suc n) test body st = with_answer (test st) (λ v st. if is_true v then then_go (body st) (while_true n test body) else Went st)
+while_true (suc n) test body st =
+    with_answer (test st) (λ v st.
+    if is_true v then then_go (body st) (while_true n test body) else Went st)
 
 -- REPEAT: and behind each turn
 abbrev pub until_true : ℕ → (State → Outcome) → (State → Answer ℤ) → State → Outcome
 until_true zero body test st = Unfinished st.out
-until_true (suc n) body test st = then_go (body st) (λ st. with_answer (test st) (λ v st. if is_true v then Went st else until_true n body test st))
+until_true (suc n) body test st =
+    then_go (body st) (λ st.
+    with_answer (test st) (λ v st. if is_true v then Went st else until_true n body test st))
 
 -- FOR: whether a number has passed the limit
 abbrev pub has_passed : (by limit v : ℤ) → Bool
 has_passed by limit v = if int_lt by (pos 0) then int_lt v limit else int_lt limit v
 
 -- after a turn the variable steps on, where that does not pass the limit
-abbrev pub for_turns : ℕ → (check : ℤ → State → Answer ℤ) → Location → (by limit : ℤ) → (State → Outcome) → State → Outcome
+abbrev pub for_turns : ℕ → (check : ℤ → State → Answer ℤ) → Location → (by limit : ℤ)
+    → (State → Outcome) → State → Outcome
 for_turns zero check l by limit body st = Unfinished st.out
 for_turns (suc n) check l by limit body st =
-    then_go (body st) (λ st. if has_passed by limit (st.store l +ℤ by) then Went st else with_answer (check (st.store l +ℤ by) st) (λ v st. for_turns n check l by limit body (stored l v st)))
+    then_go (body st) (λ st.
+    if has_passed by limit (st.store l +ℤ by)
+    then Went st
+    else with_answer (check (st.store l +ℤ by) st) (λ v st.
+    for_turns n check l by limit body (stored l v st)))
 
-abbrev pub for_all : ℕ → (check : ℤ → State → Answer ℤ) → Location → (by limit : ℤ) → (State → Outcome) → State → Outcome
-for_all n check l by limit body st = if has_passed by limit (st.store l) then Went st else for_turns n check l by limit body st
+abbrev pub for_all : ℕ → (check : ℤ → State → Answer ℤ) → Location → (by limit : ℤ)
+    → (State → Outcome) → State → Outcome
+for_all n check l by limit body st =
+    if has_passed by limit (st.store l) then Went st else for_turns n check l by limit body st
 
 -- ---- CASE
 
 abbrev pub is_labelled : ℤ → Label → Bool
 is_labelled v x = is_between x.low v x.high
 
--- the first arm with a label for the value, or else what stands behind ELSE, without which there is a fault
+-- the first arm with a label for the value, or else what stands behind ELSE, without which there is
+-- a fault
 abbrev pub or_else : Option (List Does) → Does
 or_else None a st = Stopped case_fault st.out
 or_else (Some ds) a st = in_turn ds a st
@@ -100,7 +112,8 @@ pub record Arm : Type 0 where
 
 abbrev pub chosen : ℤ → List Arm → Does → Does
 chosen v [] otherwise = otherwise
-chosen v (x ∷ xs) otherwise = if list_any (is_labelled v) x.labels then x.does else chosen v xs otherwise
+chosen v (x ∷ xs) otherwise =
+    if list_any (is_labelled v) x.labels then x.does else chosen v xs otherwise
 
 -- ---- INC, DEC, INCL, EXCL
 
@@ -114,7 +127,8 @@ changed change.Decrease x by = x -ℤ by
 
 -- the result is one of the base type, and then one of the variable's
 abbrev pub rechecked : Types → TypeNo → ℤ → State → Answer ℤ
-rechecked types t v st = then_give (in_base types (base_of t (scalar_at types t)) v st) (as_type types t)
+rechecked types t v st =
+    then_give (in_base types (base_of t (scalar_at types t)) v st) (as_type types t)
 
 abbrev pub with_element : Membership → ℤ → ℤ → ℤ
 with_element member.Include s x = pos (bit_or (bits s) (single x))
@@ -125,32 +139,56 @@ with_element member.Exclude s x = pos (without (bits s) (single x))
 module _ (p : Modules) (ask : Asks) (n : ℕ) where
   abbrev pub step_layer : TypedStmt-F Does Arm → Does
   step_layer (step.Assign d t e) a st =
-      with_answer (locate p ask d a st) (λ l st. with_answer (value p ask e a st) (λ v st. with_answer (as_type a.types t v st) (λ v st. Went (stored l v st))))
+      with_answer (locate p ask d a st) (λ l st.
+      with_answer (value p ask e a st) (λ v st.
+      with_answer (as_type a.types t v st) (λ v st. Went (stored l v st))))
   step_layer (step.Copy to from t) a st =
-      with_answer (locate p ask to a st) (λ l st. with_answer (locate p ask from a st) (λ l' st. Went (record st { store = copied l l' st.store })))
-  step_layer (step.CopyText d t text) a st = with_answer (locate p ask d a st) (λ l st. Went (record st { store = placed l (character text) st.store }))
+      with_answer (locate p ask to a st) (λ l st.
+      with_answer (locate p ask from a st) (λ l' st.
+      Went (record st { store = copied l l' st.store })))
+  step_layer (step.CopyText d t text) a st =
+      with_answer (locate p ask d a st) (λ l st.
+      Went (record st { store = placed l (character text) st.store }))
   step_layer (step.Call c) a st = with_answer (called p ask c a st) (λ v st. Went st)
   step_layer (step.Put e) a st =
-      with_answer (value p ask e a st) (λ v st. with_answer (as_type a.types char v st) (λ v st. Went (record st { out = st.out ++ unsigned_abs v ∷ [] })))
+      with_answer (value p ask e a st) (λ v st.
+      with_answer (as_type a.types char v st) (λ v st.
+      Went (record st { out = st.out ++ unsigned_abs v ∷ [] })))
   step_layer (step.Change o d t e) a st =
-      with_answer (locate p ask d a st) (λ l st. with_answer (value p ask e a st) (λ by st. with_answer (rechecked a.types t (changed o (st.store l) by) st) (λ v st. Went (stored l v st))))
+      with_answer (locate p ask d a st) (λ l st.
+      with_answer (value p ask e a st) (λ by st.
+      with_answer (rechecked a.types t (changed o (st.store l) by) st) (λ v st.
+      Went (stored l v st))))
   step_layer (step.Membership o d e) a st =
-      with_answer (locate p ask d a st) (λ l st. with_answer (value p ask e a st) (λ x st. with_answer (within (pos 0) (pos 31) range_fault x st) (λ x st. Went (stored l (with_element o (st.store l) x) st))))
+      with_answer (locate p ask d a st) (λ l st.
+      with_answer (value p ask e a st) (λ x st.
+      with_answer (within (pos 0) (pos 31) range_fault x st) (λ x st.
+      Went (stored l (with_element o (st.store l) x) st))))
   step_layer step.Halt a st = Stopped halted st.out
-  step_layer (step.If e body others) a st = with_answer (value p ask e a st) (λ v st. if is_true v then in_turn body a st else if_there others a st)
-  step_layer (step.Case e arms others) a st = with_answer (value p ask e a st) (λ v st. chosen v arms (or_else others) a st)
+  step_layer (step.If e body others) a st =
+      with_answer (value p ask e a st) (λ v st.
+      if is_true v then in_turn body a st else if_there others a st)
+  step_layer (step.Case e arms others) a st =
+      with_answer (value p ask e a st) (λ v st. chosen v arms (or_else others) a st)
   step_layer (step.While e body) a st = while_true n (value p ask e a) (in_turn body a) st
   step_layer (step.Repeat body e) a st = until_true n (in_turn body a) (value p ask e a) st
   step_layer (step.Loop body) a st = looped n (in_turn body a) st
   step_layer step.Exit a st = Left st
   step_layer step.Return a st = Came (pos 0) st
-  step_layer (step.Give t e) a st = with_answer (value p ask e a st) (λ v st. with_answer (as_type a.types t v st) (λ v st. Came v st))
+  step_layer (step.Give t e) a st =
+      with_answer (value p ask e a st) (λ v st.
+      with_answer (as_type a.types t v st) (λ v st. Came v st))
   -- the start, the limit, and then the assignment
   step_layer (step.For d t start limit by body) a st =
-      with_answer (locate p ask d a st) (λ l st. with_answer (value p ask start a st) (λ v st. with_answer (as_type a.types t v st) (λ v st. with_answer (value p ask limit a st) (λ last st.
+      with_answer (locate p ask d a st) (λ l st.
+      with_answer (value p ask start a st) (λ v st.
+      with_answer (as_type a.types t v st) (λ v st.
+      with_answer (value p ask limit a st) (λ last st.
       for_all n (as_type a.types t) l by last (in_turn body a) (stored l v st)))))
   -- the record is found once
-  step_layer (step.With d body) a st = with_answer (locate p ask d a st) (λ l st. in_turn body (record a { withs = a.withs ++ l ∷ [] }) st)
+  step_layer (step.With d body) a st =
+      with_answer (locate p ask d a st) (λ l st.
+      in_turn body (record a { withs = a.withs ++ l ∷ [] }) st)
 
   abbrev pub arm_layer : TypedArm-F Does Arm → Arm
   arm_layer x = record { labels = x.labels; does = in_turn x.body }

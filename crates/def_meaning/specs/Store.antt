@@ -2,8 +2,8 @@
 use Rattle.std.specs.Prelude.{ℕ, nat_eq, ℤ, pos, List, [], ◌∷◌, ◌++◌, Option, Some, None, if◌then◌else◌}
 use Rattle.m2_layout.specs.Types.{Ty, Cell, component, first}
 
--- a location: the number of an instance (a module's variables, an activation's, or the copy of an open array), and then
--- the numbers of the variable and of its components
+-- a location: the number of an instance (a module's variables, an activation's, or the copy of an
+-- open array), and then the numbers of the variable and of its components
 abbrev pub Location : Type 0
 Location = List ℕ
 

@@ -1,4 +1,5 @@
--- How many addresses the code of a body keeps in locals: one for each WITH, INC, DEC, INCL, EXCL, and string that is assigned.
+-- How many addresses the code of a body keeps in locals: one for each WITH, INC, DEC, INCL, EXCL,
+-- and string that is assigned.
 use Rattle.std.specs.Prelude.{ℕ, suc, ◌+◌, List, [], ◌∷◌, map, Option, Some, None}
 use Rattle.typed_tree.specs.declared.statement.TypedStmt.{TypedStmt, TypedStmt-F, fold-TypedStmt}
 use Rattle.typed_tree.specs.declared.statement.TypedStmt.TheOpen as step

@@ -54,7 +54,9 @@ abbrev pub load_scalar : Scalar → List Instr
 load_scalar c = Load (load_of c) ∷ unless_nought (lower c) (number (lower c) ∷ operation Add ∷ [])
 
 abbrev pub store_scalar : Scalar → List Instr
-store_scalar c = unless_nought (lower c) (number (lower c) ∷ operation Sub ∷ []) ++ Store (width_room (room_of c)) ∷ []
+store_scalar c =
+    unless_nought (lower c) (number (lower c) ∷ operation Sub ∷ [])
+    ++ Store (width_room (room_of c)) ∷ []
 
 abbrev pub load_tree : Ty → List Instr
 load_tree (Cell c) = load_scalar c
@@ -100,13 +102,18 @@ base_of types t = base_in t (scalar_at types t)
 abbrev pub is_subrange : Types → TypeNo → Bool
 is_subrange types t = not (are_same (base_of types t) t)
 
--- a value of a type that is taken as one of another needs no check where the types agree, or where the other is the first one's base
+-- a value of a type that is taken as one of another needs no check where the types agree, or where
+-- the other is the first one's base
 abbrev pub is_free : Types → TypeNo → (constant : Bool) → (of : TypeNo) → Bool
-is_free types t constant of = constant || (are_same t of || (not (is_subrange types t) && are_same t (base_of types of)))
+is_free types t constant of =
+    constant || (are_same t of || (not (is_subrange types t) && are_same t (base_of types of)))
 
 abbrev pub check_taken : Types → TypeNo → (constant : Bool) → (of : TypeNo) → List Instr
-check_taken types t constant of = if is_free types t constant of then [] else in_type types t range_fault
+check_taken types t constant of =
+    if is_free types t constant of then [] else in_type types t range_fault
 
 -- INC and DEC check their result in the base, and in a subrange
 abbrev pub check_changed : Types → TypeNo → List Instr
-check_changed types t = in_type types (base_of types t) overflow ++ (if is_subrange types t then in_type types t range_fault else [])
+check_changed types t =
+    in_type types (base_of types t) overflow
+    ++ (if is_subrange types t then in_type types t range_fault else [])

@@ -46,9 +46,11 @@ all_coded (x ∷ xs) = x ⨾ all_coded xs
 
 -- code inside so many more blocks
 abbrev pub within : (labels : ℕ) → (List Instr → List Instr) → Coded → Coded
-within labels wrap x s c = let inner = x (record s { exit = s.exit + labels }) c in (wrap inner.0, inner.1)
+within labels wrap x s c =
+    let inner = x (record s { exit = s.exit + labels }) c in (wrap inner.0, inner.1)
 
--- ---- locals: the stack's top and an address of a copy stand before those for addresses, and those for numbers behind them
+-- ---- locals: the stack's top and an address of a copy stand before those for addresses, and those
+-- for numbers behind them
 
 abbrev pub top_local : Setting → ℕ
 top_local s = s.arguments

@@ -1,5 +1,5 @@
--- The code of expressions, designators, calls and arguments. The code of a designator leaves an address of 32 bits, that of
--- an expression a number of 64 bits.
+-- The code of expressions, designators, calls and arguments. The code of a designator leaves an
+-- address of 32 bits, that of an expression a number of 64 bits.
 use Rattle.std.specs.Prelude.{ℕ, zero, suc, ◌+◌, ◌-◌, ◌*◌, ◌==◌, nat_lt, ℤ, pos, Bool, true, false, not, ◌&&◌, ◌||◌, List, [], ◌∷◌, ◌++◌, map, length, Option, Some, None, slice_get, if◌then◌else◌}
 use Rattle.std.specs.List.{fold, position, list_any, sum}
 use Rattle.std.specs.Option.{unwrap_or}
@@ -52,7 +52,8 @@ use Rattle.def_meaning.specs.Answer.{empty_procedure, index_fault, overflow, ran
 use Rattle.def_scheme.specs.Coded.{Coded, Setting, plain, ◌⨾◌, nothing, all_coded, within, with_address, with_number, with_text, with_setting, top_local, number, raised, relation, operation, wrapped, extended, is_zero, put, copy, check, quotient, remainder, body_index, checked}
 use Rattle.def_scheme.specs.Cells.{loaded, load_scalar, word, in_range, in_type, base_of, check_taken, is_nought, unless_nought}
 
--- ---- other modules: the globals of the place of its variables and of its slots stand behind those of the module itself
+-- ---- other modules: the globals of the place of its variables and of its slots stand behind those
+-- of the module itself
 
 abbrev pub import_place : TypedModule → (home : ℕ) → ℕ
 import_place m home = unwrap_or (position (λ i. i.number == home) m.imports) 0
@@ -75,7 +76,10 @@ imported_row types (Some i) = row (map (tree types) i.variables)
 
 -- the variables of a module, as far as this one knows them
 abbrev pub variables_row : TypedModule → (home : ℕ) → Ty
-variables_row m home = if is_own m home then module_row m else imported_row m.types (slice_get m.imports (import_place m home))
+variables_row m home =
+    if is_own m home
+    then module_row m
+    else imported_row m.types (slice_get m.imports (import_place m home))
 
 -- ---- types of functions: so many numbers, and whether there is a result
 
@@ -145,10 +149,14 @@ from_lower None = []
 from_lower (Some s) = unless_nought s.low (number s.low ∷ operation Sub ∷ [])
 
 abbrev pub element_code : Types → TypeNo → List Instr
-element_code types t = in_range (index_of types t) index_fault ++ (from_lower (index_of types t) ++ scaled (size (element_tree (tree types t))))
+element_code types t =
+    in_range (index_of types t) index_fault ++ (from_lower (index_of types t)
+    ++ scaled (size (element_tree (tree types t))))
 
 abbrev pub open_element_code : Setting → Slot → TypeNo → List Instr
-open_element_code s slot t = I64Const 0 ∷ (high_code s slot ++ (I64Const 3 ∷ Call check ∷ scaled (size (tree s.home.types t))))
+open_element_code s slot t =
+    I64Const 0 ∷ (high_code s slot ++ (I64Const 3 ∷ Call check
+    ∷ scaled (size (tree s.home.types t))))
 
 -- ---- expressions
 
@@ -204,21 +212,28 @@ abbrev pub or_code : Coded → Coded
 or_code y = plain (wrapped ∷ []) ⨾ within 1 (λ code. chosen_number (I64Const 1 ∷ []) code ∷ []) y
 
 abbrev pub in_code : Coded → Coded → Coded
-in_code x y = x ⨾ plain (checked (pos 0) (pos 31) range_fault) ⨾ with_number (λ t. plain (LocalSet t ∷ []) ⨾ y ⨾ plain (LocalGet t ∷ operation ShrU ∷ I64Const 1 ∷ operation And ∷ []))
+in_code x y =
+    x ⨾ plain (checked (pos 0) (pos 31) range_fault) ⨾ with_number (λ t.
+    plain (LocalSet t ∷ []) ⨾ y
+    ⨾ plain (LocalGet t ∷ operation ShrU ∷ I64Const 1 ∷ operation And ∷ []))
 
 abbrev pub absolute_code : ℕ → List Instr
 absolute_code t =
-    LocalSet t ∷ LocalGet t ∷ I64Const 0 ∷ relation LtS ∷ chosen_number (I64Const 0 ∷ LocalGet t ∷ operation Sub ∷ []) (LocalGet t ∷ []) ∷ checked (pos 0) (pos 2147483647) overflow
+    LocalSet t ∷ LocalGet t ∷ I64Const 0 ∷ relation LtS
+    ∷ chosen_number (I64Const 0 ∷ LocalGet t ∷ operation Sub ∷ []) (LocalGet t ∷ [])
+    ∷ checked (pos 0) (pos 2147483647) overflow
 
 abbrev pub abs_code : TypeNo → Coded → Coded
 abs_code t x = if are_same t integer then x ⨾ with_number (λ n. plain (absolute_code n)) else x
 
 abbrev pub capital_code : ℕ → List Instr
 capital_code t =
-    LocalSet t ∷ LocalGet t ∷ I64Const 97 ∷ operation Sub ∷ I64Const 25 ∷ relation LeU ∷ chosen_number (LocalGet t ∷ I64Const 32 ∷ operation Sub ∷ []) (LocalGet t ∷ []) ∷ []
+    LocalSet t ∷ LocalGet t ∷ I64Const 97 ∷ operation Sub ∷ I64Const 25 ∷ relation LeU
+    ∷ chosen_number (LocalGet t ∷ I64Const 32 ∷ operation Sub ∷ []) (LocalGet t ∷ []) ∷ []
 
 abbrev pub ord_check : Types → TypeNo → List Instr
-ord_check types t = if are_same (base_of types t) integer then checked (pos 0) (pos 2147483647) range_fault else []
+ord_check types t =
+    if are_same (base_of types t) integer then checked (pos 0) (pos 2147483647) range_fault else []
 
 -- the base type of a result is checked with that of its operands
 abbrev pub behind : Coded → (Types → List Instr) → Coded
@@ -232,7 +247,8 @@ abbrev pub slot_number : Procedure → ℕ
 slot_number f = suc f.number
 
 abbrev pub procedure_code : TypedModule → Procedure → List Instr
-procedure_code m f = GlobalGet (slots_global m f.home) ∷ extended ∷ I64Const (slot_number f) ∷ operation Add ∷ []
+procedure_code m f =
+    GlobalGet (slots_global m f.home) ∷ extended ∷ I64Const (slot_number f) ∷ operation Add ∷ []
 
 abbrev pub loaded_from : Coded → TypeNo → Coded
 loaded_from d t = behind d (λ types. loaded types t)
@@ -263,11 +279,15 @@ chain_code (l ∷ ls) = l.code ⨾ chain_code ls
 abbrev pub expr_layer : TypedExpr-F Coded Coded Coded Linked Part Coded → Part
 expr_layer (layer.Constant t n) = record { of = t; constant = true; code = plain (number n ∷ []) }
 expr_layer (layer.Load t d) = computed t (loaded_from d t)
-expr_layer (layer.Procedure f) = computed f.heading (with_setting (λ s. plain (procedure_code s.home f)))
+expr_layer (layer.Procedure f) =
+    computed f.heading (with_setting (λ s. plain (procedure_code s.home f)))
 expr_layer (layer.Plus t e) = computed t e.code
-expr_layer (layer.Negate e) = computed integer (plain (I64Const 0 ∷ []) ⨾ behind e.code (λ types. operation Sub ∷ in_type types integer overflow))
+expr_layer (layer.Negate e) =
+    computed integer (plain (I64Const 0 ∷ [])
+    ⨾ behind e.code (λ types. operation Sub ∷ in_type types integer overflow))
 expr_layer (layer.Chain e links) = computed (chain_type e.of links) (e.code ⨾ chain_code links)
-expr_layer (layer.Compare o a b) = computed boolean (two a.code b.code (relation (relation_of o) ∷ extended ∷ []))
+expr_layer (layer.Compare o a b) =
+    computed boolean (two a.code b.code (relation (relation_of o) ∷ extended ∷ []))
 expr_layer (layer.Not e) = computed boolean (e.code ⨾ plain empty_code)
 expr_layer (layer.Include o a b) = computed boolean (include_code o a.code b.code)
 expr_layer (layer.In a b) = computed boolean (in_code a.code b.code)
@@ -283,7 +303,8 @@ expr_layer (layer.Call t c) = computed t c
 -- ---- designators
 
 abbrev pub global_code : TypedModule → Variable → List Instr
-global_code m v = GlobalGet (base_global m v.home) ∷ raised (offset (variables_row m v.home) (v.number ∷ []))
+global_code m v =
+    GlobalGet (base_global m v.home) ∷ raised (offset (variables_row m v.home) (v.number ∷ []))
 
 abbrev pub with_code : Option ℕ → List Instr
 with_code None = []
@@ -298,9 +319,11 @@ root_layer (root.With k) = with_setting (λ s. plain (with_code (slice_get s.wit
 
 -- the code of a component stands behind that of what it is a component of
 abbrev pub component_layer : Component-F Coded Coded Coded Linked Part Coded → Coded
-component_layer (layer.Field t k) = with_setting (λ s. plain (raised (offset (tree s.home.types t) (k ∷ []))))
+component_layer (layer.Field t k) =
+    with_setting (λ s. plain (raised (offset (tree s.home.types t) (k ∷ []))))
 component_layer (layer.Element t i) = behind i.code (λ types. element_code types t)
-component_layer (layer.OpenElement slot t i) = i.code ⨾ with_setting (λ s. plain (open_element_code s slot t))
+component_layer (layer.OpenElement slot t i) =
+    i.code ⨾ with_setting (λ s. plain (open_element_code s slot t))
 
 abbrev pub place_layer : Place-F Coded Coded Coded Linked Part Coded → Coded
 place_layer d = root_layer d.root ⨾ all_coded d.components
@@ -314,18 +337,22 @@ abbrev pub high_index : Types → TypeNo → ℕ
 high_index types t = elements_of (index_of types t) - 1
 
 abbrev pub passed_text : List ℕ → Coded
-passed_text text = with_text (length text) (λ at. plain (text_code at ++ (extended ∷ I64Const (length text - 1) ∷ [])))
+passed_text text =
+    with_text (length text) (λ at.
+    plain (text_code at ++ (extended ∷ I64Const (length text - 1) ∷ [])))
 
 abbrev pub argument_layer : Argument-F Coded Coded Coded Linked Part Coded → Coded
 argument_layer (layer.Value t e) = behind e.code (λ types. check_taken types t e.constant e.of)
 argument_layer (layer.Place d) = d ⨾ plain (extended ∷ [])
 argument_layer (layer.Array t d) = behind d (λ types. extended ∷ I64Const (high_index types t) ∷ [])
-argument_layer (layer.Open slot) = with_setting (λ s. plain (open_address s slot ++ (extended ∷ high_code s slot)))
+argument_layer (layer.Open slot) =
+    with_setting (λ s. plain (open_address s slot ++ (extended ∷ high_code s slot)))
 argument_layer (layer.Text text) = passed_text (passed text)
 
 -- ---- calls
 
--- the types of functions that are called through the table, or stand in the module: given where they are numbered
+-- the types of functions that are called through the table, or stand in the module: given where
+-- they are numbered
 abbrev pub Numbered : Type 0
 Numbered = (arguments : ℕ) → (result : Bool) → ℕ
 
@@ -353,12 +380,15 @@ has_result types heading = result_made (made_at types heading)
 
 module _ (numbered : Numbered) where
   abbrev pub indirect : Types → TypeNo → Instr
-  indirect types heading = CallIndirect (numbered (all_arguments (formals_of types heading)) (has_result types heading))
+  indirect types heading =
+      CallIndirect (numbered (all_arguments (formals_of types heading)) (has_result types heading))
 
   abbrev pub module_call : TypedModule → Procedure → List Instr
   module_call m f =
-      if is_own m f.home then Call (suc body_index + f.number) ∷ []
-      else (GlobalGet (slots_global m f.home) ∷ (raised (slot_number f) ++ indirect m.types f.heading ∷ []))
+      if is_own m f.home
+      then Call (suc body_index + f.number) ∷ []
+      else (GlobalGet (slots_global m f.home) ∷ (raised (slot_number f)
+      ++ indirect m.types f.heading ∷ []))
 
   -- the link of the procedure around it
   abbrev pub link_code : (up : ℕ) → List Instr
@@ -368,19 +398,30 @@ module _ (numbered : Numbered) where
   nested_call m f = Call (suc body_index + (length m.procedures + f.number)) ∷ []
 
   abbrev pub value_call : ℕ → TypeNo → Coded
-  value_call t heading = with_setting (λ s. plain (LocalGet t ∷ wrapped ∷ indirect s.home.types heading ∷ []))
+  value_call t heading =
+      with_setting (λ s. plain (LocalGet t ∷ wrapped ∷ indirect s.home.types heading ∷ []))
 
   abbrev pub call_layer : Call-F Coded Coded Coded Linked Part Coded → Coded
-  call_layer (layer.Module f args) = top_code ⨾ all_coded args ⨾ with_setting (λ s. plain (module_call s.home f))
-  call_layer (layer.Nested f args) = top_code ⨾ plain (link_code f.up) ⨾ all_coded args ⨾ with_setting (λ s. plain (nested_call s.home f))
+  call_layer (layer.Module f args) =
+      top_code ⨾ all_coded args ⨾ with_setting (λ s. plain (module_call s.home f))
+  call_layer (layer.Nested f args) =
+      top_code ⨾ plain (link_code f.up) ⨾ all_coded args
+      ⨾ with_setting (λ s. plain (nested_call s.home f))
   call_layer (layer.Variable t d args) =
-      loaded_from d t ⨾ plain (checked (pos 1) (pos 4294967295) empty_procedure) ⨾ with_number (λ n. plain (LocalSet n ∷ []) ⨾ top_code ⨾ all_coded args ⨾ value_call n t)
+      loaded_from d t ⨾ plain (checked (pos 1) (pos 4294967295) empty_procedure)
+      ⨾ with_number (λ n. plain (LocalSet n ∷ []) ⨾ top_code ⨾ all_coded args ⨾ value_call n t)
 
   unfoldable pub expr_part : TypedExpr → Part
-  expr_part = fold-TypedExpr Coded Coded Coded Linked Part Coded argument_layer call_layer component_layer link_layer expr_layer place_layer
+  expr_part =
+      fold-TypedExpr Coded Coded Coded Linked Part Coded argument_layer call_layer component_layer
+      link_layer expr_layer place_layer
 
   unfoldable pub place_code : Place → Coded
-  place_code = fold-Place Coded Coded Coded Linked Part Coded argument_layer call_layer component_layer link_layer expr_layer place_layer
+  place_code =
+      fold-Place Coded Coded Coded Linked Part Coded argument_layer call_layer component_layer
+      link_layer expr_layer place_layer
 
   unfoldable pub call_code : Calls → Coded
-  call_code = fold-Call Coded Coded Coded Linked Part Coded argument_layer call_layer component_layer link_layer expr_layer place_layer
+  call_code =
+      fold-Call Coded Coded Coded Linked Part Coded argument_layer call_layer component_layer
+      link_layer expr_layer place_layer

@@ -49,7 +49,8 @@ around_in (Some r) = r.around
 -- there are no more of them than the level says
 abbrev pub frames_around : TypedModule → (level : ℕ) → Option Which → List Ty
 frames_around m zero w = []
-frames_around m (suc k) w = own_frame m (routine_at m w) ++ frames_around m k (around_in (routine_at m w))
+frames_around m (suc k) w =
+    own_frame m (routine_at m w) ++ frames_around m k (around_in (routine_at m w))
 
 -- ---- arguments: the frame's address, the link of a nested procedure, and the formals
 
@@ -64,11 +65,13 @@ numbers_of types r = link_arguments r + all_arguments (formals_of types r.headin
 
 -- the run ends with 8 where the stack's top is past the limit
 abbrev pub limit_check : List Instr
-limit_check = GlobalGet 0 ∷ Numeric (numeric.I32Relation GtU) ∷ If None (fault storage_fault) None ∷ []
+limit_check =
+    GlobalGet 0 ∷ Numeric (numeric.I32Relation GtU) ∷ If None (fault storage_fault) None ∷ []
 
 abbrev pub enter_code : (top : ℕ) → (bytes : ℕ) → List Instr
 enter_code top bytes =
-    LocalGet 0 ∷ (raised bytes ++ (LocalTee top ∷ (limit_check ++ (LocalGet 0 ∷ I32Const bytes ∷ Call fill ∷ []))))
+    LocalGet 0 ∷ (raised bytes ++ (LocalTee top ∷ (limit_check ++ (LocalGet 0 ∷ I32Const bytes
+    ∷ Call fill ∷ []))))
 
 abbrev pub link_kept : Routine → List Instr
 link_kept r = if nat_lt 1 r.level then LocalGet 0 ∷ LocalGet 1 ∷ Store width.Eight ∷ [] else []
@@ -83,44 +86,68 @@ word_kept f v path value = formal_address f v path ++ (value ++ store_scalar wor
 -- a scalar is stored, and an array or a record copied
 abbrev pub value_kept : Ty → (v x : ℕ) → Ty → List Instr
 value_kept f v x (Cell c) = formal_address f v [] ++ (LocalGet x ∷ store_scalar c)
-value_kept f v x t = formal_address f v [] ++ (LocalGet x ∷ wrapped ∷ I32Const (size t) ∷ Call copy ∷ [])
+value_kept f v x t =
+    formal_address f v [] ++ (LocalGet x ∷ wrapped ∷ I32Const (size t) ∷ Call copy ∷ [])
 
 abbrev pub bytes_code : (h : ℕ) → (element : ℕ) → List Instr
-bytes_code h element = LocalGet h ∷ I64Const 1 ∷ operation Add ∷ I64Const element ∷ operation Mul ∷ wrapped ∷ []
+bytes_code h element =
+    LocalGet h ∷ I64Const 1 ∷ operation Add ∷ I64Const element ∷ operation Mul ∷ wrapped ∷ []
 
 -- the copy of an open array stands behind the frame, and behind the copies before it
 abbrev pub open_copied : (top p : ℕ) → Ty → (v x element : ℕ) → List Instr
 open_copied top p f v x element =
-    LocalGet top ∷ LocalSet p ∷ LocalGet top ∷ (bytes_code (suc x) element ++ (Numeric numeric.I32Add ∷ LocalTee top ∷ (limit_check
-    ++ (LocalGet p ∷ LocalGet x ∷ wrapped ∷ (bytes_code (suc x) element ++ (Call copy ∷ (word_kept f v (0 ∷ []) (LocalGet p ∷ extended ∷ []) ++ word_kept f v (1 ∷ []) (LocalGet (suc x) ∷ []))))))))
+    LocalGet top ∷ LocalSet p ∷ LocalGet top ∷ (bytes_code (suc x) element
+    ++ (Numeric numeric.I32Add ∷ LocalTee top ∷ (limit_check ++ (LocalGet p ∷ LocalGet x ∷ wrapped
+    ∷ (bytes_code (suc x) element ++ (Call copy
+    ∷ (word_kept f v (0 ∷ []) (LocalGet p ∷ extended ∷ [])
+    ++ word_kept f v (1 ∷ []) (LocalGet (suc x) ∷ []))))))))
 
 abbrev pub formal_kept : Types → (top p : ℕ) → Ty → (v x : ℕ) → Formal → List Instr
 formal_kept types top p f v x a =
     if a.is_open
-    then (if a.is_var then word_kept f v (0 ∷ []) (LocalGet x ∷ []) ++ word_kept f v (1 ∷ []) (LocalGet (suc x) ∷ []) else open_copied top p f v x (size (tree types a.of)))
-    else (if a.is_var then word_kept f v [] (LocalGet x ∷ []) else value_kept f v x (tree types a.of))
+    then (if a.is_var
+    then word_kept f v (0 ∷ []) (LocalGet x ∷ []) ++ word_kept f v (1 ∷ []) (LocalGet (suc x) ∷ [])
+    else open_copied top p f v x (size (tree types a.of)))
+    else (if a.is_var then word_kept f v [] (LocalGet x ∷ [])
+    else value_kept f v x (tree types a.of))
 
 abbrev pub formals_kept : Types → (top p : ℕ) → Ty → (v x : ℕ) → List Formal → List Instr
 formals_kept types top p f v x [] = []
-formals_kept types top p f v x (a ∷ others) = formal_kept types top p f v x a ++ formals_kept types top p f (suc v) (x + arguments_of a) others
+formals_kept types top p f v x (a ∷ others) =
+    formal_kept types top p f v x a
+    ++ formals_kept types top p f (suc v) (x + arguments_of a) others
 
 abbrev pub prologue : Types → Routine → (top p : ℕ) → List Instr
 prologue types r top p =
-    enter_code top (size (frame types r)) ++ (link_kept r ++ formals_kept types top p (frame types r) 0 (suc (link_arguments r)) (formals_of types r.heading))
+    enter_code top (size (frame types r)) ++ (link_kept r
+    ++ formals_kept types top p (frame types r) 0 (suc (link_arguments r))
+    (formals_of types r.heading))
 
 -- ---- functions
 
 abbrev pub setting : TypedModule → List Ty → (arguments addresses : ℕ) → Setting
-setting m frames arguments addresses = record { home = m; frames = frames; arguments = arguments; addresses = addresses; exit = 0; withs = [] }
+setting m frames arguments addresses = record {
+  home = m;
+  frames = frames;
+  arguments = arguments;
+  addresses = addresses;
+  exit = 0;
+  withs = [];
+}
 
 abbrev pub from_text : ℕ → Counts
 from_text at = record { addresses = 0; numbers = 0; texts = at }
 
 abbrev pub locals_of : Counts → List Locals
-locals_of c = record { count = 2 + c.addresses; value_type = type.I32 } ∷ record { count = c.numbers; value_type = type.I64 } ∷ []
+locals_of c =
+    record { count = 2 + c.addresses; value_type = type.I32 }
+    ∷ record { count = c.numbers; value_type = type.I64 } ∷ []
 
 abbrev pub function_of : (type_index : ℕ) → List Instr → List Instr × Counts → List Instr → Function
-function_of t before x after = record { type_index = t; body = record { locals = locals_of x.1; code = before ++ (x.0 ++ after) } }
+function_of t before x after = record {
+  type_index = t;
+  body = record { locals = locals_of x.1; code = before ++ (x.0 ++ after) };
+}
 
 -- a function comes to its end by RETURN alone
 abbrev pub end_code : Bool → List Instr
@@ -129,15 +156,20 @@ end_code false = []
 
 module _ (numbered : Numbered) (m : TypedModule) where
   abbrev pub coded : List Ty → (arguments text : ℕ) → List TypedStmt → List Instr × Counts
-  coded frames arguments at body = body_code numbered body (setting m frames arguments (addresses_in body)) (from_text at)
+  coded frames arguments at body =
+      body_code numbered body (setting m frames arguments (addresses_in body)) (from_text at)
 
   abbrev pub routine_coded : Routine → (text : ℕ) → List Instr × Counts
-  routine_coded r at = coded (frame m.types r ∷ frames_around m r.level r.around) (suc (numbers_of m.types r)) at r.body
+  routine_coded r at =
+      coded (frame m.types r ∷ frames_around m r.level r.around) (suc (numbers_of m.types r)) at
+      r.body
 
   abbrev pub routine_function : Which → Routine → Function
   routine_function w r =
-      function_of (numbered (numbers_of m.types r) (has_result m.types r.heading)) (prologue m.types r (suc (numbers_of m.types r)) (suc (suc (numbers_of m.types r))))
-      (routine_coded r (characters (texts_before m w m.order))) (end_code (has_result m.types r.heading))
+      function_of (numbered (numbers_of m.types r) (has_result m.types r.heading))
+      (prologue m.types r (suc (numbers_of m.types r)) (suc (suc (numbers_of m.types r))))
+      (routine_coded r (characters (texts_before m w m.order)))
+      (end_code (has_result m.types r.heading))
 
   abbrev pub functions_from : (ℕ → Which) → (number : ℕ) → List Routine → List Function
   functions_from w n [] = []

@@ -15,14 +15,16 @@ use Rattle.def_scheme.specs.Coded.{stop, check}
 
 -- raises a local by so much
 abbrev pub raise : (x by : ℕ) → List Instr → List Instr
-raise x by rest = instr.LocalGet x ∷ instr.I32Const by ∷ instr.Numeric numeric.I32Add ∷ instr.LocalSet x ∷ rest
+raise x by rest =
+    instr.LocalGet x ∷ instr.I32Const by ∷ instr.Numeric numeric.I32Add ∷ instr.LocalSet x ∷ rest
 
 abbrev pub copy_raises : List Instr
 copy_raises = raise 0 1 (raise 1 1 (raise 2 4294967295 (instr.Br 0 ∷ [])))
 
 abbrev pub copy_turn : List Instr
 copy_turn =
-    instr.LocalGet 2 ∷ instr.Numeric numeric.I32Eqz ∷ instr.BrIf 1 ∷ instr.LocalGet 0 ∷ instr.LocalGet 1 ∷ instr.Load load.I64From8U ∷ instr.Store width.One ∷ copy_raises
+    instr.LocalGet 2 ∷ instr.Numeric numeric.I32Eqz ∷ instr.BrIf 1 ∷ instr.LocalGet 0
+    ∷ instr.LocalGet 1 ∷ instr.Load load.I64From8U ∷ instr.Store width.One ∷ copy_raises
 
 abbrev pub copy_code : List Instr
 copy_code = instr.Block None (instr.Loop None copy_turn ∷ []) ∷ []
@@ -32,7 +34,8 @@ fill_raises = raise 0 1 (raise 1 4294967295 (instr.Br 0 ∷ []))
 
 abbrev pub fill_turn : List Instr
 fill_turn =
-    instr.LocalGet 1 ∷ instr.Numeric numeric.I32Eqz ∷ instr.BrIf 1 ∷ instr.LocalGet 0 ∷ instr.I64Const 0 ∷ instr.Store width.One ∷ fill_raises
+    instr.LocalGet 1 ∷ instr.Numeric numeric.I32Eqz ∷ instr.BrIf 1 ∷ instr.LocalGet 0
+    ∷ instr.I64Const 0 ∷ instr.Store width.One ∷ fill_raises
 
 abbrev pub fill_code : List Instr
 fill_code = instr.Block None (instr.Loop None fill_turn ∷ []) ∷ []
@@ -41,33 +44,47 @@ fill_code = instr.Block None (instr.Loop None fill_turn ∷ []) ∷ []
 abbrev pub check_tests : List Instr
 check_tests =
     instr.LocalGet 0 ∷ instr.LocalGet 1 ∷ instr.Numeric (numeric.I64Relation LtS) ∷ instr.BrIf 0
-    ∷ instr.LocalGet 0 ∷ instr.LocalGet 2 ∷ instr.Numeric (numeric.I64Relation GtS) ∷ instr.BrIf 0 ∷ instr.Br 1 ∷ []
+    ∷ instr.LocalGet 0 ∷ instr.LocalGet 2 ∷ instr.Numeric (numeric.I64Relation GtS) ∷ instr.BrIf 0
+    ∷ instr.Br 1 ∷ []
 
 abbrev pub check_code : List Instr
 check_code =
-    instr.Block None (instr.Block None check_tests ∷ instr.LocalGet 3 ∷ instr.Call stop ∷ instr.Unreachable ∷ []) ∷ instr.LocalGet 0 ∷ []
+    instr.Block None
+    (instr.Block None check_tests ∷ instr.LocalGet 3 ∷ instr.Call stop ∷ instr.Unreachable ∷ [])
+    ∷ instr.LocalGet 0 ∷ []
 
 -- what div and mod begin with: the divisor is from 1 to 2^32 - 1, or the run ends with 4
 abbrev pub divisor_checked : List Instr → List Instr
 divisor_checked rest =
-    instr.LocalGet 1 ∷ instr.I64Const 1 ∷ instr.I64Const 4294967295 ∷ instr.I64Const divisor_fault ∷ instr.Call check ∷ instr.LocalSet 1 ∷ rest
+    instr.LocalGet 1 ∷ instr.I64Const 1 ∷ instr.I64Const 4294967295 ∷ instr.I64Const divisor_fault
+    ∷ instr.Call check ∷ instr.LocalSet 1 ∷ rest
 
 abbrev pub div_rest : List Instr
 div_rest =
-    instr.LocalGet 0 ∷ instr.LocalGet 1 ∷ instr.Numeric (numeric.I64Operation DivS) ∷ instr.LocalGet 0 ∷ instr.LocalGet 1 ∷ instr.Numeric (numeric.I64Operation RemS)
-    ∷ instr.I64Const 0 ∷ instr.Numeric (numeric.I64Relation LtS) ∷ instr.Numeric numeric.I64ExtendI32U ∷ instr.Numeric (numeric.I64Operation Sub) ∷ []
+    instr.LocalGet 0 ∷ instr.LocalGet 1 ∷ instr.Numeric (numeric.I64Operation DivS)
+    ∷ instr.LocalGet 0 ∷ instr.LocalGet 1 ∷ instr.Numeric (numeric.I64Operation RemS)
+    ∷ instr.I64Const 0 ∷ instr.Numeric (numeric.I64Relation LtS)
+    ∷ instr.Numeric numeric.I64ExtendI32U ∷ instr.Numeric (numeric.I64Operation Sub) ∷ []
 
 abbrev pub mod_rest : List Instr
 mod_rest =
-    instr.LocalGet 0 ∷ instr.LocalGet 1 ∷ instr.Numeric (numeric.I64Operation RemS) ∷ instr.LocalTee 2 ∷ instr.LocalGet 2
-    ∷ instr.I64Const 0 ∷ instr.Numeric (numeric.I64Relation LtS) ∷ instr.Numeric numeric.I64ExtendI32U
-    ∷ instr.LocalGet 1 ∷ instr.Numeric (numeric.I64Operation Mul) ∷ instr.Numeric (numeric.I64Operation Add) ∷ []
+    instr.LocalGet 0 ∷ instr.LocalGet 1 ∷ instr.Numeric (numeric.I64Operation RemS)
+    ∷ instr.LocalTee 2 ∷ instr.LocalGet 2 ∷ instr.I64Const 0
+    ∷ instr.Numeric (numeric.I64Relation LtS) ∷ instr.Numeric numeric.I64ExtendI32U
+    ∷ instr.LocalGet 1 ∷ instr.Numeric (numeric.I64Operation Mul)
+    ∷ instr.Numeric (numeric.I64Operation Add) ∷ []
 
 -- mod has a local of its own
 abbrev pub mod_typed : (index : ℕ) → Typed
 mod_typed index = record {
   type = record { params = types.I64 ∷ types.I64 ∷ []; results = types.I64 ∷ [] };
-  function = record { type_index = index; body = record { locals = record { count = 1; value_type = types.I64 } ∷ []; code = divisor_checked mod_rest } };
+  function = record {
+    type_index = index;
+    body = record {
+      locals = record { count = 1; value_type = types.I64 } ∷ [];
+      code = divisor_checked mod_rest;
+    };
+  };
 }
 
 -- a helper without locals of its own
@@ -78,4 +95,5 @@ helper params results index code = record {
 }
 
 abbrev pub check_typed : (index : ℕ) → Typed
-check_typed index = helper (types.I64 ∷ types.I64 ∷ types.I64 ∷ types.I64 ∷ []) (types.I64 ∷ []) index check_code
+check_typed index =
+    helper (types.I64 ∷ types.I64 ∷ types.I64 ∷ types.I64 ∷ []) (types.I64 ∷ []) index check_code

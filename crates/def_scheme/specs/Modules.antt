@@ -1,4 +1,5 @@
--- The WebAssembly modules of a program: one for each body, and the module link, which owns the memory and the table.
+-- The WebAssembly modules of a program: one for each body, and the module link, which owns the
+-- memory and the table.
 use Rattle.std.specs.Prelude.{ℕ, suc, ◌+◌, ◌*◌, List, [], ◌∷◌, ◌++◌, map, length, Option, Some, None, codes}
 use Rattle.std.specs.List.{flat_map, range_with_len}
 use Rattle.wasm_tree.specs.declared.kinds.ValueType.TheVariants.{I32, I64}
@@ -34,10 +35,18 @@ abbrev pub helper : (type_index : ℕ) → List Instr → Function
 helper t code = record { type_index = t; body = record { locals = []; code = code } }
 
 abbrev pub mod_function : Function
-mod_function = record { type_index = 4; body = record { locals = record { count = 1; value_type = I64 } ∷ []; code = divisor_checked mod_rest } }
+mod_function = record {
+  type_index = 4;
+  body = record {
+    locals = record { count = 1; value_type = I64 } ∷ [];
+    code = divisor_checked mod_rest;
+  };
+}
 
 abbrev pub helpers : List Function
-helpers = helper 1 copy_code ∷ helper 2 fill_code ∷ helper 3 check_code ∷ helper 4 (divisor_checked div_rest) ∷ mod_function ∷ []
+helpers =
+    helper 1 copy_code ∷ helper 2 fill_code ∷ helper 3 check_code
+    ∷ helper 4 (divisor_checked div_rest) ∷ mod_function ∷ []
 
 abbrev pub signatures : TypedModule → Signatures
 signatures m = ordered (needed m)
@@ -46,7 +55,10 @@ abbrev pub numbered : TypedModule → Numbered
 numbered m = number_of (signatures m)
 
 abbrev pub functions : TypedModule → List Function
-functions m = helpers ++ (module_function (numbered m) m ∷ (functions_from (numbered m) m which.Module 0 m.procedures ++ functions_from (numbered m) m which.Local 0 m.locals))
+functions m =
+    helpers ++ (module_function (numbered m) m
+    ∷ (functions_from (numbered m) m which.Module 0 m.procedures
+    ++ functions_from (numbered m) m which.Local 0 m.locals))
 
 abbrev pub imports : TypedModule → List Import
 imports m = own_imports m.name ++ (imported_globals (map (λ i. i.name) m.imports) ++ host_imports)
@@ -72,7 +84,11 @@ typed_module m = record {
   memories = [];
   globals = [];
   exports = [];
-  elements = record { table = 0; offset = GlobalGet 3 ∷ []; functions = range_with_len body_index (slots m) } ∷ [];
+  elements = record {
+    table = 0;
+    offset = GlobalGet 3 ∷ [];
+    functions = range_with_len body_index (slots m);
+  } ∷ [];
   «data» = data_of (all_characters (module_texts m));
 }
 
@@ -86,18 +102,26 @@ pub record Part : Type 0 where
   pub slots : ℕ
 
 abbrev pub part_of : TypedModule → Part
-part_of m = record { name = m.name; variables = size (module_row m); texts = characters (module_texts m); slots = slots m }
+part_of m = record {
+  name = m.name;
+  variables = size (module_row m);
+  texts = characters (module_texts m);
+  slots = slots m;
+}
 
 -- the place of its variables, that of its texts, and its first slot
 abbrev pub globals_from : (place slot : ℕ) → List Part → List Global
 globals_from place slot [] = []
 globals_from place slot (m ∷ ms) =
-    constant_global place ∷ constant_global (place + m.variables) ∷ constant_global slot ∷ globals_from (place + m.variables + m.texts) (slot + m.slots) ms
+    constant_global place ∷ constant_global (place + m.variables) ∷ constant_global slot
+    ∷ globals_from (place + m.variables + m.texts) (slot + m.slots) ms
 
 abbrev pub exports_from : (global : ℕ) → List Part → List Export
 exports_from g [] = []
 exports_from g (m ∷ ms) =
-    exported_as (base_name m.name) (exported.Global g) ∷ exported_as (text_name m.name) (exported.Global (g + 1)) ∷ exported_as (tab_name m.name) (exported.Global (g + 2)) ∷ exports_from (g + 3) ms
+    exported_as (base_name m.name) (exported.Global g)
+    ∷ exported_as (text_name m.name) (exported.Global (g + 1))
+    ∷ exported_as (tab_name m.name) (exported.Global (g + 2)) ∷ exports_from (g + 3) ms
 
 -- where the stack begins: behind the variables and texts of all modules
 abbrev pub stack_begin : List Part → ℕ
@@ -110,17 +134,22 @@ all_slots (m ∷ ms) = m.slots + all_slots ms
 
 abbrev pub calls_from : (stack global : ℕ) → List Part → List Instr
 calls_from stack g [] = []
-calls_from stack g (m ∷ ms) = I32Const stack ∷ GlobalGet g ∷ CallIndirect 1 ∷ calls_from stack (g + 3) ms
+calls_from stack g (m ∷ ms) =
+    I32Const stack ∷ GlobalGet g ∷ CallIndirect 1 ∷ calls_from stack (g + 3) ms
 
 abbrev pub link_of : List Part → (pages : ℕ) → WModule
 link_of ms pages = record {
   types = type_from [] [] ∷ type_from (I32 ∷ []) [] ∷ [];
   imports = [];
   functions = helper 0 (calls_from (stack_begin ms) 3 ms) ∷ [];
-  tables = record { limits = record { min = 1 + all_slots ms; max = Some (1 + all_slots ms) } } ∷ [];
+  tables =
+      record { limits = record { min = 1 + all_slots ms; max = Some (1 + all_slots ms) } } ∷ [];
   memories = record { limits = record { min = pages; max = Some pages } } ∷ [];
   globals = constant_global (65536 * pages) ∷ globals_from 0 1 ms;
-  exports = exported_as (codes "memory") (exported.Memory 0) ∷ exported_as (codes "table") (exported.Table 0) ∷ exported_as (codes "limit") (exported.Global 0) ∷ (exports_from 1 ms ++ exported_as (codes "run") (exported.Function 0) ∷ []);
+  exports = exported_as (codes "memory") (exported.Memory 0)
+      ∷ exported_as (codes "table") (exported.Table 0)
+      ∷ exported_as (codes "limit") (exported.Global 0) ∷ (exports_from 1 ms
+      ++ exported_as (codes "run") (exported.Function 0) ∷ []);
   elements = [];
   «data» = [];
 }

@@ -39,14 +39,23 @@ at_least_one = record { min = 1; max = None }
 
 abbrev pub body_types : List FuncType
 body_types =
-    type_from (I64 ∷ []) [] ∷ type_from (I32 ∷ I32 ∷ I32 ∷ []) [] ∷ type_from (I32 ∷ I32 ∷ []) [] ∷ type_from (I64 ∷ I64 ∷ I64 ∷ I64 ∷ []) (I64 ∷ [])
-    ∷ type_from (I64 ∷ I64 ∷ []) (I64 ∷ []) ∷ type_from (I32 ∷ []) [] ∷ []
+    type_from (I64 ∷ []) [] ∷ type_from (I32 ∷ I32 ∷ I32 ∷ []) [] ∷ type_from (I32 ∷ I32 ∷ []) []
+    ∷ type_from (I64 ∷ I64 ∷ I64 ∷ I64 ∷ []) (I64 ∷ []) ∷ type_from (I64 ∷ I64 ∷ []) (I64 ∷ [])
+    ∷ type_from (I32 ∷ []) [] ∷ []
 
 abbrev pub own_imports : List ℕ → List Import
 own_imports m =
-    record { module_name = codes "link"; name = codes "memory"; kind = imported.Memory (record { limits = at_least_one }) }
-    ∷ record { module_name = codes "link"; name = codes "table"; kind = imported.Table (record { limits = at_least_one }) }
-    ∷ from_link (codes "limit") ∷ from_link (base_name m) ∷ from_link (text_name m) ∷ from_link (tab_name m) ∷ []
+    record {
+      module_name = codes "link";
+      name = codes "memory";
+      kind = imported.Memory (record { limits = at_least_one });
+    }
+    ∷ record {
+      module_name = codes "link";
+      name = codes "table";
+      kind = imported.Table (record { limits = at_least_one });
+    } ∷ from_link (codes "limit") ∷ from_link (base_name m) ∷ from_link (text_name m)
+    ∷ from_link (tab_name m) ∷ []
 
 abbrev pub imported_globals : List (List ℕ) → List Import
 imported_globals names = flat_map (λ m. from_link (base_name m) ∷ from_link (tab_name m) ∷ []) names

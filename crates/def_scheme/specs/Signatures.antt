@@ -1,4 +1,5 @@
--- The types of functions that a module needs: those of its procedures, and of its calls through the table.
+-- The types of functions that a module needs: those of its procedures, and of its calls through the
+-- table.
 use Rattle.std.specs.Prelude.{ℕ, zero, suc, ◌+◌, ◌==◌, ◌&&◌, ◌||◌, nat_le, Bool, true, false, not, List, [], ◌∷◌, ◌++◌, map, length, Option, Some, None, if◌then◌else◌}
 use Rattle.std.specs.List.{fold, flat_map, list_any, position, range_with_len}
 use Rattle.std.specs.Option.{unwrap_or}
@@ -48,33 +49,40 @@ optional (Some xs) = joined xs
 -- ---- calls through the table: of procedures of other modules, and of procedure variables
 
 module _ (m : TypedModule) where
-  abbrev pub argument_layer : Argument-F Signatures Signatures Signatures Signatures Signatures Signatures → Signatures
+  abbrev pub argument_layer :
+      Argument-F Signatures Signatures Signatures Signatures Signatures Signatures → Signatures
   argument_layer (layer.Value t e) = e
   argument_layer (layer.Place d) = d
   argument_layer (layer.Array t d) = d
   argument_layer (layer.Open slot) = []
   argument_layer (layer.Text text) = []
 
-  abbrev pub call_layer : Call-F Signatures Signatures Signatures Signatures Signatures Signatures → Signatures
-  call_layer (layer.Module f args) = joined args ++ (if is_own m f.home then [] else of_heading m.types f.heading ∷ [])
+  abbrev pub call_layer : Call-F Signatures Signatures Signatures Signatures Signatures Signatures
+      → Signatures
+  call_layer (layer.Module f args) =
+      joined args ++ (if is_own m f.home then [] else of_heading m.types f.heading ∷ [])
   call_layer (layer.Nested f args) = joined args
   call_layer (layer.Variable t d args) = d ++ (joined args ++ of_heading m.types t ∷ [])
 
-  abbrev pub component_layer : Component-F Signatures Signatures Signatures Signatures Signatures Signatures → Signatures
+  abbrev pub component_layer :
+      Component-F Signatures Signatures Signatures Signatures Signatures Signatures → Signatures
   component_layer (layer.Field t k) = []
   component_layer (layer.Element t i) = i
   component_layer (layer.OpenElement slot t i) = i
 
-  abbrev pub place_layer : Place-F Signatures Signatures Signatures Signatures Signatures Signatures → Signatures
+  abbrev pub place_layer : Place-F Signatures Signatures Signatures Signatures Signatures Signatures
+      → Signatures
   place_layer d = joined d.components
 
-  abbrev pub link_layer : Link-F Signatures Signatures Signatures Signatures Signatures Signatures → Signatures
+  abbrev pub link_layer : Link-F Signatures Signatures Signatures Signatures Signatures Signatures
+      → Signatures
   link_layer (layer.Arithmetic op t b) = b
   link_layer (layer.And b) = b
   link_layer (layer.Or b) = b
   link_layer (layer.Combine op b) = b
 
-  abbrev pub expr_layer : TypedExpr-F Signatures Signatures Signatures Signatures Signatures Signatures → Signatures
+  abbrev pub expr_layer :
+      TypedExpr-F Signatures Signatures Signatures Signatures Signatures Signatures → Signatures
   expr_layer (layer.Constant t n) = []
   expr_layer (layer.Load t d) = d
   expr_layer (layer.Procedure p) = []
@@ -95,13 +103,19 @@ module _ (m : TypedModule) where
   expr_layer (layer.Call t c) = c
 
   unfoldable pub of_expr : TypedExpr → Signatures
-  of_expr = fold-TypedExpr Signatures Signatures Signatures Signatures Signatures Signatures argument_layer call_layer component_layer link_layer expr_layer place_layer
+  of_expr =
+      fold-TypedExpr Signatures Signatures Signatures Signatures Signatures Signatures
+      argument_layer call_layer component_layer link_layer expr_layer place_layer
 
   unfoldable pub of_place : Place → Signatures
-  of_place = fold-Place Signatures Signatures Signatures Signatures Signatures Signatures argument_layer call_layer component_layer link_layer expr_layer place_layer
+  of_place =
+      fold-Place Signatures Signatures Signatures Signatures Signatures Signatures argument_layer
+      call_layer component_layer link_layer expr_layer place_layer
 
   unfoldable pub of_call : Call → Signatures
-  of_call = fold-Call Signatures Signatures Signatures Signatures Signatures Signatures argument_layer call_layer component_layer link_layer expr_layer place_layer
+  of_call =
+      fold-Call Signatures Signatures Signatures Signatures Signatures Signatures argument_layer
+      call_layer component_layer link_layer expr_layer place_layer
 
   abbrev pub step_layer : TypedStmt-F Signatures Signatures → Signatures
   step_layer (step.Assign d t e) = of_place d ++ of_expr e
@@ -120,7 +134,8 @@ module _ (m : TypedModule) where
   step_layer step.Exit = []
   step_layer step.Return = []
   step_layer (step.Give t e) = of_expr e
-  step_layer (step.For d t start limit by body) = of_place d ++ (of_expr start ++ (of_expr limit ++ joined body))
+  step_layer (step.For d t start limit by body) =
+      of_place d ++ (of_expr start ++ (of_expr limit ++ joined body))
   step_layer (step.With d body) = of_place d ++ joined body
 
   abbrev pub arm_layer : TypedArm-F Signatures Signatures → Signatures
@@ -130,11 +145,13 @@ module _ (m : TypedModule) where
   of_step = fold-TypedStmt Signatures Signatures step_layer arm_layer
 
   abbrev pub of_routine : Routine → Signatures
-  of_routine r = signature (numbers_of m.types r) (has_result m.types r.heading) ∷ flat_map of_step r.body
+  of_routine r =
+      signature (numbers_of m.types r) (has_result m.types r.heading) ∷ flat_map of_step r.body
 
   -- all that are needed, in any order
   abbrev pub needed : Signatures
-  needed = flat_map of_routine m.procedures ++ (flat_map of_routine m.locals ++ flat_map of_step m.body)
+  needed =
+      flat_map of_routine m.procedures ++ (flat_map of_routine m.locals ++ flat_map of_step m.body)
 
 -- ---- numbers
 
@@ -159,10 +176,12 @@ most_arguments ss = fold (λ so s. greater so s.arguments) 0 ss
 abbrev pub if_among : Signatures → Signature → Signatures
 if_among ss s = if is_among ss s then s ∷ [] else []
 
--- by the number of arguments, without result first, each once; the type of bodies has none and no result
+-- by the number of arguments, without result first, each once; the type of bodies has none and no
+-- result
 abbrev pub of_arguments : Signatures → ℕ → Signatures
 of_arguments ss zero = if_among ss (signature 0 true)
-of_arguments ss (suc n) = if_among ss (signature (suc n) false) ++ if_among ss (signature (suc n) true)
+of_arguments ss (suc n) =
+    if_among ss (signature (suc n) false) ++ if_among ss (signature (suc n) true)
 
 abbrev pub ordered : Signatures → Signatures
 ordered ss = flat_map (of_arguments ss) (range_with_len 0 (suc (most_arguments ss)))
@@ -172,7 +191,10 @@ body_signature = signature 0 false
 
 -- the types of helpers and of bodies stand before them
 abbrev pub number_of : Signatures → ℕ → Bool → ℕ
-number_of ss n result = if is_same (signature n result) body_signature then 5 else 6 + unwrap_or (position (is_same (signature n result)) ss) 0
+number_of ss n result =
+    if is_same (signature n result) body_signature
+    then 5
+    else 6 + unwrap_or (position (is_same (signature n result)) ss) 0
 
 -- ---- types
 

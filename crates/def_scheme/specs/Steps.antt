@@ -49,7 +49,9 @@ under w x s c = x (record s { withs = s.withs ++ w ∷ [] }) c
 -- both sides of an if, and one alone
 abbrev pub if_else : Coded → Coded → Coded
 if_else x y s c =
-    let inner = record s { exit = suc s.exit } in let first = x inner c in let second = y inner first.1 in (If None first.0 (Some second.0) ∷ [], second.1)
+    let inner = record s { exit = suc s.exit } in
+    let first = x inner c in
+    let second = y inner first.1 in (If None first.0 (Some second.0) ∷ [], second.1)
 
 abbrev pub if_only : Coded → Coded
 if_only x = within 1 (λ code. If None code None ∷ []) x
@@ -71,13 +73,16 @@ else_code (Some xs) = all_coded xs
 
 -- one test after the other
 abbrev pub label_code : (t : ℕ) → Label → List Instr
-label_code t x = LocalGet t ∷ number x.low ∷ operation Sub ∷ number (x.high -ℤ x.low) ∷ relation LeU ∷ BrIf 0 ∷ []
+label_code t x =
+    LocalGet t ∷ number x.low ∷ operation Sub ∷ number (x.high -ℤ x.low) ∷ relation LeU ∷ BrIf 0
+    ∷ []
 
 abbrev pub tests_code : (t : ℕ) → List Label → List Instr
 tests_code t labels = flat_map (label_code t) labels ++ Br 1 ∷ []
 
 abbrev pub arm_code : (t : ℕ) → Arm → Coded
-arm_code t x = within 1 (λ code. block (block (tests_code t x.labels) ++ (code ++ Br 1 ∷ []))) x.code
+arm_code t x =
+    within 1 (λ code. block (block (tests_code t x.labels) ++ (code ++ Br 1 ∷ []))) x.code
 
 abbrev pub chain_code : (t : ℕ) → List Arm → Coded → Coded
 chain_code t arms otherwise = within 1 block (all_coded (map (arm_code t) arms) ⨾ otherwise)
@@ -111,7 +116,9 @@ abbrev pub span_of : List Label → ℕ
 span_of labels = suc (unsigned_abs (greatest_of labels -ℤ least_of labels))
 
 abbrev pub is_dense : (arms : ℕ) → List Label → Bool
-is_dense arms labels = nat_le arms 16 && (nat_le 4 (all_values labels) && (nat_le (span_of labels) 1024 && nat_le (span_of labels) (4 * all_values labels)))
+is_dense arms labels =
+    nat_le arms 16 && (nat_le 4 (all_values labels) && (nat_le (span_of labels) 1024
+    && nat_le (span_of labels) (4 * all_values labels)))
 
 abbrev pub has_label : ℤ → Arm → Bool
 has_label v x = list_any (λ y. int_le y.low v && int_le v y.high) x.labels
@@ -129,7 +136,8 @@ from_least t low = LocalGet t ∷ number low ∷ operation Sub ∷ []
 
 abbrev pub dispatch : (t : ℕ) → List Arm → (least : ℤ) → (span : ℕ) → List Instr
 dispatch t arms low span =
-    from_least t low ++ (I64Const (span - 1) ∷ relation GtU ∷ BrIf (length arms) ∷ (from_least t low ++ (wrapped ∷ BrTable (targets arms low span) (length arms) ∷ [])))
+    from_least t low ++ (I64Const (span - 1) ∷ relation GtU ∷ BrIf (length arms) ∷ (from_least t low
+    ++ (wrapped ∷ BrTable (targets arms low span) (length arms) ∷ [])))
 
 -- code in one more block, in which no EXIT stands
 abbrev pub boxed : Coded → Coded
@@ -138,15 +146,23 @@ boxed x s c = let inner = x s c in (block inner.0, inner.1)
 -- each arm stands behind the end of its block
 abbrev pub jump_arms : List Arm → Coded → Coded
 jump_arms [] inner = inner
-jump_arms (x ∷ xs) inner = jump_arms xs (boxed inner ⨾ within (length xs + 2) (λ code. code) x.code ⨾ plain (Br (length xs + 1) ∷ []))
+jump_arms (x ∷ xs) inner =
+    jump_arms xs
+    (boxed inner ⨾ within (length xs + 2) (λ code. code) x.code ⨾ plain (Br (length xs + 1) ∷ []))
 
 abbrev pub table_code : (t : ℕ) → List Arm → Coded → Coded
 table_code t arms otherwise =
-    boxed (boxed (jump_arms arms (plain (dispatch t arms (least_of (all_labels arms)) (span_of (all_labels arms))))) ⨾ within 1 (λ code. code) otherwise)
+    boxed (boxed (jump_arms arms
+    (plain (dispatch t arms (least_of (all_labels arms)) (span_of (all_labels arms)))))
+    ⨾ within 1 (λ code. code) otherwise)
 
 abbrev pub case_code : Coded → List Arm → Coded → Coded
 case_code x arms otherwise =
-    x ⨾ with_number (λ t. plain (LocalSet t ∷ []) ⨾ (if is_dense (length arms) (all_labels arms) then table_code t arms otherwise else chain_code t arms otherwise))
+    x ⨾ with_number (λ t.
+    plain (LocalSet t ∷ [])
+    ⨾ (if is_dense (length arms) (all_labels arms)
+    then table_code t arms otherwise
+    else chain_code t arms otherwise))
 
 -- ---- FOR
 
@@ -155,17 +171,25 @@ passes by = if int_lt by (pos 0) then LtS else GtS
 
 -- the variable's address stands below its start; then the limit is kept, and the turns follow
 abbrev pub for_begin : Coded → TypeNo → Part → Part → (t : ℕ) → Coded
-for_begin d t start limit n = plain (LocalSet n ∷ []) ⨾ with_setting (λ s. plain (stored s.home.types t))
+for_begin d t start limit n =
+    plain (LocalSet n ∷ []) ⨾ with_setting (λ s. plain (stored s.home.types t))
 
 abbrev pub for_turn : Coded → TypeNo → (by : ℤ) → (n : ℕ) → Coded → Coded
 for_turn d t by n body =
-    body ⨾ behind d (λ types. loaded types t) ⨾ plain (number by ∷ operation Add ∷ LocalGet n ∷ relation (passes by) ∷ BrIf 1 ∷ [])
-    ⨾ d ⨾ behind d (λ types. loaded types t) ⨾ with_setting (λ s. plain (number by ∷ operation Add ∷ (in_type s.home.types t range_fault ++ (stored s.home.types t ++ Br 0 ∷ []))))
+    body ⨾ behind d (λ types. loaded types t)
+    ⨾ plain (number by ∷ operation Add ∷ LocalGet n ∷ relation (passes by) ∷ BrIf 1 ∷ []) ⨾ d
+    ⨾ behind d (λ types. loaded types t) ⨾ with_setting (λ s.
+    plain (number by ∷ operation Add ∷ (in_type s.home.types t range_fault ++ (stored s.home.types t
+    ++ Br 0 ∷ []))))
 
 abbrev pub for_code : Coded → TypeNo → Part → Part → (by : ℤ) → Coded → Coded
 for_code d t start limit by body =
-    d ⨾ behind start.code (λ types. check_taken types t start.constant start.of) ⨾ limit.code ⨾ with_number (λ n. for_begin d t start limit n
-    ⨾ within 1 block (behind d (λ types. loaded types t) ⨾ plain (LocalGet n ∷ relation (passes by) ∷ BrIf 0 ∷ []) ⨾ within 1 loop (for_turn d t by n body)))
+    d ⨾ behind start.code (λ types. check_taken types t start.constant start.of) ⨾ limit.code
+    ⨾ with_number (λ n.
+    for_begin d t start limit n
+    ⨾ within 1 block
+    (behind d (λ types. loaded types t) ⨾ plain (LocalGet n ∷ relation (passes by) ∷ BrIf 0 ∷ [])
+    ⨾ within 1 loop (for_turn d t by n body)))
 
 -- ---- INC, DEC, INCL, EXCL
 
@@ -181,32 +205,45 @@ abbrev pub read_again : (w : ℕ) → Types → TypeNo → List Instr
 read_again w types t = LocalGet w ∷ LocalGet w ∷ loaded types t
 
 abbrev pub changed : Change → (w n : ℕ) → Types → TypeNo → List Instr
-changed o w n types t = read_again w types t ++ (LocalGet n ∷ change_operation o ∷ (check_changed types t ++ stored types t))
+changed o w n types t =
+    read_again w types t ++ (LocalGet n ∷ change_operation o ∷ (check_changed types t
+    ++ stored types t))
 
 abbrev pub change_code : Change → Coded → TypeNo → Coded → Coded
-change_code o d t x = kept d (λ w. x ⨾ with_number (λ n. plain (LocalSet n ∷ []) ⨾ with_setting (λ s. plain (changed o w n s.home.types t))))
+change_code o d t x =
+    kept d (λ w.
+    x ⨾ with_number (λ n.
+    plain (LocalSet n ∷ []) ⨾ with_setting (λ s. plain (changed o w n s.home.types t))))
 
 abbrev pub member_operation : Membership → List Instr
 member_operation member.Include = operation Or ∷ []
 member_operation member.Exclude = complement ++ operation And ∷ []
 
 abbrev pub with_member : Membership → (w n : ℕ) → Types → List Instr
-with_member o w n types = read_again w types bitset ++ (I64Const 1 ∷ LocalGet n ∷ operation Shl ∷ (member_operation o ++ stored types bitset))
+with_member o w n types =
+    read_again w types bitset ++ (I64Const 1 ∷ LocalGet n ∷ operation Shl ∷ (member_operation o
+    ++ stored types bitset))
 
 abbrev pub member_code : Membership → Coded → Coded → Coded
 member_code o d x =
-    kept d (λ w. x ⨾ plain (checked (pos 0) (pos 31) range_fault) ⨾ with_number (λ n. plain (LocalSet n ∷ []) ⨾ with_setting (λ s. plain (with_member o w n s.home.types))))
+    kept d (λ w.
+    x ⨾ plain (checked (pos 0) (pos 31) range_fault) ⨾ with_number (λ n.
+    plain (LocalSet n ∷ []) ⨾ with_setting (λ s. plain (with_member o w n s.home.types))))
 
 -- ---- strings
 
 -- the characters are copied, and the rest of the array is filled with 0C
 abbrev pub text_copied : (at bytes rest w : ℕ) → List Instr
 text_copied at bytes rest w =
-    text_code at ++ (I32Const bytes ∷ Call copy ∷ LocalGet w ∷ (raised bytes ++ (I32Const rest ∷ Call fill ∷ [])))
+    text_code at ++ (I32Const bytes ∷ Call copy ∷ LocalGet w ∷ (raised bytes ++ (I32Const rest
+    ∷ Call fill ∷ [])))
 
 abbrev pub copy_text_code : Coded → TypeNo → List ℕ → Coded
 copy_text_code d t text =
-    d ⨾ with_address (λ w. plain (LocalTee w ∷ []) ⨾ with_text (length text) (λ at. with_setting (λ s. plain (text_copied at (length text) (size (tree s.home.types t) - length text) w))))
+    d ⨾ with_address (λ w.
+    plain (LocalTee w ∷ []) ⨾ with_text (length text) (λ at.
+    with_setting (λ s.
+    plain (text_copied at (length text) (size (tree s.home.types t) - length text) w))))
 
 -- ---- statements
 
@@ -222,24 +259,32 @@ module _ (numbered : Numbered) where
   taken t e = behind (part e).code (λ types. check_taken types t (part e).constant (part e).of)
 
   abbrev pub step_layer : TypedStmt-F Coded Arm → Coded
-  step_layer (step.Assign d t e) = place d ⨾ taken t e ⨾ with_setting (λ s. plain (stored s.home.types t))
-  step_layer (step.Copy to from t) = place to ⨾ behind (place from) (λ types. I32Const (size (tree types t)) ∷ Call copy ∷ [])
+  step_layer (step.Assign d t e) =
+      place d ⨾ taken t e ⨾ with_setting (λ s. plain (stored s.home.types t))
+  step_layer (step.Copy to from t) =
+      place to ⨾ behind (place from) (λ types. I32Const (size (tree types t)) ∷ Call copy ∷ [])
   step_layer (step.CopyText d t text) = copy_text_code (place d) t text
   step_layer (step.Call c) = call_code numbered c
   step_layer (step.Put e) = taken char e ⨾ plain (Call put ∷ [])
   step_layer (step.Change o d t e) = change_code o (place d) t (part e).code
   step_layer (step.Membership o d e) = member_code o (place d) (part e).code
   step_layer step.Halt = plain (fault halted)
-  step_layer (step.If e body others) = (part e).code ⨾ plain (wrapped ∷ []) ⨾ if_code (all_coded body) others
+  step_layer (step.If e body others) =
+      (part e).code ⨾ plain (wrapped ∷ []) ⨾ if_code (all_coded body) others
   step_layer (step.Case e arms others) = case_code (part e).code arms (else_code others)
-  step_layer (step.While e body) = within 2 block_loop ((part e).code ⨾ plain (is_zero ∷ BrIf 1 ∷ []) ⨾ all_coded body ⨾ plain (Br 0 ∷ []))
-  step_layer (step.Repeat body e) = within 1 loop (all_coded body ⨾ (part e).code ⨾ plain (is_zero ∷ BrIf 0 ∷ []))
+  step_layer (step.While e body) =
+      within 2 block_loop
+      ((part e).code ⨾ plain (is_zero ∷ BrIf 1 ∷ []) ⨾ all_coded body ⨾ plain (Br 0 ∷ []))
+  step_layer (step.Repeat body e) =
+      within 1 loop (all_coded body ⨾ (part e).code ⨾ plain (is_zero ∷ BrIf 0 ∷ []))
   step_layer (step.Loop body) = leaving 1 block_loop (all_coded body ⨾ plain (Br 0 ∷ []))
   step_layer step.Exit = with_setting (λ s. plain (Br s.exit ∷ []))
   step_layer step.Return = plain (Return ∷ [])
   step_layer (step.Give t e) = taken t e ⨾ plain (Return ∷ [])
-  step_layer (step.For d t start limit by body) = for_code (place d) t (part start) (part limit) by (all_coded body)
-  step_layer (step.With d body) = place d ⨾ with_address (λ w. plain (LocalSet w ∷ []) ⨾ under w (all_coded body))
+  step_layer (step.For d t start limit by body) =
+      for_code (place d) t (part start) (part limit) by (all_coded body)
+  step_layer (step.With d body) =
+      place d ⨾ with_address (λ w. plain (LocalSet w ∷ []) ⨾ under w (all_coded body))
 
   abbrev pub arm_layer : TypedArm-F Coded Arm → Arm
   arm_layer x = record { labels = x.labels; code = all_coded x.body }

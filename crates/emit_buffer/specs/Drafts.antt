@@ -32,13 +32,34 @@ emitted x s d = record { ops = d.ops ++ flat (x s d.counts).0; counts = (x s d.c
 -- ---- locals and texts
 
 abbrev pub next_address : Drafted → Drafted
-next_address d = record { ops = d.ops; counts = record { addresses = suc d.counts.addresses; numbers = d.counts.numbers; texts = d.counts.texts } }
+next_address d = record {
+  ops = d.ops;
+  counts = record {
+    addresses = suc d.counts.addresses;
+    numbers = d.counts.numbers;
+    texts = d.counts.texts;
+  };
+}
 
 abbrev pub next_number : Drafted → Drafted
-next_number d = record { ops = d.ops; counts = record { addresses = d.counts.addresses; numbers = suc d.counts.numbers; texts = d.counts.texts } }
+next_number d = record {
+  ops = d.ops;
+  counts = record {
+    addresses = d.counts.addresses;
+    numbers = suc d.counts.numbers;
+    texts = d.counts.texts;
+  };
+}
 
 abbrev pub next_text : (bytes : ℕ) → Drafted → Drafted
-next_text n d = record { ops = d.ops; counts = record { addresses = d.counts.addresses; numbers = d.counts.numbers; texts = d.counts.texts + n } }
+next_text n d = record {
+  ops = d.ops;
+  counts = record {
+    addresses = d.counts.addresses;
+    numbers = d.counts.numbers;
+    texts = d.counts.texts + n;
+  };
+}
 
 -- ---- blocks: a place is kept for the operation, which is set when its end is known
 

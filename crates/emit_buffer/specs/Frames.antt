@@ -25,7 +25,14 @@ pub record Standing : Type 0 where
 
 -- the setting that it means
 abbrev pub meant : Standing → Setting
-meant s = record { home = s.home; frames = frames_of s.home.types s.routines; arguments = s.arguments; addresses = s.addresses; exit = s.exit; withs = s.withs }
+meant s = record {
+  home = s.home;
+  frames = frames_of s.home.types s.routines;
+  arguments = s.arguments;
+  addresses = s.addresses;
+  exit = s.exit;
+  withs = s.withs;
+}
 
 abbrev pub routines_in : List Framed → List Routine
 routines_in fs = map (λ f. f.routine.now) fs

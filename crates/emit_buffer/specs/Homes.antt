@@ -16,14 +16,16 @@ use Rattle.def_scheme.specs.Modules.{signatures}
 
 -- the place of a module among imports
 abbrev pub ArePlaces : List (ℕ × ℕ) → List Imported → Type 0
-ArePlaces ps imports = (home : ℕ) → lookup (nat_eq home) ps ≡ position (λ i. i.number == home) imports
+ArePlaces ps imports =
+    (home : ℕ) → lookup (nat_eq home) ps ≡ position (λ i. i.number == home) imports
 
 abbrev pub is_there : {A : Type 0} → Option A → Bool
 is_there None = false
 is_there (Some x) = true
 
 abbrev pub with_place : List (ℕ × ℕ) → Imported → ℕ → List (ℕ × ℕ)
-with_place ps i place = if is_there (lookup (nat_eq i.number) ps) then ps else insert_entry nat_eq ps i.number place
+with_place ps i place =
+    if is_there (lookup (nat_eq i.number) ps) then ps else insert_entry nat_eq ps i.number place
 
 abbrev pub start_or : Option Row → ℕ → ℕ
 start_or None k = 0
@@ -31,9 +33,13 @@ start_or (Some r) k = start_in r k
 
 -- what is kept of the variables of a module
 abbrev pub row_for : TypedModule → (home : ℕ) → Option Row
-row_for m home = if is_own m home then Some (variables_row m.types m.variables) else slice_get (map (imported_row m.types) m.imports) (import_place m home)
+row_for m home =
+    if is_own m home
+    then Some (variables_row m.types m.variables)
+    else slice_get (map (imported_row m.types) m.imports) (import_place m home)
 
-pub record IsHome (m : TypedModule) (x : Layout) (ss : Signatures) (ps : List (ℕ × ℕ)) : Type 0 where
+pub record IsHome (m : TypedModule) (x : Layout) (ss : Signatures) (ps : List (ℕ × ℕ))
+    : Type 0 where
   pub layout : IsLayout m x
   pub signatures : ss ≡ signatures m
   pub places : ArePlaces ps m.imports

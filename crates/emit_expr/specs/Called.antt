@@ -23,7 +23,9 @@ abbrev pub own_call : Procedure → List Instr
 own_call f = Call (suc body_index + f.number) ∷ []
 
 abbrev pub other_call : TypedModule → Procedure → List Instr
-other_call m f = GlobalGet (slots_global m f.home) ∷ (raised (slot_number f) ++ indirect (numbered m) m.types f.heading ∷ [])
+other_call m f =
+    GlobalGet (slots_global m f.home) ∷ (raised (slot_number f)
+    ++ indirect (numbered m) m.types f.heading ∷ [])
 
 abbrev pub link_passed : (up : ℕ) → List Instr
 link_passed up = frame_code up ++ extended ∷ []
@@ -33,7 +35,9 @@ nested_called m f = Call (suc body_index + (length m.procedures + f.number)) ∷
 
 -- the procedure that a variable holds is kept
 abbrev pub kept_procedure : Setting → Drafted → Drafted
-kept_procedure s d = let e = put (checked (pos 1) (pos 4294967295) empty_procedure) d in one (LocalSet (number_local s e.counts.numbers)) (next_number e)
+kept_procedure s d =
+    let e = put (checked (pos 1) (pos 4294967295) empty_procedure) d in
+    one (LocalSet (number_local s e.counts.numbers)) (next_number e)
 
 abbrev pub called_value : TypedModule → ℕ → TypeNo → List Instr
 called_value m t heading = LocalGet t ∷ wrapped ∷ indirect (numbered m) m.types heading ∷ []
@@ -46,4 +50,6 @@ open_code s slot = open_address s slot ++ (extended ∷ high_code s slot)
 
 -- a string with its bytes
 abbrev pub with_passed : List ℕ → Drafted → Drafted
-with_passed text d = put (text_code d.counts.texts ++ (extended ∷ I64Const (length (passed text) - 1) ∷ [])) (next_text (length (passed text)) d)
+with_passed text d =
+    put (text_code d.counts.texts ++ (extended ∷ I64Const (length (passed text) - 1) ∷ []))
+    (next_text (length (passed text)) d)

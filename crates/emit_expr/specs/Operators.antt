@@ -39,7 +39,9 @@ begun_or d = one (I64Const 1) (opened d)
 
 -- an element of a set is kept
 abbrev pub kept_element : Setting → Drafted → Drafted
-kept_element s d = let e = put (checked (pos 0) (pos 31) range_fault) d in one (LocalSet (number_local s e.counts.numbers)) (next_number e)
+kept_element s d =
+    let e = put (checked (pos 0) (pos 31) range_fault) d in
+    one (LocalSet (number_local s e.counts.numbers)) (next_number e)
 
 abbrev pub element_bit : ℕ → List Instr
 element_bit t = LocalGet t ∷ operation ShrU ∷ I64Const 1 ∷ operation And ∷ []
@@ -56,7 +58,10 @@ abbrev pub negative_or_same : ℕ → Instr
 negative_or_same t = chosen_number (negative t) (LocalGet t ∷ [])
 
 abbrev pub with_absolute : Setting → TypeNo → Drafted → Drafted
-with_absolute s t d = if are_same t integer then put (absolute_code (number_local s d.counts.numbers)) (next_number d) else d
+with_absolute s t d =
+    if are_same t integer
+    then put (absolute_code (number_local s d.counts.numbers)) (next_number d)
+    else d
 
 abbrev pub at_most_25 : List Instr
 at_most_25 = I64Const 25 ∷ relation LeU ∷ []

@@ -16,13 +16,19 @@ use Rattle.emit_buffer.specs.Drafts.{Drafted, emitted}
 -- ---- the code of the parts that the scheme gives no name
 
 unfoldable pub argument_code : Numbered → Argument → Coded
-argument_code n = fold-Argument Coded Coded Coded Linked Part Coded argument_layer (call_layer n) component_layer link_layer expr_layer place_layer
+argument_code n =
+    fold-Argument Coded Coded Coded Linked Part Coded argument_layer (call_layer n) component_layer
+    link_layer expr_layer place_layer
 
 unfoldable pub component_code : Numbered → Component → Coded
-component_code n = fold-Component Coded Coded Coded Linked Part Coded argument_layer (call_layer n) component_layer link_layer expr_layer place_layer
+component_code n =
+    fold-Component Coded Coded Coded Linked Part Coded argument_layer (call_layer n) component_layer
+    link_layer expr_layer place_layer
 
 unfoldable pub link_part : Numbered → Link → Linked
-link_part n = fold-Link Coded Coded Coded Linked Part Coded argument_layer (call_layer n) component_layer link_layer expr_layer place_layer
+link_part n =
+    fold-Link Coded Coded Coded Linked Part Coded argument_layer (call_layer n) component_layer
+    link_layer expr_layer place_layer
 
 -- ---- what is appended
 

@@ -26,8 +26,11 @@ begun at = record { ops = []; counts = from_text at }
 
 -- the function of a code that was made
 abbrev pub finished : (type_index : ℕ) → Drafted → Function
-finished t d = record { type_index = t; body = record { locals = locals_of d.counts; code = tree d.ops } }
+finished t d =
+    record { type_index = t; body = record { locals = locals_of d.counts; code = tree d.ops } }
 
 -- where the statements of a procedure stand
 abbrev pub routine_setting : TypedModule → Routine → Setting
-routine_setting m r = setting m (frame m.types r ∷ map (frame m.types) (routines_around m r.level r.around)) (suc (numbers_of m.types r)) (addresses_in r.body)
+routine_setting m r =
+    setting m (frame m.types r ∷ map (frame m.types) (routines_around m r.level r.around))
+    (suc (numbers_of m.types r)) (addresses_in r.body)

@@ -20,7 +20,9 @@ word_at at value = LocalGet 0 ∷ (raised at ++ (value ++ store_scalar word))
 -- the stack's top is kept, and raised by the bytes of a copy
 abbrev pub copy_begun : (top p x element : ℕ) → List Instr
 copy_begun top p x element =
-    LocalGet top ∷ LocalSet p ∷ LocalGet top ∷ (bytes_code (suc x) element ++ (Numeric numeric.I32Add ∷ LocalTee top ∷ limit_check))
+    LocalGet top ∷ LocalSet p ∷ LocalGet top ∷ (bytes_code (suc x) element
+    ++ (Numeric numeric.I32Add ∷ LocalTee top ∷ limit_check))
 
 abbrev pub copy_made : (p x element : ℕ) → List Instr
-copy_made p x element = LocalGet p ∷ LocalGet x ∷ wrapped ∷ (bytes_code (suc x) element ++ (Call copy ∷ []))
+copy_made p x element =
+    LocalGet p ∷ LocalGet x ∷ wrapped ∷ (bytes_code (suc x) element ++ (Call copy ∷ []))

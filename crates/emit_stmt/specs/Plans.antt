@@ -15,14 +15,23 @@ with_few n x = few (n + few (values_of x))
 -- the bounds of one label more
 abbrev pub with_label : Option Bounds → Label → Option Bounds
 with_label None x = Some (record { least = x.low; greatest = x.high; values = few (values_of x) })
-with_label (Some b) x = Some (record { least = lesser b.least x.low; greatest = greater b.greatest x.high; values = with_few b.values x })
+with_label (Some b) x =
+    Some (record {
+      least = lesser b.least x.low;
+      greatest = greater b.greatest x.high;
+      values = with_few b.values x;
+    })
 
 abbrev pub gap_of : Bounds → ℕ
 gap_of b = unsigned_abs (b.greatest -ℤ b.least)
 
 abbrev pub dense : (arms gap values : ℕ) → Bool
-dense n gap values = nat_le n 16 && (nat_le 4 values && (nat_le (suc gap) 1024 && nat_le (suc gap) (4 * values)))
+dense n gap values =
+    nat_le n 16 && (nat_le 4 values && (nat_le (suc gap) 1024 && nat_le (suc gap) (4 * values)))
 
 abbrev pub plan_by : (arms : ℕ) → Option Bounds → Option Plan
 plan_by n None = None
-plan_by n (Some b) = if dense n (gap_of b) b.values then Some (record { least = b.least; span = suc (gap_of b) }) else None
+plan_by n (Some b) =
+    if dense n (gap_of b) b.values
+    then Some (record { least = b.least; span = suc (gap_of b) })
+    else None

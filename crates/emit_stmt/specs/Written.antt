@@ -50,15 +50,20 @@ for_begun s p t a b d = put (stored s.home.types t) (number_kept s (for_limited 
 
 -- before the first turn, and at the end of each
 abbrev pub for_tested : Setting → Place → TypeNo → (by : ℤ) → (n : ℕ) → Drafted → Drafted
-for_tested s p t by n d = put (LocalGet n ∷ relation (passes by) ∷ BrIf 0 ∷ []) (put (loaded s.home.types t) (with_place s p d))
+for_tested s p t by n d =
+    put (LocalGet n ∷ relation (passes by) ∷ BrIf 0 ∷ [])
+    (put (loaded s.home.types t) (with_place s p d))
 
 abbrev pub for_passed : Setting → Place → TypeNo → (by : ℤ) → (n : ℕ) → Drafted → Drafted
 for_passed s p t by n d =
-    put (number by ∷ operation Add ∷ LocalGet n ∷ relation (passes by) ∷ BrIf 1 ∷ []) (put (loaded s.home.types t) (with_place s p d))
+    put (number by ∷ operation Add ∷ LocalGet n ∷ relation (passes by) ∷ BrIf 1 ∷ [])
+    (put (loaded s.home.types t) (with_place s p d))
 
 abbrev pub for_next : Setting → Place → TypeNo → (by : ℤ) → Drafted → Drafted
 for_next s p t by d =
-    put (number by ∷ operation Add ∷ (in_type s.home.types t range_fault ++ (stored s.home.types t ++ Br 0 ∷ [])))
+    put
+    (number by ∷ operation Add ∷ (in_type s.home.types t range_fault ++ (stored s.home.types t
+    ++ Br 0 ∷ [])))
     (put (loaded s.home.types t) (with_place s p (with_place s p d)))
 
 abbrev pub for_turned : Setting → Place → TypeNo → (by : ℤ) → (n : ℕ) → Drafted → Drafted
@@ -67,10 +72,13 @@ for_turned s p t by n d = for_next s p t by (for_passed s p t by n d)
 -- ---- the arms of a CASE, one test after the other
 
 abbrev pub arm_begun : (t : ℕ) → Drafted → TypedArm → Drafted
-arm_begun t d x = closed_block (place_of (opened d)) None (put (tests_code t x.labels) (opened (opened d)))
+arm_begun t d x =
+    closed_block (place_of (opened d)) None (put (tests_code t x.labels) (opened (opened d)))
 
 unfoldable pub with_arm : (t : ℕ) → Setting → Drafted → TypedArm → Drafted
-with_arm t s d x = closed_block (place_of d) None (put (Br 1 ∷ []) (with_steps (deeper 1 s) (arm_begun t d x) x.body))
+with_arm t s d x =
+    closed_block (place_of d) None
+    (put (Br 1 ∷ []) (with_steps (deeper 1 s) (arm_begun t d x) x.body))
 
 abbrev pub with_arms : (t : ℕ) → Setting → Drafted → List TypedArm → Drafted
 with_arms t s d xs = fold (with_arm t s) d xs
@@ -82,7 +90,8 @@ opened_times zero d = d
 opened_times (suc n) d = opened (opened_times n d)
 
 unfoldable pub with_jump : (place left : ℕ) → Setting → Drafted → TypedArm → Drafted
-with_jump p n s d x = put (Br (n + 1) ∷ []) (with_steps (deeper (n + 2) s) (closed_block (p + n) None d) x.body)
+with_jump p n s d x =
+    put (Br (n + 1) ∷ []) (with_steps (deeper (n + 2) s) (closed_block (p + n) None d) x.body)
 
 abbrev pub with_jumps : (place : ℕ) → Setting → Drafted → List TypedArm → Drafted
 with_jumps p s d [] = d
@@ -109,7 +118,8 @@ abbrev pub beyond : (t : ℕ) → (least : ℤ) → (span last : ℕ) → List I
 beyond t low span last = from_least t low ++ (I64Const (span - 1) ∷ relation GtU ∷ BrIf last ∷ [])
 
 abbrev pub dispatch_to : (t : ℕ) → (least : ℤ) → (span : ℕ) → List ℕ → (last : ℕ) → List Instr
-dispatch_to t low span targets last = beyond t low span last ++ (from_least t low ++ (wrapped ∷ BrTable targets last ∷ []))
+dispatch_to t low span targets last =
+    beyond t low span last ++ (from_least t low ++ (wrapped ∷ BrTable targets last ∷ []))
 
 abbrev pub dispatch_in : (t : ℕ) → List TypedArm → (least : ℤ) → (span : ℕ) → List Instr
 dispatch_in t xs low span = dispatch_to t low span (targets_in xs low span) (length xs)
@@ -121,17 +131,22 @@ with_others s d (Some xs) = with_steps s d xs
 
 -- by a table: a block for the whole, one for what is done else, and one for each arm
 abbrev pub table_begun : (t : ℕ) → (least : ℤ) → (span : ℕ) → List TypedArm → Drafted → Drafted
-table_begun t low span xs d = put (dispatch_in t xs low span) (opened_times (length xs) (opened (opened d)))
+table_begun t low span xs d =
+    put (dispatch_in t xs low span) (opened_times (length xs) (opened (opened d)))
 
 abbrev pub by_table : (t : ℕ) → Setting → Drafted → List TypedArm → Drafted
-by_table t s d xs = closed_block (place_of (opened d)) None (with_jumps (place_of (opened (opened d))) s (table_begun t (least_of (labels_in xs)) (span_of (labels_in xs)) xs d) xs)
+by_table t s d xs =
+    closed_block (place_of (opened d)) None
+    (with_jumps (place_of (opened (opened d))) s
+    (table_begun t (least_of (labels_in xs)) (span_of (labels_in xs)) xs d) xs)
 
 -- or one test after the other
 abbrev pub by_tests : (t : ℕ) → Setting → Drafted → List TypedArm → Drafted
 by_tests t s d xs = with_arms t (deeper 1 s) (opened d) xs
 
 unfoldable pub by_cases : (t : ℕ) → Setting → Drafted → List TypedArm → Drafted
-by_cases t s d xs = if is_dense (length xs) (labels_in xs) then by_table t s d xs else by_tests t s d xs
+by_cases t s d xs =
+    if is_dense (length xs) (labels_in xs) then by_table t s d xs else by_tests t s d xs
 
 -- the selector is kept, and all stands in a block
 abbrev pub selected : Setting → TypedExpr → Drafted → Drafted
@@ -140,5 +155,7 @@ selected s e d = number_kept s (with_value s e d)
 abbrev pub selected_local : Setting → TypedExpr → Drafted → ℕ
 selected_local s e d = number_local s (with_value s e d).counts.numbers
 
-abbrev pub all_cases : (t : ℕ) → Setting → Drafted → List TypedArm → Option (List TypedStmt) → Drafted
-all_cases t s d xs others = closed_block (place_of d) None (with_others (deeper 1 s) (by_cases t s d xs) others)
+abbrev pub all_cases : (t : ℕ) → Setting → Drafted → List TypedArm → Option (List TypedStmt)
+    → Drafted
+all_cases t s d xs others =
+    closed_block (place_of d) None (with_others (deeper 1 s) (by_cases t s d xs) others)

@@ -19,13 +19,21 @@ of_procedure m f = if is_own m f.home then [] else of_heading m.types f.heading 
 
 module _ (m : TypedModule) where
   unfoldable pub of_argument : Argument → Signatures
-  of_argument = fold-Argument Signatures Signatures Signatures Signatures Signatures Signatures (argument_layer m) (call_layer m) (component_layer m) (link_layer m) (expr_layer m) (place_layer m)
+  of_argument =
+      fold-Argument Signatures Signatures Signatures Signatures Signatures Signatures
+      (argument_layer m) (call_layer m) (component_layer m) (link_layer m) (expr_layer m)
+      (place_layer m)
 
   unfoldable pub of_component : Component → Signatures
-  of_component = fold-Component Signatures Signatures Signatures Signatures Signatures Signatures (argument_layer m) (call_layer m) (component_layer m) (link_layer m) (expr_layer m) (place_layer m)
+  of_component =
+      fold-Component Signatures Signatures Signatures Signatures Signatures Signatures
+      (argument_layer m) (call_layer m) (component_layer m) (link_layer m) (expr_layer m)
+      (place_layer m)
 
   unfoldable pub of_link : Link → Signatures
-  of_link = fold-Link Signatures Signatures Signatures Signatures Signatures Signatures (argument_layer m) (call_layer m) (component_layer m) (link_layer m) (expr_layer m) (place_layer m)
+  of_link =
+      fold-Link Signatures Signatures Signatures Signatures Signatures Signatures (argument_layer m)
+      (call_layer m) (component_layer m) (link_layer m) (expr_layer m) (place_layer m)
 
   unfoldable pub of_arm : TypedArm → Signatures
   of_arm = fold-TypedArm Signatures Signatures (step_layer m) (arm_layer m)

@@ -11,7 +11,8 @@ number_at (Some x) true = x.giving
 number_at (Some x) false = x.without
 
 abbrev pub number_in : List Numbers → ℕ → Bool → ℕ
-number_in rows n r = if is_same (signature n r) body_signature then 5 else number_at (slice_get rows n) r
+number_in rows n r =
+    if is_same (signature n r) body_signature then 5 else number_at (slice_get rows n) r
 
 -- the table has the number of each type in the list
 abbrev pub AreNumbers : List Signature → List Numbers → Type 0

@@ -40,7 +40,10 @@ noted_or x (which.Module n) at = or_else (slice_get x.procedures n) at
 noted_or x (which.Local n) at = or_else (slice_get x.locals n) at
 
 abbrev pub no_offsets : TypedModule → Offsets
-no_offsets m = record { procedures = replicate (length m.procedures) None; locals = replicate (length m.locals) None }
+no_offsets m = record {
+  procedures = replicate (length m.procedures) None;
+  locals = replicate (length m.locals) None;
+}
 
 -- ---- the texts of procedures, one after another
 
@@ -48,7 +51,10 @@ abbrev pub nothing_yet : TypedModule → Gathering
 nothing_yet m = record { characters = []; offsets = no_offsets m }
 
 abbrev pub with_which : TypedModule → Gathering → Which → Gathering
-with_which m x w = record { characters = x.characters ++ which_written m w; offsets = noted_which x.offsets w (length x.characters) }
+with_which m x w = record {
+  characters = x.characters ++ which_written m w;
+  offsets = noted_which x.offsets w (length x.characters);
+}
 
 abbrev pub gathered : TypedModule → Gathering
 gathered m = fold (with_which m) (nothing_yet m) m.order
@@ -63,5 +69,7 @@ pub record AreTexts (m : TypedModule) (x : ModuleTexts) : Type 0 where
   pub all : x.characters ≡ all_characters (module_texts m)
   -- the texts of the body stand behind all others
   pub behind : x.body ≡ characters (routines_texts m)
-  pub procedures : (n : ℕ) → n < length m.procedures → offset_in x (which.Module n) ≡ characters (texts_before m (which.Module n) m.order)
-  pub locals : (n : ℕ) → n < length m.locals → offset_in x (which.Local n) ≡ characters (texts_before m (which.Local n) m.order)
+  pub procedures : (n : ℕ) → n < length m.procedures
+      → offset_in x (which.Module n) ≡ characters (texts_before m (which.Module n) m.order)
+  pub locals : (n : ℕ) → n < length m.locals
+      → offset_in x (which.Local n) ≡ characters (texts_before m (which.Local n) m.order)

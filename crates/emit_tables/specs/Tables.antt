@@ -26,11 +26,17 @@ abbrev pub entered_both : List Signature → ℕ → Mark → List Signature
 entered_both list n x = entered_first list n x ++ entered x.giving n true
 
 abbrev pub numbers_for : List Signature → ℕ → Mark → Numbers
-numbers_for list n x = record { without = number_behind (is_wanted n x) list; giving = number_behind x.giving (entered_first list n x) }
+numbers_for list n x = record {
+  without = number_behind (is_wanted n x) list;
+  giving = number_behind x.giving (entered_first list n x);
+}
 
 -- the types with one more argument
 abbrev pub with_mark : Table → Mark → Table
-with_mark t x = record { list = entered_both t.list (length t.numbers) x; numbers = t.numbers ++ numbers_for t.list (length t.numbers) x ∷ [] }
+with_mark t x = record {
+  list = entered_both t.list (length t.numbers) x;
+  numbers = t.numbers ++ numbers_for t.list (length t.numbers) x ∷ [];
+}
 
 abbrev pub no_table : Table
 no_table = record { list = []; numbers = [] }

@@ -42,7 +42,8 @@ AreFound gives count modules = All (λ m. AreSources gives count m.name m.source
 
 -- ---- which modules
 
--- The most modules whose imports are followed: as many as a program may have files, so one with more is refused.
+-- The most modules whose imports are followed: as many as a program may have files, so one with
+-- more is refused.
 abbrev pub max_modules : ℕ
 max_modules = 1024
 
@@ -81,11 +82,15 @@ SourcesImport (Some s) names = TextsImport s names
 -- the modules that these modules import, in their order
 pub data ModulesImport : List FoundModule → List (List ℕ) → Type 0 where
   NoModule : ModulesImport [] []
-  Further : (m : FoundModule) (ms : List FoundModule) (names more : List (List ℕ)) → SourcesImport m.sources names → ModulesImport ms more → ModulesImport (m ∷ ms) (names ++ more)
+  Further : (m : FoundModule) (ms : List FoundModule) (names more : List (List ℕ))
+      → SourcesImport m.sources names
+      → ModulesImport ms more
+      → ModulesImport (m ∷ ms) (names ++ more)
 
--- The modules of a program are those that its text imports and those that they import themselves, each once; and each is
--- where it is found first.
-pub record AreOf (gives : Folders) (count : ℕ) (program : List ℕ) (modules : List FoundModule) : Type 0 where
+-- The modules of a program are those that its text imports and those that they import themselves,
+-- each once; and each is where it is found first.
+pub record AreOf (gives : Folders) (count : ℕ) (program : List ℕ) (modules : List FoundModule)
+    : Type 0 where
   pub own : List (List ℕ)
   pub others : List (List ℕ)
   pub program_imports : Imports program own
@@ -94,7 +99,8 @@ pub record AreOf (gives : Folders) (count : ℕ) (program : List ℕ) (modules :
   pub found : AreFound gives count modules
 
 -- modules behind others: those of these names that are new, each where it is found first
-pub record AreAdded (gives : Folders) (count : ℕ) (names : List (List ℕ)) (old new : List FoundModule) : Type 0 where
+pub record AreAdded (gives : Folders) (count : ℕ) (names : List (List ℕ))
+    (old new : List FoundModule) : Type 0 where
   pub more : List FoundModule
   pub behind : new ≡ old ++ more
   pub new_names : map name_of new ≡ fold with_name (map name_of old) names

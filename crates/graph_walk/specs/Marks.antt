@@ -9,7 +9,8 @@ weight [] (b ∷ bs) = cond b 0 2 + weight [] bs
 weight (l ∷ ls) (b ∷ bs) = cond b 0 (length l + 2) + weight ls bs
 
 -- These nodes get marks, and those that had none stand then among the nodes to be done.
-pub record Marks (nodes : List ℕ) (flags : List Bool) (todo : List ℕ) (flags' : List Bool) (todo' : List ℕ) : Type 0 where
+pub record Marks (nodes : List ℕ) (flags : List Bool) (todo : List ℕ) (flags' : List Bool)
+    (todo' : List ℕ) : Type 0 where
   pub same : length flags' ≡ length flags
   pub marked : (k : ℕ) → flag flags' k ≡ (flag flags k || has nodes k)
   pub added : (k : ℕ) → has todo' k ≡ (has todo k || (has nodes k && not (flag flags k)))

@@ -15,10 +15,13 @@ count_at counts node = slice_index_or counts node 0
 
 -- These are the definitions without number whose count is zero, each once.
 abbrev pub AreReady : (definitions done : List Bool) → (counts ready : List ℕ) → Type 0
-AreReady definitions done counts ready = (k : ℕ) → times ready k ≡ cond (is_open definitions done k && (count_at counts k == 0)) 1 0
+AreReady definitions done counts ready =
+    (k : ℕ) → times ready k ≡ cond (is_open definitions done k && (count_at counts k == 0)) 1 0
 
--- For each of these nodes one is settled, as often as it is there, and those that are ready then are added.
-pub record Settles (definitions done : List Bool) (nodes counts ready counts' ready' : List ℕ) : Type 0 where
+-- For each of these nodes one is settled, as often as it is there, and those that are ready then
+-- are added.
+pub record Settles (definitions done : List Bool) (nodes counts ready counts' ready' : List ℕ)
+    : Type 0 where
   pub same : length counts' ≡ length counts
   pub counted : (k : ℕ) → count_at counts' k + times nodes k ≡ count_at counts k
   pub readied : AreReady definitions done counts ready → AreReady definitions done counts' ready'

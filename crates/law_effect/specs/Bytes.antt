@@ -1,4 +1,5 @@
--- Bytes in a memory: one of them, bytes copied and cleared one by one, and what a change leaves alone.
+-- Bytes in a memory: one of them, bytes copied and cleared one by one, and what a change leaves
+-- alone.
 use Rattle.std.specs.Prelude.{◌≡◌, ℕ, zero, suc, ◌+◌, ◌<◌, ◌≤◌, ◌⊎◌, List, [], ◌∷◌, slice_index_or}
 use Rattle.wasm_tree.specs.Machine.{pasted}
 

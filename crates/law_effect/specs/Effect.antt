@@ -1,5 +1,5 @@
--- What nested code of a module does, as a function: each loop is begun at most n times, and calls nest at most n deep.
--- The loops of a function may be given more turns.
+-- What nested code of a module does, as a function: each loop is begun at most n times, and calls
+-- nest at most n deep. The loops of a function may be given more turns.
 use Rattle.std.specs.Prelude.{ℕ, zero, suc, ◌+◌, ◌==◌, Bool, List, [], ◌∷◌, ◌++◌, length, map, slice_index_or, Option, Some, None, if◌then◌else◌}
 use Rattle.wasm_tree.specs.declared.instr.Instr.{Instr, Instr-F, map-Instr, fold-Instr}
 use Rattle.wasm_tree.specs.declared.instr.Instr.TheOpen as layer
@@ -37,8 +37,9 @@ store_of fx bytes = record {
   instances = fx.instances;
 }
 
--- what code does: it falls through, branches to a label that is so many outside of the code, returns, ends the run, traps,
--- or still runs. The operands come with it, the last one on top; a label or the end of a function keeps what it asks for
+-- what code does: it falls through, branches to a label that is so many outside of the code,
+-- returns, ends the run, traps, or still runs. The operands come with it, the last one on top; a
+-- label or the end of a function keeps what it asks for
 pub data Effect : Type 0 where
   FellThrough : (st : State) (stack : List Value) → Effect
   Branched : (label : ℕ) (st : State) (stack : List Value) → Effect
@@ -73,7 +74,8 @@ exec (d ∷ ds) st stack = then_run (d st stack) (exec ds)
 
 -- a branch to a label: so many operands are kept above those that stood below the block
 abbrev pub to_label : (arity height : ℕ) → State → List Value → Does → Effect
-to_label arity height st stack go = or_traps st.out (split_end arity stack) (λ p. go st (kept height p))
+to_label arity height st stack go =
+    or_traps st.out (split_end arity stack) (λ p. go st (kept height p))
 
 -- out of a block that began above so many operands
 abbrev pub out_of : (arity height : ℕ) → Effect → Effect
@@ -102,7 +104,9 @@ turns (suc k) body st stack = turn (length stack) (body st stack) (turns k body)
 
 -- back in the caller, whose locals and operands were these, with so many results
 abbrev pub back_with : (arity : ℕ) (locals below : List Value) → State → List Value → Effect
-back_with arity locals below st stack = or_traps st.out (split_end arity stack) (λ p. FellThrough (record st { locals = locals }) (below ++ p.1))
+back_with arity locals below st stack =
+    or_traps st.out (split_end arity stack) (λ p.
+    FellThrough (record st { locals = locals }) (below ++ p.1))
 
 abbrev pub back : (arity : ℕ) (locals below : List Value) → Effect → Effect
 back arity locals below (FellThrough st stack) = back_with arity locals below st stack
@@ -119,13 +123,15 @@ bytes_of [] = []
 bytes_of (m ∷ ms) = m.bytes
 
 abbrev pub of_config : (out : List ℕ) → Config → Effect
-of_config out (Going st now callers) = FellThrough (record { locals = now.locals; bytes = bytes_of st.memories; out = out }) now.stack
+of_config out (Going st now callers) =
+    FellThrough (record { locals = now.locals; bytes = bytes_of st.memories; out = out }) now.stack
 of_config out (Over k) = Ended k out
 of_config out Trapped = Traps out
 
 -- the function that runs, with nothing around it
 abbrev pub alone : (m : ℕ) → State → List Value → Activation
-alone m st stack = record { instance = m; arity = 0; locals = st.locals; labels = []; rest = []; stack = stack }
+alone m st stack =
+    record { instance = m; arity = 0; locals = st.locals; labels = []; rest = []; stack = stack }
 
 abbrev pub picked : (condition : ℕ) → List Does → Option (List Does) → List Does
 picked condition body None = if condition == 0 then [] else body
@@ -134,27 +140,45 @@ picked condition body (Some otherwise) = if condition == 0 then otherwise else b
 module _ (modules : List WModule) (fx : Fixed) where
   -- the machine's own meaning
   abbrev pub plainly : (m : ℕ) → Instr-F Does → Does
-  plainly m x st stack = of_config st.out (begun_layer modules (store_of fx st.bytes) (alone m st stack) [] Unreachable (map-Instr Does Instr (λ d. Unreachable) x)).0
+  plainly m x st stack =
+      of_config st.out
+      (begun_layer modules (store_of fx st.bytes) (alone m st stack) [] Unreachable
+      (map-Instr Does Instr (λ d. Unreachable) x)).0
 
   -- the caller is the module of the number m
   abbrev pub call : Calling → (m : ℕ) → Callee → Does
-  call calls m Put st stack = let p = called modules (store_of fx st.bytes) (alone m st stack) [] Put in of_config (st.out ++ p.1) p.0
-  call calls m Stop st stack = of_config st.out (called modules (store_of fx st.bytes) (alone m st stack) [] Stop).0
+  call calls m Put st stack =
+      let p = called modules (store_of fx st.bytes) (alone m st stack) [] Put in
+      of_config (st.out ++ p.1) p.0
+  call calls m Stop st stack =
+      of_config st.out (called modules (store_of fx st.bytes) (alone m st stack) [] Stop).0
   call calls m (Own k f) st stack =
-      or_traps st.out (own_function modules k f) (λ t. or_traps st.out (split_end (length t.type.params) stack) (λ p. back (length t.type.results) st.locals p.0 (calls k f t p.1 st.bytes st.out)))
+      or_traps st.out (own_function modules k f) (λ t.
+      or_traps st.out (split_end (length t.type.params) stack) (λ p.
+      back (length t.type.results) st.locals p.0 (calls k f t p.1 st.bytes st.out)))
 
   abbrev pub does_layer : (n : ℕ) → Calling → (m : ℕ) → Instr-F Does → Does
-  does_layer n calls m (layer.Block t body) st stack = out_of (results_of t) (length stack) (exec body st stack)
+  does_layer n calls m (layer.Block t body) st stack =
+      out_of (results_of t) (length stack) (exec body st stack)
   does_layer n calls m (layer.Loop t body) st stack = turns n (exec body) st stack
   does_layer n calls m (layer.If t body otherwise) st stack =
-      or_traps st.out (top_i32 stack) (λ p. out_of (results_of t) (length p.0) (exec (picked p.1 body otherwise) st p.0))
+      or_traps st.out (top_i32 stack) (λ p.
+      out_of (results_of t) (length p.0) (exec (picked p.1 body otherwise) st p.0))
   does_layer n calls m (layer.Br l) st stack = Branched l st stack
-  does_layer n calls m (layer.BrIf l) st stack = or_traps st.out (top_i32 stack) (λ p. if p.1 == 0 then FellThrough st p.0 else Branched l st p.0)
-  does_layer n calls m (layer.BrTable ls l) st stack = or_traps st.out (top_i32 stack) (λ p. Branched (slice_index_or ls p.1 l) st p.0)
+  does_layer n calls m (layer.BrIf l) st stack =
+      or_traps st.out (top_i32 stack) (λ p.
+      if p.1 == 0 then FellThrough st p.0 else Branched l st p.0)
+  does_layer n calls m (layer.BrTable ls l) st stack =
+      or_traps st.out (top_i32 stack) (λ p. Branched (slice_index_or ls p.1 l) st p.0)
   does_layer n calls m layer.Return st stack = Returned st stack
-  does_layer n calls m (layer.Call f) st stack = or_traps st.out (callee_at (store_of fx st.bytes) m f) (λ c. call calls m c st stack)
+  does_layer n calls m (layer.Call f) st stack =
+      or_traps st.out (callee_at (store_of fx st.bytes) m f) (λ c. call calls m c st stack)
   does_layer n calls m (layer.CallIndirect t) st stack =
-      or_traps st.out (top_i32 stack) (λ p. or_traps st.out (callee_in (store_of fx st.bytes) m p.1) (λ c. if agree (type_at modules m t) (callee_type modules c) then call calls m c st p.0 else Traps st.out))
+      or_traps st.out (top_i32 stack) (λ p.
+      or_traps st.out (callee_in (store_of fx st.bytes) m p.1) (λ c.
+      if agree (type_at modules m t) (callee_type modules c)
+      then call calls m c st p.0
+      else Traps st.out))
   does_layer n calls m x st stack = plainly m x st stack
 
   -- what an instruction does, and what code does
@@ -164,15 +188,21 @@ module _ (modules : List WModule) (fx : Fixed) where
   abbrev pub effect : (n : ℕ) → Calling → (m : ℕ) → List Instr → Does
   effect n calls m code = exec (map (does n calls m) code)
 
-  -- calls that nest at most d deep. The loops of the function f of the module k are begun extra k f more times at most
+  -- calls that nest at most d deep. The loops of the function f of the module k are begun extra k f
+  -- more times at most
   unfoldable pub calling : (extra : (k f : ℕ) → ℕ) (n d : ℕ) → Calling
   calling extra n zero k f t args bytes out = StillRunning out
   calling extra n (suc d) k f t args bytes out =
-      effect (n + extra k f) (calling extra n d) k t.function.body.code (record { locals = (entered k t args).locals; bytes = bytes; out = out }) []
+      effect (n + extra k f) (calling extra n d) k t.function.body.code
+      (record { locals = (entered k t args).locals; bytes = bytes; out = out }) []
 
-  -- Calls that nest at most d deep, where functions that serve the others do not count. These call as deep as they need to.
+  -- Calls that nest at most d deep, where functions that serve the others do not count. These call
+  -- as deep as they need to.
   unfoldable pub nested : (serves : (k f : ℕ) → Bool) (extra : (k f : ℕ) → ℕ) (n d : ℕ) → Calling
-  nested serves extra n zero k f t args bytes out = if serves k f then calling extra n (suc (suc n)) k f t args bytes out else StillRunning out
+  nested serves extra n zero k f t args bytes out =
+      if serves k f then calling extra n (suc (suc n)) k f t args bytes out else StillRunning out
   nested serves extra n (suc d) k f t args bytes out =
-      if serves k f then calling extra n (suc (suc n)) k f t args bytes out
-      else effect (n + extra k f) (nested serves extra n d) k t.function.body.code (record { locals = (entered k t args).locals; bytes = bytes; out = out }) []
+      if serves k f
+      then calling extra n (suc (suc n)) k f t args bytes out
+      else effect (n + extra k f) (nested serves extra n d) k t.function.body.code
+      (record { locals = (entered k t args).locals; bytes = bytes; out = out }) []

@@ -1,4 +1,5 @@
--- The modules that start, as a compiler needs them. Places are those of the files as they were given.
+-- The modules that start, as a compiler needs them. Places are those of the files as they were
+-- given.
 use Rattle.std.specs.Prelude.{◌≡◌, ◌≢◌, ◌<◌, ◌≤◌, ℕ, Bool, true, false, List, [], ◌∷◌, ◌++◌, Option, Some, None, length, map, slice_get, ◌⊎◌}
 use Rattle.std.specs.List.{All, filter_map, list_any}
 use Rattle.std.specs.Str.{bytes_eq}
@@ -38,11 +39,15 @@ definition_imported trees (Some place) = imported_by (slice_get trees place)
 abbrev pub all_imported : List Module → Module → List Ident
 all_imported trees m = definition_imported trees (definition_of trees m.name.name) ++ imported m
 
--- These places are those of bodies with names of their own, and what one of them or its definition imports is built in
--- or is among them.
+-- These places are those of bodies with names of their own, and what one of them or its definition
+-- imports is built in or is among them.
 pub record AreStarted (trees : List Module) (starts : List ℕ) : Type 0 where
   pub within : All (λ s. s < length trees) starts
   pub bodies : All (λ m. is_definition m ≡ false) (at_places trees starts)
   pub distinct : AreApart (names_of (at_places trees starts))
-  pub closed : All (λ m. All (λ x. (is_console x.name ≡ true) ⊎ (is_named (at_places trees starts) x.name ≡ true)) (all_imported trees m)) (at_places trees starts)
+  pub closed : All
+      (λ m.
+      All (λ x. (is_console x.name ≡ true) ⊎ (is_named (at_places trees starts) x.name ≡ true))
+      (all_imported trees m))
+      (at_places trees starts)
   pub few : length starts ≤ max_files

@@ -18,7 +18,8 @@ use Rattle.law_least_definition.specs.Least.{IsLeast, Reports}
 -- lists of one length, element by element
 pub data Pairwise {A B : Type 0} (R : A → B → Type 0) : List A → List B → Type 0 where
   none : Pairwise R [] []
-  more : {a : A} {b : B} {xs : List A} {ys : List B} → R a b → Pairwise R xs ys → Pairwise R (a ∷ xs) (b ∷ ys)
+  more : {a : A} {b : B} {xs : List A} {ys : List B} → R a b → Pairwise R xs ys
+      → Pairwise R (a ∷ xs) (b ∷ ys)
 
 -- nothing in both, or something
 pub data Optionwise {A B : Type 0} (R : A → B → Type 0) : Option A → Option B → Type 0 where
@@ -26,35 +27,67 @@ pub data Optionwise {A B : Type 0} (R : A → B → Type 0) : Option A → Optio
   something : {a : A} {b : B} → R a b → Optionwise R (Some a) (Some b)
 
 -- what a name or a designator means: the same meaning, or no meaning in both for the same reason
-pub data SoughtBeside {A : Type 0} : Result A (Meaningless Fault) → Result A (Meaningless (List Fault)) → Type 0 where
+pub data SoughtBeside {A : Type 0}
+    : Result A (Meaningless Fault) → Result A (Meaningless (List Fault)) → Type 0 where
   is_found : (a : A) → SoughtBeside (Ok a) (Ok a)
-  is_broken : (f : Fault) (fs : List Fault) → IsLeast f fs → SoughtBeside (Err (Broken f)) (Err (Broken fs))
-  is_headless : (f : Fault) (fs : List Fault) → IsLeast f fs → SoughtBeside (Err (Headless f)) (Err (Headless fs))
+  is_broken : (f : Fault) (fs : List Fault) → IsLeast f fs
+      → SoughtBeside (Err (Broken f)) (Err (Broken fs))
+  is_headless : (f : Fault) (fs : List Fault) → IsLeast f fs
+      → SoughtBeside (Err (Headless f)) (Err (Headless fs))
 
 pub data KnownBeside : Known Fault → Known (List Fault) → Type 0 where
   known_later : KnownBeside Later Later
   known_ahead : KnownBeside Ahead Ahead
   known_begun : KnownBeside Begun Begun
-  known_headed : {m : Result Meaning Fault} {m' : Result Meaning (List Fault)} → Reports m m' → KnownBeside (Headed m) (Headed m')
-  known_declared : (o : Origin) {m : Result Meaning Fault} {m' : Result Meaning (List Fault)} → Reports m m' → KnownBeside (Declared o m) (Declared o m')
+  known_headed : {m : Result Meaning Fault} {m' : Result Meaning (List Fault)} → Reports m m'
+      → KnownBeside (Headed m) (Headed m')
+  known_declared : (o : Origin) {m : Result Meaning Fault} {m' : Result Meaning (List Fault)}
+      → Reports m m' → KnownBeside (Declared o m) (Declared o m')
 
 pub data EntryBeside : List ℕ × Known Fault → List ℕ × Known (List Fault) → Type 0 where
-  entry : (name : List ℕ) {k : Known Fault} {k' : Known (List Fault)} → KnownBeside k k' → EntryBeside (name, k) (name, k')
+  entry : (name : List ℕ) {k : Known Fault} {k' : Known (List Fault)} → KnownBeside k k'
+      → EntryBeside (name, k) (name, k')
 
 pub data BlockBeside : Block Fault → Block (List Fault) → Type 0 where
-  block : (seen : ℕ) {names : List (List ℕ × Known Fault)} {names' : List (List ℕ × Known (List Fault))} → Pairwise EntryBeside names names' → BlockBeside (record { names = names; seen = seen }) (record { names = names'; seen = seen })
+  block : (seen : ℕ) {names : List (List ℕ × Known Fault)}
+      {names' : List (List ℕ × Known (List Fault))}
+      → Pairwise EntryBeside names names'
+      → BlockBeside (record { names = names; seen = seen }) (record { names = names'; seen = seen })
 
 pub data SightBeside : Known Fault × Bool → Known (List Fault) × Bool → Type 0 where
-  sight : (seen : Bool) {k : Known Fault} {k' : Known (List Fault)} → KnownBeside k k' → SightBeside (k, seen) (k', seen)
+  sight : (seen : Bool) {k : Known Fault} {k' : Known (List Fault)} → KnownBeside k k'
+      → SightBeside (k, seen) (k', seen)
 
 pub data ScopeBeside : Scope Fault → Scope (List Fault) → Type 0 where
-  scopes : (tables : List Table) (types : Types) (variables procedures : List TypeNo) {level : ℕ} {withs : List OpenedRecord}
-      {own : List (List ℕ × Known Fault)} {own' : List (List ℕ × Known (List Fault))} {outer : List (Block Fault)} {outer' : List (Block (List Fault))}
-      → Pairwise EntryBeside own own' → Pairwise BlockBeside outer outer'
-      → ScopeBeside (record { tables = tables; types = types; variables = variables; procedures = procedures; level = level; own = own; outer = outer; withs = withs })
-      (record { tables = tables; types = types; variables = variables; procedures = procedures; level = level; own = own'; outer = outer'; withs = withs })
+  scopes : (tables : List Table) (types : Types) (variables procedures : List TypeNo) {level : ℕ}
+      {withs : List OpenedRecord} {own : List (List ℕ × Known Fault)}
+      {own' : List (List ℕ × Known (List Fault))} {outer : List (Block Fault)}
+      {outer' : List (Block (List Fault))}
+      → Pairwise EntryBeside own own'
+      → Pairwise BlockBeside outer outer'
+      → ScopeBeside
+      (record {
+        tables = tables;
+        types = types;
+        variables = variables;
+        procedures = procedures;
+        level = level;
+        own = own;
+        outer = outer;
+        withs = withs;
+      }) (record {
+        tables = tables;
+        types = types;
+        variables = variables;
+        procedures = procedures;
+        level = level;
+        own = own';
+        outer = outer';
+        withs = withs;
+      })
 
 -- a scope and what is reported
-pub record StateBeside {A : Type 0} (st : Scope Fault × Result A Fault) (st' : Scope (List Fault) × Result A (List Fault)) : Type 0 where
+pub record StateBeside {A : Type 0} (st : Scope Fault × Result A Fault)
+    (st' : Scope (List Fault) × Result A (List Fault)) : Type 0 where
   pub scope : ScopeBeside st.0 st'.0
   pub reported : Reports st.1 st'.1

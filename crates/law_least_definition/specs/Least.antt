@@ -9,7 +9,8 @@ pub record IsLeast (f : Fault) (fs : List Fault) : Type 0 where
   pub among : Contains fs f
   pub none_less : All (λ g. is_less g f ≡ false) fs
 
--- what is reported, beside what all broken rules are: the same meaning where there are none, and else the least of them
+-- what is reported, beside what all broken rules are: the same meaning where there are none, and
+-- else the least of them
 pub data Reports {A : Type 0} : Result A Fault → Result A (List Fault) → Type 0 where
   fine : (a : A) → Reports (Ok a) (Ok a)
   is_refused : (f : Fault) (fs : List Fault) → IsLeast f fs → Reports (Err f) (Err fs)

@@ -51,7 +51,8 @@ lowered (Callable h) n = n
 
 -- the operand that is loaded from place a, if it is there
 abbrev pub fetched : Scalar → ℕ → List ℕ → Option ℕ
-fetched c a m = option_map (λ bytes. raised c (loaded (load_of c) bytes)) (bytes_at (load_size (load_of c)) a m)
+fetched c a m =
+    option_map (λ bytes. raised c (loaded (load_of c) bytes)) (bytes_at (load_size (load_of c)) a m)
 
 -- the memory with this operand stored at place a
 abbrev pub put : Scalar → ℕ → ℕ → List ℕ → List ℕ

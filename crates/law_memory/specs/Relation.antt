@@ -70,7 +70,8 @@ IsNumber Integer = Unit {0}
 IsNumber (Between l g) = Unit {0}
 IsNumber (Callable h) = ⊥
 
--- what a cell of this type says, that it is a number of the type, and that what it stands for is there
+-- what a cell of this type says, that it is a number of the type, and that what it stands for is
+-- there
 pub record Says (p : Modules) (c : Scalar) (a : ℕ) (v : ℤ) (mem : List ℕ) : Type 0 where
   pub value : value_of c (number (width c) a mem) ≡ v
   pub within : IsOf c v
@@ -78,14 +79,19 @@ pub record Says (p : Modules) (c : Scalar) (a : ℕ) (v : ℤ) (mem : List ℕ) 
 
 -- from address a on the memory has the values of a variable of this type
 abbrev pub Shows : Modules → (t : Ty) (a : ℕ) → (Location → ℤ) → List ℕ → Type 0
-Shows p t a f mem = (r : Location) (c : Scalar) → component t r ≡ Some (Cell c) → Says p c (a + offset t r) (f r) mem
+Shows p t a f mem =
+    (r : Location) (c : Scalar) → component t r ≡ Some (Cell c)
+    → Says p c (a + offset t r) (f r) mem
 
 -- and what stands in the hidden room
 abbrev pub Hides : (t : Ty) (a : ℕ) → (Location → ℕ → ℕ) → List ℕ → Type 0
-Hides t a x mem = (r : Location) (n k : ℕ) → component t r ≡ Some (Hidden n) → k < n → byte (a + offset t r + k) mem ≡ x r k
+Hides t a x mem =
+    (r : Location) (n k : ℕ) → component t r ≡ Some (Hidden n) → k < n
+    → byte (a + offset t r + k) mem ≡ x r k
 
 -- the memory holds the store of a program, where instances of these types live
-pub record Holds (p : Modules) (world : List Ty) (x : Location → ℕ → ℕ) (s : Store) (mem : List ℕ) : Type 0 where
+pub record Holds (p : Modules) (world : List Ty) (x : Location → ℕ → ℕ) (s : Store) (mem : List ℕ)
+    : Type 0 where
   pub bytes : (a : ℕ) → byte a mem < 256
   pub room : size (row world) ≤ length mem
   pub cells : Shows p (row world) 0 s mem

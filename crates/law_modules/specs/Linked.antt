@@ -43,7 +43,8 @@ text m = all_characters (module_texts m)
 abbrev pub count : TypedModule → ℕ
 count m = length (functions m)
 
--- ---- what stands in the store for modules, of which the first has this number, place, slot or address
+-- ---- what stands in the store for modules, of which the first has this number, place, slot or
+-- address
 
 -- the place of its variables, that of its texts, and its first slot
 abbrev pub values : (place slot : ℕ) → Program → List Value
@@ -174,8 +175,8 @@ begin p = record {
 abbrev pub IsAmong : List (List ℕ) → List ℕ → Type 0
 IsAmong all name = list_any (λ other. bytes_eq other name) all ≡ true
 
--- The modules have names of their own, each imports modules of the program alone, and their variables and texts have room in
--- the memory.
+-- The modules have names of their own, each imports modules of the program alone, and their
+-- variables and texts have room in the memory.
 pub record IsLinkable (p : Program) (pages : ℕ) : Type 0 where
   pub distinct : AreDistinct (names p)
   pub imports : All (λ m. All (IsAmong (names p)) (imported_names m)) p

@@ -16,7 +16,8 @@ pub record IsRange (t : TypeNo) (s : Range) : Type 0 where
   pub high : s.high ≤ℤ pos 4294967295
   pub some : s.low ≤ℤ s.high
   pub narrow : (s.high -ℤ s.low) ≤ℤ pos 4294967295
-  pub integer : are_same t s.base ≡ true → is_integer t ≡ true → (s.low ≡ negsuc 2147483647) × (s.high ≡ pos 2147483647)
+  pub integer : are_same t s.base ≡ true → is_integer t ≡ true
+      → (s.low ≡ negsuc 2147483647) × (s.high ≡ pos 2147483647)
   pub base : are_same t s.base ≡ true → is_integer t ≡ false → s.low ≡ pos 0
 
 abbrev pub IsRanged : TypeNo → Shape → Type 0
@@ -46,4 +47,6 @@ pub record AreRanged (types : Types) : Type 0 where
 
 -- the range of a type that is known
 abbrev pub RangesAreKnown : Type 0
-RangesAreKnown = (types : Types) → AreRanged types → (t : TypeNo) (r : Range) → scalar_at types t ≡ Some r → IsRange t r
+RangesAreKnown =
+    (types : Types) → AreRanged types → (t : TypeNo) (r : Range) → scalar_at types t ≡ Some r
+    → IsRange t r

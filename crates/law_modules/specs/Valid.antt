@@ -8,7 +8,8 @@ use Rattle.law_modules.specs.WellFormed.{IsWellFormed}
 abbrev pub ModulesAreValid : Type 0
 ModulesAreValid = (m : TypedModule) → IsWellFormed m → IsValid (typed_module m)
 
--- no two modules of the program have one name, and its memory and its table have a size that there can be
+-- no two modules of the program have one name, and its memory and its table have a size that there
+-- can be
 abbrev pub LinkIsValid : Type 0
 LinkIsValid = (ms : List TypedModule) (pages : ℕ) → pages ≤ 65536
     → all_slots (map part_of ms) < 2 ^ 32 → AreDistinct (map (λ m. m.name) ms)

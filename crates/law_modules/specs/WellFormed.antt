@@ -173,11 +173,17 @@ mutual
     Member : (w : ℕ) (l : Bool) (o : Membership) (d : Place) (e : TypedExpr) → IsPlace m w d
         → IsExpr m w e → IsStmt m gives w l (stmt.Membership o d e)
     Halt : (w : ℕ) (l : Bool) → IsStmt m gives w l stmt.Halt
-    If : (w : ℕ) (l : Bool) (e : TypedExpr) (body : List TypedStmt) (others : Option (List TypedStmt))
-        → IsExpr m w e → AreStmts m gives w l body → AreOthers m gives w l others
+    If : (w : ℕ) (l : Bool) (e : TypedExpr) (body : List TypedStmt)
+        (others : Option (List TypedStmt))
+        → IsExpr m w e
+        → AreStmts m gives w l body
+        → AreOthers m gives w l others
         → IsStmt m gives w l (stmt.If e body others)
-    Case : (w : ℕ) (l : Bool) (e : TypedExpr) (arms : List TypedArm) (others : Option (List TypedStmt))
-        → IsExpr m w e → AreArms m gives w l arms → AreOthers m gives w l others
+    Case : (w : ℕ) (l : Bool) (e : TypedExpr) (arms : List TypedArm)
+        (others : Option (List TypedStmt))
+        → IsExpr m w e
+        → AreArms m gives w l arms
+        → AreOthers m gives w l others
         → IsStmt m gives w l (stmt.Case e arms others)
     While : (w : ℕ) (l : Bool) (e : TypedExpr) (body : List TypedStmt) → IsExpr m w e
         → AreStmts m gives w l body → IsStmt m gives w l (stmt.While e body)
@@ -189,8 +195,12 @@ mutual
     Return : (w : ℕ) (l : Bool) → gives ≡ false → IsStmt m gives w l stmt.Return
     Give : (w : ℕ) (l : Bool) (t : TypeNo) (e : TypedExpr) → gives ≡ true → IsExpr m w e
         → IsStmt m gives w l (stmt.Give t e)
-    For : (w : ℕ) (l : Bool) (d : Place) (t : TypeNo) (start limit : TypedExpr) (by : ℤ) (body : List TypedStmt)
-        → IsScalar m.types t → IsPlace m w d → IsExpr m w start → IsExpr m w limit
+    For : (w : ℕ) (l : Bool) (d : Place) (t : TypeNo) (start limit : TypedExpr) (by : ℤ)
+        (body : List TypedStmt)
+        → IsScalar m.types t
+        → IsPlace m w d
+        → IsExpr m w start
+        → IsExpr m w limit
         → AreStmts m gives w l body
         → IsStmt m gives w l (stmt.For d t start limit by body)
     With : (w : ℕ) (l : Bool) (d : Place) (body : List TypedStmt) → IsPlace m w d

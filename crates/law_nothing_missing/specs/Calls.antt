@@ -1,5 +1,5 @@
--- What calls do, where nothing that they ask for may be missing: the arguments are those that the formals ask for, and a new
--- instance gets a number that no other has.
+-- What calls do, where nothing that they ask for may be missing: the arguments are those that the
+-- formals ask for, and a new instance gets a number that no other has.
 use Rattle.std.specs.Prelude.{ℕ, zero, suc, ◌-◌, ◌==◌, ℤ, Bool, true, false, not, ◌&&◌, nat_lt, List, [], ◌∷◌, ◌++◌, map, length, Some, None, if◌then◌else◌}
 use Rattle.typed_tree.specs.declared.shape.Formal.{Formal}
 use Rattle.typed_tree.specs.declared.known_types.Types.{Types}
@@ -20,11 +20,13 @@ use Rattle.law_nothing_missing.specs.Statements.{does}
 
 -- ---- arguments
 
--- a number for a formal of a scalar type, a variable of the formal's type, or as many elements of that type as HIGH says
+-- a number for a formal of a scalar type, a variable of the formal's type, or as many elements of
+-- that type as HIGH says
 abbrev pub suits : Types → World → Formal → Passed → Bool
 suits types world f (Number v) = not f.is_open && not f.is_var && is_cell (Some (tree types f.of))
 suits types world f (Variable l) = not f.is_open && is_like (type_at world l) (tree types f.of)
-suits types world f (Array l high) = f.is_open && is_like (type_at world l) (layout.Array (suc high) (tree types f.of))
+suits types world f (Array l high) =
+    f.is_open && is_like (type_at world l) (layout.Array (suc high) (tree types f.of))
 suits types world f (Text text) = f.is_open && not f.is_var && is_cell (Some (tree types f.of))
 
 abbrev pub all_suit : Types → World → List Formal → List Passed → Bool
@@ -37,7 +39,8 @@ all_suit types world (f ∷ fs) (v ∷ vs) = suits types world f v && all_suit t
 abbrev pub copy_of : Types → Formal → Passed → World
 copy_of types f (Number v) = []
 copy_of types f (Variable l) = []
-copy_of types f (Array l high) = if f.is_var then [] else layout.Array (suc high) (tree types f.of) ∷ []
+copy_of types f (Array l high) =
+    if f.is_var then [] else layout.Array (suc high) (tree types f.of) ∷ []
 copy_of types f (Text text) = layout.Array (length (passed text)) (tree types f.of) ∷ []
 
 abbrev pub copies_of : Types → List Formal → List Passed → World
@@ -54,22 +57,35 @@ module _ (lacking : ℕ) where
   result function other = meaning.result function other
 
   module _ (p : Modules) (n : ℕ) where
-    abbrev pub body_does : Asks → World → (function : Bool) → List TypedStmt → Around → State → Outcome
-    body_does ask world function body a st = in_turn (map (does lacking p ask world n function) body) a st
+    abbrev pub body_does : Asks → World → (function : Bool) → List TypedStmt → Around → State
+        → Outcome
+    body_does ask world function body a st =
+        in_turn (map (does lacking p ask world n function) body) a st
 
     -- in a world that has the frame, and the copies behind it
-    abbrev pub runs_in : (World → Asks) → World → Callee → (activation : ℕ) → Entered → (left : ℕ) → State → Answer ℤ
+    abbrev pub runs_in : (World → Asks) → World → Callee → (activation : ℕ) → Entered → (left : ℕ)
+        → State → Answer ℤ
     runs_in ask world c activation e left st =
-        result (is_function c.types c.routine) (body_does (ask world) world (is_function c.types c.routine) c.routine.body (around_of c activation e left) (record st { store = e.store }))
+        result (is_function c.types c.routine)
+        (body_does (ask world) world (is_function c.types c.routine) c.routine.body
+        (around_of c activation e left) (record st { store = e.store }))
 
-    abbrev pub runs_with : (World → Asks) → World → Callee → List Passed → (next left : ℕ) → State → Answer ℤ
+    abbrev pub runs_with : (World → Asks) → World → Callee → List Passed → (next left : ℕ) → State
+        → Answer ℤ
     runs_with ask world c vs next left st =
-        if nat_lt left (needed c.types c.routine vs) then Ended storage_fault st.out
-        else runs_in ask (world ++ frame c.types c.routine ∷ copies_of c.types (formals_of c.types c.routine.heading) vs) c next (entered c.types c.routine next vs st.store) (left - needed c.types c.routine vs) st
+        if nat_lt left (needed c.types c.routine vs)
+        then Ended storage_fault st.out
+        else runs_in ask
+        (world
+        ++ frame c.types c.routine ∷ copies_of c.types (formals_of c.types c.routine.heading) vs)
+        c next (entered c.types c.routine next vs st.store) (left - needed c.types c.routine vs) st
 
-    abbrev pub runs : (World → Asks) → World → Callee → List Passed → (next left : ℕ) → State → Answer ℤ
+    abbrev pub runs : (World → Asks) → World → Callee → List Passed → (next left : ℕ) → State
+        → Answer ℤ
     runs ask world c vs next left st =
-        provided lacking (next == length world && all_suit c.types world (formals_of c.types c.routine.heading) vs) (runs_with ask world c vs next left) st
+        provided lacking
+        (next == length world && all_suit c.types world (formals_of c.types c.routine.heading) vs)
+        (runs_with ask world c vs next left) st
 
     unfoldable pub calling : (d : ℕ) → World → Asks
     calling zero world c vs next left st = Running st.out

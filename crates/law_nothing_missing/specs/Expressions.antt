@@ -1,5 +1,6 @@
--- What expressions, designators, calls and arguments give, where nothing that they ask for may be missing: the definition of
--- def_meaning once more, with an end of its own in place of each default.
+-- What expressions, designators, calls and arguments give, where nothing that they ask for may be
+-- missing: the definition of def_meaning once more, with an end of its own in place of each
+-- default.
 use Rattle.std.specs.Prelude.{ℕ, zero, suc, ◌==◌, ◌-◌, ℤ, pos, negsuc, Bool, true, false, not, ◌||◌, nat_lt, List, [], ◌∷◌, ◌++◌, drop, length, Option, Some, None, slice_get, if◌then◌else◌}
 use Rattle.std.specs.List.{list_any}
 use Rattle.typed_tree.specs.declared.computed.Argument.{Argument-F}
@@ -77,14 +78,17 @@ module _ (lacking : ℕ) where
     abbrev pub suits_call : (wanted : Bool) → Callee → Bool
     suits_call wanted c = not wanted || is_function c.types c.routine
 
-    abbrev pub asked : (wanted : Bool) → Option Callee → List (Gives Passed) → Around → State → Answer ℤ
+    abbrev pub asked : (wanted : Bool) → Option Callee → List (Gives Passed) → Around → State
+        → Answer ℤ
     asked wanted None args a st = lacks st
-    asked wanted (Some c) args a st = provided (suits_call wanted c) (meaning.asked p ask (Some c) args a) st
+    asked wanted (Some c) args a st =
+        provided (suits_call wanted c) (meaning.asked p ask (Some c) args a) st
 
     -- 0 is the empty procedure, and any other value is that of a procedure
     abbrev pub asked_value : (wanted : Bool) → ℤ → List (Gives Passed) → Around → State → Answer ℤ
     asked_value wanted (pos zero) args a st = Ended empty_procedure st.out
-    asked_value wanted (pos (suc k)) args a st = asked wanted (entry_callee p (entry_of p (pos (suc k)))) args a st
+    asked_value wanted (pos (suc k)) args a st =
+        asked wanted (entry_callee p (entry_of p (pos (suc k)))) args a st
     asked_value wanted (negsuc k) args a st = lacks st
 
     abbrev pub is_procedure : ℤ → Bool
@@ -92,43 +96,72 @@ module _ (lacking : ℕ) where
     is_procedure (pos (suc k)) = is_there (entry_callee p (entry_of p (pos (suc k))))
     is_procedure (negsuc k) = false
 
-    -- the type as one of which a value is taken is a scalar type that is there, or the value is that of a procedure
+    -- the type as one of which a value is taken is a scalar type that is there, or the value is
+    -- that of a procedure
     abbrev pub is_taken : Types → TypeNo → ℤ → Bool
     is_taken types t v = is_cell (Some (tree types t)) || is_procedure v
 
     abbrev pub as_type : Types → TypeNo → ℤ → State → Answer ℤ
     as_type types t v st = provided (is_taken types t v) (meaning.as_type types t v) st
 
-    abbrev pub argument_layer : Argument-F (Gives Passed) Calls Reaches Continues (Gives ℤ) (Gives Location) → Gives Passed
-    argument_layer (layer.Value t e) a st = then_give (e a st) (λ v st. then_give (as_type a.types t v st) (λ v st. Gave (Number v) st))
+    abbrev pub argument_layer :
+        Argument-F (Gives Passed) Calls Reaches Continues (Gives ℤ) (Gives Location) → Gives Passed
+    argument_layer (layer.Value t e) a st =
+        then_give (e a st) (λ v st. then_give (as_type a.types t v st) (λ v st. Gave (Number v) st))
     argument_layer (layer.Place d) a st = then_give (d a st) (λ l st. Gave (Variable l) st)
-    argument_layer (layer.Array t d) a st = then_give (d a st) (λ l st. needs (index_range a.types t) (λ r st. Gave (Array l (elements_of (Some r) - 1)) st) st)
-    argument_layer (layer.Open slot) a st = needs (elements_named (named a slot)) (λ e st. Gave (Array e.0 e.1) st) st
+    argument_layer (layer.Array t d) a st =
+        then_give (d a st) (λ l st.
+        needs (index_range a.types t) (λ r st. Gave (Array l (elements_of (Some r) - 1)) st) st)
+    argument_layer (layer.Open slot) a st =
+        needs (elements_named (named a slot)) (λ e st. Gave (Array e.0 e.1) st) st
     argument_layer (layer.Text text) a st = Gave (Text text) st
 
-    abbrev pub call_layer : Call-F (Gives Passed) Calls Reaches Continues (Gives ℤ) (Gives Location) → Calls
-    call_layer (layer.Module f args) wanted a st = provided (is_module p f.home) (asked wanted (module_callee p (module_place p f.home) f.number) args a) st
-    call_layer (layer.Nested f args) wanted a st = provided (nat_lt f.up (length a.frames)) (asked wanted (nested_in a.place (slice_get p a.place) (drop f.up a.frames) f.number) args a) st
-    call_layer (layer.Variable t d args) wanted a st = then_give (then_give (d a st) at_cell) (λ l st. asked_value wanted (st.store l) args a st)
+    abbrev pub call_layer : Call-F (Gives Passed) Calls Reaches Continues (Gives ℤ) (Gives Location)
+        → Calls
+    call_layer (layer.Module f args) wanted a st =
+        provided (is_module p f.home)
+        (asked wanted (module_callee p (module_place p f.home) f.number) args a) st
+    call_layer (layer.Nested f args) wanted a st =
+        provided (nat_lt f.up (length a.frames))
+        (asked wanted (nested_in a.place (slice_get p a.place) (drop f.up a.frames) f.number) args
+        a)
+        st
+    call_layer (layer.Variable t d args) wanted a st =
+        then_give (then_give (d a st) at_cell) (λ l st. asked_value wanted (st.store l) args a st)
 
     abbrev pub root_layer : Root → Around → Option Location
-    root_layer (root.Global v) a = if is_module p v.home then Some (module_place p v.home ∷ v.number ∷ []) else None
+    root_layer (root.Global v) a =
+        if is_module p v.home then Some (module_place p v.home ∷ v.number ∷ []) else None
     root_layer (root.Local slot) a = variable_of (named a slot)
     root_layer (root.Alias slot) a = variable_of (named a slot)
     root_layer (root.Open slot) a = first_of (elements_named (named a slot))
     root_layer (root.With k) a = slice_get a.withs k
 
-    abbrev pub component_layer : Component-F (Gives Passed) Calls Reaches Continues (Gives ℤ) (Gives Location) → Reaches
+    abbrev pub component_layer :
+        Component-F (Gives Passed) Calls Reaches Continues (Gives ℤ) (Gives Location) → Reaches
     component_layer (layer.Field t k) l a st = at_there (l ++ k ∷ []) st
-    component_layer (layer.Element t i) l a st = then_give (i a st) (λ v st. needs (index_range a.types t) (λ r st. then_give (element l r.low r.high v st) at_there) st)
-    component_layer (layer.OpenElement slot t i) l a st = then_give (i a st) (λ v st. needs (elements_named (named a slot)) (λ e st. then_give (element l (pos 0) (pos e.1) v st) at_there) st)
+    component_layer (layer.Element t i) l a st =
+        then_give (i a st) (λ v st.
+        needs (index_range a.types t) (λ r st. then_give (element l r.low r.high v st) at_there) st)
+    component_layer (layer.OpenElement slot t i) l a st =
+        then_give (i a st) (λ v st.
+        needs (elements_named (named a slot))
+        (λ e st. then_give (element l (pos 0) (pos e.1) v st) at_there) st)
 
     -- a variable, and then its components
-    abbrev pub place_layer : Place-F (Gives Passed) Calls Reaches Continues (Gives ℤ) (Gives Location) → Gives Location
-    place_layer d a st = needs (root_layer d.root a) (λ l st. then_give (at_there l st) (λ l st. one_by_one d.components l a st)) st
+    abbrev pub place_layer :
+        Place-F (Gives Passed) Calls Reaches Continues (Gives ℤ) (Gives Location) → Gives Location
+    place_layer d a st =
+        needs (root_layer d.root a)
+        (λ l st. then_give (at_there l st) (λ l st. one_by_one d.components l a st)) st
 
-    abbrev pub wanting_link : Link-F (Gives Passed) Calls Reaches Continues (Gives ℤ) (Gives Location) → Link-F (Gives Passed) (Gives ℤ) Reaches Continues (Gives ℤ) (Gives Location)
-    wanting_link x = map-Link (Gives Passed) Calls Reaches Continues (Gives ℤ) (Gives Location) (Gives Passed) (Gives ℤ) Reaches Continues (Gives ℤ) (Gives Location) (λ g. g) (λ c. c true) (λ r. r) (λ f. f) (λ e. e) (λ d. d) x
+    abbrev pub wanting_link :
+        Link-F (Gives Passed) Calls Reaches Continues (Gives ℤ) (Gives Location)
+        → Link-F (Gives Passed) (Gives ℤ) Reaches Continues (Gives ℤ) (Gives Location)
+    wanting_link x =
+        map-Link (Gives Passed) Calls Reaches Continues (Gives ℤ) (Gives Location) (Gives Passed)
+        (Gives ℤ) Reaches Continues (Gives ℤ) (Gives Location) (λ g. g) (λ c. c true) (λ r. r)
+        (λ f. f) (λ e. e) (λ d. d) x
 
     -- what is checked against a range has one
     abbrev pub has_range : Types → Arithmetic → TypeNo → Bool
@@ -138,28 +171,50 @@ module _ (lacking : ℕ) where
     has_range types op.Divide t = true
     has_range types op.Remainder t = true
 
-    abbrev pub link_layer : Link-F (Gives Passed) Calls Reaches Continues (Gives ℤ) (Gives Location) → Continues
-    link_layer (layer.Arithmetic o t e) x a st = then_give (e a st) (λ y st. provided (has_range a.types o t) (operated a.types o t x y) st)
+    abbrev pub link_layer : Link-F (Gives Passed) Calls Reaches Continues (Gives ℤ) (Gives Location)
+        → Continues
+    link_layer (layer.Arithmetic o t e) x a st =
+        then_give (e a st) (λ y st. provided (has_range a.types o t) (operated a.types o t x y) st)
     link_layer other x a st = meaning.link_layer p ask (wanting_link other) x a st
 
     -- the value of a call in an expression is wanted
-    abbrev pub wanting : TypedExpr-F (Gives Passed) Calls Reaches Continues (Gives ℤ) (Gives Location) → TypedExpr-F (Gives Passed) (Gives ℤ) Reaches Continues (Gives ℤ) (Gives Location)
-    wanting x = map-TypedExpr (Gives Passed) Calls Reaches Continues (Gives ℤ) (Gives Location) (Gives Passed) (Gives ℤ) Reaches Continues (Gives ℤ) (Gives Location) (λ g. g) (λ c. c true) (λ r. r) (λ f. f) (λ e. e) (λ d. d) x
+    abbrev pub wanting :
+        TypedExpr-F (Gives Passed) Calls Reaches Continues (Gives ℤ) (Gives Location)
+        → TypedExpr-F (Gives Passed) (Gives ℤ) Reaches Continues (Gives ℤ) (Gives Location)
+    wanting x =
+        map-TypedExpr (Gives Passed) Calls Reaches Continues (Gives ℤ) (Gives Location)
+        (Gives Passed) (Gives ℤ) Reaches Continues (Gives ℤ) (Gives Location) (λ g. g) (λ c. c true)
+        (λ r. r) (λ f. f) (λ e. e) (λ d. d) x
 
-    -- a number is loaded, a procedure that is a value is there, an open array of which HIGH is asked, and the range of VAL
-    abbrev pub expr_layer : TypedExpr-F (Gives Passed) Calls Reaches Continues (Gives ℤ) (Gives Location) → Gives ℤ
-    expr_layer (layer.Load t d) a st = then_give (then_give (d a st) at_cell) (λ l st. Gave (st.store l) st)
+    -- a number is loaded, a procedure that is a value is there, an open array of which HIGH is
+    -- asked, and the range of VAL
+    abbrev pub expr_layer :
+        TypedExpr-F (Gives Passed) Calls Reaches Continues (Gives ℤ) (Gives Location) → Gives ℤ
+    expr_layer (layer.Load t d) a st =
+        then_give (then_give (d a st) at_cell) (λ l st. Gave (st.store l) st)
     expr_layer (layer.Procedure f) a st =
-        provided (is_module p f.home) (λ st. provided (is_there (module_callee p (module_place p f.home) f.number)) (Gave (procedure_value p f.home f.number)) st) st
-    expr_layer (layer.High slot) a st = needs (elements_named (named a slot)) (λ e st. Gave (pos e.1) st) st
-    expr_layer (layer.Val t e) a st = then_give (e a st) (λ v st. provided (is_ranged a.types t) (meaning.as_type a.types t v) st)
+        provided (is_module p f.home)
+        (λ st.
+        provided (is_there (module_callee p (module_place p f.home) f.number))
+        (Gave (procedure_value p f.home f.number)) st)
+        st
+    expr_layer (layer.High slot) a st =
+        needs (elements_named (named a slot)) (λ e st. Gave (pos e.1) st) st
+    expr_layer (layer.Val t e) a st =
+        then_give (e a st) (λ v st. provided (is_ranged a.types t) (meaning.as_type a.types t v) st)
     expr_layer other a st = meaning.expr_layer p ask (wanting other) a st
 
     unfoldable pub value : TypedExpr → Gives ℤ
-    value = fold-TypedExpr (Gives Passed) Calls Reaches Continues (Gives ℤ) (Gives Location) argument_layer call_layer component_layer link_layer expr_layer place_layer
+    value =
+        fold-TypedExpr (Gives Passed) Calls Reaches Continues (Gives ℤ) (Gives Location)
+        argument_layer call_layer component_layer link_layer expr_layer place_layer
 
     unfoldable pub locate : Place → Gives Location
-    locate = fold-Place (Gives Passed) Calls Reaches Continues (Gives ℤ) (Gives Location) argument_layer call_layer component_layer link_layer expr_layer place_layer
+    locate =
+        fold-Place (Gives Passed) Calls Reaches Continues (Gives ℤ) (Gives Location) argument_layer
+        call_layer component_layer link_layer expr_layer place_layer
 
     unfoldable pub called : Call → Calls
-    called = fold-Call (Gives Passed) Calls Reaches Continues (Gives ℤ) (Gives Location) argument_layer call_layer component_layer link_layer expr_layer place_layer
+    called =
+        fold-Call (Gives Passed) Calls Reaches Continues (Gives ℤ) (Gives Location) argument_layer
+        call_layer component_layer link_layer expr_layer place_layer

@@ -20,14 +20,20 @@ StrictRuns =
     (p : Program) (pages : ℕ) → AreModules p → AreTypedModules p pages → (lacking n : ℕ)
     → strict_run lacking p pages n ≡ run p pages n
 
--- and where it is no number of the language, which are 0, the faults and HALT, no run ends with it: so nothing is lacking
+-- and where it is no number of the language, which are 0, the faults and HALT, no run ends with it:
+-- so nothing is lacking
 abbrev pub NothingLacks : Type 0
 NothingLacks =
-    (p : Program) (pages : ℕ) → AreModules p → AreTypedModules p pages → (lacking n : ℕ) → halted < lacking
-    → (out : List ℕ) → strict_run lacking p pages n ≡ Stopped lacking out → ⊥
+    (p : Program) (pages : ℕ) → AreModules p → AreTypedModules p pages → (lacking n : ℕ)
+    → halted < lacking → (out : List ℕ) → strict_run lacking p pages n ≡ Stopped lacking out → ⊥
 
--- That number does come where something is lacking: a program that prints a variable of a module that is not there.
+-- That number does come where something is lacking: a program that prints a variable of a module
+-- that is not there.
 abbrev pub MissingLacks : Type 0
 MissingLacks =
-    (m : TypedModule) (d : Place) (v : Variable) → m.body ≡ stmt.Put (expr.Load char d) ∷ [] → d.root ≡ root.Global v → is_module (m ∷ []) v.home ≡ false
-    → (lacking pages n : ℕ) → strict_run lacking (m ∷ []) pages n ≡ Stopped lacking []
+    (m : TypedModule) (d : Place) (v : Variable)
+    → m.body ≡ stmt.Put (expr.Load char d) ∷ []
+    → d.root ≡ root.Global v
+    → is_module (m ∷ []) v.home ≡ false
+    → (lacking pages n : ℕ)
+    → strict_run lacking (m ∷ []) pages n ≡ Stopped lacking []

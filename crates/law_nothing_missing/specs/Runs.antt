@@ -22,8 +22,12 @@ module _ (lacking : ℕ) where
   abbrev pub bodies : Modules → (n left place : ℕ) → Modules → State → Outcome
   bodies p n left place [] st = Stopped 0 st.out
   bodies p n left place (m ∷ ms) st =
-      then_body (body_does lacking p n (calling lacking p n n (first_world p)) (first_world p) false m.body (around_body p place m left) st) (bodies p n left (suc place) ms)
+      then_body
+      (body_does lacking p n (calling lacking p n n (first_world p)) (first_world p) false m.body
+      (around_body p place m left) st)
+      (bodies p n left (suc place) ms)
 
-  -- the run of a program with the bound n, which ends with the number `lacking` where it lacks something
+  -- the run of a program with the bound n, which ends with the number `lacking` where it lacks
+  -- something
   unfoldable pub strict_run : Modules → (pages n : ℕ) → Outcome
   strict_run p pages n = bodies p n (storage p pages - body_frame) 0 p (first_state p)

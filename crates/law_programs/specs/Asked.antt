@@ -1,4 +1,5 @@
--- What statements ask for where they stand: their texts, and the types of their calls through the table.
+-- What statements ask for where they stand: their texts, and the types of their calls through the
+-- table.
 use Rattle.std.specs.Prelude.{List}
 use Rattle.std.specs.List.{flat_map}
 use Rattle.typed_tree.specs.declared.statement.TypedStmt.{TypedStmt}

@@ -1,5 +1,5 @@
--- What declarations carry on: arrays have indices of scalar types, variables stand where their names say, and sets that are
--- constants have 32 bits.
+-- What declarations carry on: arrays have indices of scalar types, variables stand where their
+-- names say, and sets that are constants have 32 bits.
 use Rattle.std.specs.Prelude.{◌≡◌, ℕ, ◌≤◌, true, List, [], ◌∷◌, ◌++◌, map, length, drop, Option, Some, None, Ok, slice_get}
 use Rattle.std.specs.List.{fold}
 use Rattle.std.specs.Option.{is_some}
@@ -169,7 +169,8 @@ pub record ScopeWords {T : Type 0} (s : Scope T) : Type 0 where
 
 -- a constant expression means such a constant
 abbrev pub ConstantsAreWords : Gathers → Type 0
-ConstantsAreWords g = (s : Scope g.Reported) → ScopeWords s → (e : Expr) → Holds IsWord (constant g s (part g e))
+ConstantsAreWords g =
+    (s : Scope g.Reported) → ScopeWords s → (e : Expr) → Holds IsWord (constant g s (part g e))
 
 -- ---- formals and variables of a procedure stand in the slots that their names say
 
@@ -188,7 +189,8 @@ StandsIn None s = s.level ≡ 0
 StandsIn (Some fs) s = length fs ≤ length s.variables
 
 abbrev pub MeaningSlot : List (LocalKind × TypeNo) → (level : ℕ) → Meaning → Type 0
-MeaningSlot slots level (meaning.Local v) = (v.level ≡ level) × (slice_get slots v.number ≡ Some (v.kind, v.of))
+MeaningSlot slots level (meaning.Local v) =
+    (v.level ≡ level) × (slice_get slots v.number ≡ Some (v.kind, v.of))
 MeaningSlot slots level (meaning.Constant v) = Unit {0}
 MeaningSlot slots level (meaning.Type t n) = Unit {0}
 MeaningSlot slots level (meaning.Variable v) = Unit {0}
@@ -206,7 +208,8 @@ KnownSlot slots level Begun = Unit {0}
 KnownSlot slots level (Headed r) = Holds (MeaningSlot slots level) r
 KnownSlot slots level (Declared o r) = Holds (MeaningSlot slots level) r
 
-abbrev pub NamesSlots : {T : Type 0} → List (LocalKind × TypeNo) → (level : ℕ) → List (List ℕ × Known T) → Type 0
+abbrev pub NamesSlots : {T : Type 0} → List (LocalKind × TypeNo) → (level : ℕ)
+    → List (List ℕ × Known T) → Type 0
 NamesSlots slots level [] = Unit {0}
 NamesSlots slots level (e ∷ es) = KnownSlot slots level e.1 × NamesSlots slots level es
 
@@ -215,23 +218,31 @@ ScopeSlots o s = NamesSlots (slots_in o s.variables) s.level s.own
 
 -- Where the formals of a procedure break no rule in its scope, they are its first variables.
 abbrev pub FormalsAreSlots : Gathers → Type 0
-FormalsAreSlots g = (s : Scope g.Reported) (seen : ℕ) (h : Heading) (fs : List Formal) → fold (with_section g (inwards s seen)) (Ok []) h.formals ≡ Ok fs
-    → let e = (entered_procedure g s seen h).0 in (e.variables ≡ map (λ f. f.of) fs) × ScopeSlots (Some fs) e
+FormalsAreSlots g =
+    (s : Scope g.Reported) (seen : ℕ) (h : Heading) (fs : List Formal)
+    → fold (with_section g (inwards s seen)) (Ok []) h.formals ≡ Ok fs
+    → let e = (entered_procedure g s seen h).0 in
+    (e.variables ≡ map (λ f. f.of) fs) × ScopeSlots (Some fs) e
 
 -- Two scopes in which names of types mean the same have the same formals.
 abbrev pub FormalsStay : Gathers → Type 0
-FormalsStay g = (a b : Scope g.Reported) → ((q : Qualified) (t : TypeNo) → named_type g a q ≡ Ok t → named_type g b q ≡ Ok t)
-    → (xs : List Section) (fs : List Formal) → fold (with_section g a) (Ok []) xs ≡ Ok fs → fold (with_section g b) (Ok []) xs ≡ Ok fs
+FormalsStay g =
+    (a b : Scope g.Reported)
+    → ((q : Qualified) (t : TypeNo) → named_type g a q ≡ Ok t → named_type g b q ≡ Ok t)
+    → (xs : List Section) (fs : List Formal)
+    → fold (with_section g a) (Ok []) xs ≡ Ok fs
+    → fold (with_section g b) (Ok []) xs ≡ Ok fs
 
 -- ---- what is carried from one scope to another
 
--- Types and variables stay, arrays keep indices of scalar types, variables stand where their names say, those of procedures
--- in their slots, and constants are such constants.
+-- Types and variables stay, arrays keep indices of scalar types, variables stand where their names
+-- say, those of procedures in their slots, and constants are such constants.
 pub record Carries {T : Type 0} (s s' : Scope T) : Type 0 where
   pub home : s'.types.home ≡ s.types.home
   pub tables : s'.tables ≡ s.tables
   pub types : (t : TypeNo) (m : Made) → made_at s.types t ≡ Some m → made_at s'.types t ≡ Some m
-  pub variables : (n : ℕ) (t : TypeNo) → slice_get s.variables n ≡ Some t → slice_get s'.variables n ≡ Some t
+  pub variables : (n : ℕ) (t : TypeNo) → slice_get s.variables n ≡ Some t
+      → slice_get s'.variables n ≡ Some t
   pub indexed : TypesIndexed s.types → TypesIndexed s'.types
   pub placed : ScopePlaced s → ScopePlaced s'
   pub words : ScopeWords s → ScopeWords s'
@@ -243,7 +254,9 @@ pub record Carries {T : Type 0} (s s' : Scope T) : Type 0 where
 
 -- the index of an array that is known
 abbrev pub IndexedAreKnown : Type 0
-IndexedAreKnown = (types : Types) → TypesIndexed types → (t i e : TypeNo) → array_at types t ≡ Some (i, e) → IsIndexed types i
+IndexedAreKnown =
+    (types : Types) → TypesIndexed types → (t i e : TypeNo) → array_at types t ≡ Some (i, e)
+    → IsIndexed types i
 
 -- a declaration of a definition carries on,
 abbrev pub DefsCarry : Gathers → Type 0
@@ -251,25 +264,38 @@ DefsCarry g = (st : State (Unit {0}) g.Reported) (d : Def) → Carries st.0 (wit
 
 -- one of a block,
 abbrev pub DeclsCarry : Gathers → Type 0
-DeclsCarry g = (ends : List ℕ) (c : Course g.Reported) (d : Decl) → Carries c.0 (with_decl g ends c d).0
+DeclsCarry g =
+    (ends : List ℕ) (c : Course g.Reported) (d : Decl) → Carries c.0 (with_decl g ends c d).0
 
 -- all declarations of a block,
 abbrev pub BlocksCarry : Gathers → Type 0
-BlocksCarry g = (ends : List ℕ) (st : State (Unit {0}) g.Reported) (first : ℕ) (ds : List Decl) → Carries st.0 (declared_block g ends st first ds).0
+BlocksCarry g =
+    (ends : List ℕ) (st : State (Unit {0}) g.Reported) (first : ℕ) (ds : List Decl)
+    → Carries st.0 (declared_block g ends st first ds).0
 
 -- those of a definition, behind its imports,
 abbrev pub DefinitionsCarry : Gathers → Type 0
-DefinitionsCarry g = (m : Module) (modules : List (List ℕ × ℕ)) (s : Scope g.Reported) (ds : List Def) → TablesElsewhere s.types.home s.tables → Carries s (declared_in g m modules s ds).0
+DefinitionsCarry g =
+    (m : Module) (modules : List (List ℕ × ℕ)) (s : Scope g.Reported) (ds : List Def)
+    → TablesElsewhere s.types.home s.tables → Carries s (declared_in g m modules s ds).0
 
 -- and those of a module
 abbrev pub ModulesCarry : Gathers → Type 0
-ModulesCarry g = (modules : List (List ℕ × ℕ)) (ends : List ℕ) (s : Scope g.Reported) (m : Module) (ds : List Decl) → TablesElsewhere s.types.home s.tables → Carries s (declared_module g modules ends s m ds).0
+ModulesCarry g =
+    (modules : List (List ℕ × ℕ)) (ends : List ℕ) (s : Scope g.Reported) (m : Module)
+    (ds : List Decl)
+    → TablesElsewhere s.types.home s.tables
+    → Carries s (declared_module g modules ends s m ds).0
 
 -- into a procedure and back the types stay, and constants are such constants
 abbrev pub ProceduresStay : Gathers → Type 0
-ProceduresStay g = (s : Scope g.Reported)
-    → ((seen : ℕ) (h : Heading) → ((entered_procedure g s seen h).0.types ≡ s.types) × (ScopeWords s → ScopeWords (entered_procedure g s seen h).0))
-    × ((o : Outside) → ((left_procedure o s).types ≡ s.types) × (ScopeWords s → ScopeWords (left_procedure o s)))
+ProceduresStay g =
+    (s : Scope g.Reported)
+    → ((seen : ℕ) (h : Heading)
+    → ((entered_procedure g s seen h).0.types ≡ s.types)
+    × (ScopeWords s → ScopeWords (entered_procedure g s seen h).0))
+    × ((o : Outside)
+    → ((left_procedure o s).types ≡ s.types) × (ScopeWords s → ScopeWords (left_procedure o s)))
 
 -- ---- where a module begins, and what its table reaches
 
@@ -281,18 +307,26 @@ abbrev pub TablesIndexed : Types → List Table → Type 0
 TablesIndexed types [] = Unit {0}
 TablesIndexed types (t ∷ ts) = ReachedIndexed types t.reached × TablesIndexed types ts
 
--- A module begins with such types, if its tables reach such types. Its own table reaches such types,
+-- A module begins with such types, if its tables reach such types. Its own table reaches such
+-- types,
 abbrev pub TablesCarry : Type 0
-TablesCarry = ((home : ℕ) (tables : List Table) → TablesIndexed (first_types home tables) tables → TypesIndexed (first_types home tables))
+TablesCarry =
+    ((home : ℕ) (tables : List Table) → TablesIndexed (first_types home tables) tables
+    → TypesIndexed (first_types home tables))
     × ((types : Types) → TypesIndexed types → ReachedIndexed types (reached_of types))
 
 -- and what it reaches stays so for all who know more types
 abbrev pub ReachedStay : Type 0
-ReachedStay = (a b : Types) → ((t : TypeNo) (m : Made) → made_at a t ≡ Some m → made_at b t ≡ Some m) → (ms : List ModuleTypes) → ReachedIndexed a ms → ReachedIndexed b ms
+ReachedStay =
+    (a b : Types) → ((t : TypeNo) (m : Made) → made_at a t ≡ Some m → made_at b t ≡ Some m)
+    → (ms : List ModuleTypes) → ReachedIndexed a ms → ReachedIndexed b ms
 
 -- a module begins with such constants, if its tables have such, and exports such
 abbrev pub WordsCarry : Gathers → Type 0
-WordsCarry g = ((home : ℕ) (tables : List Table) → TablesWords tables → ScopeWords (first_scope {T = g.Reported} home tables)) × ((s : Scope g.Reported) → ScopeWords s → ExportsWords (exports s.own))
+WordsCarry g =
+    ((home : ℕ) (tables : List Table) → TablesWords tables
+    → ScopeWords (first_scope {T = g.Reported} home tables))
+    × ((s : Scope g.Reported) → ScopeWords s → ExportsWords (exports s.own))
 
 -- what a module exports is no variable of a procedure
 abbrev pub ExportsFree : List (List ℕ × Meaning) → Type 0
@@ -301,13 +335,19 @@ ExportsFree (e ∷ es) = MeaningSlot [] 0 e.1 × ExportsFree es
 
 -- A module exports no such variable, and begins without one.
 abbrev pub ModulesHaveNoSlots : Gathers → Type 0
-ModulesHaveNoSlots g = ((s : Scope g.Reported) → s.level ≡ 0 → ScopeSlots None s → ExportsFree (exports s.own))
-    × ((home : ℕ) (tables : List Table) → let s = first_scope {T = g.Reported} home tables in ScopeSlots None s × ScopePlaced s)
-    × ((own : Table) (tables : List Table) → ExportsFree own.exported → ScopeSlots None (implementation_scope {T = g.Reported} own tables))
+ModulesHaveNoSlots g =
+    ((s : Scope g.Reported) → s.level ≡ 0 → ScopeSlots None s → ExportsFree (exports s.own))
+    × ((home : ℕ) (tables : List Table)
+    → let s = first_scope {T = g.Reported} home tables in ScopeSlots None s × ScopePlaced s)
+    × ((own : Table) (tables : List Table) → ExportsFree own.exported
+    → ScopeSlots None (implementation_scope {T = g.Reported} own tables))
 
--- An implementation begins with such constants, if its definition exports such, and so do the other tables.
+-- An implementation begins with such constants, if its definition exports such, and so do the other
+-- tables.
 abbrev pub ImplementationsAreWords : Gathers → Type 0
-ImplementationsAreWords g = (own : Table) (tables : List Table) → ExportsWords own.exported → TablesWords tables → ScopeWords (implementation_scope {T = g.Reported} own tables)
+ImplementationsAreWords g =
+    (own : Table) (tables : List Table) → ExportsWords own.exported → TablesWords tables
+    → ScopeWords (implementation_scope {T = g.Reported} own tables)
 
 -- ---- whole bodies
 
@@ -319,14 +359,24 @@ implementation_types own tables = (implementation_scope {T = Unit {0}} own table
 abbrev pub BodyBegins : (number : ℕ) → Option Table → List Table → Contents → Type 0
 BodyBegins number own tables (contents.Definition ds) = Unit {0}
 BodyBegins number None tables (contents.Implementation b) = Unit {0}
-BodyBegins number (Some own) tables (contents.Implementation b) = TypesIndexed (implementation_types own tables) × TablesElsewhere own.number tables
-BodyBegins number own tables (contents.Program b) = TypesIndexed (first_types number tables) × TablesElsewhere number tables
+BodyBegins number (Some own) tables (contents.Implementation b) =
+    TypesIndexed (implementation_types own tables) × TablesElsewhere own.number tables
+BodyBegins number own tables (contents.Program b) =
+    TypesIndexed (first_types number tables) × TablesElsewhere number tables
 
 -- then its module knows such types
 abbrev pub BodiesCarry : Gathers → Type 0
-BodiesCarry g = (elaborates : Elaborates g.Reported) (number : ℕ) (m : Module) (own : Option Table) (tables : List Table) → BodyBegins number own (tables ++ console ∷ []) m.contents
+BodiesCarry g =
+    (elaborates : Elaborates g.Reported) (number : ℕ) (m : Module) (own : Option Table)
+    (tables : List Table)
+    → BodyBegins number own (tables ++ console ∷ []) m.contents
     → Holds (λ t. TypesIndexed t.types) (checked g elaborates number m own tables)
 
--- An implementation begins with such types, if those that its definition and the other tables reach are such types.
+-- An implementation begins with such types, if those that its definition and the other tables reach
+-- are such types.
 abbrev pub ImplementationsCarry : Type 0
-ImplementationsCarry = (own : Table) (tables : List Table) → ReachedIndexed (implementation_types own tables) own.reached → TablesIndexed (implementation_types own tables) tables → TypesIndexed (implementation_types own tables)
+ImplementationsCarry =
+    (own : Table) (tables : List Table)
+    → ReachedIndexed (implementation_types own tables) own.reached
+    → TablesIndexed (implementation_types own tables) tables
+    → TypesIndexed (implementation_types own tables)

@@ -28,17 +28,31 @@ module _ (trees : List Module) (files : List ℕ) (jobs : List (List ℕ)) where
     pub is_tree : slice_get trees (slice_index_or files job 0) ≡ Some tree
     pub typed : typed_body tree job (tables_of (needed_of trees files jobs job)) ≡ Ok t
 
-  -- Jobs make these modules, no two have one name, and whatever one of them imports stands among them. A name has one
-  -- definition, and a program module has none.
+  -- Jobs make these modules, no two have one name, and whatever one of them imports stands among
+  -- them. A name has one definition, and a program module has none.
   pub record IsWhole (p : Program) : Type 0 where
     pub bodies : AllByRecursion IsBodyOf p
-    pub apart : (i j : ℕ) (m n : TypedModule) → slice_get p i ≡ Some m → slice_get p j ≡ Some n → m.name ≡ n.name → i ≡ j
-    pub closed : (place k : ℕ) (m : TypedModule) (i : Imported) → slice_get p place ≡ Some m → slice_get m.imports k ≡ Some i
+    pub apart : (i j : ℕ) (m n : TypedModule) → slice_get p i ≡ Some m → slice_get p j ≡ Some n
+        → m.name ≡ n.name → i ≡ j
+    pub closed : (place k : ℕ) (m : TypedModule) (i : Imported)
+        → slice_get p place ≡ Some m
+        → slice_get m.imports k ≡ Some i
         → (q : ℕ) × (home : TypedModule) × (slice_get p q ≡ Some home) × (home.name ≡ i.name)
-    pub definitions : (j k : ℕ) (t u : Table) → j < length files → k < length files → result_of trees files jobs j ≡ Defined t → result_of trees files jobs k ≡ Defined u
-        → t.name ≡ u.name → j ≡ k
-    pub programs : (m : Module) (job : ℕ) (t : Table) → slice_get trees (slice_index_or files job 0) ≡ Some m → is_program m ≡ true
-        → (k : ℕ) → k < length files → result_of trees files jobs k ≡ Defined t → t.name ≡ m.name.name → ⊥
+    pub definitions : (j k : ℕ) (t u : Table)
+        → j < length files
+        → k < length files
+        → result_of trees files jobs j ≡ Defined t
+        → result_of trees files jobs k ≡ Defined u
+        → t.name ≡ u.name
+        → j ≡ k
+    pub programs : (m : Module) (job : ℕ) (t : Table)
+        → slice_get trees (slice_index_or files job 0) ≡ Some m
+        → is_program m ≡ true
+        → (k : ℕ)
+        → k < length files
+        → result_of trees files jobs k ≡ Defined t
+        → t.name ≡ m.name.name
+        → ⊥
 
   -- a job makes this module of the body in a file
   pub record IsBodyIn (file : ℕ) (t : TypedModule) : Type 0 where
@@ -61,16 +75,35 @@ trees_of fs = map (λ f. f.1) fs
 
 -- The modules that jobs make of a program's bodies know one another's variables.
 abbrev pub ProgramsAreCoherent : Type 0
-ProgramsAreCoherent = (trees : List Module) (files : List ℕ) (jobs : List (List ℕ)) → list_all fits_module trees ≡ true → (p : Program) → IsWhole trees files jobs p
-    → (place : ℕ) (m : TypedModule) → slice_get p place ≡ Some m → IsCoherent p place m
+ProgramsAreCoherent =
+    (trees : List Module) (files : List ℕ) (jobs : List (List ℕ))
+    → list_all fits_module trees ≡ true
+    → (p : Program)
+    → IsWhole trees files jobs p
+    → (place : ℕ) (m : TypedModule)
+    → slice_get p place ≡ Some m
+    → IsCoherent p place m
 
 -- The bodies that start by a graph are such a program.
 abbrev pub GraphsAreWhole : Type 0
-GraphsAreWhole = (fs : List (List ℕ × Module)) (files : List ℕ) (jobs : List (List ℕ)) (starts : List ℕ) → IsGraph (numbered 0 fs) files jobs starts → CompileEach (numbered 0 fs) files
-    → list_all fits_module (trees_of fs) ≡ true → (p : Program) → AreBodiesIn (trees_of fs) files jobs starts p → IsWhole (trees_of fs) files jobs p
+GraphsAreWhole =
+    (fs : List (List ℕ × Module)) (files : List ℕ) (jobs : List (List ℕ)) (starts : List ℕ)
+    → IsGraph (numbered 0 fs) files jobs starts
+    → CompileEach (numbered 0 fs) files
+    → list_all fits_module (trees_of fs) ≡ true
+    → (p : Program)
+    → AreBodiesIn (trees_of fs) files jobs starts p
+    → IsWhole (trees_of fs) files jobs p
 
 -- So its modules know one another's variables, and types in order, with ranges of the language.
 abbrev pub GraphsAreCoherent : Type 0
-GraphsAreCoherent = (fs : List (List ℕ × Module)) (files : List ℕ) (jobs : List (List ℕ)) (starts : List ℕ) → IsGraph (numbered 0 fs) files jobs starts → CompileEach (numbered 0 fs) files
-    → list_all fits_module (trees_of fs) ≡ true → (p : Program) → AreBodiesIn (trees_of fs) files jobs starts p
-    → (place : ℕ) (m : TypedModule) → slice_get p place ≡ Some m → IsCoherent p place m × (AreRanged m.types × AreOrdered m.types)
+GraphsAreCoherent =
+    (fs : List (List ℕ × Module)) (files : List ℕ) (jobs : List (List ℕ)) (starts : List ℕ)
+    → IsGraph (numbered 0 fs) files jobs starts
+    → CompileEach (numbered 0 fs) files
+    → list_all fits_module (trees_of fs) ≡ true
+    → (p : Program)
+    → AreBodiesIn (trees_of fs) files jobs starts p
+    → (place : ℕ) (m : TypedModule)
+    → slice_get p place ≡ Some m
+    → IsCoherent p place m × (AreRanged m.types × AreOrdered m.types)

@@ -18,7 +18,15 @@ pub record IsFit (m : TypedModule) : Type 0 where
   pub small : too_large m ≡ None
   pub encoded : module_fits (typed_module m) ≡ true
 
--- The files have this graph, and their trees fit; these are the bodies that start, and they fit too.
+-- The files have this graph, and their trees fit; these are the bodies that start, and they fit
+-- too.
 abbrev pub GraphsAreModules : Type 0
-GraphsAreModules = (fs : List (List ℕ × Module)) (files : List ℕ) (jobs : List (List ℕ)) (starts : List ℕ) → IsGraph (numbered 0 fs) files jobs starts → CompileEach (numbered 0 fs) files
-    → list_all fits_module (trees_of fs) ≡ true → (p : Program) → AreBodiesIn (trees_of fs) files jobs starts p → AllByRecursion IsFit p → AreModules p
+GraphsAreModules =
+    (fs : List (List ℕ × Module)) (files : List ℕ) (jobs : List (List ℕ)) (starts : List ℕ)
+    → IsGraph (numbered 0 fs) files jobs starts
+    → CompileEach (numbered 0 fs) files
+    → list_all fits_module (trees_of fs) ≡ true
+    → (p : Program)
+    → AreBodiesIn (trees_of fs) files jobs starts p
+    → AllByRecursion IsFit p
+    → AreModules p

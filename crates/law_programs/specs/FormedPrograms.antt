@@ -16,8 +16,9 @@ use Rattle.build_jobs.specs.Encoded.{needed_of}
 abbrev pub trees_of : List (List ℕ × Module) → List Module
 trees_of fs = map (λ f. f.1) fs
 
--- The files have this graph: the file of each job, what each job needs, and the files of the bodies in start order. What a
--- job makes of the body of a module, from what the jobs that it needs came to, is as the fact says.
+-- The files have this graph: the file of each job, what each job needs, and the files of the bodies
+-- in start order. What a job makes of the body of a module, from what the jobs that it needs came
+-- to, is as the fact says.
 abbrev pub JobsMake : (TypedModule → Type 0) → Type 0
 JobsMake P = (fs : List (List ℕ × Module)) (files : List ℕ) (jobs : List (List ℕ)) (starts : List ℕ)
     → IsGraph (numbered 0 fs) files jobs starts → (m : Module) (job : ℕ)

@@ -1,4 +1,5 @@
--- The tables that the jobs of a build make reach the same types of each module, and the modules of bodies know such types.
+-- The tables that the jobs of a build make reach the same types of each module, and the modules of
+-- bodies know such types.
 use Rattle.std.specs.Prelude.{◌≡◌, ℕ, suc, true, List, []}
 use Rattle.std.specs.List.{list_all}
 use Rattle.m2_tree.specs.declared.decl.Module.{Module}
@@ -30,15 +31,23 @@ module _ (trees : List Module) (files : List ℕ) (jobs : List (List ℕ)) where
   abbrev pub types_of : ℕ → List Made
   types_of job = made_by (result_of job)
 
--- All tables that jobs make reach the types that each module's own definition makes, and only of modules whose jobs came
--- before, and of the table's own. They stand in order, with ranges of the language.
+-- All tables that jobs make reach the types that each module's own definition makes, and only of
+-- modules whose jobs came before, and of the table's own. They stand in order, with ranges of the
+-- language.
 abbrev pub TablesReachSame : Type 0
-TablesReachSame = (trees : List Module) (files : List ℕ) (jobs : List (List ℕ)) → list_all fits_module trees ≡ true
-    → (job : ℕ) (t : Table) → result_of trees files jobs job ≡ Defined t
+TablesReachSame =
+    (trees : List Module) (files : List ℕ) (jobs : List (List ℕ))
+    → list_all fits_module trees ≡ true
+    → (job : ℕ) (t : Table)
+    → result_of trees files jobs job ≡ Defined t
     → (t.number ≡ job) × TableFormed (types_of trees files jobs) (suc job) t
 
 -- The types that the module of a body knows have ranges of the language, and stand in order.
 abbrev pub BodiesKnowTypes : Type 0
-BodiesKnowTypes = (trees : List Module) (files : List ℕ) (jobs : List (List ℕ)) → list_all fits_module trees ≡ true
-    → (m : Module) (job : ℕ) → fits_module m ≡ true
-    → Holds (λ t. AreRanged t.types × AreOrdered t.types) (typed_body m job (tables_of (needed_of trees files jobs job)))
+BodiesKnowTypes =
+    (trees : List Module) (files : List ℕ) (jobs : List (List ℕ))
+    → list_all fits_module trees ≡ true
+    → (m : Module) (job : ℕ)
+    → fits_module m ≡ true
+    → Holds (λ t. AreRanged t.types × AreOrdered t.types)
+    (typed_body m job (tables_of (needed_of trees files jobs job)))

@@ -1,4 +1,5 @@
--- The trees of texts fit, with the statements in them: numbers and characters are as the scanner gives them.
+-- The trees of texts fit, with the statements in them: numbers and characters are as the scanner
+-- gives them.
 use Rattle.std.specs.Prelude.{◌≡◌, ℕ, Bool, true, List}
 use Rattle.std.specs.List.{list_all}
 use Rattle.m2_tree.specs.declared.token.Token.{Token}
@@ -18,8 +19,12 @@ fits_contents (contents.Program b) = fits_whole_block b
 
 -- The tree of tokens that fit, fits,
 abbrev pub TreesFit : Type 0
-TreesFit = (ts : List Token) (m : Module) → list_all token_fits ts ≡ true → IsModule ts m → fits_contents m.contents ≡ true
+TreesFit =
+    (ts : List Token) (m : Module) → list_all token_fits ts ≡ true → IsModule ts m
+    → fits_contents m.contents ≡ true
 
 -- and so does the tree of a text.
 abbrev pub TextsFit : Type 0
-TextsFit = (text : List ℕ) (ts : List Token) (m : Module) → HasTokens text ts → IsModule ts m → fits_contents m.contents ≡ true
+TextsFit =
+    (text : List ℕ) (ts : List Token) (m : Module) → HasTokens text ts → IsModule ts m
+    → fits_contents m.contents ≡ true

@@ -29,7 +29,8 @@ use Rattle.check_block.specs.Inner.{formal_kind}
 use Rattle.law_well_formed.specs.Formed.{Holds}
 use Rattle.law_programs.specs.Typing.{IsConstant, FormalsKnown, kind_of, TypesTyped, MeaningTyped, IsTyped}
 
--- ---- what a name of a block means, so many procedures deep, where these are the frames from its procedure outwards
+-- ---- what a name of a block means, so many procedures deep, where these are the frames from its
+-- procedure outwards
 
 -- a procedure that is declared in the procedure with the first of these frames
 pub record IsNested (x : Context) (kss : List Kinds) (f : NestedProcedure) : Type 0 where
@@ -45,10 +46,14 @@ module _ (x : Context) (opens : ℕ → Bool) where
   MeaningIn level kss (meaning.Constant v) = IsConstant x.home.types v
   MeaningIn level kss (meaning.Type t n) = Unit {0}
   MeaningIn level kss (meaning.Variable v) = IsVariable x v (tree x.home.types v.of)
-  MeaningIn level kss (meaning.Local v) = (v.level ≡ level) × (kind_at kss (record { up = 0; number = v.number }) ≡ Some (kind_of x.home.types v.of v.kind))
+  MeaningIn level kss (meaning.Local v) =
+      (v.level ≡ level)
+      × (kind_at kss (record { up = 0; number = v.number })
+      ≡ Some (kind_of x.home.types v.of v.kind))
   MeaningIn level kss (meaning.Field f) = ⊥
   MeaningIn level kss (meaning.Procedure f) = IsNamed x f
-  MeaningIn level kss (meaning.LocalProcedure f) = (f.level ≡ level) × (0 < level) × IsNested x kss f
+  MeaningIn level kss (meaning.LocalProcedure f) =
+      (f.level ≡ level) × (0 < level) × IsNested x kss f
   MeaningIn level kss meaning.Ahead = Unit {0}
   MeaningIn level kss (meaning.Standard f) = Unit {0}
   MeaningIn level kss (meaning.Module k) = opens k ≡ true
@@ -67,31 +72,43 @@ module _ (x : Context) (opens : ℕ → Bool) where
   -- the blocks around: the predeclared names and those of the module stand in no procedure
   abbrev pub BlocksIn : {T : Type 0} → (level i : ℕ) → List (Block T) → Type 0
   BlocksIn level i [] = Unit {0}
-  BlocksIn level i (b ∷ bs) = NamesIn (i - 1) (drop (level - (i - 1)) x.kinds) b.names × BlocksIn level (suc i) bs
+  BlocksIn level i (b ∷ bs) =
+      NamesIn (i - 1) (drop (level - (i - 1)) x.kinds) b.names × BlocksIn level (suc i) bs
 
   -- the scope of a body, where no WITH is open
   pub record ScopeTyped (g : Gathers) (s : Scope g.Reported) : Type 0 where
     pub all : TypesTyped x.home.types
     pub room : length x.characters ≤ 2 ^ 32
-    pub types : (t : TypeNo) (m : Made) → made_at s.types t ≡ Some m → made_at x.home.types t ≡ Some m
-    pub formals : (t : TypeNo) (h : Signature) → signature_at s.types t ≡ Some h → FormalsKnown s.types h.formals
+    pub types : (t : TypeNo) (m : Made) → made_at s.types t ≡ Some m
+        → made_at x.home.types t ≡ Some m
+    pub formals : (t : TypeNo) (h : Signature) → signature_at s.types t ≡ Some h
+        → FormalsKnown s.types h.formals
     pub withs : s.withs ≡ []
     pub frames : length x.kinds ≡ s.level
     pub blocks : length s.outer ≡ suc s.level
     pub own : NamesIn s.level x.kinds s.own
     pub outer : BlocksIn s.level 0 s.outer
-    pub members : (k : ℕ) (name : Ident) → opens k ≡ true → Holds (MeaningTyped x [] opens s.level) (member g s.tables k name)
+    pub members : (k : ℕ) (name : Ident) → opens k ≡ true
+        → Holds (MeaningTyped x [] opens s.level) (member g s.tables k name)
 
 -- ---- the laws
 
 -- in such a scope names mean what is there
 abbrev pub ScopesAreTyped : Gathers → Type 0
-ScopesAreTyped g = (x : Context) (opens : ℕ → Bool) (s : Scope g.Reported) → ScopeTyped x opens g s → IsTyped g x [] opens s
+ScopesAreTyped g =
+    (x : Context) (opens : ℕ → Bool) (s : Scope g.Reported) → ScopeTyped x opens g s
+    → IsTyped g x [] opens s
 
 -- The names of the blocks around stay so in a procedure of the innermost block.
 abbrev pub BlocksStay : Gathers → Type 0
-BlocksStay g = (x : Context) (opens : ℕ → Bool) (ks : Kinds) (level : ℕ) (b : Block g.Reported) (bs : List (Block g.Reported)) → length bs ≡ suc level → length x.kinds ≡ level
-    → BlocksIn x opens level 0 bs → NamesIn x opens level x.kinds b.names → BlocksIn (record x { kinds = ks ∷ x.kinds }) opens (suc level) 0 (bs ++ b ∷ [])
+BlocksStay g =
+    (x : Context) (opens : ℕ → Bool) (ks : Kinds) (level : ℕ) (b : Block g.Reported)
+    (bs : List (Block g.Reported))
+    → length bs ≡ suc level
+    → length x.kinds ≡ level
+    → BlocksIn x opens level 0 bs
+    → NamesIn x opens level x.kinds b.names
+    → BlocksIn (record x { kinds = ks ∷ x.kinds }) opens (suc level) 0 (bs ++ b ∷ [])
 
 -- what a procedure declares: its formals, and then its variables
 abbrev pub formal_slot : Formal → LocalKind × TypeNo
@@ -105,4 +122,7 @@ slots_of types r = map formal_slot (formals_of types r.heading) ++ map variable_
 
 -- what stands at a place among them has its kind in the frame
 abbrev pub SlotsAreKinds : Type 0
-SlotsAreKinds = (types : Types) (r : Routine) (n : ℕ) (k : LocalKind) (t : TypeNo) → slice_get (slots_of types r) n ≡ Some (k, t) → slice_get (kinds_of types r) n ≡ Some (kind_of types t k)
+SlotsAreKinds =
+    (types : Types) (r : Routine) (n : ℕ) (k : LocalKind) (t : TypeNo)
+    → slice_get (slots_of types r) n ≡ Some (k, t)
+    → slice_get (kinds_of types r) n ≡ Some (kind_of types t k)

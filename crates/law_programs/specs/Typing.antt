@@ -123,19 +123,25 @@ module _ (types : Types) where
 module _ (x : Context) (ws : List Ty) where
   -- an expression of this type
   abbrev pub ExprTyped : TypedExpr → TypeNo → Type 0
-  ExprTyped e t = (a : ℕ) → Has x a (wanted_of x.home e) → IsExpr x ws a (a + characters (texts_of e)) e t
+  ExprTyped e t =
+      (a : ℕ) → Has x a (wanted_of x.home e) → IsExpr x ws a (a + characters (texts_of e)) e t
 
   -- a designator of a variable of this type
   abbrev pub PlaceTyped : Place → Ty → Type 0
-  PlaceTyped d t = (a : ℕ) → Has x a (wanted_at x.home d) → IsPlace x ws a (a + characters (texts_at d)) d t
+  PlaceTyped d t =
+      (a : ℕ) → Has x a (wanted_at x.home d) → IsPlace x ws a (a + characters (texts_at d)) d t
 
   -- a call with this result
   abbrev pub CallTyped : Call → Gives → Type 0
-  CallTyped c r = (a : ℕ) → Has x a (wanted_called x.home c) → IsCall x ws a (a + characters (texts_called c)) c r
+  CallTyped c r =
+      (a : ℕ) → Has x a (wanted_called x.home c)
+      → IsCall x ws a (a + characters (texts_called c)) c r
 
   -- an argument that is passed so
   abbrev pub ArgumentTyped : Argument → Form → Type 0
-  ArgumentTyped g f = (a : ℕ) → Has x a (wanted_passed x.home g) → IsArgument x ws a (a + characters (texts_passed g)) g f
+  ArgumentTyped g f =
+      (a : ℕ) → Has x a (wanted_passed x.home g)
+      → IsArgument x ws a (a + characters (texts_passed g)) g f
 
   -- a value that is taken as one of a type
   pub record GivenTyped (e : TypedExpr) (t : TypeNo) : Type 0 where
@@ -157,7 +163,9 @@ module _ (x : Context) (ws : List Ty) where
 
   -- an expression of a procedure type with this heading
   abbrev pub ProcedureTyped : TypedExpr → Heading → Type 0
-  ProcedureTyped e h = (a : ℕ) → Has x a (wanted_of x.home e) → IsProcedureExpr x ws a (a + characters (texts_of e)) e h
+  ProcedureTyped e h =
+      (a : ℕ) → Has x a (wanted_of x.home e)
+      → IsProcedureExpr x ws a (a + characters (texts_of e)) e h
 
   -- a value of this procedure type
   pub record RoutineTyped (t : TypeNo) (e : TypedExpr) : Type 0 where
@@ -181,7 +189,8 @@ module _ (x : Context) (ws : List Ty) where
     abbrev pub DesignatedTyped : Designated → Type 0
     DesignatedTyped (designated.Value v) = ValueTyped v
     DesignatedTyped (designated.Variable t d) = PlaceTyped d (tree x.home.types t)
-    DesignatedTyped (designated.Open t slot) = kind_at x.kinds slot ≡ Some (Open (tree x.home.types t))
+    DesignatedTyped (designated.Open t slot) =
+        kind_at x.kinds slot ≡ Some (Open (tree x.home.types t))
     DesignatedTyped (designated.Type t) = Unit {0}
     DesignatedTyped (designated.Procedure f) = IsNamed x f
     DesignatedTyped (designated.Nested f) = IsInner x f
@@ -193,40 +202,53 @@ module _ (x : Context) (ws : List Ty) where
     MeaningTyped level (meaning.Constant v) = IsConstant x.home.types v
     MeaningTyped level (meaning.Type t n) = Unit {0}
     MeaningTyped level (meaning.Variable v) = IsVariable x v (tree x.home.types v.of)
-    MeaningTyped level (meaning.Local v) = kind_at x.kinds (slot_of level v) ≡ Some (kind_of x.home.types v.of v.kind)
-    MeaningTyped level (meaning.Field f) = (slice_get ws f.with ≡ Some (tree x.home.types f.whole)) × (component (tree x.home.types f.whole) (f.number ∷ []) ≡ Some (tree x.home.types f.of))
+    MeaningTyped level (meaning.Local v) =
+        kind_at x.kinds (slot_of level v) ≡ Some (kind_of x.home.types v.of v.kind)
+    MeaningTyped level (meaning.Field f) =
+        (slice_get ws f.with ≡ Some (tree x.home.types f.whole))
+        × (component (tree x.home.types f.whole) (f.number ∷ []) ≡ Some (tree x.home.types f.of))
     MeaningTyped level (meaning.Procedure f) = IsNamed x f
     MeaningTyped level (meaning.LocalProcedure f) = IsInner x (nested_by level f)
     MeaningTyped level meaning.Ahead = Unit {0}
     MeaningTyped level (meaning.Standard f) = Unit {0}
     MeaningTyped level (meaning.Module k) = opens k ≡ true
 
--- All types that a module knows: ranges of the language with their bases, trees by their shapes, and scalar types as indices.
+-- All types that a module knows: ranges of the language with their bases, trees by their shapes,
+-- and scalar types as indices.
 pub record TypesTyped (types : Types) : Type 0 where
   pub ranged : AreRanged types
   pub own : AllBased types types.own
   pub others : OthersBased types types.others
-  pub trees : (t : TypeNo) (m : Made) → made_at types t ≡ Some m → tree types t ≡ shape_tree types (known_trees types) t m.shape
+  pub trees : (t : TypeNo) (m : Made) → made_at types t ≡ Some m
+      → tree types t ≡ shape_tree types (known_trees types) t m.shape
   pub indexed : (t i e : TypeNo) → array_at types t ≡ Some (i, e) → IsIndexed types i
 
--- The types that are known in a scope are those of the module, and formals are of such types. Its names mean what is there,
--- and so do those that open modules export.
-pub record IsTyped (g : Gathers) (x : Context) (ws : List Ty) (opens : ℕ → Bool) (s : Scope g.Reported) : Type 0 where
+-- The types that are known in a scope are those of the module, and formals are of such types. Its
+-- names mean what is there, and so do those that open modules export.
+pub record IsTyped (g : Gathers) (x : Context) (ws : List Ty) (opens : ℕ → Bool)
+    (s : Scope g.Reported) : Type 0 where
   pub all : TypesTyped x.home.types
   pub room : length x.characters ≤ 2 ^ 32
   pub types : (t : TypeNo) (m : Made) → made_at s.types t ≡ Some m → made_at x.home.types t ≡ Some m
-  pub formals : (t : TypeNo) (h : Signature) → signature_at s.types t ≡ Some h → FormalsKnown s.types h.formals
+  pub formals : (t : TypeNo) (h : Signature) → signature_at s.types t ≡ Some h
+      → FormalsKnown s.types h.formals
   pub names : (name : Ident) → Holds (MeaningTyped x ws opens s.level) (looked_up g s name)
-  pub members : (k : ℕ) (name : Ident) → opens k ≡ true → Holds (MeaningTyped x ws opens s.level) (member g s.tables k name)
+  pub members : (k : ℕ) (name : Ident) → opens k ≡ true
+      → Holds (MeaningTyped x ws opens s.level) (member g s.tables k name)
 
 -- ---- the laws, where broken rules are gathered so
 
 -- what the checker makes of an expression
 abbrev pub ExpressionsAreTyped : Gathers → Type 0
-ExpressionsAreTyped g = (x : Context) (ws : List Ty) (opens : ℕ → Bool) (s : Scope g.Reported) → IsTyped g x ws opens s
+ExpressionsAreTyped g =
+    (x : Context) (ws : List Ty) (opens : ℕ → Bool) (s : Scope g.Reported) → IsTyped g x ws opens s
     → (e : Expr) → fits_whole e ≡ true → Holds (DesignatedTyped x ws opens) ((meant g e).means s)
 
 -- and of a designator
 abbrev pub DesignatorsAreTyped : Gathers → Type 0
-DesignatorsAreTyped g = (x : Context) (ws : List Ty) (opens : ℕ → Bool) (s : Scope g.Reported) → IsTyped g x ws opens s
-    → (d : Designator) → fits_head d ≡ true → Holds (DesignatedTyped x ws opens) ((head g d).means s)
+DesignatorsAreTyped g =
+    (x : Context) (ws : List Ty) (opens : ℕ → Bool) (s : Scope g.Reported)
+    → IsTyped g x ws opens s
+    → (d : Designator)
+    → fits_head d ≡ true
+    → Holds (DesignatedTyped x ws opens) ((head g d).means s)

@@ -1,4 +1,5 @@
--- What the checker makes of the bodies of procedures is typed, where the module that it makes has them.
+-- What the checker makes of the bodies of procedures is typed, where the module that it makes has
+-- them.
 use Rattle.std.specs.Prelude.{◌≡◌, ℕ, suc, ◌+◌, ◌≤◌, ◌<◌, ◌^◌, ◌==◌, Bool, true, false, ◌&&◌, List, [], ◌∷◌, ◌++◌, map, drop, length, Option, Some, None, Result, Ok, slice_get}
 use Rattle.std.specs.List.{fold, list_all}
 use Rattle.std.specs.Option.{unwrap_or}
@@ -114,13 +115,22 @@ pub record StageTyped (z : Stage) : Type 0 where
 
 -- the body of a procedure is typed
 abbrev pub BodyTyped : Stage → Routine → Type 0
-BodyTyped z r = StmtsTyped (stands z (kinds_of z.home.types r ∷ around_of z.home r)) (result_of z.home.types r.heading) [] false r.body
+BodyTyped z r =
+    StmtsTyped (stands z (kinds_of z.home.types r ∷ around_of z.home r))
+    (result_of z.home.types r.heading) [] false r.body
 
 -- what statements are elaborated to be is typed, where names mean what is there
 abbrev pub TypesStatements : (g : Gathers) → Elaborates g.Reported → Type 0
-TypesStatements g elaborates = (x : Context) (opens : ℕ → Bool) (s : Scope g.Reported) → IsTyped g x [] opens s → ScopeRanged s → s.withs ≡ []
-    → (returns : Option (Result TypeNo g.Reported)) (result : Gives) → AreReturned x.home.types returns result
-    → (body : List Stmt) → list_all fits_stmt body ≡ true → Holds (StmtsTyped x result [] false) (elaborates s returns body)
+TypesStatements g elaborates =
+    (x : Context) (opens : ℕ → Bool) (s : Scope g.Reported)
+    → IsTyped g x [] opens s
+    → ScopeRanged s
+    → s.withs ≡ []
+    → (returns : Option (Result TypeNo g.Reported)) (result : Gives)
+    → AreReturned x.home.types returns result
+    → (body : List Stmt)
+    → list_all fits_stmt body ≡ true
+    → Holds (StmtsTyped x result [] false) (elaborates s returns body)
 
 -- ---- names that mean what is there
 
@@ -156,7 +166,8 @@ module _ (x : Context) (opens : ℕ → Bool) (level : ℕ) where
   BlocksThere [] = Unit {0}
   BlocksThere (b ∷ bs) = NamesThere b.names × BlocksThere bs
 
--- ---- names that a procedure's block may declare: constants, types, local variables, and procedures in it
+-- ---- names that a procedure's block may declare: constants, types, local variables, and
+-- procedures in it
 
 abbrev pub MeaningLocal : Meaning → Type 0
 MeaningLocal (meaning.Constant v) = Unit {0}
@@ -183,7 +194,10 @@ NamesLocal (e ∷ es) = KnownLocal e.1 × NamesLocal es
 
 -- the declarations of a procedure's block keep to such names
 abbrev pub LocalsStay : Gathers → Type 0
-LocalsStay g = (ends : List ℕ) (st : State (Unit {0}) g.Reported) (first : ℕ) (ds : List Decl) → (st.0.level == 0) ≡ false → NamesLocal st.0.own
+LocalsStay g =
+    (ends : List ℕ) (st : State (Unit {0}) g.Reported) (first : ℕ) (ds : List Decl)
+    → (st.0.level == 0) ≡ false
+    → NamesLocal st.0.own
     → NamesLocal (declared_block g ends st first ds).0.own
 
 -- ---- headings
@@ -193,35 +207,44 @@ pub record IsFresh {T : Type 0} (s : Scope T) : Type 0 where
   pub withs : s.withs ≡ []
 
 module _ (g : Gathers) where
-  -- In this scope, and in all later types, the heading's type has the formals that are computed where its block is entered,
-  -- and the same result.
+  -- In this scope, and in all later types, the heading's type has the formals that are computed
+  -- where its block is entered, and the same result.
   abbrev pub HeadingAgrees : Scope g.Reported → (seen : ℕ) → Heading → Type 0
-  HeadingAgrees s seen h = (q : Numbered) → procedure_named s h.name ≡ Some q
-      → (types : Types) → ((t : TypeNo) (x : Made) → made_at s.types t ≡ Some x → made_at types t ≡ Some x)
+  HeadingAgrees s seen h =
+      (q : Numbered)
+      → procedure_named s h.name ≡ Some q
+      → (types : Types)
+      → ((t : TypeNo) (x : Made) → made_at s.types t ≡ Some x → made_at types t ≡ Some x)
       → (formals_of types q.heading ≡ all_formals g (inwards s seen) h.formals)
       × AreReturned types (returns_of (entered_procedure g s seen h).1) (result_of types q.heading)
 
-  -- so it is, if the declaration is a procedure, in each scope that has the same names and all types of this one
+  -- so it is, if the declaration is a procedure, in each scope that has the same names and all
+  -- types of this one
   abbrev pub DeclAgrees : {A B : Type 0} → Scope g.Reported → (seen : ℕ) → Decl-F A B → Type 0
   DeclAgrees a seen (layer.Constants cs) = Unit {0}
   DeclAgrees a seen (layer.Types ts) = Unit {0}
   DeclAgrees a seen (layer.Variables vs) = Unit {0}
-  DeclAgrees a seen (layer.Procedure h b) = (s : Scope g.Reported) → Keeps a s → s.own ≡ a.own → s.withs ≡ [] → HeadingAgrees s seen h
+  DeclAgrees a seen (layer.Procedure h b) =
+      (s : Scope g.Reported) → Keeps a s → s.own ≡ a.own → s.withs ≡ [] → HeadingAgrees s seen h
 
   -- of all declarations, with how many names stand before each, from the i-th on
   abbrev pub DeclsAgree : Scope g.Reported → List ℕ → (i : ℕ) → List Decl → Type 0
   DeclsAgree a seen i [] = Unit {0}
-  DeclsAgree a seen i (d ∷ ds) = DeclAgrees a (unwrap_or (slice_get seen i) 0) (out-Decl d) × DeclsAgree a seen (i + 1) ds
+  DeclsAgree a seen i (d ∷ ds) =
+      DeclAgrees a (unwrap_or (slice_get seen i) 0) (out-Decl d) × DeclsAgree a seen (i + 1) ds
 
 -- So it is of all procedures of a block, at its end, where its declarations break no rule.
 abbrev pub HeadingsAgree : Gathers → Type 0
-HeadingsAgree g = (ends : List ℕ) (st : State (Unit {0}) g.Reported) (first : ℕ) (ds : List Decl) → IsFresh st.0
+HeadingsAgree g =
+    (ends : List ℕ) (st : State (Unit {0}) g.Reported) (first : ℕ) (ds : List Decl)
+    → IsFresh st.0
     → (declared_block g ends st first ds).1 ≡ Ok tt
     → DeclsAgree g (declared_block g ends st first ds).0 (declared_block g ends st first ds).2 0 ds
 
 -- ---- scopes
 
--- The types that are known have ranges of the language and stand in order, and constants are numbers of their types.
+-- The types that are known have ranges of the language and stand in order, and constants are
+-- numbers of their types.
 pub record ScopeKnown (base : Types) {T : Type 0} (s : Scope T) : Type 0 where
   pub ranged : ScopeRanged s
   pub ordered : ScopeOrdered base s
@@ -237,7 +260,8 @@ module _ (g : Gathers) (z : Stage) where
   -- the module has what is added from one walk to the other, in the block of this procedure
   pub record Serves (around : Option Which) (w w' : Walk g.Reported) : Type 0 where
     pub home : w.scope.types.home ≡ z.home.types.home
-    pub types : (t : TypeNo) (x : Made) → made_at w'.scope.types t ≡ Some x → made_at z.home.types t ≡ Some x
+    pub types : (t : TypeNo) (x : Made) → made_at w'.scope.types t ≡ Some x
+        → made_at z.home.types t ≡ Some x
     pub locals : (n : ℕ) → length w.bodies.locals ≤ n → n < length w'.bodies.locals
         → slice_get z.home.locals n ≡ slice_get w'.bodies.locals n
     pub members : (k : ℕ) (name : Ident) → z.opens k ≡ true
@@ -247,16 +271,22 @@ module _ (g : Gathers) (z : Stage) where
 
   -- the procedures that are added have typed bodies
   abbrev pub AddsTyped : Walk g.Reported → Walk g.Reported → Type 0
-  AddsTyped w w' = (n : ℕ) (r : Routine) → length w.bodies.locals ≤ n → slice_get w'.bodies.locals n ≡ Some r → BodyTyped z r
+  AddsTyped w w' =
+      (n : ℕ) (r : Routine) → length w.bodies.locals ≤ n → slice_get w'.bodies.locals n ≡ Some r
+      → BodyTyped z r
 
 -- the frame of the block has its formals, and behind them its variables
-pub record HasFrame (z : Stage) (level : ℕ) (around : Option Which) (fs : List Formal) (variables : List TypeNo) : Type 0 where
+pub record HasFrame (z : Stage) (level : ℕ) (around : Option Which) (fs : List Formal)
+    (variables : List TypeNo) : Type 0 where
   pub rest : List Kinds
   pub kinds : kinds_around z.home (suc level) around
-      ≡ (map (formal_kind z.home.types) fs ++ map (λ t. Kept (tree z.home.types t)) (drop (length fs) variables)) ∷ rest
+      ≡ (map (formal_kind z.home.types) fs
+      ++ map (λ t. Kept (tree z.home.types t)) (drop (length fs) variables))
+      ∷ rest
 
 -- where the block of a procedure with these formals begins
-pub record Enters {T : Type 0} (base : Types) (ends : List ℕ) (fs : List Formal) (w : Walk T) (ks : List ℕ) : Type 0 where
+pub record Enters {T : Type 0} (base : Types) (ends : List ℕ) (fs : List Formal) (w : Walk T)
+    (ks : List ℕ) : Type 0 where
   pub begins : Begins ends w ks
   pub deep : IsDeep w
   pub known : ScopeKnown base w.scope
@@ -266,16 +296,26 @@ pub record Enters {T : Type 0} (base : Types) (ends : List ℕ) (fs : List Forma
   pub formed : (m : TypedModule) (opens : ℕ → Bool) → AreFormedNames m opens w.scope.own
 
 -- the block of a procedure, with so many procedures within each of those in it
-pub record TypedBlock (g : Gathers) (base : Types) (ends : List ℕ) (block : ChecksBlock g.Reported) (ks : List ℕ) : Type 0 where
-  pub known : (around : Option Which) (returns : Option (Result TypeNo g.Reported)) (w : Walk g.Reported)
-      → (block around returns w).0.so_far ≡ Ok tt → ScopeKnown base w.scope → ScopeKnown base (block around returns w).0.scope
-  pub typed : (fs : List Formal) (around : Option Which) (returns : Option (Result TypeNo g.Reported)) (w : Walk g.Reported)
-      → Enters base ends fs w ks → (block around returns w).0.so_far ≡ Ok tt
-      → (z : Stage) → StageTyped z → Serves g z around w (block around returns w).0
+pub record TypedBlock (g : Gathers) (base : Types) (ends : List ℕ) (block : ChecksBlock g.Reported)
+    (ks : List ℕ) : Type 0 where
+  pub known : (around : Option Which) (returns : Option (Result TypeNo g.Reported))
+      (w : Walk g.Reported)
+      → (block around returns w).0.so_far ≡ Ok tt
+      → ScopeKnown base w.scope
+      → ScopeKnown base (block around returns w).0.scope
+  pub typed : (fs : List Formal) (around : Option Which)
+      (returns : Option (Result TypeNo g.Reported)) (w : Walk g.Reported)
+      → Enters base ends fs w ks
+      → (block around returns w).0.so_far ≡ Ok tt
+      → (z : Stage)
+      → StageTyped z
+      → Serves g z around w (block around returns w).0
       → HasFrame z w.scope.level around fs (block around returns w).0.scope.variables
-      → (result : Gives) → AreReturned z.home.types returns result
+      → (result : Gives)
+      → AreReturned z.home.types returns result
       → AddsTyped g z w (block around returns w).0
-      × Holds (StmtsTyped (stands_in z w.scope.level around) result [] false) (block around returns w).1
+      × Holds (StmtsTyped (stands_in z w.scope.level around) result [] false)
+      (block around returns w).1
 
 -- the bodies of the procedures in a procedure's block are typed, and so is its own
 abbrev pub BlocksAreTyped : Gathers → Type 0
@@ -302,7 +342,8 @@ module _ {T : Type 0} (own : List (List ℕ × Known T)) where
 
   abbrev pub OtherThan : Option ℕ → List Decl → Type 0
   OtherThan n [] = Unit {0}
-  OtherThan n (d ∷ ds) = ((k : ℕ) → n ≡ Some k → number_of (out-Decl d) ≡ Some k → ⊥) × OtherThan n ds
+  OtherThan n (d ∷ ds) =
+      ((k : ℕ) → n ≡ Some k → number_of (out-Decl d) ≡ Some k → ⊥) × OtherThan n ds
 
   -- the procedures of a module have numbers of their own
   abbrev pub NumbersApart : List Decl → Type 0
@@ -311,13 +352,18 @@ module _ {T : Type 0} (own : List (List ℕ × Known T)) where
 
 -- procedures of the module's own definition that await their headings have its numbers
 abbrev pub AwaitsOwn : {T : Type 0} → Scope T → Type 0
-AwaitsOwn s = (name : List ℕ) (p : Procedure) → name_standing (found name s.own) ≡ Awaited p → (p.home ≡ s.types.home) × (slice_get s.procedures p.number ≡ Some p.heading)
+AwaitsOwn s =
+    (name : List ℕ) (p : Procedure) → name_standing (found name s.own) ≡ Awaited p
+    → (p.home ≡ s.types.home) × (slice_get s.procedures p.number ≡ Some p.heading)
 
 -- and each has another number
 abbrev pub AwaitsApart : {T : Type 0} → Scope T → Type 0
-AwaitsApart s = (a b : List ℕ) (p q : Procedure) → name_standing (found a s.own) ≡ Awaited p → name_standing (found b s.own) ≡ Awaited q → p.number ≡ q.number → a ≡ b
+AwaitsApart s =
+    (a b : List ℕ) (p q : Procedure) → name_standing (found a s.own) ≡ Awaited p
+    → name_standing (found b s.own) ≡ Awaited q → p.number ≡ q.number → a ≡ b
 
--- Behind its imports, a module stands in no procedure and in no WITH, and procedures of its definition have its numbers.
+-- Behind its imports, a module stands in no procedure and in no WITH, and procedures of its
+-- definition have its numbers.
 pub record ModuleBegins {T : Type 0} (s : Scope T) : Type 0 where
   pub level : (s.level == 0) ≡ true
   pub single : length s.outer ≡ 1
@@ -325,16 +371,18 @@ pub record ModuleBegins {T : Type 0} (s : Scope T) : Type 0 where
   pub awaits : AwaitsOwn s
   pub apart : AwaitsApart s
 
--- The names of a module, of what stands around it, and of its open modules mean what is there, and it has what the walk over
--- its bodies leads to.
-pub record HasModule (g : Gathers) (base : Types) (z : Stage) (d : Scope g.Reported) (w : Walk g.Reported) : Type 0 where
+-- The names of a module, of what stands around it, and of its open modules mean what is there, and
+-- it has what the walk over its bodies leads to.
+pub record HasModule (g : Gathers) (base : Types) (z : Stage) (d : Scope g.Reported)
+    (w : Walk g.Reported) : Type 0 where
   pub types : w.scope.types ≡ z.home.types
   pub procedures : w.bodies.procedures ≡ z.home.procedures
   pub locals : w.bodies.locals ≡ z.home.locals
   pub known : ScopeKnown base d
   pub names : NamesThere (stands z []) z.opens 0 d.own
   pub outer : BlocksThere (stands z []) z.opens 0 d.outer
-  pub members : (k : ℕ) (name : Ident) → z.opens k ≡ true → Holds (MeaningThere (stands z []) z.opens 0) (member g d.tables k name)
+  pub members : (k : ℕ) (name : Ident) → z.opens k ≡ true
+      → Holds (MeaningThere (stands z []) z.opens 0) (member g d.tables k name)
 
 -- the bodies of all procedures of a module, and its own
 pub record AreBodiesTyped (z : Stage) (ss : List TypedStmt) : Type 0 where
@@ -343,9 +391,12 @@ pub record AreBodiesTyped (z : Stage) (ss : List TypedStmt) : Type 0 where
 
 -- The bodies of a module are typed, where its declarations and bodies break no rule.
 abbrev pub ModulesAreTyped : Gathers → Type 0
-ModulesAreTyped g = (base : Types) (modules : List (List ℕ × ℕ)) (s : Scope g.Reported) (m : Module) (b : Block) → fits_whole_block b ≡ true
+ModulesAreTyped g =
+    (base : Types) (modules : List (List ℕ × ℕ)) (s : Scope g.Reported) (m : Module) (b : Block)
+    → fits_whole_block b ≡ true
     → ModuleBegins (fold (with_import g modules) (s, Ok tt) m.imports).0
     → let ds = (out-Block b).decls in
     let d = declared_module g modules (procedure_ends ds) s m ds in
     let w = walked g (elaborated g) modules (procedure_ends ds) s m b in
-    w.0.so_far ≡ Ok tt → (z : Stage) → StageTyped z → HasModule g base z d.0 w.0 → (body : List TypedStmt) → w.1 ≡ Ok body → AreBodiesTyped z body
+    w.0.so_far ≡ Ok tt → (z : Stage) → StageTyped z → HasModule g base z d.0 w.0
+    → (body : List TypedStmt) → w.1 ≡ Ok body → AreBodiesTyped z body

@@ -11,9 +11,19 @@ use Rattle.law_programs.specs.FormedGraphs.{IsFit}
 use Rattle.law_programs.specs.FormedTrees.{fits_contents}
 use Rattle.law_simulation.specs.Modules.{AreTypedModules}
 
--- The files have this graph, and their trees fit, with the statements in them. The bodies that start fit, and there is room for
--- them in the pages.
+-- The files have this graph, and their trees fit, with the statements in them. The bodies that
+-- start fit, and there is room for them in the pages.
 abbrev pub GraphsAreTyped : Type 0
-GraphsAreTyped = (fs : List (List ℕ × Module)) (files : List ℕ) (jobs : List (List ℕ)) (starts : List ℕ) → IsGraph (numbered 0 fs) files jobs starts → CompileEach (numbered 0 fs) files
-    → list_all fits_module (trees_of fs) ≡ true → list_all (λ m. fits_contents m.contents) (trees_of fs) ≡ true → (p : Program) → AreBodiesIn (trees_of fs) files jobs starts p → AllByRecursion IsFit p
-    → (pages : ℕ) → bytes_in p + 4096 ≤ 65536 * pages → pages ≤ 1024 → AreTypedModules p pages
+GraphsAreTyped =
+    (fs : List (List ℕ × Module)) (files : List ℕ) (jobs : List (List ℕ)) (starts : List ℕ)
+    → IsGraph (numbered 0 fs) files jobs starts
+    → CompileEach (numbered 0 fs) files
+    → list_all fits_module (trees_of fs) ≡ true
+    → list_all (λ m. fits_contents m.contents) (trees_of fs) ≡ true
+    → (p : Program)
+    → AreBodiesIn (trees_of fs) files jobs starts p
+    → AllByRecursion IsFit p
+    → (pages : ℕ)
+    → bytes_in p + 4096 ≤ 65536 * pages
+    → pages ≤ 1024
+    → AreTypedModules p pages

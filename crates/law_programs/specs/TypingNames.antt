@@ -1,4 +1,5 @@
--- The names of a module of a graph mean what is there: its own procedures, and what other modules export.
+-- The names of a module of a graph mean what is there: its own procedures, and what other modules
+-- export.
 use Rattle.std.specs.Prelude.{◌≡◌, ℕ, ◌==◌, Bool, true, ◌||◌, List, [], ◌∷◌, ◌++◌, Option, Some, None, codes, slice_get}
 use Rattle.std.specs.List.{AllByRecursion, list_any, list_all}
 use Rattle.m2_tree.specs.declared.name.Ident.{Ident}
@@ -37,7 +38,8 @@ use Rattle.law_programs.specs.TypingBodies.{MeaningThere, BlocksThere}
 
 abbrev pub is_open_table : List Imported → Option Table → Bool
 is_open_table is None = true
-is_open_table is (Some t) = same_name t.name (codes "Console") || list_any (λ i. i.number == t.number) is
+is_open_table is (Some t) =
+    same_name t.name (codes "Console") || list_any (λ i. i.number == t.number) is
 
 abbrev pub is_open : List Table → List Imported → ℕ → Bool
 is_open tables is k = is_open_table is (slice_get tables k)
@@ -46,18 +48,22 @@ is_open tables is k = is_open_table is (slice_get tables k)
 
 -- behind the declarations of a module that begins in this scope
 abbrev pub declared_of : Scope Fault → Module → Block → Scope Fault
-declared_of s m b = let ds = (out-Block b).decls in (declared_module least (numbered_modules s.tables).0 (procedure_ends ds) s m ds).0
+declared_of s m b =
+    let ds = (out-Block b).decls in
+    (declared_module least (numbered_modules s.tables).0 (procedure_ends ds) s m ds).0
 
 module _ (x : Context) (opens : ℕ → Bool) where
   -- the names of a module, of what stands around it, and of its open modules
   pub record NamesStand (s : Scope Fault) (m : Module) (b : Block) : Type 0 where
     pub others : NamesElse x opens 0 [] (declared_of s m b).own
     pub outer : BlocksThere x opens 0 (declared_of s m b).outer
-    pub members : (k : ℕ) (name : Ident) → opens k ≡ true → Holds (MeaningThere x opens 0) (member least (declared_of s m b).tables k name)
+    pub members : (k : ℕ) (name : Ident) → opens k ≡ true
+        → Holds (MeaningThere x opens 0) (member least (declared_of s m b).tables k name)
 
 -- ---- bodies
 
-module _ (trees : List Module) (files : List ℕ) (jobs : List (List ℕ)) {t : TypedModule} (b : IsBodyOf trees files jobs t) where
+module _ (trees : List Module) (files : List ℕ) (jobs : List (List ℕ)) {t : TypedModule}
+    (b : IsBodyOf trees files jobs t) where
   abbrev pub needed_tables : List Table
   needed_tables = tables_of (needed_of trees files jobs b.job)
 
@@ -72,13 +78,18 @@ module _ (trees : List Module) (files : List ℕ) (jobs : List (List ℕ)) {t : 
   abbrev pub opens_for : ℕ → Bool
   opens_for = is_open tables_for t.imports
 
-  -- The instance of its module has its variables. What open modules export is there, and so are its names: where a program
-  -- begins, and where the implementation of a definition does.
+  -- The instance of its module has its variables. What open modules export is there, and so are its
+  -- names: where a program begins, and where the implementation of a definition does.
   pub record BodyNamed (x : Context) : Type 0 where
     pub own : HasInstance x
-    pub exports : (k : ℕ) (u : Table) → slice_get tables_for k ≡ Some u → opens_for k ≡ true → AllByRecursion (λ e. MeaningThere x opens_for 0 e.1) u.exported
-    pub program : (block : Block) → b.tree.contents ≡ contents.Program block → NamesStand x opens_for (first_scope b.job tables_for) b.tree block
-    pub implementation : (o : Table) (block : Block) → own_of ≡ Some o → b.tree.contents ≡ contents.Implementation block → NamesStand x opens_for (implementation_scope o tables_for) b.tree block
+    pub exports : (k : ℕ) (u : Table) → slice_get tables_for k ≡ Some u → opens_for k ≡ true
+        → AllByRecursion (λ e. MeaningThere x opens_for 0 e.1) u.exported
+    pub program : (block : Block) → b.tree.contents ≡ contents.Program block
+        → NamesStand x opens_for (first_scope b.job tables_for) b.tree block
+    pub implementation : (o : Table) (block : Block)
+        → own_of ≡ Some o
+        → b.tree.contents ≡ contents.Implementation block
+        → NamesStand x opens_for (implementation_scope o tables_for) b.tree block
 
 -- ---- the law
 
@@ -87,6 +98,14 @@ abbrev pub placed_at : Program → (pages place : ℕ) → TypedModule → Conte
 placed_at p pages place m = context p (ground p pages).base (ground p pages).texts place m []
 
 abbrev pub NamesAreThere : Type 0
-NamesAreThere = (fs : List (List ℕ × Module)) (files : List ℕ) (jobs : List (List ℕ)) (starts : List ℕ) → IsGraph (numbered 0 fs) files jobs starts → CompileEach (numbered 0 fs) files
-    → list_all fits_module (trees_of fs) ≡ true → (p : Program) → AreBodiesIn (trees_of fs) files jobs starts p
-    → (pages place : ℕ) (m : TypedModule) → slice_get p place ≡ Some m → (b : IsBodyOf (trees_of fs) files jobs m) → BodyNamed (trees_of fs) files jobs b (placed_at p pages place m)
+NamesAreThere =
+    (fs : List (List ℕ × Module)) (files : List ℕ) (jobs : List (List ℕ)) (starts : List ℕ)
+    → IsGraph (numbered 0 fs) files jobs starts
+    → CompileEach (numbered 0 fs) files
+    → list_all fits_module (trees_of fs) ≡ true
+    → (p : Program)
+    → AreBodiesIn (trees_of fs) files jobs starts p
+    → (pages place : ℕ) (m : TypedModule)
+    → slice_get p place ≡ Some m
+    → (b : IsBodyOf (trees_of fs) files jobs m)
+    → BodyNamed (trees_of fs) files jobs b (placed_at p pages place m)

@@ -52,13 +52,15 @@ abbrev pub fits_stmt_layer : Stmt-F Bool Bool Bool → Bool
 fits_stmt_layer (layer.Assign d e) = fits_head d && fits_whole e
 fits_stmt_layer (layer.Call d args) = fits_head d && all_fit args
 fits_stmt_layer (layer.If c body rest) = fits_whole c && (list_all itself body && rest)
-fits_stmt_layer (layer.Case e arms otherwise) = fits_whole e && (list_all itself arms && others_fit otherwise)
+fits_stmt_layer (layer.Case e arms otherwise) =
+    fits_whole e && (list_all itself arms && others_fit otherwise)
 fits_stmt_layer (layer.While c body) = fits_whole c && list_all itself body
 fits_stmt_layer (layer.Repeat body c) = list_all itself body && fits_whole c
 fits_stmt_layer (layer.Loop body) = list_all itself body
 fits_stmt_layer (layer.Exit at) = true
 fits_stmt_layer (layer.Return at e) = fits_if e
-fits_stmt_layer (layer.For name start limit by body) = fits_whole start && (fits_whole limit && (fits_step by && list_all itself body))
+fits_stmt_layer (layer.For name start limit by body) =
+    fits_whole start && (fits_whole limit && (fits_step by && list_all itself body))
 fits_stmt_layer (layer.With d body) = fits_head d && list_all itself body
 
 abbrev pub fits_rest_layer : Rest-F Bool Bool Bool → Bool
@@ -81,10 +83,14 @@ fits_arm = fold-Arm Bool Bool Bool fits_rest_layer fits_stmt_layer fits_arm_laye
 
 module _ (x : Context) (result : Gives) (ws : List Ty) (looped : Bool) where
   abbrev pub StmtTyped : TypedStmt → Type 0
-  StmtTyped s = (a : ℕ) → Has x a (wanted_in x.home s) → IsStmt x result ws looped a (a + characters (texts_in s)) s
+  StmtTyped s =
+      (a : ℕ) → Has x a (wanted_in x.home s)
+      → IsStmt x result ws looped a (a + characters (texts_in s)) s
 
   abbrev pub StmtsTyped : List TypedStmt → Type 0
-  StmtsTyped ss = (a : ℕ) → Has x a (wanted_by x.home ss) → AreStmts x result ws looped a (a + characters (body_texts ss)) ss
+  StmtsTyped ss =
+      (a : ℕ) → Has x a (wanted_by x.home ss)
+      → AreStmts x result ws looped a (a + characters (body_texts ss)) ss
 
 -- what RETURN gives in a body is the result of its procedure
 abbrev pub AreReturned : {T : Type 0} → Types → Option (Result TypeNo T) → Gives → Type 0

@@ -60,10 +60,12 @@ ArePlacedBy vs es = AllByRecursion (λ e. IsPlaced vs e.1) es
 
 -- no two procedures that are exported have one number
 abbrev pub ProceduresApart : List (List ℕ × Meaning) → Type 0
-ProceduresApart es = (a b : List ℕ) (p q : Procedure) → found a es ≡ Some (meaning.Procedure p) → found b es ≡ Some (meaning.Procedure q) → p.number ≡ q.number → a ≡ b
+ProceduresApart es =
+    (a b : List ℕ) (p q : Procedure) → found a es ≡ Some (meaning.Procedure p)
+    → found b es ≡ Some (meaning.Procedure q) → p.number ≡ q.number → a ≡ b
 
--- What a definition exports is its own, each name once. Variables and procedures are numbered by their places, constants are
--- words, and no variable is one of a procedure.
+-- What a definition exports is its own, each name once. Variables and procedures are numbered by
+-- their places, constants are words, and no variable is one of a procedure.
 pub record ExportsStand (home : ℕ) (es : List (List ℕ × Meaning)) : Type 0 where
   pub own : AreExports home es
   pub once : StandOnce es
@@ -73,7 +75,8 @@ pub record ExportsStand (home : ℕ) (es : List (List ℕ × Meaning)) : Type 0 
   pub words : ExportsWords es
   pub free : ExportsFree es
 
--- The table of a definition has the number of its job. Arrays among the types that it reaches have indices of scalar types.
+-- The table of a definition has the number of its job. Arrays among the types that it reaches have
+-- indices of scalar types.
 pub record TableStands (job : ℕ) (t : Table) : Type 0 where
   pub number : t.number ≡ job
   pub exports : ExportsStand t.number t.exported
@@ -86,9 +89,13 @@ abbrev pub tables_by : Module → List Table → List Table
 tables_by m ts = tables_behind (own_table m ts) ts ++ console ∷ []
 
 -- the body of a program or of an implementation begins in this scope, with this block
-pub data BeginsIn (m : Module) (job : ℕ) (ts : List Table) : Scope least.Reported → Block → Type 0 where
-  program : (b : Block) → m.contents ≡ contents.Program b → BeginsIn m job ts (first_scope job (tables_by m ts)) b
-  implementation : (own : Table) (b : Block) → own_table m ts ≡ Some own → m.contents ≡ contents.Implementation b → BeginsIn m job ts (implementation_scope own (tables_by m ts)) b
+pub data BeginsIn (m : Module) (job : ℕ) (ts : List Table)
+    : Scope least.Reported → Block → Type 0 where
+  program : (b : Block) → m.contents ≡ contents.Program b
+      → BeginsIn m job ts (first_scope job (tables_by m ts)) b
+  implementation :
+      (own : Table) (b : Block) → own_table m ts ≡ Some own → m.contents ≡ contents.Implementation b
+      → BeginsIn m job ts (implementation_scope own (tables_by m ts)) b
 
 abbrev pub modules_in : Scope least.Reported → List (List ℕ × ℕ)
 modules_in s = (numbered_modules s.tables).0
@@ -102,14 +109,16 @@ imported_in s m = (fold (with_import least (modules_in s)) (s, Ok tt) m.imports)
 
 -- what the declarations of the block come to,
 abbrev pub declared_in : Scope least.Reported → Module → Block → Declared least.Reported
-declared_in s m b = declared_module least (modules_in s) (procedure_ends (decls_in b)) s m (decls_in b)
+declared_in s m b =
+    declared_module least (modules_in s) (procedure_ends (decls_in b)) s m (decls_in b)
 
 -- and the bodies
 abbrev pub walked_in : Scope least.Reported → Module → Block → Checked least.Reported
 walked_in s m b = walked least (elaborated least) (modules_in s) (procedure_ends (decls_in b)) s m b
 
--- A body begins in this scope, with this block, and comes to this module. No rule is broken. The types of the block's end are
--- those of the module. The block's names stand under their numbers, and the module's types are as the language has them.
+-- A body begins in this scope, with this block, and comes to this module. No rule is broken. The
+-- types of the block's end are those of the module. The block's names stand under their numbers,
+-- and the module's types are as the language has them.
 pub record BodyStands (m : Module) (job : ℕ) (ts : List Table) (t : TypedModule) : Type 0 where
   pub scope : Scope least.Reported
   pub block : Block
@@ -125,7 +134,8 @@ pub record BodyStands (m : Module) (job : ℕ) (ts : List Table) (t : TypedModul
   pub order : t.order ≡ (walked_in scope m block).0.bodies.order
   pub home : t.types.home ≡ scope.types.home
   pub same_home : (declared_in scope m block).0.types.home ≡ scope.types.home
-  pub grows : (u : TypeNo) (x : Made) → made_at (declared_in scope m block).0.types u ≡ Some x → made_at t.types u ≡ Some x
+  pub grows : (u : TypeNo) (x : Made) → made_at (declared_in scope m block).0.types u ≡ Some x
+      → made_at t.types u ≡ Some x
   pub level : (declared_in scope m block).0.level ≡ 0
   pub tables : (declared_in scope m block).0.tables ≡ scope.tables
   pub outer : (declared_in scope m block).0.outer ≡ predeclared_block ∷ []
@@ -139,11 +149,20 @@ pub record BodyStands (m : Module) (job : ℕ) (ts : List Table) (t : TypedModul
 
 -- The tables that jobs make stand so.
 abbrev pub TablesStand : Type 0
-TablesStand = (trees : List Module) (files : List ℕ) (jobs : List (List ℕ)) → list_all fits_module trees ≡ true
-    → (job : ℕ) (t : Table) → result_of trees files jobs job ≡ Defined t → TableStands job t
+TablesStand =
+    (trees : List Module) (files : List ℕ) (jobs : List (List ℕ))
+    → list_all fits_module trees ≡ true
+    → (job : ℕ) (t : Table)
+    → result_of trees files jobs job ≡ Defined t
+    → TableStands job t
 
 -- So do the bodies that the jobs of a graph make.
 abbrev pub BodiesStand : Type 0
-BodiesStand = (fs : List (List ℕ × Module)) (files : List ℕ) (jobs : List (List ℕ)) (starts : List ℕ) → IsGraph (numbered 0 fs) files jobs starts → list_all fits_module (trees_of fs) ≡ true
-    → (m : Module) (job : ℕ) (t : TypedModule) → slice_get (trees_of fs) (slice_index_or files job 0) ≡ Some m
-    → let ts = tables_of (needed_of (trees_of fs) files jobs job) in typed_body m job ts ≡ Ok t → BodyStands m job ts t
+BodiesStand =
+    (fs : List (List ℕ × Module)) (files : List ℕ) (jobs : List (List ℕ)) (starts : List ℕ)
+    → IsGraph (numbered 0 fs) files jobs starts
+    → list_all fits_module (trees_of fs) ≡ true
+    → (m : Module) (job : ℕ) (t : TypedModule)
+    → slice_get (trees_of fs) (slice_index_or files job 0) ≡ Some m
+    → let ts = tables_of (needed_of (trees_of fs) files jobs job) in
+    typed_body m job ts ≡ Ok t → BodyStands m job ts t

@@ -15,13 +15,21 @@ use Rattle.law_simulation.specs.TreesTyped.{Context, HasText}
 
 module _ (m : TypedModule) where
   unfoldable pub of_link : Link → Signatures
-  of_link = fold-Link Signatures Signatures Signatures Signatures Signatures Signatures (argument_layer m) (call_layer m) (component_layer m) (link_layer m) (expr_layer m) (place_layer m)
+  of_link =
+      fold-Link Signatures Signatures Signatures Signatures Signatures Signatures (argument_layer m)
+      (call_layer m) (component_layer m) (link_layer m) (expr_layer m) (place_layer m)
 
   unfoldable pub of_component : Component → Signatures
-  of_component = fold-Component Signatures Signatures Signatures Signatures Signatures Signatures (argument_layer m) (call_layer m) (component_layer m) (link_layer m) (expr_layer m) (place_layer m)
+  of_component =
+      fold-Component Signatures Signatures Signatures Signatures Signatures Signatures
+      (argument_layer m) (call_layer m) (component_layer m) (link_layer m) (expr_layer m)
+      (place_layer m)
 
   unfoldable pub of_argument : Argument → Signatures
-  of_argument = fold-Argument Signatures Signatures Signatures Signatures Signatures Signatures (argument_layer m) (call_layer m) (component_layer m) (link_layer m) (expr_layer m) (place_layer m)
+  of_argument =
+      fold-Argument Signatures Signatures Signatures Signatures Signatures Signatures
+      (argument_layer m) (call_layer m) (component_layer m) (link_layer m) (expr_layer m)
+      (place_layer m)
 
 -- ---- what is asked for
 

@@ -10,8 +10,11 @@ use Rattle.check_block.specs.declared.inner.Outside.{Outside}
 use Rattle.check_block.specs.Inner.{entered_procedure, left_procedure}
 use Rattle.law_programs.specs.Carried.{ScopeWords}
 
--- The declarations of a block lead from such a scope to such a scope, and so do the ways into a procedure and back.
+-- The declarations of a block lead from such a scope to such a scope, and so do the ways into a
+-- procedure and back.
 pub record WordsStay (g : Gathers) : Type 0 where
-  pub blocks : (ends : List ℕ) (st : State (Unit {0}) g.Reported) (first : ℕ) (ds : List Decl) → ScopeWords st.0 → ScopeWords (declared_block g ends st first ds).0
-  pub entered : (s : Scope g.Reported) (seen : ℕ) (h : Heading) → ScopeWords s → ScopeWords (entered_procedure g s seen h).0
+  pub blocks : (ends : List ℕ) (st : State (Unit {0}) g.Reported) (first : ℕ) (ds : List Decl)
+      → ScopeWords st.0 → ScopeWords (declared_block g ends st first ds).0
+  pub entered : (s : Scope g.Reported) (seen : ℕ) (h : Heading) → ScopeWords s
+      → ScopeWords (entered_procedure g s seen h).0
   pub left : (o : Outside) (s : Scope g.Reported) → ScopeWords s → ScopeWords (left_procedure o s)

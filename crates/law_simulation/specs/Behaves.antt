@@ -16,12 +16,18 @@ printed (Unfinished out) = out
 -- The program's run with each bound, and the machine's run from a configuration.
 pub record Behaves (modules : List WModule) (c : Config) (program : ℕ → Outcome) : Type 0 where
   -- where the program's run ends, the machine's run ends with the same number and the same bytes
-  pub ends : (n k : ℕ) (out : List ℕ) → program n ≡ Stopped k out → (m : ℕ) × (run modules m c ≡ (Over k, out))
-  -- where the program still runs with every bound, the machine still runs after every number of reductions
-  pub goes_on : ((n : ℕ) → (out : List ℕ) × (program n ≡ Unfinished out)) → (m : ℕ) → IsOver (run modules m c).0 → ⊥
+  pub ends : (n k : ℕ) (out : List ℕ) → program n ≡ Stopped k out
+      → (m : ℕ) × (run modules m c ≡ (Over k, out))
+  -- where the program still runs with every bound, the machine still runs after every number of
+  -- reductions
+  pub goes_on : ((n : ℕ) → (out : List ℕ) × (program n ≡ Unfinished out)) → (m : ℕ)
+      → IsOver (run modules m c).0 → ⊥
   -- the machine never traps, and where it ends, the program ends
-  pub only : (m : ℕ) (d : Config) (out : List ℕ) → IsOver d → run modules m c ≡ (d, out) → (n : ℕ) × (k : ℕ) × (d ≡ Over k) × (program n ≡ Stopped k out)
+  pub only : (m : ℕ) (d : Config) (out : List ℕ) → IsOver d → run modules m c ≡ (d, out)
+      → (n : ℕ) × (k : ℕ) × (d ≡ Over k) × (program n ≡ Stopped k out)
   -- what the machine has printed is a beginning of what the program prints
-  pub prints : (m : ℕ) → (n : ℕ) × (rest : List ℕ) × (printed (program n) ≡ (run modules m c).1 ++ rest)
+  pub prints : (m : ℕ)
+      → (n : ℕ) × (rest : List ℕ) × (printed (program n) ≡ (run modules m c).1 ++ rest)
   -- what the program has printed while it runs is what the machine has printed at some time
-  pub prints_also : (n : ℕ) (out : List ℕ) → program n ≡ Unfinished out → (m : ℕ) × (n ≤ m) × ((run modules m c).1 ≡ out)
+  pub prints_also : (n : ℕ) (out : List ℕ) → program n ≡ Unfinished out
+      → (m : ℕ) × (n ≤ m) × ((run modules m c).1 ≡ out)

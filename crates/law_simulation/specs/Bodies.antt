@@ -1,4 +1,5 @@
--- The bodies of a program: when their functions do what their statements do, and what the whole run is then.
+-- The bodies of a program: when their functions do what their statements do, and what the whole run
+-- is then.
 use Rattle.std.specs.Prelude.{◌≡◌, ℕ, suc, ◌-◌, Bool, false, List, [], ◌∷◌, length}
 use Rattle.wasm_tree.specs.declared.module.WModule.{WModule}
 use Rattle.wasm_tree.specs.declared.store.Value.{Value}
@@ -20,7 +21,8 @@ use Rattle.law_simulation.specs.Behaves.{Behaves}
 
 -- ---- one body
 
--- The instances of the modules of a program are these, and their texts. The memory has so many bytes.
+-- The instances of the modules of a program are these, and their texts. The memory has so many
+-- bytes.
 pub record Ground : Type 0 where
   pub program : Modules
   pub base : List Ty
@@ -46,30 +48,44 @@ BodyEnds g locals below r (Came v s) = IsBack g locals below s r
 BodyEnds g locals below r (Stopped k out) = r ≡ effects.Ended k out
 BodyEnds g locals below r (Unfinished out) = r ≡ StillRunning out
 
--- the function f of the module j does what the body does; its frame begins behind the instances of the modules
+-- the function f of the module j does what the body does; its frame begins behind the instances of
+-- the modules
 abbrev pub BodyDoes : Ground → Calling → (does : Source → Outcome) → (j f : ℕ) → Typed → Type 0
 BodyDoes g calls does j f t =
-    (s : Source) (bytes : List ℕ) → IsHeld g s bytes → (locals below : List Value)
-    → BodyEnds g locals below (back 0 locals below (calls j f t (I32 (size (row g.base)) ∷ []) bytes s.out)) (does s)
+    (s : Source) (bytes : List ℕ)
+    → IsHeld g s bytes
+    → (locals below : List Value)
+    → BodyEnds g locals below
+    (back 0 locals below (calls j f t (I32 (size (row g.base)) ∷ []) bytes s.out)) (does s)
 
 -- ---- all bodies
 
 -- what a body does, where each loop makes at most n turns and calls nest at most n deep
 abbrev pub statements_do : Modules → (pages n place : ℕ) → TypedModule → Source → Outcome
-statements_do p pages n place m = body_does p n (calling p n n) m.body (around_body p place m (storage p pages - body_frame))
+statements_do p pages n place m =
+    body_does p n (calling p n n) m.body (around_body p place m (storage p pages - body_frame))
 
 -- the bodies from this place on
-abbrev pub AllDo : Ground → Calling → (does : ℕ → TypedModule → Source → Outcome) → (place : ℕ) → Modules → List BodyAt → Type 0
+abbrev pub AllDo : Ground → Calling → (does : ℕ → TypedModule → Source → Outcome) → (place : ℕ)
+    → Modules → List BodyAt → Type 0
 AllDo g calls does place [] [] = Unit {0}
 AllDo g calls does place [] (b ∷ bs) = ⊥
 AllDo g calls does place (m ∷ ms) [] = ⊥
-AllDo g calls does place (m ∷ ms) (b ∷ bs) = BodyDoes g calls (does place m) b.own b.function b.typed × AllDo g calls does (suc place) ms bs
+AllDo g calls does place (m ∷ ms) (b ∷ bs) =
+    BodyDoes g calls (does place m) b.own b.function b.typed × AllDo g calls does (suc place) ms bs
 
--- The run of link begins with the first store in memory. Functions that serve the others do not count.
+-- The run of link begins with the first store in memory. Functions that serve the others do not
+-- count.
 abbrev pub BodiesBehave : Type 0
 BodiesBehave =
-    (p : Modules) (pages : ℕ) (g : Ground) (modules : List WModule) (fx : Fixed) (serves : (k f : ℕ) → Bool) (extra : (k f : ℕ) → ℕ) (m f index type : ℕ) (bs : List BodyAt)
-    → serves m f ≡ false → AreThere modules fx m type bs
-    → ((n : ℕ) → AllDo g (nested modules fx serves extra n (suc n)) (statements_do p pages n) 0 p bs)
-    → (bytes : List ℕ) → IsHeld g (first_state p) bytes
-    → Behaves modules (Going (store_of fx bytes) (entered m (run_typed index (size (row g.base)) type bs) []) []) (run p pages)
+    (p : Modules) (pages : ℕ) (g : Ground) (modules : List WModule) (fx : Fixed)
+    (serves : (k f : ℕ) → Bool) (extra : (k f : ℕ) → ℕ) (m f index type : ℕ) (bs : List BodyAt)
+    → serves m f ≡ false
+    → AreThere modules fx m type bs
+    → ((n : ℕ)
+    → AllDo g (nested modules fx serves extra n (suc n)) (statements_do p pages n) 0 p bs)
+    → (bytes : List ℕ)
+    → IsHeld g (first_state p) bytes
+    → Behaves modules
+    (Going (store_of fx bytes) (entered m (run_typed index (size (row g.base)) type bs) []) [])
+    (run p pages)

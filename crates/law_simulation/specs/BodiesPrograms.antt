@@ -9,7 +9,8 @@ use Rattle.law_simulation.specs.Behaves.{Behaves}
 use Rattle.law_simulation.specs.RunsPrograms.{IsSound, fixed, ground}
 use Rattle.law_simulation.specs.BodiesLaws.{AreLinked, AreTyped, IsTypedMain}
 
--- link is the module 0, and in all others the first five functions serve the module: calls of them do not count
+-- link is the module 0, and in all others the first five functions serve the module: calls of them
+-- do not count
 abbrev pub serving : (k f : ℕ) → Bool
 serving zero f = false
 serving (suc k) f = nat_lt f 5
@@ -20,12 +21,21 @@ more_turns k f = if serving k f then 2 ^ 32 else 0
 
 -- what is known of a program whose loops make at most so many turns, and whose calls nest so deep
 pub record IsTypedProgram (p : Program) (pages n : ℕ) : Type 0 where
-  pub linked : AreLinked (all p pages) (fixed p pages) serving more_turns n (65536 * pages) p (ground p pages).base (ground p pages).texts
-  pub procedures : AreTyped (all p pages) (fixed p pages) serving more_turns n (65536 * pages) p (ground p pages).base (ground p pages).texts
-  pub bodies : (place : ℕ) (m : TypedModule) → slice_get p place ≡ Some m → IsTypedMain (all p pages) (fixed p pages) serving more_turns n (65536 * pages) p (ground p pages).base (ground p pages).texts place m
+  pub linked : AreLinked (all p pages) (fixed p pages) serving more_turns n (65536 * pages) p
+      (ground p pages).base (ground p pages).texts
+  pub procedures : AreTyped (all p pages) (fixed p pages) serving more_turns n (65536 * pages) p
+      (ground p pages).base (ground p pages).texts
+  pub bodies : (place : ℕ) (m : TypedModule)
+      → slice_get p place ≡ Some m
+      → IsTypedMain (all p pages) (fixed p pages) serving more_turns n (65536 * pages) p
+      (ground p pages).base (ground p pages).texts place m
 
 -- the modules link, and do what the program does, where its data and a body's frame have room
 abbrev pub TypedPrograms : Type 0
 TypedPrograms =
-    (p : Program) (pages : ℕ) → IsLinkable p pages → All IsSound p → bytes_in p + body_frame ≤ 65536 * pages → ((n : ℕ) → IsTypedProgram p pages n)
+    (p : Program) (pages : ℕ)
+    → IsLinkable p pages
+    → All IsSound p
+    → bytes_in p + body_frame ≤ 65536 * pages
+    → ((n : ℕ) → IsTypedProgram p pages n)
     → (c : Config) × (link (all p pages) ≡ Ok c) × Behaves (all p pages) c (run p pages)

@@ -1,4 +1,5 @@
--- The frames of procedures: what the formals and variables of a procedure, and of those around it, stand for.
+-- The frames of procedures: what the formals and variables of a procedure, and of those around it,
+-- stand for.
 use Rattle.std.specs.Prelude.{◌≡◌, ℕ, suc, ◌<◌, ◌^◌, List, [], ◌∷◌, ◌++◌, map, length, Option, Some, None, slice_get, if◌then◌else◌}
 use Rattle.std.specs.Int.{w64, to_le_bytes}
 use Rattle.wasm_tree.specs.declared.store.Value.TheVariants.{I32}
@@ -18,7 +19,8 @@ use Rattle.law_simulation.specs.Scene.{Scene, place}
 
 -- ---- what is known of a procedure before it runs
 
--- a formal or a variable: it holds a value, or it is another name of a variable, or of an array of any length
+-- a formal or a variable: it holds a value, or it is another name of a variable, or of an array of
+-- any length
 pub data Kind : Type 0 where
   Kept : (t : Ty) → Kind
   Alias : (t : Ty) → Kind
@@ -37,10 +39,15 @@ abbrev pub frame_kinds : Kinds → Ty
 frame_kinds ks = frame_of (map kind_tree ks)
 
 abbrev pub formal_kind : Types → Formal → Kind
-formal_kind types f = if f.is_open then Open (tree types f.of) else (if f.is_var then Alias (tree types f.of) else Kept (tree types f.of))
+formal_kind types f =
+    if f.is_open
+    then Open (tree types f.of)
+    else (if f.is_var then Alias (tree types f.of) else Kept (tree types f.of))
 
 abbrev pub kinds_of : Types → Routine → Kinds
-kinds_of types r = map (formal_kind types) (formals_of types r.heading) ++ map (λ t. Kept (tree types t)) r.variables
+kinds_of types r =
+    map (formal_kind types) (formals_of types r.heading)
+    ++ map (λ t. Kept (tree types t)) r.variables
 
 abbrev pub or_none : Option Kinds → Kinds
 or_none None = []
@@ -57,12 +64,17 @@ module _ (world : List Ty) (x : Location → ℕ → ℕ) where
   abbrev pub IsNamed : (root v : ℕ) → Kind → Named → Type 0
   IsNamed root v (Kept t) (At l) = l ≡ root ∷ suc v ∷ []
   IsNamed root v (Kept t) (Elements l high) = ⊥
-  IsNamed root v (Alias t) (At l) = (component (row world) l ≡ Some t) × (0 < length l) × Keeps x (root ∷ suc v ∷ []) (stored_in Four (offset (row world) l))
+  IsNamed root v (Alias t) (At l) =
+      (component (row world) l ≡ Some t) × (0 < length l)
+      × Keeps x (root ∷ suc v ∷ []) (stored_in Four (offset (row world) l))
   IsNamed root v (Alias t) (Elements l high) = ⊥
   IsNamed root v (Open t) (At l) = ⊥
   IsNamed root v (Open t) (Elements l high) =
-      (component (row world) l ≡ Some (Array (suc high) t)) × (0 < length l) × (high < 2 ^ 32)
-      × Keeps x (root ∷ suc v ∷ 0 ∷ []) (stored_in Four (offset (row world) l)) × Keeps x (root ∷ suc v ∷ 1 ∷ []) (stored_in Four high)
+      (component (row world) l ≡ Some (Array (suc high) t))
+      × (0 < length l)
+      × (high < 2 ^ 32)
+      × Keeps x (root ∷ suc v ∷ 0 ∷ []) (stored_in Four (offset (row world) l))
+      × Keeps x (root ∷ suc v ∷ 1 ∷ []) (stored_in Four high)
 
   abbrev pub AreNamed : (root v : ℕ) → Kinds → List Named → Type 0
   AreNamed root v [] [] = Unit {0}
@@ -78,8 +90,12 @@ module _ (world : List Ty) (x : Location → ℕ → ℕ) where
   -- the frames from the own one outwards, each an instance
   pub data IsChain : List Kinds → Frames → (roots : List ℕ) → Type 0 where
     chain_end : IsChain [] [] []
-    chain_more : (ks : Kinds) (kss : List Kinds) (ns : List Named) (nss : Frames) (root : ℕ) (roots : List ℕ)
-        → component (row world) (root ∷ []) ≡ Some (frame_kinds ks) → AreNamed root 0 ks ns → IsLink root roots → IsChain kss nss roots
+    chain_more : (ks : Kinds) (kss : List Kinds) (ns : List Named) (nss : Frames) (root : ℕ)
+        (roots : List ℕ)
+        → component (row world) (root ∷ []) ≡ Some (frame_kinds ks)
+        → AreNamed root 0 ks ns
+        → IsLink root roots
+        → IsChain kss nss roots
         → IsChain (ks ∷ kss) (ns ∷ nss) (root ∷ roots)
 
 -- the code knows the frames

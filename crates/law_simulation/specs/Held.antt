@@ -35,7 +35,8 @@ use Rattle.law_simulation.specs.Passing.{ByNumber, all_operands, forms_in, headi
 -- ---- values of a procedure type
 
 -- code goes on with the number of a procedure with this heading, or of none
-pub record GivesHeld (k : Scene) (h : Heading) (go : Effects) (stack : List Value) (v : ℤ) (s : Source) (r : Effect) : Type 0 where
+pub record GivesHeld (k : Scene) (h : Heading) (go : Effects) (stack : List Value) (v : ℤ)
+    (s : Source) (r : Effect) : Type 0 where
   pub st : Target
   pub stands : Stands k s st
   pub within : IsOf (Callable h) v
@@ -44,59 +45,98 @@ pub record GivesHeld (k : Scene) (h : Heading) (go : Effects) (stack : List Valu
 
 pub record AgreesHeld (k : Scene) (h : Heading) (code : Coded) (value : Gives ℤ) : Type 0 where
   pub grows : (exit : ℕ) (c : Counts) → Grows c (code (inside k exit) c).1
-  pub gives : (exit : ℕ) (c : Counts) → IsFree k c → HasLocals k (code (inside k exit) c).1
-      → (s : Source) (st : Target) → Stands k s st → (rest : List Instr) (stack : List Value)
-      → Into (GivesHeld k h (runs k rest) stack) (runs k ((code (inside k exit) c).0 ++ rest) st stack) (value k.around s)
+  pub gives : (exit : ℕ) (c : Counts)
+      → IsFree k c
+      → HasLocals k (code (inside k exit) c).1
+      → (s : Source) (st : Target)
+      → Stands k s st
+      → (rest : List Instr) (stack : List Value)
+      → Into (GivesHeld k h (runs k rest) stack)
+      (runs k ((code (inside k exit) c).0 ++ rest) st stack) (value k.around s)
 
 -- ---- where they come from
 
 -- a procedure variable
 abbrev pub HeldLoads : Type 0
 HeldLoads =
-    (k : Scene) → IsSet k → (p : Modules) (ask : Asks) (t : TypeNo) (h : Heading) (d : Coded) (found : Gives Location) → tree k.setting.home.types t ≡ Cell (Callable h) → Locates k (Cell (Callable h)) d found
-    → AgreesHeld k h (code.expr_layer (layer.Load t d)).code (meaning.expr_layer p ask (layer.Load t found))
+    (k : Scene)
+    → IsSet k
+    → (p : Modules) (ask : Asks) (t : TypeNo) (h : Heading) (d : Coded) (found : Gives Location)
+    → tree k.setting.home.types t ≡ Cell (Callable h)
+    → Locates k (Cell (Callable h)) d found
+    → AgreesHeld k h (code.expr_layer (layer.Load t d)).code
+    (meaning.expr_layer p ask (layer.Load t found))
 
 -- a procedure of a module
 abbrev pub HeldProcedures : Type 0
 HeldProcedures =
-    (k : Scene) → IsSet k → (ask : Asks) (f : Procedure) (h : Heading) → HasSlot k k.program f → NamesProcedure k.program h (value_number k.program (module_place k.program f.home) f.number)
-    → AgreesHeld k h (code.expr_layer (layer.Procedure f)).code (meaning.expr_layer k.program ask (layer.Procedure f))
+    (k : Scene)
+    → IsSet k
+    → (ask : Asks) (f : Procedure) (h : Heading)
+    → HasSlot k k.program f
+    → NamesProcedure k.program h (value_number k.program (module_place k.program f.home) f.number)
+    → AgreesHeld k h (code.expr_layer (layer.Procedure f)).code
+    (meaning.expr_layer k.program ask (layer.Procedure f))
 
 -- the result of a function
 abbrev pub HeldResults : Type 0
-HeldResults = (k : Scene) (h : Heading) (c : Coded) (value : Gives ℤ) → Calls k (Some (Cell (Callable h))) c value → AgreesHeld k h c value
+HeldResults =
+    (k : Scene) (h : Heading) (c : Coded) (value : Gives ℤ)
+    → Calls k (Some (Cell (Callable h))) c value → AgreesHeld k h c value
 
 -- and of one that gives numbers
 abbrev pub NumberResults : Type 0
 NumberResults =
-    (k : Scene) (t : TypeNo) (r : Scalar) (c : Coded) (value : Gives ℤ) → IsCell k.setting.home.types t r → Calls k (Some (tree k.setting.home.types t)) c value → Agrees k t c value
+    (k : Scene) (t : TypeNo) (r : Scalar) (c : Coded) (value : Gives ℤ)
+    → IsCell k.setting.home.types t r
+    → Calls k (Some (tree k.setting.home.types t)) c value
+    → Agrees k t c value
 
 -- ---- where they go
 
 -- they are compared as numbers
 abbrev pub HeldNumbers : Type 0
-HeldNumbers = (k : Scene) (t : TypeNo) (h : Heading) (c : Coded) (value : Gives ℤ) → scalar_at k.setting.home.types t ≡ None → AgreesHeld k h c value → Agrees k t c value
+HeldNumbers =
+    (k : Scene) (t : TypeNo) (h : Heading) (c : Coded) (value : Gives ℤ)
+    → scalar_at k.setting.home.types t ≡ None → AgreesHeld k h c value → Agrees k t c value
 
 -- no check is made where they are taken as values of a procedure type
 abbrev pub HeldTaken : Type 0
 HeldTaken =
-    (k : Scene) → IsSet k → (t : TypeNo) (h : Heading) (x : Part) (value : Gives ℤ) → scalar_at k.setting.home.types t ≡ None → AgreesHeld k h x.code value
-    → AgreesHeld k h (behind x.code (λ types. check_taken types t x.constant x.of)) (λ a s. then_give (value a s) (λ v s. as_type a.types t v s))
+    (k : Scene)
+    → IsSet k
+    → (t : TypeNo) (h : Heading) (x : Part) (value : Gives ℤ)
+    → scalar_at k.setting.home.types t ≡ None
+    → AgreesHeld k h x.code value
+    → AgreesHeld k h (behind x.code (λ types. check_taken types t x.constant x.of)) (λ a s.
+    then_give (value a s) (λ v s. as_type a.types t v s))
 
 abbrev pub HeldAssigns : Type 0
 HeldAssigns =
-    (k : Scene) → IsSet k → (function : Bool) (t : TypeNo) (h : Heading) (d e : Coded) (found : Gives Location) (value : Gives ℤ) → tree k.setting.home.types t ≡ Cell (Callable h) → Locates k (Cell (Callable h)) d found → AgreesHeld k h e value
-    → Executes k function (d ⨾ e ⨾ with_setting (λ s. plain (cells.stored s.home.types t))) (λ a s. with_answer (found a s) (λ l s. with_answer (value a s) (λ v s. Went (stored l v s))))
+    (k : Scene)
+    → IsSet k
+    → (function : Bool) (t : TypeNo) (h : Heading) (d e : Coded) (found : Gives Location)
+    (value : Gives ℤ)
+    → tree k.setting.home.types t ≡ Cell (Callable h)
+    → Locates k (Cell (Callable h)) d found
+    → AgreesHeld k h e value
+    → Executes k function (d ⨾ e ⨾ with_setting (λ s. plain (cells.stored s.home.types t))) (λ a s.
+    with_answer (found a s) (λ l s. with_answer (value a s) (λ v s. Went (stored l v s))))
 
 -- for a value formal
 abbrev pub HeldPasses : Type 0
-HeldPasses = (k : Scene) (h : Heading) (c : Coded) (value : Gives ℤ) → AgreesHeld k h c value → Passes k (ByNumber (Callable h)) c (λ a s. then_give (value a s) (λ v s. Gave (Number v) s))
+HeldPasses =
+    (k : Scene) (h : Heading) (c : Coded) (value : Gives ℤ) → AgreesHeld k h c value
+    → Passes k (ByNumber (Callable h)) c (λ a s. then_give (value a s) (λ v s. Gave (Number v) s))
 
 -- RETURN
 abbrev pub HeldGives : Type 0
 HeldGives =
-    (k : Scene) (h : Heading) (e : Coded) (value : Gives ℤ) → k.result ≡ Some (Cell (Callable h)) → AgreesHeld k h e value
-    → Executes k true (e ⨾ plain (instr.Return ∷ [])) (λ a s. with_answer (value a s) (λ v s. Came v s))
+    (k : Scene) (h : Heading) (e : Coded) (value : Gives ℤ)
+    → k.result ≡ Some (Cell (Callable h))
+    → AgreesHeld k h e value
+    → Executes k true (e ⨾ plain (instr.Return ∷ [])) (λ a s.
+    with_answer (value a s) (λ v s. Came v s))
 
 -- ---- calls of them
 
@@ -111,10 +151,13 @@ module _ (k : Scene) (ask : Asks) (base : List Ty) (texts : Location → ℕ →
     pub own : ℕ
     pub function : ℕ
     pub typed : Typed
-    pub filled : (bytes : List ℕ) → callee_in (store_of k.fixed bytes) k.own n ≡ Some (Own own function)
+    pub filled : (bytes : List ℕ)
+        → callee_in (store_of k.fixed bytes) k.own n ≡ Some (Own own function)
     pub there : own_function k.modules own function ≡ Some typed
-    pub type : typed.type ≡ type_of (signature (all_operands (forms_in h)) (is_there (heading_result h)))
-    pub does : DoesAsked k.program base texts k.limit (calls k) ask callee [] (forms_in h) (heading_result h) own function typed
+    pub type :
+        typed.type ≡ type_of (signature (all_operands (forms_in h)) (is_there (heading_result h)))
+    pub does : DoesAsked k.program base texts k.limit (calls k) ask callee [] (forms_in h)
+        (heading_result h) own function typed
 
   -- each number of a procedure has one
   abbrev pub HasCallees : Type 0
@@ -122,13 +165,28 @@ module _ (k : Scene) (ask : Asks) (base : List Ty) (texts : Location → ℕ →
 
 -- the number is checked and kept, then come the arguments, and then the call through the table
 abbrev pub held_call : Numbered → TypeNo → Coded → List Coded → Coded
-held_call numbered t x xs = x ⨾ plain (checked (pos 1) (pos 4294967295) 7) ⨾ with_number (λ n. plain (instr.LocalSet n ∷ []) ⨾ top_code ⨾ all_coded xs ⨾ value_call numbered n t)
+held_call numbered t x xs =
+    x ⨾ plain (checked (pos 1) (pos 4294967295) 7) ⨾ with_number (λ n.
+    plain (instr.LocalSet n ∷ []) ⨾ top_code ⨾ all_coded xs ⨾ value_call numbered n t)
 
 -- where the module has the type of the functions with this heading
 abbrev pub HeldCalls : Type 0
 HeldCalls =
-    (k : Scene) → IsSet k → (ask : Asks) (numbered : Numbered) (base : List Ty) (texts : Location → ℕ → ℕ) → HasTop k base texts → HasCallees k ask base texts → (t : TypeNo) (h : Heading) → heading_at k.setting.home.types t ≡ Some h
-    → type_at k.modules k.own (numbered (all_arguments (formals_of k.setting.home.types t)) (has_result k.setting.home.types t)) ≡ Some (type_of (of_heading k.setting.home.types t))
-    → (x : Coded) (value : Gives ℤ) → AgreesHeld k h x value
-    → (xs : List Coded) (gs : List (Gives Passed)) → IsGrowing k (all_coded xs) → ((n : ℕ) (v : Value) → k.kept n ≡ None → PassAll (keeping k n v) (forms_in h) xs gs)
-    → Calls k (heading_result h) (held_call numbered t x xs) (λ a s. then_give (value a s) (λ v s. asked_if k.program ask (entry_callee k.program (entry_of k.program v)) gs a s))
+    (k : Scene)
+    → IsSet k
+    → (ask : Asks) (numbered : Numbered) (base : List Ty) (texts : Location → ℕ → ℕ)
+    → HasTop k base texts
+    → HasCallees k ask base texts
+    → (t : TypeNo) (h : Heading)
+    → heading_at k.setting.home.types t ≡ Some h
+    → type_at k.modules k.own (numbered (all_arguments (formals_of k.setting.home.types t))
+    (has_result k.setting.home.types t))
+    ≡ Some (type_of (of_heading k.setting.home.types t))
+    → (x : Coded) (value : Gives ℤ)
+    → AgreesHeld k h x value
+    → (xs : List Coded) (gs : List (Gives Passed))
+    → IsGrowing k (all_coded xs)
+    → ((n : ℕ) (v : Value) → k.kept n ≡ None → PassAll (keeping k n v) (forms_in h) xs gs)
+    → Calls k (heading_result h) (held_call numbered t x xs) (λ a s.
+    then_give (value a s) (λ v s.
+    asked_if k.program ask (entry_callee k.program (entry_of k.program v)) gs a s))

@@ -28,9 +28,11 @@ pub record Part : Type 0 where
   pub function : ℕ
   pub typed : Typed
 
-module _ (modules : List WModule) (fx : Fixed) (serves : (k f : ℕ) → Bool) (extra : (k f : ℕ) → ℕ) (n limit : ℕ) (p : Modules) (base : List Ty) (texts : Location → ℕ → ℕ) where
+module _ (modules : List WModule) (fx : Fixed) (serves : (k f : ℕ) → Bool) (extra : (k f : ℕ) → ℕ)
+    (n limit : ℕ) (p : Modules) (base : List Ty) (texts : Location → ℕ → ℕ) where
   abbrev pub nowhere : (place : ℕ) → TypedModule → Around
-  nowhere place m = record { place = place; types = m.types; frames = []; withs = []; next = 0; left = 0 }
+  nowhere place m =
+      record { place = place; types = m.types; frames = []; withs = []; next = 0; left = 0 }
 
   -- what all scenes in a module have in common, where calls nest so deep
   abbrev pub core : (own place : ℕ) → TypedModule → (d : ℕ) → Scene
@@ -55,19 +57,29 @@ module _ (modules : List WModule) (fx : Fixed) (serves : (k f : ℕ) → Bool) (
   abbrev pub PartDoes : (d : ℕ) → Part → Type 0
   PartDoes d o =
       (nss : Frames)
-      → DoesAsked p base texts limit (nested modules fx serves extra n d) (calling p n d) (callee_of o.place o.home o.routine nss) o.kinds (forms_of o.home.types o.routine.heading) (result_of o.home.types o.routine.heading) o.own o.function o.typed
+      → DoesAsked p base texts limit (nested modules fx serves extra n d) (calling p n d)
+      (callee_of o.place o.home o.routine nss) o.kinds (forms_of o.home.types o.routine.heading)
+      (result_of o.home.types o.routine.heading) o.own o.function o.typed
 
   module _ (Index : Type 0) (part : Index → Part) where
     abbrev pub AllDo : (d : ℕ) → Type 0
     AllDo d = (i : Index) → PartDoes d (part i)
 
-    -- the function is the scheme's, and its body does what the definition says where all functions do what is asked
+    -- the function is the scheme's, and its body does what the definition says where all functions
+    -- do what is asked
     pub record IsPart (i : Index) : Type 0 where
-      pub procedure : (d : ℕ) → IsProcedure (core (part i).own (part i).place (part i).home d) (part i).home (part i).routine (part i).outer (part i).kinds
-      pub function : IsFunction (numbered (part i).home) (part i).home (part i).routine (part i).outer (part i).text (part i).typed
+      pub procedure : (d : ℕ)
+          → IsProcedure (core (part i).own (part i).place (part i).home d) (part i).home
+          (part i).routine (part i).outer (part i).kinds
+      pub function : IsFunction (numbered (part i).home) (part i).home (part i).routine
+          (part i).outer (part i).text (part i).typed
       pub ours : serves (part i).own (part i).function ≡ false
       pub bound : extra (part i).own (part i).function ≡ 0
-      pub body : (d : ℕ) → AllDo d → DoesBody (core (part i).own (part i).place (part i).home d) p (calling p n d) (numbered (part i).home) (part i).home (part i).place (part i).routine (part i).outer (part i).text (part i).kinds base texts
+      pub body : (d : ℕ)
+          → AllDo d
+          → DoesBody (core (part i).own (part i).place (part i).home d) p (calling p n d)
+          (numbered (part i).home) (part i).home (part i).place (part i).routine (part i).outer
+          (part i).text (part i).kinds base texts
 
     abbrev pub Knot : Type 0
     Knot = ((i : Index) → IsPart i) → (d : ℕ) → AllDo d

@@ -18,7 +18,10 @@ imported_variables (Some i) = i.variables
 
 -- the variables of a module that another one knows
 abbrev pub known_variables : TypedModule → (home : ℕ) → List TypeNo
-known_variables m home = if is_own m home then m.variables else imported_variables (slice_get m.imports (import_place m home))
+known_variables m home =
+    if is_own m home
+    then m.variables
+    else imported_variables (slice_get m.imports (import_place m home))
 
 -- the module itself, and those that it imports
 abbrev pub IsKnown : TypedModule → (home : ℕ) → Type 0
@@ -26,7 +29,8 @@ IsKnown m home = (is_own m home || list_any (λ i. i.number == home) m.imports) 
 
 -- ---- modules
 
--- the module with this number stands there among the others, and its first variables are those that are known of it
+-- the module with this number stands there among the others, and its first variables are those that
+-- are known of it
 pub record Knows (p : Program) (m : TypedModule) (i : Imported) : Type 0 where
   pub home : TypedModule
   pub there : slice_get p (module_place p i.number) ≡ Some home

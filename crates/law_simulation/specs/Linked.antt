@@ -48,7 +48,10 @@ called_by m (which.Module n) = suc body_index + n
 called_by m (which.Local n) = suc body_index + (length m.procedures + n)
 
 abbrev pub routine_typed : TypedModule → Which → Routine → Typed
-routine_typed m w r = record { type = type_of (signature (numbers_of m.types r) (has_result m.types r.heading)); function = routine_function (numbered m) m w r }
+routine_typed m w r = record {
+  type = type_of (signature (numbers_of m.types r) (has_result m.types r.heading));
+  function = routine_function (numbered m) m w r;
+}
 
 abbrev pub around_of : TypedModule → Routine → List Kinds
 around_of m r = kinds_around m r.level r.around
@@ -76,18 +79,28 @@ part_of o = record {
 module _ (p : Modules) (base : List Ty) (texts : Location → ℕ → ℕ) where
   -- where a tree of a module stands, in procedures with such frames
   abbrev pub context : (place : ℕ) → TypedModule → List Kinds → Context
-  context place m kinds = record { p = p; home = m; place = place; kinds = kinds; base = base; texts = texts; characters = all_characters (module_texts m) }
+  context place m kinds = record {
+    p = p;
+    home = m;
+    place = place;
+    kinds = kinds;
+    base = base;
+    texts = texts;
+    characters = all_characters (module_texts m);
+  }
 
   module _ (modules : List WModule) (fx : Fixed) (place : ℕ) (m : TypedModule) where
     -- a global of the module has this number
     abbrev pub HasGlobal : (global n : ℕ) → Type 0
-    HasGlobal global n = (bytes : List ℕ) → global_at (store_of fx bytes) (suc place) global ≡ Some (I32 n)
+    HasGlobal global n =
+        (bytes : List ℕ) → global_at (store_of fx bytes) (suc place) global ≡ Some (I32 n)
 
     -- a global has the place of the variables of its module
     pub record HasVariable (v : Variable) : Type 0 where
       pub address : ℕ
       pub there : HasGlobal (base_global m v.home) address
-      pub at : address + offset (variables_row m v.home) (v.number ∷ []) ≡ offset (row base) (module_place p v.home ∷ v.number ∷ [])
+      pub at : address + offset (variables_row m v.home) (v.number ∷ [])
+          ≡ offset (row base) (module_place p v.home ∷ v.number ∷ [])
 
     -- a global has the first slot of its module, and the procedure's slot has its function
     pub record HasProcedure (f : Procedure) : Type 0 where
@@ -95,12 +108,16 @@ module _ (p : Modules) (base : List Ty) (texts : Location → ℕ → ℕ) where
       pub there : HasGlobal (slots_global m f.home) slot
       pub is : procedure_value p f.home f.number ≡ pos (slot + slot_number f)
       pub small : slot + slot_number f < 2 ^ 32
-      pub filled : (bytes : List ℕ) → callee_in (store_of fx bytes) (suc place) (slot + slot_number f) ≡ Some (Own (suc (module_place p f.home)) (6 + f.number))
+      pub filled : (bytes : List ℕ)
+          → callee_in (store_of fx bytes) (suc place) (slot + slot_number f)
+          ≡ Some (Own (suc (module_place p f.home)) (6 + f.number))
 
     -- the slot of a procedure's value has its function
     pub record HasEntry (to number : ℕ) : Type 0 where
       pub small : value_number p to number < 2 ^ 32
-      pub filled : (bytes : List ℕ) → callee_in (store_of fx bytes) (suc place) (value_number p to number) ≡ Some (Own (suc to) (6 + number))
+      pub filled : (bytes : List ℕ)
+          → callee_in (store_of fx bytes) (suc place) (value_number p to number)
+          ≡ Some (Own (suc to) (6 + number))
 
     -- a global has the place of its texts, which stand behind one another
     pub record HasTexts : Type 0 where
@@ -111,7 +128,8 @@ module _ (p : Modules) (base : List Ty) (texts : Location → ℕ → ℕ) where
       pub type : component (row base) (place ∷ number ∷ []) ≡ Some (Hidden bytes)
       pub at : offset (row base) (place ∷ number ∷ []) ≡ address
       pub fits : length (all_characters (module_texts m)) ≤ bytes
-      pub same : (j : ℕ) → j < length (all_characters (module_texts m)) → texts (place ∷ number ∷ []) j ≡ get_or (all_characters (module_texts m)) j 0
+      pub same : (j : ℕ) → j < length (all_characters (module_texts m))
+          → texts (place ∷ number ∷ []) j ≡ get_or (all_characters (module_texts m)) j 0
 
     -- the module at this place
     pub record IsLinked : Type 0 where
@@ -120,10 +138,18 @@ module _ (p : Modules) (base : List Ty) (texts : Location → ℕ → ℕ) where
       pub variables : (v : Variable) (t : Ty) → IsVariable (context place m []) v t → HasVariable v
       pub procedures : (f : Procedure) → IsNamed (context place m []) f → HasProcedure f
       -- the procedures of all modules stand in the table
-      pub entries : (to : ℕ) (home : TypedModule) (number : ℕ) (r : Routine) → slice_get p to ≡ Some home → slice_get home.procedures number ≡ Some r → HasEntry to number
+      pub entries :
+          (to : ℕ) (home : TypedModule) (number : ℕ) (r : Routine) → slice_get p to ≡ Some home
+          → slice_get home.procedures number ≡ Some r → HasEntry to number
       pub characters : HasTexts
       -- the types of the functions that it calls stand under their numbers
-      pub types : (s : Signature) → is_among (needed m) s ≡ true → type_at modules (suc place) (numbered m s.arguments s.result) ≡ Some (type_of s)
+      pub types : (s : Signature) → is_among (needed m) s ≡ true
+          → type_at modules (suc place) (numbered m s.arguments s.result) ≡ Some (type_of s)
       -- the functions of its procedures
-      pub called : (w : Which) (r : Routine) → routine_of m w ≡ Some r → (bytes : List ℕ) → callee_at (store_of fx bytes) (suc place) (called_by m w) ≡ Some (Own (suc place) (function_of m w))
-      pub functions : (w : Which) (r : Routine) → routine_of m w ≡ Some r → own_function modules (suc place) (function_of m w) ≡ Some (routine_typed m w r)
+      pub called : (w : Which) (r : Routine)
+          → routine_of m w ≡ Some r
+          → (bytes : List ℕ)
+          → callee_at (store_of fx bytes) (suc place) (called_by m w)
+          ≡ Some (Own (suc place) (function_of m w))
+      pub functions : (w : Which) (r : Routine) → routine_of m w ≡ Some r
+          → own_function modules (suc place) (function_of m w) ≡ Some (routine_typed m w r)

@@ -1,4 +1,5 @@
--- What is proved of programs whose modules are typed: once they are linked, they do what the program does.
+-- What is proved of programs whose modules are typed: once they are linked, they do what the
+-- program does.
 use Rattle.std.specs.Prelude.{◌≡◌, ℕ, ◌+◌, ◌*◌, ◌<◌, ◌≤◌, ◌^◌, Some, Ok, slice_get}
 use Rattle.wasm_tree.specs.Machine.{Config}
 use Rattle.wasm_tree.specs.Linking.{link}
@@ -15,11 +16,22 @@ use Rattle.law_simulation.specs.Modules.{AreModules, AreTypedModules}
 -- linking gives each module what the code of typed bodies looks for
 abbrev pub ModulesLinked : Type 0
 ModulesLinked =
-    (p : Program) (pages : ℕ) → AreDistinct (names p) → 1 + slots_in p < 2 ^ 32 → ((place : ℕ) (m : TypedModule) → slice_get p place ≡ Some m → IsCoherent p place m)
-    → (place : ℕ) (m : TypedModule) → slice_get p place ≡ Some m → IsLinked p (ground p pages).base (ground p pages).texts (all p pages) (fixed p pages) place m
+    (p : Program) (pages : ℕ)
+    → AreDistinct (names p)
+    → 1 + slots_in p < 2 ^ 32
+    → ((place : ℕ) (m : TypedModule) → slice_get p place ≡ Some m → IsCoherent p place m)
+    → (place : ℕ) (m : TypedModule)
+    → slice_get p place ≡ Some m
+    → IsLinked p (ground p pages).base (ground p pages).texts (all p pages) (fixed p pages) place m
 
 -- there is room for the data and the least stack, and the modules are as the checker leaves them
 abbrev pub TypedBehave : Type 0
 TypedBehave =
-    (p : Program) (pages : ℕ) → IsLinkable p pages → bytes_in p + 4096 ≤ 65536 * pages → pages ≤ 1024 → 1 + slots_in p < 2 ^ 32 → AreModules p → AreTypedModules p pages
+    (p : Program) (pages : ℕ)
+    → IsLinkable p pages
+    → bytes_in p + 4096 ≤ 65536 * pages
+    → pages ≤ 1024
+    → 1 + slots_in p < 2 ^ 32
+    → AreModules p
+    → AreTypedModules p pages
     → (c : Config) × (link (all p pages) ≡ Ok c) × Behaves (all p pages) c (run p pages)

@@ -37,18 +37,21 @@ abbrev pub locals_main : TypedModule → (text : ℕ) → ℕ
 locals_main m text = 1 + (2 + (coded_main m text).1.addresses + (coded_main m text).1.numbers)
 
 -- where it runs
-abbrev pub main_scene : Scene → TypedModule → (text : ℕ) → (base : List Ty) (texts : Location → ℕ → ℕ) → Around → Scene
+abbrev pub main_scene : Scene → TypedModule → (text : ℕ) → (base : List Ty)
+    (texts : Location → ℕ → ℕ) → Around → Scene
 main_scene k m text base texts a = record k {
   around = a;
   setting = setting m (body_row ∷ []) 1 (addresses_in m.body);
   world = base ++ body_row ∷ [];
   hidden = placed (length base ∷ []) (λ q j. 0) texts;
   locals = locals_main m text;
-  kept = kept_in (offset (row (base ++ body_row ∷ [])) (length base ∷ [])) (size (row (base ++ body_row ∷ []))) 1;
+  kept = kept_in (offset (row (base ++ body_row ∷ [])) (length base ∷ []))
+      (size (row (base ++ body_row ∷ []))) 1;
 }
 
 -- the function is the scheme's, and the body does what the definition says
-pub record IsMain (k : Scene) (p : Modules) (ask : Asks) (m : TypedModule) (place text : ℕ) (base : List Ty) (texts : Location → ℕ → ℕ) (left : ℕ) (t : Typed) : Type 0 where
+pub record IsMain (k : Scene) (p : Modules) (ask : Asks) (m : TypedModule) (place text : ℕ)
+    (base : List Ty) (texts : Location → ℕ → ℕ) (left : ℕ) (t : Typed) : Type 0 where
   pub helpers : HasHelpers k
   pub limit : HasLimit k
   pub small : AreSmall m.types
@@ -57,15 +60,25 @@ pub record IsMain (k : Scene) (p : Modules) (ask : Asks) (m : TypedModule) (plac
   pub addresses : (coded_main m text).1.addresses ≡ addresses_in m.body
   -- the code with its texts where they are
   pub placed : Coded
-  pub same : placed (setting m (body_row ∷ []) 1 (addresses_in m.body)) (from_text text) ≡ coded_main m text
-  pub executes : IsSet (main_scene k m text base texts (around_body p place m left)) → HasFrames (main_scene k m text base texts (around_body p place m left)) []
+  pub same : placed (setting m (body_row ∷ []) 1 (addresses_in m.body)) (from_text text)
+      ≡ coded_main m text
+  pub executes : IsSet (main_scene k m text base texts (around_body p place m left))
+      → HasFrames (main_scene k m text base texts (around_body p place m left)) []
       → HasTop (main_scene k m text base texts (around_body p place m left)) base texts
-      → Executes (main_scene k m text base texts (around_body p place m left)) false placed (body_does p k.turns ask m.body)
+      → Executes (main_scene k m text base texts (around_body p place m left)) false placed
+      (body_does p k.turns ask m.body)
 
 -- The function of a body does what its statements do.
 abbrev pub MainDoes : Type 0
 MainDoes =
-    (modules : List WModule) (fx : Fixed) (serves : (k f : ℕ) → Bool) (extra : (k f : ℕ) → ℕ) (limit : ℕ) (p : Modules) (pages : ℕ) (base : List Ty) (texts : Location → ℕ → ℕ) (n own place text f : ℕ) (m : TypedModule) (t : Typed)
-    → length base ≡ length p → size (row base) + ((storage p pages - body_frame) + body_frame) ≡ limit → serves own f ≡ false → extra own f ≡ 0
-    → IsMain (core modules fx serves extra n limit p base texts own place m n) p (calling p n n) m place text base texts (storage p pages - body_frame) t
-    → BodyDoes (record { program = p; base = base; texts = texts; limit = limit }) (nested modules fx serves extra n (suc n)) (statements_do p pages n place m) own f t
+    (modules : List WModule) (fx : Fixed) (serves : (k f : ℕ) → Bool) (extra : (k f : ℕ) → ℕ)
+    (limit : ℕ) (p : Modules) (pages : ℕ) (base : List Ty) (texts : Location → ℕ → ℕ)
+    (n own place text f : ℕ) (m : TypedModule) (t : Typed)
+    → length base ≡ length p
+    → size (row base) + ((storage p pages - body_frame) + body_frame) ≡ limit
+    → serves own f ≡ false
+    → extra own f ≡ 0
+    → IsMain (core modules fx serves extra n limit p base texts own place m n) p (calling p n n) m
+    place text base texts (storage p pages - body_frame) t
+    → BodyDoes (record { program = p; base = base; texts = texts; limit = limit })
+    (nested modules fx serves extra n (suc n)) (statements_do p pages n place m) own f t

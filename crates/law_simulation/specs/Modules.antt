@@ -43,9 +43,17 @@ AreModules p = (place : ℕ) (m : TypedModule) → slice_get p place ≡ Some m 
 
 -- the bodies of its procedures and its own are typed, with their texts where they stand among all
 pub record IsTypedModule (p : Program) (pages place : ℕ) (m : TypedModule) : Type 0 where
-  pub procedures : (w : Which) (r : Routine) → routine_of m w ≡ Some r
-      → (to : ℕ) × AreStmts (context p (ground p pages).base (ground p pages).texts place m (kinds_of m.types r ∷ around_of m r)) (result_of m.types r.heading) [] false (text_of m w) to r.body
-  pub body : (to : ℕ) × AreStmts (context p (ground p pages).base (ground p pages).texts place m []) None [] false (characters (routines_texts m)) to m.body
+  pub procedures : (w : Which) (r : Routine)
+      → routine_of m w ≡ Some r
+      → (to : ℕ)
+      × AreStmts
+      (context p (ground p pages).base (ground p pages).texts place m
+      (kinds_of m.types r ∷ around_of m r))
+      (result_of m.types r.heading) [] false (text_of m w) to r.body
+  pub body : (to : ℕ)
+      × AreStmts (context p (ground p pages).base (ground p pages).texts place m []) None [] false
+      (characters (routines_texts m)) to m.body
 
 abbrev pub AreTypedModules : Program → (pages : ℕ) → Type 0
-AreTypedModules p pages = (place : ℕ) (m : TypedModule) → slice_get p place ≡ Some m → IsTypedModule p pages place m
+AreTypedModules p pages =
+    (place : ℕ) (m : TypedModule) → slice_get p place ≡ Some m → IsTypedModule p pages place m

@@ -30,8 +30,8 @@ use Rattle.law_simulation.specs.Frames.{Kinds, IsChain}
 
 -- ---- formals
 
--- how a formal is passed: a number, a whole array or record that is copied, another name of a variable, or an array of any
--- length, which is copied unless it stands behind VAR
+-- how a formal is passed: a number, a whole array or record that is copied, another name of a
+-- variable, or an array of any length, which is copied unless it stands behind VAR
 pub data Form : Type 0 where
   ByNumber : (c : Scalar) → Form
   ByCopy : (t : Ty) → Form
@@ -46,7 +46,10 @@ value_form Nothing = ByCopy Nothing
 value_form (Field t others) = ByCopy (Field t others)
 
 abbrev pub form_of : Types → Formal → Form
-form_of types f = if f.is_open then ByArray f.is_var (tree types f.of) else (if f.is_var then ByName (tree types f.of) else value_form (tree types f.of))
+form_of types f =
+    if f.is_open
+    then ByArray f.is_var (tree types f.of)
+    else (if f.is_var then ByName (tree types f.of) else value_form (tree types f.of))
 
 abbrev pub Forms : Type 0
 Forms = List Form
@@ -128,25 +131,32 @@ module _ (p : Modules) (world : List Ty) (x : Location → ℕ → ℕ) where
   IsPassed (ByNumber c) (Whole l high) vs = ⊥
   IsPassed (ByNumber c) (Text text) vs = ⊥
   IsPassed (ByCopy t) (Number v) vs = ⊥
-  IsPassed (ByCopy t) (Variable l) vs = (component (row world) l ≡ Some t) × (0 < length l) × (vs ≡ I64 (offset (row world) l) ∷ [])
+  IsPassed (ByCopy t) (Variable l) vs =
+      (component (row world) l ≡ Some t) × (0 < length l) × (vs ≡ I64 (offset (row world) l) ∷ [])
   IsPassed (ByCopy t) (Whole l high) vs = ⊥
   IsPassed (ByCopy t) (Text text) vs = ⊥
   IsPassed (ByName t) (Number v) vs = ⊥
-  IsPassed (ByName t) (Variable l) vs = (component (row world) l ≡ Some t) × (0 < length l) × (vs ≡ I64 (offset (row world) l) ∷ [])
+  IsPassed (ByName t) (Variable l) vs =
+      (component (row world) l ≡ Some t) × (0 < length l) × (vs ≡ I64 (offset (row world) l) ∷ [])
   IsPassed (ByName t) (Whole l high) vs = ⊥
   IsPassed (ByName t) (Text text) vs = ⊥
   IsPassed (ByArray is_var t) (Number v) vs = ⊥
   IsPassed (ByArray is_var t) (Variable l) vs = ⊥
-  IsPassed (ByArray is_var t) (Whole l high) vs = (component (row world) l ≡ Some (Array (suc high) t)) × (0 < length l) × (high < 2 ^ 32) × (vs ≡ I64 (offset (row world) l) ∷ I64 high ∷ [])
+  IsPassed (ByArray is_var t) (Whole l high) vs =
+      (component (row world) l ≡ Some (Array (suc high) t)) × (0 < length l) × (high < 2 ^ 32)
+      × (vs ≡ I64 (offset (row world) l) ∷ I64 high ∷ [])
   IsPassed (ByArray is_var t) (Text text) vs =
-      (is_var ≡ false) × (t ≡ Cell (Natural 255)) × (a : ℕ) × IsPlaced world x (passed text) a × (vs ≡ I64 a ∷ I64 (length (passed text) - 1) ∷ [])
+      (is_var ≡ false) × (t ≡ Cell (Natural 255)) × (a : ℕ) × IsPlaced world x (passed text) a
+      × (vs ≡ I64 a ∷ I64 (length (passed text) - 1) ∷ [])
 
   pub data ArePassed : Forms → List Passed → List Value → Type 0 where
     none_passed : ArePassed [] [] []
-    more_passed : (f : Form) (fs : Forms) (a : Passed) (others : List Passed) (vs ws : List Value) → IsPassed f a vs → ArePassed fs others ws → ArePassed (f ∷ fs) (a ∷ others) (vs ++ ws)
+    more_passed : (f : Form) (fs : Forms) (a : Passed) (others : List Passed) (vs ws : List Value)
+        → IsPassed f a vs → ArePassed fs others ws → ArePassed (f ∷ fs) (a ∷ others) (vs ++ ws)
 
 -- the code of an argument leaves its operands
-pub record GivesPassed (k : Scene) (f : Form) (go : Effects) (stack : List Value) (p : Passed) (s : Source) (r : Effect) : Type 0 where
+pub record GivesPassed (k : Scene) (f : Form) (go : Effects) (stack : List Value) (p : Passed)
+    (s : Source) (r : Effect) : Type 0 where
   pub st : Target
   pub stands : Stands k s st
   pub values : List Value
@@ -155,16 +165,26 @@ pub record GivesPassed (k : Scene) (f : Form) (go : Effects) (stack : List Value
 
 pub record Passes (k : Scene) (f : Form) (code : Coded) (arg : Gives Passed) : Type 0 where
   pub grows : (exit : ℕ) (c : Counts) → Grows c (code (inside k exit) c).1
-  pub gives : (exit : ℕ) (c : Counts) → IsFree k c → HasLocals k (code (inside k exit) c).1
-      → (s : Source) (st : Target) → Stands k s st → (rest : List Instr) (stack : List Value)
-      → Into (GivesPassed k f (runs k rest) stack) (runs k ((code (inside k exit) c).0 ++ rest) st stack) (arg k.around s)
+  pub gives : (exit : ℕ) (c : Counts)
+      → IsFree k c
+      → HasLocals k (code (inside k exit) c).1
+      → (s : Source) (st : Target)
+      → Stands k s st
+      → (rest : List Instr) (stack : List Value)
+      → Into (GivesPassed k f (runs k rest) stack)
+      (runs k ((code (inside k exit) c).0 ++ rest) st stack) (arg k.around s)
 
 pub data PassAll (k : Scene) : Forms → List Coded → List (Gives Passed) → Type 0 where
   pass_none : PassAll k [] [] []
-  pass_more : (f : Form) (fs : Forms) (x : Coded) (xs : List Coded) (g : Gives Passed) (gs : List (Gives Passed)) → Passes k f x g → PassAll k fs xs gs → PassAll k (f ∷ fs) (x ∷ xs) (g ∷ gs)
+  pass_more : (f : Form) (fs : Forms) (x : Coded) (xs : List Coded) (g : Gives Passed)
+      (gs : List (Gives Passed))
+      → Passes k f x g
+      → PassAll k fs xs gs
+      → PassAll k (f ∷ fs) (x ∷ xs) (g ∷ gs)
 
 -- the code of all arguments leaves the operands of all
-pub record GivesAll (k : Scene) (fs : Forms) (go : Effects) (stack : List Value) (ps : List Passed) (s : Source) (r : Effect) : Type 0 where
+pub record GivesAll (k : Scene) (fs : Forms) (go : Effects) (stack : List Value) (ps : List Passed)
+    (s : Source) (r : Effect) : Type 0 where
   pub st : Target
   pub stands : Stands k s st
   pub values : List Value
@@ -174,18 +194,23 @@ pub record GivesAll (k : Scene) (fs : Forms) (go : Effects) (stack : List Value)
 -- ---- what functions do
 
 -- the instances of the modules stand before all others, and their texts stay
-pub record IsBased (base : List Ty) (texts : Location → ℕ → ℕ) (world : List Ty) (x : Location → ℕ → ℕ) : Type 0 where
+pub record IsBased (base : List Ty) (texts : Location → ℕ → ℕ) (world : List Ty)
+    (x : Location → ℕ → ℕ) : Type 0 where
   pub more : List Ty
   pub is : world ≡ base ++ more
   pub same : (i : ℕ) (p : Location) (k : ℕ) → i < length base → x (i ∷ p) k ≡ texts (i ∷ p) k
 
--- the function is back in its caller, which had these locals and operands, with a result where there is one
-pub record CallGives (p : Modules) (world : List Ty) (x : Location → ℕ → ℕ) (limit : ℕ) (result : Result) (locals below : List Value) (v : ℤ) (s : Source) (r : Effect) : Type 0 where
+-- the function is back in its caller, which had these locals and operands, with a result where
+-- there is one
+pub record CallGives (p : Modules) (world : List Ty) (x : Location → ℕ → ℕ) (limit : ℕ)
+    (result : Result) (locals below : List Value) (v : ℤ) (s : Source) (r : Effect) : Type 0 where
   pub bytes : List ℕ
   pub holds : Holds p world x s.store bytes
   pub long : length bytes ≡ limit
   pub is : IsResult p result v
-  pub run : r ≡ FellThrough (record { locals = locals; bytes = bytes; out = s.out }) (below ++ result_values result v)
+  pub run : r
+      ≡ FellThrough (record { locals = locals; bytes = bytes; out = s.out })
+      (below ++ result_values result v)
 
 -- a nested procedure gets the address of the frame around it
 abbrev pub links : List Ty → List ℕ → List Value
@@ -193,18 +218,31 @@ links world [] = []
 links world (r ∷ rs) = I64 (offset (row world) (r ∷ [])) ∷ []
 
 -- the function f of the module j does what is asked of a procedure inside of these frames
-abbrev pub DoesAsked : Modules → (base : List Ty) (texts : Location → ℕ → ℕ) (limit : ℕ) → Calling → Asks → Callee → List Kinds → Forms → Result → (j f : ℕ) → Typed → Type 0
+abbrev pub DoesAsked : Modules → (base : List Ty) (texts : Location → ℕ → ℕ) (limit : ℕ) → Calling
+    → Asks → Callee → List Kinds → Forms → Result → (j f : ℕ) → Typed → Type 0
 DoesAsked p base texts limit calls ask c kss forms result j f t =
-    (world : List Ty) (x : Location → ℕ → ℕ) → IsBased base texts world x → (roots : List ℕ) → IsChain world x kss c.frames roots
-    → (s : Source) (bytes : List ℕ) → Holds p world x s.store bytes → length bytes ≡ limit
-    → (vs : List Passed) (values : List Value) → ArePassed p world x forms vs values → (left : ℕ) → size (row world) + left ≡ limit → (locals below : List Value)
-    → Into (CallGives p world x limit result locals below) (back (length t.type.results) locals below (calls j f t (I32 (size (row world)) ∷ (links world roots ++ values)) bytes s.out))
+    (world : List Ty) (x : Location → ℕ → ℕ)
+    → IsBased base texts world x
+    → (roots : List ℕ)
+    → IsChain world x kss c.frames roots
+    → (s : Source) (bytes : List ℕ)
+    → Holds p world x s.store bytes
+    → length bytes ≡ limit
+    → (vs : List Passed) (values : List Value)
+    → ArePassed p world x forms vs values
+    → (left : ℕ)
+    → size (row world) + left ≡ limit
+    → (locals below : List Value)
+    → Into (CallGives p world x limit result locals below)
+    (back (length t.type.results) locals below
+    (calls j f t (I32 (size (row world)) ∷ (links world roots ++ values)) bytes s.out))
     (ask (Some c) vs (length world) left s)
 
 -- ---- calls
 
 -- what a call leaves on the operands
-pub record GivesResult (k : Scene) (result : Result) (go : Effects) (stack : List Value) (v : ℤ) (s : Source) (r : Effect) : Type 0 where
+pub record GivesResult (k : Scene) (result : Result) (go : Effects) (stack : List Value) (v : ℤ)
+    (s : Source) (r : Effect) : Type 0 where
   pub st : Target
   pub stands : Stands k s st
   pub is : IsResult k.program result v
@@ -212,9 +250,14 @@ pub record GivesResult (k : Scene) (result : Result) (go : Effects) (stack : Lis
 
 pub record Calls (k : Scene) (result : Result) (code : Coded) (value : Gives ℤ) : Type 0 where
   pub grows : (exit : ℕ) (c : Counts) → Grows c (code (inside k exit) c).1
-  pub gives : (exit : ℕ) (c : Counts) → IsFree k c → HasLocals k (code (inside k exit) c).1
-      → (s : Source) (st : Target) → Stands k s st → (rest : List Instr) (stack : List Value)
-      → Into (GivesResult k result (runs k rest) stack) (runs k ((code (inside k exit) c).0 ++ rest) st stack) (value k.around s)
+  pub gives : (exit : ℕ) (c : Counts)
+      → IsFree k c
+      → HasLocals k (code (inside k exit) c).1
+      → (s : Source) (st : Target)
+      → Stands k s st
+      → (rest : List Instr) (stack : List Value)
+      → Into (GivesResult k result (runs k rest) stack)
+      (runs k ((code (inside k exit) c).0 ++ rest) st stack) (value k.around s)
 
 -- the storage that is free begins behind the instances that live, and its address is kept
 pub record HasTop (k : Scene) (base : List Ty) (texts : Location → ℕ → ℕ) : Type 0 where
@@ -226,11 +269,19 @@ pub record HasTop (k : Scene) (base : List Ty) (texts : Location → ℕ → ℕ
 -- this code calls the function
 abbrev pub IsCallOf : Scene → List Instr → (j f : ℕ) → Typed → Type 0
 IsCallOf k code j f t =
-    (st : Target) (rest : List Instr) (stack args : List Value) → length args ≡ length t.type.params
-    → runs k (code ++ rest) st (stack ++ args) ≡ then_run (back (length t.type.results) st.locals stack (calls k j f t args st.bytes st.out)) (runs k rest)
+    (st : Target) (rest : List Instr) (stack args : List Value)
+    → length args ≡ length t.type.params
+    → runs k (code ++ rest) st (stack ++ args)
+    ≡ then_run (back (length t.type.results) st.locals stack (calls k j f t args st.bytes st.out))
+    (runs k rest)
 
 -- in each state that stands
 abbrev pub IsCallHere : Scene → List Instr → (j f : ℕ) → Typed → Type 0
 IsCallHere k code j f t =
-    (s : Source) (st : Target) → Stands k s st → (rest : List Instr) (stack args : List Value) → length args ≡ length t.type.params
-    → runs k (code ++ rest) st (stack ++ args) ≡ then_run (back (length t.type.results) st.locals stack (calls k j f t args st.bytes st.out)) (runs k rest)
+    (s : Source) (st : Target)
+    → Stands k s st
+    → (rest : List Instr) (stack args : List Value)
+    → length args ≡ length t.type.params
+    → runs k (code ++ rest) st (stack ++ args)
+    ≡ then_run (back (length t.type.results) st.locals stack (calls k j f t args st.bytes st.out))
+    (runs k rest)

@@ -29,7 +29,8 @@ use Rattle.law_simulation.specs.Stage.{AreForms, HasLimit}
 
 -- what is kept: the frame's address, and the end of the instances that live
 abbrev pub kept_in : (frame free top : ℕ) → ℕ → Option Value
-kept_in frame free top w = if nat_eq w 0 then Some (I32 frame) else (if nat_eq w top then Some (I32 free) else None)
+kept_in frame free top w =
+    if nat_eq w 0 then Some (I32 frame) else (if nat_eq w top then Some (I32 free) else None)
 
 abbrev pub top_of : TypedModule → Routine → ℕ
 top_of m r = suc (numbers_of m.types r)
@@ -52,7 +53,8 @@ abbrev pub is_inner : List Kinds → Bool
 is_inner [] = false
 is_inner (ks ∷ kss) = true
 
-pub record IsProcedure (k : Scene) (m : TypedModule) (r : Routine) (outer : List Ty) (kss : List Kinds) : Type 0 where
+pub record IsProcedure (k : Scene) (m : TypedModule) (r : Routine) (outer : List Ty)
+    (kss : List Kinds) : Type 0 where
   pub helpers : HasHelpers k
   pub limit : HasLimit k
   pub small : AreSmall m.types
@@ -63,31 +65,49 @@ pub record IsProcedure (k : Scene) (m : TypedModule) (r : Routine) (outer : List
   pub frames : AreFrames kss outer
 
 -- the body's code
-abbrev pub coded_body : Numbered → TypedModule → Routine → (outer : List Ty) → (text : ℕ) → List Instr × Counts
-coded_body numbered m r outer text = coded numbered m (frame m.types r ∷ outer) (top_of m r) text r.body
+abbrev pub coded_body : Numbered → TypedModule → Routine → (outer : List Ty) → (text : ℕ)
+    → List Instr × Counts
+coded_body numbered m r outer text =
+    coded numbered m (frame m.types r ∷ outer) (top_of m r) text r.body
 
 -- so many locals: the arguments, two for addresses of the storage, and those that the body asks for
 abbrev pub locals_in : Numbered → TypedModule → Routine → (outer : List Ty) → (text : ℕ) → ℕ
-locals_in numbered m r outer text = top_of m r + (2 + (coded_body numbered m r outer text).1.addresses + (coded_body numbered m r outer text).1.numbers)
+locals_in numbered m r outer text =
+    top_of m r
+    + (2 + (coded_body numbered m r outer text).1.addresses
+    + (coded_body numbered m r outer text).1.numbers)
 
 -- the function
-pub record IsFunction (numbered : Numbered) (m : TypedModule) (r : Routine) (outer : List Ty) (text : ℕ) (t : Typed) : Type 0 where
+pub record IsFunction (numbered : Numbered) (m : TypedModule) (r : Routine) (outer : List Ty)
+    (text : ℕ) (t : Typed) : Type 0 where
   pub params : length t.type.params ≡ top_of m r
   pub results : length t.type.results ≡ (if has_result m.types r.heading then 1 else 0)
   pub locals : t.function.body.locals ≡ locals_of (coded_body numbered m r outer text).1
-  pub code : t.function.body.code ≡ prologue m.types r (top_of m r) (suc (top_of m r)) ++ ((coded_body numbered m r outer text).0 ++ end_code (has_result m.types r.heading))
+  pub code : t.function.body.code
+      ≡ prologue m.types r (top_of m r) (suc (top_of m r))
+      ++ ((coded_body numbered m r outer text).0 ++ end_code (has_result m.types r.heading))
   pub addresses : (coded_body numbered m r outer text).1.addresses ≡ addresses_in r.body
 
 -- the body does what the definition says, and EXIT does not leave it
-pub record DoesBody (k : Scene) (p : Modules) (ask : Asks) (numbered : Numbered) (m : TypedModule) (place : ℕ) (r : Routine) (outer : List Ty) (text : ℕ) (kss : List Kinds) (base : List Ty) (texts : Location → ℕ → ℕ) : Type 0 where
+pub record DoesBody (k : Scene) (p : Modules) (ask : Asks) (numbered : Numbered) (m : TypedModule)
+    (place : ℕ) (r : Routine) (outer : List Ty) (text : ℕ) (kss : List Kinds) (base : List Ty)
+    (texts : Location → ℕ → ℕ) : Type 0 where
   -- the code with its texts where they are
   pub placed : Coded
-  pub same : placed (setting m (frame m.types r ∷ outer) (top_of m r) (addresses_in r.body)) (from_text text) ≡ coded_body numbered m r outer text
-  pub executes : (world : List Ty) (x : Location → ℕ → ℕ) (root : ℕ) (a : Around) → a.types ≡ m.types → a.place ≡ place → a.withs ≡ []
+  pub same : placed (setting m (frame m.types r ∷ outer) (top_of m r) (addresses_in r.body))
+      (from_text text)
+      ≡ coded_body numbered m r outer text
+  pub executes : (world : List Ty) (x : Location → ℕ → ℕ) (root : ℕ) (a : Around)
+      → a.types ≡ m.types
+      → a.place ≡ place
+      → a.withs ≡ []
       → IsSet (body_scene k m r outer (locals_in numbered m r outer text) world x root a)
-      → HasFrames (body_scene k m r outer (locals_in numbered m r outer text) world x root a) (kinds_of m.types r ∷ kss)
-      → HasTop (body_scene k m r outer (locals_in numbered m r outer text) world x root a) base texts
-      → Executes (body_scene k m r outer (locals_in numbered m r outer text) world x root a) (is_function m.types r) placed (body_does p k.turns ask r.body)
+      → HasFrames (body_scene k m r outer (locals_in numbered m r outer text) world x root a)
+      (kinds_of m.types r ∷ kss)
+      → HasTop (body_scene k m r outer (locals_in numbered m r outer text) world x root a) base
+      texts
+      → Executes (body_scene k m r outer (locals_in numbered m r outer text) world x root a)
+      (is_function m.types r) placed (body_does p k.turns ask r.body)
   pub stays : (a : Around) (s s' : Source) → body_does p k.turns ask r.body a s ≡ Left s' → ⊥
 
 abbrev pub callee_of : (place : ℕ) → TypedModule → Routine → Frames → Callee
@@ -96,9 +116,20 @@ callee_of place m r nss = record { place = place; types = m.types; routine = r; 
 -- calls of the function run its code, and what is asked runs the procedure
 abbrev pub RoutineDoes : Type 0
 RoutineDoes =
-    (k : Scene) (p : Modules) (ask asks : Asks) (calls : Calling) (numbered : Numbered) (m : TypedModule) (place : ℕ) (r : Routine) (outer : List Ty) (text : ℕ) (kss : List Kinds) (base : List Ty) (texts : Location → ℕ → ℕ) (f : ℕ) (t : Typed)
-    → IsProcedure k m r outer kss → IsFunction numbered m r outer text t → DoesBody k p ask numbered m place r outer text kss base texts
-    → ((args : List Value) (bytes out : List ℕ) → calls k.own f t args bytes out ≡ runs k t.function.body.code (record { locals = args ++ flat_map zeros t.function.body.locals; bytes = bytes; out = out }) [])
+    (k : Scene) (p : Modules) (ask asks : Asks) (calls : Calling) (numbered : Numbered)
+    (m : TypedModule) (place : ℕ) (r : Routine) (outer : List Ty) (text : ℕ) (kss : List Kinds)
+    (base : List Ty) (texts : Location → ℕ → ℕ) (f : ℕ) (t : Typed)
+    → IsProcedure k m r outer kss
+    → IsFunction numbered m r outer text t
+    → DoesBody k p ask numbered m place r outer text kss base texts
+    → ((args : List Value) (bytes out : List ℕ)
+    → calls k.own f t args bytes out
+    ≡ runs k t.function.body.code
+    (record { locals = args ++ flat_map zeros t.function.body.locals; bytes = bytes; out = out })
+    [])
     → (nss : Frames)
-    → ((vs : List Passed) (next left : ℕ) (s : Source) → asks (Some (callee_of place m r nss)) vs next left s ≡ asked_runs p k.turns ask (callee_of place m r nss) vs next left s)
-    → DoesAsked k.program base texts k.limit calls asks (callee_of place m r nss) kss (forms_of m.types r.heading) (result_of m.types r.heading) k.own f t
+    → ((vs : List Passed) (next left : ℕ) (s : Source)
+    → asks (Some (callee_of place m r nss)) vs next left s
+    ≡ asked_runs p k.turns ask (callee_of place m r nss) vs next left s)
+    → DoesAsked k.program base texts k.limit calls asks (callee_of place m r nss) kss
+    (forms_of m.types r.heading) (result_of m.types r.heading) k.own f t

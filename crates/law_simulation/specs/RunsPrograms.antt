@@ -1,4 +1,5 @@
--- Whole programs: what stands in the memory and in the table when they begin, and what their linked modules do.
+-- Whole programs: what stands in the memory and in the table when they begin, and what their linked
+-- modules do.
 use Rattle.std.specs.Prelude.{◌≡◌, ℕ, suc, ◌+◌, ◌*◌, ◌-◌, ◌<◌, Bool, false, List, [], ◌∷◌, ◌++◌, map, replicate, Some, Ok, All}
 use Rattle.wasm_tree.specs.Machine.{Config, Typed}
 use Rattle.wasm_tree.specs.Linking.{link}
@@ -50,7 +51,8 @@ body_typed m = record { type = body_type; function = module_function (numbered m
 abbrev pub bodies_at : (global slot own : ℕ) → Program → List BodyAt
 bodies_at global slot own [] = []
 bodies_at global slot own (m ∷ ms) =
-    record { global = global; slot = slot; own = own; function = 5; typed = body_typed m } ∷ bodies_at (global + 3) (slot + slots m) (own + 1) ms
+    record { global = global; slot = slot; own = own; function = 5; typed = body_typed m }
+    ∷ bodies_at (global + 3) (slot + slots m) (own + 1) ms
 
 -- what a run does not change
 abbrev pub fixed : Program → (pages : ℕ) → Fixed
@@ -65,12 +67,20 @@ fixed p pages = record {
 -- ---- the law
 
 -- where the function of each body does what its statements do
-abbrev pub BodiesDo : Program → (pages : ℕ) → (serves : (k f : ℕ) → Bool) → (extra : (k f : ℕ) → ℕ) → Type 0
+abbrev pub BodiesDo : Program → (pages : ℕ) → (serves : (k f : ℕ) → Bool) → (extra : (k f : ℕ) → ℕ)
+    → Type 0
 BodiesDo p pages serves extra =
-    (n : ℕ) → AllDo (ground p pages) (nested (all p pages) (fixed p pages) serves extra n (suc n)) (statements_do p pages n) 0 p (bodies_at 3 1 1 p)
+    (n : ℕ)
+    → AllDo (ground p pages) (nested (all p pages) (fixed p pages) serves extra n (suc n))
+    (statements_do p pages n) 0 p (bodies_at 3 1 1 p)
 
 -- the modules link, and do what the program does
 abbrev pub ProgramBehaves : Type 0
 ProgramBehaves =
-    (p : Program) (pages : ℕ) → IsLinkable p pages → All IsSound p → (serves : (k f : ℕ) → Bool) (extra : (k f : ℕ) → ℕ) → serves 0 0 ≡ false → BodiesDo p pages serves extra
+    (p : Program) (pages : ℕ)
+    → IsLinkable p pages
+    → All IsSound p
+    → (serves : (k f : ℕ) → Bool) (extra : (k f : ℕ) → ℕ)
+    → serves 0 0 ≡ false
+    → BodiesDo p pages serves extra
     → (c : Config) × (link (all p pages) ≡ Ok c) × Behaves (all p pages) c (run p pages)

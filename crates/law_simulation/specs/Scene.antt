@@ -1,4 +1,5 @@
--- Where the code of a body runs, what stands there on both sides, and when code does what the definition of a run says.
+-- Where the code of a body runs, what stands there on both sides, and when code does what the
+-- definition of a run says.
 use Rattle.std.specs.Prelude.{◌≡◌, ℕ, suc, ◌+◌, ◌≤◌, ◌<◌, ◌^◌, Bool, true, false, ℤ, pos, negsuc, ◌≤ℤ◌, List, [], ◌∷◌, ◌++◌, length, Option, Some, None, slice_get, nat_eq, if◌then◌else◌}
 use Rattle.std.specs.Int.{w64, cast_unsigned}
 use Rattle.wasm_tree.specs.declared.kinds.ValueType.TheVariants as kind
@@ -69,20 +70,27 @@ pub record HasHelpers (k : Scene) : Type 0 where
   pub check_there : own_function k.modules k.own 2 ≡ Some (check_typed check_index)
   pub quotient : (bytes : List ℕ) → callee_at (store_of k.fixed bytes) k.own 5 ≡ Some (Own k.own 3)
   pub quotient_index : ℕ
-  pub quotient_there : own_function k.modules k.own 3 ≡ Some (helper (kind.I64 ∷ kind.I64 ∷ []) (kind.I64 ∷ []) quotient_index (divisor_checked div_rest))
+  pub quotient_there : own_function k.modules k.own 3
+      ≡ Some
+      (helper (kind.I64 ∷ kind.I64 ∷ []) (kind.I64 ∷ []) quotient_index (divisor_checked div_rest))
   pub remainder : (bytes : List ℕ) → callee_at (store_of k.fixed bytes) k.own 6 ≡ Some (Own k.own 4)
   pub remainder_index : ℕ
   pub remainder_there : own_function k.modules k.own 4 ≡ Some (mod_typed remainder_index)
   pub copy : (bytes : List ℕ) → callee_at (store_of k.fixed bytes) k.own 2 ≡ Some (Own k.own 0)
   pub copy_index : ℕ
-  pub copy_there : own_function k.modules k.own 0 ≡ Some (helper (kind.I32 ∷ kind.I32 ∷ kind.I32 ∷ []) [] copy_index copy_code)
+  pub copy_there : own_function k.modules k.own 0
+      ≡ Some (helper (kind.I32 ∷ kind.I32 ∷ kind.I32 ∷ []) [] copy_index copy_code)
   pub fill : (bytes : List ℕ) → callee_at (store_of k.fixed bytes) k.own 3 ≡ Some (Own k.own 1)
   pub fill_index : ℕ
-  pub fill_there : own_function k.modules k.own 1 ≡ Some (helper (kind.I32 ∷ kind.I32 ∷ []) [] fill_index fill_code)
+  pub fill_there : own_function k.modules k.own 1
+      ≡ Some (helper (kind.I32 ∷ kind.I32 ∷ []) [] fill_index fill_code)
   -- they serve the module: calls of them do not count, and their loops may go over all bytes
   pub levels : ℕ
-  pub serves : (f : ℕ) → f < 5 → (t : Typed) (args : List Value) (bytes out : List ℕ)
-      → calls k k.own f t args bytes out ≡ calling k.modules k.fixed k.extra k.turns (suc (suc levels)) k.own f t args bytes out
+  pub serves : (f : ℕ)
+      → f < 5
+      → (t : Typed) (args : List Value) (bytes out : List ℕ)
+      → calls k k.own f t args bytes out
+      ≡ calling k.modules k.fixed k.extra k.turns (suc (suc levels)) k.own f t args bytes out
   pub many : (f : ℕ) → f < 2 → 2 ^ 32 ≤ k.turns + k.extra k.own f
 
 -- ---- values
@@ -123,7 +131,8 @@ pub record IsSet (k : Scene) : Type 0 where
 abbrev pub word : ℤ → ℕ
 word v = cast_unsigned w64 v
 
--- variables of the type have one cell, whose numbers are values of the type and stand for themselves
+-- variables of the type have one cell, whose numbers are values of the type and stand for
+-- themselves
 pub record IsCell (types : Types) (t : TypeNo) (c : Scalar) : Type 0 where
   pub is : tree types t ≡ Cell c
   pub number : IsNumber c
@@ -141,7 +150,9 @@ IsResult p (Some t) v = (c : Scalar) → t ≡ Cell c → IsOf c v × Means p c 
 -- where a variable is in the store, and a global that has the place of its module's variables
 pub record IsGlobal (k : Scene) (v : Variable) (l : Location) (t : Ty) : Type 0 where
   pub base : ℕ
-  pub there : (bytes : List ℕ) → global_at (store_of k.fixed bytes) k.own (base_global k.setting.home v.home) ≡ Some (I32 base)
+  pub there : (bytes : List ℕ)
+      → global_at (store_of k.fixed bytes) k.own (base_global k.setting.home v.home)
+      ≡ Some (I32 base)
   pub type : component (row k.world) l ≡ Some t
   pub at : base + offset (variables_row k.setting.home v.home) (v.number ∷ []) ≡ place k l
   pub some : 0 < length l
@@ -192,14 +203,16 @@ Into P r (Ended j out) = r ≡ does.Ended j out
 Into P r (Running out) = r ≡ StillRunning out
 
 -- code goes on with a number of a type on top of the operands
-pub record GivesNumber (k : Scene) (t : TypeNo) (go : Effects) (stack : List Value) (v : ℤ) (s : Source) (r : Effect) : Type 0 where
+pub record GivesNumber (k : Scene) (t : TypeNo) (go : Effects) (stack : List Value) (v : ℤ)
+    (s : Source) (r : Effect) : Type 0 where
   pub st : Target
   pub stands : Stands k s st
   pub is : IsValue k.setting.home.types t v
   pub run : r ≡ go st (stack ++ I64 (word v) ∷ [])
 
 -- with an address
-pub record GivesPlace (k : Scene) (t : Ty) (go : Effects) (stack : List Value) (l : Location) (s : Source) (r : Effect) : Type 0 where
+pub record GivesPlace (k : Scene) (t : Ty) (go : Effects) (stack : List Value) (l : Location)
+    (s : Source) (r : Effect) : Type 0 where
   pub st : Target
   pub stands : Stands k s st
   pub type : component (row k.world) l ≡ Some t
@@ -220,7 +233,8 @@ IsGrowing k code = (exit : ℕ) (c : Counts) → Grows c (code (record k.setting
 -- nothing is kept in the locals that code may ask for
 pub record IsFree (k : Scene) (c : Counts) : Type 0 where
   pub numbers : (w : ℕ) → number_local k.setting c.numbers ≤ w → k.kept w ≡ None
-  pub addresses : (w : ℕ) → address_local k.setting c.addresses ≤ w → w < number_local k.setting 0 → k.kept w ≡ None
+  pub addresses : (w : ℕ) → address_local k.setting c.addresses ≤ w → w < number_local k.setting 0
+      → k.kept w ≡ None
 
 -- the function has the locals that its code asks for
 pub record HasLocals (k : Scene) (c : Counts) : Type 0 where
@@ -242,36 +256,64 @@ IsThere k at l =
 -- the code of an expression gives its value, which is one of the type
 pub record Agrees (k : Scene) (t : TypeNo) (code : Coded) (value : Gives ℤ) : Type 0 where
   pub grows : (exit : ℕ) (c : Counts) → Grows c (code (inside k exit) c).1
-  pub gives : (exit : ℕ) (c : Counts) → IsFree k c → HasLocals k (code (inside k exit) c).1
-      → (s : Source) (st : Target) → Stands k s st → (rest : List Instr) (stack : List Value)
-      → Into (GivesNumber k t (runs k rest) stack) (runs k ((code (inside k exit) c).0 ++ rest) st stack) (value k.around s)
+  pub gives : (exit : ℕ) (c : Counts)
+      → IsFree k c
+      → HasLocals k (code (inside k exit) c).1
+      → (s : Source) (st : Target)
+      → Stands k s st
+      → (rest : List Instr) (stack : List Value)
+      → Into (GivesNumber k t (runs k rest) stack)
+      (runs k ((code (inside k exit) c).0 ++ rest) st stack) (value k.around s)
 
 -- it does so also where something more is kept
 abbrev pub AgreesBeside : Scene → TypeNo → Coded → Gives ℤ → Type 0
-AgreesBeside k t code value = (n : ℕ) (v : Value) → k.kept n ≡ None → Agrees (keeping k n v) t code value
+AgreesBeside k t code value =
+    (n : ℕ) (v : Value) → k.kept n ≡ None → Agrees (keeping k n v) t code value
 
 -- the code of a designator gives its address
 pub record Locates (k : Scene) (t : Ty) (code : Coded) (found : Gives Location) : Type 0 where
   pub grows : (exit : ℕ) (c : Counts) → Grows c (code (inside k exit) c).1
-  pub gives : (exit : ℕ) (c : Counts) → IsFree k c → HasLocals k (code (inside k exit) c).1
-      → (s : Source) (st : Target) → Stands k s st → (rest : List Instr) (stack : List Value)
-      → Into (GivesPlace k t (runs k rest) stack) (runs k ((code (inside k exit) c).0 ++ rest) st stack) (found k.around s)
+  pub gives : (exit : ℕ) (c : Counts)
+      → IsFree k c
+      → HasLocals k (code (inside k exit) c).1
+      → (s : Source) (st : Target)
+      → Stands k s st
+      → (rest : List Instr) (stack : List Value)
+      → Into (GivesPlace k t (runs k rest) stack)
+      (runs k ((code (inside k exit) c).0 ++ rest) st stack) (found k.around s)
 
--- the code of a component goes on from the address of what has type t to that of a component with type u
-pub record Reaches (k : Scene) (t u : Ty) (code : Coded) (reach : Location → Gives Location) : Type 0 where
+-- the code of a component goes on from the address of what has type t to that of a component with
+-- type u
+pub record Reaches (k : Scene) (t u : Ty) (code : Coded) (reach : Location → Gives Location)
+    : Type 0 where
   pub grows : (exit : ℕ) (c : Counts) → Grows c (code (inside k exit) c).1
-  pub gives : (exit : ℕ) (c : Counts) → IsFree k c → HasLocals k (code (inside k exit) c).1
-      → (l : Location) → component (row k.world) l ≡ Some t → 0 < length l
-      → (s : Source) (st : Target) → Stands k s st → (rest : List Instr) (stack : List Value)
-      → Into (GivesPlace k u (runs k rest) stack) (runs k ((code (inside k exit) c).0 ++ rest) st (stack ++ I32 (place k l) ∷ [])) (reach l k.around s)
+  pub gives : (exit : ℕ) (c : Counts)
+      → IsFree k c
+      → HasLocals k (code (inside k exit) c).1
+      → (l : Location)
+      → component (row k.world) l ≡ Some t
+      → 0 < length l
+      → (s : Source) (st : Target)
+      → Stands k s st
+      → (rest : List Instr) (stack : List Value)
+      → Into (GivesPlace k u (runs k rest) stack)
+      (runs k ((code (inside k exit) c).0 ++ rest) st (stack ++ I32 (place k l) ∷ []))
+      (reach l k.around s)
 
 -- and that of what is behind a value of one type gives one of another
 pub record GoesOn (k : Scene) (t u : TypeNo) (code : Coded) (value : ℤ → Gives ℤ) : Type 0 where
   pub grows : (exit : ℕ) (c : Counts) → Grows c (code (inside k exit) c).1
-  pub gives : (exit : ℕ) (c : Counts) → IsFree k c → HasLocals k (code (inside k exit) c).1
-      → (v : ℤ) → IsValue k.setting.home.types t v
-      → (s : Source) (st : Target) → Stands k s st → (rest : List Instr) (stack : List Value)
-      → Into (GivesNumber k u (runs k rest) stack) (runs k ((code (inside k exit) c).0 ++ rest) st (stack ++ I64 (word v) ∷ [])) (value v k.around s)
+  pub gives : (exit : ℕ) (c : Counts)
+      → IsFree k c
+      → HasLocals k (code (inside k exit) c).1
+      → (v : ℤ)
+      → IsValue k.setting.home.types t v
+      → (s : Source) (st : Target)
+      → Stands k s st
+      → (rest : List Instr) (stack : List Value)
+      → Into (GivesNumber k u (runs k rest) stack)
+      (runs k ((code (inside k exit) c).0 ++ rest) st (stack ++ I64 (word v) ∷ []))
+      (value v k.around s)
 
 -- ---- statements
 
@@ -303,7 +345,8 @@ pub record Returns (k : Scene) (function : Bool) (v : ℤ) (s : Source) (r : Eff
   pub run : r ≡ does.Returned st (returned function below v)
 
 -- What is on goes on, EXIT branches to its label, RETURN returns, and all else ends alike.
-abbrev pub Ends : (k : Scene) (function : Bool) (exit : ℕ) (stack : List Value) (on : Target → Effect) → Effect → Outcome → Type 0
+abbrev pub Ends : (k : Scene) (function : Bool) (exit : ℕ) (stack : List Value)
+    (on : Target → Effect) → Effect → Outcome → Type 0
 Ends k function exit stack on r (Went s) = GoesTo k on s r
 Ends k function exit stack on r (Left s) = GoesTo k (λ st. does.Branched exit st stack) s r
 Ends k function exit stack on r (Came v s) = Returns k function v s r
@@ -313,6 +356,11 @@ Ends k function exit stack on r (Unfinished out) = r ≡ StillRunning out
 -- the code of a statement does what the statement does
 pub record Executes (k : Scene) (function : Bool) (code : Coded) (step : Does) : Type 0 where
   pub grows : (exit : ℕ) (c : Counts) → Grows c (code (inside k exit) c).1
-  pub goes : (exit : ℕ) (c : Counts) → IsFree k c → HasLocals k (code (inside k exit) c).1
-      → (s : Source) (st : Target) → Stands k s st → (rest : List Instr) (stack : List Value)
-      → Ends k function exit stack (λ st. runs k rest st stack) (runs k ((code (inside k exit) c).0 ++ rest) st stack) (step k.around s)
+  pub goes : (exit : ℕ) (c : Counts)
+      → IsFree k c
+      → HasLocals k (code (inside k exit) c).1
+      → (s : Source) (st : Target)
+      → Stands k s st
+      → (rest : List Instr) (stack : List Value)
+      → Ends k function exit stack (λ st. runs k rest st stack)
+      (runs k ((code (inside k exit) c).0 ++ rest) st stack) (step k.around s)

@@ -66,9 +66,11 @@ with_forms root (f ∷ fs) (p ∷ ps) e = with_forms root fs ps (with_passed (is
 -- the code of a formal, whose first operand is in local x
 abbrev pub form_kept : (top : ℕ) → Ty → (v x : ℕ) → Form → List Instr
 form_kept top f v x (ByNumber c) = formal_address f v [] ++ (LocalGet x ∷ store_scalar c)
-form_kept top f v x (ByCopy t) = formal_address f v [] ++ (LocalGet x ∷ wrapped ∷ I32Const (size t) ∷ Call copy ∷ [])
+form_kept top f v x (ByCopy t) =
+    formal_address f v [] ++ (LocalGet x ∷ wrapped ∷ I32Const (size t) ∷ Call copy ∷ [])
 form_kept top f v x (ByName t) = word_kept f v [] (LocalGet x ∷ [])
-form_kept top f v x (ByArray true t) = word_kept f v (0 ∷ []) (LocalGet x ∷ []) ++ word_kept f v (1 ∷ []) (LocalGet (suc x) ∷ [])
+form_kept top f v x (ByArray true t) =
+    word_kept f v (0 ∷ []) (LocalGet x ∷ []) ++ word_kept f v (1 ∷ []) (LocalGet (suc x) ∷ [])
 form_kept top f v x (ByArray false t) = open_copied top (suc top) f v x (size t)
 
 abbrev pub operands_of : Form → ℕ
@@ -79,7 +81,8 @@ operands_of (ByArray is_var t) = 2
 
 abbrev pub forms_kept : (top : ℕ) → Ty → (v x : ℕ) → Forms → List Instr
 forms_kept top f v x [] = []
-forms_kept top f v x (a ∷ others) = form_kept top f v x a ++ forms_kept top f (suc v) (x + operands_of a) others
+forms_kept top f v x (a ∷ others) =
+    form_kept top f v x a ++ forms_kept top f (suc v) (x + operands_of a) others
 
 -- ---- what is known in between
 
@@ -88,8 +91,10 @@ pub record HasLimit (k : Scene) : Type 0 where
   pub there : (bytes : List ℕ) → global_at (store_of k.fixed bytes) k.own 0 ≡ Some (I32 k.limit)
   pub small : k.limit < 2 ^ 31
 
--- the frame with this number is there, local `top` has the end of the instances that live, and the arguments are as given
-pub record Stage (k : Scene) (root top : ℕ) (frame : Ty) (given : List Value) (out : List ℕ) (world : List Ty) (x : Location → ℕ → ℕ) (s : Store) (st : Target) : Type 0 where
+-- the frame with this number is there, local `top` has the end of the instances that live, and the
+-- arguments are as given
+pub record Stage (k : Scene) (root top : ℕ) (frame : Ty) (given : List Value) (out : List ℕ)
+    (world : List Ty) (x : Location → ℕ → ℕ) (s : Store) (st : Target) : Type 0 where
   pub holds : Holds k.program world x s st.bytes
   pub long : length st.bytes ≡ k.limit
   pub own : component (row world) (root ∷ []) ≡ Some frame

@@ -16,8 +16,10 @@ use Rattle.law_simulation.specs.TreesTyped.{Context}
 use Rattle.law_simulation.specs.Fitting.{Fits}
 use Rattle.law_simulation.specs.StmtsTyped.{AreStmts}
 
--- the scene is one of the context, for a body with this result in which loops make at most so many turns
-pub record Suits (x : Context) (ask : Asks) (result : Result) (n : ℕ) (ws : List Ty) (k : Scene) : Type 0 where
+-- the scene is one of the context, for a body with this result in which loops make at most so many
+-- turns
+pub record Suits (x : Context) (ask : Asks) (result : Result) (n : ℕ) (ws : List Ty) (k : Scene)
+    : Type 0 where
   pub fits : Fits x ask ws k
   pub turns : k.turns ≡ n
   pub typed : k.result ≡ result
@@ -25,10 +27,17 @@ pub record Suits (x : Context) (ask : Asks) (result : Result) (n : ℕ) (ws : Li
 -- in every such scene
 abbrev pub Bodies : Type 0
 Bodies =
-    (x : Context) (ask : Asks) (result : Result) (n a b : ℕ) (body : List TypedStmt) → AreStmts x result [] false a b body
-    → (placed : Coded) × Pins a b (body_code (numbered x.home) body) placed × ((k : Scene) → Suits x ask result n [] k → Executes k (is_there result) placed (body_does x.p n ask body))
+    (x : Context) (ask : Asks) (result : Result) (n a b : ℕ) (body : List TypedStmt)
+    → AreStmts x result [] false a b body
+    → (placed : Coded)
+    × Pins a b (body_code (numbered x.home) body) placed
+    × ((k : Scene) → Suits x ask result n [] k
+    → Executes k (is_there result) placed (body_does x.p n ask body))
 
 abbrev pub Stays : Type 0
 Stays =
-    (x : Context) (ask : Asks) (result : Result) (n a b : ℕ) (body : List TypedStmt) → AreStmts x result [] false a b body
-    → (around : Around) (s t : State) → body_does x.p n ask body around s ≡ Left t → ⊥
+    (x : Context) (ask : Asks) (result : Result) (n a b : ℕ) (body : List TypedStmt)
+    → AreStmts x result [] false a b body
+    → (around : Around) (s t : State)
+    → body_does x.p n ask body around s ≡ Left t
+    → ⊥

@@ -11,10 +11,18 @@ use Rattle.def_scheme.specs.Steps as steps
 use Rattle.law_simulation.specs.Scene.{Scene, IsSet, keeping, IsGrowing, Agrees, Executes}
 use Rattle.law_simulation.specs.Laws.{AreArms}
 
--- where its labels are few and close together: the value is kept in a local, and one jump leads to the arm, or past all
+-- where its labels are few and close together: the value is kept in a local, and one jump leads to
+-- the arm, or past all
 abbrev pub TableCases : Type 0
 TableCases =
-    (k : Scene) → IsSet k → (function : Bool) (x : Part) (value : Gives ℤ) (xs : List steps.Arm) (ys : List statements.Arm) (otherwise : Coded) (other : Does)
-    → steps.is_dense (length xs) (steps.all_labels xs) ≡ true → Agrees k x.of x.code value → ((n : ℕ) → IsGrowing k (steps.table_code n xs otherwise))
-    → ((n : ℕ) (v : Value) → k.kept n ≡ None → AreArms (keeping k n v) function xs ys) → ((n : ℕ) (v : Value) → k.kept n ≡ None → Executes (keeping k n v) function otherwise other)
-    → Executes k function (steps.case_code x.code xs otherwise) (λ a s. with_answer (value a s) (λ v s. statements.chosen v ys other a s))
+    (k : Scene)
+    → IsSet k
+    → (function : Bool) (x : Part) (value : Gives ℤ) (xs : List steps.Arm)
+    (ys : List statements.Arm) (otherwise : Coded) (other : Does)
+    → steps.is_dense (length xs) (steps.all_labels xs) ≡ true
+    → Agrees k x.of x.code value
+    → ((n : ℕ) → IsGrowing k (steps.table_code n xs otherwise))
+    → ((n : ℕ) (v : Value) → k.kept n ≡ None → AreArms (keeping k n v) function xs ys)
+    → ((n : ℕ) (v : Value) → k.kept n ≡ None → Executes (keeping k n v) function otherwise other)
+    → Executes k function (steps.case_code x.code xs otherwise) (λ a s.
+    with_answer (value a s) (λ v s. statements.chosen v ys other a s))

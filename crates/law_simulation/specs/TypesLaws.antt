@@ -25,22 +25,31 @@ RangesAreSmall = (types : Types) → AreRanged types → AreSmall types
 
 -- a variable of a scalar type has one cell, which holds the numbers of the type
 abbrev pub ScalarsAreCells : Type 0
-ScalarsAreCells = (types : Types) → AreRanged types → (t : TypeNo) (r : Range) → scalar_at types t ≡ Some r → IsCell types t (scalar_kind t r)
+ScalarsAreCells =
+    (types : Types) → AreRanged types → (t : TypeNo) (r : Range) → scalar_at types t ≡ Some r
+    → IsCell types t (scalar_kind t r)
 
 -- one of a set type has a cell for all numbers of 32 bits
 abbrev pub SetsAreCells : Type 0
-SetsAreCells = (types : Types) (t : TypeNo) → scalar_at types t ≡ None → is_result types t ≡ true → heading_at types t ≡ None → IsCell types t (Natural 4294967295)
+SetsAreCells =
+    (types : Types) (t : TypeNo) → scalar_at types t ≡ None → is_result types t ≡ true
+    → heading_at types t ≡ None → IsCell types t (Natural 4294967295)
 
 -- the tree of each type that is made is by its shape, from the trees of all types that are known
 abbrev pub AreByShape : Types → Type 0
-AreByShape types = (t : TypeNo) (m : Made) → made_at types t ≡ Some m → tree types t ≡ shape_tree types (known_trees types) t m.shape
+AreByShape types =
+    (t : TypeNo) (m : Made) → made_at types t ≡ Some m
+    → tree types t ≡ shape_tree types (known_trees types) t m.shape
 
 -- one of a procedure type has a cell for procedures with the heading of the type
 abbrev pub ProceduresAreCells : Type 0
-ProceduresAreCells = (types : Types) → AreByShape types → (t : TypeNo) (h : Heading) → heading_at types t ≡ Some h → tree types t ≡ Cell (Callable h)
+ProceduresAreCells =
+    (types : Types) → AreByShape types → (t : TypeNo) (h : Heading) → heading_at types t ≡ Some h
+    → tree types t ≡ Cell (Callable h)
 
 abbrev pub FormalsArePlain : Type 0
-FormalsArePlain = (types : Types) → AreRanged types → (heading : TypeNo) → AreForms (forms_of types heading)
+FormalsArePlain =
+    (types : Types) → AreRanged types → (heading : TypeNo) → AreForms (forms_of types heading)
 
 abbrev pub FramesFit : Type 0
 FramesFit = (types : Types) → AreRanged types → (r : Routine) → IsFit (frame types r)

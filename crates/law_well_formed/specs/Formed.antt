@@ -59,9 +59,10 @@ module _ (m : TypedModule) (opens : ℕ → Bool) (withs : ℕ) where
   FormedDesignated (designated.Standard f) = Unit {0}
   FormedDesignated (designated.Module k) = opens k ≡ true
 
--- The types that are known in a scope are those of the module, its names mean what is there, and so do those that open
--- modules export.
-pub record IsFormed (g : Gathers) (m : TypedModule) (opens : ℕ → Bool) (withs : ℕ) (s : Scope g.Reported) : Type 0 where
+-- The types that are known in a scope are those of the module, its names mean what is there, and so
+-- do those that open modules export.
+pub record IsFormed (g : Gathers) (m : TypedModule) (opens : ℕ → Bool) (withs : ℕ)
+    (s : Scope g.Reported) : Type 0 where
   pub types : (t : TypeNo) (x : Made) → made_at s.types t ≡ Some x → made_at m.types t ≡ Some x
   pub names : (name : Ident) → Holds (FormedMeaning m opens withs) (looked_up g s name)
   pub members : (k : ℕ) (name : Ident) → opens k ≡ true

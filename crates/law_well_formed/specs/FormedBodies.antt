@@ -24,8 +24,11 @@ use Rattle.m2_check.specs.Bodies.{ChecksBlock, checks_block}
 
 -- statements of bodies are well formed, where names mean what is there
 abbrev pub FormsStatements : (g : Gathers) → Elaborates g.Reported → Type 0
-FormsStatements g elaborates = (m : TypedModule) (opens : ℕ → Bool) (s : Scope g.Reported)
-    → IsFormed g m opens 0 s → s.withs ≡ [] → (returns : Option (Result TypeNo g.Reported)) (body : List Stmt)
+FormsStatements g elaborates =
+    (m : TypedModule) (opens : ℕ → Bool) (s : Scope g.Reported)
+    → IsFormed g m opens 0 s
+    → s.withs ≡ []
+    → (returns : Option (Result TypeNo g.Reported)) (body : List Stmt)
     → Holds (AreStmts m (is_there returns) 0 false) (elaborates s returns body)
 
 -- Procedures in procedures are numbered from here on, where so many stand within each.
@@ -54,7 +57,8 @@ module _ (g : Gathers) (m : TypedModule) (opens : ℕ → Bool) where
   -- the module has what is added from one walk to the other
   pub record Suits (w w' : Walk g.Reported) : Type 0 where
     pub home : w.scope.types.home ≡ m.types.home
-    pub types : (t : TypeNo) (x : Made) → made_at w'.scope.types t ≡ Some x → made_at m.types t ≡ Some x
+    pub types : (t : TypeNo) (x : Made) → made_at w'.scope.types t ≡ Some x
+        → made_at m.types t ≡ Some x
     pub locals : (n : ℕ) → length w.bodies.locals ≤ n → n < length w'.bodies.locals
         → slice_get m.locals n ≡ slice_get w'.bodies.locals n
     pub members : (k : ℕ) (name : Ident) → opens k ≡ true
@@ -77,22 +81,32 @@ pub record Begins {T : Type 0} (ends : List ℕ) (w : Walk T) (ks : List ℕ) : 
 -- the block of a procedure, with so many procedures within each of those in it
 pub record FormedBlock (g : Gathers) (ends : List ℕ) (block : ChecksBlock g.Reported) (ks : List ℕ)
     : Type 0 where
-  pub keeps : (around : Option Which) (returns : Option (Result TypeNo g.Reported)) (w : Walk g.Reported)
-      → Keeps w.scope (block around returns w).0.scope
-  pub reported : (around : Option Which) (returns : Option (Result TypeNo g.Reported)) (w : Walk g.Reported)
-      → (block around returns w).0.so_far ≡ Ok tt → w.so_far ≡ Ok tt
-  pub count : (around : Option Which) (returns : Option (Result TypeNo g.Reported)) (w : Walk g.Reported)
-      → (w.scope.level == 0) ≡ false → 0 < length w.scope.outer
+  pub keeps : (around : Option Which) (returns : Option (Result TypeNo g.Reported))
+      (w : Walk g.Reported) → Keeps w.scope (block around returns w).0.scope
+  pub reported : (around : Option Which) (returns : Option (Result TypeNo g.Reported))
+      (w : Walk g.Reported) → (block around returns w).0.so_far ≡ Ok tt → w.so_far ≡ Ok tt
+  pub count : (around : Option Which) (returns : Option (Result TypeNo g.Reported))
+      (w : Walk g.Reported)
+      → (w.scope.level == 0) ≡ false
+      → 0 < length w.scope.outer
       → length (block around returns w).0.bodies.locals ≡ length w.bodies.locals + length ks
-  pub adds : (around : Option Which) (returns : Option (Result TypeNo g.Reported)) (w : Walk g.Reported)
-      → Begins ends w ks → (block around returns w).0.so_far ≡ Ok tt → Adds w (block around returns w).0
-  pub formed : (around : Option Which) (returns : Option (Result TypeNo g.Reported)) (w : Walk g.Reported)
-      → Begins ends w ks → (block around returns w).0.so_far ≡ Ok tt → (m : TypedModule) (opens : ℕ → Bool)
-      → Suits g m opens w (block around returns w).0 → AreFormedNames m opens w.scope.own
+  pub adds : (around : Option Which) (returns : Option (Result TypeNo g.Reported))
+      (w : Walk g.Reported)
+      → Begins ends w ks
+      → (block around returns w).0.so_far ≡ Ok tt
+      → Adds w (block around returns w).0
+  pub formed : (around : Option Which) (returns : Option (Result TypeNo g.Reported))
+      (w : Walk g.Reported)
+      → Begins ends w ks
+      → (block around returns w).0.so_far ≡ Ok tt
+      → (m : TypedModule) (opens : ℕ → Bool)
+      → Suits g m opens w (block around returns w).0
+      → AreFormedNames m opens w.scope.own
       → AddsFormed g m opens w (block around returns w).0
       × Holds (AreStmts m (is_there returns) 0 false) (block around returns w).1
 
 -- the blocks of procedures are well formed, and what stands in them
 abbrev pub BlocksAreFormed : Gathers → Type 0
-BlocksAreFormed g = (elaborates : Elaborates g.Reported) → FormsStatements g elaborates → (ends : List ℕ) (b : Block)
-    → FormedBlock g ends (checks_block g elaborates ends b) (within b)
+BlocksAreFormed g =
+    (elaborates : Elaborates g.Reported) → FormsStatements g elaborates → (ends : List ℕ)
+    (b : Block) → FormedBlock g ends (checks_block g elaborates ends b) (within b)

@@ -25,7 +25,9 @@ token_fits t = lexeme_fits t.lexeme
 
 -- The tree of tokens that fit, fits.
 abbrev pub TreesFit : Type 0
-TreesFit = (ts : List Token) (m : Module) → list_all token_fits ts ≡ true → IsModule ts m → fits_module m ≡ true
+TreesFit =
+    (ts : List Token) (m : Module) → list_all token_fits ts ≡ true → IsModule ts m
+    → fits_module m ≡ true
 
 -- The tokens of a text fit,
 abbrev pub TokensFit : Type 0
@@ -33,4 +35,6 @@ TokensFit = (text : List ℕ) (ts : List Token) → HasTokens text ts → list_a
 
 -- and so does its tree.
 abbrev pub TextsFit : Type 0
-TextsFit = (text : List ℕ) (ts : List Token) (m : Module) → HasTokens text ts → IsModule ts m → fits_module m ≡ true
+TextsFit =
+    (text : List ℕ) (ts : List Token) (m : Module) → HasTokens text ts → IsModule ts m
+    → fits_module m ≡ true

@@ -33,9 +33,12 @@ FramesHaveRoom = (m : TypedModule) → too_large m ≡ None → HaveRoom m
 
 -- ---- texts
 
--- Where the module has an encoding, as each has that the build makes, the characters of its texts are bytes.
+-- Where the module has an encoding, as each has that the build makes, the characters of its texts
+-- are bytes.
 abbrev pub TextsAreBytes : Type 0
-TextsAreBytes = (m : TypedModule) → module_fits (typed_module m) ≡ true → All (λ b. b < 256) (all_characters (module_texts m))
+TextsAreBytes =
+    (m : TypedModule) → module_fits (typed_module m) ≡ true
+    → All (λ b. b < 256) (all_characters (module_texts m))
 
 -- ---- procedures
 

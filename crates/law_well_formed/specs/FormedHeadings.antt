@@ -1,4 +1,5 @@
--- A name of a type that is found where a heading is declared is found again where the procedure's block begins.
+-- A name of a type that is found where a heading is declared is found again where the procedure's
+-- block begins.
 use Rattle.std.specs.Prelude.{◌≡◌, ℕ, List, [], ◌∷◌, ◌++◌, length, Option, Some, None, Ok}
 use Rattle.std.specs.List.{fold}
 use Rattle.m2_tree.specs.declared.decl.Block.{Block}
@@ -31,12 +32,15 @@ abbrev pub marked_by : {T : Type 0} → Scope T → List Decl → Scope T
 marked_by s ds = fold marked_decl s ds
 
 -- behind these declarations of a block whose names are all marked
-abbrev pub declared_by : (g : Gathers) → (ends : List ℕ) → Course g.Reported → List Decl → Course g.Reported
+abbrev pub declared_by : (g : Gathers) → (ends : List ℕ) → Course g.Reported → List Decl
+    → Course g.Reported
 declared_by g ends c ds = fold (with_decl g ends) c ds
 
--- In the block of the declarations `before`, `d` and `rest`, which begins with scope a, so the declaration d is met in one
--- scope; the block ends with another, and so many of its names stand before d.
-module _ (g : Gathers) (ends : List ℕ) (a : Scope g.Reported) (first : ℕ) (before : List Decl) (d : Decl) (rest : List Decl) where
+-- In the block of the declarations `before`, `d` and `rest`, which begins with scope a, so the
+-- declaration d is met in one scope; the block ends with another, and so many of its names stand
+-- before d.
+module _ (g : Gathers) (ends : List ℕ) (a : Scope g.Reported) (first : ℕ) (before : List Decl)
+    (d : Decl) (rest : List Decl) where
   abbrev pub all : List Decl
   all = before ++ d ∷ rest
 
@@ -63,9 +67,15 @@ pub record IsBehind {T : Type 0} (e w : Scope T) : Type 0 where
 
 -- A type that has a name where a declaration is met has it where the block of its procedure begins.
 abbrev pub NamesStay : Gathers → Type 0
-NamesStay g = (ends : List ℕ) (a : Scope g.Reported) (first : ℕ) (before : List Decl) (d : Decl) (rest : List Decl) → a.withs ≡ []
-    → (w : Scope g.Reported) → IsBehind (end g ends a first before d rest) w
-    → (q : Qualified) (t : TypeNo) → named_type g (met g ends a first before d rest) q ≡ Ok t → named_type g (inwards w (seen g ends a first before d rest)) q ≡ Ok t
+NamesStay g =
+    (ends : List ℕ) (a : Scope g.Reported) (first : ℕ) (before : List Decl) (d : Decl)
+    (rest : List Decl)
+    → a.withs ≡ []
+    → (w : Scope g.Reported)
+    → IsBehind (end g ends a first before d rest) w
+    → (q : Qualified) (t : TypeNo)
+    → named_type g (met g ends a first before d rest) q ≡ Ok t
+    → named_type g (inwards w (seen g ends a first before d rest)) q ≡ Ok t
 
 -- ---- headings
 
@@ -82,8 +92,8 @@ heading_in meaning.Ahead = None
 heading_in (meaning.Standard f) = None
 heading_in (meaning.Module k) = None
 
--- In this scope the name of a heading means a procedure, whose type has the formals and the result that are computed where
--- the procedure's block begins, behind so many names of the block.
+-- In this scope the name of a heading means a procedure, whose type has the formals and the result
+-- that are computed where the procedure's block begins, behind so many names of the block.
 pub record HeadingStands (g : Gathers) (w : Scope g.Reported) (n : ℕ) (h : Heading) : Type 0 where
   pub means : Meaning
   pub named : found h.name.name w.own ≡ Some (Headed (Ok means))
@@ -93,12 +103,21 @@ pub record HeadingStands (g : Gathers) (w : Scope g.Reported) (n : ℕ) (h : Hea
   pub there : made_at w.types heading ≡ Some made
   pub result : Option TypeNo
   pub gives : result_of g (inwards w n) h.result ≡ Ok result
-  pub shape : made.shape ≡ shape.Procedure (record { formals = all_formals g (inwards w n) h.formals; result = result })
+  pub shape : made.shape ≡ shape.Procedure
+      (record { formals = all_formals g (inwards w n) h.formals; result = result })
 
 -- So it is behind the declarations of a block that break no rule, for each procedure among them.
 abbrev pub HeadingsStay : Gathers → Type 0
-HeadingsStay g = (ends : List ℕ) (a : Scope g.Reported) (first : ℕ) (before : List Decl) (d : Decl) (rest : List Decl) → a.withs ≡ []
-    → (declared_by g ends (begun g ends a first before d rest) (all g ends a first before d rest)).1 ≡ Ok tt
-    → (w : Scope g.Reported) → IsBehind (end g ends a first before d rest) w
-    → ((t : TypeNo) (x : Made) → made_at (end g ends a first before d rest).types t ≡ Some x → made_at w.types t ≡ Some x)
-    → (h : Heading) (b : Block) → out-Decl d ≡ layer.Procedure h b → HeadingStands g w (seen g ends a first before d rest) h
+HeadingsStay g =
+    (ends : List ℕ) (a : Scope g.Reported) (first : ℕ) (before : List Decl) (d : Decl)
+    (rest : List Decl)
+    → a.withs ≡ []
+    → (declared_by g ends (begun g ends a first before d rest) (all g ends a first before d rest)).1
+    ≡ Ok tt
+    → (w : Scope g.Reported)
+    → IsBehind (end g ends a first before d rest) w
+    → ((t : TypeNo) (x : Made) → made_at (end g ends a first before d rest).types t ≡ Some x
+    → made_at w.types t ≡ Some x)
+    → (h : Heading) (b : Block)
+    → out-Decl d ≡ layer.Procedure h b
+    → HeadingStands g w (seen g ends a first before d rest) h

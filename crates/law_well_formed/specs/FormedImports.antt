@@ -21,7 +21,8 @@ abbrev pub is_imported_by : Option Table → List ℕ → Bool
 is_imported_by None name = false
 is_imported_by (Some t) name = list_any (λ e. same_name e.0 name) t.imports
 
--- a module that is imported by a tree, or by its own definition. It is not Console, which has no instance
+-- a module that is imported by a tree, or by its own definition. It is not Console, which has no
+-- instance
 pub record IsImport (m : Module) (own : Option Table) (i : Imported) : Type 0 where
   pub known : (is_imported_by own i.name || is_imported m i.name) ≡ true
   pub instance : same_name i.name (codes "Console") ≡ false
@@ -45,5 +46,6 @@ pub record StandsOnImports (m : Module) (own : Option Table) (t : TypedModule) :
 
 -- whatever the statements of its bodies come to
 abbrev pub ModulesNameImports : Gathers → Type 0
-ModulesNameImports g = (elaborates : Elaborates g.Reported) (number : ℕ) (m : Module) (own : Option Table)
+ModulesNameImports g =
+    (elaborates : Elaborates g.Reported) (number : ℕ) (m : Module) (own : Option Table)
     (tables : List Table) → IfOk (checked g elaborates number m own tables) (StandsOnImports m own)

@@ -1,4 +1,5 @@
--- What modules know of the types of others: their tables reach types in order, with ranges of the language.
+-- What modules know of the types of others: their tables reach types in order, with ranges of the
+-- language.
 use Rattle.std.specs.Prelude.{◌≡◌, ℕ, suc, ◌<◌, Bool, true, List, [], Option, Some, None, map, slice_get}
 use Rattle.std.specs.List.{AllByRecursion, list_all}
 use Rattle.m2_tree.specs.declared.decl.Decl.{Decl, Decl-F, fold-Decl}
@@ -52,20 +53,25 @@ fits_module m = fits_contents m.contents
 
 -- these types have all that a table reaches
 abbrev pub HasReached : Types → List ModuleTypes → Type 0
-HasReached types ms = AllByRecursion (λ m. (n : ℕ) (x : Made) → slice_get m.made n ≡ Some x → made_in types m.number n ≡ Some x) ms
+HasReached types ms =
+    AllByRecursion
+    (λ m. (n : ℕ) (x : Made) → slice_get m.made n ≡ Some x → made_in types m.number n ≡ Some x) ms
 
 abbrev pub entries_of : List ModuleTypes → List (ℕ × List Made)
 entries_of ms = map (λ m. (m.number, m.made)) ms
 
--- A table reaches modules below this number, and the types of each module are the same in all tables. They stand in order,
--- have ranges of the language, and what the table exports means such types and such numbers.
+-- A table reaches modules below this number, and the types of each module are the same in all
+-- tables. They stand in order, have ranges of the language, and what the table exports means such
+-- types and such numbers.
 pub record TableFormed (types_of : ℕ → List Made) (below : ℕ) (t : Table) : Type 0 where
   pub reached : AllByRecursion (λ m. (m.number < below) × (m.made ≡ types_of m.number)) t.reached
   pub ordered : OthersOrdered [] (entries_of t.reached)
   pub once : AllByRecursion (λ m. AllOnce m.made) t.reached
   pub ranged : ReachedRanged t.reached
-  pub based : (types : Types) → HasReached types t.reached → AllByRecursion (λ m. AllBased types m.made) t.reached
-  pub exports : (types : Types) → HasReached types t.reached → ExportsOrdered types t.exported × ExportsRanged types t.exported
+  pub based : (types : Types) → HasReached types t.reached
+      → AllByRecursion (λ m. AllBased types m.made) t.reached
+  pub exports : (types : Types) → HasReached types t.reached
+      → ExportsOrdered types t.exported × ExportsRanged types t.exported
 
 abbrev pub TablesFormed : (types_of : ℕ → List Made) → (below : ℕ) → List Table → Type 0
 TablesFormed types_of below ts = AllByRecursion (TableFormed types_of below) ts
@@ -73,17 +79,29 @@ TablesFormed types_of below ts = AllByRecursion (TableFormed types_of below) ts
 -- the table of a module's own definition, whose types are those that all tables reach of it
 abbrev pub OwnFormed : (types_of : ℕ → List Made) → (below : ℕ) → Option Table → Type 0
 OwnFormed types_of below None = Unit {0}
-OwnFormed types_of below (Some t) = TableFormed types_of below t × (types_made_in t.number t.reached ≡ types_of t.number)
+OwnFormed types_of below (Some t) =
+    TableFormed types_of below t × (types_made_in t.number t.reached ≡ types_of t.number)
 
 -- ---- the laws
 
 -- The table of a definition is such a table, where those of its imports are.
 abbrev pub TablesAreFormed : Gathers → Type 0
-TablesAreFormed g = (types_of : ℕ → List Made) (home : ℕ) (m : Module) (tables : List Table) → fits_module m ≡ true → TablesFormed types_of home tables
-    → Holds (λ t. (t.number ≡ home) × (types_made_in home t.reached ≡ types_of home → TableFormed types_of (suc home) t)) (compiled g home m tables)
+TablesAreFormed g =
+    (types_of : ℕ → List Made) (home : ℕ) (m : Module) (tables : List Table)
+    → fits_module m ≡ true
+    → TablesFormed types_of home tables
+    → Holds
+    (λ t.
+    (t.number ≡ home)
+    × (types_made_in home t.reached ≡ types_of home → TableFormed types_of (suc home) t))
+    (compiled g home m tables)
 
 -- The types that the module of a body knows have ranges of the language, and stand in order.
 abbrev pub BodiesAreFormed : Gathers → Type 0
-BodiesAreFormed g = (elaborates : Elaborates g.Reported) (types_of : ℕ → List Made) (number : ℕ) (m : Module) (own : Option Table) (tables : List Table) → fits_module m ≡ true
-    → OwnFormed types_of number own → TablesFormed types_of number tables
+BodiesAreFormed g =
+    (elaborates : Elaborates g.Reported) (types_of : ℕ → List Made) (number : ℕ) (m : Module)
+    (own : Option Table) (tables : List Table)
+    → fits_module m ≡ true
+    → OwnFormed types_of number own
+    → TablesFormed types_of number tables
     → Holds (λ t. AreRanged t.types × AreOrdered t.types) (checked g elaborates number m own tables)

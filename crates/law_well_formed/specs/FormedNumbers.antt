@@ -1,4 +1,5 @@
--- Names that carry the numbers under which their scope has them, and declarations that keep them so.
+-- Names that carry the numbers under which their scope has them, and declarations that keep them
+-- so.
 use Rattle.std.specs.Prelude.{◌≡◌, ℕ, ◌≤◌, ◌⊎◌, List, [], ◌∷◌, ◌++◌, length, Some, Result, Ok, Err, slice_get}
 use Rattle.std.specs.List.{fold}
 use Rattle.m2_tree.specs.declared.decl.Decl.{Decl}
@@ -20,7 +21,8 @@ use Rattle.check_block.specs.Declarations.{Course, with_decl}
 use Rattle.check_block.specs.Inner.{formal_kind, inwards, entered_procedure}
 use Rattle.law_well_formed.specs.Formed.{Holds}
 
--- what a block has under numbers: the types of its variables, and the headings of the module's procedures
+-- what a block has under numbers: the types of its variables, and the headings of the module's
+-- procedures
 pub record Lists : Type 0 where
   pub level : ℕ
   pub home : ℕ
@@ -28,7 +30,12 @@ pub record Lists : Type 0 where
   pub procedures : List TypeNo
 
 abbrev pub lists_of : {T : Type 0} → Scope T → Lists
-lists_of s = record { level = s.level; home = s.types.home; variables = s.variables; procedures = s.procedures }
+lists_of s = record {
+  level = s.level;
+  home = s.types.home;
+  variables = s.variables;
+  procedures = s.procedures;
+}
 
 -- ---- names
 
@@ -56,10 +63,12 @@ module _ (fs : List Formal) (l : Lists) where
   abbrev pub MeaningNumbered : Meaning → Type 0
   MeaningNumbered (meaning.Constant v) = Unit {0}
   MeaningNumbered (meaning.Type t n) = Unit {0}
-  MeaningNumbered (meaning.Variable v) = v.home ≡ l.home → slice_get l.variables v.number ≡ Some v.of
+  MeaningNumbered (meaning.Variable v) =
+      v.home ≡ l.home → slice_get l.variables v.number ≡ Some v.of
   MeaningNumbered (meaning.Local v) = LocalNumbered v
   MeaningNumbered (meaning.Field f) = Unit {0}
-  MeaningNumbered (meaning.Procedure p) = p.home ≡ l.home → slice_get l.procedures p.number ≡ Some p.heading
+  MeaningNumbered (meaning.Procedure p) =
+      p.home ≡ l.home → slice_get l.procedures p.number ≡ Some p.heading
   MeaningNumbered (meaning.LocalProcedure p) = p.level ≡ l.level
   MeaningNumbered meaning.Ahead = Unit {0}
   MeaningNumbered (meaning.Standard f) = Unit {0}
@@ -76,7 +85,8 @@ module _ (fs : List Formal) (l : Lists) where
   NamesNumbered [] = Unit {0}
   NamesNumbered (e ∷ es) = KnownNumbered e.1 × NamesNumbered es
 
--- the names of the innermost block stand under their numbers, and its formals come first among its variables
+-- the names of the innermost block stand under their numbers, and its formals come first among its
+-- variables
 pub record IsNumbered {T : Type 0} (fs : List Formal) (s : Scope T) : Type 0 where
   pub names : NamesNumbered fs (lists_of s) s.own
   pub few : length fs ≤ length s.variables
@@ -87,8 +97,10 @@ pub record More (a b : Lists) : Type 0 where
   pub level : b.level ≡ a.level
   pub home : b.home ≡ a.home
   pub count : length a.variables ≤ length b.variables
-  pub variables : (n : ℕ) (t : TypeNo) → slice_get a.variables n ≡ Some t → slice_get b.variables n ≡ Some t
-  pub procedures : (n : ℕ) (t : TypeNo) → slice_get a.procedures n ≡ Some t → slice_get b.procedures n ≡ Some t
+  pub variables : (n : ℕ) (t : TypeNo) → slice_get a.variables n ≡ Some t
+      → slice_get b.variables n ≡ Some t
+  pub procedures : (n : ℕ) (t : TypeNo) → slice_get a.procedures n ≡ Some t
+      → slice_get b.procedures n ≡ Some t
 
 pub record Grows {T : Type 0} (fs : List Formal) (s s' : Scope T) : Type 0 where
   pub outer : s'.outer ≡ s.outer
@@ -99,7 +111,9 @@ pub record Grows {T : Type 0} (fs : List Formal) (s s' : Scope T) : Type 0 where
 
 -- a declaration of a block leads from numbered names to numbered names
 abbrev pub DeclarationsNumber : Gathers → Type 0
-DeclarationsNumber g = (fs : List Formal) (ends : List ℕ) (c : Course g.Reported) (d : Decl) → Grows fs c.0 (with_decl g ends c d).0
+DeclarationsNumber g =
+    (fs : List Formal) (ends : List ℕ) (c : Course g.Reported) (d : Decl)
+    → Grows fs c.0 (with_decl g ends c d).0
 
 -- the formals that a heading's sections give, without those that break a rule
 abbrev pub with_one : {T : Type 0} → List Formal → Result Formal T → List Formal
@@ -117,4 +131,6 @@ all_formals g s xs = fold (with_formals_of g s) [] xs
 
 -- the block of a procedure begins with its formals, under their numbers
 abbrev pub EnteredNumbers : Gathers → Type 0
-EnteredNumbers g = (s : Scope g.Reported) (seen : ℕ) (h : Heading) → IsNumbered (all_formals g (inwards s seen) h.formals) (entered_procedure g s seen h).0
+EnteredNumbers g =
+    (s : Scope g.Reported) (seen : ℕ) (h : Heading)
+    → IsNumbered (all_formals g (inwards s seen) h.formals) (entered_procedure g s seen h).0

@@ -1,4 +1,5 @@
--- What the checker makes stands in order: the types that a scope knows, and those that its names mean.
+-- What the checker makes stands in order: the types that a scope knows, and those that its names
+-- mean.
 use Rattle.std.specs.Prelude.{◌≡◌, ℕ, true, false, List, [], ◌∷◌, ◌++◌, map, nat_eq}
 use Rattle.std.specs.List.{AllByRecursion, list_any}
 use Rattle.std.specs.Map.{lookup}
@@ -100,7 +101,8 @@ module _ (types : Types) where
 
 -- ---- scopes
 
--- The types that a scope knows are those, and further types of the module. They stand in order, and its names mean such types.
+-- The types that a scope knows are those, and further types of the module. They stand in order, and
+-- its names mean such types.
 pub record ScopeOrdered {T : Type 0} (base : Types) (s : Scope T) : Type 0 where
   pub started : StartedFrom base s.types
   pub types : AreOrdered s.types
@@ -121,50 +123,73 @@ MadeOrdered base st = Holds (λ t. ScopeOrdered base st.0 × (is_known st.0.type
 
 -- a type expression leads from such a scope to such a scope
 abbrev pub TypesAreOrdered : Gathers → Type 0
-TypesAreOrdered g = (base : Types) (s : Scope g.Reported) → ScopeOrdered base s → (t : TypeExpr) → MadeOrdered base (type_of g t s)
+TypesAreOrdered g =
+    (base : Types) (s : Scope g.Reported) → ScopeOrdered base s → (t : TypeExpr)
+    → MadeOrdered base (type_of g t s)
 
 -- and so does a declaration of a definition,
 abbrev pub DefsAreOrdered : Gathers → Type 0
-DefsAreOrdered g = (base : Types) (st : State (Unit {0}) g.Reported) → StateOrdered base st → (d : Def) → StateOrdered base (with_def g st d)
+DefsAreOrdered g =
+    (base : Types) (st : State (Unit {0}) g.Reported) → StateOrdered base st → (d : Def)
+    → StateOrdered base (with_def g st d)
 
 -- and one of a block
 abbrev pub DeclsAreOrdered : Gathers → Type 0
-DeclsAreOrdered g = (base : Types) (ends : List ℕ) (c : Course g.Reported) → StateOrdered base (c.0, c.1) → (d : Decl)
-    → StateOrdered base (let n = with_decl g ends c d in (n.0, n.1))
+DeclsAreOrdered g =
+    (base : Types) (ends : List ℕ) (c : Course g.Reported) → StateOrdered base (c.0, c.1)
+    → (d : Decl) → StateOrdered base (let n = with_decl g ends c d in (n.0, n.1))
 
 -- the imports and the declarations of a definition,
 abbrev pub DefinitionsAreOrdered : Gathers → Type 0
-DefinitionsAreOrdered g = (base : Types) (m : Module) (modules : List (List ℕ × ℕ)) (s : Scope g.Reported) → ScopeOrdered base s → (ds : List Def)
-    → StateOrdered base (declared_in g m modules s ds)
+DefinitionsAreOrdered g =
+    (base : Types) (m : Module) (modules : List (List ℕ × ℕ)) (s : Scope g.Reported)
+    → ScopeOrdered base s → (ds : List Def) → StateOrdered base (declared_in g m modules s ds)
 
 -- the declarations of a block,
 abbrev pub BlocksAreOrdered : Gathers → Type 0
-BlocksAreOrdered g = (base : Types) (ends : List ℕ) (st : State (Unit {0}) g.Reported) (first : ℕ) → StateOrdered base st → (ds : List Decl)
+BlocksAreOrdered g =
+    (base : Types) (ends : List ℕ) (st : State (Unit {0}) g.Reported) (first : ℕ)
+    → StateOrdered base st
+    → (ds : List Decl)
     → StateOrdered base (let d = declared_block g ends st first ds in (d.0, d.1))
 
 -- and those of a module, behind its imports
 abbrev pub ModulesAreOrdered : Gathers → Type 0
-ModulesAreOrdered g = (base : Types) (modules : List (List ℕ × ℕ)) (ends : List ℕ) (s : Scope g.Reported) (m : Module) → ScopeOrdered base s → (ds : List Decl)
+ModulesAreOrdered g =
+    (base : Types) (modules : List (List ℕ × ℕ)) (ends : List ℕ) (s : Scope g.Reported) (m : Module)
+    → ScopeOrdered base s
+    → (ds : List Decl)
     → StateOrdered base (let d = declared_module g modules ends s m ds in (d.0, d.1))
 
 -- the way into a procedure,
 abbrev pub EnteredAreOrdered : Gathers → Type 0
-EnteredAreOrdered g = (base : Types) (s : Scope g.Reported) (seen : ℕ) (h : Heading) → ScopeOrdered base s → ScopeOrdered base (entered_procedure g s seen h).0
+EnteredAreOrdered g =
+    (base : Types) (s : Scope g.Reported) (seen : ℕ) (h : Heading) → ScopeOrdered base s
+    → ScopeOrdered base (entered_procedure g s seen h).0
 
 -- and the way back
 abbrev pub LeftAreOrdered : Gathers → Type 0
-LeftAreOrdered g = (base : Types) (o : Outside) (s : Scope g.Reported) → ScopeOrdered base s → ScopeOrdered base (left_procedure o s)
+LeftAreOrdered g =
+    (base : Types) (o : Outside) (s : Scope g.Reported) → ScopeOrdered base s
+    → ScopeOrdered base (left_procedure o s)
 
 -- ---- where a module begins, and what it exports
 
 abbrev pub first_types : ℕ → List Table → Types
 first_types home tables = record { home = home; own = []; others = others_of tables }
 
--- a module begins in such a scope, if the types that its tables reach stand in order, and their names mean such types
+-- a module begins in such a scope, if the types that its tables reach stand in order, and their
+-- names mean such types
 abbrev pub FirstAreOrdered : Gathers → Type 0
-FirstAreOrdered g = (home : ℕ) (tables : List Table) → OthersOrdered [] (others_of tables) → BeginsWith [] (lookup (nat_eq home) (others_of tables)) → TablesOrdered (first_types home tables) tables
+FirstAreOrdered g =
+    (home : ℕ) (tables : List Table)
+    → OthersOrdered [] (others_of tables)
+    → BeginsWith [] (lookup (nat_eq home) (others_of tables))
+    → TablesOrdered (first_types home tables) tables
     → ScopeOrdered (first_types home tables) (first_scope {T = g.Reported} home tables)
 
 -- the types that it exports are known
 abbrev pub ExportsAreOrdered : Gathers → Type 0
-ExportsAreOrdered g = (base : Types) (s : Scope g.Reported) → ScopeOrdered base s → ExportsOrdered s.types (exports s.own)
+ExportsAreOrdered g =
+    (base : Types) (s : Scope g.Reported) → ScopeOrdered base s
+    → ExportsOrdered s.types (exports s.own)

@@ -1,4 +1,5 @@
--- What the checker makes has ranges of the language: constants are numbers of their types, and types have such ranges.
+-- What the checker makes has ranges of the language: constants are numbers of their types, and
+-- types have such ranges.
 use Rattle.std.specs.Prelude.{◌≡◌, ℕ, ℤ, ◌≤ℤ◌, pos, negsuc, Bool, true, false, ◌&&◌, int_le, List, [], ◌∷◌, Option, Some, None}
 use Rattle.std.specs.List.{list_all}
 use Rattle.m2_tree.specs.declared.expr.Expr.{Expr, Expr-F, fold-Expr}
@@ -54,7 +55,8 @@ use Rattle.check_block.specs.Inner.{entered_procedure, left_procedure}
 use Rattle.law_well_formed.specs.Formed.{Holds}
 use Rattle.law_modules.specs.Ranges.{AreRangedFrom, OthersRanged, AreRanged}
 
--- ---- trees: numbers and characters are as the scanner gives them, and an enumeration has a constant
+-- ---- trees: numbers and characters are as the scanner gives them, and an enumeration has a
+-- constant
 
 abbrev pub fits_letter : Option ℕ → Bool
 fits_letter None = true
@@ -219,7 +221,8 @@ module _ (types : Types) where
   TablesRanged [] = Unit {0}
   TablesRanged (t ∷ ts) = ExportsRanged t.exported × TablesRanged ts
 
--- The types that a scope knows have ranges of the language, and its constants are numbers of their types.
+-- The types that a scope knows have ranges of the language, and its constants are numbers of their
+-- types.
 pub record ScopeRanged {T : Type 0} (s : Scope T) : Type 0 where
   pub types : AreRanged s.types
   pub own : AllBased s.types s.types.own
@@ -236,54 +239,78 @@ StateRanged st = Holds (λ x. ScopeRanged st.0) st.1
 
 -- a constant expression means a number of its type
 abbrev pub ConstantsAreRanged : Gathers → Type 0
-ConstantsAreRanged g = (s : Scope g.Reported) → ScopeRanged s → (e : Expr) → fits e ≡ true → Holds (ValueRanged s.types) (constant g s (part g e))
+ConstantsAreRanged g =
+    (s : Scope g.Reported) → ScopeRanged s → (e : Expr) → fits e ≡ true
+    → Holds (ValueRanged s.types) (constant g s (part g e))
 
 -- a type expression leads from such a scope to such a scope
 abbrev pub TypesAreRanged : Gathers → Type 0
-TypesAreRanged g = (s : Scope g.Reported) → ScopeRanged s → (t : TypeExpr) → fits_type t ≡ true → StateRanged (type_of g t s)
+TypesAreRanged g =
+    (s : Scope g.Reported) → ScopeRanged s → (t : TypeExpr) → fits_type t ≡ true
+    → StateRanged (type_of g t s)
 
 -- and so does a declaration of a definition,
 abbrev pub DefsAreRanged : Gathers → Type 0
-DefsAreRanged g = (st : State (Unit {0}) g.Reported) → StateRanged st → (d : Def) → fits_def d ≡ true → StateRanged (with_def g st d)
+DefsAreRanged g =
+    (st : State (Unit {0}) g.Reported) → StateRanged st → (d : Def) → fits_def d ≡ true
+    → StateRanged (with_def g st d)
 
 -- and one of a block
 abbrev pub DeclsAreRanged : Gathers → Type 0
-DeclsAreRanged g = (ends : List ℕ) (c : Course g.Reported) → StateRanged (c.0, c.1) → (d : Decl) → fits_decl d ≡ true
-    → StateRanged (let n = with_decl g ends c d in (n.0, n.1))
+DeclsAreRanged g =
+    (ends : List ℕ) (c : Course g.Reported) → StateRanged (c.0, c.1) → (d : Decl)
+    → fits_decl d ≡ true → StateRanged (let n = with_decl g ends c d in (n.0, n.1))
 
 -- ---- whole blocks
 
 -- the imports and the declarations of a definition
 abbrev pub DefinitionsAreRanged : Gathers → Type 0
-DefinitionsAreRanged g = (m : Module) (modules : List (List ℕ × ℕ)) (s : Scope g.Reported) → ScopeRanged s → (ds : List Def) → list_all fits_def ds ≡ true
-    → StateRanged (declared_in g m modules s ds)
+DefinitionsAreRanged g =
+    (m : Module) (modules : List (List ℕ × ℕ)) (s : Scope g.Reported) → ScopeRanged s
+    → (ds : List Def) → list_all fits_def ds ≡ true → StateRanged (declared_in g m modules s ds)
 
 -- the declarations of a block,
 abbrev pub BlocksAreRanged : Gathers → Type 0
-BlocksAreRanged g = (ends : List ℕ) (st : State (Unit {0}) g.Reported) (first : ℕ) → StateRanged st → (ds : List Decl) → list_all fits_decl ds ≡ true
+BlocksAreRanged g =
+    (ends : List ℕ) (st : State (Unit {0}) g.Reported) (first : ℕ)
+    → StateRanged st
+    → (ds : List Decl)
+    → list_all fits_decl ds ≡ true
     → StateRanged (let d = declared_block g ends st first ds in (d.0, d.1))
 
 -- and those of a module, behind its imports
 abbrev pub ModulesAreRanged : Gathers → Type 0
-ModulesAreRanged g = (modules : List (List ℕ × ℕ)) (ends : List ℕ) (s : Scope g.Reported) (m : Module) → ScopeRanged s → (ds : List Decl) → list_all fits_decl ds ≡ true
+ModulesAreRanged g =
+    (modules : List (List ℕ × ℕ)) (ends : List ℕ) (s : Scope g.Reported) (m : Module)
+    → ScopeRanged s
+    → (ds : List Decl)
+    → list_all fits_decl ds ≡ true
     → StateRanged (let d = declared_module g modules ends s m ds in (d.0, d.1))
 
 -- the way into a procedure,
 abbrev pub EnteredAreRanged : Gathers → Type 0
-EnteredAreRanged g = (s : Scope g.Reported) (seen : ℕ) (h : Heading) → ScopeRanged s → ScopeRanged (entered_procedure g s seen h).0
+EnteredAreRanged g =
+    (s : Scope g.Reported) (seen : ℕ) (h : Heading) → ScopeRanged s
+    → ScopeRanged (entered_procedure g s seen h).0
 
 -- and the way back
 abbrev pub LeftAreRanged : Gathers → Type 0
-LeftAreRanged g = (o : Outside) (s : Scope g.Reported) → ScopeRanged s → ScopeRanged (left_procedure o s)
+LeftAreRanged g =
+    (o : Outside) (s : Scope g.Reported) → ScopeRanged s → ScopeRanged (left_procedure o s)
 
 -- ---- where a module begins, and what it exports
 
 abbrev pub first_types : ℕ → List Table → Types
 first_types home tables = record { home = home; own = []; others = others_of tables }
 
--- a module begins in such a scope, if the types that its tables reach have such ranges, and their constants are such numbers
+-- a module begins in such a scope, if the types that its tables reach have such ranges, and their
+-- constants are such numbers
 abbrev pub FirstAreRanged : Gathers → Type 0
-FirstAreRanged g = (home : ℕ) (tables : List Table) → OthersRanged (others_of tables) → OthersBased (first_types home tables) (others_of tables) → TablesRanged (first_types home tables) tables
+FirstAreRanged g =
+    (home : ℕ) (tables : List Table)
+    → OthersRanged (others_of tables)
+    → OthersBased (first_types home tables) (others_of tables)
+    → TablesRanged (first_types home tables) tables
     → ScopeRanged (first_scope {T = g.Reported} home tables)
 
 -- the constants that it exports are such numbers
@@ -298,6 +325,9 @@ abbrev pub TablesReach : List Table → Type 0
 TablesReach [] = Unit {0}
 TablesReach (t ∷ ts) = ReachedRanged t.reached × TablesReach ts
 
--- the types that a table reaches have such ranges, and so have those that a module knows of its tables
+-- the types that a table reaches have such ranges, and so have those that a module knows of its
+-- tables
 abbrev pub ReachedAreRanged : Type 0
-ReachedAreRanged = ((types : Types) → AreRanged types → ReachedRanged (reached_of types)) × ((ts : List Table) → TablesReach ts → OthersRanged (others_of ts))
+ReachedAreRanged =
+    ((types : Types) → AreRanged types → ReachedRanged (reached_of types))
+    × ((ts : List Table) → TablesReach ts → OthersRanged (others_of ts))

@@ -1,4 +1,5 @@
--- Scopes whose names mean what is there, and declarations that lead from such a scope to such a scope.
+-- Scopes whose names mean what is there, and declarations that lead from such a scope to such a
+-- scope.
 use Rattle.std.specs.Prelude.{◌≡◌, ℕ, Bool, true, false, List, [], ◌∷◌, Option, Some, None, Result, Ok, slice_get}
 use Rattle.m2_tree.specs.declared.name.Ident.{Ident}
 use Rattle.m2_tree.specs.declared.decl.Decl.{Decl, Decl-F, out-Decl}
@@ -86,7 +87,8 @@ module _ (m : TypedModule) (opens : ℕ → Bool) where
 
   -- ---- what a declaration keeps
 
-  -- Types, procedures and headings stay, no procedure comes to be awaited, and formed names lead to formed names.
+  -- Types, procedures and headings stay, no procedure comes to be awaited, and formed names lead to
+  -- formed names.
   pub record Leads {T : Type 0} (s s' : Scope T) : Type 0 where
     pub tables : s'.tables ≡ s.tables
     pub outer : s'.outer ≡ s.outer
@@ -121,5 +123,6 @@ module _ (m : TypedModule) (opens : ℕ → Bool) where
 
 -- a declaration of a block leads from its scope to the one behind it
 abbrev pub DeclarationsLead : Gathers → Type 0
-DeclarationsLead g = (m : TypedModule) (opens : ℕ → Bool) (ends : List ℕ) (c : Course g.Reported) (d : Decl)
+DeclarationsLead g =
+    (m : TypedModule) (opens : ℕ → Bool) (ends : List ℕ) (c : Course g.Reported) (d : Decl)
     → HeadsAre m opens g c (out-Decl d) → Leads m opens c.0 (with_decl g ends c d).0

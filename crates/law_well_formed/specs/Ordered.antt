@@ -43,17 +43,22 @@ AreKnown types ts = AllByRecursion (λ t. is_known types t ≡ true) ts
 
 -- ---- types in order
 
--- Behind these types of a module, each further one names only types that stand before it: in the module, or in the others.
-abbrev pub AreOrderedFrom : (others : List (ℕ × List Made)) → (home : ℕ) → (before : List Made) → List Made → Type 0
+-- Behind these types of a module, each further one names only types that stand before it: in the
+-- module, or in the others.
+abbrev pub AreOrderedFrom : (others : List (ℕ × List Made)) → (home : ℕ) → (before : List Made)
+    → List Made → Type 0
 AreOrderedFrom others home before [] = Unit {0}
 AreOrderedFrom others home before (m ∷ ms) =
-    AreKnown (record { home = home; own = before; others = others }) (named_by m.shape) × AreOrderedFrom others home (before ++ m ∷ []) ms
+    AreKnown (record { home = home; own = before; others = others }) (named_by m.shape)
+    × AreOrderedFrom others home (before ++ m ∷ []) ms
 
--- Behind these modules each further one has a number of its own, and its types name those that stand before.
+-- Behind these modules each further one has a number of its own, and its types name those that
+-- stand before.
 abbrev pub OthersOrdered : (before : List (ℕ × List Made)) → List (ℕ × List Made) → Type 0
 OthersOrdered before [] = Unit {0}
 OthersOrdered before (e ∷ es) =
-    (lookup (nat_eq e.0) before ≡ None) × (AreOrderedFrom before e.0 [] e.1 × OthersOrdered (before ++ e ∷ []) es)
+    (lookup (nat_eq e.0) before ≡ None)
+    × (AreOrderedFrom before e.0 [] e.1 × OthersOrdered (before ++ e ∷ []) es)
 
 -- the types of an implementation begin with those that others know of its definition
 abbrev pub BeginsWith : (own : List Made) → Option (List Made) → Type 0
@@ -70,9 +75,12 @@ pub record AreOrdered (types : Types) : Type 0 where
 
 -- The tree of a type that is made is by its shape, from the trees of all types that are known.
 abbrev pub TreesAreByShape : Type 0
-TreesAreByShape = (types : Types) → AreOrdered types → (t : TypeNo) (m : Made) → made_at types t ≡ Some m
+TreesAreByShape =
+    (types : Types) → AreOrdered types → (t : TypeNo) (m : Made) → made_at types t ≡ Some m
     → tree types t ≡ shape_tree types (known_trees types) t m.shape
 
 -- The types that a type names are known.
 abbrev pub NamedAreKnown : Type 0
-NamedAreKnown = (types : Types) → AreOrdered types → (t : TypeNo) (m : Made) → made_at types t ≡ Some m → AreKnown types (named_by m.shape)
+NamedAreKnown =
+    (types : Types) → AreOrdered types → (t : TypeNo) (m : Made) → made_at types t ≡ Some m
+    → AreKnown types (named_by m.shape)

@@ -27,7 +27,8 @@ begun_from d rs = record { scope = d.0; so_far = d.1; bodies = rs }
 abbrev pub Checked : Type 0 → Type 0
 Checked T = Walk T × Result (List TypedStmt) T
 
--- the body of a procedure in a declaration, if it is one: in which procedure it stands, and how many names of the block stand before it
+-- the body of a procedure in a declaration, if it is one: in which procedure it stands, and how
+-- many names of the block stand before it
 abbrev pub Checks : Type 0 → Type 0
 Checks T = (around : Option Which) → (seen : ℕ) → Walk T → Walk T
 
@@ -65,18 +66,23 @@ module _ {T X : Type 0} (checks : X → (seen : ℕ) → Walk T → Walk T) (see
 
 -- ---- a block
 
--- the walk behind the declarations of a procedure's block, and how many names stand before each; its procedures are
--- numbered behind those whose headings were met
-abbrev pub begun_block : (g : Gathers) → (ends : List ℕ) → Walk g.Reported → List Decl → Walk g.Reported × List ℕ
-begun_block g ends w ds = let d = declared_block g ends (w.scope, w.so_far) (length w.bodies.locals) ds in (begun_from d w.bodies, d.2)
+-- the walk behind the declarations of a procedure's block, and how many names stand before each;
+-- its procedures are numbered behind those whose headings were met
+abbrev pub begun_block : (g : Gathers) → (ends : List ℕ) → Walk g.Reported → List Decl
+    → Walk g.Reported × List ℕ
+begun_block g ends w ds =
+    let d = declared_block g ends (w.scope, w.so_far) (length w.bodies.locals) ds in
+    (begun_from d w.bodies, d.2)
 
 -- behind its declarations the bodies in it, and then its own
 module _ {T : Type 0} (elaborates : Elaborates T) where
   abbrev pub with_statements : Option (Result TypeNo T) → Option (List Stmt) → Walk T → Checked T
   with_statements returns body w = (w, statements_of elaborates w.scope returns body)
 
-  abbrev pub block_from : {X : Type 0} → (checks : X → Checks T) → (around : Option Which) → Option (Result TypeNo T) → Declared T → List X → Option (List Stmt) → Bodies → Checked T
-  block_from checks around returns d xs body rs = with_statements returns body (with_bodies (λ x. checks x around) d.2 (begun_from d rs) xs)
+  abbrev pub block_from : {X : Type 0} → (checks : X → Checks T) → (around : Option Which)
+      → Option (Result TypeNo T) → Declared T → List X → Option (List Stmt) → Bodies → Checked T
+  block_from checks around returns d xs body rs =
+      with_statements returns body (with_bodies (λ x. checks x around) d.2 (begun_from d rs) xs)
 
 -- ---- procedures
 
@@ -93,11 +99,17 @@ module _ (g : Gathers) (elaborates : Elaborates g.Reported) (ends : List ℕ) wh
   checks_layer (layer.Procedure h block) around seen w = procedure_checked h block around seen w
 
   abbrev pub steps_layer : Decl-F (Steps g.Reported) (ChecksBlock g.Reported) → Steps g.Reported
-  steps_layer x = record { marks = λ s. marked_layer s x; declares = λ c. decl_layer g ends c x; checks = checks_layer x }
+  steps_layer x = record {
+    marks = λ s. marked_layer s x;
+    declares = λ c. decl_layer g ends c x;
+    checks = checks_layer x;
+  }
 
-  abbrev pub block_layer : Block-F (Steps g.Reported) (ChecksBlock g.Reported) → ChecksBlock g.Reported
+  abbrev pub block_layer : Block-F (Steps g.Reported) (ChecksBlock g.Reported)
+      → ChecksBlock g.Reported
   block_layer b around returns w =
-      let d = all_declared marked_by declared_by (w.scope, w.so_far) (length w.bodies.locals) b.decls in
+      let d =
+      all_declared marked_by declared_by (w.scope, w.so_far) (length w.bodies.locals) b.decls in
       block_from elaborates checked_by around returns d b.decls b.body w.bodies
 
   unfoldable pub steps : Decl → Steps g.Reported
@@ -111,5 +123,6 @@ module _ (g : Gathers) (elaborates : Elaborates g.Reported) (ends : List ℕ) wh
   abbrev pub checks_decl : Decl → Checks g.Reported
   checks_decl d = (steps d).checks
 
-  abbrev pub bodies_checked : (around : Option Which) → (seen : List ℕ) → Walk g.Reported → List Decl → Walk g.Reported
+  abbrev pub bodies_checked : (around : Option Which) → (seen : List ℕ) → Walk g.Reported
+      → List Decl → Walk g.Reported
   bodies_checked around seen w ds = with_bodies (λ d. checks_decl d around) seen w ds

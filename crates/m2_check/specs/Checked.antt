@@ -21,38 +21,51 @@ use Rattle.m2_check.specs.Elaborating.{Elaborates}
 use Rattle.m2_check.specs.Bodies.{Checked, begun_from, with_statements, bodies_checked}
 
 -- the module where no rule is broken, in its declarations, in its procedures or in its statements
-abbrev pub module_or : (g : Gathers) → (modules : List (List ℕ × ℕ)) → Option Table → Module → Checked g.Reported → Result TypedModule g.Reported
-module_or g modules own m c = both g c.0.so_far c.1 ▷ λ p. Ok (typed_module c.0.scope modules own m c.0.bodies p.1)
+abbrev pub module_or : (g : Gathers) → (modules : List (List ℕ × ℕ)) → Option Table → Module
+    → Checked g.Reported → Result TypedModule g.Reported
+module_or g modules own m c =
+    both g c.0.so_far c.1 ▷ λ p. Ok (typed_module c.0.scope modules own m c.0.bodies p.1)
 
 -- the walk behind the declarations of a module, and how many names stand before each
-abbrev pub begun_module : (g : Gathers) → (modules : List (List ℕ × ℕ)) → (ends : List ℕ) → Scope g.Reported → Module → List Decl → Walk g.Reported × List ℕ
-begun_module g modules ends s m ds = let d = declared_module g modules ends s m ds in (begun_from d (no_bodies d.0.procedures), d.2)
+abbrev pub begun_module : (g : Gathers) → (modules : List (List ℕ × ℕ)) → (ends : List ℕ)
+    → Scope g.Reported → Module → List Decl → Walk g.Reported × List ℕ
+begun_module g modules ends s m ds =
+    let d = declared_module g modules ends s m ds in (begun_from d (no_bodies d.0.procedures), d.2)
 
 module _ (g : Gathers) (elaborates : Elaborates g.Reported) where
   -- behind its declarations the bodies of its procedures, and then its own
-  abbrev pub walked : (modules : List (List ℕ × ℕ)) → (ends : List ℕ) → Scope g.Reported → Module → Block → Checked g.Reported
+  abbrev pub walked : (modules : List (List ℕ × ℕ)) → (ends : List ℕ) → Scope g.Reported → Module
+      → Block → Checked g.Reported
   walked modules ends s m b =
       let w = begun_module g modules ends s m (out-Block b).decls in
-      with_statements elaborates None (out-Block b).body (bodies_checked g elaborates ends None w.1 w.0 (out-Block b).decls)
+      with_statements elaborates None (out-Block b).body
+      (bodies_checked g elaborates ends None w.1 w.0 (out-Block b).decls)
 
-  abbrev pub of_walk : (modules : List (List ℕ × ℕ)) → Scope g.Reported → Option Table → Module → Block → Result TypedModule g.Reported
-  of_walk modules s own m b = module_or g modules own m (walked modules (procedure_ends (out-Block b).decls) s m b)
+  abbrev pub of_walk : (modules : List (List ℕ × ℕ)) → Scope g.Reported → Option Table → Module
+      → Block → Result TypedModule g.Reported
+  of_walk modules s own m b =
+      module_or g modules own m (walked modules (procedure_ends (out-Block b).decls) s m b)
 
   -- from the scope where it begins
-  abbrev pub of_body : Scope g.Reported → Option Table → Module → Block → Result TypedModule g.Reported
+  abbrev pub of_body : Scope g.Reported → Option Table → Module → Block
+      → Result TypedModule g.Reported
   of_body s own m b = of_walk (numbered_modules s.tables).0 s own m b
 
   -- an implementation stands on the table of its definition
-  abbrev pub of_implementation : Module → Option Table → List Table → Block → Result TypedModule g.Reported
+  abbrev pub of_implementation : Module → Option Table → List Table → Block
+      → Result TypedModule g.Reported
   of_implementation m None tables b = reported g m.name.pos rule.LonelyModule
   of_implementation m (Some own) tables b = of_body (implementation_scope own tables) (Some own) m b
 
-  abbrev pub of_contents : ℕ → Module → Option Table → List Table → Contents → Result TypedModule g.Reported
-  of_contents number m own tables (contents.Definition defs) = reported g m.name.pos rule.LonelyModule
+  abbrev pub of_contents : ℕ → Module → Option Table → List Table → Contents
+      → Result TypedModule g.Reported
+  of_contents number m own tables (contents.Definition defs) =
+      reported g m.name.pos rule.LonelyModule
   of_contents number m own tables (contents.Implementation b) = of_implementation m own tables b
-  of_contents number m own tables (contents.Program b) = of_body (first_scope number tables) None m b
+  of_contents number m own tables (contents.Program b) =
+      of_body (first_scope number tables) None m b
 
-  -- The module of a body, given the table of its own definition, if it has one, and the tables of those that it imports;
-  -- the table of Console is always there.
+  -- The module of a body, given the table of its own definition, if it has one, and the tables of
+  -- those that it imports; the table of Console is always there.
   abbrev pub checked : ℕ → Module → Option Table → List Table → Result TypedModule g.Reported
   checked number m own imports = of_contents number m own (imports ++ console ∷ []) m.contents

@@ -12,6 +12,8 @@ use Rattle.check_stmt.specs.Statements.{statements}
 abbrev pub elaborated : (g : Gathers) → Elaborates g.Reported
 elaborated g s returns body = statements g s (record { gives = returns; in_loop = false }) body
 
--- The module of a body, given the table of its own definition, if it has one, and the tables of those that it imports.
-abbrev pub checked : (g : Gathers) → ℕ → Module → Option Table → List Table → Result TypedModule g.Reported
+-- The module of a body, given the table of its own definition, if it has one, and the tables of
+-- those that it imports.
+abbrev pub checked : (g : Gathers) → ℕ → Module → Option Table → List Table
+    → Result TypedModule g.Reported
 checked g number m own imports = bodies.checked g (elaborated g) number m own imports

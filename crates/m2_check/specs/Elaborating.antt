@@ -10,6 +10,7 @@ abbrev pub Elaborates : Type 0 → Type 0
 Elaborates T = Scope T → Option (Result TypeNo T) → List Stmt → Result (List TypedStmt) T
 
 -- the statements behind the BEGIN, if there is one
-abbrev pub statements_of : {T : Type 0} → Elaborates T → Scope T → Option (Result TypeNo T) → Option (List Stmt) → Result (List TypedStmt) T
+abbrev pub statements_of : {T : Type 0} → Elaborates T → Scope T → Option (Result TypeNo T)
+    → Option (List Stmt) → Result (List TypedStmt) T
 statements_of elaborates s returns None = Ok []
 statements_of elaborates s returns (Some xs) = elaborates s returns xs

@@ -27,15 +27,23 @@ abbrev pub which_of : Option Numbered → Option Which
 which_of None = None
 which_of (Some p) = Some p.which
 
-abbrev pub begun_as : {T : Type 0} → Walk T → Option Numbered → State (Option TypeNo) T → Walk T × Begun T
+abbrev pub begun_as : {T : Type 0} → Walk T → Option Numbered → State (Option TypeNo) T
+    → Walk T × Begun T
 begun_as w p e = (
   record { scope = e.0; so_far = w.so_far; bodies = begun_at w.scope.level w.bodies },
-  record { outside = outside w.scope; procedure = p; formals = length e.0.variables; returns = returns_of e.1 },
+  record {
+    outside = outside w.scope;
+    procedure = p;
+    formals = length e.0.variables;
+    returns = returns_of e.1;
+  },
 )
 
 -- the walk where a procedure's block begins, and what is kept of the procedure up to its end
-abbrev pub begun_procedure : (g : Gathers) → Walk g.Reported → (seen : ℕ) → Heading → Walk g.Reported × Begun g.Reported
-begun_procedure g w seen h = begun_as w (procedure_named w.scope h.name) (entered_procedure g w.scope seen h)
+abbrev pub begun_procedure : (g : Gathers) → Walk g.Reported → (seen : ℕ) → Heading
+    → Walk g.Reported × Begun g.Reported
+begun_procedure g w seen h =
+    begun_as w (procedure_named w.scope h.name) (entered_procedure g w.scope seen h)
 
 -- ---- outwards
 
@@ -43,13 +51,15 @@ abbrev pub reported_in : {T : Type 0} → Result (List TypedStmt) T → Result (
 reported_in body = body ▷ λ xs. Ok tt
 
 -- a procedure has its body where it has a number, and no rule is broken in its statements
-abbrev pub with_routine : {T : Type 0} → Scope T → Ident → (around : Option Which) → (formals : ℕ) → Option Numbered → Result (List TypedStmt) T → Bodies → Bodies
+abbrev pub with_routine : {T : Type 0} → Scope T → Ident → (around : Option Which) → (formals : ℕ)
+    → Option Numbered → Result (List TypedStmt) T → Bodies → Bodies
 with_routine s name around n None body rs = rs
 with_routine s name around n (Some p) (Ok xs) rs = filled rs p.which (routine s name p around n xs)
 with_routine s name around n (Some p) (Err e) rs = rs
 
 -- behind the END of a procedure; what its statements reported counts now
-abbrev pub ended_procedure : (g : Gathers) → Ident → (around : Option Which) → Begun g.Reported → Walk g.Reported × Result (List TypedStmt) g.Reported → Walk g.Reported
+abbrev pub ended_procedure : (g : Gathers) → Ident → (around : Option Which) → Begun g.Reported
+    → Walk g.Reported × Result (List TypedStmt) g.Reported → Walk g.Reported
 ended_procedure g name around b e = record {
   scope = left_procedure b.outside e.0.scope;
   so_far = beside g e.0.so_far (reported_in e.1);

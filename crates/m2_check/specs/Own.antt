@@ -19,7 +19,8 @@ use Rattle.m2_types.specs.Predeclared.{with_table, first_scope}
 
 -- ---- names: all that the definition declares
 
-abbrev pub with_own_name : {T : Type 0} → List (List ℕ × Known T) → List ℕ × Meaning → List (List ℕ × Known T)
+abbrev pub with_own_name : {T : Type 0} → List (List ℕ × Known T) → List ℕ × Meaning
+    → List (List ℕ × Known T)
 with_own_name ns e = entered e.0 (Declared Here (Ok e.1)) ns
 
 abbrev pub own_names : {T : Type 0} → List (List ℕ × Meaning) → List (List ℕ × Known T)
@@ -93,7 +94,8 @@ own_types own = map made_copy (types_made_in own.number own.reached)
 
 -- the types of the definition come first among the module's own
 abbrev pub with_own_types : Types → Table → Types
-with_own_types types own = record { home = types.home; own = own_types own; others = with_table types.others own }
+with_own_types types own =
+    record { home = types.home; own = own_types own; others = with_table types.others own }
 
 -- ---- where an implementation module begins
 

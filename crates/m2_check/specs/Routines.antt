@@ -25,8 +25,10 @@ use Rattle.m2_check.specs.Imports.{all_imports, typed_imports}
 -- ---- which procedure a heading of the block begins
 
 abbrev pub numbered_by : Meaning → Option Numbered
-numbered_by (meaning.Procedure p) = Some (record { which = which.Module p.number; heading = p.heading })
-numbered_by (meaning.LocalProcedure p) = Some (record { which = which.Local p.number; heading = p.heading })
+numbered_by (meaning.Procedure p) =
+    Some (record { which = which.Module p.number; heading = p.heading })
+numbered_by (meaning.LocalProcedure p) =
+    Some (record { which = which.Local p.number; heading = p.heading })
 numbered_by (meaning.Constant v) = None
 numbered_by (meaning.Type t n) = None
 numbered_by (meaning.Variable v) = None
@@ -55,7 +57,14 @@ procedure_named s name = numbered_known (found name.name s.own)
 
 -- the place of a procedure whose body is not checked yet
 abbrev pub unfilled : TypeNo → Routine
-unfilled heading = record { pos = record { line = 1; col = 1 }; heading = heading; level = 1; around = None; variables = []; body = [] }
+unfilled heading = record {
+  pos = record { line = 1; col = 1 };
+  heading = heading;
+  level = 1;
+  around = None;
+  variables = [];
+  body = [];
+}
 
 -- where a module's block is declared
 abbrev pub no_bodies : List TypeNo → Bodies
@@ -66,20 +75,39 @@ abbrev pub begun_at : (level : ℕ) → Bodies → Bodies
 begun_at level rs = cond (level == 0) rs (record rs { locals = rs.locals ++ unfilled integer ∷ [] })
 
 abbrev pub filled : Bodies → Which → Routine → Bodies
-filled rs (which.Module n) r = record { procedures = slice_set rs.procedures n r; locals = rs.locals; order = rs.order ++ which.Module n ∷ [] }
-filled rs (which.Local n) r = record { procedures = rs.procedures; locals = slice_set rs.locals n r; order = rs.order ++ which.Local n ∷ [] }
+filled rs (which.Module n) r = record {
+  procedures = slice_set rs.procedures n r;
+  locals = rs.locals;
+  order = rs.order ++ which.Module n ∷ [];
+}
+filled rs (which.Local n) r = record {
+  procedures = rs.procedures;
+  locals = slice_set rs.locals n r;
+  order = rs.order ++ which.Local n ∷ [];
+}
 
--- a procedure with its body, from the scope where its body ends; its formals come before its variables
-abbrev pub routine : {T : Type 0} → Scope T → Ident → Numbered → (around : Option Which) → (formals : ℕ) → List TypedStmt → Routine
-routine s name p around formals body =
-    record { pos = name.pos; heading = p.heading; level = s.level; around = around; variables = drop formals s.variables; body = body }
+-- a procedure with its body, from the scope where its body ends; its formals come before its
+-- variables
+abbrev pub routine : {T : Type 0} → Scope T → Ident → Numbered → (around : Option Which)
+    → (formals : ℕ) → List TypedStmt → Routine
+routine s name p around formals body = record {
+  pos = name.pos;
+  heading = p.heading;
+  level = s.level;
+  around = around;
+  variables = drop formals s.variables;
+  body = body;
+}
 
 -- ---- the module
 
-abbrev pub imports_of : {T : Type 0} → Scope T → (modules : List (List ℕ × ℕ)) → Option Table → Module → List Imported
-imports_of s modules own m = typed_imports modules s.tables (all_imports modules s.tables own m.imports)
+abbrev pub imports_of : {T : Type 0} → Scope T → (modules : List (List ℕ × ℕ)) → Option Table
+    → Module → List Imported
+imports_of s modules own m =
+    typed_imports modules s.tables (all_imports modules s.tables own m.imports)
 
-abbrev pub with_scope : {T : Type 0} → (name : List ℕ) → Pos → List Imported → Scope T → Bodies → List TypedStmt → TypedModule
+abbrev pub with_scope : {T : Type 0} → (name : List ℕ) → Pos → List Imported → Scope T → Bodies
+    → List TypedStmt → TypedModule
 with_scope name pos imports s rs body = record {
   name = name;
   pos = pos;
@@ -92,5 +120,7 @@ with_scope name pos imports s rs body = record {
   body = body;
 }
 
-abbrev pub typed_module : {T : Type 0} → Scope T → (modules : List (List ℕ × ℕ)) → Option Table → Module → Bodies → List TypedStmt → TypedModule
-typed_module s modules own m rs body = with_scope m.name.name m.name.pos (imports_of s modules own m) s rs body
+abbrev pub typed_module : {T : Type 0} → Scope T → (modules : List (List ℕ × ℕ)) → Option Table
+    → Module → Bodies → List TypedStmt → TypedModule
+typed_module s modules own m rs body =
+    with_scope m.name.name m.name.pos (imports_of s modules own m) s rs body

@@ -31,5 +31,7 @@ parts xs = map linked xs
 -- what link exports
 abbrev pub link_exports : List Part → List Export
 link_exports ms =
-    exported_as (codes "memory") (exported.Memory 0) ∷ exported_as (codes "table") (exported.Table 0) ∷ exported_as (codes "limit") (exported.Global 0)
-    ∷ (exports_from 1 ms ++ exported_as (codes "run") (exported.Function 0) ∷ [])
+    exported_as (codes "memory") (exported.Memory 0)
+    ∷ exported_as (codes "table") (exported.Table 0)
+    ∷ exported_as (codes "limit") (exported.Global 0) ∷ (exports_from 1 ms
+    ++ exported_as (codes "run") (exported.Function 0) ∷ [])

@@ -17,4 +17,6 @@ stores =
 
 -- the limit of the storage, and where its data, texts and slots begin
 abbrev pub own_globals : List ℕ → List Import
-own_globals m = from_link (codes "limit") ∷ from_link (base_name m) ∷ from_link (text_name m) ∷ from_link (tab_name m) ∷ []
+own_globals m =
+    from_link (codes "limit") ∷ from_link (base_name m) ∷ from_link (text_name m)
+    ∷ from_link (tab_name m) ∷ []

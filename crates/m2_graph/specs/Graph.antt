@@ -14,14 +14,15 @@ use Rattle.m2_graph.specs.Reported.{reported, IsReported}
 -- the body that starts where a walk comes to a module: for a definition its implementation
 abbrev pub body_of : List Module → ℕ → Option Module → Option ℕ
 body_of modules node None = None
-body_of modules node (Some m) = cond (is_definition m) (first_that (implements m.name.name) modules) (Some node)
+body_of modules node (Some m) =
+    cond (is_definition m) (first_that (implements m.name.name) modules) (Some node)
 
 -- the bodies that start where a walk comes to these modules
 abbrev pub bodies_of : List Module → List ℕ → List ℕ
 bodies_of modules nodes = filter_map (λ node. body_of modules node (slice_get modules node)) nodes
 
--- The jobs of files in order: which module each compiles, and what it needs. Modules are numbered in order of their
--- files.
+-- The jobs of files in order: which module each compiles, and what it needs. Modules are numbered
+-- in order of their files.
 pub record IsJobs (ordered : List File) (files : List ℕ) (jobs : List (List ℕ)) : Type 0 where
   pub order : List ℕ
   pub is_order : IsJobOrder (links (trees ordered)) (trees ordered) order
@@ -40,22 +41,27 @@ pub record IsStarts (ordered : List File) (starts : List ℕ) : Type 0 where
   pub is_walk : IsStartOrder (walks (trees ordered)) program walk
   pub started : starts ≡ map (given_of ordered) (bodies_of (trees ordered) walk)
 
--- Nothing is reported of files in order, and these are their jobs and the order in which their bodies start.
-pub record IsGraphOf (ordered : List File) (files : List ℕ) (jobs : List (List ℕ)) (starts : List ℕ) : Type 0 where
+-- Nothing is reported of files in order, and these are their jobs and the order in which their
+-- bodies start.
+pub record IsGraphOf (ordered : List File) (files : List ℕ) (jobs : List (List ℕ)) (starts : List ℕ)
+    : Type 0 where
   pub fine : IsReported ordered []
   pub is_jobs : IsJobs ordered files jobs
   pub is_starts : IsStarts ordered starts
 
 -- The same of files as they are given. Files go by how many were given before them.
 abbrev pub IsGraph : List File → List ℕ → List (List ℕ) → List ℕ → Type 0
-IsGraph given files jobs starts = (ordered : List File) × AreInOrder given ordered × IsGraphOf ordered files jobs starts
+IsGraph given files jobs starts =
+    (ordered : List File) × AreInOrder given ordered × IsGraphOf ordered files jobs starts
 
 -- what is refused in files in order, if memory did not run out
 abbrev pub IsRefusalOf : List File → GraphError → Type 0
-IsRefusalOf ordered (Refused refusals) = IsReported ordered (map reported refusals.items) × ¬ (map reported refusals.items ≡ [])
+IsRefusalOf ordered (Refused refusals) =
+    IsReported ordered (map reported refusals.items) × ¬ (map reported refusals.items ≡ [])
 IsRefusalOf ordered NoMemory = Unit {0}
 
 -- the same of files as they are given
 abbrev pub IsRefusal : List File → GraphError → Type 0
-IsRefusal given (Refused refusals) = (ordered : List File) × AreInOrder given ordered × IsRefusalOf ordered (Refused refusals)
+IsRefusal given (Refused refusals) =
+    (ordered : List File) × AreInOrder given ordered × IsRefusalOf ordered (Refused refusals)
 IsRefusal given NoMemory = Unit {0}

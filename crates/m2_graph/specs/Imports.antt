@@ -52,8 +52,8 @@ first_that test (x ∷ xs) = cond (test x) (Some 0) (option_map suc (first_that 
 abbrev pub definition_of : List Module → List ℕ → Option ℕ
 definition_of modules name = first_that (defines name) modules
 
--- The pairs: for each module, the definitions that it imports, as it imports them. A name without definition, as that
--- of a built in module, makes no pair.
+-- The pairs: for each module, the definitions that it imports, as it imports them. A name without
+-- definition, as that of a built in module, makes no pair.
 abbrev pub links_of : List Module → Module → List ℕ
 links_of modules m = filter_map (λ i. definition_of modules i.name) (imported m)
 
@@ -64,7 +64,8 @@ links modules = map (links_of modules) modules
 
 -- the definition that a body has
 abbrev pub own_definition : List Module → Module → List ℕ
-own_definition modules m = cond (is_definition m) [] (option_to_list (definition_of modules m.name.name))
+own_definition modules m =
+    cond (is_definition m) [] (option_to_list (definition_of modules m.name.name))
 
 -- A definition needs those that it imports, a body its own definition and those that it imports.
 abbrev pub needs_of : List Module → Module → List ℕ
@@ -77,7 +78,8 @@ links_at modules m (Some i) = links_of modules (slice_index_or modules i m)
 
 -- what the implementation of a definition imports
 abbrev pub body_links : List Module → Module → List ℕ
-body_links modules m = cond (is_definition m) (links_at modules m (first_that (implements m.name.name) modules)) []
+body_links modules m =
+    cond (is_definition m) (links_at modules m (first_that (implements m.name.name) modules)) []
 
 -- A walk goes through a definition's imports, and then through those of its implementation.
 abbrev pub walk_of : List Module → Module → List ℕ

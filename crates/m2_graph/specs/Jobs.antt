@@ -25,4 +25,5 @@ ArePlacesBelow n places = (node k : ℕ) → place_of places node ≡ Some k →
 
 -- the prerequisites of each job have smaller numbers, and stand once
 abbrev pub AreJobs : List (List ℕ) → Type 0
-AreJobs jobs = (job p : ℕ) → (has (targets jobs job) p ≡ true → p < job) × (times (targets jobs job) p ≤ 1)
+AreJobs jobs =
+    (job p : ℕ) → (has (targets jobs job) p ≡ true → p < job) × (times (targets jobs job) p ≤ 1)

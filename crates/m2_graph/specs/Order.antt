@@ -14,7 +14,9 @@ body_numbers n (m ∷ ms) = cond (is_definition m) [] (n ∷ []) ++ body_numbers
 
 -- first the definitions, in the order in which they get numbers, and then the bodies
 abbrev pub IsJobOrder : List (List ℕ) → List Module → List ℕ → Type 0
-IsJobOrder links modules order = (definitions : List ℕ) × IsNumbering links (map is_definition modules) definitions × (order ≡ definitions ++ body_numbers 0 modules)
+IsJobOrder links modules order =
+    (definitions : List ℕ) × IsNumbering links (map is_definition modules) definitions
+    × (order ≡ definitions ++ body_numbers 0 modules)
 
 -- for each module, what its job needs
 abbrev pub needs : List Module → List (List ℕ)
@@ -26,4 +28,5 @@ IsJob modules order node job = AreEachOnce job (numbers_of order (targets (needs
 
 -- The same by a table that has the place of each node in the order of the jobs.
 abbrev pub IsJobBy : List Module → List (Option ℕ) → ℕ → List ℕ → Type 0
-IsJobBy modules places node job = AreEachOnce job (filter_map (place_of places) (targets (needs modules) node))
+IsJobBy modules places node job =
+    AreEachOnce job (filter_map (place_of places) (targets (needs modules) node))

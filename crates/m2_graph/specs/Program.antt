@@ -12,7 +12,10 @@ modules_of p = map (λ (m : Bor Module). m.now) p.modules.now
 
 -- each table has for a name the first module that bears it
 pub record IsIndexed (p : Program) : Type 0 where
-  pub definitions : (name : List ℕ) → number_at p.definitions name ≡ first_that (bears Definition name) (modules_of p)
-  pub implementations : (name : List ℕ) → number_at p.implementations name ≡ first_that (bears Implementation name) (modules_of p)
-  pub bodies : (name : List ℕ) → number_at p.bodies name ≡ first_that (bears Body name) (modules_of p)
+  pub definitions : (name : List ℕ)
+      → number_at p.definitions name ≡ first_that (bears Definition name) (modules_of p)
+  pub implementations : (name : List ℕ)
+      → number_at p.implementations name ≡ first_that (bears Implementation name) (modules_of p)
+  pub bodies : (name : List ℕ)
+      → number_at p.bodies name ≡ first_that (bears Body name) (modules_of p)
   pub program : p.program ≡ first_that is_program (modules_of p)

@@ -1,5 +1,5 @@
--- Which files are refused, and where. The modules are in the order of their files: by the files' names, and as given
--- where these are equal.
+-- Which files are refused, and where. The modules are in the order of their files: by the files'
+-- names, and as given where these are equal.
 use Rattle.std.specs.Prelude.{ℕ, Bool, not, ◌&&◌, ◌||◌, ◌==◌, nat_lt, List, [], ◌∷◌, ◌++◌, Option, Some, None, map, cond, codes, fold, length}
 use Rattle.std.specs.List.{filter}
 use Rattle.std.specs.Option.{is_none, is_some}
@@ -24,7 +24,10 @@ first_place = record { line = 1; col = 1 }
 
 -- by place, and then by number
 abbrev pub is_less : Fault → Fault → Bool
-is_less f g = nat_lt f.pos.line g.pos.line || (f.pos.line == g.pos.line && (nat_lt f.pos.col g.pos.col || (f.pos.col == g.pos.col && nat_lt f.number g.number)))
+is_less f g =
+    nat_lt f.pos.line g.pos.line
+    || (f.pos.line == g.pos.line
+    && (nat_lt f.pos.col g.pos.col || (f.pos.col == g.pos.col && nat_lt f.number g.number)))
 
 abbrev pub lesser : Option Fault → Fault → Option Fault
 lesser None g = Some g
@@ -47,14 +50,19 @@ is_built_in name = is_console name || same_name name (codes "link")
 
 -- an import of a module that has no definition, Console apart, or by a body of its own module
 abbrev pub is_bad_import : List Module → Module → List ℕ → Bool
-is_bad_import modules m name = (not (is_console name) && is_none (definition_of modules name)) || (not (is_definition m) && same_name name m.name.name)
+is_bad_import modules m name =
+    (not (is_console name) && is_none (definition_of modules name))
+    || (not (is_definition m) && same_name name m.name.name)
 
 abbrev pub import_faults : List Module → Module → List Ident → List Fault
-import_faults modules m names = map (λ x. fault x.pos rule.MissingModule) (filter (λ x. is_bad_import modules m x.name) names)
+import_faults modules m names =
+    map (λ x. fault x.pos rule.MissingModule) (filter (λ x. is_bad_import modules m x.name) names)
 
 -- two definitions, or two bodies, of one name
 abbrev pub are_one_part : Module → Module → Bool
-are_one_part m other = cond (is_definition m) (is_definition other) (not (is_definition other)) && same_name m.name.name other.name.name
+are_one_part m other =
+    cond (is_definition m) (is_definition other) (not (is_definition other))
+    && same_name m.name.name other.name.name
 
 abbrev pub is_second : List Module → Module → Bool
 is_second before m = any_that (are_one_part m) before
@@ -73,7 +81,9 @@ is_second_program before m = is_program m && any_that is_program before
 
 -- an implementation without definition, or the reverse
 abbrev pub is_lone : List Module → Module → Bool
-is_lone modules m = (is_implementation m && not (any_that (defines m.name.name) modules)) || (is_definition m && not (any_that (implements m.name.name) modules))
+is_lone modules m =
+    (is_implementation m && not (any_that (defines m.name.name) modules))
+    || (is_definition m && not (any_that (implements m.name.name) modules))
 
 abbrev pub max_files : ℕ
 max_files = 1024

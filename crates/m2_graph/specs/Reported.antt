@@ -17,14 +17,17 @@ use Rattle.m2_graph.specs.Files.{File, trees}
 
 -- the definition that this import names is the node, or a chain of pairs leads from it to the node
 abbrev pub LeadsBack : List Module → ℕ → Ident → Type 0
-LeadsBack modules node x = (to : ℕ) × (definition_of modules x.name ≡ Some to) × ((to ≡ node) ⊎ Leads (links modules) to node)
+LeadsBack modules node x =
+    (to : ℕ) × (definition_of modules x.name ≡ Some to)
+    × ((to ≡ node) ⊎ Leads (links modules) to node)
 
 -- marked are the modules from which a chain of pairs leads to the node
 abbrev pub AreLeading : List Module → ℕ → List Bool → Type 0
 AreLeading modules node flags = (k : ℕ) → IsTrue (flag flags k) ↔ Leads (links modules) k node
 
 -- This is the place of the first of these imports that leads back to the node.
-pub record IsBack (modules : List Module) (node : ℕ) (imports : List Ident) (pos : Pos) : Type 0 where
+pub record IsBack (modules : List Module) (node : ℕ) (imports : List Ident) (pos : Pos)
+    : Type 0 where
   pub before : List Ident
   pub back : Ident
   pub after : List Ident
@@ -38,8 +41,8 @@ abbrev pub IsFirstBack : List Module → ℕ → List Ident → Option Pos → T
 IsFirstBack modules node imports None = All (λ x. ¬ LeadsBack modules node x) imports
 IsFirstBack modules node imports (Some pos) = IsBack modules node imports pos
 
--- Of the definitions on cycles this is the first in order, and at this place it has the first import that leads back
--- to it.
+-- Of the definitions on cycles this is the first in order, and at this place it has the first
+-- import that leads back to it.
 pub record IsReportedCycle (modules : List Module) (node : ℕ) (pos : Pos) : Type 0 where
   pub on_cycle : Leads (links modules) node node
   pub first : (other : ℕ) → other < node → ¬ Leads (links modules) other other
@@ -47,7 +50,8 @@ pub record IsReportedCycle (modules : List Module) (node : ℕ) (pos : Pos) : Ty
   pub is_tree : slice_get modules node ≡ Some tree
   pub back : IsBack modules node (imported tree) pos
 
--- what is reported of cycles: nothing where there are none, else a definition, and the place of one of its imports
+-- what is reported of cycles: nothing where there are none, else a definition, and the place of one
+-- of its imports
 abbrev pub AreCycles : List Module → Option (ℕ × Pos) → Type 0
 AreCycles modules None = (node : ℕ) → ¬ Leads (links modules) node node
 AreCycles modules (Some reported) = IsReportedCycle modules reported.0 reported.1
@@ -75,10 +79,12 @@ reported_at file None = []
 reported_at file (Some fault) = reported_of file fault ∷ []
 
 -- for each of these files, which stand behind those modules, the least that is refused in it
-abbrev pub refused_from : List Module → Option (ℕ × Pos) → (before : List Module) → List File → List Reported
+abbrev pub refused_from : List Module → Option (ℕ × Pos) → (before : List Module) → List File
+    → List Reported
 refused_from modules cycle before [] = []
 refused_from modules cycle before (f ∷ fs) =
-    reported_at f.name (least_of (faults_of modules before f.given f.tree ++ cycle_faults cycle (length before)))
+    reported_at f.name
+    (least_of (faults_of modules before f.given f.tree ++ cycle_faults cycle (length before)))
     ++ refused_from modules cycle (before ++ f.tree ∷ []) fs
 
 -- files in order, of which the first is the least; without any file there is no program module
@@ -88,4 +94,5 @@ refused_of (f ∷ fs) cycle = refused_from (trees (f ∷ fs)) cycle [] (f ∷ fs
 
 -- this is reported of files in order
 abbrev pub IsReported : List File → List Reported → Type 0
-IsReported ordered all = (cycle : Option (ℕ × Pos)) × AreCycles (trees ordered) cycle × (all ≡ refused_of ordered cycle)
+IsReported ordered all =
+    (cycle : Option (ℕ × Pos)) × AreCycles (trees ordered) cycle × (all ≡ refused_of ordered cycle)

@@ -32,12 +32,17 @@ formals_of types heading = formals_made (made_at types heading)
 
 -- ---- frames
 
--- an open array is kept as its address and HIGH, a VAR formal as an address, and other formals as their values
+-- an open array is kept as its address and HIGH, a VAR formal as an address, and other formals as
+-- their values
 abbrev pub formal_tree : Types → Formal → Ty
-formal_tree types f = if f.is_open then row (Hidden 4 ∷ Hidden 4 ∷ []) else (if f.is_var then Hidden 4 else tree types f.of)
+formal_tree types f =
+    if f.is_open
+    then row (Hidden 4 ∷ Hidden 4 ∷ [])
+    else (if f.is_var then Hidden 4 else tree types f.of)
 
 abbrev pub variable_trees : Types → Routine → List Ty
-variable_trees types r = map (formal_tree types) (formals_of types r.heading) ++ map (tree types) r.variables
+variable_trees types r =
+    map (formal_tree types) (formals_of types r.heading) ++ map (tree types) r.variables
 
 -- the reserved bytes, the formals, and the variables
 abbrev pub frame : Types → Routine → Ty

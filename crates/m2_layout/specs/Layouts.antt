@@ -42,10 +42,11 @@ with_frame types found r = with_size found (size (frame types r)) r.pos
 abbrev pub data_too_large : TypedModule → Option Pos
 data_too_large m = with_size None (size (module_row m) + characters (module_texts m)) m.pos
 
--- the least place at which the variables and texts of the module, or a frame, are too large: at the module's name, and at
--- the procedure's
+-- the least place at which the variables and texts of the module, or a frame, are too large: at the
+-- module's name, and at the procedure's
 abbrev pub too_large : TypedModule → Option Pos
-too_large m = fold (with_frame m.types) (fold (with_frame m.types) (data_too_large m) m.procedures) m.locals
+too_large m =
+    fold (with_frame m.types) (fold (with_frame m.types) (data_too_large m) m.procedures) m.locals
 
 -- ---- what is kept
 
@@ -88,7 +89,10 @@ abbrev pub no_frames : Option Pos → Frames
 no_frames found = record { rows = []; too_large = found }
 
 abbrev pub with_routine : Types → Frames → Routine → Frames
-with_routine types x r = record { rows = x.rows ++ frame_row types r ∷ []; too_large = with_size x.too_large (frame_row types r).size r.pos }
+with_routine types x r = record {
+  rows = x.rows ++ frame_row types r ∷ [];
+  too_large = with_size x.too_large (frame_row types r).size r.pos;
+}
 
 -- all but the frames
 pub record IsWithoutFrames (m : TypedModule) (x : Layout) : Type 0 where
@@ -98,7 +102,10 @@ pub record IsWithoutFrames (m : TypedModule) (x : Layout) : Type 0 where
   pub texts : x.texts ≡ counted (module_texts m)
 
 abbrev pub together : Layout → Frames → Frames → Checked
-together x procedures locals = record { layout = record x { procedures = procedures.rows; locals = locals.rows }; too_large = locals.too_large }
+together x procedures locals = record {
+  layout = record x { procedures = procedures.rows; locals = locals.rows };
+  too_large = locals.too_large;
+}
 
 pub record IsChecked (m : TypedModule) (x : Checked) : Type 0 where
   pub layout : IsLayout m x.layout

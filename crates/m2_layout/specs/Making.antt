@@ -34,7 +34,8 @@ array_extent count element = extent.Array element (capped (count * element))
 abbrev pub shape_extent : Types → Making → TypeNo → Shape → Extent
 shape_extent types x t (shape.Scalar s) = extent.Cell (kind_of (scalar_kind t s))
 shape_extent types x t shape.Set = word
-shape_extent types x t (shape.Array i e) = array_extent (capped (elements_of (scalar_at types i))) (part_size x e)
+shape_extent types x t (shape.Array i e) =
+    array_extent (capped (elements_of (scalar_at types i))) (part_size x e)
 shape_extent types x t (shape.Record fs) = extent.Row (fold (with_field x) (begun 0) fs)
 shape_extent types x t (shape.Procedure p) = word
 shape_extent types x t (shape.Open e) = nothing
@@ -54,7 +55,8 @@ abbrev pub added : Making → Known
 added x = added_if (lookup (nat_eq x.home) x.modules) x.modules x.home x.own
 
 abbrev pub all_made : Types → Known → ℕ → List Made → Making
-all_made types known home ms = fold (with_type types) (record { modules = known; home = home; own = [] }) ms
+all_made types known home ms =
+    fold (with_type types) (record { modules = known; home = home; own = [] }) ms
 
 abbrev pub with_types : Types → Known → ℕ → List Made → Known
 with_types types known home ms = added (all_made types known home ms)

@@ -28,4 +28,6 @@ with_variable types r t = with_part r (capped (size (tree types t)))
 
 -- part by part
 abbrev pub framed : Types → Routine → Row
-framed types r = fold (with_variable types) (fold (with_formal types) (begun 16) (formals_of types r.heading)) r.variables
+framed types r =
+    fold (with_variable types) (fold (with_formal types) (begun 16) (formals_of types r.heading))
+    r.variables

@@ -1,4 +1,5 @@
--- The tree of each type that a module knows. A type names only types that stand before it, so the trees are made in order.
+-- The tree of each type that a module knows. A type names only types that stand before it, so the
+-- trees are made in order.
 use Rattle.std.specs.Prelude.{ℕ, ◌+◌, ◌-ℤ◌, nat_eq, unsigned_abs, length, List, [], ◌∷◌, ◌++◌, map, Option, Some, None, slice_get, if◌then◌else◌}
 use Rattle.std.specs.List.{fold}
 use Rattle.std.specs.Map.{lookup}
@@ -21,7 +22,10 @@ word = Cell (Natural 4294967295)
 
 -- a scalar type is INTEGER, another base, whose numbers begin with 0, or a subrange
 abbrev pub scalar_kind : TypeNo → Range → Scalar
-scalar_kind t s = if are_same t s.base then (if is_integer t then Integer else Natural (unsigned_abs s.high)) else Between s.low s.high
+scalar_kind t s =
+    if are_same t s.base
+    then (if is_integer t then Integer else Natural (unsigned_abs s.high))
+    else Between s.low s.high
 
 -- how many elements an array with this index has
 abbrev pub elements_of : Option Range → ℕ
@@ -62,19 +66,26 @@ result_tree before (Some t) = Function (tree_in before t)
 -- the heading of these formals and this result
 abbrev pub heading_tree : Trees → List Formal → Option TypeNo → Heading
 heading_tree before [] result = result_tree before result
-heading_tree before (f ∷ fs) result = Takes (passing_of f) (tree_in before f.of) (heading_tree before fs result)
+heading_tree before (f ∷ fs) result =
+    Takes (passing_of f) (tree_in before f.of) (heading_tree before fs result)
 
 abbrev pub shape_tree : Types → Trees → TypeNo → Shape → Ty
 shape_tree types before t (shape.Scalar s) = Cell (scalar_kind t s)
 shape_tree types before t shape.Set = word
-shape_tree types before t (shape.Array i e) = Array (elements_of (scalar_at types i)) (tree_in before e)
+shape_tree types before t (shape.Array i e) =
+    Array (elements_of (scalar_at types i)) (tree_in before e)
 shape_tree types before t (shape.Record fs) = row (map (λ f. tree_in before f.1) fs)
-shape_tree types before t (shape.Procedure p) = Cell (Callable (heading_tree before p.formals p.result))
+shape_tree types before t (shape.Procedure p) =
+    Cell (Callable (heading_tree before p.formals p.result))
 shape_tree types before t (shape.Open e) = Nothing
 
 -- the types of a module, each from those before it
 abbrev pub with_made : Types → Trees → (home : ℕ) → List Ty → Made → List Ty
-with_made types before home ts m = ts ++ shape_tree types ((home, ts) ∷ before) (record { home = Module home; number = length ts }) m.shape ∷ []
+with_made types before home ts m =
+    ts
+    ++ shape_tree types ((home, ts) ∷ before) (record { home = Module home; number = length ts })
+    m.shape
+    ∷ []
 
 abbrev pub module_trees : Types → Trees → (home : ℕ) → List Made → List Ty
 module_trees types before home ms = fold (with_made types before home) [] ms
@@ -85,10 +96,11 @@ with_module types before e = before ++ (e.0, module_trees types before e.0 e.1) 
 abbrev pub other_trees : Types → Trees
 other_trees types = fold (with_module types) [] types.others
 
--- The trees of all types that a module knows. Those of an implementation stand before those of its definition, which others
--- may know under the same number: the module has these and more.
+-- The trees of all types that a module knows. Those of an implementation stand before those of its
+-- definition, which others may know under the same number: the module has these and more.
 unfoldable pub known_trees : Types → Trees
-known_trees types = (types.home, module_trees types (other_trees types) types.home types.own) ∷ other_trees types
+known_trees types =
+    (types.home, module_trees types (other_trees types) types.home types.own) ∷ other_trees types
 
 abbrev pub tree : Types → TypeNo → Ty
 tree types t = tree_in (known_trees types) t

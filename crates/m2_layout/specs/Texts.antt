@@ -1,5 +1,5 @@
--- The strings that a module keeps: those that are assigned to arrays or passed to open arrays, each use for itself, in text
--- order.
+-- The strings that a module keeps: those that are assigned to arrays or passed to open arrays, each
+-- use for itself, in text order.
 use Rattle.std.specs.Prelude.{ℕ, ◌+◌, ◌==◌, Bool, false, List, [], ◌∷◌, ◌++◌, length, Option, Some, None, slice_get, if◌then◌else◌}
 use Rattle.std.specs.List.{flat_map}
 use Rattle.typed_tree.specs.declared.computed.Argument.{Argument, Argument-F, fold-Argument}
@@ -79,22 +79,34 @@ expr_texts (layer.High slot) = []
 expr_texts (layer.Call t c) = c
 
 unfoldable pub texts_of : TypedExpr → Texts
-texts_of = fold-TypedExpr Texts Texts Texts Texts Texts Texts argument_texts call_texts component_texts link_texts expr_texts place_texts
+texts_of =
+    fold-TypedExpr Texts Texts Texts Texts Texts Texts argument_texts call_texts component_texts
+    link_texts expr_texts place_texts
 
 unfoldable pub texts_at : Place → Texts
-texts_at = fold-Place Texts Texts Texts Texts Texts Texts argument_texts call_texts component_texts link_texts expr_texts place_texts
+texts_at =
+    fold-Place Texts Texts Texts Texts Texts Texts argument_texts call_texts component_texts
+    link_texts expr_texts place_texts
 
 unfoldable pub texts_called : Call → Texts
-texts_called = fold-Call Texts Texts Texts Texts Texts Texts argument_texts call_texts component_texts link_texts expr_texts place_texts
+texts_called =
+    fold-Call Texts Texts Texts Texts Texts Texts argument_texts call_texts component_texts
+    link_texts expr_texts place_texts
 
 unfoldable pub texts_linked : Link → Texts
-texts_linked = fold-Link Texts Texts Texts Texts Texts Texts argument_texts call_texts component_texts link_texts expr_texts place_texts
+texts_linked =
+    fold-Link Texts Texts Texts Texts Texts Texts argument_texts call_texts component_texts
+    link_texts expr_texts place_texts
 
 unfoldable pub texts_behind : Component → Texts
-texts_behind = fold-Component Texts Texts Texts Texts Texts Texts argument_texts call_texts component_texts link_texts expr_texts place_texts
+texts_behind =
+    fold-Component Texts Texts Texts Texts Texts Texts argument_texts call_texts component_texts
+    link_texts expr_texts place_texts
 
 unfoldable pub texts_passed : Argument → Texts
-texts_passed = fold-Argument Texts Texts Texts Texts Texts Texts argument_texts call_texts component_texts link_texts expr_texts place_texts
+texts_passed =
+    fold-Argument Texts Texts Texts Texts Texts Texts argument_texts call_texts component_texts
+    link_texts expr_texts place_texts
 
 -- ---- statements
 
@@ -119,7 +131,8 @@ step_texts (step.Loop body) = joined body
 step_texts step.Exit = []
 step_texts step.Return = []
 step_texts (step.Give t e) = texts_of e
-step_texts (step.For d t start limit by body) = texts_at d ++ (texts_of start ++ (texts_of limit ++ joined body))
+step_texts (step.For d t start limit by body) =
+    texts_at d ++ (texts_of start ++ (texts_of limit ++ joined body))
 step_texts (step.With d body) = texts_at d ++ joined body
 
 abbrev pub arm_texts : TypedArm-F Texts Texts → Texts

@@ -1,23 +1,24 @@
 -- The types of variables, and of their components.
 use Rattle.std.specs.Prelude.{◌≡◌, ℕ, zero, suc, Bool, ℤ, pos, negsuc, ◌-ℤ◌, ◌≤ℤ◌, nat_lt, List, [], ◌∷◌, Option, Some, None, if◌then◌else◌}
 
--- how an argument is passed: by its value, as another name of a variable behind VAR, or as an array of any length
+-- how an argument is passed: by its value, as another name of a variable behind VAR, or as an array
+-- of any length
 pub data Passing : Type 0 where
   ByValue : Passing
   ByName : Passing
   AsOpen : (is_var : Bool) → Passing
 
 mutual
-  -- numbers from 0 to a greatest one (CARDINAL, CHAR, enumerations, BITSET), INTEGER, subranges, and the procedures with a
-  -- heading
+  -- numbers from 0 to a greatest one (CARDINAL, CHAR, enumerations, BITSET), INTEGER, subranges,
+  -- and the procedures with a heading
   pub data Scalar : Type 0 where
     Natural : (greatest : ℕ) → Scalar
     Integer : Scalar
     Between : (least greatest : ℤ) → Scalar
     Callable : (heading : Heading) → Scalar
 
-  -- a type: a scalar, n of one type, or a record, which is a field and then the others. Hidden is room in a frame in which
-  -- no variable stands
+  -- a type: a scalar, n of one type, or a record, which is a field and then the others. Hidden is
+  -- room in a frame in which no variable stands
   pub data Ty : Type 0 where
     Cell : Scalar → Ty
     Hidden : (n : ℕ) → Ty
@@ -25,8 +26,8 @@ mutual
     Nothing : Ty
     Field : (field others : Ty) → Ty
 
-  -- the heading of a procedure: its formals, each with how it is passed and its type or that of its elements, and at the
-  -- end the type of the result, if there is one
+  -- the heading of a procedure: its formals, each with how it is passed and its type or that of its
+  -- elements, and at the end the type of the result, if there is one
   pub data Heading : Type 0 where
     Proper : Heading
     Function : (result : Ty) → Heading

@@ -4,10 +4,13 @@ use Rattle.pool_board.specs.Lists.{times, listed}
 use Rattle.pool_board.specs.Rule.{IsConsistent, IsSourced}
 use Rattle.pool_board.specs.Seats.{SeatState, all_had, all_met, all_counts, without}
 
--- The lists are what the seats of a board had, as these were when all workers had ended, and `left` is what no seat had.
-pub record IsTally (graph : List (List ℕ)) (workers : ℕ) (lists : List (List ℕ)) (left : List ℕ) : Type 0 where
+-- The lists are what the seats of a board had, as these were when all workers had ended, and `left`
+-- is what no seat had.
+pub record IsTally (graph : List (List ℕ)) (workers : ℕ) (lists : List (List ℕ)) (left : List ℕ)
+    : Type 0 where
   -- together the lists have each job once, and nothing else
-  pub each : (number : ℕ) → times number (listed lists ++ left) ≡ (if nat_lt number (length graph) then 1 else 0)
+  pub each : (number : ℕ)
+      → times number (listed lists ++ left) ≡ (if nat_lt number (length graph) then 1 else 0)
   pub seats : List SeatState
   pub count_is : length seats ≡ workers
   pub lists_are : lists ≡ map (λ s. s.had) seats

@@ -24,7 +24,12 @@ abbrev pub is_quote : ℕ → Bool
 is_quote b = b == 34 || b == 39
 
 unfoldable pub class : ℕ → Class
-class b = if is_space b then Space else if is_letter b then Letter else if is_digit b then Digit else if is_quote b then Quote else Other
+class b =
+    if is_space b
+    then Space
+    else if is_letter b
+    then Letter
+    else if is_digit b then Digit else if is_quote b then Quote else Other
 
 -- the classes of which names and numbers are made
 abbrev pub in_run : Class → Bool

@@ -20,7 +20,9 @@ IsRun k (b ∷ bs) = (class b ≡ k) × (list_all is_run_byte bs ≡ true)
 
 -- a quote, what stands inside on one line, and the same quote
 abbrev pub IsQuoted : Text → Text → Type 0
-IsQuoted w inside = (q : ℕ) × (class q ≡ Quote) × (list_all (is_inside q) inside ≡ true) × (w ≡ q ∷ inside ++ q ∷ [])
+IsQuoted w inside =
+    (q : ℕ) × (class q ≡ Quote) × (list_all (is_inside q) inside ≡ true)
+    × (w ≡ q ∷ inside ++ q ∷ [])
 
 -- `(*` and `*)`
 abbrev pub opening : Text
@@ -29,15 +31,16 @@ opening = 40 ∷ 42 ∷ []
 abbrev pub closing : Text
 closing = 42 ∷ 41 ∷ []
 
--- What follows an opening, up to its closing: the closing, or a byte with which neither of the two begins, or a
--- comment, and behind these two again what follows an opening.
+-- What follows an opening, up to its closing: the closing, or a byte with which neither of the two
+-- begins, or a comment, and behind these two again what follows an opening.
 pub data IsClosed : Text → Type 0 where
   close : IsClosed (42 ∷ 41 ∷ [])
-  other : (b c : ℕ) (bs : Text) → (b ∷ c ∷ [] ≢ opening) → (b ∷ c ∷ [] ≢ closing) → IsClosed (c ∷ bs) → IsClosed (b ∷ c ∷ bs)
+  other : (b c : ℕ) (bs : Text) → (b ∷ c ∷ [] ≢ opening) → (b ∷ c ∷ [] ≢ closing)
+      → IsClosed (c ∷ bs) → IsClosed (b ∷ c ∷ bs)
   inner : (bs cs : Text) → IsClosed bs → IsClosed cs → IsClosed (40 ∷ 42 ∷ bs ++ cs)
 
--- The bytes look like a member, whether or not they are allowed: a space, a name or a number of any length, a string
--- of any bytes, an operator or delimiter, a comment, or the opening of one.
+-- The bytes look like a member, whether or not they are allowed: a space, a name or a number of any
+-- length, a string of any bytes, an operator or delimiter, a comment, or the opening of one.
 pub data IsForm : Text → Type 0 where
   space : (b : ℕ) → class b ≡ Space → IsForm (b ∷ [])
   name : (w : Text) → IsRun Letter w → IsForm w
@@ -61,7 +64,8 @@ IsComment w = (bs : Text) × IsClosed bs × (w ≡ opening ++ bs)
 -- The bytes are this token.
 abbrev pub Spells : Text → Lexeme → Type 0
 Spells w (lexeme.Name n) = IsRun Letter w × (length w ≤ max_name) × (word_of w ≡ None) × (n ≡ w)
-Spells w (lexeme.Number n) = IsRun Digit w × ((form : Numeral) × (form ≢ Code) × Writes w form n) × (n < 2 ^ 32)
+Spells w (lexeme.Number n) =
+    IsRun Digit w × ((form : Numeral) × (form ≢ Code) × Writes w form n) × (n < 2 ^ 32)
 Spells w (lexeme.Char c) = IsRun Digit w × Writes w Code c × (c < 256)
 Spells w (lexeme.Text inside) = IsQuoted w inside × (list_all is_printable inside ≡ true)
 Spells w (lexeme.Symbol s) = (word_of w ≡ Some s) ⊎ (sign_of w ≡ Some s)

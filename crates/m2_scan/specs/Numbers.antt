@@ -37,7 +37,9 @@ value base digits = fold (λ n b. n * base + digit b) 0 digits
 
 -- The bytes are a number that is written so, and this is its value.
 abbrev pub Writes : Text → Numeral → ℕ → Type 0
-Writes w form n = (digits : Text) × (w ≡ digits ++ suffix form) × (list_all (is_digit_of (base form)) digits ≡ true) × (n ≡ value (base form) digits)
+Writes w form n =
+    (digits : Text) × (w ≡ digits ++ suffix form)
+    × (list_all (is_digit_of (base form)) digits ≡ true) × (n ≡ value (base form) digits)
 
 -- what is wrong with digits and letters that are no number
 abbrev pub RefusesNumber : Text → Fault → Type 0

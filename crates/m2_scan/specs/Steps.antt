@@ -23,7 +23,10 @@ use Rattle.m2_scan.specs.Division.{RefusesIn, tokens_at}
 
 -- the place behind one byte more
 abbrev pub moved : Pos → ℕ → Pos
-moved p b = if is_line_end b then record { line = p.line + 1; col = 1 } else record { line = p.line; col = p.col + 1 }
+moved p b =
+    if is_line_end b
+    then record { line = p.line + 1; col = 1 }
+    else record { line = p.line; col = p.col + 1 }
 
 -- the place behind these bytes more
 abbrev pub over : Pos → Text → Pos
@@ -36,11 +39,14 @@ HasRoom p w = (p.line + length w < 2 ^ 32) × (p.col + length w < 2 ^ 32)
 
 -- A member was taken from the front of the text, and this is left.
 abbrev pub Takes : Text → Pos → Option Lexeme → Text → Pos → Type 0
-Takes text pos m rest after = (w : Text) × (text ≡ w ++ rest) × (0 < length w) × IsLongest w rest × IsMember (w, m) × (after ≡ over pos w)
+Takes text pos m rest after =
+    (w : Text) × (text ≡ w ++ rest) × (0 < length w) × IsLongest w rest × IsMember (w, m)
+    × (after ≡ over pos w)
 
 -- A member was taken so, and its token, if it is one, put behind those that were there before.
 abbrev pub Adds : Text → Pos → Text → Pos → List Token → List Token → Type 0
-Adds text pos rest after before tokens = (m : Option Lexeme) × Takes text pos m rest after × (tokens ≡ before ++ tokens_at pos m)
+Adds text pos rest after before tokens =
+    (m : Option Lexeme) × Takes text pos m rest after × (tokens ≡ before ++ tokens_at pos m)
 
 -- What stands at the front of the text is refused, and this is the least place of a refusal there.
 abbrev pub Stops : Text → Pos → ScanError → Type 0
@@ -51,19 +57,23 @@ Stops text pos (Refused r) =
 
 -- how a number is written, by its last byte
 abbrev pub form_by : ℕ → Numeral
-form_by c = if c == 66 then Octal else if c == 72 then Hexadecimal else if c == 67 then Code else Decimal
+form_by c =
+    if c == 66 then Octal else if c == 72 then Hexadecimal else if c == 67 then Code else Decimal
 
 -- what is wrong with the digits of a number
 abbrev pub RefusesDigits : Numeral → Text → Fault → Type 0
 RefusesDigits form digits BadNumber = list_all (is_digit_of (base form)) digits ≡ false
-RefusesDigits form digits LargeNumber = (list_all (is_digit_of (base form)) digits ≡ true) × (limit form ≤ value (base form) digits)
+RefusesDigits form digits LargeNumber =
+    (list_all (is_digit_of (base form)) digits ≡ true) × (limit form ≤ value (base form) digits)
 RefusesDigits form digits _ = ⊥
 
 -- what stands at the front of a text inside of a comment
 abbrev pub IsMark : Text → Mark → Type 0
 IsMark text Opening = (behind : Text) × (text ≡ 40 ∷ 42 ∷ behind)
 IsMark text Closing = (behind : Text) × (text ≡ 42 ∷ 41 ∷ behind)
-IsMark text Byte = (b : ℕ) × (c : ℕ) × (behind : Text) × (text ≡ b ∷ c ∷ behind) × (b ∷ c ∷ [] ≢ opening) × (b ∷ c ∷ [] ≢ closing)
+IsMark text Byte =
+    (b : ℕ) × (c : ℕ) × (behind : Text) × (text ≡ b ∷ c ∷ behind) × (b ∷ c ∷ [] ≢ opening)
+    × (b ∷ c ∷ [] ≢ closing)
 IsMark text End = length text ≤ 1
 
 -- The comment that was opened before this text ends before the rest.
@@ -83,7 +93,8 @@ Opens text = (behind : Text) × (text ≡ 40 ∷ 42 ∷ behind)
 
 -- the operator or delimiter of two bytes at the front
 abbrev pub IsPair : Text → Option Symbol → Type 0
-IsPair text (Some s) = (b : ℕ) × (c : ℕ) × (bs : Text) × (text ≡ b ∷ c ∷ bs) × (sign_of (b ∷ c ∷ []) ≡ Some s)
+IsPair text (Some s) =
+    (b : ℕ) × (c : ℕ) × (bs : Text) × (text ≡ b ∷ c ∷ bs) × (sign_of (b ∷ c ∷ []) ≡ Some s)
 IsPair text None = (b c : ℕ) (bs : Text) → text ≡ b ∷ c ∷ bs → sign_of (b ∷ c ∷ []) ≡ None
 
 -- The error is that memory ran out, or a refusal of which this holds.

@@ -9,10 +9,12 @@ abbrev pub filled : List ℕ → List ℕ
 filled list = list ++ replicate (14 - length list) 0
 
 -- Its length, and the list with its zeros, are all that is kept.
-pub kept_whole : (n : Inside) → (n.len ≤ 14) × (length n.bytes ≡ 14) × (n.bytes ≡ filled (take n.len n.bytes)) →
-    record { len = length (take n.len n.bytes); bytes = filled (take n.len n.bytes) } ≡ n
+pub kept_whole : (n : Inside)
+    → (n.len ≤ 14) × (length n.bytes ≡ 14) × (n.bytes ≡ filled (take n.len n.bytes))
+    → record { len = length (take n.len n.bytes); bytes = filled (take n.len n.bytes) } ≡ n
 kept_whole n h =
     let fits : n.len ≤ length n.bytes = omega (arith, h.1) in
     let e = length-take-le n.len n.bytes fits in
-    let p : (length (take n.len n.bytes), filled (take n.len n.bytes)) ≡ (n.len, n.bytes) = cc (h.2, e) in
+    let p :
+    (length (take n.len n.bytes), filled (take n.len n.bytes)) ≡ (n.len, n.bytes) = cc (h.2, e) in
     ap (λ (p : ℕ × List ℕ). record { len = p.0; bytes = p.1 }) p

@@ -19,17 +19,25 @@ no h = absurd (true≢false (sym h))
 pub number : (a : ℕ) → Sound nat_eq a
 number a b h = eqb-true a b h
 
-pub list : {A B : Type 0} (E : A → A → Bool) (f : B → A) → ((b : B) → Sound E (f b)) → (bs : List B) → Sound (pointwise E) (map f bs)
+pub list : {A B : Type 0} (E : A → A → Bool) (f : B → A) → ((b : B) → Sound E (f b)) → (bs : List B)
+    → Sound (pointwise E) (map f bs)
 list E f s [] [] h = refl
 list E f s [] (y ∷ ys) h = no h
 list E f s (x ∷ xs) [] h = no h
-list E f s (x ∷ xs) (y ∷ ys) h = λ i. s x y (first_so (E (f x) y) (pointwise E (map f xs) ys) h) i ∷ list E f s xs ys (second_so (E (f x) y) (pointwise E (map f xs) ys) h) i
+list E f s (x ∷ xs) (y ∷ ys) h =
+    λ i.
+    s x y (first_so (E (f x) y) (pointwise E (map f xs) ys) h) i
+    ∷ list E f s xs ys (second_so (E (f x) y) (pointwise E (map f xs) ys) h) i
 
-pub all : {A : Type 0} (E : A → A → Bool) → ((a : A) → Sound E a) → (xs : List A) → Sound (pointwise E) xs
+pub all : {A : Type 0} (E : A → A → Bool) → ((a : A) → Sound E a) → (xs : List A)
+    → Sound (pointwise E) xs
 all E s [] [] h = refl
 all E s [] (y ∷ ys) h = no h
 all E s (x ∷ xs) [] h = no h
-all E s (x ∷ xs) (y ∷ ys) h = λ i. s x y (first_so (E x y) (pointwise E xs ys) h) i ∷ all E s xs ys (second_so (E x y) (pointwise E xs ys) h) i
+all E s (x ∷ xs) (y ∷ ys) h =
+    λ i.
+    s x y (first_so (E x y) (pointwise E xs ys) h) i
+    ∷ all E s xs ys (second_so (E x y) (pointwise E xs ys) h) i
 
 pub some : {A : Type 0} (E : A → A → Bool) (a : A) → Sound E a → Sound (option_eq E) (Some a)
 some E a s None h = no h
@@ -39,40 +47,70 @@ pub none : {A : Type 0} (E : A → A → Bool) → Sound (option_eq E) None
 none E None h = refl
 none E (Some b) h = no h
 
-pub option : {A : Type 0} (E : A → A → Bool) → ((a : A) → Sound E a) → (o : Option A) → Sound (option_eq E) o
+pub option : {A : Type 0} (E : A → A → Bool) → ((a : A) → Sound E a) → (o : Option A)
+    → Sound (option_eq E) o
 option E s None = none E
 option E s (Some a) = some E a (s a)
 
 -- what the fields of a variant are
-pub one : {A : Type 0} (E : A → A → Bool) (a : A) → Sound E a → (v : A × Unit {0}) → E a v.0 ≡ true → ◌≡◌ {A = A × Unit {0}} (a, tt) v
+pub one : {A : Type 0} (E : A → A → Bool) (a : A) → Sound E a → (v : A × Unit {0}) → E a v.0 ≡ true
+    → ◌≡◌ {A = A × Unit {0}} (a, tt) v
 one E a s v h = λ i. (s v.0 h i, tt)
 
-pub two : {A B : Type 0} (E : A → A → Bool) (F : B → B → Bool) (a : A) (b : B) → Sound E a → Sound F b
-    → (v : A × (B × Unit {0})) → (E a v.0 && F b v.1.0) ≡ true → ◌≡◌ {A = A × (B × Unit {0})} (a, (b, tt)) v
+pub two : {A B : Type 0} (E : A → A → Bool) (F : B → B → Bool) (a : A) (b : B)
+    → Sound E a
+    → Sound F b
+    → (v : A × (B × Unit {0}))
+    → (E a v.0 && F b v.1.0) ≡ true
+    → ◌≡◌ {A = A × (B × Unit {0})} (a, (b, tt)) v
 two E F a b s t v h =
     let p = s v.0 (first_so (E a v.0) (F b v.1.0) h) in
     let q = t v.1.0 (second_so (E a v.0) (F b v.1.0) h) in
     λ i. (p i, (q i, tt))
 
-pub three : {A B C : Type 0} (E : A → A → Bool) (F : B → B → Bool) (G : C → C → Bool) (a : A) (b : B) (c : C) → Sound E a → Sound F b → Sound G c
-    → (v : A × (B × (C × Unit {0}))) → (E a v.0 && (F b v.1.0 && G c v.1.1.0)) ≡ true → ◌≡◌ {A = A × (B × (C × Unit {0}))} (a, (b, (c, tt))) v
+pub three : {A B C : Type 0} (E : A → A → Bool) (F : B → B → Bool) (G : C → C → Bool) (a : A)
+    (b : B) (c : C)
+    → Sound E a
+    → Sound F b
+    → Sound G c
+    → (v : A × (B × (C × Unit {0})))
+    → (E a v.0 && (F b v.1.0 && G c v.1.1.0)) ≡ true
+    → ◌≡◌ {A = A × (B × (C × Unit {0}))} (a, (b, (c, tt))) v
 three E F G a b c s t u v h =
     let p = s v.0 (first_so (E a v.0) (F b v.1.0 && G c v.1.1.0) h) in
     let r = two F G b c t u v.1 (second_so (E a v.0) (F b v.1.0 && G c v.1.1.0) h) in
     λ i. (p i, r i)
 
-pub four : {A B C D : Type 0} (E : A → A → Bool) (F : B → B → Bool) (G : C → C → Bool) (H : D → D → Bool) (a : A) (b : B) (c : C) (d : D) → Sound E a → Sound F b → Sound G c → Sound H d
-    → (v : A × (B × (C × (D × Unit {0})))) → (E a v.0 && (F b v.1.0 && (G c v.1.1.0 && H d v.1.1.1.0))) ≡ true → ◌≡◌ {A = A × (B × (C × (D × Unit {0})))} (a, (b, (c, (d, tt)))) v
+pub four : {A B C D : Type 0} (E : A → A → Bool) (F : B → B → Bool) (G : C → C → Bool)
+    (H : D → D → Bool) (a : A) (b : B) (c : C) (d : D)
+    → Sound E a
+    → Sound F b
+    → Sound G c
+    → Sound H d
+    → (v : A × (B × (C × (D × Unit {0}))))
+    → (E a v.0 && (F b v.1.0 && (G c v.1.1.0 && H d v.1.1.1.0))) ≡ true
+    → ◌≡◌ {A = A × (B × (C × (D × Unit {0})))} (a, (b, (c, (d, tt)))) v
 four E F G H a b c d s t u w v h =
     let p = s v.0 (first_so (E a v.0) (F b v.1.0 && (G c v.1.1.0 && H d v.1.1.1.0)) h) in
-    let r = three F G H b c d t u w v.1 (second_so (E a v.0) (F b v.1.0 && (G c v.1.1.0 && H d v.1.1.1.0)) h) in
+    let r = three F G H b c d t u w v.1
+    (second_so (E a v.0) (F b v.1.0 && (G c v.1.1.0 && H d v.1.1.1.0)) h) in
     λ i. (p i, r i)
 
-pub five : {A B C D X : Type 0} (E : A → A → Bool) (F : B → B → Bool) (G : C → C → Bool) (H : D → D → Bool) (K : X → X → Bool) (a : A) (b : B) (c : C) (d : D) (x : X) → Sound E a → Sound F b → Sound G c → Sound H d → Sound K x
-    → (v : A × (B × (C × (D × (X × Unit {0}))))) → (E a v.0 && (F b v.1.0 && (G c v.1.1.0 && (H d v.1.1.1.0 && K x v.1.1.1.1.0)))) ≡ true → ◌≡◌ {A = A × (B × (C × (D × (X × Unit {0}))))} (a, (b, (c, (d, (x, tt))))) v
+pub five : {A B C D X : Type 0} (E : A → A → Bool) (F : B → B → Bool) (G : C → C → Bool)
+    (H : D → D → Bool) (K : X → X → Bool) (a : A) (b : B) (c : C) (d : D) (x : X)
+    → Sound E a
+    → Sound F b
+    → Sound G c
+    → Sound H d
+    → Sound K x
+    → (v : A × (B × (C × (D × (X × Unit {0})))))
+    → (E a v.0 && (F b v.1.0 && (G c v.1.1.0 && (H d v.1.1.1.0 && K x v.1.1.1.1.0)))) ≡ true
+    → ◌≡◌ {A = A × (B × (C × (D × (X × Unit {0}))))} (a, (b, (c, (d, (x, tt))))) v
 five E F G H K a b c d x s t u w z v h =
-    let p = s v.0 (first_so (E a v.0) (F b v.1.0 && (G c v.1.1.0 && (H d v.1.1.1.0 && K x v.1.1.1.1.0))) h) in
-    let r = four F G H K b c d x t u w z v.1 (second_so (E a v.0) (F b v.1.0 && (G c v.1.1.0 && (H d v.1.1.1.0 && K x v.1.1.1.1.0))) h) in
+    let p = s v.0
+    (first_so (E a v.0) (F b v.1.0 && (G c v.1.1.0 && (H d v.1.1.1.0 && K x v.1.1.1.1.0))) h) in
+    let r = four F G H K b c d x t u w z v.1
+    (second_so (E a v.0) (F b v.1.0 && (G c v.1.1.0 && (H d v.1.1.1.0 && K x v.1.1.1.1.0))) h) in
     λ i. (p i, r i)
 
 -- The test of the variant that a value is holds of equal fields alone.
@@ -81,7 +119,8 @@ Fine [] each c = Unit {0}
 Fine (Fs ∷ Fss) each (inl x) = Sound each.0 x
 Fine (Fs ∷ Fss) each (inr c) = Fine Fss each.1 c
 
-pub variants : (Fss : List (List Field)) (each : Each Bool Fss) (c d : Choice Fss) → Fine Fss each c → by false false Fss each c d ≡ true → c ≡ d
+pub variants : (Fss : List (List Field)) (each : Each Bool Fss) (c d : Choice Fss) → Fine Fss each c
+    → by false false Fss each c d ≡ true → c ≡ d
 variants [] each c d f h = absurd c
 variants (Fs ∷ Fss) each (inl x) (inl y) f h = ap (λ v. inl v) (f y h)
 variants (Fs ∷ Fss) each (inl x) (inr y) f h = no h

@@ -71,7 +71,8 @@ ident a b h =
     let q = pos a.pos b.pos (second_so (eq_name a.name b.name) (eq_pos a.pos b.pos) h) in
     λ i. record { name = p i; pos = q i }
 
-pub operator : {O : Type 0} (E : O → O → Bool) → ((o : O) → Sound E o) → (a : Operator O) → Sound (eq_operator E) a
+pub operator : {O : Type 0} (E : O → O → Bool) → ((o : O) → Sound E o) → (a : Operator O)
+    → Sound (eq_operator E) a
 operator E s a b h =
     let p = s a.op b.op (first_so (E a.op b.op) (eq_pos a.pos b.pos) h) in
     let q = pos a.pos b.pos (second_so (E a.op b.op) (eq_pos a.pos b.pos) h) in

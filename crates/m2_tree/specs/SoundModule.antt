@@ -38,7 +38,8 @@ use Rattle.m2_tree.specs.SoundTypes.{eq_flag, eq_qualified, eq_formal, eq_type, 
 use Rattle.m2_tree.specs.SoundStmt.{eq_stmt, stmt}
 
 abbrev eq_section : Section → Section → Bool
-eq_section a b = eq_flag a.is_var b.is_var && (pointwise eq_ident a.names b.names && eq_formal a.of b.of)
+eq_section a b =
+    eq_flag a.is_var b.is_var && (pointwise eq_ident a.names b.names && eq_formal a.of b.of)
 
 section : (a : Section) → Sound eq_section a
 section a b h =
@@ -52,7 +53,9 @@ section a b h =
     λ i. record { is_var = p i; names = q i; of = r i }
 
 abbrev eq_heading : Heading → Heading → Bool
-eq_heading a b = eq_ident a.name b.name && (pointwise eq_section a.formals b.formals && option_eq eq_qualified a.result b.result)
+eq_heading a b =
+    eq_ident a.name b.name && (pointwise eq_section a.formals b.formals
+    && option_eq eq_qualified a.result b.result)
 
 heading : (a : Heading) → Sound eq_heading a
 heading a b h =
@@ -150,11 +153,16 @@ testD v w = by false false the_parts each (split-Decl V v) (split-Decl V w)
 
 stepD : (x : LayerD) (y : Decl-F SD SB) → bareD y ≡ x → Sound eq_decl (roll-Decl x)
 stepD x y q e h =
-    let c : eq_decl (roll-Decl x) e ≡ testD (out-Decl (roll-Decl x)) (out-Decl e) = compared_is the_members V the_depth Bool true the_step local member-Decl (roll-Decl x) e in
-    let k : testD x (out-Decl e) ≡ true = subst (λ (w : LayerD). testD w (out-Decl e) ≡ true) (out-roll-Decl x) (sym c ∙ h) in
-    let f : Fine the_parts each (split-Decl V x) = subst (λ (w : LayerD). Fine the_parts each (split-Decl V w)) q (fineD y) in
-    let s : split-Decl V x ≡ split-Decl V (out-Decl e) = variants the_parts each (split-Decl V x) (split-Decl V (out-Decl e)) f k in
-    let j : x ≡ out-Decl e = sym (join-split-Decl V x) ∙ (ap (join-Decl V) s ∙ join-split-Decl V (out-Decl e)) in
+    let c : eq_decl (roll-Decl x) e ≡ testD (out-Decl (roll-Decl x)) (out-Decl e) =
+    compared_is the_members V the_depth Bool true the_step local member-Decl (roll-Decl x) e in
+    let k : testD x (out-Decl e) ≡ true =
+    subst (λ (w : LayerD). testD w (out-Decl e) ≡ true) (out-roll-Decl x) (sym c ∙ h) in
+    let f : Fine the_parts each (split-Decl V x) =
+    subst (λ (w : LayerD). Fine the_parts each (split-Decl V w)) q (fineD y) in
+    let s : split-Decl V x ≡ split-Decl V (out-Decl e) =
+    variants the_parts each (split-Decl V x) (split-Decl V (out-Decl e)) f k in
+    let j : x ≡ out-Decl e =
+    sym (join-split-Decl V x) ∙ (ap (join-Decl V) s ∙ join-split-Decl V (out-Decl e)) in
     ap roll-Decl j ∙ roll-out-Decl e
 
 abbrev LayerB : Type 0
@@ -175,12 +183,16 @@ testB v w = pointwise eq_decl v.decls w.decls && eq_body v.body w.body
 stepB : (x : LayerB) (y : Block-F SD SB) → bareB y ≡ x → Sound eq_block (roll-Block x)
 stepB x y q e h =
     let o = out-Block e in
-    let c : eq_block (roll-Block x) e ≡ testB (out-Block (roll-Block x)) o = compared_is the_members V the_depth Bool true the_step local member-Block (roll-Block x) e in
-    let k : testB (bareB y) o ≡ true = subst (λ (w : LayerB). testB w o ≡ true) (out-roll-Block x ∙ sym q) (sym c ∙ h) in
+    let c : eq_block (roll-Block x) e ≡ testB (out-Block (roll-Block x)) o =
+    compared_is the_members V the_depth Bool true the_step local member-Block (roll-Block x) e in
+    let k : testB (bareB y) o ≡ true =
+    subst (λ (w : LayerB). testB w o ≡ true) (out-roll-Block x ∙ sym q) (sym c ∙ h) in
     let s = pointwise eq_decl (decls y.decls) o.decls in
     let t = eq_body y.body o.body in
-    let m : decls y.decls ≡ o.decls = list eq_decl (λ e. e.0) (λ e. e.1) y.decls o.decls (first_so s t k) in
-    let n : y.body ≡ o.body = option (pointwise eq_stmt) (all eq_stmt stmt) y.body o.body (second_so s t k) in
+    let m :
+    decls y.decls ≡ o.decls = list eq_decl (λ e. e.0) (λ e. e.1) y.decls o.decls (first_so s t k) in
+    let n : y.body ≡ o.body =
+    option (pointwise eq_stmt) (all eq_stmt stmt) y.body o.body (second_so s t k) in
     let j : bareB y ≡ o = λ i. record { decls = m i; body = n i } in
     ap roll-Block (sym q ∙ j) ∙ roll-out-Block e
 
@@ -218,7 +230,8 @@ eq_def = (DefEq.ghosts).eq
 
 pub def : (a : Def) → Sound eq_def a
 def a b h =
-    let s : def_enum.as_values a ≡ def_enum.as_values b = variants def_enum.the_parts each_def (def_enum.as_values a) (def_enum.as_values b) (fine_def a) h in
+    let s : def_enum.as_values a ≡ def_enum.as_values b = variants def_enum.the_parts each_def
+    (def_enum.as_values a) (def_enum.as_values b) (fine_def a) h in
     sym (def_enum.the_eta a) ∙ (ap def_enum.the_make s ∙ def_enum.the_eta b)
 
 abbrev eq_import : Import → Import → Bool
@@ -233,9 +246,11 @@ import a b h =
     λ i. record { from = p i; names = q i }
 
 abbrev each_contents : Each Bool contents_enum.the_parts
-each_contents = (λ a b. pointwise eq_def a.0 b.0, (λ a b. eq_block a.0 b.0, (λ a b. eq_block a.0 b.0, tt)))
+each_contents =
+    (λ a b. pointwise eq_def a.0 b.0, (λ a b. eq_block a.0 b.0, (λ a b. eq_block a.0 b.0, tt)))
 
-fine_contents : (a : Contents) → Fine contents_enum.the_parts each_contents (contents_enum.as_values a)
+fine_contents : (a : Contents)
+    → Fine contents_enum.the_parts each_contents (contents_enum.as_values a)
 fine_contents (Definition defs) = one (pointwise eq_def) defs (all eq_def def defs)
 fine_contents (Implementation b) = one eq_block b (block b)
 fine_contents (Program b) = one eq_block b (block b)
@@ -245,11 +260,14 @@ eq_contents = (ContentsEq.ghosts).eq
 
 contents : (a : Contents) → Sound eq_contents a
 contents a b h =
-    let s : contents_enum.as_values a ≡ contents_enum.as_values b = variants contents_enum.the_parts each_contents (contents_enum.as_values a) (contents_enum.as_values b) (fine_contents a) h in
+    let s : contents_enum.as_values a ≡ contents_enum.as_values b = variants contents_enum.the_parts
+    each_contents (contents_enum.as_values a) (contents_enum.as_values b) (fine_contents a) h in
     sym (contents_enum.the_eta a) ∙ (ap contents_enum.the_make s ∙ contents_enum.the_eta b)
 
 abbrev pub eq_module : Module → Module → Bool
-eq_module a b = eq_ident a.name b.name && (pointwise eq_import a.imports b.imports && eq_contents a.contents b.contents)
+eq_module a b =
+    eq_ident a.name b.name && (pointwise eq_import a.imports b.imports
+    && eq_contents a.contents b.contents)
 
 pub module_of : (a : Module) → Sound eq_module a
 module_of a b h =

@@ -69,20 +69,28 @@ eachR = (
 )
 
 fineR : (y : Rest-F SR SS SA) → Fine rest_parts eachR (split-Rest V (bareR y))
-fineR (Elsif e ss r) = three eq_expr (pointwise eq_stmt) eq_rest e (stmts ss) r.0 (expr e) (body_sound ss) r.1
+fineR (Elsif e ss r) =
+    three eq_expr (pointwise eq_stmt) eq_rest e (stmts ss) r.0 (expr e) (body_sound ss) r.1
 fineR (Else None) = one (option_eq (pointwise eq_stmt)) None (none (pointwise eq_stmt))
-fineR (Else (Some ss)) = one (option_eq (pointwise eq_stmt)) (Some (stmts ss)) (some (pointwise eq_stmt) (stmts ss) (body_sound ss))
+fineR (Else (Some ss)) =
+    one (option_eq (pointwise eq_stmt)) (Some (stmts ss))
+    (some (pointwise eq_stmt) (stmts ss) (body_sound ss))
 
 abbrev testR : LayerR → LayerR → Bool
 testR v w = by false false rest_parts eachR (split-Rest V v) (split-Rest V w)
 
 stepR : (x : LayerR) (y : Rest-F SR SS SA) → bareR y ≡ x → Sound eq_rest (roll-Rest x)
 stepR x y q e h =
-    let c : eq_rest (roll-Rest x) e ≡ testR (out-Rest (roll-Rest x)) (out-Rest e) = compared_is the_members V the_depth Bool true the_step local member-Rest (roll-Rest x) e in
-    let k : testR x (out-Rest e) ≡ true = subst (λ (w : LayerR). testR w (out-Rest e) ≡ true) (out-roll-Rest x) (sym c ∙ h) in
-    let f : Fine rest_parts eachR (split-Rest V x) = subst (λ (w : LayerR). Fine rest_parts eachR (split-Rest V w)) q (fineR y) in
-    let s : split-Rest V x ≡ split-Rest V (out-Rest e) = variants rest_parts eachR (split-Rest V x) (split-Rest V (out-Rest e)) f k in
-    let j : x ≡ out-Rest e = sym (join-split-Rest V x) ∙ (ap (join-Rest V) s ∙ join-split-Rest V (out-Rest e)) in
+    let c : eq_rest (roll-Rest x) e ≡ testR (out-Rest (roll-Rest x)) (out-Rest e) =
+    compared_is the_members V the_depth Bool true the_step local member-Rest (roll-Rest x) e in
+    let k : testR x (out-Rest e) ≡ true =
+    subst (λ (w : LayerR). testR w (out-Rest e) ≡ true) (out-roll-Rest x) (sym c ∙ h) in
+    let f : Fine rest_parts eachR (split-Rest V x) =
+    subst (λ (w : LayerR). Fine rest_parts eachR (split-Rest V w)) q (fineR y) in
+    let s : split-Rest V x ≡ split-Rest V (out-Rest e) =
+    variants rest_parts eachR (split-Rest V x) (split-Rest V (out-Rest e)) f k in
+    let j : x ≡ out-Rest e =
+    sym (join-split-Rest V x) ∙ (ap (join-Rest V) s ∙ join-split-Rest V (out-Rest e)) in
     ap roll-Rest j ∙ roll-out-Rest e
 
 -- ---- statements
@@ -101,7 +109,9 @@ each = (
     (
       λ a b. eq_expr a.0 b.0 && (pointwise eq_stmt a.1.0 b.1.0 && eq_rest a.1.1.0 b.1.1.0),
       (
-        λ a b. eq_expr a.0 b.0 && (pointwise eq_arm a.1.0 b.1.0 && option_eq (pointwise eq_stmt) a.1.1.0 b.1.1.0),
+        λ a b.
+            eq_expr a.0 b.0 && (pointwise eq_arm a.1.0 b.1.0
+            && option_eq (pointwise eq_stmt) a.1.1.0 b.1.1.0),
         (
           λ a b. eq_expr a.0 b.0 && pointwise eq_stmt a.1.0 b.1.0,
           (
@@ -113,7 +123,12 @@ each = (
                 (
                   λ a b. eq_pos a.0 b.0 && option_eq eq_expr a.1.0 b.1.0,
                   (
-                    λ a b. eq_ident a.0 b.0 && (eq_expr a.1.0 b.1.0 && (eq_expr a.1.1.0 b.1.1.0 && (option_eq eq_expr a.1.1.1.0 b.1.1.1.0 && pointwise eq_stmt a.1.1.1.1.0 b.1.1.1.1.0))),
+                    λ a b.
+                        eq_ident a.0 b.0
+                        && (eq_expr a.1.0 b.1.0
+                        && (eq_expr a.1.1.0 b.1.1.0
+                        && (option_eq eq_expr a.1.1.1.0 b.1.1.1.0
+                        && pointwise eq_stmt a.1.1.1.1.0 b.1.1.1.1.0))),
                     (
                       λ a b. eq_designator a.0 b.0 && pointwise eq_stmt a.1.0 b.1.0,
                       tt,
@@ -131,28 +146,44 @@ each = (
 
 fineS : (y : Stmt-F SR SS SA) → Fine the_parts each (split-Stmt V (bareS y))
 fineS (Assign d e) = two eq_designator eq_expr d e (designator d) (expr e)
-fineS (Call d o) = two eq_designator (option_eq (pointwise eq_expr)) d o (designator d) (option (pointwise eq_expr) (all eq_expr expr) o)
-fineS (If e ss r) = three eq_expr (pointwise eq_stmt) eq_rest e (stmts ss) r.0 (expr e) (body_sound ss) r.1
-fineS (Case e arms None) = three eq_expr (pointwise eq_arm) (option_eq (pointwise eq_stmt)) e (map (λ e. e.0) arms) None (expr e) (list eq_arm (λ e. e.0) (λ e. e.1) arms) (none (pointwise eq_stmt))
-fineS (Case e arms (Some ss)) = three eq_expr (pointwise eq_arm) (option_eq (pointwise eq_stmt)) e (map (λ e. e.0) arms) (Some (stmts ss)) (expr e) (list eq_arm (λ e. e.0) (λ e. e.1) arms) (some (pointwise eq_stmt) (stmts ss) (body_sound ss))
+fineS (Call d o) =
+    two eq_designator (option_eq (pointwise eq_expr)) d o (designator d)
+    (option (pointwise eq_expr) (all eq_expr expr) o)
+fineS (If e ss r) =
+    three eq_expr (pointwise eq_stmt) eq_rest e (stmts ss) r.0 (expr e) (body_sound ss) r.1
+fineS (Case e arms None) =
+    three eq_expr (pointwise eq_arm) (option_eq (pointwise eq_stmt)) e (map (λ e. e.0) arms) None
+    (expr e) (list eq_arm (λ e. e.0) (λ e. e.1) arms) (none (pointwise eq_stmt))
+fineS (Case e arms (Some ss)) =
+    three eq_expr (pointwise eq_arm) (option_eq (pointwise eq_stmt)) e (map (λ e. e.0) arms)
+    (Some (stmts ss)) (expr e) (list eq_arm (λ e. e.0) (λ e. e.1) arms)
+    (some (pointwise eq_stmt) (stmts ss) (body_sound ss))
 fineS (While e ss) = two eq_expr (pointwise eq_stmt) e (stmts ss) (expr e) (body_sound ss)
 fineS (Repeat ss e) = two (pointwise eq_stmt) eq_expr (stmts ss) e (body_sound ss) (expr e)
 fineS (Loop ss) = one (pointwise eq_stmt) (stmts ss) (body_sound ss)
 fineS (Exit p) = one eq_pos p (pos p)
 fineS (Return p o) = two eq_pos (option_eq eq_expr) p o (pos p) (option eq_expr expr o)
-fineS (For n e f o ss) = five eq_ident eq_expr eq_expr (option_eq eq_expr) (pointwise eq_stmt) n e f o (stmts ss) (ident n) (expr e) (expr f) (option eq_expr expr o) (body_sound ss)
-fineS (With d ss) = two eq_designator (pointwise eq_stmt) d (stmts ss) (designator d) (body_sound ss)
+fineS (For n e f o ss) =
+    five eq_ident eq_expr eq_expr (option_eq eq_expr) (pointwise eq_stmt) n e f o (stmts ss)
+    (ident n) (expr e) (expr f) (option eq_expr expr o) (body_sound ss)
+fineS (With d ss) =
+    two eq_designator (pointwise eq_stmt) d (stmts ss) (designator d) (body_sound ss)
 
 abbrev testS : LayerS → LayerS → Bool
 testS v w = by false false the_parts each (split-Stmt V v) (split-Stmt V w)
 
 stepS : (x : LayerS) (y : Stmt-F SR SS SA) → bareS y ≡ x → Sound eq_stmt (roll-Stmt x)
 stepS x y q e h =
-    let c : eq_stmt (roll-Stmt x) e ≡ testS (out-Stmt (roll-Stmt x)) (out-Stmt e) = compared_is the_members V the_depth Bool true the_step local member-Stmt (roll-Stmt x) e in
-    let k : testS x (out-Stmt e) ≡ true = subst (λ (w : LayerS). testS w (out-Stmt e) ≡ true) (out-roll-Stmt x) (sym c ∙ h) in
-    let f : Fine the_parts each (split-Stmt V x) = subst (λ (w : LayerS). Fine the_parts each (split-Stmt V w)) q (fineS y) in
-    let s : split-Stmt V x ≡ split-Stmt V (out-Stmt e) = variants the_parts each (split-Stmt V x) (split-Stmt V (out-Stmt e)) f k in
-    let j : x ≡ out-Stmt e = sym (join-split-Stmt V x) ∙ (ap (join-Stmt V) s ∙ join-split-Stmt V (out-Stmt e)) in
+    let c : eq_stmt (roll-Stmt x) e ≡ testS (out-Stmt (roll-Stmt x)) (out-Stmt e) =
+    compared_is the_members V the_depth Bool true the_step local member-Stmt (roll-Stmt x) e in
+    let k : testS x (out-Stmt e) ≡ true =
+    subst (λ (w : LayerS). testS w (out-Stmt e) ≡ true) (out-roll-Stmt x) (sym c ∙ h) in
+    let f : Fine the_parts each (split-Stmt V x) =
+    subst (λ (w : LayerS). Fine the_parts each (split-Stmt V w)) q (fineS y) in
+    let s : split-Stmt V x ≡ split-Stmt V (out-Stmt e) =
+    variants the_parts each (split-Stmt V x) (split-Stmt V (out-Stmt e)) f k in
+    let j : x ≡ out-Stmt e =
+    sym (join-split-Stmt V x) ∙ (ap (join-Stmt V) s ∙ join-split-Stmt V (out-Stmt e)) in
     ap roll-Stmt j ∙ roll-out-Stmt e
 
 -- ---- arms of a CASE
@@ -169,8 +200,10 @@ testA v w = pointwise eq_item v.labels w.labels && pointwise eq_stmt v.body w.bo
 stepA : (x : LayerA) (y : Arm-F SR SS SA) → bareA y ≡ x → Sound eq_arm (roll-Arm x)
 stepA x y q e h =
     let o = out-Arm e in
-    let c : eq_arm (roll-Arm x) e ≡ testA (out-Arm (roll-Arm x)) o = compared_is the_members V the_depth Bool true the_step local member-Arm (roll-Arm x) e in
-    let k : testA (bareA y) o ≡ true = subst (λ (w : LayerA). testA w o ≡ true) (out-roll-Arm x ∙ sym q) (sym c ∙ h) in
+    let c : eq_arm (roll-Arm x) e ≡ testA (out-Arm (roll-Arm x)) o =
+    compared_is the_members V the_depth Bool true the_step local member-Arm (roll-Arm x) e in
+    let k : testA (bareA y) o ≡ true =
+    subst (λ (w : LayerA). testA w o ≡ true) (out-roll-Arm x ∙ sym q) (sym c ∙ h) in
     let l = pointwise eq_item y.labels o.labels in
     let b = pointwise eq_stmt (stmts y.body) o.body in
     let m : y.labels ≡ o.labels = all eq_item item y.labels o.labels (first_so l b k) in

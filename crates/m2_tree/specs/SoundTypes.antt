@@ -72,7 +72,9 @@ each_simple = (
   (
     λ a b. eq_pos a.0 b.0 && pointwise eq_ident a.1.0 b.1.0,
     (
-      λ a b. option_eq eq_qualified a.0 b.0 && (eq_pos a.1.0 b.1.0 && (eq_expr a.1.1.0 b.1.1.0 && eq_expr a.1.1.1.0 b.1.1.1.0)),
+      λ a b.
+          option_eq eq_qualified a.0 b.0 && (eq_pos a.1.0 b.1.0 && (eq_expr a.1.1.0 b.1.1.0
+          && eq_expr a.1.1.1.0 b.1.1.1.0)),
       tt,
     ),
   ),
@@ -80,15 +82,19 @@ each_simple = (
 
 fine_simple : (a : Simple) → Fine simple_enum.the_parts each_simple (simple_enum.as_values a)
 fine_simple (Named q) = one eq_qualified q (qualified q)
-fine_simple (Enumeration p names) = two eq_pos (pointwise eq_ident) p names (pos p) (all eq_ident ident names)
-fine_simple (Subrange o p e f) = four (option_eq eq_qualified) eq_pos eq_expr eq_expr o p e f (option eq_qualified qualified o) (pos p) (expr e) (expr f)
+fine_simple (Enumeration p names) =
+    two eq_pos (pointwise eq_ident) p names (pos p) (all eq_ident ident names)
+fine_simple (Subrange o p e f) =
+    four (option_eq eq_qualified) eq_pos eq_expr eq_expr o p e f (option eq_qualified qualified o)
+    (pos p) (expr e) (expr f)
 
 abbrev eq_simple : Simple → Simple → Bool
 eq_simple = (SimpleEq.ghosts).eq
 
 simple : (a : Simple) → Sound eq_simple a
 simple a b h =
-    let s : simple_enum.as_values a ≡ simple_enum.as_values b = variants simple_enum.the_parts each_simple (simple_enum.as_values a) (simple_enum.as_values b) (fine_simple a) h in
+    let s : simple_enum.as_values a ≡ simple_enum.as_values b = variants simple_enum.the_parts
+    each_simple (simple_enum.as_values a) (simple_enum.as_values b) (fine_simple a) h in
     sym (simple_enum.the_eta a) ∙ (ap simple_enum.the_make s ∙ simple_enum.the_eta b)
 
 -- ---- types and their fields
@@ -125,7 +131,9 @@ each = (
     (
       λ a b. eq_pos a.0 b.0 && pointwise eq_field a.1.0 b.1.0,
       (
-        λ a b. eq_pos a.0 b.0 && (pointwise eq_parameter a.1.0 b.1.0 && option_eq eq_qualified a.1.1.0 b.1.1.0),
+        λ a b.
+            eq_pos a.0 b.0 && (pointwise eq_parameter a.1.0 b.1.0
+            && option_eq eq_qualified a.1.1.0 b.1.1.0),
         tt,
       ),
     ),
@@ -135,19 +143,29 @@ each = (
 fineT : (y : TypeExpr-F ST SF) → Fine the_parts each (split-TypeExpr V (bareT y))
 fineT (layer.Simple s) = one eq_simple s (simple s)
 fineT (layer.Array p s t) = three eq_pos eq_simple eq_type p s t.0 (pos p) (simple s) t.1
-fineT (layer.Record p fields) = two eq_pos (pointwise eq_field) p (map (λ e. e.0) fields) (pos p) (list eq_field (λ e. e.0) (λ e. e.1) fields)
-fineT (layer.Procedure p formals o) = three eq_pos (pointwise eq_parameter) (option_eq eq_qualified) p formals o (pos p) (all eq_parameter parameter formals) (option eq_qualified qualified o)
+fineT (layer.Record p fields) =
+    two eq_pos (pointwise eq_field) p (map (λ e. e.0) fields) (pos p)
+    (list eq_field (λ e. e.0) (λ e. e.1) fields)
+fineT (layer.Procedure p formals o) =
+    three eq_pos (pointwise eq_parameter) (option_eq eq_qualified) p formals o (pos p)
+    (all eq_parameter parameter formals) (option eq_qualified qualified o)
 
 abbrev testT : LayerT → LayerT → Bool
 testT v w = by false false the_parts each (split-TypeExpr V v) (split-TypeExpr V w)
 
 stepT : (x : LayerT) (y : TypeExpr-F ST SF) → bareT y ≡ x → Sound eq_type (roll-TypeExpr x)
 stepT x y q e h =
-    let c : eq_type (roll-TypeExpr x) e ≡ testT (out-TypeExpr (roll-TypeExpr x)) (out-TypeExpr e) = compared_is the_members V the_depth Bool true the_step local member-TypeExpr (roll-TypeExpr x) e in
-    let k : testT x (out-TypeExpr e) ≡ true = subst (λ (w : LayerT). testT w (out-TypeExpr e) ≡ true) (out-roll-TypeExpr x) (sym c ∙ h) in
-    let f : Fine the_parts each (split-TypeExpr V x) = subst (λ (w : LayerT). Fine the_parts each (split-TypeExpr V w)) q (fineT y) in
-    let s : split-TypeExpr V x ≡ split-TypeExpr V (out-TypeExpr e) = variants the_parts each (split-TypeExpr V x) (split-TypeExpr V (out-TypeExpr e)) f k in
-    let j : x ≡ out-TypeExpr e = sym (join-split-TypeExpr V x) ∙ (ap (join-TypeExpr V) s ∙ join-split-TypeExpr V (out-TypeExpr e)) in
+    let c : eq_type (roll-TypeExpr x) e ≡ testT (out-TypeExpr (roll-TypeExpr x)) (out-TypeExpr e) =
+    compared_is the_members V the_depth Bool true the_step local member-TypeExpr (roll-TypeExpr x)
+    e in
+    let k : testT x (out-TypeExpr e) ≡ true =
+    subst (λ (w : LayerT). testT w (out-TypeExpr e) ≡ true) (out-roll-TypeExpr x) (sym c ∙ h) in
+    let f : Fine the_parts each (split-TypeExpr V x) =
+    subst (λ (w : LayerT). Fine the_parts each (split-TypeExpr V w)) q (fineT y) in
+    let s : split-TypeExpr V x ≡ split-TypeExpr V (out-TypeExpr e) =
+    variants the_parts each (split-TypeExpr V x) (split-TypeExpr V (out-TypeExpr e)) f k in
+    let j : x ≡ out-TypeExpr e = sym (join-split-TypeExpr V x)
+    ∙ (ap (join-TypeExpr V) s ∙ join-split-TypeExpr V (out-TypeExpr e)) in
     ap roll-TypeExpr j ∙ roll-out-TypeExpr e
 
 abbrev LayerF : Type 0
@@ -162,10 +180,14 @@ testF v w = pointwise eq_ident v.names w.names && eq_type v.of w.of
 stepF : (x : LayerF) (y : Field-F ST SF) → bareF y ≡ x → Sound eq_field (roll-Field x)
 stepF x y q e h =
     let o = out-Field e in
-    let c : eq_field (roll-Field x) e ≡ testF (out-Field (roll-Field x)) o = compared_is the_members V the_depth Bool true the_step local member-Field (roll-Field x) e in
-    let k : testF (bareF y) o ≡ true = subst (λ (w : LayerF). testF w o ≡ true) (out-roll-Field x ∙ sym q) (sym c ∙ h) in
-    let m : y.names ≡ o.names = all eq_ident ident y.names o.names (first_so (pointwise eq_ident y.names o.names) (eq_type y.of.0 o.of) k) in
-    let s : y.of.0 ≡ o.of = y.of.1 o.of (second_so (pointwise eq_ident y.names o.names) (eq_type y.of.0 o.of) k) in
+    let c : eq_field (roll-Field x) e ≡ testF (out-Field (roll-Field x)) o =
+    compared_is the_members V the_depth Bool true the_step local member-Field (roll-Field x) e in
+    let k : testF (bareF y) o ≡ true =
+    subst (λ (w : LayerF). testF w o ≡ true) (out-roll-Field x ∙ sym q) (sym c ∙ h) in
+    let m : y.names ≡ o.names = all eq_ident ident y.names o.names
+    (first_so (pointwise eq_ident y.names o.names) (eq_type y.of.0 o.of) k) in
+    let s : y.of.0 ≡ o.of =
+    y.of.1 o.of (second_so (pointwise eq_ident y.names o.names) (eq_type y.of.0 o.of) k) in
     let j : bareF y ≡ o = λ i. record { names = m i; of = s i } in
     ap roll-Field (sym q ∙ j) ∙ roll-out-Field e
 

@@ -33,7 +33,8 @@ nothing_reported v = v ▷ λ x. Ok tt
 abbrev pub constant_meaning : {T : Type 0} → Result Value T → Result Meaning T
 constant_meaning v = v ▷ λ x. Ok (meaning.Constant x)
 
-abbrev pub with_constant : (g : Gathers) → State (Unit {0}) g.Reported → Constant → State (Unit {0}) g.Reported
+abbrev pub with_constant : (g : Gathers) → State (Unit {0}) g.Reported → Constant
+    → State (Unit {0}) g.Reported
 with_constant g st c =
     let b = begun g st.0 c.name in
     let v = constant g b.0 (part g c.value) in
@@ -59,28 +60,35 @@ brings_with t = brings_layer (out-TypeExpr t)
 abbrev pub type_meaning : {T : Type 0} → Result TypeNo T → ℕ → Result Meaning T
 type_meaning t n = t ▷ λ x. Ok (meaning.Type x n)
 
-abbrev pub with_type : (g : Gathers) → State (Unit {0}) g.Reported → TypeDecl → State (Unit {0}) g.Reported
+abbrev pub with_type : (g : Gathers) → State (Unit {0}) g.Reported → TypeDecl
+    → State (Unit {0}) g.Reported
 with_type g st d =
     let b = begun g st.0 d.name in
-    let t = type_of g d.of b.0 in
-    (finished t.0 d.name (type_meaning t.1 (brings_with d.of)), beside g st.1 (beside g b.1 (nothing_of t.1)))
+    let t = type_of g d.of b.0 in (
+      finished t.0 d.name (type_meaning t.1 (brings_with d.of)),
+      beside g st.1 (beside g b.1 (nothing_of t.1)),
+    )
 
 -- ---- variables: the names of one list together
 
-abbrev pub begun_name : (g : Gathers) → State (Unit {0}) g.Reported → Ident → State (Unit {0}) g.Reported
+abbrev pub begun_name : (g : Gathers) → State (Unit {0}) g.Reported → Ident
+    → State (Unit {0}) g.Reported
 begun_name g st name = let b = begun g st.0 name in (b.0, beside g st.1 b.1)
 
 abbrev pub variable_meaning : {T : Type 0} → ℕ → ℕ → Result TypeNo T → Result Meaning T
-variable_meaning home n t = t ▷ λ x. Ok (meaning.Variable (record { home = home; number = n; of = x }))
+variable_meaning home n t =
+    t ▷ λ x. Ok (meaning.Variable (record { home = home; number = n; of = x }))
 
 abbrev pub with_variable_type : {T : Type 0} → Scope T → Result TypeNo T → Scope T
 with_variable_type s (Ok t) = record s { variables = s.variables ++ t ∷ [] }
 with_variable_type s (Err e) = s
 
 abbrev pub finished_variable : {T : Type 0} → Result TypeNo T → Scope T → Ident → Scope T
-finished_variable t s name = finished (with_variable_type s t) name (variable_meaning s.types.home (length s.variables) t)
+finished_variable t s name =
+    finished (with_variable_type s t) name (variable_meaning s.types.home (length s.variables) t)
 
-abbrev pub with_variables : (g : Gathers) → State (Unit {0}) g.Reported → Variables → State (Unit {0}) g.Reported
+abbrev pub with_variables : (g : Gathers) → State (Unit {0}) g.Reported → Variables
+    → State (Unit {0}) g.Reported
 with_variables g st v =
     let b = fold (begun_name g) st v.names in
     let t = type_of g v.of b.0 in
@@ -89,16 +97,21 @@ with_variables g st v =
 -- ---- procedures
 
 abbrev pub procedure_meaning : {T : Type 0} → ℕ → ℕ → Result TypeNo T → Result Meaning T
-procedure_meaning home n t = t ▷ λ x. Ok (meaning.Procedure (record { home = home; number = n; heading = x }))
+procedure_meaning home n t =
+    t ▷ λ x. Ok (meaning.Procedure (record { home = home; number = n; heading = x }))
 
 abbrev pub with_procedure_type : {T : Type 0} → Scope T → Result TypeNo T → Scope T
 with_procedure_type s (Ok t) = record s { procedures = s.procedures ++ t ∷ [] }
 with_procedure_type s (Err e) = s
 
-abbrev pub declared_procedure : (g : Gathers) → Scope g.Reported → Ident → Result TypeNo g.Reported → State (Unit {0}) g.Reported
-declared_procedure g s name t = declared g (with_procedure_type s t) name (procedure_meaning s.types.home (length s.procedures) t)
+abbrev pub declared_procedure : (g : Gathers) → Scope g.Reported → Ident → Result TypeNo g.Reported
+    → State (Unit {0}) g.Reported
+declared_procedure g s name t =
+    declared g (with_procedure_type s t) name
+    (procedure_meaning s.types.home (length s.procedures) t)
 
-abbrev pub with_procedure : (g : Gathers) → State (Unit {0}) g.Reported → Heading → State (Unit {0}) g.Reported
+abbrev pub with_procedure : (g : Gathers) → State (Unit {0}) g.Reported → Heading
+    → State (Unit {0}) g.Reported
 with_procedure g st h =
     let t = with_made st.0 (heading_of g st.0 h) in
     let d = declared_procedure g t.0 h.name t.1 in
@@ -106,7 +119,8 @@ with_procedure g st h =
 
 -- ---- all of them
 
-abbrev pub with_def : (g : Gathers) → State (Unit {0}) g.Reported → Def → State (Unit {0}) g.Reported
+abbrev pub with_def : (g : Gathers) → State (Unit {0}) g.Reported → Def
+    → State (Unit {0}) g.Reported
 with_def g st (def.Constants cs) = fold (with_constant g) st cs
 with_def g st (def.Types ts) = fold (with_type g) st ts
 with_def g st (def.Variables vs) = fold (with_variables g) st vs

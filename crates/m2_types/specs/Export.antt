@@ -16,23 +16,27 @@ use Rattle.typed_tree.specs.declared.known_types.Types.{Types}
 
 -- ---- exports: what the block declares, in order
 
-abbrev pub with_meaning : {T : Type 0} → List (List ℕ × Meaning) → List ℕ → Result Meaning T → List (List ℕ × Meaning)
+abbrev pub with_meaning : {T : Type 0} → List (List ℕ × Meaning) → List ℕ → Result Meaning T
+    → List (List ℕ × Meaning)
 with_meaning so name (Ok m) = entered name m so
 with_meaning so name (Err e) = so
 
-abbrev pub with_declared : {T : Type 0} → List (List ℕ × Meaning) → List ℕ → Origin → Result Meaning T → List (List ℕ × Meaning)
+abbrev pub with_declared : {T : Type 0} → List (List ℕ × Meaning) → List ℕ → Origin
+    → Result Meaning T → List (List ℕ × Meaning)
 with_declared so name Here m = with_meaning so name m
 with_declared so name (Module k) m = so
 with_declared so name (Export k) m = so
 
-abbrev pub with_known : {T : Type 0} → List (List ℕ × Meaning) → List ℕ → Known T → List (List ℕ × Meaning)
+abbrev pub with_known : {T : Type 0} → List (List ℕ × Meaning) → List ℕ → Known T
+    → List (List ℕ × Meaning)
 with_known so name Later = so
 with_known so name Ahead = so
 with_known so name Begun = so
 with_known so name (Headed m) = with_meaning so name m
 with_known so name (Declared o m) = with_declared so name o m
 
-abbrev pub with_export : {T : Type 0} → List (List ℕ × Meaning) → List ℕ × Known T → List (List ℕ × Meaning)
+abbrev pub with_export : {T : Type 0} → List (List ℕ × Meaning) → List ℕ × Known T
+    → List (List ℕ × Meaning)
 with_export so e = with_known so e.0 e.1
 
 abbrev pub exports : {T : Type 0} → List (List ℕ × Known T) → List (List ℕ × Meaning)
@@ -60,14 +64,17 @@ abbrev pub with_place_if : List Table → List (List ℕ × ℕ) → List ℕ �
 with_place_if tables so name None = so
 with_place_if tables so name (Some k) = with_table_if so name (slice_get tables k)
 
-abbrev pub with_imported : List (List ℕ × ℕ) → List Table → List (List ℕ × ℕ) → Ident → List (List ℕ × ℕ)
+abbrev pub with_imported : List (List ℕ × ℕ) → List Table → List (List ℕ × ℕ) → Ident
+    → List (List ℕ × ℕ)
 with_imported modules tables so name = with_place_if tables so name.name (found name.name modules)
 
-abbrev pub with_imports_of : List (List ℕ × ℕ) → List Table → List (List ℕ × ℕ) → Option Ident → List Ident → List (List ℕ × ℕ)
+abbrev pub with_imports_of : List (List ℕ × ℕ) → List Table → List (List ℕ × ℕ) → Option Ident
+    → List Ident → List (List ℕ × ℕ)
 with_imports_of modules tables so None names = fold (with_imported modules tables) so names
 with_imports_of modules tables so (Some m) names = with_imported modules tables so m
 
-abbrev pub with_import_of : List (List ℕ × ℕ) → List Table → List (List ℕ × ℕ) → Import → List (List ℕ × ℕ)
+abbrev pub with_import_of : List (List ℕ × ℕ) → List Table → List (List ℕ × ℕ) → Import
+    → List (List ℕ × ℕ)
 with_import_of modules tables so i = with_imports_of modules tables so i.from i.names
 
 abbrev pub imported_modules : List (List ℕ × ℕ) → List Table → List Import → List (List ℕ × ℕ)

@@ -27,30 +27,43 @@ module _ {T : Type 0} where
 
   abbrev pub with_types : List (List ℕ × Known T) → List (List ℕ × Known T)
   with_types ns =
-      predeclared_as (codes "BITSET") (meaning.Type bitset 1) (predeclared_as (codes "CHAR") (meaning.Type char 1) (predeclared_as (codes "BOOLEAN") (meaning.Type boolean 1)
-      (predeclared_as (codes "CARDINAL") (meaning.Type cardinal 1) (predeclared_as (codes "INTEGER") (meaning.Type integer 1) ns))))
+      predeclared_as (codes "BITSET") (meaning.Type bitset 1)
+      (predeclared_as (codes "CHAR") (meaning.Type char 1)
+      (predeclared_as (codes "BOOLEAN") (meaning.Type boolean 1)
+      (predeclared_as (codes "CARDINAL") (meaning.Type cardinal 1)
+      (predeclared_as (codes "INTEGER") (meaning.Type integer 1) ns))))
 
 abbrev pub truth : ℤ → Meaning
 truth n = meaning.Constant (value.Scalar (record { of = boolean; base = boolean; number = n }))
 
 module _ {T : Type 0} where
   abbrev pub with_truth : List (List ℕ × Known T) → List (List ℕ × Known T)
-  with_truth ns = predeclared_as (codes "TRUE") (truth (pos 1)) (predeclared_as (codes "FALSE") (truth (pos 0)) ns)
+  with_truth ns =
+      predeclared_as (codes "TRUE") (truth (pos 1))
+      (predeclared_as (codes "FALSE") (truth (pos 0)) ns)
 
   abbrev pub with_functions : List (List ℕ × Known T) → List (List ℕ × Known T)
   with_functions ns =
-      predeclared_as (codes "HIGH") (meaning.Standard High) (predeclared_as (codes "CHR") (meaning.Standard Chr)
-      (predeclared_as (codes "CAP") (meaning.Standard Cap) (predeclared_as (codes "ABS") (meaning.Standard Abs) ns)))
+      predeclared_as (codes "HIGH") (meaning.Standard High)
+      (predeclared_as (codes "CHR") (meaning.Standard Chr)
+      (predeclared_as (codes "CAP") (meaning.Standard Cap)
+      (predeclared_as (codes "ABS") (meaning.Standard Abs) ns)))
 
   abbrev pub with_bounds : List (List ℕ × Known T) → List (List ℕ × Known T)
   with_bounds ns =
-      predeclared_as (codes "VAL") (meaning.Standard Val) (predeclared_as (codes "ORD") (meaning.Standard Ord) (predeclared_as (codes "ODD") (meaning.Standard Odd)
-      (predeclared_as (codes "MIN") (meaning.Standard Min) (predeclared_as (codes "MAX") (meaning.Standard Max) ns))))
+      predeclared_as (codes "VAL") (meaning.Standard Val)
+      (predeclared_as (codes "ORD") (meaning.Standard Ord)
+      (predeclared_as (codes "ODD") (meaning.Standard Odd)
+      (predeclared_as (codes "MIN") (meaning.Standard Min)
+      (predeclared_as (codes "MAX") (meaning.Standard Max) ns))))
 
   abbrev pub with_procedures : List (List ℕ × Known T) → List (List ℕ × Known T)
   with_procedures ns =
-      predeclared_as (codes "HALT") (meaning.Standard Halt) (predeclared_as (codes "EXCL") (meaning.Standard Excl) (predeclared_as (codes "INCL") (meaning.Standard Incl)
-      (predeclared_as (codes "DEC") (meaning.Standard Dec) (predeclared_as (codes "INC") (meaning.Standard Inc) ns))))
+      predeclared_as (codes "HALT") (meaning.Standard Halt)
+      (predeclared_as (codes "EXCL") (meaning.Standard Excl)
+      (predeclared_as (codes "INCL") (meaning.Standard Incl)
+      (predeclared_as (codes "DEC") (meaning.Standard Dec)
+      (predeclared_as (codes "INC") (meaning.Standard Inc) ns))))
 
   unfoldable pub predeclared : List (List ℕ × Known T)
   predeclared = with_procedures (with_bounds (with_functions (with_truth (with_types []))))
@@ -58,12 +71,19 @@ module _ {T : Type 0} where
 -- ---- Console
 
 unfoldable pub console : Table
-console = record { number = 4294967295; name = codes "Console"; imports = []; exported = (codes "Put", meaning.Standard Put) ∷ []; reached = [] }
+console = record {
+  number = 4294967295;
+  name = codes "Console";
+  imports = [];
+  exported = (codes "Put", meaning.Standard Put) ∷ [];
+  reached = [];
+}
 
 -- ---- the types that can be met through tables: each module's once
 
 abbrev pub with_reached : List (ℕ × List Made) → ModuleTypes → List (ℕ × List Made)
-with_reached so m = cond (is_some (lookup (nat_eq m.number) so)) so (insert_entry nat_eq so m.number m.made)
+with_reached so m =
+    cond (is_some (lookup (nat_eq m.number) so)) so (insert_entry nat_eq so m.number m.made)
 
 abbrev pub with_table : List (ℕ × List Made) → Table → List (ℕ × List Made)
 with_table so t = fold with_reached so t.reached

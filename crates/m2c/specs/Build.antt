@@ -47,14 +47,18 @@ pub record Reported : Type 0 where
   pub number : ℕ
 
 abbrev pub reported : Refusal → Reported
-reported r = record { file = string_bytes r.file; line = r.pos.line; column = r.pos.col; number = r.number }
+reported r =
+    record { file = string_bytes r.file; line = r.pos.line; column = r.pos.col; number = r.number }
 
 abbrev pub reported_at : (file : List ℕ) (line column number : ℕ) → Reported
-reported_at file line column number = record { file = file; line = line; column = column; number = number }
+reported_at file line column number =
+    record { file = file; line = line; column = column; number = number }
 
--- the refusals are these, in order of the names of their files, and as they are found where these are equal
+-- the refusals are these, in order of the names of their files, and as they are found where these
+-- are equal
 abbrev pub AreReported : List Reported → List Refusal → Type 0
-AreReported all refusals = (found : List Refusal) × (map reported found ≡ all) × AreInOrder found refusals
+AreReported all refusals =
+    (found : List Refusal) × (map reported found ≡ all) × AreInOrder found refusals
 
 -- ---- texts
 
@@ -101,20 +105,24 @@ refusal_in file (Some jobs.Blocked) = []
 refusal_in file None = []
 
 -- the rules that the modules of these files break, of which the first has this place
-abbrev pub refused_from : (result : ℕ → Option Compiled) → ℕ → List (List ℕ × Module) → List Reported
+abbrev pub refused_from : (result : ℕ → Option Compiled) → ℕ → List (List ℕ × Module)
+    → List Reported
 refused_from result n [] = []
 refused_from result n (f ∷ fs) = refusal_in f.0 (result n) ++ refused_from result (n + 1) fs
 
 -- what became of the module of a file
-abbrev pub result_at : List (List ℕ × Module) → (files : List ℕ) → (jobs : List (List ℕ)) → (file : ℕ) → Option Compiled
+abbrev pub result_at : List (List ℕ × Module) → (files : List ℕ) → (jobs : List (List ℕ))
+    → (file : ℕ) → Option Compiled
 result_at trees files all_jobs = result_of files (all_compiled (modules trees) files all_jobs)
 
 -- the rules that modules break, in the order in which the files were given
-abbrev pub refused_by : List (List ℕ × Module) → (files : List ℕ) → (jobs : List (List ℕ)) → List Reported
+abbrev pub refused_by : List (List ℕ × Module) → (files : List ℕ) → (jobs : List (List ℕ))
+    → List Reported
 refused_by trees files all_jobs = refused_from (result_at trees files all_jobs) 0 trees
 
 -- the modules that start
-abbrev pub started : List (List ℕ × Module) → (files : List ℕ) → (jobs : List (List ℕ)) → (starts : List ℕ) → List ModuleBytes
+abbrev pub started : List (List ℕ × Module) → (files : List ℕ) → (jobs : List (List ℕ))
+    → (starts : List ℕ) → List ModuleBytes
 started trees files all_jobs starts = modules_at (result_at trees files all_jobs) starts
 
 -- ---- modules
@@ -139,7 +147,8 @@ AreEncoded [] (m ∷ ms) = ⊥
 AreEncoded (b ∷ bs) [] = ⊥
 
 -- the bytes of link, and in start order the name and the bytes of each module that is reached
-pub record IsCode (p : Modules) (pages : ℕ) (link : List ℕ) (built : List (List ℕ × List ℕ)) : Type 0 where
+pub record IsCode (p : Modules) (pages : ℕ) (link : List ℕ) (built : List (List ℕ × List ℕ))
+    : Type 0 where
   pub link_encoded : Encodes link (typed_link p pages)
   pub body_bytes : built ≡ map built_of p
   pub encoded : AreEncoded (map (λ m. m.1) built) (map typed_module p)
@@ -155,10 +164,14 @@ pub record AreUnread (files : List SourceFile) (refusals : List Refusal) : Type 
 
 -- each text has a tree, and imports break rules
 abbrev pub AreUngraphed : List SourceFile → Vec Refusal → Type 0
-AreUngraphed files refusals = (trees : List (List ℕ × Module)) × AreTrees files trees × IsRefusal (numbered 0 trees) (graph_error.Refused refusals)
+AreUngraphed files refusals =
+    (trees : List (List ℕ × Module)) × AreTrees files trees
+    × IsRefusal (numbered 0 trees) (graph_error.Refused refusals)
 
--- the files have this graph: the file of each job, what each job needs, and the files of the bodies in start order
-pub record HaveGraph (files : List SourceFile) (trees : List (List ℕ × Module)) (numbers : List ℕ) (all_jobs : List (List ℕ)) (starts : List ℕ) : Type 0 where
+-- the files have this graph: the file of each job, what each job needs, and the files of the bodies
+-- in start order
+pub record HaveGraph (files : List SourceFile) (trees : List (List ℕ × Module)) (numbers : List ℕ)
+    (all_jobs : List (List ℕ)) (starts : List ℕ) : Type 0 where
   pub are_trees : AreTrees files trees
   pub is_graph : IsGraph (numbered 0 trees) numbers all_jobs starts
   pub each : CompileEach (numbered 0 trees) numbers
@@ -198,12 +211,15 @@ pub record IsTooLarge (files : List SourceFile) (pages : ℕ) (refusals : List R
   pub program : Modules
   pub typed : AreTyped (modules trees) numbers all_jobs starts program
   pub too_large : 65536 * pages < data_and_stack program
-  pub reported : AreReported (reported_at (program_file trees) 1 1 (number_of rule.LargeProgram) ∷ []) refusals
+  pub reported :
+      AreReported (reported_at (program_file trees) 1 1 (number_of rule.LargeProgram) ∷ []) refusals
 
--- No module breaks a rule. Those that are reached are compiled to valid modules, which link and do what the program does by
--- the language's definition: they print the same bytes and end with the same number, and they go on where it goes on. Nothing
--- that the program's run asks for is missing: it is the strict run, and ends with no number that stands for a lack.
-pub record IsProgram (files : List SourceFile) (pages : ℕ) (link : List ℕ) (built : List (List ℕ × List ℕ)) : Type 0 where
+-- No module breaks a rule. Those that are reached are compiled to valid modules, which link and do
+-- what the program does by the language's definition: they print the same bytes and end with the
+-- same number, and they go on where it goes on. Nothing that the program's run asks for is missing:
+-- it is the strict run, and ends with no number that stands for a lack.
+pub record IsProgram (files : List SourceFile) (pages : ℕ) (link : List ℕ)
+    (built : List (List ℕ × List ℕ)) : Type 0 where
   pub trees : List (List ℕ × Module)
   pub numbers : List ℕ
   pub all_jobs : List (List ℕ)
@@ -216,19 +232,26 @@ pub record IsProgram (files : List SourceFile) (pages : ℕ) (link : List ℕ) (
   pub code : IsCode program pages link built
   pub links : (c : Config) × (linked (typed_link program pages ∷ map typed_module program) ≡ Ok c)
   pub valid : All IsValid (typed_link program pages ∷ map typed_module program)
-  pub behaves : (c : Config) × (linked (typed_link program pages ∷ map typed_module program) ≡ Ok c) × Behaves (typed_link program pages ∷ map typed_module program) c (run program pages)
+  pub behaves : (c : Config) × (linked (typed_link program pages ∷ map typed_module program) ≡ Ok c)
+      × Behaves (typed_link program pages ∷ map typed_module program) c (run program pages)
   pub strict : (lacking n : ℕ) → strict_run lacking program pages n ≡ run program pages n
-  pub whole : (lacking n : ℕ) → halted < lacking → (out : List ℕ) → strict_run lacking program pages n ≢ Stopped lacking out
+  pub whole : (lacking n : ℕ) → halted < lacking → (out : List ℕ)
+      → strict_run lacking program pages n ≢ Stopped lacking out
 
--- The outcome of a build of these files. Rules of tokens and of the grammar come first, then those of imports, then those
--- of modules, and then what does not fit into the memory.
+-- The outcome of a build of these files. Rules of tokens and of the grammar come first, then those
+-- of imports, then those of modules, and then what does not fit into the memory.
 abbrev pub IsBuilt : List SourceFile → (pages : ℕ) → Outcome → Type 0
-IsBuilt files pages (outcome.Refused refusals) = AreUnread files refusals.items ⊎ (AreUngraphed files refusals ⊎ (AreUncompiled files refusals.items ⊎ IsTooLarge files pages refusals.items))
-IsBuilt files pages (outcome.Built link built) = IsProgram files pages link.items (map named built.items)
+IsBuilt files pages (outcome.Refused refusals) =
+    AreUnread files refusals.items
+    ⊎ (AreUngraphed files refusals
+    ⊎ (AreUncompiled files refusals.items ⊎ IsTooLarge files pages refusals.items))
+IsBuilt files pages (outcome.Built link built) =
+    IsProgram files pages link.items (map named built.items)
 
 -- the same is reported, or the same modules are built
 abbrev pub AreAlike : Outcome → Outcome → Type 0
 AreAlike (outcome.Refused rs) (outcome.Refused qs) = map reported rs.items ≡ map reported qs.items
 AreAlike (outcome.Refused rs) (outcome.Built link built) = ⊥
 AreAlike (outcome.Built link built) (outcome.Refused qs) = ⊥
-AreAlike (outcome.Built link built) (outcome.Built other others) = (link.items ≡ other.items) × (map named built.items ≡ map named others.items)
+AreAlike (outcome.Built link built) (outcome.Built other others) =
+    (link.items ≡ other.items) × (map named built.items ≡ map named others.items)

@@ -50,7 +50,8 @@ abbrev pub save_words : (front : List ℕ) → SaveFault → List ℕ
 save_words front save.NoMemory = front ++ codes "refusal 90\n"
 save_words front save.Device = front ++ codes "cannot write into the directory\n"
 
--- one line on the second stream, or nothing, with what the files' directory says in front and behind
+-- one line on the second stream, or nothing, with what the files' directory says in front and
+-- behind
 abbrev pub words : (front reason : List ℕ) → Options → Ending → List ℕ
 words front reason options (Unbuilt fault) = fault_words front options fault
 words front reason options (Unread name) = unread_words front reason name.now

@@ -28,7 +28,8 @@ abbrev pub modules_at : (result : ℕ → Option Compiled) → (starts : List �
 modules_at result starts = flat_map (λ s. module_in (result s)) starts
 
 -- the module of a file breaks no rule, and this is its body
-pub record IsTyped (trees : List Module) (files : List ℕ) (jobs : List (List ℕ)) (file : ℕ) (t : TypedModule) : Type 0 where
+pub record IsTyped (trees : List Module) (files : List ℕ) (jobs : List (List ℕ)) (file : ℕ)
+    (t : TypedModule) : Type 0 where
   pub tree : Module
   pub is_tree : slice_get trees file ≡ Some tree
   pub job : ℕ
@@ -36,8 +37,10 @@ pub record IsTyped (trees : List Module) (files : List ℕ) (jobs : List (List �
   pub typed : typed_body tree job (tables_of (needed_of trees files jobs job)) ≡ Ok t
 
 -- the same of all that start
-abbrev pub AreTyped : List Module → (files : List ℕ) → (jobs : List (List ℕ)) → (starts : List ℕ) → Modules → Type 0
+abbrev pub AreTyped : List Module → (files : List ℕ) → (jobs : List (List ℕ)) → (starts : List ℕ)
+    → Modules → Type 0
 AreTyped trees files jobs [] [] = Unit {0}
-AreTyped trees files jobs (s ∷ ss) (t ∷ ts) = IsTyped trees files jobs s t × AreTyped trees files jobs ss ts
+AreTyped trees files jobs (s ∷ ss) (t ∷ ts) =
+    IsTyped trees files jobs s t × AreTyped trees files jobs ss ts
 AreTyped trees files jobs [] (t ∷ ts) = ⊥
 AreTyped trees files jobs (s ∷ ss) [] = ⊥

@@ -1,6 +1,7 @@
 -- Names of modules.
 use Rattle.std.specs.Prelude.{ℕ, ◌<◌, ◌≤◌, List, length, All}
 
--- letters and digits, as in every name: the bytes from the digit 0 to the letter z, at most 64 of them
+-- letters and digits, as in every name: the bytes from the digit 0 to the letter z, at most 64 of
+-- them
 abbrev pub IsName : List ℕ → Type 0
 IsName name = (length name ≤ 64) × All (λ b. (48 ≤ b) × (b < 123)) name

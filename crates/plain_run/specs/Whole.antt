@@ -22,7 +22,8 @@ abbrev pub reported : Report → Course
 reported x = answered_end x.end x.out
 
 -- what stands around the body of a module
-pub record IsBodyAround (program : Program) (home : Prepared) (place left : ℕ) (a : Around) : Type 0 where
+pub record IsBodyAround (program : Program) (home : Prepared) (place left : ℕ) (a : Around)
+    : Type 0 where
   pub of : a.program.now ≡ program
   pub nests : a.depth ≡ program.bound
   pub at : a.place ≡ place

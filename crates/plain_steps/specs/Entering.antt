@@ -17,12 +17,16 @@ abbrev pub begun_of : Begun → Meant → Entered
 begun_of b st = record { names = names_of b.names; next = b.next; store = st.store }
 
 -- what stands around the body of a call
-pub record IsBodyOf (program : Program) (depth : ℕ) (c : Callee) (activation : ℕ) (b : Begun) (left : ℕ) (a : Around) : Type 0 where
+pub record IsBodyOf (program : Program) (depth : ℕ) (c : Callee) (activation : ℕ) (b : Begun)
+    (left : ℕ) (a : Around) : Type 0 where
   pub of : a.program.now ≡ program
   pub nests : a.depth ≡ depth
   pub place : a.place ≡ c.place
   pub home : a.home ≡ c.home
-  pub frames : frames_of a.frames ≡ (names_of b.names ++ variables_from activation (length (names_of b.names)) c.routine.now.variables) ∷ frames_of c.frames
+  pub frames : frames_of a.frames
+      ≡ (names_of b.names
+      ++ variables_from activation (length (names_of b.names)) c.routine.now.variables)
+      ∷ frames_of c.frames
   pub withs : a.withs ≡ []
   pub next : a.next ≡ b.next
   pub free : a.left ≡ left

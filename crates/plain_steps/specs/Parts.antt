@@ -44,19 +44,30 @@ answered_all (answer.Stopped s) st = stopped s st
 -- ---- two parts, one after the other
 
 unfoldable pub pair_in : Around → (first second : TypedExpr) → Meant → Given Operands
-pair_in a e e' st = then_give (value_in a e st) (λ x st. then_give (value_in a e' st) (λ y st. Gave (record { first = x; second = y }) st))
+pair_in a e e' st =
+    then_give (value_in a e st) (λ x st.
+    then_give (value_in a e' st) (λ y st. Gave (record { first = x; second = y }) st))
 
 unfoldable pub in_in : Around → (element set : TypedExpr) → Meant → Given ℤ
-in_in a e e' st = then_give (value_in a e st) (λ x st. then_give (within (pos 0) (pos 31) range_fault x st) (λ x st. then_give (value_in a e' st) (λ s st. Gave (truth (has s x)) st)))
+in_in a e e' st =
+    then_give (value_in a e st) (λ x st.
+    then_give (within (pos 0) (pos 31) range_fault x st) (λ x st.
+    then_give (value_in a e' st) (λ s st. Gave (truth (has s x)) st)))
 
 unfoldable pub target_in : Around → Place → TypedExpr → Meant → Given Target
-target_in a d e st = then_give (located_in a d st) (λ l st. then_give (value_in a e st) (λ v st. Gave (record { l = l; v = v }) st))
+target_in a d e st =
+    then_give (located_in a d st) (λ l st.
+    then_give (value_in a e st) (λ v st. Gave (record { l = l; v = v }) st))
 
 unfoldable pub ends_in : Around → (to from : Place) → Meant → Given Ends
-ends_in a d d' st = then_give (located_in a d st) (λ l st. then_give (located_in a d' st) (λ l' st. Gave (record { to = l; from = l' }) st))
+ends_in a d d' st =
+    then_give (located_in a d st) (λ l st.
+    then_give (located_in a d' st) (λ l' st. Gave (record { to = l; from = l' }) st))
 
 unfoldable pub asked_in : Around → Option Asked → List Argument → Meant → Given ℤ
-asked_in a c xs st = then_give (all_given_in a xs st) (λ vs st. asks_of a c vs (surroundings a).next (surroundings a).left st)
+asked_in a c xs st =
+    then_give (all_given_in a xs st) (λ vs st.
+    asks_of a c vs (surroundings a).next (surroundings a).left st)
 
 -- the empty procedure is a fault before the arguments
 abbrev pub asked_if_in : Around → Option Asked → List Argument → Meant → Given ℤ
@@ -77,26 +88,35 @@ loop_in a body n st = looped n (steps_in a body) st
 -- the control variable, its start, and the limit
 unfoldable pub turns_in : Around → Place → TypeNo → (start limit : TypedExpr) → Meant → Given Turns
 turns_in a d t start limit st =
-    then_give (located_in a d st) (λ l st. then_give (value_in a start st) (λ v st. then_give (as_type (surroundings a).types t v st) (λ v st. then_give (value_in a limit st) (λ last st.
-    Gave (record { l = l; v = v; last = last }) st))))
+    then_give (located_in a d st) (λ l st.
+    then_give (value_in a start st) (λ v st.
+    then_give (as_type (surroundings a).types t v st) (λ v st.
+    then_give (value_in a limit st) (λ last st. Gave (record { l = l; v = v; last = last }) st))))
 
-unfoldable pub for_in : Around → TypeNo → (by : ℤ) → List TypedStmt → (l : Location) → (last : ℤ) → ℕ → Meant → Course
-for_in a t by body l last n st = for_turns n (as_type (surroundings a).types t) l by last (steps_in a body) st
+unfoldable pub for_in : Around → TypeNo → (by : ℤ) → List TypedStmt → (l : Location) → (last : ℤ)
+    → ℕ → Meant → Course
+for_in a t by body l last n st =
+    for_turns n (as_type (surroundings a).types t) l by last (steps_in a body) st
 
 unfoldable pub for_begun : Around → TypeNo → (by : ℤ) → List TypedStmt → Turns → Meant → Course
-for_begun a t by body x st = for_all a.program.now.bound (as_type (surroundings a).types t) x.l by x.last (steps_in a body) (stored x.l x.v st)
+for_begun a t by body x st =
+    for_all a.program.now.bound (as_type (surroundings a).types t) x.l by x.last (steps_in a body)
+    (stored x.l x.v st)
 
 -- ---- WITH
 
 unfoldable pub under_in : Around → Location → List TypedStmt → Meant → Course
-under_in a l body st = in_turn (map (does (modules_of a.program.now) (asks_of a) a.program.now.bound) body) (record (surroundings a) { withs = (surroundings a).withs ++ l ∷ [] }) st
+under_in a l body st =
+    in_turn (map (does (modules_of a.program.now) (asks_of a) a.program.now.bound) body)
+    (record (surroundings a) { withs = (surroundings a).withs ++ l ∷ [] }) st
 
 -- ---- CASE
 
 -- the first arm with a label for the value
 abbrev pub first_arm : ℤ → List TypedArm → Option TypedArm
 first_arm v [] = None
-first_arm v (x ∷ xs) = if list_any (is_labelled v) (out-TypedArm x).labels then Some x else first_arm v xs
+first_arm v (x ∷ xs) =
+    if list_any (is_labelled v) (out-TypedArm x).labels then Some x else first_arm v xs
 
 -- its statements, or else these
 unfoldable pub cased : Around → Option TypedArm → (Meant → Course) → Meant → Course
@@ -118,7 +138,10 @@ found_callee p (Some x) = module_callee p x.place x.number
 abbrev pub entries_at : (place : ℕ) → Modules → ℕ → Option Found
 entries_at place [] k = None
 entries_at place (m ∷ ms) zero = None
-entries_at place (m ∷ ms) (suc j) = if nat_lt j (length m.procedures) then Some (record { place = place; number = j }) else entries_at (suc place) ms (j - length m.procedures)
+entries_at place (m ∷ ms) (suc j) =
+    if nat_lt j (length m.procedures)
+    then Some (record { place = place; number = j })
+    else entries_at (suc place) ms (j - length m.procedures)
 
 -- ---- pieces of statements
 
@@ -127,4 +150,7 @@ text_put text l st = Went (record st { store = placed l (character text) st.stor
 
 -- whether the turns of a FOR are over, after one of them
 unfoldable pub stepped : Types → TypeNo → Location → (by last : ℤ) → Meant → Given Bool
-stepped types t l by last st = if has_passed by last (st.store l +ℤ by) then Gave true st else then_give (as_type types t (st.store l +ℤ by) st) (λ v st. Gave false (stored l v st))
+stepped types t l by last st =
+    if has_passed by last (st.store l +ℤ by)
+    then Gave true st
+    else then_give (as_type types t (st.store l +ℤ by) st) (λ v st. Gave false (stored l v st))

@@ -81,7 +81,8 @@ field_blank known f = blank_in known f.1
 abbrev pub shape_blank : Types → List Kept → TypeNo → Shape → Blank
 shape_blank types known t (shape.Scalar s) = cell_blank (scalar_kind t s)
 shape_blank types known t shape.Set = word_blank
-shape_blank types known t (shape.Array i e) = array_blank (elements_of (scalar_at types i)) (blank_in known e)
+shape_blank types known t (shape.Array i e) =
+    array_blank (elements_of (scalar_at types i)) (blank_in known e)
 shape_blank types known t (shape.Record fs) = row_blank (map (field_blank known) fs)
 shape_blank types known t (shape.Procedure p) = word_blank
 shape_blank types known t (shape.Open e) = row_blank []
@@ -92,7 +93,11 @@ abbrev pub kept : ℕ → List Blank → Kept
 kept home bs = record { home = home; blanks = bs }
 
 abbrev pub with_made : Types → List Kept → (home : ℕ) → List Blank → Made → List Blank
-with_made types before home bs m = bs ++ shape_blank types (kept home bs ∷ before) (record { home = Module home; number = length bs }) m.shape ∷ []
+with_made types before home bs m =
+    bs
+    ++ shape_blank types (kept home bs ∷ before) (record { home = Module home; number = length bs })
+    m.shape
+    ∷ []
 
 abbrev pub module_blanks : Types → List Kept → (home : ℕ) → List Made → List Blank
 module_blanks types before home ms = fold (with_made types before home) [] ms
@@ -108,18 +113,25 @@ abbrev pub other_blanks : Types → List Kept
 other_blanks types = fold (with_module types) [] types.others
 
 unfoldable pub known_blanks : Types → List Kept
-known_blanks types = kept types.home (module_blanks types (other_blanks types) types.home types.own) ∷ other_blanks types
+known_blanks types =
+    kept types.home (module_blanks types (other_blanks types) types.home types.own)
+    ∷ other_blanks types
 
 -- ---- frames and modules
 
 abbrev pub formal_blank : List Kept → Formal → Blank
-formal_blank known f = if f.is_open then row_blank (hidden_blank 4 ∷ hidden_blank 4 ∷ []) else (if f.is_var then hidden_blank 4 else blank_in known f.of)
+formal_blank known f =
+    if f.is_open
+    then row_blank (hidden_blank 4 ∷ hidden_blank 4 ∷ [])
+    else (if f.is_var then hidden_blank 4 else blank_in known f.of)
 
 abbrev pub header_blank : Blank
 header_blank = row_blank (hidden_blank 8 ∷ hidden_blank 8 ∷ [])
 
 abbrev pub frame_blank : Types → List Kept → Routine → Blank
-frame_blank types known r = row_blank (header_blank ∷ (map (formal_blank known) (formals_of types r.heading) ++ map (blank_in known) r.variables))
+frame_blank types known r =
+    row_blank (header_blank ∷ (map (formal_blank known) (formals_of types r.heading)
+    ++ map (blank_in known) r.variables))
 
 -- the variables of a module
 abbrev pub variables_of : TypedModule → Blank

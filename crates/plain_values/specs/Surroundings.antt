@@ -40,13 +40,25 @@ abbrev pub frames_of : List (List Named) → List (List Name)
 frames_of fs = map (map name_of) fs
 
 unfoldable pub surroundings : Around → Setting
-surroundings a = record { place = a.place; types = a.home.body.now.types; frames = frames_of a.frames; withs = a.withs; next = a.next; left = a.left }
+surroundings a = record {
+  place = a.place;
+  types = a.home.body.now.types;
+  frames = frames_of a.frames;
+  withs = a.withs;
+  next = a.next;
+  left = a.left;
+}
 
 unfoldable pub asks_of : Around → Asks
 asks_of a = calling (modules_of a.program.now) a.program.now.bound a.depth
 
 unfoldable pub callee_of : Callee → Asked
-callee_of c = record { place = c.place; types = c.home.body.now.types; routine = c.routine.now; frames = frames_of c.frames }
+callee_of c = record {
+  place = c.place;
+  types = c.home.body.now.types;
+  routine = c.routine.now;
+  frames = frames_of c.frames;
+}
 
 abbrev pub sent : Passed → Sent
 sent (passed.Number v) = Number v
@@ -67,37 +79,53 @@ called_in a c st = called (modules_of a.program.now) (asks_of a) c (surroundings
 
 module _ (p : Modules) (ask : Asks) where
   unfoldable pub linked : Link → Continues
-  linked = fold-Link (Gives Sent) (Gives ℤ) Reaches Continues (Gives ℤ) (Gives Location) (argument_layer p ask) (call_layer p ask) (component_layer p ask) (link_layer p ask) (expr_layer p ask) (place_layer p ask)
+  linked =
+      fold-Link (Gives Sent) (Gives ℤ) Reaches Continues (Gives ℤ) (Gives Location)
+      (argument_layer p ask) (call_layer p ask) (component_layer p ask) (link_layer p ask)
+      (expr_layer p ask) (place_layer p ask)
 
   unfoldable pub reached : Component → Reaches
-  reached = fold-Component (Gives Sent) (Gives ℤ) Reaches Continues (Gives ℤ) (Gives Location) (argument_layer p ask) (call_layer p ask) (component_layer p ask) (link_layer p ask) (expr_layer p ask) (place_layer p ask)
+  reached =
+      fold-Component (Gives Sent) (Gives ℤ) Reaches Continues (Gives ℤ) (Gives Location)
+      (argument_layer p ask) (call_layer p ask) (component_layer p ask) (link_layer p ask)
+      (expr_layer p ask) (place_layer p ask)
 
   unfoldable pub given : Argument → Gives Sent
-  given = fold-Argument (Gives Sent) (Gives ℤ) Reaches Continues (Gives ℤ) (Gives Location) (argument_layer p ask) (call_layer p ask) (component_layer p ask) (link_layer p ask) (expr_layer p ask) (place_layer p ask)
+  given =
+      fold-Argument (Gives Sent) (Gives ℤ) Reaches Continues (Gives ℤ) (Gives Location)
+      (argument_layer p ask) (call_layer p ask) (component_layer p ask) (link_layer p ask)
+      (expr_layer p ask) (place_layer p ask)
 
 unfoldable pub linked_in : Around → Link → ℤ → Meant → Given ℤ
 linked_in a l x st = linked (modules_of a.program.now) (asks_of a) l x (surroundings a) st
 
 unfoldable pub links_in : Around → List Link → ℤ → Meant → Given ℤ
-links_in a ls x st = one_by_one (map (linked (modules_of a.program.now) (asks_of a)) ls) x (surroundings a) st
+links_in a ls x st =
+    one_by_one (map (linked (modules_of a.program.now) (asks_of a)) ls) x (surroundings a) st
 
 unfoldable pub reached_in : Around → Component → Location → Meant → Given Location
 reached_in a c l st = reached (modules_of a.program.now) (asks_of a) c l (surroundings a) st
 
 unfoldable pub components_in : Around → List Component → Location → Meant → Given Location
-components_in a cs l st = one_by_one (map (reached (modules_of a.program.now) (asks_of a)) cs) l (surroundings a) st
+components_in a cs l st =
+    one_by_one (map (reached (modules_of a.program.now) (asks_of a)) cs) l (surroundings a) st
 
 unfoldable pub given_in : Around → Argument → Meant → Given Sent
 given_in a x st = given (modules_of a.program.now) (asks_of a) x (surroundings a) st
 
 unfoldable pub all_given_in : Around → List Argument → Meant → Given (List Sent)
-all_given_in a xs st = all_given (modules_of a.program.now) (asks_of a) (map (given (modules_of a.program.now) (asks_of a)) xs) (surroundings a) st
+all_given_in a xs st =
+    all_given (modules_of a.program.now) (asks_of a)
+    (map (given (modules_of a.program.now) (asks_of a)) xs) (surroundings a) st
 
 unfoldable pub does_in : Around → TypedStmt → Meant → Course
-does_in a s st = does (modules_of a.program.now) (asks_of a) a.program.now.bound s (surroundings a) st
+does_in a s st =
+    does (modules_of a.program.now) (asks_of a) a.program.now.bound s (surroundings a) st
 
 unfoldable pub steps_in : Around → List TypedStmt → Meant → Course
-steps_in a ss st = in_turn (map (does (modules_of a.program.now) (asks_of a) a.program.now.bound) ss) (surroundings a) st
+steps_in a ss st =
+    in_turn (map (does (modules_of a.program.now) (asks_of a) a.program.now.bound) ss)
+    (surroundings a) st
 
 -- ---- surroundings that are made
 
@@ -105,4 +133,5 @@ steps_in a ss st = in_turn (map (does (modules_of a.program.now) (asks_of a) a.p
 pub record IsUnder (a : Around) (l : Location) (inner : Around) : Type 0 where
   pub program : inner.program.now ≡ a.program.now
   pub asks : asks_of inner ≡ asks_of a
-  pub setting : surroundings inner ≡ record (surroundings a) { withs = (surroundings a).withs ++ l ∷ [] }
+  pub setting :
+      surroundings inner ≡ record (surroundings a) { withs = (surroundings a).withs ++ l ∷ [] }

@@ -7,10 +7,15 @@ prerequisites_of graph job = slice_index_or graph job []
 
 -- each prerequisite is smaller than the job, and stands once
 abbrev pub IsJob : List ℕ → ℕ → Type 0
-IsJob prerequisites job = (p : ℕ) → (0 < times p prerequisites → p < job) × (times p prerequisites ≤ 1)
+IsJob prerequisites job =
+    (p : ℕ) → (0 < times p prerequisites → p < job) × (times p prerequisites ≤ 1)
 
 abbrev pub IsJobGraph : List (List ℕ) → Type 0
-IsJobGraph graph = (job p : ℕ) → job < length graph → (0 < times p (prerequisites_of graph job) → p < job) × (times p (prerequisites_of graph job) ≤ 1)
+IsJobGraph graph =
+    (job p : ℕ)
+    → job < length graph
+    → (0 < times p (prerequisites_of graph job) → p < job)
+    × (times p (prerequisites_of graph job) ≤ 1)
 
 -- every mark is that of a smaller job
 abbrev pub AreBelow : List (Option ℕ) → ℕ → Type 0
@@ -19,7 +24,10 @@ AreBelow marks job = (p : ℕ) → IfSome (slice_index_or marks p None) (λ mark
 -- the jobs that name the job, where the first row is of the job `first`
 abbrev pub naming_from : ℕ → List (List ℕ) → ℕ → List ℕ
 naming_from first [] job = []
-naming_from first (row ∷ rows) job = if nat_lt 0 (times job row) then first ∷ naming_from (suc first) rows job else naming_from (suc first) rows job
+naming_from first (row ∷ rows) job =
+    if nat_lt 0 (times job row)
+    then first ∷ naming_from (suc first) rows job
+    else naming_from (suc first) rows job
 
 -- the jobs that name the job, in rising order: its edges go to them
 abbrev pub targets_of : List (List ℕ) → ℕ → List ℕ

@@ -8,7 +8,8 @@ use Rattle.pool_board.specs.Seats.{SeatState, all_met}
 
 -- the seat at the place i has the job
 abbrev pub Has : List SeatState → ℕ → ℕ → Type 0
-Has seats i job = (i < length seats) × ((d : SeatState) → 0 < times job (slice_index_or seats i d).had)
+Has seats i job =
+    (i < length seats) × ((d : SeatState) → 0 < times job (slice_index_or seats i d).had)
 
 -- no two seats have one job
 abbrev pub NoJobTwice : List SeatState → Type 0
@@ -22,6 +23,11 @@ TakenIsHad seats = (job : ℕ) → 0 < times job (all_met seats) → (i : ℕ) �
 abbrev pub answered : List (List ℕ) → ℕ → List Counted → ℕ
 answered graph job counts = left_at graph job 0 counts
 
--- at most one count was answered that it ended a job's wait, and one was exactly where all edges to the job were counted
+-- at most one count was answered that it ended a job's wait, and one was exactly where all edges to
+-- the job were counted
 abbrev pub AnsweredOnce : List (List ℕ) → List Counted → Type 0
-AnsweredOnce graph counts = (job : ℕ) → (answered graph job counts ≤ 1) × (0 < waiting_of graph job → (answered graph job counts ≡ 1) ↔ (counted_to graph job counts ≡ waiting_of graph job))
+AnsweredOnce graph counts =
+    (job : ℕ)
+    → (answered graph job counts ≤ 1)
+    × (0 < waiting_of graph job
+    → (answered graph job counts ≡ 1) ↔ (counted_to graph job counts ≡ waiting_of graph job))

@@ -11,7 +11,8 @@ use Rattle.pool_board.specs.Rule.{IsSourced}
 abbrev pub max_workers : ℕ
 max_workers = 64
 
--- which board it is, the jobs that the seat had, those that it found taken, and the edges that it counted
+-- which board it is, the jobs that the seat had, those that it found taken, and the edges that it
+-- counted
 pub record SeatState : Type 0 where
   pub board : TableId
   pub had : List ℕ
@@ -29,7 +30,8 @@ new_seat board = record { board = board; had = []; met = []; counts = [] }
 -- all seats of the board
 pub record IsAllSeats (board : BoardState) (seats : List SeatState) : Type 0 where
   pub count_is : length seats ≡ board.workers
-  pub each : (k : ℕ) (d : SeatState) → k < length seats → (slice_index_or seats k d).board ≡ board.id
+  pub each : (k : ℕ) (d : SeatState) → k < length seats
+      → (slice_index_or seats k d).board ≡ board.id
 
 abbrev pub all_had : List SeatState → List ℕ
 all_had seats = together (λ (s : SeatState). s.had) seats
@@ -50,7 +52,8 @@ abbrev pub unset : List ℕ → ℕ → List ℕ
 unset words zero = []
 unset words (suc n) = if slice_index words n == 0 then unset words n ++ n ∷ [] else unset words n
 
--- What is kept of a seat: its list is the one that the board's rule knows, and has room for each job of the board
+-- What is kept of a seat: its list is the one that the board's rule knows, and has room for each
+-- job of the board
 pub record IsSeat {S : Type 0} (words capacity : ℕ) (had : List ℕ) (me : Me S Record) : Type 0 where
   pub had_is : me.0.had ≡ had
   pub share_is : me.0.share ≡ 1
@@ -61,7 +64,9 @@ pub record IsSeat {S : Type 0} (words capacity : ℕ) (had : List ℕ) (me : Me 
   pub sourced : IsSourced had me.0.counts
 
 -- What is kept of a board: its table was given its graph, and there is room for the tally
-pub record IsBoard (graph answered : List (List ℕ)) (workers answered_workers words slots lists_room jobs_room : ℕ) (lists : List (List ℕ)) (unclaimed : List ℕ) : Type 0 where
+pub record IsBoard (graph answered : List (List ℕ))
+    (workers answered_workers words slots lists_room jobs_room : ℕ) (lists : List (List ℕ))
+    (unclaimed : List ℕ) : Type 0 where
   pub graph_is : answered ≡ graph
   pub workers_are : answered_workers ≡ workers
   pub is_graph : IsJobGraph graph

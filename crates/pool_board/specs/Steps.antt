@@ -21,13 +21,19 @@ abbrev pub count_of : ℕ → ℕ → ℕ → Counted
 count_of from edge left = record { from = from; edge = edge; left = left }
 
 module _ {S : Type 0} where
-  -- a claim word that was 0 gives the job to the seat, which did not have it, and else it answers that the job was taken
+  -- a claim word that was 0 gives the job to the seat, which did not have it, and else it answers
+  -- that the job was taken
   abbrev pub Claims : Step S → Me S Record → ℕ → Me S Record → Type 0
-  Claims st m found m' = (m'.1 ≡ m.1) × MatchBool (found == 0) ((m'.0 ≡ with_had m.0 st.word) × (times st.word m.0.had ≡ 0)) (m'.0 ≡ with_met m.0 st.word)
+  Claims st m found m' =
+      (m'.1 ≡ m.1)
+      × MatchBool (found == 0) ((m'.0 ≡ with_had m.0 st.word) × (times st.word m.0.had ≡ 0))
+      (m'.0 ≡ with_met m.0 st.word)
 
   -- a waiting word that was one more is now the number left
   abbrev pub CountsDown : ℕ → ℕ → Step S → Me S Record → ℕ → Me S Record → Type 0
-  CountsDown from edge st m found m' = (m'.1 ≡ m.1) × ((left : ℕ) × (found ≡ suc left) × (m'.0 ≡ with_count m.0 (count_of from edge left)))
+  CountsDown from edge st m found m' =
+      (m'.1 ≡ m.1)
+      × ((left : ℕ) × (found ≡ suc left) × (m'.0 ≡ with_count m.0 (count_of from edge left)))
 
 -- one share is cut off a record
 abbrev pub less_one : Record → Record
@@ -37,7 +43,8 @@ abbrev pub joined : Record → Record → Record
 joined v w = record_of (v.share + w.share) (v.had ++ w.had) (v.met ++ w.met) (v.counts ++ w.counts)
 
 -- The seat may count the edge down, at this word
-pub record Counts (table : TableId) (graph : List (List ℕ)) (from edge waiting : ℕ) (seat : TableId) (v : Record) : Type 0 where
+pub record Counts (table : TableId) (graph : List (List ℕ)) (from edge waiting : ℕ) (seat : TableId)
+    (v : Record) : Type 0 where
   pub seat_is : seat ≡ table
   pub is_graph : IsJobGraph graph
   pub words_are : table.words ≡ suc (length graph + length graph)

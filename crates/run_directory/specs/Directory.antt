@@ -23,11 +23,16 @@ begins_with_letter (c ∷ cs) = is_ascii_alphabetic c
 
 -- a letter, then letters and digits, 64 at most, and not link
 abbrev pub is_module_name : List ℕ → Bool
-is_module_name name = begins_with_letter name && list_all is_ascii_alphanumeric name && nat_le (length name) 64 && not (bytes_eq name link_name)
+is_module_name name =
+    begins_with_letter name && list_all is_ascii_alphanumeric name && nat_le (length name) 64
+    && not (bytes_eq name link_name)
 
 -- M for tab.M
 abbrev pub module_named : List ℕ → Option (List ℕ)
-module_named export = if bytes_eq (take 4 export) (codes "tab.") && is_module_name (drop 4 export) then Some (drop 4 export) else None
+module_named export =
+    if bytes_eq (take 4 export) (codes "tab.") && is_module_name (drop 4 export)
+    then Some (drop 4 export)
+    else None
 
 -- in the order of the exports
 abbrev pub module_names : List Export → List (List ℕ)
@@ -55,4 +60,7 @@ pub record IsModule (gives : Files) (name : List ℕ) (tree : WModule) : Type 0 
 -- each name's module, in their order
 pub data AreModules (gives : Files) : List (List ℕ) → List WModule → Type 0 where
   Empty : AreModules gives [] []
-  More : (name : List ℕ) (tree : WModule) (names : List (List ℕ)) (trees : List WModule) → IsModule gives name tree → AreModules gives names trees → AreModules gives (name ∷ names) (tree ∷ trees)
+  More : (name : List ℕ) (tree : WModule) (names : List (List ℕ)) (trees : List WModule)
+      → IsModule gives name tree
+      → AreModules gives names trees
+      → AreModules gives (name ∷ names) (tree ∷ trees)

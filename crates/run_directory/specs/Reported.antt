@@ -62,43 +62,53 @@ abbrev pub unread_words : (front reason name : List ℕ) → List ℕ
 unread_words front reason name =
     front ++ (codes "cannot read " ++ (name ++ (codes ".wasm" ++ (reason ++ codes "\n"))))
 
--- one line on the second stream, or nothing, with what the directory says in front of a file and behind it
+-- one line on the second stream, or nothing, with what the directory says in front of a file and
+-- behind it
 abbrev pub words : (front reason : List ℕ) → Report → List ℕ
-words front reason (Ran (Done k)) = if is_normal k then [] else codes "fault " ++ decimal k ++ codes ": " ++ end_word k ++ codes "\n"
+words front reason (Ran (Done k)) =
+    if is_normal k
+    then []
+    else codes "fault " ++ decimal k ++ codes ": " ++ end_word k ++ codes "\n"
 words front reason (Ran Trap) = codes "trap\n"
 words front reason (Ran StillRunning) = []
 words front reason (Unread name) = unread_words front reason name.now
-words front reason (Refused name f) = name.now ++ codes ": refusal " ++ decimal (number_of f) ++ codes "\n"
+words front reason (Refused name f) =
+    name.now ++ codes ": refusal " ++ decimal (number_of f) ++ codes "\n"
 words front reason (Broken f) = codes "refusal " ++ decimal (number_of_run f) ++ codes "\n"
 
 -- ---- the streams
 
 -- a stream took these bytes
-pub record Printed {S : Type 0} (reported : S → Option (List ℕ)) (failed : S → ℕ) (bytes : List ℕ) (before after : S) : Type 0 where
+pub record Printed {S : Type 0} (reported : S → Option (List ℕ)) (failed : S → ℕ) (bytes : List ℕ)
+    (before after : S) : Type 0 where
   pub taken : reported after ≡ with_bytes (reported before) bytes
   pub failures : failed after ≡ failed before
 
 -- it took some of them, and then failed and was left alone
-pub record PartPrinted {S : Type 0} (reported : S → Option (List ℕ)) (failed : S → ℕ) (bytes : List ℕ) (before after : S) : Type 0 where
+pub record PartPrinted {S : Type 0} (reported : S → Option (List ℕ)) (failed : S → ℕ)
+    (bytes : List ℕ) (before after : S) : Type 0 where
   pub front : List ℕ
   pub rest : List ℕ
   pub all : bytes ≡ front ++ rest
   pub taken : reported after ≡ with_bytes (reported before) front
   pub failures : failed after ≡ failed before + 1
 
-abbrev pub Says : {S : Type 0} → (S → Option (List ℕ)) → (S → ℕ) → Bool → List ℕ → (before after : S) → Type 0
+abbrev pub Says : {S : Type 0} → (S → Option (List ℕ)) → (S → ℕ) → Bool → List ℕ
+    → (before after : S) → Type 0
 Says reported failed true bytes before after = Printed reported failed bytes before after
 Says reported failed false bytes before after = PartPrinted reported failed bytes before after
 
 -- ---- what a report says
 
 -- linked and executed for so many reductions, the modules printed these bytes and are there
-pub record HasRun (trees : List WModule) (steps : ℕ) (bytes : List ℕ) (config : Config) : Type 0 where
+pub record HasRun (trees : List WModule) (steps : ℕ) (bytes : List ℕ) (config : Config)
+    : Type 0 where
   pub first : Config
   pub linked : link trees ≡ Ok first
   pub is_run : run trees steps first ≡ (config, bytes)
 
-pub record IsRun {S : Type 0} (reported : S → Option (List ℕ)) (failed : S → ℕ) (trees : List WModule) (steps : ℕ) (end : End) (before after : S) : Type 0 where
+pub record IsRun {S : Type 0} (reported : S → Option (List ℕ)) (failed : S → ℕ)
+    (trees : List WModule) (steps : ℕ) (end : End) (before after : S) : Type 0 where
   pub bytes : List ℕ
   pub config : Config
   pub has_run : HasRun trees steps bytes config
@@ -106,7 +116,8 @@ pub record IsRun {S : Type 0} (reported : S → Option (List ℕ)) (failed : S �
   pub printed : Printed reported failed bytes before after
 
 -- broken off at the latest then, after what some reductions printed
-pub record IsBroken {S : Type 0} (reported : S → Option (List ℕ)) (failed : S → ℕ) (trees : List WModule) (steps : ℕ) (fault : RunFault) (before after : S) : Type 0 where
+pub record IsBroken {S : Type 0} (reported : S → Option (List ℕ)) (failed : S → ℕ)
+    (trees : List WModule) (steps : ℕ) (fault : RunFault) (before after : S) : Type 0 where
   pub made : ℕ
   pub fits : made ≤ steps
   pub bytes : List ℕ
@@ -118,10 +129,14 @@ pub record IsBroken {S : Type 0} (reported : S → Option (List ℕ)) (failed : 
   pub first : ¬ (fault ≡ Ended)
 
 -- what a report says of modules and of the stream on which they print
-abbrev pub IsOf : {S : Type 0} → (S → Option (List ℕ)) → (S → ℕ) → List WModule → (steps : ℕ) → Report → (before after : S) → Type 0
-IsOf reported failed trees steps (Ran end) before after = IsRun reported failed trees steps end before after
-IsOf reported failed trees steps (Broken fault) before after = IsBroken reported failed trees steps fault before after
-IsOf reported failed trees steps (Refused name fault) before after = (name.now ≡ link_name) × Fails fault (link trees) × Printed reported failed [] before after
+abbrev pub IsOf : {S : Type 0} → (S → Option (List ℕ)) → (S → ℕ) → List WModule → (steps : ℕ)
+    → Report → (before after : S) → Type 0
+IsOf reported failed trees steps (Ran end) before after =
+    IsRun reported failed trees steps end before after
+IsOf reported failed trees steps (Broken fault) before after =
+    IsBroken reported failed trees steps fault before after
+IsOf reported failed trees steps (Refused name fault) before after =
+    (name.now ≡ link_name) × Fails fault (link trees) × Printed reported failed [] before after
 IsOf reported failed trees steps (Unread name) before after = ⊥
 
 -- ---- what is missing
@@ -129,13 +144,16 @@ IsOf reported failed trees steps (Unread name) before after = ⊥
 -- memory was refused for a file, or its bytes encode no module, or one that is not valid
 pub data IsRefused (gives : Files) (file : List ℕ) : WFault → Type 0 where
   Memory : IsRefused gives file faults.NoMemory
-  Unencoded : (fault : WFault) (bytes : List ℕ) → gives file (Some bytes) → module_at bytes ≡ Err fault → IsRefused gives file fault
-  NotValid : (bytes : List ℕ) (tree : WModule) → gives file (Some bytes) → Encodes bytes tree → (IsValid tree → ⊥) → IsRefused gives file faults.Invalid
+  Unencoded : (fault : WFault) (bytes : List ℕ) → gives file (Some bytes)
+      → module_at bytes ≡ Err fault → IsRefused gives file fault
+  NotValid : (bytes : List ℕ) (tree : WModule) → gives file (Some bytes) → Encodes bytes tree
+      → (IsValid tree → ⊥) → IsRefused gives file faults.Invalid
 
 -- the module of this name is not there, and the report names it
 abbrev pub IsMissing : (gives : Files) (name : List ℕ) → Report → Type 0
 IsMissing gives name (Unread reported) = (reported.now ≡ name) × gives (file_of name) None
-IsMissing gives name (Refused reported fault) = (reported.now ≡ name) × IsRefused gives (file_of name) fault
+IsMissing gives name (Refused reported fault) =
+    (reported.now ≡ name) × IsRefused gives (file_of name) fault
 IsMissing gives name (Ran end) = ⊥
 IsMissing gives name (Broken fault) = ⊥
 
@@ -151,22 +169,33 @@ pub record FirstMissing (gives : Files) (names : List (List ℕ)) (report : Repo
 
 -- ---- what comes of a directory
 
--- what comes of modules that are there, and of those of these names behind them: these are there as well and the report
--- is of all, or it names the first that is not
-abbrev pub ComesOf : {S : Type 0} → (S → Option (List ℕ)) → (S → ℕ) → Files → (first : List WModule) (names : List (List ℕ)) (steps : ℕ) → Report → (before after : S) → Type 0
+-- what comes of modules that are there, and of those of these names behind them: these are there as
+-- well and the report is of all, or it names the first that is not
+abbrev pub ComesOf : {S : Type 0} → (S → Option (List ℕ)) → (S → ℕ) → Files → (first : List WModule)
+    (names : List (List ℕ)) (steps : ℕ) → Report → (before after : S) → Type 0
 ComesOf reported failed gives first names steps report before after =
-    ((others : List WModule) × AreModules gives names others × IsOf reported failed (first ++ others) steps report before after) ⊎ (FirstMissing gives names report × Printed reported failed [] before after)
+    ((others : List WModule) × AreModules gives names others
+    × IsOf reported failed (first ++ others) steps report before after)
+    ⊎ (FirstMissing gives names report × Printed reported failed [] before after)
 
 -- link is there, and behind it come the modules that its exports name; or the report names link
-abbrev pub Comes : {S : Type 0} → (S → Option (List ℕ)) → (S → ℕ) → Files → (steps : ℕ) → Report → (before after : S) → Type 0
+abbrev pub Comes : {S : Type 0} → (S → Option (List ℕ)) → (S → ℕ) → Files → (steps : ℕ) → Report
+    → (before after : S) → Type 0
 Comes reported failed gives steps report before after =
-    ((link_tree : WModule) × IsModule gives link_name link_tree × ComesOf reported failed gives (link_tree ∷ []) (module_names link_tree.exports) steps report before after)
+    ((link_tree : WModule)
+    × IsModule gives link_name link_tree
+    × ComesOf reported failed gives (link_tree ∷ []) (module_names link_tree.exports) steps report
+    before after)
     ⊎ (IsMissing gives link_name report × Printed reported failed [] before after)
 
 -- the status and the words are those of a report that comes
-pub record Executes {S E : Type 0} (reported : S → Option (List ℕ)) (failed : S → ℕ) (reported_words : E → Option (List ℕ)) (failed_words : E → ℕ) (gives : Files) (front reason : List ℕ) (steps : ℕ) (answer : ℕ) (before after : S) (words_before words_after : E) : Type 0 where
+pub record Executes {S E : Type 0} (reported : S → Option (List ℕ)) (failed : S → ℕ)
+    (reported_words : E → Option (List ℕ)) (failed_words : E → ℕ) (gives : Files)
+    (front reason : List ℕ) (steps : ℕ) (answer : ℕ) (before after : S)
+    (words_before words_after : E) : Type 0 where
   pub report : Report
   pub comes : Comes reported failed gives steps report before after
   pub answers : answer ≡ status report
   pub all_said : Bool
-  pub says : Says reported_words failed_words all_said (words front reason report) words_before words_after
+  pub says :
+      Says reported_words failed_words all_said (words front reason report) words_before words_after

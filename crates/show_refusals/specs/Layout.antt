@@ -11,7 +11,8 @@ tab_width = 8
 abbrev pub is_printable : ℕ → Bool
 is_printable byte = nat_le 32 byte && nat_le byte 126
 
--- how a byte is shown at a column, counted from 0: a tab as blanks, and what cannot be printed as \xNN
+-- how a byte is shown at a column, counted from 0: a tab as blanks, and what cannot be printed as
+-- \xNN
 unfoldable pub cell : (column byte : ℕ) → List ℕ
 cell column byte =
     if byte == 9 then replicate (tab_width - column % tab_width) 32 else
@@ -48,7 +49,8 @@ mark_row colour gutter front bytes start end =
     blanks_under (gutter ++ before) ++ painted colour (mark before (shown front (take end bytes)))
 
 -- a line of source behind its number, and under it the row with the mark
-abbrev pub picture : (colour : Bool) (number : ℕ) (front bytes back : List ℕ) (start end : ℕ) → List ℕ
+abbrev pub picture : (colour : Bool) (number : ℕ) (front bytes back : List ℕ) (start end : ℕ)
+    → List ℕ
 picture colour number front bytes back start end =
     gutter number ++ (shown front bytes ++ (back ++ (codes "\n"
     ++ (mark_row colour (gutter number) front bytes start end ++ codes "\n"))))

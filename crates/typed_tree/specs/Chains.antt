@@ -11,7 +11,8 @@ use Rattle.typed_tree.specs.declared.computed.Argument.TheOpen as layer
 use Rattle.typed_tree.specs.declared.computed.TypedExpr.TheVariants.{Chain}
 
 -- one more operator: it joins a chain that stands there
-abbrev pub linked_to : TypedExpr-F Argument Call Component Link TypedExpr Place → TypedExpr → Link → TypedExpr
+abbrev pub linked_to : TypedExpr-F Argument Call Component Link TypedExpr Place → TypedExpr → Link
+    → TypedExpr
 linked_to (layer.Chain first links) e l = Chain first (links ++ l ∷ [])
 linked_to _ e l = Chain e (l ∷ [])
 

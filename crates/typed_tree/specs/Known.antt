@@ -18,7 +18,9 @@ in_list n None = None
 in_list n (Some ms) = slice_get ms n
 
 abbrev pub made_in : Types → (home number : ℕ) → Option Made
-made_in types home n = cond (home == types.home) (slice_get types.own n) (in_list n (lookup (nat_eq home) types.others))
+made_in types home n =
+    cond (home == types.home) (slice_get types.own n)
+    (in_list n (lookup (nat_eq home) types.others))
 
 abbrev pub made_from : Types → Home → ℕ → Option Made
 made_from types Predeclared n = None

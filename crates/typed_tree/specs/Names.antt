@@ -14,4 +14,5 @@ module _ {V : Type 0} where
   -- a new name goes to the end, and one that is there keeps its place
   abbrev pub entered : List ℕ → V → List (List ℕ × V) → List (List ℕ × V)
   entered name value [] = (name, value) ∷ []
-  entered name value (e ∷ es) = cond (same_name name e.0) ((e.0, value) ∷ es) (e ∷ entered name value es)
+  entered name value (e ∷ es) =
+      cond (same_name name e.0) ((e.0, value) ∷ es) (e ∷ entered name value es)

@@ -1,4 +1,5 @@
--- The binary format of modules (Core 1.0, section 5), in this project's profile: each number in its shortest encoding.
+-- The binary format of modules (Core 1.0, section 5), in this project's profile: each number in its
+-- shortest encoding.
 use Rattle.std.specs.Prelude.{◌≡◌, ℕ, zero, suc, ◌+◌, ◌^◌, Bool, true, ◌&&◌, List, [], ◌∷◌, ◌++◌, length, take, map, sum_by, Some, None, Result, Ok, Err, nat_lt, ◌==◌, if◌then◌else◌}
 use Rattle.std.specs.List.{flat_map, list_all}
 use Rattle.wasm_tree.specs.declared.fault.WFault.{WFault}
@@ -28,21 +29,33 @@ use Rattle.wasm_code.specs.Parts.{◌▸◌, ◌◂◌, ◌·◌, seen, vector, 
 -- ---- types (5.3)
 
 unfoldable pub func_type : Format FuncType
-func_type = seen (λ p. record { params = p.0; results = p.1 }) (λ t. (t.params, t.results)) (0x60 ▸ vector value_type · vector value_type)
+func_type =
+    seen (λ p. record { params = p.0; results = p.1 }) (λ t. (t.params, t.results))
+    (0x60 ▸ vector value_type · vector value_type)
 
 abbrev pub limits_encoding : Limits → List ℕ
-limits_encoding l = elim l.max [ None ↦ 0x00 ∷ unsigned.encoding l.min | Some m ↦ 0x01 ∷ unsigned.encoding l.min ++ unsigned.encoding m ]
+limits_encoding l = elim l.max [
+  | None ↦ 0x00 ∷ unsigned.encoding l.min
+  | Some m ↦ 0x01 ∷ unsigned.encoding l.min ++ unsigned.encoding m
+]
 
 abbrev pub limits_of : ℕ → List ℕ → Reading Limits
 limits_of zero bytes = unsigned.reading bytes >>= λ n. Ok (record { min = n.0; max = None }, n.1)
-limits_of (suc zero) bytes = unsigned.reading bytes >>= λ n. unsigned.reading n.1 >>= λ m. Ok (record { min = n.0; max = Some m.0 }, m.1)
+limits_of (suc zero) bytes =
+    unsigned.reading bytes >>= λ n.
+    unsigned.reading n.1 >>= λ m.
+    Ok (record { min = n.0; max = Some m.0 }, m.1)
 limits_of (suc (suc b)) bytes = Err Malformed
 
 abbrev pub limits_fit : Limits → Bool
 limits_fit l = unsigned.fits l.min && elim l.max [ None ↦ true | Some m ↦ unsigned.fits m ]
 
 unfoldable pub limits : Format Limits
-limits = record { encoding = limits_encoding; reading = λ bytes. byte_at bytes >>= λ b. limits_of b.0 b.1; fits = limits_fit }
+limits = record {
+  encoding = limits_encoding;
+  reading = λ bytes. byte_at bytes >>= λ b. limits_of b.0 b.1;
+  fits = limits_fit;
+}
 
 unfoldable pub table_type : Format TableType
 table_type = seen (λ l. record { limits = l }) (λ t. t.limits) (0x70 ▸ limits)
@@ -63,7 +76,9 @@ import_kind_of b bytes =
     if b == 0x00 then (unsigned.reading bytes >>= λ t. Ok (imported.Function t.0, t.1))
     else (if b == 0x01 then (table_type.reading bytes >>= λ t. Ok (imported.Table t.0, t.1))
     else (if b == 0x02 then (memory_type.reading bytes >>= λ t. Ok (imported.Memory t.0, t.1))
-    else (if b == 0x03 then (value_type.reading bytes >>= λ t. skip 0x00 t.1 >>= λ s. Ok (imported.Global t.0, s.1)) else Err Malformed)))
+    else (if b == 0x03
+    then (value_type.reading bytes >>= λ t. skip 0x00 t.1 >>= λ s. Ok (imported.Global t.0, s.1))
+    else Err Malformed)))
 
 abbrev pub import_kind_fits : ImportKind → Bool
 import_kind_fits (imported.Function t) = unsigned.fits t
@@ -72,13 +87,21 @@ import_kind_fits (imported.Memory t) = memory_type.fits t
 import_kind_fits (imported.Global t) = true
 
 unfoldable pub import_kind : Format ImportKind
-import_kind = record { encoding = import_kind_encoding; reading = λ bytes. byte_at bytes >>= λ b. import_kind_of b.0 b.1; fits = import_kind_fits }
+import_kind = record {
+  encoding = import_kind_encoding;
+  reading = λ bytes. byte_at bytes >>= λ b. import_kind_of b.0 b.1;
+  fits = import_kind_fits;
+}
 
 unfoldable pub import : Format Import
-import = seen (λ p. record { module_name = p.0; name = p.1.0; kind = p.1.1 }) (λ i. (i.module_name, (i.name, i.kind))) (name · (name · import_kind))
+import =
+    seen (λ p. record { module_name = p.0; name = p.1.0; kind = p.1.1 })
+    (λ i. (i.module_name, (i.name, i.kind))) (name · (name · import_kind))
 
 unfoldable pub global : Format Global
-global = seen (λ p. record { value_type = p.0; value = p.1 }) (λ g. (g.value_type, g.value)) ((value_type ◂ 0x00) · code)
+global =
+    seen (λ p. record { value_type = p.0; value = p.1 }) (λ g. (g.value_type, g.value))
+    ((value_type ◂ 0x00) · code)
 
 abbrev pub export_kind_encoding : ExportKind → List ℕ
 export_kind_encoding (exported.Function i) = 0x00 ∷ unsigned.encoding i
@@ -91,7 +114,8 @@ export_kind_of b bytes =
     if b == 0x00 then (unsigned.reading bytes >>= λ i. Ok (exported.Function i.0, i.1))
     else (if b == 0x01 then (unsigned.reading bytes >>= λ i. Ok (exported.Table i.0, i.1))
     else (if b == 0x02 then (unsigned.reading bytes >>= λ i. Ok (exported.Memory i.0, i.1))
-    else (if b == 0x03 then (unsigned.reading bytes >>= λ i. Ok (exported.Global i.0, i.1)) else Err Malformed)))
+    else (if b == 0x03 then (unsigned.reading bytes >>= λ i. Ok (exported.Global i.0, i.1))
+    else Err Malformed)))
 
 abbrev pub export_kind_fits : ExportKind → Bool
 export_kind_fits (exported.Function i) = unsigned.fits i
@@ -100,20 +124,29 @@ export_kind_fits (exported.Memory i) = unsigned.fits i
 export_kind_fits (exported.Global i) = unsigned.fits i
 
 unfoldable pub export_kind : Format ExportKind
-export_kind = record { encoding = export_kind_encoding; reading = λ bytes. byte_at bytes >>= λ b. export_kind_of b.0 b.1; fits = export_kind_fits }
+export_kind = record {
+  encoding = export_kind_encoding;
+  reading = λ bytes. byte_at bytes >>= λ b. export_kind_of b.0 b.1;
+  fits = export_kind_fits;
+}
 
 unfoldable pub export : Format Export
 export = seen (λ p. record { name = p.0; kind = p.1 }) (λ e. (e.name, e.kind)) (name · export_kind)
 
 unfoldable pub element : Format Element
-element = seen (λ p. record { table = p.0; offset = p.1.0; functions = p.1.1 }) (λ e. (e.table, (e.offset, e.functions))) (unsigned · (code · vector unsigned))
+element =
+    seen (λ p. record { table = p.0; offset = p.1.0; functions = p.1.1 })
+    (λ e. (e.table, (e.offset, e.functions))) (unsigned · (code · vector unsigned))
 
 -- groups of locals, where there are so many before them: fewer than 2 ^ 32 in all
 unfoldable pub locals_at : (count before : ℕ) → List ℕ → Reading (List Locals)
 locals_at zero before bytes = Ok ([], bytes)
 locals_at (suc count) before bytes =
-    unsigned.reading bytes >>= λ n. if nat_lt (before + n.0) (2 ^ 32)
-    then (value_type.reading n.1 >>= λ t. locals_at count (before + n.0) t.1 >>= λ ls. Ok (record { count = n.0; value_type = t.0 } ∷ ls.0, ls.1))
+    unsigned.reading bytes >>= λ n.
+    if nat_lt (before + n.0) (2 ^ 32)
+    then (value_type.reading n.1 >>= λ t.
+    locals_at count (before + n.0) t.1 >>= λ ls.
+    Ok (record { count = n.0; value_type = t.0 } ∷ ls.0, ls.1))
     else Err Malformed
 
 abbrev pub locals_encoding : Locals → List ℕ
@@ -130,10 +163,14 @@ locals = record {
 }
 
 unfoldable pub body : Format Body
-body = sized (seen (λ p. record { locals = p.0; code = p.1 }) (λ b. (b.locals, b.code)) (locals · code))
+body =
+    sized
+    (seen (λ p. record { locals = p.0; code = p.1 }) (λ b. (b.locals, b.code)) (locals · code))
 
 unfoldable pub data_segment : Format Data
-data_segment = seen (λ p. record { memory = p.0; offset = p.1.0; bytes = p.1.1 }) (λ d. (d.memory, (d.offset, d.bytes))) (unsigned · (code · sized bytes_left))
+data_segment =
+    seen (λ p. record { memory = p.0; offset = p.1.0; bytes = p.1.1 })
+    (λ d. (d.memory, (d.offset, d.bytes))) (unsigned · (code · sized bytes_left))
 
 -- ---- a module (5.5.15)
 
@@ -148,20 +185,30 @@ skip_all (h ∷ hs) bytes = skip h bytes >>= λ s. skip_all hs s.1
 -- so many bodies, of functions of these types
 unfoldable pub bodies : (types : List ℕ) → List ℕ → Reading (List Function)
 bodies [] bytes = Ok ([], bytes)
-bodies (t ∷ ts) bytes = body.reading bytes >>= λ b. bodies ts b.1 >>= λ fs. Ok (record { type_index = t; body = b.0 } ∷ fs.0, fs.1)
+bodies (t ∷ ts) bytes =
+    body.reading bytes >>= λ b.
+    bodies ts b.1 >>= λ fs.
+    Ok (record { type_index = t; body = b.0 } ∷ fs.0, fs.1)
 
 -- the content of the code section: as many bodies as the function section has types
 unfoldable pub code_entries : (types : List ℕ) → List ℕ → Reading (List Function)
-code_entries types bytes = unsigned.reading bytes >>= λ n. if n.0 == length types then bodies types n.1 else Err Malformed
+code_entries types bytes =
+    unsigned.reading bytes >>= λ n. if n.0 == length types then bodies types n.1 else Err Malformed
 
 unfoldable pub code_content : (types : List ℕ) → List ℕ → Reading (List Function)
-code_content types bytes = unsigned.reading bytes >>= λ n. code_entries types (take n.0 n.1) >>= λ fs. closed n.0 n.1 fs.1 >>= λ rest. Ok (fs.0, rest)
+code_content types bytes =
+    unsigned.reading bytes >>= λ n.
+    code_entries types (take n.0 n.1) >>= λ fs.
+    closed n.0 n.1 fs.1 >>= λ rest.
+    Ok (fs.0, rest)
 
--- the code section, which has to come where there is a function section, and may not where there is none
+-- the code section, which has to come where there is a function section, and may not where there is
+-- none
 abbrev pub code_section : (types : List ℕ) → List ℕ → Reading (List Function)
 code_section [] bytes = Ok ([], bytes)
 code_section (t ∷ ts) [] = Err Malformed
-code_section (t ∷ ts) (b ∷ bytes) = if b == 10 then code_content (t ∷ ts) bytes else Err OutsideProfile
+code_section (t ∷ ts) (b ∷ bytes) =
+    if b == 10 then code_content (t ∷ ts) bytes else Err OutsideProfile
 
 -- nothing may follow the last section
 abbrev pub at_end : List ℕ → Result (Unit {0}) WFault
@@ -182,7 +229,20 @@ module_at bytes = do
   functions ← code_section uses.0 elements.1
   segments ← (section 11 data_segment).reading functions.1
   end ← at_end segments.1
-  Ok (record { types = types.0; imports = imports.0; functions = functions.0; tables = tables.0; memories = memories.0; globals = globals.0; exports = exports.0; elements = elements.0; «data» = segments.0 }, [])
+  Ok (
+    record {
+      types = types.0;
+      imports = imports.0;
+      functions = functions.0;
+      tables = tables.0;
+      memories = memories.0;
+      globals = globals.0;
+      exports = exports.0;
+      elements = elements.0;
+      «data» = segments.0;
+    },
+    [],
+  )
 
 -- the code section, beside which the function section stands
 abbrev pub body_encoding : Function → List ℕ
@@ -193,30 +253,45 @@ bodies_encoding fs = unsigned.encoding (length fs) ++ flat_map body_encoding fs
 
 abbrev pub code_encoding : List Function → List ℕ
 code_encoding [] = []
-code_encoding (f ∷ fs) = 10 ∷ unsigned.encoding (length (bodies_encoding (f ∷ fs))) ++ bodies_encoding (f ∷ fs)
+code_encoding (f ∷ fs) =
+    10 ∷ unsigned.encoding (length (bodies_encoding (f ∷ fs))) ++ bodies_encoding (f ∷ fs)
 
 abbrev pub types_of : List Function → List ℕ
 types_of fs = map (λ f. f.type_index) fs
 
 unfoldable pub first_sections : WModule → List ℕ
-first_sections m = header ++ (section 1 func_type).encoding m.types ++ (section 2 import).encoding m.imports ++ (section 3 unsigned).encoding (types_of m.functions)
+first_sections m =
+    header ++ (section 1 func_type).encoding m.types ++ (section 2 import).encoding m.imports
+    ++ (section 3 unsigned).encoding (types_of m.functions)
 
 unfoldable pub middle_sections : WModule → List ℕ
-middle_sections m = (section 4 table_type).encoding m.tables ++ (section 5 memory_type).encoding m.memories ++ (section 6 global).encoding m.globals ++ (section 7 export).encoding m.exports
+middle_sections m =
+    (section 4 table_type).encoding m.tables ++ (section 5 memory_type).encoding m.memories
+    ++ (section 6 global).encoding m.globals ++ (section 7 export).encoding m.exports
 
 unfoldable pub last_sections : WModule → List ℕ
-last_sections m = (section 9 element).encoding m.elements ++ code_encoding m.functions ++ (section 11 data_segment).encoding m.data
+last_sections m =
+    (section 9 element).encoding m.elements ++ code_encoding m.functions
+    ++ (section 11 data_segment).encoding m.data
 
 unfoldable pub module_encoding : WModule → List ℕ
 module_encoding m = first_sections m ++ middle_sections m ++ last_sections m
 
--- the module has an encoding: its numbers fit their widths, its names are UTF-8, and no vector or part is too long
+-- the module has an encoding: its numbers fit their widths, its names are UTF-8, and no vector or
+-- part is too long
 unfoldable pub module_fits : WModule → Bool
 module_fits m =
-    (section 1 func_type).fits m.types && (section 2 import).fits m.imports && (section 3 unsigned).fits (types_of m.functions)
-    && (section 4 table_type).fits m.tables && (section 5 memory_type).fits m.memories && (section 6 global).fits m.globals
-    && (section 7 export).fits m.exports && (section 9 element).fits m.elements && list_all (λ f. body.fits f.body) m.functions
-    && nat_lt (length (bodies_encoding m.functions)) (2 ^ 32) && (section 11 data_segment).fits m.data
+    (section 1 func_type).fits m.types
+    && (section 2 import).fits m.imports
+    && (section 3 unsigned).fits (types_of m.functions)
+    && (section 4 table_type).fits m.tables
+    && (section 5 memory_type).fits m.memories
+    && (section 6 global).fits m.globals
+    && (section 7 export).fits m.exports
+    && (section 9 element).fits m.elements
+    && list_all (λ f. body.fits f.body) m.functions
+    && nat_lt (length (bodies_encoding m.functions)) (2 ^ 32)
+    && (section 11 data_segment).fits m.data
 
 abbrev pub binary : Format WModule
 binary = record { encoding = module_encoding; reading = module_at; fits = module_fits }

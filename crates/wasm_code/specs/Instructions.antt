@@ -1,4 +1,5 @@
--- The binary format of instructions (Core 1.0, section 5.4), in this project's profile: each number in its shortest encoding.
+-- The binary format of instructions (Core 1.0, section 5.4), in this project's profile: each number
+-- in its shortest encoding.
 use Rattle.std.specs.Prelude.{ℕ, zero, suc, Bool, true, false, ◌&&◌, ◌||◌, List, [], ◌∷◌, ◌++◌, length, Option, Some, None, Result, Ok, Err, ◌==◌, if◌then◌else◌}
 use Rattle.std.specs.List.{concat, flat_map, list_all}
 use Rattle.wasm_tree.specs.declared.fault.WFault.{WFault}
@@ -25,10 +26,17 @@ value_type_encoding I32 = 0x7F ∷ []
 value_type_encoding I64 = 0x7E ∷ []
 
 abbrev pub value_type_of : ℕ → List ℕ → Reading ValueType
-value_type_of b bytes = if b == 0x7F then Ok (I32, bytes) else (if b == 0x7E then Ok (I64, bytes) else Err OutsideProfile)
+value_type_of b bytes =
+    if b == 0x7F
+    then Ok (I32, bytes)
+    else (if b == 0x7E then Ok (I64, bytes) else Err OutsideProfile)
 
 unfoldable pub value_type : Format ValueType
-value_type = record { encoding = value_type_encoding; reading = λ bytes. byte_at bytes >>= λ b. value_type_of b.0 b.1; fits = λ t. true }
+value_type = record {
+  encoding = value_type_encoding;
+  reading = λ bytes. byte_at bytes >>= λ b. value_type_of b.0 b.1;
+  fits = λ t. true;
+}
 
 -- ---- instructions (5.4)
 
@@ -37,10 +45,15 @@ block_type_encoding None = 0x40 ∷ []
 block_type_encoding (Some t) = value_type_encoding t
 
 abbrev pub block_type_of : ℕ → List ℕ → Reading (Option ValueType)
-block_type_of b bytes = if b == 0x40 then Ok (None, bytes) else (value_type_of b bytes >>= λ t. Ok (Some t.0, t.1))
+block_type_of b bytes =
+    if b == 0x40 then Ok (None, bytes) else (value_type_of b bytes >>= λ t. Ok (Some t.0, t.1))
 
 unfoldable pub block_type : Format (Option ValueType)
-block_type = record { encoding = block_type_encoding; reading = λ bytes. byte_at bytes >>= λ b. block_type_of b.0 b.1; fits = λ t. true }
+block_type = record {
+  encoding = block_type_encoding;
+  reading = λ bytes. byte_at bytes >>= λ b. block_type_of b.0 b.1;
+  fits = λ t. true;
+}
 
 -- the side of an if behind its else
 abbrev pub else_encoding : Option (List (List ℕ)) → List ℕ
@@ -52,7 +65,8 @@ abbrev pub encoding_step : Instr-F (List ℕ) → List ℕ
 encoding_step layer.Unreachable = 0x00 ∷ []
 encoding_step (layer.Block t is) = 0x02 ∷ block_type.encoding t ++ concat is ++ 0x0B ∷ []
 encoding_step (layer.Loop t is) = 0x03 ∷ block_type.encoding t ++ concat is ++ 0x0B ∷ []
-encoding_step (layer.If t is others) = 0x04 ∷ block_type.encoding t ++ concat is ++ (else_encoding others ++ 0x0B ∷ [])
+encoding_step (layer.If t is others) =
+    0x04 ∷ block_type.encoding t ++ concat is ++ (else_encoding others ++ 0x0B ∷ [])
 encoding_step (layer.Br l) = 0x0C ∷ unsigned.encoding l
 encoding_step (layer.BrIf l) = 0x0D ∷ unsigned.encoding l
 encoding_step (layer.BrTable ls l) = 0x0E ∷ (vector unsigned).encoding ls ++ unsigned.encoding l
@@ -81,7 +95,8 @@ fits_step (layer.Loop t is) zero = false
 fits_step (layer.Loop t is) (suc levels) = list_all (λ fits. fits levels) is
 fits_step (layer.If t is others) zero = false
 fits_step (layer.If t is None) (suc levels) = list_all (λ fits. fits levels) is
-fits_step (layer.If t is (Some others)) (suc levels) = list_all (λ fits. fits levels) is && list_all (λ fits. fits levels) others
+fits_step (layer.If t is (Some others)) (suc levels) =
+    list_all (λ fits. fits levels) is && list_all (λ fits. fits levels) others
 fits_step (layer.Br l) levels = unsigned.fits l
 fits_step (layer.BrIf l) levels = unsigned.fits l
 fits_step (layer.BrTable ls l) levels = (vector unsigned).fits ls && unsigned.fits l
@@ -102,8 +117,10 @@ instr_fits = fold-Instr (ℕ → Bool) fits_step
 abbrev pub no_offset : List ℕ → Result (List ℕ) WFault
 no_offset bytes = skip 0x00 bytes >>= λ s. skip 0x00 s.1 >>= λ t. Ok t.1
 
--- a load, a store or a numeric instruction, behind its opcode, where the opcode is one of the first, the second or the third kind
-abbrev pub memory_reading : Option load.Load → Option StoreWidth → Option numeric.Numeric → List ℕ → Reading Instr
+-- a load, a store or a numeric instruction, behind its opcode, where the opcode is one of the
+-- first, the second or the third kind
+abbrev pub memory_reading : Option load.Load → Option StoreWidth → Option numeric.Numeric → List ℕ
+    → Reading Instr
 memory_reading (Some l) width number bytes = no_offset bytes >>= λ rest. Ok (Load l, rest)
 memory_reading None (Some w) number bytes = no_offset bytes >>= λ rest. Ok (Store w, rest)
 memory_reading None None (Some n) bytes = Ok (Numeric n, bytes)
@@ -122,7 +139,8 @@ variable_of b bytes =
     else (if b == 0x22 then (unsigned.reading bytes >>= λ x. Ok (LocalTee x.0, x.1))
     else (if b == 0x23 then (unsigned.reading bytes >>= λ x. Ok (GlobalGet x.0, x.1))
     else (if b == 0x41 then (signed32.reading bytes >>= λ n. Ok (I32Const n.0, n.1))
-    else (if b == 0x42 then (signed64.reading bytes >>= λ n. Ok (I64Const n.0, n.1)) else memory_of b bytes))))))
+    else (if b == 0x42 then (signed64.reading bytes >>= λ n. Ok (I64Const n.0, n.1))
+    else memory_of b bytes))))))
 
 -- the same of those that go elsewhere, too (5.4.1)
 unfoldable pub plain_of : ℕ → List ℕ → Reading Instr
@@ -130,10 +148,15 @@ plain_of b bytes =
     if b == 0x00 then Ok (Unreachable, bytes)
     else (if b == 0x0C then (unsigned.reading bytes >>= λ l. Ok (Br l.0, l.1))
     else (if b == 0x0D then (unsigned.reading bytes >>= λ l. Ok (BrIf l.0, l.1))
-    else (if b == 0x0E then ((vector unsigned).reading bytes >>= λ ls. unsigned.reading ls.1 >>= λ l. Ok (BrTable ls.0 l.0, l.1))
+    else (if b == 0x0E
+    then ((vector unsigned).reading bytes >>= λ ls.
+    unsigned.reading ls.1 >>= λ l.
+    Ok (BrTable ls.0 l.0, l.1))
     else (if b == 0x0F then Ok (Return, bytes)
     else (if b == 0x10 then (unsigned.reading bytes >>= λ f. Ok (Call f.0, f.1))
-    else (if b == 0x11 then (unsigned.reading bytes >>= λ t. skip 0x00 t.1 >>= λ s. Ok (CallIndirect t.0, s.1)) else variable_of b bytes))))))
+    else (if b == 0x11
+    then (unsigned.reading bytes >>= λ t. skip 0x00 t.1 >>= λ s. Ok (CallIndirect t.0, s.1))
+    else variable_of b bytes))))))
 
 -- whether the opcode begins an instruction that holds others
 abbrev pub opens : ℕ → Bool
@@ -153,13 +176,17 @@ Sequence = List Instr × Ending
 abbrev pub instr_of : (opened : ℕ → List ℕ → Reading Instr) → ℕ → List ℕ → Reading Instr
 instr_of opened b bytes = if opens b then opened b bytes else plain_of b bytes
 
--- at most so many instructions and what ends them, where `opened` reads an instruction that holds others
-unfoldable pub sequence : (opened : ℕ → List ℕ → Reading Instr) (most : ℕ) → List ℕ → Reading Sequence
+-- at most so many instructions and what ends them, where `opened` reads an instruction that holds
+-- others
+unfoldable pub sequence : (opened : ℕ → List ℕ → Reading Instr) (most : ℕ) → List ℕ
+    → Reading Sequence
 sequence opened zero bytes = Err Malformed
 sequence opened (suc most) [] = Err Malformed
 sequence opened (suc most) (b ∷ bytes) = elim (ending_of b) [
   | Some e ↦ Ok (([], e), bytes)
-  | None ↦ instr_of opened b bytes >>= λ i. sequence opened most i.1 >>= λ s. Ok ((i.0 ∷ s.0.0, s.0.1), s.1)
+  | None ↦ instr_of opened b bytes >>= λ i.
+      sequence opened most i.1 >>= λ s.
+      Ok ((i.0 ∷ s.0.0, s.0.1), s.1)
 ]
 
 -- the same with an end behind them: no else may stand there
@@ -167,9 +194,13 @@ abbrev pub ended : Reading Sequence → Reading (List Instr)
 ended read = read >>= λ s. elim s.0.1 [ End ↦ Ok (s.0.0, s.1) | Else ↦ Err OutsideProfile ]
 
 -- the instruction, once its first sequence is read. Only an if goes on behind an else
-abbrev pub closing : (inner : List ℕ → Reading Sequence) → ℕ → Option ValueType → List Instr → Ending → List ℕ → Reading Instr
+abbrev pub closing : (inner : List ℕ → Reading Sequence) → ℕ → Option ValueType → List Instr
+    → Ending → List ℕ → Reading Instr
 closing inner b t is End bytes = Ok (one_sided b t is, bytes)
-closing inner b t is Else bytes = if b == 0x04 then (ended (inner bytes) >>= λ others. Ok (If t is (Some others.0), others.1)) else Err OutsideProfile
+closing inner b t is Else bytes =
+    if b == 0x04
+    then (ended (inner bytes) >>= λ others. Ok (If t is (Some others.0), others.1))
+    else Err OutsideProfile
 
 -- an instruction that holds others, behind its opcode, where so many levels of nesting are left
 unfoldable pub opened : (levels : ℕ) → ℕ → List ℕ → Reading Instr

@@ -79,7 +79,8 @@ abbrev pub tests : List Numeric
 tests = I32Eqz ∷ map I32Relation relations ++ I64Eqz ∷ map I64Relation relations
 
 abbrev pub calculations : List Numeric
-calculations = I32Add ∷ map I64Operation operations ++ I32WrapI64 ∷ I64ExtendI32S ∷ I64ExtendI32U ∷ []
+calculations =
+    I32Add ∷ map I64Operation operations ++ I32WrapI64 ∷ I64ExtendI32S ∷ I64ExtendI32U ∷ []
 
 abbrev pub loads : List Load
 loads = load.I64 ∷ load.I64From8U ∷ load.I64From16U ∷ load.I64From32S ∷ load.I64From32U ∷ []

@@ -10,7 +10,11 @@ use Rattle.wasm_code.specs.Number.{unsigned}
 -- a byte that has to stand there, before a part or behind it
 infixr 40 ◌▸◌
 abbrev pub ◌▸◌ : {A : Type 0} → ℕ → Format A → Format A
-byte ▸ p = record { encoding = λ x. byte ∷ p.encoding x; reading = λ bytes. skip byte bytes >>= λ s. p.reading s.1; fits = p.fits }
+byte ▸ p = record {
+  encoding = λ x. byte ∷ p.encoding x;
+  reading = λ bytes. skip byte bytes >>= λ s. p.reading s.1;
+  fits = p.fits;
+}
 
 infixl 42 ◌◂◌
 abbrev pub ◌◂◌ : {A : Type 0} → Format A → ℕ → Format A
@@ -31,7 +35,11 @@ p · q = record {
 
 -- the same bytes, seen as another value
 abbrev pub seen : {A B : Type 0} → (A → B) → (B → A) → Format A → Format B
-seen make part p = record { encoding = λ y. p.encoding (part y); reading = λ bytes. p.reading bytes >>= λ x. Ok (make x.0, x.1); fits = λ y. p.fits (part y) }
+seen make part p = record {
+  encoding = λ y. p.encoding (part y);
+  reading = λ bytes. p.reading bytes >>= λ x. Ok (make x.0, x.1);
+  fits = λ y. p.fits (part y);
+}
 
 -- values that pass a test
 abbrev pub that : {A : Type 0} → (A → Bool) → Format A → Format A
@@ -65,21 +73,31 @@ entries p = record {
   fits = λ xs. nat_lt 0 (length xs) && (vector p).fits xs;
 }
 
--- the bytes behind a part that is stated to take so many of them: what is left of it is nothing, and all are there
+-- the bytes behind a part that is stated to take so many of them: what is left of it is nothing,
+-- and all are there
 abbrev pub closed : (size : ℕ) (bytes left : List ℕ) → Result (List ℕ) WFault
-closed size bytes left = if (length left == 0) && nat_le size (length bytes) then Ok (drop size bytes) else Err Malformed
+closed size bytes left =
+    if (length left == 0) && nat_le size (length bytes) then Ok (drop size bytes) else Err Malformed
 
 -- a part behind the number of its bytes. Bytes past that number count as missing
 abbrev pub sized : {A : Type 0} → Format A → Format A
 sized p = record {
   encoding = λ x. unsigned.encoding (length (p.encoding x)) ++ p.encoding x;
-  reading = λ bytes. unsigned.reading bytes >>= λ n. p.reading (take n.0 n.1) >>= λ x. closed n.0 n.1 x.1 >>= λ rest. Ok (x.0, rest);
+  reading = λ bytes.
+      unsigned.reading bytes >>= λ n.
+      p.reading (take n.0 n.1) >>= λ x.
+      closed n.0 n.1 x.1 >>= λ rest.
+      Ok (x.0, rest);
   fits = λ x. p.fits x && nat_lt (length (p.encoding x)) (2 ^ 32);
 }
 
 -- all the bytes that there are
 abbrev pub bytes_left : Format (List ℕ)
-bytes_left = record { encoding = λ bytes. bytes; reading = λ bytes. Ok (bytes, []); fits = λ bytes. list_all (λ b. nat_lt b 256) bytes }
+bytes_left = record {
+  encoding = λ bytes. bytes;
+  reading = λ bytes. Ok (bytes, []);
+  fits = λ bytes. list_all (λ b. nat_lt b 256) bytes;
+}
 
 -- a section, which is left out where it has no entry (Core 1.0, section 5.5.2)
 abbrev pub section_encoding : {A : Type 0} → (number : ℕ) → Format A → List A → List ℕ
@@ -88,14 +106,19 @@ section_encoding number p (x ∷ xs) = number ∷ (sized (entries p)).encoding (
 
 abbrev pub section_reading : {A : Type 0} → (number : ℕ) → Format A → List ℕ → Reading (List A)
 section_reading number p [] = Ok ([], [])
-section_reading number p (b ∷ bytes) = if b == number then (sized (entries p)).reading bytes else Ok ([], b ∷ bytes)
+section_reading number p (b ∷ bytes) =
+    if b == number then (sized (entries p)).reading bytes else Ok ([], b ∷ bytes)
 
 abbrev pub section_fits : {A : Type 0} → Format A → List A → Bool
 section_fits p [] = true
 section_fits p (x ∷ xs) = (sized (entries p)).fits (x ∷ xs)
 
 abbrev pub section : {A : Type 0} → (number : ℕ) → Format A → Format (List A)
-section number p = record { encoding = section_encoding number p; reading = section_reading number p; fits = section_fits p }
+section number p = record {
+  encoding = section_encoding number p;
+  reading = section_reading number p;
+  fits = section_fits p;
+}
 
 -- a name in UTF-8 (Core 1.0, section 5.2.4)
 unfoldable pub name : Format (List ℕ)

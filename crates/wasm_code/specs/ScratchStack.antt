@@ -21,7 +21,8 @@ is_plain _ = true
 
 -- the operation with one sequence, of so many, that such an opcode begins
 abbrev pub one_sided_op : ℕ → Option ValueType → (count : ℕ) → Op
-one_sided_op b t n = if b == 0x02 then op.Block t n else (if b == 0x03 then op.Loop t n else op.If t n)
+one_sided_op b t n =
+    if b == 0x02 then op.Block t n else (if b == 0x03 then op.Loop t n else op.If t n)
 
 -- a scratch, and on it an instruction that is read
 abbrev pub onto : List Op → Reading Instr → Reading (List Op)
@@ -39,6 +40,8 @@ onto_code before read = read >>= λ is. Ok (before ++ flat is.0, is.1)
 abbrev pub label_encoding : Op → List ℕ
 label_encoding o = unsigned.encoding (label_of o)
 
--- an instruction that holds others, behind its type, where so many levels of nesting are left for these
+-- an instruction that holds others, behind its type, where so many levels of nesting are left for
+-- these
 abbrev pub sides_of : (levels : ℕ) → ℕ → Option ValueType → List ℕ → Reading Instr
-sides_of levels b t bytes = code_in levels bytes >>= λ s. closing (code_in levels) b t s.0.0 s.0.1 s.1
+sides_of levels b t bytes =
+    code_in levels bytes >>= λ s. closing (code_in levels) b t s.0.0 s.0.1 s.1

@@ -38,18 +38,22 @@ end_of Trapped = Some Trap
 end_of (Going st now callers) = None
 
 -- nothing was done
-pub record IsIdle {S : Type 0} (reported : S → Option (List ℕ)) (old new : Instances) (before after : S) : Type 0 where
+pub record IsIdle {S : Type 0} (reported : S → Option (List ℕ)) (old new : Instances)
+    (before after : S) : Type 0 where
   pub config : config_of new ≡ config_of old
   pub bytes : reported after ≡ reported before
 
 -- so many reductions were made, and what they printed was taken
-pub record Made {S : Type 0} (reported : S → Option (List ℕ)) (failed : S → ℕ) (n : ℕ) (old new : Instances) (before after : S) : Type 0 where
+pub record Made {S : Type 0} (reported : S → Option (List ℕ)) (failed : S → ℕ) (n : ℕ)
+    (old new : Instances) (before after : S) : Type 0 where
   pub config : config_of new ≡ (run (modules_of old) n (config_of old)).0
-  pub bytes : reported after ≡ with_bytes (reported before) (run (modules_of old) n (config_of old)).1
+  pub bytes :
+      reported after ≡ with_bytes (reported before) (run (modules_of old) n (config_of old)).1
   pub failures : failed after ≡ failed before
 
 -- what a reduction led to is kept, and what it printed was taken
-pub record Settles {S : Type 0} (reported : S → Option (List ℕ)) (failed : S → ℕ) (r : Reduced) (old new : Instances) (before after : S) : Type 0 where
+pub record Settles {S : Type 0} (reported : S → Option (List ℕ)) (failed : S → ℕ) (r : Reduced)
+    (old new : Instances) (before after : S) : Type 0 where
   pub config : config_of new ≡ (progress r old.machine).0
   pub bytes : reported after ≡ with_bytes (reported before) (progress r old.machine).1
   pub failures : failed after ≡ failed before
@@ -61,17 +65,23 @@ pub record Breaks {S : Type 0} (failed : S → ℕ) (e : RunFault) (before after
   pub which : (e ≡ Write) ⊎ (e ≡ NoMemory)
 
 -- nothing was taken: a byte was refused, or memory
-pub record Stops {S : Type 0} (reported : S → Option (List ℕ)) (failed : S → ℕ) (e : RunFault) (before after : S) : Type 0 where
+pub record Stops {S : Type 0} (reported : S → Option (List ℕ)) (failed : S → ℕ) (e : RunFault)
+    (before after : S) : Type 0 where
   pub bytes : reported after ≡ reported before
   pub breaks : Breaks failed e before after
 
 -- so many reductions were made, and what they printed was taken
-pub record Runs {S : Type 0} (reported : S → Option (List ℕ)) (failed : S → ℕ) (steps : ℕ) (e : End) (old new : Instances) (before after : S) : Type 0 where
+pub record Runs {S : Type 0} (reported : S → Option (List ℕ)) (failed : S → ℕ) (steps : ℕ) (e : End)
+    (old new : Instances) (before after : S) : Type 0 where
   pub config : config_of new ≡ (run (modules_of old) steps (config_of old)).0
   pub answer : IsEnd e (config_of new)
-  pub bytes : reported after ≡ with_bytes (reported before) (run (modules_of old) steps (config_of old)).1
+  pub bytes :
+      reported after ≡ with_bytes (reported before) (run (modules_of old) steps (config_of old)).1
   pub failures : failed after ≡ failed before
 
 -- what no more reductions printed was taken, and nothing more
-abbrev pub RunsPart : {S : Type 0} → (S → Option (List ℕ)) → (steps : ℕ) → Instances → (before after : S) → Type 0
-RunsPart reported steps old before after = (n : ℕ) × (n ≤ steps) × (reported after ≡ with_bytes (reported before) (run (modules_of old) n (config_of old)).1)
+abbrev pub RunsPart : {S : Type 0} → (S → Option (List ℕ)) → (steps : ℕ) → Instances
+    → (before after : S) → Type 0
+RunsPart reported steps old before after =
+    (n : ℕ) × (n ≤ steps)
+    × (reported after ≡ with_bytes (reported before) (run (modules_of old) n (config_of old)).1)

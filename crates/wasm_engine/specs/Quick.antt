@@ -20,8 +20,10 @@ use Rattle.wasm_machine.specs.Well.{IsWell}
 use Rattle.wasm_machine.specs.Going.{activation, store_of, callers_of}
 use Rattle.wasm_machine.specs.declared.frame.Machine.{Machine}
 
--- what the engine keeps: where the run is is well typed, and the table of known functions is right there
-pub record Holds (modules : List WModule) (table : List (List KnownFunction)) (c : Config) : Type 0 where
+-- what the engine keeps: where the run is is well typed, and the table of known functions is right
+-- there
+pub record Holds (modules : List WModule) (table : List (List KnownFunction)) (c : Config)
+    : Type 0 where
   pub well : IsWell modules c
   pub right : StaysRight modules table c
 
@@ -39,13 +41,15 @@ IsBetween number lo hi = (is_less w64 number lo ≡ false) × (is_less w64 hi nu
 
 -- the operands of check are on top
 abbrev pub HasFour : List Value → Type 0
-HasFour stack = (below : List Value) × (v lo hi k : ℕ) × (stack ≡ below ++ I64 v ∷ I64 lo ∷ I64 hi ∷ I64 k ∷ [])
+HasFour stack =
+    (below : List Value) × (v lo hi k : ℕ) × (stack ≡ below ++ I64 v ∷ I64 lo ∷ I64 hi ∷ I64 k ∷ [])
 
 -- the number was between its bounds and is left alone on top, or all operands are as before
 abbrev pub Checked : Bool → (old new : List Value) → Type 0
 Checked false old new = new ≡ old
 Checked true old new =
-    (below : List Value) × (v lo hi k : ℕ) × (old ≡ below ++ I64 v ∷ I64 lo ∷ I64 hi ∷ I64 k ∷ []) × IsBetween v lo hi × (new ≡ below ++ I64 v ∷ [])
+    (below : List Value) × (v lo hi k : ℕ) × (old ≡ below ++ I64 v ∷ I64 lo ∷ I64 hi ∷ I64 k ∷ [])
+    × IsBetween v lo hi × (new ≡ below ++ I64 v ∷ [])
 
 abbrev pub least_divisor : ℕ
 least_divisor = 1
@@ -53,17 +57,24 @@ least_divisor = 1
 abbrev pub greatest_divisor : ℕ
 greatest_divisor = 4294967295
 
--- the quotient rounded down, and the remainder from 0 up, where the divisor is between its bounds and division is defined
+-- the quotient rounded down, and the remainder from 0 up, where the divisor is between its bounds
+-- and division is defined
 abbrev pub IsQuotient : (x y n : ℕ) → Type 0
-IsQuotient x y n = IsBetween y least_divisor greatest_divisor × (q r : ℕ) × (operated DivS x y ≡ Some q) × (operated RemS x y ≡ Some r) × (n ≡ quotient_down q r)
+IsQuotient x y n =
+    IsBetween y least_divisor greatest_divisor × (q r : ℕ) × (operated DivS x y ≡ Some q)
+    × (operated RemS x y ≡ Some r) × (n ≡ quotient_down q r)
 
 abbrev pub IsRemainder : (x y n : ℕ) → Type 0
-IsRemainder x y n = IsBetween y least_divisor greatest_divisor × (r : ℕ) × (operated RemS x y ≡ Some r) × (n ≡ remainder_up r y)
+IsRemainder x y n =
+    IsBetween y least_divisor greatest_divisor × (r : ℕ) × (operated RemS x y ≡ Some r)
+    × (n ≡ remainder_up r y)
 
 -- a number was made of the two on top and is left in their place, or they are as before
 abbrev pub Replaced : (Is : (x y n : ℕ) → Type 0) → Bool → (old new : List Value) → Type 0
 Replaced Is false old new = new ≡ old
-Replaced Is true old new = (below : List Value) × (x y n : ℕ) × (old ≡ below ++ I64 x ∷ I64 y ∷ []) × Is x y n × (new ≡ below ++ I64 n ∷ [])
+Replaced Is true old new =
+    (below : List Value) × (x y n : ℕ) × (old ≡ below ++ I64 x ∷ I64 y ∷ []) × Is x y n
+    × (new ≡ below ++ I64 n ∷ [])
 
 -- where the memory of a module stands
 abbrev pub memory_place : Store → (m : ℕ) → Option ℕ
@@ -71,7 +82,8 @@ memory_place st m = option_and_then (λ (i : Instance). slice_get i.memories 0) 
 
 -- the operands of copy are on top
 abbrev pub HasThree : List Value → Type 0
-HasThree stack = (below : List Value) × (to from k : ℕ) × (stack ≡ below ++ I32 to ∷ I32 from ∷ I32 k ∷ [])
+HasThree stack =
+    (below : List Value) × (to from k : ℕ) × (stack ≡ below ++ I32 to ∷ I32 from ∷ I32 k ∷ [])
 
 -- a module's memory, which stands at this place, reaches so far, and is no memory of 2^32 bytes
 pub record Reaches (st : Store) (own reach : ℕ) (memories : List Memory) (place : ℕ) : Type 0 where
@@ -83,7 +95,9 @@ pub record Reaches (st : Store) (own reach : ℕ) (memories : List Memory) (plac
   pub small : (a : ℕ) → byte a memory.bytes < 256
 
 -- the bytes of a module's memory, which reaches so far, were changed, or all is as before
-abbrev pub Changed : Bool → Store → (own reach : ℕ) → (List ℕ → List ℕ) → (old new : List Memory) → Type 0
+abbrev pub Changed : Bool → Store → (own reach : ℕ) → (List ℕ → List ℕ) → (old new : List Memory)
+    → Type 0
 Changed false st own reach change old new = new ≡ old
 Changed true st own reach change old new =
-    (place : ℕ) × (found : Reaches st own reach old place) × (new ≡ slice_set old place (record found.memory { bytes = change found.memory.bytes }))
+    (place : ℕ) × (found : Reaches st own reach old place)
+    × (new ≡ slice_set old place (record found.memory { bytes = change found.memory.bytes }))

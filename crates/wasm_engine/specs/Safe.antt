@@ -1,4 +1,5 @@
--- What linked valid modules never do: lack what their next reduction needs, or trap where the standard has no trap.
+-- What linked valid modules never do: lack what their next reduction needs, or trap where the
+-- standard has no trap.
 use Rattle.std.specs.Prelude.{◌≡◌, ℕ, List, [], ◌∷◌}
 use Rattle.wasm_tree.specs.declared.instr.Instr.{Instr, out-Instr}
 use Rattle.wasm_tree.specs.declared.module.WModule.{WModule}
@@ -11,12 +12,16 @@ use Rattle.wasm_sound.specs.Traps.{MayTrap}
 abbrev pub Traps : List WModule → Config → Type 0
 Traps modules c = (reduce modules c).0 ≡ Trapped
 
--- a function runs: its next instruction, or the end of its block or of itself, finds the operands, of their kinds, and the
--- labels, locals, globals and functions that it needs, and traps only by a rule of the standard
-pub record IsSafeAt (modules : List WModule) (st : Store) (now : Activation) (callers : List Activation) : Type 0 where
-  pub begins : (i : Instr) (rest : List Instr) → now.rest ≡ i ∷ rest → IsReady modules st now (out-Instr i)
+-- a function runs: its next instruction, or the end of its block or of itself, finds the operands,
+-- of their kinds, and the labels, locals, globals and functions that it needs, and traps only by a
+-- rule of the standard
+pub record IsSafeAt (modules : List WModule) (st : Store) (now : Activation)
+    (callers : List Activation) : Type 0 where
+  pub begins : (i : Instr) (rest : List Instr) → now.rest ≡ i ∷ rest
+      → IsReady modules st now (out-Instr i)
   pub ends : now.rest ≡ [] → IsReadyToEnd now (split_last now.labels)
-  pub traps : (i : Instr) (rest : List Instr) → now.rest ≡ i ∷ rest → Traps modules (Going st now callers) → MayTrap modules st now (out-Instr i)
+  pub traps : (i : Instr) (rest : List Instr) → now.rest ≡ i ∷ rest
+      → Traps modules (Going st now callers) → MayTrap modules st now (out-Instr i)
   pub no_trap_at_end : now.rest ≡ [] → ¬ (Traps modules (Going st now callers))
 
 abbrev pub IsSafe : List WModule → Config → Type 0

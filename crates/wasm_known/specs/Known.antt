@@ -26,22 +26,33 @@ with now code stack = record now { rest = code; stack = stack }
 -- a call of check with a number between its bounds leaves the number
 abbrev pub CheckReturns : Type 0
 CheckReturns =
-    (modules : List WModule) (st : Store) (now : Activation) (callers : List Activation) (g own f index : ℕ)
-    → callee_at st now.instance g ≡ Some (Own own f) → own_function modules own f ≡ Some (check_typed index)
-    → (v lo hi k : ℕ) (below : List Value) (rest : List Instr) → is_less w64 v lo ≡ false → is_less w64 hi v ≡ false
-    → Leads modules 14 (Going st (with now (instr.Call g ∷ rest) (below ++ I64 v ∷ I64 lo ∷ I64 hi ∷ I64 k ∷ [])) callers)
+    (modules : List WModule) (st : Store) (now : Activation) (callers : List Activation)
+    (g own f index : ℕ)
+    → callee_at st now.instance g ≡ Some (Own own f)
+    → own_function modules own f ≡ Some (check_typed index)
+    → (v lo hi k : ℕ) (below : List Value) (rest : List Instr)
+    → is_less w64 v lo ≡ false
+    → is_less w64 hi v ≡ false
+    → Leads modules 14
+    (Going st (with now (instr.Call g ∷ rest) (below ++ I64 v ∷ I64 lo ∷ I64 hi ∷ I64 k ∷ []))
+    callers)
     (Going st (with now rest (below ++ I64 v ∷ [])) callers)
 
--- so does the number on top where three constants stand in front of the call: its bounds, and what it ends with if it is
--- not between them
+-- so does the number on top where three constants stand in front of the call: its bounds, and what
+-- it ends with if it is not between them
 abbrev pub bounded : (lo hi k g : ℕ) → List Instr → List Instr
-bounded lo hi k g rest = instr.I64Const lo ∷ instr.I64Const hi ∷ instr.I64Const k ∷ instr.Call g ∷ rest
+bounded lo hi k g rest =
+    instr.I64Const lo ∷ instr.I64Const hi ∷ instr.I64Const k ∷ instr.Call g ∷ rest
 
 abbrev pub BoundsReturn : Type 0
 BoundsReturn =
-    (modules : List WModule) (st : Store) (now : Activation) (callers : List Activation) (g own f index : ℕ)
-    → callee_at st now.instance g ≡ Some (Own own f) → own_function modules own f ≡ Some (check_typed index)
-    → (v lo hi k : ℕ) (below : List Value) (rest : List Instr) → is_less w64 v lo ≡ false → is_less w64 hi v ≡ false
+    (modules : List WModule) (st : Store) (now : Activation) (callers : List Activation)
+    (g own f index : ℕ)
+    → callee_at st now.instance g ≡ Some (Own own f)
+    → own_function modules own f ≡ Some (check_typed index)
+    → (v lo hi k : ℕ) (below : List Value) (rest : List Instr)
+    → is_less w64 v lo ≡ false
+    → is_less w64 hi v ≡ false
     → Leads modules 17 (Going st (with now (bounded lo hi k g rest) (below ++ I64 v ∷ [])) callers)
     (Going st (with now rest (below ++ I64 v ∷ [])) callers)
 
@@ -51,11 +62,18 @@ fill_reductions count = count * 16 + 7
 
 abbrev pub FillReturns : Type 0
 FillReturns =
-    (modules : List WModule) (st : Store) (now : Activation) (callers : List Activation) (g own f index place : ℕ) (memory : Memory)
-    → callee_at st now.instance g ≡ Some (Own own f) → own_function modules own f ≡ Some (fill_typed index) → memory_of st own ≡ Some (place, memory)
-    → (to k : ℕ) (below : List Value) (rest : List Instr) → to + k ≤ length memory.bytes → length memory.bytes < 2 ^ 32
-    → Leads modules (fill_reductions k) (Going st (with now (instr.Call g ∷ rest) (below ++ I32 to ∷ I32 k ∷ [])) callers)
-    (Going (with_memory_bytes st place memory (cleared_bytes k to memory.bytes)) (with now rest below) callers)
+    (modules : List WModule) (st : Store) (now : Activation) (callers : List Activation)
+    (g own f index place : ℕ) (memory : Memory)
+    → callee_at st now.instance g ≡ Some (Own own f)
+    → own_function modules own f ≡ Some (fill_typed index)
+    → memory_of st own ≡ Some (place, memory)
+    → (to k : ℕ) (below : List Value) (rest : List Instr)
+    → to + k ≤ length memory.bytes
+    → length memory.bytes < 2 ^ 32
+    → Leads modules (fill_reductions k)
+    (Going st (with now (instr.Call g ∷ rest) (below ++ I32 to ∷ I32 k ∷ [])) callers)
+    (Going (with_memory_bytes st place memory (cleared_bytes k to memory.bytes))
+    (with now rest below) callers)
 
 -- a call of copy, where the bytes are there and have room, copies them from the first on
 abbrev pub copy_reductions : (count : ℕ) → ℕ
@@ -63,14 +81,23 @@ copy_reductions count = count * 21 + 7
 
 abbrev pub CopyReturns : Type 0
 CopyReturns =
-    (modules : List WModule) (st : Store) (now : Activation) (callers : List Activation) (g own f index place : ℕ) (memory : Memory)
-    → callee_at st now.instance g ≡ Some (Own own f) → own_function modules own f ≡ Some (copy_typed index) → memory_of st own ≡ Some (place, memory)
+    (modules : List WModule) (st : Store) (now : Activation) (callers : List Activation)
+    (g own f index place : ℕ) (memory : Memory)
+    → callee_at st now.instance g ≡ Some (Own own f)
+    → own_function modules own f ≡ Some (copy_typed index)
+    → memory_of st own ≡ Some (place, memory)
     → (to from k : ℕ) (below : List Value) (rest : List Instr)
-    → to + k ≤ length memory.bytes → from + k ≤ length memory.bytes → ((a : ℕ) → byte a memory.bytes < 256) → length memory.bytes < 2 ^ 32
-    → Leads modules (copy_reductions k) (Going st (with now (instr.Call g ∷ rest) (below ++ I32 to ∷ I32 from ∷ I32 k ∷ [])) callers)
-    (Going (with_memory_bytes st place memory (copied_bytes k to from memory.bytes)) (with now rest below) callers)
+    → to + k ≤ length memory.bytes
+    → from + k ≤ length memory.bytes
+    → ((a : ℕ) → byte a memory.bytes < 256)
+    → length memory.bytes < 2 ^ 32
+    → Leads modules (copy_reductions k)
+    (Going st (with now (instr.Call g ∷ rest) (below ++ I32 to ∷ I32 from ∷ I32 k ∷ [])) callers)
+    (Going (with_memory_bytes st place memory (copied_bytes k to from memory.bytes))
+    (with now rest below) callers)
 
--- what div and mod have: they stand in the module own, whose function 4 is check, and the divisor is between its bounds
+-- what div and mod have: they stand in the module own, whose function 4 is check, and the divisor
+-- is between its bounds
 pub record Divides (modules : List WModule) (st : Store) (own y : ℕ) : Type 0 where
   pub check : ℕ
   pub type : ℕ
@@ -88,14 +115,27 @@ remainder_up r y = (r + truth (is_less w64 r 0) * y % 2 ^ 64) % 2 ^ 64
 
 abbrev pub DivReturns : Type 0
 DivReturns =
-    (modules : List WModule) (st : Store) (now : Activation) (callers : List Activation) (g own f index : ℕ)
-    → callee_at st now.instance g ≡ Some (Own own f) → own_function modules own f ≡ Some (div_typed index)
-    → (x y q r : ℕ) (below : List Value) (rest : List Instr) → Divides modules st own y → operated DivS x y ≡ Some q → operated RemS x y ≡ Some r
-    → Leads modules 31 (Going st (with now (instr.Call g ∷ rest) (below ++ I64 x ∷ I64 y ∷ [])) callers) (Going st (with now rest (below ++ I64 (quotient_down q r) ∷ [])) callers)
+    (modules : List WModule) (st : Store) (now : Activation) (callers : List Activation)
+    (g own f index : ℕ)
+    → callee_at st now.instance g ≡ Some (Own own f)
+    → own_function modules own f ≡ Some (div_typed index)
+    → (x y q r : ℕ) (below : List Value) (rest : List Instr)
+    → Divides modules st own y
+    → operated DivS x y ≡ Some q
+    → operated RemS x y ≡ Some r
+    → Leads modules 31
+    (Going st (with now (instr.Call g ∷ rest) (below ++ I64 x ∷ I64 y ∷ [])) callers)
+    (Going st (with now rest (below ++ I64 (quotient_down q r) ∷ [])) callers)
 
 abbrev pub ModReturns : Type 0
 ModReturns =
-    (modules : List WModule) (st : Store) (now : Activation) (callers : List Activation) (g own f index : ℕ)
-    → callee_at st now.instance g ≡ Some (Own own f) → own_function modules own f ≡ Some (mod_typed index)
-    → (x y r : ℕ) (below : List Value) (rest : List Instr) → Divides modules st own y → operated RemS x y ≡ Some r
-    → Leads modules 32 (Going st (with now (instr.Call g ∷ rest) (below ++ I64 x ∷ I64 y ∷ [])) callers) (Going st (with now rest (below ++ I64 (remainder_up r y) ∷ [])) callers)
+    (modules : List WModule) (st : Store) (now : Activation) (callers : List Activation)
+    (g own f index : ℕ)
+    → callee_at st now.instance g ≡ Some (Own own f)
+    → own_function modules own f ≡ Some (mod_typed index)
+    → (x y r : ℕ) (below : List Value) (rest : List Instr)
+    → Divides modules st own y
+    → operated RemS x y ≡ Some r
+    → Leads modules 32
+    (Going st (with now (instr.Call g ∷ rest) (below ++ I64 x ∷ I64 y ∷ [])) callers)
+    (Going st (with now rest (below ++ I64 (remainder_up r y) ∷ [])) callers)

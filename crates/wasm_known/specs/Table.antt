@@ -9,7 +9,8 @@ use Rattle.wasm_known.specs.declared.table.KnownFunction.{KnownFunction}
 use Rattle.wasm_known.specs.declared.table.KnownFunction.TheVariants as known
 
 -- the index stands, in a module, for a function of the module own with this code
-pub record Stands (modules : List WModule) (st : Store) (m g own : ℕ) (code : ℕ → Typed) : Type 0 where
+pub record Stands (modules : List WModule) (st : Store) (m g own : ℕ) (code : ℕ → Typed)
+    : Type 0 where
   pub function : ℕ
   pub type : ℕ
   pub callee : callee_at st m g ≡ Some (Own own function)
@@ -19,8 +20,10 @@ pub record Stands (modules : List WModule) (st : Store) (m g own : ℕ) (code : 
 abbrev pub Means : List WModule → Store → (m g : ℕ) → KnownFunction → Type 0
 Means modules st m g known.Other = Unit {0}
 Means modules st m g known.Check = (own : ℕ) × Stands modules st m g own check_typed
-Means modules st m g known.Divide = (own : ℕ) × Stands modules st m g own div_typed × Stands modules st own 4 own check_typed
-Means modules st m g known.Modulo = (own : ℕ) × Stands modules st m g own mod_typed × Stands modules st own 4 own check_typed
+Means modules st m g known.Divide =
+    (own : ℕ) × Stands modules st m g own div_typed × Stands modules st own 4 own check_typed
+Means modules st m g known.Modulo =
+    (own : ℕ) × Stands modules st m g own mod_typed × Stands modules st own 4 own check_typed
 Means modules st m g known.Fill = (own : ℕ) × Stands modules st m g own fill_typed
 Means modules st m g known.Copy = (own : ℕ) × Stands modules st m g own copy_typed
 

@@ -14,17 +14,26 @@ use Rattle.wasm_machine.specs.declared.frame.Reduced.{Reduced}
 use Rattle.wasm_machine.specs.declared.frame.Reduced.TheVariants as reduced
 
 abbrev pub label_of : Label → machine.Label
-label_of l = record { arity = l.arity; height = l.height; again = tree l.again.now; rest = tree l.rest.now }
+label_of l =
+    record { arity = l.arity; height = l.height; again = tree l.again.now; rest = tree l.rest.now }
 
 abbrev pub activation : Frame → Activation
-activation f = record { instance = f.instance; arity = f.arity; locals = f.locals.known.values; labels = map label_of f.labels.items; rest = tree f.rest.now; stack = f.stack.known.values }
+activation f = record {
+  instance = f.instance;
+  arity = f.arity;
+  locals = f.locals.known.values;
+  labels = map label_of f.labels.items;
+  rest = tree f.rest.now;
+  stack = f.stack.known.values;
+}
 
 abbrev pub memory_from : Pages → Memory
 memory_from p = record { bytes = p.bytes.items; max = p.max }
 
 -- the store, with its memories and the values of its globals in their place
 abbrev pub store_of : Machine → Store
-store_of m = record m.store { memories = map memory_from m.memories.items; globals = m.globals.known.values }
+store_of m =
+    record m.store { memories = map memory_from m.memories.items; globals = m.globals.known.values }
 
 abbrev pub callers_of : Machine → List Activation
 callers_of m = map activation m.callers.items
@@ -51,7 +60,8 @@ innermost others (Some l) = Some (map label_of others, label_of l)
 -- a call of this function of a module
 abbrev pub called_typed : Store → Activation → List Activation → (m : ℕ) → Typed → Progress
 called_typed st now callers m t =
-    or_trap (split_end (length t.type.params) now.stack) (λ p. (Going st (entered m t p.1) (callers ++ record now { stack = p.0 } ∷ []), []))
+    or_trap (split_end (length t.type.params) now.stack) (λ p.
+    (Going st (entered m t p.1) (callers ++ record now { stack = p.0 } ∷ []), []))
 
 abbrev pub bytes_seen : Option (Bor (List ℕ)) → Option (List ℕ)
 bytes_seen None = None

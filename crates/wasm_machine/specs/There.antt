@@ -17,7 +17,10 @@ IsThere o = is_there o ≡ true
 -- the module has a table, and a slot that is filled has a function
 abbrev pub HasSlots : Store → (m slot : ℕ) → Type 0
 HasSlots st m slot =
-    (i : Instance) × (place : ℕ) × (table : Table) × (instance_of st m ≡ Some i) × (slice_get i.tables 0 ≡ Some place) × (slice_get st.tables place ≡ Some table)
+    (i : Instance) × (place : ℕ) × (table : Table)
+    × (instance_of st m ≡ Some i)
+    × (slice_get i.tables 0 ≡ Some place)
+    × (slice_get st.tables place ≡ Some table)
     × ((a : ℕ) → slice_get table.slots slot ≡ Some (Some a) → IsThere (slice_get st.functions a))
 
 -- the operands below with what was made of the others, where something was

@@ -1,5 +1,5 @@
--- Numbers of 32 and of 64 bits, and bytes, that are no greater: a tree's constants and bytes are numbers of any size, so it
--- is asked of the modules.
+-- Numbers of 32 and of 64 bits, and bytes, that are no greater: a tree's constants and bytes are
+-- numbers of any size, so it is asked of the modules.
 use Rattle.std.specs.Prelude.{◌≡◌, ℕ, ◌^◌, ◌<◌, List, [], ◌∷◌, All, Option}
 use Rattle.wasm_tree.specs.declared.kinds.ValueType.{ValueType}
 use Rattle.wasm_tree.specs.declared.instr.Instr.{Instr, out-Instr}
@@ -31,9 +31,15 @@ mutual
   -- the constants of an instruction and of the code inside it fit
   pub data InstrFits : Instr → Type 0 where
     Plain : (i : Instr) → ConstantFits (out-Instr i) → InstrFits i
-    Block : (i : Instr) (t : Option ValueType) (body : List Instr) → out-Instr i ≡ layer.Block t body → CodeFits body → InstrFits i
-    Loop : (i : Instr) (t : Option ValueType) (body : List Instr) → out-Instr i ≡ layer.Loop t body → CodeFits body → InstrFits i
-    If : (i : Instr) (t : Option ValueType) (body : List Instr) (otherwise : Option (List Instr)) → out-Instr i ≡ layer.If t body otherwise → CodeFits body → CodeFits (side_of otherwise) → InstrFits i
+    Block : (i : Instr) (t : Option ValueType) (body : List Instr)
+        → out-Instr i ≡ layer.Block t body → CodeFits body → InstrFits i
+    Loop : (i : Instr) (t : Option ValueType) (body : List Instr) → out-Instr i ≡ layer.Loop t body
+        → CodeFits body → InstrFits i
+    If : (i : Instr) (t : Option ValueType) (body : List Instr) (otherwise : Option (List Instr))
+        → out-Instr i ≡ layer.If t body otherwise
+        → CodeFits body
+        → CodeFits (side_of otherwise)
+        → InstrFits i
 
   pub data CodeFits : List Instr → Type 0 where
     Empty : CodeFits []

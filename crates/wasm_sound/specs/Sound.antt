@@ -33,11 +33,13 @@ Pairwise R (x ∷ xs) [] = ⊥
 
 -- the function at this address has this type
 abbrev pub IsCallable : List WModule → Store → (address : ℕ) → FuncType → Type 0
-IsCallable modules st a t = (c : Callee) × (slice_get st.functions a ≡ Some c) × (callee_type modules c ≡ Some t)
+IsCallable modules st a t =
+    (c : Callee) × (slice_get st.functions a ≡ Some c) × (callee_type modules c ≡ Some t)
 
 -- the function at this address has the type of this index
 abbrev pub IsFunctionAt : List WModule → Store → WModule → (type_index address : ℕ) → Type 0
-IsFunctionAt modules st tree i a = (t : FuncType) × (slice_get tree.types i ≡ Some t) × IsCallable modules st a t
+IsFunctionAt modules st tree i a =
+    (t : FuncType) × (slice_get tree.types i ≡ Some t) × IsCallable modules st a t
 
 abbrev pub IsTableAt : Store → Limits → (address : ℕ) → Type 0
 IsTableAt st l a = (t : Table) × (slice_get st.tables a ≡ Some t)
@@ -49,7 +51,8 @@ abbrev pub IsGlobalAt : Store → ValueType → (address : ℕ) → Type 0
 IsGlobalAt st t a = (v : Value) × (slice_get st.globals a ≡ Some v) × (type_of v ≡ t)
 
 -- what the module's indices stand for is what its context says of them
-pub record IsInstance (modules : List WModule) (st : Store) (tree : WModule) (i : Instance) : Type 0 where
+pub record IsInstance (modules : List WModule) (st : Store) (tree : WModule) (i : Instance)
+    : Type 0 where
   pub functions : Pairwise (IsFunctionAt modules st tree) (context tree).functions i.functions
   pub tables : Pairwise (IsTableAt st) (context tree).tables i.tables
   pub memories : Pairwise (IsMemoryAt st) (context tree).memories i.memories
@@ -59,9 +62,11 @@ pub record IsInstance (modules : List WModule) (st : Store) (tree : WModule) (i 
 pub record IsStore (modules linked : List WModule) (st : Store) : Type 0 where
   pub instances : Pairwise (IsInstance modules st) linked st.instances
   -- each function has a type
-  pub functions : (a : ℕ) (c : Callee) → slice_get st.functions a ≡ Some c → (t : FuncType) × (callee_type modules c ≡ Some t)
+  pub functions : (a : ℕ) (c : Callee) → slice_get st.functions a ≡ Some c
+      → (t : FuncType) × (callee_type modules c ≡ Some t)
   -- a slot that is filled has the address of a function
-  pub slots : (a : ℕ) (t : Table) (slot f : ℕ) → slice_get st.tables a ≡ Some t → slice_get t.slots slot ≡ Some (Some f) → (c : Callee) × (slice_get st.functions f ≡ Some c)
+  pub slots : (a : ℕ) (t : Table) (slot f : ℕ) → slice_get st.tables a ≡ Some t
+      → slice_get t.slots slot ≡ Some (Some f) → (c : Callee) × (slice_get st.functions f ≡ Some c)
 
 -- ---- labels and activations
 
@@ -90,7 +95,8 @@ pub record Opens (outer : Level) (l : Label) (inner : Level) : Type 0 where
   pub rest : Leads outer.context l.rest (between ++ inner.gives) outer.gives
 
 -- a function of this type with these locals
-pub record IsFrame (modules : List WModule) (instance arity : ℕ) (locals : List Value) (returns : List ValueType) (c : Context) : Type 0 where
+pub record IsFrame (modules : List WModule) (instance arity : ℕ) (locals : List Value)
+    (returns : List ValueType) (c : Context) : Type 0 where
   pub tree : WModule
   pub type : FuncType
   pub groups : List Locals
@@ -100,8 +106,10 @@ pub record IsFrame (modules : List WModule) (instance arity : ℕ) (locals : Lis
   pub arity_is : arity ≡ length type.results
   pub locals_are : map type_of locals ≡ type.params ++ declared groups
 
--- a function returns values of the first types, once it has got operands of the last types from the one that it called
-pub record IsActivation (modules : List WModule) (returns : List ValueType) (a : Activation) (given : List ValueType) : Type 0 where
+-- a function returns values of the first types, once it has got operands of the last types from the
+-- one that it called
+pub record IsActivation (modules : List WModule) (returns : List ValueType) (a : Activation)
+    (given : List ValueType) : Type 0 where
   pub context : Context
   pub inner : Level
   -- the operands that the innermost code may take
@@ -113,7 +121,8 @@ pub record IsActivation (modules : List WModule) (returns : List ValueType) (a :
 
 -- ---- configurations
 
-pub record IsGoing (modules : List WModule) (st : Store) (now : Activation) (callers : List Activation) : Type 0 where
+pub record IsGoing (modules : List WModule) (st : Store) (now : Activation)
+    (callers : List Activation) : Type 0 where
   pub store : IsStore modules modules st
   -- what the first function returns, and what the one that runs returns
   pub first : List ValueType

@@ -1,4 +1,5 @@
--- The traps of the standard (Core 1.0, section 4.4): where an instruction traps though what it needs is there.
+-- The traps of the standard (Core 1.0, section 4.4): where an instruction traps though what it
+-- needs is there.
 use Rattle.std.specs.Prelude.{◌≡◌, ◌⊎◌, ℕ, ◌+◌, ◌<◌, false, List, [], ◌∷◌, ◌++◌, length, Option, Some, None}
 use Rattle.wasm_tree.specs.declared.instr.Instr.{Instr}
 use Rattle.wasm_tree.specs.declared.instr.Instr.TheOpen as layer
@@ -17,28 +18,40 @@ use Rattle.wasm_tree.specs.Machine.{Activation, callee_at, callee_in, memory_of,
 -- the host's stop ends with the numbers from 1 to 255 alone
 abbrev pub CallTraps : List Value → Callee → Type 0
 CallTraps stack Put = ⊥
-CallTraps stack Stop = (below : List Value) × (n : ℕ) × (stack ≡ below ++ I64 n ∷ []) × ((n ≡ 0) ⊎ (255 < n))
+CallTraps stack Stop =
+    (below : List Value) × (n : ℕ) × (stack ≡ below ++ I64 n ∷ []) × ((n ≡ 0) ⊎ (255 < n))
 CallTraps stack (Own m f) = ⊥
 
--- the slot is past the table or empty, or its function has another type than the one that is asked for
-abbrev pub SlotTraps : List WModule → Store → (m : ℕ) → List Value → (type_index slot : ℕ) → Option Callee → Type 0
+-- the slot is past the table or empty, or its function has another type than the one that is asked
+-- for
+abbrev pub SlotTraps : List WModule → Store → (m : ℕ) → List Value → (type_index slot : ℕ)
+    → Option Callee → Type 0
 SlotTraps modules st m stack index slot None = Unit {0}
-SlotTraps modules st m stack index slot (Some c) = (agree (type_at modules m index) (callee_type modules c) ≡ false) ⊎ CallTraps stack c
+SlotTraps modules st m stack index slot (Some c) =
+    (agree (type_at modules m index) (callee_type modules c) ≡ false) ⊎ CallTraps stack c
 
 -- the operation is not defined at these numbers
 abbrev pub NumberTraps : Numeric → List Value → Type 0
-NumberTraps (numeric.I64Operation o) stack = (below : List Value) × (n m : ℕ) × (stack ≡ below ++ I64 n ∷ I64 m ∷ []) × (operated o n m ≡ None)
+NumberTraps (numeric.I64Operation o) stack =
+    (below : List Value) × (n m : ℕ) × (stack ≡ below ++ I64 n ∷ I64 m ∷ [])
+    × (operated o n m ≡ None)
 NumberTraps o stack = ⊥
 
 abbrev pub MayTrap : List WModule → Store → Activation → layer.Instr-F Instr → Type 0
 MayTrap modules st now layer.Unreachable = Unit {0}
-MayTrap modules st now (layer.Call f) = (c : Callee) × (callee_at st now.instance f ≡ Some c) × CallTraps now.stack c
+MayTrap modules st now (layer.Call f) =
+    (c : Callee) × (callee_at st now.instance f ≡ Some c) × CallTraps now.stack c
 MayTrap modules st now (layer.CallIndirect t) =
-    (below : List Value) × (n : ℕ) × (now.stack ≡ below ++ I32 n ∷ []) × SlotTraps modules st now.instance below t n (callee_in st now.instance n)
+    (below : List Value) × (n : ℕ) × (now.stack ≡ below ++ I32 n ∷ [])
+    × SlotTraps modules st now.instance below t n (callee_in st now.instance n)
 -- the memory ends before the last byte
 MayTrap modules st now (layer.Load kind) =
-    (below : List Value) × (n : ℕ) × (m : ℕ × Memory) × (now.stack ≡ below ++ I32 n ∷ []) × (memory_of st now.instance ≡ Some m) × (length m.1.bytes < n + load_size kind)
+    (below : List Value) × (n : ℕ) × (m : ℕ × Memory) × (now.stack ≡ below ++ I32 n ∷ [])
+    × (memory_of st now.instance ≡ Some m) × (length m.1.bytes < n + load_size kind)
 MayTrap modules st now (layer.Store width) =
-    (below : List Value) × (place n : ℕ) × (m : ℕ × Memory) × (now.stack ≡ below ++ I32 place ∷ I64 n ∷ []) × (memory_of st now.instance ≡ Some m) × (length m.1.bytes < place + length (stored width n))
+    (below : List Value) × (place n : ℕ) × (m : ℕ × Memory)
+    × (now.stack ≡ below ++ I32 place ∷ I64 n ∷ [])
+    × (memory_of st now.instance ≡ Some m)
+    × (length m.1.bytes < place + length (stored width n))
 MayTrap modules st now (layer.Numeric o) = NumberTraps o now.stack
 MayTrap modules st now _ = ⊥

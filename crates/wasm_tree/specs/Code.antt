@@ -20,7 +20,8 @@ head trees op.Unreachable rest = instr.Unreachable
 head trees (op.Block t n) rest = instr.Block t (trees (take n rest))
 head trees (op.Loop t n) rest = instr.Loop t (trees (take n rest))
 head trees (op.If t n) rest = instr.If t (trees (take n rest)) None
-head trees (op.IfElse t n m) rest = instr.If t (trees (take n rest)) (Some (trees (take m (drop n rest))))
+head trees (op.IfElse t n m) rest =
+    instr.If t (trees (take n rest)) (Some (trees (take m (drop n rest))))
 head trees (op.Br l) rest = instr.Br l
 head trees (op.BrIf l) rest = instr.BrIf l
 head trees (op.BrTable n l) rest = instr.BrTable (map label_of (take n rest)) l
@@ -67,7 +68,8 @@ flat_step layer.Unreachable = op.Unreachable ∷ []
 flat_step (layer.Block t is) = op.Block t (length (joined is)) ∷ joined is
 flat_step (layer.Loop t is) = op.Loop t (length (joined is)) ∷ joined is
 flat_step (layer.If t is None) = op.If t (length (joined is)) ∷ joined is
-flat_step (layer.If t is (Some others)) = op.IfElse t (length (joined is)) (length (joined others)) ∷ (joined is ++ joined others)
+flat_step (layer.If t is (Some others)) =
+    op.IfElse t (length (joined is)) (length (joined others)) ∷ (joined is ++ joined others)
 flat_step (layer.Br l) = op.Br l ∷ []
 flat_step (layer.BrIf l) = op.BrIf l ∷ []
 flat_step (layer.BrTable ls l) = op.BrTable (length ls) l ∷ map (λ l. op.Br l) ls

@@ -1,5 +1,5 @@
--- Formats: how a value is encoded in bytes, what is read at the front of bytes, and which values can be encoded.
--- A reading is a value with the bytes behind it, or the first fault from the left.
+-- Formats: how a value is encoded in bytes, what is read at the front of bytes, and which values
+-- can be encoded. A reading is a value with the bytes behind it, or the first fault from the left.
 use Rattle.std.specs.Prelude.{◌≡◌, ℕ, Bool, List, [], ◌∷◌, Result, Ok, Err, ◌==◌, if◌then◌else◌}
 use Rattle.wasm_tree.specs.declared.fault.WFault.{WFault}
 use Rattle.wasm_tree.specs.declared.fault.WFault.TheVariants.{Malformed, OutsideProfile, Invalid, Unlinked, SegmentOutside, NoMemory}

@@ -1,5 +1,5 @@
--- Modules linked one after the other (Core 1.0, section 4.5.4): the first is link, which answers imports from `link`;
--- the host answers `put` and `stop` from `host`.
+-- Modules linked one after the other (Core 1.0, section 4.5.4): the first is link, which answers
+-- imports from `link`; the host answers `put` and `stop` from `host`.
 use Rattle.std.specs.Prelude.{ℕ, suc, ◌+◌, ◌*◌, ◌/◌, Bool, true, false, ◌&&◌, List, [], ◌∷◌, ◌++◌, length, take, drop, replicate, slice_get, slice_set, Option, Some, None, Result, Ok, Err, nat_le, if◌then◌else◌, codes}
 use Rattle.std.specs.Option.{option_and_then, option_map}
 use Rattle.std.specs.Str.{bytes_eq}
@@ -75,20 +75,31 @@ extern_of i (exported.Memory x) = option_map extern.Memory (slice_get i.memories
 extern_of i (exported.Global x) = option_map extern.Global (slice_get i.globals x)
 
 abbrev pub host_answer : List ℕ → Option Extern
-host_answer name = if bytes_eq name put_name then Some (extern.Function 0) else (if bytes_eq name stop_name then Some (extern.Function 1) else None)
+host_answer name =
+    if bytes_eq name put_name
+    then Some (extern.Function 0)
+    else (if bytes_eq name stop_name then Some (extern.Function 1) else None)
 
 -- link's export, once link has an instance
 abbrev pub link_answer : List WModule → Store → List ℕ → Option Extern
 link_answer modules st name =
-    option_and_then (λ (i : Instance). option_and_then (λ (m : WModule). option_and_then (λ k. extern_of i k) (named name m.exports)) (slice_get modules 0)) (slice_get st.instances 0)
+    option_and_then
+    (λ (i : Instance).
+    option_and_then (λ (m : WModule). option_and_then (λ k. extern_of i k) (named name m.exports))
+    (slice_get modules 0))
+    (slice_get st.instances 0)
 
 abbrev pub answer : List WModule → Store → Import → Option Extern
 answer modules st i =
-    if bytes_eq i.module_name host_name then host_answer i.name else (if bytes_eq i.module_name link_name then link_answer modules st i.name else None)
+    if bytes_eq i.module_name host_name
+    then host_answer i.name
+    else (if bytes_eq i.module_name link_name then link_answer modules st i.name else None)
 
 -- a size and a greatest size are within limits
 abbrev pub has_limits : Limits → (size : ℕ) → Option ℕ → Bool
-has_limits l size max = nat_le l.min size && elim l.max [ None ↦ true | Some m ↦ elim max [ None ↦ false | Some n ↦ nat_le n m ] ]
+has_limits l size max =
+    nat_le l.min size
+    && elim l.max [ None ↦ true | Some m ↦ elim max [ None ↦ false | Some n ↦ nat_le n m ] ]
 
 abbrev pub has_table : Limits → Option Table → Bool
 has_table l None = false
@@ -108,9 +119,12 @@ has_type t (Some v) = is_same_value_type t (type_of v)
 
 -- what was found is what the import asks for
 abbrev pub suits : List WModule → Store → WModule → ImportKind → Extern → Bool
-suits modules st m (imported.Function t) (extern.Function a) = agree (slice_get m.types t) (option_and_then (λ c. callee_type modules c) (slice_get st.functions a))
+suits modules st m (imported.Function t) (extern.Function a) =
+    agree (slice_get m.types t)
+    (option_and_then (λ c. callee_type modules c) (slice_get st.functions a))
 suits modules st m (imported.Table t) (extern.Table a) = has_table t.limits (slice_get st.tables a)
-suits modules st m (imported.Memory t) (extern.Memory a) = has_memory t.limits (slice_get st.memories a)
+suits modules st m (imported.Memory t) (extern.Memory a) =
+    has_memory t.limits (slice_get st.memories a)
 suits modules st m (imported.Global t) (extern.Global a) = has_type t (slice_get st.globals a)
 suits modules st m _ _ = false
 
@@ -121,7 +135,10 @@ with_extern (extern.Memory a) i = record i { memories = i.memories ++ a ∷ [] }
 with_extern (extern.Global a) i = record i { globals = i.globals ++ a ∷ [] }
 
 abbrev pub answered : List WModule → Store → WModule → Import → Result Extern WFault
-answered modules st m i = elim (answer modules st i) [ None ↦ Err Unlinked | Some x ↦ if suits modules st m i.kind x then Ok x else Err Unlinked ]
+answered modules st m i = elim (answer modules st i) [
+  | None ↦ Err Unlinked
+  | Some x ↦ if suits modules st m i.kind x then Ok x else Err Unlinked
+]
 
 abbrev pub with_import : List WModule → Store → WModule → Import → Instance → Result Instance WFault
 with_import modules st m x i = answered modules st m x >>= λ e. Ok (with_extern e i)
@@ -135,7 +152,8 @@ pub record Linked : Type 0 where
 abbrev pub with_function : Callee → Linked → Linked
 with_function c l = record {
   store = record l.store { functions = l.store.functions ++ c ∷ [] };
-  instance = record l.instance { functions = l.instance.functions ++ length l.store.functions ∷ [] };
+  instance =
+      record l.instance { functions = l.instance.functions ++ length l.store.functions ∷ [] };
 }
 
 -- the functions of the module of this number, from the number first on
@@ -165,7 +183,8 @@ with_memory t l = Ok (record {
 abbrev pub constant : Linked → Instr → Option Value
 constant l (I32Const n) = Some (I32 n)
 constant l (I64Const n) = Some (I64 n)
-constant l (GlobalGet g) = option_and_then (λ a. slice_get l.store.globals a) (slice_get l.instance.globals g)
+constant l (GlobalGet g) =
+    option_and_then (λ a. slice_get l.store.globals a) (slice_get l.instance.globals g)
 constant l _ = None
 
 abbrev pub value_of : Linked → List Instr → Option Value
@@ -194,32 +213,50 @@ offset_of (Some (I64 n)) = Err SegmentOutside
 -- the addresses of functions
 abbrev pub addresses : Instance → List ℕ → Option (List (Option ℕ))
 addresses i [] = Some []
-addresses i (f ∷ fs) = option_and_then (λ a. option_map (λ rest. Some a ∷ rest) (addresses i fs)) (slice_get i.functions f)
+addresses i (f ∷ fs) =
+    option_and_then (λ a. option_map (λ rest. Some a ∷ rest) (addresses i fs))
+    (slice_get i.functions f)
 
-abbrev pub with_slots : Linked → (table at : ℕ) → Option Table → Option (List (Option ℕ)) → Result Linked WFault
+abbrev pub with_slots : Linked → (table at : ℕ) → Option Table → Option (List (Option ℕ))
+    → Result Linked WFault
 with_slots l table at None slots = Err SegmentOutside
 with_slots l table at (Some t) None = Err SegmentOutside
 with_slots l table at (Some t) (Some slots) =
     if nat_le (at + length slots) (length t.slots)
-    then Ok (record l { store = record l.store { tables = slice_set l.store.tables table (record t { slots = pasted t.slots at slots }) } })
+    then Ok (record l {
+      store = record l.store {
+        tables = slice_set l.store.tables table (record t { slots = pasted t.slots at slots });
+      };
+    })
     else Err SegmentOutside
 
 -- the place that an index stands for
 abbrev pub some_address : List ℕ → (index : ℕ) → Result ℕ WFault
-some_address places index = elim (slice_get places index) [ None ↦ Err SegmentOutside | Some a ↦ Ok a ]
+some_address places index =
+    elim (slice_get places index) [ None ↦ Err SegmentOutside | Some a ↦ Ok a ]
 
 abbrev pub with_element : Element → Linked → Result Linked WFault
-with_element e l = offset_of (value_of l e.offset) >>= λ at. some_address l.instance.tables e.table >>= λ table. with_slots l table at (slice_get l.store.tables table) (addresses l.instance e.functions)
+with_element e l =
+    offset_of (value_of l e.offset) >>= λ at.
+    some_address l.instance.tables e.table >>= λ table.
+    with_slots l table at (slice_get l.store.tables table) (addresses l.instance e.functions)
 
 abbrev pub with_bytes : Linked → (memory at : ℕ) → Option Memory → List ℕ → Result Linked WFault
 with_bytes l memory at None bytes = Err SegmentOutside
 with_bytes l memory at (Some m) bytes =
     if nat_le (at + length bytes) (length m.bytes)
-    then Ok (record l { store = record l.store { memories = slice_set l.store.memories memory (record m { bytes = pasted m.bytes at bytes }) } })
+    then Ok (record l {
+      store = record l.store {
+        memories = slice_set l.store.memories memory (record m { bytes = pasted m.bytes at bytes });
+      };
+    })
     else Err SegmentOutside
 
 abbrev pub with_segment : Data → Linked → Result Linked WFault
-with_segment d l = offset_of (value_of l d.offset) >>= λ at. some_address l.instance.memories d.memory >>= λ memory. with_bytes l memory at (slice_get l.store.memories memory) d.bytes
+with_segment d l =
+    offset_of (value_of l d.offset) >>= λ at.
+    some_address l.instance.memories d.memory >>= λ memory.
+    with_bytes l memory at (slice_get l.store.memories memory) d.bytes
 
 -- ---- modules one after the other
 
@@ -230,7 +267,8 @@ no_instance = record { functions = []; tables = []; memories = []; globals = [] 
 unfoldable pub linked_one : List WModule → (m : ℕ) → WModule → Store → Result Store WFault
 linked_one modules m tree st = do
   instance ← each (with_import modules st tree) tree.imports no_instance
-  tables ← each with_table tree.tables (with_functions m 0 tree.functions (record { store = st; instance = instance }))
+  tables ← each with_table tree.tables
+      (with_functions m 0 tree.functions (record { store = st; instance = instance }))
   memories ← each with_memory tree.memories tables
   globals ← each with_global tree.globals memories
   elements ← each with_element tree.elements globals
@@ -240,11 +278,13 @@ linked_one modules m tree st = do
 -- the modules from the number m on
 unfoldable pub linked_from : List WModule → (m : ℕ) → List WModule → Store → Result Store WFault
 linked_from modules m [] st = Ok st
-linked_from modules m (tree ∷ trees) st = linked_one modules m tree st >>= linked_from modules (suc m) trees
+linked_from modules m (tree ∷ trees) st =
+    linked_one modules m tree st >>= linked_from modules (suc m) trees
 
 -- the host's functions alone
 abbrev pub host_store : Store
-host_store = record { functions = Put ∷ Stop ∷ []; tables = []; memories = []; globals = []; instances = [] }
+host_store =
+    record { functions = Put ∷ Stop ∷ []; tables = []; memories = []; globals = []; instances = [] }
 
 -- the function without parameters and results that the module exports as run
 abbrev pub is_plain : Option FuncType → Bool
@@ -252,7 +292,10 @@ is_plain None = false
 is_plain (Some t) = is_same_type t (record { params = []; results = [] })
 
 abbrev pub run_index : WModule → Option ExportKind → Result ℕ WFault
-run_index m (Some (exported.Function f)) = if is_plain (option_and_then (λ t. slice_get m.types t) (slice_get (context m).functions f)) then Ok f else Err Unlinked
+run_index m (Some (exported.Function f)) =
+    if is_plain (option_and_then (λ t. slice_get m.types t) (slice_get (context m).functions f))
+    then Ok f
+    else Err Unlinked
 run_index m _ = Err Unlinked
 
 abbrev pub run_of : List WModule → Result ℕ WFault

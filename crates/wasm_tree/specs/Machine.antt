@@ -1,5 +1,5 @@
--- The machine (Core 1.0, section 4): one reduction begins an instruction, or reaches the end of a block or a function.
--- Where no rule of the standard applies, it traps.
+-- The machine (Core 1.0, section 4): one reduction begins an instruction, or reaches the end of a
+-- block or a function. Where no rule of the standard applies, it traps.
 use Rattle.std.specs.Prelude.{ℕ, zero, suc, ◌+◌, ◌-◌, ◌%◌, ◌^◌, ◌==◌, Bool, true, false, ◌&&◌, List, [], ◌∷◌, ◌++◌, length, take, drop, replicate, slice_get, slice_set, slice_index_or, Option, Some, None, nat_le, nat_lt, if◌then◌else◌}
 use Rattle.std.specs.Int.{w32, w64}
 use Rattle.std.specs.Option.{option_and_then, option_map}
@@ -27,16 +27,17 @@ use Rattle.wasm_tree.specs.declared.store.Store.{Store}
 
 -- ---- configurations
 
--- a block that was begun and did not end. A branch to it keeps so many operands above those that stood below the block,
--- and goes on with its code, behind a block or at the loop again; behind the end stands the rest (4.2.10)
+-- a block that was begun and did not end. A branch to it keeps so many operands above those that
+-- stood below the block, and goes on with its code, behind a block or at the loop again; behind the
+-- end stands the rest (4.2.10)
 pub record Label : Type 0 where
   pub arity : ℕ
   pub height : ℕ
   pub again : List Instr
   pub rest : List Instr
 
--- a function that runs, or waits for one that it called (4.2.11). The last label is the innermost one, the last operand
--- is on top
+-- a function that runs, or waits for one that it called (4.2.11). The last label is the innermost
+-- one, the last operand is on top
 pub record Activation : Type 0 where
   pub instance : ℕ
   pub arity : ℕ
@@ -67,17 +68,20 @@ split_last (x ∷ xs) = elim (split_last xs) [ None ↦ Some ([], x) | Some p �
 
 -- the last n elements and those before them
 abbrev pub split_end : {A : Type 0} → ℕ → List A → Option (List A × List A)
-split_end n xs = if nat_le n (length xs) then Some (take (length xs - n) xs, drop (length xs - n) xs) else None
+split_end n xs =
+    if nat_le n (length xs) then Some (take (length xs - n) xs, drop (length xs - n) xs) else None
 
 abbrev pub topmost : List Value → Option Value
 topmost stack = slice_get stack (length stack - 1)
 
 -- the topmost operand, where it is of 32 or of 64 bits, above the others
 abbrev pub top_i32 : List Value → Option (List Value × ℕ)
-top_i32 stack = option_and_then (λ p. elim p.1 [ I32 n ↦ Some (p.0, n) | I64 n ↦ None ]) (split_last stack)
+top_i32 stack =
+    option_and_then (λ p. elim p.1 [ I32 n ↦ Some (p.0, n) | I64 n ↦ None ]) (split_last stack)
 
 abbrev pub top_i64 : List Value → Option (List Value × ℕ)
-top_i64 stack = option_and_then (λ p. elim p.1 [ I32 n ↦ None | I64 n ↦ Some (p.0, n) ]) (split_last stack)
+top_i64 stack =
+    option_and_then (λ p. elim p.1 [ I32 n ↦ None | I64 n ↦ Some (p.0, n) ]) (split_last stack)
 
 -- goes on with what was found, if it was
 abbrev pub or_trap : {A : Type 0} → Option A → (A → Progress) → Progress
@@ -90,10 +94,17 @@ abbrev pub instance_of : Store → ℕ → Option Instance
 instance_of st m = slice_get st.instances m
 
 abbrev pub callee_at : Store → (m index : ℕ) → Option Callee
-callee_at st m index = option_and_then (λ (i : Instance). option_and_then (λ a. slice_get st.functions a) (slice_get i.functions index)) (instance_of st m)
+callee_at st m index =
+    option_and_then
+    (λ (i : Instance).
+    option_and_then (λ a. slice_get st.functions a) (slice_get i.functions index))
+    (instance_of st m)
 
 abbrev pub global_at : Store → (m index : ℕ) → Option Value
-global_at st m index = option_and_then (λ (i : Instance). option_and_then (λ a. slice_get st.globals a) (slice_get i.globals index)) (instance_of st m)
+global_at st m index =
+    option_and_then
+    (λ (i : Instance). option_and_then (λ a. slice_get st.globals a) (slice_get i.globals index))
+    (instance_of st m)
 
 -- the function in a slot of the module's table
 abbrev pub filled : Option (Option ℕ) → Option ℕ
@@ -102,8 +113,16 @@ filled (Some a) = a
 
 abbrev pub callee_in : Store → (m slot : ℕ) → Option Callee
 callee_in st m slot =
-    option_and_then (λ (i : Instance). option_and_then (λ t. option_and_then (λ (table : Table). option_and_then (λ a. slice_get st.functions a) (filled (slice_get table.slots slot)))
-    (slice_get st.tables t)) (slice_get i.tables 0)) (instance_of st m)
+    option_and_then
+    (λ (i : Instance).
+    option_and_then
+    (λ t.
+    option_and_then
+    (λ (table : Table).
+    option_and_then (λ a. slice_get st.functions a) (filled (slice_get table.slots slot)))
+    (slice_get st.tables t))
+    (slice_get i.tables 0))
+    (instance_of st m)
 
 -- a function of a module and its type
 pub record Typed : Type 0 where
@@ -112,11 +131,18 @@ pub record Typed : Type 0 where
 
 abbrev pub own_function : List WModule → (m f : ℕ) → Option Typed
 own_function modules m f =
-    option_and_then (λ (tree : WModule). option_and_then (λ (function : Function). option_and_then (λ t. Some (record { type = t; function = function })) (slice_get tree.types function.type_index))
-    (slice_get tree.functions f)) (slice_get modules m)
+    option_and_then
+    (λ (tree : WModule).
+    option_and_then
+    (λ (function : Function).
+    option_and_then (λ t. Some (record { type = t; function = function }))
+    (slice_get tree.types function.type_index))
+    (slice_get tree.functions f))
+    (slice_get modules m)
 
 abbrev pub type_at : List WModule → (m index : ℕ) → Option FuncType
-type_at modules m index = option_and_then (λ (tree : WModule). slice_get tree.types index) (slice_get modules m)
+type_at modules m index =
+    option_and_then (λ (tree : WModule). slice_get tree.types index) (slice_get modules m)
 
 -- what the host's two functions take and give
 abbrev pub host_type : FuncType
@@ -125,7 +151,8 @@ host_type = record { params = types.I64 ∷ []; results = [] }
 abbrev pub callee_type : List WModule → Callee → Option FuncType
 callee_type modules Put = Some host_type
 callee_type modules Stop = Some host_type
-callee_type modules (Own m f) = option_and_then (λ (t : Typed). Some t.type) (own_function modules m f)
+callee_type modules (Own m f) =
+    option_and_then (λ (t : Typed). Some t.type) (own_function modules m f)
 
 abbrev pub is_same_value_type : ValueType → ValueType → Bool
 is_same_value_type types.I32 types.I32 = true
@@ -174,74 +201,116 @@ stopped k = if nat_le 1 k && nat_le k 255 then Over k else Trapped
 
 -- a call of this function. The host's put prints the low byte
 abbrev pub called : List WModule → Store → Activation → List Activation → Callee → Progress
-called modules st now callers Put = or_trap (top_i64 now.stack) (λ p. (Going st (record now { stack = p.0 }) callers, p.1 % 256 ∷ []))
+called modules st now callers Put =
+    or_trap (top_i64 now.stack) (λ p.
+    (Going st (record now { stack = p.0 }) callers, p.1 % 256 ∷ []))
 called modules st now callers Stop = or_trap (top_i64 now.stack) (λ p. (stopped p.1, []))
 called modules st now callers (Own m f) =
-    or_trap (own_function modules m f) (λ t. or_trap (split_end (length t.type.params) now.stack) (λ p. (Going st (entered m t p.1) (callers ++ record now { stack = p.0 } ∷ []), [])))
+    or_trap (own_function modules m f) (λ t.
+    or_trap (split_end (length t.type.params) now.stack) (λ p.
+    (Going st (entered m t p.1) (callers ++ record now { stack = p.0 } ∷ []), [])))
 
-abbrev pub called_as : List WModule → Store → Activation → List Activation → (asked : Option FuncType) → Callee → Progress
-called_as modules st now callers asked c = if agree asked (callee_type modules c) then called modules st now callers c else trapped
+abbrev pub called_as : List WModule → Store → Activation → List Activation
+    → (asked : Option FuncType) → Callee → Progress
+called_as modules st now callers asked c =
+    if agree asked (callee_type modules c) then called modules st now callers c else trapped
 
 abbrev pub pushed : Store → Activation → List Activation → Value → Progress
 pushed st now callers v = (Going st (record now { stack = now.stack ++ v ∷ [] }) callers, [])
 
 -- back to the last caller, with these results; with no caller the run is over
 abbrev pub returned : Store → List Activation → List Value → Progress
-returned st callers results =
-    elim (split_last callers) [ None ↦ (Over 0, []) | Some p ↦ (Going st (record p.1 { stack = p.1.stack ++ results }) p.0, []) ]
+returned st callers results = elim (split_last callers) [
+  | None ↦ (Over 0, [])
+  | Some p ↦ (Going st (record p.1 { stack = p.1.stack ++ results }) p.0, [])
+]
 
 -- ---- labels (4.4.5)
 
 -- the code of a block begins: a branch to it keeps so many operands and goes on there
-abbrev pub inside : Store → Activation → List Activation → (arity : ℕ) → (again body : List Instr) → Progress
-inside st now callers arity again body =
-    (Going st (record now { labels = now.labels ++ record { arity = arity; height = length now.stack; again = again; rest = now.rest } ∷ []; rest = body }) callers, [])
+abbrev pub inside : Store → Activation → List Activation → (arity : ℕ) → (again body : List Instr)
+    → Progress
+inside st now callers arity again body = (
+  Going st
+      (record now {
+        labels = now.labels
+            ++ record { arity = arity; height = length now.stack; again = again; rest = now.rest }
+            ∷ [];
+        rest = body;
+      }) callers,
+  [],
+)
 
 -- the lowest operands, so many, and those that are kept
 abbrev pub kept : (height : ℕ) → (List Value × List Value) → List Value
 kept height split = take height split.0 ++ split.1
 
--- a branch that finds a label, the last of those before and itself, or goes out of the function where there is none
+-- a branch that finds a label, the last of those before and itself, or goes out of the function
+-- where there is none
 abbrev pub found : Store → Activation → List Activation → Option (List Label × Label) → Progress
 found st now callers None = or_trap (split_end now.arity now.stack) (λ p. returned st callers p.1)
 found st now callers (Some l) =
-    or_trap (split_end l.1.arity now.stack) (λ p. (Going st (record now { labels = l.0; rest = l.1.again; stack = kept l.1.height p }) callers, []))
+    or_trap (split_end l.1.arity now.stack) (λ p. (
+      Going st (record now { labels = l.0; rest = l.1.again; stack = kept l.1.height p }) callers,
+      [],
+    ))
 
 -- a branch to the label of this number, counted from the innermost one
 abbrev pub branched : Store → Activation → List Activation → (label : ℕ) → Progress
 branched st now callers label =
-    if nat_le label (length now.labels) then found st now callers (split_last (take (length now.labels - label) now.labels)) else trapped
+    if nat_le label (length now.labels)
+    then found st now callers (split_last (take (length now.labels - label) now.labels))
+    else trapped
 
 abbrev pub branched_if : Store → Activation → List Activation → (label condition : ℕ) → Progress
-branched_if st now callers label condition = if condition == 0 then (Going st now callers, []) else branched st now callers label
+branched_if st now callers label condition =
+    if condition == 0 then (Going st now callers, []) else branched st now callers label
 
 -- ---- locals and memory (4.4.3, 4.4.4)
 
 abbrev pub with_local : Store → Activation → List Activation → (x : ℕ) → Value → Progress
-with_local st now callers x v = if nat_lt x (length now.locals) then (Going st (record now { locals = slice_set now.locals x v }) callers, []) else trapped
+with_local st now callers x v =
+    if nat_lt x (length now.locals)
+    then (Going st (record now { locals = slice_set now.locals x v }) callers, [])
+    else trapped
 
 -- the memory of a module, behind its place in the store
 abbrev pub memory_of : Store → (m : ℕ) → Option (ℕ × Memory)
-memory_of st m = option_and_then (λ (i : Instance). option_and_then (λ a. option_map (λ memory. (a, memory)) (slice_get st.memories a)) (slice_get i.memories 0)) (instance_of st m)
+memory_of st m =
+    option_and_then
+    (λ (i : Instance).
+    option_and_then (λ a. option_map (λ memory. (a, memory)) (slice_get st.memories a))
+    (slice_get i.memories 0))
+    (instance_of st m)
 
 -- so many bytes from a place on, where they are there
 abbrev pub bytes_at : (size place : ℕ) → List ℕ → Option (List ℕ)
-bytes_at size place bytes = if nat_le (place + size) (length bytes) then Some (take size (drop place bytes)) else None
+bytes_at size place bytes =
+    if nat_le (place + size) (length bytes) then Some (take size (drop place bytes)) else None
 
 -- the list with others from a place on
 abbrev pub pasted : {A : Type 0} → List A → (place : ℕ) → List A → List A
 pasted xs place ys = take place xs ++ ys ++ drop (place + length ys) xs
 
 abbrev pub with_memory_bytes : Store → (place : ℕ) → Memory → List ℕ → Store
-with_memory_bytes st place memory bytes = record st { memories = slice_set st.memories place (record memory { bytes = bytes }) }
+with_memory_bytes st place memory bytes =
+    record st { memories = slice_set st.memories place (record memory { bytes = bytes }) }
 
-abbrev pub loads : Store → Activation → List Activation → Load → (place : ℕ) → (ℕ × Memory) → Progress
-loads st now callers kind place memory = or_trap (bytes_at (load_size kind) place memory.1.bytes) (λ bytes. pushed st now callers (I64 (loaded kind bytes)))
+abbrev pub loads : Store → Activation → List Activation → Load → (place : ℕ) → (ℕ × Memory)
+    → Progress
+loads st now callers kind place memory =
+    or_trap (bytes_at (load_size kind) place memory.1.bytes) (λ bytes.
+    pushed st now callers (I64 (loaded kind bytes)))
 
-abbrev pub stores : Store → Activation → List Activation → (place : ℕ) → List ℕ → (ℕ × Memory) → Progress
+abbrev pub stores : Store → Activation → List Activation → (place : ℕ) → List ℕ → (ℕ × Memory)
+    → Progress
 stores st now callers place bytes memory =
     if nat_le (place + length bytes) (length memory.1.bytes)
-    then (Going (with_memory_bytes st memory.0 memory.1 (pasted memory.1.bytes place bytes)) now callers, [])
+    then (
+      Going (with_memory_bytes st memory.0 memory.1 (pasted memory.1.bytes place bytes)) now
+          callers,
+      [],
+    )
     else trapped
 
 -- ---- numbers (4.4.1)
@@ -254,16 +323,21 @@ abbrev pub one_i64 : List Value → (ℕ → Value) → Option (List Value × Va
 one_i64 stack f = option_map (λ p. (p.0, f p.1)) (top_i64 stack)
 
 abbrev pub two_i32 : List Value → (ℕ → ℕ → Value) → Option (List Value × Value)
-two_i32 stack f = option_and_then (λ m. option_map (λ n. (n.0, f n.1 m.1)) (top_i32 m.0)) (top_i32 stack)
+two_i32 stack f =
+    option_and_then (λ m. option_map (λ n. (n.0, f n.1 m.1)) (top_i32 m.0)) (top_i32 stack)
 
 abbrev pub two_i64 : List Value → (ℕ → ℕ → Option Value) → Option (List Value × Value)
-two_i64 stack f = option_and_then (λ m. option_and_then (λ n. option_map (λ v. (n.0, v)) (f n.1 m.1)) (top_i64 m.0)) (top_i64 stack)
+two_i64 stack f =
+    option_and_then
+    (λ m. option_and_then (λ n. option_map (λ v. (n.0, v)) (f n.1 m.1)) (top_i64 m.0))
+    (top_i64 stack)
 
 abbrev pub calculated : Numeric → List Value → Option (List Value × Value)
 calculated numeric.I32Eqz stack = one_i32 stack (λ n. I32 (truth (n == 0)))
 calculated (numeric.I32Relation r) stack = two_i32 stack (λ n m. I32 (truth (compares w32 r n m)))
 calculated numeric.I64Eqz stack = one_i64 stack (λ n. I32 (truth (n == 0)))
-calculated (numeric.I64Relation r) stack = two_i64 stack (λ n m. Some (I32 (truth (compares w64 r n m))))
+calculated (numeric.I64Relation r) stack =
+    two_i64 stack (λ n m. Some (I32 (truth (compares w64 r n m))))
 calculated numeric.I32Add stack = two_i32 stack (λ n m. I32 ((n + m) % 2 ^ 32))
 calculated (numeric.I64Operation o) stack = two_i64 stack (λ n m. option_map I64 (operated o n m))
 calculated numeric.I32WrapI64 stack = one_i64 stack (λ n. I32 (n % 2 ^ 32))
@@ -280,32 +354,52 @@ abbrev pub side : (condition : ℕ) → List Instr → Option (List Instr) → L
 side condition body None = if condition == 0 then [] else body
 side condition body (Some otherwise) = if condition == 0 then otherwise else body
 
-abbrev pub begun_layer : List WModule → Store → Activation → List Activation → Instr → layer.Instr-F Instr → Progress
+abbrev pub begun_layer : List WModule → Store → Activation → List Activation → Instr
+    → layer.Instr-F Instr → Progress
 begun_layer modules st now callers i layer.Unreachable = trapped
-begun_layer modules st now callers i (layer.Block t body) = inside st now callers (results_of t) now.rest body
-begun_layer modules st now callers i (layer.Loop t body) = inside st now callers 0 (i ∷ now.rest) body
+begun_layer modules st now callers i (layer.Block t body) =
+    inside st now callers (results_of t) now.rest body
+begun_layer modules st now callers i (layer.Loop t body) =
+    inside st now callers 0 (i ∷ now.rest) body
 begun_layer modules st now callers i (layer.If t body otherwise) =
-    or_trap (top_i32 now.stack) (λ p. inside st (record now { stack = p.0 }) callers (results_of t) now.rest (side p.1 body otherwise))
+    or_trap (top_i32 now.stack) (λ p.
+    inside st (record now { stack = p.0 }) callers (results_of t) now.rest
+    (side p.1 body otherwise))
 begun_layer modules st now callers i (layer.Br label) = branched st now callers label
-begun_layer modules st now callers i (layer.BrIf label) = or_trap (top_i32 now.stack) (λ p. branched_if st (record now { stack = p.0 }) callers label p.1)
+begun_layer modules st now callers i (layer.BrIf label) =
+    or_trap (top_i32 now.stack) (λ p. branched_if st (record now { stack = p.0 }) callers label p.1)
 begun_layer modules st now callers i (layer.BrTable labels default) =
-    or_trap (top_i32 now.stack) (λ p. branched st (record now { stack = p.0 }) callers (slice_index_or labels p.1 default))
+    or_trap (top_i32 now.stack) (λ p.
+    branched st (record now { stack = p.0 }) callers (slice_index_or labels p.1 default))
 begun_layer modules st now callers i layer.Return = found st now callers None
-begun_layer modules st now callers i (layer.Call f) = or_trap (callee_at st now.instance f) (called modules st now callers)
+begun_layer modules st now callers i (layer.Call f) =
+    or_trap (callee_at st now.instance f) (called modules st now callers)
 begun_layer modules st now callers i (layer.CallIndirect t) =
-    or_trap (top_i32 now.stack) (λ p. or_trap (callee_in st now.instance p.1) (called_as modules st (record now { stack = p.0 }) callers (type_at modules now.instance t)))
-begun_layer modules st now callers i layer.Drop = or_trap (split_last now.stack) (λ p. (Going st (record now { stack = p.0 }) callers, []))
-begun_layer modules st now callers i (layer.LocalGet x) = or_trap (slice_get now.locals x) (pushed st now callers)
-begun_layer modules st now callers i (layer.LocalSet x) = or_trap (split_last now.stack) (λ p. with_local st (record now { stack = p.0 }) callers x p.1)
-begun_layer modules st now callers i (layer.LocalTee x) = or_trap (topmost now.stack) (with_local st now callers x)
-begun_layer modules st now callers i (layer.GlobalGet g) = or_trap (global_at st now.instance g) (pushed st now callers)
+    or_trap (top_i32 now.stack) (λ p.
+    or_trap (callee_in st now.instance p.1)
+    (called_as modules st (record now { stack = p.0 }) callers (type_at modules now.instance t)))
+begun_layer modules st now callers i layer.Drop =
+    or_trap (split_last now.stack) (λ p. (Going st (record now { stack = p.0 }) callers, []))
+begun_layer modules st now callers i (layer.LocalGet x) =
+    or_trap (slice_get now.locals x) (pushed st now callers)
+begun_layer modules st now callers i (layer.LocalSet x) =
+    or_trap (split_last now.stack) (λ p. with_local st (record now { stack = p.0 }) callers x p.1)
+begun_layer modules st now callers i (layer.LocalTee x) =
+    or_trap (topmost now.stack) (with_local st now callers x)
+begun_layer modules st now callers i (layer.GlobalGet g) =
+    or_trap (global_at st now.instance g) (pushed st now callers)
 begun_layer modules st now callers i (layer.Load kind) =
-    or_trap (top_i32 now.stack) (λ p. or_trap (memory_of st now.instance) (loads st (record now { stack = p.0 }) callers kind p.1))
+    or_trap (top_i32 now.stack) (λ p.
+    or_trap (memory_of st now.instance) (loads st (record now { stack = p.0 }) callers kind p.1))
 begun_layer modules st now callers i (layer.Store width) =
-    or_trap (top_i64 now.stack) (λ v. or_trap (top_i32 v.0) (λ p. or_trap (memory_of st now.instance) (stores st (record now { stack = p.0 }) callers p.1 (stored width v.1))))
+    or_trap (top_i64 now.stack) (λ v.
+    or_trap (top_i32 v.0) (λ p.
+    or_trap (memory_of st now.instance)
+    (stores st (record now { stack = p.0 }) callers p.1 (stored width v.1))))
 begun_layer modules st now callers i (layer.I32Const n) = pushed st now callers (I32 n)
 begun_layer modules st now callers i (layer.I64Const n) = pushed st now callers (I64 n)
-begun_layer modules st now callers i (layer.Numeric o) = or_trap (calculated o now.stack) (λ p. pushed st (record now { stack = p.0 }) callers p.1)
+begun_layer modules st now callers i (layer.Numeric o) =
+    or_trap (calculated o now.stack) (λ p. pushed st (record now { stack = p.0 }) callers p.1)
 
 abbrev pub begun : List WModule → Store → Activation → List Activation → Instr → Progress
 begun modules st now callers i = begun_layer modules st now callers i (out-Instr i)
@@ -315,7 +409,8 @@ begun modules st now callers i = begun_layer modules st now callers i (out-Instr
 -- the end of a block or of the function (4.4.5, 4.4.7)
 abbrev pub ended : Store → Activation → List Activation → Option (List Label × Label) → Progress
 ended st now callers None = found st now callers None
-ended st now callers (Some l) = (Going st (record now { labels = l.0; rest = l.1.rest }) callers, [])
+ended st now callers (Some l) =
+    (Going st (record now { labels = l.0; rest = l.1.rest }) callers, [])
 
 abbrev pub next : List WModule → Store → Activation → List Activation → List Instr → Progress
 next modules st now callers [] = ended st now callers (split_last now.labels)
@@ -330,4 +425,6 @@ reduce modules Trapped = (Trapped, [])
 -- so many reductions
 unfoldable pub run : List WModule → ℕ → Config → Progress
 run modules zero c = (c, [])
-run modules (suc n) c = let first = reduce modules c in let others = run modules n first.0 in (others.0, first.1 ++ others.1)
+run modules (suc n) c =
+    let first = reduce modules c in
+    let others = run modules n first.0 in (others.0, first.1 ++ others.1)

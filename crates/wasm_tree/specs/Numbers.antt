@@ -46,7 +46,10 @@ abbrev pub operated : Operation → (n m : ℕ) → Option ℕ
 operated Add n m = Some ((n + m) % 2 ^ 64)
 operated Sub n m = Some ((n + (2 ^ 64 - m)) % 2 ^ 64)
 operated Mul n m = Some (n * m % 2 ^ 64)
-operated DivS n m = if is_too_great n m then None else divided m (cast_unsigned w64 (int_div (cast_signed w64 n) (cast_signed w64 m)))
+operated DivS n m =
+    if is_too_great n m
+    then None
+    else divided m (cast_unsigned w64 (int_div (cast_signed w64 n) (cast_signed w64 m)))
 operated DivU n m = divided m (n / m)
 operated RemS n m = divided m (cast_unsigned w64 (int_rem (cast_signed w64 n) (cast_signed w64 m)))
 operated RemU n m = divided m (n % m)

@@ -24,16 +24,36 @@ use Rattle.wasm_tree.specs.declared.module.WModule.{WModule}
 -- ---- what a module's indices stand for, imported things first (3.1)
 
 abbrev pub function_import : Import → Option ℕ
-function_import i = elim i.kind [ imported.Function t ↦ Some t | imported.Table t ↦ None | imported.Memory t ↦ None | imported.Global t ↦ None ]
+function_import i = elim i.kind [
+  | imported.Function t ↦ Some t
+  | imported.Table t ↦ None
+  | imported.Memory t ↦ None
+  | imported.Global t ↦ None
+]
 
 abbrev pub table_import : Import → Option Limits
-table_import i = elim i.kind [ imported.Function t ↦ None | imported.Table t ↦ Some t.limits | imported.Memory t ↦ None | imported.Global t ↦ None ]
+table_import i = elim i.kind [
+  | imported.Function t ↦ None
+  | imported.Table t ↦ Some t.limits
+  | imported.Memory t ↦ None
+  | imported.Global t ↦ None
+]
 
 abbrev pub memory_import : Import → Option Limits
-memory_import i = elim i.kind [ imported.Function t ↦ None | imported.Table t ↦ None | imported.Memory t ↦ Some t.limits | imported.Global t ↦ None ]
+memory_import i = elim i.kind [
+  | imported.Function t ↦ None
+  | imported.Table t ↦ None
+  | imported.Memory t ↦ Some t.limits
+  | imported.Global t ↦ None
+]
 
 abbrev pub global_import : Import → Option ValueType
-global_import i = elim i.kind [ imported.Function t ↦ None | imported.Table t ↦ None | imported.Memory t ↦ None | imported.Global t ↦ Some t ]
+global_import i = elim i.kind [
+  | imported.Function t ↦ None
+  | imported.Table t ↦ None
+  | imported.Memory t ↦ None
+  | imported.Global t ↦ Some t
+]
 
 pub record Context : Type 0 where
   pub types : List FuncType
@@ -71,7 +91,8 @@ declared groups = flat_map (λ g. replicate g.count g.value_type) groups
 
 -- what the code of a function may name
 abbrev pub function_context : Context → FuncType → List Locals → Context
-function_context c t groups = record c { locals = t.params ++ declared groups; labels = t.results ∷ []; returns = t.results }
+function_context c t groups =
+    record c { locals = t.params ++ declared groups; labels = t.results ∷ []; returns = t.results }
 
 -- within a block, to which a branch takes these
 abbrev pub within : List ValueType → Context → Context
@@ -113,24 +134,37 @@ numeric_result numeric.I64ExtendI32U = I64
 abbrev pub Are : (params results : List ValueType) → (p r : List ValueType) → Type 0
 Are params results p r = (p ≡ params) × (r ≡ results)
 
--- Instructions without code inside them. Behind a branch, a return and what traps, any operands may follow.
+-- Instructions without code inside them. Behind a branch, a return and what traps, any operands may
+-- follow.
 abbrev pub IsPlain : Context → layer.Instr-F Instr → (params results : List ValueType) → Type 0
 IsPlain c layer.Unreachable p r = Unit {0}
 IsPlain c (layer.Block t body) p r = ⊥
 IsPlain c (layer.Loop t body) p r = ⊥
 IsPlain c (layer.If t body otherwise) p r = ⊥
-IsPlain c (layer.Br l) p r = (taken lower : List ValueType) × (slice_get c.labels l ≡ Some taken) × (p ≡ lower ++ taken)
-IsPlain c (layer.BrIf l) p r = (taken : List ValueType) × (slice_get c.labels l ≡ Some taken) × Are (taken ++ I32 ∷ []) taken p r
+IsPlain c (layer.Br l) p r =
+    (taken lower : List ValueType) × (slice_get c.labels l ≡ Some taken) × (p ≡ lower ++ taken)
+IsPlain c (layer.BrIf l) p r =
+    (taken : List ValueType) × (slice_get c.labels l ≡ Some taken)
+    × Are (taken ++ I32 ∷ []) taken p r
 IsPlain c (layer.BrTable ls default) p r =
-    (taken lower : List ValueType) × (slice_get c.labels default ≡ Some taken) × All (λ l. slice_get c.labels l ≡ Some taken) ls × (p ≡ lower ++ taken ++ I32 ∷ [])
+    (taken lower : List ValueType) × (slice_get c.labels default ≡ Some taken)
+    × All (λ l. slice_get c.labels l ≡ Some taken) ls × (p ≡ lower ++ taken ++ I32 ∷ [])
 IsPlain c layer.Return p r = (lower : List ValueType) × (p ≡ lower ++ c.returns)
-IsPlain c (layer.Call f) p r = (i : ℕ) × (t : FuncType) × (slice_get c.functions f ≡ Some i) × (slice_get c.types i ≡ Some t) × Are t.params t.results p r
-IsPlain c (layer.CallIndirect i) p r = (t : FuncType) × (0 < length c.tables) × (slice_get c.types i ≡ Some t) × Are (t.params ++ I32 ∷ []) t.results p r
+IsPlain c (layer.Call f) p r =
+    (i : ℕ) × (t : FuncType) × (slice_get c.functions f ≡ Some i) × (slice_get c.types i ≡ Some t)
+    × Are t.params t.results p r
+IsPlain c (layer.CallIndirect i) p r =
+    (t : FuncType) × (0 < length c.tables) × (slice_get c.types i ≡ Some t)
+    × Are (t.params ++ I32 ∷ []) t.results p r
 IsPlain c layer.Drop p r = (t : ValueType) × Are (t ∷ []) [] p r
-IsPlain c (layer.LocalGet x) p r = (t : ValueType) × (slice_get c.locals x ≡ Some t) × Are [] (t ∷ []) p r
-IsPlain c (layer.LocalSet x) p r = (t : ValueType) × (slice_get c.locals x ≡ Some t) × Are (t ∷ []) [] p r
-IsPlain c (layer.LocalTee x) p r = (t : ValueType) × (slice_get c.locals x ≡ Some t) × Are (t ∷ []) (t ∷ []) p r
-IsPlain c (layer.GlobalGet g) p r = (t : ValueType) × (slice_get c.globals g ≡ Some t) × Are [] (t ∷ []) p r
+IsPlain c (layer.LocalGet x) p r =
+    (t : ValueType) × (slice_get c.locals x ≡ Some t) × Are [] (t ∷ []) p r
+IsPlain c (layer.LocalSet x) p r =
+    (t : ValueType) × (slice_get c.locals x ≡ Some t) × Are (t ∷ []) [] p r
+IsPlain c (layer.LocalTee x) p r =
+    (t : ValueType) × (slice_get c.locals x ≡ Some t) × Are (t ∷ []) (t ∷ []) p r
+IsPlain c (layer.GlobalGet g) p r =
+    (t : ValueType) × (slice_get c.globals g ≡ Some t) × Are [] (t ∷ []) p r
 IsPlain c (layer.Load kind) p r = (0 < length c.memories) × Are (I32 ∷ []) (I64 ∷ []) p r
 IsPlain c (layer.Store width) p r = (0 < length c.memories) × Are (I32 ∷ I64 ∷ []) [] p r
 IsPlain c (layer.I32Const n) p r = Are [] (I32 ∷ []) p r
@@ -140,16 +174,30 @@ IsPlain c (layer.Numeric o) p r = Are (numeric_params o) (numeric_result o ∷ [
 mutual
   -- an instruction takes these operands and gives those
   pub data Types : Context → Instr → (params results : List ValueType) → Type 0 where
-    Plain : (c : Context) (i : Instr) (params results : List ValueType) → IsPlain c (out-Instr i) params results → Types c i params results
-    Block : (c : Context) (i : Instr) (t : Option ValueType) (body : List Instr) → out-Instr i ≡ layer.Block t body → Leads (within (result_types t) c) body [] (result_types t) → Types c i [] (result_types t)
-    Loop : (c : Context) (i : Instr) (t : Option ValueType) (body : List Instr) → out-Instr i ≡ layer.Loop t body → Leads (within [] c) body [] (result_types t) → Types c i [] (result_types t)
-    If : (c : Context) (i : Instr) (t : Option ValueType) (body : List Instr) (otherwise : Option (List Instr)) → out-Instr i ≡ layer.If t body otherwise
-        → Leads (within (result_types t) c) body [] (result_types t) → Leads (within (result_types t) c) (side_of otherwise) [] (result_types t) → Types c i (I32 ∷ []) (result_types t)
+    Plain : (c : Context) (i : Instr) (params results : List ValueType)
+        → IsPlain c (out-Instr i) params results → Types c i params results
+    Block : (c : Context) (i : Instr) (t : Option ValueType) (body : List Instr)
+        → out-Instr i ≡ layer.Block t body
+        → Leads (within (result_types t) c) body [] (result_types t)
+        → Types c i [] (result_types t)
+    Loop : (c : Context) (i : Instr) (t : Option ValueType) (body : List Instr)
+        → out-Instr i ≡ layer.Loop t body
+        → Leads (within [] c) body [] (result_types t)
+        → Types c i [] (result_types t)
+    If : (c : Context) (i : Instr) (t : Option ValueType) (body : List Instr)
+        (otherwise : Option (List Instr))
+        → out-Instr i ≡ layer.If t body otherwise
+        → Leads (within (result_types t) c) body [] (result_types t)
+        → Leads (within (result_types t) c) (side_of otherwise) [] (result_types t)
+        → Types c i (I32 ∷ []) (result_types t)
 
   -- instructions in a row, from the operands of these types to those
   pub data Leads : Context → List Instr → (before after : List ValueType) → Type 0 where
     Empty : (c : Context) (stack : List ValueType) → Leads c [] stack stack
-    More : (c : Context) (i : Instr) (is : List Instr) (below params results after : List ValueType) → Types c i params results → Leads c is (below ++ results) after → Leads c (i ∷ is) (below ++ params) after
+    More : (c : Context) (i : Instr) (is : List Instr) (below params results after : List ValueType)
+        → Types c i params results
+        → Leads c is (below ++ results) after
+        → Leads c (i ∷ is) (below ++ params) after
 
 -- an instruction that a constant expression may hold (3.3.7)
 abbrev pub is_constant : layer.Instr-F Instr → Bool
@@ -185,7 +233,9 @@ IsImport c i = elim i.kind [
 
 -- 3.4.1
 abbrev pub IsFunction : Context → Function → Type 0
-IsFunction c f = (t : FuncType) × (slice_get c.types f.type_index ≡ Some t) × Leads (function_context c t f.body.locals) f.body.code [] t.results
+IsFunction c f =
+    (t : FuncType) × (slice_get c.types f.type_index ≡ Some t)
+    × Leads (function_context c t f.body.locals) f.body.code [] t.results
 
 abbrev pub IsGlobal : Context → Global → Type 0
 IsGlobal c g = IsConstantOf c g.value_type g.value
@@ -199,7 +249,9 @@ IsExport c e = elim e.kind [
 ]
 
 abbrev pub IsElement : Context → Element → Type 0
-IsElement c e = (e.table < length c.tables) × IsConstantOf c I32 e.offset × All (λ f. f < length c.functions) e.functions
+IsElement c e =
+    (e.table < length c.tables) × IsConstantOf c I32 e.offset
+    × All (λ f. f < length c.functions) e.functions
 
 abbrev pub IsData : Context → Data → Type 0
 IsData c d = (d.memory < length c.memories) × IsConstantOf c I32 d.offset

@@ -13,4 +13,8 @@ abbrev pub locals_of : Frame → List ValueType
 locals_of f = f.params.now ++ declared f.locals.groups.now
 
 abbrev pub frame_context : Frame → (blocks : List (Option ValueType)) → Context
-frame_context f blocks = record (scope_of f.scope) { locals = locals_of f; labels = labels_of blocks; returns = result_types f.returns }
+frame_context f blocks = record (scope_of f.scope) {
+  locals = locals_of f;
+  labels = labels_of blocks;
+  returns = result_types f.returns;
+}

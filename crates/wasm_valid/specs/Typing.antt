@@ -54,22 +54,30 @@ TakesIf false old new taken = Lacks old taken
 
 -- these were put on top
 pub record Puts (old new : Operands) (given : List ValueType) : Type 0 where
-  pub same : (stack : List ValueType) → Stands new stack ↔ ((below : List ValueType) × (stack ≡ below ++ given) × Stands old below)
+  pub same : (stack : List ValueType)
+      → Stands new stack ↔ ((below : List ValueType) × (stack ≡ below ++ given) × Stands old below)
 
 -- ---- rules: which operands are taken and which are given
 
-abbrev pub Applies : (rule : (params results : List ValueType) → Type 0) → (before after : List ValueType) → Type 0
-Applies rule before after = (below params results : List ValueType) × rule params results × (before ≡ below ++ params) × (after ≡ below ++ results)
+abbrev pub Applies : (rule : (params results : List ValueType) → Type 0)
+    → (before after : List ValueType) → Type 0
+Applies rule before after =
+    (below params results : List ValueType) × rule params results × (before ≡ below ++ params)
+    × (after ≡ below ++ results)
 
 -- the rule leads from the old stacks to the new ones
-pub record Moves (rule : (params results : List ValueType) → Type 0) (old new : Operands) : Type 0 where
-  pub same : (after : List ValueType) → Stands new after ↔ ((before : List ValueType) × Stands old before × Applies rule before after)
+pub record Moves (rule : (params results : List ValueType) → Type 0) (old new : Operands)
+    : Type 0 where
+  pub same : (after : List ValueType)
+      → Stands new after
+      ↔ ((before : List ValueType) × Stands old before × Applies rule before after)
 
 -- it leads from none of them anywhere
 pub record Halts (rule : (params results : List ValueType) → Type 0) (old : Operands) : Type 0 where
   pub none : (before after : List ValueType) → Stands old before → ¬ Applies rule before after
 
-abbrev pub Steps : {A : Type 0} → Result A WFault → (rule : (params results : List ValueType) → Type 0) → (old new : Operands) → Type 0
+abbrev pub Steps : {A : Type 0} → Result A WFault
+    → (rule : (params results : List ValueType) → Type 0) → (old new : Operands) → Type 0
 Steps result rule old new = Settles result (Moves rule old new) (Halts rule old)
 
 -- what an instruction does to the operands
@@ -108,18 +116,25 @@ change c (layer.Block t body) = Some (Exchanges [] (result_types t))
 change c (layer.Loop t body) = Some (Exchanges [] (result_types t))
 change c (layer.If t body otherwise) = Some (Exchanges (I32 ∷ []) (result_types t))
 change c (layer.Br l) = option_map (λ taken. Leaves taken) (slice_get c.labels l)
-change c (layer.BrIf l) = option_map (λ (taken : List ValueType). Exchanges (taken ++ I32 ∷ []) taken) (slice_get c.labels l)
-change c (layer.BrTable ls default) = option_map (λ (taken : List ValueType). Leaves (taken ++ I32 ∷ [])) (slice_get c.labels default)
+change c (layer.BrIf l) =
+    option_map (λ (taken : List ValueType). Exchanges (taken ++ I32 ∷ []) taken)
+    (slice_get c.labels l)
+change c (layer.BrTable ls default) =
+    option_map (λ (taken : List ValueType). Leaves (taken ++ I32 ∷ [])) (slice_get c.labels default)
 change c layer.Return = Some (Leaves c.returns)
-change c (layer.Call f) = option_and_then (λ i. option_map called (slice_get c.types i)) (slice_get c.functions f)
-change c (layer.CallIndirect i) = option_and_then (λ _. option_map called_slot (slice_get c.types i)) (slice_get c.tables 0)
+change c (layer.Call f) =
+    option_and_then (λ i. option_map called (slice_get c.types i)) (slice_get c.functions f)
+change c (layer.CallIndirect i) =
+    option_and_then (λ _. option_map called_slot (slice_get c.types i)) (slice_get c.tables 0)
 change c layer.Drop = Some Drops
 change c (layer.LocalGet x) = option_map (λ t. Exchanges [] (t ∷ [])) (slice_get c.locals x)
 change c (layer.LocalSet x) = option_map (λ t. Exchanges (t ∷ []) []) (slice_get c.locals x)
 change c (layer.LocalTee x) = option_map (λ t. Exchanges (t ∷ []) (t ∷ [])) (slice_get c.locals x)
 change c (layer.GlobalGet g) = option_map (λ t. Exchanges [] (t ∷ [])) (slice_get c.globals g)
-change c (layer.Load kind) = option_map (λ _. Exchanges (I32 ∷ []) (I64 ∷ [])) (slice_get c.memories 0)
-change c (layer.Store width) = option_map (λ _. Exchanges (I32 ∷ I64 ∷ []) []) (slice_get c.memories 0)
+change c (layer.Load kind) =
+    option_map (λ _. Exchanges (I32 ∷ []) (I64 ∷ [])) (slice_get c.memories 0)
+change c (layer.Store width) =
+    option_map (λ _. Exchanges (I32 ∷ I64 ∷ []) []) (slice_get c.memories 0)
 change c (layer.I32Const n) = Some (Exchanges [] (I32 ∷ []))
 change c (layer.I64Const n) = Some (Exchanges [] (I64 ∷ []))
 change c (layer.Numeric o) = Some (Exchanges (numeric_params o) (numeric_result o ∷ []))
@@ -128,6 +143,9 @@ change c (layer.Numeric o) = Some (Exchanges (numeric_params o) (numeric_result 
 abbrev pub CodeFits : Context → layer.Instr-F Instr → Type 0
 CodeFits c (layer.Block t body) = Leads (within (result_types t) c) body [] (result_types t)
 CodeFits c (layer.Loop t body) = Leads (within [] c) body [] (result_types t)
-CodeFits c (layer.If t body otherwise) = Leads (within (result_types t) c) body [] (result_types t) × Leads (within (result_types t) c) (side_of otherwise) [] (result_types t)
-CodeFits c (layer.BrTable ls default) = All (λ l. slice_get c.labels l ≡ slice_get c.labels default) ls
+CodeFits c (layer.If t body otherwise) =
+    Leads (within (result_types t) c) body [] (result_types t)
+    × Leads (within (result_types t) c) (side_of otherwise) [] (result_types t)
+CodeFits c (layer.BrTable ls default) =
+    All (λ l. slice_get c.labels l ≡ slice_get c.labels default) ls
 CodeFits c _ = Unit {0}
