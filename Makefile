@@ -4,9 +4,9 @@
 
 PREFIX ?= /usr/local
 
-# Proves and builds the programs: build/m2c and build/m2run.
+# Proves and builds the programs: build/m2, build/m2c and build/m2run.
 build:
-	tools/build_program m2c_cli m2c m2run_cli m2run
+	tools/build_program m2_cli m2 m2c_cli m2c m2run_cli m2run
 
 # Proves and builds build/plain_run, which runs programs by their definition.
 plain:
@@ -17,9 +17,10 @@ plain:
 example:
 	tools/try_example
 
-# Tries the two programs on command lines, files and streams, good and bad, and on the outside examples of modules.
+# Tries the programs on command lines, files and streams, good and bad, and on the outside examples of modules.
 programs: build
 	tools/try_programs
+	tools/try_m2
 
 # Compares what programs do by their definition with what is stated of them, and with what their modules do.
 compare: build plain
