@@ -2,3 +2,8 @@ pub mod Sizes
 pub mod TypedSizes
 pub mod Small
 pub mod Counted
+pub mod Nesting
+pub mod TypedNesting
+pub mod Depths
+pub mod CodeNesting
+pub mod Nested

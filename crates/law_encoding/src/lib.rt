@@ -10,11 +10,15 @@
 //!   `proofs/Statements` the induction over statements.
 //! - `proofs/Counts` and `proofs/StepCounts` count the locals that the code of expressions and statements takes,
 //!   and `proofs/TableCalls` and `proofs/TableSteps` the calls through the table.
+//! - `specs/Nesting` says how deep trees nest, `specs/TypedNesting` how deep typed trees do, `specs/CodeNesting` how deep code does,
+//!   and `specs/Nested` what is proved. `proofs/DeepTexts` has the induction over the grammar and the parser's limit. `DeepOperators`
+//!   to `DeepBlocks` follow the checker, `FlatCode`, `DeepCode` and `DeepCodeSteps` the code, and `DeepFunctions` has whole modules.
 //! - `proofs/Blocks` has the bodies of procedures, with the induction over blocks, and whole modules, and `proofs/Bounded` the
 //!   bound of all texts.
 #![tactic(auto)]
 
 ghost use Rattle.law_encoding.specs.Small.{TreesAreSmall, TextsAreSmall, ExpressionsAreSmall, DesignatorsAreSmall, StatementsAreSmall, ModulesAreSmall, BodiesAreSmall, LocalsAreFew, TableCallsAreFew};
+ghost use Rattle.law_encoding.specs.Nested.{TreesAreShallow, ModulesAreShallow, CodeIsShallow, FunctionsAreShallow, LinkIsFlat, AcceptedAreShallow};
 ghost use Rattle.check_scope.specs.Elaborated.{least, every};
 
 /// Trees are no larger than their texts.
@@ -52,4 +56,30 @@ pub fn local_laws()
 /// Statements call through the table no more often than they count.
 pub fn table_call_laws()
     ensures { TableCallsAreFew }
+{}
+
+/// The tree of a text nests no deeper than the parser's limit of 200 levels allows.
+pub fn tree_nesting_laws()
+    ensures { TreesAreShallow }
+{}
+
+/// The bodies of a module that the checker accepts nest no deeper than its tree.
+pub fn module_nesting_laws()
+    // That holds if the least broken rule is kept,
+    ensures least { ModulesAreShallow least }
+    // and if all of them are.
+    ensures every { ModulesAreShallow every }
+    // So the blocks of the functions of what is parsed and accepted nest at most 4096 levels.
+    ensures least_accepted { AcceptedAreShallow least }
+    ensures every_accepted { AcceptedAreShallow every }
+{}
+
+/// Code nests no deeper than what it is the code of.
+pub fn code_nesting_laws()
+    // That is so for statements,
+    ensures statements { CodeIsShallow }
+    // for the functions of a module,
+    ensures functions { FunctionsAreShallow }
+    // and for the module link, which has no blocks.
+    ensures link { LinkIsFlat }
 {}
