@@ -33,10 +33,9 @@ use Rattle.wasm_machine.specs.declared.frame.Pages.{Pages}
 use Rattle.wasm_tree.specs.Linking.{type_of}
 use Rattle.wasm_tree.specs.declared.code.Op.{Op}
 use Rattle.wasm_tree.specs.declared.code.Op.TheVariants as op
-use Rattle.wasm_tree.specs.Code.{tree, head, behind}
+use Rattle.wasm_tree.specs.Code.{tree}
 use Rattle.wasm_tree.proofs.Flat.{tree_front}
-use Rattle.wasm_machine.proofs.Fronts.{first, others, reduced_end, reduced_front}
-use Rattle.wasm_tree.specs.Machine.{Activation, Config, Going, Progress, Typed, begun, ended, split_last, top_i32, top_i64, callee_at, instance_of, memory_of, reduce, run}
+use Rattle.wasm_tree.specs.Machine.{Activation, Config, Going, Progress, Typed, top_i32, top_i64, callee_at, instance_of, memory_of, reduce, run}
 use Rattle.wasm_sound.specs.Ready.{IsI32, IsI64, AreI32, AreI64}
 use Rattle.law_effect.proofs.Steps.{top_32, top_64}
 use Rattle.wasm_known.specs.Codes.{check_typed, copy_typed, div_typed, fill_typed, mod_typed}
@@ -284,14 +283,6 @@ once_made (Ok p) modules old mid m n none g h =
     let same : mid ≡ old = ap (λ (q : Progress). q.0) (g ∙ (ap (λ (k : ℕ). run modules k old) none ∙ run-zero modules old)) in
     h.1 ∙ (ap (run modules 1) same ∙ ap (λ (k : ℕ). run modules k old) (sym h.0))
 once_made (Err e) modules old mid m n none g h = tt
-
--- one reduction, at the end of code and at its front
-module _ (modules : List WModule) (st : Store) (now : Activation) (callers : List Activation) (ops : List Op) (is : now.rest ≡ tree ops) where
-  pub end_made : (r : Reduced) (m : Machine) → length ops < 1 → progress r m ≡ ended st now callers (split_last now.labels) → progress r m ≡ run modules 1 (Going st now callers)
-  end_made r m none e = reduced_end modules st now callers ops is {E = ℕ} (Ok r) m none e ∙ sym (run_one modules (Going st now callers))
-
-  pub front_made : (r : Reduced) (m : Machine) → 1 ≤ length ops → progress r m ≡ begun modules st (record now { rest = tree (behind (first ops) (others ops)) }) callers (head tree (first ops) (others ops)) → progress r m ≡ run modules 1 (Going st now callers)
-  front_made r m some e = reduced_front modules st now callers ops is {E = ℕ} (Ok r) m some e ∙ sym (run_one modules (Going st now callers))
 
 -- the table speaks of functions and instances alone
 module _ (modules : List WModule) (st : Store) (ms : List Memory) (gs : List Value) where

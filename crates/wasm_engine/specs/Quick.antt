@@ -10,15 +10,12 @@ use Rattle.wasm_tree.specs.Numbers.{is_less, operated}
 use Rattle.wasm_tree.specs.declared.store.Instance.{Instance}
 use Rattle.wasm_tree.specs.declared.store.Memory.{Memory}
 use Rattle.wasm_tree.specs.declared.store.Store.{Store}
-use Rattle.wasm_tree.specs.declared.instr.Instr.{Instr}
-use Rattle.wasm_tree.specs.Machine.{Config, Going, instance_of, run}
+use Rattle.wasm_tree.specs.Machine.{Config, instance_of, run}
 use Rattle.law_effect.specs.Bytes.{byte}
 use Rattle.wasm_known.specs.declared.table.KnownFunction.{KnownFunction}
 use Rattle.wasm_known.specs.Known.{quotient_down, remainder_up}
 use Rattle.wasm_known.specs.Table.{StaysRight}
 use Rattle.wasm_machine.specs.Well.{IsWell}
-use Rattle.wasm_machine.specs.Going.{activation, store_of, callers_of}
-use Rattle.wasm_machine.specs.declared.frame.Machine.{Machine}
 
 -- what the engine keeps: where the run is is well typed, and the table of known functions is right
 -- there
@@ -26,10 +23,6 @@ pub record Holds (modules : List WModule) (table : List (List KnownFunction)) (c
     : Type 0 where
   pub well : IsWell modules c
   pub right : StaysRight modules table c
-
--- where a run is if its function goes on with other code
-abbrev pub going_at : Machine → List Instr → Config
-going_at m code = Going (store_of m) (record (activation m.now) { rest = code }) (callers_of m)
 
 -- so many reductions lead there, and print nothing
 abbrev pub Goes : List WModule → (n : ℕ) → (old new : Config) → Type 0

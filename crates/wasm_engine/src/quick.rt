@@ -11,13 +11,13 @@ ghost use Rattle.wasm_known.specs.Table.{Means, IsRight, known_in};
 ghost use Rattle.wasm_known.specs.declared.table.KnownFunction.TheVariants as kind;
 ghost use Rattle.wasm_machine.specs.Well.{IsWell};
 ghost use Rattle.wasm_machine.specs.Going.{store_of, going, progress};
-ghost use Rattle.wasm_engine.specs.Quick.{Checked, Goes, HasFour, Holds, IsBetween, IsQuotient, IsRemainder, Replaced, going_at};
+ghost use Rattle.wasm_engine.specs.Quick.{Checked, Goes, HasFour, Holds, IsBetween, IsQuotient, IsRemainder, Replaced};
 
 use crate::bytes::{clear_bytes, copy_bytes};
 use sqlite_items::Items;
 use std::alloc::{AllocError, Global};
 use wasm_known::{KnownFunction, known_at};
-use wasm_machine::{Machine, Reduced, begin, callee_at, end, reduce};
+use wasm_machine::{Machine, Reduced, callee_at, reduce};
 use wasm_operands::{Operands, compares_64, operated, truth};
 use wasm_tree::{Callee, Op, Operation, Relation, first_of};
 use wasm_valid::ValidModule;
@@ -476,41 +476,6 @@ fn once<'a>(
     Ok((1, reduced))
 }
 
-/// One or more reductions, up to this many, of a function that goes on with this code. It stands by itself, since few
-/// reductions come here.
-#[inline(never)]
-fn several_of<'a>(
-    alloc: Global,
-    modules: &'a [ValidModule],
-    table: &[Items<KnownFunction>],
-    machine: &mut Machine<'a>,
-    code: &'a [Op],
-    most: u64,
-) -> Result<(u64, Reduced), AllocError>
-    requires most { 0 < most }
-    requires sound { ∥ Holds modules.now table.now (going_at machine.old (tree code.now)) ∥₁ }
-    ensures within { IfOk result (λ p. (0 < p.0) × (p.0 ≤ most)) }
-    ensures made { IfOk result (λ p.
-        progress p.1 machine.new ≡ run modules.now p.0 (going_at machine.old (tree code.now))) }
-{
-    machine.now.rest = code;
-    let made = at_once(modules, table, machine, most)?;
-    if made > 0 {
-        return Ok((made, Reduced::On));
-    }
-    once(alloc, modules, machine)
-}
-
-/// Whether code that begins with this operation may be known: a call of a known function, or two constants in a row.
-#[inline(always)]
-fn may_be_known(table: &[Items<KnownFunction>], instance: usize, op: Op, rest: &[Op]) -> bool {
-    match op {
-        Op::Call(index) => !matches!(known_at(table, instance, index), KnownFunction::Other),
-        Op::I64Const(_) => matches!(rest, [Op::I64Const(_), ..]),
-        _ => false,
-    }
-}
-
 /// One or more reductions, up to this many.
 #[inline(always)]
 pub fn several<'a>(
@@ -525,20 +490,9 @@ pub fn several<'a>(
     ensures within { IfOk result (λ p. (0 < p.0) × (p.0 ≤ most)) }
     ensures made { IfOk result (λ p. progress p.1 machine.new ≡ run modules.now p.0 (going machine.old)) }
 {
-    let code = machine.now.rest;
-    match code {
-        [] => {
-            let ended = end(machine)?;
-            Ok((1, ended))
-        }
-        [op, rest @ ..] => {
-            // Moved before the operation is looked at: then one jump serves this look and that of `begin`.
-            machine.now.rest = rest;
-            if may_be_known(table, machine.now.instance, *op, rest) {
-                return several_of(alloc, modules, table, machine, code, most);
-            }
-            let begun = begin(alloc, modules, machine, op, rest, code)?;
-            Ok((1, begun))
-        }
+    let made = at_once(modules, table, machine, most)?;
+    if made > 0 {
+        return Ok((made, Reduced::On));
     }
+    once(alloc, modules, machine)
 }

@@ -1,8 +1,6 @@
 -- The last element of a list.
-use Rattle.std.proofs.Common.{◌≡◌, ⊎_elim, ℕ, zero, suc, ◌-◌, ◌<◌, ◌≤◌, arith, List, length, take, [], ◌∷◌, ◌++◌, map, Option, Some, None, refl, sym, ap, ◌∙◌}
+use Rattle.std.proofs.Common.{◌≡◌, ℕ, zero, suc, ◌-◌, List, length, take, [], ◌∷◌, ◌++◌, map, Option, Some, None, refl, sym, ap, ◌∙◌}
 use Rattle.std.specs.Prelude.{option_to_list, MatchOption}
-use Rattle.std.specs.Prelude.{◌↔◌, IsSome}
-use Rattle.std.proofs.lemmas.Bool.{cases_lt}
 use Rattle.std.proofs.lemmas.List.{nil_from_length, length-map}
 use Rattle.wasm_tree.specs.Machine.{split_last}
 use Rattle.wasm_machine.specs.declared.frame.Frame.{Frame}
@@ -16,10 +14,6 @@ split_last-push (y ∷ xs) x = rw (split_last-push xs x) refl
 pub no_more : {A : Type 0} (old : List A) (r : Option A) (b : Type 0) (q : A → Type 0) (m : ℕ) → m ≡ length old → MatchOption r ((m ≡ 0) × b) q → MatchOption r (length old ≡ 0) (λ x. Unit {0})
 no_more old None b q m e h = sym e ∙ h.0
 no_more old (Some x) b q m e h = tt
-
-pub nothing_left : {A : Type 0} (old : List A) (r : Option A) → (IsSome r ↔ (0 < length old)) → MatchOption r (length old ≡ 0) (λ x. Unit {0})
-nothing_left old None h = ⊎_elim (λ (some : 0 < length old). absurd (cc (h.1 some))) (λ (none : length old ≤ 0). omega arith) (cases_lt 0 (length old))
-nothing_left old (Some x) h = tt
 
 pub map-push : {A B : Type 0} (f : A → B) (xs : List A) (x : A) → map f (xs ++ x ∷ []) ≡ map f xs ++ f x ∷ []
 map-push f [] x = refl

@@ -10,8 +10,7 @@ ghost use Rattle.wasm_sound.specs.Ready.{CanBranch, CanBranchIf, CanBranchTable,
 ghost use Rattle.wasm_machine.specs.Going.{activation, label_of, store_of, callers_of, progress, innermost};
 
 use crate::call::leave;
-use crate::frame::{INLINE_LABELS, Label, Machine, Reduced};
-use smallvec::SmallVec;
+use crate::frame::{Label, Machine, Reduced};
 use std::alloc::AllocError;
 use wasm_tree::{Op, label_of, split_ops};
 
@@ -78,10 +77,7 @@ pub fn again<'a>(
 }
 
 /// Takes off the labels up to the one of this number, counted from the innermost one, and that one too.
-fn pop_labels<'a>(
-    labels: &mut SmallVec<Label<'a>, INLINE_LABELS>,
-    label: usize,
-) -> Option<Label<'a>>
+fn pop_labels<'a>(labels: &mut Vec<Label<'a>>, label: usize) -> Option<Label<'a>>
     requires { label ≤ length labels.old.items }
     ensures { innermost labels.new.items result ≡ split_last
         (take (length (map label_of labels.old.items) - label)
@@ -191,7 +187,7 @@ pub fn table<'a>(
     branch_table(machine, branches, default)
 }
 
-/// The end of a block, or of the function if there is none. `AllocError` if memory was refused.
+/// The end of a block, or of the function where there is none.
 #[inline(always)]
 pub fn end(machine: &mut Machine<'_>) -> Result<Reduced, AllocError>
     requires { ∥ IsReadyToEnd (activation machine.old.now) (split_last (activation machine.old.now).labels)

@@ -14,7 +14,6 @@ ghost use Rattle.wasm_machine.specs.declared.frame.Machine.{Machine};
 
 use crate::frame::{Frame, Machine, Reduced};
 use crate::places::{callee_at, callee_in, function_at, type_at};
-use smallvec::SmallVec;
 use std::alloc::{AllocError, Global};
 use std::mem;
 use wasm_link::{TypedFunction, has_types, is_same_type};
@@ -38,7 +37,7 @@ fn no_frame<'a>(alloc: Global) -> Frame<'a> {
         instance: 0,
         arity: 0,
         locals: Operands::new(alloc),
-        labels: SmallVec::new(alloc),
+        labels: Vec::new(alloc),
         rest: &[],
         stack: Operands::new(alloc),
     }

@@ -1,15 +1,11 @@
 //! Where a run is (Core 1.0, section 4.2): functions that run or wait, with their labels and operands.
 
-use smallvec::SmallVec;
 use wasm_operands::Operands;
 use wasm_tree::{Op, Store};
 
-/// How many labels a frame has room for before it asks for memory.
-pub const INLINE_LABELS: usize = 4;
-
 /// A block that was begun. A branch to it keeps `arity` operands above the lowest `height` ones and goes on with `again`;
 /// behind its end stands `rest`.
-#[derive(Clone, Copy, Default)]
+#[derive(Clone, Copy)]
 pub struct Label<'a> {
     pub arity: usize,
     pub height: usize,
@@ -22,7 +18,7 @@ pub struct Frame<'a> {
     pub instance: usize,
     pub arity: usize,
     pub locals: Operands,
-    pub labels: SmallVec<Label<'a>, INLINE_LABELS>,
+    pub labels: Vec<Label<'a>>,
     pub rest: &'a [Op],
     pub stack: Operands,
 }

@@ -12,8 +12,7 @@ mod places;
 mod reductions;
 mod variables;
 
-pub use branch::end;
 pub use call::entered;
 pub use frame::{Frame, Label, Machine, Pages, Reduced};
 pub use places::{callee_at, function_at, memory_of};
-pub use reductions::{begin, reduce};
+pub use reductions::reduce;

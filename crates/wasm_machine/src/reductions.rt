@@ -136,11 +136,10 @@ fn push_i64(machine: &mut Machine<'_>, number: u64) -> Result<Reduced, AllocErro
     Ok(Reduced::On)
 }
 
-/// The instruction at the front of the code begins; `rest` is the code without its operation. `AllocError` if memory
-/// was refused.
+/// The instruction at the front of the code begins; `rest` is the code without it.
 #[tactic(auto, using(crate::proofs::Opened::out_unreachable, crate::proofs::Opened::out_block, crate::proofs::Opened::out_loop, crate::proofs::Opened::out_if_one, crate::proofs::Opened::out_if_two, crate::proofs::Opened::out_br, crate::proofs::Opened::out_br_if, crate::proofs::Opened::out_return, crate::proofs::Opened::out_call, crate::proofs::Opened::out_call_indirect, crate::proofs::Opened::out_store, crate::proofs::Opened::out_i32_const, crate::proofs::Opened::out_i64_const, crate::proofs::Opened::out_numeric))]
 #[inline(always)]
-pub fn begin<'a>(
+fn begin<'a>(
     alloc: Global,
     modules: &'a [ValidModule],
     machine: &mut Machine<'a>,
