@@ -1,6 +1,6 @@
 //! A line of source with a mark under a token.
 
-ghost use Rattle.std.specs.Prelude.{◌≡◌, ◌≤◌, ◌-◌, ◌++◌, IfOk, OnOk, replicate, string_bytes, length, max};
+ghost use Rattle.std.specs.Prelude.{◌≡◌, ◌≤◌, ◌+◌, ◌-◌, ◌++◌, IfOk, OnOk, replicate, string_bytes, length, max};
 ghost use Rattle.show_refusals.specs.Layout.{blanks_under, mark_row, painted, picture};
 ghost use Rattle.show_refusals.specs.Part.{IsPart};
 
@@ -44,11 +44,13 @@ fn cut_if(is_cut: bool) -> &'static str {
     if is_cut { CUT } else { "" }
 }
 
-/// The first byte that is shown of a line of this length, if the token begins at this byte.
-fn first_shown(length: usize, start: usize) -> usize
-    ensures { result ≤ start }
+/// The first byte that is shown of a line of this many bytes, if the token begins at this byte.
+fn first_shown(bytes: usize, start: usize) -> usize
+    requires { start ≤ bytes }
+    ensures before { result ≤ start }
+    ensures near { start ≤ result + 100 }
 {
-    if length <= MOST_SHOWN {
+    if bytes <= MOST_SHOWN {
         0
     } else {
         start.saturating_sub(MOST_BEFORE)

@@ -1,4 +1,5 @@
-use Rattle.std.proofs.Common.{arith, sym}
+use Rattle.std.proofs.Common.{◌^◌, ◌-◌, ℕ, List, [], ◌∷◌, Option, Some, option_map, OnOk, false, arith, subst, sym}
+use Rattle.std.specs.Fmt.{◌++?◌, AppendsText, format_spec, padded_integral, styled_digits_output}
 use Rattle.std.specs.String.{string_bytes}
 use Rattle.show_refusals.proofs.Cells.{tab_put, plain_put, coded_put}
 use Rattle.show_refusals.proofs.layout.push_cell.Goals as goal
@@ -13,4 +14,8 @@ returns-then-is_printable c =
 
 pub returns : goal.returns
 returns c =
-    coded_put c.write.result (string_bytes c.args.text.now) (string_bytes c.write.new.self) c.args.byte c.ranges.byte.fits c.if-byte-eq9.false (sym c.if-is_printable.ensures) c.write.ensures.bytes
+    let old = string_bytes c.args.text.now in
+    let new = string_bytes c.write.new.self in
+    let laid = subst (λ s. OnOk c.write.result (AppendsText old new (Some (92 ∷ 120 ∷ []) ++? styled_digits_output c.in_radix.result s))) c.laid_out.ensures c.write.ensures.bytes in
+    let written = subst (λ (o : Option (List ℕ)). OnOk c.write.result (AppendsText old new (Some (92 ∷ 120 ∷ []) ++? option_map (padded_integral (format_spec 32 0 4 2 (2 ^ 64 - 1)) false []) o))) c.in_radix.ensures laid in
+    coded_put c.write.result old new c.args.byte c.ranges.byte.fits c.if-byte-eq9.false (sym c.if-is_printable.ensures) written
