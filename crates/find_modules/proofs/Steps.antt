@@ -108,3 +108,9 @@ module _ (gives : Folders) (count : ℕ) where
     once = s.once;
     found = s.found;
   }
+
+  pub begun : (program : List ℕ) (own slice : List (List ℕ)) (old modules : List FoundModule) → old ≡ [] → slice ≡ own → Imports program own → AreAdded gives count slice old modules → IsSoFar program 0 modules
+  begun program own slice old modules empty same imports a = at_begin program own old modules empty imports (subst (λ ns. AreAdded gives count ns old modules) same a)
+
+  pub gone_on : (program : List ℕ) (at : ℕ) (m : FoundModule) (names slice : List (List ℕ)) (old new : List FoundModule) → at < length old → m ≡ get_or old at m → IsSoFar program at old → SourcesImport m.sources names → slice ≡ names → AreAdded gives count slice old new → IsSoFar program (at + 1) new
+  gone_on program at m names slice old new l e s imports same a = one_later program at m names old new l e s imports (subst (λ ns. AreAdded gives count ns old new) same a)
