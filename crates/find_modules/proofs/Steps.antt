@@ -1,7 +1,7 @@
 -- The steps of the search for modules.
 use Rattle.std.proofs.Common.{◌≡◌, ℕ, ◌+◌, ◌<◌, ◌≤◌, ◌||◌, Bool, true, false, List, [], ◌∷◌, ◌++◌, length, take, map, get_or, Option, refl, sym, ap, subst, ◌∙◌, append_assoc, rules, arith, All, if◌then◌else◌}
 use Rattle.std.specs.List.{fold, list_any}
-use Rattle.std.proofs.lemmas.List.{append-nil, map-append, take_all, take_more, take-append-le}
+use Rattle.std.proofs.lemmas.List.{append-nil, map-append, take_all, take_more, take-append-le, length-append}
 use Rattle.std.proofs.lemmas.List.Sums.{fold-append}
 use Rattle.std.proofs.lemmas.List.Elements.{All-append, All-cons, All-nil}
 use Rattle.m2_tree.specs.Names.{same_name, is_console}
@@ -84,7 +84,7 @@ module _ (gives : Folders) (count : ℕ) where
   taken old more new at m behind l e = ap (λ y. take at old ++ y ∷ []) e ∙ sym (take_more old at m l) ∙ sym (take-append-le (at + 1) old more (omega arith)) ∙ ap (take (at + 1)) (sym behind)
 
   length_behind : (old more new : List FoundModule) → new ≡ old ++ more → length old ≤ length new
-  length_behind old more new behind = subst (λ ms. length old ≤ length ms) (sym behind) (search rules)
+  length_behind old more new behind = subst (λ ms. length old ≤ length ms) (sym behind) (subst (λ n. length old ≤ n) (sym (length-append old more)) (omega arith))
 
   pub one_later : (program : List ℕ) (at : ℕ) (m : FoundModule) (names : List (List ℕ)) (old new : List FoundModule) → at < length old → m ≡ get_or old at m → IsSoFar program at old → SourcesImport m.sources names → AreAdded gives count names old new → IsSoFar program (at + 1) new
   one_later program at m names old new l e s imports a =
@@ -108,3 +108,9 @@ module _ (gives : Folders) (count : ℕ) where
     once = s.once;
     found = s.found;
   }
+
+  pub begun : (program : List ℕ) (own slice : List (List ℕ)) (old modules : List FoundModule) → old ≡ [] → slice ≡ own → Imports program own → AreAdded gives count slice old modules → IsSoFar program 0 modules
+  begun program own slice old modules empty same imports a = at_begin program own old modules empty imports (subst (λ ns. AreAdded gives count ns old modules) same a)
+
+  pub gone_on : (program : List ℕ) (at : ℕ) (m : FoundModule) (names slice : List (List ℕ)) (old new : List FoundModule) → at < length old → m ≡ get_or old at m → IsSoFar program at old → SourcesImport m.sources names → slice ≡ names → AreAdded gives count slice old new → IsSoFar program (at + 1) new
+  gone_on program at m names slice old new l e s imports same a = one_later program at m names old new l e s imports (subst (λ ns. AreAdded gives count ns old new) same a)

@@ -41,6 +41,8 @@ impl<T: Drop> From<AllocFailed<T>> for FindFault {
 
 /// Folders of source files, in the order in which they are searched, or what stands for them.
 pub trait ModuleFolders {
+    ghost use Rattle.find_modules.specs.declared.folders.Part.{Part};
+
     /// How many there are.
     ghost count: { Self → ℕ };
 

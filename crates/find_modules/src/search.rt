@@ -1,7 +1,7 @@
 //! The search for the modules of a program.
 
 ghost use Rattle.std.specs.Prelude.{◌≡◌, ◌≤◌, ◌∷◌, [], length, map, IfOk, OnOk};
-ghost use Rattle.find_modules.specs.Found.{IsAt, AreSources, AreOf, AreAdded, SourcesImport, TextsImport, is_among, max_modules, name_of};
+ghost use Rattle.find_modules.specs.Found.{IsAt, AreSources, BodyImports, AreOf, AreAdded, SourcesImport, TextsImport, is_among, max_modules, name_of};
 
 use crate::folders::{FindFault, ModuleFolders, Part};
 use crate::found::{FoundModule, Sources};
@@ -51,7 +51,10 @@ fn sources_of<F: ModuleFolders>(
 fn is_among(name: &Name, modules: &[FoundModule]) -> bool
     ensures { result ≡ is_among name.now (map name_of modules.now) }
 {
-    modules.iter().any(|module| *name == module.name)
+    match modules {
+        [] => false,
+        [first, rest @ ..] => *name == first.name || is_among(name, rest),
+    }
 }
 
 /// Looks for a module, unless it is built in or was looked for before.
@@ -89,15 +92,23 @@ fn add_modules<F: ModuleFolders>(
     Ok(())
 }
 
+/// The modules that an implementation imports, if there is one.
+fn imports_of_body(alloc: Global, text: &Option<Vec<u8>>) -> Result<Vec<Name>, FindFault>
+    ensures { IfOk result (λ names. BodyImports text.now names.items) }
+{
+    match text {
+        None => Ok(Vec::new(alloc)),
+        Some(text) => imports_of(alloc, text),
+    }
+}
+
 /// The modules that the texts of a module import: the definition's before the implementation's.
 fn imports_of_sources(alloc: Global, sources: &Sources) -> Result<Vec<Name>, FindFault>
     ensures { IfOk result (λ names. TextsImport sources.now names.items) }
 {
     let mut names = imports_of(alloc, &sources.definition)?;
-    if let Some(text) = &sources.implementation {
-        let mut more = imports_of(alloc, text)?;
-        names.append(&mut more)?;
-    }
+    let mut more = imports_of_body(alloc, &sources.implementation)?;
+    names.append(&mut more)?;
     Ok(names)
 }
 
