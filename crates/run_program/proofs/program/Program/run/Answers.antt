@@ -7,7 +7,7 @@ returns-in-Err-clause-err g c = none g.S.Sink.reported g.S.Sink.failed c.args.se
 pub broken_by-requires : goal.broken_by-requires
 broken_by-requires g c = not_ended c.in-Ok.instances c.run.result c.in-Err-run.fault c.in-Err-run.is c.run.ensures.ended c.in-Ok.ensures.2
 
-pub returns-in-Err-run-clause-err : goal.returns-in-Err-run-clause-err
-returns-in-Err-run-clause-err g c =
+pub returns-clause-err : goal.returns-clause-err
+returns-clause-err g c =
     cut_by c.in-Ok.instances c.run.result c.in-Err-run.fault c.in-Err-run.is g.S.Sink.reported g.S.Sink.failed c.args.self.now.modules.items c.args.steps c.args.sink.now c.run.new.out c.in-Ok.ensures.0 c.in-Ok.ensures.1 c.in-Err-run.ensures.err.0
     c.run.ensures.write c.run.ensures.others c.broken_by.result c.broken_by.ensures
