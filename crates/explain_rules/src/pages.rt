@@ -79,11 +79,11 @@ fault 7     empty procedure
 fault 8     storage
 fault 9     HALT
 profile     what this profile of Modula-2 leaves out
-status 0    m2c: built; m2run: the program ended well
-status 1    m2c: refused; m2run: the program ended with a fault
-status 2    m2c: wrong command line; m2run: wrong command line
-status 3    m2c: failed; m2run: failed
-status 4    m2run: the program was still running
+status 0    m2c: built; m2run: the program ended well; m2: well
+status 1    m2c: refused; m2run: the program ended with a fault; m2: refused, or a fault
+status 2    m2c: wrong command line; m2run: wrong command line; m2: wrong command line
+status 3    m2c: failed; m2run: failed; m2: failed
+status 4    m2run: the program was still running; m2: the program was still running
 statuses    all statuses of the programs
 "#;
 

@@ -2,6 +2,17 @@
 
 use m2c::Options;
 
+/// How refusals are shown.
+#[derive(Clone, Copy, PartialEq, Eq)]
+pub enum Style {
+    /// For people.
+    Text,
+    /// For people, with a red mark under the token.
+    Coloured,
+    /// For programs, as JSON objects.
+    Json,
+}
+
 /// How programs are found and built.
 #[derive(Drop)]
 pub struct Setting {
@@ -11,6 +22,8 @@ pub struct Setting {
     pub libraries: Vec<String>,
     /// Whether it is said what is found.
     pub is_verbose: bool,
+    /// How refusals are shown.
+    pub style: Style,
 }
 
 /// What the command line asks for.
@@ -32,6 +45,10 @@ pub enum Asked {
     Check {
         programs: Vec<String>,
         setting: Setting,
+    },
+    /// To print the page of a topic, or the list of all topics if this is empty.
+    Explain {
+        topic: String,
     },
     /// To write the files of a new program of this name.
     New {

@@ -50,7 +50,12 @@ where
         Words::Reported(status) => return Ok(Words::Reported(status)),
     };
     match build(rt, rt.alloc(), &program.files, setting.options, &Open) {
-        Ok(Outcome::Refused(refusals)) => Ok(Words::Reported(show(rt, &program, &refusals))),
+        Ok(Outcome::Refused(refusals)) => Ok(Words::Reported(show(
+            rt,
+            setting.style,
+            &program,
+            &refusals,
+        )?)),
         Ok(Outcome::Built { link, modules }) => Ok(Words::Read(Modules {
             link,
             others: modules,

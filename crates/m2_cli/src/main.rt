@@ -1,8 +1,8 @@
-//! The one tool for people: `m2 run`, `m2 build`, `m2 check` and `m2 new`.
+//! The one tool for people: `m2 run`, `m2 build`, `m2 check`, `m2 explain` and `m2 new`.
 //!
 //! The words of the command line are read first. Then the modules that a program imports are found in folders, and the whole
 //! is built in memory. `run` executes what was built, `build` writes it into a folder, and `check` does neither. What is
-//! refused is a line each on standard output; all that this program says itself goes to standard error.
+//! refused is a line each on standard output, and explained on standard error. All that this program says itself goes there.
 //!
 //! The statuses are those of `m2c` for what is refused, and those of `m2run` for runs: see docs/statuses.md.
 #![tactic(auto)]
@@ -11,6 +11,7 @@ mod asked;
 mod building;
 mod checking;
 mod creating;
+mod explaining;
 mod finding;
 mod libraries;
 mod output;
@@ -24,6 +25,7 @@ mod words;
 use crate::asked::Asked;
 use crate::checking::check_all;
 use crate::creating::create;
+use crate::explaining::explain;
 use crate::running::run_program;
 use crate::saving::build_into;
 use crate::words::read_command_line;
@@ -54,6 +56,7 @@ where
             out,
         } => build_into(rt, setting, program.as_str(), out.as_str()),
         Asked::Check { programs, setting } => check_all(rt, setting, programs),
+        Asked::Explain { topic } => Ok(explain(rt, topic.as_str())),
         Asked::New { name } => create(rt, name.as_str()),
     }
 }

@@ -33,6 +33,16 @@ impl<P: Print + Drop> Screen<P> {
             failures: 0,
         })
     }
+
+    /// Writes what it keeps, and answers why writing failed, if it did. A byte that was not kept is want of memory, which the
+    /// caller knows.
+    pub fn close(mut self) -> io::Result<()> {
+        let _ = self.write_kept();
+        match self.cause {
+            None => Ok(()),
+            Some(error) => Err(error),
+        }
+    }
 }
 
 impl<P: Print> Screen<P> {

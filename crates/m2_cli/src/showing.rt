@@ -1,21 +1,60 @@
 //! What people are told of a program that is refused.
 
 use crate::PROGRAM;
+use crate::asked::Style;
 use crate::finding::Program;
 use crate::output::say_output_fault;
+use crate::screen::Screen;
+use anyhow::Result;
 use command_words::FAILED;
 use m2_tree::Refusal;
+use m2c::SourceFile;
+use show_refusals::{explanation, show_json};
 use std::io;
 
 /// The status of a program that is refused.
 const REFUSED: u8 = 1;
 
-/// Prints refusals, each in a line.
-fn print_all<R: Print>(rt: &R, refusals: &[Refusal]) -> io::Result<()> {
+/// Prints refusals, each in a line, and explains each below it on standard error. Why printing failed, if it did.
+fn print_lines<R: Print + Eprint + AllocGlobal>(
+    rt: &R,
+    files: &[SourceFile],
+    refusals: &[Refusal],
+    is_coloured: bool,
+) -> Result<io::Result<()>> {
     for refusal in refusals {
-        println!(rt; "{refusal}")?;
+        let words = explanation(rt.alloc(), files, refusal, is_coloured)?;
+        if let Err(error) = println!(rt; "{refusal}") {
+            return Ok(Err(error));
+        }
+        let _ = eprint!(rt; "{words}");
     }
-    Ok(())
+    Ok(Ok(()))
+}
+
+/// Prints refusals as JSON objects, each in a line. Why printing failed, if it did.
+fn print_objects<R: Print + AllocGlobal>(
+    rt: &R,
+    files: &[SourceFile],
+    refusals: &[Refusal],
+) -> Result<io::Result<()>> {
+    let mut out = Screen::new(rt.alloc(), rt)?;
+    show_json(rt.alloc(), files, refusals, &mut out)?;
+    Ok(out.close())
+}
+
+/// Prints refusals as they are wanted. Why printing failed, if it did.
+fn print_all<R: Print + Eprint + AllocGlobal>(
+    rt: &R,
+    style: Style,
+    files: &[SourceFile],
+    refusals: &[Refusal],
+) -> Result<io::Result<()>> {
+    match style {
+        Style::Text => print_lines(rt, files, refusals, false),
+        Style::Coloured => print_lines(rt, files, refusals, true),
+        Style::Json => print_objects(rt, files, refusals),
+    }
 }
 
 /// Says where a module was looked for, folder by folder.
@@ -35,16 +74,21 @@ fn say_lacking<R: Eprint>(rt: &R, program: &Program) {
     }
 }
 
-/// Prints the refusals of a program, each in a line on standard output, and says which modules it lacks. The status.
-pub fn show<R: Print + Eprint>(rt: &R, program: &Program, refusals: &[Refusal]) -> u8 {
-    match print_all(rt, refusals) {
+/// Shows the refusals of a program, and says which modules it lacks. The status. The error is want of memory.
+pub fn show<R: Print + Eprint + AllocGlobal>(
+    rt: &R,
+    style: Style,
+    program: &Program,
+    refusals: &[Refusal],
+) -> Result<u8> {
+    match print_all(rt, style, &program.files, refusals)? {
         Ok(()) => {
             say_lacking(rt, program);
-            REFUSED
+            Ok(REFUSED)
         }
         Err(error) => {
             say_output_fault(rt, &error);
-            FAILED
+            Ok(FAILED)
         }
     }
 }

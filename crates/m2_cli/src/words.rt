@@ -1,7 +1,7 @@
 //! The words of the command line.
 
 use crate::PROGRAM;
-use crate::asked::{Asked, Setting};
+use crate::asked::{Asked, Setting, Style};
 use crate::libraries::libraries_of;
 use anyhow::Result;
 use clap::{Arg, ArgAction, ArgMatches, Command};
@@ -41,6 +41,20 @@ fn with_setting<'a>(alloc: Global, command: Command<'a>) -> Result<Command<'a>> 
                     .value_name("N")
                     .default_value("4")
                     .help("How many threads compile, from 1 to 64"),
+            )?
+            .arg(
+                Arg::new(alloc, "format")
+                    .long("format")
+                    .value_name("FORMAT")
+                    .default_value("text")
+                    .help("How refusals are shown: text, or json for other programs"),
+            )?
+            .arg(
+                Arg::new(alloc, "color")
+                    .long("color")
+                    .value_name("WHEN")
+                    .default_value("never")
+                    .help("Whether the mark under a refusal is red: never or always"),
             )?
             .arg(
                 Arg::new(alloc, "verbose")
@@ -93,6 +107,19 @@ fn check_command<'a>(alloc: Global) -> Result<Command<'a>> {
     with_setting(alloc, command)
 }
 
+fn explain_command<'a>(alloc: Global) -> Result<Command<'a>> {
+    Ok(
+        Command::new(alloc, "explain")
+            .about("Says what a refusal, a fault or a status means; without a topic, lists all")
+            .arg(
+                Arg::new(alloc, "TOPIC")
+                    .action(ArgAction::Append)
+                    .num_args(1..)
+                    .help("A number of a refusal, as 40; or fault 2, status 3, profile"),
+            )?,
+    )
+}
+
 fn new_command<'a>(alloc: Global) -> Result<Command<'a>> {
     Ok(
         Command::new(alloc, "new")
@@ -109,11 +136,12 @@ fn command<'a>(alloc: Global) -> Result<Command<'a>> {
     Ok(
         Command::new(alloc, PROGRAM)
             .version(VERSION)
-            .about("Runs, builds and checks Modula-2 programs")
+            .about("Runs, builds, checks and explains Modula-2 programs")
             .subcommand_required(true)
             .subcommand(run_command(alloc)?)?
             .subcommand(build_command(alloc)?)?
             .subcommand(check_command(alloc)?)?
+            .subcommand(explain_command(alloc)?)?
             .subcommand(new_command(alloc)?)?,
     )
 }
@@ -130,12 +158,45 @@ fn options_of<R: Eprint>(rt: &R, matches: &ArgMatches) -> Option<Options> {
     })
 }
 
+/// Whether the other of two words was chosen. Any other word is reported.
+fn choice_of<R: Eprint>(
+    rt: &R,
+    matches: &ArgMatches,
+    id: &str,
+    usual: &str,
+    other: &str,
+) -> Option<bool> {
+    let word = matches.get_str(id).unwrap_or(usual);
+    if word != usual && word != other {
+        let _ = eprintln!(rt; "{PROGRAM}: --{id} takes {usual} or {other}, not {word}");
+        return None;
+    }
+    Some(word == other)
+}
+
+/// How refusals are shown. What they cannot be is reported.
+fn style_of<R: Eprint>(rt: &R, matches: &ArgMatches) -> Option<Style> {
+    let is_json = choice_of(rt, matches, "format", "text", "json")?;
+    let is_coloured = choice_of(rt, matches, "color", "never", "always")?;
+    if is_json {
+        return Some(Style::Json);
+    }
+    Some(if is_coloured {
+        Style::Coloured
+    } else {
+        Style::Text
+    })
+}
+
 /// How programs are found and built. What cannot be had is reported.
 fn setting_of<R>(rt: &R, matches: &ArgMatches) -> Result<Words<Setting>>
 where
     R: Files + Env + Eprint + AllocGlobal,
 {
     let Some(options) = options_of(rt, matches) else {
+        return Ok(Words::Reported(COMMAND_LINE));
+    };
+    let Some(style) = style_of(rt, matches) else {
         return Ok(Words::Reported(COMMAND_LINE));
     };
     let folders = matches.get_strs("lib").unwrap_or(&[]);
@@ -145,6 +206,7 @@ where
             options,
             libraries,
             is_verbose: matches.get_flag("verbose"),
+            style,
         })),
     }
 }
@@ -227,6 +289,25 @@ where
     }
 }
 
+/// The words of a topic, with a blank between two.
+fn topic_of(alloc: Global, words: &[&str]) -> Result<String> {
+    let mut topic = String::new(alloc);
+    for word in words {
+        if !topic.is_empty() {
+            topic.push_str(" ")?;
+        }
+        topic.push_str(word)?;
+    }
+    Ok(topic)
+}
+
+fn explain_asked(alloc: Global, matches: &ArgMatches) -> Result<Words<Asked>> {
+    let words = matches.get_strs("TOPIC").unwrap_or(&[]);
+    Ok(Words::Read(Asked::Explain {
+        topic: topic_of(alloc, words)?,
+    }))
+}
+
 fn new_asked<R>(rt: &R, matches: &ArgMatches) -> Result<Words<Asked>>
 where
     R: Eprint + AllocGlobal,
@@ -246,6 +327,7 @@ where
         Some(("run", inner)) => run_asked(rt, inner),
         Some(("build", inner)) => build_asked(rt, inner),
         Some(("check", inner)) => check_asked(rt, inner),
+        Some(("explain", inner)) => explain_asked(rt.alloc(), inner),
         Some(("new", inner)) => new_asked(rt, inner),
         _ => Ok(Words::Reported(COMMAND_LINE)),
     }

@@ -17,5 +17,6 @@ mod spot;
 mod tests;
 mod token;
 
+pub use explaining::explanation;
 pub use json::show_json;
 pub use showing::show;

@@ -80,6 +80,11 @@ VAR i, j: INTEGER; c: CARDINAL; p: CARDINAL; s: BITSET; ch: CHAR;
 ## m2run
 
 - **0: the program ended well**, by itself or by HALT: see docs/faults/0.md and docs/faults/9.md.
+
+## m2
+
+- **0: well.** The program ended by itself or by HALT, its modules are written, no program is
+  refused, the page is printed, or the files are written.
 "#,
     },
     Topic {
@@ -97,6 +102,11 @@ VAR i, j: INTEGER; c: CARDINAL; p: CARDINAL; s: BITSET; ch: CHAR;
 - **1: the program ended with a fault.** Standard error has a line such as `fault 2: overflow`.
   docs/faults explains each fault. A module that `m2c` did not write can also end with `trap`, or
   with `fault 42: unknown`.
+
+## m2
+
+- **1: refused, or a fault.** The program breaks a rule of the language, or it ended with a fault.
+  `m2 check` ends with the greatest status of its programs.
 "#,
     },
     Topic {
@@ -112,6 +122,11 @@ VAR i, j: INTEGER; c: CARDINAL; p: CARDINAL; s: BITSET; ch: CHAR;
 
 - **2: wrong command line.** The folder is missing, an option is unknown, or the number after
   `--steps` is not from 1 to 1000000000000.
+
+## m2
+
+- **2: wrong command line.** An option is unknown, a number is out of its range, a name is missing,
+  there is no page on a topic, or `m2 new` was given what is no name of a program.
 "#,
     },
     Topic {
@@ -128,6 +143,11 @@ VAR i, j: INTEGER; c: CARDINAL; p: CARDINAL; s: BITSET; ch: CHAR;
 
 - **3: failed.** A module cannot be read (`cannot read M.wasm`) or is not a good one
   (`M: refusal 80`, up to 84). Or there is no memory left (90), or standard output failed (91).
+
+## m2
+
+- **3: failed.** A file or a folder cannot be read or written, there is no memory left, or standard
+  output failed. `m2 new` ends so if a file is there already, and writes nothing.
 "#,
     },
     Topic {
@@ -146,6 +166,10 @@ VAR i, j: INTEGER; c: CARDINAL; p: CARDINAL; s: BITSET; ch: CHAR;
 
 After status 4, allow more steps: `m2run DIR --steps 100000000000`. If that does not help, look for
 a loop without end.
+
+## m2
+
+- **4: the program was still running** after as many steps as `--steps` allows.
 "#,
     },
     Topic {
@@ -187,11 +211,24 @@ last command.
 After status 4, allow more steps: `m2run DIR --steps 100000000000`. If that does not help, look for
 a loop without end.
 
+## m2
+
+- **0: well.** The program ended by itself or by HALT, its modules are written, no program is
+  refused, the page is printed, or the files are written.
+- **1: refused, or a fault.** The program breaks a rule of the language, or it ended with a fault.
+  `m2 check` ends with the greatest status of its programs.
+- **2: wrong command line.** An option is unknown, a number is out of its range, a name is missing,
+  there is no page on a topic, or `m2 new` was given what is no name of a program.
+- **3: failed.** A file or a folder cannot be read or written, there is no memory left, or standard
+  output failed. `m2 new` ends so if a file is there already, and writes nothing.
+- **4: the program was still running** after as many steps as `--steps` allows.
+
 ## What goes where
 
 - `m2c` prints refusals on standard output, and everything else on standard error.
 - `m2run` adds nothing to the program's own output on standard output. Faults and refusals go to
   standard error.
+- `m2` prints refusals on standard output, as `m2c` does, and explains them on standard error.
 "#,
     },
 ];
