@@ -31,10 +31,12 @@ fn is_folder<R: Files + Eprint>(rt: &R, name: &str) -> bool {
 
 /// Whether each of these folders is there. The first that is not is reported.
 fn are_folders<R: Files + Eprint>(rt: &R, names: &[&str]) -> bool {
-    match names {
-        [] => true,
-        [name, rest @ ..] => is_folder(rt, name) && are_folders(rt, rest),
+    for name in names {
+        if !is_folder(rt, name) {
+            return false;
+        }
     }
+    true
 }
 
 /// Adds the folders that a text names, and leaves out empty names.
