@@ -1,4 +1,4 @@
--- Names that differ, and the names that link exports for modules. (`m2_headline/proofs/Names` has the same of these.)
+-- Names that differ, and the names that link exports for modules.
 use Rattle.std.proofs.Common.{◌≡◌, ◌≢◌, ℕ, true, false, List, [], ◌∷◌, drop, refl, sym, ap, subst, ◌∙◌}
 use Rattle.std.specs.Str.{bytes_eq}
 use Rattle.std.proofs.lemmas.Bool.{eq-eqb, false≢true}

@@ -5,7 +5,7 @@
 //!
 //! - `specs/Scene` says where the code of a body runs, what stands there on both sides, and when code agrees with the
 //!   definition of a run.
-//! - `specs/Laws` has the laws, one for each construct that is proved so far.
+//! - `specs/Laws` has the laws, one for each construct.
 //!
 //! Why the code of a CASE that jumps by a table does what the CASE does, where its parts do.
 //!
