@@ -9,11 +9,11 @@ use Rattle.m2_tree.specs.declared.token.Lexeme.{Lexeme}
 use Rattle.m2_tree.specs.declared.token.Lexeme.TheVariants as lexeme
 use Rattle.m2_tree.specs.declared.token.Token.{Token}
 use Rattle.m2_tree.specs.declared.decl.Module.{Module}
-use Rattle.m2_scan.specs.declared.class.Class.TheVariants.{Space, Letter, Digit, Quote, Other}
-use Rattle.m2_scan.specs.Bytes.{Text, is_space, is_letter, is_digit, is_quote, class, in_run, is_run_byte}
-use Rattle.m2_scan.specs.Forms.{IsRun, Member}
-use Rattle.m2_scan.specs.Forms as forms
-use Rattle.m2_scan.specs.Division.{place, Divides, tokens_behind, HasTokens}
+use Rattle.scan_tokens.specs.declared.class.Class.TheVariants.{Space, Letter, Digit, Quote, Other}
+use Rattle.scan_tokens.specs.Bytes.{Text, is_space, is_letter, is_digit, is_quote, class, in_run, is_run_byte}
+use Rattle.scan_tokens.specs.Forms.{IsRun, Member}
+use Rattle.scan_tokens.specs.Forms as forms
+use Rattle.scan_tokens.specs.Division.{place, Divides, tokens_behind, HasTokens}
 use Rattle.def_grammar.specs.Rule.{Rule, Ast, module_rule, import_rule, idents_rule, def_rule, block_rule, decl_rule, constant_rule, type_decl_rule, variables_rule, formals_rule, section_rule, formal_rule, qual_rule, simple_rule, type_rule, dims_rule, parameter_rule, field_rule, stmts_rule, stmt_rule, rest_rule, arm_rule, item_rule, desig_rule, selectors_rule, args_rule, expr_rule, sum_rule, term_rule, factor_rule, set_rule}
 use Rattle.def_grammar.specs.Grammar.{Ty, token, ast, both, either, maybe, list, El, Gr}
 use Rattle.def_grammar.specs.Ebnf.{grammar}

@@ -4,10 +4,10 @@ use Rattle.std.specs.Arc.{arc_value}
 use Rattle.m2_tree.specs.declared.pos.Pos.{Pos}
 use Rattle.m2_tree.specs.declared.token.Token.{Token}
 use Rattle.m2_tree.specs.declared.decl.Module.{Module}
-use Rattle.m2_scan.specs.FaultNumber.{number_of}
-use Rattle.m2_scan.specs.declared.refusal.ScanRefusal.{ScanRefusal}
-use Rattle.m2_scan.proofs.Scanned.{tokens_once, never_both}
-use Rattle.m2_scan.proofs.Refusals.{one_refusal}
+use Rattle.scan_tokens.specs.FaultNumber.{number_of}
+use Rattle.scan_tokens.specs.declared.refusal.ScanRefusal.{ScanRefusal}
+use Rattle.scan_tokens.proofs.Scanned.{tokens_once, never_both}
+use Rattle.scan_tokens.proofs.Refusals.{one_refusal}
 use Rattle.def_grammar.specs.Refusal.{IsTree, IsReported}
 use Rattle.def_grammar.specs.declared.refusal.ParseRefusal.{ParseRefusal}
 use Rattle.def_grammar.proofs.Exact.{at_most_one, refused_once}

@@ -11,9 +11,9 @@ use Rattle.typed_tree.specs.declared.table.Table.{Table}
 use Rattle.typed_tree.specs.declared.typed_module.TypedModule.{TypedModule}
 use Rattle.check_scope.specs.declared.fault.Fault.{Fault}
 use Rattle.check_scope.specs.Elaborated.{least}
-use Rattle.m2_types.specs.Compiled as types
-use Rattle.m2_check.specs.Checks.{checked}
-use Rattle.m2_layout.specs.Layouts.{too_large}
+use Rattle.check_definition.specs.Compiled as types
+use Rattle.check_body.specs.Checks.{checked}
+use Rattle.layout_storage.specs.Layouts.{too_large}
 use Rattle.m2_emit.specs.Emitted.{emitted}
 use Rattle.build_jobs.specs.declared.outcome.Compiled.{Compiled}
 use Rattle.build_jobs.specs.declared.outcome.Compiled.TheVariants.{Defined, Built, Refused, Blocked}

@@ -9,7 +9,7 @@ use Rattle.wasm_binary.specs.Binary.{module_fits}
 use Rattle.typed_tree.specs.declared.table.Table.{Table}
 use Rattle.typed_tree.specs.declared.typed_module.TypedModule.{TypedModule}
 use Rattle.check_scope.specs.declared.fault.Fault.{Fault}
-use Rattle.m2_layout.specs.Layouts.{too_large}
+use Rattle.layout_storage.specs.Layouts.{too_large}
 use Rattle.def_scheme.specs.Modules.{typed_module}
 use Rattle.build_jobs.specs.declared.outcome.Compiled.{Compiled}
 use Rattle.build_jobs.specs.Compiling.{is_sound, tables_of, typed_body}

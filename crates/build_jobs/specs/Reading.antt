@@ -4,9 +4,9 @@ use Rattle.std.specs.Arc.{arc_value}
 use Rattle.m2_tree.specs.declared.pos.Pos.{Pos}
 use Rattle.m2_tree.specs.declared.token.Token.{Token}
 use Rattle.m2_tree.specs.declared.decl.Module.{Module}
-use Rattle.m2_scan.specs.Division.{HasTokens, Refuses, max_text}
-use Rattle.m2_scan.specs.FaultNumber.{number_of}
-use Rattle.m2_scan.specs.declared.refusal.ScanRefusal.{ScanRefusal}
+use Rattle.scan_tokens.specs.Division.{HasTokens, Refuses, max_text}
+use Rattle.scan_tokens.specs.FaultNumber.{number_of}
+use Rattle.scan_tokens.specs.declared.refusal.ScanRefusal.{ScanRefusal}
 use Rattle.def_grammar.specs.Refusal.{IsTree, IsReported}
 use Rattle.def_grammar.specs.declared.refusal.ParseRefusal.{ParseRefusal}
 use Rattle.build_jobs.specs.declared.file.SourceFile.{SourceFile}

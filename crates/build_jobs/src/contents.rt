@@ -2,20 +2,20 @@
 
 ghost use Rattle.std.specs.Prelude.{◌≡◌, IfOk, OnOk, map};
 ghost use Rattle.check_scope.specs.Elaborated.{least};
-ghost use Rattle.m2_layout.specs.Layouts.{too_large};
-ghost use Rattle.m2_types.specs.Compiled as types;
+ghost use Rattle.layout_storage.specs.Layouts.{too_large};
+ghost use Rattle.check_definition.specs.Compiled as types;
 ghost use Rattle.build_jobs.specs.Compiling.{compiled, of_checked, of_definition, of_fit, typed_body};
 ghost use Rattle.build_jobs.specs.ModuleEncoded.{IsEncoded, checked_encoded, fit_encoded};
 
 use crate::outcome::{Compiled, are_sound, tables_of};
 use crate::tables::{own_table, tables_behind};
+use check_body::check;
+use check_definition::compile_definition;
 use check_scope::{Elaborated, Fault};
-use m2_check::check;
+use layout_storage::Layout;
 use m2_emit::emit;
-use m2_layout::Layout;
 use m2_rule::Rule;
 use m2_tree::{Contents, Items, Module};
-use m2_types::compile_definition;
 use std::alloc::{AllocError, Global};
 use typed_tree::{Shared, Table, TypedModule};
 use wasm_tree::EncodeError;

@@ -4,8 +4,8 @@ ghost use Rattle.std.specs.Prelude.{IfOk, List, ℕ};
 ghost use Rattle.build_jobs.specs.Reading.{AreTokens, HasTree, IsRead};
 
 use m2_parse::{ParseError, parse};
-use m2_scan::{ScanError, scan};
 use m2_tree::{Module, Pos, Token};
+use scan_tokens::{ScanError, scan};
 use std::alloc::{AllocError, Global};
 use std::sync::Arc;
 

@@ -18,8 +18,8 @@ use Rattle.check_scope.specs.declared.scope.Scope.{Scope}
 use Rattle.check_scope.specs.Scopes.{State, finished}
 use Rattle.check_scope.specs.Elaborated.{Gathers, reported_where, beside, ◌▷◌}
 use Rattle.check_type_expr.specs.Made.{nothing_of, type_of}
-use Rattle.m2_types.specs.Declare.{with_constant, with_type, begun_name, with_variable_type, with_variables}
-use Rattle.m2_types.specs.Importing.{with_import}
+use Rattle.check_definition.specs.Declare.{with_constant, with_type, begun_name, with_variable_type, with_variables}
+use Rattle.check_definition.specs.Importing.{with_import}
 use Rattle.check_block.specs.declared.heading.Standing.{Standing}
 use Rattle.check_block.specs.declared.heading.Standing.TheVariants.{Free, Awaited, Taken}
 use Rattle.check_block.specs.Nesting.{number_behind}

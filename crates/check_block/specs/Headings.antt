@@ -20,7 +20,7 @@ use Rattle.check_scope.specs.Scopes.{State, with_known}
 use Rattle.check_scope.specs.Elaborated.{Gathers, reported, reported_where, beside, ◌▷◌}
 use Rattle.check_type_expr.specs.Headings.{heading_of, names_of}
 use Rattle.check_type_expr.specs.Made.{nothing_of, with_made}
-use Rattle.m2_types.specs.Declare.{procedure_meaning, with_procedure_type}
+use Rattle.check_definition.specs.Declare.{procedure_meaning, with_procedure_type}
 use Rattle.check_block.specs.declared.heading.Standing.{Standing}
 use Rattle.check_block.specs.declared.heading.Standing.TheVariants.{Free, Awaited, Taken}
 use Rattle.check_block.specs.Agreeing.{signature_of, agree}

@@ -6,7 +6,7 @@ use Rattle.m2_tree.specs.declared.decl.Decl.TheOpen as layer
 use Rattle.check_scope.specs.declared.known.Known.TheVariants.{Ahead}
 use Rattle.check_scope.specs.declared.scope.Scope.{Scope}
 use Rattle.check_scope.specs.Scopes.{marked}
-use Rattle.m2_types.specs.Marking.{marked_constant, marked_type, marked_variables}
+use Rattle.check_definition.specs.Marking.{marked_constant, marked_type, marked_variables}
 
 module _ {T : Type 0} where
   abbrev pub marked_layer : {A B : Type 0} → Scope T → Decl-F A B → Scope T

@@ -4,20 +4,20 @@ ghost use Rattle.std.specs.Prelude.{◌≡◌, Ok, IfOk, OnOk, Some};
 ghost use Rattle.std.specs.List.{fold};
 ghost use Rattle.std.specs.Option.{option_map};
 ghost use Rattle.check_scope.specs.Elaborated.{least};
-ghost use Rattle.m2_types.specs.Steps.{if_some};
-ghost use Rattle.m2_types.specs.Declare.{with_constant, with_type};
+ghost use Rattle.check_definition.specs.Steps.{if_some};
+ghost use Rattle.check_definition.specs.Declare.{with_constant, with_type};
 ghost use Rattle.check_block.specs.Nesting.{number_behind};
 ghost use Rattle.check_block.specs.Declarations.{local_meaning, finished_local, with_locals, with_variables_of, with_procedure, with_decl, declared_block, is_awaited, or_awaited, lacks, reported_of_lack, declared_module};
 
 use crate::heading::{Standing, standing_known, with_heading};
 use crate::naming::mark_decls;
+use check_definition::{
+    begin_all, declare_constants, declare_types, declare_variables, import_all, with_variable_type,
+};
 use check_scope::{Elaborated, Fault, Known, Scope, beside, finish, reported};
 use check_type_expr::{nothing_of, type_of};
 use m2_rule::Rule;
 use m2_tree::{Decl, Heading, Ident, Items, Module, Pos, Variables};
-use m2_types::{
-    begin_all, declare_constants, declare_types, declare_variables, import_all, with_variable_type,
-};
 use std::alloc::{AllocError, Global};
 use typed_tree::{Dictionary, LocalKind, LocalVariable, Meaning, TypeNo};
 

@@ -6,11 +6,11 @@ ghost use Rattle.check_scope.specs.Elaborated.{least, ◌▷◌};
 ghost use Rattle.check_block.specs.Headings.{standing_of, standing_elaborated, standing_from, standing_known, name_standing, nested_meaning, headed, module_procedure, new_procedure, with_new, reported_of_other, with_awaited, nothing_made, headed_as, with_heading};
 
 use crate::agreeing::{agree, signature_of};
+use check_definition::{procedure_meaning, with_procedure_type};
 use check_scope::{Elaborated, Fault, Known, Origin, Scope, beside, reported};
 use check_type_expr::{heading_of, names_of, nothing_of, with_made};
 use m2_rule::Rule;
 use m2_tree::{Heading, Pos};
-use m2_types::{procedure_meaning, with_procedure_type};
 use std::alloc::{AllocError, Global};
 use typed_tree::{Made, Meaning, NestedProcedure, Procedure, TypeNo, Types, made_of};
 

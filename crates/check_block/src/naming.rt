@@ -3,9 +3,9 @@
 ghost use Rattle.std.specs.Prelude.{◌≡◌, OnOk, IfOk};
 ghost use Rattle.check_block.specs.Naming.{marked_decl, marked_decls};
 
+use check_definition::{mark_constants, mark_types, mark_variables};
 use check_scope::{Fault, Known, Scope, mark};
 use m2_tree::{Decl, Items};
-use m2_types::{mark_constants, mark_types, mark_variables};
 use std::alloc::{AllocError, Global};
 
 fn mark_decl(alloc: Global, scope: &mut Scope<Fault>, decl: &Decl) -> Result<(), AllocError>

@@ -9,10 +9,10 @@ use Rattle.typed_tree.specs.declared.known_types.Types.{Types}
 use Rattle.typed_tree.specs.declared.statement.TypedStmt.{TypedStmt}
 use Rattle.typed_tree.specs.declared.typed_module.Routine.{Routine}
 use Rattle.typed_tree.specs.Known.{made_at}
-use Rattle.m2_layout.specs.Sizes.{size}
-use Rattle.m2_layout.specs.Shapes.{tree}
-use Rattle.m2_layout.specs.Frames.{formals_of, frame}
-use Rattle.m2_layout.specs.Texts.{passed}
+use Rattle.layout_storage.specs.Sizes.{size}
+use Rattle.layout_storage.specs.Shapes.{tree}
+use Rattle.layout_storage.specs.Frames.{formals_of, frame}
+use Rattle.layout_storage.specs.Texts.{passed}
 use Rattle.def_meaning.specs.Store.{Location, Store, assigned, copied, placed, fresh}
 use Rattle.def_meaning.specs.Answer.{State, Answer, Gave, Ended, Running, Outcome, Went, Left, Came, Stopped, Unfinished, no_return, empty_procedure, storage_fault}
 use Rattle.def_meaning.specs.Around.{Modules, Around, Named, At, Elements, Callee, Passed, Number, Variable, Array, Text}

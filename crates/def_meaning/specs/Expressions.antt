@@ -20,7 +20,7 @@ use Rattle.typed_tree.specs.declared.shape.Made.{Made}
 use Rattle.typed_tree.specs.declared.known_types.Types.{Types}
 use Rattle.typed_tree.specs.Types.{integer}
 use Rattle.typed_tree.specs.Known.{made_at, scalar_at}
-use Rattle.m2_layout.specs.Shapes.{elements_of}
+use Rattle.layout_storage.specs.Shapes.{elements_of}
 use Rattle.def_meaning.specs.Store.{Location}
 use Rattle.def_meaning.specs.Answer.{State, Answer, Gave, Ended, then_give, range_fault, overflow, index_fault, divisor_fault, empty_procedure}
 use Rattle.def_meaning.specs.Operators.{is_between, truth, is_true, compared, combined, included, has, absolute, capital, odd, quotient, remainder}

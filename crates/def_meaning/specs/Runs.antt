@@ -1,10 +1,10 @@
 -- The run of a program: the bodies of its modules in start order, on fresh variables.
 use Rattle.std.specs.Prelude.{ℕ, suc, ◌+◌, ◌-◌, ◌*◌, [], ◌∷◌, length, map}
 use Rattle.typed_tree.specs.declared.typed_module.TypedModule.{TypedModule}
-use Rattle.m2_layout.specs.Types.{row, frame_of}
-use Rattle.m2_layout.specs.Sizes.{size}
-use Rattle.m2_layout.specs.Frames.{module_row}
-use Rattle.m2_layout.specs.Texts.{module_texts, characters}
+use Rattle.layout_storage.specs.Types.{row, frame_of}
+use Rattle.layout_storage.specs.Sizes.{size}
+use Rattle.layout_storage.specs.Frames.{module_row}
+use Rattle.layout_storage.specs.Texts.{module_texts, characters}
 use Rattle.def_meaning.specs.Store.{fresh}
 use Rattle.def_meaning.specs.Answer.{State, Outcome, Went, Left, Came, Stopped, Unfinished}
 use Rattle.def_meaning.specs.Around.{Modules, Around}

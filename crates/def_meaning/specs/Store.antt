@@ -1,6 +1,6 @@
 -- The store of a program: what number each location holds. There are no addresses.
 use Rattle.std.specs.Prelude.{ℕ, nat_eq, ℤ, pos, List, [], ◌∷◌, ◌++◌, Option, Some, None, if◌then◌else◌}
-use Rattle.m2_layout.specs.Types.{Ty, Cell, component, first}
+use Rattle.layout_storage.specs.Types.{Ty, Cell, component, first}
 
 -- a location: the number of an instance (a module's variables, an activation's, or the copy of an
 -- open array), and then the numbers of the variable and of its components

@@ -9,7 +9,7 @@ use Rattle.wasm_tree.specs.declared.instr.Numeric.TheVariants as numeric
 use Rattle.wasm_tree.specs.declared.instr.Relation.{Relation}
 use Rattle.wasm_tree.specs.declared.instr.Operation.{Operation}
 use Rattle.typed_tree.specs.declared.typed_module.TypedModule.{TypedModule}
-use Rattle.m2_layout.specs.Types.{Ty}
+use Rattle.layout_storage.specs.Types.{Ty}
 
 -- how many locals for addresses and for numbers, and how many bytes of texts, stand before
 pub record Counts : Type 0 where

@@ -43,11 +43,11 @@ use Rattle.typed_tree.specs.declared.typed_module.Imported.{Imported}
 use Rattle.typed_tree.specs.declared.typed_module.TypedModule.{TypedModule}
 use Rattle.typed_tree.specs.Types.{are_same, integer, cardinal, boolean, char, bitset}
 use Rattle.typed_tree.specs.Known.{made_at, scalar_at}
-use Rattle.m2_layout.specs.Types.{Ty, Nothing, Array, row}
-use Rattle.m2_layout.specs.Sizes.{size, offset}
-use Rattle.m2_layout.specs.Shapes.{tree, elements_of}
-use Rattle.m2_layout.specs.Frames.{formals_of, module_row}
-use Rattle.m2_layout.specs.Texts.{passed}
+use Rattle.layout_storage.specs.Types.{Ty, Nothing, Array, row}
+use Rattle.layout_storage.specs.Sizes.{size, offset}
+use Rattle.layout_storage.specs.Shapes.{tree, elements_of}
+use Rattle.layout_storage.specs.Frames.{formals_of, module_row}
+use Rattle.layout_storage.specs.Texts.{passed}
 use Rattle.def_meaning.specs.Answer.{empty_procedure, index_fault, overflow, range_fault}
 use Rattle.def_scheme.specs.Coded.{Coded, Setting, plain, ◌⨾◌, nothing, all_coded, within, with_address, with_number, with_text, with_setting, top_local, number, raised, relation, operation, wrapped, extended, is_zero, put, copy, check, quotient, remainder, body_index, checked}
 use Rattle.def_scheme.specs.Cells.{loaded, load_scalar, word, in_range, in_type, base_of, check_taken, is_nought, unless_nought}

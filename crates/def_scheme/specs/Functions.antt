@@ -16,11 +16,11 @@ use Rattle.typed_tree.specs.declared.typed_module.Routine.{Routine}
 use Rattle.typed_tree.specs.declared.typed_module.Which.{Which}
 use Rattle.typed_tree.specs.declared.typed_module.Which.TheVariants as which
 use Rattle.typed_tree.specs.declared.typed_module.TypedModule.{TypedModule}
-use Rattle.m2_layout.specs.Types.{Ty, Cell, Hidden, Array, Nothing, Field, frame_of}
-use Rattle.m2_layout.specs.Sizes.{size, offset}
-use Rattle.m2_layout.specs.Shapes.{tree}
-use Rattle.m2_layout.specs.Frames.{formals_of, frame}
-use Rattle.m2_layout.specs.Texts.{characters, routines_texts, texts_before}
+use Rattle.layout_storage.specs.Types.{Ty, Cell, Hidden, Array, Nothing, Field, frame_of}
+use Rattle.layout_storage.specs.Sizes.{size, offset}
+use Rattle.layout_storage.specs.Shapes.{tree}
+use Rattle.layout_storage.specs.Frames.{formals_of, frame}
+use Rattle.layout_storage.specs.Texts.{characters, routines_texts, texts_before}
 use Rattle.def_meaning.specs.Answer.{no_return, storage_fault}
 use Rattle.def_scheme.specs.Coded.{Coded, Counts, Setting, plain, ◌⨾◌, top_local, copy_local, raised, operation, wrapped, extended, copy, fill, fault}
 use Rattle.def_scheme.specs.Cells.{store_scalar, word}

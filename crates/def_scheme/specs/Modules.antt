@@ -15,9 +15,9 @@ use Rattle.wasm_tree.specs.declared.module.Data.{Data}
 use Rattle.wasm_tree.specs.declared.module.WModule.{WModule}
 use Rattle.typed_tree.specs.declared.typed_module.TypedModule.{TypedModule}
 use Rattle.typed_tree.specs.declared.typed_module.Which.TheVariants as which
-use Rattle.m2_layout.specs.Sizes.{size}
-use Rattle.m2_layout.specs.Frames.{module_row}
-use Rattle.m2_layout.specs.Texts.{Texts, characters, module_texts}
+use Rattle.layout_storage.specs.Sizes.{size}
+use Rattle.layout_storage.specs.Frames.{module_row}
+use Rattle.layout_storage.specs.Texts.{Texts, characters, module_texts}
 use Rattle.def_scheme.specs.Scheme.{body_types, own_imports, imported_globals, host_imports, constant_global, exported_as, base_name, text_name, tab_name, type_from}
 use Rattle.def_scheme.specs.Helpers.{copy_code, fill_code, check_code, divisor_checked, div_rest, mod_rest}
 use Rattle.def_scheme.specs.Coded.{body_index}

@@ -20,7 +20,7 @@ use Rattle.typed_tree.specs.declared.types.TypeNo.{TypeNo}
 use Rattle.typed_tree.specs.declared.known_types.Types.{Types}
 use Rattle.typed_tree.specs.declared.typed_module.Routine.{Routine}
 use Rattle.typed_tree.specs.declared.typed_module.TypedModule.{TypedModule}
-use Rattle.m2_layout.specs.Frames.{formals_of}
+use Rattle.layout_storage.specs.Frames.{formals_of}
 use Rattle.def_scheme.specs.Exprs.{is_own, all_arguments, has_result}
 use Rattle.def_scheme.specs.Functions.{numbers_of}
 

@@ -20,8 +20,8 @@ use Rattle.typed_tree.specs.declared.statement.TypedArm.{TypedArm, TypedArm-F, f
 use Rattle.typed_tree.specs.declared.types.TypeNo.{TypeNo}
 use Rattle.typed_tree.specs.declared.known_types.Types.{Types}
 use Rattle.typed_tree.specs.Types.{char, bitset}
-use Rattle.m2_layout.specs.Sizes.{size}
-use Rattle.m2_layout.specs.Shapes.{tree}
+use Rattle.layout_storage.specs.Sizes.{size}
+use Rattle.layout_storage.specs.Shapes.{tree}
 use Rattle.def_meaning.specs.Answer.{case_fault, halted, range_fault}
 use Rattle.def_scheme.specs.Coded.{Coded, Setting, plain, ◌⨾◌, nothing, all_coded, within, with_address, with_number, with_text, with_setting, number, raised, relation, operation, wrapped, is_zero, put, copy, fill, fault, checked}
 use Rattle.def_scheme.specs.Cells.{loaded, stored, in_type, check_taken, check_changed}

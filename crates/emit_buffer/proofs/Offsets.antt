@@ -7,16 +7,16 @@ use Rattle.typed_tree.specs.declared.types.TypeNo.{TypeNo}
 use Rattle.typed_tree.specs.declared.known_types.Types.{Types}
 use Rattle.typed_tree.specs.declared.typed_module.Imported.{Imported}
 use Rattle.typed_tree.specs.declared.typed_module.TypedModule.{TypedModule}
-use Rattle.m2_layout.specs.declared.row.Row.{Row}
-use Rattle.m2_layout.specs.Capped.{capped}
-use Rattle.m2_layout.specs.Types.{row}
-use Rattle.m2_layout.specs.Sizes.{offset}
-use Rattle.m2_layout.specs.Shapes.{tree}
-use Rattle.m2_layout.specs.Frames.{module_row}
-use Rattle.m2_layout.specs.Rows.{variables_row as starts_of}
-use Rattle.m2_layout.proofs.Framed.{part_at}
-use Rattle.m2_layout.proofs.Capping.{from_nought}
-use Rattle.m2_layout.specs.Layouts.{imported_row as imported_starts}
+use Rattle.layout_storage.specs.declared.row.Row.{Row}
+use Rattle.layout_storage.specs.Capped.{capped}
+use Rattle.layout_storage.specs.Types.{row}
+use Rattle.layout_storage.specs.Sizes.{offset}
+use Rattle.layout_storage.specs.Shapes.{tree}
+use Rattle.layout_storage.specs.Frames.{module_row}
+use Rattle.layout_storage.specs.Rows.{variables_row as starts_of}
+use Rattle.layout_storage.proofs.Framed.{part_at}
+use Rattle.layout_storage.proofs.Capping.{from_nought}
+use Rattle.layout_storage.specs.Layouts.{imported_row as imported_starts}
 use Rattle.def_scheme.specs.Exprs.{is_own, import_place, imported_row, variables_row}
 use Rattle.emit_buffer.specs.Homes.{start_or, row_for}
 

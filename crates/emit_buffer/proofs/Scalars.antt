@@ -2,12 +2,12 @@
 use Rattle.std.proofs.Common.{◌≡◌, refl, ap}
 use Rattle.typed_tree.specs.declared.types.TypeNo.{TypeNo}
 use Rattle.typed_tree.specs.declared.known_types.Types.{Types}
-use Rattle.m2_layout.specs.declared.kind.Kind.{Kind}
-use Rattle.m2_layout.specs.declared.kind.Kind.TheVariants as kind
-use Rattle.m2_layout.specs.Types.{Ty, Scalar, Natural, Integer, Between, Callable, Cell, Hidden, Array, Nothing, Field}
-use Rattle.m2_layout.specs.Sizes.{Room, One, Two, Four, room_of}
-use Rattle.m2_layout.specs.Shapes.{tree}
-use Rattle.m2_layout.specs.Extents.{scalar_of, kind_of, width_of, kind_of_tree}
+use Rattle.layout_storage.specs.declared.kind.Kind.{Kind}
+use Rattle.layout_storage.specs.declared.kind.Kind.TheVariants as kind
+use Rattle.layout_storage.specs.Types.{Ty, Scalar, Natural, Integer, Between, Callable, Cell, Hidden, Array, Nothing, Field}
+use Rattle.layout_storage.specs.Sizes.{Room, One, Two, Four, room_of}
+use Rattle.layout_storage.specs.Shapes.{tree}
+use Rattle.layout_storage.specs.Extents.{scalar_of, kind_of, width_of, kind_of_tree}
 use Rattle.def_scheme.specs.Cells.{load_room, load_of, width_room, load_tree, store_tree, loaded, stored, load_scalar, store_scalar}
 use Rattle.emit_buffer.specs.Kinds.{load_width, load_by, store_width, load_kind, store_kind}
 

@@ -6,15 +6,15 @@ use Rattle.std.proofs.lemmas.Option.{slice_get-map}
 use Rattle.typed_tree.specs.declared.shape.Formal.{Formal}
 use Rattle.typed_tree.specs.declared.known_types.Types.{Types}
 use Rattle.typed_tree.specs.declared.typed_module.Routine.{Routine}
-use Rattle.m2_layout.specs.declared.row.Row.{Row}
-use Rattle.m2_layout.specs.Capped.{capped}
-use Rattle.m2_layout.specs.Types.{Ty, Cell, Hidden, Array, Nothing, Field, row, frame_of}
-use Rattle.m2_layout.specs.Sizes.{size, offset}
-use Rattle.m2_layout.specs.Shapes.{tree}
-use Rattle.m2_layout.specs.Extents.{element_tree as kept_element}
-use Rattle.m2_layout.specs.Frames.{formals_of, formal_tree, variable_trees, frame}
-use Rattle.m2_layout.specs.Rows.{frame_row}
-use Rattle.m2_layout.proofs.Framed.{part_at}
+use Rattle.layout_storage.specs.declared.row.Row.{Row}
+use Rattle.layout_storage.specs.Capped.{capped}
+use Rattle.layout_storage.specs.Types.{Ty, Cell, Hidden, Array, Nothing, Field, row, frame_of}
+use Rattle.layout_storage.specs.Sizes.{size, offset}
+use Rattle.layout_storage.specs.Shapes.{tree}
+use Rattle.layout_storage.specs.Extents.{element_tree as kept_element}
+use Rattle.layout_storage.specs.Frames.{formals_of, formal_tree, variable_trees, frame}
+use Rattle.layout_storage.specs.Rows.{frame_row}
+use Rattle.layout_storage.proofs.Framed.{part_at}
 use Rattle.def_scheme.specs.Exprs.{frame_at, element_tree}
 use Rattle.emit_buffer.specs.Homes.{start_or}
 use Rattle.emit_buffer.specs.Slots.{slot_at, slot_from, open_in, is_open, open_of, open_at}

@@ -3,9 +3,9 @@ use Rattle.std.specs.Prelude.{◌≡◌, ℕ, List, [], ◌∷◌, map}
 use Rattle.typed_tree.specs.declared.known_types.Types.{Types}
 use Rattle.typed_tree.specs.declared.typed_module.Routine.{Routine}
 use Rattle.typed_tree.specs.declared.typed_module.TypedModule.{TypedModule}
-use Rattle.m2_layout.specs.Types.{Ty, frame_of}
-use Rattle.m2_layout.specs.Frames.{frame}
-use Rattle.m2_layout.specs.Rows.{frame_row}
+use Rattle.layout_storage.specs.Types.{Ty, frame_of}
+use Rattle.layout_storage.specs.Frames.{frame}
+use Rattle.layout_storage.specs.Rows.{frame_row}
 use Rattle.def_scheme.specs.Coded.{Setting}
 use Rattle.emit_buffer.specs.declared.frame.Framed.{Framed}
 

@@ -5,11 +5,11 @@ use Rattle.std.specs.Map.{lookup}
 use Rattle.indexmap.specs.IndexMap.{insert_entry}
 use Rattle.typed_tree.specs.declared.typed_module.Imported.{Imported}
 use Rattle.typed_tree.specs.declared.typed_module.TypedModule.{TypedModule}
-use Rattle.m2_layout.specs.declared.layout.Layout.{Layout}
-use Rattle.m2_layout.specs.declared.row.Row.{Row}
-use Rattle.m2_layout.specs.Extents.{start_in}
-use Rattle.m2_layout.specs.Rows.{variables_row}
-use Rattle.m2_layout.specs.Layouts.{IsLayout, imported_row}
+use Rattle.layout_storage.specs.declared.layout.Layout.{Layout}
+use Rattle.layout_storage.specs.declared.row.Row.{Row}
+use Rattle.layout_storage.specs.Extents.{start_in}
+use Rattle.layout_storage.specs.Rows.{variables_row}
+use Rattle.layout_storage.specs.Layouts.{IsLayout, imported_row}
 use Rattle.def_scheme.specs.Exprs.{import_place, is_own}
 use Rattle.def_scheme.specs.Signatures.{Signatures}
 use Rattle.def_scheme.specs.Modules.{signatures}

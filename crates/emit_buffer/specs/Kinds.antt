@@ -7,12 +7,12 @@ use Rattle.wasm_tree.specs.declared.instr.StoreWidth.{StoreWidth}
 use Rattle.wasm_tree.specs.declared.instr.StoreWidth.TheVariants as stores
 use Rattle.typed_tree.specs.declared.types.TypeNo.{TypeNo}
 use Rattle.typed_tree.specs.declared.known_types.Types.{Types}
-use Rattle.m2_layout.specs.declared.kind.Kind.{Kind}
-use Rattle.m2_layout.specs.declared.kind.Kind.TheVariants as kind
-use Rattle.m2_layout.specs.declared.kind.Width.{Width}
-use Rattle.m2_layout.specs.declared.kind.Width.TheVariants as wide
-use Rattle.m2_layout.specs.Sizes.{room_of}
-use Rattle.m2_layout.specs.Extents.{scalar_of, width_of}
+use Rattle.layout_storage.specs.declared.kind.Kind.{Kind}
+use Rattle.layout_storage.specs.declared.kind.Kind.TheVariants as kind
+use Rattle.layout_storage.specs.declared.kind.Width.{Width}
+use Rattle.layout_storage.specs.declared.kind.Width.TheVariants as wide
+use Rattle.layout_storage.specs.Sizes.{room_of}
+use Rattle.layout_storage.specs.Extents.{scalar_of, width_of}
 use Rattle.def_meaning.specs.Answer.{range_fault}
 use Rattle.def_scheme.specs.Cells.{load_scalar, store_scalar, in_type, is_subrange}
 

@@ -7,10 +7,10 @@ use Rattle.typed_tree.specs.declared.computed.Root.TheVariants as root
 use Rattle.typed_tree.specs.declared.types.TypeNo.{TypeNo}
 use Rattle.typed_tree.specs.declared.known_types.Types.{Types}
 use Rattle.typed_tree.specs.declared.typed_module.Routine.{Routine}
-use Rattle.m2_layout.specs.Sizes.{offset}
-use Rattle.m2_layout.specs.Shapes.{tree}
-use Rattle.m2_layout.specs.Frames.{formals_of}
-use Rattle.m2_layout.specs.declared.row.Row.{Row}
+use Rattle.layout_storage.specs.Sizes.{offset}
+use Rattle.layout_storage.specs.Shapes.{tree}
+use Rattle.layout_storage.specs.Frames.{formals_of}
+use Rattle.layout_storage.specs.declared.row.Row.{Row}
 use Rattle.typed_tree.specs.declared.shape.Formal.{Formal}
 use Rattle.emit_buffer.specs.Homes.{start_or}
 use Rattle.def_scheme.specs.Coded.{Setting, raised, check}

@@ -1,7 +1,7 @@
 //! Sizes and offsets in 32 bits.
 
 ghost use Rattle.std.specs.Prelude.{◌≡◌, ℕ, IfOk};
-ghost use Rattle.m2_layout.specs.Capped.{capped};
+ghost use Rattle.layout_storage.specs.Capped.{capped};
 
 use wasm_tree::EncodeError;
 

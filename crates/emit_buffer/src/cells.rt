@@ -1,9 +1,9 @@
 //! Reading, writing and checking values of types.
 
 ghost use Rattle.std.specs.Prelude.{◌≡◌, ◌∷◌, [], IfOk, OnOk};
-ghost use Rattle.m2_layout.specs.Sizes.{size};
-ghost use Rattle.m2_layout.specs.Shapes.{tree};
-ghost use Rattle.m2_layout.specs.Extents.{scalar_of as scalar_in_kind};
+ghost use Rattle.layout_storage.specs.Sizes.{size};
+ghost use Rattle.layout_storage.specs.Shapes.{tree};
+ghost use Rattle.layout_storage.specs.Extents.{scalar_of as scalar_in_kind};
 ghost use Rattle.def_scheme.specs.Coded.{number, operation};
 ghost use Rattle.def_scheme.specs.Cells.{lower, is_nought, unless_nought, load_scalar, store_scalar, loaded, stored, in_range, in_type, base_of, base_in, is_subrange, is_free, check_taken, check_changed};
 ghost use Rattle.emit_buffer.specs.Drafts.{put};
@@ -13,7 +13,7 @@ ghost use Rattle.m2_rule.specs.FaultNumber.{fault_number};
 use crate::draft::Draft;
 use crate::pieces::{checked, number, operation};
 use crate::setting::Setting;
-use m2_layout::{Kind, Width, width_of};
+use layout_storage::{Kind, Width, width_of};
 use m2_rule::Fault;
 use std::alloc::AllocError;
 use typed_tree::{Scalar, TypeNo, Types, are_same, scalar_of};

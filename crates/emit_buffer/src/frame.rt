@@ -1,6 +1,6 @@
 //! The frames of procedures, as the code of a procedure sees them.
 
-use m2_layout::Row;
+use layout_storage::Row;
 use typed_tree::Routine;
 
 /// A procedure, and what is kept of its frame.

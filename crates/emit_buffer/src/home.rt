@@ -2,12 +2,12 @@
 
 ghost use Rattle.std.specs.Prelude.{◌≡◌, ℕ, ◌∷◌, [], MatchOption, None, Some, IfOk, OnOk, map, slice_get};
 ghost use Rattle.std.specs.Option.{option_copied};
-ghost use Rattle.m2_layout.specs.Capped.{capped};
-ghost use Rattle.m2_layout.specs.Sizes.{size, offset};
-ghost use Rattle.m2_layout.specs.Shapes.{tree};
-ghost use Rattle.m2_layout.specs.Extents.{kind_of_tree, element_tree};
-ghost use Rattle.m2_layout.specs.Rows.{frame_row};
-ghost use Rattle.m2_layout.specs.Layouts.{IsLayout};
+ghost use Rattle.layout_storage.specs.Capped.{capped};
+ghost use Rattle.layout_storage.specs.Sizes.{size, offset};
+ghost use Rattle.layout_storage.specs.Shapes.{tree};
+ghost use Rattle.layout_storage.specs.Extents.{kind_of_tree, element_tree};
+ghost use Rattle.layout_storage.specs.Rows.{frame_row};
+ghost use Rattle.layout_storage.specs.Layouts.{IsLayout};
 ghost use Rattle.def_scheme.specs.Exprs.{import_place, variables_row};
 ghost use Rattle.def_scheme.specs.Functions.{routine_of};
 ghost use Rattle.def_scheme.specs.Modules.{signatures as signatures_in, numbered};
@@ -18,7 +18,7 @@ use crate::amounts::exact;
 use crate::frame::Framed;
 use emit_tables::{Signatures, is_own};
 use indexmap::IndexMap;
-use m2_layout::{Kind, Layout, Row, element_of, field_of, scalar_in, size_of, start_of};
+use layout_storage::{Kind, Layout, Row, element_of, field_of, scalar_in, size_of, start_of};
 use std::alloc::{AllocError, Global};
 use std::marker::Model;
 use typed_tree::{Imported, Routine, TypeNo, TypedModule, Types, Variable, Which};

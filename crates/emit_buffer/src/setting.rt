@@ -11,7 +11,7 @@ ghost use Rattle.emit_buffer.specs.Frames.{meant, frames_of, routines_in, AreFra
 use crate::amounts::exact;
 use crate::frame::Framed;
 use crate::home::{Home, start_or};
-use m2_layout::Row;
+use layout_storage::Row;
 use std::alloc::{AllocError, Global};
 use std::marker::Model;
 use typed_tree::{Formal, Routine, Shape, Slot, Types, made_of};

@@ -29,7 +29,7 @@ use Rattle.typed_tree.specs.declared.computed.Argument.{Argument, Argument-F, ou
 use Rattle.typed_tree.specs.declared.computed.Argument.TheOpen as layer
 use Rattle.typed_tree.specs.declared.computed.Argument.TheVariants as xv
 use Rattle.typed_tree.specs.Types.{are_same, integer, cardinal, boolean, char, bitset}
-use Rattle.m2_layout.specs.Texts.{passed}
+use Rattle.layout_storage.specs.Texts.{passed}
 use Rattle.def_scheme.specs.Coded.{Coded, Setting, plain, ◌⨾◌, all_coded, with_number, with_setting, within, number_local, top_local, number, wrapped, extended, relation, checked}
 use Rattle.def_scheme.specs.Cells.{loaded, in_type, check_taken}
 use Rattle.def_scheme.specs.Exprs.{Part, Linked, Numbered, argument_layer, call_layer, component_layer, link_layer, expr_layer, place_layer, root_layer, chain_type, chain_code, chosen_number, loaded_from, relation_of, arithmetic_code, set_code, complement, empty_code, ord_check, absolute_code, capital_code, procedure_code, high_code, element_code, open_element_code, module_call, indirect, value_call, top_code, behind, in_code, and_code, or_code, expr_part, place_code, call_code, text_code}

@@ -9,7 +9,7 @@ use Rattle.typed_tree.specs.declared.meaning.Procedure.{Procedure}
 use Rattle.typed_tree.specs.declared.types.TypeNo.{TypeNo}
 use Rattle.typed_tree.specs.declared.known_types.Types.{Types}
 use Rattle.typed_tree.specs.declared.typed_module.TypedModule.{TypedModule}
-use Rattle.m2_layout.specs.Texts.{passed}
+use Rattle.layout_storage.specs.Texts.{passed}
 use Rattle.def_meaning.specs.Answer.{empty_procedure}
 use Rattle.def_scheme.specs.Coded.{Setting, number_local, raised, operation, wrapped, extended, body_index, checked}
 use Rattle.def_scheme.specs.Exprs.{slots_global, slot_number, frame_code, open_address, high_code, high_index, text_code, indirect}

@@ -2,7 +2,7 @@
 
 ghost use Rattle.std.specs.Prelude.{◌≡◌, IfOk, OnOk, length, pos, suc};
 ghost use Rattle.wasm_tree.specs.declared.instr.Instr.TheVariants.{LocalGet as get_local};
-ghost use Rattle.m2_layout.specs.Texts.{passed};
+ghost use Rattle.layout_storage.specs.Texts.{passed};
 ghost use Rattle.def_meaning.specs.Answer.{empty_procedure};
 ghost use Rattle.def_scheme.specs.Coded.{top_local, number_local, checked};
 ghost use Rattle.def_scheme.specs.Exprs.{slots_global, procedure_code, high_index, indirect, module_call};

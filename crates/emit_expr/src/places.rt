@@ -2,8 +2,8 @@
 
 ghost use Rattle.std.specs.Prelude.{◌≡◌, ◌+◌, ◌*◌, ◌∷◌, [], IfOk, OnOk, slice_get};
 ghost use Rattle.std.specs.Option.{option_copied};
-ghost use Rattle.m2_layout.specs.Sizes.{size, offset};
-ghost use Rattle.m2_layout.specs.Shapes.{tree};
+ghost use Rattle.layout_storage.specs.Sizes.{size, offset};
+ghost use Rattle.layout_storage.specs.Shapes.{tree};
 ghost use Rattle.def_scheme.specs.Exprs.{outwards, frame_code, slot_path, slot_code, kept_address, open_address, high_code, global_code, with_code, index_made, index_of, scaled, from_lower, element_code, open_element_code, base_global};
 ghost use Rattle.def_scheme.specs.Cells.{load_scalar, word};
 ghost use Rattle.emit_buffer.specs.Drafts.{put};

@@ -3,7 +3,7 @@ use Rattle.std.proofs.Common.{◌≡◌, ℕ, zero, suc, ◌+◌, ◌-◌, ◌*�
 use Rattle.std.specs.Prelude.{slice_set, Result, Ok, Err, OnOk, if◌then◌else◌}
 use Rattle.typed_tree.specs.declared.known_types.Types.{Types}
 use Rattle.typed_tree.specs.declared.shape.Formal.{Formal}
-use Rattle.m2_layout.specs.Shapes.{tree}
+use Rattle.layout_storage.specs.Shapes.{tree}
 use Rattle.std.proofs.lemmas.List.{length-append}
 use Rattle.wasm_tree.specs.declared.code.Op.{Op}
 use Rattle.wasm_tree.specs.declared.code.Op.TheVariants as op
@@ -12,10 +12,10 @@ use Rattle.wasm_tree.specs.declared.instr.Instr.TheVariants as instr
 use Rattle.wasm_tree.specs.declared.instr.Instr.TheVariants.{outs-If, LocalGet, I32Const, Call}
 use Rattle.wasm_tree.specs.Code.{flat_step, flat_one, flat}
 use Rattle.wasm_tree.proofs.Flat.{joined_is}
-use Rattle.m2_layout.specs.Types.{Ty, Cell, Hidden, Array, Nothing, Field}
-use Rattle.m2_layout.specs.Sizes.{size, offset}
-use Rattle.m2_layout.specs.Extents.{kind_of_tree}
-use Rattle.m2_layout.specs.declared.kind.Kind.{Kind}
+use Rattle.layout_storage.specs.Types.{Ty, Cell, Hidden, Array, Nothing, Field}
+use Rattle.layout_storage.specs.Sizes.{size, offset}
+use Rattle.layout_storage.specs.Extents.{kind_of_tree}
+use Rattle.layout_storage.specs.declared.kind.Kind.{Kind}
 use Rattle.def_scheme.specs.Coded.{fault, raised, wrapped, extended, copy}
 use Rattle.def_scheme.specs.Cells.{store_tree}
 use Rattle.def_scheme.specs.Functions.{value_kept, word_kept, open_copied, formal_kept}

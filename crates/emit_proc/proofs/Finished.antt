@@ -9,14 +9,14 @@ use Rattle.typed_tree.specs.declared.known_types.Types.{Types}
 use Rattle.typed_tree.specs.declared.typed_module.Routine.{Routine}
 use Rattle.typed_tree.specs.declared.typed_module.Which.{Which}
 use Rattle.typed_tree.specs.declared.typed_module.TypedModule.{TypedModule}
-use Rattle.m2_layout.specs.Types.{Ty, frame_of, row}
-use Rattle.m2_layout.specs.Sizes.{size}
-use Rattle.m2_layout.specs.Frames.{frame, variable_trees}
-use Rattle.m2_layout.specs.Extents.{total}
-use Rattle.m2_layout.specs.Rows.{frame_row}
-use Rattle.m2_layout.specs.Capped.{capped}
-use Rattle.m2_layout.specs.Texts.{characters, texts_before, routines_texts}
-use Rattle.m2_layout.proofs.Rows.{fields_sum, fields_row, row_is}
+use Rattle.layout_storage.specs.Types.{Ty, frame_of, row}
+use Rattle.layout_storage.specs.Sizes.{size}
+use Rattle.layout_storage.specs.Frames.{frame, variable_trees}
+use Rattle.layout_storage.specs.Extents.{total}
+use Rattle.layout_storage.specs.Rows.{frame_row}
+use Rattle.layout_storage.specs.Capped.{capped}
+use Rattle.layout_storage.specs.Texts.{characters, texts_before, routines_texts}
+use Rattle.layout_storage.proofs.Rows.{fields_sum, fields_row, row_is}
 use Rattle.def_scheme.specs.Coded.{Coded, Counts, Setting, all_coded}
 use Rattle.def_scheme.specs.Exprs.{has_result}
 use Rattle.def_scheme.specs.Steps.{step_code}

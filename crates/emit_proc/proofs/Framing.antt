@@ -7,8 +7,8 @@ use Rattle.typed_tree.specs.declared.typed_module.Which.{Which}
 use Rattle.typed_tree.specs.declared.typed_module.TypedModule.{TypedModule}
 use Rattle.def_scheme.specs.Functions.{routine_at}
 use Rattle.emit_proc.specs.Around.{around_from, routines_around}
-use Rattle.m2_layout.specs.declared.row.Row.{Row}
-use Rattle.m2_layout.specs.Rows.{frame_row}
+use Rattle.layout_storage.specs.declared.row.Row.{Row}
+use Rattle.layout_storage.specs.Rows.{frame_row}
 use Rattle.emit_buffer.specs.declared.frame.Framed.{Framed}
 use Rattle.emit_buffer.specs.Frames.{AreFramed, IsFramed, routines_in}
 

@@ -8,7 +8,7 @@ use Rattle.typed_tree.specs.declared.typed_module.TypedModule.{TypedModule}
 use Rattle.def_scheme.specs.Coded.{Setting}
 use Rattle.def_scheme.specs.Functions.{routine_at, from_text, locals_of, setting, numbers_of}
 use Rattle.def_scheme.specs.Addresses.{addresses_in}
-use Rattle.m2_layout.specs.Frames.{frame}
+use Rattle.layout_storage.specs.Frames.{frame}
 use Rattle.emit_buffer.specs.Drafts.{Drafted}
 
 abbrev pub around_from : (Option Which → List Routine) → Option Routine → List Routine

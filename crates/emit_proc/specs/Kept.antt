@@ -3,7 +3,7 @@ use Rattle.std.specs.Prelude.{ℕ, suc, List, [], ◌∷◌, ◌++◌, slice_get
 use Rattle.wasm_tree.specs.declared.instr.Instr.{Instr}
 use Rattle.wasm_tree.specs.declared.instr.Instr.TheVariants.{Call, LocalGet, LocalSet, LocalTee, Numeric}
 use Rattle.wasm_tree.specs.declared.instr.Numeric.TheVariants as numeric
-use Rattle.m2_layout.specs.Types.{Ty}
+use Rattle.layout_storage.specs.Types.{Ty}
 use Rattle.def_scheme.specs.Coded.{Setting, raised, wrapped, copy}
 use Rattle.def_scheme.specs.Cells.{store_scalar, word}
 use Rattle.def_scheme.specs.Exprs.{frame_at}

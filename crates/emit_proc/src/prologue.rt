@@ -3,9 +3,9 @@
 ghost use Rattle.std.specs.Prelude.{◌≡◌, ◌∷◌, ◌++◌, [], suc, IfOk, OnOk};
 ghost use Rattle.wasm_tree.specs.declared.instr.Instr.TheVariants.{Call, LocalGet, LocalTee, I32Const};
 ghost use Rattle.std.specs.Option.{option_copied};
-ghost use Rattle.m2_layout.specs.Frames.{formals_made, frame};
-ghost use Rattle.m2_layout.specs.Sizes.{size, offset};
-ghost use Rattle.m2_layout.specs.Shapes.{tree};
+ghost use Rattle.layout_storage.specs.Frames.{formals_made, frame};
+ghost use Rattle.layout_storage.specs.Sizes.{size, offset};
+ghost use Rattle.layout_storage.specs.Shapes.{tree};
 ghost use Rattle.emit_buffer.specs.Frames.{meant};
 ghost use Rattle.emit_buffer.specs.Drafts.{put};
 ghost use Rattle.def_scheme.specs.Coded.{raised, wrapped, extended, copy};

@@ -1,11 +1,11 @@
 //! The functions of a module.
 
 ghost use Rattle.std.specs.Prelude.{◌≡◌, ◌++◌, ◌∷◌, [], ℕ, List, IfOk, OnOk, MatchOption, Some, None, map, suc, ◌+◌};
-ghost use Rattle.m2_layout.specs.Types.{frame_of};
-ghost use Rattle.m2_layout.specs.Sizes.{size};
-ghost use Rattle.m2_layout.specs.Frames.{frame};
-ghost use Rattle.m2_layout.specs.Rows.{frame_row};
-ghost use Rattle.m2_layout.specs.Texts.{characters, texts_before, routines_texts};
+ghost use Rattle.layout_storage.specs.Types.{frame_of};
+ghost use Rattle.layout_storage.specs.Sizes.{size};
+ghost use Rattle.layout_storage.specs.Frames.{frame};
+ghost use Rattle.layout_storage.specs.Rows.{frame_row};
+ghost use Rattle.layout_storage.specs.Texts.{characters, texts_before, routines_texts};
 ghost use Rattle.def_scheme.specs.Functions.{routine_of, routine_at, end_code, enter_code, numbers_of, prologue, setting, frames_around, routine_function, module_function};
 ghost use Rattle.def_scheme.specs.Addresses.{addresses_in};
 ghost use Rattle.def_scheme.specs.Exprs.{has_result};

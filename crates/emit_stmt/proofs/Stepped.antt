@@ -14,8 +14,8 @@ use Rattle.typed_tree.specs.declared.statement.TypedStmt.TheOpen as sl
 use Rattle.typed_tree.specs.declared.statement.TypedStmt.TheVariants as sv
 use Rattle.typed_tree.specs.declared.statement.TypedArm.{TypedArm, fold-TypedArm}
 use Rattle.typed_tree.specs.Types.{char}
-use Rattle.m2_layout.specs.Sizes.{size}
-use Rattle.m2_layout.specs.Shapes.{tree}
+use Rattle.layout_storage.specs.Sizes.{size}
+use Rattle.layout_storage.specs.Shapes.{tree}
 use Rattle.def_scheme.specs.Coded.{Coded, Setting, plain, ◌⨾◌, all_coded, within, with_setting, with_number, with_address, with_text, wrapped, is_zero, number, operation, relation, copy, fault, checked, address_local, number_local}
 use Rattle.def_scheme.specs.Cells.{stored, loaded, in_type}
 use Rattle.def_scheme.specs.Exprs.{Numbered, behind}

@@ -9,7 +9,7 @@ use Rattle.std.proofs.lemmas.Option.{slice_get-get_or}
 use Rattle.typed_tree.specs.declared.typed_module.Which.{Which}
 use Rattle.typed_tree.specs.declared.typed_module.Which.TheVariants as which
 use Rattle.typed_tree.specs.declared.typed_module.TypedModule.{TypedModule}
-use Rattle.m2_layout.specs.Texts.{Texts, characters, body_texts, routines_texts, which_texts, texts_before}
+use Rattle.layout_storage.specs.Texts.{Texts, characters, body_texts, routines_texts, which_texts, texts_before}
 use Rattle.def_scheme.specs.Modules.{all_characters}
 use Rattle.emit_tables.specs.declared.offsets.Offsets.{Offsets}
 use Rattle.emit_tables.specs.declared.texts.Gathering.{Gathering}

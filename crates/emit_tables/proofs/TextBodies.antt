@@ -14,7 +14,7 @@ use Rattle.typed_tree.specs.declared.statement.TypedStmt.TheVariants as sv
 use Rattle.typed_tree.specs.declared.statement.TypedArm.{TypedArm, TypedArm-F, map-TypedArm, fold_out-TypedArm}
 use Rattle.typed_tree.specs.declared.typed_module.Which.{Which}
 use Rattle.typed_tree.specs.declared.typed_module.TypedModule.{TypedModule}
-use Rattle.m2_layout.specs.Texts.{Texts, joined, texts_of, texts_at, texts_called, step_texts, arm_texts, texts_in, texts_armed, body_texts, which_texts}
+use Rattle.layout_storage.specs.Texts.{Texts, joined, texts_of, texts_at, texts_called, step_texts, arm_texts, texts_in, texts_armed, body_texts, which_texts}
 use Rattle.def_scheme.specs.Modules.{all_characters}
 use Rattle.emit_tables.specs.Written.{stmt_written, arm_written, which_written}
 use Rattle.emit_tables.proofs.TextVariants.{both, one_text, walked}

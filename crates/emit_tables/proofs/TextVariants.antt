@@ -22,7 +22,7 @@ use Rattle.typed_tree.specs.declared.computed.Call.TheVariants as cv
 use Rattle.typed_tree.specs.declared.computed.Argument.{Argument, Argument-F, out-Argument, map-Argument, fold_out-Argument}
 use Rattle.typed_tree.specs.declared.computed.Argument.TheOpen as layer
 use Rattle.typed_tree.specs.declared.computed.Argument.TheVariants as xv
-use Rattle.m2_layout.specs.Texts.{Texts, joined, passed, argument_texts, call_texts, component_texts, link_texts, place_texts, expr_texts, texts_of, texts_at, texts_called, texts_passed, texts_behind, texts_linked}
+use Rattle.layout_storage.specs.Texts.{Texts, joined, passed, argument_texts, call_texts, component_texts, link_texts, place_texts, expr_texts, texts_of, texts_at, texts_called, texts_passed, texts_behind, texts_linked}
 use Rattle.def_scheme.specs.Modules.{all_characters}
 use Rattle.emit_tables.specs.Written.{argument_written, component_written, link_written}
 

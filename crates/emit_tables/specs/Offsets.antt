@@ -4,7 +4,7 @@ use Rattle.std.specs.List.{fold}
 use Rattle.typed_tree.specs.declared.typed_module.Which.{Which}
 use Rattle.typed_tree.specs.declared.typed_module.Which.TheVariants as which
 use Rattle.typed_tree.specs.declared.typed_module.TypedModule.{TypedModule}
-use Rattle.m2_layout.specs.Texts.{characters, module_texts, routines_texts, texts_before}
+use Rattle.layout_storage.specs.Texts.{characters, module_texts, routines_texts, texts_before}
 use Rattle.def_scheme.specs.Modules.{all_characters}
 use Rattle.emit_tables.specs.declared.offsets.Offsets.{Offsets}
 use Rattle.emit_tables.specs.declared.texts.Gathering.{Gathering}

@@ -7,7 +7,7 @@ use Rattle.typed_tree.specs.declared.statement.TypedStmt.{TypedStmt}
 use Rattle.typed_tree.specs.declared.statement.TypedArm.{TypedArm}
 use Rattle.typed_tree.specs.declared.typed_module.Which.{Which}
 use Rattle.typed_tree.specs.declared.typed_module.TypedModule.{TypedModule}
-use Rattle.m2_layout.specs.Texts.{texts_passed, texts_behind, texts_linked, texts_in, texts_armed, which_texts}
+use Rattle.layout_storage.specs.Texts.{texts_passed, texts_behind, texts_linked, texts_in, texts_armed, which_texts}
 use Rattle.def_scheme.specs.Modules.{all_characters}
 
 abbrev pub argument_written : Argument → List ℕ

@@ -3,7 +3,7 @@
 ghost use Rattle.std.specs.Prelude.{◌≡◌, ◌++◌, slice_get, OnOk};
 ghost use Rattle.std.specs.List.{flat_map};
 ghost use Rattle.std.specs.Option.{option_copied};
-ghost use Rattle.m2_layout.specs.Texts.{texts_in, texts_armed, body_texts, routine_texts, which_texts};
+ghost use Rattle.layout_storage.specs.Texts.{texts_in, texts_armed, body_texts, routine_texts, which_texts};
 ghost use Rattle.def_scheme.specs.Modules.{all_characters};
 ghost use Rattle.emit_tables.specs.Written.{stmt_written, arm_written};
 

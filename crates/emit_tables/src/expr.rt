@@ -2,7 +2,7 @@
 
 ghost use Rattle.std.specs.Prelude.{◌≡◌, ◌++◌, OnOk};
 ghost use Rattle.std.specs.List.{flat_map};
-ghost use Rattle.m2_layout.specs.Texts.{passed, texts_of, texts_at, texts_called, texts_passed, texts_behind, texts_linked};
+ghost use Rattle.layout_storage.specs.Texts.{passed, texts_of, texts_at, texts_called, texts_passed, texts_behind, texts_linked};
 ghost use Rattle.def_scheme.specs.Modules.{all_characters};
 ghost use Rattle.emit_tables.specs.Written.{argument_written, component_written, link_written};
 

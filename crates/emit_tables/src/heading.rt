@@ -1,7 +1,7 @@
 //! What is asked of procedures, and what they give.
 
 ghost use Rattle.std.specs.Prelude.{◌≡◌, ◌<◌, ◌^◌};
-ghost use Rattle.m2_layout.specs.Frames.{formals_of};
+ghost use Rattle.layout_storage.specs.Frames.{formals_of};
 ghost use Rattle.def_scheme.specs.Exprs.{is_own, all_arguments, has_result};
 ghost use Rattle.def_scheme.specs.Functions.{numbers_of};
 

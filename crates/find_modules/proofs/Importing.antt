@@ -2,12 +2,12 @@
 use Rattle.std.proofs.Common.{◌≡◌, ◌≤◌, ◌⊎◌, inl, inr, ℕ, List, [], ◌++◌, length, Option, Some, sym, subst, ◌∙◌}
 use Rattle.m2_tree.specs.declared.token.Token.{Token}
 use Rattle.m2_tree.specs.declared.decl.Module.{Module}
-use Rattle.m2_scan.specs.Division.{HasTokens, max_text}
+use Rattle.scan_tokens.specs.Division.{HasTokens, max_text}
 use Rattle.def_grammar.specs.Refusal.{IsTree}
 use Rattle.std.specs.Global.{Vec}
-use Rattle.m2_scan.specs.declared.refusal.ScanError.{ScanError}
-use Rattle.m2_scan.specs.declared.refusal.ScanError.TheVariants.{Refused, NoMemory}
-use Rattle.m2_scan.specs.declared.refusal.ScanRefusal.{ScanRefusal}
+use Rattle.scan_tokens.specs.declared.refusal.ScanError.{ScanError}
+use Rattle.scan_tokens.specs.declared.refusal.ScanError.TheVariants.{Refused, NoMemory}
+use Rattle.scan_tokens.specs.declared.refusal.ScanRefusal.{ScanRefusal}
 use Rattle.find_modules.specs.Found.{BodyImports, TextsImport}
 use Rattle.find_modules.specs.declared.found.Sources.{Sources}
 use Rattle.find_modules.specs.Imports.{AreTokens, Imports, TokensImport, imported}

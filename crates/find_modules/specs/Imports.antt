@@ -5,7 +5,7 @@ use Rattle.m2_tree.specs.declared.token.Token.{Token}
 use Rattle.m2_tree.specs.declared.name.Ident.{Ident}
 use Rattle.m2_tree.specs.declared.decl.Import.{Import}
 use Rattle.m2_tree.specs.declared.decl.Module.{Module}
-use Rattle.m2_scan.specs.Division.{HasTokens, max_text}
+use Rattle.scan_tokens.specs.Division.{HasTokens, max_text}
 use Rattle.def_grammar.specs.Refusal.{IsTree}
 
 -- the module behind FROM, else each that is listed

@@ -5,8 +5,8 @@ ghost use Rattle.find_modules.specs.Imports.{AreTokens, named_by, imported, Impo
 
 use crate::folders::FindFault;
 use m2_parse::{ParseError, parse};
-use m2_scan::{ScanError, scan};
 use m2_tree::{Ident, Import, Module, Name, Token};
+use scan_tokens::{ScanError, scan};
 use std::alloc::{AllocError, Global};
 
 /// Adds the names of modules.

@@ -3,7 +3,7 @@ use Rattle.std.proofs.Common.{ℕ, ◌+◌, ◌*◌, ◌≤◌, List, length, Re
 use Rattle.m2_tree.specs.declared.token.Token.{Token}
 use Rattle.m2_tree.specs.declared.decl.Module.{Module}
 use Rattle.typed_tree.specs.declared.typed_module.TypedModule.{TypedModule}
-use Rattle.m2_scan.specs.Division.{HasTokens, max_text}
+use Rattle.scan_tokens.specs.Division.{HasTokens, max_text}
 use Rattle.def_grammar.specs.Refusal.{IsModule}
 use Rattle.check_scope.specs.Elaborated.{Gathers}
 use Rattle.law_encoding.specs.Sizes.{size_module}

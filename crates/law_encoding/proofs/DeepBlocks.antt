@@ -22,14 +22,14 @@ use Rattle.check_scope.specs.Elaborated.{Gathers}
 use Rattle.typed_tree.specs.Types.{integer}
 use Rattle.check_block.specs.Declarations.{all_declared}
 use Rattle.check_block.specs.Nesting.{procedure_ends}
-use Rattle.m2_check.specs.declared.routine.Bodies.{Bodies}
-use Rattle.m2_check.specs.declared.routine.Numbered.{Numbered}
-use Rattle.m2_check.specs.Routines.{unfilled, begun_at, filled, routine, typed_module}
-use Rattle.m2_check.specs.declared.procedure.Walk.{Walk}
-use Rattle.m2_check.specs.Elaborating.{Elaborates, statements_of}
-use Rattle.m2_check.specs.Inside.{which_of, begun_procedure, with_routine}
-use Rattle.m2_check.specs.Bodies.{Steps, Checks, ChecksBlock, marked_by, declared_by, checked_by, begun_from, with_body, with_bodies, procedure_checked, steps_layer, block_layer, steps, checks_block, checks_decl, bodies_checked}
-use Rattle.m2_check.specs.Checked.{begun_module, walked, of_walk, of_implementation, of_contents, checked}
+use Rattle.check_body.specs.declared.routine.Bodies.{Bodies}
+use Rattle.check_body.specs.declared.routine.Numbered.{Numbered}
+use Rattle.check_body.specs.Routines.{unfilled, begun_at, filled, routine, typed_module}
+use Rattle.check_body.specs.declared.procedure.Walk.{Walk}
+use Rattle.check_body.specs.Elaborating.{Elaborates, statements_of}
+use Rattle.check_body.specs.Inside.{which_of, begun_procedure, with_routine}
+use Rattle.check_body.specs.Bodies.{Steps, Checks, ChecksBlock, marked_by, declared_by, checked_by, begun_from, with_body, with_bodies, procedure_checked, steps_layer, block_layer, steps, checks_block, checks_decl, bodies_checked}
+use Rattle.check_body.specs.Checked.{begun_module, walked, of_walk, of_implementation, of_contents, checked}
 use Rattle.law_encoding.specs.Nesting.{◌⊔◌, deepest_of, deepest, depth_decl, depth_block, depth_stmts, depth_stmts_if, depth_contents, depth_module}
 use Rattle.law_encoding.specs.Nesting as nesting
 use Rattle.law_encoding.specs.TypedNesting.{depth_body, depth_routine, depth_bodies}

@@ -11,8 +11,8 @@ use Rattle.typed_tree.specs.declared.statement.TypedStmt.{TypedStmt, TypedStmt-F
 use Rattle.typed_tree.specs.declared.statement.TypedStmt.TheOpen as layer
 use Rattle.typed_tree.specs.declared.types.TypeNo.{TypeNo}
 use Rattle.typed_tree.specs.Types.{char}
-use Rattle.m2_layout.specs.Shapes.{tree}
-use Rattle.m2_layout.specs.Sizes.{size}
+use Rattle.layout_storage.specs.Shapes.{tree}
+use Rattle.layout_storage.specs.Sizes.{size}
 use Rattle.std.proofs.lemmas.Bool.{leb-true}
 use Rattle.def_scheme.specs.Coded.{Coded, all_coded, relation, put}
 use Rattle.def_scheme.specs.Exprs.{Numbered, Part, expr_part}

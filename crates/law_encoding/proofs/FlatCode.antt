@@ -23,8 +23,8 @@ use Rattle.typed_tree.specs.declared.typed_module.TypedModule.{TypedModule}
 use Rattle.typed_tree.specs.declared.types.TypeNo.{TypeNo}
 use Rattle.typed_tree.specs.Types.{are_same, integer, bitset}
 use Rattle.typed_tree.specs.Known.{scalar_at}
-use Rattle.m2_layout.specs.Types.{Ty, Scalar, Cell, Hidden, Array, Nothing, Field}
-use Rattle.m2_layout.specs.Shapes.{tree}
+use Rattle.layout_storage.specs.Types.{Ty, Scalar, Cell, Hidden, Array, Nothing, Field}
+use Rattle.layout_storage.specs.Shapes.{tree}
 use Rattle.def_scheme.specs.Coded.{Setting, raised, wrapped, fault, checked}
 use Rattle.def_scheme.specs.Cells.{is_nought, lower, load_scalar, store_scalar, load_tree, store_tree, loaded, stored, word, in_range, in_type, base_of, is_free, is_subrange, check_taken, check_changed}
 use Rattle.def_scheme.specs.Exprs.{Numbered, is_own, outwards, frame_code, slot_code, kept_address, open_address, high_code, index_of, scaled, from_lower, element_code, open_element_code, arithmetic_code, complement, set_code, empty_code, ord_check, procedure_code, global_code, with_code, text_code, indirect, module_call, link_code, nested_call}

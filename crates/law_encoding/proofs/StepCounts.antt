@@ -10,8 +10,8 @@ use Rattle.typed_tree.specs.declared.statement.TypedArm.{TypedArm, TypedArm-F, o
 use Rattle.typed_tree.specs.declared.statement.TypedStmt.{TypedStmt, TypedStmt-F, out-TypedStmt, roll-TypedStmt, out-roll-TypedStmt, map-TypedStmt, fold_out-TypedStmt, ind-TypedStmt}
 use Rattle.typed_tree.specs.declared.statement.TypedStmt.TheOpen as layer
 use Rattle.typed_tree.specs.declared.types.TypeNo.{TypeNo}
-use Rattle.m2_layout.specs.Shapes.{tree}
-use Rattle.m2_layout.specs.Sizes.{size}
+use Rattle.layout_storage.specs.Shapes.{tree}
+use Rattle.layout_storage.specs.Sizes.{size}
 use Rattle.def_scheme.specs.Coded.{Coded, all_coded, number, operation, relation, wrapped, is_zero, put, fault, checked}
 use Rattle.def_scheme.specs.Cells.{loaded, stored, in_type}
 use Rattle.def_scheme.specs.Exprs.{Numbered, Part, expr_part}

@@ -3,11 +3,11 @@ use Rattle.std.proofs.Common.{◌≡◌, ℕ, suc, ◌+◌, ◌*◌, ◌≤◌, 
 use Rattle.m2_tree.specs.declared.token.Lexeme.TheVariants as lexeme
 use Rattle.m2_tree.specs.declared.token.Symbol.{Symbol}
 use Rattle.m2_tree.specs.declared.token.Token.{Token}
-use Rattle.m2_scan.specs.declared.class.Class.{Class}
-use Rattle.m2_scan.specs.Bytes.{Text}
-use Rattle.m2_scan.specs.Symbols.{sign_of}
-use Rattle.m2_scan.specs.Forms.{IsRun, IsQuoted, IsForm, space, name, number, quoted, sign, comment, opened, Member}
-use Rattle.m2_scan.specs.Division.{place, Divides, tokens_behind, HasTokens}
+use Rattle.scan_tokens.specs.declared.class.Class.{Class}
+use Rattle.scan_tokens.specs.Bytes.{Text}
+use Rattle.scan_tokens.specs.Symbols.{sign_of}
+use Rattle.scan_tokens.specs.Forms.{IsRun, IsQuoted, IsForm, space, name, number, quoted, sign, comment, opened, Member}
+use Rattle.scan_tokens.specs.Division.{place, Divides, tokens_behind, HasTokens}
 
 one_byte : (n : ℕ) → 1 ≤ suc n
 one_byte n = omega arith

@@ -8,7 +8,7 @@ use Rattle.typed_tree.specs.declared.statement.TypedStmt.{TypedStmt}
 use Rattle.typed_tree.specs.declared.typed_module.TypedModule.{TypedModule}
 use Rattle.def_grammar.specs.Refusal.{IsTree, max_nesting}
 use Rattle.check_scope.specs.Elaborated.{Gathers}
-use Rattle.m2_check.specs.Checks.{checked}
+use Rattle.check_body.specs.Checks.{checked}
 use Rattle.def_scheme.specs.Coded.{Setting, Counts}
 use Rattle.def_scheme.specs.Exprs.{Numbered}
 use Rattle.def_scheme.specs.Steps.{body_code}

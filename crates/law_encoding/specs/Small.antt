@@ -6,14 +6,14 @@ use Rattle.m2_tree.specs.declared.expr.Designator.{Designator}
 use Rattle.m2_tree.specs.declared.stmt.Stmt.{Stmt}
 use Rattle.m2_tree.specs.declared.decl.Module.{Module}
 use Rattle.typed_tree.specs.declared.table.Table.{Table}
-use Rattle.m2_scan.specs.Division.{HasTokens, max_text}
+use Rattle.scan_tokens.specs.Division.{HasTokens, max_text}
 use Rattle.def_grammar.specs.Refusal.{IsModule}
 use Rattle.check_scope.specs.Elaborated.{Gathers}
 use Rattle.check_scope.specs.declared.scope.Scope.{Scope}
 use Rattle.check_expr.specs.Meanings.{meant, head}
 use Rattle.check_stmt_parts.specs.declared.around.Around.{Around}
 use Rattle.check_stmt.specs.Statements.{statements}
-use Rattle.m2_check.specs.Checks.{checked}
+use Rattle.check_body.specs.Checks.{checked}
 use Rattle.typed_tree.specs.declared.statement.TypedStmt.{TypedStmt}
 use Rattle.def_scheme.specs.Coded.{Setting, Counts}
 use Rattle.def_scheme.specs.Exprs.{Numbered}

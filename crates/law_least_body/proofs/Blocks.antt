@@ -34,7 +34,7 @@ use Rattle.check_scope.specs.declared.scope.Block.{Block}
 use Rattle.check_scope.specs.declared.scope.Scope.{Scope}
 use Rattle.check_scope.specs.Elaborated.{every, least, reported_where, beside}
 use Rattle.check_type_expr.specs.Headings.{heading_of}
-use Rattle.m2_types.specs.Declare.{with_constant, with_type, begun_name}
+use Rattle.check_definition.specs.Declare.{with_constant, with_type, begun_name}
 use Rattle.check_block.specs.declared.heading.Standing.{Standing}
 use Rattle.check_block.specs.declared.heading.Standing.TheVariants.{Free, Awaited, Taken}
 use Rattle.check_block.specs.declared.inner.Outside.{Outside}

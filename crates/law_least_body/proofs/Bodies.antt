@@ -24,23 +24,23 @@ use Rattle.check_scope.specs.declared.known.Known.{Known}
 use Rattle.check_scope.specs.declared.scope.Scope.{Scope}
 use Rattle.check_scope.specs.Elaborated.{every, least}
 use Rattle.check_scope.specs.Scopes.{State}
-use Rattle.m2_types.specs.Predeclared.{console}
-use Rattle.m2_types.specs.Importing.{numbered_modules}
+use Rattle.check_definition.specs.Predeclared.{console}
+use Rattle.check_definition.specs.Importing.{numbered_modules}
 use Rattle.check_block.specs.Nesting.{procedure_ends}
 use Rattle.check_block.specs.Declarations.{Course, Declared}
 use Rattle.check_block.specs.Inner.{entered_procedure}
 use Rattle.check_block.specs.declared.inner.Outside.{Outside}
-use Rattle.m2_check.specs.declared.routine.Bodies.{Bodies as Filled}
-use Rattle.m2_check.specs.declared.routine.Numbered.{Numbered}
-use Rattle.m2_check.specs.Own.{with_own_name, own_names, with_own_types, exported_variables, exported_headings, with_own, implementation_scope}
-use Rattle.m2_check.specs.Routines.{numbered_known, procedure_named, no_bodies}
-use Rattle.m2_check.specs.declared.procedure.Walk.{Walk}
-use Rattle.m2_check.specs.declared.procedure.Begun.{Begun}
-use Rattle.m2_check.specs.Elaborating.{Elaborates, statements_of}
-use Rattle.m2_check.specs.Inside.{returns_of, which_of, begun_as, begun_procedure, reported_in, with_routine, ended_procedure}
-use Rattle.m2_check.specs.Bodies.{begun_from, Checked, Checks, ChecksBlock, Steps, marked_by, declared_by, checked_by, with_body, with_bodies, with_statements, block_from, steps_layer, block_layer, steps, checks_block, checks_decl, bodies_checked}
-use Rattle.m2_check.specs.Checked.{module_or, begun_module, walked, of_walk, of_body, of_implementation, of_contents}
-use Rattle.m2_check.specs.Checks.{elaborated, checked}
+use Rattle.check_body.specs.declared.routine.Bodies.{Bodies as Filled}
+use Rattle.check_body.specs.declared.routine.Numbered.{Numbered}
+use Rattle.check_body.specs.Own.{with_own_name, own_names, with_own_types, exported_variables, exported_headings, with_own, implementation_scope}
+use Rattle.check_body.specs.Routines.{numbered_known, procedure_named, no_bodies}
+use Rattle.check_body.specs.declared.procedure.Walk.{Walk}
+use Rattle.check_body.specs.declared.procedure.Begun.{Begun}
+use Rattle.check_body.specs.Elaborating.{Elaborates, statements_of}
+use Rattle.check_body.specs.Inside.{returns_of, which_of, begun_as, begun_procedure, reported_in, with_routine, ended_procedure}
+use Rattle.check_body.specs.Bodies.{begun_from, Checked, Checks, ChecksBlock, Steps, marked_by, declared_by, checked_by, with_body, with_bodies, with_statements, block_from, steps_layer, block_layer, steps, checks_block, checks_decl, bodies_checked}
+use Rattle.check_body.specs.Checked.{module_or, begun_module, walked, of_walk, of_body, of_implementation, of_contents}
+use Rattle.check_body.specs.Checks.{elaborated, checked}
 use Rattle.law_least_definition.specs.Least.{Reports, fine, is_refused}
 use Rattle.law_least_definition.specs.Beside.{Pairwise, none, Optionwise, nothing, something, KnownBeside, known_later, known_ahead, known_begun, known_headed, known_declared, EntryBeside, ScopeBeside, scopes, StateBeside}
 use Rattle.law_least_definition.proofs.Forms.{reported_reports, then_reports, both_reports, beside_reports, fold_pairwise, fold_keeps, pairwise_maps, carry}

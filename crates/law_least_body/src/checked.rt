@@ -3,7 +3,7 @@
 ghost use Rattle.std.specs.Prelude.{◌≡◌, IfOk};
 ghost use Rattle.std.specs.Option.{option_copied};
 ghost use Rattle.check_scope.specs.Elaborated.{every, least};
-ghost use Rattle.m2_check.specs.Checks.{checked};
+ghost use Rattle.check_body.specs.Checks.{checked};
 ghost use Rattle.law_least_definition.specs.Least.{Reports};
 
 use check_scope::Elaborated;
@@ -11,7 +11,7 @@ use m2_tree::{Items, Module};
 use std::alloc::{AllocError, Global};
 use typed_tree::{Shared, Table, TypedModule};
 
-/// What `m2_check::check` answers. It is a typed module exactly where no rule is broken, and else the least of all rules
+/// What `check_body::check` answers. It is a typed module exactly where no rule is broken, and else the least of all rules
 /// that are, by place and then by number.
 pub fn check(
     alloc: Global,
@@ -27,5 +27,5 @@ pub fn check(
     ensures reported { IfOk result
         (λ j. Reports j (checked every number tree.now (option_copied own.entry) imports)) }
 {
-    m2_check::check(alloc, number, tree, own, imports)
+    check_body::check(alloc, number, tree, own, imports)
 }

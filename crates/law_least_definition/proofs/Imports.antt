@@ -16,8 +16,8 @@ use Rattle.check_scope.specs.declared.known.Known.{Known}
 use Rattle.check_scope.specs.declared.known.Origin.TheVariants.{Here, Module, Export}
 use Rattle.check_scope.specs.declared.scope.Scope.{Scope}
 use Rattle.check_scope.specs.Elaborated.{every, least, beside}
-use Rattle.m2_types.specs.Predeclared.{predeclared_as, with_types, with_truth, with_functions, with_bounds, with_procedures, predeclared, first_scope}
-use Rattle.m2_types.specs.Importing.{module_found, module_named, with_module_as, with_module_name, with_entry, brings_in, reported_of_taken, unless_taken, from_place, with_from, exports_of, from_module, with_imports, with_import}
+use Rattle.check_definition.specs.Predeclared.{predeclared_as, with_types, with_truth, with_functions, with_bounds, with_procedures, predeclared, first_scope}
+use Rattle.check_definition.specs.Importing.{module_found, module_named, with_module_as, with_module_name, with_entry, brings_in, reported_of_taken, unless_taken, from_place, with_from, exports_of, from_module, with_imports, with_import}
 use Rattle.law_least_definition.specs.Least.{Reports, fine, is_refused}
 use Rattle.law_least_definition.specs.Beside.{block, Pairwise, none, more, Optionwise, nothing, something, KnownBeside, known_later, known_ahead, known_begun, known_headed, known_declared, EntryBeside, ScopeBeside, scopes, StateBeside}
 use Rattle.law_least_definition.proofs.Forms.{reported_reports, where_reports, beside_reports, fold_keeps}

@@ -12,7 +12,7 @@ use Rattle.m2_tree.specs.declared.decl.TypeExpr.TheOpen as layer
 use Rattle.m2_tree.specs.declared.decl.Field.{Field, Field-F, out-Field, roll-Field, out-roll-Field, map-Field, fold_out-Field}
 use Rattle.check_scope.specs.declared.fault.Fault.{Fault}
 use Rattle.check_scope.specs.declared.scope.Scope.{Scope}
-use Rattle.m2_types.specs.Marking.{Marks, marked_later, marked_simple, then_marks, type_layer, field_layer, marked_in, marked_field, marked_constant, marked_type, marked_variables, marked_def}
+use Rattle.check_definition.specs.Marking.{Marks, marked_later, marked_simple, then_marks, type_layer, field_layer, marked_in, marked_field, marked_constant, marked_type, marked_variables, marked_def}
 use Rattle.law_least_definition.specs.Beside.{Pairwise, known_later, known_ahead, ScopeBeside}
 use Rattle.law_least_definition.proofs.Forms.{fold_pairwise, fold_keeps, pairwise_maps, carry}
 use Rattle.law_least_definition.proofs.Scopes.{marked_beside}

@@ -13,10 +13,10 @@ use Rattle.check_scope.specs.declared.known.Known.{Known}
 use Rattle.check_scope.specs.declared.known.Origin.TheVariants as origin
 use Rattle.check_scope.specs.declared.scope.Scope.{Scope}
 use Rattle.check_scope.specs.Elaborated.{every, least}
-use Rattle.m2_types.specs.Predeclared.{console}
-use Rattle.m2_types.specs.Importing.{numbered_modules}
-use Rattle.m2_types.specs.Export.{with_export, exports, reached_of, imported_modules}
-use Rattle.m2_types.specs.Compiled.{table_of, table_or, declared_in, of_definition, of_contents, compiled}
+use Rattle.check_definition.specs.Predeclared.{console}
+use Rattle.check_definition.specs.Importing.{numbered_modules}
+use Rattle.check_definition.specs.Export.{with_export, exports, reached_of, imported_modules}
+use Rattle.check_definition.specs.Compiled.{table_of, table_or, declared_in, of_definition, of_contents, compiled}
 use Rattle.law_least_definition.specs.Least.{Reports, fine, is_refused}
 use Rattle.law_least_definition.specs.Beside.{Pairwise, known_later, known_ahead, known_begun, known_headed, known_declared, EntryBeside, entry, ScopeBeside, scopes, StateBeside}
 use Rattle.law_least_definition.proofs.Forms.{reported_reports, fold_pairwise}

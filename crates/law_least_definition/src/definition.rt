@@ -2,7 +2,7 @@
 
 ghost use Rattle.std.specs.Prelude.{◌≡◌, IfOk};
 ghost use Rattle.check_scope.specs.Elaborated.{every, least};
-ghost use Rattle.m2_types.specs.Compiled.{compiled};
+ghost use Rattle.check_definition.specs.Compiled.{compiled};
 ghost use Rattle.law_least_definition.specs.Least.{Reports};
 
 use check_scope::Elaborated;
@@ -10,7 +10,7 @@ use m2_tree::{Items, Module};
 use std::alloc::{AllocError, Global};
 use typed_tree::{Shared, Table};
 
-/// What `m2_types::compile_definition` answers. It is a table exactly where no rule is broken, and else the least of
+/// What `check_definition::compile_definition` answers. It is a table exactly where no rule is broken, and else the least of
 /// all rules that are, by place and then by number.
 pub fn compile_definition(
     alloc: Global,
@@ -23,5 +23,5 @@ pub fn compile_definition(
     // It is reported beside all broken rules.
     ensures reported { IfOk result (λ j. Reports j (compiled every number tree.now imports)) }
 {
-    m2_types::compile_definition(alloc, number, tree, imports)
+    check_definition::compile_definition(alloc, number, tree, imports)
 }

@@ -2,10 +2,10 @@
 use Rattle.std.proofs.Common.{◌≡◌, ◌⊎◌, ⊎_elim, ℕ, ◌+◌, ◌≤◌, List, [], ◌∷◌, ◌++◌, length, Some, subst, inl, inr, arith}
 use Rattle.law_effect.specs.Bytes.{copied_bytes, cleared_bytes}
 use Rattle.law_effect.proofs.Bytes.{copied_length, copied_small, copied_only, copied_moved, cleared_length, cleared_small, cleared_only, cleared_zero}
-use Rattle.m2_layout.specs.Types.{Ty, row, component, IsPlain, IsFit}
+use Rattle.layout_storage.specs.Types.{Ty, row, component, IsPlain, IsFit}
 use Rattle.def_meaning.specs.Around.{Modules}
 use Rattle.def_meaning.specs.Store.{Location, Store, placed, copied, fresh}
-use Rattle.m2_layout.specs.Sizes.{size, offset}
+use Rattle.layout_storage.specs.Sizes.{size, offset}
 use Rattle.law_memory.specs.Relation.{Shows, Holds}
 use Rattle.law_memory.proofs.Places.{same_or_apart, inside}
 use Rattle.law_memory.proofs.Keeps.{shows_at, shows_moved}

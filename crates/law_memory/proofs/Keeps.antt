@@ -2,10 +2,10 @@
 use Rattle.std.proofs.Common.{◌≡◌, ⊎_elim, ℕ, zero, suc, ◌+◌, ℤ, List, [], ◌∷◌, ◌++◌, Option, Some, None, refl, sym, ap, ◌∙◌, subst, inl, inr, arith, append-nil}
 use Rattle.std.proofs.lemmas.Option.{none-some}
 use Rattle.law_effect.specs.Bytes.{byte, AreMoved, IsOnly}
-use Rattle.m2_layout.specs.Types.{Ty, Scalar, Cell, Hidden, component}
+use Rattle.layout_storage.specs.Types.{Ty, Scalar, Cell, Hidden, component}
 use Rattle.def_meaning.specs.Around.{Modules}
 use Rattle.def_meaning.specs.Store.{Location, behind}
-use Rattle.m2_layout.specs.Sizes.{size, offset, width, value_of}
+use Rattle.layout_storage.specs.Sizes.{size, offset, width, value_of}
 use Rattle.law_memory.specs.Cells.{number}
 use Rattle.law_memory.specs.Relation.{Says, Shows, Hides}
 use Rattle.law_memory.proofs.Places.{behind_is, behind_append, component_append, offset_append, inside, apart, AreApart}

@@ -2,9 +2,9 @@
 use Rattle.std.proofs.Common.{◌≡◌, ◌⊎◌, ⊎_elim, ℕ, zero, suc, ◌+◌, ◌*◌, ◌<◌, ◌≤◌, [], ◌∷◌, ◌++◌, Option, Some, None, Bool, true, false, nat_lt, nat_eq, if◌then◌else◌, refl, sym, ap, ◌∙◌, subst, inl, inr, arith, mul-le-mul_right, append-nil}
 use Rattle.std.proofs.lemmas.Bool.{ltb-true, eq-eqb, ne_eqb, eqb-true, cases_eq, cases_order}
 use Rattle.std.proofs.lemmas.Option.{none-some, same_Some}
-use Rattle.m2_layout.specs.Types.{Ty, Cell, Hidden, Array, Nothing, Field, component}
+use Rattle.layout_storage.specs.Types.{Ty, Cell, Hidden, Array, Nothing, Field, component}
 use Rattle.def_meaning.specs.Store.{Location, behind}
-use Rattle.m2_layout.specs.Sizes.{size, offset}
+use Rattle.layout_storage.specs.Sizes.{size, offset}
 
 -- element i of n lies inside
 pub element_inside : (i n s : ℕ) → i < n → i * s + s ≤ n * s

@@ -3,10 +3,10 @@ use Rattle.std.proofs.Common.{◌≡◌, ℕ, zero, suc, ◌+◌, ◌<◌, ◌�
 use Rattle.std.proofs.lemmas.Bool.{ne_eqb}
 use Rattle.std.proofs.lemmas.Option.{none-some, same_Some}
 use Rattle.law_effect.specs.Bytes.{byte, AreMoved, IsOnly}
-use Rattle.m2_layout.specs.Types.{Ty, Scalar, Callable, Cell, Hidden, Array, Nothing, Field, Heading, row, component, IsOf, IsScalar, IsPlain}
+use Rattle.layout_storage.specs.Types.{Ty, Scalar, Callable, Cell, Hidden, Array, Nothing, Field, Heading, row, component, IsOf, IsScalar, IsPlain}
 use Rattle.def_meaning.specs.Around.{Modules}
 use Rattle.def_meaning.specs.Store.{Location, Store, behind, placed, chosen, assigned, copied}
-use Rattle.m2_layout.specs.Sizes.{size, offset, width}
+use Rattle.layout_storage.specs.Sizes.{size, offset, width}
 use Rattle.law_memory.specs.Cells.{word, fetched, put}
 use Rattle.law_memory.specs.Relation.{IsProcedureValue, Means, Says, Shows, Hides, Holds}
 use Rattle.law_memory.proofs.Places.{when, behind_append, inside}

@@ -7,8 +7,8 @@ use Rattle.wasm_tree.specs.declared.instr.StoreWidth.TheVariants as width
 use Rattle.wasm_tree.specs.Numbers.{load_size, loaded, stored}
 use Rattle.wasm_tree.specs.Machine.{bytes_at, pasted}
 use Rattle.law_effect.specs.Bytes.{byte}
-use Rattle.m2_layout.specs.Types.{Scalar, Natural, Integer, Between, Callable}
-use Rattle.m2_layout.specs.Sizes.{Room, One, Two, Four, room_of}
+use Rattle.layout_storage.specs.Types.{Scalar, Natural, Integer, Between, Callable}
+use Rattle.layout_storage.specs.Sizes.{Room, One, Two, Four, room_of}
 
 -- the number in k bytes from place a on
 unfoldable pub number : (k a : ℕ) → List ℕ → ℕ

@@ -5,10 +5,10 @@ use Rattle.wasm_tree.specs.declared.instr.Load.TheVariants as load
 use Rattle.wasm_tree.specs.Numbers.{loaded}
 use Rattle.wasm_tree.specs.Machine.{bytes_at, pasted}
 use Rattle.law_effect.specs.Bytes.{copied_bytes, cleared_bytes}
-use Rattle.m2_layout.specs.Types.{Ty, Scalar, Natural, Callable, Cell, Hidden, Heading, row, frame_of, component, IsScalar, IsOf, IsPlain, IsFit}
+use Rattle.layout_storage.specs.Types.{Ty, Scalar, Natural, Callable, Cell, Hidden, Heading, row, frame_of, component, IsScalar, IsOf, IsPlain, IsFit}
 use Rattle.def_meaning.specs.Around.{Modules}
 use Rattle.def_meaning.specs.Store.{Location, Store, placed, assigned, copied, fresh}
-use Rattle.m2_layout.specs.Sizes.{Four, size, offset}
+use Rattle.layout_storage.specs.Sizes.{Four, size, offset}
 use Rattle.law_memory.specs.Cells.{word, stored_in, fetched, put}
 use Rattle.law_memory.specs.Relation.{IsProcedureValue, Means, Holds, Keeps}
 

@@ -9,11 +9,11 @@ use Rattle.typed_tree.specs.declared.typed_module.Routine.{Routine}
 use Rattle.typed_tree.specs.declared.typed_module.TypedModule.{TypedModule}
 use Rattle.typed_tree.specs.declared.types.TypeNo.{TypeNo}
 use Rattle.typed_tree.specs.Known.{made_at}
-use Rattle.m2_layout.specs.Types.{Ty, Scalar, Natural, Integer, Between, Callable, Cell, Hidden, Heading, row, component, IsOf}
-use Rattle.m2_layout.specs.Shapes.{heading_tree, known_trees}
+use Rattle.layout_storage.specs.Types.{Ty, Scalar, Natural, Integer, Between, Callable, Cell, Hidden, Heading, row, component, IsOf}
+use Rattle.layout_storage.specs.Shapes.{heading_tree, known_trees}
 use Rattle.def_meaning.specs.Around.{Modules, entries_before}
 use Rattle.def_meaning.specs.Store.{Location, Store}
-use Rattle.m2_layout.specs.Sizes.{width, value_of, size, offset}
+use Rattle.layout_storage.specs.Sizes.{width, value_of, size, offset}
 use Rattle.law_memory.specs.Cells.{number}
 
 -- ---- procedures as values

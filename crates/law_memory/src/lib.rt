@@ -1,6 +1,6 @@
 //! Memory that holds a store, and what the helpers do with it. There is no code here but what names the laws.
 //!
-//! - `specs/Cells` says what code does with a cell; the sizes of types and the offsets of components stand in `m2_layout`.
+//! - `specs/Cells` says what code does with a cell; the sizes of types and the offsets of components stand in `layout_storage`.
 //! - `specs/Relation` says when a memory holds a store: the instances that live stand one after another from address 0.
 //! - `specs/Laws` says what holds after a read, a write, a copy, a call's begin and its end.
 //! - `specs/Called` says what calls of copy, fill, check, div and mod do, and calls through the table.

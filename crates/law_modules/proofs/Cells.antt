@@ -13,8 +13,8 @@ use Rattle.typed_tree.specs.declared.types.Home.{Home}
 use Rattle.typed_tree.specs.declared.types.Home.TheVariants.{Predeclared, Module}
 use Rattle.typed_tree.specs.declared.types.TypeNo.{TypeNo}
 use Rattle.typed_tree.specs.Known.{in_list, is_result_shape, is_result_made, is_result_from, is_result, predeclared_scalar}
-use Rattle.m2_layout.specs.Types.{Ty, Cell, Hidden, Array, Nothing, Field}
-use Rattle.m2_layout.specs.Shapes.{Trees, scalar_tree, shape_tree, with_made, module_trees, with_module, other_trees, known_trees, in_module, or_nothing, tree_from, tree}
+use Rattle.layout_storage.specs.Types.{Ty, Cell, Hidden, Array, Nothing, Field}
+use Rattle.layout_storage.specs.Shapes.{Trees, scalar_tree, shape_tree, with_made, module_trees, with_module, other_trees, known_trees, in_module, or_nothing, tree_from, tree}
 
 abbrev pub is_cell : Ty → Bool
 is_cell (Cell c) = true

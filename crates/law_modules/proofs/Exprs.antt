@@ -35,10 +35,10 @@ use Rattle.typed_tree.specs.declared.known_types.Types.{Types}
 use Rattle.typed_tree.specs.declared.meaning.Procedure.{Procedure}
 use Rattle.typed_tree.specs.declared.types.TypeNo.{TypeNo}
 use Rattle.typed_tree.specs.Types.{are_same, integer}
-use Rattle.m2_layout.specs.Frames.{formals_of}
-use Rattle.m2_layout.specs.Sizes.{offset}
-use Rattle.m2_layout.specs.Shapes.{tree}
-use Rattle.m2_layout.specs.Texts.{passed}
+use Rattle.layout_storage.specs.Frames.{formals_of}
+use Rattle.layout_storage.specs.Sizes.{offset}
+use Rattle.layout_storage.specs.Shapes.{tree}
+use Rattle.layout_storage.specs.Texts.{passed}
 use Rattle.def_scheme.specs.Coded.{Coded, plain, ◌⨾◌, all_coded, with_number, top_local, raised, operation, wrapped, extended}
 use Rattle.def_scheme.specs.Cells.{loaded, in_type, check_taken}
 use Rattle.def_scheme.specs.Exprs.{Part, Linked, all_arguments, has_result, is_own, relation_of, arithmetic_code, include_code, absolute_code, capital_code, ord_check, behind, procedure_code, high_code, chain_code, argument_layer, call_layer, component_layer, link_layer, expr_layer, root_layer, root_layer, with_code, global_code, slot_code, kept_address, open_address, open_element_code, element_code, high_index, top_code, indirect, module_call, nested_call, value_call, slots_global, slot_number, expr_part, place_code, call_code}

@@ -19,11 +19,11 @@ use Rattle.typed_tree.specs.declared.statement.TypedStmt.{TypedStmt}
 use Rattle.typed_tree.specs.declared.typed_module.Routine.{Routine}
 use Rattle.typed_tree.specs.declared.typed_module.Which.{Which}
 use Rattle.typed_tree.specs.declared.typed_module.TypedModule.{TypedModule}
-use Rattle.m2_layout.specs.Types.{Ty, Cell, Hidden, Array, Nothing, Field, frame_of}
-use Rattle.m2_layout.specs.Sizes.{size, offset}
-use Rattle.m2_layout.specs.Shapes.{tree}
-use Rattle.m2_layout.specs.Frames.{formals_of, frame}
-use Rattle.m2_layout.specs.Texts.{characters, routines_texts, texts_before}
+use Rattle.layout_storage.specs.Types.{Ty, Cell, Hidden, Array, Nothing, Field, frame_of}
+use Rattle.layout_storage.specs.Sizes.{size, offset}
+use Rattle.layout_storage.specs.Shapes.{tree}
+use Rattle.layout_storage.specs.Frames.{formals_of, frame}
+use Rattle.layout_storage.specs.Texts.{characters, routines_texts, texts_before}
 use Rattle.def_scheme.specs.Scheme.{type_from}
 use Rattle.def_scheme.specs.Coded.{Counts, wrapped, extended, copy, fill, fault}
 use Rattle.def_scheme.specs.Cells.{word}

@@ -17,7 +17,7 @@ use Rattle.wasm_tree.specs.declared.store.Instance.{Instance}
 use Rattle.wasm_tree.specs.declared.store.Store.{Store}
 use Rattle.wasm_tree.specs.Linking.{each, Linked, with_functions, with_global, with_import, with_table, with_memory, with_element, with_segment, linked_one, host_store, no_instance, named}
 use Rattle.typed_tree.specs.declared.typed_module.TypedModule.{TypedModule}
-use Rattle.m2_layout.specs.Texts.{characters, module_texts}
+use Rattle.layout_storage.specs.Texts.{characters, module_texts}
 use Rattle.def_scheme.specs.Scheme.{constant_global, imported_globals, host_imports, base_name, text_name, tab_name, from_link, from_host, at_least_one}
 use Rattle.def_scheme.specs.Modules.{slots, imports, part_of, globals_from, typed_module, typed_link}
 use Rattle.law_modules.specs.Linked.{Program, names, imported_names, all, variables, values, filled, image, places, base_at, text_at, tab_at, own_places, imported_places, slots_in, bytes_in, store, IsAmong}

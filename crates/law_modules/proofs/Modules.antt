@@ -12,7 +12,7 @@ use Rattle.typed_tree.specs.declared.typed_module.Routine.{Routine}
 use Rattle.typed_tree.specs.declared.typed_module.Which.{Which}
 use Rattle.typed_tree.specs.declared.typed_module.Which.TheVariants as which
 use Rattle.typed_tree.specs.declared.typed_module.TypedModule.{TypedModule}
-use Rattle.m2_layout.specs.Texts.{module_texts}
+use Rattle.layout_storage.specs.Texts.{module_texts}
 use Rattle.def_scheme.specs.Scheme.{imported_globals, host_imports}
 use Rattle.def_scheme.specs.Coded.{body_index}
 use Rattle.def_scheme.specs.Functions.{routine_function, functions_from}

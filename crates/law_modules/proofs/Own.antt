@@ -15,7 +15,7 @@ use Rattle.typed_tree.specs.declared.typed_module.Which.{Which}
 use Rattle.typed_tree.specs.declared.typed_module.Which.TheVariants as which
 use Rattle.typed_tree.specs.declared.typed_module.Imported.{Imported}
 use Rattle.typed_tree.specs.declared.typed_module.TypedModule.{TypedModule}
-use Rattle.m2_layout.specs.Frames.{formals_of}
+use Rattle.layout_storage.specs.Frames.{formals_of}
 use Rattle.def_scheme.specs.Scheme.{type_from, imported_globals, host_imports}
 use Rattle.def_scheme.specs.Coded.{put, stop, copy, fill, check, quotient, remainder, body_index}
 use Rattle.def_scheme.specs.Exprs.{Numbered, all_arguments, has_result}

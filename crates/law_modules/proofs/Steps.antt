@@ -22,8 +22,8 @@ use Rattle.typed_tree.specs.declared.statement.TypedStmt.TheVariants as stmt
 use Rattle.typed_tree.specs.declared.known_types.Types.{Types}
 use Rattle.typed_tree.specs.declared.types.TypeNo.{TypeNo}
 use Rattle.typed_tree.specs.Types.{char, bitset}
-use Rattle.m2_layout.specs.Sizes.{size}
-use Rattle.m2_layout.specs.Shapes.{tree}
+use Rattle.layout_storage.specs.Sizes.{size}
+use Rattle.layout_storage.specs.Shapes.{tree}
 use Rattle.def_scheme.specs.Scheme.{type_from}
 use Rattle.def_scheme.specs.Coded.{Coded, plain, all_coded, with_setting, number, relation, operation, wrapped, is_zero, put, copy, fill, fault}
 use Rattle.def_scheme.specs.Cells.{loaded, stored, in_type, check_taken}

@@ -11,7 +11,7 @@ use Rattle.wasm_tree.specs.declared.store.Instance.{Instance}
 use Rattle.wasm_tree.specs.declared.store.Value.TheVariants.{I32}
 use Rattle.wasm_tree.specs.Linking.{named}
 use Rattle.typed_tree.specs.declared.typed_module.TypedModule.{TypedModule}
-use Rattle.m2_layout.specs.Texts.{Texts, characters, module_texts}
+use Rattle.layout_storage.specs.Texts.{Texts, characters, module_texts}
 use Rattle.def_scheme.specs.Scheme.{base_name, text_name, tab_name, exported_as}
 use Rattle.def_scheme.specs.Modules.{slots, all_characters, part_of, exports_from}
 use Rattle.law_modules.specs.Linked.{Program, names, variables, text, count, values, own_from, somes_from, owns, filled, image, places, place_of, base_at, text_at, tab_at, module_instance, instances, link_instance, link_values, slots_in, bytes_in, IsAmong}

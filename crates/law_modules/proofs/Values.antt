@@ -16,7 +16,7 @@ use Rattle.typed_tree.specs.declared.computed.Place.{Place, Place-F, out-Place}
 use Rattle.typed_tree.specs.declared.computed.TypedExpr.{TypedExpr, TypedExpr-F, out-TypedExpr}
 use Rattle.typed_tree.specs.declared.computed.TypedExpr.TheVariants as expr
 use Rattle.typed_tree.specs.declared.shape.Formal.{Formal}
-use Rattle.m2_layout.specs.Frames.{formals_of}
+use Rattle.layout_storage.specs.Frames.{formals_of}
 use Rattle.def_scheme.specs.Coded.{all_coded}
 use Rattle.def_scheme.specs.Exprs.{all_arguments, arguments_of, is_own, chain_code}
 use Rattle.def_scheme.specs.Signatures.{Signatures, Signature, signature, of_heading, joined, is_among, so_many, results_of, type_of, of_expr, of_place, of_call}

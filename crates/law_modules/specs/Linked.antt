@@ -13,9 +13,9 @@ use Rattle.wasm_tree.specs.Validity.{AreDistinct}
 use Rattle.wasm_tree.specs.Machine.{Activation, Going}
 use Rattle.wasm_tree.specs.Linking.{link}
 use Rattle.typed_tree.specs.declared.typed_module.TypedModule.{TypedModule}
-use Rattle.m2_layout.specs.Sizes.{size}
-use Rattle.m2_layout.specs.Frames.{module_row}
-use Rattle.m2_layout.specs.Texts.{characters, module_texts}
+use Rattle.layout_storage.specs.Sizes.{size}
+use Rattle.layout_storage.specs.Frames.{module_row}
+use Rattle.layout_storage.specs.Texts.{characters, module_texts}
 use Rattle.def_scheme.specs.Modules.{slots, functions, all_characters, part_of, all_slots, stack_begin, calls_from, typed_module, typed_link}
 
 -- the modules that are reached, in start order

@@ -5,10 +5,10 @@ use Rattle.typed_tree.specs.declared.shape.Formal.{Formal}
 use Rattle.typed_tree.specs.declared.types.TypeNo.{TypeNo}
 use Rattle.typed_tree.specs.declared.known_types.Types.{Types}
 use Rattle.typed_tree.specs.declared.typed_module.Routine.{Routine}
-use Rattle.m2_layout.specs.Types.{Ty, Natural, Callable, Cell, Hidden, Array, Nothing, Field, Heading, row, frame_of, component}
-use Rattle.m2_layout.specs.Shapes.{tree}
-use Rattle.m2_layout.specs.Frames.{formals_of, formal_tree, frame}
-use Rattle.m2_layout.specs.Texts.{passed}
+use Rattle.layout_storage.specs.Types.{Ty, Natural, Callable, Cell, Hidden, Array, Nothing, Field, Heading, row, frame_of, component}
+use Rattle.layout_storage.specs.Shapes.{tree}
+use Rattle.layout_storage.specs.Frames.{formals_of, formal_tree, frame}
+use Rattle.layout_storage.specs.Texts.{passed}
 use Rattle.def_meaning.specs.Store.{Location, Store, placed, fresh, first_in}
 use Rattle.def_meaning.specs.Around.{Modules, Named, At, Elements, Passed, Number, Variable, Array as Whole, Text}
 use Rattle.def_meaning.specs.Statements.{character}

@@ -2,7 +2,7 @@
 use Rattle.std.proofs.Common.{◌≡◌, ℕ, zero, suc, ℤ, Bool, false, List, [], ◌∷◌, ◌++◌, length, Option, Some, None, refl, ap, subst, ◌∙◌}
 use Rattle.std.specs.Prelude.{slice_get, drop}
 use Rattle.typed_tree.specs.declared.computed.Slot.{Slot}
-use Rattle.m2_layout.specs.Types.{Ty, Scalar, Natural, Callable, Cell, Array, Heading}
+use Rattle.layout_storage.specs.Types.{Ty, Scalar, Natural, Callable, Cell, Array, Heading}
 use Rattle.def_meaning.specs.Around.{Modules, Named, At, Elements, Frames, Around, Passed, Number, Variable, Array as Whole, Text, or_empty, named}
 use Rattle.def_meaning.specs.Store.{Location}
 use Rattle.law_memory.specs.Relation.{IsProcedureValue}

@@ -5,8 +5,8 @@ use Rattle.std.proofs.lemmas.Bool.{eq-eqb}
 use Rattle.typed_tree.specs.declared.shape.Formal.{Formal}
 use Rattle.typed_tree.specs.declared.typed_module.Routine.{Routine}
 use Rattle.typed_tree.specs.declared.typed_module.TypedModule.{TypedModule}
-use Rattle.m2_layout.specs.Types.{Ty}
-use Rattle.m2_layout.specs.Frames.{formals_of, frame, module_row}
+use Rattle.layout_storage.specs.Types.{Ty}
+use Rattle.layout_storage.specs.Frames.{formals_of, frame, module_row}
 use Rattle.def_meaning.specs.Store.{Location}
 use Rattle.def_meaning.specs.Answer.{Outcome, storage_fault, no_return}
 use Rattle.def_meaning.specs.Around.{Modules, Around, Callee, Frames}

@@ -7,9 +7,9 @@ use Rattle.typed_tree.specs.declared.meaning.Variable.{Variable}
 use Rattle.typed_tree.specs.declared.typed_module.Imported.{Imported}
 use Rattle.typed_tree.specs.declared.typed_module.TypedModule.{TypedModule}
 use Rattle.typed_tree.specs.declared.typed_module.Which.TheVariants as which
-use Rattle.m2_layout.specs.Types.{Ty, Callable, Cell, Heading, row, frame_of, component}
-use Rattle.m2_layout.specs.Shapes.{tree}
-use Rattle.m2_layout.specs.Frames.{module_row}
+use Rattle.layout_storage.specs.Types.{Ty, Callable, Cell, Heading, row, frame_of, component}
+use Rattle.layout_storage.specs.Shapes.{tree}
+use Rattle.layout_storage.specs.Frames.{module_row}
 use Rattle.def_meaning.specs.Store.{Location, fresh, first_in}
 use Rattle.def_meaning.specs.Answer.{State, Outcome, Went, Left, Came, Stopped, Unfinished}
 use Rattle.def_meaning.specs.Around.{Modules, Around, module_place}

@@ -18,8 +18,8 @@ use Rattle.typed_tree.specs.declared.types.TypeNo.{TypeNo}
 use Rattle.typed_tree.specs.declared.known_types.Types.{Types}
 use Rattle.typed_tree.specs.Types.{char, bitset}
 use Rattle.typed_tree.specs.Known.{scalar_at}
-use Rattle.m2_layout.specs.Types.{Ty, Scalar, Natural, Callable, Cell, Array, Heading, component}
-use Rattle.m2_layout.specs.Shapes.{tree}
+use Rattle.layout_storage.specs.Types.{Ty, Scalar, Natural, Callable, Cell, Array, Heading, component}
+use Rattle.layout_storage.specs.Shapes.{tree}
 use Rattle.def_meaning.specs.Store.{Location, copied, placed}
 use Rattle.def_meaning.specs.Answer.{State, Answer, Gave, then_give, Outcome, Went, Came, Stopped, with_answer, range_fault, overflow, case_fault, halted}
 use Rattle.def_meaning.specs.Around.{Modules, Around}

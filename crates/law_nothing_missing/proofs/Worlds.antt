@@ -2,7 +2,7 @@
 use Rattle.std.proofs.Common.{◌≡◌, ℕ, zero, suc, ℤ, Bool, true, false, nat_eq, List, [], ◌∷◌, ◌++◌, length, Option, Some, None, if◌then◌else◌, refl, sym, ap, subst, ◌∙◌}
 use Rattle.std.specs.Prelude.{slice_get, ◌&&◌}
 use Rattle.std.proofs.lemmas.Bool.{eqb-true, eq-eqb}
-use Rattle.m2_layout.specs.Types.{Ty, Callable, Cell, Hidden, Array, Nothing, Field, Heading, row, component}
+use Rattle.layout_storage.specs.Types.{Ty, Callable, Cell, Hidden, Array, Nothing, Field, Heading, row, component}
 use Rattle.def_meaning.specs.Around.{Modules}
 use Rattle.def_meaning.specs.Store.{Location, Store, behind, placed}
 use Rattle.law_memory.specs.Relation.{IsProcedureValue}

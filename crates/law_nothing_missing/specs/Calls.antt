@@ -4,10 +4,10 @@ use Rattle.std.specs.Prelude.{ℕ, zero, suc, ◌-◌, ◌==◌, ℤ, Bool, true
 use Rattle.typed_tree.specs.declared.shape.Formal.{Formal}
 use Rattle.typed_tree.specs.declared.known_types.Types.{Types}
 use Rattle.typed_tree.specs.declared.statement.TypedStmt.{TypedStmt}
-use Rattle.m2_layout.specs.Types as layout
-use Rattle.m2_layout.specs.Shapes.{tree}
-use Rattle.m2_layout.specs.Frames.{formals_of, frame}
-use Rattle.m2_layout.specs.Texts.{passed}
+use Rattle.layout_storage.specs.Types as layout
+use Rattle.layout_storage.specs.Shapes.{tree}
+use Rattle.layout_storage.specs.Frames.{formals_of, frame}
+use Rattle.layout_storage.specs.Texts.{passed}
 use Rattle.def_meaning.specs.Answer.{State, Answer, Ended, Running, Outcome, Left, storage_fault}
 use Rattle.def_meaning.specs.Around.{Modules, Around, Callee, Passed, Number, Variable, Array, Text}
 use Rattle.def_meaning.specs.Expressions.{Asks}

@@ -1,7 +1,7 @@
 -- The run of a program, where nothing that it asks for may be missing.
 use Rattle.std.specs.Prelude.{ℕ, suc, ◌-◌, false, [], ◌∷◌, ◌++◌, map}
-use Rattle.m2_layout.specs.Types.{frame_of}
-use Rattle.m2_layout.specs.Frames.{module_row}
+use Rattle.layout_storage.specs.Types.{frame_of}
+use Rattle.layout_storage.specs.Frames.{module_row}
 use Rattle.def_meaning.specs.Answer.{State, Outcome, Left, Stopped}
 use Rattle.def_meaning.specs.Around.{Modules}
 use Rattle.def_meaning.specs.Runs as meaning

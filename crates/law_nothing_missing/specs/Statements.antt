@@ -14,7 +14,7 @@ use Rattle.def_meaning.specs.Operators.{is_true}
 use Rattle.def_meaning.specs.Around.{Modules}
 use Rattle.def_meaning.specs.Expressions.{Asks, Gives, within, as_type}
 use Rattle.def_meaning.specs.Statements.{Does, Arm, in_turn, if_there, or_else, chosen, stored, character, while_true, until_true, looped, for_all, base_of, changed, rechecked, with_element}
-use Rattle.m2_layout.specs.Types.{Ty}
+use Rattle.layout_storage.specs.Types.{Ty}
 use Rattle.law_nothing_missing.specs.Worlds.{World, type_at, has_room, is_like}
 use Rattle.law_nothing_missing.specs.Expressions.{is_ranged, lacks, provided, at_cell, as_type as taken_as, value, locate, called}
 

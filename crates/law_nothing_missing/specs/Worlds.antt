@@ -1,6 +1,6 @@
 -- What is there while a program runs: the instances that live, by their types.
 use Rattle.std.specs.Prelude.{ℕ, nat_eq, nat_lt, Bool, true, false, not, ◌&&◌, List, [], ◌∷◌, Option, Some, None, slice_get}
-use Rattle.m2_layout.specs.Types.{Ty, Cell, Hidden, Array, Nothing, Field, component}
+use Rattle.layout_storage.specs.Types.{Ty, Cell, Hidden, Array, Nothing, Field, component}
 use Rattle.def_meaning.specs.Store.{Location}
 
 -- the instances are numbered from 0

@@ -16,19 +16,19 @@ use Rattle.typed_tree.specs.declared.shape.Made.{Made}
 use Rattle.typed_tree.specs.declared.shape.Shape.{Shape}
 use Rattle.typed_tree.specs.declared.types.TypeNo.{TypeNo}
 use Rattle.typed_tree.specs.Known.{made_at}
-use Rattle.m2_layout.specs.Shapes.{tree}
+use Rattle.layout_storage.specs.Shapes.{tree}
 use Rattle.check_scope.specs.Elaborated.{Gathers}
 use Rattle.check_scope.specs.declared.known.Known.{Known}
 use Rattle.check_scope.specs.declared.scope.Scope.{Scope}
-use Rattle.m2_layout.specs.Frames.{formals_in, formals_made}
+use Rattle.layout_storage.specs.Frames.{formals_in, formals_made}
 use Rattle.law_simulation.specs.Passing.{Result as Gives, result_in, result_made}
 use Rattle.check_type_expr.specs.Headings.{result_of}
 use Rattle.check_block.specs.Inner.{inwards}
 use Rattle.check_block.specs.Naming.{marked_decl, with_marks}
 use Rattle.check_block.specs.Declarations.{Course, Declared, with_decl, declared_block}
-use Rattle.m2_check.specs.declared.routine.Numbered.{Numbered}
-use Rattle.m2_check.specs.Routines.{numbered_by, numbered_known}
-use Rattle.m2_check.specs.Inside.{returns_of}
+use Rattle.check_body.specs.declared.routine.Numbered.{Numbered}
+use Rattle.check_body.specs.Routines.{numbered_by, numbered_known}
+use Rattle.check_body.specs.Inside.{returns_of}
 use Rattle.law_well_formed.proofs.ScopesDeclarations.{decl_reported}
 use Rattle.law_well_formed.specs.FormedHeadings.{heading_in, HeadingStands}
 use Rattle.law_well_formed.proofs.Headings.{headings_stay}

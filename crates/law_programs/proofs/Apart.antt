@@ -27,7 +27,7 @@ use Rattle.check_block.specs.declared.heading.Standing.TheVariants.{Free, Awaite
 use Rattle.check_block.specs.Headings.{name_standing, nothing_made, nested_meaning, headed, module_procedure, with_new, headed_as, with_heading}
 use Rattle.check_block.specs.Naming.{marked_decl, with_marks}
 use Rattle.check_block.specs.Declarations.{Course, decl_layer, with_decl, declared_block}
-use Rattle.m2_check.specs.Routines.{numbered_known}
+use Rattle.check_body.specs.Routines.{numbered_known}
 use Rattle.law_well_formed.specs.FormedScopes.{Leads}
 use Rattle.law_well_formed.proofs.Names.{found_self}
 use Rattle.law_well_formed.proofs.ScopesGrowth.{leads_refl, leads_then}

@@ -20,11 +20,11 @@ use Rattle.check_scope.specs.declared.known.Known.{Known}
 use Rattle.check_scope.specs.declared.known.Known.TheVariants.{Declared}
 use Rattle.check_scope.specs.declared.scope.Block.{Block as Around}
 use Rattle.check_scope.specs.declared.scope.Scope.{Scope}
-use Rattle.m2_types.specs.Importing.{module_named, with_module_as, with_module_name, with_entry, brings_in, reported_of_taken, unless_taken, from_place, with_from, exports_of, from_module, with_imports, with_import}
-use Rattle.m2_types.specs.Predeclared.{predeclared_block}
+use Rattle.check_definition.specs.Importing.{module_named, with_module_as, with_module_name, with_entry, brings_in, reported_of_taken, unless_taken, from_place, with_from, exports_of, from_module, with_imports, with_import}
+use Rattle.check_definition.specs.Predeclared.{predeclared_block}
 use Rattle.check_block.specs.declared.heading.Standing.TheVariants.{Awaited, Taken}
 use Rattle.check_block.specs.Headings.{standing_of, standing_known, name_standing}
-use Rattle.m2_check.specs.Own.{with_own_name, own_names, exported_headings}
+use Rattle.check_body.specs.Own.{with_own_name, own_names, exported_headings}
 use Rattle.law_well_formed.proofs.ImportsLists.{same_is}
 use Rattle.law_well_formed.proofs.Names.{found_self}
 use Rattle.law_well_formed.proofs.HeadingsLists.{found_other}

@@ -25,10 +25,10 @@ use Rattle.check_scope.specs.declared.known.Known.{Known}
 use Rattle.check_scope.specs.declared.known.Known.TheVariants.{Declared}
 use Rattle.check_scope.specs.declared.known.Origin.TheVariants.{Here}
 use Rattle.check_scope.specs.declared.scope.Scope.{Scope}
-use Rattle.m2_types.specs.Predeclared.{console, first_scope}
-use Rattle.m2_check.specs.Own.{with_own_name, exported_variables, implementation_scope}
-use Rattle.m2_check.specs.Checked.{of_implementation, of_contents}
-use Rattle.m2_check.specs.Checks.{elaborated}
+use Rattle.check_definition.specs.Predeclared.{console, first_scope}
+use Rattle.check_body.specs.Own.{with_own_name, exported_variables, implementation_scope}
+use Rattle.check_body.specs.Checked.{of_implementation, of_contents}
+use Rattle.check_body.specs.Checks.{elaborated}
 use Rattle.build_jobs.specs.Own.{own_table, tables_behind}
 use Rattle.build_jobs.specs.Compiling.{tables_of, typed_body}
 use Rattle.build_jobs.specs.Encoded.{needed_of}

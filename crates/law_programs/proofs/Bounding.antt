@@ -23,8 +23,8 @@ use Rattle.check_scope.specs.declared.known.Known.TheVariants.{Later, Ahead, Beg
 use Rattle.check_scope.specs.declared.scope.Block.{Block}
 use Rattle.check_scope.specs.declared.scope.Scope.{Scope}
 use Rattle.check_type_expr.specs.Headings.{formal_of}
-use Rattle.m2_types.specs.Predeclared.{predeclared_as, with_types, truth, with_truth, with_functions, with_bounds, with_procedures, predeclared, first_scope}
-use Rattle.m2_types.specs.Export.{with_meaning, with_declared, with_known, with_export, exports}
+use Rattle.check_definition.specs.Predeclared.{predeclared_as, with_types, truth, with_truth, with_functions, with_bounds, with_procedures, predeclared, first_scope}
+use Rattle.check_definition.specs.Export.{with_meaning, with_declared, with_known, with_export, exports}
 use Rattle.check_block.specs.declared.inner.Outside.{Outside}
 use Rattle.check_block.specs.Inner.{inwards, formal_kind, formal_meaning, Formals, with_formal, with_section, entered_procedure, split_last, popped, left_procedure}
 use Rattle.law_well_formed.specs.Formed.{Holds, fine, broken}

@@ -22,10 +22,10 @@ use Rattle.check_scope.specs.declared.known.Known.TheVariants.{Later, Ahead, Beg
 use Rattle.check_scope.specs.declared.known.Origin.{Origin}
 use Rattle.check_scope.specs.declared.known.Origin.TheVariants.{Here, Module, Export}
 use Rattle.check_scope.specs.declared.scope.Scope.{Scope}
-use Rattle.m2_types.specs.Importing.{module_found, with_module_as, with_module_name, with_entry, brings_in, reported_of_taken, unless_taken, from_place, with_from, exports_of, from_module, with_imports, with_import}
-use Rattle.m2_types.specs.Declare.{with_variable_type, with_procedure_type}
+use Rattle.check_definition.specs.Importing.{module_found, with_module_as, with_module_name, with_entry, brings_in, reported_of_taken, unless_taken, from_place, with_from, exports_of, from_module, with_imports, with_import}
+use Rattle.check_definition.specs.Declare.{with_variable_type, with_procedure_type}
 use Rattle.check_block.specs.Declarations.{declared_module}
-use Rattle.m2_check.specs.Own.{with_own_name, own_names}
+use Rattle.check_body.specs.Own.{with_own_name, own_names}
 use Rattle.law_well_formed.specs.Formed.{fine}
 use Rattle.law_well_formed.proofs.Basics.{holds_weaker}
 use Rattle.law_well_formed.specs.FormedScopes.{OpensNames, OpensImports}

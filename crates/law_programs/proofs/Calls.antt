@@ -44,8 +44,8 @@ use Rattle.check_call.specs.declared.callee.Called.{Called}
 use Rattle.check_call.specs.declared.callee.Called.TheVariants as called
 use Rattle.check_call.specs.declared.standard.Unary.{Unary}
 use Rattle.check_call.specs.declared.standard.Unary.TheVariants as unary
-use Rattle.m2_layout.specs.Shapes.{elements_of, tree}
-use Rattle.m2_layout.specs.Types.{Ty, Callable, Cell, Array}
+use Rattle.layout_storage.specs.Shapes.{elements_of, tree}
+use Rattle.layout_storage.specs.Types.{Ty, Callable, Cell, Array}
 use Rattle.def_scheme.specs.Cells.{base_of}
 use Rattle.law_simulation.specs.Scene.{AreAmong}
 use Rattle.law_simulation.specs.Passing.{Form, ByCopy, ByName, ByArray, value_form, form_of, forms_of, result_of}

@@ -29,7 +29,7 @@ use Rattle.check_scope.specs.declared.known.Origin.TheVariants.{Here}
 use Rattle.check_scope.specs.declared.scope.Scope.{Scope}
 use Rattle.check_operator.specs.Classes.{array_shape, array_made, array_at}
 use Rattle.check_type_expr.specs.Made.{with_shape, with_made}
-use Rattle.m2_types.specs.Declare.{with_variable_type, with_procedure_type}
+use Rattle.check_definition.specs.Declare.{with_variable_type, with_procedure_type}
 use Rattle.law_well_formed.specs.Formed.{Holds, fine, broken}
 use Rattle.law_well_formed.proofs.Basics.{holds_weaker, Grows}
 use Rattle.law_well_formed.proofs.Names.{get_more}

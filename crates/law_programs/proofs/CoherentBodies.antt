@@ -22,19 +22,19 @@ use Rattle.typed_tree.specs.declared.typed_module.Which.{Which}
 use Rattle.typed_tree.specs.Known.{in_list, made_in}
 use Rattle.check_scope.specs.Elaborated.{Gathers}
 use Rattle.check_scope.specs.declared.scope.Scope.{Scope}
-use Rattle.m2_types.specs.Predeclared.{console, first_scope}
-use Rattle.m2_types.specs.Importing.{numbered_modules}
-use Rattle.m2_types.specs.Declare.{with_variable_type, with_procedure_type}
+use Rattle.check_definition.specs.Predeclared.{console, first_scope}
+use Rattle.check_definition.specs.Importing.{numbered_modules}
+use Rattle.check_definition.specs.Declare.{with_variable_type, with_procedure_type}
 use Rattle.check_block.specs.Nesting.{procedure_ends}
 use Rattle.check_block.specs.Declarations.{declared_module}
-use Rattle.m2_check.specs.declared.routine.Bodies.{Bodies}
-use Rattle.m2_check.specs.Imports.{all_imports, typed_imports}
-use Rattle.m2_check.specs.Own.{exported_variables, implementation_scope}
-use Rattle.m2_check.specs.Routines.{typed_module}
-use Rattle.m2_check.specs.declared.procedure.Walk.{Walk}
-use Rattle.m2_check.specs.Elaborating.{Elaborates}
-use Rattle.m2_check.specs.Bodies.{Checked, ChecksBlock, Steps, with_body, steps_layer, block_layer, steps, checks_block, checks_decl}
-use Rattle.m2_check.specs.Checked.{walked, of_body, of_implementation, of_contents, checked}
+use Rattle.check_body.specs.declared.routine.Bodies.{Bodies}
+use Rattle.check_body.specs.Imports.{all_imports, typed_imports}
+use Rattle.check_body.specs.Own.{exported_variables, implementation_scope}
+use Rattle.check_body.specs.Routines.{typed_module}
+use Rattle.check_body.specs.declared.procedure.Walk.{Walk}
+use Rattle.check_body.specs.Elaborating.{Elaborates}
+use Rattle.check_body.specs.Bodies.{Checked, ChecksBlock, Steps, with_body, steps_layer, block_layer, steps, checks_block, checks_decl}
+use Rattle.check_body.specs.Checked.{walked, of_body, of_implementation, of_contents, checked}
 use Rattle.law_well_formed.specs.Formed.{Holds, fine, broken}
 use Rattle.law_well_formed.proofs.Basics.{then_holds, both_holds, any_holds, reported_holds}
 use Rattle.law_well_formed.proofs.ImportsWalks.{walk_keeps}

@@ -29,9 +29,9 @@ use Rattle.typed_tree.specs.declared.types.TypeNo.{TypeNo}
 use Rattle.typed_tree.specs.Chains.{linked_to, linked, rooted, behind}
 use Rattle.typed_tree.specs.Known.{scalar_at}
 use Rattle.typed_tree.specs.Types.{are_same, integer, cardinal, boolean, char, bitset}
-use Rattle.m2_layout.specs.Shapes.{tree, elements_of}
-use Rattle.m2_layout.specs.Texts.{passed, characters, texts_of, texts_at, texts_linked, texts_behind, texts_passed}
-use Rattle.m2_layout.specs.Types.{Ty, Scalar, Natural, Callable, Cell, Array, Heading, component}
+use Rattle.layout_storage.specs.Shapes.{tree, elements_of}
+use Rattle.layout_storage.specs.Texts.{passed, characters, texts_of, texts_at, texts_linked, texts_behind, texts_passed}
+use Rattle.layout_storage.specs.Types.{Ty, Scalar, Natural, Callable, Cell, Array, Heading, component}
 use Rattle.law_memory.specs.Relation.{heading_at}
 use Rattle.def_scheme.specs.Cells.{base_of}
 use Rattle.def_scheme.specs.Exprs.{Part, is_own, index_of, expr_layer, expr_part}

@@ -11,8 +11,8 @@ use Rattle.check_scope.specs.Scopes.{with_known}
 use Rattle.check_scope.specs.declared.known.Origin.TheVariants.{Here}
 use Rattle.check_scope.specs.declared.known.Known.TheVariants.{Declared}
 use Rattle.check_scope.specs.declared.scope.Scope.{Scope}
-use Rattle.m2_types.specs.Declare.{with_variable_type, with_procedure_type}
-use Rattle.m2_check.specs.Own.{with_variable_of}
+use Rattle.check_definition.specs.Declare.{with_variable_type, with_procedure_type}
+use Rattle.check_body.specs.Own.{with_variable_of}
 use Rattle.law_programs.proofs.Done.{done, InFront, Behind, next_done, next_front}
 
 -- numbers from n on, up to c

@@ -24,11 +24,11 @@ use Rattle.check_scope.specs.declared.known.Known.TheVariants.{Later, Ahead, Beg
 use Rattle.check_scope.specs.declared.scope.Scope.{Scope}
 use Rattle.check_type_expr.specs.Headings.{heading_of, names_of}
 use Rattle.check_type_expr.specs.Made.{nothing_of, with_made, type_of}
-use Rattle.m2_types.specs.Compiled.{declared_in}
-use Rattle.m2_types.specs.Declare.{begun_name, with_variable_type, finished_variable, with_constant, with_type, with_variables, procedure_meaning, with_procedure_type, declared_procedure, with_procedure, with_def}
-use Rattle.m2_types.specs.Importing.{with_import}
-use Rattle.m2_types.specs.Marking.{marked_later, marked_constant, marked_type, marked_variables, marked_def}
-use Rattle.m2_types.specs.Predeclared.{first_scope}
+use Rattle.check_definition.specs.Compiled.{declared_in}
+use Rattle.check_definition.specs.Declare.{begun_name, with_variable_type, finished_variable, with_constant, with_type, with_variables, procedure_meaning, with_procedure_type, declared_procedure, with_procedure, with_def}
+use Rattle.check_definition.specs.Importing.{with_import}
+use Rattle.check_definition.specs.Marking.{marked_later, marked_constant, marked_type, marked_variables, marked_def}
+use Rattle.check_definition.specs.Predeclared.{first_scope}
 use Rattle.law_well_formed.proofs.ImportsLists.{same_refl, same_is, or_left, or_right}
 use Rattle.law_well_formed.specs.FormedScopes.{picked}
 use Rattle.law_well_formed.proofs.Names.{found_self}

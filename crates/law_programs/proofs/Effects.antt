@@ -53,8 +53,8 @@ use Rattle.check_call.specs.declared.effect.Target.{Target}
 use Rattle.check_call.specs.declared.effect.Target.TheVariants as target
 use Rattle.check_expr.specs.Meanings.{Meant, formals_of, value_of, looked_at, actuals}
 use Rattle.check_expr.specs.Effects.{call_done, routine_done, changed_in, changed_by, set_in, member_by, halted, put_by, standard_done, done_as, done_by}
-use Rattle.m2_layout.specs.Types.{Ty, Natural, Callable, Cell, Array}
-use Rattle.m2_layout.specs.Shapes.{tree, elements_of}
+use Rattle.layout_storage.specs.Types.{Ty, Natural, Callable, Cell, Array}
+use Rattle.layout_storage.specs.Shapes.{tree, elements_of}
 use Rattle.def_scheme.specs.Cells.{base_of}
 use Rattle.law_simulation.specs.Scene.{IsCell}
 use Rattle.law_simulation.specs.Passing.{Result as Gives}

@@ -12,8 +12,8 @@ use Rattle.check_scope.specs.declared.known.Origin.TheVariants.{Here, Module, Ex
 use Rattle.check_scope.specs.declared.known.Known.{Known}
 use Rattle.check_scope.specs.declared.known.Known.TheVariants.{Later, Ahead, Begun, Headed, Declared}
 use Rattle.check_scope.specs.declared.scope.Scope.{Scope}
-use Rattle.m2_types.specs.Export.{with_known, with_export, exports}
-use Rattle.m2_check.specs.Own.{with_variable_of, with_exported_variable, exported_variables}
+use Rattle.check_definition.specs.Export.{with_known, with_export, exports}
+use Rattle.check_body.specs.Own.{with_variable_of, with_exported_variable, exported_variables}
 use Rattle.law_well_formed.specs.Formed.{Holds, fine}
 use Rattle.law_well_formed.proofs.ImportsLists.{same_is, each_entered}
 use Rattle.law_well_formed.specs.FormedTables.{IsExport, AreExports}

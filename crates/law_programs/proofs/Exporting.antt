@@ -11,9 +11,9 @@ use Rattle.check_scope.specs.declared.known.Origin.TheVariants as origin
 use Rattle.check_scope.specs.declared.known.Known.{Known}
 use Rattle.check_scope.specs.declared.known.Known.TheVariants.{Later, Ahead, Begun, Headed, Declared}
 use Rattle.check_scope.specs.declared.scope.Scope.{Scope}
-use Rattle.m2_types.specs.Predeclared.{first_scope}
-use Rattle.m2_types.specs.Export.{with_meaning, with_declared, with_known, with_export, exports}
-use Rattle.m2_check.specs.Own.{with_own_name, implementation_scope}
+use Rattle.check_definition.specs.Predeclared.{first_scope}
+use Rattle.check_definition.specs.Export.{with_meaning, with_declared, with_known, with_export, exports}
+use Rattle.check_body.specs.Own.{with_own_name, implementation_scope}
 use Rattle.law_well_formed.specs.Formed.{Holds, fine, broken}
 use Rattle.law_programs.specs.Carried.{NamesWords, ExportsWords, TablesWords, ScopeWords, MeaningSlot, KnownSlot, NamesSlots, ScopeSlots, ExportsFree}
 use Rattle.law_programs.proofs.Carrying.{words_more, slots_more}

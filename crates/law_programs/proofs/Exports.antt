@@ -18,12 +18,12 @@ use Rattle.typed_tree.specs.declared.typed_module.TypedModule.{TypedModule}
 use Rattle.typed_tree.specs.declared.typed_module.Which.{Which}
 use Rattle.m2_tree.specs.Names.{same_name}
 use Rattle.check_scope.specs.Elaborated.{least}
-use Rattle.m2_layout.specs.Types.{Ty, Hidden, row, component}
-use Rattle.m2_layout.specs.Frames.{module_row}
-use Rattle.m2_layout.specs.Shapes.{tree}
-use Rattle.m2_layout.specs.Texts.{characters, module_texts}
-use Rattle.m2_types.specs.Compiled as types
-use Rattle.m2_check.specs.Own.{exported_variables, exported_headings}
+use Rattle.layout_storage.specs.Types.{Ty, Hidden, row, component}
+use Rattle.layout_storage.specs.Frames.{module_row}
+use Rattle.layout_storage.specs.Shapes.{tree}
+use Rattle.layout_storage.specs.Texts.{characters, module_texts}
+use Rattle.check_definition.specs.Compiled as types
+use Rattle.check_body.specs.Own.{exported_variables, exported_headings}
 use Rattle.def_meaning.specs.Around.{module_place}
 use Rattle.def_scheme.specs.Exprs.{is_own, import_place, imported_row, variables_row}
 use Rattle.law_modules.specs.Linked.{Program}

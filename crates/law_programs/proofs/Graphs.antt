@@ -28,7 +28,7 @@ use Rattle.typed_tree.specs.declared.table.Table.{Table}
 use Rattle.typed_tree.specs.declared.typed_module.Imported.{Imported}
 use Rattle.typed_tree.specs.declared.typed_module.TypedModule.{TypedModule}
 use Rattle.check_scope.specs.Elaborated.{least}
-use Rattle.m2_check.specs.Checks.{elaborated}
+use Rattle.check_body.specs.Checks.{elaborated}
 use Rattle.law_modules.specs.Linked.{Program}
 use Rattle.law_simulation.specs.Knows.{IsCoherent}
 use Rattle.law_modules.specs.Ranges.{AreRanged}

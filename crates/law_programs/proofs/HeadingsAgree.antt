@@ -15,9 +15,9 @@ use Rattle.typed_tree.specs.declared.table.ModuleTypes.{ModuleTypes}
 use Rattle.typed_tree.specs.declared.table.Table.{Table}
 use Rattle.typed_tree.specs.declared.known_types.Types.{Types}
 use Rattle.typed_tree.specs.Known.{in_list, made_in, made_from, made_at}
-use Rattle.m2_layout.specs.Types.{Ty, Heading, Function, Takes}
-use Rattle.m2_layout.specs.Frames.{formals_in, formals_made}
-use Rattle.m2_layout.specs.Shapes.{passing_of, result_tree, heading_tree, known_trees, tree}
+use Rattle.layout_storage.specs.Types.{Ty, Heading, Function, Takes}
+use Rattle.layout_storage.specs.Frames.{formals_in, formals_made}
+use Rattle.layout_storage.specs.Shapes.{passing_of, result_tree, heading_tree, known_trees, tree}
 use Rattle.law_memory.specs.Relation.{heading_in, heading_made, heading_at}
 use Rattle.law_simulation.specs.Passing.{Form, ByName, ByArray, value_form, form_of, forms_of, result_in, result_made, result_of}
 use Rattle.law_well_formed.specs.Ordered.{result_named, named_by, is_known_from, is_known, AreKnown, OthersOrdered, BeginsWith, AreOrdered}

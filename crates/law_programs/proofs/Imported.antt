@@ -7,8 +7,8 @@ use Rattle.typed_tree.specs.declared.table.Table.{Table}
 use Rattle.typed_tree.specs.declared.typed_module.Imported.{Imported}
 use Rattle.m2_tree.specs.Names.{same_name, is_console}
 use Rattle.typed_tree.specs.Names.{found, entered}
-use Rattle.m2_types.specs.Importing.{with_place, with_numbered, numbered_modules}
-use Rattle.m2_check.specs.Imports.{imported_as, with_table_of, with_place_of, with_module_of, typed_imports}
+use Rattle.check_definition.specs.Importing.{with_place, with_numbered, numbered_modules}
+use Rattle.check_body.specs.Imports.{imported_as, with_table_of, with_place_of, with_module_of, typed_imports}
 use Rattle.law_well_formed.proofs.Names.{found_self}
 use Rattle.law_well_formed.proofs.Gathered.{each_more}
 

@@ -10,10 +10,10 @@ use Rattle.typed_tree.specs.declared.known_types.Types.{Types}
 use Rattle.typed_tree.specs.declared.typed_module.Imported.{Imported}
 use Rattle.m2_tree.specs.Names.{same_name, is_console}
 use Rattle.typed_tree.specs.Names.{found, entered}
-use Rattle.m2_types.specs.Importing.{numbered_modules}
-use Rattle.m2_types.specs.Export.{with_table_if, with_place_if, with_imported, with_imports_of, with_import_of, imported_modules}
-use Rattle.m2_check.specs.Own.{exported_variables}
-use Rattle.m2_check.specs.Imports.{with_import_copy, definition_imports, all_imports, imported_as, with_table_of, with_place_of, with_module_of, typed_imports}
+use Rattle.check_definition.specs.Importing.{numbered_modules}
+use Rattle.check_definition.specs.Export.{with_table_if, with_place_if, with_imported, with_imports_of, with_import_of, imported_modules}
+use Rattle.check_body.specs.Own.{exported_variables}
+use Rattle.check_body.specs.Imports.{with_import_copy, definition_imports, all_imports, imported_as, with_table_of, with_place_of, with_module_of, typed_imports}
 use Rattle.law_well_formed.proofs.ImportsLists.{same_is, each_entered, found_each}
 use Rattle.law_well_formed.proofs.NamedImports.{IsPlaced, numbered_placed}
 use Rattle.law_well_formed.specs.FormedKnown.{HasReached}

@@ -26,11 +26,11 @@ use Rattle.check_block.specs.Naming.{marked_layer, marked_decl, with_marks}
 use Rattle.check_block.specs.Nesting as nesting
 use Rattle.check_block.specs.Nesting.{joined, within_decl, within}
 use Rattle.check_block.specs.Declarations.{Course, Declared, decl_layer, with_decl, all_declared, declared_block}
-use Rattle.m2_check.specs.Routines.{numbered_known}
-use Rattle.m2_check.specs.declared.procedure.Walk.{Walk}
-use Rattle.m2_check.specs.Elaborating.{Elaborates, statements_of}
-use Rattle.m2_check.specs.Bodies.{ChecksBlock, Steps, marked_by, declared_by, steps_layer, block_layer, steps, checks_block}
-use Rattle.m2_check.specs.Checks.{elaborated}
+use Rattle.check_body.specs.Routines.{numbered_known}
+use Rattle.check_body.specs.declared.procedure.Walk.{Walk}
+use Rattle.check_body.specs.Elaborating.{Elaborates, statements_of}
+use Rattle.check_body.specs.Bodies.{ChecksBlock, Steps, marked_by, declared_by, steps_layer, block_layer, steps, checks_block}
+use Rattle.check_body.specs.Checks.{elaborated}
 use Rattle.law_simulation.specs.Passing.{Result as Gives}
 use Rattle.law_simulation.specs.TreesTyped.{Context}
 use Rattle.law_well_formed.specs.Formed.{Holds, fine}

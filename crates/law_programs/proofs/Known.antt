@@ -17,8 +17,8 @@ use Rattle.check_scope.specs.Scopes.{fields_shape, fields_made, fields_at}
 use Rattle.check_operator.specs.declared.class.Class.{Class}
 use Rattle.check_operator.specs.declared.class.Class.TheVariants as class
 use Rattle.check_operator.specs.Classes.{class_shape, class_made, class_range, class_from, class_at, signature_shape, signature_made, signature_at, array_shape, array_made, array_at}
-use Rattle.m2_layout.specs.Types.{Ty, Scalar, Natural, Callable, Cell, Array, Heading, row}
-use Rattle.m2_layout.specs.Shapes.{scalar_kind, elements_of, heading_tree, shape_tree, known_trees, tree}
+use Rattle.layout_storage.specs.Types.{Ty, Scalar, Natural, Callable, Cell, Array, Heading, row}
+use Rattle.layout_storage.specs.Shapes.{scalar_kind, elements_of, heading_tree, shape_tree, known_trees, tree}
 use Rattle.law_memory.specs.Relation.{heading_in, heading_made, heading_at}
 use Rattle.def_scheme.specs.Cells.{base_in, base_of, is_subrange, is_free}
 use Rattle.def_scheme.specs.Exprs.{index_shape, index_made, index_of}

@@ -27,7 +27,7 @@ use Rattle.check_operator.specs.declared.computed.Computed.TheVariants as value
 use Rattle.check_operator.specs.declared.computed.Designated.{Designated}
 use Rattle.check_operator.specs.declared.computed.Designated.TheVariants as designated
 use Rattle.check_expr.specs.Meanings.{Meant, meant}
-use Rattle.m2_layout.specs.Types.{Ty}
+use Rattle.layout_storage.specs.Types.{Ty}
 use Rattle.law_simulation.specs.Scene.{IsLabel, AreLabels}
 use Rattle.law_simulation.specs.TreesTyped.{Context}
 use Rattle.law_well_formed.specs.Formed.{Holds, fine, broken}

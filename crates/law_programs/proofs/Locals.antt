@@ -19,8 +19,8 @@ use Rattle.check_scope.specs.declared.scope.Scope.{Scope}
 use Rattle.check_type_expr.specs.declared.field.Fields.{Fields}
 use Rattle.check_type_expr.specs.Fields.{no_fields}
 use Rattle.check_type_expr.specs.Made.{next_type, with_shape, with_made, enumeration_constant, enumeration_scalar, too_many, listed, simple_type, index_type, Makes, MakesFields, then_fields, type_layer, field_layer, type_of, field_list}
-use Rattle.m2_types.specs.Marking.{Marks, marked_constant, marked_type, marked_variables, marked_later, marked_simple, then_marks, marked_in, marked_field}
-use Rattle.m2_types.specs.Marking as marking
+use Rattle.check_definition.specs.Marking.{Marks, marked_constant, marked_type, marked_variables, marked_later, marked_simple, then_marks, marked_in, marked_field}
+use Rattle.check_definition.specs.Marking as marking
 use Rattle.law_well_formed.specs.Formed.{Holds, fine, broken}
 use Rattle.law_well_formed.proofs.Basics.{then_holds, any_holds}
 use Rattle.m2_tree.specs.declared.decl.Constant.{Constant}
@@ -41,7 +41,7 @@ use Rattle.typed_tree.specs.Names.{found}
 use Rattle.check_const.specs.Parts.{constant}
 use Rattle.check_expr.specs.Meanings.{part}
 use Rattle.check_type_expr.specs.Headings.{heading_of}
-use Rattle.m2_types.specs.Declare.{constant_meaning, with_constant, brings_with, type_meaning, with_type, begun_name, with_variable_type, with_variables}
+use Rattle.check_definition.specs.Declare.{constant_meaning, with_constant, brings_with, type_meaning, with_type, begun_name, with_variable_type, with_variables}
 use Rattle.check_block.specs.declared.heading.Standing.{Standing}
 use Rattle.check_block.specs.declared.heading.Standing.TheVariants.{Free, Awaited, Taken}
 use Rattle.check_block.specs.Headings.{standing_of, standing_elaborated, name_standing, nested_meaning, headed, module_procedure, with_new, headed_as}

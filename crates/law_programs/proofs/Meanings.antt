@@ -63,8 +63,8 @@ use Rattle.check_call.specs.declared.standard.Form.{Form}
 use Rattle.check_call.specs.declared.standard.Form.TheVariants as form
 use Rattle.check_call.specs.declared.standard.Unary.{Unary}
 use Rattle.check_expr.specs.Meanings.{Meant, Picks, of_computed, signed_first, named, field_of, formals_of, passed_for, argument_by, call_given, as_constant, value_of, looked_at, with_actual, actuals, routine_called, unary, bound, conversion, high, by_form, called_as, called_by, factor, term, relation, expr_layer, selector_layer, designator_layer, item_layer, meant, picks, head, item}
-use Rattle.m2_layout.specs.Shapes.{tree}
-use Rattle.m2_layout.specs.Types.{Ty}
+use Rattle.layout_storage.specs.Shapes.{tree}
+use Rattle.layout_storage.specs.Types.{Ty}
 use Rattle.law_simulation.specs.Frames.{kind_at}
 use Rattle.law_simulation.specs.Passing.{Forms, form_of}
 use Rattle.law_simulation.specs.TreesTyped.{Context, GlobalRoot, LocalRoot, AliasRoot, WithRoot}

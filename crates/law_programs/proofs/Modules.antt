@@ -27,16 +27,16 @@ use Rattle.law_simulation.specs.Frames.{kinds_of}
 use Rattle.law_simulation.specs.Passing.{result_of}
 use Rattle.law_simulation.specs.Linked.{around_of}
 use Rattle.def_scheme.specs.Functions.{routine_of}
-use Rattle.m2_types.specs.Importing.{with_import}
+use Rattle.check_definition.specs.Importing.{with_import}
 use Rattle.check_block.specs.Naming.{with_marks}
 use Rattle.check_block.specs.Nesting as nesting
 use Rattle.check_block.specs.Nesting.{within_decl, within, ends_from, with_procedure_ends, with_decl_ends, procedure_ends}
 use Rattle.check_block.specs.Declarations.{Declared, all_declared, declared_block, reported_of_lack}
-use Rattle.m2_check.specs.Routines.{unfilled, no_bodies}
-use Rattle.m2_check.specs.declared.procedure.Walk.{Walk}
-use Rattle.m2_check.specs.Elaborating.{Elaborates, statements_of}
-use Rattle.m2_check.specs.Bodies.{Steps, marked_by, declared_by, steps}
-use Rattle.m2_check.specs.Checks.{elaborated}
+use Rattle.check_body.specs.Routines.{unfilled, no_bodies}
+use Rattle.check_body.specs.declared.procedure.Walk.{Walk}
+use Rattle.check_body.specs.Elaborating.{Elaborates, statements_of}
+use Rattle.check_body.specs.Bodies.{Steps, marked_by, declared_by, steps}
+use Rattle.check_body.specs.Checks.{elaborated}
 use Rattle.law_well_formed.specs.Formed.{Holds}
 use Rattle.law_well_formed.proofs.Basics.{holds_weaker}
 use Rattle.law_well_formed.specs.FormedScopes.{Leads}

@@ -32,13 +32,13 @@ use Rattle.check_scope.specs.declared.scope.Block.{Block as Around}
 use Rattle.check_scope.specs.declared.scope.Scope.{Scope}
 use Rattle.check_scope.specs.Elaborated.{least}
 use Rattle.check_const.specs.Denote.{exported_by, exported, member}
-use Rattle.m2_layout.specs.Types.{Hidden}
-use Rattle.m2_layout.specs.Texts.{characters, module_texts}
-use Rattle.m2_types.specs.Predeclared.{console, first_scope}
-use Rattle.m2_types.specs.Importing.{numbered_modules, exports_of}
+use Rattle.layout_storage.specs.Types.{Hidden}
+use Rattle.layout_storage.specs.Texts.{characters, module_texts}
+use Rattle.check_definition.specs.Predeclared.{console, first_scope}
+use Rattle.check_definition.specs.Importing.{numbered_modules, exports_of}
 use Rattle.check_block.specs.Nesting.{procedure_ends}
-use Rattle.m2_check.specs.Own.{implementation_scope}
-use Rattle.m2_check.specs.Checks.{elaborated}
+use Rattle.check_body.specs.Own.{implementation_scope}
+use Rattle.check_body.specs.Checks.{elaborated}
 use Rattle.def_meaning.specs.Around.{module_place}
 use Rattle.law_modules.specs.WellFormed.{IsProcedure}
 use Rattle.law_modules.specs.Linked.{Program}

@@ -10,9 +10,9 @@ use Rattle.typed_tree.specs.declared.known_types.Types.{Types}
 use Rattle.typed_tree.specs.declared.types.TypeNo.{TypeNo}
 use Rattle.check_scope.specs.declared.known.Known.{Known}
 use Rattle.check_scope.specs.declared.known.Known.TheVariants.{Later, Ahead, Begun, Headed, Declared}
-use Rattle.m2_layout.specs.Types.{Ty, row, component}
-use Rattle.m2_layout.specs.Shapes.{tree}
-use Rattle.m2_layout.specs.Frames.{module_row}
+use Rattle.layout_storage.specs.Types.{Ty, row, component}
+use Rattle.layout_storage.specs.Shapes.{tree}
+use Rattle.layout_storage.specs.Frames.{module_row}
 use Rattle.def_meaning.specs.Around.{module_place}
 use Rattle.def_scheme.specs.Exprs.{is_own, import_place, imported_row}
 use Rattle.law_simulation.specs.Frames.{Kinds}

@@ -17,16 +17,16 @@ use Rattle.typed_tree.specs.Types.{integer}
 use Rattle.check_scope.specs.Elaborated.{Gathers}
 use Rattle.check_scope.specs.declared.known.Known.{Known}
 use Rattle.check_scope.specs.declared.known.Known.TheVariants.{Headed}
-use Rattle.m2_layout.specs.Frames.{formals_of}
-use Rattle.m2_layout.specs.Shapes.{tree}
+use Rattle.layout_storage.specs.Frames.{formals_of}
+use Rattle.layout_storage.specs.Shapes.{tree}
 use Rattle.check_block.specs.Inner.{inwards}
-use Rattle.m2_check.specs.declared.routine.Bodies.{Bodies}
-use Rattle.m2_check.specs.declared.routine.Numbered.{Numbered}
-use Rattle.m2_check.specs.Routines.{numbered_known, unfilled, routine}
-use Rattle.m2_check.specs.declared.procedure.Walk.{Walk}
-use Rattle.m2_check.specs.Elaborating.{Elaborates}
-use Rattle.m2_check.specs.Inside.{which_of, with_routine}
-use Rattle.m2_check.specs.Bodies.{ChecksBlock}
+use Rattle.check_body.specs.declared.routine.Bodies.{Bodies}
+use Rattle.check_body.specs.declared.routine.Numbered.{Numbered}
+use Rattle.check_body.specs.Routines.{numbered_known, unfilled, routine}
+use Rattle.check_body.specs.declared.procedure.Walk.{Walk}
+use Rattle.check_body.specs.Elaborating.{Elaborates}
+use Rattle.check_body.specs.Inside.{which_of, with_routine}
+use Rattle.check_body.specs.Bodies.{ChecksBlock}
 use Rattle.law_simulation.specs.Frames.{Kinds, Kept, formal_kind, kinds_of}
 use Rattle.law_simulation.specs.Passing.{result_of}
 use Rattle.law_simulation.specs.TreesTyped.{own_kinds, kinds_around}

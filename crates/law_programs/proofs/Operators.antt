@@ -63,8 +63,8 @@ use Rattle.check_operator.specs.declared.side.Amount.{Amount}
 use Rattle.check_operator.specs.declared.side.Amount.TheVariants.{Known, Run}
 use Rattle.check_operator.specs.declared.side.Side.{Side}
 use Rattle.check_operator.specs.declared.side.Side.TheVariants as side
-use Rattle.m2_layout.specs.Shapes.{Trees, tree_in, passing_of, result_tree, heading_tree, known_trees, tree}
-use Rattle.m2_layout.specs.Types.{Passing, ByValue, ByName, AsOpen, Ty, Heading, Function, Takes, row, component}
+use Rattle.layout_storage.specs.Shapes.{Trees, tree_in, passing_of, result_tree, heading_tree, known_trees, tree}
+use Rattle.layout_storage.specs.Types.{Passing, ByValue, ByName, AsOpen, Ty, Heading, Function, Takes, row, component}
 use Rattle.law_memory.specs.Relation.{heading_at}
 use Rattle.law_simulation.specs.Scene.{IsValue, AreAmong}
 use Rattle.law_simulation.specs.Frames.{Open, kind_at}

@@ -25,20 +25,20 @@ use Rattle.typed_tree.specs.declared.types.TypeNo.{TypeNo}
 use Rattle.typed_tree.specs.Types.{integer}
 use Rattle.check_scope.specs.Elaborated.{Gathers, both, ◌▷◌}
 use Rattle.check_scope.specs.declared.scope.Scope.{Scope}
-use Rattle.m2_layout.specs.Texts.{is_which}
-use Rattle.m2_types.specs.Predeclared.{console, first_scope}
-use Rattle.m2_types.specs.Importing.{numbered_modules}
+use Rattle.layout_storage.specs.Texts.{is_which}
+use Rattle.check_definition.specs.Predeclared.{console, first_scope}
+use Rattle.check_definition.specs.Importing.{numbered_modules}
 use Rattle.check_block.specs.Nesting.{procedure_ends}
-use Rattle.m2_check.specs.declared.routine.Bodies.{Bodies}
-use Rattle.m2_check.specs.declared.routine.Numbered.{Numbered}
-use Rattle.m2_check.specs.Own.{implementation_scope}
-use Rattle.m2_check.specs.Routines.{unfilled, no_bodies, filled, routine, typed_module}
-use Rattle.m2_check.specs.declared.procedure.Walk.{Walk}
-use Rattle.m2_check.specs.Elaborating.{Elaborates}
-use Rattle.m2_check.specs.Inside.{which_of, begun_procedure, with_routine}
-use Rattle.m2_check.specs.Bodies.{Checked, Checks, ChecksBlock, Steps, checked_by, with_body, procedure_checked, steps_layer, block_layer, steps, checks_block, checks_decl}
-use Rattle.m2_check.specs.Checked.{begun_module, module_or, walked, of_body, of_implementation, of_contents}
-use Rattle.m2_check.specs.Checks.{elaborated, checked}
+use Rattle.check_body.specs.declared.routine.Bodies.{Bodies}
+use Rattle.check_body.specs.declared.routine.Numbered.{Numbered}
+use Rattle.check_body.specs.Own.{implementation_scope}
+use Rattle.check_body.specs.Routines.{unfilled, no_bodies, filled, routine, typed_module}
+use Rattle.check_body.specs.declared.procedure.Walk.{Walk}
+use Rattle.check_body.specs.Elaborating.{Elaborates}
+use Rattle.check_body.specs.Inside.{which_of, begun_procedure, with_routine}
+use Rattle.check_body.specs.Bodies.{Checked, Checks, ChecksBlock, Steps, checked_by, with_body, procedure_checked, steps_layer, block_layer, steps, checks_block, checks_decl}
+use Rattle.check_body.specs.Checked.{begun_module, module_or, walked, of_body, of_implementation, of_contents}
+use Rattle.check_body.specs.Checks.{elaborated, checked}
 use Rattle.law_well_formed.specs.Formed.{Holds, fine, broken}
 use Rattle.law_well_formed.proofs.Basics.{reported_holds}
 use Rattle.law_well_formed.proofs.Places.{set_other}

@@ -21,16 +21,16 @@ use Rattle.check_scope.specs.declared.known.Known.{Known}
 use Rattle.check_scope.specs.declared.known.Known.TheVariants.{Headed}
 use Rattle.check_scope.specs.declared.scope.Block.{Block}
 use Rattle.check_scope.specs.declared.scope.Scope.{Scope}
-use Rattle.m2_layout.specs.Frames.{formals_of}
-use Rattle.m2_layout.specs.Shapes.{tree}
+use Rattle.layout_storage.specs.Frames.{formals_of}
+use Rattle.layout_storage.specs.Shapes.{tree}
 use Rattle.check_block.specs.Inner.{inwards}
-use Rattle.m2_check.specs.declared.routine.Bodies.{Bodies}
-use Rattle.m2_check.specs.declared.routine.Numbered.{Numbered}
-use Rattle.m2_check.specs.Routines.{numbered_known, filled, routine}
-use Rattle.m2_check.specs.declared.procedure.Walk.{Walk}
-use Rattle.m2_check.specs.Elaborating.{Elaborates}
-use Rattle.m2_check.specs.Inside.{which_of, with_routine}
-use Rattle.m2_check.specs.Bodies.{ChecksBlock, Steps, checked_by, with_body}
+use Rattle.check_body.specs.declared.routine.Bodies.{Bodies}
+use Rattle.check_body.specs.declared.routine.Numbered.{Numbered}
+use Rattle.check_body.specs.Routines.{numbered_known, filled, routine}
+use Rattle.check_body.specs.declared.procedure.Walk.{Walk}
+use Rattle.check_body.specs.Elaborating.{Elaborates}
+use Rattle.check_body.specs.Inside.{which_of, with_routine}
+use Rattle.check_body.specs.Bodies.{ChecksBlock, Steps, checked_by, with_body}
 use Rattle.law_simulation.specs.Frames.{Kinds, Kept, formal_kind, kinds_of}
 use Rattle.law_simulation.specs.Passing.{result_of}
 use Rattle.law_simulation.specs.TreesTyped.{own_kinds, kinds_around}

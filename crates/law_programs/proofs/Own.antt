@@ -18,7 +18,7 @@ use Rattle.typed_tree.specs.declared.types.TypeNo.{TypeNo}
 use Rattle.check_scope.specs.declared.known.Known.{Known}
 use Rattle.check_scope.specs.declared.known.Known.TheVariants.{Later, Ahead, Begun, Headed, Declared}
 use Rattle.check_scope.specs.declared.known.Origin.TheVariants as origin
-use Rattle.m2_layout.specs.Shapes.{tree}
+use Rattle.layout_storage.specs.Shapes.{tree}
 use Rattle.check_operator.specs.Values.{slot_of, nested_by}
 use Rattle.check_block.specs.Inner as inner
 use Rattle.law_simulation.specs.Frames.{Kind, Kept, Alias, Open, Kinds, formal_kind, kind_at}

@@ -12,7 +12,7 @@ use Rattle.typed_tree.specs.declared.typed_module.Routine.{Routine}
 use Rattle.typed_tree.specs.declared.typed_module.TypedModule.{TypedModule}
 use Rattle.typed_tree.specs.declared.typed_module.Which.{Which}
 use Rattle.typed_tree.specs.declared.typed_module.Which.TheVariants as which
-use Rattle.m2_layout.specs.Texts.{Texts, characters, body_texts, routine_texts, which_texts, routines_texts, module_texts, is_which, texts_before}
+use Rattle.layout_storage.specs.Texts.{Texts, characters, body_texts, routine_texts, which_texts, routines_texts, module_texts, is_which, texts_before}
 use Rattle.def_scheme.specs.Functions.{routine_of}
 use Rattle.def_scheme.specs.Modules.{all_characters}
 use Rattle.def_scheme.specs.Signatures.{Signature, Signatures, needed, same_result, is_same, is_among, of_step, of_routine}

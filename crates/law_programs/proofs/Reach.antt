@@ -17,10 +17,10 @@ use Rattle.typed_tree.specs.declared.table.Table.{Table}
 use Rattle.typed_tree.specs.declared.typed_module.TypedModule.{TypedModule}
 use Rattle.check_scope.specs.declared.fault.Fault.{Fault}
 use Rattle.check_scope.specs.Elaborated.{least}
-use Rattle.m2_layout.specs.Layouts.{too_large}
-use Rattle.m2_types.specs.Compiled as types
-use Rattle.m2_check.specs.Own.{types_made_in}
-use Rattle.m2_check.specs.Checks.{elaborated}
+use Rattle.layout_storage.specs.Layouts.{too_large}
+use Rattle.check_definition.specs.Compiled as types
+use Rattle.check_body.specs.Own.{types_made_in}
+use Rattle.check_body.specs.Checks.{elaborated}
 use Rattle.law_well_formed.specs.Formed.{Holds, fine, broken}
 use Rattle.law_modules.specs.Ranges.{AreRanged}
 use Rattle.law_well_formed.specs.Ordered.{AreOrdered}

@@ -13,8 +13,8 @@ use Rattle.typed_tree.specs.declared.table.ModuleTypes.{ModuleTypes}
 use Rattle.typed_tree.specs.declared.table.Table.{Table}
 use Rattle.typed_tree.specs.declared.known_types.Types.{Types}
 use Rattle.typed_tree.specs.Known.{in_list, made_in, made_from, made_at}
-use Rattle.m2_types.specs.Predeclared.{console}
-use Rattle.m2_types.specs.Export.{with_types as reached_with, own_types, reached_of}
+use Rattle.check_definition.specs.Predeclared.{console}
+use Rattle.check_definition.specs.Export.{with_types as reached_with, own_types, reached_of}
 use Rattle.law_well_formed.specs.FormedTables.{IsExport, AreExports}
 use Rattle.law_well_formed.proofs.Trees.{at}
 use Rattle.law_well_formed.specs.FormedKnown.{HasReached}

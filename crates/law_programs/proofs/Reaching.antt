@@ -9,8 +9,8 @@ use Rattle.typed_tree.specs.declared.known_types.Types.{Types}
 use Rattle.typed_tree.specs.declared.shape.Made.{Made}
 use Rattle.typed_tree.specs.declared.table.ModuleTypes.{ModuleTypes}
 use Rattle.typed_tree.specs.declared.table.Table.{Table}
-use Rattle.m2_types.specs.Export.{with_types, own_types, reached_of}
-use Rattle.m2_types.specs.Predeclared.{with_reached, with_table, others_of}
+use Rattle.check_definition.specs.Export.{with_types, own_types, reached_of}
+use Rattle.check_definition.specs.Predeclared.{with_reached, with_table, others_of}
 use Rattle.law_well_formed.proofs.Basics.{Grows}
 use Rattle.law_well_formed.specs.FormedRanges.{first_types}
 use Rattle.law_programs.specs.Carried.{AllIndexed, OthersIndexed, TypesIndexed, ReachedIndexed, TablesIndexed}

@@ -25,8 +25,8 @@ use Rattle.check_scope.specs.declared.scope.Block.{Block}
 use Rattle.check_scope.specs.declared.scope.OpenedRecord.{OpenedRecord}
 use Rattle.check_scope.specs.declared.scope.Scope.{Scope}
 use Rattle.check_operator.specs.Values.{nested_by}
-use Rattle.m2_layout.specs.Frames.{formals_of}
-use Rattle.m2_layout.specs.Shapes.{tree}
+use Rattle.layout_storage.specs.Frames.{formals_of}
+use Rattle.layout_storage.specs.Shapes.{tree}
 use Rattle.law_simulation.specs.Frames.{Kind, Kept, Kinds, or_none, kind_at, formal_kind as kind_in_frame, kinds_of}
 use Rattle.law_simulation.specs.TreesTyped.{Context, IsInner}
 use Rattle.check_block.specs.Inner.{formal_kind}

@@ -9,7 +9,7 @@ use Rattle.typed_tree.specs.declared.types.TypeNo.{TypeNo}
 use Rattle.check_scope.specs.declared.known.Known.{Known}
 use Rattle.check_scope.specs.declared.known.Known.TheVariants.{Later, Ahead, Begun, Headed, Declared}
 use Rattle.check_scope.specs.declared.scope.Block.{Block}
-use Rattle.m2_layout.specs.Types.{Ty}
+use Rattle.layout_storage.specs.Types.{Ty}
 use Rattle.law_simulation.specs.Frames.{Kinds, kind_at}
 use Rattle.law_simulation.specs.TreesTyped.{Context, IsVariable, IsNamed, IsInner}
 use Rattle.law_well_formed.proofs.Basics.{holds_weaker}

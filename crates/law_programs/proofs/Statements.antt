@@ -18,8 +18,8 @@ use Rattle.typed_tree.specs.declared.types.TypeNo.{TypeNo}
 use Rattle.check_scope.specs.Elaborated.{Gathers, both}
 use Rattle.check_scope.specs.declared.scope.Scope.{Scope}
 use Rattle.check_expr.specs.Meanings.{meant, head, value_of}
-use Rattle.m2_layout.specs.Types.{Ty}
-use Rattle.m2_layout.specs.Shapes.{tree}
+use Rattle.layout_storage.specs.Types.{Ty}
+use Rattle.layout_storage.specs.Shapes.{tree}
 use Rattle.law_simulation.specs.Scene.{AreLabels}
 use Rattle.law_simulation.specs.Passing.{Result as Gives}
 use Rattle.law_simulation.specs.TreesTyped.{Context}

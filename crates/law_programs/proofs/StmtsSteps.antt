@@ -44,8 +44,8 @@ use Rattle.check_operator.specs.declared.side.Side.{Side}
 use Rattle.check_operator.specs.declared.side.Side.TheVariants as side
 use Rattle.check_call.specs.Effects.{untyped}
 use Rattle.check_expr.specs.Meanings.{Meant, meant, value_of}
-use Rattle.m2_layout.specs.Types.{Ty, Scalar, Cell}
-use Rattle.m2_layout.specs.Shapes.{tree}
+use Rattle.layout_storage.specs.Types.{Ty, Scalar, Cell}
+use Rattle.layout_storage.specs.Shapes.{tree}
 use Rattle.law_simulation.specs.Scene.{IsValue, AreAmong, IsCell}
 use Rattle.law_simulation.specs.Frames.{Kept}
 use Rattle.law_simulation.specs.Passing.{Result as Gives}

@@ -14,8 +14,8 @@ use Rattle.typed_tree.specs.declared.statement.TypedStmt.TheOpen as step
 use Rattle.typed_tree.specs.declared.statement.TypedStmt.TheVariants as stmt
 use Rattle.typed_tree.specs.declared.typed_module.TypedModule.{TypedModule}
 use Rattle.typed_tree.specs.declared.types.TypeNo.{TypeNo}
-use Rattle.m2_layout.specs.Texts.{Texts, texts_in, texts_armed, body_texts}
-use Rattle.m2_layout.specs.Texts as texts
+use Rattle.layout_storage.specs.Texts.{Texts, texts_in, texts_armed, body_texts}
+use Rattle.layout_storage.specs.Texts as texts
 use Rattle.def_scheme.specs.Signatures.{Signatures, of_step}
 use Rattle.def_scheme.specs.Signatures as signed
 use Rattle.law_programs.specs.Wanted.{Wanted, wanted_of, wanted_at, wanted_called}

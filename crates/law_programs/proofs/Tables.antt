@@ -15,13 +15,13 @@ use Rattle.typed_tree.specs.declared.types.TypeNo.{TypeNo}
 use Rattle.check_scope.specs.declared.fault.Fault.{Fault}
 use Rattle.check_scope.specs.declared.scope.Scope.{Scope}
 use Rattle.check_scope.specs.Elaborated.{Gathers, least}
-use Rattle.m2_layout.specs.Layouts.{too_large}
-use Rattle.m2_types.specs.Compiled.{table_of, table_or, declared_in}
-use Rattle.m2_types.specs.Compiled as types
-use Rattle.m2_types.specs.Export.{exports, reached_of}
-use Rattle.m2_types.specs.Importing.{numbered_modules}
-use Rattle.m2_types.specs.Predeclared.{console, first_scope}
-use Rattle.m2_check.specs.Own.{exported_headings, types_made_in}
+use Rattle.layout_storage.specs.Layouts.{too_large}
+use Rattle.check_definition.specs.Compiled.{table_of, table_or, declared_in}
+use Rattle.check_definition.specs.Compiled as types
+use Rattle.check_definition.specs.Export.{exports, reached_of}
+use Rattle.check_definition.specs.Importing.{numbered_modules}
+use Rattle.check_definition.specs.Predeclared.{console, first_scope}
+use Rattle.check_body.specs.Own.{exported_headings, types_made_in}
 use Rattle.law_well_formed.specs.FormedRanges.{first_types}
 use Rattle.law_well_formed.specs.FormedTables.{AreExports, AreNumberedBy}
 use Rattle.law_well_formed.proofs.Exports.{tables_export}

@@ -19,9 +19,9 @@ use Rattle.typed_tree.specs.declared.table.ModuleTypes.{ModuleTypes}
 use Rattle.typed_tree.specs.declared.table.Table.{Table}
 use Rattle.typed_tree.specs.declared.known_types.Types.{Types}
 use Rattle.typed_tree.specs.Known.{in_list, made_in, scalar_at, scalar_from, scalar_made}
-use Rattle.m2_layout.specs.Types.{Ty, Callable, Cell, Array, Heading, Function, Takes, row}
-use Rattle.m2_layout.specs.Shapes.{elements_of, passing_of, result_tree, heading_tree, shape_tree, known_trees, tree}
-use Rattle.m2_check.specs.Own.{with_variable_of, with_exported_variable, exported_variables}
+use Rattle.layout_storage.specs.Types.{Ty, Callable, Cell, Array, Heading, Function, Takes, row}
+use Rattle.layout_storage.specs.Shapes.{elements_of, passing_of, result_tree, heading_tree, shape_tree, known_trees, tree}
+use Rattle.check_body.specs.Own.{with_variable_of, with_exported_variable, exported_variables}
 use Rattle.law_well_formed.specs.Ordered.{result_named, named_by, is_known_from, is_known, AreKnown, AreOrderedFrom, OthersOrdered, AreOrdered}
 use Rattle.law_well_formed.proofs.Trees.{at, at_more, at_behind, at_placed, append_more, some_of, made_by, is_among_from, is_among, known_among}
 use Rattle.law_well_formed.proofs.Shaped.{tree_shaped}

@@ -24,9 +24,9 @@ use Rattle.typed_tree.specs.declared.table.Table.{Table}
 use Rattle.typed_tree.specs.declared.typed_module.TypedModule.{TypedModule}
 use Rattle.check_scope.specs.declared.fault.Fault.{Fault}
 use Rattle.check_scope.specs.Elaborated.{least}
-use Rattle.m2_layout.specs.Layouts.{too_large}
-use Rattle.m2_types.specs.Compiled as types
-use Rattle.m2_check.specs.Own.{exported_headings}
+use Rattle.layout_storage.specs.Layouts.{too_large}
+use Rattle.check_definition.specs.Compiled as types
+use Rattle.check_body.specs.Own.{exported_headings}
 use Rattle.def_scheme.specs.Modules.{typed_module}
 use Rattle.law_modules.specs.WellFormed.{IsWellFormed}
 use Rattle.law_modules.proofs.Modules.{typed_module_valid}

@@ -16,16 +16,16 @@ use Rattle.typed_tree.specs.declared.typed_module.Which.{Which}
 use Rattle.check_scope.specs.Elaborated.{Gathers, least, both, ◌▷◌}
 use Rattle.check_scope.specs.Scopes.{State}
 use Rattle.check_scope.specs.declared.scope.Scope.{Scope}
-use Rattle.m2_types.specs.Importing.{with_import}
+use Rattle.check_definition.specs.Importing.{with_import}
 use Rattle.check_block.specs.Naming.{with_marks}
 use Rattle.check_block.specs.Nesting.{procedure_ends}
 use Rattle.check_block.specs.Declarations.{Declared, declared_block}
-use Rattle.m2_check.specs.Routines.{no_bodies, typed_module}
-use Rattle.m2_check.specs.declared.procedure.Walk.{Walk}
-use Rattle.m2_check.specs.Elaborating.{Elaborates}
-use Rattle.m2_check.specs.Bodies.{Checked, ChecksBlock, Steps, marked_by, with_body, begun_from, steps_layer, block_layer, steps, checks_block, checks_decl}
-use Rattle.m2_check.specs.Checked.{of_body}
-use Rattle.m2_check.specs.Checks.{elaborated}
+use Rattle.check_body.specs.Routines.{no_bodies, typed_module}
+use Rattle.check_body.specs.declared.procedure.Walk.{Walk}
+use Rattle.check_body.specs.Elaborating.{Elaborates}
+use Rattle.check_body.specs.Bodies.{Checked, ChecksBlock, Steps, marked_by, with_body, begun_from, steps_layer, block_layer, steps, checks_block, checks_decl}
+use Rattle.check_body.specs.Checked.{of_body}
+use Rattle.check_body.specs.Checks.{elaborated}
 use Rattle.law_well_formed.specs.FormedScopes.{Leads}
 use Rattle.law_well_formed.proofs.ImportsWalks.{walk_keeps}
 use Rattle.law_well_formed.specs.FormedBodies.{Keeps}

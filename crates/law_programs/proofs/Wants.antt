@@ -25,8 +25,8 @@ use Rattle.typed_tree.specs.declared.meaning.Procedure.{Procedure}
 use Rattle.typed_tree.specs.declared.typed_module.TypedModule.{TypedModule}
 use Rattle.typed_tree.specs.declared.types.TypeNo.{TypeNo}
 use Rattle.typed_tree.specs.Chains.{linked_to, linked, rooted, behind}
-use Rattle.m2_layout.specs.Texts.{Texts, passed, characters, texts_of, texts_at, texts_called, texts_linked, texts_behind, texts_passed}
-use Rattle.m2_layout.specs.Texts as texts
+use Rattle.layout_storage.specs.Texts.{Texts, passed, characters, texts_of, texts_at, texts_called, texts_linked, texts_behind, texts_passed}
+use Rattle.layout_storage.specs.Texts as texts
 use Rattle.def_scheme.specs.Exprs.{is_own}
 use Rattle.def_scheme.specs.Signatures.{Signatures, of_heading, of_expr, of_place, of_call}
 use Rattle.def_scheme.specs.Signatures as signed

@@ -20,15 +20,15 @@ use Rattle.typed_tree.specs.declared.typed_module.TypedModule.{TypedModule}
 use Rattle.check_scope.specs.Elaborated.{Gathers, least}
 use Rattle.check_scope.specs.Scopes.{State}
 use Rattle.check_scope.specs.declared.scope.Scope.{Scope}
-use Rattle.m2_types.specs.Predeclared.{console, first_scope}
-use Rattle.m2_types.specs.Importing.{numbered_modules, with_import}
-use Rattle.m2_types.specs.Marking.{marked_def}
-use Rattle.m2_types.specs.Declare.{with_def}
-use Rattle.m2_types.specs.Export.{imported_modules}
-use Rattle.m2_types.specs.Compiled as types
-use Rattle.m2_check.specs.Imports.{all_imports}
-use Rattle.m2_check.specs.Own.{exported_headings}
-use Rattle.m2_check.specs.Checks.{elaborated}
+use Rattle.check_definition.specs.Predeclared.{console, first_scope}
+use Rattle.check_definition.specs.Importing.{numbered_modules, with_import}
+use Rattle.check_definition.specs.Marking.{marked_def}
+use Rattle.check_definition.specs.Declare.{with_def}
+use Rattle.check_definition.specs.Export.{imported_modules}
+use Rattle.check_definition.specs.Compiled as types
+use Rattle.check_body.specs.Imports.{all_imports}
+use Rattle.check_body.specs.Own.{exported_headings}
+use Rattle.check_body.specs.Checks.{elaborated}
 use Rattle.def_meaning.specs.Around.{module_place}
 use Rattle.law_modules.specs.WellFormed.{IsRoutine}
 use Rattle.law_modules.specs.Linked.{Program}

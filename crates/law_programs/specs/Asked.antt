@@ -5,7 +5,7 @@ use Rattle.std.specs.List.{flat_map}
 use Rattle.typed_tree.specs.declared.statement.TypedStmt.{TypedStmt}
 use Rattle.typed_tree.specs.declared.statement.TypedArm.{TypedArm, fold-TypedArm}
 use Rattle.typed_tree.specs.declared.typed_module.TypedModule.{TypedModule}
-use Rattle.m2_layout.specs.Texts.{texts_in, texts_armed, body_texts}
+use Rattle.layout_storage.specs.Texts.{texts_in, texts_armed, body_texts}
 use Rattle.def_scheme.specs.Signatures.{Signatures, step_layer, arm_layer, of_step}
 use Rattle.law_programs.specs.Wanted.{Wanted}
 

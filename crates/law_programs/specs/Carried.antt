@@ -35,16 +35,16 @@ use Rattle.check_operator.specs.Classes.{array_at}
 use Rattle.check_expr.specs.Meanings.{part}
 use Rattle.check_type_expr.specs.Headings.{with_section}
 use Rattle.check_type_expr.specs.Named.{named_type}
-use Rattle.m2_types.specs.Declare.{with_def}
-use Rattle.m2_types.specs.Compiled.{declared_in}
-use Rattle.m2_types.specs.Export.{exports, reached_of}
-use Rattle.m2_types.specs.Predeclared.{console, first_scope}
+use Rattle.check_definition.specs.Declare.{with_def}
+use Rattle.check_definition.specs.Compiled.{declared_in}
+use Rattle.check_definition.specs.Export.{exports, reached_of}
+use Rattle.check_definition.specs.Predeclared.{console, first_scope}
 use Rattle.check_block.specs.Declarations.{Course, with_decl, declared_block, declared_module}
 use Rattle.check_block.specs.declared.inner.Outside.{Outside}
 use Rattle.check_block.specs.Inner.{inwards, entered_procedure, left_procedure}
-use Rattle.m2_check.specs.Own.{implementation_scope}
-use Rattle.m2_check.specs.Elaborating.{Elaborates}
-use Rattle.m2_check.specs.Checked.{checked}
+use Rattle.check_body.specs.Own.{implementation_scope}
+use Rattle.check_body.specs.Elaborating.{Elaborates}
+use Rattle.check_body.specs.Checked.{checked}
 use Rattle.law_well_formed.specs.Formed.{Holds}
 use Rattle.law_well_formed.specs.FormedRanges.{first_types}
 use Rattle.law_programs.specs.Typing.{IsWord, IsIndexed}

@@ -6,7 +6,7 @@ use Rattle.m2_tree.specs.declared.decl.Module.{Module}
 use Rattle.m2_graph.specs.Files.{numbered}
 use Rattle.m2_graph.specs.Graph.{IsGraph, CompileEach}
 use Rattle.typed_tree.specs.declared.typed_module.TypedModule.{TypedModule}
-use Rattle.m2_layout.specs.Layouts.{too_large}
+use Rattle.layout_storage.specs.Layouts.{too_large}
 use Rattle.def_scheme.specs.Modules.{typed_module}
 use Rattle.law_modules.specs.Linked.{Program}
 use Rattle.law_well_formed.specs.FormedKnown.{fits_module}

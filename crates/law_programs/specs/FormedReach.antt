@@ -5,7 +5,7 @@ use Rattle.std.specs.List.{list_all}
 use Rattle.m2_tree.specs.declared.decl.Module.{Module}
 use Rattle.typed_tree.specs.declared.shape.Made.{Made}
 use Rattle.typed_tree.specs.declared.table.Table.{Table}
-use Rattle.m2_check.specs.Own.{types_made_in}
+use Rattle.check_body.specs.Own.{types_made_in}
 use Rattle.law_well_formed.specs.Formed.{Holds}
 use Rattle.law_modules.specs.Ranges.{AreRanged}
 use Rattle.law_well_formed.specs.Ordered.{AreOrdered}

@@ -11,8 +11,8 @@ use Rattle.typed_tree.specs.Known.{made_at}
 use Rattle.check_scope.specs.Elaborated.{Gathers}
 use Rattle.check_scope.specs.declared.known.Known.{Known}
 use Rattle.check_scope.specs.declared.known.Known.TheVariants.{Later, Ahead, Begun, Headed, Declared}
-use Rattle.m2_layout.specs.Types.{Ty, row}
-use Rattle.m2_layout.specs.Shapes.{tree}
+use Rattle.layout_storage.specs.Types.{Ty, row}
+use Rattle.layout_storage.specs.Shapes.{tree}
 use Rattle.def_meaning.specs.Around.{module_place}
 use Rattle.def_scheme.specs.Exprs.{variables_row}
 use Rattle.law_simulation.specs.Frames.{Kinds, kind_at}

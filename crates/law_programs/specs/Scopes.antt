@@ -20,8 +20,8 @@ use Rattle.check_scope.specs.declared.scope.Block.{Block}
 use Rattle.check_scope.specs.declared.scope.Scope.{Scope}
 use Rattle.check_const.specs.Denote.{member}
 use Rattle.check_operator.specs.Classes.{signature_at}
-use Rattle.m2_layout.specs.Frames.{formals_of}
-use Rattle.m2_layout.specs.Shapes.{tree}
+use Rattle.layout_storage.specs.Frames.{formals_of}
+use Rattle.layout_storage.specs.Shapes.{tree}
 use Rattle.law_simulation.specs.Frames.{Kinds, kind_at, kinds_of}
 use Rattle.law_simulation.specs.Passing.{forms_of, result_of}
 use Rattle.law_simulation.specs.TreesTyped.{Context, IsVariable, kinds_around, IsNamed}

@@ -38,9 +38,9 @@ use Rattle.check_operator.specs.declared.computed.Computed.TheVariants as value
 use Rattle.check_operator.specs.declared.computed.Designated.{Designated}
 use Rattle.check_operator.specs.declared.computed.Designated.TheVariants as designated
 use Rattle.check_expr.specs.Meanings.{meant, head}
-use Rattle.m2_layout.specs.Texts.{characters, texts_of, texts_at, texts_called, texts_passed}
-use Rattle.m2_layout.specs.Types.{Ty, Heading, component}
-use Rattle.m2_layout.specs.Shapes.{shape_tree, known_trees, tree}
+use Rattle.layout_storage.specs.Texts.{characters, texts_of, texts_at, texts_called, texts_passed}
+use Rattle.layout_storage.specs.Types.{Ty, Heading, component}
+use Rattle.layout_storage.specs.Shapes.{shape_tree, known_trees, tree}
 use Rattle.law_memory.specs.Relation.{heading_at}
 use Rattle.def_scheme.specs.Exprs.{expr_part}
 use Rattle.def_scheme.specs.Modules.{numbered}

@@ -31,28 +31,28 @@ use Rattle.check_scope.specs.declared.known.Known.TheVariants.{Later, Ahead, Beg
 use Rattle.check_scope.specs.declared.scope.Block.{Block as Around}
 use Rattle.check_scope.specs.declared.scope.Scope.{Scope}
 use Rattle.check_const.specs.Denote.{member}
-use Rattle.m2_layout.specs.Types.{Ty}
-use Rattle.m2_layout.specs.Frames.{formals_of}
-use Rattle.m2_layout.specs.Shapes.{tree}
-use Rattle.m2_layout.specs.Texts.{module_texts}
+use Rattle.layout_storage.specs.Types.{Ty}
+use Rattle.layout_storage.specs.Frames.{formals_of}
+use Rattle.layout_storage.specs.Shapes.{tree}
+use Rattle.layout_storage.specs.Texts.{module_texts}
 use Rattle.def_meaning.specs.Store.{Location}
 use Rattle.def_meaning.specs.Around.{Modules}
 use Rattle.def_scheme.specs.Modules.{all_characters}
 use Rattle.def_scheme.specs.Functions.{routine_of}
-use Rattle.m2_types.specs.Importing.{with_import}
+use Rattle.check_definition.specs.Importing.{with_import}
 use Rattle.check_block.specs.declared.heading.Standing.TheVariants.{Awaited}
 use Rattle.check_block.specs.Headings.{name_standing}
 use Rattle.check_block.specs.Nesting.{within, procedure_ends}
 use Rattle.check_block.specs.Declarations.{declared_block, declared_module}
 use Rattle.check_block.specs.Inner.{inwards, entered_procedure}
-use Rattle.m2_check.specs.declared.routine.Numbered.{Numbered}
-use Rattle.m2_check.specs.Routines.{numbered_known, procedure_named}
-use Rattle.m2_check.specs.declared.procedure.Walk.{Walk}
-use Rattle.m2_check.specs.Elaborating.{Elaborates}
-use Rattle.m2_check.specs.Inside.{returns_of}
-use Rattle.m2_check.specs.Bodies.{ChecksBlock, checks_block}
-use Rattle.m2_check.specs.Checked.{walked}
-use Rattle.m2_check.specs.Checks.{elaborated}
+use Rattle.check_body.specs.declared.routine.Numbered.{Numbered}
+use Rattle.check_body.specs.Routines.{numbered_known, procedure_named}
+use Rattle.check_body.specs.declared.procedure.Walk.{Walk}
+use Rattle.check_body.specs.Elaborating.{Elaborates}
+use Rattle.check_body.specs.Inside.{returns_of}
+use Rattle.check_body.specs.Bodies.{ChecksBlock, checks_block}
+use Rattle.check_body.specs.Checked.{walked}
+use Rattle.check_body.specs.Checks.{elaborated}
 use Rattle.law_simulation.specs.Frames.{Kinds, Kept, formal_kind, kinds_of}
 use Rattle.law_simulation.specs.Passing.{Result as Gives, result_of}
 use Rattle.law_simulation.specs.TreesTyped.{Context, kinds_around}

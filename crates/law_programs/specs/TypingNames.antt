@@ -16,11 +16,11 @@ use Rattle.check_scope.specs.declared.fault.Fault.{Fault}
 use Rattle.check_scope.specs.declared.scope.Scope.{Scope}
 use Rattle.check_scope.specs.Elaborated.{least}
 use Rattle.check_const.specs.Denote.{member}
-use Rattle.m2_types.specs.Predeclared.{console, first_scope}
-use Rattle.m2_types.specs.Importing.{numbered_modules}
+use Rattle.check_definition.specs.Predeclared.{console, first_scope}
+use Rattle.check_definition.specs.Importing.{numbered_modules}
 use Rattle.check_block.specs.Nesting.{procedure_ends}
 use Rattle.check_block.specs.Declarations.{declared_module}
-use Rattle.m2_check.specs.Own.{implementation_scope}
+use Rattle.check_body.specs.Own.{implementation_scope}
 use Rattle.law_modules.specs.Linked.{Program}
 use Rattle.law_simulation.specs.RunsPrograms.{ground}
 use Rattle.law_simulation.specs.TreesTyped.{Context}

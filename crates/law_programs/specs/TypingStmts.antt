@@ -12,9 +12,9 @@ use Rattle.typed_tree.specs.declared.statement.TypedStmt.{TypedStmt}
 use Rattle.typed_tree.specs.declared.types.TypeNo.{TypeNo}
 use Rattle.check_scope.specs.Elaborated.{Gathers}
 use Rattle.check_scope.specs.declared.scope.Scope.{Scope}
-use Rattle.m2_layout.specs.Shapes.{tree}
-use Rattle.m2_layout.specs.Types.{Ty}
-use Rattle.m2_layout.specs.Texts.{characters, texts_in, body_texts}
+use Rattle.layout_storage.specs.Shapes.{tree}
+use Rattle.layout_storage.specs.Types.{Ty}
+use Rattle.layout_storage.specs.Texts.{characters, texts_in, body_texts}
 use Rattle.law_simulation.specs.Passing.{Result as Gives}
 use Rattle.law_simulation.specs.TreesTyped.{Context}
 use Rattle.law_simulation.specs.StmtsTyped.{IsStmt, AreStmts}

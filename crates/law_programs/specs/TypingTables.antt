@@ -19,14 +19,14 @@ use Rattle.typed_tree.specs.Known.{made_at}
 use Rattle.typed_tree.specs.Names.{found}
 use Rattle.check_scope.specs.Elaborated.{least}
 use Rattle.check_scope.specs.declared.scope.Scope.{Scope}
-use Rattle.m2_types.specs.Importing.{numbered_modules, with_import}
-use Rattle.m2_types.specs.Predeclared.{console, predeclared_block, first_scope}
+use Rattle.check_definition.specs.Importing.{numbered_modules, with_import}
+use Rattle.check_definition.specs.Predeclared.{console, predeclared_block, first_scope}
 use Rattle.check_block.specs.Nesting.{procedure_ends}
 use Rattle.check_block.specs.Declarations.{Declared, declared_module}
-use Rattle.m2_check.specs.Own.{exported_variables, exported_headings, implementation_scope}
-use Rattle.m2_check.specs.Bodies.{Checked}
-use Rattle.m2_check.specs.Checked.{walked}
-use Rattle.m2_check.specs.Checks.{elaborated}
+use Rattle.check_body.specs.Own.{exported_variables, exported_headings, implementation_scope}
+use Rattle.check_body.specs.Bodies.{Checked}
+use Rattle.check_body.specs.Checked.{walked}
+use Rattle.check_body.specs.Checks.{elaborated}
 use Rattle.build_jobs.specs.declared.outcome.Compiled.TheVariants.{Defined}
 use Rattle.build_jobs.specs.Own.{own_table, tables_behind}
 use Rattle.build_jobs.specs.Compiling.{tables_of, typed_body}

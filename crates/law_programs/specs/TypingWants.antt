@@ -9,9 +9,9 @@ use Rattle.typed_tree.specs.declared.typed_module.Routine.{Routine}
 use Rattle.typed_tree.specs.declared.typed_module.Which.{Which}
 use Rattle.typed_tree.specs.declared.typed_module.TypedModule.{TypedModule}
 use Rattle.check_scope.specs.Elaborated.{Gathers}
-use Rattle.m2_layout.specs.Texts.{characters, routines_texts, is_which}
+use Rattle.layout_storage.specs.Texts.{characters, routines_texts, is_which}
 use Rattle.def_scheme.specs.Functions.{routine_of}
-use Rattle.m2_check.specs.Checks.{checked}
+use Rattle.check_body.specs.Checks.{checked}
 use Rattle.law_modules.specs.Linked.{Program, text}
 use Rattle.law_simulation.specs.Frames.{Kinds}
 use Rattle.law_simulation.specs.RunsPrograms.{ground}

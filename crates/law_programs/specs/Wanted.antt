@@ -7,7 +7,7 @@ use Rattle.typed_tree.specs.declared.computed.Link.{Link, fold-Link}
 use Rattle.typed_tree.specs.declared.computed.Place.{Place}
 use Rattle.typed_tree.specs.declared.computed.TypedExpr.{TypedExpr}
 use Rattle.typed_tree.specs.declared.typed_module.TypedModule.{TypedModule}
-use Rattle.m2_layout.specs.Texts.{Texts, texts_of, texts_at, texts_called, texts_linked, texts_behind, texts_passed}
+use Rattle.layout_storage.specs.Texts.{Texts, texts_of, texts_at, texts_called, texts_linked, texts_behind, texts_passed}
 use Rattle.def_scheme.specs.Signatures.{Signatures, needed, is_among, of_expr, of_place, of_call, argument_layer, call_layer, component_layer, link_layer, expr_layer, place_layer}
 use Rattle.law_simulation.specs.TreesTyped.{Context, HasText}
 

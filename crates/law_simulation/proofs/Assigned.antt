@@ -6,7 +6,7 @@ use Rattle.wasm_tree.specs.declared.store.Value.TheVariants.{I32}
 use Rattle.law_effect.specs.Effect.{State as Target, Effect, Does as Effects}
 use Rattle.typed_tree.specs.declared.types.TypeNo.{TypeNo}
 use Rattle.typed_tree.specs.declared.meaning.Variable.{Variable}
-use Rattle.m2_layout.specs.Types.{Ty, Scalar, Cell, row, component}
+use Rattle.layout_storage.specs.Types.{Ty, Scalar, Cell, row, component}
 use Rattle.def_meaning.specs.Store.{Location}
 use Rattle.def_meaning.specs.Answer.{State as Source, Answer, Gave, Ended, Running, then_give, Outcome, Went, with_answer}
 use Rattle.def_meaning.specs.Expressions.{Gives}

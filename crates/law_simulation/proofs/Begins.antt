@@ -13,14 +13,14 @@ use Rattle.law_effect.specs.Bytes.{cleared_bytes}
 use Rattle.law_effect.proofs.Bytes.{cleared_length, length-pasted}
 use Rattle.law_effect.specs.Effect.{State as Target, Effect, Ended}
 use Rattle.law_effect.proofs.Steps.{i32_runs, get_runs, tee_runs, store_runs}
-use Rattle.m2_layout.specs.Types.{Ty, Hidden, row, component, IsFit}
-use Rattle.m2_layout.specs.Sizes.{size, offset}
+use Rattle.layout_storage.specs.Types.{Ty, Hidden, row, component, IsFit}
+use Rattle.layout_storage.specs.Sizes.{size, offset}
 use Rattle.def_meaning.specs.Store.{Location, Store, placed, fresh}
 use Rattle.def_meaning.specs.Around.{Named, At, Elements, Frames}
 use Rattle.law_memory.specs.Cells.{stored_in}
 use Rattle.law_memory.specs.Relation.{Holds, Keeps}
-use Rattle.m2_layout.specs.Sizes.{Four}
-use Rattle.m2_layout.specs.Types.{Array}
+use Rattle.layout_storage.specs.Sizes.{Four}
+use Rattle.layout_storage.specs.Types.{Array}
 use Rattle.law_memory.proofs.Places.{component_append, offset_append}
 use Rattle.law_memory.proofs.Worlds.{lies, component_old, offset_old, component_new, in_world, row_size}
 use Rattle.law_memory.proofs.Frames.{holds_hidden}

@@ -11,9 +11,9 @@ use Rattle.wasm_tree.specs.Machine.{Typed, callee_at, callee_in, global_at, own_
 use Rattle.law_effect.specs.Effect.{State as Target, store_of, Effect, then_run, back}
 use Rattle.law_effect.proofs.Steps.{split_end_at, global_runs, indirect_runs, own_runs, own_does}
 use Rattle.typed_tree.specs.declared.types.TypeNo.{TypeNo}
-use Rattle.m2_layout.specs.Types.{Ty, Scalar, row}
-use Rattle.m2_layout.specs.Sizes.{size}
-use Rattle.m2_layout.specs.Shapes.{tree}
+use Rattle.layout_storage.specs.Types.{Ty, Scalar, row}
+use Rattle.layout_storage.specs.Sizes.{size}
+use Rattle.layout_storage.specs.Shapes.{tree}
 use Rattle.def_meaning.specs.Store.{Location}
 use Rattle.def_meaning.specs.Answer.{State as Source, Answer, Gave, Ended, Running, then_give, Went, with_answer}
 use Rattle.def_meaning.specs.Around.{Modules, Callee, Passed, Number, Variable, Array as Whole, Text}

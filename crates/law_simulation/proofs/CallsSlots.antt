@@ -13,9 +13,9 @@ use Rattle.typed_tree.specs.declared.computed.Slot.{Slot}
 use Rattle.typed_tree.specs.declared.types.TypeNo.{TypeNo}
 use Rattle.typed_tree.specs.declared.shape.Scalar.{Scalar as Range}
 use Rattle.typed_tree.specs.Types.{cardinal}
-use Rattle.m2_layout.specs.Types.{Ty, Hidden, Array, row, component}
-use Rattle.m2_layout.specs.Sizes.{Four, size, offset}
-use Rattle.m2_layout.specs.Shapes.{tree, elements_of}
+use Rattle.layout_storage.specs.Types.{Ty, Hidden, Array, row, component}
+use Rattle.layout_storage.specs.Sizes.{Four, size, offset}
+use Rattle.layout_storage.specs.Shapes.{tree, elements_of}
 use Rattle.def_meaning.specs.Store.{Location}
 use Rattle.def_meaning.specs.Answer.{State as Source, Answer, Gave, then_give}
 use Rattle.def_meaning.specs.Around.{Named, At, Elements, Frames, named, or_empty, location_of, high_of}

@@ -16,8 +16,8 @@ use Rattle.typed_tree.specs.declared.shape.Made.{Made}
 use Rattle.typed_tree.specs.declared.known_types.Types.{Types}
 use Rattle.typed_tree.specs.Types.{are_same, is_integer}
 use Rattle.typed_tree.specs.Known.{scalar_at, scalar_from, scalar_made, scalar_shape, made_in, made_from as made_by, made_at, in_list, is_result, is_result_shape, is_result_made, is_result_from}
-use Rattle.m2_layout.specs.Types.{Ty, Natural, Integer, Between, Callable, Cell, Heading, least, greatest}
-use Rattle.m2_layout.specs.Shapes.{Trees, word, scalar_kind, or_nothing, in_module, scalar_tree, tree_from, heading_tree, shape_tree, with_made, module_trees, with_module, other_trees, known_trees, tree}
+use Rattle.layout_storage.specs.Types.{Ty, Natural, Integer, Between, Callable, Cell, Heading, least, greatest}
+use Rattle.layout_storage.specs.Shapes.{Trees, word, scalar_kind, or_nothing, in_module, scalar_tree, tree_from, heading_tree, shape_tree, with_made, module_trees, with_module, other_trees, known_trees, tree}
 use Rattle.law_memory.specs.Relation.{IsNumber, heading_in, heading_made, heading_at}
 use Rattle.law_simulation.specs.Scene.{AreSmall, IsIn, IsCell}
 use Rattle.law_modules.specs.Ranges.{IsRange, type_of, AreRanged}

@@ -24,7 +24,7 @@ use Rattle.typed_tree.specs.declared.shape.Scalar.{Scalar as Range}
 use Rattle.typed_tree.specs.declared.known_types.Types.{Types}
 use Rattle.typed_tree.specs.Types.{are_same, is_one_home, bitset}
 use Rattle.typed_tree.specs.Known.{scalar_at, scalar_from}
-use Rattle.m2_layout.specs.Types.{Scalar, Cell, row, component}
+use Rattle.layout_storage.specs.Types.{Scalar, Cell, row, component}
 use Rattle.def_meaning.specs.Store.{Location}
 use Rattle.def_meaning.specs.Answer.{State as Source, Answer, Gave, Ended, then_give, Outcome, Went, with_answer, range_fault}
 use Rattle.def_meaning.specs.Operators.{is_between, bits, without, single}

@@ -12,9 +12,9 @@ use Rattle.law_effect.specs.Bytes.{byte, copied_bytes, cleared_bytes, IsOnly}
 use Rattle.law_effect.proofs.Bytes.{copied_length, copied_small, copied_only, copied_moved, cleared_length, cleared_small, cleared_only, cleared_zero}
 use Rattle.law_effect.specs.Effect.{State as Target, Effect, then_run}
 use Rattle.law_effect.proofs.Steps.{split_end_at, i32_runs, get_runs, tee_runs, global_runs}
-use Rattle.m2_layout.specs.Types.{Ty, Scalar, Natural, Cell, Hidden, Array, row, component, IsPlain, IsScalar}
-use Rattle.m2_layout.specs.Sizes.{size, offset}
-use Rattle.m2_layout.specs.Shapes.{tree}
+use Rattle.layout_storage.specs.Types.{Ty, Scalar, Natural, Cell, Hidden, Array, row, component, IsPlain, IsScalar}
+use Rattle.layout_storage.specs.Sizes.{size, offset}
+use Rattle.layout_storage.specs.Shapes.{tree}
 use Rattle.def_meaning.specs.Around.{Modules}
 use Rattle.def_meaning.specs.Store.{Location, Store, behind, copied, placed}
 use Rattle.def_meaning.specs.Answer.{State as Source, Outcome, Went, with_answer}

@@ -6,9 +6,9 @@ use Rattle.typed_tree.specs.declared.known_types.Types.{Types}
 use Rattle.typed_tree.specs.declared.types.TypeNo.{TypeNo}
 use Rattle.typed_tree.specs.declared.typed_module.Routine.{Routine}
 use Rattle.typed_tree.specs.declared.typed_module.TypedModule.{TypedModule}
-use Rattle.m2_layout.specs.Types.{Ty, Scalar, Cell, Hidden, Array, Nothing, Field, row, component, IsScalar, IsPlain, IsFit}
-use Rattle.m2_layout.specs.Shapes.{tree}
-use Rattle.m2_layout.specs.Frames.{formals_of, formal_tree, frame, module_row}
+use Rattle.layout_storage.specs.Types.{Ty, Scalar, Cell, Hidden, Array, Nothing, Field, row, component, IsScalar, IsPlain, IsFit}
+use Rattle.layout_storage.specs.Shapes.{tree}
+use Rattle.layout_storage.specs.Frames.{formals_of, formal_tree, frame, module_row}
 use Rattle.law_simulation.specs.Passing.{ByName, ByArray, value_form, form_of, forms_of}
 use Rattle.law_simulation.specs.Stage.{IsForm, AreForms}
 use Rattle.law_modules.specs.Ranges.{AreRanged}

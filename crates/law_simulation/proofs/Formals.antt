@@ -8,9 +8,9 @@ use Rattle.wasm_tree.specs.declared.store.Value.TheVariants.{I64}
 use Rattle.law_effect.specs.Bytes.{byte}
 use Rattle.law_effect.specs.Effect.{State as Target, Effect, Ended}
 use Rattle.law_effect.proofs.Steps.{get_runs}
-use Rattle.m2_layout.specs.Types.{Ty, Natural, Cell, Hidden, Array, row, component, IsPlain}
-use Rattle.m2_layout.specs.Sizes.{Four, size, offset}
-use Rattle.m2_layout.specs.Texts.{passed}
+use Rattle.layout_storage.specs.Types.{Ty, Natural, Cell, Hidden, Array, row, component, IsPlain}
+use Rattle.layout_storage.specs.Sizes.{Four, size, offset}
+use Rattle.layout_storage.specs.Texts.{passed}
 use Rattle.def_meaning.specs.Store.{Location, Store, placed}
 use Rattle.def_meaning.specs.Statements.{character}
 use Rattle.def_meaning.specs.Around.{Modules, Named, At, Elements, Passed, Number, Variable, Array as Whole, Text}

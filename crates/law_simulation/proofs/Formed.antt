@@ -7,11 +7,11 @@ use Rattle.typed_tree.specs.declared.shape.Formal.{Formal}
 use Rattle.typed_tree.specs.declared.types.TypeNo.{TypeNo}
 use Rattle.typed_tree.specs.declared.known_types.Types.{Types}
 use Rattle.typed_tree.specs.declared.typed_module.Routine.{Routine}
-use Rattle.m2_layout.specs.Types.{Ty, Cell, Hidden, Array, Nothing, Field, row, frame_of}
-use Rattle.m2_layout.specs.Sizes.{size}
-use Rattle.m2_layout.specs.Shapes.{tree}
-use Rattle.m2_layout.specs.Frames.{formals_of, formal_tree, frame}
-use Rattle.m2_layout.specs.Texts.{passed}
+use Rattle.layout_storage.specs.Types.{Ty, Cell, Hidden, Array, Nothing, Field, row, frame_of}
+use Rattle.layout_storage.specs.Sizes.{size}
+use Rattle.layout_storage.specs.Shapes.{tree}
+use Rattle.layout_storage.specs.Frames.{formals_of, formal_tree, frame}
+use Rattle.layout_storage.specs.Texts.{passed}
 use Rattle.def_meaning.specs.Store.{Location}
 use Rattle.def_meaning.specs.Around.{Modules, Passed, Number, Variable, Array as Whole, Text}
 use Rattle.def_meaning.specs.Calls.{Entered, with_passed, with_all, copy_size, copies_size}

@@ -15,7 +15,7 @@ use Rattle.law_effect.proofs.Steps.{get_runs, i64_runs, block_runs, loop_runs, b
 use Rattle.typed_tree.specs.declared.types.TypeNo.{TypeNo}
 use Rattle.typed_tree.specs.declared.known_types.Types.{Types}
 use Rattle.typed_tree.specs.Known.{scalar_at}
-use Rattle.m2_layout.specs.Types.{Scalar, Cell, row, component}
+use Rattle.layout_storage.specs.Types.{Scalar, Cell, row, component}
 use Rattle.def_meaning.specs.Store.{Location}
 use Rattle.def_meaning.specs.Answer.{State as Source, Answer, Gave, Ended, Running, Outcome, Went, Left, Came, Stopped, Unfinished, then_go, with_answer}
 use Rattle.def_meaning.specs.Expressions.{Gives, as_type}

@@ -10,7 +10,7 @@ use Rattle.typed_tree.specs.declared.typed_module.Routine.{Routine}
 use Rattle.typed_tree.specs.declared.typed_module.Which.{Which}
 use Rattle.typed_tree.specs.declared.typed_module.Which.TheVariants as which
 use Rattle.typed_tree.specs.declared.typed_module.TypedModule.{TypedModule}
-use Rattle.m2_layout.specs.Texts.{characters, texts_before}
+use Rattle.layout_storage.specs.Texts.{characters, texts_before}
 use Rattle.def_scheme.specs.Exprs.{has_result}
 use Rattle.def_scheme.specs.Addresses.{addresses_in}
 use Rattle.def_scheme.specs.Functions.{numbers_of, frames_around, functions_from, routine_function}

@@ -14,11 +14,11 @@ use Rattle.law_effect.specs.Effect.{store_of}
 use Rattle.typed_tree.specs.declared.meaning.Variable.{Variable}
 use Rattle.typed_tree.specs.declared.typed_module.Imported.{Imported}
 use Rattle.typed_tree.specs.declared.typed_module.TypedModule.{TypedModule}
-use Rattle.m2_layout.specs.Types.{Ty, Hidden, row, component}
-use Rattle.m2_layout.specs.Sizes.{size, offset}
-use Rattle.m2_layout.specs.Shapes.{tree}
-use Rattle.m2_layout.specs.Frames.{module_row}
-use Rattle.m2_layout.specs.Texts.{characters, module_texts}
+use Rattle.layout_storage.specs.Types.{Ty, Hidden, row, component}
+use Rattle.layout_storage.specs.Sizes.{size, offset}
+use Rattle.layout_storage.specs.Shapes.{tree}
+use Rattle.layout_storage.specs.Frames.{module_row}
+use Rattle.layout_storage.specs.Texts.{characters, module_texts}
 use Rattle.def_meaning.specs.Around.{module_place}
 use Rattle.def_scheme.specs.Exprs.{is_own, import_place, base_global, variables_row, imported_row}
 use Rattle.law_modules.specs.Linked.{Program, names, imported_names, variables, values, place_of, base_at, text_at, tab_at, imported_places, link_values, slots_in, bytes_in}

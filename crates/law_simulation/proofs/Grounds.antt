@@ -5,11 +5,11 @@ use Rattle.std.proofs.lemmas.List.{length-append, length-replicate}
 use Rattle.std.proofs.lemmas.List.Elements.{All-head, All-tail}
 use Rattle.law_effect.specs.Bytes.{byte}
 use Rattle.typed_tree.specs.declared.typed_module.TypedModule.{TypedModule}
-use Rattle.m2_layout.specs.Types.{Ty, Scalar, Cell, Hidden, Nothing, Field, row, component}
-use Rattle.m2_layout.specs.Sizes.{size, offset}
-use Rattle.m2_layout.specs.Shapes.{tree}
-use Rattle.m2_layout.specs.Frames.{module_row}
-use Rattle.m2_layout.specs.Texts.{characters, module_texts}
+use Rattle.layout_storage.specs.Types.{Ty, Scalar, Cell, Hidden, Nothing, Field, row, component}
+use Rattle.layout_storage.specs.Sizes.{size, offset}
+use Rattle.layout_storage.specs.Shapes.{tree}
+use Rattle.layout_storage.specs.Frames.{module_row}
+use Rattle.layout_storage.specs.Texts.{characters, module_texts}
 use Rattle.def_meaning.specs.Store.{Location, fresh}
 use Rattle.def_meaning.specs.Runs.{first_state}
 use Rattle.law_memory.specs.Relation.{Says, Shows}

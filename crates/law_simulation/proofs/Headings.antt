@@ -12,9 +12,9 @@ use Rattle.typed_tree.specs.declared.shape.Shape.TheVariants as shape
 use Rattle.typed_tree.specs.declared.types.TypeNo.{TypeNo}
 use Rattle.typed_tree.specs.declared.known_types.Types.{Types}
 use Rattle.typed_tree.specs.Known.{made_at}
-use Rattle.m2_layout.specs.Types.{Ty, Hidden, Cell, Array, Nothing, Field, Heading}
-use Rattle.m2_layout.specs.Shapes.{tree, passing_of, heading_tree, known_trees}
-use Rattle.m2_layout.specs.Frames.{formals_in, formals_made, formals_of}
+use Rattle.layout_storage.specs.Types.{Ty, Hidden, Cell, Array, Nothing, Field, Heading}
+use Rattle.layout_storage.specs.Shapes.{tree, passing_of, heading_tree, known_trees}
+use Rattle.layout_storage.specs.Frames.{formals_in, formals_made, formals_of}
 use Rattle.def_meaning.specs.Calls.{is_function_made, gives_result, is_there}
 use Rattle.law_memory.specs.Relation.{heading_in, heading_made, heading_at}
 use Rattle.def_scheme.specs.Exprs.{arguments_of, all_arguments, has_result, result_made, result_in, is_there as there_code}

@@ -15,9 +15,9 @@ use Rattle.law_effect.specs.Effect.{State as Target, Effect, then_run}
 use Rattle.law_effect.proofs.Steps.{split_end_at, get_runs, indirect_runs, own_does}
 use Rattle.typed_tree.specs.declared.types.TypeNo.{TypeNo}
 use Rattle.typed_tree.specs.Types.{bitset}
-use Rattle.m2_layout.specs.Types.{Ty, Heading, row}
-use Rattle.m2_layout.specs.Sizes.{size}
-use Rattle.m2_layout.specs.Frames.{formals_of}
+use Rattle.layout_storage.specs.Types.{Ty, Heading, row}
+use Rattle.layout_storage.specs.Sizes.{size}
+use Rattle.layout_storage.specs.Frames.{formals_of}
 use Rattle.def_meaning.specs.Store.{Location}
 use Rattle.def_meaning.specs.Answer.{State as Source, Answer, Gave, Ended, Running, then_give}
 use Rattle.def_meaning.specs.Around.{Callee, Frames, Passed, entry_of, entry_callee}

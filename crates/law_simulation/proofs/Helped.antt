@@ -10,7 +10,7 @@ use Rattle.wasm_tree.specs.declared.store.Value.{Value}
 use Rattle.wasm_tree.specs.Machine.{Typed, own_function, callee_at, entered}
 use Rattle.law_effect.specs.Effect.{StillRunning, store_of, effect, nested, calling, State as Target}
 use Rattle.typed_tree.specs.declared.typed_module.TypedModule.{TypedModule}
-use Rattle.m2_layout.specs.Types.{Ty}
+use Rattle.layout_storage.specs.Types.{Ty}
 use Rattle.def_meaning.specs.Store.{Location}
 use Rattle.def_scheme.specs.Modules.{typed_module}
 use Rattle.law_modules.specs.Linked.{Program, all, count}

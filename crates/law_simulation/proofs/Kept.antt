@@ -6,7 +6,7 @@ use Rattle.wasm_tree.specs.declared.instr.Instr.TheVariants as instr
 use Rattle.wasm_tree.specs.declared.store.Value.{Value}
 use Rattle.wasm_tree.specs.declared.store.Value.TheVariants.{I32, I64}
 use Rattle.law_effect.specs.Effect.{State as Target, Effect, Does as Effects}
-use Rattle.m2_layout.specs.Types.{Ty, row, component}
+use Rattle.layout_storage.specs.Types.{Ty, row, component}
 use Rattle.def_meaning.specs.Store.{Location}
 use Rattle.def_meaning.specs.Answer.{State as Source, Answer, Gave, Ended, Running, Outcome, Went, Left, Came, Stopped, Unfinished, with_answer}
 use Rattle.def_meaning.specs.Expressions.{Gives}

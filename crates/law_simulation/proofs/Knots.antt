@@ -5,7 +5,7 @@ use Rattle.wasm_tree.specs.declared.module.WModule.{WModule}
 use Rattle.wasm_tree.specs.declared.store.Value.{Value}
 use Rattle.wasm_tree.specs.Machine.{Typed, zeros}
 use Rattle.law_effect.specs.Effect.{Fixed, StillRunning, State as Target, back, effect, nested, calling as helping}
-use Rattle.m2_layout.specs.Types.{Ty}
+use Rattle.layout_storage.specs.Types.{Ty}
 use Rattle.def_meaning.specs.Store.{Location}
 use Rattle.def_meaning.specs.Around.{Modules}
 use Rattle.def_meaning.specs.Calls.{calling}

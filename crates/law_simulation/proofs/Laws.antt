@@ -18,9 +18,9 @@ use Rattle.def_meaning.specs.Store.{Location}
 use Rattle.def_meaning.specs.Operators.{truth, compared, is_true, absolute, capital, odd, quotient, remainder, bits, without, combined, has}
 use Rattle.def_meaning.specs.Statements.{Does, changed, rechecked, for_all, chosen, stored}
 use Rattle.def_scheme.specs.Coded.{Coded, plain, ◌⨾◌, all_coded, raised, with_setting, with_number, wrapped, number, operation, checked, relation, extended}
-use Rattle.m2_layout.specs.Types.{Ty}
-use Rattle.m2_layout.specs.Sizes.{offset}
-use Rattle.m2_layout.specs.Shapes.{tree}
+use Rattle.layout_storage.specs.Types.{Ty}
+use Rattle.layout_storage.specs.Sizes.{offset}
+use Rattle.layout_storage.specs.Shapes.{tree}
 use Rattle.def_scheme.specs.Cells as cells
 use Rattle.def_scheme.specs.Cells.{in_type}
 use Rattle.def_scheme.specs.Exprs.{root_layer as root_code, behind, global_code, element_code, complement, set_code, abs_code, absolute_code, capital_code, ord_check, Linked, chain_type, chain_code, empty_code, arithmetic_code, relation_of}

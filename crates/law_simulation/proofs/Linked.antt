@@ -17,10 +17,10 @@ use Rattle.typed_tree.specs.declared.typed_module.Routine.{Routine}
 use Rattle.typed_tree.specs.declared.typed_module.Which.{Which}
 use Rattle.typed_tree.specs.declared.typed_module.Which.TheVariants as which
 use Rattle.typed_tree.specs.declared.typed_module.TypedModule.{TypedModule}
-use Rattle.m2_layout.specs.Types.{Ty, row, component}
-use Rattle.m2_layout.specs.Shapes.{tree}
-use Rattle.m2_layout.specs.Frames.{module_row}
-use Rattle.m2_layout.specs.Texts.{characters, module_texts}
+use Rattle.layout_storage.specs.Types.{Ty, row, component}
+use Rattle.layout_storage.specs.Shapes.{tree}
+use Rattle.layout_storage.specs.Frames.{module_row}
+use Rattle.layout_storage.specs.Texts.{characters, module_texts}
 use Rattle.def_meaning.specs.Around.{module_place, entries_before}
 use Rattle.law_memory.specs.Relation.{value_number}
 use Rattle.def_scheme.specs.Coded.{body_index}

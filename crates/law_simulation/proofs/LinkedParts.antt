@@ -7,8 +7,8 @@ use Rattle.typed_tree.specs.declared.typed_module.Routine.{Routine}
 use Rattle.typed_tree.specs.declared.typed_module.Which.{Which}
 use Rattle.typed_tree.specs.declared.typed_module.Which.TheVariants as which
 use Rattle.typed_tree.specs.declared.typed_module.TypedModule.{TypedModule}
-use Rattle.m2_layout.specs.Types.{Ty}
-use Rattle.m2_layout.specs.Texts.{characters, routines_texts}
+use Rattle.layout_storage.specs.Types.{Ty}
+use Rattle.layout_storage.specs.Texts.{characters, routines_texts}
 use Rattle.def_scheme.specs.Functions.{routine_of, routine_at, around_in, own_frame, frames_around}
 use Rattle.def_scheme.specs.Modules.{numbered}
 use Rattle.law_modules.proofs.Own.{of_own, of_nested, at_place}

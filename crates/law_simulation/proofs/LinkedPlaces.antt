@@ -9,7 +9,7 @@ use Rattle.wasm_tree.specs.declared.store.Value.TheVariants.{I32}
 use Rattle.wasm_tree.specs.Machine.{callee_at, global_at, memory_of}
 use Rattle.law_effect.specs.Effect.{store_of}
 use Rattle.typed_tree.specs.declared.typed_module.TypedModule.{TypedModule}
-use Rattle.m2_layout.specs.Texts.{characters, module_texts}
+use Rattle.layout_storage.specs.Texts.{characters, module_texts}
 use Rattle.def_scheme.specs.Modules.{slots, typed_module}
 use Rattle.law_modules.specs.Linked.{Program, all, variables, count, values, own_from, somes_from, owns, filled, module_instance, instances, link_values, slots_in, bytes_in}
 use Rattle.law_modules.proofs.Stores.{counts, somes_length}

@@ -3,7 +3,7 @@ use Rattle.std.proofs.Common.{◌≡◌, [], ◌∷◌, ◌++◌, length, Some, 
 use Rattle.std.specs.Prelude.{slice_get, All}
 use Rattle.std.proofs.lemmas.List.Elements.{All-cons, All-nil}
 use Rattle.typed_tree.specs.declared.typed_module.TypedModule.{TypedModule}
-use Rattle.m2_layout.specs.Sizes.{size}
+use Rattle.layout_storage.specs.Sizes.{size}
 use Rattle.def_meaning.specs.Runs.{body_frame}
 use Rattle.law_modules.specs.Linked.{Program}
 use Rattle.law_simulation.specs.RunsPrograms.{IsSound}

@@ -9,10 +9,10 @@ use Rattle.wasm_tree.specs.Machine.{global_at}
 use Rattle.law_effect.specs.Bytes.{byte}
 use Rattle.law_effect.specs.Effect.{store_of}
 use Rattle.typed_tree.specs.declared.typed_module.TypedModule.{TypedModule}
-use Rattle.m2_layout.specs.Types.{Ty, Hidden, row, component}
-use Rattle.m2_layout.specs.Sizes.{size, offset}
-use Rattle.m2_layout.specs.Shapes.{tree}
-use Rattle.m2_layout.specs.Texts.{characters, module_texts}
+use Rattle.layout_storage.specs.Types.{Ty, Hidden, row, component}
+use Rattle.layout_storage.specs.Sizes.{size, offset}
+use Rattle.layout_storage.specs.Shapes.{tree}
+use Rattle.layout_storage.specs.Texts.{characters, module_texts}
 use Rattle.def_meaning.specs.Around.{module_place, entries_before}
 use Rattle.def_scheme.specs.Exprs.{is_own, import_place, slots_global}
 use Rattle.def_scheme.specs.Modules.{slots}

@@ -10,8 +10,8 @@ use Rattle.wasm_tree.specs.Machine.{Typed, zeros}
 use Rattle.law_effect.specs.Effect.{State as Target, Effect, FellThrough, Ended, or_traps, back_with, back}
 use Rattle.law_effect.proofs.Steps.{split_end_at}
 use Rattle.typed_tree.specs.declared.typed_module.TypedModule.{TypedModule}
-use Rattle.m2_layout.specs.Types.{Ty, Scalar, Hidden, Cell, Field, row, component, IsFit}
-use Rattle.m2_layout.specs.Sizes.{size, offset}
+use Rattle.layout_storage.specs.Types.{Ty, Scalar, Hidden, Cell, Field, row, component, IsFit}
+use Rattle.layout_storage.specs.Sizes.{size, offset}
 use Rattle.def_meaning.specs.Store.{Location, placed, fresh}
 use Rattle.def_meaning.specs.Answer.{State as Source, Outcome, Went, Left, Came, Stopped, Unfinished}
 use Rattle.def_meaning.specs.Around.{Modules, Around}

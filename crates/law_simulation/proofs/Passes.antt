@@ -13,10 +13,10 @@ use Rattle.typed_tree.specs.declared.types.TypeNo.{TypeNo}
 use Rattle.typed_tree.specs.declared.shape.Scalar.{Scalar as Range}
 use Rattle.typed_tree.specs.declared.known_types.Types.{Types}
 use Rattle.typed_tree.specs.Known.{made_at}
-use Rattle.m2_layout.specs.Types.{Ty, Scalar, Natural, Cell, Hidden, Array, row, component}
-use Rattle.m2_layout.specs.Sizes.{offset, size}
-use Rattle.m2_layout.specs.Shapes.{tree, elements_of}
-use Rattle.m2_layout.specs.Texts.{passed}
+use Rattle.layout_storage.specs.Types.{Ty, Scalar, Natural, Cell, Hidden, Array, row, component}
+use Rattle.layout_storage.specs.Sizes.{offset, size}
+use Rattle.layout_storage.specs.Shapes.{tree, elements_of}
+use Rattle.layout_storage.specs.Texts.{passed}
 use Rattle.def_meaning.specs.Store.{Location}
 use Rattle.def_meaning.specs.Answer.{State as Source, Answer, Gave, Ended, Running, then_give}
 use Rattle.def_meaning.specs.Around.{Passed, Number, Variable, Array as Whole, Text, named, location_of, high_of}

@@ -15,9 +15,9 @@ use Rattle.law_effect.specs.Effect.{State as Target}
 use Rattle.law_effect.proofs.Steps.{i32_runs, i64_runs, number_runs, load_runs, global_runs, two_32}
 use Rattle.typed_tree.specs.declared.types.TypeNo.{TypeNo}
 use Rattle.typed_tree.specs.declared.meaning.Variable.{Variable}
-use Rattle.m2_layout.specs.Types.{Ty, Scalar, Natural, Integer, Between, Callable, Cell, row, component, IsScalar}
-use Rattle.m2_layout.specs.Sizes.{size, offset, width, bytes_in, room_for}
-use Rattle.m2_layout.specs.Shapes.{tree}
+use Rattle.layout_storage.specs.Types.{Ty, Scalar, Natural, Integer, Between, Callable, Cell, row, component, IsScalar}
+use Rattle.layout_storage.specs.Sizes.{size, offset, width, bytes_in, room_for}
+use Rattle.layout_storage.specs.Shapes.{tree}
 use Rattle.def_meaning.specs.Store.{Location}
 use Rattle.def_meaning.specs.Answer.{State as Source}
 use Rattle.law_memory.specs.Cells as cells

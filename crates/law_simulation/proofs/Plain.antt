@@ -15,8 +15,8 @@ use Rattle.typed_tree.specs.declared.shape.Made.{Made}
 use Rattle.typed_tree.specs.declared.known_types.Types.{Types}
 use Rattle.typed_tree.specs.Types.{are_same, is_integer}
 use Rattle.typed_tree.specs.Known.{predeclared_scalar}
-use Rattle.m2_layout.specs.Types.{Ty, Natural, Integer, Between, Callable, Heading, row, IsScalar, IsPlain}
-use Rattle.m2_layout.specs.Shapes.{Trees, scalar_kind, or_nothing, in_module, scalar_tree, tree_from, tree_in, heading_tree, shape_tree, with_made, module_trees, with_module, other_trees, known_trees, tree}
+use Rattle.layout_storage.specs.Types.{Ty, Natural, Integer, Between, Callable, Heading, row, IsScalar, IsPlain}
+use Rattle.layout_storage.specs.Shapes.{Trees, scalar_kind, or_nothing, in_module, scalar_tree, tree_from, tree_in, heading_tree, shape_tree, with_made, module_trees, with_module, other_trees, known_trees, tree}
 use Rattle.law_modules.specs.Ranges.{IsRange, IsRanged, type_of, AreRangedFrom, OthersRanged, AreRanged}
 use Rattle.law_modules.proofs.Known.{predeclared_is}
 

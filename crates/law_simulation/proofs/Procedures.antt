@@ -11,7 +11,7 @@ use Rattle.typed_tree.specs.declared.known_types.Types.{Types}
 use Rattle.typed_tree.specs.declared.shape.Scalar.{Scalar as Range}
 use Rattle.typed_tree.specs.declared.types.TypeNo.{TypeNo}
 use Rattle.typed_tree.specs.Known.{scalar_at}
-use Rattle.m2_layout.specs.Types.{Ty, Scalar, Callable, Cell, Heading, IsOf}
+use Rattle.layout_storage.specs.Types.{Ty, Scalar, Callable, Cell, Heading, IsOf}
 use Rattle.def_meaning.specs.Store.{Location}
 use Rattle.def_meaning.specs.Answer.{State as Source, Answer, Gave, Ended, Running, then_give, Outcome, Went, Came, with_answer, range_fault}
 use Rattle.def_meaning.specs.Around.{Number}

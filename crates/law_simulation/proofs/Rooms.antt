@@ -3,8 +3,8 @@ use Rattle.std.proofs.Common.{◌≡◌, ℕ, zero, suc, ◌+◌, ◌^◌, ◌<�
 use Rattle.std.specs.Prelude.{nat_eq, get_or}
 use Rattle.std.specs.Int.{w64, to_le_bytes}
 use Rattle.std.proofs.lemmas.Bool.{ne_eqb}
-use Rattle.m2_layout.specs.Types.{Ty, row, component}
-use Rattle.m2_layout.specs.Sizes.{Four, size, offset}
+use Rattle.layout_storage.specs.Types.{Ty, row, component}
+use Rattle.layout_storage.specs.Sizes.{Four, size, offset}
 use Rattle.def_meaning.specs.Store.{Location, behind, placed}
 use Rattle.law_memory.specs.Cells.{stored_in}
 use Rattle.law_memory.specs.Relation.{Keeps}

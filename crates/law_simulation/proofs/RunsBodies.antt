@@ -9,8 +9,8 @@ use Rattle.law_effect.specs.Effect.{State as Target, store_of, Effect, FellThrou
 use Rattle.law_effect.specs.Laws.{Reaches, GoesOn, RunLeads, comes, shown, IsOver}
 use Rattle.law_effect.proofs.Follows.{nested_runs}
 use Rattle.law_effect.proofs.Whole.{nested_only, nested_prints}
-use Rattle.m2_layout.specs.Types.{row}
-use Rattle.m2_layout.specs.Sizes.{size}
+use Rattle.layout_storage.specs.Types.{row}
+use Rattle.layout_storage.specs.Sizes.{size}
 use Rattle.def_meaning.specs.Answer.{State as Source, Outcome, Went, Left, Came, Stopped, Unfinished}
 use Rattle.def_meaning.specs.Around.{Modules}
 use Rattle.def_meaning.specs.Runs.{storage, body_frame, bodies, first_state, then_body}

@@ -4,8 +4,8 @@ use Rattle.std.specs.Prelude.{replicate}
 use Rattle.wasm_tree.specs.declared.instr.Instr.{Instr}
 use Rattle.wasm_tree.specs.Machine.{Config, Going, entered}
 use Rattle.law_effect.specs.Effect.{store_of}
-use Rattle.m2_layout.specs.Types.{row}
-use Rattle.m2_layout.specs.Sizes.{size}
+use Rattle.layout_storage.specs.Types.{row}
+use Rattle.layout_storage.specs.Sizes.{size}
 use Rattle.law_memory.specs.Bodies.{run_typed, bodies_code}
 use Rattle.law_modules.specs.Linked.{Program, all, bytes_in, image, begin, linked_store}
 use Rattle.law_modules.proofs.Placed.{modules_link}

@@ -16,8 +16,8 @@ use Rattle.law_effect.specs.Bytes.{copied_bytes, AreMoved}
 use Rattle.law_effect.proofs.Bytes.{copied_length, copied_small, copied_only, copied_moved}
 use Rattle.law_effect.specs.Effect.{State as Target, Effect, Ended, then_run, out_of, exec, picked, does}
 use Rattle.law_effect.proofs.Steps.{i32_runs, i64_runs, get_runs, set_runs, tee_runs, global_runs, number_runs, two_32, if_one_runs, stop_runs}
-use Rattle.m2_layout.specs.Types.{Ty, Scalar, Natural, Cell, Hidden, Array, row, component, IsPlain, IsScalar, IsOf}
-use Rattle.m2_layout.specs.Sizes.{Four, size, offset}
+use Rattle.layout_storage.specs.Types.{Ty, Scalar, Natural, Cell, Hidden, Array, row, component, IsPlain, IsScalar, IsOf}
+use Rattle.layout_storage.specs.Sizes.{Four, size, offset}
 use Rattle.def_meaning.specs.Store.{Location, Store, assigned, copied, placed}
 use Rattle.law_memory.specs.Cells as cells
 use Rattle.law_memory.specs.Cells.{stored_in}

@@ -23,9 +23,9 @@ use Rattle.typed_tree.specs.declared.statement.TypedStmt.TheVariants as stmt
 use Rattle.typed_tree.specs.declared.types.TypeNo.{TypeNo}
 use Rattle.typed_tree.specs.Types.{boolean, char, bitset}
 use Rattle.typed_tree.specs.Known.{scalar_at}
-use Rattle.m2_layout.specs.Types.{Ty, Scalar, Natural, Callable, Cell, Array, Heading, row, component, IsPlain}
-use Rattle.m2_layout.specs.Sizes.{size}
-use Rattle.m2_layout.specs.Shapes.{tree}
+use Rattle.layout_storage.specs.Types.{Ty, Scalar, Natural, Callable, Cell, Array, Heading, row, component, IsPlain}
+use Rattle.layout_storage.specs.Sizes.{size}
+use Rattle.layout_storage.specs.Shapes.{tree}
 use Rattle.def_meaning.specs.Store.{Location, copied, placed}
 use Rattle.def_meaning.specs.Answer.{State as Source, Answer, Gave, Ended, Running, then_give, Outcome, Went, Came, with_answer}
 use Rattle.def_meaning.specs.Around.{Modules, Around, Named, At, Elements, location_of, named}

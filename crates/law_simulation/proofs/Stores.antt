@@ -10,9 +10,9 @@ use Rattle.wasm_tree.specs.Machine.{pasted}
 use Rattle.law_effect.specs.Effect.{State as Target, Effect}
 use Rattle.law_effect.proofs.Steps.{i64_runs, store_runs}
 use Rattle.typed_tree.specs.declared.types.TypeNo.{TypeNo}
-use Rattle.m2_layout.specs.Types.{Ty, Scalar, Natural, Integer, Between, Callable, Cell, row, component, IsScalar, IsOf}
-use Rattle.m2_layout.specs.Sizes.{Room, One, Two, Four, room_of, bytes_in, size, width}
-use Rattle.m2_layout.specs.Shapes.{tree}
+use Rattle.layout_storage.specs.Types.{Ty, Scalar, Natural, Integer, Between, Callable, Cell, row, component, IsScalar, IsOf}
+use Rattle.layout_storage.specs.Sizes.{Room, One, Two, Four, room_of, bytes_in, size, width}
+use Rattle.layout_storage.specs.Shapes.{tree}
 use Rattle.def_meaning.specs.Store.{Location}
 use Rattle.def_meaning.specs.Answer.{State as Source}
 use Rattle.def_meaning.specs.Statements.{stored as stores}

@@ -6,8 +6,8 @@ use Rattle.wasm_tree.specs.declared.instr.Instr.{Instr}
 use Rattle.wasm_tree.specs.declared.store.Value.{Value}
 use Rattle.wasm_tree.specs.declared.store.Value.TheVariants.{I32}
 use Rattle.typed_tree.specs.declared.types.TypeNo.{TypeNo}
-use Rattle.m2_layout.specs.Types.{Ty, Heading, row, component}
-use Rattle.m2_layout.specs.Sizes.{size}
+use Rattle.layout_storage.specs.Types.{Ty, Heading, row, component}
+use Rattle.layout_storage.specs.Sizes.{size}
 use Rattle.def_meaning.specs.Store.{Location}
 use Rattle.def_meaning.specs.Around.{Callee}
 use Rattle.def_meaning.specs.Expressions.{Asks}

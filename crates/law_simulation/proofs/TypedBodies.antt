@@ -6,9 +6,9 @@ use Rattle.law_effect.specs.Effect.{Fixed}
 use Rattle.typed_tree.specs.declared.typed_module.Routine.{Routine}
 use Rattle.typed_tree.specs.declared.typed_module.Which.TheVariants as which
 use Rattle.typed_tree.specs.declared.typed_module.TypedModule.{TypedModule}
-use Rattle.m2_layout.specs.Types.{Ty}
-use Rattle.m2_layout.specs.Frames.{frame}
-use Rattle.m2_layout.specs.Texts.{characters, routines_texts}
+use Rattle.layout_storage.specs.Types.{Ty}
+use Rattle.layout_storage.specs.Frames.{frame}
+use Rattle.layout_storage.specs.Texts.{characters, routines_texts}
 use Rattle.def_meaning.specs.Store.{Location}
 use Rattle.def_meaning.specs.Around.{Modules, Around}
 use Rattle.def_meaning.specs.Calls.{is_there, body_does, calling}

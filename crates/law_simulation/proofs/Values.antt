@@ -13,8 +13,8 @@ use Rattle.typed_tree.specs.declared.types.TypeNo.{TypeNo}
 use Rattle.typed_tree.specs.declared.shape.Scalar.{Scalar as Range}
 use Rattle.typed_tree.specs.declared.known_types.Types.{Types}
 use Rattle.typed_tree.specs.Known.{scalar_at}
-use Rattle.m2_layout.specs.Types.{Ty, Scalar, Cell, IsOf}
-use Rattle.m2_layout.specs.Shapes.{tree}
+use Rattle.layout_storage.specs.Types.{Ty, Scalar, Cell, IsOf}
+use Rattle.layout_storage.specs.Shapes.{tree}
 use Rattle.def_meaning.specs.Answer.{State as Source, Answer, Gave, Ended, then_give, Came, range_fault}
 use Rattle.def_meaning.specs.Around.{Modules, procedure_value}
 use Rattle.def_meaning.specs.Operators.{is_between}

@@ -8,8 +8,8 @@ use Rattle.wasm_tree.specs.Machine.{Typed, Going, entered}
 use Rattle.law_effect.specs.Effect.{Fixed, store_of, Effect, FellThrough, StillRunning, Calling, back, nested}
 use Rattle.law_effect.specs.Effect as effects
 use Rattle.typed_tree.specs.declared.typed_module.TypedModule.{TypedModule}
-use Rattle.m2_layout.specs.Types.{Ty, row}
-use Rattle.m2_layout.specs.Sizes.{size}
+use Rattle.layout_storage.specs.Types.{Ty, row}
+use Rattle.layout_storage.specs.Sizes.{size}
 use Rattle.def_meaning.specs.Store.{Location}
 use Rattle.def_meaning.specs.Answer.{State as Source, Outcome, Went, Left, Came, Stopped, Unfinished}
 use Rattle.def_meaning.specs.Around.{Modules}

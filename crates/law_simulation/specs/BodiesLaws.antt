@@ -5,9 +5,9 @@ use Rattle.wasm_tree.specs.declared.module.WModule.{WModule}
 use Rattle.law_effect.specs.Effect.{Fixed, nested}
 use Rattle.typed_tree.specs.declared.typed_module.Which.TheVariants as which
 use Rattle.typed_tree.specs.declared.typed_module.TypedModule.{TypedModule}
-use Rattle.m2_layout.specs.Types.{Ty, row}
-use Rattle.m2_layout.specs.Sizes.{size}
-use Rattle.m2_layout.specs.Texts.{characters, routines_texts}
+use Rattle.layout_storage.specs.Types.{Ty, row}
+use Rattle.layout_storage.specs.Sizes.{size}
+use Rattle.layout_storage.specs.Texts.{characters, routines_texts}
 use Rattle.def_meaning.specs.Store.{Location}
 use Rattle.def_meaning.specs.Around.{Modules}
 use Rattle.def_meaning.specs.Calls.{calling}

@@ -6,8 +6,8 @@ use Rattle.typed_tree.specs.declared.computed.LocalProcedure.{LocalProcedure}
 use Rattle.typed_tree.specs.declared.meaning.Procedure.{Procedure}
 use Rattle.typed_tree.specs.declared.meaning.Variable.{Variable}
 use Rattle.typed_tree.specs.declared.types.TypeNo.{TypeNo}
-use Rattle.m2_layout.specs.Types.{Ty}
-use Rattle.m2_layout.specs.Frames.{formals_of}
+use Rattle.layout_storage.specs.Types.{Ty}
+use Rattle.layout_storage.specs.Frames.{formals_of}
 use Rattle.def_meaning.specs.Store.{Location}
 use Rattle.def_meaning.specs.Around.{Callee, module_place, module_callee, nested_in}
 use Rattle.def_meaning.specs.Expressions.{Asks}

@@ -7,10 +7,10 @@ use Rattle.typed_tree.specs.declared.computed.Slot.{Slot}
 use Rattle.typed_tree.specs.declared.shape.Formal.{Formal}
 use Rattle.typed_tree.specs.declared.known_types.Types.{Types}
 use Rattle.typed_tree.specs.declared.typed_module.Routine.{Routine}
-use Rattle.m2_layout.specs.Types.{Ty, Hidden, Array, row, frame_of, component}
-use Rattle.m2_layout.specs.Sizes.{Four, offset}
-use Rattle.m2_layout.specs.Shapes.{tree}
-use Rattle.m2_layout.specs.Frames.{formals_of}
+use Rattle.layout_storage.specs.Types.{Ty, Hidden, Array, row, frame_of, component}
+use Rattle.layout_storage.specs.Sizes.{Four, offset}
+use Rattle.layout_storage.specs.Shapes.{tree}
+use Rattle.layout_storage.specs.Frames.{formals_of}
 use Rattle.def_meaning.specs.Store.{Location}
 use Rattle.def_meaning.specs.Around.{Named, At, Elements, Frames}
 use Rattle.law_memory.specs.Cells.{stored_in}

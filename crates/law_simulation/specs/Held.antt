@@ -11,9 +11,9 @@ use Rattle.typed_tree.specs.declared.computed.Argument.TheOpen as layer
 use Rattle.typed_tree.specs.declared.meaning.Procedure.{Procedure}
 use Rattle.typed_tree.specs.declared.types.TypeNo.{TypeNo}
 use Rattle.typed_tree.specs.Known.{scalar_at}
-use Rattle.m2_layout.specs.Types.{Ty, Scalar, Callable, Cell, Heading, IsOf}
-use Rattle.m2_layout.specs.Shapes.{tree}
-use Rattle.m2_layout.specs.Frames.{formals_of}
+use Rattle.layout_storage.specs.Types.{Ty, Scalar, Callable, Cell, Heading, IsOf}
+use Rattle.layout_storage.specs.Shapes.{tree}
+use Rattle.layout_storage.specs.Frames.{formals_of}
 use Rattle.def_meaning.specs.Store.{Location}
 use Rattle.def_meaning.specs.Answer.{State as Source, Gave, Went, Came, then_give, with_answer}
 use Rattle.def_meaning.specs.Around.{Modules, Callee, Passed, Number, module_place, entry_of, entry_callee}

@@ -5,7 +5,7 @@ use Rattle.wasm_tree.specs.Machine.{Typed}
 use Rattle.law_effect.specs.Effect.{Fixed, nested}
 use Rattle.typed_tree.specs.declared.typed_module.Routine.{Routine}
 use Rattle.typed_tree.specs.declared.typed_module.TypedModule.{TypedModule}
-use Rattle.m2_layout.specs.Types.{Ty}
+use Rattle.layout_storage.specs.Types.{Ty}
 use Rattle.def_meaning.specs.Store.{Location}
 use Rattle.def_meaning.specs.Around.{Modules, Around, Frames}
 use Rattle.def_meaning.specs.Calls.{calling}

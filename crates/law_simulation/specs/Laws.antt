@@ -16,8 +16,8 @@ use Rattle.typed_tree.specs.declared.shape.Scalar.{Scalar as Range}
 use Rattle.typed_tree.specs.declared.meaning.Variable.{Variable}
 use Rattle.typed_tree.specs.Types.{are_same, integer, cardinal, boolean, char, bitset}
 use Rattle.typed_tree.specs.Known.{scalar_at}
-use Rattle.m2_layout.specs.Types.{Ty, Scalar, Cell, Array, row, component}
-use Rattle.m2_layout.specs.Shapes.{tree, elements_of}
+use Rattle.layout_storage.specs.Types.{Ty, Scalar, Cell, Array, row, component}
+use Rattle.layout_storage.specs.Shapes.{tree, elements_of}
 use Rattle.def_meaning.specs.Store.{Location}
 use Rattle.def_meaning.specs.Answer.{Gave, Went, Left, Came, Stopped, with_answer, then_go, range_fault, halted}
 use Rattle.def_meaning.specs.Around.{Modules, module_place}

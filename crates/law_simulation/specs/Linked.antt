@@ -11,9 +11,9 @@ use Rattle.typed_tree.specs.declared.typed_module.Routine.{Routine}
 use Rattle.typed_tree.specs.declared.typed_module.Which.{Which}
 use Rattle.typed_tree.specs.declared.typed_module.Which.TheVariants as which
 use Rattle.typed_tree.specs.declared.typed_module.TypedModule.{TypedModule}
-use Rattle.m2_layout.specs.Types.{Ty, Hidden, row, component}
-use Rattle.m2_layout.specs.Sizes.{offset}
-use Rattle.m2_layout.specs.Texts.{characters, module_texts, texts_before}
+use Rattle.layout_storage.specs.Types.{Ty, Hidden, row, component}
+use Rattle.layout_storage.specs.Sizes.{offset}
+use Rattle.layout_storage.specs.Texts.{characters, module_texts, texts_before}
 use Rattle.def_meaning.specs.Store.{Location}
 use Rattle.def_meaning.specs.Around.{Modules, module_place, procedure_value}
 use Rattle.law_memory.specs.Relation.{value_number}

@@ -5,8 +5,8 @@ use Rattle.wasm_tree.specs.declared.module.WModule.{WModule}
 use Rattle.wasm_tree.specs.Machine.{Typed}
 use Rattle.law_effect.specs.Effect.{Fixed, nested}
 use Rattle.typed_tree.specs.declared.typed_module.TypedModule.{TypedModule}
-use Rattle.m2_layout.specs.Types.{Ty, row, frame_of}
-use Rattle.m2_layout.specs.Sizes.{size, offset}
+use Rattle.layout_storage.specs.Types.{Ty, row, frame_of}
+use Rattle.layout_storage.specs.Sizes.{size, offset}
 use Rattle.def_meaning.specs.Store.{Location, placed}
 use Rattle.def_meaning.specs.Around.{Modules, Around}
 use Rattle.def_meaning.specs.Calls.{body_does, calling}

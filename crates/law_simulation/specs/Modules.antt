@@ -3,9 +3,9 @@ use Rattle.std.specs.Prelude.{◌≡◌, ℕ, ◌<◌, ◌^◌, false, [], ◌�
 use Rattle.typed_tree.specs.declared.typed_module.Routine.{Routine}
 use Rattle.typed_tree.specs.declared.typed_module.Which.{Which}
 use Rattle.typed_tree.specs.declared.typed_module.TypedModule.{TypedModule}
-use Rattle.m2_layout.specs.Sizes.{size}
-use Rattle.m2_layout.specs.Frames.{frame}
-use Rattle.m2_layout.specs.Texts.{characters, routines_texts}
+use Rattle.layout_storage.specs.Sizes.{size}
+use Rattle.layout_storage.specs.Frames.{frame}
+use Rattle.layout_storage.specs.Texts.{characters, routines_texts}
 use Rattle.def_scheme.specs.Functions.{routine_of}
 use Rattle.law_modules.specs.WellFormed.{IsWellFormed}
 use Rattle.law_modules.specs.Linked.{Program, text}

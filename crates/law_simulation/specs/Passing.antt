@@ -13,12 +13,12 @@ use Rattle.typed_tree.specs.declared.shape.Shape.TheVariants as shape
 use Rattle.typed_tree.specs.declared.types.TypeNo.{TypeNo}
 use Rattle.typed_tree.specs.declared.known_types.Types.{Types}
 use Rattle.typed_tree.specs.Known.{made_at}
-use Rattle.m2_layout.specs.Types as layout
-use Rattle.m2_layout.specs.Types.{Passing, Ty, Scalar, Natural, Cell, Hidden, Array, Nothing, Field, Heading, row, component, IsOf}
-use Rattle.m2_layout.specs.Sizes.{size, offset}
-use Rattle.m2_layout.specs.Shapes.{tree}
-use Rattle.m2_layout.specs.Frames.{formals_of}
-use Rattle.m2_layout.specs.Texts.{passed}
+use Rattle.layout_storage.specs.Types as layout
+use Rattle.layout_storage.specs.Types.{Passing, Ty, Scalar, Natural, Cell, Hidden, Array, Nothing, Field, Heading, row, component, IsOf}
+use Rattle.layout_storage.specs.Sizes.{size, offset}
+use Rattle.layout_storage.specs.Shapes.{tree}
+use Rattle.layout_storage.specs.Frames.{formals_of}
+use Rattle.layout_storage.specs.Texts.{passed}
 use Rattle.def_meaning.specs.Store.{Location}
 use Rattle.def_meaning.specs.Answer.{State as Source}
 use Rattle.def_meaning.specs.Around.{Modules, Callee, Passed, Number, Variable, Array as Whole, Text}

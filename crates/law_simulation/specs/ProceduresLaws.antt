@@ -8,9 +8,9 @@ use Rattle.wasm_tree.specs.Machine.{Typed, zeros}
 use Rattle.law_effect.specs.Effect.{Calling}
 use Rattle.typed_tree.specs.declared.typed_module.Routine.{Routine}
 use Rattle.typed_tree.specs.declared.typed_module.TypedModule.{TypedModule}
-use Rattle.m2_layout.specs.Types.{Ty, row, IsFit}
-use Rattle.m2_layout.specs.Sizes.{size, offset}
-use Rattle.m2_layout.specs.Frames.{frame}
+use Rattle.layout_storage.specs.Types.{Ty, row, IsFit}
+use Rattle.layout_storage.specs.Sizes.{size, offset}
+use Rattle.layout_storage.specs.Frames.{frame}
 use Rattle.def_meaning.specs.Store.{Location}
 use Rattle.def_meaning.specs.Answer.{State as Source, Left}
 use Rattle.def_meaning.specs.Around.{Modules, Around, Frames, Callee, Passed}

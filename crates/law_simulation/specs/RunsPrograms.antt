@@ -6,11 +6,11 @@ use Rattle.wasm_tree.specs.Linking.{link}
 use Rattle.law_effect.specs.Bytes.{byte}
 use Rattle.law_effect.specs.Effect.{Fixed, nested}
 use Rattle.typed_tree.specs.declared.typed_module.TypedModule.{TypedModule}
-use Rattle.m2_layout.specs.Types.{Ty, Hidden, row, IsFit}
-use Rattle.m2_layout.specs.Sizes.{offset}
-use Rattle.m2_layout.specs.Shapes.{tree}
-use Rattle.m2_layout.specs.Frames.{module_row}
-use Rattle.m2_layout.specs.Texts.{characters, module_texts}
+use Rattle.layout_storage.specs.Types.{Ty, Hidden, row, IsFit}
+use Rattle.layout_storage.specs.Sizes.{offset}
+use Rattle.layout_storage.specs.Shapes.{tree}
+use Rattle.layout_storage.specs.Frames.{module_row}
+use Rattle.layout_storage.specs.Texts.{characters, module_texts}
 use Rattle.def_meaning.specs.Runs.{run}
 use Rattle.def_scheme.specs.Functions.{module_function}
 use Rattle.def_scheme.specs.Modules.{numbered, slots}

@@ -6,9 +6,9 @@ use Rattle.wasm_tree.specs.declared.store.Value.{Value}
 use Rattle.wasm_tree.specs.declared.store.Value.TheVariants.{I32}
 use Rattle.wasm_tree.specs.Machine.{global_at}
 use Rattle.law_effect.specs.Effect.{State as Target, store_of}
-use Rattle.m2_layout.specs.Types.{Ty, Cell, Array, row, component, IsScalar, IsPlain}
-use Rattle.m2_layout.specs.Sizes.{size, offset}
-use Rattle.m2_layout.specs.Texts.{passed}
+use Rattle.layout_storage.specs.Types.{Ty, Cell, Array, row, component, IsScalar, IsPlain}
+use Rattle.layout_storage.specs.Sizes.{size, offset}
+use Rattle.layout_storage.specs.Texts.{passed}
 use Rattle.def_meaning.specs.Store.{Location, Store}
 use Rattle.def_meaning.specs.Around.{Passed, Array as Whole, Text}
 use Rattle.def_meaning.specs.Calls.{Entered, with_passed}

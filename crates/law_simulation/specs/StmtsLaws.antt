@@ -1,7 +1,7 @@
 -- What is proved of typed statements: their code does what they do, and EXIT does not leave a body.
 use Rattle.std.specs.Prelude.{◌≡◌, ℕ, false, List, []}
 use Rattle.typed_tree.specs.declared.statement.TypedStmt.{TypedStmt}
-use Rattle.m2_layout.specs.Types.{Ty}
+use Rattle.layout_storage.specs.Types.{Ty}
 use Rattle.def_meaning.specs.Answer.{State, Left}
 use Rattle.def_meaning.specs.Around.{Around}
 use Rattle.def_meaning.specs.Calls.{is_there, body_does}

@@ -16,8 +16,8 @@ use Rattle.typed_tree.specs.declared.types.TypeNo.{TypeNo}
 use Rattle.typed_tree.specs.declared.known_types.Types.{Types}
 use Rattle.typed_tree.specs.Types.{boolean, char, bitset}
 use Rattle.typed_tree.specs.Known.{scalar_at}
-use Rattle.m2_layout.specs.Types.{Ty, Scalar, Natural, Callable, Cell, Array, Heading, IsPlain}
-use Rattle.m2_layout.specs.Shapes.{tree}
+use Rattle.layout_storage.specs.Types.{Ty, Scalar, Natural, Callable, Cell, Array, Heading, IsPlain}
+use Rattle.layout_storage.specs.Shapes.{tree}
 use Rattle.def_scheme.specs.Cells.{base_of}
 use Rattle.law_simulation.specs.Scene.{AreAmong, IsCell, AreLabels}
 use Rattle.law_simulation.specs.Frames.{Kept, kind_at}

@@ -5,7 +5,7 @@ use Rattle.typed_tree.specs.declared.computed.Call.{Call}
 use Rattle.typed_tree.specs.declared.computed.Place.{Place}
 use Rattle.typed_tree.specs.declared.computed.TypedExpr.{TypedExpr}
 use Rattle.typed_tree.specs.declared.types.TypeNo.{TypeNo}
-use Rattle.m2_layout.specs.Types.{Ty, Heading}
+use Rattle.layout_storage.specs.Types.{Ty, Heading}
 use Rattle.def_meaning.specs.Expressions.{Asks, value, locate, called}
 use Rattle.def_scheme.specs.Coded.{Coded}
 use Rattle.def_scheme.specs.Exprs.{expr_part, place_code, call_code}

@@ -7,9 +7,9 @@ use Rattle.typed_tree.specs.declared.known_types.Types.{Types}
 use Rattle.typed_tree.specs.declared.typed_module.Routine.{Routine}
 use Rattle.typed_tree.specs.declared.typed_module.TypedModule.{TypedModule}
 use Rattle.typed_tree.specs.Known.{made_at, scalar_at, is_result}
-use Rattle.m2_layout.specs.Types.{Natural, Callable, Cell, Heading, IsPlain, IsFit}
-use Rattle.m2_layout.specs.Shapes.{scalar_kind, shape_tree, known_trees, tree}
-use Rattle.m2_layout.specs.Frames.{frame, module_row}
+use Rattle.layout_storage.specs.Types.{Natural, Callable, Cell, Heading, IsPlain, IsFit}
+use Rattle.layout_storage.specs.Shapes.{scalar_kind, shape_tree, known_trees, tree}
+use Rattle.layout_storage.specs.Frames.{frame, module_row}
 use Rattle.law_memory.specs.Relation.{heading_at}
 use Rattle.law_simulation.specs.Scene.{AreSmall, IsCell}
 use Rattle.law_simulation.specs.Passing.{forms_of}

@@ -23,9 +23,9 @@ use Rattle.check_const.specs.Denote.{member}
 use Rattle.law_modules.specs.WellFormed.{IsRoutine, IsBody}
 use Rattle.law_well_formed.specs.Formed.{Holds, FormedMeaning}
 use Rattle.law_well_formed.specs.FormedScopes.{AreFormedNames, AreFormedBlocks}
-use Rattle.m2_check.specs.declared.procedure.Walk.{Walk}
-use Rattle.m2_check.specs.Elaborating.{Elaborates}
-use Rattle.m2_check.specs.Bodies.{ChecksBlock, Steps, checked_by, with_body, procedure_checked}
+use Rattle.check_body.specs.declared.procedure.Walk.{Walk}
+use Rattle.check_body.specs.Elaborating.{Elaborates}
+use Rattle.check_body.specs.Bodies.{ChecksBlock, Steps, checked_by, with_body, procedure_checked}
 use Rattle.law_well_formed.specs.FormedBodies.{AreNumbered, Keeps, Adds, Suits, AddsFormed, FormedBlock}
 use Rattle.law_well_formed.proofs.Places.{is_within}
 use Rattle.law_well_formed.proofs.Parts.{IsStep, constants_step, types_step, variables_step, procedure_step, AreSteps, no_steps, more_steps, numbered_first, numbered_rest, numbered_inner, HeadOf, HeadsIn, RoutineOf, RoutinesIn}

@@ -9,7 +9,7 @@ use Rattle.wasm_code.specs.Parts.{vector, entries, sized, bytes_left, section}
 use Rattle.wasm_code.specs.Instructions.{code}
 use Rattle.wasm_binary.specs.Binary.{func_type, import, table_type, memory_type, global, export, element, body, data_segment, types_of, bodies_encoding, module_fits}
 use Rattle.def_scheme.specs.Modules.{all_characters, data_of, typed_module}
-use Rattle.m2_layout.specs.Texts.{module_texts}
+use Rattle.layout_storage.specs.Texts.{module_texts}
 use Rattle.law_well_formed.proofs.ImportsLists.{all_each}
 use Rattle.law_well_formed.specs.FormedFrames.{TextsAreBytes}
 

@@ -35,7 +35,7 @@ use Rattle.check_call.specs.declared.callee.Called.{Called}
 use Rattle.check_call.specs.declared.callee.Called.TheVariants as called
 use Rattle.check_call.specs.declared.standard.Unary.{Unary}
 use Rattle.check_call.specs.declared.standard.Unary.TheVariants as unary
-use Rattle.m2_layout.specs.Frames.{formals_of}
+use Rattle.layout_storage.specs.Frames.{formals_of}
 use Rattle.def_scheme.specs.Exprs.{has_result}
 use Rattle.law_modules.specs.WellFormed.{IsScalar, IsRoutine, IsProcedure, IsExpr, Load, Abs, Cap, Chr, Odd, Ord, Val, High, IsPlace, IsCall, OfModule, OfProcedure, OfVariable, AreArguments, no_arguments, more_arguments, IsArgument, Value as ValueOf, Actual, ActualArray, Open, Text}
 use Rattle.law_well_formed.specs.Formed.{Holds, fine, FormedValue, FormedDesignated}

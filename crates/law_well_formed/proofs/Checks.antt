@@ -26,18 +26,18 @@ use Rattle.check_scope.specs.declared.scope.Scope.{Scope}
 use Rattle.check_type_expr.specs.Headings.{result_of}
 use Rattle.def_scheme.specs.Exprs.{is_there, result_made, has_result}
 use Rattle.check_block.specs.Inner.{inwards, split_last, popped}
-use Rattle.m2_check.specs.declared.routine.Bodies.{Bodies}
-use Rattle.m2_check.specs.declared.routine.Numbered.{Numbered}
-use Rattle.m2_check.specs.Routines.{numbered_known, unfilled, filled, routine}
+use Rattle.check_body.specs.declared.routine.Bodies.{Bodies}
+use Rattle.check_body.specs.declared.routine.Numbered.{Numbered}
+use Rattle.check_body.specs.Routines.{numbered_known, unfilled, filled, routine}
 use Rattle.law_modules.specs.WellFormed.{IsRoutine, AreStmts, IsBody}
 use Rattle.law_well_formed.specs.Formed.{Holds, fine, broken}
 use Rattle.law_well_formed.specs.FormedScopes.{AreFormedNames, Leads}
 use Rattle.law_well_formed.proofs.ScopesDeclarations.{ResultIs, beside_left, beside_right, result_holds}
-use Rattle.m2_check.specs.declared.procedure.Walk.{Walk}
-use Rattle.m2_check.specs.declared.procedure.Begun.{Begun}
-use Rattle.m2_check.specs.Elaborating.{Elaborates}
-use Rattle.m2_check.specs.Inside.{returns_of, which_of, begun_procedure, reported_in, with_routine}
-use Rattle.m2_check.specs.Bodies.{Checked, ChecksBlock, procedure_checked}
+use Rattle.check_body.specs.declared.procedure.Walk.{Walk}
+use Rattle.check_body.specs.declared.procedure.Begun.{Begun}
+use Rattle.check_body.specs.Elaborating.{Elaborates}
+use Rattle.check_body.specs.Inside.{returns_of, which_of, begun_procedure, reported_in, with_routine}
+use Rattle.check_body.specs.Bodies.{Checked, ChecksBlock, procedure_checked}
 use Rattle.law_well_formed.specs.FormedBodies.{AreNumbered, Keeps, Adds, Suits, AddsFormed, Begins, FormedBlock}
 use Rattle.law_well_formed.proofs.Places.{set_length, set_other, set_same, before_end}
 use Rattle.law_well_formed.proofs.Scopes.{blocks_more, formals_formed, formals_await}

@@ -15,12 +15,12 @@ use Rattle.check_scope.specs.declared.known.Origin.TheVariants as origin
 use Rattle.check_scope.specs.declared.known.Known.{Known}
 use Rattle.check_scope.specs.declared.known.Known.TheVariants.{Later, Ahead, Begun, Headed, Declared}
 use Rattle.check_scope.specs.declared.scope.Scope.{Scope}
-use Rattle.m2_types.specs.Compiled.{table_or, declared_in, of_definition, of_contents, compiled}
-use Rattle.m2_types.specs.Declare.{with_def}
-use Rattle.m2_types.specs.Export.{with_meaning, with_declared, with_known, with_export, exports}
-use Rattle.m2_types.specs.Importing.{numbered_modules, with_import}
-use Rattle.m2_types.specs.Marking.{marked_def}
-use Rattle.m2_types.specs.Predeclared.{console, first_scope}
+use Rattle.check_definition.specs.Compiled.{table_or, declared_in, of_definition, of_contents, compiled}
+use Rattle.check_definition.specs.Declare.{with_def}
+use Rattle.check_definition.specs.Export.{with_meaning, with_declared, with_known, with_export, exports}
+use Rattle.check_definition.specs.Importing.{numbered_modules, with_import}
+use Rattle.check_definition.specs.Marking.{marked_def}
+use Rattle.check_definition.specs.Predeclared.{console, first_scope}
 use Rattle.law_well_formed.proofs.ImportsLists.{each_entered}
 use Rattle.law_well_formed.specs.FormedTables.{IsExport, AreExports}
 use Rattle.law_well_formed.proofs.Own.{OwnFrom, OwnKnown, AreOwn, Leads, ◌⨾◌, fold_leads, def_marks, def_leads, import_leads}

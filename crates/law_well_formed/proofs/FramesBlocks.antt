@@ -25,9 +25,9 @@ use Rattle.check_block.specs.Naming.{with_marks}
 use Rattle.check_block.specs.Nesting as nesting
 use Rattle.check_block.specs.Nesting.{joined, within_decl, within}
 use Rattle.check_block.specs.Declarations.{Course}
-use Rattle.m2_check.specs.declared.procedure.Walk.{Walk}
-use Rattle.m2_check.specs.Elaborating.{Elaborates}
-use Rattle.m2_check.specs.Bodies.{ChecksBlock, Steps, checked_by, marked_by, declared_by, with_body, steps_layer, block_layer, steps, checks_block}
+use Rattle.check_body.specs.declared.procedure.Walk.{Walk}
+use Rattle.check_body.specs.Elaborating.{Elaborates}
+use Rattle.check_body.specs.Bodies.{ChecksBlock, Steps, checked_by, marked_by, declared_by, with_body, steps_layer, block_layer, steps, checks_block}
 use Rattle.law_well_formed.specs.FormedBodies.{AreNumbered, FormsStatements, Keeps, Adds, Begins}
 use Rattle.law_well_formed.proofs.Places.{is_within}
 use Rattle.law_well_formed.proofs.Parts.{IsStep, constants_step, types_step, variables_step, procedure_step, AreSteps, no_steps, more_steps, numbered_first, numbered_rest, numbered_inner, nothing_at, no_home, nothing_open, all_marks, all_lead, HeadsIn, heads_in}

@@ -25,13 +25,13 @@ use Rattle.check_scope.specs.declared.scope.Block.{Block}
 use Rattle.check_block.specs.Inner.{inwards}
 use Rattle.check_block.specs.Nesting as nesting
 use Rattle.check_block.specs.Nesting.{within_decl, within, ends_from, with_procedure_ends, with_decl_ends}
-use Rattle.m2_check.specs.declared.routine.Bodies.{Bodies}
-use Rattle.m2_check.specs.declared.routine.Numbered.{Numbered}
-use Rattle.m2_check.specs.Routines.{numbered_known, filled, routine}
-use Rattle.m2_check.specs.declared.procedure.Walk.{Walk}
-use Rattle.m2_check.specs.Elaborating.{Elaborates}
-use Rattle.m2_check.specs.Inside.{which_of, with_routine}
-use Rattle.m2_check.specs.Bodies.{ChecksBlock, Steps, checked_by, with_body, steps}
+use Rattle.check_body.specs.declared.routine.Bodies.{Bodies}
+use Rattle.check_body.specs.declared.routine.Numbered.{Numbered}
+use Rattle.check_body.specs.Routines.{numbered_known, filled, routine}
+use Rattle.check_body.specs.declared.procedure.Walk.{Walk}
+use Rattle.check_body.specs.Elaborating.{Elaborates}
+use Rattle.check_body.specs.Inside.{which_of, with_routine}
+use Rattle.check_body.specs.Bodies.{ChecksBlock, Steps, checked_by, with_body, steps}
 use Rattle.law_well_formed.specs.FormedBodies.{AreNumbered, FormsStatements, Begins, FormedBlock}
 use Rattle.law_well_formed.proofs.Places.{set_length, set_other, set_same, before_end, behind_end, is_within}
 use Rattle.law_well_formed.proofs.Scopes.{formals_await}

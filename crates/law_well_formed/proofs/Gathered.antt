@@ -14,8 +14,8 @@ use Rattle.typed_tree.specs.declared.table.ModuleTypes.{ModuleTypes}
 use Rattle.typed_tree.specs.declared.table.Table.{Table}
 use Rattle.typed_tree.specs.declared.known_types.Types.{Types}
 use Rattle.typed_tree.specs.Known.{in_list, made_in}
-use Rattle.m2_types.specs.Predeclared.{with_reached, with_table, others_of}
-use Rattle.m2_check.specs.Own.{types_made_in}
+use Rattle.check_definition.specs.Predeclared.{with_reached, with_table, others_of}
+use Rattle.check_body.specs.Own.{types_made_in}
 use Rattle.law_well_formed.specs.FormedRanges.{AllBased, OthersBased}
 use Rattle.law_well_formed.specs.Ordered.{named_by, is_known_from, is_known, AreKnown, AreOrderedFrom, OthersOrdered}
 use Rattle.law_well_formed.proofs.Trees.{at, at_more, at_behind, at_first, append_more, made_by, Placed, placed_from, some_of, in_some}

@@ -26,8 +26,8 @@ use Rattle.check_const.specs.Parts.{constant}
 use Rattle.check_expr.specs.Meanings.{part}
 use Rattle.check_type_expr.specs.Headings.{heading_of}
 use Rattle.check_type_expr.specs.Made.{type_of, next_type, with_shape}
-use Rattle.m2_types.specs.Declare.{constant_meaning, with_constant, brings_with, type_meaning, with_type, begun_name, with_variable_type, finished_variable, with_variables, procedure_meaning, with_procedure_type}
-use Rattle.m2_types.specs.Marking.{Marks, marked_later, marked_in, marked_constant, marked_type, marked_variables}
+use Rattle.check_definition.specs.Declare.{constant_meaning, with_constant, brings_with, type_meaning, with_type, begun_name, with_variable_type, finished_variable, with_variables, procedure_meaning, with_procedure_type}
+use Rattle.check_definition.specs.Marking.{Marks, marked_later, marked_in, marked_constant, marked_type, marked_variables}
 use Rattle.check_block.specs.declared.heading.Standing.{Standing}
 use Rattle.check_block.specs.declared.heading.Standing.TheVariants.{Free, Awaited, Taken}
 use Rattle.check_block.specs.Headings.{name_standing, nested_meaning, headed, module_procedure, with_new, headed_as, with_heading}

@@ -23,7 +23,7 @@ use Rattle.check_scope.specs.declared.scope.Block.{Block}
 use Rattle.check_scope.specs.declared.scope.OpenedRecord.{OpenedRecord}
 use Rattle.check_scope.specs.declared.scope.Scope.{Scope}
 use Rattle.check_type_expr.specs.Made.{with_shape, with_made}
-use Rattle.m2_types.specs.Marking.{Marks}
+use Rattle.check_definition.specs.Marking.{Marks}
 use Rattle.law_well_formed.specs.FormedScopes.{picked, is_awaiting}
 use Rattle.law_well_formed.proofs.Names.{get_more, same_is, found_self, kept_entered}
 use Rattle.law_well_formed.proofs.HeadingsLists.{index, found_other, index_entered, there_entered}

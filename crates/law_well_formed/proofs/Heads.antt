@@ -22,8 +22,8 @@ use Rattle.law_modules.specs.WellFormed.{IsRoutine}
 use Rattle.law_well_formed.specs.FormedScopes.{FormedOwn, Leads}
 use Rattle.law_well_formed.proofs.ScopesGrowth.{leads_refl, leads_then}
 use Rattle.law_well_formed.proofs.ScopesDeclarations.{ResultIs, same_home, decl_leads, head_reported, awaited_is, module_head}
-use Rattle.m2_check.specs.Elaborating.{Elaborates}
-use Rattle.m2_check.specs.Bodies.{ChecksBlock, Steps, declared_by}
+use Rattle.check_body.specs.Elaborating.{Elaborates}
+use Rattle.check_body.specs.Bodies.{ChecksBlock, Steps, declared_by}
 use Rattle.law_well_formed.proofs.Parts.{IsStep, constants_step, types_step, variables_step, procedure_step, AreSteps, no_steps, more_steps, nothing_at, no_home, nothing_open, all_reported, step_leads, all_lead, got}
 
 -- the procedures that are awaited are the module's, and have their numbers

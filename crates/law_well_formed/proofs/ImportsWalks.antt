@@ -20,19 +20,19 @@ use Rattle.check_scope.specs.declared.known.Known.TheVariants.{Ahead}
 use Rattle.check_scope.specs.declared.scope.Scope.{Scope}
 use Rattle.check_type_expr.specs.Headings.{heading_of}
 use Rattle.check_type_expr.specs.Made.{with_made, type_of}
-use Rattle.m2_types.specs.Declare.{with_constant, with_type, begun_name, with_variable_type, with_variables}
-use Rattle.m2_types.specs.Importing.{with_import}
-use Rattle.m2_types.specs.Marking.{marked_constant, marked_type, marked_variables}
+use Rattle.check_definition.specs.Declare.{with_constant, with_type, begun_name, with_variable_type, with_variables}
+use Rattle.check_definition.specs.Importing.{with_import}
+use Rattle.check_definition.specs.Marking.{marked_constant, marked_type, marked_variables}
 use Rattle.check_block.specs.declared.heading.Standing.{Standing}
 use Rattle.check_block.specs.declared.heading.Standing.TheVariants.{Free, Awaited, Taken}
 use Rattle.check_block.specs.Naming.{marked_layer, marked_decl, with_marks, all_marked}
 use Rattle.check_block.specs.Headings.{name_standing, headed, nested_meaning, module_procedure, new_procedure, with_new, headed_as, with_heading}
 use Rattle.check_block.specs.Declarations.{local_meaning, finished_local, with_locals, with_variables_of, Course, decl_layer, with_decl, all_declared, declared_module}
-use Rattle.m2_check.specs.declared.procedure.Walk.{Walk}
-use Rattle.m2_check.specs.Elaborating.{Elaborates}
-use Rattle.m2_check.specs.Inside.{which_of, begun_procedure}
-use Rattle.m2_check.specs.Bodies.{begun_from, Checks, ChecksBlock, Steps, marked_by, declared_by, checked_by, with_body, with_bodies, procedure_checked, checks_layer, steps_layer, block_layer, steps, checks_block, checks_decl}
-use Rattle.m2_check.specs.Checked.{begun_module, walked}
+use Rattle.check_body.specs.declared.procedure.Walk.{Walk}
+use Rattle.check_body.specs.Elaborating.{Elaborates}
+use Rattle.check_body.specs.Inside.{which_of, begun_procedure}
+use Rattle.check_body.specs.Bodies.{begun_from, Checks, ChecksBlock, Steps, marked_by, declared_by, checked_by, with_body, with_bodies, procedure_checked, checks_layer, steps_layer, block_layer, steps, checks_block, checks_decl}
+use Rattle.check_body.specs.Checked.{begun_module, walked}
 use Rattle.law_well_formed.proofs.NamedTables.{Keeps, either, either_scope, fold_keeps, marked_keeps, constant_marks, type_marks_of, variables_marks, made_keeps, variable_type_keeps, procedure_type_keeps, finished_keeps, type_of_keeps, constant_keeps, type_decl_keeps, begun_all_keeps, variables_keep, import_keeps}
 
 -- ---- declarations of blocks

@@ -25,10 +25,10 @@ use Rattle.law_modules.specs.WellFormed.{AreStmts, no_stmts}
 use Rattle.law_well_formed.specs.Formed.{Holds, fine, FormedMeaning, IsFormed}
 use Rattle.law_well_formed.specs.FormedScopes.{AreFormedNames, AreFormedBlocks, Leads}
 use Rattle.law_well_formed.proofs.Statements.{statements_formed}
-use Rattle.m2_check.specs.declared.procedure.Walk.{Walk}
-use Rattle.m2_check.specs.Elaborating.{Elaborates, statements_of}
-use Rattle.m2_check.specs.Bodies.{ChecksBlock, Steps, marked_by, declared_by, steps_layer, block_layer, steps, checks_block}
-use Rattle.m2_check.specs.Checks.{elaborated}
+use Rattle.check_body.specs.declared.procedure.Walk.{Walk}
+use Rattle.check_body.specs.Elaborating.{Elaborates, statements_of}
+use Rattle.check_body.specs.Bodies.{ChecksBlock, Steps, marked_by, declared_by, steps_layer, block_layer, steps, checks_block}
+use Rattle.check_body.specs.Checks.{elaborated}
 use Rattle.law_well_formed.specs.FormedBodies.{FormsStatements, Keeps, Adds, Suits, AddsFormed, Begins, FormedBlock}
 use Rattle.law_well_formed.proofs.Places.{is_within}
 use Rattle.law_well_formed.proofs.Scopes.{scope_formed}

@@ -20,8 +20,8 @@ use Rattle.check_scope.specs.declared.known.Known.{Known}
 use Rattle.check_scope.specs.declared.known.Known.TheVariants.{Declared}
 use Rattle.check_scope.specs.declared.known.Origin.TheVariants.{Here}
 use Rattle.check_scope.specs.declared.scope.Scope.{Scope}
-use Rattle.m2_types.specs.Predeclared.{console, with_table, others_of, predeclared_block, first_scope}
-use Rattle.m2_check.specs.Own.{with_own_name, own_names, exported_variables, exported_headings, with_field_copy, shape_copy, made_copy, types_made_in, own_types, implementation_scope}
+use Rattle.check_definition.specs.Predeclared.{console, with_table, others_of, predeclared_block, first_scope}
+use Rattle.check_body.specs.Own.{with_own_name, own_names, exported_variables, exported_headings, with_field_copy, shape_copy, made_copy, types_made_in, own_types, implementation_scope}
 use Rattle.law_well_formed.specs.Formed.{fine}
 use Rattle.law_well_formed.proofs.Order.{has, keys, other_way, has_more}
 use Rattle.law_modules.specs.Ranges.{AreRangedFrom}

@@ -19,11 +19,11 @@ use Rattle.typed_tree.specs.declared.known_types.Types.{Types}
 use Rattle.typed_tree.specs.Known.{in_list, made_in, scalar_from, scalar_made}
 use Rattle.check_scope.specs.Elaborated.{Gathers}
 use Rattle.check_scope.specs.declared.scope.Scope.{Scope}
-use Rattle.m2_types.specs.Predeclared.{console, first_scope}
-use Rattle.m2_types.specs.Importing.{numbered_modules}
-use Rattle.m2_types.specs.Export.{with_types as reached_with, own_types, reached_of, exports}
-use Rattle.m2_types.specs.Compiled.{table_of, declared_in, of_contents, compiled}
-use Rattle.m2_check.specs.Own.{types_made_in}
+use Rattle.check_definition.specs.Predeclared.{console, first_scope}
+use Rattle.check_definition.specs.Importing.{numbered_modules}
+use Rattle.check_definition.specs.Export.{with_types as reached_with, own_types, reached_of, exports}
+use Rattle.check_definition.specs.Compiled.{table_of, declared_in, of_contents, compiled}
+use Rattle.check_body.specs.Own.{types_made_in}
 use Rattle.law_well_formed.specs.Formed.{Holds, fine, broken}
 use Rattle.law_well_formed.proofs.Basics.{then_holds, reported_holds}
 use Rattle.law_well_formed.specs.FormedRanges.{AllBased, OthersBased, ScopeRanged, first_types, fits_def}

@@ -21,17 +21,17 @@ use Rattle.typed_tree.specs.declared.types.TypeNo.{TypeNo}
 use Rattle.check_scope.specs.Elaborated.{Gathers}
 use Rattle.check_scope.specs.Scopes.{State}
 use Rattle.check_scope.specs.declared.scope.Scope.{Scope}
-use Rattle.m2_types.specs.Predeclared.{console, first_scope}
-use Rattle.m2_types.specs.Importing.{numbered_modules}
+use Rattle.check_definition.specs.Predeclared.{console, first_scope}
+use Rattle.check_definition.specs.Importing.{numbered_modules}
 use Rattle.check_block.specs.Nesting.{procedure_ends}
 use Rattle.check_block.specs.Naming.{marked_layer, marked_decl, with_marks}
 use Rattle.check_block.specs.Declarations.{Course, Declared, decl_layer, with_decl, all_declared, declared_block, declared_module}
-use Rattle.m2_check.specs.Own.{implementation_scope}
-use Rattle.m2_check.specs.declared.procedure.Walk.{Walk}
-use Rattle.m2_check.specs.Elaborating.{Elaborates}
-use Rattle.m2_check.specs.Inside.{which_of, begun_procedure, reported_in}
-use Rattle.m2_check.specs.Bodies.{ChecksBlock, Steps, marked_by, declared_by, checked_by, with_body, begun_from, procedure_checked, steps_layer, block_layer, steps, checks_block, checks_decl}
-use Rattle.m2_check.specs.Checked.{walked, of_body, of_implementation, of_contents, checked}
+use Rattle.check_body.specs.Own.{implementation_scope}
+use Rattle.check_body.specs.declared.procedure.Walk.{Walk}
+use Rattle.check_body.specs.Elaborating.{Elaborates}
+use Rattle.check_body.specs.Inside.{which_of, begun_procedure, reported_in}
+use Rattle.check_body.specs.Bodies.{ChecksBlock, Steps, marked_by, declared_by, checked_by, with_body, begun_from, procedure_checked, steps_layer, block_layer, steps, checks_block, checks_decl}
+use Rattle.check_body.specs.Checked.{walked, of_body, of_implementation, of_contents, checked}
 use Rattle.law_well_formed.specs.Formed.{Holds, fine, broken}
 use Rattle.law_well_formed.proofs.Basics.{then_holds, holds_weaker, both_holds, any_holds, reported_holds}
 use Rattle.law_modules.specs.Ranges.{AreRanged}

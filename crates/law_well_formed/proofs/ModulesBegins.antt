@@ -20,11 +20,11 @@ use Rattle.check_scope.specs.declared.known.Known.{Known}
 use Rattle.check_scope.specs.declared.known.Known.TheVariants.{Declared}
 use Rattle.check_scope.specs.declared.known.Origin.TheVariants.{Here}
 use Rattle.check_const.specs.Denote.{exported_by, exported, member}
-use Rattle.m2_types.specs.Predeclared.{predeclared_as, with_types, with_truth, with_functions, with_bounds, with_procedures, predeclared, predeclared_block, console}
-use Rattle.m2_types.specs.Importing.{exports_of}
+use Rattle.check_definition.specs.Predeclared.{predeclared_as, with_types, with_truth, with_functions, with_bounds, with_procedures, predeclared, predeclared_block, console}
+use Rattle.check_definition.specs.Importing.{exports_of}
 use Rattle.check_block.specs.declared.heading.Standing.TheVariants.{Awaited}
 use Rattle.check_block.specs.Headings.{standing_known, name_standing}
-use Rattle.m2_check.specs.Own.{with_own_name, own_names}
+use Rattle.check_body.specs.Own.{with_own_name, own_names}
 use Rattle.law_modules.specs.WellFormed.{IsKnown, IsRoutine}
 use Rattle.law_well_formed.specs.Formed.{Holds, fine, FormedMeaning}
 use Rattle.law_well_formed.proofs.Basics.{reported_holds}

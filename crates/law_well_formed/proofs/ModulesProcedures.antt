@@ -22,19 +22,19 @@ use Rattle.check_scope.specs.declared.known.Known.{Known}
 use Rattle.check_scope.specs.declared.known.Known.TheVariants.{Headed}
 use Rattle.check_scope.specs.declared.scope.Block.{Block}
 use Rattle.check_block.specs.Inner.{inwards}
-use Rattle.m2_check.specs.declared.routine.Bodies.{Bodies}
-use Rattle.m2_check.specs.declared.routine.Numbered.{Numbered}
-use Rattle.m2_check.specs.Routines.{numbered_known, filled, routine}
+use Rattle.check_body.specs.declared.routine.Bodies.{Bodies}
+use Rattle.check_body.specs.declared.routine.Numbered.{Numbered}
+use Rattle.check_body.specs.Routines.{numbered_known, filled, routine}
 use Rattle.check_const.specs.Denote.{member}
 use Rattle.def_scheme.specs.Exprs.{is_there}
 use Rattle.law_modules.specs.WellFormed.{IsRoutine, AreStmts, IsBody}
 use Rattle.law_well_formed.specs.Formed.{Holds, FormedMeaning}
 use Rattle.law_well_formed.specs.FormedScopes.{AreFormedNames, AreFormedBlocks}
 use Rattle.law_well_formed.proofs.ScopesDeclarations.{ResultIs}
-use Rattle.m2_check.specs.declared.procedure.Walk.{Walk}
-use Rattle.m2_check.specs.Elaborating.{Elaborates}
-use Rattle.m2_check.specs.Inside.{with_routine}
-use Rattle.m2_check.specs.Bodies.{ChecksBlock, Steps, checked_by, with_body}
+use Rattle.check_body.specs.declared.procedure.Walk.{Walk}
+use Rattle.check_body.specs.Elaborating.{Elaborates}
+use Rattle.check_body.specs.Inside.{with_routine}
+use Rattle.check_body.specs.Bodies.{ChecksBlock, Steps, checked_by, with_body}
 use Rattle.law_well_formed.specs.FormedBodies.{AreNumbered, Keeps, Adds, Suits, AddsFormed, Begins, FormedBlock}
 use Rattle.law_well_formed.proofs.Places.{set_length, set_other, set_same, is_within}
 use Rattle.law_well_formed.proofs.Scopes.{blocks_more, formals_formed, formals_await}

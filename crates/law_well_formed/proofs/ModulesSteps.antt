@@ -14,9 +14,9 @@ use Rattle.check_block.specs.Naming.{marked_layer, marked_decl, with_marks, all_
 use Rattle.check_block.specs.Nesting as nesting
 use Rattle.check_block.specs.Nesting.{within_decl, within, ends_from, with_procedure_ends, with_decl_ends}
 use Rattle.check_block.specs.Declarations.{Course, Declared, decl_layer, with_decl, all_declared, declared_block}
-use Rattle.m2_check.specs.declared.procedure.Walk.{Walk}
-use Rattle.m2_check.specs.Elaborating.{Elaborates}
-use Rattle.m2_check.specs.Bodies.{ChecksBlock, Steps, marked_by, declared_by, checked_by, with_body, with_bodies, steps_layer, block_layer, steps, checks_block, checks_decl, bodies_checked}
+use Rattle.check_body.specs.declared.procedure.Walk.{Walk}
+use Rattle.check_body.specs.Elaborating.{Elaborates}
+use Rattle.check_body.specs.Bodies.{ChecksBlock, Steps, marked_by, declared_by, checked_by, with_body, with_bodies, steps_layer, block_layer, steps, checks_block, checks_decl, bodies_checked}
 use Rattle.law_well_formed.specs.FormedBodies.{AreNumbered, FormsStatements}
 use Rattle.law_well_formed.proofs.Places.{before_end, behind_end, is_within}
 use Rattle.law_well_formed.proofs.Parts.{IsStep, constants_step, types_step, variables_step, procedure_step, AreSteps, no_steps, more_steps}

@@ -22,20 +22,20 @@ use Rattle.typed_tree.specs.Names.{found, entered}
 use Rattle.check_scope.specs.Elaborated.{Gathers, both, ◌▷◌}
 use Rattle.check_scope.specs.Scopes.{State}
 use Rattle.check_scope.specs.declared.scope.Scope.{Scope}
-use Rattle.m2_types.specs.Compiled.{table_of, table_or, declared_in, of_definition, of_contents, compiled}
-use Rattle.m2_types.specs.Declare.{with_def}
-use Rattle.m2_types.specs.Export.{with_table_if, with_place_if, with_imported, with_imports_of, with_import_of, imported_modules}
-use Rattle.m2_types.specs.Importing.{with_place, with_numbered, numbered_modules, with_import}
-use Rattle.m2_types.specs.Marking.{marked_def}
-use Rattle.m2_types.specs.Predeclared.{console, first_scope}
+use Rattle.check_definition.specs.Compiled.{table_of, table_or, declared_in, of_definition, of_contents, compiled}
+use Rattle.check_definition.specs.Declare.{with_def}
+use Rattle.check_definition.specs.Export.{with_table_if, with_place_if, with_imported, with_imports_of, with_import_of, imported_modules}
+use Rattle.check_definition.specs.Importing.{with_place, with_numbered, numbered_modules, with_import}
+use Rattle.check_definition.specs.Marking.{marked_def}
+use Rattle.check_definition.specs.Predeclared.{console, first_scope}
 use Rattle.check_block.specs.Nesting.{procedure_ends}
-use Rattle.m2_check.specs.Imports.{with_import_copy, definition_imports, all_imports, imported_as, with_table_of, with_place_of, with_module_of, typed_imports}
-use Rattle.m2_check.specs.Own.{implementation_scope}
-use Rattle.m2_check.specs.Routines.{typed_module}
-use Rattle.m2_check.specs.declared.routine.Bodies.{Bodies}
-use Rattle.m2_check.specs.Elaborating.{Elaborates}
-use Rattle.m2_check.specs.Checked.{module_or, walked, of_walk, of_body, of_implementation, checked}
-use Rattle.m2_check.specs.Checked as bodies
+use Rattle.check_body.specs.Imports.{with_import_copy, definition_imports, all_imports, imported_as, with_table_of, with_place_of, with_module_of, typed_imports}
+use Rattle.check_body.specs.Own.{implementation_scope}
+use Rattle.check_body.specs.Routines.{typed_module}
+use Rattle.check_body.specs.declared.routine.Bodies.{Bodies}
+use Rattle.check_body.specs.Elaborating.{Elaborates}
+use Rattle.check_body.specs.Checked.{module_or, walked, of_walk, of_body, of_implementation, checked}
+use Rattle.check_body.specs.Checked as bodies
 use Rattle.law_well_formed.specs.FormedImports.{is_imported, is_imported_by, IsImport, NamesImports, StandsOnImports}
 use Rattle.law_well_formed.proofs.ImportsLists.{same_is, or_left, or_right, all_each, each_push, Each, each_entered, found_each, keys_in, EachImported, imports_in, get_last}
 use Rattle.law_well_formed.proofs.NamedTables.{Keeps, fold_keeps, def_marks, def_keeps, import_keeps}

@@ -16,13 +16,13 @@ use Rattle.check_scope.specs.Elaborated.{Gathers}
 use Rattle.check_scope.specs.declared.known.Known.{Known}
 use Rattle.check_scope.specs.declared.known.Known.TheVariants.{Headed}
 use Rattle.check_block.specs.Inner.{inwards}
-use Rattle.m2_check.specs.declared.routine.Bodies.{Bodies}
-use Rattle.m2_check.specs.declared.routine.Numbered.{Numbered}
-use Rattle.m2_check.specs.Routines.{numbered_known, unfilled, routine}
-use Rattle.m2_check.specs.declared.procedure.Walk.{Walk}
-use Rattle.m2_check.specs.Elaborating.{Elaborates}
-use Rattle.m2_check.specs.Inside.{which_of, with_routine}
-use Rattle.m2_check.specs.Bodies.{ChecksBlock}
+use Rattle.check_body.specs.declared.routine.Bodies.{Bodies}
+use Rattle.check_body.specs.declared.routine.Numbered.{Numbered}
+use Rattle.check_body.specs.Routines.{numbered_known, unfilled, routine}
+use Rattle.check_body.specs.declared.procedure.Walk.{Walk}
+use Rattle.check_body.specs.Elaborating.{Elaborates}
+use Rattle.check_body.specs.Inside.{which_of, with_routine}
+use Rattle.check_body.specs.Bodies.{ChecksBlock}
 use Rattle.law_well_formed.specs.FormedBodies.{AreNumbered, Begins, FormedBlock}
 use Rattle.law_well_formed.proofs.Places.{set_other, set_same}
 use Rattle.law_well_formed.proofs.Scopes.{formals_await}

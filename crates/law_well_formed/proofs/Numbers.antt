@@ -13,8 +13,8 @@ use Rattle.typed_tree.specs.Names.{entered}
 use Rattle.check_scope.specs.declared.known.Origin.TheVariants.{Here, Module, Export}
 use Rattle.check_scope.specs.declared.known.Known.{Known}
 use Rattle.check_scope.specs.declared.known.Known.TheVariants.{Later, Ahead, Begun, Headed, Declared}
-use Rattle.m2_types.specs.Export.{with_known, with_export, exports}
-use Rattle.m2_check.specs.Own.{with_heading_of, with_exported_heading, exported_headings}
+use Rattle.check_definition.specs.Export.{with_known, with_export, exports}
+use Rattle.check_body.specs.Own.{with_heading_of, with_exported_heading, exported_headings}
 use Rattle.law_well_formed.proofs.ImportsLists.{each_push}
 use Rattle.law_well_formed.specs.FormedTables.{IsNumbered, AreNumberedBy}
 use Rattle.law_well_formed.proofs.Order.{other_way, has, still_apart, keys, keys_entered, Distinct, number_in, number_of, is_taken, OrderBy, NoneDone, Order, order_none}

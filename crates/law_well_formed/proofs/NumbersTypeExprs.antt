@@ -17,8 +17,8 @@ use Rattle.check_scope.specs.declared.scope.Scope.{Scope}
 use Rattle.check_type_expr.specs.declared.field.Fields.{Fields}
 use Rattle.check_type_expr.specs.Fields.{no_fields}
 use Rattle.check_type_expr.specs.Made.{next_type, with_shape, enumeration_constant, enumeration_scalar, too_many, listed, simple_type, index_type, Makes, MakesFields, then_fields, type_layer, field_layer, type_of, field_list}
-use Rattle.m2_types.specs.Marking.{Marks, marked_later, marked_simple, then_marks, marked_in, marked_field}
-use Rattle.m2_types.specs.Marking as marking
+use Rattle.check_definition.specs.Marking.{Marks, marked_later, marked_simple, then_marks, marked_in, marked_field}
+use Rattle.check_definition.specs.Marking as marking
 use Rattle.law_well_formed.specs.Formed.{fine}
 use Rattle.law_well_formed.specs.FormedNumbers.{Grows}
 use Rattle.law_well_formed.proofs.NumbersGrowth.{grows_refl, grows_then, unless_grows, marked_grows, shape_grows, made_grows}

@@ -11,8 +11,8 @@ use Rattle.typed_tree.specs.declared.typed_module.TypedModule.{TypedModule}
 use Rattle.m2_tree.specs.Names.{same_name}
 use Rattle.typed_tree.specs.Names.{found, entered}
 use Rattle.check_scope.specs.Elaborated.{Gathers}
-use Rattle.m2_types.specs.Export.{with_table_if, with_place_if, with_imported, with_imports_of, with_import_of}
-use Rattle.m2_check.specs.Imports.{definition_imports, all_imports, imported_as, with_table_of, with_place_of, with_module_of, typed_imports}
+use Rattle.check_definition.specs.Export.{with_table_if, with_place_if, with_imported, with_imports_of, with_import_of}
+use Rattle.check_body.specs.Imports.{definition_imports, all_imports, imported_as, with_table_of, with_place_of, with_module_of, typed_imports}
 use Rattle.law_well_formed.specs.FormedScopes.{OpensNames, OpensImports}
 use Rattle.law_well_formed.proofs.ScopesDeclarations.{same_home}
 use Rattle.law_well_formed.proofs.ScopesImports.{OpensImport, OpensAll}

@@ -27,8 +27,8 @@ use Rattle.law_modules.specs.WellFormed.{IsRoutine}
 use Rattle.law_well_formed.specs.FormedScopes.{picked, is_awaiting, FormedOwn, Leads}
 use Rattle.law_well_formed.proofs.ScopesGrowth.{leads_refl, leads_then}
 use Rattle.law_well_formed.proofs.ScopesDeclarations.{ResultIs, decl_leads, layer_marks, decl_reported, head_reported, nested_head}
-use Rattle.m2_check.specs.Elaborating.{Elaborates}
-use Rattle.m2_check.specs.Bodies.{ChecksBlock, Steps, marked_by, declared_by, steps_layer}
+use Rattle.check_body.specs.Elaborating.{Elaborates}
+use Rattle.check_body.specs.Bodies.{ChecksBlock, Steps, marked_by, declared_by, steps_layer}
 use Rattle.law_well_formed.specs.FormedBodies.{AreNumbered, FormedBlock}
 use Rattle.law_well_formed.proofs.Places.{before_end, behind_end, is_within}
 

@@ -38,11 +38,11 @@ use Rattle.check_scope.specs.declared.known.Origin.TheVariants as origin
 use Rattle.check_scope.specs.declared.scope.Block.{Block}
 use Rattle.check_scope.specs.declared.scope.Scope.{Scope}
 use Rattle.check_type_expr.specs.Headings.{formal_of}
-use Rattle.m2_types.specs.Marking.{Marks, marked_later, marked_simple, then_marks, marked_in, marked_field, marked_constant, marked_type, marked_variables, marked_def}
-use Rattle.m2_types.specs.Marking as marking
-use Rattle.m2_types.specs.Importing.{module_named, with_module_as, with_module_name, with_entry, brings_in, reported_of_taken, unless_taken, from_place, with_from, exports_of, from_module, with_imports, with_import}
-use Rattle.m2_types.specs.Declare.{with_def}
-use Rattle.m2_types.specs.Compiled.{declared_in}
+use Rattle.check_definition.specs.Marking.{Marks, marked_later, marked_simple, then_marks, marked_in, marked_field, marked_constant, marked_type, marked_variables, marked_def}
+use Rattle.check_definition.specs.Marking as marking
+use Rattle.check_definition.specs.Importing.{module_named, with_module_as, with_module_name, with_entry, brings_in, reported_of_taken, unless_taken, from_place, with_from, exports_of, from_module, with_imports, with_import}
+use Rattle.check_definition.specs.Declare.{with_def}
+use Rattle.check_definition.specs.Compiled.{declared_in}
 use Rattle.check_block.specs.Naming.{marked_layer, marked_decl, with_marks, all_marked}
 use Rattle.check_block.specs.Declarations.{Course, with_decl, declared_block, declared_module}
 use Rattle.check_block.specs.declared.inner.Outside.{Outside}

@@ -23,8 +23,8 @@ use Rattle.check_scope.specs.declared.known.Origin.TheVariants as origin
 use Rattle.check_scope.specs.declared.known.Known.{Known}
 use Rattle.check_scope.specs.declared.known.Known.TheVariants.{Later, Ahead, Begun, Headed, Declared}
 use Rattle.check_scope.specs.declared.scope.Scope.{Scope}
-use Rattle.m2_types.specs.Predeclared.{predeclared_as, with_types, truth, with_truth, with_functions, with_bounds, with_procedures, predeclared, with_reached, with_table, others_of, first_scope}
-use Rattle.m2_types.specs.Export.{with_meaning, with_declared, with_known, with_export, exports, with_types as reached_with, own_types, reached_of}
+use Rattle.check_definition.specs.Predeclared.{predeclared_as, with_types, truth, with_truth, with_functions, with_bounds, with_procedures, predeclared, with_reached, with_table, others_of, first_scope}
+use Rattle.check_definition.specs.Export.{with_meaning, with_declared, with_known, with_export, exports, with_types as reached_with, own_types, reached_of}
 use Rattle.law_well_formed.specs.Formed.{Holds, fine, broken}
 use Rattle.law_modules.specs.Ranges.{AreRangedFrom, OthersRanged, AreRanged}
 use Rattle.law_well_formed.specs.FormedRanges.{IsNumber, OthersBased, MeaningRanged, KnownRanged, NamesRanged, ExportsRanged, TablesRanged, ScopeRanged, first_types, ReachedRanged, TablesReach}

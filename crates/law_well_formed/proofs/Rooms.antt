@@ -5,9 +5,9 @@ use Rattle.std.specs.List.{fold, AllByRecursion}
 use Rattle.m2_tree.specs.declared.pos.Pos.{Pos}
 use Rattle.typed_tree.specs.declared.typed_module.Routine.{Routine}
 use Rattle.typed_tree.specs.declared.typed_module.TypedModule.{TypedModule}
-use Rattle.m2_layout.specs.Sizes.{size}
-use Rattle.m2_layout.specs.Frames.{frame}
-use Rattle.m2_layout.specs.Layouts.{most, with_size, with_frame, least_with, data_too_large}
+use Rattle.layout_storage.specs.Sizes.{size}
+use Rattle.layout_storage.specs.Frames.{frame}
+use Rattle.layout_storage.specs.Layouts.{most, with_size, with_frame, least_with, data_too_large}
 use Rattle.law_well_formed.proofs.ImportsLists.{all_each}
 use Rattle.law_well_formed.specs.FormedFrames.{HasRoom, FramesHaveRoom}
 

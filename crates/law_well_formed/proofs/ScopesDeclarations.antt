@@ -42,8 +42,8 @@ use Rattle.check_block.specs.Agreeing.{same_formal, same_result, signature_in, s
 use Rattle.def_scheme.specs.Exprs.{is_there, result_in}
 use Rattle.check_type_expr.specs.Headings.{with_section, result_of, heading_of, names_of}
 use Rattle.check_type_expr.specs.Made.{type_of, next_type, with_shape}
-use Rattle.m2_types.specs.Declare.{constant_meaning, with_constant, brings_with, type_meaning, with_type, begun_name, variable_meaning, with_variable_type, finished_variable, with_variables, procedure_meaning, with_procedure_type}
-use Rattle.m2_types.specs.Marking.{marked_constant, marked_type, marked_variables}
+use Rattle.check_definition.specs.Declare.{constant_meaning, with_constant, brings_with, type_meaning, with_type, begun_name, variable_meaning, with_variable_type, finished_variable, with_variables, procedure_meaning, with_procedure_type}
+use Rattle.check_definition.specs.Marking.{marked_constant, marked_type, marked_variables}
 use Rattle.check_block.specs.declared.heading.Standing.{Standing}
 use Rattle.check_block.specs.declared.heading.Standing.TheVariants.{Free, Awaited, Taken}
 use Rattle.check_block.specs.Headings.{standing_of, name_standing, nested_meaning, headed, module_procedure, with_new, nothing_made, reported_of_other, headed_as, with_heading}

@@ -18,7 +18,7 @@ use Rattle.check_scope.specs.declared.known.Known.TheVariants.{Declared}
 use Rattle.check_scope.specs.declared.known.Origin.{Origin}
 use Rattle.check_scope.specs.declared.known.Origin.TheVariants.{Module, Export}
 use Rattle.check_scope.specs.declared.scope.Scope.{Scope}
-use Rattle.m2_types.specs.Importing.{module_found, with_module_as, with_module_name, with_entry, brings_in, reported_of_taken, unless_taken, from_place, with_from, exports_of, from_module, with_imports, with_import}
+use Rattle.check_definition.specs.Importing.{module_found, with_module_as, with_module_name, with_entry, brings_in, reported_of_taken, unless_taken, from_place, with_from, exports_of, from_module, with_imports, with_import}
 use Rattle.law_well_formed.specs.Formed.{fine}
 use Rattle.law_well_formed.specs.FormedScopes.{is_awaiting, FormedKnown, Leads, ExportsFormed, OpensNames, OpensImports}
 use Rattle.law_well_formed.proofs.ScopesGrowth.{free_unheaded, leads_refl, leads_then, known_leads}

@@ -10,8 +10,8 @@ use Rattle.typed_tree.specs.declared.types.TypeNo.{TypeNo}
 use Rattle.typed_tree.specs.declared.shape.Made.{Made}
 use Rattle.typed_tree.specs.declared.known_types.Types.{Types}
 use Rattle.typed_tree.specs.Known.{made_at, made_from, in_list}
-use Rattle.m2_layout.specs.Types.{Ty}
-use Rattle.m2_layout.specs.Shapes.{Trees, or_nothing, in_module, tree_in, shape_tree, with_made, module_trees, other_trees, known_trees, tree}
+use Rattle.layout_storage.specs.Types.{Ty}
+use Rattle.layout_storage.specs.Shapes.{Trees, or_nothing, in_module, tree_in, shape_tree, with_made, module_trees, other_trees, known_trees, tree}
 use Rattle.law_well_formed.specs.Ordered.{named_by, is_known_from, is_known, AreKnown, AreOrderedFrom, BeginsWith, AreOrdered}
 use Rattle.law_well_formed.proofs.Trees.{at, at_placed, get_more, long_more, append_more, fold_more, some_of, itself, alike_there, Placed, placed, is_among_from, is_among, made_by, in_some, known_among, tree_agree, shape_same, from_made, kept_made, made_shaped, made_same, from_others, kept_others, free_others, same_others}
 

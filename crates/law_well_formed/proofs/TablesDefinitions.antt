@@ -21,13 +21,13 @@ use Rattle.check_scope.specs.declared.known.Known.TheVariants.{Later, Ahead, Beg
 use Rattle.check_scope.specs.declared.scope.Scope.{Scope}
 use Rattle.check_type_expr.specs.Headings.{heading_of, names_of}
 use Rattle.check_type_expr.specs.Made.{nothing_of, with_made}
-use Rattle.m2_types.specs.Compiled.{table_or, declared_in, of_definition, of_contents, compiled}
-use Rattle.m2_types.specs.Declare.{procedure_meaning, with_procedure_type, declared_procedure, with_procedure, with_constant, with_type, with_variables, with_def}
-use Rattle.m2_types.specs.Export.{exports}
-use Rattle.m2_types.specs.Importing.{numbered_modules, with_import}
-use Rattle.m2_types.specs.Marking.{marked_def}
-use Rattle.m2_types.specs.Predeclared.{console, first_scope}
-use Rattle.m2_check.specs.Own.{exported_headings}
+use Rattle.check_definition.specs.Compiled.{table_or, declared_in, of_definition, of_contents, compiled}
+use Rattle.check_definition.specs.Declare.{procedure_meaning, with_procedure_type, declared_procedure, with_procedure, with_constant, with_type, with_variables, with_def}
+use Rattle.check_definition.specs.Export.{exports}
+use Rattle.check_definition.specs.Importing.{numbered_modules, with_import}
+use Rattle.check_definition.specs.Marking.{marked_def}
+use Rattle.check_definition.specs.Predeclared.{console, first_scope}
+use Rattle.check_body.specs.Own.{exported_headings}
 use Rattle.law_well_formed.specs.FormedTables.{AreNumberedBy}
 use Rattle.law_well_formed.proofs.Order.{has, keys, keys_entered, Distinct, distinct_entered, picked, taken_entered, now_taken, is_taken, Order, order_none, AllTaken, next_entered}
 use Rattle.law_well_formed.proofs.Numbers.{exports_numbered}

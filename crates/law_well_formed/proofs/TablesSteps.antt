@@ -32,8 +32,8 @@ use Rattle.check_expr.specs.Meanings.{part}
 use Rattle.check_type_expr.specs.declared.field.Fields.{Fields}
 use Rattle.check_type_expr.specs.Fields.{no_fields}
 use Rattle.check_type_expr.specs.Made.{next_type, with_shape, with_made, enumeration_scalar, too_many, listed, simple_type, index_type, Makes, MakesFields, then_fields, type_layer, field_layer, type_of, field_list}
-use Rattle.m2_types.specs.Declare.{constant_meaning, with_constant, type_meaning, brings_with, with_type, begun_name, variable_meaning, with_variable_type, finished_variable, with_variables}
-use Rattle.m2_types.specs.Importing.{module_named, with_module_as, with_module_name, with_entry, brings_in, reported_of_taken, unless_taken, from_place, with_from, exports_of, from_module, with_imports, with_import}
+use Rattle.check_definition.specs.Declare.{constant_meaning, with_constant, type_meaning, brings_with, with_type, begun_name, variable_meaning, with_variable_type, finished_variable, with_variables}
+use Rattle.check_definition.specs.Importing.{module_named, with_module_as, with_module_name, with_entry, brings_in, reported_of_taken, unless_taken, from_place, with_from, exports_of, from_module, with_imports, with_import}
 use Rattle.law_well_formed.proofs.Order.{has, keys, keys_entered, Distinct, distinct_entered, picked, TakenIn, taken_entered, is_taken, number_if, number_of, is_done, Order, order_entered}
 
 -- ---- keys

@@ -30,9 +30,9 @@ use Rattle.check_scope.specs.declared.scope.Scope.{Scope}
 use Rattle.check_type_expr.specs.declared.field.Fields.{Fields}
 use Rattle.check_type_expr.specs.Fields.{no_fields, with_name}
 use Rattle.check_type_expr.specs.Made.{next_type, with_shape, with_made, enumeration_scalar, too_many, listed, simple_type, index_type, array_of, field_type, nothing_of, record_of, Makes, MakesFields, then_fields, type_layer, field_layer, fields_named, type_of, field_list}
-use Rattle.m2_types.specs.Marking.{Marks, marked_later, marked_simple, then_marks, marked_in, marked_field, marked_constant, marked_type, marked_variables, marked_def}
-use Rattle.m2_types.specs.Marking as marking
-use Rattle.m2_types.specs.Declare.{with_constant, with_type, begun_name, with_variables, with_def}
+use Rattle.check_definition.specs.Marking.{Marks, marked_later, marked_simple, then_marks, marked_in, marked_field, marked_constant, marked_type, marked_variables, marked_def}
+use Rattle.check_definition.specs.Marking as marking
+use Rattle.check_definition.specs.Declare.{with_constant, with_type, begun_name, with_variables, with_def}
 use Rattle.law_well_formed.proofs.ImportsLists.{same_is}
 use Rattle.law_well_formed.proofs.Order.{has, mark_key, keys, keys_entered, Distinct, distinct_entered, TakenIn, now_taken, is_taken, number_of, NoneDone, none_entered, AllTaken}
 use Rattle.law_well_formed.proofs.TablesSteps.{mark_more, Goes, same_goes, ◌⨾◌, fold_goes, made_goes, listed_goes, opened, opened_field, type_at, field_at, type_of_goes, field_list_goes, constant_ends, type_finished, type_ends, constant_goes, type_decl_goes, begun_all_go, variables_end, variables_go}

@@ -7,9 +7,9 @@ use Rattle.m2_tree.specs.declared.token.Lexeme.{Lexeme}
 use Rattle.m2_tree.specs.declared.token.Lexeme.TheVariants as lexeme
 use Rattle.m2_tree.specs.declared.token.Token.{Token}
 use Rattle.check_const_ops.specs.Operands.{letter}
-use Rattle.m2_scan.specs.Bytes.{Text, is_printable}
-use Rattle.m2_scan.specs.Forms.{Spells, Member}
-use Rattle.m2_scan.specs.Division.{place, Divides, tokens_at, tokens_behind, HasTokens}
+use Rattle.scan_tokens.specs.Bytes.{Text, is_printable}
+use Rattle.scan_tokens.specs.Forms.{Spells, Member}
+use Rattle.scan_tokens.specs.Division.{place, Divides, tokens_at, tokens_behind, HasTokens}
 use Rattle.law_well_formed.specs.FormedRanges.{fits_letter}
 use Rattle.law_well_formed.proofs.RangesTypes.{both_left, both_right}
 use Rattle.law_well_formed.specs.FormedFits.{lexeme_fits, token_fits}

@@ -14,8 +14,8 @@ use Rattle.typed_tree.specs.declared.shape.Shape.TheVariants as shape
 use Rattle.typed_tree.specs.declared.shape.Made.{Made}
 use Rattle.typed_tree.specs.declared.known_types.Types.{Types}
 use Rattle.typed_tree.specs.Known.{scalar_at, in_list}
-use Rattle.m2_layout.specs.Types.{Ty, Callable, Cell, Array, Heading, Function, Takes, row}
-use Rattle.m2_layout.specs.Shapes.{Trees, or_nothing, in_module, tree_in, passing_of, result_tree, heading_tree, shape_tree, with_made, module_trees, with_module, elements_of}
+use Rattle.layout_storage.specs.Types.{Ty, Callable, Cell, Array, Heading, Function, Takes, row}
+use Rattle.layout_storage.specs.Shapes.{Trees, or_nothing, in_module, tree_in, passing_of, result_tree, heading_tree, shape_tree, with_made, module_trees, with_module, elements_of}
 use Rattle.law_well_formed.specs.Ordered.{result_named, named_by, is_known_from, is_known, AreOrderedFrom, OthersOrdered, AreOrdered}
 
 -- ---- numbers and lists

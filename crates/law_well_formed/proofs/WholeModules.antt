@@ -24,20 +24,20 @@ use Rattle.check_scope.specs.declared.known.Known.{Known}
 use Rattle.check_scope.specs.declared.scope.Block.{Block as Around}
 use Rattle.check_scope.specs.declared.scope.Scope.{Scope}
 use Rattle.check_const.specs.Denote.{member}
-use Rattle.m2_types.specs.Predeclared.{predeclared_block, console, first_scope}
-use Rattle.m2_types.specs.Importing.{numbered_modules, with_import}
+use Rattle.check_definition.specs.Predeclared.{predeclared_block, console, first_scope}
+use Rattle.check_definition.specs.Importing.{numbered_modules, with_import}
 use Rattle.check_block.specs.Nesting.{procedure_ends}
 use Rattle.check_block.specs.Naming.{with_marks}
 use Rattle.check_block.specs.Declarations.{Course, Declared, reported_of_lack}
 use Rattle.check_block.specs.Headings.{name_standing}
-use Rattle.m2_check.specs.Imports.{all_imports, typed_imports}
-use Rattle.m2_check.specs.Own.{own_names, exported_headings, implementation_scope}
-use Rattle.m2_check.specs.Routines.{unfilled, no_bodies, typed_module}
-use Rattle.m2_check.specs.declared.procedure.Walk.{Walk}
-use Rattle.m2_check.specs.Elaborating.{Elaborates, statements_of}
-use Rattle.m2_check.specs.Bodies.{Checked, Steps, steps, marked_by, declared_by, with_statements, bodies_checked}
-use Rattle.m2_check.specs.Checked.{module_or, walked, of_body, of_implementation, of_contents}
-use Rattle.m2_check.specs.Checks.{elaborated, checked}
+use Rattle.check_body.specs.Imports.{all_imports, typed_imports}
+use Rattle.check_body.specs.Own.{own_names, exported_headings, implementation_scope}
+use Rattle.check_body.specs.Routines.{unfilled, no_bodies, typed_module}
+use Rattle.check_body.specs.declared.procedure.Walk.{Walk}
+use Rattle.check_body.specs.Elaborating.{Elaborates, statements_of}
+use Rattle.check_body.specs.Bodies.{Checked, Steps, steps, marked_by, declared_by, with_statements, bodies_checked}
+use Rattle.check_body.specs.Checked.{module_or, walked, of_body, of_implementation, of_contents}
+use Rattle.check_body.specs.Checks.{elaborated, checked}
 use Rattle.law_modules.specs.WellFormed.{IsRoutine, AreStmts, no_stmts, IsBody, IsWellFormed}
 use Rattle.law_well_formed.specs.Formed.{Holds, fine, broken, FormedMeaning, IsFormed}
 use Rattle.law_well_formed.proofs.Basics.{reported_holds}

@@ -18,9 +18,9 @@ use Rattle.check_block.specs.Nesting.{within}
 use Rattle.law_modules.specs.WellFormed.{AreStmts, IsBody}
 use Rattle.law_well_formed.specs.Formed.{Holds, FormedMeaning, IsFormed}
 use Rattle.law_well_formed.specs.FormedScopes.{picked, is_awaiting, AreFormedNames, AreFormedBlocks}
-use Rattle.m2_check.specs.declared.procedure.Walk.{Walk}
-use Rattle.m2_check.specs.Elaborating.{Elaborates}
-use Rattle.m2_check.specs.Bodies.{ChecksBlock, checks_block}
+use Rattle.check_body.specs.declared.procedure.Walk.{Walk}
+use Rattle.check_body.specs.Elaborating.{Elaborates}
+use Rattle.check_body.specs.Bodies.{ChecksBlock, checks_block}
 
 -- statements of bodies are well formed, where names mean what is there
 abbrev pub FormsStatements : (g : Gathers) → Elaborates g.Reported → Type 0

@@ -6,7 +6,7 @@ use Rattle.m2_tree.specs.declared.token.Lexeme.TheVariants as lexeme
 use Rattle.m2_tree.specs.declared.token.Token.{Token}
 use Rattle.m2_tree.specs.declared.decl.Module.{Module}
 use Rattle.check_const_ops.specs.Operands.{letter}
-use Rattle.m2_scan.specs.Division.{HasTokens}
+use Rattle.scan_tokens.specs.Division.{HasTokens}
 use Rattle.def_grammar.specs.Refusal.{IsModule}
 use Rattle.law_well_formed.specs.FormedRanges.{fits_letter}
 use Rattle.law_well_formed.specs.FormedKnown.{fits_module}

@@ -7,13 +7,13 @@ use Rattle.typed_tree.specs.declared.typed_module.Routine.{Routine}
 use Rattle.typed_tree.specs.declared.typed_module.Which.{Which}
 use Rattle.typed_tree.specs.declared.typed_module.TypedModule.{TypedModule}
 use Rattle.check_scope.specs.Elaborated.{Gathers}
-use Rattle.m2_layout.specs.Sizes.{size}
-use Rattle.m2_layout.specs.Frames.{frame}
-use Rattle.m2_layout.specs.Layouts.{too_large}
-use Rattle.m2_layout.specs.Texts.{module_texts}
+use Rattle.layout_storage.specs.Sizes.{size}
+use Rattle.layout_storage.specs.Frames.{frame}
+use Rattle.layout_storage.specs.Layouts.{too_large}
+use Rattle.layout_storage.specs.Texts.{module_texts}
 use Rattle.def_scheme.specs.Functions.{routine_of}
 use Rattle.def_scheme.specs.Modules.{all_characters, typed_module}
-use Rattle.m2_check.specs.Checks.{checked}
+use Rattle.check_body.specs.Checks.{checked}
 use Rattle.law_well_formed.specs.Formed.{Holds}
 use Rattle.law_well_formed.specs.FormedModules.{AreFor}
 

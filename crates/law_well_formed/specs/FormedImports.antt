@@ -8,9 +8,9 @@ use Rattle.typed_tree.specs.declared.typed_module.Imported.{Imported}
 use Rattle.typed_tree.specs.declared.typed_module.TypedModule.{TypedModule}
 use Rattle.m2_tree.specs.Names.{same_name}
 use Rattle.check_scope.specs.Elaborated.{Gathers}
-use Rattle.m2_types.specs.Compiled.{compiled}
-use Rattle.m2_check.specs.Elaborating.{Elaborates}
-use Rattle.m2_check.specs.Checked.{checked}
+use Rattle.check_definition.specs.Compiled.{compiled}
+use Rattle.check_body.specs.Elaborating.{Elaborates}
+use Rattle.check_body.specs.Checked.{checked}
 
 -- the tree imports a module of this name
 abbrev pub is_imported : Module → List ℕ → Bool

@@ -14,10 +14,10 @@ use Rattle.typed_tree.specs.declared.table.Table.{Table}
 use Rattle.typed_tree.specs.declared.known_types.Types.{Types}
 use Rattle.typed_tree.specs.Known.{made_in}
 use Rattle.check_scope.specs.Elaborated.{Gathers}
-use Rattle.m2_types.specs.Compiled.{compiled}
-use Rattle.m2_check.specs.Own.{types_made_in}
-use Rattle.m2_check.specs.Elaborating.{Elaborates}
-use Rattle.m2_check.specs.Checked.{checked}
+use Rattle.check_definition.specs.Compiled.{compiled}
+use Rattle.check_body.specs.Own.{types_made_in}
+use Rattle.check_body.specs.Elaborating.{Elaborates}
+use Rattle.check_body.specs.Checked.{checked}
 use Rattle.law_well_formed.specs.Formed.{Holds}
 use Rattle.law_modules.specs.Ranges.{AreRanged}
 use Rattle.law_well_formed.specs.FormedRanges.{AllBased, ExportsRanged, ReachedRanged, itself, fits_constant, fits_type_decl, fits_variables, fits_def}

@@ -7,8 +7,8 @@ use Rattle.m2_tree.specs.declared.decl.Module.{Module}
 use Rattle.typed_tree.specs.declared.table.Table.{Table}
 use Rattle.m2_tree.specs.Names.{is_console}
 use Rattle.check_scope.specs.Elaborated.{Gathers}
-use Rattle.m2_check.specs.Own.{exported_headings}
-use Rattle.m2_check.specs.Checks.{checked}
+use Rattle.check_body.specs.Own.{exported_headings}
+use Rattle.check_body.specs.Checks.{checked}
 use Rattle.law_modules.specs.WellFormed.{IsWellFormed}
 use Rattle.law_well_formed.specs.Formed.{Holds}
 use Rattle.law_well_formed.specs.FormedTables.{AreExports, AreNumberedBy}

@@ -24,10 +24,10 @@ use Rattle.check_scope.specs.declared.scope.Scope.{Scope}
 use Rattle.check_scope.specs.Elaborated.{Gathers}
 use Rattle.check_scope.specs.Scopes.{State}
 use Rattle.check_type_expr.specs.Made.{type_of}
-use Rattle.m2_types.specs.Declare.{with_def}
-use Rattle.m2_types.specs.Compiled.{declared_in}
-use Rattle.m2_types.specs.Export.{exports}
-use Rattle.m2_types.specs.Predeclared.{others_of, first_scope}
+use Rattle.check_definition.specs.Declare.{with_def}
+use Rattle.check_definition.specs.Compiled.{declared_in}
+use Rattle.check_definition.specs.Export.{exports}
+use Rattle.check_definition.specs.Predeclared.{others_of, first_scope}
 use Rattle.check_block.specs.Declarations.{Course, with_decl, declared_block, declared_module}
 use Rattle.check_block.specs.declared.inner.Outside.{Outside}
 use Rattle.check_block.specs.Inner.{entered_procedure, left_procedure}

@@ -44,10 +44,10 @@ use Rattle.check_const_ops.specs.Operands.{letter}
 use Rattle.check_const.specs.Parts.{constant}
 use Rattle.check_expr.specs.Meanings.{part}
 use Rattle.check_type_expr.specs.Made.{type_of}
-use Rattle.m2_types.specs.Declare.{with_def}
-use Rattle.m2_types.specs.Compiled.{declared_in}
-use Rattle.m2_types.specs.Export.{exports, reached_of}
-use Rattle.m2_types.specs.Predeclared.{others_of, first_scope}
+use Rattle.check_definition.specs.Declare.{with_def}
+use Rattle.check_definition.specs.Compiled.{declared_in}
+use Rattle.check_definition.specs.Export.{exports, reached_of}
+use Rattle.check_definition.specs.Predeclared.{others_of, first_scope}
 use Rattle.check_scope.specs.Scopes.{State}
 use Rattle.check_block.specs.Declarations.{Course, with_decl, declared_block, declared_module}
 use Rattle.check_block.specs.declared.inner.Outside.{Outside}

@@ -7,8 +7,8 @@ use Rattle.typed_tree.specs.declared.meaning.Meaning.TheVariants as meaning
 use Rattle.typed_tree.specs.declared.table.Table.{Table}
 use Rattle.typed_tree.specs.declared.types.TypeNo.{TypeNo}
 use Rattle.check_scope.specs.Elaborated.{Gathers}
-use Rattle.m2_types.specs.Compiled.{compiled}
-use Rattle.m2_check.specs.Own.{exported_headings}
+use Rattle.check_definition.specs.Compiled.{compiled}
+use Rattle.check_body.specs.Own.{exported_headings}
 
 -- a constant, a type, a variable or a procedure of this module, or a standard procedure
 abbrev pub IsExport : (home : ℕ) → Meaning → Type 0

@@ -11,7 +11,7 @@ use Rattle.typed_tree.specs.declared.shape.Shape.TheVariants as shape
 use Rattle.typed_tree.specs.declared.shape.Made.{Made}
 use Rattle.typed_tree.specs.declared.known_types.Types.{Types}
 use Rattle.typed_tree.specs.Known.{made_in, made_at}
-use Rattle.m2_layout.specs.Shapes.{shape_tree, known_trees, tree}
+use Rattle.layout_storage.specs.Shapes.{shape_tree, known_trees, tree}
 
 -- ---- the types that a type names
 

@@ -105,7 +105,7 @@
 //!   modules.
 #![tactic(auto)]
 
-ghost use Rattle.m2_check.specs.Checks.{elaborated};
+ghost use Rattle.check_body.specs.Checks.{elaborated};
 ghost use Rattle.law_well_formed.specs.Formed.{ExpressionsAreFormed};
 ghost use Rattle.law_well_formed.specs.FormedBodies.{FormsStatements, BlocksAreFormed};
 ghost use Rattle.law_well_formed.specs.FormedFits.{TextsFit, TokensFit, TreesFit};

@@ -2,17 +2,17 @@
 use Rattle.std.proofs.Common.{◌≡◌, ℕ, ◌+◌, ◌≤◌, List, map, sym, ap, ◌∙◌, arith}
 use Rattle.wasm_binary.specs.Binary.{module_encoding}
 use Rattle.typed_tree.specs.declared.typed_module.TypedModule.{TypedModule}
-use Rattle.m2_layout.specs.declared.row.Row.{Row}
-use Rattle.m2_layout.specs.declared.layout.Layout.{Layout}
-use Rattle.m2_layout.specs.Capped.{capped}
-use Rattle.m2_layout.specs.Types.{Ty, row}
-use Rattle.m2_layout.specs.Sizes.{size}
-use Rattle.m2_layout.specs.Shapes.{tree}
-use Rattle.m2_layout.specs.Frames.{module_row}
-use Rattle.m2_layout.specs.Texts.{characters, module_texts}
-use Rattle.m2_layout.specs.Extents.{total}
-use Rattle.m2_layout.specs.Layouts.{IsLayout, AllFits}
-use Rattle.m2_layout.proofs.Rows.{fields_row, fields_sum, row_is}
+use Rattle.layout_storage.specs.declared.row.Row.{Row}
+use Rattle.layout_storage.specs.declared.layout.Layout.{Layout}
+use Rattle.layout_storage.specs.Capped.{capped}
+use Rattle.layout_storage.specs.Types.{Ty, row}
+use Rattle.layout_storage.specs.Sizes.{size}
+use Rattle.layout_storage.specs.Shapes.{tree}
+use Rattle.layout_storage.specs.Frames.{module_row}
+use Rattle.layout_storage.specs.Texts.{characters, module_texts}
+use Rattle.layout_storage.specs.Extents.{total}
+use Rattle.layout_storage.specs.Layouts.{IsLayout, AllFits}
+use Rattle.layout_storage.proofs.Rows.{fields_row, fields_sum, row_is}
 use Rattle.def_scheme.specs.Modules.{slots, typed_module}
 use Rattle.m2_emit.specs.declared.emitted.ModuleBytes.{ModuleBytes}
 use Rattle.m2_emit.specs.Emitted.{emitted}

@@ -2,14 +2,14 @@
 
 ghost use Rattle.std.specs.Prelude.{◌≡◌, ◌≤◌, IfOk, OnOk, map, true};
 ghost use Rattle.wasm_binary.specs.Binary.{module_fits, Encodes};
-ghost use Rattle.m2_layout.specs.Layouts.{IsLayout, AllFits};
+ghost use Rattle.layout_storage.specs.Layouts.{IsLayout, AllFits};
 ghost use Rattle.def_scheme.specs.Modules.{link_of, max_pages, typed_module};
 ghost use Rattle.m2_emit.specs.Emitted.{emitted, parts};
 
 use crate::emitted::ModuleBytes;
 use crate::link::link_of;
 use crate::module::{module_of, slots_of};
-use m2_layout::Layout;
+use layout_storage::Layout;
 use m2_tree::Items;
 use std::alloc::Global;
 use typed_tree::TypedModule;

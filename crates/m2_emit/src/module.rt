@@ -1,8 +1,8 @@
 //! The module of a body.
 
 ghost use Rattle.std.specs.Prelude.{◌≡◌, suc, length, IfOk};
-ghost use Rattle.m2_layout.specs.Layouts.{IsLayout, AllFits};
-ghost use Rattle.m2_layout.specs.Texts.{module_texts};
+ghost use Rattle.layout_storage.specs.Layouts.{IsLayout, AllFits};
+ghost use Rattle.layout_storage.specs.Texts.{module_texts};
 ghost use Rattle.def_scheme.specs.Modules.{all_characters, functions, signatures, slots, typed_module};
 ghost use Rattle.emit_tables.specs.Offsets.{AreTexts};
 
@@ -12,7 +12,7 @@ use crate::segments::{data_of, elements_of};
 use crate::types::types_of;
 use emit_buffer::Home;
 use emit_tables::{ModuleTexts, Signatures, module_texts, signatures_of};
-use m2_layout::Layout;
+use layout_storage::Layout;
 use sqlite_items::Items;
 use std::alloc::Global;
 use typed_tree::TypedModule;

@@ -1,5 +1,5 @@
 //! The rules that a program can break, and the faults that can end its run, by name and number. The rules of tokens and of
-//! the grammar stand in `m2_scan` and `m2_parse`.
+//! the grammar stand in `scan_tokens` and `m2_parse`.
 #![tactic(auto)]
 
 mod fault;

@@ -1,16 +1,9 @@
-//! Divides the text of a module into tokens.
+//! The tokens of a text, or its least refusal 1 to 7.
+//!
+//! [`scan`] divides a text of at most [`MAX_TEXT`] bytes into tokens with their places, the end token last. A text that breaks
+//! a rule has a [`ScanError`] in place of tokens: the least place with its [`Fault`], or that memory was refused.
+//!
+//! The crate behind this one is internal. Users name this one and `m2_tree`.
 #![tactic(auto)]
 
-mod class;
-mod comment;
-mod cut;
-mod lengths;
-mod number;
-mod refusal;
-mod symbols;
-mod tokens;
-
-pub use number::number_of;
-pub use refusal::{Fault, ScanError, ScanRefusal};
-pub use symbols::{pair_of, single_of, word_of};
-pub use tokens::{MAX_TEXT, one_division, one_refusal, scan, tokens_or_refusal};
+pub use scan_tokens::{Fault, MAX_TEXT, ScanError, ScanRefusal, scan};

@@ -1,20 +1,10 @@
-//! What definitions mean: their tables.
+//! The table of a definition module: what it exports, with the types.
+//!
+//! [`compile_definition`] makes the [`Table`] of a definition from the tables of those that it imports, or answers the least
+//! rule that the definition breaks. A [`TypeNo`] names a type by its module and its number there.
+//!
+//! The crates behind this one are internal. Users name this one and `m2_tree`.
 #![tactic(auto)]
 
-mod declare;
-mod definition;
-mod export;
-mod importing;
-mod marking;
-mod predeclared;
-
-pub use declare::{
-    begin_all, declare_constants, declare_types, declare_variables, procedure_meaning,
-    with_procedure_type, with_variable_type,
-};
-pub use definition::{compile_definition, with_console};
-pub use export::with_import_of;
-pub use importing::{import_all, modules_of};
-pub use marking::{mark_constants, mark_types, mark_variables};
-pub use predeclared::{first_scope, with_table};
+pub use check_definition::compile_definition;
 pub use typed_tree::{Table, TypeNo};

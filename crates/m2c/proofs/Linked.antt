@@ -23,9 +23,9 @@ use Rattle.typed_tree.specs.declared.typed_module.Imported.{Imported}
 use Rattle.typed_tree.specs.declared.typed_module.TypedModule.{TypedModule}
 use Rattle.check_scope.specs.declared.fault.Fault.{Fault}
 use Rattle.check_scope.specs.Elaborated.{least}
-use Rattle.m2_layout.specs.Layouts.{too_large}
-use Rattle.m2_types.specs.Compiled as types
-use Rattle.m2_check.specs.Checks.{elaborated}
+use Rattle.layout_storage.specs.Layouts.{too_large}
+use Rattle.check_definition.specs.Compiled as types
+use Rattle.check_body.specs.Checks.{elaborated}
 use Rattle.def_meaning.specs.Around.{Modules}
 use Rattle.law_well_formed.specs.FormedImports.{is_imported, is_imported_by, IsImport, NamesImports, StandsOnImports}
 use Rattle.law_well_formed.proofs.NamedImports.{tables_named, modules_stand}

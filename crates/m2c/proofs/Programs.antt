@@ -24,20 +24,20 @@ use Rattle.typed_tree.specs.declared.typed_module.TypedModule.{TypedModule}
 use Rattle.check_scope.specs.declared.fault.Fault.{Fault}
 use Rattle.check_scope.specs.declared.scope.Scope.{Scope}
 use Rattle.check_scope.specs.Elaborated.{least, both, ◌▷◌}
-use Rattle.m2_layout.specs.Layouts.{too_large}
+use Rattle.layout_storage.specs.Layouts.{too_large}
 use Rattle.m2_emit.specs.declared.emitted.ModuleBytes.{ModuleBytes}
 use Rattle.m2_emit.specs.Emitted.{emitted}
 use Rattle.def_meaning.specs.Around.{Modules}
 use Rattle.def_scheme.specs.Modules.{typed_module}
 use Rattle.law_modules.specs.Linked as linked
-use Rattle.m2_types.specs.Importing.{numbered_modules}
-use Rattle.m2_types.specs.Predeclared.{first_scope}
-use Rattle.m2_check.specs.Own.{implementation_scope}
+use Rattle.check_definition.specs.Importing.{numbered_modules}
+use Rattle.check_definition.specs.Predeclared.{first_scope}
+use Rattle.check_body.specs.Own.{implementation_scope}
 use Rattle.check_block.specs.Nesting.{procedure_ends}
-use Rattle.m2_check.specs.Checked as bodies
-use Rattle.m2_check.specs.Bodies.{Checked}
-use Rattle.m2_check.specs.Routines as routines
-use Rattle.m2_check.specs.Checks.{elaborated}
+use Rattle.check_body.specs.Checked as bodies
+use Rattle.check_body.specs.Bodies.{Checked}
+use Rattle.check_body.specs.Routines as routines
+use Rattle.check_body.specs.Checks.{elaborated}
 use Rattle.build_jobs.specs.declared.outcome.Compiled.{Compiled}
 use Rattle.build_jobs.specs.declared.outcome.Compiled.TheVariants.{Built}
 use Rattle.build_jobs.specs.Own.{own_table}

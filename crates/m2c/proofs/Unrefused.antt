@@ -16,12 +16,12 @@ use Rattle.m2_graph.specs.Files.{numbered}
 use Rattle.m2_graph.specs.Graph.{CompileEach}
 use Rattle.typed_tree.specs.declared.table.Table.{Table}
 use Rattle.check_scope.specs.declared.fault.Fault.{Fault}
-use Rattle.m2_layout.specs.Layouts.{too_large}
+use Rattle.layout_storage.specs.Layouts.{too_large}
 use Rattle.build_jobs.specs.declared.outcome.Compiled.{Compiled}
 use Rattle.build_jobs.specs.declared.outcome.Compiled.TheVariants.{Refused, Blocked}
 use Rattle.build_jobs.specs.Compiling.{is_sound, tables_of, of_definition, of_fit, of_checked, of_contents, typed_body, compiled}
 use Rattle.check_scope.specs.Elaborated.{least}
-use Rattle.m2_types.specs.Compiled as types
+use Rattle.check_definition.specs.Compiled as types
 use Rattle.std.proofs.lemmas.List.{length-map}
 use Rattle.law_graph.proofs.Lists.{some_at}
 use Rattle.typed_tree.specs.declared.typed_module.TypedModule.{TypedModule}

@@ -5,13 +5,13 @@ use Rattle.m2_tree.specs.declared.pos.Pos.{Pos}
 use Rattle.typed_tree.specs.declared.statement.TypedStmt.{TypedStmt}
 use Rattle.typed_tree.specs.declared.typed_module.TypedModule.{TypedModule}
 use Rattle.typed_tree.specs.declared.known_types.Types.{Types}
-use Rattle.m2_layout.specs.declared.layout.Layout.{Layout}
-use Rattle.m2_layout.specs.Types.{row}
-use Rattle.m2_layout.specs.Sizes.{size}
-use Rattle.m2_layout.specs.Frames.{module_row}
-use Rattle.m2_layout.specs.Texts.{characters, module_texts}
-use Rattle.m2_layout.specs.Capped.{capped}
-use Rattle.m2_layout.specs.Layouts.{IsAnswer}
+use Rattle.layout_storage.specs.declared.layout.Layout.{Layout}
+use Rattle.layout_storage.specs.Types.{row}
+use Rattle.layout_storage.specs.Sizes.{size}
+use Rattle.layout_storage.specs.Frames.{module_row}
+use Rattle.layout_storage.specs.Texts.{characters, module_texts}
+use Rattle.layout_storage.specs.Capped.{capped}
+use Rattle.layout_storage.specs.Layouts.{IsAnswer}
 use Rattle.def_meaning.specs.Store.{Store, fresh}
 use Rattle.def_meaning.specs.Answer.{State as Meant, Outcome as Course}
 use Rattle.def_meaning.specs.Answer.{Stopped, Unfinished}

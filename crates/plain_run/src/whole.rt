@@ -1,9 +1,9 @@
 //! The run of a program: the bodies of its modules in start order, on fresh variables.
 
 ghost use Rattle.std.specs.Prelude.{◌≡◌, ◌-◌, map, IfOk};
-ghost use Rattle.m2_layout.specs.Frames.{module_row};
-ghost use Rattle.m2_layout.specs.Texts.{module_texts, characters};
-ghost use Rattle.m2_layout.specs.Types.{row as row_type};
+ghost use Rattle.layout_storage.specs.Frames.{module_row};
+ghost use Rattle.layout_storage.specs.Texts.{module_texts, characters};
+ghost use Rattle.layout_storage.specs.Types.{row as row_type};
 ghost use Rattle.def_meaning.specs.Store.{fresh};
 ghost use Rattle.def_meaning.specs.Runs.{run, storage, body_frame};
 ghost use Rattle.plain_store.specs.Seen.{seen, halted};
@@ -13,7 +13,7 @@ ghost use Rattle.plain_store.specs.Blanks.{known_blanks, row_blank, variables_of
 ghost use Rattle.plain_run.specs.Whole.{IsBodyAround, reported, data_of, bodies_in};
 
 use crate::runs::steps;
-use m2_layout::Layout;
+use layout_storage::Layout;
 use m2_tree::Items;
 use plain_store::blanks::{Blank, Kept, known, plus, row, variables_blank};
 use plain_store::held::Held;

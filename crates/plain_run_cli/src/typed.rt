@@ -3,10 +3,10 @@
 
 use anyhow::{Result, bail};
 use build_jobs::{Read, SourceFile, read_text};
-use m2_check::check;
+use check_body::check;
+use check_definition::compile_definition;
 use m2_graph::{Graph, GraphError};
 use m2_tree::{Contents, Items, Module};
-use m2_types::compile_definition;
 use std::alloc::Global;
 use std::sync::Arc;
 use typed_tree::{Shared, Table, TypedModule};

@@ -4,8 +4,8 @@ use Rattle.std.proofs.lemmas.List.{length-map}
 use Rattle.typed_tree.specs.declared.types.TypeNo.{TypeNo}
 use Rattle.typed_tree.specs.declared.typed_module.Routine.{Routine}
 use Rattle.typed_tree.specs.declared.known_types.Types.{Types}
-use Rattle.m2_layout.specs.Frames.{formals_of, frame}
-use Rattle.m2_layout.specs.Texts.{passed}
+use Rattle.layout_storage.specs.Frames.{formals_of, frame}
+use Rattle.layout_storage.specs.Texts.{passed}
 use Rattle.def_meaning.specs.Store.{Location, Store, assigned, copied, placed, fresh}
 use Rattle.def_meaning.specs.Answer.{State as Meant, Answer as Given, Outcome as Course}
 use Rattle.def_meaning.specs.Around.{Named as Name, Passed as Sent, At, Elements, Number, Variable, Array, Text}

@@ -1,8 +1,8 @@
 //! How calls begin, and how they end.
 
 ghost use Rattle.std.specs.Prelude.{◌≡◌, ◌∷◌, [], ◌++◌, suc, false, map, length, IfOk, OnOk, MatchOption};
-ghost use Rattle.m2_layout.specs.Frames.{formals_of};
-ghost use Rattle.m2_layout.specs.Texts.{passed};
+ghost use Rattle.layout_storage.specs.Frames.{formals_of};
+ghost use Rattle.layout_storage.specs.Texts.{passed};
 ghost use Rattle.def_meaning.specs.Around.{Elements, Number, Variable, Array, Text};
 ghost use Rattle.def_meaning.specs.Calls.{variable_at, with_passed, with_all, variables_from, entered, is_function, copies_size, copy_size, needed};
 ghost use Rattle.def_meaning.specs.Calls.{result as end_of};

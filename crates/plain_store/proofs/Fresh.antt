@@ -17,12 +17,12 @@ use Rattle.typed_tree.specs.declared.shape.Made.{Made}
 use Rattle.typed_tree.specs.declared.known_types.Types.{Types}
 use Rattle.typed_tree.specs.declared.typed_module.Routine.{Routine}
 use Rattle.typed_tree.specs.Known.{predeclared_scalar, scalar_at}
-use Rattle.m2_layout.specs.Types.{Ty, Scalar, Natural, Callable, Cell, Hidden, Array, Nothing, Field, row, component, first}
-use Rattle.m2_layout.specs.Sizes.{size, width}
-use Rattle.m2_layout.specs.Shapes.{heading_tree, Trees, or_nothing, in_module, scalar_kind, scalar_tree, tree_from, tree_in, shape_tree, module_trees, other_trees, known_trees, tree, elements_of}
-use Rattle.m2_layout.specs.Shapes.{with_made as with_tree, with_module as with_trees}
+use Rattle.layout_storage.specs.Types.{Ty, Scalar, Natural, Callable, Cell, Hidden, Array, Nothing, Field, row, component, first}
+use Rattle.layout_storage.specs.Sizes.{size, width}
+use Rattle.layout_storage.specs.Shapes.{heading_tree, Trees, or_nothing, in_module, scalar_kind, scalar_tree, tree_from, tree_in, shape_tree, module_trees, other_trees, known_trees, tree, elements_of}
+use Rattle.layout_storage.specs.Shapes.{with_made as with_tree, with_module as with_trees}
 use Rattle.typed_tree.specs.declared.typed_module.TypedModule.{TypedModule}
-use Rattle.m2_layout.specs.Frames.{formals_of, formal_tree, variable_trees, frame, module_row}
+use Rattle.layout_storage.specs.Frames.{formals_of, formal_tree, variable_trees, frame, module_row}
 use Rattle.def_meaning.specs.Store.{Location, fresh, first_in}
 use Rattle.plain_store.specs.declared.held.Held.{Held}
 use Rattle.plain_store.specs.declared.held.Held.TheVariants.{Same, Parts}

@@ -14,10 +14,10 @@ use Rattle.typed_tree.specs.declared.typed_module.Routine.{Routine}
 use Rattle.typed_tree.specs.declared.typed_module.TypedModule.{TypedModule}
 use Rattle.typed_tree.specs.Known.{predeclared_scalar, scalar_at}
 use Rattle.std.specs.Prelude.{slice_get, if◌then◌else◌}
-use Rattle.m2_layout.specs.Types.{Scalar, Natural, first}
-use Rattle.m2_layout.specs.Sizes.{width}
-use Rattle.m2_layout.specs.Shapes.{scalar_kind, elements_of}
-use Rattle.m2_layout.specs.Frames.{formals_of}
+use Rattle.layout_storage.specs.Types.{Scalar, Natural, first}
+use Rattle.layout_storage.specs.Sizes.{width}
+use Rattle.layout_storage.specs.Shapes.{scalar_kind, elements_of}
+use Rattle.layout_storage.specs.Frames.{formals_of}
 use Rattle.plain_store.specs.declared.held.Held.{Held}
 use Rattle.plain_store.specs.declared.held.Held.TheVariants.{Same, Parts, Array}
 use Rattle.plain_store.specs.declared.blanks.Blank.{Blank}

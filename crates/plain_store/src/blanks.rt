@@ -3,10 +3,10 @@
 ghost use Rattle.std.specs.Prelude.{◌≡◌, ◌+◌, ◌-ℤ◌, ◌*◌, ◌∷◌, ◌++◌, [], pos, map, unsigned_abs, IfOk};
 ghost use Rattle.std.specs.List.{fold};
 ghost use Rattle.std.specs.Option.{option_copied, option_map};
-ghost use Rattle.m2_layout.specs.Types.{Natural, first};
-ghost use Rattle.m2_layout.specs.Sizes.{width, room_for, bytes_in};
-ghost use Rattle.m2_layout.specs.Shapes.{scalar_kind, elements_of};
-ghost use Rattle.m2_layout.specs.Frames.{formals_of};
+ghost use Rattle.layout_storage.specs.Types.{Natural, first};
+ghost use Rattle.layout_storage.specs.Sizes.{width, room_for, bytes_in};
+ghost use Rattle.layout_storage.specs.Shapes.{scalar_kind, elements_of};
+ghost use Rattle.layout_storage.specs.Frames.{formals_of};
 ghost use Rattle.plain_store.specs.Blanks.{cell, cell_blank, word_blank, hidden_blank, scalar_blank, array_blank, held_in, total, row_blank, or_none, kept_of, blank_in, field_blank, shape_blank, kept, with_made, module_blanks, with_module, if_some, other_blanks, known_blanks, formal_blank, header_blank, frame_blank};
 
 use crate::copying::copy;

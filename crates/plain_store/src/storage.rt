@@ -1,9 +1,9 @@
 //! The sizes of types and frames, and what fresh frames hold.
 
 ghost use Rattle.std.specs.Prelude.{◌≡◌, IfOk};
-ghost use Rattle.m2_layout.specs.Sizes.{size};
-ghost use Rattle.m2_layout.specs.Shapes.{tree};
-ghost use Rattle.m2_layout.specs.Frames.{frame};
+ghost use Rattle.layout_storage.specs.Sizes.{size};
+ghost use Rattle.layout_storage.specs.Shapes.{tree};
+ghost use Rattle.layout_storage.specs.Frames.{frame};
 ghost use Rattle.def_meaning.specs.Store.{fresh};
 ghost use Rattle.plain_store.specs.Contents.{contents};
 

@@ -3,7 +3,7 @@
 ghost use Rattle.std.specs.Prelude.{◌≡◌, ◌≤◌, ◌==◌, ◌∷◌, ◌++◌, ◌-ℤ◌, [], pos, length, slice_get, unsigned_abs, IfOk};
 ghost use Rattle.std.specs.List.{position_or_len};
 ghost use Rattle.std.specs.Option.{option_copied, option_map};
-ghost use Rattle.m2_layout.specs.Shapes.{elements_of};
+ghost use Rattle.layout_storage.specs.Shapes.{elements_of};
 ghost use Rattle.def_meaning.specs.Answer.{then_give};
 ghost use Rattle.def_meaning.specs.Around.{named, location_of, high_of, or_root, module_place};
 ghost use Rattle.def_meaning.specs.Expressions.{element, element_in, index_made, index_range, high_index, root_layer};

@@ -2,7 +2,7 @@
 
 ghost use Rattle.std.specs.Prelude.{◌≤◌, length};
 
-use m2_scan::pair_of;
+use scan_tokens::pair_of;
 
 /// The bytes up to the quote that ends a string, or all if none does.
 fn string_length(rest: &[u8], quote: u8) -> usize

@@ -1,5 +1,5 @@
 use Rattle.check_scope.specs.Elaborated.{least, every}
-use Rattle.m2_check.specs.Checks.{elaborated}
+use Rattle.check_body.specs.Checks.{elaborated}
 use Rattle.law_encoding.proofs.DeepTexts.{tree_below}
 use Rattle.law_encoding.proofs.DeepStatements.{statements_most}
 use Rattle.law_encoding.proofs.DeepBlocks.{module_most}

@@ -1,5 +1,5 @@
 use Rattle.check_scope.specs.Elaborated.{least, every}
-use Rattle.m2_check.specs.Checks.{elaborated}
+use Rattle.check_body.specs.Checks.{elaborated}
 use Rattle.law_well_formed.proofs.Induction.{elaborated_formed}
 use Rattle.law_programs.proofs.Induction.{elaborated_typed, blocks_typed}
 use Rattle.law_programs.proofs.Locals.{locals_stay}

@@ -1,6 +1,6 @@
 use Rattle.std.proofs.Common.{false}
 use Rattle.check_block.specs.Declarations.{or_awaited}
-use Rattle.m2_types.proofs.Walks.{walked}
+use Rattle.check_definition.proofs.Walks.{walked}
 use Rattle.check_block.proofs.declarations.lacks.Goals as goal
 
 pub loop-place-preserved : goal.loop-place-preserved

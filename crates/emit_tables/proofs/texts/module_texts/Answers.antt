@@ -1,5 +1,5 @@
 use Rattle.std.proofs.Common.{◌++◌, ap, ◌∙◌}
-use Rattle.m2_layout.specs.Texts.{body_texts}
+use Rattle.layout_storage.specs.Texts.{body_texts}
 use Rattle.def_scheme.specs.Modules.{all_characters}
 use Rattle.emit_tables.proofs.Begins.{texts_are}
 use Rattle.emit_tables.proofs.texts.module_texts.Goals as goal

@@ -1,0 +1,19 @@
+-- Program and implementation modules, checked with the statements of their bodies.
+use Rattle.std.specs.Prelude.{ℕ, false, List, Option, Result}
+use Rattle.m2_tree.specs.declared.decl.Module.{Module}
+use Rattle.typed_tree.specs.declared.table.Table.{Table}
+use Rattle.typed_tree.specs.declared.typed_module.TypedModule.{TypedModule}
+use Rattle.check_scope.specs.Elaborated.{Gathers}
+use Rattle.check_body.specs.Elaborating.{Elaborates}
+use Rattle.check_body.specs.Checked as bodies
+use Rattle.check_stmt.specs.Statements.{statements}
+
+-- no LOOP stands around the statements of a body
+abbrev pub elaborated : (g : Gathers) → Elaborates g.Reported
+elaborated g s returns body = statements g s (record { gives = returns; in_loop = false }) body
+
+-- The module of a body, given the table of its own definition, if it has one, and the tables of
+-- those that it imports.
+abbrev pub checked : (g : Gathers) → ℕ → Module → Option Table → List Table
+    → Result TypedModule g.Reported
+checked g number m own imports = bodies.checked g (elaborated g) number m own imports

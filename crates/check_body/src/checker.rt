@@ -1,0 +1,52 @@
+//! Program and implementation modules, checked with the statements of their bodies.
+
+ghost use Rattle.std.specs.Prelude.{◌≡◌, IfOk};
+ghost use Rattle.std.specs.Option.{option_copied};
+ghost use Rattle.check_scope.specs.Elaborated.{least};
+ghost use Rattle.check_body.specs.Checks.{elaborated, checked};
+
+use crate::{Statements, check_with};
+use check_scope::{Elaborated, Fault, Scope};
+use check_stmt::statements;
+use check_stmt_parts::Around;
+use m2_tree::{Items, Module, Stmt};
+use std::alloc::{AllocError, Global};
+use typed_tree::{Shared, Table, TypeNo, TypedModule, TypedStmt};
+
+/// Elaborates the statements of a body.
+struct Checker;
+
+impl Statements for Checker {
+    ghost elaborated = { λ checker. elaborated least };
+
+    fn check(
+        &self,
+        alloc: Global,
+        scope: &mut Scope<Fault>,
+        returns: &Option<Elaborated<TypeNo>>,
+        body: &[Stmt],
+    ) -> Result<Elaborated<Items<TypedStmt>>, AllocError> {
+        let around = Around {
+            gives: *returns,
+            in_loop: false,
+        };
+        statements(alloc, scope, &around, body)
+    }
+}
+
+/// Checks a program module or an implementation module, from the tables of the definitions that it
+/// imports and, for an implementation, from the table of its own definition. It answers the module
+/// where no rule is broken, and else the least rule that is, by place and then by number. The only
+/// error is that memory ran out.
+pub fn check(
+    alloc: Global,
+    number: u32,
+    tree: &Module,
+    own: Option<&Table>,
+    imports: Items<Shared<Table>>,
+) -> Result<Elaborated<TypedModule>, AllocError>
+    ensures { IfOk result
+        (λ j. j ≡ checked least number tree.now (option_copied own.entry) imports) }
+{
+    check_with(alloc, &Checker, number, tree, own, imports)
+}

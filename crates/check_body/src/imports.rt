@@ -1,0 +1,161 @@
+//! The modules that a body stands on.
+
+ghost use Rattle.std.specs.Prelude.{◌≡◌, [], IfOk, OnOk};
+ghost use Rattle.std.specs.List.{fold};
+ghost use Rattle.std.specs.Option.{option_map, option_copied};
+ghost use Rattle.check_definition.specs.Steps.{if_some};
+ghost use Rattle.check_definition.specs.Export.{with_import_of};
+ghost use Rattle.check_body.specs.Imports.{with_import_copy, definition_imports, all_imports, imported_as, with_table_of, with_name_of, with_place_of, with_module_of, typed_imports};
+
+use crate::own::exported_variables;
+use check_definition::with_import_of;
+use m2_tree::{Import, Items, is_console};
+use std::alloc::{AllocError, Global};
+use typed_tree::{Dictionary, Imported, Shared, Table};
+
+// ---- names
+
+fn with_import_copy_if(
+    alloc: Global,
+    imports: &mut Dictionary<u32>,
+    entry: Option<(&[u8], &u32)>,
+) -> Result<(), AllocError>
+    ensures { OnOk result (imports.new ≡ if_some with_import_copy imports.old (option_map (λ e. (e.0.now, e.1.now)) entry.entry)) }
+{
+    match entry {
+        None => Ok(()),
+        Some((name, number)) => imports.enter(alloc, name, *number),
+    }
+}
+
+fn imports_copy(alloc: Global, list: &Dictionary<u32>) -> Result<Dictionary<u32>, AllocError>
+    ensures { IfOk result (λ imports. imports ≡ fold with_import_copy [] list.now) }
+{
+    let mut imports = Dictionary::new(alloc);
+    for place in 0..list.len() {
+        with_import_copy_if(alloc, &mut imports, list.get(place))?;
+    }
+    Ok(imports)
+}
+
+fn definition_imports(alloc: Global, own: Option<&Table>) -> Result<Dictionary<u32>, AllocError>
+    ensures { IfOk result (λ imports. imports ≡ definition_imports (option_copied own.entry)) }
+{
+    match own {
+        None => Ok(Dictionary::new(alloc)),
+        Some(own) => imports_copy(alloc, &own.imports),
+    }
+}
+
+/// The names of the modules that the definition imports, if there is one, and then of those that the body imports, each
+/// once, with their numbers. The only error is that memory ran out.
+pub fn all_imports(
+    alloc: Global,
+    modules: &Dictionary<usize>,
+    tables: &Items<Shared<Table>>,
+    own: Option<&Table>,
+    list: &[Import],
+) -> Result<Dictionary<u32>, AllocError>
+    ensures { IfOk result (λ imports. imports ≡ all_imports modules.now tables.now (option_copied own.entry) list.now) }
+{
+    let mut imports = definition_imports(alloc, own)?;
+    for one in list {
+        with_import_of(alloc, &mut imports, modules, tables, one)?;
+    }
+    Ok(imports)
+}
+
+// ---- their variables
+
+fn imported_as(alloc: Global, table: &Table) -> Result<Imported, AllocError>
+    ensures { IfOk result (λ imported. imported ≡ imported_as table.now) }
+{
+    Ok(Imported {
+        name: Items::from_slice(alloc, table.name.as_bytes())?,
+        number: table.number,
+        variables: exported_variables(alloc, &table.exported)?,
+    })
+}
+
+fn with_table_of(
+    alloc: Global,
+    imports: &mut Items<Imported>,
+    table: Option<&Shared<Table>>,
+) -> Result<(), AllocError>
+    ensures { OnOk result (imports.new ≡ with_table_of imports.old (option_copied table.entry)) }
+{
+    match table {
+        None => Ok(()),
+        Some(table) => {
+            if is_console(table.get().name.as_bytes()) {
+                return Ok(());
+            }
+            imports.push(imported_as(alloc, table.get())?)
+        }
+    }
+}
+
+fn with_name_of(
+    alloc: Global,
+    imports: &mut Items<Imported>,
+    name: &[u8],
+    number: u32,
+) -> Result<(), AllocError>
+    ensures { OnOk result (imports.new ≡ with_name_of imports.old (name.now, number)) }
+{
+    if is_console(name) {
+        return Ok(());
+    }
+    imports.push(Imported {
+        name: Items::from_slice(alloc, name)?,
+        number,
+        variables: Items::new(alloc),
+    })
+}
+
+fn with_module_of(
+    alloc: Global,
+    imports: &mut Items<Imported>,
+    modules: &Dictionary<usize>,
+    tables: &Items<Shared<Table>>,
+    name: &[u8],
+    number: u32,
+) -> Result<(), AllocError>
+    ensures { OnOk result (imports.new ≡ with_module_of modules.now tables.now imports.old (name.now, number)) }
+{
+    match modules.find(name) {
+        None => with_name_of(alloc, imports, name, number),
+        Some(place) => with_table_of(alloc, imports, tables.get(*place)),
+    }
+}
+
+fn with_module_if(
+    alloc: Global,
+    imports: &mut Items<Imported>,
+    modules: &Dictionary<usize>,
+    tables: &Items<Shared<Table>>,
+    entry: Option<(&[u8], &u32)>,
+) -> Result<(), AllocError>
+    ensures { OnOk result (imports.new ≡ if_some (with_module_of modules.now tables.now) imports.old (option_map (λ e. (e.0.now, e.1.now)) entry.entry)) }
+{
+    match entry {
+        None => Ok(()),
+        Some((name, number)) => { with_module_of(alloc, imports, modules, tables, name, *number) }
+    }
+}
+
+/// The modules of these names with the variables that they export, without Console.
+pub fn typed_imports(
+    alloc: Global,
+    modules: &Dictionary<usize>,
+    tables: &Items<Shared<Table>>,
+    names: &Dictionary<u32>,
+) -> Result<Items<Imported>, AllocError>
+    ensures { IfOk result (λ imports. imports ≡ typed_imports modules.now tables.now names.now) }
+{
+    let mut imports = Items::new(alloc);
+    for place in 0..names.len() {
+        with_module_if(alloc, &mut imports, modules, tables, names.get(place))?;
+    }
+    Ok(imports)
+}

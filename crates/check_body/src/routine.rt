@@ -1,0 +1,253 @@
+//! The procedures of a module with their bodies, and the module of them.
+
+ghost use Rattle.std.specs.Prelude.{◌≡◌, [], map, drop, slice_set, IfOk, OnOk};
+ghost use Rattle.std.specs.Option.{option_copied};
+ghost use Rattle.check_body.specs.Routines.{numbered_by, numbered_elaborated, numbered_known, procedure_named, unfilled, no_bodies, begun_at, filled, routine, imports_of, with_scope, typed_module};
+
+use crate::imports::{all_imports, typed_imports};
+use check_scope::{Elaborated, Fault, Known, Scope};
+use m2_tree::{Ident, Items, Module, Name, Pos};
+use std::alloc::{AllocError, Global};
+use typed_tree::{
+    Dictionary, INTEGER, Imported, Meaning, Routine, Table, TypeNo, TypedModule, TypedStmt, Which,
+};
+
+/// A procedure of a block, by its number, and its heading as a procedure type.
+#[derive(Clone, Copy, PartialEq, Eq)]
+pub struct Numbered {
+    pub which: Which,
+    pub heading: TypeNo,
+}
+
+/// The procedures of a module with the bodies that were checked so far.
+#[derive(Drop)]
+pub struct Bodies {
+    /// The procedures of the module, by their numbers.
+    pub procedures: Items<Routine>,
+    /// The procedures in procedures whose headings were met so far, by their numbers.
+    pub locals: Items<Routine>,
+    /// The procedures whose bodies were checked, in order.
+    pub order: Items<Which>,
+}
+
+// ---- which procedure it is
+
+fn numbered_by(meaning: &Meaning) -> Option<Numbered>
+    ensures { result ≡ numbered_by meaning.now }
+{
+    match meaning {
+        Meaning::Procedure(procedure) => Some(Numbered {
+            which: Which::Module(procedure.number),
+            heading: procedure.heading,
+        }),
+        Meaning::LocalProcedure(procedure) => Some(Numbered {
+            which: Which::Local(procedure.number),
+            heading: procedure.heading,
+        }),
+        Meaning::Constant(_) => None,
+        Meaning::Type(_, _) => None,
+        Meaning::Variable(_) => None,
+        Meaning::Local(_) => None,
+        Meaning::Field(_) => None,
+        Meaning::Ahead => None,
+        Meaning::Standard(_) => None,
+        Meaning::Module(_) => None,
+    }
+}
+
+fn numbered_elaborated(means: &Elaborated<Meaning>) -> Option<Numbered>
+    ensures { result ≡ numbered_elaborated means.now }
+{
+    match means {
+        Err(_) => None,
+        Ok(meaning) => numbered_by(meaning),
+    }
+}
+
+fn numbered_known(known: Option<&Known<Fault>>) -> Option<Numbered>
+    ensures { result ≡ numbered_known (option_copied known.entry) }
+{
+    match known {
+        None => None,
+        Some(known) => match known {
+            Known::Later => None,
+            Known::Ahead => None,
+            Known::Begun => None,
+            Known::Headed(means) => numbered_elaborated(means),
+            Known::Declared(_, _) => None,
+        },
+    }
+}
+
+/// The procedure of the block that has this name, if its heading means something.
+pub fn procedure_named(scope: &Scope<Fault>, name: &Ident) -> Option<Numbered>
+    ensures { result ≡ procedure_named scope.now name.now }
+{
+    numbered_known(scope.own.find(name.name.as_bytes()))
+}
+
+// ---- their places
+
+fn unfilled(alloc: Global, heading: TypeNo) -> Routine
+    ensures { result ≡ unfilled heading }
+{
+    Routine {
+        pos: Pos { line: 1, col: 1 },
+        heading,
+        level: 1,
+        around: None,
+        variables: Items::new(alloc),
+        body: Items::new(alloc),
+    }
+}
+
+fn all_unfilled(alloc: Global, headings: &[TypeNo]) -> Result<Items<Routine>, AllocError>
+    ensures { IfOk result (λ routines. routines ≡ map unfilled headings.now) }
+{
+    let mut routines = Items::new(alloc);
+    for heading in headings {
+        routines.push(unfilled(alloc, *heading))?;
+    }
+    Ok(routines)
+}
+
+/// No bodies, where a module's block is declared. The headings are those of the module's procedures. The only error is
+/// that memory ran out.
+pub fn no_bodies(alloc: Global, headings: &[TypeNo]) -> Result<Bodies, AllocError>
+    ensures { IfOk result (λ bodies. bodies ≡ no_bodies headings.now) }
+{
+    Ok(Bodies {
+        procedures: all_unfilled(alloc, headings)?,
+        locals: Items::new(alloc),
+        order: Items::new(alloc),
+    })
+}
+
+/// Begins a procedure in a block of this level. Behind it the next procedure in a procedure has the number of
+/// `locals`. The only error is that memory ran out.
+pub fn begin_at(alloc: Global, bodies: &mut Bodies, level: usize) -> Result<(), AllocError>
+    ensures { OnOk result (bodies.new ≡ begun_at level bodies.old) }
+{
+    if level == 0 {
+        return Ok(());
+    }
+    bodies.locals.push(unfilled(alloc, INTEGER))
+}
+
+fn put(list: &mut Items<Routine>, number: usize, routine: Routine)
+    ensures { list.new ≡ slice_set list.old number routine }
+{
+    if number < list.len() {
+        list.set(number, routine);
+    }
+}
+
+/// Puts a procedure with its body to its place. The only error is that memory ran out.
+pub fn fill(bodies: &mut Bodies, which: Which, routine: Routine) -> Result<(), AllocError>
+    ensures { OnOk result (bodies.new ≡ filled bodies.old which routine) }
+{
+    match which {
+        Which::Module(number) => put(&mut bodies.procedures, number, routine),
+        Which::Local(number) => put(&mut bodies.locals, number, routine),
+    }
+    bodies.order.push(which)
+}
+
+fn behind(alloc: Global, list: &[TypeNo], count: usize) -> Result<Items<TypeNo>, AllocError>
+    ensures { IfOk result (λ rest. rest ≡ drop count list.now) }
+{
+    if list.len() <= count {
+        return Ok(Items::new(alloc));
+    }
+    let (_, rest) = list.split_at(count);
+    Items::from_slice(alloc, rest)
+}
+
+/// A procedure with its body, from the scope where its body ends. So many of the types of its variables are those of
+/// its formals. The only error is that memory ran out.
+pub fn routine_of(
+    alloc: Global,
+    scope: &Scope<Fault>,
+    name: &Ident,
+    procedure: Numbered,
+    around: Option<Which>,
+    formals: usize,
+    body: Items<TypedStmt>,
+) -> Result<Routine, AllocError>
+    ensures { IfOk result (λ r. r ≡ routine scope.now name.now procedure around formals body) }
+{
+    Ok(Routine {
+        pos: name.pos,
+        heading: procedure.heading,
+        level: scope.level,
+        around,
+        variables: behind(alloc, scope.variables.as_slice(), formals)?,
+        body,
+    })
+}
+
+// ---- the module
+
+/// The modules that a body imports, from the scope where its block ends.
+fn imports_of(
+    alloc: Global,
+    scope: &Scope<Fault>,
+    modules: &Dictionary<usize>,
+    own: Option<&Table>,
+    tree: &Module,
+) -> Result<Items<Imported>, AllocError>
+    ensures { let own = option_copied own.entry in
+        IfOk result (λ is. is ≡ imports_of scope.now modules.now own tree.now) }
+{
+    let names = all_imports(alloc, modules, &scope.tables, own, tree.imports.as_slice())?;
+    typed_imports(alloc, modules, &scope.tables, &names)
+}
+
+/// A module with this name and these imports, from the scope where its block ends.
+fn with_scope(
+    alloc: Global,
+    name: Name,
+    pos: Pos,
+    imports: Items<Imported>,
+    scope: Scope<Fault>,
+    bodies: Bodies,
+    body: Items<TypedStmt>,
+) -> TypedModule
+    ensures { result ≡ with_scope name pos imports scope bodies body }
+{
+    let (types, variables) = scope.into_types(alloc);
+    let Bodies {
+        procedures,
+        locals,
+        order,
+    } = bodies;
+    TypedModule {
+        name,
+        pos,
+        imports,
+        types,
+        variables,
+        procedures,
+        locals,
+        order,
+        body,
+    }
+}
+
+/// The module of a body, from the scope where its block ends. The only error is that memory ran out.
+pub fn typed_module(
+    alloc: Global,
+    scope: Scope<Fault>,
+    modules: &Dictionary<usize>,
+    own: Option<&Table>,
+    tree: &Module,
+    bodies: Bodies,
+    body: Items<TypedStmt>,
+) -> Result<TypedModule, AllocError>
+    ensures { IfOk result (λ m. m ≡ typed_module scope modules.now (option_copied own.entry) tree.now bodies body) }
+{
+    let imports = imports_of(alloc, &scope, modules, own, tree)?;
+    let name = tree.name.name.clone()?;
+    let pos = tree.name.pos;
+    Ok(with_scope(alloc, name, pos, imports, scope, bodies, body))
+}

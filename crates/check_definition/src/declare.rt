@@ -1,0 +1,324 @@
+//! Declarations.
+
+ghost use Rattle.std.specs.Prelude.{◌≡◌, Ok, IfOk, OnOk};
+ghost use Rattle.std.specs.List.{fold};
+ghost use Rattle.check_scope.specs.Elaborated.{least};
+ghost use Rattle.check_definition.specs.Declare.{constant_meaning, nothing_reported, with_constant, brings_simple, brings_with, type_meaning, with_type, begun_name, variable_meaning, with_variable_type, finished_variable, with_variables, procedure_meaning, with_procedure_type, declared_procedure, with_procedure, with_def};
+
+use check_expr::constant_of;
+use check_scope::{Elaborated, Fault, Scope, begin, beside, declare, finish};
+use check_type_expr::{heading_of, names_of, nothing_of, type_of, with_made};
+use m2_tree::{Constant, Def, Heading, Ident, Simple, TypeDecl, TypeExpr, Variables};
+use std::alloc::{AllocError, Global};
+use typed_tree::{Meaning, Procedure, TypeNo, Value, Variable};
+
+// ---- constants
+
+fn nothing_reported(value: &Elaborated<Value>) -> Elaborated<()>
+    ensures { result ≡ nothing_reported value.now }
+{
+    match value {
+        Err(fault) => Err(*fault),
+        Ok(_) => Ok(()),
+    }
+}
+
+fn constant_meaning(value: Elaborated<Value>) -> Elaborated<Meaning>
+    ensures { result ≡ constant_meaning value }
+{
+    match value {
+        Err(fault) => Err(fault),
+        Ok(value) => Ok(Meaning::Constant(value)),
+    }
+}
+
+fn with_constant(
+    alloc: Global,
+    scope: &mut Scope<Fault>,
+    before: Elaborated<()>,
+    constant: &Constant,
+) -> Result<Elaborated<()>, AllocError>
+    ensures { IfOk result (λ j. (scope.new, j) ≡ with_constant least (scope.old, before) constant.now) }
+{
+    let first = begin(alloc, scope, &constant.name)?;
+    let value = constant_of(alloc, scope, &constant.value)?;
+    let reported = nothing_reported(&value);
+    finish(alloc, scope, &constant.name, constant_meaning(value))?;
+    Ok(beside(before, beside(first, reported)))
+}
+
+/// Declares constants.
+pub fn declare_constants(
+    alloc: Global,
+    scope: &mut Scope<Fault>,
+    before: Elaborated<()>,
+    list: &[Constant],
+) -> Result<Elaborated<()>, AllocError>
+    ensures { IfOk result (λ j. (scope.new, j) ≡ fold (with_constant least) (scope.old, before) list.now) }
+{
+    let mut elaborated = before;
+    for constant in list {
+        elaborated = with_constant(alloc, scope, elaborated, constant)?;
+    }
+    Ok(elaborated)
+}
+
+// ---- types
+
+fn brings_simple(t: &Simple) -> usize
+    ensures { result ≡ brings_simple t.now }
+{
+    match t {
+        Simple::Enumeration(_, names) => names.as_slice().len() + 1,
+        Simple::Named(_) => 1,
+        Simple::Subrange(_, _, _, _) => 1,
+    }
+}
+
+/// How many names come with a type: its own, and the constants of an enumeration that it is.
+fn brings_with(t: &TypeExpr) -> usize
+    ensures { result ≡ brings_with t.now }
+{
+    match t {
+        TypeExpr::Simple(simple) => brings_simple(simple),
+        TypeExpr::Array(_, _, _) => 1,
+        TypeExpr::Record(_, _) => 1,
+        TypeExpr::Procedure(_, _, _) => 1,
+    }
+}
+
+fn type_meaning(t: Elaborated<TypeNo>, names: usize) -> Elaborated<Meaning>
+    ensures { result ≡ type_meaning t names }
+{
+    match t {
+        Err(fault) => Err(fault),
+        Ok(t) => Ok(Meaning::Type(t, names)),
+    }
+}
+
+fn with_type(
+    alloc: Global,
+    scope: &mut Scope<Fault>,
+    before: Elaborated<()>,
+    decl: &TypeDecl,
+) -> Result<Elaborated<()>, AllocError>
+    ensures { IfOk result (λ j. (scope.new, j) ≡ with_type least (scope.old, before) decl.now) }
+{
+    let first = begin(alloc, scope, &decl.name)?;
+    let t = type_of(alloc, scope, &decl.of)?;
+    finish(
+        alloc,
+        scope,
+        &decl.name,
+        type_meaning(t, brings_with(&decl.of)),
+    )?;
+    Ok(beside(before, beside(first, nothing_of(t))))
+}
+
+/// Declares types.
+pub fn declare_types(
+    alloc: Global,
+    scope: &mut Scope<Fault>,
+    before: Elaborated<()>,
+    list: &[TypeDecl],
+) -> Result<Elaborated<()>, AllocError>
+    ensures { IfOk result (λ j. (scope.new, j) ≡ fold (with_type least) (scope.old, before) list.now) }
+{
+    let mut elaborated = before;
+    for decl in list {
+        elaborated = with_type(alloc, scope, elaborated, decl)?;
+    }
+    Ok(elaborated)
+}
+
+// ---- variables
+
+/// Begins the declarations of names.
+pub fn begin_all(
+    alloc: Global,
+    scope: &mut Scope<Fault>,
+    before: Elaborated<()>,
+    names: &[Ident],
+) -> Result<Elaborated<()>, AllocError>
+    ensures { IfOk result (λ j. (scope.new, j) ≡ fold (begun_name least) (scope.old, before) names.now) }
+{
+    let mut elaborated = before;
+    for name in names {
+        let one = begin(alloc, scope, name)?;
+        elaborated = beside(elaborated, one);
+    }
+    Ok(elaborated)
+}
+
+fn variable_meaning(home: u32, number: usize, t: Elaborated<TypeNo>) -> Elaborated<Meaning>
+    ensures { result ≡ variable_meaning home number t }
+{
+    match t {
+        Err(fault) => Err(fault),
+        Ok(of) => Ok(Meaning::Variable(Variable { home, number, of })),
+    }
+}
+
+/// Numbers one more variable of this type.
+pub fn with_variable_type(scope: &mut Scope<Fault>, t: Elaborated<TypeNo>) -> Result<(), AllocError>
+    ensures { OnOk result (scope.new ≡ with_variable_type scope.old t) }
+{
+    match t {
+        Err(_) => Ok(()),
+        Ok(t) => {
+            scope.variables.push(t)?;
+            Ok(())
+        }
+    }
+}
+
+fn finish_variable(
+    alloc: Global,
+    scope: &mut Scope<Fault>,
+    t: Elaborated<TypeNo>,
+    name: &Ident,
+) -> Result<(), AllocError>
+    ensures { OnOk result (scope.new ≡ finished_variable t scope.old name.now) }
+{
+    let means = variable_meaning(scope.types.home, scope.variables.len(), t);
+    with_variable_type(scope, t)?;
+    finish(alloc, scope, name, means)
+}
+
+fn finish_all(
+    alloc: Global,
+    scope: &mut Scope<Fault>,
+    t: Elaborated<TypeNo>,
+    names: &[Ident],
+) -> Result<(), AllocError>
+    ensures { OnOk result (scope.new ≡ fold (finished_variable t) scope.old names.now) }
+{
+    for name in names {
+        finish_variable(alloc, scope, t, name)?;
+    }
+    Ok(())
+}
+
+fn with_variables(
+    alloc: Global,
+    scope: &mut Scope<Fault>,
+    before: Elaborated<()>,
+    variables: &Variables,
+) -> Result<Elaborated<()>, AllocError>
+    ensures { IfOk result (λ j. (scope.new, j) ≡ with_variables least (scope.old, before) variables.now) }
+{
+    let elaborated = begin_all(alloc, scope, before, variables.names.as_slice())?;
+    let t = type_of(alloc, scope, &variables.of)?;
+    finish_all(alloc, scope, t, variables.names.as_slice())?;
+    Ok(beside(elaborated, nothing_of(t)))
+}
+
+/// Declares variables of a module.
+pub fn declare_variables(
+    alloc: Global,
+    scope: &mut Scope<Fault>,
+    before: Elaborated<()>,
+    list: &[Variables],
+) -> Result<Elaborated<()>, AllocError>
+    ensures { IfOk result (λ j. (scope.new, j) ≡ fold (with_variables least) (scope.old, before) list.now) }
+{
+    let mut elaborated = before;
+    for variables in list {
+        elaborated = with_variables(alloc, scope, elaborated, variables)?;
+    }
+    Ok(elaborated)
+}
+
+// ---- procedures
+
+/// What a procedure of a module means, from its number and its heading.
+pub fn procedure_meaning(home: u32, number: usize, t: Elaborated<TypeNo>) -> Elaborated<Meaning>
+    ensures { result ≡ procedure_meaning home number t }
+{
+    match t {
+        Err(fault) => Err(fault),
+        Ok(heading) => Ok(Meaning::Procedure(Procedure {
+            home,
+            number,
+            heading,
+        })),
+    }
+}
+
+/// Numbers one more procedure with this heading.
+pub fn with_procedure_type(
+    scope: &mut Scope<Fault>,
+    t: Elaborated<TypeNo>,
+) -> Result<(), AllocError>
+    ensures { OnOk result (scope.new ≡ with_procedure_type scope.old t) }
+{
+    match t {
+        Err(_) => Ok(()),
+        Ok(t) => {
+            scope.procedures.push(t)?;
+            Ok(())
+        }
+    }
+}
+
+fn declare_procedure(
+    alloc: Global,
+    scope: &mut Scope<Fault>,
+    name: &Ident,
+    t: Elaborated<TypeNo>,
+) -> Result<Elaborated<()>, AllocError>
+    ensures { IfOk result (λ j. (scope.new, j) ≡ declared_procedure least scope.old name.now t) }
+{
+    let means = procedure_meaning(scope.types.home, scope.procedures.len(), t);
+    with_procedure_type(scope, t)?;
+    declare(alloc, scope, name, means)
+}
+
+fn with_procedure(
+    alloc: Global,
+    scope: &mut Scope<Fault>,
+    before: Elaborated<()>,
+    heading: &Heading,
+) -> Result<Elaborated<()>, AllocError>
+    ensures { IfOk result (λ j. (scope.new, j) ≡ with_procedure least (scope.old, before) heading.now) }
+{
+    let names = names_of(alloc, heading)?;
+    let made = heading_of(alloc, scope, heading)?;
+    let t = with_made(scope, made)?;
+    let one = declare_procedure(alloc, scope, &heading.name, t)?;
+    Ok(beside(before, beside(names, beside(nothing_of(t), one))))
+}
+
+// ---- all of them
+
+fn with_def(
+    alloc: Global,
+    scope: &mut Scope<Fault>,
+    before: Elaborated<()>,
+    def: &Def,
+) -> Result<Elaborated<()>, AllocError>
+    ensures { IfOk result (λ j. (scope.new, j) ≡ with_def least (scope.old, before) def.now) }
+{
+    match def {
+        Def::Constants(list) => declare_constants(alloc, scope, before, list.as_slice()),
+        Def::Types(list) => declare_types(alloc, scope, before, list.as_slice()),
+        Def::Variables(list) => declare_variables(alloc, scope, before, list.as_slice()),
+        Def::Procedure(heading) => with_procedure(alloc, scope, before, heading),
+    }
+}
+
+/// Declares what a definition declares.
+pub fn declare_all(
+    alloc: Global,
+    scope: &mut Scope<Fault>,
+    before: Elaborated<()>,
+    defs: &[Def],
+) -> Result<Elaborated<()>, AllocError>
+    ensures { IfOk result (λ j. (scope.new, j) ≡ fold (with_def least) (scope.old, before) defs.now) }
+{
+    let mut elaborated = before;
+    for def in defs {
+        elaborated = with_def(alloc, scope, elaborated, def)?;
+    }
+    Ok(elaborated)
+}

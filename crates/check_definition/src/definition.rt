@@ -1,0 +1,122 @@
+//! The table of a definition.
+
+ghost use Rattle.std.specs.Prelude.{◌≡◌, IfOk, ◌++◌, ◌∷◌, []};
+ghost use Rattle.check_scope.specs.Elaborated.{least};
+ghost use Rattle.check_definition.specs.Predeclared.{console};
+ghost use Rattle.check_definition.specs.Compiled.{table_of, declared_in, table_or, of_definition, compiled};
+
+use crate::declare::declare_all;
+use crate::export::{exports, imported_modules, reached_of};
+use crate::importing::{import_all, modules_of};
+use crate::marking::mark_defs;
+use crate::predeclared::{console, first_scope};
+use check_scope::{Elaborated, Fault, Scope, reported};
+use m2_rule::Rule;
+use m2_tree::{Contents, Def, Items, Module};
+use std::alloc::{AllocError, Global};
+use typed_tree::{Dictionary, Shared, Table};
+
+/// The tables of a module's imports, and that of Console.
+pub fn with_console(
+    alloc: Global,
+    tables: Items<Shared<Table>>,
+) -> Result<Items<Shared<Table>>, AllocError>
+    ensures { IfOk result (λ all. all ≡ tables ++ console ∷ []) }
+{
+    let mut all = tables;
+    all.push(Shared::new(alloc, console(alloc)?)?)?;
+    Ok(all)
+}
+
+/// The table of a definition whose declarations are known.
+fn table_of(
+    alloc: Global,
+    tree: &Module,
+    modules: &Dictionary<usize>,
+    scope: Scope<Fault>,
+) -> Result<Table, AllocError>
+    ensures { IfOk result (λ table. table ≡ table_of tree.now modules.now scope) }
+{
+    let imports = imported_modules(alloc, modules, &scope.tables, tree.imports.as_slice())?;
+    let exported = exports(alloc, &scope.own)?;
+    let number = scope.types.home;
+    let name = tree.name.name.clone()?;
+    let (types, _) = scope.into_types(alloc);
+    let reached = reached_of(alloc, types)?;
+    Ok(Table {
+        number,
+        name,
+        imports,
+        exported,
+        reached,
+    })
+}
+
+fn table_or(
+    alloc: Global,
+    tree: &Module,
+    modules: &Dictionary<usize>,
+    scope: Scope<Fault>,
+    elaborated: Elaborated<()>,
+) -> Result<Elaborated<Table>, AllocError>
+    ensures { IfOk result (λ j. j ≡ table_or tree.now modules.now scope elaborated) }
+{
+    match elaborated {
+        Err(fault) => Ok(Err(fault)),
+        Ok(()) => Ok(Ok(table_of(alloc, tree, modules, scope)?)),
+    }
+}
+
+/// What is known behind a definition's declarations, and what is reported of it.
+fn declared_in(
+    alloc: Global,
+    scope: &mut Scope<Fault>,
+    tree: &Module,
+    modules: &Dictionary<usize>,
+    defs: &[Def],
+) -> Result<Elaborated<()>, AllocError>
+    ensures { IfOk result (λ j. (scope.new, j) ≡ declared_in least tree.now modules.now scope.old defs.now) }
+{
+    mark_defs(alloc, scope, defs)?;
+    let elaborated = import_all(alloc, scope, modules, tree.imports.as_slice())?;
+    declare_all(alloc, scope, elaborated, defs)
+}
+
+fn of_definition(
+    alloc: Global,
+    number: u32,
+    tree: &Module,
+    tables: Items<Shared<Table>>,
+    defs: &[Def],
+) -> Result<Elaborated<Table>, AllocError>
+    ensures { IfOk result (λ j. j ≡ of_definition least number tree.now tables defs.now) }
+{
+    let modules = modules_of(alloc, tables.as_slice())?;
+    let mut scope = first_scope(alloc, number, tables)?;
+    let elaborated = declared_in(alloc, &mut scope, tree, &modules, defs)?;
+    table_or(alloc, tree, &modules, scope, elaborated)
+}
+
+/// The table of a definition, whose module has this number, from the tables of the definitions that it imports. It
+/// answers the table where no rule is broken, and else the least rule that is, by place and then by number:
+///
+/// 30 a name that is not declared, 31 declared twice, 32 not exported, 33 a name of no type that may stand there, 34 no
+/// constant, 35 an empty range, 36 an index type, 37 an enumeration of more than 256 constants, 38 a type of more than
+/// 131072 cells, 40 an operand's type, 42 the number of arguments, 43 an argument's type, 52 a constant out of range. A
+/// module whose table is not given is 20 at its name, and what is no definition module is 24. The only error is that
+/// memory ran out.
+pub fn compile_definition(
+    alloc: Global,
+    number: u32,
+    tree: &Module,
+    imports: Items<Shared<Table>>,
+) -> Result<Elaborated<Table>, AllocError>
+    ensures { IfOk result (λ j. j ≡ compiled least number tree.now imports) }
+{
+    let tables = with_console(alloc, imports)?;
+    match &tree.contents {
+        Contents::Definition(defs) => of_definition(alloc, number, tree, tables, defs.as_slice()),
+        Contents::Implementation(_) => Ok(reported(tree.name.pos, Rule::LonelyModule)),
+        Contents::Program(_) => Ok(reported(tree.name.pos, Rule::LonelyModule)),
+    }
+}

@@ -1,7 +1,0 @@
-use Rattle.std.proofs.Common.{◌≡◌, take}
-use Rattle.std.specs.Option.{option_copied}
-use Rattle.m2_check.specs.Imports.{all_imports}
-use Rattle.m2_check.proofs.imports.all_imports.Given as goal
-
-abbrev pub invariant-loop-one : goal.invariant-loop-one
-invariant-loop-one l = l.imports ≡ all_imports l.modules l.tables (option_copied l.own) (take l.one-index l.list)

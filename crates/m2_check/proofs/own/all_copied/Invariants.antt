@@ -1,6 +1,0 @@
-use Rattle.std.proofs.Common.{◌≡◌, map, take}
-use Rattle.m2_check.specs.Own.{made_copy}
-use Rattle.m2_check.proofs.own.all_copied.Given as goal
-
-abbrev pub invariant-loop-made : goal.invariant-loop-made
-invariant-loop-made l = l.copies ≡ map made_copy (take l.made-index l.list)

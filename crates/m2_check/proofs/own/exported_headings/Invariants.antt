@@ -1,6 +1,0 @@
-use Rattle.std.proofs.Common.{◌≡◌, take}
-use Rattle.m2_check.specs.Own.{exported_headings}
-use Rattle.m2_check.proofs.own.exported_headings.Given as goal
-
-abbrev pub invariant-loop-place : goal.invariant-loop-place
-invariant-loop-place l = l.types ≡ exported_headings (take l.place l.exported)

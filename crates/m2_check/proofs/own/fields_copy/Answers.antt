@@ -1,7 +1,0 @@
-use Rattle.std.proofs.Common.{[]}
-use Rattle.m2_check.specs.Own.{with_field_copy}
-use Rattle.m2_types.proofs.Walks.{walked}
-use Rattle.m2_check.proofs.own.fields_copy.Goals as goal
-
-pub loop-place-preserved : goal.loop-place-preserved
-loop-place-preserved c = walked with_field_copy [] c.args.fields.now c.loop-place.place c.loop-place.copy _ _ c.loop-place.invariant c.get.ensures c.in_ok-with_field_if.ensures

@@ -1,6 +1,0 @@
-use Rattle.std.proofs.Common.{◌≡◌, map, take}
-use Rattle.m2_check.specs.Routines.{unfilled}
-use Rattle.m2_check.proofs.routine.all_unfilled.Given as goal
-
-abbrev pub invariant-loop-heading : goal.invariant-loop-heading
-invariant-loop-heading l = l.routines ≡ map unfilled (take l.heading-index l.headings)

@@ -1,8 +1,0 @@
-use Rattle.std.proofs.Common.{ap, ◌∙◌}
-use Rattle.m2_layout.specs.Texts.{body_texts}
-use Rattle.m2_layout.specs.Counted.{counted}
-use Rattle.m2_layout.proofs.Bodies.{module_is}
-use Rattle.m2_layout.proofs.body.texts_count.Goals as goal
-
-pub returns : goal.returns
-returns c = module_is c.args.module_body.now c.routines_count.result c.body_count.result c.sum.result c.routines_count.ensures (c.body_count.ensures ∙ ap (λ xs. counted (body_texts xs)) c.as_slice.ensures) c.sum.ensures

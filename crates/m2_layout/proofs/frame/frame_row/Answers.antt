@@ -1,5 +1,0 @@
-use Rattle.m2_layout.proofs.Framed.{ok_frame}
-use Rattle.m2_layout.proofs.frame.frame_row.Goals as goal
-
-pub returns : goal.returns
-returns c = ok_frame c.args.types.now c.args.routine.now c.framed.result c.framed.ensures

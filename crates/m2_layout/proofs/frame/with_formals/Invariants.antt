@@ -1,7 +1,0 @@
-use Rattle.std.proofs.Common.{◌≡◌, take}
-use Rattle.std.specs.List.{fold}
-use Rattle.m2_layout.specs.Rows.{with_formal}
-use Rattle.m2_layout.proofs.frame.with_formals.Given as goal
-
-abbrev pub invariant-loop-formal : goal.invariant-loop-formal
-invariant-loop-formal l = l.row ≡ fold (with_formal l.types) l.fn.before (take l.formal-index l.formals)

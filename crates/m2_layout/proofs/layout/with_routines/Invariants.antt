@@ -1,7 +1,0 @@
-use Rattle.std.proofs.Common.{◌≡◌, take, []}
-use Rattle.std.specs.List.{fold}
-use Rattle.m2_layout.specs.Layouts.{with_routine}
-use Rattle.m2_layout.proofs.layout.with_routines.Given as goal
-
-abbrev pub invariant-loop-routine : goal.invariant-loop-routine
-invariant-loop-routine l = l.frames ≡ fold (with_routine l.types) (record { rows = []; too_large = l.fn.before }) (take l.routine-index l.routines)

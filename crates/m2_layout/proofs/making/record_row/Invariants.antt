@@ -1,8 +1,0 @@
-use Rattle.std.proofs.Common.{◌≡◌, take}
-use Rattle.std.specs.List.{fold}
-use Rattle.m2_layout.specs.Extents.{begun}
-use Rattle.m2_layout.specs.Making.{with_field}
-use Rattle.m2_layout.proofs.making.record_row.Given as goal
-
-abbrev pub invariant-loop-number : goal.invariant-loop-number
-invariant-loop-number l = l.row ≡ fold (with_field l.making) (begun 0) (take l.number l.fields)

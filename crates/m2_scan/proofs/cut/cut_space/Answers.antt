@@ -1,5 +1,0 @@
-use Rattle.m2_scan.proofs.Fronts.{space_taken}
-use Rattle.m2_scan.proofs.cut.cut_space.Goals as goal
-
-pub returns : goal.returns
-returns c = space_taken c.args.text.now c.split_at.result.1.now c.args.pos c.behind.result c.requires.begins c.split_at.ensures.back c.behind.ensures

@@ -1,6 +1,0 @@
-use Rattle.std.proofs.Common.{◌≡◌, ◌<◌, ℕ, true, get_or}
-use Rattle.m2_scan.specs.Bytes.{is_inside}
-use Rattle.m2_scan.proofs.lengths.inside_len.Given as goal
-
-abbrev pub invariant-loop-i : goal.invariant-loop-i
-invariant-loop-i l = (k : ℕ) → k < l.i → is_inside l.quote (get_or l.text k 0) ≡ true

@@ -1,8 +1,0 @@
-use Rattle.std.proofs.Common.{◌≡◌, take}
-use Rattle.std.specs.List.{fold}
-use Rattle.m2_types.specs.Declare.{with_type}
-use Rattle.check_scope.specs.Elaborated.{least}
-use Rattle.m2_types.proofs.declare.declare_types.Given as goal
-
-abbrev pub invariant-loop-decl : goal.invariant-loop-decl
-invariant-loop-decl l = (l.scope, l.elaborated) ≡ fold (with_type least) (l.fn.scope, l.fn.before) (take l.decl-index l.list)

@@ -1,7 +1,0 @@
-use Rattle.std.proofs.Common.{◌≡◌, take}
-use Rattle.std.specs.List.{fold}
-use Rattle.m2_types.specs.Declare.{finished_variable}
-use Rattle.m2_types.proofs.declare.finish_all.Given as goal
-
-abbrev pub invariant-loop-name : goal.invariant-loop-name
-invariant-loop-name l = l.scope ≡ fold (finished_variable l.t) l.fn.scope (take l.name-index l.names)

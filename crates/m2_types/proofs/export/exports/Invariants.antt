@@ -1,6 +1,0 @@
-use Rattle.std.proofs.Common.{◌≡◌, take}
-use Rattle.m2_types.specs.Export.{exports}
-use Rattle.m2_types.proofs.export.exports.Given as goal
-
-abbrev pub invariant-loop-place : goal.invariant-loop-place
-invariant-loop-place l = l.exported ≡ exports (take l.place l.own)

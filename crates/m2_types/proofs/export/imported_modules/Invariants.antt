@@ -1,6 +1,0 @@
-use Rattle.std.proofs.Common.{◌≡◌, take}
-use Rattle.m2_types.specs.Export.{imported_modules}
-use Rattle.m2_types.proofs.export.imported_modules.Given as goal
-
-abbrev pub invariant-loop-one : goal.invariant-loop-one
-invariant-loop-one l = l.imported ≡ imported_modules l.modules l.tables (take l.one-index l.imports)

@@ -1,8 +1,0 @@
-use Rattle.std.proofs.Common.{◌≡◌, take}
-use Rattle.std.specs.List.{fold}
-use Rattle.m2_types.specs.Importing.{with_module_name}
-use Rattle.check_scope.specs.Elaborated.{least}
-use Rattle.m2_types.proofs.importing.import_modules.Given as goal
-
-abbrev pub invariant-loop-name : goal.invariant-loop-name
-invariant-loop-name l = (l.scope, l.elaborated) ≡ fold (with_module_name least l.modules) (l.fn.scope, l.fn.before) (take l.name-index l.names)

@@ -1,7 +1,0 @@
-use Rattle.std.proofs.Common.{◌≡◌, take}
-use Rattle.std.specs.List.{fold}
-use Rattle.m2_types.specs.Marking.{marked_later}
-use Rattle.m2_types.proofs.marking.mark_names.Given as goal
-
-abbrev pub invariant-loop-name : goal.invariant-loop-name
-invariant-loop-name l = l.scope ≡ fold marked_later l.fn.scope (take l.name-index l.names)

@@ -1,7 +1,0 @@
-use Rattle.std.proofs.Common.{◌≡◌, take}
-use Rattle.std.specs.List.{fold}
-use Rattle.m2_types.specs.Marking.{marked_type}
-use Rattle.m2_types.proofs.marking.mark_types.Given as goal
-
-abbrev pub invariant-loop-decl : goal.invariant-loop-decl
-invariant-loop-decl l = l.scope ≡ fold marked_type l.fn.scope (take l.decl-index l.list)

@@ -1,7 +1,0 @@
-use Rattle.std.proofs.Common.{◌≡◌, take}
-use Rattle.std.specs.List.{fold}
-use Rattle.m2_types.specs.Marking.{marked_variables}
-use Rattle.m2_types.proofs.marking.mark_variables.Given as goal
-
-abbrev pub invariant-loop-variables : goal.invariant-loop-variables
-invariant-loop-variables l = l.scope ≡ fold marked_variables l.fn.scope (take l.variables-index l.list)

@@ -1,7 +1,0 @@
-use Rattle.std.proofs.Common.{◌≡◌, take}
-use Rattle.std.specs.List.{fold}
-use Rattle.m2_types.specs.Predeclared.{with_reached}
-use Rattle.m2_types.proofs.predeclared.with_table.Given as goal
-
-abbrev pub invariant-loop-types : goal.invariant-loop-types
-invariant-loop-types l = l.others ≡ fold with_reached l.fn.others (take l.types-index l.list)

@@ -1,0 +1,6 @@
+use Rattle.std.proofs.Common.{◌≡◌, ◌<◌, ℕ, true, get_or}
+use Rattle.scan_tokens.specs.Bytes.{is_run_byte}
+use Rattle.scan_tokens.proofs.lengths.run_len.Given as goal
+
+abbrev pub invariant-loop-i : goal.invariant-loop-i
+invariant-loop-i l = (k : ℕ) → k < l.i → is_run_byte (get_or l.text k 0) ≡ true

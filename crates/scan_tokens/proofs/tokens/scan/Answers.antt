@@ -1,0 +1,53 @@
+use Rattle.std.proofs.Common.{◌∙◌, sym, List, length, subst}
+use Rattle.std.proofs.lemmas.Result.{err_from_is_err_and}
+use Rattle.std.proofs.lemmas.Bool.{eqb-true}
+use Rattle.std.proofs.lemmas.List.{nil_from_length}
+use Rattle.m2_tree.specs.declared.token.Token.{Token}
+use Rattle.scan_tokens.proofs.Scanned.{Scanned, begins, goes_on, ends, stops, tokens_once, too_long, only_memory, only_refusal, never_both}
+use Rattle.scan_tokens.proofs.tokens.scan.Goals as goal
+
+pub returns-then-text-gt-MAX_TEXT-clause-refused : goal.returns-then-text-gt-MAX_TEXT-clause-refused
+returns-then-text-gt-MAX_TEXT-clause-refused c = too_long c.args.text.now c.refused.result c.if-text-gt-MAX_TEXT.true c.refused.ensures
+
+pub loop-rest-init : goal.loop-rest-init
+loop-rest-init c =
+    let P : List Token → Type 0 = λ ts. Scanned c.args.text.now c.args.text.now (record { line = 1; col = 1 }) ts in
+    subst P (sym c.new-tokens.ensures.items) (begins c.args.text.now c.if-text-gt-MAX_TEXT.false)
+
+pub returns-in_err-cut-clause-refused : goal.returns-in_err-cut-clause-refused
+returns-in_err-cut-clause-refused c =
+    let p = err_from_is_err_and c.from_residual.result c.from_residual.ensures.1 in
+    rw (p.1, p.2) (stops c.args.text.now c.loop-rest.rest.now c.loop-rest.pos c.loop-rest.tokens.items _ c.loop-rest.invariant c.in_err-cut.ensures.refused)
+
+pub returns-in_err-cut-clause-accepted : goal.returns-in_err-cut-clause-accepted
+returns-in_err-cut-clause-accepted c =
+    let p = err_from_is_err_and c.from_residual.result c.from_residual.ensures.1 in
+    rw (p.1, p.2) (λ ts small h. only_memory c.args.text.now _ ts small h (stops c.args.text.now c.loop-rest.rest.now c.loop-rest.pos c.loop-rest.tokens.items _ c.loop-rest.invariant c.in_err-cut.ensures.refused))
+
+pub loop-rest-preserved : goal.loop-rest-preserved
+loop-rest-preserved c =
+    let a = c.in_ok-cut.ensures.taken in
+    goes_on c.args.text.now c.loop-rest.rest.now c.loop-rest.pos c.loop-rest.tokens.items a.0 c.in_ok-cut.cut.rest.now c.in_ok-cut.cut.pos c.next_cut.new.tokens.items c.loop-rest.invariant a.1 a.2
+
+pub returns-clause-tokens : goal.returns-clause-tokens
+returns-clause-tokens c =
+    (c.loop-rest.invariant.small, ends c.args.text.now c.loop-rest.rest.now c.loop-rest.pos c.loop-rest.tokens.items c.put.new.tokens.items c.loop-rest.invariant (nil_from_length c.loop-rest.rest.now (eqb-true (length c.loop-rest.rest.now) 0 (sym c.is_empty.ensures ∙ c.loop-rest-test.false))) c.in_ok-put.ensures)
+
+pub returns-clause-accepted : goal.returns-clause-accepted
+returns-clause-accepted c = λ ts small h.
+    tokens_once c.args.text.now c.put.new.tokens.items ts
+    (ends c.args.text.now c.loop-rest.rest.now c.loop-rest.pos c.loop-rest.tokens.items c.put.new.tokens.items c.loop-rest.invariant (nil_from_length c.loop-rest.rest.now (eqb-true (length c.loop-rest.rest.now) 0 (sym c.is_empty.ensures ∙ c.loop-rest-test.false))) c.in_ok-put.ensures) h
+
+pub returns-then-text-gt-MAX_TEXT-clause-reported : goal.returns-then-text-gt-MAX_TEXT-clause-reported
+returns-then-text-gt-MAX_TEXT-clause-reported c = λ r h. only_refusal c.args.text.now c.refused.result r h (too_long c.args.text.now c.refused.result c.if-text-gt-MAX_TEXT.true c.refused.ensures)
+
+pub returns-in_err-cut-clause-reported : goal.returns-in_err-cut-clause-reported
+returns-in_err-cut-clause-reported c =
+    let p = err_from_is_err_and c.from_residual.result c.from_residual.ensures.1 in
+    rw (p.1, p.2) (λ r h. only_refusal c.args.text.now _ r h (stops c.args.text.now c.loop-rest.rest.now c.loop-rest.pos c.loop-rest.tokens.items _ c.loop-rest.invariant c.in_err-cut.ensures.refused))
+
+pub returns-clause-reported : goal.returns-clause-reported
+returns-clause-reported c = λ r h.
+    let last = nil_from_length c.loop-rest.rest.now (eqb-true (length c.loop-rest.rest.now) 0 (sym c.is_empty.ensures ∙ c.loop-rest-test.false)) in
+    never_both c.args.text.now c.put.new.tokens.items r c.loop-rest.invariant.small
+    (ends c.args.text.now c.loop-rest.rest.now c.loop-rest.pos c.loop-rest.tokens.items c.put.new.tokens.items c.loop-rest.invariant last c.in_ok-put.ensures) h

@@ -1,0 +1,13 @@
+-- The numbers by which the refusals of a text are reported.
+use Rattle.std.specs.Prelude.{ℕ}
+use Rattle.scan_tokens.specs.declared.refusal.Fault.{Fault}
+use Rattle.scan_tokens.specs.declared.refusal.Fault.TheVariants.{TooLong, StrayByte, OpenComment, OpenString, BadNumber, LargeNumber, LongName}
+
+abbrev pub number_of : Fault → ℕ
+number_of TooLong = 1
+number_of StrayByte = 2
+number_of OpenComment = 3
+number_of OpenString = 4
+number_of BadNumber = 5
+number_of LargeNumber = 6
+number_of LongName = 7
