@@ -36,13 +36,14 @@ browser:
 	tools/try_hosts
 
 # The gate: no source makes up want of memory or has a number without a name, definitions are laid out, the pages of m2 are those
-# of docs/, and each edit still fits its file; then every proof from nothing, the tests, the programs and the edits of
-# must-fail/, which the prover must refuse.
+# of docs/, each edit still fits its file, and a sample of requests for memory is refused; then every proof from nothing, the
+# tests, the programs and the edits of must-fail/, which the prover must refuse.
 test:
 	tools/check_sources
 	tools/lay_out --check
 	tools/write_explanations --check
 	tools/try_edits --applies
+	tools/hostile --sample
 	rt ci
 
 # Tries the tools themselves, in seconds.

@@ -320,7 +320,3 @@ elaborated_beside = record { elaborates = λ s s' b r r' p xs. statements_report
 
 pub checked_reports : (number : ℕ) (m : Module) (own : Option Table) (imports : List Table) → Reports (checked least number m own imports) (checked every number m own imports)
 checked_reports number m own imports = of_contents_reports elaborated_beside number m own (imports ++ console ∷ []) m.contents
-
-pub reported_if_exact : {E : Type 0} (number : ℕ) (m : Module) (own : Option Table) (imports : List Table) (r : Result (Result TypedModule Fault) E) → IfOk r (λ j. j ≡ checked least number m own imports) → IfOk r (λ j. Reports j (checked every number m own imports))
-reported_if_exact number m own imports (Ok j) h = subst (λ (x : Result TypedModule Fault). Reports x (checked every number m own imports)) (sym h) (checked_reports number m own imports)
-reported_if_exact number m own imports (Err e) h = tt

@@ -65,7 +65,3 @@ of_contents_reports number m tables (contents.Program b) = reported_reports m.na
 -- what is reported of a definition is the least of all rules that are broken in it
 pub compiled_reports : (number : ℕ) (m : Module) (imports : List Table) → Reports (compiled least number m imports) (compiled every number m imports)
 compiled_reports number m imports = of_contents_reports number m (imports ++ console ∷ []) m.contents
-
-pub reported_if_exact : {E : Type 0} (number : ℕ) (m : Module) (imports : List Table) (r : Result (Result Table Fault) E) → IfOk r (λ j. j ≡ compiled least number m imports) → IfOk r (λ j. Reports j (compiled every number m imports))
-reported_if_exact number m imports (Ok j) h = subst (λ (x : Result Table Fault). Reports x (compiled every number m imports)) (sym h) (compiled_reports number m imports)
-reported_if_exact number m imports (Err e) h = tt

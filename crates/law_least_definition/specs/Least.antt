@@ -1,8 +1,11 @@
 -- The least of all broken rules.
-use Rattle.std.specs.Prelude.{◌≡◌, false, List, Result, Ok, Err}
+use Rattle.std.specs.Prelude.{◌≡◌, ℕ, false, List, Result, Ok, Err}
 use Rattle.std.specs.List.{All, Contains}
 use Rattle.check_scope.specs.declared.fault.Fault.{Fault}
-use Rattle.check_scope.specs.Elaborated.{is_less}
+use Rattle.m2_tree.specs.declared.decl.Module.{Module}
+use Rattle.typed_tree.specs.declared.table.Table.{Table}
+use Rattle.check_scope.specs.Elaborated.{every, is_less, least}
+use Rattle.check_definition.specs.Compiled.{compiled}
 
 -- one of them, and none of them is less, by place and then by number
 pub record IsLeast (f : Fault) (fs : List Fault) : Type 0 where
@@ -14,3 +17,9 @@ pub record IsLeast (f : Fault) (fs : List Fault) : Type 0 where
 pub data Reports {A : Type 0} : Result A Fault → Result A (List Fault) → Type 0 where
   fine : (a : A) → Reports (Ok a) (Ok a)
   is_refused : (f : Fault) (fs : List Fault) → IsLeast f fs → Reports (Err f) (Err fs)
+
+-- what is reported of a definition is the least of all rules that it breaks
+abbrev pub DefinitionsReportTheLeast : Type 0
+DefinitionsReportTheLeast =
+    (number : ℕ) (m : Module) (imports : List Table)
+    → Reports (compiled least number m imports) (compiled every number m imports)

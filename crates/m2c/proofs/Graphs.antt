@@ -7,6 +7,7 @@ use Rattle.std.specs.Option.{option_and_then}
 use Rattle.std.specs.Borrow.{Bor}
 use Rattle.m2_tree.specs.declared.decl.Module.{Module}
 use Rattle.wasm_binary.specs.Binary.{module_encoding, Encodes}
+use Rattle.wasm_binary.proofs.LawsModule.{one_module}
 use Rattle.m2_graph.specs.Jobs.{ArePlaces, place_of}
 use Rattle.law_graph.specs.Started.{AreStarted, at_places}
 use Rattle.law_graph.proofs.Started.{are_started}
@@ -18,7 +19,11 @@ use Rattle.wasm_tree.specs.declared.module.WModule.{WModule}
 use Rattle.wasm_tree.specs.Validity.{IsValid}
 use Rattle.m2_tree.specs.declared.refusal.Refusal.{Refusal}
 use Rattle.typed_tree.specs.declared.typed_module.TypedModule.{TypedModule}
+use Rattle.layout_storage.specs.Sizes.{size}
+use Rattle.layout_storage.specs.Frames.{module_row}
+use Rattle.layout_storage.specs.Texts.{characters, module_texts}
 use Rattle.def_meaning.specs.Around.{Modules}
+use Rattle.def_meaning.specs.Runs.{data_size}
 use Rattle.def_scheme.specs.Modules.{Part, typed_module, typed_link, part_of, link_of, stack_begin}
 use Rattle.m2_emit.specs.declared.emitted.ModuleBytes.{ModuleBytes}
 use Rattle.m2_emit.specs.Emitted.{emitted, parts}
@@ -29,7 +34,7 @@ use Rattle.build_jobs.proofs.Rounds.{jobs_count}
 use Rattle.build_jobs.specs.Borrowed.{borrowed, modules_borrowed}
 use Rattle.m2c.specs.Modules.{result_of, module_in, modules_at}
 use Rattle.m2c.specs.Build.{AreEncoded as BytesEncode}
-use Rattle.m2c.specs.Build.{Reported, AreReported, reported_at, built_of, named_bytes, modules, refusal_in, refused_from, refused_by, started, data_and_stack, program_file, HaveGraph, IsTooLarge, IsProgram}
+use Rattle.m2c.specs.Build.{Reported, AreReported, reported_at, built_of, named_bytes, modules, refusal_in, refused_from, refused_by, started, program_file, HaveGraph, IsTooLarge, IsProgram}
 use Rattle.build_jobs.specs.Encoded.{AreEncoded}
 use Rattle.law_modules.specs.Linked.{IsLinkable, imported_names}
 use Rattle.law_simulation.specs.Modules.{AreModules, AreTypedModules}
@@ -38,6 +43,7 @@ use Rattle.law_nothing_missing.proofs.Programs.{strict_runs, nothing_lacks}
 use Rattle.law_modules.proofs.Placed.{modules_link}
 use Rattle.law_programs.proofs.Links.{slots_few, link_valid}
 use Rattle.law_programs.proofs.GraphModules.{are_modules}
+use Rattle.m2c.proofs.Least.{all_least}
 use Rattle.m2c.proofs.Linked.{all_modules}
 use Rattle.law_programs.proofs.TypedModules.{are_typed}
 use Rattle.m2c.proofs.Fitting.{trees_fit, trees_whole, bodies_in}
@@ -46,6 +52,15 @@ use Rattle.m2c.proofs.Programs.{AreFit, AreBuilt, all_built, distinct_all, count
 
 abbrev module_bytes : WModule → List ℕ
 module_bytes t = module_encoding t
+
+-- bytes encode no other modules
+one_encoded : (bytes : List (List ℕ)) (ms ns : List WModule) → BytesEncode bytes ms → BytesEncode bytes ns → ms ≡ ns
+one_encoded [] [] [] h k = refl
+one_encoded (b ∷ bs) (m ∷ ms) (n ∷ ns) h k = ap (λ (x : WModule). x ∷ ms) (one_module b m n h.0 k.0) ∙ ap (λ (xs : List WModule). n ∷ xs) (one_encoded bs ms ns h.1 k.1)
+one_encoded [] [] (n ∷ ns) h k = absurd k
+one_encoded [] (m ∷ ms) ns h k = absurd h
+one_encoded (b ∷ bs) [] ns h k = absurd h
+one_encoded (b ∷ bs) (m ∷ ms) [] h k = absurd k
 
 -- the bytes of modules that have encodings encode them
 pub all_encoded : (p : Modules) → AreFit p → BytesEncode (map module_bytes (map typed_module p)) (map typed_module p)
@@ -116,6 +131,11 @@ module _ (trees : List (Bor (List ℕ) × Bor Module)) (numbers : List ℕ) (job
 
 -- ---- the program
 
+-- the code and the meaning begin the stack at one place
+begin_is : (p : Modules) → stack_begin (map part_of p) ≡ data_size p
+begin_is [] = refl
+begin_is (m ∷ ms) = ap (λ (n : ℕ). size (module_row m) + characters (module_texts m) + n) (begin_is ms)
+
 module _ (files : List SourceFile) (fs : List (List ℕ × Module)) (numbers : List ℕ) (jobs : List (List ℕ)) (starts : List ℕ) (have : HaveGraph files fs numbers jobs starts) (none : refused_by fs numbers jobs ≡ []) (encoded : AreEncoded (modules fs) numbers jobs) where
   pub as_many : length numbers ≡ length jobs
   as_many = jobs_count _ numbers jobs starts have.is_graph
@@ -132,7 +152,7 @@ module _ (files : List SourceFile) (fs : List (List ℕ × Module)) (numbers : L
   pub program_count : length those ≤ 1024
   program_count = omega (arith, count_all fs numbers jobs have.each as_many none encoded starts are, ap length whole.are, length-map whole.program emitted)
 
-  pub data_is : stack_begin (parts those) + 4096 ≡ data_and_stack whole.program
+  pub data_is : stack_begin (parts those) + 4096 ≡ stack_begin (map part_of whole.program) + 4096
   data_is = ap (λ (ms : List ModuleBytes). stack_begin (parts ms) + 4096) whole.are ∙ ap (λ (ps : List Part). stack_begin ps + 4096) (parts_emitted whole.program)
 
   -- what is built is the program
@@ -144,7 +164,7 @@ module _ (files : List SourceFile) (fs : List (List ℕ × Module)) (numbers : L
       subst (λ (ps : List Part). Encodes link (link_of ps pages)) (parts_emitted p) (subst (λ (ms : List ModuleBytes). Encodes link (link_of (parts ms) pages)) whole.are link_is)
       in
       let built_whole : built ≡ map built_of p = built_are ∙ ap (map named_bytes) whole.are ∙ named_emitted p in
-      let fits_all : data_and_stack p ≤ 65536 * pages = subst (λ (n : ℕ). n ≤ 65536 * pages) data_is fits in
+      let fits_all : stack_begin (map part_of p) + 4096 ≤ 65536 * pages = subst (λ (n : ℕ). n ≤ 65536 * pages) data_is fits in
       let linkable : IsLinkable p pages = record {
         distinct = distinct_all fs numbers jobs have.each as_many none encoded starts are;
         imports = subst (λ (ns : List (List ℕ)). All (λ m. All (λ n. list_any (λ other. bytes_eq other n) ns ≡ true) (imported_names m)) p) (sym whole.names)
@@ -159,20 +179,23 @@ module _ (files : List SourceFile) (fs : List (List ℕ × Module)) (numbers : L
       let typed_are : AreTypedModules p pages =
       are_typed fs numbers jobs starts have.is_graph have.each (trees_fit files fs have.are_trees) (trees_whole files fs have.are_trees) p (bodies_in fs numbers jobs starts p whole.typed) whole.small pages fits_all most
       in
-      let codes : map (λ m. m.1) built ≡ map module_bytes (map typed_module p) = ap (λ (ms : List (List ℕ × List ℕ)). map (λ m. m.1) ms) built_whole ∙ seconds p in record {
+      let codes : map (λ m. m.1) built ≡ map module_bytes (map typed_module p) = ap (λ (ms : List (List ℕ × List ℕ)). map (λ m. m.1) ms) built_whole ∙ seconds p in
+      let bodies_encoded : BytesEncode (map (λ m. m.1) built) (map typed_module p) = subst (λ (bs : List (List ℕ)). BytesEncode bs (map typed_module p)) (sym codes) (all_encoded p whole.fit) in record {
         trees = fs;
         numbers = numbers;
         all_jobs = jobs;
         starts = starts;
         graph = have;
+        least = all_least fs;
         none = none;
         program = p;
         typed = whole.typed;
-        fits = fits_all;
+        fits = subst (λ (n : ℕ). n + 4096 ≤ 65536 * pages) (begin_is p) fits_all;
         code = record {
           link_encoded = link_encoded;
           body_bytes = built_whole;
-          encoded = subst (λ (bs : List (List ℕ)). BytesEncode bs (map typed_module p)) (sym codes) (all_encoded p whole.fit);
+          encoded = bodies_encoded;
+          no_others = λ others h. one_encoded (link ∷ map (λ m. m.1) built) others (typed_link p pages ∷ map typed_module p) h (link_encoded, bodies_encoded);
         };
         links = (_, modules_link p pages linkable);
         behaves = typed_behave p pages linkable fits_all most (slots_few p pages link_encoded.fits) modules_are typed_are;
@@ -190,9 +213,10 @@ module _ (files : List SourceFile) (fs : List (List ℕ × Module)) (numbers : L
     all_jobs = jobs;
     starts = starts;
     graph = have;
+    least = all_least fs;
     none = none;
     program = whole.program;
     typed = whole.typed;
-    too_large = subst (λ (n : ℕ). 65536 * pages < n) data_is more;
+    too_large = subst (λ (n : ℕ). 65536 * pages < n + 4096) (begin_is whole.program) (subst (λ (n : ℕ). 65536 * pages < n) data_is more);
     reported = reported;
   }

@@ -1,3 +1,4 @@
+mod Least
 pub mod Bodies
 pub mod Two
 pub mod EachOnce

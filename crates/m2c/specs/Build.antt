@@ -20,9 +20,9 @@ use Rattle.m2_graph.specs.Graph.{CompileEach, IsGraph, IsRefusal}
 use Rattle.typed_tree.specs.declared.typed_module.TypedModule.{TypedModule}
 use Rattle.def_meaning.specs.Around.{Modules}
 use Rattle.def_meaning.specs.Answer.{Stopped, halted}
-use Rattle.def_meaning.specs.Runs.{run}
+use Rattle.def_meaning.specs.Runs.{data_size, run}
 use Rattle.law_nothing_missing.specs.Runs.{strict_run}
-use Rattle.def_scheme.specs.Modules.{typed_module, typed_link, part_of, stack_begin}
+use Rattle.def_scheme.specs.Modules.{typed_module, typed_link}
 use Rattle.m2_emit.specs.declared.emitted.ModuleBytes.{ModuleBytes}
 use Rattle.law_simulation.specs.Behaves.{Behaves}
 use Rattle.build_jobs.specs.declared.file.SourceFile.{SourceFile}
@@ -32,6 +32,7 @@ use Rattle.build_jobs.specs.declared.reading.Read.{Read}
 use Rattle.build_jobs.specs.declared.reading.Read.TheVariants as read
 use Rattle.build_jobs.specs.declared.outcome.Compiled.{Compiled}
 use Rattle.build_jobs.specs.declared.outcome.Compiled.TheVariants as jobs
+use Rattle.m2c.specs.Least.{IsLeastReported}
 use Rattle.m2c.specs.Order.{AreInOrder}
 use Rattle.build_jobs.specs.Reading.{AreRead}
 use Rattle.build_jobs.specs.Jobs.{all_compiled}
@@ -146,12 +147,15 @@ AreEncoded (b ∷ bs) (m ∷ ms) = Encodes b m × AreEncoded bs ms
 AreEncoded [] (m ∷ ms) = ⊥
 AreEncoded (b ∷ bs) [] = ⊥
 
--- the bytes of link, and in start order the name and the bytes of each module that is reached
+-- The bytes of link, and in start order the name and the bytes of each module that is reached. They
+-- are the encodings of these modules and of no others, so whoever decodes them gets exactly these.
 pub record IsCode (p : Modules) (pages : ℕ) (link : List ℕ) (built : List (List ℕ × List ℕ))
     : Type 0 where
   pub link_encoded : Encodes link (typed_link p pages)
   pub body_bytes : built ≡ map built_of p
   pub encoded : AreEncoded (map (λ m. m.1) built) (map typed_module p)
+  pub no_others : (others : List WModule) → AreEncoded (link ∷ map (λ m. m.1) built) others
+      → others ≡ typed_link p pages ∷ map typed_module p
 
 -- ---- the answer
 
@@ -176,19 +180,20 @@ pub record HaveGraph (files : List SourceFile) (trees : List (List ℕ × Module
   pub is_graph : IsGraph (numbered 0 trees) numbers all_jobs starts
   pub each : CompileEach (numbered 0 trees) numbers
 
--- modules break rules
+-- Modules break rules. The least of them is reported of each module, by place and then by number.
 pub record AreUncompiled (files : List SourceFile) (refusals : List Refusal) : Type 0 where
   pub trees : List (List ℕ × Module)
   pub numbers : List ℕ
   pub all_jobs : List (List ℕ)
   pub starts : List ℕ
   pub graph : HaveGraph files trees numbers all_jobs starts
+  pub least : All (λ f. IsLeastReported f.1) trees
   pub some : refused_by trees numbers all_jobs ≢ []
   pub reported : AreReported (refused_by trees numbers all_jobs) refusals
 
 -- the bytes of the variables and texts of a program, and of the least stack that it may have
 abbrev pub data_and_stack : Modules → ℕ
-data_and_stack p = stack_begin (map part_of p) + 4096
+data_and_stack p = data_size p + 4096
 
 -- the file of the program module
 abbrev pub is_program_part : Contents → Bool
@@ -207,6 +212,7 @@ pub record IsTooLarge (files : List SourceFile) (pages : ℕ) (refusals : List R
   pub all_jobs : List (List ℕ)
   pub starts : List ℕ
   pub graph : HaveGraph files trees numbers all_jobs starts
+  pub least : All (λ f. IsLeastReported f.1) trees
   pub none : refused_by trees numbers all_jobs ≡ []
   pub program : Modules
   pub typed : AreTyped (modules trees) numbers all_jobs starts program
@@ -225,6 +231,7 @@ pub record IsProgram (files : List SourceFile) (pages : ℕ) (link : List ℕ)
   pub all_jobs : List (List ℕ)
   pub starts : List ℕ
   pub graph : HaveGraph files trees numbers all_jobs starts
+  pub least : All (λ f. IsLeastReported f.1) trees
   pub none : refused_by trees numbers all_jobs ≡ []
   pub program : Modules
   pub typed : AreTyped (modules trees) numbers all_jobs starts program

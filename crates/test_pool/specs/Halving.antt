@@ -6,7 +6,8 @@ graph_of key =
     if key == 8 then [] ∷ (0 ∷ []) ∷ (1 ∷ []) ∷ []
     else (if key == 9 then [] ∷ [] ∷ (0 ∷ 1 ∷ []) ∷ []
     else (if key == 10 then [] ∷ [] ∷ []
-    else [] ∷ (0 ∷ []) ∷ (0 ∷ []) ∷ (1 ∷ 2 ∷ []) ∷ []))
+    else (if key == 20 then [] ∷ [] ∷ (0 ∷ []) ∷ (0 ∷ []) ∷ []
+    else [] ∷ (0 ∷ []) ∷ (0 ∷ []) ∷ (1 ∷ 2 ∷ []) ∷ [])))
 
 -- the key, or half the result of the first prerequisite
 abbrev pub halved : ℕ → ℕ → List ℕ → ℕ

@@ -61,23 +61,59 @@ impl Gate for Bars {
     }
 }
 
-// Holds whoever comes first until another comes, for a while.
+// How many came, and how often others were waited for in vain.
 #[derive(Drop)]
-struct Meeting {
+struct Arrivals {
     came: AtomicUsize,
     limits: AtomicUsize,
 }
 
-impl Gate for Meeting {
-    fn enter(&self, _job: usize) -> bool {
-        self.came.fetch_add(1, SeqCst);
+impl Arrivals {
+    fn new() -> Arrivals {
+        Arrivals {
+            came: AtomicUsize::new(0),
+            limits: AtomicUsize::new(0),
+        }
+    }
+
+    // Waits until this many came, for a while.
+    fn wait(&self, count: usize) {
         for _ in 0..200_000_000u64 {
-            if self.came.load(SeqCst) >= 2 {
-                return true;
+            if self.came.load(SeqCst) >= count {
+                return;
             }
             std::hint::spin_loop();
         }
         self.limits.fetch_add(1, SeqCst);
+    }
+}
+
+// Holds whoever comes first until another comes.
+#[derive(Drop)]
+struct Meeting(Arrivals);
+
+impl Gate for Meeting {
+    fn enter(&self, _job: usize) -> bool {
+        self.0.came.fetch_add(1, SeqCst);
+        self.0.wait(2);
+        true
+    }
+}
+
+// Holds job 1 until one of the jobs behind job 0 comes, and each of these two until the other comes.
+#[derive(Drop)]
+struct MeetingBehind(Arrivals);
+
+impl Gate for MeetingBehind {
+    fn enter(&self, job: usize) -> bool {
+        match job {
+            0 => {}
+            1 => self.0.wait(1),
+            _ => {
+                self.0.came.fetch_add(1, SeqCst);
+                self.0.wait(2);
+            }
+        }
         true
     }
 }
@@ -201,14 +237,22 @@ fn what_does_not_wait_for_a_barred_job_is_run(rt: HostRuntime) -> Result<(), Fai
 
 #[test]
 fn two_jobs_run_at_the_same_time(rt: HostRuntime) -> Result<(), Fail> {
-    let gate = Meeting {
-        came: AtomicUsize::new(0),
-        limits: AtomicUsize::new(0),
-    };
+    let gate = Meeting(Arrivals::new());
     let came = came(&rt, rt.alloc(), &[&[], &[]], 10, 2, &gate)?;
     assert!(rt; came.outs.as_slice() == [10, 10].as_slice());
-    assert!(rt; gate.came.load(SeqCst) == 2 && gate.limits.load(SeqCst) == 0);
+    assert!(rt; gate.0.came.load(SeqCst) == 2 && gate.0.limits.load(SeqCst) == 0);
     assert!(rt; came.tally.seats.iter().all(|list| list.len() == 1));
+    assert!(rt; came.tally.gatherer.is_empty());
+    Ok(())
+}
+
+// Job 0 is dealt to one worker, whose own deque gets both jobs behind it. The other worker has to steal one of them.
+#[test]
+fn a_job_is_stolen_from_the_other_worker(rt: HostRuntime) -> Result<(), Fail> {
+    let gate = MeetingBehind(Arrivals::new());
+    let came = came(&rt, rt.alloc(), &[&[], &[], &[0], &[0]], 20, 2, &gate)?;
+    assert!(rt; came.outs.as_slice() == [20, 20, 10, 10].as_slice());
+    assert!(rt; gate.0.came.load(SeqCst) == 2 && gate.0.limits.load(SeqCst) == 0);
     assert!(rt; came.tally.gatherer.is_empty());
     Ok(())
 }

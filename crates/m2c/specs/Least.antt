@@ -1,0 +1,48 @@
+-- All rules that a module breaks, and what is reported of it.
+use Rattle.std.specs.Prelude.{◌≡◌, ◌⊎◌, ℕ, List, [], Result, Ok, Err}
+use Rattle.m2_rule.specs.RuleNumber.{number_of}
+use Rattle.m2_rule.specs.declared.rule.Rule.TheVariants as rule
+use Rattle.m2_tree.specs.declared.decl.Contents.{Contents}
+use Rattle.m2_tree.specs.declared.decl.Contents.TheVariants as contents
+use Rattle.m2_tree.specs.declared.decl.Module.{Module}
+use Rattle.typed_tree.specs.declared.table.Table.{Table}
+use Rattle.check_scope.specs.declared.fault.Fault.{Fault}
+use Rattle.check_scope.specs.Elaborated.{every}
+use Rattle.check_definition.specs.Compiled as definition
+use Rattle.check_body.specs.Checks.{checked}
+use Rattle.law_least_definition.specs.Least.{IsLeast}
+use Rattle.build_jobs.specs.declared.outcome.Compiled.{Compiled}
+use Rattle.build_jobs.specs.declared.outcome.Compiled.TheVariants as jobs
+use Rattle.build_jobs.specs.Own.{own_table, tables_behind}
+use Rattle.build_jobs.specs.Compiling.{compiled, tables_of}
+
+-- the rules that are broken in what has no meaning
+abbrev pub broken : {A : Type 0} → Result A (List Fault) → List Fault
+broken (Ok a) = []
+broken (Err faults) = faults
+
+abbrev pub broken_in_body : Module → (number : ℕ) → List Table → List Fault
+broken_in_body m number tables =
+    let own = own_table m tables in broken (checked every number m own (tables_behind own tables))
+
+-- all rules of definitions and bodies that a module breaks, beside the tables of those that it needs
+abbrev pub all_broken : Module → (number : ℕ) → List Table → Contents → List Fault
+all_broken m number tables (contents.Definition defs) =
+    broken (definition.compiled every number m tables)
+all_broken m number tables (contents.Implementation b) = broken_in_body m number tables
+all_broken m number tables (contents.Program b) = broken_in_body m number tables
+
+-- A module that breaks rules is refused with the least of them, by place and then by number. One
+-- that breaks none has a table or is built, or its storage is too large.
+abbrev pub ReportsLeast : List Fault → Compiled → Type 0
+ReportsLeast faults (jobs.Defined t) = faults ≡ []
+ReportsLeast faults (jobs.Built b) = faults ≡ []
+ReportsLeast faults (jobs.Refused f) =
+    IsLeast f faults ⊎ ((faults ≡ []) × (f.number ≡ number_of rule.LargeStorage))
+ReportsLeast faults jobs.Blocked = Unit {0}
+
+-- the same of a module, whatever became of those that it needs
+abbrev pub IsLeastReported : Module → Type 0
+IsLeastReported m =
+    (number : ℕ) (needed : List Compiled)
+    → ReportsLeast (all_broken m number (tables_of needed) m.contents) (compiled m number needed)
