@@ -4,8 +4,8 @@ use Rattle.pool_board.specs.Lists.{times, listed}
 use Rattle.pool_board.specs.Rule.{IsConsistent, IsSourced}
 use Rattle.pool_board.specs.Seats.{SeatState, all_had, all_met, all_counts, without}
 
--- The lists are what the seats of a board had, as these were when all workers had ended, and `left`
--- is what no seat had.
+-- The lists are what as many seats had that kept the board's rule, and `left` is what none of them
+-- had.
 pub record IsTally (graph : List (List ℕ)) (workers : ℕ) (lists : List (List ℕ)) (left : List ℕ)
     : Type 0 where
   -- together the lists have each job once, and nothing else

@@ -16,19 +16,20 @@ use std::alloc::{AllocError, Global};
 use std::thread;
 use std::thread::Threads;
 
-/// Results of the work's own graph, in job order, and who had which job.
+/// Results of the work's own graph, in job order, and a tally.
 ///
-/// Each result is one that the work's definition gives for its job, from results of its prerequisites. The tally lists what
-/// each seat had and what none had: together each job exactly once, and nothing else. So it is for every number of
-/// workers, every gate and every schedule. The refusal is `Workers` exactly where there are not 1 to 64 workers, and else
+/// Each result is one that the work's definition gives for its job, from results of its prerequisites. The tally has a list
+/// for each worker, and one of the jobs that none had: together each job exactly once, and nothing else. The lists are
+/// what seats had that kept the board's rule; no clause says which worker's seat has which. So it is for every number of
+/// workers, every gate and every schedule. The refusal is `Workers` exactly if there are not 1 to 64 workers, and else
 /// `NoMemory`.
 ///
 /// The j-th job without prerequisites is dealt to worker j modulo the number of workers. A worker takes jobs from its
-/// own deque, first in first out, and else steals; where it sees the results of a job's prerequisites, the gate lets it
+/// own deque, first in first out, and else steals; if it sees the results of a job's prerequisites, the gate lets it
 /// in and it gets the job, it runs it, publishes the result, and keeps the jobs whose last prerequisite this was. It ends
 /// when it finds no job in its own deque nor in 1000 rounds over the others, or took as many jobs as there are.
 ///
-/// When all have ended, the jobs that none had are run here, in job order and without the gate. So are such as stand on a
+/// When all have ended, the jobs that none had are run here, in job order and without the gate. So are those that stand on a
 /// result that cannot be shown to be of this run; as far as we know there are none.
 pub fn run_jobs<R: Threads + Sync, W: Work, G: Gate>(
     rt: &R,
@@ -46,7 +47,7 @@ pub fn run_jobs<R: Threads + Sync, W: Work, G: Gate>(
         AreResults (W.graph work.now) (W.defines work.now)
         (all_jobs (length (W.graph work.now))) r.0.items) }
     ensures seats { IfOk result (λ r. length r.1.seats.items ≡ workers) }
-    // Each list is what that seat had; all together are the jobs, each once.
+    // The lists are what seats had that kept the board's rule; all together are the jobs, each once.
     ensures tally { IfOk result
         (λ r. IsTally graph.now workers (map (λ l. l.items) r.1.seats.items) r.1.gatherer.items) }
 {
