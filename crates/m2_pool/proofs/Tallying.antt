@@ -2,7 +2,7 @@
 use Rattle.std.proofs.Common.{◌≡◌, ◌≢◌, ℕ, zero, suc, ◌<◌, ◌≤◌, List, ◌++◌, length, map, All, eqb, eq-eqb, ne_eqb, refl, ap, ◌∙◌, ⊎_elim, arith}
 use Rattle.std.proofs.lemmas.Bool.{cases_eq, cases_lt, lt-ltb, le-ltb}
 use Rattle.pool_board.specs.Lists.{times, listed}
-use Rattle.pool_board.specs.Rule.{IsConsistent, IsSourced}
+use Rattle.pool_board.specs.Rule.{AreCounted, IsConsistent, IsSourced}
 use Rattle.pool_board.specs.Seats.{SeatState, all_had, all_met, all_counts, without}
 use Rattle.pool_board.proofs.Consistent.{bit, one_if}
 use Rattle.pool_board.proofs.Tallied.{listed-map}
@@ -29,8 +29,8 @@ module _ (graph : List (List ℕ)) (seats : List SeatState) (lists : List (List 
       let not_had : times number (all_had seats) ≡ 0 = ⊎_elim (λ (e : times number (all_had seats) ≡ 0). e) (λ (ne : times number (all_had seats) ≢ 0). absurd (let low = consistent.jobs number (omega arith) in omega arith)) (cases_eq (times number (all_had seats)) 0) in
       omega (arith, weigh-append (λ y. bit (eqb y number)) (listed lists) left)
 
-  pub is_tally : (workers : ℕ) → length seats ≡ workers → All (λ s. IsSourced s.had s.counts) seats → IsTally graph workers lists left
-  is_tally workers count sources = record {
+  pub is_tally : (workers : ℕ) → length seats ≡ workers → All (λ s. IsSourced s.had s.counts) seats → All (λ s. AreCounted graph s.had s.counts) seats → IsTally graph workers lists left
+  is_tally workers count sources counted = record {
     each = λ number. ⊎_elim (λ (low : number < length graph). rw (lt-ltb number (length graph) low) (each number low)) (λ (beyond : length graph ≤ number). rw (le-ltb number (length graph) beyond) (no_other number beyond)) (cases_lt number (length graph));
     seats = seats;
     count_is = count;
@@ -38,4 +38,5 @@ module _ (graph : List (List ℕ)) (seats : List SeatState) (lists : List (List 
     left_is = left_is;
     consistent = consistent;
     sources = sources;
+    counted = counted;
   }

@@ -1,7 +1,7 @@
 // The whole: workers on threads of their own, and the gatherer.
 ghost use Rattle.std.specs.Prelude.{◌≡◌, ◌≢◌, ◌++◌, [], ℕ, ◌<◌, ◌≤◌, ◌↔◌, length, map, All, IfOk, MatchResult, Err};
 ghost use Rattle.once_cell.specs.Once.{cell_name};
-ghost use Rattle.pool_board.specs.Seats.{IsAllSeats, all_had, max_workers};
+ghost use Rattle.pool_board.specs.Seats.{IsAllSeats, IsWorked, all_had, max_workers};
 ghost use Rattle.pool_board.specs.Results.{all_jobs, AreResults, IsRan, IsMade};
 ghost use Rattle.m2_pool.specs.Tallied.{IsTally};
 
@@ -177,7 +177,7 @@ fn all_work<R: Threads + Sync, W: Work, G: Gate>(
     ensures each { IfOk result (λ v.
         All (λ e.
         IfOk e (λ m.
-        (m.seat.board ≡ pool.now.board.now.id)
+        IsWorked pool.now.board.now.id pool.now.graph.now m.seat
         × (map (λ r. r.job) m.ran.items ≡ m.seat.had)
         × All (λ r.
         MatchResult r.kept (λ n.
@@ -198,7 +198,7 @@ fn all_work<R: Threads + Sync, W: Work, G: Gate>(
                 × (member.seat.had ≡ [])
                 × (member.ran.items ≡ []) }
             ensures { IfOk result (λ m.
-                (m.seat.board ≡ pool.entry.now.board.now.id)
+                IsWorked pool.entry.now.board.now.id pool.entry.now.graph.now m.seat
                 × (map (λ r. r.job) m.ran.items ≡ m.seat.had)
                 × All (λ r.
                 MatchResult r.kept (λ n.
@@ -222,7 +222,7 @@ fn returned<W: Work, G: Gate>(
 ) -> Result<(Vec<BoardSeat>, Vec<Ran<W>>), AllocError>
     requires { All (λ e.
         IfOk e (λ m.
-        (m.seat.board ≡ pool.now.board.now.id)
+        IsWorked pool.now.board.now.id pool.now.graph.now m.seat
         × (map (λ r. r.job) m.ran.items ≡ m.seat.had)
         × All (λ r.
         MatchResult r.kept (λ n.
@@ -235,7 +235,8 @@ fn returned<W: Work, G: Gate>(
         (map (λ u. u.cell) r.used.items)
         (map (λ u. u.known) r.used.items))) m.ran.items)) ended.items }
     ensures count { IfOk result (λ r. length r.0.items ≡ length ended.items) }
-    ensures seats { IfOk result (λ r. All (λ s. s.board ≡ pool.now.board.now.id) r.0.items) }
+    ensures seats { IfOk result (λ r.
+        All (λ s. IsWorked pool.now.board.now.id pool.now.graph.now s) r.0.items) }
     ensures ran { IfOk result (λ r. map (λ a. a.job) r.1.items ≡ all_had r.0.items) }
     ensures stands { IfOk result (λ o.
         All (λ r.

@@ -1,14 +1,16 @@
 -- Results picked one by one, and edges counted one by one.
-use Rattle.std.proofs.Common.{◌≡◌, ℕ, eqb, ◌&&◌, zero, suc, ◌+◌, ◌<◌, ◌≤◌, List, [], ◌∷◌, ◌++◌, length, get_or, take, map, refl, sym, ap, ◌∙◌, subst, ⊎_elim, arith, Some, None, Option}
+use Rattle.std.proofs.Common.{◌≡◌, ◌≢◌, ℕ, eqb, ◌&&◌, zero, suc, ◌+◌, ◌<◌, ◌≤◌, List, [], ◌∷◌, ◌++◌, length, get_or, take, map, refl, sym, ap, ◌∙◌, subst, ⊎_elim, arith, Some, None, Option}
+use Rattle.std.proofs.lemmas.Bool.{cases_eq, cases_lt}
 use Rattle.std.proofs.lemmas.List.{take_more}
 use Rattle.std.specs.Prelude.{slice_get, MatchResult, Result, Ok, Err}
 use mathlib.Core.List.{map-append}
-use Rattle.pool_board.specs.Graph.{prerequisites_of}
+use Rattle.pool_board.specs.Lists.{times}
+use Rattle.pool_board.specs.Graph.{prerequisites_of, targets_of}
 use Rattle.pool_board.specs.declared.rule.Counted.{Counted}
-use Rattle.pool_board.specs.Rule.{counted}
+use Rattle.pool_board.specs.Rule.{counted, AreCounted}
 use Rattle.pool_board.specs.Steps.{count_of}
 use Rattle.pool_board.proofs.Weights.{weigh-push}
-use Rattle.pool_board.proofs.Consistent.{bit, one_if_both}
+use Rattle.pool_board.proofs.Consistent.{bit, one_if, one_if_both}
 use Rattle.pool_board.specs.Results.{with_item, picked, IsRan, IsMade}
 
 pub picked_push : {X : Type 0} (xs : List X) (ps : List ℕ) (p : ℕ) (x : X) → slice_get xs p ≡ Some x → picked xs (ps ++ p ∷ []) ≡ picked xs ps ++ x ∷ []
@@ -28,6 +30,44 @@ still_fresh job edge left e counts more fresh = ⊎_elim
     (λ (t : ((job ≡ job) → (edge ≡ e) → ⊥) × (bit (eqb job job && eqb edge e) ≡ 0)). let off : bit (eqb job job && eqb edge e) ≡ 0 = t.1 in
     omega (arith, weigh-push (λ d. bit (eqb d.from job && eqb d.edge e)) counts (count_of job edge left)))
     (one_if_both job job edge e)
+
+-- the edge that was counted, and those before it
+pub now_counted : (job edge left e : ℕ) (counts : List Counted) → e < edge + 1 → (e < edge → counted job e counts ≡ 1) → (edge ≤ e → counted job e counts ≡ 0) → counted job e (counts ++ count_of job edge left ∷ []) ≡ 1
+now_counted job edge left e counts l before fresh = ⊎_elim
+    (λ (t : (job ≡ job) × (edge ≡ e) × (bit (eqb job job && eqb edge e) ≡ 1)). let same : edge ≡ e = t.1 in let one : bit (eqb job job && eqb edge e) ≡ 1 = t.2 in let none : counted job e counts ≡ 0 = fresh (omega arith) in
+    omega (arith, weigh-push (λ d. bit (eqb d.from job && eqb d.edge e)) counts (count_of job edge left)))
+    (λ (t : ((job ≡ job) → (edge ≡ e) → ⊥) × (bit (eqb job job && eqb edge e) ≡ 0)). let off : bit (eqb job job && eqb edge e) ≡ 0 = t.1 in
+    ⊎_elim
+    (λ (low : e < edge). let one : counted job e counts ≡ 1 = before low in omega (arith, weigh-push (λ d. bit (eqb d.from job && eqb d.edge e)) counts (count_of job edge left)))
+    (λ (high : edge ≤ e). absurd (t.0 refl (omega arith)))
+    (cases_lt e edge))
+    (one_if_both job job edge e)
+
+-- an edge of another job
+pub other_counted : (job edge left from e : ℕ) (counts : List Counted) → from ≢ job → counted from e (counts ++ count_of job edge left ∷ []) ≡ counted from e counts
+other_counted job edge left from e counts ne = ⊎_elim
+    (λ (t : (job ≡ from) × (edge ≡ e) × (bit (eqb job from && eqb edge e) ≡ 1)). absurd (ne (sym t.0)))
+    (λ (t : ((job ≡ from) → (edge ≡ e) → ⊥) × (bit (eqb job from && eqb edge e) ≡ 0)). let off : bit (eqb job from && eqb edge e) ≡ 0 = t.1 in
+    omega (arith, weigh-push (λ d. bit (eqb d.from from && eqb d.edge e)) counts (count_of job edge left)))
+    (one_if_both job from edge e)
+
+-- the edges of no job
+pub none_counted : (graph : List (List ℕ)) (had : List ℕ) (counts : List Counted) → had ≡ [] → AreCounted graph had counts
+none_counted graph had counts is job edge l low = absurd (let none : times job had ≡ 0 = ap (times job) is in omega (arith, l, none))
+
+-- the edges of one job more
+pub more_counted : (graph : List (List ℕ)) (job : ℕ) (had had' : List ℕ) (before counts : List Counted) → had' ≡ had ++ job ∷ [] → AreCounted graph had before
+    → ((edge : ℕ) → edge < length (targets_of graph job) → counted job edge counts ≡ 1) → ((from edge : ℕ) → from ≢ job → counted from edge counts ≡ counted from edge before) → AreCounted graph had' counts
+more_counted graph job had had' before counts is old new others from edge l low = ⊎_elim
+    (λ (e : from ≡ job). subst (λ (k : ℕ). edge < length (targets_of graph k) → counted k edge counts ≡ 1) (sym e) (new edge) low)
+    (λ (ne : from ≢ job). others from edge ne ∙ old from edge (one_less ne) low)
+    (cases_eq from job)
+  where
+    one_less : from ≢ job → 0 < times from had
+    one_less ne = ⊎_elim
+        (λ (t : (job ≡ from) × (bit (eqb job from) ≡ 1)). absurd (ne (sym t.0)))
+        (λ (t : (job ≢ from) × (bit (eqb job from) ≡ 0)). let off : bit (eqb job from) ≡ 0 = t.1 in let all = ap (times from) is in omega (arith, l, all, weigh-push (λ y. bit (eqb y from)) had job))
+        (one_if job from)
 
 pub get_in : {X : Type 0} (xs : List X) (i : ℕ) (d : X) → i < length xs → slice_get xs i ≡ Some (get_or xs i d)
 get_in [] i d l = absurd (omega arith)

@@ -31,6 +31,12 @@ left_at graph job number counts =
 abbrev pub IsSourced : List ℕ → List Counted → Type 0
 IsSourced had counts = (from edge : ℕ) → 0 < counted from edge counts → 0 < times from had
 
+-- each edge of each job that a seat had was counted by it
+abbrev pub AreCounted : List (List ℕ) → List ℕ → List Counted → Type 0
+AreCounted graph had counts =
+    (job edge : ℕ) → 0 < times job had → edge < length (targets_of graph job)
+    → counted job edge counts ≡ 1
+
 -- What holds of the lists of all seats together
 pub record IsConsistent (graph : List (List ℕ)) (had met : List ℕ) (counts : List Counted)
     : Type 0 where

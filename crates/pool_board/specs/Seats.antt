@@ -6,7 +6,7 @@ use Rattle.pool_board.specs.declared.rule.Counted.{Counted}
 use Rattle.pool_board.specs.declared.rule.Record.{Record}
 use Rattle.pool_board.specs.Lists.{times, together}
 use Rattle.pool_board.specs.Graph.{IsJobGraph}
-use Rattle.pool_board.specs.Rule.{IsSourced}
+use Rattle.pool_board.specs.Rule.{AreCounted, IsSourced}
 
 abbrev pub max_workers : ℕ
 max_workers = 64
@@ -26,6 +26,10 @@ pub record BoardState : Type 0 where
 
 abbrev pub new_seat : TableId → SeatState
 new_seat board = record { board = board; had = []; met = []; counts = [] }
+
+-- a seat of the board whose worker has ended: it counted each edge of each job that it had
+abbrev pub IsWorked : TableId → List (List ℕ) → SeatState → Type 0
+IsWorked board graph seat = (seat.board ≡ board) × AreCounted graph seat.had seat.counts
 
 -- all seats of the board
 pub record IsAllSeats (board : BoardState) (seats : List SeatState) : Type 0 where

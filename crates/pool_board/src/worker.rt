@@ -1,10 +1,10 @@
 // One worker: it takes jobs from deques, runs those that it gets, and publishes their results.
-ghost use Rattle.std.specs.Prelude.{◌≡◌, ◌++◌, ◌∷◌, [], ℕ, ◌<◌, length, map, All, Some, IfOk, MatchResult, OnOk};
+ghost use Rattle.std.specs.Prelude.{◌≡◌, ◌≢◌, ◌++◌, ◌∷◌, [], ℕ, ◌<◌, length, map, All, Some, IfOk, MatchResult, OnOk};
 ghost use Rattle.once_cell.specs.Once.{cell_name};
 ghost use Rattle.pool_board.specs.Lists.{times};
 ghost use Rattle.pool_board.specs.Graph.{prerequisites_of, targets_of, IsJobGraph};
-ghost use Rattle.pool_board.specs.Rule.{counted};
-ghost use Rattle.pool_board.specs.Seats.{SeatState};
+ghost use Rattle.pool_board.specs.Rule.{counted, AreCounted};
+ghost use Rattle.pool_board.specs.Seats.{SeatState, IsWorked};
 ghost use Rattle.pool_board.specs.Results.{picked, IsRan, IsMade};
 
 use crate::cells::{Found, all_finished};
@@ -43,7 +43,8 @@ pub struct Pool<'a, W: Work, G: Gate> {
 
 /// Works, as a worker that ran nothing yet, until nothing is found, or as many jobs were taken as the graph has.
 ///
-/// What the worker ran is what its seat had, each with what it stands on. It fails only for want of memory.
+/// What the worker ran is what its seat had, each with what it stands on. It counted each edge of these jobs. It fails only
+/// for want of memory.
 pub fn work_on<W: Work, G: Gate>(
     alloc: Global,
     pool: &Pool<'_, W, G>,
@@ -51,7 +52,7 @@ pub fn work_on<W: Work, G: Gate>(
 ) -> Result<Member<W>, AllocError>
     requires seat { member.seat.board ≡ pool.now.board.now.id }
     requires new { (member.seat.had ≡ []) × (member.ran.items ≡ []) }
-    ensures seat { IfOk result (λ m. m.seat.board ≡ pool.now.board.now.id) }
+    ensures seat { IfOk result (λ m. IsWorked pool.now.board.now.id pool.now.graph.now m.seat) }
     ensures ran { IfOk result (λ m. map (λ r. r.job) m.ran.items ≡ m.seat.had) }
     ensures stands { IfOk result (λ m.
         All (λ r.
@@ -104,7 +105,7 @@ fn attempt<W: Work, G: Gate>(
     member: &mut Member<W>,
     job: usize,
 ) -> Result<(), AllocError>
-    requires seat { member.old.seat.board ≡ pool.now.board.now.id }
+    requires seat { IsWorked pool.now.board.now.id pool.now.graph.now member.old.seat }
     requires ran { map (λ r. r.job) member.old.ran.items ≡ member.old.seat.had }
     requires stands { All (λ r.
         MatchResult r.kept (λ n.
@@ -115,6 +116,7 @@ fn attempt<W: Work, G: Gate>(
         (W.defines pool.now.work.now) r.job b.value (map (λ u. u.cell) r.used.items)
         (map (λ u. u.known) r.used.items))) member.old.ran.items }
     ensures seat { member.new.seat.board ≡ pool.now.board.now.id }
+    ensures counts { OnOk result (IsWorked pool.now.board.now.id pool.now.graph.now member.new.seat) }
     ensures ran { OnOk result (map (λ r. r.job) member.new.ran.items ≡ member.new.seat.had) }
     ensures stands { All (λ r.
         MatchResult r.kept (λ n.
@@ -192,6 +194,10 @@ fn count_all(
     requires fresh { (edge : ℕ) → counted job edge seat.old.counts ≡ 0 }
     ensures board { seat.new.board ≡ seat.old.board }
     ensures had { seat.new.had ≡ seat.old.had }
+    ensures counted { (edge : ℕ) → edge < length (targets_of graph.now job)
+        → counted job edge seat.new.counts ≡ 1 }
+    ensures others { (from edge : ℕ) → from ≢ job
+        → counted from edge seat.new.counts ≡ counted from edge seat.old.counts }
 {
     let targets = graph.targets(job);
     for edge in 0..targets.len() {

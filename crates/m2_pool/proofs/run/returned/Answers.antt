@@ -4,7 +4,7 @@ use Rattle.std.proofs.lemmas.Grind.{common_steps}
 use Rattle.std.proofs.lemmas.List.Elements.{All-push, All-append}
 use Rattle.once_cell.specs.Once.{cell_name}
 use mathlib.Core.List.{map-append}
-use Rattle.pool_board.specs.Seats.{SeatState, all_had}
+use Rattle.pool_board.specs.Seats.{SeatState, IsWorked, all_had}
 use Rattle.pool_board.specs.Results.{IsRan, IsMade}
 use Rattle.m2_pool.proofs.Items.{next_in, together_push}
 use Rattle.m2_pool.proofs.run.returned.Goals as goal
@@ -27,7 +27,7 @@ loop-one-preserved g c =
       rest_is = append_assoc c.loop-one.yielded (c.in-Some.one ∷ []) _ ∙ (ap (λ l. c.loop-one.yielded ++ l) (sym head) ∙ before.rest_is);
       length_is = grind (arith, common_steps);
       count_is = omega (arith, length-append seats (seat ∷ []), length-append c.loop-one.yielded (c.in-Some.one ∷ []));
-      seats_are = rw pushed (All-push (λ (s : SeatState). s.board ≡ c.args.pool.now.board.now.id) seats seat before.seats_are facts.0);
+      seats_are = rw pushed (All-push (λ (s : SeatState). IsWorked c.args.pool.now.board.now.id c.args.pool.now.graph.now s) seats seat before.seats_are facts.0);
       ran_is = ap (map (λ r. r.job)) joined
           ∙ (map-append (λ r. r.job) c.loop-one.all.items ran
           ∙ (ap (λ l. l ++ map (λ r. r.job) ran) before.ran_is

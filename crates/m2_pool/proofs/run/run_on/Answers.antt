@@ -34,7 +34,7 @@ close-tally-requires g c =
     c.in_ok-seats.ensures.count
     ∙ (c.in_ok-ended.ensures.count
     ∙ (sym (length-map members (λ m. m.seat)) ∙ (ap (λ (l : List SeatState). length l) c.in_ok-members.ensures.seats ∙ c.requires.seats.0.count_is))) in
-    record { count_is = count; each = c.in_ok-seats.ensures.seats }
+    record { count_is = count; each = λ k d l. (c.in_ok-seats.ensures.seats k d l).0 }
 
 pub gathered-requires-clause-places : goal.gathered-requires-clause-places
 gathered-requires-clause-places g c κs within = λ k l. match_some (get_or c.in_ok-places.places.items k None) _ _ (c.in_ok-places.ensures.each k l)
@@ -57,4 +57,4 @@ returns-clause-tally g c =
     ∙ (c.in_ok-ended.ensures.count
     ∙ (sym (length-map members (λ m. m.seat)) ∙ (ap (λ (l : List SeatState). length l) c.in_ok-members.ensures.seats ∙ c.requires.seats.0.count_is))) in
     rw c.requires.graph.1 (is_tally c.args.board.graph c.in_ok-seats.seats.items lists c.close-tally.result.gatherer.items c.close-tally.ensures.seats c.close-tally.ensures.gatherer each c.close-tally.ensures.consistent
-    c.args.board.workers count c.close-tally.ensures.sources)
+    c.args.board.workers count c.close-tally.ensures.sources (λ k d l. rw (← c.requires.graph.1) (c.in_ok-seats.ensures.seats k d l).1))
