@@ -137,8 +137,8 @@ fn write(bytes: &mut Items<u8>, place: usize, others: &[u8])
     }
 }
 
-/// The memory with these bytes in it.
-fn written(memory: Memory, place: usize, others: &[u8]) -> Memory
+/// Writes bytes into a memory from a place on.
+fn write_memory(memory: Memory, place: usize, others: &[u8]) -> Memory
     requires { place + length others.now ≤ length memory.bytes }
     ensures { result ≡ record memory { bytes = pasted memory.bytes place others.now } }
 {
@@ -161,7 +161,7 @@ fn with_last(store: &mut Store, memory: usize, place: usize, bytes: &[u8]) -> Re
     if last.bytes.len() < bytes.len() || last.bytes.len() - bytes.len() < place {
         return Err(WFault::SegmentOutside);
     }
-    store.memories.push(written(last, place, bytes))?;
+    store.memories.push(write_memory(last, place, bytes))?;
     Ok(())
 }
 
