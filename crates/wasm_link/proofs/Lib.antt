@@ -2,3 +2,4 @@ pub mod Fold
 pub mod Same
 pub mod Addressed
 pub mod Constants
+pub mod Pasting

@@ -126,7 +126,47 @@ pub fn with_elements(
     Ok(())
 }
 
-fn with_bytes(
+/// Writes bytes into others from a place on.
+fn write(bytes: &mut Items<u8>, place: usize, others: &[u8])
+    requires { place + length others.now ≤ length bytes.old }
+    ensures { bytes.new ≡ pasted bytes.old place others.now }
+{
+    let _size = bytes.len();
+    for done in 0..others.len() {
+        bytes.set(place + done, others[done]);
+    }
+}
+
+/// Writes bytes into a memory from a place on.
+fn write_memory(memory: Memory, place: usize, others: &[u8]) -> Memory
+    requires { place + length others.now ≤ length memory.bytes }
+    ensures { result ≡ record memory { bytes = pasted memory.bytes place others.now } }
+{
+    let Memory { mut bytes, max } = memory;
+    write(&mut bytes, place, others);
+    Memory { bytes, max }
+}
+
+/// The last memory is changed in its place: bytes cost what they are, however large it is.
+fn with_last(store: &mut Store, memory: usize, place: usize, bytes: &[u8]) -> Result<(), WFault>
+    requires { memory + 1 ≡ length store.old.memories }
+    ensures { (i : Instance)
+        → Gives (λ _. linked store.new i) result
+        (with_bytes (linked store.old i) memory place (slice_get store.old.memories memory)
+        bytes.now) }
+{
+    let Some(last) = store.memories.pop() else {
+        return Err(WFault::SegmentOutside);
+    };
+    if last.bytes.len() < bytes.len() || last.bytes.len() - bytes.len() < place {
+        return Err(WFault::SegmentOutside);
+    }
+    store.memories.push(write_memory(last, place, bytes))?;
+    Ok(())
+}
+
+/// A memory that is not the last is made anew.
+fn with_other(
     alloc: Global,
     store: &mut Store,
     memory: usize,
@@ -148,6 +188,25 @@ fn with_bytes(
     let max = old.max;
     store.memories.set(memory, Memory { bytes, max });
     Ok(())
+}
+
+fn with_bytes(
+    alloc: Global,
+    store: &mut Store,
+    memory: usize,
+    place: usize,
+    bytes: &[u8],
+) -> Result<(), WFault>
+    ensures { (i : Instance)
+        → Gives (λ _. linked store.new i) result
+        (with_bytes (linked store.old i) memory place (slice_get store.old.memories memory)
+        bytes.now) }
+{
+    if memory < store.memories.len() && store.memories.len() - memory == 1 {
+        with_last(store, memory, place, bytes)
+    } else {
+        with_other(alloc, store, memory, place, bytes)
+    }
 }
 
 fn with_segment(
