@@ -33,3 +33,8 @@ pub mod FlatCode
 pub mod DeepCode
 pub mod DeepCodeSteps
 pub mod DeepFunctions
+pub mod OutwardTyped
+pub mod CodeLengths
+pub mod ShortCode
+pub mod ShortTrees
+pub mod ShortSteps

@@ -7,3 +7,6 @@ pub mod TypedNesting
 pub mod Depths
 pub mod CodeNesting
 pub mod Nested
+pub mod CodeBytes
+pub mod Outward
+pub mod Short

@@ -18,6 +18,7 @@
 #![tactic(auto)]
 
 ghost use Rattle.law_encoding.specs.Small.{TreesAreSmall, TextsAreSmall, ExpressionsAreSmall, DesignatorsAreSmall, StatementsAreSmall, ModulesAreSmall, BodiesAreSmall, LocalsAreFew, TableCallsAreFew};
+ghost use Rattle.law_encoding.specs.Short.{CodeIsShort};
 ghost use Rattle.law_encoding.specs.Nested.{TreesAreShallow, ModulesAreShallow, CodeIsShallow, FunctionsAreShallow, LinkIsFlat, AcceptedAreShallow};
 ghost use Rattle.check_scope.specs.Elaborated.{least, every};
 
@@ -82,4 +83,9 @@ pub fn code_nesting_laws()
     ensures functions { FunctionsAreShallow }
     // and for the module link, which has no blocks.
     ensures link { LinkIsFlat }
+{}
+
+/// The code of statements takes few bytes.
+pub fn code_size_laws()
+    ensures { CodeIsShort }
 {}

@@ -1,0 +1,20 @@
+-- The code of what the checker makes takes few bytes.
+use Rattle.std.specs.Prelude.{◌≤◌, ℕ, ◌*◌, List}
+use Rattle.typed_tree.specs.declared.statement.TypedStmt.{TypedStmt}
+use Rattle.def_grammar.specs.Refusal.{max_nesting}
+use Rattle.def_scheme.specs.Coded.{Setting, Counts}
+use Rattle.def_scheme.specs.Exprs.{Numbered}
+use Rattle.def_scheme.specs.Steps.{body_code}
+use Rattle.law_encoding.specs.TypedSizes.{size_body}
+use Rattle.law_encoding.specs.Outward.{outward_body}
+use Rattle.law_encoding.specs.CodeBytes.{bytes}
+
+-- so many bytes for each that a tree counts: at most 2 ^ 32 bytes for the tree of the longest text
+abbrev pub unit_bytes : ℕ
+unit_bytes = 1023
+
+-- The code of statements that go at most 200 procedures outwards takes at most 1023 bytes for each
+-- that they count.
+abbrev pub CodeIsShort : Type 0
+CodeIsShort = (numbered : Numbered) (xs : List TypedStmt) → outward_body xs ≤ max_nesting
+    → (s : Setting) (c : Counts) → bytes (body_code numbered xs s c).0 ≤ unit_bytes * size_body xs
