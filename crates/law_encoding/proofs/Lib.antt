@@ -38,3 +38,5 @@ pub mod CodeLengths
 pub mod ShortCode
 pub mod ShortTrees
 pub mod ShortSteps
+pub mod CodeFits
+pub mod EncodedBytes

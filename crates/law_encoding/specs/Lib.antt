@@ -10,3 +10,5 @@ pub mod Nested
 pub mod CodeBytes
 pub mod Outward
 pub mod Short
+pub mod CodeNumbers
+pub mod Fits

@@ -19,6 +19,7 @@
 
 ghost use Rattle.law_encoding.specs.Small.{TreesAreSmall, TextsAreSmall, ExpressionsAreSmall, DesignatorsAreSmall, StatementsAreSmall, ModulesAreSmall, BodiesAreSmall, LocalsAreFew, TableCallsAreFew};
 ghost use Rattle.law_encoding.specs.Short.{CodeIsShort};
+ghost use Rattle.law_encoding.specs.Fits.{CodeFits, EncodingsAreShort};
 ghost use Rattle.law_encoding.specs.Nested.{TreesAreShallow, ModulesAreShallow, CodeIsShallow, FunctionsAreShallow, LinkIsFlat, AcceptedAreShallow};
 ghost use Rattle.check_scope.specs.Elaborated.{least, every};
 
@@ -88,4 +89,11 @@ pub fn code_nesting_laws()
 /// The code of statements takes few bytes.
 pub fn code_size_laws()
     ensures { CodeIsShort }
+{}
+
+/// Code has an encoding if it nests few levels and its numbers fit.
+pub fn code_fit_laws()
+    ensures fits { CodeFits }
+    // Its encoding is then as short as it is counted.
+    ensures short { EncodingsAreShort }
 {}
