@@ -39,7 +39,7 @@ first_below a b n h = omega (arith, h)
 second_below : (a b n : ℕ) → a ⊔ b ≤ n → b ≤ n
 second_below a b n h = omega (arith, h)
 
-both_true : (a b : Bool) → a ≡ true → b ≡ true → (a && b) ≡ true
+pub both_true : (a b : Bool) → a ≡ true → b ≡ true → (a && b) ≡ true
 both_true true b e h = h
 both_true false b e h = e
 

@@ -40,3 +40,4 @@ pub mod ShortTrees
 pub mod ShortSteps
 pub mod CodeFits
 pub mod EncodedBytes
+pub mod FunctionsFit

@@ -34,6 +34,6 @@ bytes_in = fold-Instr ℕ instr_layer
 unfoldable pub bytes : List Instr → ℕ
 bytes code = sum_of bytes_in code
 
--- beside its code, a body has its size, its two groups of locals and its end
+-- beside its code, a body has its size, its groups of locals with their number, and its end
 abbrev pub function_bytes : Function → ℕ
-function_bytes f = 5 + 5 + 12 + 1 + bytes f.body.code
+function_bytes f = 11 + (6 * length f.body.locals + bytes f.body.code)

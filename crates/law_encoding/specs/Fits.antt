@@ -1,11 +1,19 @@
--- What has to hold of code so that it has an encoding.
-use Rattle.std.specs.Prelude.{◌≡◌, ◌≤◌, ℕ, true, List, length}
-use Rattle.std.specs.List.{flat_map}
+-- What has to hold of code and of modules so that they have an encoding.
+use Rattle.std.specs.Prelude.{◌≡◌, ◌≤◌, ◌<◌, ◌+◌, ◌^◌, ℕ, nat_lt, true, List, length}
+use Rattle.std.specs.List.{flat_map, list_all}
 use Rattle.wasm_tree.specs.declared.instr.Instr.{Instr}
+use Rattle.wasm_tree.specs.declared.module.Function.{Function}
+use Rattle.wasm_tree.specs.declared.module.WModule.{WModule}
+use Rattle.wasm_code.specs.Number.{unsigned}
+use Rattle.wasm_code.specs.Parts.{section}
 use Rattle.wasm_code.specs.Instructions.{code_within, instr_encoding}
-use Rattle.law_encoding.specs.CodeNesting.{levels}
-use Rattle.law_encoding.specs.CodeBytes.{bytes}
+use Rattle.wasm_binary.specs.Binary.{func_type, import, table_type, memory_type, global, export, element, data_segment, declared, types_of, body, bodies_encoding, module_fits}
+use Rattle.law_encoding.specs.Sizes.{sum_of}
+use Rattle.law_encoding.specs.Nesting.{deepest_of}
+use Rattle.law_encoding.specs.CodeNesting.{levels, function_levels}
+use Rattle.law_encoding.specs.CodeBytes.{bytes, function_bytes}
 use Rattle.law_encoding.specs.CodeNumbers.{code_numbers_fit}
+use Rattle.law_encoding.specs.Nested.{max_levels}
 
 -- Code fits if its blocks nest few levels and its numbers fit their widths.
 abbrev pub CodeFits : Type 0
@@ -16,3 +24,41 @@ CodeFits = (n : ℕ) (code : List Instr) → levels code ≤ n → code_numbers_
 abbrev pub EncodingsAreShort : Type 0
 EncodingsAreShort = (code : List Instr) → code_numbers_fit code ≡ true
     → length (flat_map instr_encoding code) ≤ bytes code
+
+-- ---- functions and modules
+
+abbrev pub max_bytes : ℕ
+max_bytes = 2 ^ 32
+
+-- What is asked of functions: few levels, numbers in their widths, and less than 2 ^ 32 locals in
+-- each and bytes in all.
+pub record FunctionsFit (fs : List Function) : Type 0 where
+  pub nesting : deepest_of function_levels fs ≤ max_levels
+  pub numbers : list_all (λ f. code_numbers_fit f.body.code) fs ≡ true
+  pub locals : list_all (λ f. nat_lt (declared f.body.locals) max_bytes) fs ≡ true
+  pub size : 5 + sum_of function_bytes fs < max_bytes
+
+-- Bodies of these have an encoding, and so has the code section.
+abbrev pub BodiesFit : Type 0
+BodiesFit = (fs : List Function) → FunctionsFit fs
+    → (list_all (λ f. body.fits f.body) fs ≡ true)
+    × (nat_lt (length (bodies_encoding fs)) max_bytes ≡ true)
+
+-- All that is asked of a module: its functions fit, and each of the other sections does, as the
+-- format says: indexes and sizes below 2 ^ 32, names in UTF-8, bytes below 256, and less than
+-- 2 ^ 32 entries and bytes in a section.
+pub record HasRoom (m : WModule) : Type 0 where
+  pub types : (section 1 func_type).fits m.types ≡ true
+  pub imports : (section 2 import).fits m.imports ≡ true
+  pub uses : (section 3 unsigned).fits (types_of m.functions) ≡ true
+  pub tables : (section 4 table_type).fits m.tables ≡ true
+  pub memories : (section 5 memory_type).fits m.memories ≡ true
+  pub globals : (section 6 global).fits m.globals ≡ true
+  pub exports : (section 7 export).fits m.exports ≡ true
+  pub elements : (section 9 element).fits m.elements ≡ true
+  pub functions : FunctionsFit m.functions
+  pub segments : (section 11 data_segment).fits m.data ≡ true
+
+-- A module of which this holds has an encoding.
+abbrev pub ModulesFit : Type 0
+ModulesFit = (m : WModule) → HasRoom m → module_fits m ≡ true

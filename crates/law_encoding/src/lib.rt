@@ -19,7 +19,7 @@
 
 ghost use Rattle.law_encoding.specs.Small.{TreesAreSmall, TextsAreSmall, ExpressionsAreSmall, DesignatorsAreSmall, StatementsAreSmall, ModulesAreSmall, BodiesAreSmall, LocalsAreFew, TableCallsAreFew};
 ghost use Rattle.law_encoding.specs.Short.{CodeIsShort};
-ghost use Rattle.law_encoding.specs.Fits.{CodeFits, EncodingsAreShort};
+ghost use Rattle.law_encoding.specs.Fits.{CodeFits, EncodingsAreShort, BodiesFit, ModulesFit};
 ghost use Rattle.law_encoding.specs.Nested.{TreesAreShallow, ModulesAreShallow, CodeIsShallow, FunctionsAreShallow, LinkIsFlat, AcceptedAreShallow};
 ghost use Rattle.check_scope.specs.Elaborated.{least, every};
 
@@ -96,4 +96,8 @@ pub fn code_fit_laws()
     ensures fits { CodeFits }
     // Its encoding is then as short as it is counted.
     ensures short { EncodingsAreShort }
+    // So have functions that are short in all,
+    ensures bodies { BodiesFit }
+    // and modules of these, if each other section fits.
+    ensures modules { ModulesFit }
 {}
