@@ -41,3 +41,9 @@ pub mod ShortSteps
 pub mod CodeFits
 pub mod EncodedBytes
 pub mod FunctionsFit
+pub mod OutwardOperators
+pub mod OutwardCalls
+pub mod OutwardMeanings
+pub mod OutwardEffects
+pub mod OutwardSteps
+pub mod OutwardStatements

@@ -12,3 +12,4 @@ pub mod Outward
 pub mod Short
 pub mod CodeNumbers
 pub mod Fits
+pub mod OutwardMeant

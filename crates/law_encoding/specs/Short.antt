@@ -1,12 +1,21 @@
 -- The code of what the checker makes takes few bytes.
 use Rattle.std.specs.Prelude.{◌≤◌, ℕ, ◌*◌, List}
+use Rattle.m2_tree.specs.declared.expr.Expr.{Expr}
+use Rattle.m2_tree.specs.declared.stmt.Stmt.{Stmt}
 use Rattle.typed_tree.specs.declared.statement.TypedStmt.{TypedStmt}
+use Rattle.check_scope.specs.Elaborated.{Gathers}
+use Rattle.check_scope.specs.declared.scope.Scope.{Scope}
+use Rattle.check_expr.specs.Meanings.{meant}
+use Rattle.check_stmt_parts.specs.declared.around.Around.{Around}
+use Rattle.check_stmt.specs.Statements.{statements}
 use Rattle.def_grammar.specs.Refusal.{max_nesting}
 use Rattle.def_scheme.specs.Coded.{Setting, Counts}
 use Rattle.def_scheme.specs.Exprs.{Numbered}
 use Rattle.def_scheme.specs.Steps.{body_code}
 use Rattle.law_encoding.specs.TypedSizes.{size_body}
+use Rattle.law_encoding.specs.Counted.{AtMost}
 use Rattle.law_encoding.specs.Outward.{outward_body}
+use Rattle.law_encoding.specs.OutwardMeant.{outward_designated}
 use Rattle.law_encoding.specs.CodeBytes.{bytes}
 
 -- so many bytes for each that a tree counts: at most 2 ^ 32 bytes for the tree of the longest text
@@ -18,3 +27,13 @@ unit_bytes = 1023
 abbrev pub CodeIsShort : Type 0
 CodeIsShort = (numbered : Numbered) (xs : List TypedStmt) → outward_body xs ≤ max_nesting
     → (s : Setting) (c : Counts) → bytes (body_code numbered xs s c).0 ≤ unit_bytes * size_body xs
+
+-- What expressions and statements mean in a procedure goes outwards no further than the procedure
+-- stands deep.
+abbrev pub ExpressionsAreNear : Gathers → Type 0
+ExpressionsAreNear g = (s : Scope g.Reported) (e : Expr)
+    → AtMost outward_designated s.level ((meant g e).means s)
+
+abbrev pub StatementsAreNear : Gathers → Type 0
+StatementsAreNear g = (s : Scope g.Reported) (a : Around g.Reported) (xs : List Stmt)
+    → AtMost outward_body s.level (statements g s a xs)

@@ -18,7 +18,7 @@
 #![tactic(auto)]
 
 ghost use Rattle.law_encoding.specs.Small.{TreesAreSmall, TextsAreSmall, ExpressionsAreSmall, DesignatorsAreSmall, StatementsAreSmall, ModulesAreSmall, BodiesAreSmall, LocalsAreFew, TableCallsAreFew};
-ghost use Rattle.law_encoding.specs.Short.{CodeIsShort};
+ghost use Rattle.law_encoding.specs.Short.{CodeIsShort, ExpressionsAreNear, StatementsAreNear};
 ghost use Rattle.law_encoding.specs.Fits.{CodeFits, EncodingsAreShort, BodiesFit, ModulesFit};
 ghost use Rattle.law_encoding.specs.Nested.{TreesAreShallow, ModulesAreShallow, CodeIsShallow, FunctionsAreShallow, LinkIsFlat, AcceptedAreShallow};
 ghost use Rattle.check_scope.specs.Elaborated.{least, every};
@@ -100,4 +100,12 @@ pub fn code_fit_laws()
     ensures bodies { BodiesFit }
     // and modules of these, if each other section fits.
     ensures modules { ModulesFit }
+{}
+
+/// What the checker makes goes outwards no further than its procedure stands deep.
+pub fn outward_laws()
+    // That is so if the least broken rule is kept,
+    ensures least { ExpressionsAreNear least × StatementsAreNear least }
+    // and if all of them are.
+    ensures every { ExpressionsAreNear every × StatementsAreNear every }
 {}
