@@ -47,3 +47,4 @@ pub mod OutwardMeanings
 pub mod OutwardEffects
 pub mod OutwardSteps
 pub mod OutwardStatements
+pub mod OutwardBlocks

@@ -1,20 +1,26 @@
 -- The code of what the checker makes takes few bytes.
-use Rattle.std.specs.Prelude.{◌≤◌, ℕ, ◌*◌, List}
+use Rattle.std.specs.Prelude.{◌≤◌, ℕ, ◌-◌, ◌*◌, List, Option}
+use Rattle.m2_tree.specs.declared.decl.Module.{Module}
 use Rattle.m2_tree.specs.declared.expr.Expr.{Expr}
 use Rattle.m2_tree.specs.declared.stmt.Stmt.{Stmt}
 use Rattle.typed_tree.specs.declared.statement.TypedStmt.{TypedStmt}
+use Rattle.typed_tree.specs.declared.table.Table.{Table}
+use Rattle.typed_tree.specs.declared.typed_module.Routine.{Routine}
+use Rattle.typed_tree.specs.declared.typed_module.TypedModule.{TypedModule}
 use Rattle.check_scope.specs.Elaborated.{Gathers}
 use Rattle.check_scope.specs.declared.scope.Scope.{Scope}
 use Rattle.check_expr.specs.Meanings.{meant}
 use Rattle.check_stmt_parts.specs.declared.around.Around.{Around}
 use Rattle.check_stmt.specs.Statements.{statements}
+use Rattle.check_body.specs.Checks.{checked}
 use Rattle.def_grammar.specs.Refusal.{max_nesting}
 use Rattle.def_scheme.specs.Coded.{Setting, Counts}
 use Rattle.def_scheme.specs.Exprs.{Numbered}
 use Rattle.def_scheme.specs.Steps.{body_code}
 use Rattle.law_encoding.specs.TypedSizes.{size_body}
 use Rattle.law_encoding.specs.Counted.{AtMost}
-use Rattle.law_encoding.specs.Outward.{outward_body}
+use Rattle.law_encoding.specs.Nesting.{◌⊔◌, deepest_of}
+use Rattle.law_encoding.specs.Outward.{outward_body, outward_routine}
 use Rattle.law_encoding.specs.OutwardMeant.{outward_designated}
 use Rattle.law_encoding.specs.CodeBytes.{bytes}
 
@@ -37,3 +43,15 @@ ExpressionsAreNear g = (s : Scope g.Reported) (e : Expr)
 abbrev pub StatementsAreNear : Gathers → Type 0
 StatementsAreNear g = (s : Scope g.Reported) (a : Around g.Reported) (xs : List Stmt)
     → AtMost outward_body s.level (statements g s a xs)
+
+-- how much further outwards the bodies of procedures go than these stand deep
+abbrev pub beyond_routine : Routine → ℕ
+beyond_routine r = outward_routine r - r.level
+
+abbrev pub beyond_routines : TypedModule → ℕ
+beyond_routines m = deepest_of beyond_routine m.procedures ⊔ deepest_of beyond_routine m.locals
+
+-- In a module that the checker accepts no procedure goes further.
+abbrev pub RoutinesAreNear : Gathers → Type 0
+RoutinesAreNear g = (number : ℕ) (m : Module) (own : Option Table) (tables : List Table)
+    → AtMost beyond_routines 0 (checked g number m own tables)

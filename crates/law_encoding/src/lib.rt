@@ -18,7 +18,7 @@
 #![tactic(auto)]
 
 ghost use Rattle.law_encoding.specs.Small.{TreesAreSmall, TextsAreSmall, ExpressionsAreSmall, DesignatorsAreSmall, StatementsAreSmall, ModulesAreSmall, BodiesAreSmall, LocalsAreFew, TableCallsAreFew};
-ghost use Rattle.law_encoding.specs.Short.{CodeIsShort, ExpressionsAreNear, StatementsAreNear};
+ghost use Rattle.law_encoding.specs.Short.{CodeIsShort, ExpressionsAreNear, StatementsAreNear, RoutinesAreNear};
 ghost use Rattle.law_encoding.specs.Fits.{CodeFits, EncodingsAreShort, BodiesFit, ModulesFit};
 ghost use Rattle.law_encoding.specs.Nested.{TreesAreShallow, ModulesAreShallow, CodeIsShallow, FunctionsAreShallow, LinkIsFlat, AcceptedAreShallow};
 ghost use Rattle.check_scope.specs.Elaborated.{least, every};
@@ -108,4 +108,7 @@ pub fn outward_laws()
     ensures least { ExpressionsAreNear least × StatementsAreNear least }
     // and if all of them are.
     ensures every { ExpressionsAreNear every × StatementsAreNear every }
+    // So go the bodies of the procedures of a module.
+    ensures least_routines { RoutinesAreNear least }
+    ensures every_routines { RoutinesAreNear every }
 {}
