@@ -1,7 +1,7 @@
 -- Functions have an encoding if they nest few levels, their numbers fit, and they are short.
 use Rattle.std.proofs.Common.{◌≡◌, ℕ, suc, ◌+◌, ◌*◌, ◌≤◌, ◌<◌, Bool, true, ◌&&◌, nat_lt, List, [], ◌∷◌, ◌++◌, length, refl, arith}
 use Rattle.std.specs.List.{list_all, flat_map}
-use Rattle.std.proofs.lemmas.Bool.{and_parts, ltb-true, lt-ltb}
+use Rattle.std.proofs.lemmas.Bool.{and_parts, lt-ltb}
 use Rattle.std.proofs.lemmas.List.{length-append}
 use Rattle.std.proofs.lemmas.List.Sums.{sum_by-cons}
 use Rattle.wasm_tree.specs.declared.kinds.ValueType.{ValueType}
@@ -18,7 +18,7 @@ use Rattle.law_encoding.specs.Nesting.{◌⊔◌, deepest_of}
 use Rattle.law_encoding.specs.CodeNesting.{levels, function_levels}
 use Rattle.law_encoding.specs.CodeBytes.{bytes, function_bytes}
 use Rattle.law_encoding.specs.CodeNumbers.{code_numbers_fit}
-use Rattle.law_encoding.specs.Fits.{max_bytes, FunctionsFit, HasRoom}
+use Rattle.law_encoding.specs.Fits.{max_bytes, function_locals, FunctionsFit, HasRoom}
 use Rattle.law_encoding.proofs.CodeFits.{code_fits, both_true}
 use Rattle.law_encoding.proofs.EncodedBytes.{unsigned_short, code_short}
 
@@ -126,14 +126,19 @@ first_low a b n h = omega (arith, h)
 others_low : (a b n : ℕ) → a ⊔ b ≤ n → b ≤ n
 others_low a b n h = omega (arith, h)
 
-all_fitting : (fs : List Function) → deepest_of function_levels fs ≤ 4096 → list_all (λ f. code_numbers_fit f.body.code) fs ≡ true → list_all (λ f. nat_lt (declared f.body.locals) max_bytes) fs ≡ true
+first_few : (a b : ℕ) → a ⊔ b < max_bytes → a < max_bytes
+first_few a b h = omega (arith, h)
+
+others_few : (a b : ℕ) → a ⊔ b < max_bytes → b < max_bytes
+others_few a b h = omega (arith, h)
+
+all_fitting : (fs : List Function) → deepest_of function_levels fs ≤ 4096 → list_all (λ f. code_numbers_fit f.body.code) fs ≡ true → deepest_of function_locals fs < max_bytes
     → sum_of function_bytes fs < max_bytes → AllFit fs
 all_fitting [] h e l s = tt
 all_fitting (f ∷ fs) h e l s =
-    let numbers = and_parts (code_numbers_fit f.body.code) (list_all (λ f. code_numbers_fit f.body.code) fs) e in
-    let counts = and_parts (nat_lt (declared f.body.locals) max_bytes) (list_all (λ f. nat_lt (declared f.body.locals) max_bytes) fs) l in (
-      (first_low (function_levels f) _ 4096 h, numbers.0, ltb-true _ _ counts.0, first_fits (function_bytes f) _ s),
-      all_fitting fs (others_low (function_levels f) _ 4096 h) numbers.1 counts.1 (second_fits (function_bytes f) _ s),
+    let numbers = and_parts (code_numbers_fit f.body.code) (list_all (λ f. code_numbers_fit f.body.code) fs) e in (
+      (first_low (function_levels f) _ 4096 h, numbers.0, first_few (function_locals f) _ l, first_fits (function_bytes f) _ s),
+      all_fitting fs (others_low (function_levels f) _ 4096 h) numbers.1 (others_few (function_locals f) _ l) (second_fits (function_bytes f) _ s),
     )
 
 each_fits : (fs : List Function) → AllFit fs → list_all (λ f. body.fits f.body) fs ≡ true

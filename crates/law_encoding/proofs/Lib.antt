@@ -48,3 +48,4 @@ pub mod OutwardEffects
 pub mod OutwardSteps
 pub mod OutwardStatements
 pub mod OutwardBlocks
+pub mod FewLocals

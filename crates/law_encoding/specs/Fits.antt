@@ -1,6 +1,15 @@
 -- What has to hold of code and of modules so that they have an encoding.
-use Rattle.std.specs.Prelude.{◌≡◌, ◌≤◌, ◌<◌, ◌+◌, ◌^◌, ℕ, nat_lt, true, List, length}
+use Rattle.std.specs.Prelude.{◌≡◌, ◌≤◌, ◌<◌, ◌+◌, ◌*◌, ◌^◌, ℕ, nat_lt, true, List, length, Option}
 use Rattle.std.specs.List.{flat_map, list_all}
+use Rattle.m2_tree.specs.declared.token.Token.{Token}
+use Rattle.m2_tree.specs.declared.decl.Module.{Module}
+use Rattle.typed_tree.specs.declared.table.Table.{Table}
+use Rattle.typed_tree.specs.declared.typed_module.TypedModule.{TypedModule}
+use Rattle.scan_tokens.specs.Division.{HasTokens, max_text}
+use Rattle.def_grammar.specs.Refusal.{IsModule}
+use Rattle.check_scope.specs.Elaborated.{Gathers}
+use Rattle.check_body.specs.Checks.{checked}
+use Rattle.def_scheme.specs.Modules.{functions}
 use Rattle.wasm_tree.specs.declared.instr.Instr.{Instr}
 use Rattle.wasm_tree.specs.declared.module.Function.{Function}
 use Rattle.wasm_tree.specs.declared.module.WModule.{WModule}
@@ -14,6 +23,9 @@ use Rattle.law_encoding.specs.CodeNesting.{levels, function_levels}
 use Rattle.law_encoding.specs.CodeBytes.{bytes, function_bytes}
 use Rattle.law_encoding.specs.CodeNumbers.{code_numbers_fit}
 use Rattle.law_encoding.specs.Nested.{max_levels}
+use Rattle.law_encoding.specs.TypedSizes.{size_bodies}
+use Rattle.law_encoding.specs.Counted.{AtMost}
+use Rattle.law_encoding.specs.Small.{most}
 
 -- Code fits if its blocks nest few levels and its numbers fit their widths.
 abbrev pub CodeFits : Type 0
@@ -30,12 +42,15 @@ EncodingsAreShort = (code : List Instr) → code_numbers_fit code ≡ true
 abbrev pub max_bytes : ℕ
 max_bytes = 2 ^ 32
 
+abbrev pub function_locals : Function → ℕ
+function_locals f = declared f.body.locals
+
 -- What is asked of functions: few levels, numbers in their widths, and less than 2 ^ 32 locals in
 -- each and bytes in all.
 pub record FunctionsFit (fs : List Function) : Type 0 where
   pub nesting : deepest_of function_levels fs ≤ max_levels
   pub numbers : list_all (λ f. code_numbers_fit f.body.code) fs ≡ true
-  pub locals : list_all (λ f. nat_lt (declared f.body.locals) max_bytes) fs ≡ true
+  pub locals : deepest_of function_locals fs < max_bytes
   pub size : 5 + sum_of function_bytes fs < max_bytes
 
 -- Bodies of these have an encoding, and so has the code section.
@@ -62,3 +77,22 @@ pub record HasRoom (m : WModule) : Type 0 where
 -- A module of which this holds has an encoding.
 abbrev pub ModulesFit : Type 0
 ModulesFit = (m : WModule) → HasRoom m → module_fits m ≡ true
+
+-- ---- what holds of the modules that the checker accepts
+
+-- A function has at most two locals more than twice what the bodies of its module count.
+abbrev pub most_locals : TypedModule → ℕ
+most_locals m = deepest_of function_locals (functions m)
+
+abbrev pub FunctionsHaveFewLocals : Type 0
+FunctionsHaveFewLocals = (m : TypedModule) → most_locals m ≤ 2 + 2 * size_bodies m
+
+-- So each module of a text that is not too long has fewer locals in a function than there may be.
+abbrev pub max_locals : ℕ
+max_locals = 2 + 2 * most
+
+abbrev pub LocalsFit : Gathers → Type 0
+LocalsFit g = (text : List ℕ) (ts : List Token) (m : Module) → length text ≤ max_text
+    → HasTokens text ts → IsModule ts m
+    → (number : ℕ) (own : Option Table) (tables : List Table)
+    → AtMost most_locals max_locals (checked g number m own tables)

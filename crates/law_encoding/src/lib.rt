@@ -19,7 +19,7 @@
 
 ghost use Rattle.law_encoding.specs.Small.{TreesAreSmall, TextsAreSmall, ExpressionsAreSmall, DesignatorsAreSmall, StatementsAreSmall, ModulesAreSmall, BodiesAreSmall, LocalsAreFew, TableCallsAreFew};
 ghost use Rattle.law_encoding.specs.Short.{CodeIsShort, ExpressionsAreNear, StatementsAreNear, RoutinesAreNear};
-ghost use Rattle.law_encoding.specs.Fits.{CodeFits, EncodingsAreShort, BodiesFit, ModulesFit};
+ghost use Rattle.law_encoding.specs.Fits.{CodeFits, EncodingsAreShort, BodiesFit, ModulesFit, FunctionsHaveFewLocals, LocalsFit};
 ghost use Rattle.law_encoding.specs.Nested.{TreesAreShallow, ModulesAreShallow, CodeIsShallow, FunctionsAreShallow, LinkIsFlat, AcceptedAreShallow};
 ghost use Rattle.check_scope.specs.Elaborated.{least, every};
 
@@ -100,6 +100,11 @@ pub fn code_fit_laws()
     ensures bodies { BodiesFit }
     // and modules of these, if each other section fits.
     ensures modules { ModulesFit }
+    // A function has few locals,
+    ensures locals { FunctionsHaveFewLocals }
+    // fewer than there may be, in each module of a text that is parsed and accepted.
+    ensures least_locals { LocalsFit least }
+    ensures every_locals { LocalsFit every }
 {}
 
 /// What the checker makes goes outwards no further than its procedure stands deep.
