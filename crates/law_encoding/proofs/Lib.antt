@@ -49,3 +49,4 @@ pub mod OutwardSteps
 pub mod OutwardStatements
 pub mod OutwardBlocks
 pub mod FewLocals
+pub mod FunctionBytes

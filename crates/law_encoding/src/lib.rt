@@ -18,7 +18,7 @@
 #![tactic(auto)]
 
 ghost use Rattle.law_encoding.specs.Small.{TreesAreSmall, TextsAreSmall, ExpressionsAreSmall, DesignatorsAreSmall, StatementsAreSmall, ModulesAreSmall, BodiesAreSmall, LocalsAreFew, TableCallsAreFew};
-ghost use Rattle.law_encoding.specs.Short.{CodeIsShort, ExpressionsAreNear, StatementsAreNear, RoutinesAreNear};
+ghost use Rattle.law_encoding.specs.Short.{CodeIsShort, FunctionsAreShort, ExpressionsAreNear, StatementsAreNear, RoutinesAreNear};
 ghost use Rattle.law_encoding.specs.Fits.{CodeFits, EncodingsAreShort, BodiesFit, ModulesFit, FunctionsHaveFewLocals, LocalsFit};
 ghost use Rattle.law_encoding.specs.Nested.{TreesAreShallow, ModulesAreShallow, CodeIsShallow, FunctionsAreShallow, LinkIsFlat, AcceptedAreShallow};
 ghost use Rattle.check_scope.specs.Elaborated.{least, every};
@@ -86,9 +86,12 @@ pub fn code_nesting_laws()
     ensures link { LinkIsFlat }
 {}
 
-/// The code of statements takes few bytes.
+/// Code takes few bytes.
 pub fn code_size_laws()
-    ensures { CodeIsShort }
+    // That is so for statements,
+    ensures statements { CodeIsShort }
+    // and for the functions of a module.
+    ensures functions { FunctionsAreShort }
 {}
 
 /// Code has an encoding if it nests few levels and its numbers fit.
