@@ -90,7 +90,7 @@ type_short t e = type_sum _ (length (unsigned.encoding t)) (length-append (unsig
 label_sum : (m a b n : ℕ) → m ≡ a + b → a ≤ 5 → b ≤ 5 * n → m ≤ 5 * suc n
 label_sum m a b n e h l = omega (arith, e, h, l)
 
-labels_short : (ls : List ℕ) → list_all unsigned.fits ls ≡ true → length (flat_map unsigned.encoding ls) ≤ 5 * length ls
+pub labels_short : (ls : List ℕ) → list_all unsigned.fits ls ≡ true → length (flat_map unsigned.encoding ls) ≤ 5 * length ls
 labels_short [] e = itself 0
 labels_short (l ∷ ls) e =
     let both = and_parts (unsigned.fits l) (list_all unsigned.fits ls) e in

@@ -69,7 +69,7 @@ locals_short ls e h =
 ended_sum : (m a k : ℕ) → m ≡ a + 1 → a ≤ k → m ≤ k + 1
 ended_sum m a k e h = omega (arith, e, h)
 
-ended_short : (is : List Instr) → code_numbers_fit is ≡ true → length (code.encoding is) ≤ bytes is + 1
+pub ended_short : (is : List Instr) → code_numbers_fit is ≡ true → length (code.encoding is) ≤ bytes is + 1
 unfolding code
 ended_short is e = ended_sum _ (length (flat_map instr_encoding is)) (bytes is) (length-append (flat_map instr_encoding is) (0x0B ∷ [])) (code_short is e)
 
@@ -94,7 +94,7 @@ locals_fit : (ls : List Locals) → nat_lt (length ls) max_bytes ≡ true → na
 unfolding locals
 locals_fit ls e h = both_true _ _ e h
 
-within_levels : (is : List Instr) → levels is ≤ 4096 → code_numbers_fit is ≡ true → code.fits is ≡ true
+pub within_levels : (is : List Instr) → levels is ≤ 4096 → code_numbers_fit is ≡ true → code.fits is ≡ true
 unfolding code
 within_levels is h e = code_fits 4096 is h e
 

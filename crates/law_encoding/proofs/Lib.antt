@@ -50,3 +50,4 @@ pub mod OutwardStatements
 pub mod OutwardBlocks
 pub mod FewLocals
 pub mod FunctionBytes
+pub mod BodyModules

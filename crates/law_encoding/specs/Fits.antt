@@ -1,5 +1,5 @@
 -- What has to hold of code and of modules so that they have an encoding.
-use Rattle.std.specs.Prelude.{◌≡◌, ◌≤◌, ◌<◌, ◌+◌, ◌*◌, ◌^◌, ℕ, nat_lt, true, List, length, Option}
+use Rattle.std.specs.Prelude.{◌≡◌, ◌≤◌, ◌<◌, ◌+◌, ◌*◌, ◌^◌, ℕ, nat_lt, true, List, ◌++◌, map, length, Option}
 use Rattle.std.specs.List.{flat_map, list_all}
 use Rattle.m2_tree.specs.declared.token.Token.{Token}
 use Rattle.m2_tree.specs.declared.decl.Module.{Module}
@@ -9,7 +9,10 @@ use Rattle.scan_tokens.specs.Division.{HasTokens, max_text}
 use Rattle.def_grammar.specs.Refusal.{IsModule}
 use Rattle.check_scope.specs.Elaborated.{Gathers}
 use Rattle.check_body.specs.Checks.{checked}
-use Rattle.def_scheme.specs.Modules.{functions}
+use Rattle.layout_storage.specs.Texts.{module_texts}
+use Rattle.def_scheme.specs.Scheme.{body_types}
+use Rattle.def_scheme.specs.Signatures.{type_of}
+use Rattle.def_scheme.specs.Modules.{functions, signatures, imports, slots, all_characters, typed_module}
 use Rattle.wasm_tree.specs.declared.instr.Instr.{Instr}
 use Rattle.wasm_tree.specs.declared.module.Function.{Function}
 use Rattle.wasm_tree.specs.declared.module.WModule.{WModule}
@@ -77,6 +80,26 @@ pub record HasRoom (m : WModule) : Type 0 where
 -- A module of which this holds has an encoding.
 abbrev pub ModulesFit : Type 0
 ModulesFit = (m : WModule) → HasRoom m → module_fits m ≡ true
+
+-- ---- the module of a body
+
+-- so many slots and bytes of texts are few
+abbrev pub few_entries : ℕ
+few_entries = 2 ^ 24
+
+-- All that is asked of the module of a body. It has no table, memory, global or export of its own.
+pub record BodyHasRoom (m : TypedModule) : Type 0 where
+  pub bodies : FunctionsFit (functions m)
+  pub types : (section 1 func_type).fits (body_types ++ map type_of (signatures m)) ≡ true
+  pub imported : (section 2 import).fits (imports m) ≡ true
+  pub uses : list_all unsigned.fits (types_of (functions m)) ≡ true
+  pub table : slots m ≤ few_entries
+  pub texts : list_all (λ b. nat_lt b 256) (all_characters (module_texts m)) ≡ true
+  pub texts_size : length (all_characters (module_texts m)) ≤ few_entries
+
+-- Then it has an encoding.
+abbrev pub BodyModulesFit : Type 0
+BodyModulesFit = (m : TypedModule) → BodyHasRoom m → module_fits (typed_module m) ≡ true
 
 -- ---- what holds of the modules that the checker accepts
 

@@ -19,7 +19,7 @@
 
 ghost use Rattle.law_encoding.specs.Small.{TreesAreSmall, TextsAreSmall, ExpressionsAreSmall, DesignatorsAreSmall, StatementsAreSmall, ModulesAreSmall, BodiesAreSmall, LocalsAreFew, TableCallsAreFew};
 ghost use Rattle.law_encoding.specs.Short.{CodeIsShort, FunctionsAreShort, ExpressionsAreNear, StatementsAreNear, RoutinesAreNear};
-ghost use Rattle.law_encoding.specs.Fits.{CodeFits, EncodingsAreShort, BodiesFit, ModulesFit, FunctionsHaveFewLocals, LocalsFit};
+ghost use Rattle.law_encoding.specs.Fits.{CodeFits, EncodingsAreShort, BodiesFit, ModulesFit, BodyModulesFit, FunctionsHaveFewLocals, LocalsFit};
 ghost use Rattle.law_encoding.specs.Nested.{TreesAreShallow, ModulesAreShallow, CodeIsShallow, FunctionsAreShallow, LinkIsFlat, AcceptedAreShallow};
 ghost use Rattle.check_scope.specs.Elaborated.{least, every};
 
@@ -103,6 +103,8 @@ pub fn code_fit_laws()
     ensures bodies { BodiesFit }
     // and modules of these, if each other section fits.
     ensures modules { ModulesFit }
+    // The module of a body asks for less, since it has no table, memory, global or export of its own.
+    ensures body_modules { BodyModulesFit }
     // A function has few locals,
     ensures locals { FunctionsHaveFewLocals }
     // fewer than there may be, in each module of a text that is parsed and accepted.

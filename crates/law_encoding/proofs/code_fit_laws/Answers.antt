@@ -6,6 +6,7 @@ use Rattle.check_body.specs.Checks.{elaborated}
 use Rattle.law_encoding.proofs.Statements.{statements_most}
 use Rattle.law_encoding.proofs.Blocks.{module_most}
 use Rattle.law_encoding.proofs.Bounded.{bounded}
+use Rattle.law_encoding.proofs.BodyModules.{body_has_room}
 use Rattle.law_encoding.proofs.FewLocals.{functions_few, accepted_few}
 use Rattle.law_encoding.proofs.code_fit_laws.Goals as goal
 
@@ -29,3 +30,6 @@ returns-clause-least_locals c = λ text ts m l h d number own tables. accepted_f
 
 pub returns-clause-every_locals : goal.returns-clause-every_locals
 returns-clause-every_locals c = λ text ts m l h d number own tables. accepted_few (bounded every text ts m l h d (module_most every (elaborated every) (λ s r xs. statements_most every s _ xs) number m own tables))
+
+pub returns-clause-body_modules : goal.returns-clause-body_modules
+returns-clause-body_modules c = λ m h. body_has_room m h
