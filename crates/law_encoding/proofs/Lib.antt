@@ -51,3 +51,4 @@ pub mod OutwardBlocks
 pub mod FewLocals
 pub mod FunctionBytes
 pub mod BodyModules
+pub mod NestedProcedures

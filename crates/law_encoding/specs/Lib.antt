@@ -13,3 +13,4 @@ pub mod Short
 pub mod CodeNumbers
 pub mod Fits
 pub mod OutwardMeant
+pub mod ProcedureNesting

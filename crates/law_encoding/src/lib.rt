@@ -13,6 +13,11 @@
 //! - `specs/Nesting` says how deep trees nest, `specs/TypedNesting` how deep typed trees do, `specs/CodeNesting` how deep code does,
 //!   and `specs/Nested` what is proved. `proofs/DeepTexts` has the induction over the grammar and the parser's limit. `DeepOperators`
 //!   to `DeepBlocks` follow the checker, `FlatCode`, `DeepCode` and `DeepCodeSteps` the code, and `DeepFunctions` has whole modules.
+//! - `specs/CodeBytes` says how many bytes code takes at most, `specs/CodeNumbers` whether its numbers fit, and `specs/Outward` how
+//!   many procedures outwards typed trees go. `specs/Short` and `specs/Fits` say what is proved of them: what a module has to be
+//!   so that it has an encoding, and how much of it holds. `CodeFits`, `EncodedBytes`, `FunctionsFit` and `BodyModules` have the
+//!   conditions, `ShortCode` to `FunctionBytes` the bytes of code, `OutwardTyped` to `OutwardBlocks` follow the checker.
+//! - `specs/ProcedureNesting` says how deep procedures nest, with the induction over the grammar in `proofs/NestedProcedures`.
 //! - `proofs/Blocks` has the bodies of procedures, with the induction over blocks, and whole modules, and `proofs/Bounded` the
 //!   bound of all texts.
 #![tactic(auto)]
@@ -20,6 +25,7 @@
 ghost use Rattle.law_encoding.specs.Small.{TreesAreSmall, TextsAreSmall, ExpressionsAreSmall, DesignatorsAreSmall, StatementsAreSmall, ModulesAreSmall, BodiesAreSmall, LocalsAreFew, TableCallsAreFew};
 ghost use Rattle.law_encoding.specs.Short.{CodeIsShort, FunctionsAreShort, ExpressionsAreNear, StatementsAreNear, RoutinesAreNear};
 ghost use Rattle.law_encoding.specs.Fits.{CodeFits, EncodingsAreShort, BodiesFit, ModulesFit, BodyModulesFit, FunctionsHaveFewLocals, LocalsFit};
+ghost use Rattle.law_encoding.specs.ProcedureNesting.{ProceduresAreShallow};
 ghost use Rattle.law_encoding.specs.Nested.{TreesAreShallow, ModulesAreShallow, CodeIsShallow, FunctionsAreShallow, LinkIsFlat, AcceptedAreShallow};
 ghost use Rattle.check_scope.specs.Elaborated.{least, every};
 
@@ -63,6 +69,11 @@ pub fn table_call_laws()
 /// The tree of a text nests no deeper than the parser's limit of 200 levels allows.
 pub fn tree_nesting_laws()
     ensures { TreesAreShallow }
+{}
+
+/// At most 200 procedures stand in one another.
+pub fn procedure_nesting_laws()
+    ensures { ProceduresAreShallow }
 {}
 
 /// The bodies of a module that the checker accepts nest no deeper than its tree.
