@@ -1,5 +1,5 @@
 -- How many bytes the functions of a module take.
-use Rattle.std.proofs.Common.{◌≡◌, ℕ, suc, ◌+◌, ◌*◌, ◌≤◌, Bool, true, false, List, [], ◌∷◌, ◌++◌, length, None, arith}
+use Rattle.std.proofs.Common.{◌≡◌, ℕ, suc, ◌+◌, ◌*◌, ◌≤◌, ◌<◌, Bool, true, false, List, [], ◌∷◌, ◌++◌, length, None, arith}
 use Rattle.std.specs.Prelude.{nat_lt}
 use Rattle.wasm_tree.specs.declared.instr.Instr.{Instr}
 use Rattle.wasm_tree.specs.declared.instr.Instr.TheVariants.{Block, Loop, If, Call, LocalGet, I32Const}
@@ -26,6 +26,8 @@ use Rattle.law_encoding.specs.TypedSizes.{size_body}
 use Rattle.law_encoding.specs.CodeBytes.{bytes, function_bytes}
 use Rattle.law_encoding.specs.Outward.{outward_body, outward_routine, outward_bodies}
 use Rattle.law_encoding.specs.Short.{unit_bytes, routine_counts, counts_in}
+use Rattle.law_encoding.specs.Small.{most}
+use Rattle.law_encoding.specs.Fits.{max_bytes}
 use Rattle.law_encoding.proofs.Sums.{sum_append}
 use Rattle.law_encoding.proofs.CodeLengths.{bytes_cons, bytes_append, block_bytes, loop_bytes, if_bytes, stops, jumps, jumps_if, calls, gets, sets, tees, globals, loads, stores, address, amount, computes, Short, short_end, short_none, ◌▹◌, short_both, short_more, short_either}
 use Rattle.law_encoding.proofs.ShortCode.{IsNear, short_raised, short_fault, short_store}
@@ -199,3 +201,9 @@ functions_short m h =
     (sum_append function_bytes (functions_from (numbered m) m which.Module 0 m.procedures) (functions_from (numbered m) m which.Local 0 m.locals))
     helpers_short (body_bytes (numbered m) m (others_near (deepest_of outward_routine m.procedures ⊔ deepest_of outward_routine m.locals) (outward_body m.body) h))
     (routines_short (numbered m) m which.Module 0 m.procedures (first_near _ (deepest_of outward_routine m.locals) routines)) (routines_short (numbered m) m which.Local 0 m.locals (others_near (deepest_of outward_routine m.procedures) _ routines))
+
+all_in : (a n : ℕ) → a ≤ unit_bytes * (1 + n) → n ≤ most → 5 + a < max_bytes
+all_in a n h l = omega (arith, h, l)
+
+pub sizes_fit : (m : TypedModule) → IsNear (outward_bodies m) → counts_in m ≤ most → 5 + sum_of function_bytes (functions m) < max_bytes
+sizes_fit m h l = all_in _ (counts_in m) (functions_short m h) l

@@ -6,7 +6,7 @@ use Rattle.m2_tree.specs.declared.decl.Module.{Module}
 use Rattle.typed_tree.specs.declared.table.Table.{Table}
 use Rattle.typed_tree.specs.declared.typed_module.TypedModule.{TypedModule}
 use Rattle.scan_tokens.specs.Division.{HasTokens, max_text}
-use Rattle.def_grammar.specs.Refusal.{IsModule}
+use Rattle.def_grammar.specs.Refusal.{IsModule, max_nesting}
 use Rattle.check_scope.specs.Elaborated.{Gathers}
 use Rattle.check_body.specs.Checks.{checked}
 use Rattle.layout_storage.specs.Texts.{module_texts}
@@ -28,6 +28,8 @@ use Rattle.law_encoding.specs.CodeNumbers.{code_numbers_fit}
 use Rattle.law_encoding.specs.Nested.{max_levels}
 use Rattle.law_encoding.specs.TypedSizes.{size_bodies}
 use Rattle.law_encoding.specs.Counted.{AtMost}
+use Rattle.law_encoding.specs.Outward.{outward_bodies}
+use Rattle.law_encoding.specs.Short.{counts_in}
 use Rattle.law_encoding.specs.Small.{most}
 
 -- Code fits if its blocks nest few levels and its numbers fit their widths.
@@ -83,7 +85,7 @@ ModulesFit = (m : WModule) → HasRoom m → module_fits m ≡ true
 
 -- ---- the module of a body
 
--- so many slots and bytes of texts are few
+-- a number of slots, or of bytes of texts, is few up to here
 abbrev pub few_entries : ℕ
 few_entries = 2 ^ 24
 
@@ -119,3 +121,9 @@ LocalsFit g = (text : List ℕ) (ts : List Token) (m : Module) → length text �
     → HasTokens text ts → IsModule ts m
     → (number : ℕ) (own : Option Table) (tables : List Table)
     → AtMost most_locals max_locals (checked g number m own tables)
+
+-- The functions of a module that goes at most 200 procedures outwards, and counts no more than the
+-- tree of the longest text, take less than 2 ^ 32 bytes.
+abbrev pub SizesFit : Type 0
+SizesFit = (m : TypedModule) → outward_bodies m ≤ max_nesting → counts_in m ≤ most
+    → 5 + sum_of function_bytes (functions m) < max_bytes

@@ -28,7 +28,7 @@ use Rattle.law_encoding.specs.Outward.{outward_body, outward_routine, outward_bo
 use Rattle.law_encoding.specs.OutwardMeant.{outward_designated}
 use Rattle.law_encoding.specs.CodeBytes.{bytes, function_bytes}
 
--- so many bytes for each that a tree counts: at most 2 ^ 32 bytes for the tree of the longest text
+-- bytes for each that a tree counts: less than 2 ^ 32 for the tree of the longest text
 abbrev pub unit_bytes : ℕ
 unit_bytes = 1023
 

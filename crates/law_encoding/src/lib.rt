@@ -24,7 +24,7 @@
 
 ghost use Rattle.law_encoding.specs.Small.{TreesAreSmall, TextsAreSmall, ExpressionsAreSmall, DesignatorsAreSmall, StatementsAreSmall, ModulesAreSmall, BodiesAreSmall, LocalsAreFew, TableCallsAreFew};
 ghost use Rattle.law_encoding.specs.Short.{CodeIsShort, FunctionsAreShort, ExpressionsAreNear, StatementsAreNear, RoutinesAreNear};
-ghost use Rattle.law_encoding.specs.Fits.{CodeFits, EncodingsAreShort, BodiesFit, ModulesFit, BodyModulesFit, FunctionsHaveFewLocals, LocalsFit};
+ghost use Rattle.law_encoding.specs.Fits.{CodeFits, EncodingsAreShort, BodiesFit, ModulesFit, BodyModulesFit, FunctionsHaveFewLocals, LocalsFit, SizesFit};
 ghost use Rattle.law_encoding.specs.ProcedureNesting.{ProceduresAreShallow};
 ghost use Rattle.law_encoding.specs.Nested.{TreesAreShallow, ModulesAreShallow, CodeIsShallow, FunctionsAreShallow, LinkIsFlat, AcceptedAreShallow};
 ghost use Rattle.check_scope.specs.Elaborated.{least, every};
@@ -103,6 +103,8 @@ pub fn code_size_laws()
     ensures statements { CodeIsShort }
     // and for the functions of a module.
     ensures functions { FunctionsAreShort }
+    // They fit if the module counts no more than the tree of the longest text.
+    ensures sizes { SizesFit }
 {}
 
 /// Code has an encoding if it nests few levels and its numbers fit.
