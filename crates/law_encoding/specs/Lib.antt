@@ -7,3 +7,10 @@ pub mod TypedNesting
 pub mod Depths
 pub mod CodeNesting
 pub mod Nested
+pub mod CodeBytes
+pub mod Outward
+pub mod Short
+pub mod CodeNumbers
+pub mod Fits
+pub mod OutwardMeant
+pub mod ProcedureNesting

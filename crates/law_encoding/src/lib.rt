@@ -13,11 +13,19 @@
 //! - `specs/Nesting` says how deep trees nest, `specs/TypedNesting` how deep typed trees do, `specs/CodeNesting` how deep code does,
 //!   and `specs/Nested` what is proved. `proofs/DeepTexts` has the induction over the grammar and the parser's limit. `DeepOperators`
 //!   to `DeepBlocks` follow the checker, `FlatCode`, `DeepCode` and `DeepCodeSteps` the code, and `DeepFunctions` has whole modules.
+//! - `specs/CodeBytes` says how many bytes code takes at most, `specs/CodeNumbers` whether its numbers fit, and `specs/Outward` how
+//!   many procedures outwards typed trees go. `specs/Short` and `specs/Fits` say what is proved of them: what a module has to be
+//!   so that it has an encoding, and how much of it holds. `CodeFits`, `EncodedBytes`, `FunctionsFit` and `BodyModules` have the
+//!   conditions, `ShortCode` to `FunctionBytes` the bytes of code, `OutwardTyped` to `OutwardBlocks` follow the checker.
+//! - `specs/ProcedureNesting` says how deep procedures nest, with the induction over the grammar in `proofs/NestedProcedures`.
 //! - `proofs/Blocks` has the bodies of procedures, with the induction over blocks, and whole modules, and `proofs/Bounded` the
 //!   bound of all texts.
 #![tactic(auto)]
 
 ghost use Rattle.law_encoding.specs.Small.{TreesAreSmall, TextsAreSmall, ExpressionsAreSmall, DesignatorsAreSmall, StatementsAreSmall, ModulesAreSmall, BodiesAreSmall, LocalsAreFew, TableCallsAreFew};
+ghost use Rattle.law_encoding.specs.Short.{CodeIsShort, FunctionsAreShort, ExpressionsAreNear, StatementsAreNear, RoutinesAreNear};
+ghost use Rattle.law_encoding.specs.Fits.{CodeFits, EncodingsAreShort, BodiesFit, ModulesFit, BodyModulesFit, FunctionsHaveFewLocals, LocalsFit, SizesFit};
+ghost use Rattle.law_encoding.specs.ProcedureNesting.{ProceduresAreShallow};
 ghost use Rattle.law_encoding.specs.Nested.{TreesAreShallow, ModulesAreShallow, CodeIsShallow, FunctionsAreShallow, LinkIsFlat, AcceptedAreShallow};
 ghost use Rattle.check_scope.specs.Elaborated.{least, every};
 
@@ -63,6 +71,11 @@ pub fn tree_nesting_laws()
     ensures { TreesAreShallow }
 {}
 
+/// At most 200 procedures stand in one another.
+pub fn procedure_nesting_laws()
+    ensures { ProceduresAreShallow }
+{}
+
 /// The bodies of a module that the checker accepts nest no deeper than its tree.
 pub fn module_nesting_laws()
     // That holds if the least broken rule is kept,
@@ -82,4 +95,43 @@ pub fn code_nesting_laws()
     ensures functions { FunctionsAreShallow }
     // and for the module link, which has no blocks.
     ensures link { LinkIsFlat }
+{}
+
+/// Code takes few bytes.
+pub fn code_size_laws()
+    // That is so for statements,
+    ensures statements { CodeIsShort }
+    // and for the functions of a module.
+    ensures functions { FunctionsAreShort }
+    // They fit if the module counts no more than the tree of the longest text.
+    ensures sizes { SizesFit }
+{}
+
+/// Code has an encoding if it nests few levels and its numbers fit.
+pub fn code_fit_laws()
+    ensures fits { CodeFits }
+    // Its encoding is then as short as it is counted.
+    ensures short { EncodingsAreShort }
+    // So have functions that are short in all,
+    ensures bodies { BodiesFit }
+    // and modules of these, if each other section fits.
+    ensures modules { ModulesFit }
+    // The module of a body asks for less, since it has no table, memory, global or export of its own.
+    ensures body_modules { BodyModulesFit }
+    // A function has few locals,
+    ensures locals { FunctionsHaveFewLocals }
+    // fewer than there may be, in each module of a text that is parsed and accepted.
+    ensures least_locals { LocalsFit least }
+    ensures every_locals { LocalsFit every }
+{}
+
+/// What the checker makes goes outwards no further than its procedure stands deep.
+pub fn outward_laws()
+    // That is so if the least broken rule is kept,
+    ensures least { ExpressionsAreNear least × StatementsAreNear least }
+    // and if all of them are.
+    ensures every { ExpressionsAreNear every × StatementsAreNear every }
+    // So go the bodies of the procedures of a module.
+    ensures least_routines { RoutinesAreNear least }
+    ensures every_routines { RoutinesAreNear every }
 {}

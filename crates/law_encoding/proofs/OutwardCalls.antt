@@ -1,0 +1,254 @@
+-- Calls, and what is made of values, go no further outwards than what they are made of.
+use Rattle.std.proofs.Common.{◌≡◌, ℕ, ◌≤◌, Bool, true, false, List, Result, arith}
+use Rattle.std.specs.Prelude.{not, cond}
+use Rattle.m2_rule.specs.declared.rule.Rule.TheVariants as rule
+use Rattle.m2_tree.specs.declared.pos.Pos.{Pos}
+use Rattle.typed_tree.specs.declared.computed.Argument.{Argument}
+use Rattle.typed_tree.specs.declared.computed.Argument.TheVariants as argument
+use Rattle.typed_tree.specs.declared.computed.Place.{Place}
+use Rattle.typed_tree.specs.declared.computed.TypedExpr.{TypedExpr}
+use Rattle.typed_tree.specs.declared.computed.TypedExpr.TheVariants as expr
+use Rattle.typed_tree.specs.declared.known_types.Types.{Types}
+use Rattle.typed_tree.specs.declared.meaning.Standard.{Standard}
+use Rattle.typed_tree.specs.declared.meaning.Value.{Value}
+use Rattle.typed_tree.specs.declared.meaning.Value.TheVariants as constant
+use Rattle.typed_tree.specs.declared.shape.Formal.{Formal}
+use Rattle.typed_tree.specs.declared.shape.Scalar.{Scalar as Range}
+use Rattle.typed_tree.specs.declared.types.TypeNo.{TypeNo}
+use Rattle.typed_tree.specs.Types.{is_numeric, cardinal}
+use Rattle.check_scope.specs.Elaborated.{Gathers}
+use Rattle.check_operator.specs.Classes.{class_at}
+use Rattle.check_operator.specs.Values.{given_as, given, loaded_as, loaded, taken}
+use Rattle.check_operator.specs.declared.class.Class.{Class}
+use Rattle.check_operator.specs.declared.class.Class.TheVariants as class
+use Rattle.check_operator.specs.declared.computed.Computed.{Computed}
+use Rattle.check_operator.specs.declared.computed.Computed.TheVariants as value
+use Rattle.check_operator.specs.declared.computed.Designated.{Designated}
+use Rattle.check_operator.specs.declared.computed.Designated.TheVariants as designated
+use Rattle.check_call.specs.Actuals.{variable_passed, open_passed, text_argument, text_passed, open_value, whole_passed, simple_passed, passed_as, value_passed, actual}
+use Rattle.check_call.specs.Callees.{held_by, callee_of, call_by}
+use Rattle.check_call.specs.Functions.{unary_takes, unary_built, unary_at, bound_at, converted_value, conversion_at, high_of}
+use Rattle.check_call.specs.declared.callee.Callee.{Callee}
+use Rattle.check_call.specs.declared.callee.Callee.TheVariants as callee
+use Rattle.check_call.specs.declared.callee.Called.{Called}
+use Rattle.check_call.specs.declared.callee.Called.TheVariants as called
+use Rattle.check_call.specs.declared.standard.Unary.{Unary}
+use Rattle.check_call.specs.declared.standard.Unary.TheVariants as unary
+use Rattle.law_encoding.specs.Nesting.{◌⊔◌, deepest_of}
+use Rattle.law_encoding.specs.Outward.{outward_typed, outward_place, outward_call, outward_passed}
+use Rattle.law_encoding.specs.Counted.{AtMost, fine}
+use Rattle.law_encoding.specs.OutwardMeant.{outward_value, outward_designated}
+use Rattle.law_encoding.proofs.OutwardTyped.{argument_value, argument_place, argument_array, argument_open, argument_text, call_module, call_nested, call_variable, expr_load, expr_val, expr_abs, expr_cap, expr_chr, expr_odd, expr_ord, expr_high}
+use Rattle.law_encoding.proofs.Results.{then_most, reported_most, where_most, any_most}
+use Rattle.law_encoding.proofs.DeepResults.{both_most}
+use Rattle.law_encoding.proofs.OutwardOperators.{of_value_most, suited_most}
+
+-- ---- callees
+
+abbrev pub outward_callee : Callee → ℕ
+outward_callee (callee.Module f) = 0
+outward_callee (callee.Nested f) = f.up
+outward_callee (callee.Variable t d) = outward_place d
+
+abbrev pub outward_called : Called → ℕ
+outward_called (called.Routine h c) = outward_callee c
+outward_called (called.Standard f) = 0
+
+pub call_most : (c : Callee) (xs : List Argument) → outward_call (call_by xs c) ≡ outward_callee c ⊔ deepest_of outward_passed xs
+call_most (callee.Module f) xs = from_none _ _ (call_module f xs) where
+  from_none : (a n : ℕ) → a ≡ n → a ≡ 0 ⊔ n
+  from_none a n e = omega (arith, e)
+call_most (callee.Nested f) xs = call_nested f xs
+call_most (callee.Variable t d) xs = call_variable t d xs
+
+module _ (g : Gathers) (types : Types) where
+  -- ---- values
+
+  loaded_sum : (a b n : ℕ) → a ≡ b → b ≤ n → a ≤ n
+  loaded_sum a b n e l = omega (arith, e, l)
+
+  loaded_as_most : (n : ℕ) (t : TypeNo) (d : Place) (c : Class) → outward_place d ≤ n → outward_value (loaded_as t d c) ≤ n
+  loaded_as_most n t d (class.Scalar s) p = loaded_sum _ _ n (expr_load t d) p
+  loaded_as_most n t d class.Set p = loaded_sum _ _ n (expr_load t d) p
+  loaded_as_most n t d class.Procedure p = loaded_sum _ _ n (expr_load t d) p
+  loaded_as_most n t d class.Whole p = p
+
+  given_as_most : (n : ℕ) (t : TypeNo) (e : TypedExpr) (c : Class) → outward_typed e ≤ n → outward_value (given_as t e c) ≤ n
+  given_as_most n t e (class.Scalar s) p = p
+  given_as_most n t e class.Set p = p
+  given_as_most n t e class.Procedure p = p
+  given_as_most n t e class.Whole p = omega arith
+
+  pub given_most : (n : ℕ) (t : TypeNo) (e : TypedExpr) → outward_typed e ≤ n → outward_value (given types t e) ≤ n
+  given_most n t e p = given_as_most n t e (class_at types t) p
+
+  pub taken_most : (n : ℕ) (at : Pos) (d : Designated) → outward_designated d ≤ n → AtMost outward_value n (taken g types at d)
+  taken_most n at (designated.Value x) p = fine x p
+  taken_most n at (designated.Variable t d) p = fine (loaded types t d) (loaded_as_most n t d (class_at types t) p)
+  taken_most n at (designated.Open t slot) p = fine value.Untaken (omega arith)
+  taken_most n at (designated.Type t) p = reported_most g at rule.WrongType
+  taken_most n at (designated.Procedure f) p = fine (value.Procedure f) (omega (arith, p))
+  taken_most n at (designated.Nested f) p = reported_most g at rule.NoProcedureValue
+  taken_most n at (designated.Standard f) p = reported_most g at rule.NoProcedureValue
+  taken_most n at (designated.Module k) p = reported_most g at rule.WrongType
+
+  -- ---- arguments
+
+  abbrev Passed_ : ℕ → Result Argument g.Reported → Type 0
+  Passed_ n r = AtMost outward_passed n r
+
+  placed : (a d n : ℕ) → a ≡ d → d ≤ n → a ≤ n
+  placed a d n e l = omega (arith, e, l)
+
+  two_passed : (a u n : ℕ) → a ≡ u → u ≤ n → a ≤ n
+  two_passed a u n e l = omega (arith, e, l)
+
+  one_passed : (a n : ℕ) → a ≡ 0 → a ≤ n
+  one_passed a n e = omega (arith, e)
+
+  variable_most : (n : ℕ) (t : TypeNo) (at : Pos) (d : Designated) → outward_designated d ≤ n → Passed_ (n) (variable_passed g t at d)
+  variable_most n t at (designated.Value x) p = reported_most g at rule.NoVariable
+  variable_most n t at (designated.Variable u d) p = where_most g _ at rule.NoVariable (fine (argument.Place d) (placed _ _ n (argument_place d) p))
+  variable_most n t at (designated.Open u slot) p = reported_most g at rule.NoVariable
+  variable_most n t at (designated.Type u) p = reported_most g at rule.NoVariable
+  variable_most n t at (designated.Procedure f) p = reported_most g at rule.NoVariable
+  variable_most n t at (designated.Nested f) p = reported_most g at rule.NoVariable
+  variable_most n t at (designated.Standard f) p = reported_most g at rule.NoVariable
+  variable_most n t at (designated.Module k) p = reported_most g at rule.NoVariable
+
+  open_most : (n : ℕ) (t : TypeNo) (at : Pos) (d : Designated) → outward_designated d ≤ n → Passed_ (n) (open_passed g types t at d)
+  open_most n t at (designated.Value x) p = reported_most g at rule.NoVariable
+  open_most n t at (designated.Variable u d) p = where_most g _ at rule.NoVariable (fine (argument.Array u d) (placed _ _ n (argument_array u d) p))
+  open_most n t at (designated.Open u slot) p = where_most g _ at rule.NoVariable (fine (argument.Open slot) (two_passed _ slot.up n (argument_open slot) p))
+  open_most n t at (designated.Type u) p = reported_most g at rule.NoVariable
+  open_most n t at (designated.Procedure f) p = reported_most g at rule.NoVariable
+  open_most n t at (designated.Nested f) p = reported_most g at rule.NoVariable
+  open_most n t at (designated.Standard f) p = reported_most g at rule.NoVariable
+  open_most n t at (designated.Module k) p = reported_most g at rule.NoVariable
+
+  text_argument_most : (n : ℕ) (t : TypeNo) (at : Pos) (v : Value) → Passed_ (n) (text_argument g t at v)
+  text_argument_most n t at (constant.Text text) = where_most g _ at rule.WrongArgument (fine (argument.Text text) (one_passed _ n (argument_text text)))
+  text_argument_most n t at (constant.Number i) = reported_most g at rule.WrongArgument
+  text_argument_most n t at (constant.Scalar s) = reported_most g at rule.WrongArgument
+  text_argument_most n t at (constant.Set bits) = reported_most g at rule.WrongArgument
+
+  text_most : (n : ℕ) (t : TypeNo) (at : Pos) (x : Computed) → Passed_ (n) (text_passed g t at x)
+  text_most n t at (value.Constant v) = text_argument_most n t at v
+  text_most n t at (value.Scalar u b e) = reported_most g at rule.WrongArgument
+  text_most n t at (value.Set e) = reported_most g at rule.WrongArgument
+  text_most n t at (value.Routine u e) = reported_most g at rule.WrongArgument
+  text_most n t at (value.Procedure f) = reported_most g at rule.WrongArgument
+  text_most n t at (value.Whole u d) = reported_most g at rule.WrongArgument
+  text_most n t at value.Untaken = reported_most g at rule.WrongArgument
+
+  open_value_most : (n : ℕ) (t : TypeNo) (at : Pos) (d : Designated) → outward_designated d ≤ n → Passed_ (n) (open_value g types t at d)
+  open_value_most n t at (designated.Value x) p = text_most n t at x
+  open_value_most n t at (designated.Variable u d) p = where_most g _ at rule.WrongArgument (fine (argument.Array u d) (placed _ _ n (argument_array u d) p))
+  open_value_most n t at (designated.Open u slot) p = where_most g _ at rule.WrongArgument (fine (argument.Open slot) (two_passed _ slot.up n (argument_open slot) p))
+  open_value_most n t at (designated.Type u) p = reported_most g at rule.WrongType
+  open_value_most n t at (designated.Procedure f) p = reported_most g at rule.WrongArgument
+  open_value_most n t at (designated.Nested f) p = reported_most g at rule.NoProcedureValue
+  open_value_most n t at (designated.Standard f) p = reported_most g at rule.NoProcedureValue
+  open_value_most n t at (designated.Module k) p = reported_most g at rule.WrongType
+
+  whole_most : (n : ℕ) (t : TypeNo) (at : Pos) (d : Designated) → outward_designated d ≤ n → Passed_ (n) (whole_passed g t at d)
+  whole_most n t at (designated.Value x) p = reported_most g at rule.WrongArgument
+  whole_most n t at (designated.Variable u d) p = where_most g _ at rule.WrongArgument (fine (argument.Place d) (placed _ _ n (argument_place d) p))
+  whole_most n t at (designated.Open u slot) p = reported_most g at rule.WrongArgument
+  whole_most n t at (designated.Type u) p = reported_most g at rule.WrongType
+  whole_most n t at (designated.Procedure f) p = reported_most g at rule.WrongArgument
+  whole_most n t at (designated.Nested f) p = reported_most g at rule.NoProcedureValue
+  whole_most n t at (designated.Standard f) p = reported_most g at rule.NoProcedureValue
+  whole_most n t at (designated.Module k) p = reported_most g at rule.WrongType
+
+  value_sum : (a e n : ℕ) → a ≡ e → e ≤ n → a ≤ n
+  value_sum a e n q l = omega (arith, q, l)
+
+  simple_most : (n : ℕ) (t : TypeNo) (at : Pos) (d : Designated) → outward_designated d ≤ n → Passed_ (n) (simple_passed g types t at d)
+  simple_most n t at d p = then_most (taken_most n at d p) (λ x h. then_most (suited_most g n rule.WrongArgument types t at x h) (λ e k. fine (argument.Value t e) (value_sum _ _ n (argument_value t e) k)))
+
+  passed_most : (n : ℕ) (t : TypeNo) (at : Pos) (d : Designated) (c : Class) → outward_designated d ≤ n → Passed_ (n) (passed_as g types t at d c)
+  passed_most n t at d (class.Scalar s) p = simple_most n t at d p
+  passed_most n t at d class.Set p = simple_most n t at d p
+  passed_most n t at d class.Procedure p = simple_most n t at d p
+  passed_most n t at d class.Whole p = whole_most n t at d p
+
+  by_formal : (n : ℕ) (v q : Bool) (t : TypeNo) (at : Pos) (d : Designated) → outward_designated d ≤ n
+      → Passed_ (n) (cond v (cond q (open_passed g types t at d) (variable_passed g t at d)) (cond q (open_value g types t at d) (value_passed g types t at d)))
+  by_formal n true true t at d p = open_most n t at d p
+  by_formal n true false t at d p = variable_most n t at d p
+  by_formal n false true t at d p = open_value_most n t at d p
+  by_formal n false false t at d p = passed_most n t at d (class_at types t) p
+
+  pub actual_most : (n : ℕ) (f : Formal) (at : Pos) (d : Designated) → outward_designated d ≤ n → Passed_ (n) (actual g types f at d)
+  actual_most n f at d p = by_formal n f.is_var f.is_open f.of at d p
+
+  -- ---- callees
+
+  held_most : (n : ℕ) (at : Pos) (t : TypeNo) (d : Place) (c : Class) → outward_place d ≤ n → AtMost outward_called n (held_by g at t d c)
+  held_most n at t d class.Procedure p = fine (called.Routine t (callee.Variable t d)) p
+  held_most n at t d (class.Scalar s) p = reported_most g at rule.WrongType
+  held_most n at t d class.Set p = reported_most g at rule.WrongType
+  held_most n at t d class.Whole p = reported_most g at rule.WrongType
+
+  one_of_two : (n : ℕ) → 0 ≤ n → 0 ≤ n
+  one_of_two n l = omega (arith, l)
+
+  none_most : (n : ℕ) → 0 ≤ n
+  none_most n = omega arith
+
+  pub callee_most : (n : ℕ) (at : Pos) (d : Designated) → outward_designated d ≤ n → AtMost outward_called n (callee_of g types at d)
+  callee_most n at (designated.Procedure f) p = fine (called.Routine f.heading (callee.Module f)) (one_of_two n p)
+  callee_most n at (designated.Nested f) p = fine (called.Routine f.heading (callee.Nested f)) p
+  callee_most n at (designated.Variable t d) p = held_most n at t d (class_at types t) p
+  callee_most n at (designated.Standard f) p = fine (called.Standard f) (none_most n)
+  callee_most n at (designated.Value x) p = reported_most g at rule.WrongType
+  callee_most n at (designated.Open t slot) p = reported_most g at rule.WrongType
+  callee_most n at (designated.Type t) p = reported_most g at rule.WrongType
+  callee_most n at (designated.Module k) p = reported_most g at rule.WrongType
+
+  -- ---- standard functions
+
+  unary_built_most : (n : ℕ) (u : Unary) (b : TypeNo) (e : TypedExpr) → outward_typed e ≤ n → outward_value (unary_built u b e) ≤ n
+  unary_built_most n unary.Abs b e p = value_sum _ _ n (expr_abs b e) p
+  unary_built_most n unary.Cap b e p = value_sum _ _ n (expr_cap e) p
+  unary_built_most n unary.Chr b e p = value_sum _ _ n (expr_chr e) p
+  unary_built_most n unary.Odd b e p = value_sum _ _ n (expr_odd e) p
+  unary_built_most n unary.Ord b e p = value_sum _ _ n (expr_ord e) p
+
+  at_least_one : (n : ℕ) → 0 ≤ n
+  at_least_one n = omega arith
+
+  pub unary_most : (n : ℕ) (f : Standard) (u : Unary) (at : Pos) (x : Computed) → outward_value x ≤ n → AtMost outward_value (n) (unary_at g f u at x)
+  unary_most n f u at (value.Constant v) p = of_value_most g (n) _ (at_least_one n)
+  unary_most n f u at (value.Scalar t b e) p = where_most g (not (unary_takes u b)) at rule.WrongArgument (fine (unary_built u b e) (unary_built_most n u b e p))
+  unary_most n f u at (value.Set e) p = reported_most g at rule.WrongArgument
+  unary_most n f u at (value.Routine t e) p = reported_most g at rule.WrongArgument
+  unary_most n f u at (value.Procedure h) p = reported_most g at rule.WrongArgument
+  unary_most n f u at (value.Whole t d) p = reported_most g at rule.WrongArgument
+  unary_most n f u at value.Untaken p = reported_most g at rule.WrongArgument
+
+  pub bound_most : (n : ℕ) (f : Standard) (x : Result (TypeNo × Range) g.Reported) → AtMost outward_value (n) (bound_at f x)
+  bound_most n f x = then_most (any_most x) (λ p h. fine (value.Constant _) (at_least_one n))
+
+  converted_most : (n : ℕ) (t : TypeNo) (s : Range) (at : Pos) (x : Computed) → outward_value x ≤ n → AtMost outward_value (n) (converted_value g t s at x)
+  converted_most n t s at (value.Constant v) p = of_value_most g (n) _ (at_least_one n)
+  converted_most n t s at (value.Scalar u b e) p = where_most g (not (is_numeric b)) at rule.WrongArgument (fine (value.Scalar t s.base (expr.Val t e)) (value_sum _ _ n (expr_val t e) p))
+  converted_most n t s at (value.Set e) p = reported_most g at rule.WrongArgument
+  converted_most n t s at (value.Routine u e) p = reported_most g at rule.WrongArgument
+  converted_most n t s at (value.Procedure h) p = reported_most g at rule.WrongArgument
+  converted_most n t s at (value.Whole u d) p = reported_most g at rule.WrongArgument
+  converted_most n t s at value.Untaken p = reported_most g at rule.WrongArgument
+
+  pub conversion_most : (n : ℕ) (to : Result (TypeNo × Range) g.Reported) (at : Pos) {x : Result Computed g.Reported} → AtMost outward_value n x → AtMost outward_value (n) (conversion_at g to at x)
+  conversion_most n to at p = then_most (both_most g (any_most to) p) (λ v h. converted_most n v.0.0 v.0.1 at v.1 (omega (arith, h)))
+
+  pub high_most : (n : ℕ) (at : Pos) (d : Designated) → outward_designated d ≤ n → AtMost outward_value (n) (high_of g at d)
+  high_most n at (designated.Open t slot) p = fine (value.Scalar cardinal cardinal (expr.High slot)) (two_passed _ slot.up n (expr_high slot) p)
+  high_most n at (designated.Value x) p = reported_most g at rule.WrongArgument
+  high_most n at (designated.Variable t d) p = reported_most g at rule.WrongArgument
+  high_most n at (designated.Type t) p = reported_most g at rule.WrongType
+  high_most n at (designated.Procedure f) p = reported_most g at rule.WrongArgument
+  high_most n at (designated.Nested f) p = reported_most g at rule.NoProcedureValue
+  high_most n at (designated.Standard f) p = reported_most g at rule.NoProcedureValue
+  high_most n at (designated.Module k) p = reported_most g at rule.WrongType

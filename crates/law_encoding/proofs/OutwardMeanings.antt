@@ -1,0 +1,445 @@
+-- What expressions and designators mean goes no further outwards than the procedure around them stands deep.
+use Rattle.std.proofs.Common.{map, ◌≡◌, ℕ, ◌≤◌, Bool, true, false, List, [], ◌∷◌, ◌++◌, length, Option, Some, None, Result, Ok, sym, ap, subst, ◌∙◌, arith}
+use Rattle.std.specs.Prelude.{cond, ◌-◌}
+use Rattle.std.specs.List.{fold}
+use Rattle.m2_rule.specs.declared.rule.Rule.TheVariants as rule
+use Rattle.m2_tree.specs.declared.pos.Pos.{Pos}
+use Rattle.m2_tree.specs.declared.name.Ident.{Ident}
+use Rattle.m2_tree.specs.declared.expr.MulOp.{MulOp}
+use Rattle.m2_tree.specs.declared.expr.AddOp.{AddOp}
+use Rattle.m2_tree.specs.declared.expr.RelOp.{RelOp}
+use Rattle.m2_tree.specs.declared.expr.Sign.{Sign}
+use Rattle.m2_tree.specs.declared.expr.Operator.{Operator}
+use Rattle.m2_tree.specs.declared.expr.Expr.{Expr, Expr-F, out-Expr, roll-Expr, out-roll-Expr, map-Expr, fold_out-Expr, ind-Expr}
+use Rattle.m2_tree.specs.declared.expr.Expr.TheOpen as layer
+use Rattle.m2_tree.specs.declared.expr.Selector.{Selector, Selector-F, out-Selector, roll-Selector, out-roll-Selector, map-Selector, fold_out-Selector}
+use Rattle.m2_tree.specs.declared.expr.Designator.{Designator, Designator-F, out-Designator, roll-Designator, out-roll-Designator, map-Designator, fold_out-Designator, ind-Designator}
+use Rattle.m2_tree.specs.declared.expr.Item.{Item}
+use Rattle.typed_tree.specs.declared.computed.Argument.{Argument}
+use Rattle.typed_tree.specs.declared.computed.Component.TheVariants as part
+use Rattle.typed_tree.specs.declared.computed.Root.TheVariants as root
+use Rattle.typed_tree.specs.declared.computed.TypedExpr.TheVariants as expr
+use Rattle.typed_tree.specs.declared.meaning.LocalKind.{LocalKind}
+use Rattle.typed_tree.specs.declared.meaning.LocalKind.TheVariants as kind
+use Rattle.typed_tree.specs.declared.meaning.LocalVariable.{LocalVariable}
+use Rattle.typed_tree.specs.declared.meaning.Meaning.{Meaning}
+use Rattle.typed_tree.specs.declared.meaning.Meaning.TheVariants as meaning
+use Rattle.typed_tree.specs.declared.meaning.Standard.{Standard}
+use Rattle.typed_tree.specs.declared.shape.Formal.{Formal}
+use Rattle.typed_tree.specs.declared.types.TypeNo.{TypeNo}
+use Rattle.typed_tree.specs.Chains.{rooted}
+use Rattle.check_scope.specs.declared.meaningless.Meaningless.{Meaningless}
+use Rattle.check_scope.specs.Elaborated.{Gathers, of_sort, of_heading}
+use Rattle.check_scope.specs.declared.scope.Scope.{Scope}
+use Rattle.check_const.specs.Parts.{Part, Adds, sign_place}
+use Rattle.check_const_ops.specs.Operators.{mul_op, add_op}
+use Rattle.check_const_ops.specs.declared.operator.BinaryOp.TheVariants as op
+use Rattle.check_operator.specs.Classes.{signature_at}
+use Rattle.check_operator.specs.Values.{slot_of, local_by, designated_by, given}
+use Rattle.check_operator.specs.declared.computed.Computed.{Computed}
+use Rattle.check_operator.specs.declared.computed.Computed.TheVariants as value
+use Rattle.check_operator.specs.declared.computed.Designated.{Designated}
+use Rattle.check_operator.specs.declared.computed.Designated.TheVariants as designated
+use Rattle.check_call.specs.Actuals.{next_formal, with_argument}
+use Rattle.check_call.specs.Callees.{function_of, call_by}
+use Rattle.check_call.specs.Functions.{form_of}
+use Rattle.check_call.specs.declared.callee.Callee.{Callee}
+use Rattle.check_call.specs.declared.callee.Called.{Called}
+use Rattle.check_call.specs.declared.callee.Called.TheVariants as called
+use Rattle.check_call.specs.declared.standard.Form.{Form}
+use Rattle.check_call.specs.declared.standard.Form.TheVariants as form
+use Rattle.check_call.specs.declared.standard.Unary.{Unary}
+use Rattle.check_expr.specs.Meanings.{Meant, Picks, of_computed, signed_first, named, field_of, formals_of, argument_by, call_given, as_constant, value_of, looked_at, with_actual, actuals, routine_called, unary, bound, conversion, high, by_form, called_as, called_by, factor, term, relation, expr_layer, selector_layer, designator_layer, item_layer, meant, picks, head, item}
+use Rattle.law_encoding.specs.Nesting.{◌⊔◌, deepest_of, deepest}
+use Rattle.law_encoding.specs.Outward.{outward_passed}
+use Rattle.law_encoding.specs.Counted.{AtMost, fine}
+use Rattle.law_encoding.specs.OutwardMeant.{outward_value}
+use Rattle.law_encoding.specs.OutwardMeant.{outward_designated as outward_meant}
+use Rattle.law_encoding.proofs.Deepest.{deepest_append}
+use Rattle.law_encoding.proofs.OutwardTyped.{component_field, expr_call}
+use Rattle.law_encoding.proofs.Results.{then_most, at_more, reported_most, reported_beside_most, ahead_most, sort_most, of_heading_most, plain_most, any_most}
+use Rattle.law_encoding.proofs.DeepResults.{both_most}
+use Rattle.law_encoding.proofs.OutwardOperators.{behind_reach, rooted_reach, signed_most, negated_most, combined_most, field_most, indexed_most}
+use Rattle.law_encoding.proofs.OutwardCalls.{outward_callee, outward_called, call_most, given_most, taken_most, actual_most, callee_most, unary_most, bound_most, conversion_most, high_most}
+
+abbrev pub arguments : List ℕ → ℕ
+arguments ns = deepest_of (λ n. n) ns
+
+abbrev operand : {O : Type 0} → O × ℕ → ℕ
+operand p = p.1
+
+module _ (g : Gathers) (s : Scope g.Reported) where
+  abbrev pub Value_ : ℕ → Result Computed g.Reported → Type 0
+  Value_ n r = AtMost outward_value n r
+
+  abbrev pub Designated_ : {T : Type 0} → ℕ → Result Designated T → Type 0
+  Designated_ n r = AtMost outward_meant n r
+
+  abbrev pub FM : ℕ → Meant g.Reported → Type 0
+  FM n x = Designated_ n (x.means s)
+
+  abbrev FP : ℕ → Picks g.Reported → Type 0
+  FP n p = (k : ℕ) (d : Result Designated (Meaningless g.Reported)) → s.level ≤ k → Designated_ k d → Designated_ (k ⊔ n) (p.picks s d)
+
+  -- each counts at most its number
+  abbrev pub AllM : List ℕ → List (Meant g.Reported) → Type 0
+  AllM [] [] = Unit {0}
+  AllM (n ∷ ns) (x ∷ xs) = FM n x × AllM ns xs
+  AllM [] (x ∷ xs) = ⊥
+  AllM (n ∷ ns) [] = ⊥
+
+  abbrev AllT : {O : Type 0} → List (Operator O × ℕ) → List (Operator O × Meant g.Reported) → Type 0
+  AllT [] [] = Unit {0}
+  AllT (n ∷ ns) (x ∷ xs) = FM n.1 x.1 × AllT ns xs
+  AllT [] (x ∷ xs) = ⊥
+  AllT (n ∷ ns) [] = ⊥
+
+  abbrev AllP : List ℕ → List (Picks g.Reported) → Type 0
+  AllP [] [] = Unit {0}
+  AllP (n ∷ ns) (x ∷ xs) = FP n x × AllP ns xs
+  AllP [] (x ∷ xs) = ⊥
+  AllP (n ∷ ns) [] = ⊥
+
+  pub value_most : (n : ℕ) (x : Meant g.Reported) → FM n x → Value_ n (value_of g s x)
+  value_most n x p = then_most (of_heading_most p) (λ d k. taken_most g s.types n x.fixed.at d k)
+
+  constant_meant : (n : ℕ) (x : Part g.Reported) → 0 ≤ n → Designated_ n (as_constant g s x)
+  constant_meant n x l = plain_most (then_most (any_most _) (λ v k. fine (designated.Value (value.Constant v)) l))
+
+  computed_most : (n : ℕ) {r : Result Computed g.Reported} → Value_ n r → Designated_ n (of_computed r)
+  computed_most n p = plain_most (then_most p (λ v k. fine (designated.Value v) k))
+
+  -- ---- names
+
+  of_global : (n level : ℕ) → n ≡ 0 → n ≤ level
+  of_global n level e = omega (arith, e)
+
+  of_local : (n level own : ℕ) → n ≡ level - own → n ≤ level
+  of_local n level own e = omega (arith, e)
+
+  no_further : (level own : ℕ) → level - own ≤ level
+  no_further level own = omega arith
+
+  local_most : (level : ℕ) (v : LocalVariable) (k : LocalKind) → outward_meant (local_by level v k) ≤ level
+  local_most level v kind.Variable = of_local _ level v.level (rooted_reach (root.Local (slot_of level v)))
+  local_most level v kind.Value = of_local _ level v.level (rooted_reach (root.Local (slot_of level v)))
+  local_most level v kind.Alias = of_local _ level v.level (rooted_reach (root.Alias (slot_of level v)))
+  local_most level v kind.Open = no_further level v.level
+
+  of_field : (n d c level : ℕ) → n ≡ d ⊔ c → d ≡ 0 → c ≡ 0 → n ≤ level
+  of_field n d c level e f h = omega (arith, e, f, h)
+
+  pub by_meaning : (level : ℕ) (at : Pos) (x : Meaning) → Designated_ level (designated_by g level at x)
+  by_meaning level at (meaning.Constant v) = fine (designated.Value (value.Constant v)) (omega arith)
+  by_meaning level at (meaning.Type t n) = fine (designated.Type t) (omega arith)
+  by_meaning level at (meaning.Variable v) = fine (designated.Variable v.of (rooted (root.Global v))) (of_global _ level (rooted_reach (root.Global v)))
+  by_meaning level at (meaning.Local v) = fine (local_by level v v.kind) (local_most level v v.kind)
+  by_meaning level at (meaning.Field f) =
+      fine _ (of_field _ _ _ level (behind_reach (rooted (root.With f.with)) (part.Field f.whole f.number)) (rooted_reach (root.With f.with)) (component_field f.whole f.number))
+  by_meaning level at (meaning.Procedure f) = fine (designated.Procedure f) (omega arith)
+  by_meaning level at (meaning.LocalProcedure f) = fine _ (no_further level f.level)
+  by_meaning level at meaning.Ahead = reported_most g at rule.Undeclared
+  by_meaning level at (meaning.Standard f) = fine (designated.Standard f) (omega arith)
+  by_meaning level at (meaning.Module k) = fine (designated.Module k) (omega arith)
+
+  named_most : (name : Ident) → Designated_ s.level (named g s name)
+  named_most name = then_most (any_most _) (λ x p. plain_most (by_meaning s.level name.pos x))
+
+  field_of_most : (n : ℕ) (at : Pos) (name : Ident) (d : Designated) → s.level ≤ n → outward_meant d ≤ n → Designated_ n (field_of g s at name d)
+  field_of_most n at name (designated.Module k) l p = at_more l (then_most (any_most _) (λ x q. by_meaning s.level name.pos x))
+  field_of_most n at name (designated.Value x) l p = field_most g n s.types at name (designated.Value x) p
+  field_of_most n at name (designated.Variable t d) l p = field_most g n s.types at name (designated.Variable t d) p
+  field_of_most n at name (designated.Open t slot) l p = field_most g n s.types at name (designated.Open t slot) p
+  field_of_most n at name (designated.Type t) l p = field_most g n s.types at name (designated.Type t) p
+  field_of_most n at name (designated.Procedure f) l p = field_most g n s.types at name (designated.Procedure f) p
+  field_of_most n at name (designated.Nested f) l p = field_most g n s.types at name (designated.Nested f) p
+  field_of_most n at name (designated.Standard f) l p = field_most g n s.types at name (designated.Standard f) p
+
+  -- ---- calls
+
+  passed_by : (n : ℕ) (is_var : Bool) (at : Pos) {d : Result Designated (Meaningless g.Reported)} → Designated_ n d → Designated_ n (cond is_var (of_sort g at rule.NoVariable d) (of_heading d))
+  passed_by n true at p = sort_most g at rule.NoVariable p
+  passed_by n false at p = of_heading_most p
+
+  argument_most : (n : ℕ) (o : Option Formal) (at : Pos) {d : Result Designated (Meaningless g.Reported)} → Designated_ n d → AtMost outward_passed (n) (argument_by g s.types o at d)
+  argument_most n None at p = reported_most g at rule.ArgumentCount
+  argument_most n (Some f) at p = then_most (passed_by n f.is_var at p) (λ d k. actual_most g s.types n f at d k)
+
+  -- lists of arguments
+  abbrev pub outward_list : List Argument → ℕ
+  outward_list xs = deepest_of outward_passed xs
+
+  pushed : (a b c n : ℕ) → a ≡ b ⊔ (c ⊔ 0) → b ⊔ c ≤ n → a ≤ n
+  pushed a b c n e l = omega (arith, e, l)
+
+  with_argument_most : (n k : ℕ) {r : Result (List Argument) g.Reported} {a : Result Argument g.Reported} → AtMost outward_list k r → AtMost outward_passed n a → AtMost outward_list (k ⊔ n) (with_argument g r a)
+  with_argument_most n k p q = then_most (both_most g p q) (λ v l. fine (v.0 ++ v.1 ∷ []) (pushed _ _ _ (k ⊔ n) (deepest_append outward_passed v.0 (v.1 ∷ [])) l))
+
+  no_more : (k : ℕ) → k ≤ k ⊔ 0
+  no_more k = omega arith
+
+  sum_again : (k a b : ℕ) → k ⊔ a ⊔ b ≤ k ⊔ (a ⊔ b)
+  sum_again k a b = omega arith
+
+  pub args_most : (ns : List ℕ) (args : List (Meant g.Reported)) (fs : List Formal) (k : ℕ) (r : Result (List Argument) g.Reported) → AtMost outward_list k r → AllM ns args
+      → AtMost outward_list (k ⊔ arguments ns) (fold (with_actual g s) (fs, r) args).1
+  args_most [] [] fs k r p all = at_more (no_more k) p
+  args_most [] (x ∷ args) fs k r p all = absurd all
+  args_most (n ∷ ns) [] fs k r p all = absurd all
+  args_most (n ∷ ns) (x ∷ args) fs k r p all =
+      at_more (sum_again k (n) (arguments ns))
+      (args_most ns args (next_formal fs).1 (k ⊔ (n)) _ (with_argument_most (n) k p (argument_most n (next_formal fs).0 x.fixed.at all.0)) all.1)
+
+  pub actuals_most : (ns : List ℕ) (args : List (Meant g.Reported)) (fs : List Formal) → AllM ns args → AtMost outward_list (0 ⊔ arguments ns) (actuals g s fs args)
+  actuals_most ns args fs all = args_most ns args fs 0 (Ok []) (fine [] (omega arith)) all
+
+  call_sum : (a c b l k n : ℕ) → a ≡ c → c ≡ b ⊔ l → b ≤ k → l ≤ 0 ⊔ n → a ≤ (k ⊔ n)
+  call_sum a c b l k n e f h i = omega (arith, e, f, h, i)
+
+  call_given_most : (k n : ℕ) (t : TypeNo) (c : Callee) {args : Result (List Argument) g.Reported} → outward_callee c ≤ k → AtMost outward_list (0 ⊔ n) args → Value_ ((k ⊔ n)) (call_given g s.types t c args)
+  call_given_most k n t c l p =
+      then_most p (λ xs q. fine (given s.types t (expr.Call t (call_by xs c))) (given_most g s.types ((k ⊔ n)) t (expr.Call t (call_by xs c)) (call_sum _ _ _ _ k n (expr_call t (call_by xs c)) (call_most c xs) l q)))
+
+  routine_most : (k : ℕ) (ns : List ℕ) (at : Pos) (t : TypeNo) (c : Callee) (args : List (Meant g.Reported)) → outward_callee c ≤ k → AllM ns args → Value_ ((k ⊔ arguments ns)) (routine_called g s at t c args)
+  routine_most k ns at t c args l all =
+      ahead_most g (looked_at g s args) (any_most (function_of g at (signature_at s.types t) (length args)))
+      (λ r h. call_given_most k (arguments ns) r c l (actuals_most ns args (formals_of (signature_at s.types t)) all))
+
+  -- ---- standard functions
+
+  only_one : (k n : ℕ) → n ≤ (k ⊔ (n ⊔ 0))
+  only_one k n = omega arith
+
+  unary_all : (k : ℕ) (ns : List ℕ) (at : Pos) (f : Standard) (u : Unary) (args : List (Meant g.Reported)) → AllM ns args → Value_ ((k ⊔ arguments ns)) (unary g s at f u args)
+  unary_all k ns at f u [] all = reported_beside_most g at rule.ArgumentCount (looked_at g s [])
+  unary_all k [] at f u (x ∷ []) all = absurd all
+  unary_all k (n ∷ []) at f u (x ∷ []) all = at_more (only_one k n) (then_most (value_most n x all.0) (λ v p. unary_most g s.types n f u x.fixed.at v p))
+  unary_all k (n ∷ m ∷ ns) at f u (x ∷ []) all = absurd all.1
+  unary_all k ns at f u (x ∷ y ∷ xs) all = reported_beside_most g at rule.ArgumentCount _
+
+  bound_all : (k n : ℕ) (at : Pos) (f : Standard) (args : List (Meant g.Reported)) → Value_ ((k ⊔ n)) (bound g s at f args)
+  bound_all k n at f [] = reported_beside_most g at rule.ArgumentCount (looked_at g s [])
+  bound_all k n at f (x ∷ []) = bound_most g s.types (k ⊔ n) f _
+  bound_all k n at f (x ∷ y ∷ xs) = reported_beside_most g at rule.ArgumentCount _
+
+  second_one : (k m n a : ℕ) → n ≤ (k ⊔ (m ⊔ (n ⊔ a)))
+  second_one k m n a = omega arith
+
+  conversion_all : (k : ℕ) (ns : List ℕ) (at : Pos) (args : List (Meant g.Reported)) → AllM ns args → Value_ ((k ⊔ arguments ns)) (conversion g s at args)
+  conversion_all k ns at [] all = reported_beside_most g at rule.ArgumentCount (looked_at g s [])
+  conversion_all k ns at (t ∷ []) all = reported_beside_most g at rule.ArgumentCount _
+  conversion_all k [] at (t ∷ x ∷ []) all = absurd all
+  conversion_all k (m ∷ []) at (t ∷ x ∷ []) all = absurd all.1
+  conversion_all k (m ∷ n ∷ ns) at (t ∷ x ∷ []) all = at_more (second_one k m n (arguments ns)) (conversion_most g s.types n _ x.fixed.at (value_most n x all.1.0))
+  conversion_all k ns at (t ∷ x ∷ y ∷ xs) all = reported_beside_most g at rule.ArgumentCount _
+
+  high_sum : (k n a b : ℕ) → a ≤ n → a ≤ k ⊔ (n ⊔ b)
+  high_sum k n a b l = omega (arith, l)
+
+  high_all : (k : ℕ) (ns : List ℕ) (at : Pos) (args : List (Meant g.Reported)) → AllM ns args → Value_ ((k ⊔ arguments ns)) (high g s at args)
+  high_all k ns at [] all = reported_beside_most g at rule.ArgumentCount (looked_at g s [])
+  high_all k [] at (x ∷ []) all = absurd all
+  high_all k (n ∷ ns) at (x ∷ []) all = then_most (sort_most g x.fixed.at rule.WrongArgument all.0) (λ d p. high_most g s.types (k ⊔ arguments (n ∷ ns)) x.fixed.at d (high_sum k n (outward_meant d) (arguments ns) p))
+  high_all k ns at (x ∷ y ∷ xs) all = reported_beside_most g at rule.ArgumentCount _
+
+  form_most : (k : ℕ) (ns : List ℕ) (at : Pos) (f : Standard) (args : List (Meant g.Reported)) (o : Form) → AllM ns args → Value_ ((k ⊔ arguments ns)) (by_form g s at f args o)
+  form_most k ns at f args (form.Unary u) all = unary_all k ns at f u args all
+  form_most k ns at f args form.Bound all = bound_all k (arguments ns) at f args
+  form_most k ns at f args form.Conversion all = conversion_all k ns at args all
+  form_most k ns at f args form.High all = high_all k ns at args all
+  form_most k ns at f args form.Proper all = reported_beside_most g at rule.WrongType _
+
+  called_as_most : (k : ℕ) (ns : List ℕ) (at : Pos) (args : List (Meant g.Reported)) (x : Called) → outward_called x ≤ k → AllM ns args → Value_ ((k ⊔ arguments ns)) (called_as g s at args x)
+  called_as_most k ns at args (called.Routine t c) p all = routine_most k ns at t c args p all
+  called_as_most k ns at args (called.Standard f) p all = form_most k ns at f args (form_of f) all
+
+  called_most : (k : ℕ) (ns : List ℕ) (at : Pos) {d : Result Designated (Meaningless g.Reported)} (args : List (Meant g.Reported)) → Designated_ k d → AllM ns args → Value_ ((k ⊔ arguments ns)) (called_by g s at d args)
+  called_most k ns at args p all = ahead_most g (looked_at g s args) (then_most (of_heading_most p) (λ d q. callee_most g s.types k at d q)) (λ x q. called_as_most k ns at args x q all)
+
+  -- ---- operators
+
+  two_more : (k n : ℕ) → (k ⊔ (n)) ≤ k ⊔ (n)
+  two_more k n = omega arith
+
+  factors_most : (k : ℕ) (ns : List (Operator MulOp × ℕ)) (at : Pos) (rest : List (Operator MulOp × Meant g.Reported)) (v : Result Computed g.Reported) → Value_ k v → AllT ns rest → Value_ (k ⊔ deepest_of operand ns) (fold (factor g s at) v rest)
+  factors_most k [] at [] v p all = at_more (no_more k) p
+  factors_most k [] at (x ∷ xs) v p all = absurd all
+  factors_most k (n ∷ ns) at [] v p all = absurd all
+  factors_most k (n ∷ ns) at (x ∷ xs) v p all =
+      at_more (sum_again k (n.1) (deepest_of operand ns))
+      (factors_most (k ⊔ (n.1)) ns at xs (factor g s at v x) (at_more (two_more k n.1) (combined_most g k n.1 s.types (mul_op x.0.op) x.0.pos at x.1.fixed.at p (value_most n.1 x.1 all.0))) all.1)
+
+  terms_most : (k : ℕ) (ns : List (Operator AddOp × ℕ)) (at : Pos) (rest : List (Operator AddOp × Meant g.Reported)) (v : Result Computed g.Reported) → Value_ k v → AllT ns rest → Value_ (k ⊔ deepest_of operand ns) (fold (term g s at) v rest)
+  terms_most k [] at [] v p all = at_more (no_more k) p
+  terms_most k [] at (x ∷ xs) v p all = absurd all
+  terms_most k (n ∷ ns) at [] v p all = absurd all
+  terms_most k (n ∷ ns) at (x ∷ xs) v p all =
+      at_more (sum_again k (n.1) (deepest_of operand ns))
+      (terms_most (k ⊔ (n.1)) ns at xs (term g s at v x) (at_more (two_more k n.1) (combined_most g k n.1 s.types (add_op x.0.op) x.0.pos at x.1.fixed.at p (value_most n.1 x.1 all.0))) all.1)
+
+  one_more : (n : ℕ) → n ≤ n
+  one_more n = omega arith
+
+  first_most : (n : ℕ) (o : Option (Operator Sign)) {x : Result Computed g.Reported} → Value_ n x → Value_ (n) (signed_first g o x)
+  first_most n None p = at_more (one_more n) p
+  first_most n (Some o) p = signed_most g n o.op o.pos p
+
+  relation_sum : (n k : ℕ) → (n ⊔ (k)) ≤ n ⊔ (k)
+  relation_sum n k = omega arith
+
+  relation_most : (n k : ℕ) (a : Meant g.Reported) (o : Operator RelOp) (b : Meant g.Reported) → FM n a → FM k b → Value_ (n ⊔ (k)) (relation g s a o b)
+  relation_most n k a o b p q = at_more (relation_sum n k) (combined_most g n k s.types (op.Relation o.op) o.pos a.fixed.at b.fixed.at (value_most n a p) (value_most k b q))
+
+  still : (k n : ℕ) → s.level ≤ k → s.level ≤ k ⊔ n
+  still k n l = omega (arith, l)
+
+  picks_most : (k : ℕ) (ns : List ℕ) (ps : List (Picks g.Reported)) (d : Result Designated (Meaningless g.Reported)) → s.level ≤ k → Designated_ k d → AllP ns ps → Designated_ (k ⊔ deepest ns) (fold (λ x p. p.picks s x) d ps)
+  picks_most k [] [] d l p all = at_more (no_more k) p
+  picks_most k [] (x ∷ ps) d l p all = absurd all
+  picks_most k (n ∷ ns) [] d l p all = absurd all
+  picks_most k (n ∷ ns) (x ∷ ps) d l p all = at_more (sum_again k n (deepest ns)) (picks_most (k ⊔ n) ns ps (x.picks s d) (still k n l) (all.0 k d l p) all.1)
+
+  -- ---- a layer, each part of which has its meaning
+
+  abbrev PE : Expr → Type 0
+  PE e = FM s.level (meant g e)
+
+  abbrev PS : Selector → Type 0
+  PS e = FP s.level (picks g e)
+
+  abbrev PD : Designator → Type 0
+  PD e = FM s.level (head g e)
+
+  abbrev PI : Item → Type 0
+  PI e = Unit {0}
+
+  abbrev SE : Type 0
+  SE = (e : Expr) × PE e
+
+  abbrev SS : Type 0
+  SS = (e : Selector) × PS e
+
+  abbrev SD : Type 0
+  SD = (e : Designator) × PD e
+
+  abbrev SI : Type 0
+  SI = (e : Item) × PI e
+
+  abbrev opened : Expr-F Expr Selector Designator Item → Expr-F (Meant g.Reported) (Picks g.Reported) (Meant g.Reported) (Adds g.Reported)
+  opened x = map-Expr Expr Selector Designator Item (Meant g.Reported) (Picks g.Reported) (Meant g.Reported) (Adds g.Reported) (meant g) (picks g) (head g) (item g) x
+
+  abbrev opened_selector : Selector-F Expr Selector Designator Item → Selector-F (Meant g.Reported) (Picks g.Reported) (Meant g.Reported) (Adds g.Reported)
+  opened_selector x = map-Selector Expr Selector Designator Item (Meant g.Reported) (Picks g.Reported) (Meant g.Reported) (Adds g.Reported) (meant g) (picks g) (head g) (item g) x
+
+  abbrev opened_designator : Designator-F Expr Selector Designator Item → Designator-F (Meant g.Reported) (Picks g.Reported) (Meant g.Reported) (Adds g.Reported)
+  opened_designator x = map-Designator Expr Selector Designator Item (Meant g.Reported) (Picks g.Reported) (Meant g.Reported) (Adds g.Reported) (meant g) (picks g) (head g) (item g) x
+
+  at_expr : (e : Expr) (x : Expr-F Expr Selector Designator Item) → out-Expr e ≡ x → meant g e ≡ expr_layer g (opened x)
+  unfolding meant picks head item
+  at_expr e x q = fold_out-Expr (Meant g.Reported) (Picks g.Reported) (Meant g.Reported) (Adds g.Reported) (expr_layer g) (selector_layer g) (designator_layer g) (item_layer g) e ∙ ap (λ (y : Expr-F Expr Selector Designator Item). expr_layer g (opened y)) q
+
+  at_selector : (e : Selector) (x : Selector-F Expr Selector Designator Item) → out-Selector e ≡ x → picks g e ≡ selector_layer g (opened_selector x)
+  unfolding meant picks head item
+  at_selector e x q = fold_out-Selector (Meant g.Reported) (Picks g.Reported) (Meant g.Reported) (Adds g.Reported) (expr_layer g) (selector_layer g) (designator_layer g) (item_layer g) e ∙ ap (λ (y : Selector-F Expr Selector Designator Item). selector_layer g (opened_selector y)) q
+
+  at_designator : (e : Designator) (x : Designator-F Expr Selector Designator Item) → out-Designator e ≡ x → head g e ≡ designator_layer g (opened_designator x)
+  unfolding meant picks head item
+  at_designator e x q = fold_out-Designator (Meant g.Reported) (Picks g.Reported) (Meant g.Reported) (Adds g.Reported) (expr_layer g) (selector_layer g) (designator_layer g) (item_layer g) e ∙ ap (λ (y : Designator-F Expr Selector Designator Item). designator_layer g (opened_designator y)) q
+
+  abbrev bare : Expr-F SE SS SD SI → Expr-F Expr Selector Designator Item
+  bare x = map-Expr SE SS SD SI Expr Selector Designator Item (λ e. e.0) (λ e. e.0) (λ e. e.0) (λ e. e.0) x
+
+  abbrev bare_selector : Selector-F SE SS SD SI → Selector-F Expr Selector Designator Item
+  bare_selector x = map-Selector SE SS SD SI Expr Selector Designator Item (λ e. e.0) (λ e. e.0) (λ e. e.0) (λ e. e.0) x
+
+  abbrev bare_designator : Designator-F SE SS SD SI → Designator-F Expr Selector Designator Item
+  bare_designator x = map-Designator SE SS SD SI Expr Selector Designator Item (λ e. e.0) (λ e. e.0) (λ e. e.0) (λ e. e.0) x
+
+  abbrev pub far : {A : Type 0} → A → ℕ
+  far x = s.level
+
+  all_terms : {O : Type 0} (xs : List (Operator O × SE))
+      → AllT (map (λ (x : Operator O × Expr). (x.0, far x.1)) (map (λ (a : Operator O × SE). (a.0, a.1.0)) xs)) (map (λ (x : Operator O × Expr). (x.0, meant g x.1)) (map (λ (a : Operator O × SE). (a.0, a.1.0)) xs))
+  all_terms [] = tt
+  all_terms (x ∷ xs) = (x.1.1, all_terms xs)
+
+  all_args : (xs : List SE) → AllM (map (λ (e : Expr). far e) (map (λ (e : SE). e.0) xs)) (map (meant g) (map (λ (e : SE). e.0) xs))
+  all_args [] = tt
+  all_args (x ∷ xs) = (x.1, all_args xs)
+
+  all_picks : (xs : List SS) → AllP (map (λ (e : Selector). far e) (map (λ (e : SS). e.0) xs)) (map (picks g) (map (λ (e : SS). e.0) xs))
+  all_picks [] = tt
+  all_picks (x ∷ xs) = (x.1, all_picks xs)
+
+  none_there : (n : ℕ) → n ⊔ 0 ≤ n
+  none_there n = omega arith
+
+  one_there : (n a : ℕ) → n ⊔ a ≤ n → n ⊔ (n ⊔ a) ≤ n
+  one_there n a l = omega (arith, l)
+
+  pub all_as_far : {A : Type 0} (xs : List A) → s.level ⊔ arguments (map (λ (x : A). far x) xs) ≤ s.level
+  all_as_far [] = none_there s.level
+  all_as_far (x ∷ xs) = one_there s.level _ (all_as_far xs)
+
+  picks_as_far : (xs : List Selector) → s.level ⊔ deepest (map (λ (x : Selector). far x) xs) ≤ s.level
+  picks_as_far [] = none_there s.level
+  picks_as_far (x ∷ xs) = one_there s.level _ (picks_as_far xs)
+
+  terms_as_far : {O : Type 0} (xs : List (Operator O × Expr)) → s.level ⊔ deepest_of operand (map (λ (x : Operator O × Expr). (x.0, far x.1)) xs) ≤ s.level
+  terms_as_far [] = none_there s.level
+  terms_as_far (x ∷ xs) = one_there s.level _ (terms_as_far xs)
+
+  twice : s.level ⊔ s.level ≤ s.level
+  twice = omega arith
+
+  expr_most : (y : Expr-F SE SS SD SI) → FM s.level (expr_layer g (opened (bare y)))
+  expr_most (layer.Number p n) = constant_meant s.level (expr_layer g (opened (bare (layer.Number p n)))).fixed (omega arith)
+  expr_most (layer.Char p n) = constant_meant s.level (expr_layer g (opened (bare (layer.Char p n)))).fixed (omega arith)
+  expr_most (layer.Text p t) = constant_meant s.level (expr_layer g (opened (bare (layer.Text p t)))).fixed (omega arith)
+  expr_most (layer.Set q p items) = constant_meant s.level (expr_layer g (opened (bare (layer.Set q p items)))).fixed (omega arith)
+  expr_most (layer.Not p e) = computed_most _ (negated_most g s.level p (value_most _ (meant g e.0) e.1))
+  expr_most (layer.Bracketed p e) = computed_most _ (value_most _ (meant g e.0) e.1)
+  expr_most (layer.Use d None) = d.1
+  expr_most (layer.Use d (Some es)) =
+      computed_most _ (at_more (all_as_far (map (λ (e : SE). e.0) es))
+      (called_most s.level (map (λ (e : Expr). far e) (map (λ (e : SE). e.0) es)) (head g d.0).fixed.at (map (meant g) (map (λ (e : SE). e.0) es)) d.1 (all_args es)))
+  expr_most (layer.Term e xs) =
+      computed_most _ (at_more (terms_as_far (map (λ (a : Operator MulOp × SE). (a.0, a.1.0)) xs))
+      (factors_most s.level _ (meant g e.0).fixed.at (map (λ (x : Operator MulOp × Expr). (x.0, meant g x.1)) (map (λ (a : Operator MulOp × SE). (a.0, a.1.0)) xs)) (value_of g s (meant g e.0)) (value_most _ (meant g e.0) e.1) (all_terms xs)))
+  expr_most (layer.Sum o e xs) =
+      computed_most _ (at_more (terms_as_far (map (λ (a : Operator AddOp × SE). (a.0, a.1.0)) xs))
+      (terms_most s.level _ (sign_place o (meant g e.0).fixed.at) (map (λ (x : Operator AddOp × Expr). (x.0, meant g x.1)) (map (λ (a : Operator AddOp × SE). (a.0, a.1.0)) xs)) (signed_first g o (value_of g s (meant g e.0)))
+      (first_most s.level o (value_most _ (meant g e.0) e.1)) (all_terms xs)))
+  expr_most (layer.Relation e o f) = computed_most _ (at_more twice (relation_most s.level s.level (meant g e.0) o (meant g f.0) e.1 f.1))
+
+  beside : (k n : ℕ) → k ≤ k ⊔ n
+  beside k n = omega arith
+
+  selector_most : (y : Selector-F SE SS SD SI) → FP s.level (selector_layer g (opened_selector (bare_selector y)))
+  selector_most (layer.Field p name) = λ k d l q. at_more (beside k s.level) (plain_most (then_most (sort_most g p rule.WrongType q) (λ x h. field_of_most k p name x l h)))
+  selector_most (layer.Index p e) = λ k d l q. plain_most (indexed_most g k s.level s.types p (meant g e.0).fixed.at (sort_most g p rule.WrongType q) (value_most _ (meant g e.0) e.1))
+
+  itself : (n : ℕ) → n ≤ n
+  itself n = omega arith
+
+  designator_most : (y : Designator-F SE SS SD SI) → FM s.level (designator_layer g (opened_designator (bare_designator y)))
+  designator_most y =
+      at_more (picks_as_far (map (λ (e : SS). e.0) y.selectors))
+      (picks_most s.level _ (map (picks g) (map (λ (e : SS). e.0) y.selectors)) (named g s y.name) (itself s.level) (named_most y.name) (all_picks y.selectors))
+
+  -- ---- the induction
+
+  step_expr : (x : Expr-F Expr Selector Designator Item) (y : Expr-F SE SS SD SI) → bare y ≡ x → PE (roll-Expr x)
+  step_expr x y q = subst (FM s.level) (sym (at_expr (roll-Expr x) (bare y) (out-roll-Expr x ∙ sym q))) (expr_most y)
+
+  step_selector : (x : Selector-F Expr Selector Designator Item) (y : Selector-F SE SS SD SI) → bare_selector y ≡ x → PS (roll-Selector x)
+  step_selector x y q = subst (FP s.level) (sym (at_selector (roll-Selector x) (bare_selector y) (out-roll-Selector x ∙ sym q))) (selector_most y)
+
+  step_designator : (x : Designator-F Expr Selector Designator Item) (y : Designator-F SE SS SD SI) → bare_designator y ≡ x → PD (roll-Designator x)
+  step_designator x y q = subst (FM s.level) (sym (at_designator (roll-Designator x) (bare_designator y) (out-roll-Designator x ∙ sym q))) (designator_most y)
+
+  pub meant_most : (e : Expr) → PE e
+  meant_most = ind-Expr PE PS PD PI step_expr step_selector step_designator (λ x y q. tt)
+
+  pub head_most : (d : Designator) → PD d
+  head_most = ind-Designator PE PS PD PI step_expr step_selector step_designator (λ x y q. tt)

@@ -1,0 +1,393 @@
+-- Operators, components and what places take go no further outwards than what they are made of.
+use Rattle.std.proofs.Common.{◌≡◌, ℕ, ◌≤◌, pos, Bool, List, [], ◌∷◌, ◌++◌, Option, Some, None, Result, refl, ap, ◌∙◌, arith}
+use Rattle.std.specs.Prelude.{not, ◌&&◌}
+use Rattle.m2_rule.specs.declared.rule.Rule.{Rule}
+use Rattle.m2_rule.specs.declared.rule.Rule.TheVariants as rule
+use Rattle.m2_tree.specs.declared.pos.Pos.{Pos}
+use Rattle.m2_tree.specs.declared.name.Ident.{Ident}
+use Rattle.m2_tree.specs.declared.expr.Sign.{Sign}
+use Rattle.m2_tree.specs.declared.expr.Sign.TheVariants as sign
+use Rattle.typed_tree.specs.declared.computed.Argument.{Argument}
+use Rattle.typed_tree.specs.declared.computed.Call.{Call}
+use Rattle.typed_tree.specs.declared.computed.Comparison.{Comparison}
+use Rattle.typed_tree.specs.declared.computed.Component.{Component}
+use Rattle.typed_tree.specs.declared.computed.Component.TheVariants as part
+use Rattle.typed_tree.specs.declared.computed.Link.{Link}
+use Rattle.typed_tree.specs.declared.computed.Link.TheVariants as link
+use Rattle.typed_tree.specs.declared.computed.Place.{Place}
+use Rattle.typed_tree.specs.declared.computed.Root.{Root}
+use Rattle.typed_tree.specs.declared.computed.Root.TheVariants as root
+use Rattle.typed_tree.specs.declared.computed.TypedExpr.{TypedExpr, TypedExpr-F}
+use Rattle.typed_tree.specs.declared.computed.TypedExpr.TheVariants as expr
+use Rattle.typed_tree.specs.declared.known_types.Types.{Types}
+use Rattle.typed_tree.specs.declared.meaning.Procedure.{Procedure}
+use Rattle.typed_tree.specs.declared.meaning.Value.{Value}
+use Rattle.typed_tree.specs.declared.shape.Scalar.{Scalar as Range}
+use Rattle.typed_tree.specs.declared.types.TypeNo.{TypeNo}
+use Rattle.typed_tree.specs.Chains.{linked_to, linked, rooted, behind}
+use Rattle.typed_tree.specs.Types.{are_same, is_integer, is_numeric, boolean, bitset}
+use Rattle.check_scope.specs.Elaborated.{Gathers, ◌▷◌}
+use Rattle.check_scope.specs.Scopes.{fields_at}
+use Rattle.check_const_ops.specs.Common.{common}
+use Rattle.check_const_ops.specs.Operands.{operand_of, is_number}
+use Rattle.check_const_ops.specs.declared.operand.Operand.{Operand}
+use Rattle.check_const_ops.specs.declared.operand.Operand.TheVariants as operand
+use Rattle.check_const_ops.specs.declared.operator.BinaryOp.{BinaryOp}
+use Rattle.check_operator.specs.Classes.{class_at, array_at}
+use Rattle.check_operator.specs.Sides.{known_of, constant_side, side_of, sort_of, or_cardinal, run_of}
+use Rattle.check_operator.specs.Signs.{signed_scalar, signed_value, signed, negated_value, negated}
+use Rattle.check_operator.specs.Operations.{of_value, truth_of, step_of, set_step_of, equality_of, is_in, built, fitting_both, stepped, on_amounts, element_fits, member, set_built, on_sets, on_procedures, with_scalar, set_in, with_set, partner_of, routine_of, with_partner, between, by_known, combined}
+use Rattle.check_operator.specs.Selection.{record_field, field, array_indexed, indices, asked, picked, indexed}
+use Rattle.check_operator.specs.Suits.{scalar_suited, set_suited, procedure_suited, value_in, value_suited}
+use Rattle.check_operator.specs.declared.class.Class.{Class}
+use Rattle.check_operator.specs.declared.class.Class.TheVariants as class
+use Rattle.check_operator.specs.declared.computed.Computed.{Computed}
+use Rattle.check_operator.specs.declared.computed.Computed.TheVariants as value
+use Rattle.check_operator.specs.declared.computed.Designated.{Designated}
+use Rattle.check_operator.specs.declared.computed.Designated.TheVariants as designated
+use Rattle.check_operator.specs.declared.operate.SetStep.{SetStep}
+use Rattle.check_operator.specs.declared.operate.SetStep.TheVariants as set_step
+use Rattle.check_operator.specs.declared.operate.Step.{Step}
+use Rattle.check_operator.specs.declared.operate.Step.TheVariants as step
+use Rattle.check_operator.specs.declared.select.Subscripted.{Subscripted}
+use Rattle.check_operator.specs.declared.select.Subscripted.TheVariants as indexes
+use Rattle.check_operator.specs.declared.side.Amount.{Amount}
+use Rattle.check_operator.specs.declared.side.Amount.TheVariants.{Known, Run}
+use Rattle.check_operator.specs.declared.side.Side.{Side}
+use Rattle.check_operator.specs.declared.side.Side.TheVariants as side
+use Rattle.typed_tree.specs.declared.computed.TypedExpr.{out-TypedExpr}
+use Rattle.typed_tree.specs.declared.computed.Argument.TheOpen as layer
+use Rattle.law_encoding.specs.Nesting.{◌⊔◌, deepest_of}
+use Rattle.law_encoding.specs.Outward.{outward_root, outward_typed, outward_place, outward_component, outward_link}
+use Rattle.law_encoding.specs.Counted.{AtMost, fine}
+use Rattle.law_encoding.specs.OutwardMeant.{outward_value, outward_designated}
+use Rattle.law_encoding.proofs.Deepest.{deepest_map, deepest_append}
+use Rattle.law_encoding.proofs.Sums.{le_trans, le_of}
+use Rattle.law_encoding.proofs.OutwardTyped.{at_expr, component_field, component_element, component_openelement, place_sum, link_arithmetic, link_and, link_or, link_combine, expr_constant, expr_procedure, expr_plus, expr_negate, expr_chain, expr_compare, expr_not, expr_include, expr_in}
+use Rattle.law_encoding.proofs.Results.{then_most, reported_most, where_most, any_most}
+use Rattle.law_encoding.proofs.DeepResults.{both_most}
+
+-- ---- chains and components
+
+-- a chain by its parts
+same_reach : (e a : TypedExpr) (links : List Link) → out-TypedExpr e ≡ layer.Chain a links → outward_typed e ≡ outward_typed a ⊔ deepest_of outward_link links
+same_reach e a links h = at_expr e (layer.Chain a links) h ∙ ap (λ n. outward_typed a ⊔ n) (deepest_map outward_link links)
+
+one_link : (n e l : ℕ) → n ≡ e ⊔ (l ⊔ 0) → n ≤ e ⊔ l
+one_link n e l h = omega (arith, h)
+
+chain_of_one : (e : TypedExpr) (l : Link) → outward_typed (expr.Chain e (l ∷ [])) ≤ outward_typed e ⊔ outward_link l
+chain_of_one e l = one_link _ _ _ (expr_chain e (l ∷ []))
+
+longer : (n e a s l k : ℕ) → n ≡ a ⊔ s → s ≡ k ⊔ (l ⊔ 0) → e ≡ a ⊔ k → n ≤ e ⊔ l
+longer n e a s l k h i j = omega (arith, h, i, j)
+
+linked_by : (x : TypedExpr-F Argument Call Component Link TypedExpr Place) (e : TypedExpr) (l : Link) → out-TypedExpr e ≡ x → outward_typed (linked_to x e l) ≤ outward_typed e ⊔ outward_link l
+linked_by (layer.Chain a links) e l h =
+    longer _ _ (outward_typed a) _ (outward_link l) (deepest_of outward_link links) (expr_chain a (links ++ l ∷ [])) (deepest_append outward_link links (l ∷ [])) (same_reach e a links h)
+linked_by (layer.Constant t n) e l h = chain_of_one e l
+linked_by (layer.Load t d) e l h = chain_of_one e l
+linked_by (layer.Procedure f) e l h = chain_of_one e l
+linked_by (layer.Plus t x) e l h = chain_of_one e l
+linked_by (layer.Negate x) e l h = chain_of_one e l
+linked_by (layer.Compare o a b) e l h = chain_of_one e l
+linked_by (layer.Not x) e l h = chain_of_one e l
+linked_by (layer.Include o a b) e l h = chain_of_one e l
+linked_by (layer.In a b) e l h = chain_of_one e l
+linked_by (layer.Abs t x) e l h = chain_of_one e l
+linked_by (layer.Cap x) e l h = chain_of_one e l
+linked_by (layer.Chr x) e l h = chain_of_one e l
+linked_by (layer.Odd x) e l h = chain_of_one e l
+linked_by (layer.Ord x) e l h = chain_of_one e l
+linked_by (layer.Val t x) e l h = chain_of_one e l
+linked_by (layer.High slot) e l h = chain_of_one e l
+linked_by (layer.Call t c) e l h = chain_of_one e l
+
+pub linked_most : (e : TypedExpr) (l : Link) → outward_typed (linked e l) ≤ outward_typed e ⊔ outward_link l
+linked_most e l = linked_by (out-TypedExpr e) e l refl
+
+behind_step : (r n d s c k : ℕ) → n ≡ r ⊔ s → s ≡ k ⊔ (c ⊔ 0) → d ≡ r ⊔ k → n ≡ d ⊔ c
+behind_step r n d s c k h i j = omega (arith, h, i, j)
+
+pub behind_reach : (d : Place) (c : Component) → outward_place (behind d c) ≡ outward_place d ⊔ outward_component c
+behind_reach d c = behind_step (outward_root d.root) _ _ _ _ (deepest_of outward_component d.components) (place_sum (behind d c)) (deepest_append outward_component d.components (c ∷ [])) (place_sum d)
+
+pub rooted_reach : (r : Root) → outward_place (rooted r) ≡ outward_root r
+rooted_reach r = place_sum (rooted r) ∙ plus_none (outward_root r) where
+  plus_none : (n : ℕ) → n ⊔ 0 ≡ n
+  plus_none n = omega arith
+
+-- ---- sides
+
+abbrev pub outward_amount : Amount → ℕ
+outward_amount (Known a) = 0
+outward_amount (Run b e) = outward_typed e
+
+abbrev pub outward_side : Option Side → ℕ
+outward_side None = 0
+outward_side (Some (side.Scalar a)) = outward_amount a
+outward_side (Some (side.Set e)) = outward_typed e
+outward_side (Some (side.Routine t e)) = outward_typed e
+outward_side (Some (side.Procedure f)) = 0
+
+constant_most : (o : Option Operand) → outward_side (constant_side o) ≤ 0
+constant_most None = omega arith
+constant_most (Some (operand.Scalar a)) = omega arith
+constant_most (Some (operand.Set bits)) = le_of _ 0 (expr_constant bitset (pos bits))
+
+pub side_most : (x : Computed) → outward_side (side_of x) ≤ outward_value x
+side_most (value.Constant v) = constant_most (operand_of v)
+side_most (value.Scalar t b e) = omega arith
+side_most (value.Set e) = omega arith
+side_most (value.Routine t e) = omega arith
+side_most (value.Procedure f) = omega arith
+side_most (value.Whole t d) = omega arith
+side_most value.Untaken = omega arith
+
+run_most : (t : TypeNo) (a : Amount) → outward_typed (run_of t a) ≤ outward_amount a
+run_most t (Known a) = le_of _ 0 (expr_constant t a.number)
+run_most t (Run b e) = omega arith
+
+module _ (g : Gathers) where
+  abbrev Value_ : ℕ → Result Computed g.Reported → Type 0
+  Value_ n r = AtMost outward_value n r
+
+  pub of_value_most : (n : ℕ) (r : Result Value g.Reported) → 0 ≤ n → Value_ n (of_value r)
+  of_value_most n r l = then_most (any_most r) (λ x h. fine (value.Constant x) l)
+
+  -- ---- signs
+
+  more : (a b n : ℕ) → a ≡ b → b ≤ n → a ≤ n
+  more a b n e l = omega (arith, e, l)
+
+  one_at_least : (n : ℕ) → 0 ≤ n
+  one_at_least n = omega arith
+
+  signed_scalar_most : (n : ℕ) (o : Sign) (at : Pos) (b : TypeNo) (e : TypedExpr) → outward_typed e ≤ n → Value_ (n) (signed_scalar g o at b e)
+  signed_scalar_most n sign.Plus at b e p = where_most g (not (is_numeric b)) at rule.WrongType (fine (value.Scalar b b (expr.Plus b e)) (more _ _ n (expr_plus b e) p))
+  signed_scalar_most n sign.Minus at b e p = where_most g (not (is_integer b)) at rule.WrongType (fine (value.Scalar b b (expr.Negate e)) (more _ _ n (expr_negate e) p))
+
+  signed_value_most : (n : ℕ) (o : Sign) (at : Pos) (x : Computed) → outward_value x ≤ n → Value_ (n) (signed_value g o at x)
+  signed_value_most n o at (value.Constant v) p = of_value_most (n) _ (one_at_least n)
+  signed_value_most n o at (value.Scalar t b e) p = signed_scalar_most n o at b e p
+  signed_value_most n o at (value.Set e) p = reported_most g at rule.WrongType
+  signed_value_most n o at (value.Routine t e) p = reported_most g at rule.WrongType
+  signed_value_most n o at (value.Procedure f) p = reported_most g at rule.WrongType
+  signed_value_most n o at (value.Whole t d) p = reported_most g at rule.WrongType
+  signed_value_most n o at value.Untaken p = reported_most g at rule.WrongType
+
+  pub signed_most : (n : ℕ) (o : Sign) (at : Pos) {x : Result Computed g.Reported} → Value_ n x → Value_ (n) (signed g o at x)
+  signed_most n o at h = then_most h (λ x p. signed_value_most n o at x p)
+
+  negated_value_most : (n : ℕ) (at : Pos) (x : Computed) → outward_value x ≤ n → Value_ (n) (negated_value g at x)
+  negated_value_most n at (value.Constant v) p = of_value_most (n) _ (one_at_least n)
+  negated_value_most n at (value.Scalar t b e) p = where_most g (not (are_same b boolean)) at rule.WrongType (fine (truth_of (expr.Not e)) (more _ _ n (expr_not e) p))
+  negated_value_most n at (value.Set e) p = reported_most g at rule.WrongType
+  negated_value_most n at (value.Routine t e) p = reported_most g at rule.WrongType
+  negated_value_most n at (value.Procedure f) p = reported_most g at rule.WrongType
+  negated_value_most n at (value.Whole t d) p = reported_most g at rule.WrongType
+  negated_value_most n at value.Untaken p = reported_most g at rule.WrongType
+
+  pub negated_most : (n : ℕ) (at : Pos) {x : Result Computed g.Reported} → Value_ n x → Value_ (n) (negated g at x)
+  negated_most n at h = then_most h (λ x p. negated_value_most n at x p)
+
+  -- ---- operators
+
+  join : (a x y l n : ℕ) → a ≤ x ⊔ l → l ≡ y → x ⊔ (y) ≤ n → a ≤ n
+  join a x y l n p e h = omega (arith, p, e, h)
+
+  pair : (a x y n : ℕ) → a ≡ x ⊔ y → x ⊔ (y) ≤ n → a ≤ n
+  pair a x y n e h = omega (arith, e, h)
+
+  built_most : (n : ℕ) (t : TypeNo) (x y : TypedExpr) (o : Step) → outward_typed x ⊔ (outward_typed y) ≤ n → outward_value (built t x y o) ≤ n
+  built_most n t x y (step.Arithmetic o) p = join _ _ _ _ n (linked_most x (link.Arithmetic o t y)) (link_arithmetic o t y) p
+  built_most n t x y step.And p = join _ _ _ _ n (linked_most x (link.And y)) (link_and y) p
+  built_most n t x y step.Or p = join _ _ _ _ n (linked_most x (link.Or y)) (link_or y) p
+  built_most n t x y (step.Compare c) p = pair _ _ _ n (expr_compare c x y) p
+
+  both_less : (a b c d n : ℕ) → a ≤ b → c ≤ d → b ⊔ (d) ≤ n → a ⊔ (c) ≤ n
+  both_less a b c d n h k l = omega (arith, h, k, l)
+
+  first_less : (a b c n : ℕ) → a ≤ b → b ⊔ c ≤ n → a ⊔ c ≤ n
+  first_less a b c n h l = omega (arith, h, l)
+
+  stepped_most : (n : ℕ) (at : Pos) (sort : Option TypeNo) (a b : Amount) (o : Option Step) → outward_amount a ⊔ (outward_amount b) ≤ n → Value_ (n) (stepped g at sort a b o)
+  stepped_most n at sort a b None p = reported_most g at rule.WrongType
+  stepped_most n at sort a b (Some o) p =
+      fine (built (or_cardinal sort) (run_of (or_cardinal sort) a) (run_of (or_cardinal sort) b) o)
+      (built_most n (or_cardinal sort) (run_of (or_cardinal sort) a) (run_of (or_cardinal sort) b) o (both_less _ _ _ _ n (run_most (or_cardinal sort) a) (run_most (or_cardinal sort) b) p))
+
+  amounts_most : (n : ℕ) (op : BinaryOp) (spot at : Pos) (a : Amount) (at' : Pos) (b : Amount) (o : Option (Option TypeNo)) → outward_amount a ⊔ (outward_amount b) ≤ n → Value_ (n) (on_amounts g op spot at a at' b o)
+  amounts_most n op spot at a at' b None p = reported_most g spot rule.WrongType
+  amounts_most n op spot at a at' b (Some sort) p = then_most (any_most (fitting_both g op spot sort at a at' b)) (λ f h. stepped_most n spot sort a b (step_of op) p)
+
+  member_most : (n : ℕ) (op : BinaryOp) (spot at : Pos) (a : Amount) (s : TypedExpr) → outward_amount a ⊔ (outward_typed s) ≤ n → Value_ (n) (member g op spot at a s)
+  member_most n op spot at a s p =
+      where_most g (not (is_in op && is_number (sort_of a))) spot rule.WrongType (then_most (any_most (element_fits g at a))
+      (λ f h. fine (truth_of (expr.In (run_of (or_cardinal (sort_of a)) a) s))
+      (pair _ _ _ n (expr_in (run_of (or_cardinal (sort_of a)) a) s) (first_less _ _ _ n (run_most (or_cardinal (sort_of a)) a) p))))
+
+  set_built_most : (n : ℕ) (x y : TypedExpr) (o : SetStep) → outward_typed x ⊔ (outward_typed y) ≤ n → outward_value (set_built x y o) ≤ n
+  set_built_most n x y (set_step.Combine o) p = join _ _ _ _ n (linked_most x (link.Combine o y)) (link_combine o y) p
+  set_built_most n x y (set_step.Compare c) p = pair _ _ _ n (expr_compare c x y) p
+  set_built_most n x y (set_step.Include i) p = pair _ _ _ n (expr_include i x y) p
+
+  sets_most : (n : ℕ) (at : Pos) (x y : TypedExpr) (o : Option SetStep) → outward_typed x ⊔ (outward_typed y) ≤ n → Value_ (n) (on_sets g at x y o)
+  sets_most n at x y None p = reported_most g at rule.WrongType
+  sets_most n at x y (Some o) p = fine (set_built x y o) (set_built_most n x y o p)
+
+  scalar_most : (n : ℕ) (op : BinaryOp) (spot at : Pos) (a : Amount) (at' : Pos) (y : Option Side) → outward_amount a ⊔ (outward_side y) ≤ n → Value_ (n) (with_scalar g op spot at a at' y)
+  scalar_most n op spot at a at' None p = reported_most g spot rule.WrongType
+  scalar_most n op spot at a at' (Some (side.Scalar b)) p = amounts_most n op spot at a at' b (common (sort_of a) (sort_of b)) p
+  scalar_most n op spot at a at' (Some (side.Set s)) p = member_most n op spot at a s p
+  scalar_most n op spot at a at' (Some (side.Routine t e)) p = reported_most g spot rule.WrongType
+  scalar_most n op spot at a at' (Some (side.Procedure f)) p = reported_most g spot rule.WrongType
+
+  with_set_most : (n : ℕ) (op : BinaryOp) (spot : Pos) (x : TypedExpr) (y : Option Side) → outward_typed x ⊔ (outward_side y) ≤ n → Value_ (n) (with_set g op spot x (set_in y))
+  with_set_most n op spot x None p = reported_most g spot rule.WrongType
+  with_set_most n op spot x (Some (side.Scalar b)) p = reported_most g spot rule.WrongType
+  with_set_most n op spot x (Some (side.Set s)) p = sets_most n spot x s (set_step_of op) p
+  with_set_most n op spot x (Some (side.Routine t e)) p = reported_most g spot rule.WrongType
+  with_set_most n op spot x (Some (side.Procedure f)) p = reported_most g spot rule.WrongType
+
+  procedures_most : (n : ℕ) (at : Pos) (fit : Bool) (x y : TypedExpr) (o : Option Comparison) → outward_typed x ⊔ (outward_typed y) ≤ n → Value_ (n) (on_procedures g at fit x y o)
+  procedures_most n at fit x y None p = reported_most g at rule.WrongType
+  procedures_most n at fit x y (Some c) p = where_most g (not fit) at rule.WrongType (fine (truth_of (expr.Compare c x y)) (pair _ _ _ n (expr_compare c x y) p))
+
+  abbrev outward_partner : Option (Bool × TypedExpr) → ℕ
+  outward_partner None = 0
+  outward_partner (Some p) = outward_typed p.1
+
+  partner_most : (types : Types) (t : TypeNo) (y : Option Side) → outward_partner (partner_of types t y) ≤ outward_side y
+  partner_most types t None = omega arith
+  partner_most types t (Some (side.Scalar b)) = omega arith
+  partner_most types t (Some (side.Set s)) = omega arith
+  partner_most types t (Some (side.Routine u e)) = omega arith
+  partner_most types t (Some (side.Procedure f)) = le_of _ 0 (expr_procedure f)
+
+  routine_most : (types : Types) (f : Procedure) (y : Option Side) → outward_partner (routine_of types f y) ≤ outward_side y
+  routine_most types f None = omega arith
+  routine_most types f (Some (side.Scalar b)) = omega arith
+  routine_most types f (Some (side.Set s)) = omega arith
+  routine_most types f (Some (side.Routine u e)) = omega arith
+  routine_most types f (Some (side.Procedure h)) = omega arith
+
+  with_partner_most : (n : ℕ) (at : Pos) (x : TypedExpr) (c : Option Comparison) (o : Option (Bool × TypedExpr)) → outward_typed x ⊔ (outward_partner o) ≤ n → Value_ (n) (with_partner g at x c o)
+  with_partner_most n at x c None p = reported_most g at rule.WrongType
+  with_partner_most n at x c (Some o) p = procedures_most n at o.0 x o.1 c p
+
+  second_less : (a b c n : ℕ) → b ≤ c → a ⊔ (c) ≤ n → a ⊔ (b) ≤ n
+  second_less a b c n h l = omega (arith, h, l)
+
+  known_less : (a b c n : ℕ) → a ≡ 0 → b ≤ c → 0 ⊔ c ≤ n → a ⊔ (b) ≤ n
+  known_less a b c n e h l = omega (arith, e, h, l)
+
+  between_most : (n : ℕ) (types : Types) (op : BinaryOp) (spot at : Pos) (x : Option Side) (at' : Pos) (y : Option Side) → outward_side x ⊔ (outward_side y) ≤ n → Value_ (n) (between g types op spot at x at' y)
+  between_most n types op spot at None at' y p = reported_most g spot rule.WrongType
+  between_most n types op spot at (Some (side.Scalar a)) at' y p = scalar_most n op spot at a at' y p
+  between_most n types op spot at (Some (side.Set e)) at' y p = with_set_most n op spot e y p
+  between_most n types op spot at (Some (side.Routine t e)) at' y p = with_partner_most n spot e (equality_of op) (partner_of types t y) (second_less _ _ _ n (partner_most types t y) p)
+  between_most n types op spot at (Some (side.Procedure f)) at' y p =
+      with_partner_most n spot (expr.Procedure f) (equality_of op) (routine_of types f y) (known_less _ _ _ n (expr_procedure f) (routine_most types f y) p)
+
+  one_or_more : (n : ℕ) → 0 ≤ n
+  one_or_more n = omega arith
+
+  known_most : (n : ℕ) (types : Types) (op : BinaryOp) (spot at : Pos) (x : Computed) (at' : Pos) (y : Computed) (a b : Option Operand) → outward_value x ⊔ (outward_value y) ≤ n → Value_ (n) (by_known g types op spot at x at' y a b)
+  known_most n types op spot at x at' y None b p = between_most n types op spot at (side_of x) at' (side_of y) (both_less _ _ _ _ n (side_most x) (side_most y) p)
+  known_most n types op spot at x at' y (Some a) None p = between_most n types op spot at (side_of x) at' (side_of y) (both_less _ _ _ _ n (side_most x) (side_most y) p)
+  known_most n types op spot at x at' y (Some a) (Some b) p = of_value_most (n) _ (one_or_more n)
+
+  pub combined_most : (n k : ℕ) (types : Types) (op : BinaryOp) (spot at : Pos) {x : Result Computed g.Reported} (at' : Pos) {y : Result Computed g.Reported} → Value_ n x → Value_ k y → Value_ ((n ⊔ (k))) (combined g types op spot at x at' y)
+  combined_most n k types op spot at at' p q = then_most (both_most g p q) (λ v h. known_most (n ⊔ (k)) types op spot at v.0 at' v.1 (known_of v.0) (known_of v.1) h)
+
+  -- ---- what places take
+
+  abbrev Expr_ : ℕ → Result TypedExpr g.Reported → Type 0
+  Expr_ n r = AtMost outward_typed n r
+
+  scalar_suited_most : (n : ℕ) (broken : Rule) (t : TypeNo) (s : Range) (at : Pos) (x : Option Side) → outward_side x ≤ n → Expr_ n (scalar_suited g broken t s at x)
+  scalar_suited_most n broken t s at None p = reported_most g at broken
+  scalar_suited_most n broken t s at (Some (side.Scalar (Known a))) p = where_most g _ at broken (where_most g _ at rule.OutOfRange (fine (expr.Constant t a.number) (le_trans _ 0 n (le_of _ 0 (expr_constant t a.number)) p)))
+  scalar_suited_most n broken t s at (Some (side.Scalar (Run b e))) p = where_most g _ at broken (fine e p)
+  scalar_suited_most n broken t s at (Some (side.Set e)) p = reported_most g at broken
+  scalar_suited_most n broken t s at (Some (side.Routine u e)) p = reported_most g at broken
+  scalar_suited_most n broken t s at (Some (side.Procedure f)) p = reported_most g at broken
+
+  set_suited_most : (n : ℕ) (broken : Rule) (at : Pos) (x : Option Side) → outward_side x ≤ n → Expr_ n (set_suited g broken at x)
+  set_suited_most n broken at None p = reported_most g at broken
+  set_suited_most n broken at (Some (side.Scalar a)) p = reported_most g at broken
+  set_suited_most n broken at (Some (side.Set e)) p = fine e p
+  set_suited_most n broken at (Some (side.Routine u e)) p = reported_most g at broken
+  set_suited_most n broken at (Some (side.Procedure f)) p = reported_most g at broken
+
+  procedure_suited_most : (n : ℕ) (broken : Rule) (types : Types) (t : TypeNo) (at : Pos) (x : Option Side) → outward_side x ≤ n → Expr_ n (procedure_suited g broken types t at x)
+  procedure_suited_most n broken types t at None p = reported_most g at broken
+  procedure_suited_most n broken types t at (Some (side.Scalar a)) p = reported_most g at broken
+  procedure_suited_most n broken types t at (Some (side.Set e)) p = reported_most g at broken
+  procedure_suited_most n broken types t at (Some (side.Routine u e)) p = where_most g _ at broken (fine e p)
+  procedure_suited_most n broken types t at (Some (side.Procedure f)) p = where_most g _ at broken (fine (expr.Procedure f) (le_trans _ 0 n (le_of _ 0 (expr_procedure f)) p))
+
+  value_in_most : (n : ℕ) (broken : Rule) (types : Types) (t : TypeNo) (at : Pos) (x : Option Side) (c : Class) → outward_side x ≤ n → Expr_ n (value_in g broken types t at x c)
+  value_in_most n broken types t at x (class.Scalar s) p = scalar_suited_most n broken t s at x p
+  value_in_most n broken types t at x class.Set p = set_suited_most n broken at x p
+  value_in_most n broken types t at x class.Procedure p = procedure_suited_most n broken types t at x p
+  value_in_most n broken types t at x class.Whole p = reported_most g at broken
+
+  pub suited_most : (n : ℕ) (broken : Rule) (types : Types) (t : TypeNo) (at : Pos) (x : Computed) → outward_value x ≤ n → Expr_ n (value_suited g broken types t at x)
+  suited_most n broken types t at x p = value_in_most n broken types t at (side_of x) (class_at types t) (le_trans _ _ n (side_most x) p)
+
+  -- ---- components
+
+  abbrev Designated_ : ℕ → Result Designated g.Reported → Type 0
+  Designated_ n r = AtMost outward_designated n r
+
+  one_component : (a d c n : ℕ) → a ≡ d ⊔ c → c ≡ 0 → d ≤ n → a ≤ n
+  one_component a d c n e f l = omega (arith, e, f, l)
+
+  pub field_most : (n : ℕ) (types : Types) (at : Pos) (name : Ident) (d : Designated) → outward_designated d ≤ n → Designated_ (n) (field g types at name d)
+  field_most n types at name (designated.Variable t d) p =
+      then_most (any_most (record_field g at name (fields_at types t)))
+      (λ f h. fine (designated.Variable f.1 (behind d (part.Field t f.0))) (one_component _ _ _ n (behind_reach d (part.Field t f.0)) (component_field t f.0) p))
+  field_most n types at name (designated.Value x) p = reported_most g at rule.WrongType
+  field_most n types at name (designated.Open t slot) p = reported_most g at rule.WrongType
+  field_most n types at name (designated.Type t) p = reported_most g at rule.WrongType
+  field_most n types at name (designated.Procedure f) p = reported_most g at rule.WrongType
+  field_most n types at name (designated.Nested f) p = reported_most g at rule.WrongType
+  field_most n types at name (designated.Standard f) p = reported_most g at rule.WrongType
+  field_most n types at name (designated.Module k) p = reported_most g at rule.WrongType
+
+  abbrev outward_subscripted : Subscripted → ℕ
+  outward_subscripted (indexes.Array t i e d) = outward_place d
+  outward_subscripted (indexes.Open t slot) = slot.up
+
+  array_most : (n : ℕ) (at : Pos) (t : TypeNo) (d : Place) (o : Option (TypeNo × TypeNo)) → outward_place d ≤ n → AtMost outward_subscripted n (array_indexed g at t d o)
+  array_most n at t d None p = reported_most g at rule.WrongType
+  array_most n at t d (Some a) p = fine (indexes.Array t a.0 a.1 d) p
+
+  indices_most : (n : ℕ) (types : Types) (at : Pos) (d : Designated) → outward_designated d ≤ n → AtMost outward_subscripted n (indices g types at d)
+  indices_most n types at (designated.Variable t d) p = array_most n at t d (array_at types t) p
+  indices_most n types at (designated.Open t slot) p = fine (indexes.Open t slot) p
+  indices_most n types at (designated.Value x) p = reported_most g at rule.WrongType
+  indices_most n types at (designated.Type t) p = reported_most g at rule.WrongType
+  indices_most n types at (designated.Procedure f) p = reported_most g at rule.WrongType
+  indices_most n types at (designated.Nested f) p = reported_most g at rule.WrongType
+  indices_most n types at (designated.Standard f) p = reported_most g at rule.WrongType
+  indices_most n types at (designated.Module k) p = reported_most g at rule.WrongType
+
+  element_sum : (a d c x s n k : ℕ) → a ≡ d ⊔ c → c ≡ x → d ≡ s → s ⊔ k ≤ n → x ≤ k → a ≤ n
+  element_sum a d c x s n k e f q l h = omega (arith, e, f, q, l, h)
+
+  open_sum : (u a d c x n k : ℕ) → a ≡ d ⊔ c → c ≡ u ⊔ x → d ≡ u → u ⊔ k ≤ n → x ≤ k → a ≤ n
+  open_sum u a d c x n k e f q l h = omega (arith, e, f, q, l, h)
+
+  picked_most : (n k : ℕ) (x : TypedExpr) (a : Subscripted) → outward_typed x ≤ k → outward_subscripted a ⊔ k ≤ n → outward_designated (picked x a) ≤ n
+  picked_most n k x (indexes.Array t i e d) p q = element_sum _ _ _ _ _ n k (behind_reach d (part.Element t x)) (component_element t x) refl q p
+  picked_most n k x (indexes.Open t slot) p q =
+      open_sum slot.up _ _ _ _ n k (behind_reach (rooted (root.Open slot)) (part.OpenElement slot t x)) (component_openelement slot t x) (rooted_reach (root.Open slot)) q p
+
+  pub indexed_most : (n k : ℕ) (types : Types) (at : Pos) {d : Result Designated g.Reported} (at' : Pos) {x : Result Computed g.Reported} → Designated_ n d → Value_ k x
+      → Designated_ ((n ⊔ k)) (indexed g types (d ▷ indices g types at) at' x)
+  indexed_most n k types at at' p q =
+      then_most (both_most g (then_most p (λ d h. indices_most n types at d h)) q)
+      (λ v h. then_most (suited_most (outward_value v.1) rule.NotAssignable types (asked v.0) at' v.1 (omega arith)) (λ e l. fine (picked e v.0) (picked_most (n ⊔ k) (outward_value v.1) e v.0 l h)))

@@ -1,0 +1,281 @@
+-- What statements mean goes no further outwards than the procedure around them stands deep, by induction.
+use Rattle.std.proofs.Common.{map, ◌≡◌, ℕ, ◌≤◌, ℤ, List, [], ◌∷◌, ◌++◌, Option, Some, None, Result, Ok, sym, ap, subst, ◌∙◌, arith}
+use Rattle.std.specs.Prelude.{map}
+use Rattle.std.specs.List.{fold}
+use Rattle.m2_tree.specs.declared.expr.Expr.{Expr}
+use Rattle.m2_tree.specs.declared.stmt.Rest.{Rest, Rest-F, out-Rest, roll-Rest, out-roll-Rest, map-Rest, fold_out-Rest}
+use Rattle.m2_tree.specs.declared.stmt.Rest.TheOpen as layer
+use Rattle.m2_tree.specs.declared.stmt.Stmt.{Stmt, Stmt-F, out-Stmt, roll-Stmt, out-roll-Stmt, map-Stmt, fold_out-Stmt, ind-Stmt}
+use Rattle.m2_tree.specs.declared.stmt.Arm.{Arm, Arm-F, out-Arm, roll-Arm, out-roll-Arm, map-Arm, fold_out-Arm}
+use Rattle.typed_tree.specs.declared.computed.Place.{Place}
+use Rattle.typed_tree.specs.declared.computed.TypedExpr.{TypedExpr}
+use Rattle.typed_tree.specs.declared.statement.Label.{Label}
+use Rattle.typed_tree.specs.declared.statement.TypedArm.{TypedArm}
+use Rattle.typed_tree.specs.declared.statement.TypedStmt.{TypedStmt}
+use Rattle.typed_tree.specs.declared.statement.TypedStmt.TheVariants as step
+use Rattle.typed_tree.specs.declared.types.TypeNo.{TypeNo}
+use Rattle.check_scope.specs.Elaborated.{Gathers}
+use Rattle.check_scope.specs.declared.scope.Scope.{Scope}
+use Rattle.check_expr.specs.Meanings.{meant, head}
+use Rattle.check_stmt_parts.specs.declared.around.Around.{Around}
+use Rattle.check_stmt_parts.specs.Lists.{with_next, chosen, chosen_else, base_in, cased, armed, repeated_while, repeated_until, looped, within}
+use Rattle.check_stmt_parts.specs.Simple.{meant_if, in_loop, selected, opened}
+use Rattle.check_stmt.specs.Statements.{Elaborates, ElaboratesRest, ElaboratesArm, Arms, args_meant, with_stmt, all_of, all_if, with_arm, arms_of, stmt_layer, rest_layer, arm_layer, stmt, rest, arm, with_written, statements}
+use Rattle.check_expr.specs.Effects.{done_by}
+use Rattle.check_stmt_parts.specs.Labels.{with_item}
+use Rattle.check_stmt_parts.specs.Lists.{with_next}
+use Rattle.m2_tree.specs.declared.expr.Designator.{Designator}
+use Rattle.law_encoding.specs.Nesting.{◌⊔◌, deepest_of}
+use Rattle.law_encoding.specs.Outward.{outward_typed, outward_place, outward_step, outward_body}
+use Rattle.law_encoding.specs.Outward as typed
+use Rattle.law_encoding.specs.Counted.{AtMost, fine}
+use Rattle.law_encoding.proofs.Deepest.{deepest_append}
+use Rattle.law_encoding.proofs.OutwardTyped.{outward_body_if, step_if, step_case, step_while, step_repeat, step_loop, step_with, arm_sum}
+use Rattle.law_encoding.proofs.Results.{then_most, at_more, any_most, ahead_most}
+use Rattle.law_encoding.proofs.DeepResults.{both_most}
+use Rattle.law_encoding.proofs.OutwardMeanings.{far, all_as_far, AllM, meant_most, head_most}
+use Rattle.law_encoding.proofs.OutwardEffects.{assignment_most, done_most}
+use Rattle.law_encoding.proofs.OutwardSteps.{outward_selector, KnownIf, record_most, condition_most, exited_most, returned_most, selected_most, course_most, for_most}
+
+module _ (g : Gathers) where
+  abbrev Elaborates_ : Elaborates g.Reported → Type 0
+  Elaborates_ f = (s : Scope g.Reported) (a : Around g.Reported) → AtMost outward_step s.level (f s a)
+
+  abbrev Rest_ : ElaboratesRest g.Reported → Type 0
+  Rest_ f = (s : Scope g.Reported) (a : Around g.Reported) → AtMost outward_body_if s.level (f s a)
+
+  abbrev Arm_ : ElaboratesArm g.Reported → Type 0
+  Arm_ f = (s : Scope g.Reported) (a : Around g.Reported) (base : Option TypeNo) (ranges : List (ℤ × ℤ)) → AtMost typed.outward_arm s.level (f s a base ranges).1
+
+  abbrev AllJ : List (Elaborates g.Reported) → Type 0
+  AllJ [] = Unit {0}
+  AllJ (x ∷ xs) = Elaborates_ x × AllJ xs
+
+  abbrev AllA : List (ElaboratesArm g.Reported) → Type 0
+  AllA [] = Unit {0}
+  AllA (x ∷ xs) = Arm_ x × AllA xs
+
+  -- ---- lists
+
+  pushed : (a b c n : ℕ) → a ≡ b ⊔ (c ⊔ 0) → b ⊔ c ≤ n ⊔ n → a ≤ n
+  pushed a b c n e l = omega (arith, e, l)
+
+  next_most : {A : Type 0} (f : A → ℕ) (n : ℕ) {so : Result (List A) g.Reported} {x : Result A g.Reported} → AtMost (deepest_of f) n so → AtMost f n x → AtMost (deepest_of f) n (with_next g so x)
+  next_most f n p q = then_most (both_most g p q) (λ v l. fine (v.0 ++ v.1 ∷ []) (pushed _ _ _ n (deepest_append f v.0 (v.1 ∷ [])) l))
+
+  module _ (s : Scope g.Reported) (a : Around g.Reported) where
+    from_stmts : (xs : List (Elaborates g.Reported)) (so : Result (List TypedStmt) g.Reported) → AtMost outward_body s.level so → AllJ xs → AtMost outward_body s.level (fold (with_stmt g s a) so xs)
+    from_stmts [] so p all = p
+    from_stmts (x ∷ xs) so p all = from_stmts xs (with_stmt g s a so x) (next_most outward_step s.level p (all.0 s a)) all.1
+
+    all_most : (xs : List (Elaborates g.Reported)) → AllJ xs → AtMost outward_body s.level (all_of g s a xs)
+    all_most xs all = from_stmts xs (Ok []) (fine [] (omega arith)) all
+
+    standing_most : (xs : List (Elaborates g.Reported)) → AllJ xs → AtMost outward_body_if s.level (all_if g s a (Some xs))
+    standing_most xs all = then_most (all_most xs all) (λ v l. fine (Some v) l)
+
+    from_arms : (base : Option TypeNo) (xs : List (ElaboratesArm g.Reported)) (st : Arms g.Reported) → AtMost (deepest_of typed.outward_arm) s.level st.1 → AllA xs → AtMost (deepest_of typed.outward_arm) s.level (fold (with_arm g s a base) st xs).1
+    from_arms base [] st p all = p
+    from_arms base (x ∷ xs) st p all = from_arms base xs (with_arm g s a base st x) (next_most typed.outward_arm s.level p (all.0 s a base st.0)) all.1
+
+    all_arms : (base : Option TypeNo) (xs : List (ElaboratesArm g.Reported)) → AllA xs → AtMost (deepest_of typed.outward_arm) s.level (arms_of g s a base xs)
+    all_arms base xs all = from_arms base xs ([], Ok []) (fine [] (omega arith)) all
+
+  -- ---- statements around others
+
+  if_sum : (a c b r n m k : ℕ) → a ≡ (c ⊔ b ⊔ r) → c ⊔ (b ⊔ r) ≤ n ⊔ (m ⊔ k) → a ≤ (n ⊔ m ⊔ k)
+  if_sum a c b r n m k e l = omega (arith, e, l)
+
+  chosen_most : (n m k : ℕ) {c : Result TypedExpr g.Reported} {body : Result (List TypedStmt) g.Reported} {follow : Result (Option (List TypedStmt)) g.Reported} → AtMost outward_typed n c → AtMost outward_body m body → AtMost outward_body_if k follow
+      → AtMost outward_step ((n ⊔ m ⊔ k)) (chosen g c body follow)
+  chosen_most n m k p q r = then_most (both_most g p (both_most g q r)) (λ v l. fine (step.If v.0 v.1.0 v.1.1) (if_sum _ _ _ _ n m k (step_if v.0 v.1.0 v.1.1) l))
+
+  alone : (a n : ℕ) → a ≤ n → a ⊔ 0 ≤ n
+  alone a n l = omega (arith, l)
+
+  chosen_else_most : (n : ℕ) {x : Result TypedStmt g.Reported} → AtMost outward_step n x → AtMost outward_body_if n (chosen_else x)
+  chosen_else_most n p = then_most p (λ v l. fine (Some (v ∷ [])) (alone _ n l))
+
+  case_sum : (a c b r n m k : ℕ) → a ≡ (c ⊔ b ⊔ r) → c ⊔ (b ⊔ r) ≤ n ⊔ (m ⊔ k) → a ≤ (n ⊔ m ⊔ k)
+  case_sum a c b r n m k e l = omega (arith, e, l)
+
+  cased_most : (n m k : ℕ) (s : Scope g.Reported) {e : Result (TypeNo × TypedExpr) g.Reported} {xs : Result (List TypedArm) g.Reported} {otherwise : Result (Option (List TypedStmt)) g.Reported}
+      → AtMost (outward_selector g s) n e → AtMost (deepest_of typed.outward_arm) m xs → AtMost outward_body_if k otherwise → AtMost outward_step ((n ⊔ m ⊔ k)) (cased g e xs otherwise)
+  cased_most n m k s p q r = then_most (both_most g p (both_most g q r)) (λ v l. fine (step.Case v.0.1 v.1.0 v.1.1) (case_sum _ _ _ _ n m k (step_case v.0.1 v.1.0 v.1.1) l))
+
+  around_both : (a c b n m : ℕ) → a ≡ c ⊔ b → c ⊔ b ≤ n ⊔ m → a ≤ n ⊔ m
+  around_both a c b n m e h = omega (arith, e, h)
+
+  while_most : (n m : ℕ) {c : Result TypedExpr g.Reported} {body : Result (List TypedStmt) g.Reported} → AtMost outward_typed n c → AtMost outward_body m body → AtMost outward_step ((n ⊔ m)) (repeated_while g c body)
+  while_most n m p q = then_most (both_most g p q) (λ v l. fine (step.While v.0 v.1) (around_both _ _ _ n m (step_while v.0 v.1) l))
+
+  until_most : (n m : ℕ) {c : Result TypedExpr g.Reported} {body : Result (List TypedStmt) g.Reported} → AtMost outward_body m body → AtMost outward_typed n c → AtMost outward_step ((m ⊔ n)) (repeated_until g body c)
+  until_most n m q p = then_most (both_most g q p) (λ v l. fine (step.Repeat v.0 v.1) (around_both _ _ _ m n (step_repeat v.0 v.1) l))
+
+  one_sum : (a b n : ℕ) → a ≡ b → b ≤ n → a ≤ n
+  one_sum a b n e l = omega (arith, e, l)
+
+  looped_most : (n : ℕ) {body : Result (List TypedStmt) g.Reported} → AtMost outward_body n body → AtMost outward_step (n) (looped body)
+  looped_most n p = then_most p (λ v l. fine (step.Loop v) (one_sum _ _ n (step_loop v) l))
+
+  with_sum : (a d b n m : ℕ) → a ≡ d ⊔ b → d ≤ n → b ≤ m → a ≤ n ⊔ m
+  with_sum a d b n m e k l = omega (arith, e, k, l)
+
+  with_most : (n m : ℕ) (d : Place) {body : Result (List TypedStmt) g.Reported} → outward_place d ≤ n → AtMost outward_body m body → AtMost outward_step (n ⊔ m) (within d body)
+  with_most n m d k p = then_most p (λ v l. fine (step.With d v) (with_sum _ _ _ n m (step_with d v) k l))
+
+  -- ---- parts
+
+  all_meant : (s : Scope g.Reported) (xs : List Expr) → AllM g s (map (λ (e : Expr). far g s e) xs) (map (meant g) xs)
+  all_meant s [] = tt
+  all_meant s (x ∷ xs) = (meant_most g s x, all_meant s xs)
+
+  known_if : (s : Scope g.Reported) (o : Option Expr) → KnownIf g s s.level (meant_if g o)
+  known_if s None = tt
+  known_if s (Some e) = meant_most g s e
+
+  -- ---- a layer, each part of which has its meaning
+
+  abbrev PR : Rest → Type 0
+  PR x = Rest_ (rest g x)
+
+  abbrev PS : Stmt → Type 0
+  PS x = Elaborates_ (stmt g x)
+
+  abbrev PA : Arm → Type 0
+  PA x = Arm_ (arm g x)
+
+  abbrev SR : Type 0
+  SR = (x : Rest) × PR x
+
+  abbrev SS : Type 0
+  SS = (x : Stmt) × PS x
+
+  abbrev SA : Type 0
+  SA = (x : Arm) × PA x
+
+  abbrev opened_stmt : Stmt-F Rest Stmt Arm → Stmt-F (ElaboratesRest g.Reported) (Elaborates g.Reported) (ElaboratesArm g.Reported)
+  opened_stmt x = map-Stmt Rest Stmt Arm (ElaboratesRest g.Reported) (Elaborates g.Reported) (ElaboratesArm g.Reported) (rest g) (stmt g) (arm g) x
+
+  abbrev opened_rest : Rest-F Rest Stmt Arm → Rest-F (ElaboratesRest g.Reported) (Elaborates g.Reported) (ElaboratesArm g.Reported)
+  opened_rest x = map-Rest Rest Stmt Arm (ElaboratesRest g.Reported) (Elaborates g.Reported) (ElaboratesArm g.Reported) (rest g) (stmt g) (arm g) x
+
+  abbrev opened_arm : Arm-F Rest Stmt Arm → Arm-F (ElaboratesRest g.Reported) (Elaborates g.Reported) (ElaboratesArm g.Reported)
+  opened_arm x = map-Arm Rest Stmt Arm (ElaboratesRest g.Reported) (Elaborates g.Reported) (ElaboratesArm g.Reported) (rest g) (stmt g) (arm g) x
+
+  at_stmt : (e : Stmt) (x : Stmt-F Rest Stmt Arm) → out-Stmt e ≡ x → stmt g e ≡ stmt_layer g (opened_stmt x)
+  unfolding stmt rest arm
+  at_stmt e x h = fold_out-Stmt (ElaboratesRest g.Reported) (Elaborates g.Reported) (ElaboratesArm g.Reported) (rest_layer g) (stmt_layer g) (arm_layer g) e ∙ ap (λ (y : Stmt-F Rest Stmt Arm). stmt_layer g (opened_stmt y)) h
+
+  at_rest : (e : Rest) (x : Rest-F Rest Stmt Arm) → out-Rest e ≡ x → rest g e ≡ rest_layer g (opened_rest x)
+  unfolding stmt rest arm
+  at_rest e x h = fold_out-Rest (ElaboratesRest g.Reported) (Elaborates g.Reported) (ElaboratesArm g.Reported) (rest_layer g) (stmt_layer g) (arm_layer g) e ∙ ap (λ (y : Rest-F Rest Stmt Arm). rest_layer g (opened_rest y)) h
+
+  at_arm : (e : Arm) (x : Arm-F Rest Stmt Arm) → out-Arm e ≡ x → arm g e ≡ arm_layer g (opened_arm x)
+  unfolding stmt rest arm
+  at_arm e x h = fold_out-Arm (ElaboratesRest g.Reported) (Elaborates g.Reported) (ElaboratesArm g.Reported) (rest_layer g) (stmt_layer g) (arm_layer g) e ∙ ap (λ (y : Arm-F Rest Stmt Arm). arm_layer g (opened_arm y)) h
+
+  -- ---- a layer of parts for which it is known
+
+  abbrev bare_stmt : Stmt-F SR SS SA → Stmt-F Rest Stmt Arm
+  bare_stmt x = map-Stmt SR SS SA Rest Stmt Arm (λ e. e.0) (λ e. e.0) (λ e. e.0) x
+
+  abbrev bare_rest : Rest-F SR SS SA → Rest-F Rest Stmt Arm
+  bare_rest x = map-Rest SR SS SA Rest Stmt Arm (λ e. e.0) (λ e. e.0) (λ e. e.0) x
+
+  abbrev bare_arm : Arm-F SR SS SA → Arm-F Rest Stmt Arm
+  bare_arm x = map-Arm SR SS SA Rest Stmt Arm (λ e. e.0) (λ e. e.0) (λ e. e.0) x
+
+  elaborated : (xs : List SS) → AllJ (map (stmt g) (map (λ (e : SS). e.0) xs))
+  elaborated [] = tt
+  elaborated (x ∷ xs) = (x.1, elaborated xs)
+
+  armed_all : (xs : List SA) → AllA (map (arm g) (map (λ (e : SA). e.0) xs))
+  armed_all [] = tt
+  armed_all (x ∷ xs) = (x.1, armed_all xs)
+
+  abbrev elaborates_of : List SS → List (Elaborates g.Reported)
+  elaborates_of xs = map (stmt g) (map (λ (e : SS). e.0) xs)
+
+  body_most : (s : Scope g.Reported) (a : Around g.Reported) (xs : List SS) → AtMost outward_body s.level (all_of g s a (elaborates_of xs))
+  body_most s a xs = all_most s a (elaborates_of xs) (elaborated xs)
+
+  else_most : (s : Scope g.Reported) (a : Around g.Reported) (xs : List SS) → AtMost outward_body_if s.level (all_if g s a (Some (elaborates_of xs)))
+  else_most s a xs = standing_most s a (elaborates_of xs) (elaborated xs)
+
+  no_else : (s : Scope g.Reported) (a : Around g.Reported) → AtMost outward_body_if s.level (all_if g s a None)
+  no_else s a = fine None (omega arith)
+
+  twice : (n : ℕ) → n ⊔ n ≤ n
+  twice n = omega arith
+
+  thrice : (n : ℕ) → n ⊔ n ⊔ n ≤ n
+  thrice n = omega arith
+
+  four_times : (n : ℕ) → n ⊔ n ⊔ n ⊔ n ≤ n
+  four_times n = omega arith
+
+  no_argument : (n : ℕ) → n ⊔ 0 ≤ n
+  no_argument n = omega arith
+
+  none_is_less : (n : ℕ) → 0 ≤ n
+  none_is_less n = omega arith
+
+  call_most : (s : Scope g.Reported) (d : Designator) (args : Option (List Expr)) → AtMost outward_step s.level (done_by g s (head g d) (args_meant g args))
+  call_most s d None = at_more (no_argument s.level) (done_most g s s.level [] (head g d) [] (head_most g s d) tt)
+  call_most s d (Some es) = at_more (all_as_far g s es) (done_most g s s.level (map (λ (e : Expr). far g s e) es) (head g d) (map (meant g) es) (head_most g s d) (all_meant s es))
+
+  stmt_most_layer : (y : Stmt-F SR SS SA) → Elaborates_ (stmt_layer g (opened_stmt (bare_stmt y)))
+  stmt_most_layer (layer.Assign d e) = λ s a. at_more (twice s.level) (assignment_most g s s.level s.level (head g d) (meant g e).fixed.at (meant g e) (head_most g s d) (meant_most g s e))
+  stmt_most_layer (layer.Call d args) = λ s a. call_most s d args
+  stmt_most_layer (layer.If c body follow) = λ s a. at_more (thrice s.level) (chosen_most s.level s.level s.level (condition_most g s s.level (meant g c) (meant_most g s c)) (body_most s a body) (follow.1 s a))
+  stmt_most_layer (layer.Case e arms None) = λ s a.
+      at_more (thrice s.level) (cased_most s.level s.level s.level s (selected_most g s s.level (meant g e) (meant_most g s e))
+      (all_arms s a (base_in (selected g s (meant g e))) (map (arm g) (map (λ (e : SA). e.0) arms)) (armed_all arms)) (no_else s a))
+  stmt_most_layer (layer.Case e arms (Some body)) = λ s a.
+      at_more (thrice s.level) (cased_most s.level s.level s.level s (selected_most g s s.level (meant g e) (meant_most g s e))
+      (all_arms s a (base_in (selected g s (meant g e))) (map (arm g) (map (λ (e : SA). e.0) arms)) (armed_all arms)) (else_most s a body))
+  stmt_most_layer (layer.While c body) = λ s a. at_more (twice s.level) (while_most s.level s.level (condition_most g s s.level (meant g c) (meant_most g s c)) (body_most s a body))
+  stmt_most_layer (layer.Repeat body c) = λ s a. at_more (twice s.level) (until_most s.level s.level (body_most s a body) (condition_most g s s.level (meant g c) (meant_most g s c)))
+  stmt_most_layer (layer.Loop body) = λ s a. looped_most s.level (body_most s (in_loop a) body)
+  stmt_most_layer (layer.Exit at) = λ s a. at_more (none_is_less s.level) (exited_most g s at a)
+  stmt_most_layer (layer.Return at e) = λ s a. returned_most g s s.level at a.gives (meant_if g e) (known_if s e)
+  stmt_most_layer (layer.For name start limit by body) = λ s a.
+      at_more (four_times s.level) (for_most g s s.level s.level s.level (course_most g s s.level s.level name (meant g start) (meant g limit) (meant_if g by) (meant_most g s start) (meant_most g s limit)) (body_most s a body))
+  stmt_most_layer (layer.With d body) = λ s a.
+      ahead_most g _ (record_most g s s.level (head g d) (head_most g s d)) (λ r k. at_more (twice s.level) (with_most s.level s.level r.1 k (body_most (opened s r.0) a body)))
+
+  rest_most_layer : (y : Rest-F SR SS SA) → Rest_ (rest_layer g (opened_rest (bare_rest y)))
+  rest_most_layer (layer.Elsif c body follow) = λ s a. chosen_else_most _ (at_more (thrice s.level) (chosen_most s.level s.level s.level (condition_most g s s.level (meant g c) (meant_most g s c)) (body_most s a body) (follow.1 s a)))
+  rest_most_layer (layer.Else None) = λ s a. no_else s a
+  rest_most_layer (layer.Else (Some body)) = λ s a. else_most s a body
+
+  armed_sum : (a b m : ℕ) → a ≡ b → 0 ⊔ b ≤ 0 ⊔ m → a ≤ m
+  armed_sum a b m e h = omega (arith, e, h)
+
+  armed_most : (m : ℕ) (labels : Result (List Label) g.Reported) {body : Result (List TypedStmt) g.Reported} → AtMost outward_body m body → AtMost typed.outward_arm m (armed g labels body)
+  armed_most m labels q = then_most (both_most g (any_most labels) q) (λ v l. fine (record { labels = v.0; body = v.1 }) (armed_sum _ _ m (arm_sum (record { labels = v.0; body = v.1 })) l))
+
+  arm_most_layer : (y : Arm-F SR SS SA) → Arm_ (arm_layer g (opened_arm (bare_arm y)))
+  arm_most_layer y = λ s a base ranges. armed_most s.level (fold (with_item g s base) (ranges, Ok []) y.labels).1 (body_most s a y.body)
+
+  -- ---- the induction
+
+  step_rest : (x : Rest-F Rest Stmt Arm) (y : Rest-F SR SS SA) → bare_rest y ≡ x → PR (roll-Rest x)
+  step_rest x y q = subst Rest_ (sym (at_rest (roll-Rest x) (bare_rest y) (out-roll-Rest x ∙ sym q))) (rest_most_layer y)
+
+  step_stmt : (x : Stmt-F Rest Stmt Arm) (y : Stmt-F SR SS SA) → bare_stmt y ≡ x → PS (roll-Stmt x)
+  step_stmt x y q = subst Elaborates_ (sym (at_stmt (roll-Stmt x) (bare_stmt y) (out-roll-Stmt x ∙ sym q))) (stmt_most_layer y)
+
+  step_arm : (x : Arm-F Rest Stmt Arm) (y : Arm-F SR SS SA) → bare_arm y ≡ x → PA (roll-Arm x)
+  step_arm x y q = subst Arm_ (sym (at_arm (roll-Arm x) (bare_arm y) (out-roll-Arm x ∙ sym q))) (arm_most_layer y)
+
+  pub stmt_most : (x : Stmt) → PS x
+  stmt_most = ind-Stmt PR PS PA step_rest step_stmt step_arm
+
+  from_written : (s : Scope g.Reported) (a : Around g.Reported) (xs : List Stmt) (so : Result (List TypedStmt) g.Reported) → AtMost outward_body s.level so → AtMost outward_body s.level (fold (with_written g s a) so xs)
+  from_written s a [] so p = p
+  from_written s a (x ∷ xs) so p = from_written s a xs (with_written g s a so x) (next_most outward_step s.level p (stmt_most x s a))
+
+  pub statements_most : (s : Scope g.Reported) (a : Around g.Reported) (xs : List Stmt) → AtMost outward_body s.level (statements g s a xs)
+  statements_most s a xs = from_written s a xs (Ok []) (fine [] (omega arith))

@@ -1,0 +1,200 @@
+-- Statements without others inside, and what stands before and around others, go no further outwards than what they are made of.
+use Rattle.std.proofs.Common.{◌≡◌, ℕ, ◌≤◌, ℤ, Bool, true, false, List, Option, Some, None, Result, Ok, arith}
+use Rattle.std.specs.Prelude.{◌-◌, not}
+use Rattle.m2_rule.specs.declared.rule.Rule.TheVariants as rule
+use Rattle.m2_tree.specs.declared.pos.Pos.{Pos}
+use Rattle.m2_tree.specs.declared.name.Ident.{Ident}
+use Rattle.typed_tree.specs.declared.computed.Place.{Place}
+use Rattle.typed_tree.specs.declared.computed.Root.TheVariants as root
+use Rattle.typed_tree.specs.declared.computed.TypedExpr.{TypedExpr}
+use Rattle.typed_tree.specs.declared.computed.TypedExpr.TheVariants as expr
+use Rattle.typed_tree.specs.declared.meaning.Meaning.{Meaning}
+use Rattle.typed_tree.specs.declared.meaning.Meaning.TheVariants as meaning
+use Rattle.typed_tree.specs.declared.statement.TypedStmt.{TypedStmt}
+use Rattle.typed_tree.specs.declared.statement.TypedStmt.TheVariants as step
+use Rattle.typed_tree.specs.declared.types.TypeNo.{TypeNo}
+use Rattle.typed_tree.specs.Chains.{rooted}
+use Rattle.typed_tree.specs.Types.{boolean}
+use Rattle.check_scope.specs.Elaborated.{Gathers, reported_where}
+use Rattle.check_scope.specs.declared.scope.Scope.{Scope}
+use Rattle.check_operator.specs.Classes.{class_at}
+use Rattle.check_operator.specs.Sides.{side_of}
+use Rattle.check_operator.specs.Suits.{sort_suits, bases_suit}
+use Rattle.check_operator.specs.Values.{slot_of}
+use Rattle.check_operator.specs.declared.class.Class.{Class}
+use Rattle.check_operator.specs.declared.class.Class.TheVariants as class
+use Rattle.check_operator.specs.declared.computed.Computed.{Computed}
+use Rattle.check_operator.specs.declared.computed.Designated.{Designated}
+use Rattle.check_operator.specs.declared.computed.Designated.TheVariants as designated
+use Rattle.check_operator.specs.declared.side.Amount.{Amount}
+use Rattle.check_operator.specs.declared.side.Amount.TheVariants.{Known, Run}
+use Rattle.check_operator.specs.declared.side.Side.{Side}
+use Rattle.check_operator.specs.declared.side.Side.TheVariants as side
+use Rattle.check_expr.specs.Meanings.{Meant}
+use Rattle.check_stmt_parts.specs.Simple.{exited, given_back, returned, condition, selector_amount, selector_of, selected, record_by, record_of}
+use Rattle.check_stmt_parts.specs.Control.{controlled_as, control_by, control_of, start_at, limit_number, limit_by, limit_at, type_of, base_of, course_of, step_of, repeated_for}
+use Rattle.check_stmt_parts.specs.declared.around.Around.{Around}
+use Rattle.check_stmt_parts.specs.declared.control.Control.{Control}
+use Rattle.check_stmt_parts.specs.declared.control.Course.{Course}
+use Rattle.law_encoding.specs.Nesting.{◌⊔◌}
+use Rattle.law_encoding.specs.Outward.{outward_typed, outward_place, outward_step, outward_body}
+use Rattle.law_encoding.specs.Counted.{AtMost, fine}
+use Rattle.law_encoding.specs.OutwardMeant.{outward_value, outward_designated}
+use Rattle.law_encoding.proofs.Sums.{le_trans, le_of}
+use Rattle.law_encoding.proofs.OutwardTyped.{expr_constant, step_exit, step_return, step_give, step_for}
+use Rattle.law_encoding.proofs.Results.{then_most, reported_most, where_most, any_most, sort_most, reported_beside_most}
+use Rattle.law_encoding.proofs.DeepResults.{both_most}
+use Rattle.law_encoding.proofs.OutwardOperators.{outward_amount, outward_side, side_most, suited_most, rooted_reach}
+use Rattle.law_encoding.proofs.OutwardMeanings.{FM, value_most}
+
+module _ (g : Gathers) (s : Scope g.Reported) where
+  abbrev Stmt_ : ℕ → Result TypedStmt g.Reported → Type 0
+  Stmt_ n r = AtMost outward_step n r
+
+  abbrev Expr_ : ℕ → Result TypedExpr g.Reported → Type 0
+  Expr_ n r = AtMost outward_typed n r
+
+  itself_most : (n : ℕ) → n ≤ n
+  itself_most n = omega arith
+
+  second_part : (a n : ℕ) → 0 ⊔ a ≤ 0 ⊔ n → a ≤ n
+  second_part a n l = omega (arith, l)
+
+  -- ---- WITH
+
+  abbrev pub outward_record : TypeNo × Place → ℕ
+  outward_record x = outward_place x.1
+
+  record_by_most : (n : ℕ) (at : Pos) (d : Designated) → outward_designated d ≤ n → AtMost outward_record n (record_by g s.types at d)
+  record_by_most n at (designated.Variable t d) p = where_most g _ at rule.WrongType (fine (t, d) p)
+  record_by_most n at (designated.Value x) p = reported_most g at rule.WrongType
+  record_by_most n at (designated.Open t slot) p = reported_most g at rule.WrongType
+  record_by_most n at (designated.Type t) p = reported_most g at rule.WrongType
+  record_by_most n at (designated.Procedure f) p = reported_most g at rule.WrongType
+  record_by_most n at (designated.Nested f) p = reported_most g at rule.WrongType
+  record_by_most n at (designated.Standard f) p = reported_most g at rule.WrongType
+  record_by_most n at (designated.Module k) p = reported_most g at rule.WrongType
+
+  pub record_most : (n : ℕ) (d : Meant g.Reported) → FM g s n d → AtMost outward_record n (record_of g s d)
+  record_most n d p = then_most (sort_most g d.fixed.at rule.WrongType p) (λ e k. record_by_most n d.fixed.at e k)
+
+  -- ---- conditions, EXIT and RETURN
+
+  pub condition_most : (n : ℕ) (x : Meant g.Reported) → FM g s n x → Expr_ n (condition g s x)
+  condition_most n x p = then_most (value_most g s n x p) (λ v k. suited_most g n rule.WrongType s.types boolean x.fixed.at v k)
+
+  exited_as : (at : Pos) (inside : Bool) → Stmt_ 0 (reported_where g (not inside) at rule.LonelyExit (Ok step.Exit))
+  exited_as at true = fine step.Exit (le_of _ 0 step_exit)
+  exited_as at false = reported_most g at rule.LonelyExit
+
+  pub exited_most : (at : Pos) (a : Around g.Reported) → Stmt_ 0 (exited g at a)
+  exited_most at a = exited_as at a.in_loop
+
+  give_sum : (a e n : ℕ) → a ≡ e → e ≤ n → a ≤ n
+  give_sum a e n q l = omega (arith, q, l)
+
+  given_back_most : (n : ℕ) (t : Result TypeNo g.Reported) (at : Pos) {x : Result Computed g.Reported} → AtMost outward_value n x → Stmt_ (n) (given_back g s.types t at x)
+  given_back_most n t at p =
+      then_most (both_most g (any_most t) p)
+      (λ v k. then_most (suited_most g n rule.NotAssignable s.types v.0 at v.1 (second_part _ n k)) (λ e q. fine (step.Give v.0 e) (give_sum _ _ n (step_give v.0 e) q)))
+
+  abbrev pub KnownIf : ℕ → Option (Meant g.Reported) → Type 0
+  KnownIf n None = Unit {0}
+  KnownIf n (Some x) = FM g s n x
+
+  one_of : (a n : ℕ) → a ≡ 0 → a ≤ n
+  one_of a n e = omega (arith, e)
+
+  pub returned_most : (n : ℕ) (at : Pos) (o : Option (Result TypeNo g.Reported)) (x : Option (Meant g.Reported)) → KnownIf n x → Stmt_ (n) (returned g s at o x)
+  returned_most n at None None p = fine step.Return (one_of _ n step_return)
+  returned_most n at None (Some x) p = reported_beside_most g at rule.WrongReturn _
+  returned_most n at (Some t) None p = reported_most g at rule.WrongReturn
+  returned_most n at (Some t) (Some x) p = given_back_most n t x.fixed.at (value_most g s n x p)
+
+  -- ---- the selector of a CASE
+
+  abbrev pub outward_selector : TypeNo × TypedExpr → ℕ
+  outward_selector x = outward_typed x.1
+
+  amount_most : (n : ℕ) (a : Amount) → outward_amount a ≤ n → outward_selector (selector_amount a) ≤ n
+  amount_most n (Known a) p = le_trans _ 0 n (le_of _ 0 (expr_constant _ a.number)) p
+  amount_most n (Run b e) p = p
+
+  selector_most : (n : ℕ) (at : Pos) (o : Option Side) → outward_side o ≤ n → AtMost outward_selector n (selector_of g at o)
+  selector_most n at None p = reported_most g at rule.WrongType
+  selector_most n at (Some (side.Scalar a)) p = fine (selector_amount a) (amount_most n a p)
+  selector_most n at (Some (side.Set e)) p = reported_most g at rule.WrongType
+  selector_most n at (Some (side.Routine t e)) p = reported_most g at rule.WrongType
+  selector_most n at (Some (side.Procedure f)) p = reported_most g at rule.WrongType
+
+  pub selected_most : (n : ℕ) (x : Meant g.Reported) → FM g s n x → AtMost outward_selector n (selected g s x)
+  selected_most n x p = then_most (value_most g s n x p) (λ v k. selector_most n x.fixed.at (side_of v) (le_trans _ _ n (side_most v) k))
+
+  -- ---- FOR
+
+  abbrev outward_control : Control → ℕ
+  outward_control c = outward_place c.place
+
+  controlled_as_most : (n : ℕ) (at : Pos) (t : TypeNo) (d : Place) (c : Class) → outward_place d ≤ n → AtMost outward_control n (controlled_as g at t d c)
+  controlled_as_most n at t d (class.Scalar r) p = fine (record { of = t; base = r.base; place = d }) p
+  controlled_as_most n at t d class.Set p = reported_most g at rule.WrongControl
+  controlled_as_most n at t d class.Procedure p = reported_most g at rule.WrongControl
+  controlled_as_most n at t d class.Whole p = reported_most g at rule.WrongControl
+
+  of_global : (n level : ℕ) → n ≡ 0 → n ≤ level
+  of_global n level e = omega (arith, e)
+
+  of_local : (n level own : ℕ) → n ≡ level - own → n ≤ level
+  of_local n level own e = omega (arith, e)
+
+  control_by_most : (at : Pos) (x : Meaning) → AtMost outward_control s.level (control_by g s at x)
+  control_by_most at (meaning.Constant v) = reported_most g at rule.WrongControl
+  control_by_most at (meaning.Type t n) = reported_most g at rule.WrongControl
+  control_by_most at (meaning.Variable v) =
+      where_most g _ at rule.WrongControl (controlled_as_most s.level at v.of (rooted (root.Global v)) (class_at s.types v.of) (of_global _ s.level (rooted_reach (root.Global v))))
+  control_by_most at (meaning.Local v) =
+      where_most g _ at rule.WrongControl (controlled_as_most s.level at v.of (rooted (root.Local (slot_of s.level v))) (class_at s.types v.of) (of_local _ s.level v.level (rooted_reach (root.Local (slot_of s.level v)))))
+  control_by_most at (meaning.Field f) = reported_most g at rule.WrongControl
+  control_by_most at (meaning.Procedure f) = reported_most g at rule.WrongControl
+  control_by_most at (meaning.LocalProcedure f) = reported_most g at rule.WrongControl
+  control_by_most at meaning.Ahead = reported_most g at rule.Undeclared
+  control_by_most at (meaning.Standard f) = reported_most g at rule.WrongControl
+  control_by_most at (meaning.Module k) = reported_most g at rule.WrongControl
+
+  control_most : (name : Ident) → AtMost outward_control s.level (control_of g s name)
+  control_most name = then_most (sort_most g name.pos rule.WrongControl (any_most _)) (λ x p. control_by_most name.pos x)
+
+  start_most : (n : ℕ) (at : Pos) (t : Result TypeNo g.Reported) {x : Result Computed g.Reported} → AtMost outward_value n x → Expr_ n (start_at g s.types at t x)
+  start_most n at t p = then_most (both_most g (any_most t) p) (λ v k. suited_most g n rule.NotAssignable s.types v.0 at v.1 (second_part _ n k))
+
+  limit_number_most : (n : ℕ) (base : TypeNo) (at : Pos) (i : ℤ) (o : Option TypeNo) → 0 ≤ n → Expr_ n (limit_number g base at i o)
+  limit_number_most n base at i None l = where_most g _ at rule.OutOfRange (fine (expr.Constant base i) (le_trans _ 0 n (le_of _ 0 (expr_constant base i)) l))
+  limit_number_most n base at i (Some t) l = fine (expr.Constant t i) (le_trans _ 0 n (le_of _ 0 (expr_constant t i)) l)
+
+  limit_by_most : (n : ℕ) (base : TypeNo) (at : Pos) (o : Option Side) → outward_side o ≤ n → Expr_ n (limit_by g base at o)
+  limit_by_most n base at None p = reported_most g at rule.NotAssignable
+  limit_by_most n base at (Some (side.Scalar (Known a))) p = where_most g (not (sort_suits base a.sort)) at rule.NotAssignable (limit_number_most n base at a.number a.sort p)
+  limit_by_most n base at (Some (side.Scalar (Run b e))) p = where_most g (not (bases_suit base b)) at rule.NotAssignable (fine e p)
+  limit_by_most n base at (Some (side.Set e)) p = reported_most g at rule.NotAssignable
+  limit_by_most n base at (Some (side.Routine t e)) p = reported_most g at rule.NotAssignable
+  limit_by_most n base at (Some (side.Procedure f)) p = reported_most g at rule.NotAssignable
+
+  limit_most : (n : ℕ) (at : Pos) (base : Result TypeNo g.Reported) {x : Result Computed g.Reported} → AtMost outward_value n x → Expr_ n (limit_at g at base x)
+  limit_most n at base p = then_most (both_most g (any_most base) p) (λ v k. limit_by_most n v.0 at (side_of v.1) (le_trans _ _ n (side_most v.1) (second_part _ n k)))
+
+  abbrev outward_course : Course → ℕ
+  outward_course c = outward_place c.control.place ⊔ outward_typed c.start ⊔ (outward_typed c.limit ⊔ 0)
+
+  pub course_most : (n k : ℕ) (name : Ident) (start limit : Meant g.Reported) (by : Option (Meant g.Reported)) → FM g s n start → FM g s k limit → AtMost outward_course (s.level ⊔ n ⊔ (k ⊔ 0)) (course_of g s name start limit by)
+  course_most n k name start limit by p q =
+      then_most (both_most g (both_most g (control_most name) (start_most n start.fixed.at (type_of (control_of g s name)) (value_most g s n start p)))
+      (both_most g (limit_most k limit.fixed.at (base_of (control_of g s name)) (value_most g s k limit q)) (any_most (step_of g s by))))
+      (λ v l. fine (record { control = v.0.0; start = v.0.1; limit = v.1.0; by = v.1.1 }) l)
+
+  for_sum : (m a d x y b n k c : ℕ) → a ≡ (d ⊔ x ⊔ y ⊔ b) → d ⊔ x ⊔ (y ⊔ 0) ⊔ b ≤ m ⊔ n ⊔ (k ⊔ 0) ⊔ c → a ≤ (m ⊔ n ⊔ k ⊔ c)
+  for_sum m a d x y b n k c q l = omega (arith, q, l)
+
+  pub for_most : (n k b : ℕ) {c : Result Course g.Reported} {body : Result (List TypedStmt) g.Reported} → AtMost outward_course (s.level ⊔ n ⊔ (k ⊔ 0)) c → AtMost outward_body b body → Stmt_ (s.level ⊔ n ⊔ k ⊔ b) (repeated_for g c body)
+  for_most n k b p q =
+      then_most (both_most g p q)
+      (λ v l. fine (step.For v.0.control.place v.0.control.of v.0.start v.0.limit v.0.by v.1) (for_sum s.level _ _ _ _ _ n k b (step_for v.0.control.place v.0.control.of v.0.start v.0.limit v.0.by v.1) l))
