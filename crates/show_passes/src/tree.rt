@@ -85,13 +85,6 @@ fn show_def(page: &mut Page, level: usize, def: &Def) -> Result<(), AllocError> 
     }
 }
 
-fn show_defs(page: &mut Page, level: usize, defs: &[Def]) -> Result<(), AllocError> {
-    for def in defs {
-        show_def(page, level, def)?;
-    }
-    Ok(())
-}
-
 /// A declaration of a body or of a procedure.
 #[cycle(decl)]
 fn show_decl(page: &mut Page, level: usize, decl: &Decl) -> Result<(), AllocError> {
@@ -106,15 +99,10 @@ fn show_decl(page: &mut Page, level: usize, decl: &Decl) -> Result<(), AllocErro
     }
 }
 
-/// The statements behind BEGIN, if it stands there.
-fn show_body(page: &mut Page, level: usize, body: Option<&[Stmt]>) -> Result<(), AllocError> {
-    match body {
-        None => Ok(()),
-        Some(stmts) => {
-            page.row(level, &[b"BEGIN"])?;
-            show_stmts(page, level.saturating_add(1), stmts)
-        }
-    }
+/// The statements behind BEGIN.
+fn show_body(page: &mut Page, level: usize, stmts: &[Stmt]) -> Result<(), AllocError> {
+    page.row(level, &[b"BEGIN"])?;
+    show_stmts(page, level.saturating_add(1), stmts)
 }
 
 /// Declarations, and the statements behind BEGIN.
@@ -123,7 +111,10 @@ fn show_block(page: &mut Page, level: usize, block: &Block) -> Result<(), AllocE
     for decl in block.decls.as_slice() {
         show_decl(page, level, decl)?;
     }
-    show_body(page, level, block.body.as_ref().map(|it| it.as_slice()))
+    match &block.body {
+        None => Ok(()),
+        Some(stmts) => show_body(page, level, stmts.as_slice()),
+    }
 }
 
 /// The words in front of a module's name.
@@ -142,7 +133,12 @@ fn show_name(page: &mut Page, words: &str, name: &Ident) -> Result<(), AllocErro
 
 fn show_contents(page: &mut Page, level: usize, contents: &Contents) -> Result<(), AllocError> {
     match contents {
-        Contents::Definition(defs) => show_defs(page, level, defs.as_slice()),
+        Contents::Definition(defs) => {
+            for def in defs.as_slice() {
+                show_def(page, level, def)?;
+            }
+            Ok(())
+        }
         Contents::Implementation(block) | Contents::Program(block) => {
             show_block(page, level, block)
         }
