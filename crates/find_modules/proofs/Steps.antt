@@ -1,12 +1,14 @@
 -- The steps of the search for modules.
-use Rattle.std.proofs.Common.{◌≡◌, ℕ, ◌+◌, ◌<◌, ◌≤◌, ◌||◌, Bool, true, false, List, [], ◌∷◌, ◌++◌, length, take, map, get_or, Option, refl, sym, ap, subst, ◌∙◌, append_assoc, rules, arith, All, if◌then◌else◌}
+use Rattle.std.proofs.Common.{◌≡◌, ℕ, ◌+◌, ◌<◌, ◌≤◌, ◌||◌, Bool, true, false, cond, is_some, List, [], ◌∷◌, ◌++◌, length, take, map, get_or, Option, None, Some, refl, sym, ap, subst, ◌∙◌, append_assoc, rules, arith, All, if◌then◌else◌}
 use Rattle.std.specs.List.{fold, list_any}
 use Rattle.std.proofs.lemmas.List.{append-nil, map-append, take_all, take_more, take-append-le, length-append}
 use Rattle.std.proofs.lemmas.List.Sums.{fold-append}
 use Rattle.std.proofs.lemmas.List.Elements.{All-append, All-cons, All-nil}
+use Rattle.std.proofs.lemmas.Bool.{false≢true}
 use Rattle.m2_tree.specs.Names.{same_name, is_console}
+use Rattle.typed_tree.specs.Names.{found, entered}
 use Rattle.find_modules.specs.Imports.{Imports}
-use Rattle.find_modules.specs.Found.{Folders, AreSources, AreFound, name_of, is_among, with_name, each_once, SourcesImport, ModulesImport, NoModule, Further, AreOf, AreAdded}
+use Rattle.find_modules.specs.Found.{Folders, AreSources, AreFound, Knows, first_of, name_of, is_among, with_name, each_once, SourcesImport, ModulesImport, NoModule, Further, AreOf, AreAdded}
 use Rattle.find_modules.specs.declared.found.FoundModule.{FoundModule}
 
 -- ---- what modules import
@@ -19,6 +21,36 @@ imports_behind _ _ m more (Further n ns first others i is) h =
 pub any_of_map : (name : List ℕ) (ms : List FoundModule) → list_any (λ m. same_name name m.name) ms ≡ is_among name (map name_of ms)
 any_of_map name [] = refl
 any_of_map name (m ∷ ms) = ap (λ b. same_name name m.name || b) (any_of_map name ms)
+
+-- ---- names that are known
+
+some_of_cond : (b : Bool) (v : ℕ) (o : Option ℕ) → is_some (cond b (Some v) o) ≡ (b || is_some o)
+some_of_cond true v o = refl
+some_of_cond false v o = refl
+
+found_any : (name : List ℕ) (es : List (List ℕ × ℕ)) → is_some (found name es) ≡ is_among name (map first_of es)
+found_any name [] = refl
+found_any name (e ∷ es) = some_of_cond (same_name name e.0) e.1 (found name es) ∙ ap (λ (b : Bool). same_name name e.0 || b) (found_any name es)
+
+pub known_none : (name : List ℕ) (es : List (List ℕ × ℕ)) → found name es ≡ None → is_among name (map first_of es) ≡ false
+known_none name es h = sym (found_any name es) ∙ ap is_some h
+
+pub known_some : (name : List ℕ) (es : List (List ℕ × ℕ)) (v : ℕ) → found name es ≡ Some v → is_among name (map first_of es) ≡ true
+known_some name es v h = sym (found_any name es) ∙ ap is_some h
+
+or_false : (a b : Bool) → (a || b) ≡ false → (a ≡ false) × (b ≡ false)
+or_false false b h = (refl, h)
+or_false true b h = absurd (false≢true (sym h))
+
+new_name : (name : List ℕ) (v : ℕ) (es : List (List ℕ × ℕ)) → is_among name (map first_of es) ≡ false → map first_of (entered name v es) ≡ map first_of es ++ name ∷ []
+new_name name v [] h = refl
+new_name name v (e ∷ es) h =
+    let parts : (same_name name e.0 ≡ false) × (is_among name (map first_of es) ≡ false) = or_false (same_name name e.0) (is_among name (map first_of es)) h in
+    subst (λ (b : Bool). map first_of (cond b ((e.0, v) ∷ es) (e ∷ entered name v es)) ≡ e.0 ∷ (map first_of es ++ name ∷ [])) (sym parts.0) (ap (λ (ns : List (List ℕ)). e.0 ∷ ns) (new_name name v es parts.1))
+
+pub known_more : (name : List ℕ) (v : ℕ) (es new : List (List ℕ × ℕ)) (ms more : List FoundModule) (m : FoundModule) → is_among name (map first_of es) ≡ false → new ≡ entered name v es → more ≡ ms ++ m ∷ [] → m.name ≡ name → Knows es ms → Knows new more
+known_more name v es new ms more m unknown is behind named h =
+    ap (map first_of) is ∙ new_name name v es unknown ∙ ap (λ (ns : List (List ℕ)). ns ++ name ∷ []) h ∙ ap (λ (n : List ℕ). map name_of ms ++ n ∷ []) (sym named) ∙ sym (map-append name_of ms (m ∷ [])) ∙ ap (map name_of) (sym behind)
 
 module _ (gives : Folders) (count : ℕ) where
   -- ---- modules that are added

@@ -53,6 +53,14 @@ name_of m = m.name
 abbrev pub is_among : (name : List ℕ) → List (List ℕ) → Bool
 is_among name names = list_any (same_name name) names
 
+-- a name, beside a number
+abbrev pub first_of : List ℕ × ℕ → List ℕ
+first_of e = e.0
+
+-- the names of the modules that were looked for, in their order
+abbrev pub Knows : List (List ℕ × ℕ) → List FoundModule → Type 0
+Knows known modules = map first_of known ≡ map name_of modules
+
 -- a name behind others, unless it is that of the built in module, or is among them
 abbrev pub with_name : List (List ℕ) → List ℕ → List (List ℕ)
 with_name names name = if is_console name || is_among name names then names else names ++ name ∷ []

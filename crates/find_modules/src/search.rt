@@ -1,13 +1,15 @@
 //! The search for the modules of a program.
 
 ghost use Rattle.std.specs.Prelude.{◌≡◌, ◌≤◌, ◌∷◌, [], length, map, IfOk, OnOk};
-ghost use Rattle.find_modules.specs.Found.{IsAt, AreSources, BodyImports, AreOf, AreAdded, SourcesImport, TextsImport, is_among, max_modules, name_of};
+ghost use Rattle.typed_tree.specs.Names.{entered};
+ghost use Rattle.find_modules.specs.Found.{IsAt, AreSources, BodyImports, AreOf, AreAdded, Knows, SourcesImport, TextsImport, first_of, is_among, max_modules};
 
 use crate::folders::{FindFault, ModuleFolders, Part};
 use crate::found::{FoundModule, Sources};
 use crate::imports::imports_of;
 use m2_tree::{Name, is_console};
-use std::alloc::Global;
+use std::alloc::{AllocError, Global};
+use typed_tree::Dictionary;
 
 /// The most modules whose imports are followed: as many as a program may have files, so one with more is refused.
 pub const MAX_MODULES: usize = 1024;
@@ -47,30 +49,48 @@ fn sources_of<F: ModuleFolders>(
     }))
 }
 
-/// Whether a module of this name is among these.
-fn is_among(name: &Name, modules: &[FoundModule]) -> bool
-    ensures { result ≡ is_among name.now (map name_of modules.now) }
+/// Whether a module of this name was looked for before.
+#[tactic(auto, using(crate::proofs::Steps::known_none, crate::proofs::Steps::known_some))]
+fn is_known(name: &Name, known: &Dictionary<usize>) -> bool
+    ensures { result ≡ is_among name.now (map first_of known.now) }
 {
-    match modules {
-        [] => false,
-        [first, rest @ ..] => *name == first.name || is_among(name, rest),
+    match known.find(name.as_bytes()) {
+        None => false,
+        Some(_) => true,
     }
 }
 
+/// Enters the name of a module that is looked for.
+fn enter(
+    alloc: Global,
+    name: &Name,
+    number: usize,
+    known: &mut Dictionary<usize>,
+) -> Result<(), AllocError>
+    ensures { OnOk result (known.new ≡ entered name.now number known.old) }
+{
+    known.enter(alloc, name.as_bytes(), number)
+}
+
 /// Looks for a module, unless it is built in or was looked for before.
+#[tactic(auto, using(crate::proofs::Steps::known_more, crate::proofs::Steps::one_known, crate::proofs::Steps::one_added))]
 fn add_module<F: ModuleFolders>(
     alloc: Global,
     folders: &F,
     name: &Name,
     modules: &mut Vec<FoundModule>,
+    known: &mut Dictionary<usize>,
 ) -> Result<(), FindFault>
-    ensures { OnOk result (AreAdded (F.gives folders.now) (F.count folders.now) (name.now ∷ [])
+    requires { Knows known.old modules.old.items }
+    ensures added { OnOk result (AreAdded (F.gives folders.now) (F.count folders.now) (name.now ∷ [])
         modules.old.items modules.new.items) }
+    ensures known { OnOk result (Knows known.new modules.new.items) }
 {
-    if is_console(name.as_bytes()) || is_among(name, modules) {
+    if is_console(name.as_bytes()) || is_known(name, known) {
         return Ok(());
     }
     let sources = sources_of(alloc, folders, name)?;
+    enter(alloc, name, modules.len(), known)?;
     let name = name.clone()?;
     modules.push(FoundModule { name, sources })?;
     Ok(())
@@ -82,12 +102,15 @@ fn add_modules<F: ModuleFolders>(
     folders: &F,
     names: &[Name],
     modules: &mut Vec<FoundModule>,
+    known: &mut Dictionary<usize>,
 ) -> Result<(), FindFault>
-    ensures { OnOk result (AreAdded (F.gives folders.now) (F.count folders.now) names.now
+    requires { Knows known.old modules.old.items }
+    ensures added { OnOk result (AreAdded (F.gives folders.now) (F.count folders.now) names.now
         modules.old.items modules.new.items) }
+    ensures known { OnOk result (Knows known.new modules.new.items) }
 {
     for name in names {
-        add_module(alloc, folders, name, modules)?;
+        add_module(alloc, folders, name, modules, known)?;
     }
     Ok(())
 }
@@ -127,7 +150,7 @@ fn imports_of_module(alloc: Global, module: &FoundModule) -> Result<Vec<Name>, F
 /// Each is looked for once. `Console` is built in and is left out.
 ///
 /// The definition of a module comes from the first folder that has one, and the implementation from the same folder. What
-/// is not there is left to the compiler, which refuses it.
+/// is not there is left to the compiler, which refuses it. If there are more than 1024 modules, the search ends.
 ///
 /// `NoMemory` if a request for memory was refused. `Unread` if a file is there and cannot be read.
 pub fn find<F: ModuleFolders>(
@@ -140,14 +163,18 @@ pub fn find<F: ModuleFolders>(
         → AreOf (F.gives folders.now) (F.count folders.now) program.now modules.items) }
 {
     let mut modules = Vec::new(alloc);
+    let mut known = Dictionary::new(alloc);
     let names = imports_of(alloc, program)?;
-    add_modules(alloc, folders, &names, &mut modules)?;
+    add_modules(alloc, folders, &names, &mut modules, &mut known)?;
     for at in 0..MAX_MODULES {
         if at >= modules.len() {
             break;
         }
+        if modules.len() > MAX_MODULES {
+            return Ok(modules);
+        }
         let names = imports_of_module(alloc, &modules[at])?;
-        add_modules(alloc, folders, &names, &mut modules)?;
+        add_modules(alloc, folders, &names, &mut modules, &mut known)?;
     }
     Ok(modules)
 }

@@ -1,0 +1,7 @@
+use Rattle.std.proofs.Common.{◌≡◌, ◌++◌, take}
+use Rattle.std.specs.List.{flat_map}
+use Rattle.show_code.specs.Modules.{global_text}
+use Rattle.show_code.proofs.module.put_globals.Given as goal
+
+abbrev pub invariant-loop-global : goal.invariant-loop-global
+invariant-loop-global l = l.page ≡ l.fn.page ++ flat_map global_text (take l.global-index l.globals)

@@ -1,0 +1,7 @@
+use Rattle.std.proofs.Common.{◌≡◌, ◌++◌, take}
+use Rattle.std.specs.List.{flat_map}
+use Rattle.show_code.specs.Modules.{table_text}
+use Rattle.show_code.proofs.module.put_tables.Given as goal
+
+abbrev pub invariant-loop-table : goal.invariant-loop-table
+invariant-loop-table l = l.page ≡ l.fn.page ++ flat_map table_text (take l.table-index l.tables)

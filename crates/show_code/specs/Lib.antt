@@ -1,0 +1,3 @@
+pub mod Instructions
+pub mod Modules
+pub mod Pages

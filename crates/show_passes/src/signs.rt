@@ -1,0 +1,77 @@
+//! How signs and reserved words are written.
+
+ghost use Rattle.std.specs.Prelude.{◌≡◌};
+ghost use Rattle.show_passes.specs.Tokens.{spelling};
+
+use m2_tree::Symbol;
+
+/// A sign or a reserved word, as it is written.
+pub fn spelling(symbol: Symbol) -> &'static str
+    ensures { result.now ≡ spelling symbol }
+{
+    match symbol {
+        Symbol::And => "AND",
+        Symbol::Array => "ARRAY",
+        Symbol::Begin => "BEGIN",
+        Symbol::By => "BY",
+        Symbol::Case => "CASE",
+        Symbol::Const => "CONST",
+        Symbol::Definition => "DEFINITION",
+        Symbol::Div => "DIV",
+        Symbol::Do => "DO",
+        Symbol::Else => "ELSE",
+        Symbol::Elsif => "ELSIF",
+        Symbol::End => "END",
+        Symbol::Exit => "EXIT",
+        Symbol::Export => "EXPORT",
+        Symbol::For => "FOR",
+        Symbol::From => "FROM",
+        Symbol::If => "IF",
+        Symbol::Implementation => "IMPLEMENTATION",
+        Symbol::Import => "IMPORT",
+        Symbol::In => "IN",
+        Symbol::Loop => "LOOP",
+        Symbol::Mod => "MOD",
+        Symbol::Module => "MODULE",
+        Symbol::Not => "NOT",
+        Symbol::Of => "OF",
+        Symbol::Or => "OR",
+        Symbol::Pointer => "POINTER",
+        Symbol::Procedure => "PROCEDURE",
+        Symbol::Qualified => "QUALIFIED",
+        Symbol::Record => "RECORD",
+        Symbol::Repeat => "REPEAT",
+        Symbol::Return => "RETURN",
+        Symbol::Set => "SET",
+        Symbol::Then => "THEN",
+        Symbol::To => "TO",
+        Symbol::Type => "TYPE",
+        Symbol::Until => "UNTIL",
+        Symbol::Var => "VAR",
+        Symbol::While => "WHILE",
+        Symbol::With => "WITH",
+        Symbol::Plus => "+",
+        Symbol::Minus => "-",
+        Symbol::Star => "*",
+        Symbol::Slash => "/",
+        Symbol::Assign => ":=",
+        Symbol::Dot => ".",
+        Symbol::Comma => ",",
+        Symbol::Semicolon => ";",
+        Symbol::LeftParen => "(",
+        Symbol::LeftBracket => "[",
+        Symbol::LeftBrace => "{",
+        Symbol::Equal => "=",
+        Symbol::Unequal => "#",
+        Symbol::Less => "<",
+        Symbol::Greater => ">",
+        Symbol::AtMost => "<=",
+        Symbol::AtLeast => ">=",
+        Symbol::DotDot => "..",
+        Symbol::Colon => ":",
+        Symbol::RightParen => ")",
+        Symbol::RightBracket => "]",
+        Symbol::RightBrace => "}",
+        Symbol::Bar => "|",
+    }
+}
