@@ -20,8 +20,6 @@ pub enum Pass {
     Tokens,
     /// The tree of a text.
     Tree,
-    /// The types of the expressions of a module.
-    Types,
     /// The code of all modules of a program.
     Code,
 }

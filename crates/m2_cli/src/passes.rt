@@ -11,7 +11,6 @@ use command_words::{FAILED, Words};
 use m2_tree::{Pos, Refusal};
 use m2c::SourceFile;
 use show_passes::{File, Shown, show_program, show_text_tokens, show_text_tree};
-use show_types::show_typed;
 use std::alloc::{AllocError, Global};
 use std::fs;
 use std::rt::Files;
@@ -97,25 +96,20 @@ fn named(alloc: Global, files: &[SourceFile]) -> Result<Vec<File<'_>>, AllocErro
     Ok(all)
 }
 
-/// What a pass makes of a program that was built.
-fn page_of(alloc: Global, pass: Pass, built: &Modules) -> Result<Vec<u8>> {
+/// The code of a program that was built.
+fn page_of(alloc: Global, built: &Modules) -> Result<Vec<u8>> {
     let files = named(alloc, &built.files)?;
-    match pass {
-        Pass::Types => Ok(show_typed(alloc, &files)?),
-        Pass::Tokens | Pass::Tree | Pass::Code => {
-            Ok(show_program(alloc, &files, &built.link, &built.others)?)
-        }
-    }
+    Ok(show_program(alloc, &files, &built.link, &built.others)?)
 }
 
-/// Shows what a pass makes of the program of this file with all its modules. The status.
-fn show_whole<R>(rt: &R, setting: &Setting, pass: Pass, path: &str) -> Result<u8>
+/// Shows the code of the program of this file with all its modules. The status.
+fn show_whole<R>(rt: &R, setting: &Setting, path: &str) -> Result<u8>
 where
     R: Files + Print + Eprint + AllocGlobal + Threads + Sync,
 {
     match build_program(rt, setting, path)? {
         Words::Reported(status) => Ok(status),
-        Words::Read(built) => Ok(write_page(rt, &page_of(rt.alloc(), pass, &built)?)),
+        Words::Read(built) => Ok(write_page(rt, &page_of(rt.alloc(), &built)?)),
     }
 }
 
@@ -124,8 +118,8 @@ pub fn show_pass<R>(rt: &R, setting: &Setting, pass: Pass, path: &str) -> Result
 where
     R: Files + Print + Eprint + AllocGlobal + Threads + Sync,
 {
-    if matches!(pass, Pass::Types | Pass::Code) {
-        return show_whole(rt, setting, pass, path);
+    if pass == Pass::Code {
+        return show_whole(rt, setting, path);
     }
     let text = match text_of(rt, path) {
         Words::Read(text) => text,
@@ -133,7 +127,7 @@ where
     };
     let made = match pass {
         Pass::Tokens => show_text_tokens(rt.alloc(), &text)?,
-        Pass::Tree | Pass::Types | Pass::Code => show_text_tree(rt.alloc(), &text)?,
+        Pass::Tree | Pass::Code => show_text_tree(rt.alloc(), &text)?,
     };
     show_text(rt, setting, path, text, made)
 }
