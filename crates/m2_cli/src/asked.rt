@@ -13,6 +13,17 @@ pub enum Style {
     Json,
 }
 
+/// A pass of the compiler, of which it is shown what it makes.
+#[derive(Clone, Copy, PartialEq, Eq)]
+pub enum Pass {
+    /// The tokens of a text.
+    Tokens,
+    /// The tree of a text.
+    Tree,
+    /// The code of all modules of a program.
+    Code,
+}
+
 /// How programs are found and built.
 #[derive(Drop)]
 pub struct Setting {
@@ -44,6 +55,12 @@ pub enum Asked {
     /// To say what is refused of the programs of these files.
     Check {
         programs: Vec<String>,
+        setting: Setting,
+    },
+    /// To show what a pass makes of the program of this file.
+    Show {
+        pass: Pass,
+        program: String,
         setting: Setting,
     },
     /// To print the page of a topic, or the list of all topics if this is empty.

@@ -6,13 +6,16 @@ use crate::finding::find_program;
 use crate::showing::show;
 use anyhow::Result;
 use command_words::{FAILED, Words};
-use m2c::{BuildFault, Gate, Outcome, build};
+use m2c::{Gate, Outcome, SourceFile, build};
+use run_program::ProgramFault;
 use std::rt::Files;
 use std::thread::Threads;
 
 /// The modules of a program.
 #[derive(Drop)]
 pub struct Modules {
+    /// The files of which they were built.
+    pub files: Vec<SourceFile>,
     /// The module that all begins with.
     pub link: Vec<u8>,
     /// The others under their names, in the order in which they start.
@@ -21,7 +24,7 @@ pub struct Modules {
 
 /// Lets every worker in.
 #[derive(Drop)]
-struct Open;
+pub struct Open;
 
 impl Gate for Open {
     fn enter(&self, _job: usize) -> bool {
@@ -29,13 +32,14 @@ impl Gate for Open {
     }
 }
 
-/// Says why nothing was built.
-fn say_fault<R: Eprint>(rt: &R, path: &str, fault: BuildFault) {
+/// Says why the program of the file of this name was not built or not run.
+pub fn say_fault<R: Eprint>(rt: &R, path: &str, fault: ProgramFault) {
     let words = match fault {
-        BuildFault::Workers => "the number of workers cannot be had (70)",
-        BuildFault::Pages => "the number of pages cannot be had (73)",
-        BuildFault::NoMemory => "no memory left (90)",
-        BuildFault::NoEncoding => "a module is too large to encode",
+        ProgramFault::Workers => "the number of workers cannot be had (70)",
+        ProgramFault::Pages => "the number of pages cannot be had (73)",
+        ProgramFault::NoMemory => "no memory left (90)",
+        ProgramFault::NoEncoding => "a module is too large to encode",
+        ProgramFault::Write => "standard output failed (91)",
     };
     let _ = eprintln!(rt; "{PROGRAM}: {path}: {words}");
 }
@@ -57,11 +61,12 @@ where
             &refusals,
         )?)),
         Ok(Outcome::Built { link, modules }) => Ok(Words::Read(Modules {
+            files: program.files,
             link,
             others: modules,
         })),
         Err(fault) => {
-            say_fault(rt, path, fault);
+            say_fault(rt, path, ProgramFault::from(fault));
             Ok(Words::Reported(FAILED))
         }
     }

@@ -1,4 +1,4 @@
-//! The one tool for people: `m2 run`, `m2 build`, `m2 check`, `m2 explain` and `m2 new`.
+//! The one tool for people: `m2 run`, `m2 build`, `m2 check`, `m2 show`, `m2 explain` and `m2 new`.
 //!
 //! The words of the command line are read first. Then the modules that a program imports are found in folders, and the whole
 //! is built in memory. `run` executes what was built, `build` writes it into a folder, and `check` does neither. What is
@@ -15,6 +15,7 @@ mod explaining;
 mod finding;
 mod libraries;
 mod output;
+mod passes;
 mod places;
 mod running;
 mod saving;
@@ -26,7 +27,8 @@ use crate::asked::Asked;
 use crate::checking::check_all;
 use crate::creating::create;
 use crate::explaining::explain;
-use crate::running::run_program;
+use crate::passes::show_pass;
+use crate::running::run_file;
 use crate::saving::build_into;
 use crate::words::read_command_line;
 use anyhow::Result;
@@ -49,13 +51,18 @@ where
             program,
             setting,
             steps,
-        } => run_program(rt, setting, program.as_str(), *steps, out),
+        } => run_file(rt, setting, program.as_str(), *steps, out),
         Asked::Build {
             program,
             setting,
             out,
         } => build_into(rt, setting, program.as_str(), out.as_str()),
         Asked::Check { programs, setting } => check_all(rt, setting, programs),
+        Asked::Show {
+            pass,
+            program,
+            setting,
+        } => show_pass(rt, setting, *pass, program.as_str()),
         Asked::Explain { topic } => Ok(explain(rt, topic.as_str())),
         Asked::New { name } => create(rt, name.as_str()),
     }

@@ -4,18 +4,17 @@ ghost use Rattle.std.specs.Prelude.{◌≡◌, ◌<◌, ◌^◌, ◌+◌};
 
 use crate::PROGRAM;
 use crate::asked::Setting;
-use crate::building::{Modules, build_program};
+use crate::building::{Open, say_fault};
+use crate::finding::{Program as FoundProgram, find_program};
 use crate::output::say_output_fault;
 use crate::screen::Screen;
+use crate::showing::show;
 use anyhow::Result;
 use command_words::{FAILED, Words};
-use std::alloc::Global;
+use run_program::{End, Instances, Loaded, Program, load_program};
 use std::rt::Files;
 use std::thread::Threads;
-use wasm_binary::read_module;
-use wasm_engine::{End, Instances, RunFault};
-use wasm_tree::WFault;
-use wasm_valid::{ValidModule, validate};
+use wasm_engine::RunFault;
 
 /// The status of a program that ended by itself or by HALT.
 const ENDED: u8 = 0;
@@ -41,23 +40,6 @@ enum Course {
     Broken(RunFault),
     /// Standard output failed.
     Unwritten,
-}
-
-/// Adds the module that these bytes encode.
-fn add_module(alloc: Global, bytes: &[u8], modules: &mut Vec<ValidModule>) -> Result<(), WFault> {
-    let tree = read_module(alloc, bytes)?;
-    modules.push(validate(alloc, tree)?)?;
-    Ok(())
-}
-
-/// The modules that these bytes encode, link first.
-fn read_modules(alloc: Global, built: &Modules) -> Result<Vec<ValidModule>, WFault> {
-    let mut modules = Vec::new(alloc);
-    add_module(alloc, &built.link, &mut modules)?;
-    for module in &built.others {
-        add_module(alloc, &module.1, &mut modules)?;
-    }
-    Ok(modules)
 }
 
 /// Makes at most so many reductions, and writes what is printed by them.
@@ -163,48 +145,66 @@ fn write_course<R: Eprint, P: Print>(rt: &R, course: Course, steps: u64, screen:
     }
 }
 
-/// Links modules and executes them. The status, and a fault if they cannot be linked.
+/// Links a program and executes it. The status.
 fn execute<R: Eprint + AllocGlobal, P: Print>(
     rt: &R,
-    modules: &[ValidModule],
+    path: &str,
+    program: &Program,
     steps: u64,
     screen: &mut Screen<P>,
-) -> Result<u8, WFault>
+) -> u8
     requires { screen.old.failures ≡ 0 }
 {
-    let mut instances = Instances::link(rt.alloc(), modules)?;
-    let course = run_slices(&mut instances, steps, screen);
-    Ok(write_course(rt, course, steps, screen))
+    match program.link(rt.alloc()) {
+        Ok(mut instances) => {
+            let course = run_slices(&mut instances, steps, screen);
+            write_course(rt, course, steps, screen)
+        }
+        Err(fault) => {
+            say_fault(rt, path, fault);
+            FAILED
+        }
+    }
 }
 
-/// Reads, links and executes what was built, and answers the status.
-fn run_modules<R: Eprint + AllocGlobal, P: Print>(
+/// Executes the program of the file of this name, if it is ready, and else shows what is refused of it. The status.
+fn finish<R, P>(
     rt: &R,
-    built: &Modules,
+    setting: &Setting,
+    path: &str,
+    found: &FoundProgram,
+    loaded: Loaded,
     steps: u64,
-    screen: &mut Screen<P>,
-) -> Result<u8, WFault>
-    requires { screen.old.failures ≡ 0 }
+    out: P,
+) -> Result<u8>
+where
+    R: Print + Eprint + AllocGlobal,
+    P: Print + Drop,
 {
-    let modules = read_modules(rt.alloc(), built)?;
-    execute(rt, &modules, steps, screen)
+    match loaded {
+        Loaded::Refused(refusals) => show(rt, setting.style, found, &refusals),
+        Loaded::Ready(program) => {
+            let mut screen = Screen::new(rt.alloc(), out)?;
+            Ok(execute(rt, path, &program, steps, &mut screen))
+        }
+    }
 }
 
-/// Builds the program of this file, and executes it for at most so many reductions. It prints on this stream. The status.
-pub fn run_program<R, P>(rt: &R, setting: &Setting, program: &str, steps: u64, out: P) -> Result<u8>
+/// Builds the program of this file in memory, and executes it for at most so many reductions. It prints on this stream. The
+/// status.
+pub fn run_file<R, P>(rt: &R, setting: &Setting, path: &str, steps: u64, out: P) -> Result<u8>
 where
     R: Files + Print + Eprint + AllocGlobal + Threads + Sync,
     P: Print + Drop,
 {
-    let built = match build_program(rt, setting, program)? {
-        Words::Read(built) => built,
+    let found = match find_program(rt, setting, path)? {
+        Words::Read(found) => found,
         Words::Reported(status) => return Ok(status),
     };
-    let mut screen = Screen::new(rt.alloc(), out)?;
-    match run_modules(rt, &built, steps, &mut screen) {
-        Ok(status) => Ok(status),
+    match load_program(rt, rt.alloc(), &found.files, setting.options, &Open) {
+        Ok(loaded) => finish(rt, setting, path, &found, loaded, steps, out),
         Err(fault) => {
-            let _ = eprintln!(rt; "{PROGRAM}: {program}: {fault}");
+            say_fault(rt, path, fault);
             Ok(FAILED)
         }
     }

@@ -1,7 +1,7 @@
 //! The words of the command line.
 
 use crate::PROGRAM;
-use crate::asked::{Asked, Setting, Style};
+use crate::asked::{Asked, Pass, Setting, Style};
 use crate::libraries::libraries_of;
 use anyhow::Result;
 use clap::{Arg, ArgAction, ArgMatches, Command};
@@ -107,6 +107,18 @@ fn check_command<'a>(alloc: Global) -> Result<Command<'a>> {
     with_setting(alloc, command)
 }
 
+fn show_command<'a>(alloc: Global) -> Result<Command<'a>> {
+    let command = Command::new(alloc, "show")
+        .about("Shows what a pass makes of a program: tokens, tree or code")
+        .arg(
+            Arg::new(alloc, "PASS").required(true).help(
+                "tokens or tree of the file, or code of all modules of the program",
+            ),
+        )?
+        .arg(program_word(alloc))?;
+    with_setting(alloc, command)
+}
+
 fn explain_command<'a>(alloc: Global) -> Result<Command<'a>> {
     Ok(
         Command::new(alloc, "explain")
@@ -136,11 +148,12 @@ fn command<'a>(alloc: Global) -> Result<Command<'a>> {
     Ok(
         Command::new(alloc, PROGRAM)
             .version(VERSION)
-            .about("Runs, builds, checks and explains Modula-2 programs")
+            .about("Runs, builds, checks, shows and explains Modula-2 programs")
             .subcommand_required(true)
             .subcommand(run_command(alloc)?)?
             .subcommand(build_command(alloc)?)?
             .subcommand(check_command(alloc)?)?
+            .subcommand(show_command(alloc)?)?
             .subcommand(explain_command(alloc)?)?
             .subcommand(new_command(alloc)?)?,
     )
@@ -289,6 +302,36 @@ where
     }
 }
 
+/// The pass of this name. Any other word is reported.
+fn pass_of<R: Eprint>(rt: &R, word: &str) -> Option<Pass> {
+    match word {
+        "tokens" => Some(Pass::Tokens),
+        "tree" => Some(Pass::Tree),
+        "code" => Some(Pass::Code),
+        _ => {
+            let _ = eprintln!(rt; "{PROGRAM}: PASS is tokens, tree or code, not {word}");
+            None
+        }
+    }
+}
+
+fn show_asked<R>(rt: &R, matches: &ArgMatches) -> Result<Words<Asked>>
+where
+    R: Files + Env + Eprint + AllocGlobal,
+{
+    let Some(pass) = pass_of(rt, matches.get_str("PASS").unwrap_or("")) else {
+        return Ok(Words::Reported(COMMAND_LINE));
+    };
+    match program_of(rt, matches)? {
+        Words::Reported(status) => Ok(Words::Reported(status)),
+        Words::Read((program, setting)) => Ok(Words::Read(Asked::Show {
+            pass,
+            program,
+            setting,
+        })),
+    }
+}
+
 /// The words of a topic, with a blank between two.
 fn topic_of(alloc: Global, words: &[&str]) -> Result<String> {
     let mut topic = String::new(alloc);
@@ -327,6 +370,7 @@ where
         Some(("run", inner)) => run_asked(rt, inner),
         Some(("build", inner)) => build_asked(rt, inner),
         Some(("check", inner)) => check_asked(rt, inner),
+        Some(("show", inner)) => show_asked(rt, inner),
         Some(("explain", inner)) => explain_asked(rt.alloc(), inner),
         Some(("new", inner)) => new_asked(rt, inner),
         _ => Ok(Words::Reported(COMMAND_LINE)),

@@ -5,6 +5,7 @@
 //! stands on standard error.
 #![tactic(auto)]
 
+mod before;
 mod explaining;
 mod json;
 mod layout;

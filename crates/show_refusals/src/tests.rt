@@ -39,7 +39,7 @@ const ROWS: [Row; 15] = [
         line: 1,
         col: 4,
         number: 10,
-        said: "  this word or sign does not fit here (m2 explain 10)\n1 | ab      c\n            ^\n",
+        said: "  this word or sign does not fit here (m2 explain 10)\n1 | ab      c\n            ^\n  A `;` or an operator may be missing before it.\n",
     },
     // a byte that is not printable takes four columns
     Row {
@@ -63,7 +63,7 @@ const ROWS: [Row; 15] = [
         line: 1,
         col: 9,
         number: 10,
-        said: "  this word or sign does not fit here (m2 explain 10)\n1 | MODULE M\n            ^\n",
+        said: "  this word or sign does not fit here (m2 explain 10)\n1 | MODULE M\n            ^\n  The text ends before its module does: an END may be missing.\n",
     },
     // the end of the text, behind its last line end
     Row {
@@ -71,7 +71,7 @@ const ROWS: [Row; 15] = [
         line: 2,
         col: 1,
         number: 10,
-        said: "  this word or sign does not fit here (m2 explain 10)\n2 | \n    ^\n",
+        said: "  this word or sign does not fit here (m2 explain 10)\n2 | \n    ^\n  The text ends before its module does: an END may be missing.\n",
     },
     // a place that no text has
     Row {
@@ -103,7 +103,7 @@ const ROWS: [Row; 15] = [
         line: 1,
         col: 8,
         number: 10,
-        said: "  this word or sign does not fit here (m2 explain 10)\n1 | i := 1 := 2\n           ^^\n",
+        said: "  this word or sign does not fit here (m2 explain 10)\n1 | i := 1 := 2\n           ^^\n  Constants are declared, and values compared, with `=`.\n",
     },
     Row {
         text: b"i := \"a b\";\n",

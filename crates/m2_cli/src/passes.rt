@@ -1,0 +1,133 @@
+//! `m2 show`: what a pass makes of a program.
+
+use crate::PROGRAM;
+use crate::asked::{Pass, Setting};
+use crate::building::{Modules, build_program};
+use crate::finding::Program;
+use crate::output::say_output_fault;
+use crate::showing::show;
+use anyhow::Result;
+use command_words::{FAILED, Words};
+use m2_tree::{Pos, Refusal};
+use m2c::SourceFile;
+use show_passes::{File, Shown, show_program, show_text_tokens, show_text_tree};
+use std::alloc::{AllocError, Global};
+use std::fs;
+use std::rt::Files;
+use std::thread::Threads;
+
+/// The status of what is shown.
+const SHOWN: u8 = 0;
+
+/// Writes what is shown. The status.
+fn write_page<R: Print + Eprint>(rt: &R, page: &[u8]) -> u8 {
+    match rt.write_all(page) {
+        Ok(()) => SHOWN,
+        Err(error) => {
+            say_output_fault(rt, &error);
+            FAILED
+        }
+    }
+}
+
+/// The program of this text alone.
+fn alone(alloc: Global, path: &str, bytes: Vec<u8>) -> Result<Program, AllocError> {
+    let mut files = Vec::new(alloc);
+    let name = String::from_str(alloc, path)?;
+    files.push(SourceFile { name, bytes })?;
+    Ok(Program {
+        files,
+        lacking: Vec::new(alloc),
+        searched: Vec::new(alloc),
+    })
+}
+
+/// Shows where a text is refused. The status.
+fn refuse<R: Print + Eprint + AllocGlobal>(
+    rt: &R,
+    setting: &Setting,
+    path: &str,
+    text: Vec<u8>,
+    pos: Pos,
+    number: u32,
+) -> Result<u8> {
+    let mut refusals = Vec::new(rt.alloc());
+    let file = String::from_str(rt.alloc(), path)?;
+    refusals.push(Refusal { file, pos, number })?;
+    show(
+        rt,
+        setting.style,
+        &alone(rt.alloc(), path, text)?,
+        &refusals,
+    )
+}
+
+/// Shows what a pass makes of this text, or where it is refused. The status.
+fn show_text<R: Print + Eprint + AllocGlobal>(
+    rt: &R,
+    setting: &Setting,
+    path: &str,
+    text: Vec<u8>,
+    made: Shown<Vec<u8>>,
+) -> Result<u8> {
+    match made {
+        Shown::Made(page) => Ok(write_page(rt, &page)),
+        Shown::Refused(pos, number) => refuse(rt, setting, path, text, pos, number),
+    }
+}
+
+/// The text of a file. If it cannot be read, that is reported.
+fn text_of<R: Files + Eprint + AllocGlobal>(rt: &R, path: &str) -> Words<Vec<u8>> {
+    match fs::read(rt, path) {
+        Ok(text) => Words::Read(text),
+        Err(error) => {
+            let _ = eprintln!(rt; "{PROGRAM}: cannot read {path}: {error}");
+            Words::Reported(FAILED)
+        }
+    }
+}
+
+/// The names of files with their texts.
+fn named(alloc: Global, files: &[SourceFile]) -> Result<Vec<File<'_>>, AllocError> {
+    let mut all = Vec::new(alloc);
+    for file in files {
+        all.push((file.name.as_str(), file.bytes.as_slice()))?;
+    }
+    Ok(all)
+}
+
+/// The code of a program that was built.
+fn page_of(alloc: Global, built: &Modules) -> Result<Vec<u8>> {
+    let files = named(alloc, &built.files)?;
+    Ok(show_program(alloc, &files, &built.link, &built.others)?)
+}
+
+/// Shows the code of the program of this file with all its modules. The status.
+fn show_whole<R>(rt: &R, setting: &Setting, path: &str) -> Result<u8>
+where
+    R: Files + Print + Eprint + AllocGlobal + Threads + Sync,
+{
+    match build_program(rt, setting, path)? {
+        Words::Reported(status) => Ok(status),
+        Words::Read(built) => Ok(write_page(rt, &page_of(rt.alloc(), &built)?)),
+    }
+}
+
+/// Shows what a pass makes of the program of this file. The status.
+pub fn show_pass<R>(rt: &R, setting: &Setting, pass: Pass, path: &str) -> Result<u8>
+where
+    R: Files + Print + Eprint + AllocGlobal + Threads + Sync,
+{
+    if pass == Pass::Code {
+        return show_whole(rt, setting, path);
+    }
+    let text = match text_of(rt, path) {
+        Words::Read(text) => text,
+        Words::Reported(status) => return Ok(status),
+    };
+    let made = match pass {
+        Pass::Tokens => show_text_tokens(rt.alloc(), &text)?,
+        Pass::Tree | Pass::Code => show_text_tree(rt.alloc(), &text)?,
+    };
+    show_text(rt, setting, path, text, made)
+}
