@@ -25,7 +25,8 @@ abbrev pub broken_in_body : Module → (number : ℕ) → List Table → List Fa
 broken_in_body m number tables =
     let own = own_table m tables in broken (checked every number m own (tables_behind own tables))
 
--- all rules of definitions and bodies that a module breaks, beside the tables of those that it needs
+-- all rules of definitions and bodies that a module breaks, beside the tables of those that it
+-- needs
 abbrev pub all_broken : Module → (number : ℕ) → List Table → Contents → List Fault
 all_broken m number tables (contents.Definition defs) =
     broken (definition.compiled every number m tables)
