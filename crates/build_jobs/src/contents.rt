@@ -15,9 +15,10 @@ use check_scope::{Elaborated, Fault};
 use layout_storage::Layout;
 use m2_emit::emit;
 use m2_rule::Rule;
-use m2_tree::{Contents, Items, Module};
+use m2_tree::{Contents, Module};
 use std::alloc::{AllocError, Global};
-use typed_tree::{Shared, Table, TypedModule};
+use tree_parts::{Items, Shared};
+use typed_tree::{Table, TypedModule};
 use wasm_tree::EncodeError;
 
 /// A definition gives its table, or breaks a rule.

@@ -6,9 +6,9 @@ ghost use Rattle.build_jobs.specs.Compiling.{is_sound, table_in, tables_of};
 
 use check_scope::Fault;
 use m2_emit::ModuleBytes;
-use m2_tree::Items;
 use std::alloc::{AllocError, Global};
-use typed_tree::{Shared, Table};
+use tree_parts::{Items, Shared};
+use typed_tree::Table;
 
 /// What becomes of a module.
 #[derive(Drop)]

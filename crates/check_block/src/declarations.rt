@@ -17,8 +17,9 @@ use check_definition::{
 use check_scope::{Elaborated, Fault, Known, Scope, beside, finish, reported};
 use check_type_expr::{nothing_of, type_of};
 use m2_rule::Rule;
-use m2_tree::{Decl, Heading, Ident, Items, Module, Pos, Variables};
+use m2_tree::{Decl, Heading, Ident, Module, Pos, Variables};
 use std::alloc::{AllocError, Global};
+use tree_parts::Items;
 use typed_tree::{Dictionary, LocalKind, LocalVariable, Meaning, TypeNo};
 
 // ---- variables of procedures

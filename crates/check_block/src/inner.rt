@@ -7,9 +7,10 @@ ghost use Rattle.check_block.specs.Inner.{inwards, outside, formal_kind, formal_
 
 use check_scope::{Block, Elaborated, Fault, Known, Origin, Scope};
 use check_type_expr::{formal_of, result_of};
-use m2_tree::{Heading, Ident, Items, Section};
+use m2_tree::{Heading, Ident, Section};
 use std::alloc::{AllocError, Global};
 use std::mem;
+use tree_parts::Items;
 use typed_tree::{Dictionary, Formal, LocalKind, LocalVariable, Meaning, TypeNo};
 
 /// What is put back behind a procedure.

@@ -5,8 +5,9 @@ ghost use Rattle.check_block.specs.Naming.{marked_decl, marked_decls};
 
 use check_definition::{mark_constants, mark_types, mark_variables};
 use check_scope::{Fault, Known, Scope, mark};
-use m2_tree::{Decl, Items};
+use m2_tree::Decl;
 use std::alloc::{AllocError, Global};
+use tree_parts::Items;
 
 fn mark_decl(alloc: Global, scope: &mut Scope<Fault>, decl: &Decl) -> Result<(), AllocError>
     ensures { OnOk result (scope.new ≡ marked_decl scope.old decl.now) }

@@ -14,9 +14,10 @@ use check_block::{declare_module, procedure_ends};
 use check_definition::{first_scope, modules_of, with_console};
 use check_scope::{Elaborated, Fault, Scope, both, reported};
 use m2_rule::Rule;
-use m2_tree::{Block, Contents, Decl, Items, Module};
+use m2_tree::{Block, Contents, Decl, Module};
 use std::alloc::{AllocError, Global};
-use typed_tree::{Dictionary, Shared, Table, TypedModule, TypedStmt};
+use tree_parts::{Items, Shared};
+use typed_tree::{Dictionary, Table, TypedModule, TypedStmt};
 
 /// The module of a body that was checked.
 fn module_or(

@@ -9,9 +9,10 @@ use crate::{Statements, check_with};
 use check_scope::{Elaborated, Fault, Scope};
 use check_stmt::statements;
 use check_stmt_parts::Around;
-use m2_tree::{Items, Module, Stmt};
+use m2_tree::{Module, Stmt};
 use std::alloc::{AllocError, Global};
-use typed_tree::{Shared, Table, TypeNo, TypedModule, TypedStmt};
+use tree_parts::{Items, Shared};
+use typed_tree::{Table, TypeNo, TypedModule, TypedStmt};
 
 /// Elaborates the statements of a body.
 struct Checker;

@@ -8,10 +8,10 @@ ghost use Rattle.check_body.specs.Own.{with_own_name, own_names, with_variable_o
 
 use check_definition::{first_scope, with_table};
 use check_scope::{Fault, Known, Origin, Scope};
-use m2_tree::Items;
 use std::alloc::{AllocError, Global};
+use tree_parts::{Items, Shared};
 use typed_tree::{
-    Dictionary, Formal, Made, Meaning, ModuleTypes, Shape, Shared, Signature, Table, TypeNo, Types,
+    Dictionary, Formal, Made, Meaning, ModuleTypes, Shape, Signature, Table, TypeNo, Types,
 };
 
 // ---- names

@@ -7,8 +7,9 @@ ghost use Rattle.check_body.specs.Inside.{returns_of, which_of, begun_procedure,
 use crate::{Bodies, Numbered, begin_at, fill, procedure_named, routine_of};
 use check_block::{Outside, enter, leave};
 use check_scope::{Elaborated, Fault, Scope, beside};
-use m2_tree::{Heading, Ident, Items};
+use m2_tree::{Heading, Ident};
 use std::alloc::{AllocError, Global};
+use tree_parts::Items;
 use typed_tree::{TypeNo, TypedStmt, Which};
 
 /// How far the bodies of a module are checked.

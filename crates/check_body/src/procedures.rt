@@ -9,8 +9,9 @@ use crate::procedure::{Walk, begin_procedure, end_procedure, which_of};
 use crate::statements::{Statements, check_statements};
 use check_block::declare_block;
 use check_scope::{Elaborated, Fault};
-use m2_tree::{Block, Decl, Heading, Items};
+use m2_tree::{Block, Decl, Heading};
 use std::alloc::{AllocError, Global};
+use tree_parts::Items;
 use typed_tree::{TypeNo, TypedStmt, Which};
 
 /// Declares what the block of a procedure declares, and answers how many names stand before each declaration.

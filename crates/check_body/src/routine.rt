@@ -6,8 +6,9 @@ ghost use Rattle.check_body.specs.Routines.{numbered_by, numbered_elaborated, nu
 
 use crate::imports::{all_imports, typed_imports};
 use check_scope::{Elaborated, Fault, Known, Scope};
-use m2_tree::{Ident, Items, Module, Name, Pos};
+use m2_tree::{Ident, Module, Name, Pos};
 use std::alloc::{AllocError, Global};
+use tree_parts::Items;
 use typed_tree::{
     Dictionary, INTEGER, Imported, Meaning, Routine, Table, TypeNo, TypedModule, TypedStmt, Which,
 };

@@ -5,8 +5,9 @@ ghost use Rattle.check_scope.specs.declared.fault.Fault.{Fault as TheFault};
 ghost use Rattle.check_body.specs.Elaborating.{Elaborates, statements_of};
 
 use check_scope::{Elaborated, Fault, Scope};
-use m2_tree::{Items, Stmt};
+use m2_tree::Stmt;
 use std::alloc::{AllocError, Global};
+use tree_parts::Items;
 use typed_tree::{TypeNo, TypedStmt};
 
 /// Elaborates the statements of bodies.

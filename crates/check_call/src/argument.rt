@@ -7,8 +7,9 @@ ghost use Rattle.check_call.specs.Actuals.{starts_at_zero, elements_suit_in, ele
 use check_operator::{Class, Computed, Designated, array_of, class_of, taken, value_suited};
 use check_scope::{Elaborated, both, reported};
 use m2_rule::Rule;
-use m2_tree::{Items, Pos};
+use m2_tree::Pos;
 use std::alloc::AllocError;
+use tree_parts::Items;
 use typed_tree::{Argument, CHAR, Formal, Scalar, TypeNo, Types, Value, are_same, scalar_of};
 
 fn starts_at_zero(index: Option<Scalar>) -> bool

@@ -9,7 +9,8 @@ ghost use Rattle.check_call.specs.Callees.{held_by, callee_of, counted, function
 use check_operator::{Class, Designated, class_of};
 use check_scope::{Elaborated, reported};
 use m2_rule::Rule;
-use m2_tree::{Items, Pos};
+use m2_tree::Pos;
+use tree_parts::Items;
 use typed_tree::{
     Argument, Call, LocalProcedure, Place, Procedure, Signature, Standard, TypeNo, Types,
 };

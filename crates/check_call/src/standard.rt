@@ -9,8 +9,9 @@ use check_const_ops::converted;
 use check_operator::{Computed, Designated, of_value};
 use check_scope::{Elaborated, both, reported};
 use m2_rule::Rule;
-use m2_tree::{Boxed, Pos};
+use m2_tree::Pos;
 use std::alloc::{AllocError, Global};
+use tree_parts::Boxed;
 use typed_tree::{
     BOOLEAN, CARDINAL, CHAR, Scalar, Standard, TypeNo, TypedExpr, Types, are_same, is_numeric,
     scalar_of,

@@ -14,7 +14,8 @@ use check_scope::{Elaborated, Fault, Scope, both, looked_up, of_sort};
 use m2_rule::Rule;
 use m2_tree::{Ident, Operator, Pos, Quoted, RelOp, Sign};
 use std::alloc::{AllocError, Global};
-use typed_tree::{Shared, TypeNo, Value};
+use tree_parts::Shared;
+use typed_tree::{TypeNo, Value};
 
 /// Where a sum begins: its sign, or else its first operand.
 pub fn sign_place(sign: Option<Operator<Sign>>, at: Pos) -> Pos

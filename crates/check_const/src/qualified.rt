@@ -9,7 +9,8 @@ use check_scope::{Elaborated, Fault, Scope, reported};
 use m2_rule::Rule;
 use m2_tree::{Ident, Pos};
 use std::alloc::AllocError;
-use typed_tree::{Meaning, Shared, Table};
+use tree_parts::Shared;
+use typed_tree::{Meaning, Table};
 
 fn exported_by<'a>(table: Option<&'a Shared<Table>>, name: &[u8]) -> Option<&'a Meaning>
     ensures { option_copied result ≡ exported_by name.now (option_copied table.entry) }

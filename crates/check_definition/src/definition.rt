@@ -12,9 +12,10 @@ use crate::marking::mark_defs;
 use crate::predeclared::{console, first_scope};
 use check_scope::{Elaborated, Fault, Scope, reported};
 use m2_rule::Rule;
-use m2_tree::{Contents, Def, Items, Module};
+use m2_tree::{Contents, Def, Module};
 use std::alloc::{AllocError, Global};
-use typed_tree::{Dictionary, Shared, Table};
+use tree_parts::{Items, Shared};
+use typed_tree::{Dictionary, Table};
 
 /// The tables of a module's imports, and that of Console.
 pub fn with_console(

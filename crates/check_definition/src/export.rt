@@ -7,9 +7,10 @@ ghost use Rattle.check_definition.specs.Steps.{if_some};
 ghost use Rattle.check_definition.specs.Export.{with_meaning, with_declared, with_export, exports, with_types, own_types, reached_of, with_table_if, with_imported, with_import_of, imported_modules};
 
 use check_scope::{Fault, Known, Origin};
-use m2_tree::{Ident, Import, Items};
+use m2_tree::{Ident, Import};
 use std::alloc::{AllocError, Global};
-use typed_tree::{Dictionary, Made, Meaning, ModuleTypes, Reached, Shared, Table, Types};
+use tree_parts::{Items, Shared};
+use typed_tree::{Dictionary, Made, Meaning, ModuleTypes, Reached, Table, Types};
 
 // ---- exports
 

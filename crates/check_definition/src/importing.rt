@@ -14,7 +14,8 @@ use check_scope::{Elaborated, Fault, Known, Origin, Scope, beside, import, repor
 use m2_rule::Rule;
 use m2_tree::{Ident, Import, Pos};
 use std::alloc::{AllocError, Global};
-use typed_tree::{Dictionary, Meaning, Shared, Table};
+use tree_parts::Shared;
+use typed_tree::{Dictionary, Meaning, Table};
 
 /// Gives the name of a module its place, unless it has one.
 fn with_module(

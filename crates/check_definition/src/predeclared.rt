@@ -5,11 +5,12 @@ ghost use Rattle.std.specs.List.{fold};
 ghost use Rattle.check_definition.specs.Predeclared.{predeclared_as, truth, with_types, with_truth, with_functions, with_bounds, with_procedures, predeclared, console, with_reached, with_table, others_of, first_scope};
 
 use check_scope::{Block, Fault, Known, Origin, Scope};
-use m2_tree::{Items, Name};
+use m2_tree::Name;
 use std::alloc::{AllocError, Global};
+use tree_parts::{Items, Shared};
 use typed_tree::{
     BITSET, BOOLEAN, CARDINAL, CHAR, Dictionary, INTEGER, Meaning, ModuleTypes, Reached,
-    ScalarValue, Shared, Standard, Table, Types, Value,
+    ScalarValue, Standard, Table, Types, Value,
 };
 
 fn predeclare(

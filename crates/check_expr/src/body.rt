@@ -32,8 +32,9 @@ use check_scope::{
     reported_beside,
 };
 use m2_rule::Rule;
-use m2_tree::{AddOp, Designator, Expr, Item, Items, MulOp, Operator, Pos, Selector};
+use m2_tree::{AddOp, Designator, Expr, Item, MulOp, Operator, Pos, Selector};
 use std::alloc::{AllocError, Global};
+use tree_parts::Items;
 use typed_tree::{Argument, CHAR, Formal, Scalar, Standard, TypeNo, Value};
 
 /// What an expression stands for.

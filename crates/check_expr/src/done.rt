@@ -15,8 +15,9 @@ use check_call::{
 use check_operator::signature_of;
 use check_scope::{Elaborated, Fault, Scope, of_heading, of_sort, refusal_beside, reported_beside};
 use m2_rule::Rule;
-use m2_tree::{Designator, Expr, Items, Pos};
+use m2_tree::{Designator, Expr, Pos};
 use std::alloc::{AllocError, Global};
+use tree_parts::Items;
 use typed_tree::{
     Argument, CARDINAL, Change, Membership, Place, Standard, TypeNo, TypedExpr, TypedStmt,
 };

@@ -18,8 +18,9 @@ use check_scope::{
     Elaborated, Fault, Scope, Sought, looked_up, of_heading, of_sort, plain, reported,
 };
 use m2_rule::Rule;
-use m2_tree::{Boxed, Designator, Expr, Ident, Items, Operator, Pos, RelOp, Sign};
+use m2_tree::{Designator, Expr, Ident, Operator, Pos, RelOp, Sign};
 use std::alloc::{AllocError, Global};
+use tree_parts::{Boxed, Items};
 use typed_tree::{Argument, Formal, Scalar, Signature, Standard, TypeNo, TypedExpr, Types, Value};
 
 /// The place of an expression's first token.

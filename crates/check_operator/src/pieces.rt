@@ -5,8 +5,8 @@ ghost use Rattle.check_operator.specs.Operations.{of_value, truth_of};
 
 use crate::computed::Computed;
 use check_scope::Elaborated;
-use m2_tree::Boxed;
 use std::alloc::{AllocError, Global};
+use tree_parts::Boxed;
 use typed_tree::{BOOLEAN, TypedExpr, Value};
 
 /// A constant as a value.

@@ -8,8 +8,9 @@ use crate::computed::Computed;
 use crate::pieces::{of_value, truth_of};
 use check_scope::{Elaborated, reported};
 use m2_rule::Rule;
-use m2_tree::{Boxed, Pos, Sign};
+use m2_tree::{Pos, Sign};
 use std::alloc::{AllocError, Global};
+use tree_parts::Boxed;
 use typed_tree::{BOOLEAN, TypeNo, TypedExpr, are_same, is_integer, is_numeric};
 
 fn signed_scalar(

@@ -10,11 +10,12 @@ use crate::fault::{Elaborated, Fault, reported};
 use crate::known::{Known, Origin};
 use crate::meaningless::{Meaningless, Sought, plain};
 use m2_rule::Rule;
-use m2_tree::{Ident, Items, Pos};
+use m2_tree::{Ident, Pos};
 use std::alloc::{AllocError, Global};
 use std::mem;
+use tree_parts::{Items, Shared};
 use typed_tree::{
-    Dictionary, Made, Meaning, OpenedField, Reached, Shape, Shared, Table, TypeNo, Types, made_of,
+    Dictionary, Made, Meaning, OpenedField, Reached, Shape, Table, TypeNo, Types, made_of,
 };
 
 /// The names of a block around the innermost one.

@@ -15,8 +15,9 @@ use check_stmt_parts::{
     repeated_for, repeated_until, repeated_while, reported_in, returned, selected, standing,
     with_next, within,
 };
-use m2_tree::{Arm, Boxed, Designator, Expr, Ident, Items, Rest, Stmt};
+use m2_tree::{Arm, Designator, Expr, Ident, Rest, Stmt};
 use std::alloc::{AllocError, Global};
+use tree_parts::{Boxed, Items};
 use typed_tree::{TypeNo, TypedArm, TypedExpr, TypedStmt};
 
 /// Elaborates statements, one after another.

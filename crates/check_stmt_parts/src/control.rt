@@ -14,8 +14,9 @@ use check_operator::{
 };
 use check_scope::{Elaborated, Fault, Scope, both, looked_up, of_sort, reported};
 use m2_rule::Rule;
-use m2_tree::{Boxed, Expr, Ident, Items, Pos};
+use m2_tree::{Expr, Ident, Pos};
 use std::alloc::{AllocError, Global};
+use tree_parts::{Boxed, Items};
 use typed_tree::{
     LocalKind, Meaning, Place, Root, TypeNo, TypedExpr, TypedStmt, Types, Value, rooted,
 };

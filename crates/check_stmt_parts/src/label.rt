@@ -14,8 +14,9 @@ use check_expr::{place_of, stands_for};
 use check_operator::{Class, Computed, Designated, class_of};
 use check_scope::{Elaborated, Fault, Meaningless, Scope, Sought, beside, both, reported};
 use m2_rule::Rule;
-use m2_tree::{Expr, Item, Items, Pos};
+use m2_tree::{Expr, Item, Pos};
 use std::alloc::{AllocError, Global};
+use tree_parts::Items;
 use typed_tree::{Label, TypeNo, Types, are_same, is_numeric};
 
 fn ordinal_in(at: Pos, operand: Option<Operand>) -> Elaborated<Ordinal>

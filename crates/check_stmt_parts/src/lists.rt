@@ -5,8 +5,8 @@ ghost use Rattle.check_scope.specs.Elaborated.{least};
 ghost use Rattle.check_stmt_parts.specs.Lists.{with_next, standing, chosen, chosen_else, base_in, cased, armed, repeated_while, repeated_until, looped, within, reported_in};
 
 use check_scope::{Elaborated, both};
-use m2_tree::Items;
 use std::alloc::{AllocError, Global};
+use tree_parts::Items;
 use typed_tree::{Label, Place, TypeNo, TypedArm, TypedExpr, TypedStmt};
 
 /// One more of a list.

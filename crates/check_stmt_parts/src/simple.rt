@@ -15,8 +15,9 @@ use check_scope::{
     Elaborated, Fault, OpenedRecord, Scope, both, fields_of, of_sort, reported, reported_beside,
 };
 use m2_rule::Rule;
-use m2_tree::{Designator, Expr, Items, Pos};
+use m2_tree::{Designator, Expr, Pos};
 use std::alloc::{AllocError, Global};
+use tree_parts::Items;
 use typed_tree::{BOOLEAN, Place, TypeNo, TypedExpr, TypedStmt, Types};
 
 fn given_back(

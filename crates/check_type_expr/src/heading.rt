@@ -9,8 +9,9 @@ use crate::field::{Fields, no_fields, with_names};
 use crate::named::{first_of, named_type};
 use check_scope::{Elaborated, Fault, Scope, both, reported};
 use m2_rule::Rule;
-use m2_tree::{FormalType, Heading, Ident, Items, Parameter, Pos, Qualified, Section};
+use m2_tree::{FormalType, Heading, Ident, Parameter, Pos, Qualified, Section};
 use std::alloc::{AllocError, Global};
+use tree_parts::Items;
 use typed_tree::{Formal, INTEGER, Made, Shape, Signature, TypeNo, Types, is_result};
 
 /// A formal, from what stands before its names and its type.

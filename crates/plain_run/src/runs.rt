@@ -9,7 +9,6 @@ ghost use Rattle.plain_values.specs.Surroundings.{modules_of, callee_of, sent, v
 ghost use Rattle.plain_steps.specs.Parts.{answered_sent, answered_all, pair_in, in_in, target_in, ends_in, asked_in, while_in, repeat_in, loop_in, for_in, for_begun, turns_in};
 
 use m2_rule::Fault;
-use m2_tree::Items;
 use plain_steps::callees::{module_callee, nested_callee, procedure_value, variable_callee};
 use plain_steps::entering::{Request, around_body, enter, rest_of, result};
 use plain_steps::passing::{
@@ -29,6 +28,7 @@ use plain_values::places::{
     component, element_at, module_place, open_element_at, root_location, slot_high, whole,
 };
 use plain_values::program::{Around, Callee, Passed, Program, under};
+use tree_parts::Items;
 use typed_tree::{Argument, Call, Component, Link, Place, TypeNo, TypedArm, TypedExpr, TypedStmt};
 
 /// The value of an expression.

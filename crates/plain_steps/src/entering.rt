@@ -12,13 +12,13 @@ ghost use Rattle.plain_steps.specs.Entering.{begun_of, names_of, IsBodyOf};
 ghost use Rattle.plain_steps.specs.Asked.{need_of, IsTooSmall, HasRoom};
 
 use m2_rule::Fault;
-use m2_tree::Items;
 use plain_store::blanks::{formals_of, plus, times};
 use plain_store::prepared::Prepared;
 use plain_store::state::{Answer, Outcome, RunFault, State, Stop, copy_to, put_at, store, text_to};
 use plain_store::storage::{frame_held, frame_size, type_size};
 use plain_values::program::{Around, Callee, Named, Passed, Program};
 use std::alloc::{AllocError, Global};
+use tree_parts::Items;
 use typed_tree::{Formal, Routine, Shape, TypeNo, Types, made_of};
 
 /// How formals begin: their names, and the number of the next instance.

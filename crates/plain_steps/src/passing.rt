@@ -8,12 +8,12 @@ ghost use Rattle.plain_store.specs.Seen.{seen, answered};
 ghost use Rattle.plain_values.specs.Surroundings.{surroundings, sent};
 ghost use Rattle.plain_steps.specs.Parts.{answered_sent};
 
-use m2_tree::Items;
 use plain_store::state::{Answer, RunFault, State, load};
 use plain_values::checks::as_type;
 use plain_values::places::{high_index, slot_high, slot_location};
 use plain_values::program::{Around, Passed};
 use std::alloc::{AllocError, Global};
+use tree_parts::Items;
 use typed_tree::{Slot, TypeNo};
 
 /// The number at the location that is given.

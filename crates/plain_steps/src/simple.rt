@@ -14,12 +14,12 @@ ghost use Rattle.plain_store.specs.Seen.{seen, answered, ended, with_store, with
 ghost use Rattle.plain_values.specs.Surroundings.{surroundings};
 ghost use Rattle.plain_steps.specs.Parts.{first_arm, text_put, stepped};
 
-use m2_tree::Items;
 use plain_store::state::{Answer, Outcome, RunFault, State, copy_to, load, print, store, text_to};
 use plain_values::checks::{as_type, in_base, within};
 use plain_values::operators;
 use plain_values::operators::{difference, is_between, sum};
 use plain_values::program::Around;
+use tree_parts::Items;
 use typed_tree::{CHAR, Change, Label, Membership, Scalar, TypeNo, TypedArm, scalar_of};
 
 /// A location, and the value behind it.

@@ -9,10 +9,10 @@ ghost use Rattle.plain_store.specs.Seen.{seen, with_store, with_byte};
 
 use crate::held::{Held, read};
 use crate::variables;
-use m2_tree::Items;
 use std::alloc::{AllocError, Global};
 use std::mem;
 use thiserror::Error;
+use tree_parts::Items;
 
 /// Why a run has no answer.
 #[derive(Clone, Copy, Debug, PartialEq, Eq, Error)]

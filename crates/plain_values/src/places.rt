@@ -13,10 +13,10 @@ ghost use Rattle.plain_values.specs.Surroundings.{surroundings, modules_in, modu
 use crate::operators::{difference, is_between};
 use crate::program::{Around, Named};
 use m2_rule::Fault;
-use m2_tree::Items;
 use plain_store::prepared::Prepared;
 use plain_store::state::{Answer, RunFault, State, Stop};
 use std::alloc::{AllocError, Global};
+use tree_parts::Items;
 use typed_tree::{Made, Root, Scalar, Shape, Slot, TypeNo, Types, made_of, scalar_of};
 
 /// What a slot stands for.
