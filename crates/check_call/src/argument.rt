@@ -176,9 +176,9 @@ fn simple_passed(types: &Types, t: TypeNo, at: Pos, designated: Designated) -> E
     ensures { result ≡ simple_passed least types.now t at designated }
 {
     match taken(types, at, designated) {
-        Err(fault) => Err(fault),
+        Err(breach) => Err(breach),
         Ok(value) => match value_suited(Rule::WrongArgument, types, t, at, value) {
-            Err(fault) => Err(fault),
+            Err(breach) => Err(breach),
             Ok(e) => Ok(Argument::Value(t, e)),
         },
     }
@@ -237,7 +237,7 @@ pub fn with_argument(
     ensures { IfOk result (λ xs. xs ≡ with_argument least arguments argument) }
 {
     match both(arguments, argument) {
-        Err(fault) => Ok(Err(fault)),
+        Err(breach) => Ok(Err(breach)),
         Ok((mut all, one)) => {
             all.push(one)?;
             Ok(Ok(all))

@@ -81,7 +81,7 @@ pub fn function_of(at: Pos, signature: Option<&Signature>, arguments: usize) -> 
         Some(signature) => match signature.result {
             None => reported(at, Rule::WrongType),
             Some(t) => match counted(at, signature.formals.len(), arguments) {
-                Err(fault) => Err(fault),
+                Err(breach) => Err(breach),
                 Ok(()) => Ok(t),
             },
         },

@@ -147,7 +147,7 @@ pub fn bound_at(standard: Standard, argument: Elaborated<(TypeNo, Scalar)>) -> E
     ensures { result ≡ bound_at standard argument }
 {
     match argument {
-        Err(fault) => Err(fault),
+        Err(breach) => Err(breach),
         Ok((t, scalar)) => Ok(Computed::Constant(bound_by(standard, t, scalar))),
     }
 }
@@ -200,7 +200,7 @@ pub fn conversion_at(
     ensures { IfOk result (λ v. v ≡ conversion_at least to at value) }
 {
     match both(to, value) {
-        Err(fault) => Ok(Err(fault)),
+        Err(breach) => Ok(Err(breach)),
         Ok(((t, scalar), value)) => converted_value(alloc, t, scalar, at, value),
     }
 }

@@ -5,8 +5,8 @@ ghost use Rattle.std.specs.Option.{option_copied};
 ghost use Rattle.check_scope.specs.Elaborated.{least};
 ghost use Rattle.check_const.specs.Denote.{exported_by, exported, member};
 
-use check_scope::{Elaborated, Fault, Scope, reported};
-use m2_rule::Rule;
+use check_scope::{Elaborated, Scope, reported};
+use m2_rule::{Breach, Rule};
 use m2_tree::{Ident, Pos};
 use std::alloc::AllocError;
 use tree_parts::Shared;
@@ -32,7 +32,7 @@ fn exported(at: Pos, meaning: Option<&Meaning>) -> Result<Elaborated<Meaning>, A
 
 /// What a name of a module means. The module is known by the place of its table.
 pub fn member(
-    scope: &Scope<Fault>,
+    scope: &Scope<Breach>,
     place: usize,
     name: &Ident,
 ) -> Result<Elaborated<Meaning>, AllocError>

@@ -14,7 +14,7 @@ pub fn of_value(value: Elaborated<Value>) -> Elaborated<Computed>
     ensures { result ≡ of_value value }
 {
     match value {
-        Err(fault) => Err(fault),
+        Err(breach) => Err(breach),
         Ok(value) => Ok(Computed::Constant(value)),
     }
 }

@@ -237,7 +237,7 @@ fn of_expr(e: Elaborated<TypedExpr>) -> Elaborated<Accepted>
     ensures { result ≡ of_expr e }
 {
     match e {
-        Err(fault) => Err(fault),
+        Err(breach) => Err(breach),
         Ok(e) => Ok(Accepted::Value(e)),
     }
 }

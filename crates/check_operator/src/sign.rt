@@ -69,7 +69,7 @@ pub fn signed(
     ensures { IfOk result (λ v. v ≡ signed least sign spot x) }
 {
     match x {
-        Err(fault) => Ok(Err(fault)),
+        Err(breach) => Ok(Err(breach)),
         Ok(value) => signed_value(alloc, sign, spot, value),
     }
 }
@@ -116,7 +116,7 @@ pub fn negated(
     ensures { IfOk result (λ v. v ≡ negated least spot x) }
 {
     match x {
-        Err(fault) => Ok(Err(fault)),
+        Err(breach) => Ok(Err(breach)),
         Ok(value) => negated_value(alloc, spot, value),
     }
 }
