@@ -16,7 +16,7 @@ use Rattle.typed_tree.specs.declared.known_types.Types.{Types}
 use Rattle.typed_tree.specs.Types.{integer}
 use Rattle.typed_tree.specs.Known.{scalar_at}
 use Rattle.def_meaning.specs.Store.{Location}
-use Rattle.def_meaning.specs.Answer.{State, Answer, Gave, then_give, range_fault, overflow, divisor_fault, index_fault}
+use Rattle.def_meaning.specs.Answer.{State, Answer, Value, then_give, range_fault, overflow, divisor_fault, index_fault}
 use Rattle.def_meaning.specs.Operators.{is_between, truth, is_true, compared, combined, included, has, absolute, capital, odd, quotient, remainder}
 use Rattle.def_meaning.specs.Around.{Modules, Around, location_of, high_of, named}
 use Rattle.def_meaning.specs.Expressions.{Asks, Gives, one_by_one, within, within_range, as_type, in_base, index_range, element, element_in, divided, operated, ordinal, root_layer, component_layer, link_layer, place_layer, expr_layer, value, locate}
@@ -221,9 +221,9 @@ module _ (p : Modules) (ask : Asks) where
   expr_alone (layer.Plus t e) h = e.1 h
   expr_alone (layer.Negate e) h = unary (λ a v st. in_base a.types integer (pos 0 -ℤ v) st) (λ a v st. base_leaves a.types integer (pos 0 -ℤ v) st) (e.1 h)
   expr_alone (layer.Chain e ls) h = chain_alone e ls (neither (calls e.0) (any_calls (map calls_linked (map (λ x. x.0) ls))) h)
-  expr_alone (layer.Compare o e e') h = let n = both e e' h in two (λ a x y st. Gave (truth (compared o x y)) st) (λ a x y st. gives _) n.0 n.1
+  expr_alone (layer.Compare o e e') h = let n = both e e' h in two (λ a x y st. Value (truth (compared o x y)) st) (λ a x y st. gives _) n.0 n.1
   expr_alone (layer.Not e) h = record { at = λ a st. then_leaves (λ v st. gives _) ((e.1 h).at a st) }
-  expr_alone (layer.Include o e e') h = let n = both e e' h in two (λ a x y st. Gave (truth (included o x y)) st) (λ a x y st. gives _) n.0 n.1
+  expr_alone (layer.Include o e e') h = let n = both e e' h in two (λ a x y st. Value (truth (included o x y)) st) (λ a x y st. gives _) n.0 n.1
   expr_alone (layer.In e e') h = in_alone e e' (both e e' h)
   expr_alone (layer.Abs t e) h = record { at = λ a st. then_leaves (λ v st. base_leaves a.types t (absolute v) st) ((e.1 h).at a st) }
   expr_alone (layer.Cap e) h = record { at = λ a st. then_leaves (λ v st. gives (capital v)) ((e.1 h).at a st) }

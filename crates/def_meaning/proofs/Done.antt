@@ -12,7 +12,8 @@ use Rattle.typed_tree.specs.declared.types.TypeNo.{TypeNo}
 use Rattle.typed_tree.specs.declared.known_types.Types.{Types}
 use Rattle.typed_tree.specs.Types.{char}
 use Rattle.typed_tree.specs.Known.{scalar_at}
-use Rattle.def_meaning.specs.Answer.{State, Left, Came, Stopped, range_fault, case_fault, halted}
+use Rattle.def_meaning.specs.Answer.{State, range_fault, case_fault, halted}
+use Rattle.def_meaning.specs.Outcome.{Exited, Returned, Ended}
 use Rattle.def_meaning.specs.Operators.{is_true}
 use Rattle.def_meaning.specs.Around.{Modules, Around}
 use Rattle.def_meaning.specs.Expressions.{Asks, as_type, value, locate}
@@ -35,7 +36,7 @@ pub turns_later : {ds ds' : List Does} → Pairwise DoesLater ds ds' → DoesLat
 turns_later ds = record { at = turn_later ds }
 
 nothing_else : DoesLater (or_else None) (or_else None)
-nothing_else = record { at = λ a st. same (Stopped case_fault st.out) (begins st.out) }
+nothing_else = record { at = λ a st. same (Ended case_fault st.out) (begins st.out) }
 
 if_does : {d d' e e' : Does} (b : Bool) → DoesLater d e → DoesLater d' e' → DoesLater (if b then d else d') (if b then e else e')
 if_does true h k = h
@@ -110,7 +111,7 @@ module _ (p : Modules) (ask ask' : Asks) (k : AsksLater ask ask') (n m : ℕ) (q
   stmt_later (step.Put e) = record { at = λ a st. with_later (λ v st. with_later (λ v st. same _ (begins_more st.out (unsigned_abs v ∷ []))) (type_later a.types char v st)) (value_at e a st) }
   stmt_later (step.Change o d t e) = record { at = λ a st. with_later (λ l st. with_later (λ by st. with_later (λ v st. went (stored l v st)) (rechecked_later a.types t (changed o (st.store l) by) st)) (value_at e a st)) (place_at d a st) }
   stmt_later (step.Membership o d e) = record { at = λ a st. with_later (λ l st. with_later (λ x st. with_later (λ x st. went _) (within_later (pos 0) (pos 31) range_fault x st)) (value_at e a st)) (place_at d a st) }
-  stmt_later step.Halt = record { at = λ a st. same (Stopped halted st.out) (begins st.out) }
+  stmt_later step.Halt = record { at = λ a st. same (Ended halted st.out) (begins st.out) }
   stmt_later (step.If e xs None) = record { at = λ a st. with_later (λ v st. if_after (is_true v) (body xs a st) (went st)) (value_at e a st) }
   stmt_later (step.If e xs (Some ys)) = record { at = λ a st. with_later (λ v st. if_after (is_true v) (body xs a st) (body ys a st)) (value_at e a st) }
   stmt_later (step.Case e xs None) = record { at = λ a st. with_later (λ v st. (chosen_later v (arms xs) nothing_else).at a st) (value_at e a st) }
@@ -118,9 +119,9 @@ module _ (p : Modules) (ask ask' : Asks) (k : AsksLater ask ask') (n m : ℕ) (q
   stmt_later (step.While e xs) = record { at = λ a st. while_later (value_at e a) (body xs a) n m q st }
   stmt_later (step.Repeat xs e) = record { at = λ a st. until_later (value_at e a) (body xs a) n m q st }
   stmt_later (step.Loop xs) = record { at = λ a st. looped_later (body xs a) n m q st }
-  stmt_later step.Exit = record { at = λ a st. same (Left st) (begins st.out) }
-  stmt_later step.Return = record { at = λ a st. same (Came (pos 0) st) (begins st.out) }
-  stmt_later (step.Give t e) = record { at = λ a st. with_later (λ v st. with_later (λ v st. same (Came v st) (begins st.out)) (type_later a.types t v st)) (value_at e a st) }
+  stmt_later step.Exit = record { at = λ a st. same (Exited st) (begins st.out) }
+  stmt_later step.Return = record { at = λ a st. same (Returned (pos 0) st) (begins st.out) }
+  stmt_later (step.Give t e) = record { at = λ a st. with_later (λ v st. with_later (λ v st. same (Returned v st) (begins st.out)) (type_later a.types t v st)) (value_at e a st) }
   stmt_later (step.For d t start limit by xs) = record {
     at = λ a st.
         with_later (λ l st. with_later (λ v st. with_later (λ v st. with_later (λ last st.

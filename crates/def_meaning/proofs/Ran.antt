@@ -2,7 +2,8 @@
 use Rattle.std.proofs.Common.{◌≡◌, ℕ, zero, suc, ◌≤◌, ◌-◌, List, [], ◌∷◌, map, Option, Some, None, arith}
 use Rattle.std.specs.Prelude.{nat_lt}
 use Rattle.typed_tree.specs.declared.statement.TypedStmt.{TypedStmt}
-use Rattle.def_meaning.specs.Answer.{State, Running, Outcome, Stopped, storage_fault, empty_procedure}
+use Rattle.def_meaning.specs.Answer.{State, StillRunning, storage_fault, empty_procedure}
+use Rattle.def_meaning.specs.Outcome.{Outcome, Ended}
 use Rattle.def_meaning.specs.Around.{Modules, Around, Callee, Passed}
 use Rattle.def_meaning.specs.Expressions.{Asks}
 use Rattle.def_meaning.specs.Statements.{does}
@@ -34,7 +35,7 @@ module _ (p : Modules) (n m : ℕ) (q : n ≤ m) where
 
 calling_twice : (p : Modules) (m d : ℕ) → AsksLater (calling p m d) (calling p m d)
 unfolding calling
-calling_twice p m zero = record { at = λ c vs next left st. alike (Running st.out) (begins st.out) }
+calling_twice p m zero = record { at = λ c vs next left st. alike (StillRunning st.out) (begins st.out) }
 calling_twice p m (suc d) = record { at = deeper p m m (omega arith) d d (calling_twice p m d) }
 
 no_more : (p : Modules) (n m e : ℕ) (c : Option Callee) (vs : List Passed) (next left : ℕ) (st : State) → Later st.out (calling p n zero c vs next left st) (calling p m e c vs next left st)
@@ -47,7 +48,7 @@ calling_later p n m q (suc d) zero r = absurd (omega arith)
 calling_later p n m q (suc d) (suc e) r = record { at = deeper p n m q d e (calling_later p n m q d e (omega arith)) }
 
 bodies_later : (p : Modules) (n m : ℕ) → n ≤ m → (left place : ℕ) (ms : Modules) (st : State) → After st.out (bodies p n left place ms st) (bodies p m left place ms st)
-bodies_later p n m q left place [] st = same (Stopped 0 st.out) (begins st.out)
+bodies_later p n m q left place [] st = same (Ended 0 st.out) (begins st.out)
 bodies_later p n m q left place (x ∷ xs) st =
     body_later (bodies_later p n m q left (suc place) xs) (body_runs p n m q (calling_later p n m q n m q) x.body (around_body p place x left) st)
 
@@ -57,7 +58,7 @@ run_later p pages n m q = bodies_later p n m q (storage p pages - body_frame) 0 
 
 -- ---- the laws
 
-still : {out : List ℕ} {x y : Outcome} (k : ℕ) (all : List ℕ) → After out x y → x ≡ Stopped k all → y ≡ Stopped k all
+still : {out : List ℕ} {x y : Outcome} (k : ℕ) (all : List ℕ) → After out x y → x ≡ Ended k all → y ≡ Ended k all
 still k all (same x b) e = e
 still k all (open_yet first x b c) e = cc e
 

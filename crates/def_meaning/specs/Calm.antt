@@ -7,7 +7,7 @@ use Rattle.typed_tree.specs.declared.computed.Component.{Component-F}
 use Rattle.typed_tree.specs.declared.computed.Link.{Link-F}
 use Rattle.typed_tree.specs.declared.computed.Place.{Place, Place-F, fold-Place}
 use Rattle.typed_tree.specs.declared.computed.TypedExpr.{TypedExpr, TypedExpr-F, fold-TypedExpr}
-use Rattle.def_meaning.specs.Answer.{State, Answer, Gave, Ended}
+use Rattle.def_meaning.specs.Answer.{State, Answer, Value, Ended}
 use Rattle.def_meaning.specs.Around.{Modules, Around}
 use Rattle.def_meaning.specs.Expressions.{Asks, value, locate}
 
@@ -76,7 +76,7 @@ calls_at =
 
 -- a value, or a fault, and all is as it was
 pub data Leaves {A : Type 0} (st : State) : Answer A → Type 0 where
-  gives : (v : A) → Leaves st (Gave v st)
+  gives : (v : A) → Leaves st (Value v st)
   ends : (k : ℕ) → Leaves st (Ended k st.out)
 
 -- an expression without calls changes nothing and prints nothing

@@ -1,5 +1,6 @@
 pub mod Store
 pub mod Answer
+pub mod Outcome
 pub mod Operators
 pub mod Around
 pub mod Expressions

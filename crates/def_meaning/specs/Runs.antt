@@ -6,7 +6,8 @@ use Rattle.layout_storage.specs.Sizes.{size}
 use Rattle.layout_storage.specs.Frames.{module_row}
 use Rattle.layout_storage.specs.Texts.{module_texts, characters}
 use Rattle.def_meaning.specs.Store.{fresh}
-use Rattle.def_meaning.specs.Answer.{State, Outcome, Went, Left, Came, Stopped, Unfinished}
+use Rattle.def_meaning.specs.Answer.{State}
+use Rattle.def_meaning.specs.Outcome.{Outcome, Normal, Exited, Returned, Ended, StillRunning}
 use Rattle.def_meaning.specs.Around.{Modules, Around}
 use Rattle.def_meaning.specs.Calls.{body_does, calling}
 
@@ -43,15 +44,15 @@ around_body p place m left = record {
 
 -- a body that comes to its end or returns is followed by the next
 abbrev pub then_body : Outcome → (State → Outcome) → Outcome
-then_body (Went st) next = next st
-then_body (Left st) next = next st
-then_body (Came v st) next = next st
-then_body (Stopped k out) next = Stopped k out
-then_body (Unfinished out) next = Unfinished out
+then_body (Normal st) next = next st
+then_body (Exited st) next = next st
+then_body (Returned v st) next = next st
+then_body (Ended k out) next = Ended k out
+then_body (StillRunning out) next = StillRunning out
 
 -- after the last body the end is 0
 abbrev pub bodies : Modules → (n left place : ℕ) → Modules → State → Outcome
-bodies p n left place [] st = Stopped 0 st.out
+bodies p n left place [] st = Ended 0 st.out
 bodies p n left place (m ∷ ms) st =
     then_body (body_does p n (calling p n n) m.body (around_body p place m left) st)
     (bodies p n left (suc place) ms)

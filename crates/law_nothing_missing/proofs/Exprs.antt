@@ -37,7 +37,7 @@ use Rattle.typed_tree.specs.Known.{scalar_at}
 use Rattle.layout_storage.specs.Types.{Ty, Scalar, Natural, Callable, Cell, Array, Heading, component}
 use Rattle.layout_storage.specs.Shapes.{tree, elements_of}
 use Rattle.def_meaning.specs.Store.{Location}
-use Rattle.def_meaning.specs.Answer.{State, Answer, Gave, Ended, then_give, range_fault, overflow, index_fault, divisor_fault, empty_procedure}
+use Rattle.def_meaning.specs.Answer.{State, Answer, Value, Ended, then_give, range_fault, overflow, index_fault, divisor_fault, empty_procedure}
 use Rattle.def_meaning.specs.Around.{Modules, Around, Callee, Frames, Named, At, Elements, Passed, Number, Variable as Place', Array as Whole, Text, entry_of, entry_callee, module_place, module_callee, procedure_in, nested_in, callee_with, named, location_of, high_of, or_root}
 use Rattle.def_meaning.specs.Operators.{is_between, is_true, absolute, quotient, remainder}
 use Rattle.def_meaning.specs.Calls.{is_there}
@@ -167,12 +167,12 @@ module _ (x : Context) (lacking : ℕ) (world : World) (sask ask : Asks) (knows 
   -- ---- what is there
 
   pub cell_there : {c : Scalar} {y z : Answer Location} → Same P world (IsAt (Cell c)) y z → Same P world (IsAt (Cell c)) (then_give y (at_cell lacking P sask world)) z
-  cell_there (gives l st fine at) = same_provided P world lacking (is_cell (type_at world l)) (Gave l) st (ap is_cell at) (gives l st fine at)
+  cell_there (gives l st fine at) = same_provided P world lacking (is_cell (type_at world l)) (Value l) st (ap is_cell at) (gives l st fine at)
   cell_there (ends k out e) = ends k out e
   cell_there (still out) = still out
 
   there_then : {B : Type 0} {G : B → Type 0} (t : Ty) (l : Location) (f : Location → State → Answer B) (st : State) (y : Answer B) → IsAt t l → Same P world G (f l st) y → Same P world G (then_give (at_there lacking P sask world l st) f) y
-  there_then {B = B} {G = G} t l f st y at h = subst (λ (b : Bool). Same P world G (then_give (provided lacking b (Gave l) st) f) y) (sym (ap is_there at)) h
+  there_then {B = B} {G = G} t l f st y at h = subst (λ (b : Bool). Same P world G (then_give (provided lacking b (Value l) st) f) y) (sym (ap is_there at)) h
 
   open_at : (ws : List Ty) (a : Around) → Fits x world ws a → (slot : Slot) (t : Ty) → kind_at x.kinds slot ≡ Some (Open t) → OpenName world t (named a slot)
   open_at ws a fit slot t e = let n = named_at world x.kinds a fit.frames slot (Open t) e in open_named world (named a slot) (Open t) n.0 t n.1 n.2 refl
@@ -312,7 +312,7 @@ module _ (x : Context) (lacking : ℕ) (world : World) (sask ask : Asks) (knows 
     high_same slot t e = from_expr ws Any (expr.High slot) (layer.High slot) (expr.outs-High slot)
         (λ a fit st fine.
         let o = open_at ws a fit slot t e in
-        subst (λ (n : Option Named). Same P world Any (needs lacking (elements_named n) (λ e st. Gave (pos e.1) st) st) (Gave (pos (high_of n)) st)) (sym o.is) (gives (pos o.high) st fine tt))
+        subst (λ (n : Option Named). Same P world Any (needs lacking (elements_named n) (λ e st. Value (pos e.1) st) st) (Value (pos (high_of n)) st)) (sym o.is) (gives (pos o.high) st fine tt))
 
     call_same : (t : TypeNo) (r : Ty) (c : Call) → C c (Some r) → Both ws (IsGood P (Some r)) (sv (expr.Call t c)) (value P ask (expr.Call t c))
     call_same t r c m = from_expr ws (IsGood P (Some r)) (expr.Call t c) (layer.Call t c) (expr.outs-Call t c) (λ a fit st fine. m true (λ e. refl) a fit st fine)
@@ -392,7 +392,7 @@ module _ (x : Context) (lacking : ℕ) (world : World) (sask ask : Asks) (knows 
     field_same t n j u e = from_component t u (component'.Field n j) (layer.Field n j) (component'.outs-Field n j)
         (λ l at a fit st fine.
         let is : IsAt u (l ++ j ∷ []) = there_behind world l t (j ∷ []) at ∙ e in
-        same_provided P world lacking (is_there (type_at world (l ++ j ∷ []))) (Gave (l ++ j ∷ [])) st (ap is_there is) (gives (l ++ j ∷ []) st fine is))
+        same_provided P world lacking (is_there (type_at world (l ++ j ∷ []))) (Value (l ++ j ∷ [])) st (ap is_there is) (gives (l ++ j ∷ []) st fine is))
 
     -- an element of an array
     reach_same : (n : ℕ) (u : Ty) (l : Location) (low high v : ℤ) → IsAt (Array n u) l → (low ≤ℤ v → v ≤ℤ high → unsigned_abs (v -ℤ low) < n) → (st : State) → IsFine P world st.store
@@ -403,12 +403,12 @@ module _ (x : Context) (lacking : ℕ) (world : World) (sask ask : Asks) (knows 
         to = l ++ unsigned_abs (v -ℤ low) ∷ []
 
         go : (b : Bool) → is_between low v high ≡ b → Same P world (IsAt u) (then_give (element l low high v st) (at_there lacking P sask world)) (element l low high v st)
-        go false e = subst (λ (b : Bool). Same P world (IsAt u) (then_give (if b then Gave to st else Ended index_fault st.out) (at_there lacking P sask world)) (if b then Gave to st else Ended index_fault st.out)) (sym e) (ends index_fault st.out refl)
+        go false e = subst (λ (b : Bool). Same P world (IsAt u) (then_give (if b then Value to st else Ended index_fault st.out) (at_there lacking P sask world)) (if b then Value to st else Ended index_fault st.out)) (sym e) (ends index_fault st.out refl)
         go true e =
             let q = between_in low high v e in
             let is : IsAt u to = there_behind world l (Array n u) (unsigned_abs (v -ℤ low) ∷ []) at ∙ element_there n (unsigned_abs (v -ℤ low)) u (less q.0 q.1) in
-            subst (λ (b : Bool). Same P world (IsAt u) (then_give (if b then Gave to st else Ended index_fault st.out) (at_there lacking P sask world)) (if b then Gave to st else Ended index_fault st.out)) (sym e)
-            (same_provided P world lacking (is_there (type_at world to)) (Gave to) st (ap is_there is) (gives to st fine is))
+            subst (λ (b : Bool). Same P world (IsAt u) (then_give (if b then Value to st else Ended index_fault st.out) (at_there lacking P sask world)) (if b then Value to st else Ended index_fault st.out)) (sym e)
+            (same_provided P world lacking (is_there (type_at world to)) (Value to) st (ap is_there is) (gives to st fine is))
 
     element_same : (t : TypeNo) (r : Range) (u : Ty) (i : TypedExpr) → index_of types t ≡ Some r → tree types t ≡ Array (elements_of (Some r)) u → E i → K (tree types t) (component'.Element t i) u
     element_same t r u i range array m = from_component (tree types t) u (component'.Element t i) (layer.Element t i) (component'.outs-Element t i)
@@ -502,14 +502,14 @@ module _ (x : Context) (lacking : ℕ) (world : World) (sask ask : Asks) (knows 
         (λ a fit st fine. same_then P world (m a fit st fine) (λ l st fine at.
         let o : index_range a.types t ≡ Some r = ap (λ (ts : Types). index_range ts t) fit.types ∙ sym (same_index types t) ∙ range in
         let n : ℕ = unsigned_abs (r.high -ℤ r.low) in
-        subst (λ (o : Option Range). Same P world (IsGiven P world (ByArray is_var u)) (needs lacking o (λ r st. Gave (Whole l (elements_of (Some r) - 1)) st) st) (Gave (Whole l (elements_of o - 1)) st)) (sym o)
+        subst (λ (o : Option Range). Same P world (IsGiven P world (ByArray is_var u)) (needs lacking o (λ r st. Value (Whole l (elements_of (Some r) - 1)) st) st) (Value (Whole l (elements_of o - 1)) st)) (sym o)
         (gives (Whole l (n + 1 - 1)) st fine (given_array is_var u l (n + 1 - 1) (at ∙ ap Some array ∙ ap (λ (n : ℕ). Some (Array n u)) (sym (one_less n)))))))
 
     whole_same : (slot : Slot) (is_var : Bool) (u : Ty) → kind_at x.kinds slot ≡ Some (Open u) → A (argument.Open slot) (ByArray is_var u)
     whole_same slot is_var u e = from_argument (ByArray is_var u) (argument.Open slot) (layer.Open slot) (argument.outs-Open slot)
         (λ a fit st fine.
         let o = open_at ws a fit slot u e in
-        subst (λ (n : Option Named). Same P world (IsGiven P world (ByArray is_var u)) (needs lacking (elements_named n) (λ e st. Gave (Whole e.0 e.1) st) st) (Gave (Whole (location_of n) (high_of n)) st)) (sym o.is)
+        subst (λ (n : Option Named). Same P world (IsGiven P world (ByArray is_var u)) (needs lacking (elements_named n) (λ e st. Value (Whole e.0 e.1) st) st) (Value (Whole (location_of n) (high_of n)) st)) (sym o.is)
         (gives (Whole o.at o.high) st fine (given_array is_var u o.at o.high o.type)))
 
     text_same : (text : List ℕ) → A (argument.Text text) (ByArray false (Cell (Natural 255)))

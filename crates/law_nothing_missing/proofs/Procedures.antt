@@ -8,7 +8,8 @@ use Rattle.typed_tree.specs.declared.typed_module.TypedModule.{TypedModule}
 use Rattle.layout_storage.specs.Types.{Ty}
 use Rattle.layout_storage.specs.Frames.{formals_of, frame, module_row}
 use Rattle.def_meaning.specs.Store.{Location}
-use Rattle.def_meaning.specs.Answer.{Outcome, storage_fault, no_return}
+use Rattle.def_meaning.specs.Answer.{storage_fault, no_return}
+use Rattle.def_meaning.specs.Outcome.{Outcome}
 use Rattle.def_meaning.specs.Around.{Modules, Around, Callee, Frames}
 use Rattle.def_meaning.specs.Calls as meaning
 use Rattle.def_meaning.specs.Calls.{Entered, calling, entered, around_of, needed, is_function, is_there, variables_from}

@@ -11,7 +11,8 @@ use Rattle.layout_storage.specs.Types.{Ty, Callable, Cell, Heading, row, frame_o
 use Rattle.layout_storage.specs.Shapes.{tree}
 use Rattle.layout_storage.specs.Frames.{module_row}
 use Rattle.def_meaning.specs.Store.{Location, fresh, first_in}
-use Rattle.def_meaning.specs.Answer.{State, Outcome, Went, Left, Came, Stopped, Unfinished}
+use Rattle.def_meaning.specs.Answer.{State}
+use Rattle.def_meaning.specs.Outcome.{Outcome, Normal, Exited, Returned, Ended, StillRunning}
 use Rattle.def_meaning.specs.Around.{Modules, Around, module_place}
 use Rattle.def_meaning.specs.Calls.{calling}
 use Rattle.def_meaning.specs.Runs as meaning
@@ -45,11 +46,11 @@ use Rattle.law_nothing_missing.proofs.Procedures.{HasBase, AreTyped, AreKnown, a
 
 -- the same outcome, and a number of the language, where it is one
 abbrev IsWithin : Outcome → Type 0
-IsWithin (Went st) = Unit {0}
-IsWithin (Left st) = Unit {0}
-IsWithin (Came v st) = Unit {0}
-IsWithin (Stopped k out) = IsEnd k
-IsWithin (Unfinished out) = Unit {0}
+IsWithin (Normal st) = Unit {0}
+IsWithin (Exited st) = Unit {0}
+IsWithin (Returned v st) = Unit {0}
+IsWithin (Ended k out) = IsEnd k
+IsWithin (StillRunning out) = Unit {0}
 
 record SameRun (y z : Outcome) : Type 0 where
   pub is : y ≡ z

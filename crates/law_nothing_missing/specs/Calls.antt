@@ -8,7 +8,8 @@ use Rattle.layout_storage.specs.Types as layout
 use Rattle.layout_storage.specs.Shapes.{tree}
 use Rattle.layout_storage.specs.Frames.{formals_of, frame}
 use Rattle.layout_storage.specs.Texts.{passed}
-use Rattle.def_meaning.specs.Answer.{State, Answer, Ended, Running, Outcome, Left, storage_fault}
+use Rattle.def_meaning.specs.Answer.{State, Answer, Ended, StillRunning, storage_fault}
+use Rattle.def_meaning.specs.Outcome.{Outcome, Exited}
 use Rattle.def_meaning.specs.Around.{Modules, Around, Callee, Passed, Number, Variable, Array, Text}
 use Rattle.def_meaning.specs.Expressions.{Asks}
 use Rattle.def_meaning.specs.Statements.{in_turn}
@@ -53,7 +54,7 @@ copies_of types (f ∷ fs) (v ∷ vs) = copy_of types f v ++ copies_of types fs 
 module _ (lacking : ℕ) where
   -- EXIT does not leave it
   abbrev pub result : Bool → Outcome → Answer ℤ
-  result function (Left st) = lacks lacking st
+  result function (Exited st) = lacks lacking st
   result function other = meaning.result function other
 
   module _ (p : Modules) (n : ℕ) where
@@ -88,6 +89,6 @@ module _ (lacking : ℕ) where
         (runs_with ask world c vs next left) st
 
     unfoldable pub calling : (d : ℕ) → World → Asks
-    calling zero world c vs next left st = Running st.out
+    calling zero world c vs next left st = StillRunning st.out
     calling (suc d) world None vs next left st = lacks lacking st
     calling (suc d) world (Some c) vs next left st = runs (calling d) world c vs next left st

@@ -13,7 +13,9 @@ use Rattle.typed_tree.specs.declared.typed_module.TypedModule.{TypedModule}
 use Rattle.layout_storage.specs.Types.{Ty, Scalar, Hidden, Cell, Field, row, component, IsFit}
 use Rattle.layout_storage.specs.Sizes.{size, offset}
 use Rattle.def_meaning.specs.Store.{Location, placed, fresh}
-use Rattle.def_meaning.specs.Answer.{State as Source, Outcome, Went, Left, Came, Stopped, Unfinished}
+use Rattle.def_meaning.specs.Answer.{State as Source}
+use Rattle.def_meaning.specs.Outcome.{Outcome, Normal, Exited, Returned, StillRunning}
+use Rattle.def_meaning.specs.Outcome as outcome
 use Rattle.def_meaning.specs.Around.{Modules, Around}
 use Rattle.def_meaning.specs.Calls.{body_does, calling}
 use Rattle.def_meaning.specs.Expressions.{Asks}
@@ -177,11 +179,11 @@ module _ (k : Scene) (p : Modules) (ask : Asks) (m : TypedModule) (place text : 
     }
 
     ended : (o : Outcome) (R : Effect) → Ends K false 0 [] (λ st. runs K [] st []) R o → Back R o
-    ended (Went s') R g = came s' g.st g.stands [] _ (ap (back 0 locals below) g.run)
-    ended (Left s') R g = came s' g.st g.stands [] _ (ap (back 0 locals below) g.run)
-    ended (Came v s') R g = came s' g.st g.stands.0 g.below _ (ap (back 0 locals below) g.run)
-    ended (Stopped j out) R g = ap (back 0 locals below) g
-    ended (Unfinished out) R g = ap (back 0 locals below) g
+    ended (Normal s') R g = came s' g.st g.stands [] _ (ap (back 0 locals below) g.run)
+    ended (Exited s') R g = came s' g.st g.stands [] _ (ap (back 0 locals below) g.run)
+    ended (Returned v s') R g = came s' g.st g.stands.0 g.below _ (ap (back 0 locals below) g.run)
+    ended (outcome.Ended j out) R g = ap (back 0 locals below) g
+    ended (StillRunning out) R g = ap (back 0 locals below) g
 
     frames_here : HasFrames K []
     frames_here = record { roots = []; chain = chain_end; frames = tt; own = tt }

@@ -16,7 +16,8 @@ use Rattle.typed_tree.specs.declared.types.TypeNo.{TypeNo}
 use Rattle.typed_tree.specs.declared.shape.Scalar.{Scalar as Range}
 use Rattle.typed_tree.specs.declared.known_types.Types.{Types}
 use Rattle.typed_tree.specs.Known.{scalar_at}
-use Rattle.def_meaning.specs.Answer.{State as Source, Answer, Gave, then_give, overflow}
+use Rattle.def_meaning.specs.Answer.{State as Source, Answer, then_give, overflow}
+use Rattle.def_meaning.specs.Answer as answer
 use Rattle.def_meaning.specs.Operators.{is_between}
 use Rattle.def_meaning.specs.Around.{Around}
 use Rattle.def_meaning.specs.Expressions.{Gives, within_range}
@@ -56,8 +57,8 @@ module _ (k : Scene) (has : HasHelpers k) (small : AreSmall k.setting.home.types
 
   -- ---- constants
 
-  pub constant_agrees : (t : TypeNo) (n : ℤ) → IsValue types t n → Agrees k t (plain (number n ∷ [])) (λ a s. Gave n s)
-  constant_agrees t n is = plain_agrees k t (plain (number n ∷ [])) (number n ∷ []) (λ a s. Gave n s) (λ e c. refl) (λ s st h rest stack. record {
+  pub constant_agrees : (t : TypeNo) (n : ℤ) → IsValue types t n → Agrees k t (plain (number n ∷ [])) (λ a s. answer.Value n s)
+  constant_agrees t n is = plain_agrees k t (plain (number n ∷ [])) (number n ∷ []) (λ a s. answer.Value n s) (λ e c. refl) (λ s st h rest stack. record {
     st = st;
     stands = h;
     is = is;

@@ -12,7 +12,8 @@ use Rattle.layout_storage.specs.Types.{Ty, row, IsFit}
 use Rattle.layout_storage.specs.Sizes.{size, offset}
 use Rattle.layout_storage.specs.Frames.{frame}
 use Rattle.def_meaning.specs.Store.{Location}
-use Rattle.def_meaning.specs.Answer.{State as Source, Left}
+use Rattle.def_meaning.specs.Answer.{State as Source}
+use Rattle.def_meaning.specs.Outcome.{Exited}
 use Rattle.def_meaning.specs.Around.{Modules, Around, Frames, Callee, Passed}
 use Rattle.def_meaning.specs.Calls.{body_does, is_function, runs as asked_runs}
 use Rattle.def_meaning.specs.Expressions.{Asks}
@@ -108,7 +109,7 @@ pub record DoesBody (k : Scene) (p : Modules) (ask : Asks) (numbered : Numbered)
       texts
       → Executes (body_scene k m r outer (locals_in numbered m r outer text) world x root a)
       (is_function m.types r) placed (body_does p k.turns ask r.body)
-  pub stays : (a : Around) (s s' : Source) → body_does p k.turns ask r.body a s ≡ Left s' → ⊥
+  pub stays : (a : Around) (s s' : Source) → body_does p k.turns ask r.body a s ≡ Exited s' → ⊥
 
 abbrev pub callee_of : (place : ℕ) → TypedModule → Routine → Frames → Callee
 callee_of place m r nss = record { place = place; types = m.types; routine = r; frames = nss }

@@ -183,9 +183,9 @@ fn bodies<'a>(
             let around = around_module(program, *home, place, left)?;
             let next = plus(place, 1)?;
             match steps(&around, nesting, home.body.body.as_slice(), st)? {
-                Outcome::Went => bodies(program, rest, next, left, nesting, st),
-                Outcome::Left => bodies(program, rest, next, left, nesting, st),
-                Outcome::Came(_) => bodies(program, rest, next, left, nesting, st),
+                Outcome::Normal => bodies(program, rest, next, left, nesting, st),
+                Outcome::Exited => bodies(program, rest, next, left, nesting, st),
+                Outcome::Returned(_) => bodies(program, rest, next, left, nesting, st),
                 Outcome::Stopped(stop) => Ok(stop),
             }
         }

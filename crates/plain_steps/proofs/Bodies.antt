@@ -2,8 +2,8 @@
 use Rattle.std.proofs.Common.{◌≡◌, ℕ, ◌-◌, ◌<◌, ◌≤◌, ℤ, Bool, true, false, List, [], ◌∷◌, ◌++◌, map, length, nat_lt, refl, ap, sym, ◌∙◌, lt-ltb, le-ltb}
 use Rattle.std.specs.Prelude.{if◌then◌else◌}
 use Rattle.def_meaning.specs.Store.{Store}
-use Rattle.def_meaning.specs.Answer.{State as Meant, Answer as Given, Outcome as Course}
-use Rattle.def_meaning.specs.Answer.{Ended, storage_fault}
+use Rattle.def_meaning.specs.Answer.{State as Meant, Answer as Given, Ended, storage_fault}
+use Rattle.def_meaning.specs.Outcome.{Outcome as Course}
 use Rattle.def_meaning.specs.Around.{Modules, Named as Name, Passed as Sent, Around as Setting, Callee as Asked}
 use Rattle.def_meaning.specs.Expressions.{Asks}
 use Rattle.def_meaning.specs.Statements.{does, in_turn}

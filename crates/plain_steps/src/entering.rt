@@ -270,21 +270,21 @@ fn result_of(function: bool, o: Outcome) -> Answer<i64>
     ensures { (st : State) → answered result st ≡ end_of function (ended o st) }
 {
     match o {
-        Outcome::Went => {
+        Outcome::Normal => {
             if function {
                 Answer::Stopped(Stop::Ended(Fault::NoReturn.number()))
             } else {
-                Answer::Gave(0)
+                Answer::Value(0)
             }
         }
-        Outcome::Left => {
+        Outcome::Exited => {
             if function {
                 Answer::Stopped(Stop::Ended(Fault::NoReturn.number()))
             } else {
-                Answer::Gave(0)
+                Answer::Value(0)
             }
         }
-        Outcome::Came(v) => Answer::Gave(v),
+        Outcome::Returned(v) => Answer::Value(v),
         Outcome::Stopped(stop) => Answer::Stopped(stop),
     }
 }

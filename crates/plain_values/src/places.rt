@@ -165,7 +165,7 @@ fn element(
     ensures { IfOk result (λ j. answered j st.now ≡ element l low high i (seen st.now)) }
 {
     if is_between(low, i, high) {
-        Ok(Answer::Gave(component(l, distance(low, i)?)?))
+        Ok(Answer::Value(component(l, distance(low, i)?)?))
     } else {
         Ok(Answer::Stopped(Stop::Ended(Fault::Index.number())))
     }
@@ -241,7 +241,7 @@ pub fn element_at(
         ≡ then_give (answered given st.now) (λ v st. element_in l range v st)) }
 {
     match given {
-        Answer::Gave(i) => element_in(l, index_range(&around.home.body.types, t), i, st),
+        Answer::Value(i) => element_in(l, index_range(&around.home.body.types, t), i, st),
         Answer::Stopped(stop) => Ok(Answer::Stopped(stop)),
     }
 }
@@ -260,7 +260,7 @@ pub fn open_element_at(
         ≡ then_give (answered given st.now) (λ v st. element l (pos 0) (pos high) v st)) }
 {
     match given {
-        Answer::Gave(i) => element(l, 0, whole(slot_high(around, slot))?, i, st),
+        Answer::Value(i) => element(l, 0, whole(slot_high(around, slot))?, i, st),
         Answer::Stopped(stop) => Ok(Answer::Stopped(stop)),
     }
 }
