@@ -14,7 +14,7 @@ use check_definition::compile_definition;
 use check_scope::Elaborated;
 use layout_storage::Layout;
 use m2_emit::emit;
-use m2_rule::{Rule, breach};
+use m2_rule::{Breach, Rule};
 use m2_tree::{Contents, Module};
 use std::alloc::{AllocError, Global};
 use tree_parts::{Items, Shared};
@@ -56,7 +56,7 @@ fn fitted(alloc: Global, typed: &TypedModule) -> Result<Compiled, EncodeError>
     ensures encoded { OnOk result (fit_encoded typed.now (too_large typed.now)) }
 {
     match Layout::of(alloc, typed)? {
-        Err(pos) => Ok(Compiled::Refused(breach(pos, Rule::LargeStorage))),
+        Err(pos) => Ok(Compiled::Refused(Breach::at(pos, Rule::LargeStorage))),
         Ok(layout) => {
             let module = emit(alloc, typed, &layout)?;
             Ok(Compiled::Built(Shared::new(alloc, module)?))

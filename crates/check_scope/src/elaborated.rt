@@ -4,7 +4,7 @@ ghost use Rattle.std.specs.Prelude.{◌≡◌, Err};
 ghost use Rattle.check_scope.specs.Elaborated.{least, both, beside, refusal_beside, reported_beside};
 ghost use Rattle.m2_rule.specs.Breaches.{breach};
 
-use m2_rule::{Breach, Rule, breach, lesser};
+use m2_rule::{Breach, Rule, lesser};
 use m2_tree::Pos;
 
 /// What a part means, or the least rule that is broken in it.
@@ -14,7 +14,7 @@ pub type Elaborated<T> = Result<T, Breach>;
 pub fn reported<T>(pos: Pos, broken: Rule) -> Elaborated<T>
     ensures { result ≡ Err (breach pos broken) }
 {
-    Err(breach(pos, broken))
+    Err(Breach::at(pos, broken))
 }
 
 /// Two parts that stand beside one another. Where both have broken rules, the least is reported.
@@ -55,5 +55,5 @@ pub fn refusal_beside<T>(breach: Breach, rest: Elaborated<()>) -> Elaborated<T>
 pub fn reported_beside<T>(pos: Pos, broken: Rule, rest: Elaborated<()>) -> Elaborated<T>
     ensures { result ≡ reported_beside least pos broken rest }
 {
-    refusal_beside(breach(pos, broken), rest)
+    refusal_beside(Breach::at(pos, broken), rest)
 }

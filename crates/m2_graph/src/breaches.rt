@@ -9,7 +9,7 @@ ghost use Rattle.m2_graph.specs.Reported.{cycle_breaches};
 
 use crate::imports::{is_definition, is_implementation, is_program};
 use crate::program::{Program, definition_of, first_file_of, implementation_of};
-use m2_rule::{Breach, Rule, breach, lesser};
+use m2_rule::{Breach, Rule, lesser};
 use m2_tree::{Ident, Import, Module, Name, Pos, is_console};
 
 /// The most files of a program.
@@ -32,7 +32,7 @@ fn with_breach(least: Option<Breach>, holds: bool, pos: Pos, broken: Rule) -> Op
     ensures { result ≡ fold least_with least (breach_where holds pos broken) }
 {
     if holds {
-        least_with(least, breach(pos, broken))
+        least_with(least, Breach::at(pos, broken))
     } else {
         least
     }

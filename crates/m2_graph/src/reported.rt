@@ -10,7 +10,7 @@ ghost use Rattle.m2_graph.specs.Reported.{cycle_breaches, reported, reported_of,
 use crate::breaches::{FIRST_PLACE, breach_of};
 use crate::program::Program;
 use crate::sources::Source;
-use m2_rule::{Breach, Rule, breach};
+use m2_rule::{Breach, Rule};
 use m2_tree::{Pos, Refusal};
 use std::alloc::{AllocError, Global};
 
@@ -78,7 +78,7 @@ pub fn refused_of(
 {
     if sources.is_empty() {
         let mut refusals = Vec::new(alloc);
-        let without_program = breach(FIRST_PLACE, Rule::ProgramCount);
+        let without_program = Breach::at(FIRST_PLACE, Rule::ProgramCount);
         add_refusal(alloc, "", Some(without_program), &mut refusals)?;
         return Ok(refusals);
     }

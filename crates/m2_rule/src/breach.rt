@@ -15,13 +15,15 @@ pub struct Breach {
     pub number: u32,
 }
 
-/// A rule that is broken at this place.
-pub fn breach(pos: Pos, broken: Rule) -> Breach
-    ensures { result ≡ breach pos broken }
-{
-    Breach {
-        pos,
-        number: broken.number(),
+impl Breach {
+    /// A rule that is broken at this place.
+    pub fn at(pos: Pos, broken: Rule) -> Breach
+        ensures { result ≡ breach pos broken }
+    {
+        Breach {
+            pos,
+            number: broken.number(),
+        }
     }
 }
 

@@ -6,6 +6,6 @@ mod breach;
 mod fault;
 mod rule;
 
-pub use breach::{Breach, breach, is_less, lesser};
+pub use breach::{Breach, is_less, lesser};
 pub use fault::Fault;
 pub use rule::Rule;
