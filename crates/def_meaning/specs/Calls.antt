@@ -17,7 +17,7 @@ use Rattle.def_meaning.specs.Store.{Location, Store, assigned, copied, placed, f
 use Rattle.def_meaning.specs.Answer.{State, Answer, Value, no_return, empty_procedure, storage_fault}
 use Rattle.def_meaning.specs.Answer as answer
 use Rattle.def_meaning.specs.Outcome.{Outcome, Normal, Exited, Returned, Ended, StillRunning}
-use Rattle.def_meaning.specs.Around.{Modules, Around, Named, At, Elements, Callee, Passed, Number, Variable, Array, Text}
+use Rattle.def_meaning.specs.Environment.{Modules, Environment, Named, At, Elements, Callee, Passed, Number, Variable, Array, Text}
 use Rattle.def_meaning.specs.Expressions.{Asks}
 use Rattle.def_meaning.specs.Statements.{character, in_turn, does}
 
@@ -126,35 +126,36 @@ entered types r activation vs store =
     })
 
 -- the body's names are the formals and then the variables
-abbrev pub around_of : Callee → (activation : ℕ) → Entered → (left : ℕ) → Around
-around_of c activation e left = record {
+abbrev pub environment_of : Callee → (activation : ℕ) → Entered → (free : ℕ) → Environment
+environment_of c activation e free = record {
   place = c.place;
   types = c.types;
   frames = (e.names ++ variables_from activation (length e.names) c.routine.variables) ∷ c.frames;
   withs = [];
   next = e.next;
-  left = left;
+  free = free;
 }
 
 module _ (p : Modules) (n : ℕ) where
-  abbrev pub body_does : Asks → List TypedStmt → Around → State → Outcome
+  abbrev pub body_does : Asks → List TypedStmt → Environment → State → Outcome
   body_does ask body a st = in_turn (map (does p ask n) body) a st
 
-  abbrev pub runs_in : Asks → Callee → (activation : ℕ) → Entered → (left : ℕ) → State → Answer ℤ
-  runs_in ask c activation e left st =
+  abbrev pub runs_in : Asks → Callee → (activation : ℕ) → Entered → (free : ℕ) → State → Answer ℤ
+  runs_in ask c activation e free st =
       result (is_function c.types c.routine)
-      (body_does ask c.routine.body (around_of c activation e left) (record st { store = e.store }))
+      (body_does ask c.routine.body (environment_of c activation e free)
+      (record st { store = e.store }))
 
   -- a call whose frame and copies do not fit into the free storage is a fault
-  abbrev pub runs : Asks → Callee → List Passed → (next left : ℕ) → State → Answer ℤ
-  runs ask c vs next left st =
-      if nat_lt left (needed c.types c.routine vs)
+  abbrev pub runs : Asks → Callee → List Passed → (next free : ℕ) → State → Answer ℤ
+  runs ask c vs next free st =
+      if nat_lt free (needed c.types c.routine vs)
       then answer.Ended storage_fault st.out
       else runs_in ask c next (entered c.types c.routine next vs st.store)
-      (left - needed c.types c.routine vs) st
+      (free - needed c.types c.routine vs) st
 
   -- calls nest at most d deep
   unfoldable pub calling : (d : ℕ) → Asks
-  calling zero c vs next left st = answer.StillRunning st.out
-  calling (suc d) None vs next left st = answer.Ended empty_procedure st.out
-  calling (suc d) (Some c) vs next left st = runs (calling d) c vs next left st
+  calling zero c vs next free st = answer.StillRunning st.out
+  calling (suc d) None vs next free st = answer.Ended empty_procedure st.out
+  calling (suc d) (Some c) vs next free st = runs (calling d) c vs next free st

@@ -8,7 +8,7 @@ use Rattle.typed_tree.specs.declared.computed.Link.{Link-F}
 use Rattle.typed_tree.specs.declared.computed.Place.{Place, Place-F, fold-Place}
 use Rattle.typed_tree.specs.declared.computed.TypedExpr.{TypedExpr, TypedExpr-F, fold-TypedExpr}
 use Rattle.def_meaning.specs.Answer.{State, Answer, Value, Ended}
-use Rattle.def_meaning.specs.Around.{Modules, Around}
+use Rattle.def_meaning.specs.Environment.{Modules, Environment}
 use Rattle.def_meaning.specs.Expressions.{Asks, value, locate}
 
 -- ---- whether there is a call in an expression
@@ -82,11 +82,11 @@ pub data Leaves {A : Type 0} (st : State) : Answer A → Type 0 where
 -- an expression without calls changes nothing and prints nothing
 abbrev pub ChangesNothing : Type 0
 ChangesNothing =
-    (p : Modules) (ask : Asks) (e : TypedExpr) (a : Around) (st : State) → calls e ≡ false
+    (p : Modules) (ask : Asks) (e : TypedExpr) (a : Environment) (st : State) → calls e ≡ false
     → Leaves st (value p ask e a st)
 
 -- nor does a designator without calls
 abbrev pub FindsAlone : Type 0
 FindsAlone =
-    (p : Modules) (ask : Asks) (d : Place) (a : Around) (st : State) → calls_at d ≡ false
+    (p : Modules) (ask : Asks) (d : Place) (a : Environment) (st : State) → calls_at d ≡ false
     → Leaves st (locate p ask d a st)

@@ -1,4 +1,4 @@
--- What expressions, designators, calls and arguments give. Operands are evaluated from left to
+-- What expressions, designators, calls and arguments give. Operands are evaluated from free to
 -- right, and what is checked is checked as soon as it is there.
 use Rattle.std.specs.Prelude.{ℕ, ◌-◌, ℤ, pos, ◌+ℤ◌, ◌-ℤ◌, ◌*ℤ◌, true, false, not, int_lt, unsigned_abs, List, [], ◌∷◌, ◌++◌, drop, Option, Some, None, slice_get, if◌then◌else◌}
 use Rattle.typed_tree.specs.declared.computed.Argument.{Argument-F}
@@ -24,7 +24,7 @@ use Rattle.layout_storage.specs.Shapes.{elements_of}
 use Rattle.def_meaning.specs.Store.{Location}
 use Rattle.def_meaning.specs.Answer.{State, Answer, Value, Ended, then_give, range_fault, overflow, index_fault, divisor_fault, empty_procedure}
 use Rattle.def_meaning.specs.Operators.{is_between, truth, is_true, compared, combined, included, has, absolute, capital, odd, quotient, remainder}
-use Rattle.def_meaning.specs.Around.{Modules, Around, Callee, Passed, Number, Variable, Array, Text, module_place, procedure_value, entry_of, entry_callee, module_callee, nested_in, named, location_of, high_of, or_root}
+use Rattle.def_meaning.specs.Environment.{Modules, Environment, Callee, Passed, Number, Variable, Array, Text, module_place, procedure_value, entry_of, entry_callee, module_callee, nested_in, named, location_of, high_of, or_root}
 
 -- ---- checks
 
@@ -96,10 +96,10 @@ ordinal v st = if int_lt v (pos 0) then Ended range_fault st.out else Value v st
 -- next instance, and the bytes of storage that are free
 
 abbrev pub Asks : Type 0
-Asks = Option Callee → List Passed → (next left : ℕ) → State → Answer ℤ
+Asks = Option Callee → List Passed → (next free : ℕ) → State → Answer ℤ
 
 abbrev pub Gives : Type 0 → Type 0
-Gives A = Around → State → Answer A
+Gives A = Environment → State → Answer A
 
 -- what a component makes of a location, and an operator with its second operand of the first
 abbrev pub Reaches : Type 0
@@ -114,16 +114,16 @@ one_by_one (f ∷ fs) x a st = then_give (f x a st) (λ y st. one_by_one fs y a 
 
 module _ (p : Modules) (ask : Asks) where
   -- one argument after the other
-  abbrev pub all_given : List (Gives Passed) → Around → State → Answer (List Passed)
+  abbrev pub all_given : List (Gives Passed) → Environment → State → Answer (List Passed)
   all_given [] a st = Value [] st
   all_given (x ∷ xs) a st =
       then_give (x a st) (λ v st. then_give (all_given xs a st) (λ vs st. Value (v ∷ vs) st))
 
-  abbrev pub asked : Option Callee → List (Gives Passed) → Around → State → Answer ℤ
-  asked callee args a st = then_give (all_given args a st) (λ vs st. ask callee vs a.next a.left st)
+  abbrev pub asked : Option Callee → List (Gives Passed) → Environment → State → Answer ℤ
+  asked callee args a st = then_give (all_given args a st) (λ vs st. ask callee vs a.next a.free st)
 
   -- the value of a procedure variable is taken before the arguments
-  abbrev pub asked_if : Option Callee → List (Gives Passed) → Around → State → Answer ℤ
+  abbrev pub asked_if : Option Callee → List (Gives Passed) → Environment → State → Answer ℤ
   asked_if None args a st = Ended empty_procedure st.out
   asked_if (Some callee) args a st = asked (Some callee) args a st
 
@@ -148,14 +148,14 @@ module _ (p : Modules) (ask : Asks) where
   call_layer (layer.Variable t d args) a st =
       then_give (d a st) (λ l st. asked_if (entry_callee p (entry_of p (st.store l))) args a st)
 
-  abbrev pub root_layer : Root → Around → Location
+  abbrev pub root_layer : Root → Environment → Location
   root_layer (root.Global v) a = module_place p v.home ∷ v.number ∷ []
   root_layer (root.Local slot) a = location_of (named a slot)
   root_layer (root.Alias slot) a = location_of (named a slot)
   root_layer (root.Open slot) a = location_of (named a slot)
   root_layer (root.With k) a = or_root (slice_get a.withs k)
 
-  -- left to right: an index is evaluated, and checked, behind what stands before its bracket
+  -- free to right: an index is evaluated, and checked, behind what stands before its bracket
   abbrev pub component_layer :
       Component-F (Gives Passed) (Gives ℤ) Reaches Continues (Gives ℤ) (Gives Location) → Reaches
   component_layer (layer.Field t k) l a st = Value (l ++ k ∷ []) st

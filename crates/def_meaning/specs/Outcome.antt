@@ -3,7 +3,8 @@ use Rattle.std.specs.Prelude.{ℕ, ℤ, List}
 use Rattle.def_meaning.specs.Answer.{State, Answer, Value}
 use Rattle.def_meaning.specs.Answer as answer
 
--- how statements end: normally, by EXIT, by RETURN with a value (0 without one), or as an expression does
+-- how statements end: normally, by EXIT, by RETURN with a value (0 without one), or as an
+-- expression does
 pub data Outcome : Type 0 where
   Normal : (st : State) → Outcome
   Exited : (st : State) → Outcome

@@ -18,11 +18,11 @@ use Rattle.def_meaning.specs.Store.{Location, assigned, copied, placed}
 use Rattle.def_meaning.specs.Answer.{State, Answer, then_give, range_fault, case_fault, halted}
 use Rattle.def_meaning.specs.Outcome.{Outcome, Normal, Exited, Returned, Ended, StillRunning, then_go, with_answer}
 use Rattle.def_meaning.specs.Operators.{is_between, is_true, bits, without, single}
-use Rattle.def_meaning.specs.Around.{Modules, Around}
+use Rattle.def_meaning.specs.Environment.{Modules, Environment}
 use Rattle.def_meaning.specs.Expressions.{Asks, within, as_type, in_base, value, locate, called}
 
 abbrev pub Does : Type 0
-Does = Around → State → Outcome
+Does = Environment → State → Outcome
 
 -- one after the other
 abbrev pub in_turn : List Does → Does

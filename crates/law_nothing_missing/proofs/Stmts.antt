@@ -23,7 +23,7 @@ use Rattle.layout_storage.specs.Shapes.{tree}
 use Rattle.def_meaning.specs.Store.{Location, copied, placed}
 use Rattle.def_meaning.specs.Answer.{State, Answer, Value, then_give, range_fault, overflow, case_fault, halted}
 use Rattle.def_meaning.specs.Outcome.{Outcome, Normal, Returned, Ended, with_answer}
-use Rattle.def_meaning.specs.Around.{Modules, Around}
+use Rattle.def_meaning.specs.Environment.{Modules, Environment}
 use Rattle.def_meaning.specs.Operators.{is_true}
 use Rattle.def_meaning.specs.Calls.{is_there}
 use Rattle.def_meaning.specs.Expressions.{Asks, Gives, value, locate, as_type}
@@ -105,7 +105,7 @@ module _ (x : Context) (lacking : ℕ) (world : World) (sask ask : Asks) (knows 
   Turn l f g = (st : State) → IsFine P world st.store → End l (f st) (g st)
 
   abbrev pub Ends : (ws : List Ty) → Bool → Does → Does → Type 0
-  Ends ws l f g = (a : Around) → Fits x world ws a → Turn l (f a) (g a)
+  Ends ws l f g = (a : Environment) → Fits x world ws a → Turn l (f a) (g a)
 
   abbrev S : (ws : List Ty) → Bool → TypedStmt → Type 0
   S ws l s = Ends ws l (sdo s) (does P ask n s)

@@ -4,9 +4,9 @@ use Rattle.layout_storage.specs.Types.{frame_of}
 use Rattle.layout_storage.specs.Frames.{module_row}
 use Rattle.def_meaning.specs.Answer.{State}
 use Rattle.def_meaning.specs.Outcome.{Outcome, Exited, Ended}
-use Rattle.def_meaning.specs.Around.{Modules}
+use Rattle.def_meaning.specs.Environment.{Modules}
 use Rattle.def_meaning.specs.Runs as meaning
-use Rattle.def_meaning.specs.Runs.{storage, body_frame, first_state, around_body}
+use Rattle.def_meaning.specs.Runs.{storage, body_frame, first_state, body_environment}
 use Rattle.law_nothing_missing.specs.Worlds.{World}
 use Rattle.law_nothing_missing.specs.Calls.{body_does, calling}
 
@@ -25,7 +25,7 @@ module _ (lacking : ℕ) where
   bodies p n left place (m ∷ ms) st =
       then_body
       (body_does lacking p n (calling lacking p n n (first_world p)) (first_world p) false m.body
-      (around_body p place m left) st)
+      (body_environment p place m left) st)
       (bodies p n left (suc place) ms)
 
   -- the run of a program with the bound n, which ends with the number `lacking` where it lacks

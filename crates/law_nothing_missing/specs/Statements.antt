@@ -12,7 +12,7 @@ use Rattle.def_meaning.specs.Store.{Location, copied, placed}
 use Rattle.def_meaning.specs.Answer.{State, Answer, Value, then_give, range_fault, halted}
 use Rattle.def_meaning.specs.Outcome.{Normal, Exited, Returned, Ended, with_answer}
 use Rattle.def_meaning.specs.Operators.{is_true}
-use Rattle.def_meaning.specs.Around.{Modules}
+use Rattle.def_meaning.specs.Environment.{Modules}
 use Rattle.def_meaning.specs.Expressions.{Asks, Gives, within, as_type}
 use Rattle.def_meaning.specs.Statements.{Does, Arm, in_turn, if_there, or_else, chosen, stored, character, while_true, until_true, looped, for_all, base_of, changed, rechecked, with_element}
 use Rattle.layout_storage.specs.Types.{Ty}

@@ -33,7 +33,7 @@ use Rattle.check_definition.specs.Export.{imported_modules}
 use Rattle.check_definition.specs.Compiled as types
 use Rattle.check_body.specs.Own.{exported_variables}
 use Rattle.check_body.specs.Checks.{elaborated}
-use Rattle.def_meaning.specs.Around.{module_place}
+use Rattle.def_meaning.specs.Environment.{module_place}
 use Rattle.law_modules.specs.Linked.{Program}
 use Rattle.law_simulation.specs.Knows.{Knows, IsCoherent}
 use Rattle.law_well_formed.specs.Formed.{Holds, fine, broken}

@@ -39,7 +39,7 @@ use Rattle.check_definition.specs.Importing.{numbered_modules, exports_of}
 use Rattle.check_block.specs.Nesting.{procedure_ends}
 use Rattle.check_body.specs.Own.{implementation_scope}
 use Rattle.check_body.specs.Checks.{elaborated}
-use Rattle.def_meaning.specs.Around.{module_place}
+use Rattle.def_meaning.specs.Environment.{module_place}
 use Rattle.law_modules.specs.WellFormed.{IsProcedure}
 use Rattle.law_modules.specs.Linked.{Program}
 use Rattle.law_memory.specs.Relation.{heading_at}

@@ -18,7 +18,7 @@ use Rattle.def_meaning.specs.Store.{Location}
 use Rattle.def_meaning.specs.Answer.{State as Source, Answer, Ended, StillRunning, then_give}
 use Rattle.def_meaning.specs.Answer as answer
 use Rattle.def_meaning.specs.Outcome.{Normal, with_answer}
-use Rattle.def_meaning.specs.Around.{Modules, Callee, Passed, Number, Variable, Array as Whole, Text}
+use Rattle.def_meaning.specs.Environment.{Modules, Callee, Passed, Number, Variable, Array as Whole, Text}
 use Rattle.def_meaning.specs.Expressions.{Asks, Gives, all_given}
 use Rattle.def_scheme.specs.Coded.{Coded, Counts, ◌⨾◌, all_coded, raised}
 use Rattle.law_simulation.specs.Scene.{Scene, IsSet, IsCell, calls, runs, Stands, Into, GivesNumber, Grows, IsFree, HasLocals, inside, Agrees, Ends, Executes}
@@ -112,15 +112,15 @@ module _ (k : Scene) (base : List Ty) (texts : Location → ℕ → ℕ) (top : 
   back_gives s st h rest stack r (StillRunning out) g = ap (λ (e : Effect). then_run e (runs k rest)) g
 
   pub call_goes : (vs : List Passed) (values : List Value) → ArePassed k.program k.world k.hidden forms vs values → (s : Source) (st : Target) → Stands k s st → (rest : List Instr) (stack : List Value)
-      → Into (GivesResult k result (runs k rest) stack) (runs k (code ++ rest) st ((stack ++ front) ++ values)) (ask (Some c) vs k.around.next k.around.left s)
+      → Into (GivesResult k result (runs k rest) stack) (runs k (code ++ rest) st ((stack ++ front) ++ values)) (ask (Some c) vs k.around.next k.around.free s)
   call_goes vs values are s st h rest stack =
       let args : List Value = front ++ values in
       let shape : (stack ++ front) ++ values ≡ stack ++ args = append_assoc stack front values in
       let many : length args ≡ length t.type.params = (let a = operands_count k.program k.world k.hidden forms vs values are in let b = length-append (links k.world roots) values in omega (arith, a, b, count)) in
-      let answer : ℕ → Answer ℤ = λ n. ask (Some c) vs n k.around.left s in
+      let answer : ℕ → Answer ℤ = λ n. ask (Some c) vs n k.around.free s in
       let did : List ℕ → Effect = λ out. back (length t.type.results) st.locals stack (calls k j f t args st.bytes out) in
       let got : Into (CallGives k.program k.world k.hidden k.limit result st.locals stack) (did s.out) (answer (length k.world)) =
-      does k.world k.hidden top.based roots chain s st.bytes h.holds h.long vs values are k.around.left top.left st.locals stack in
+      does k.world k.hidden top.based roots chain s st.bytes h.holds h.long vs values are k.around.free top.left st.locals stack in
       subst (λ (r : Effect). Into (GivesResult k result (runs k rest) stack) r (answer k.around.next)) (sym (ap (runs k (code ++ rest) st) shape ∙ is_call s st h rest stack args many))
       (back_gives s st h rest stack (did st.out) (answer k.around.next)
       (subst (λ (n : ℕ). Into (CallGives k.program k.world k.hidden k.limit result st.locals stack) (did st.out) (answer n)) (sym top.next)
@@ -129,7 +129,7 @@ module _ (k : Scene) (base : List Ty) (texts : Location → ℕ → ℕ) (top : 
   -- with its arguments before it
   module _ (xs : List Coded) (gs : List (Gives Passed)) (args : PassAll k forms xs gs) (call : Coded) (plainly : IsPlain k call code) where
     abbrev pub value : Gives ℤ
-    value a s = then_give (all_given p ask gs a s) (λ vs s. ask (Some c) vs a.next a.left s)
+    value a s = then_give (all_given p ask gs a s) (λ vs s. ask (Some c) vs a.next a.free s)
 
     pub args_grow : (e : ℕ) (n : Counts) → Grows n ((all_coded xs ⨾ call) (inside k e) n).1
     args_grow e n = subst (λ (q : List Instr × Counts). Grows n q.1) (sym (plainly e (all_coded xs (inside k e) n).1)) ((all_pass k p ask forms xs gs args).grows e n)
@@ -139,7 +139,7 @@ module _ (k : Scene) (base : List Ty) (texts : Location → ℕ → ℕ) (top : 
     args_go e n free full s st h rest stack =
         let first = all_coded xs (inside k e) n in
         let below : List Value = stack ++ front in
-        let on : List Passed → Source → Answer ℤ = λ vs s. ask (Some c) vs k.around.next k.around.left s in
+        let on : List Passed → Source → Answer ℤ = λ vs s. ask (Some c) vs k.around.next k.around.free s in
         subst (λ (q : List Instr × Counts). Into (GivesResult k result (runs k rest) stack) (runs k ((first.0 ++ q.0) ++ rest) st below) (then_give (all_given p ask gs k.around s) on)) (sym (plainly e first.1))
         (subst (λ (list : List Instr). Into (GivesResult k result (runs k rest) stack) (runs k list st below) (then_give (all_given p ask gs k.around s) on)) (sym (append_assoc first.0 code rest))
         (into_then (GivesAll k forms (runs k (code ++ rest)) below) (GivesResult k result (runs k rest) stack) (runs k (first.0 ++ (code ++ rest)) st below) (all_given p ask gs k.around s) on

@@ -19,7 +19,7 @@ use Rattle.layout_storage.specs.Shapes.{tree, elements_of}
 use Rattle.def_meaning.specs.Store.{Location}
 use Rattle.def_meaning.specs.Answer.{State as Source, Answer, then_give}
 use Rattle.def_meaning.specs.Answer as answer
-use Rattle.def_meaning.specs.Around.{Named, At, Elements, Frames, named, or_empty, location_of, high_of}
+use Rattle.def_meaning.specs.Environment.{Named, At, Elements, Frames, named, or_empty, location_of, high_of}
 use Rattle.def_meaning.specs.Expressions.{Gives, element}
 use Rattle.law_memory.specs.Cells.{stored_in}
 use Rattle.law_memory.specs.Relation.{Keeps}

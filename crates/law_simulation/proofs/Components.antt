@@ -27,7 +27,7 @@ use Rattle.law_memory.proofs.Places.{component_append, offset_append}
 use Rattle.def_meaning.specs.Store.{Location}
 use Rattle.def_meaning.specs.Answer.{State as Source, Answer, Ended, then_give, index_fault}
 use Rattle.def_meaning.specs.Answer as answer
-use Rattle.def_meaning.specs.Around.{or_root, named, location_of}
+use Rattle.def_meaning.specs.Environment.{or_root, named, location_of}
 use Rattle.def_meaning.specs.Operators.{is_between}
 use Rattle.def_meaning.specs.Expressions as meaning
 use Rattle.def_meaning.specs.Expressions.{Gives, one_by_one, element, element_in}

@@ -15,7 +15,7 @@ use Rattle.law_effect.proofs.Steps.{split_end_at, i32_runs, get_runs, tee_runs, 
 use Rattle.layout_storage.specs.Types.{Ty, Scalar, Natural, Cell, Hidden, Array, row, component, IsPlain, IsScalar}
 use Rattle.layout_storage.specs.Sizes.{size, offset}
 use Rattle.layout_storage.specs.Shapes.{tree}
-use Rattle.def_meaning.specs.Around.{Modules}
+use Rattle.def_meaning.specs.Environment.{Modules}
 use Rattle.def_meaning.specs.Store.{Location, Store, behind, copied, placed}
 use Rattle.def_meaning.specs.Answer.{State as Source}
 use Rattle.def_meaning.specs.Outcome.{Outcome, Normal, with_answer}

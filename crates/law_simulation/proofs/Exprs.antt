@@ -45,7 +45,7 @@ use Rattle.layout_storage.specs.Frames.{formals_of}
 use Rattle.layout_storage.specs.Texts.{passed}
 use Rattle.def_meaning.specs.Store.{Location}
 use Rattle.def_meaning.specs.Answer.{State as Source, Value, then_give}
-use Rattle.def_meaning.specs.Around.{Modules, Callee, Frames, Passed, Number, Array as Whole, entry_of, entry_callee, module_place, nested_in, named, high_of}
+use Rattle.def_meaning.specs.Environment.{Modules, Callee, Frames, Passed, Number, Array as Whole, entry_of, entry_callee, module_place, nested_in, named, high_of}
 use Rattle.def_meaning.specs.Expressions as meaning
 use Rattle.def_meaning.specs.Expressions.{Asks, Gives, Reaches as Reached, Continues, value, locate, called}
 use Rattle.def_scheme.specs.Coded.{Coded, top_local, plain, ◌⨾◌, all_coded, with_setting, with_number, number, operation, extended, wrapped, relation, checked, raised}

@@ -21,7 +21,7 @@ use Rattle.layout_storage.specs.Frames.{formals_of}
 use Rattle.def_meaning.specs.Store.{Location}
 use Rattle.def_meaning.specs.Answer.{State as Source, Answer, Ended, StillRunning, then_give}
 use Rattle.def_meaning.specs.Answer as answer
-use Rattle.def_meaning.specs.Around.{Callee, Frames, Passed, entry_of, entry_callee}
+use Rattle.def_meaning.specs.Environment.{Callee, Frames, Passed, entry_of, entry_callee}
 use Rattle.def_meaning.specs.Operators.{is_between}
 use Rattle.def_meaning.specs.Expressions.{Asks, Gives, all_given, asked_if}
 use Rattle.law_memory.specs.Relation.{IsProcedureValue, Empty, Full, heading_at}
@@ -109,7 +109,7 @@ module _ (k : Scene) (set : IsSet k) (ask : Asks) (numbered : Numbered) (base : 
     top_here = record { kept = still_kept k.kept w v new (top_local k.setting) (I32 (size (row k.world))) top.kept; next = top.next; left = top.left; based = top.based }
 
     kept_calls : (xs : List Coded) (gs : List (Gives Passed)) → PassAll K forms xs gs
-        → Calls K result (top_code ⨾ (all_coded xs ⨾ value_call numbered w t)) (λ a s. then_give (all_given k.program ask gs a s) (λ vs s. ask (Some q.callee) vs a.next a.left s))
+        → Calls K result (top_code ⨾ (all_coded xs ⨾ value_call numbered w t)) (λ a s. then_give (all_given k.program ask gs a s) (λ vs s. ask (Some q.callee) vs a.next a.free s))
     kept_calls xs gs hs =
         let chain : IsChain K.world K.hidden [] q.callee.frames [] = subst (λ (nss : Frames). IsChain K.world K.hidden [] nss []) (sym q.outermost) chain_end in
         let many : length q.typed.type.params ≡ suc (all_operands forms) = ap (λ (f : FuncType). length f.params) q.type ∙ ap suc (many_length (all_operands forms)) in

@@ -14,7 +14,7 @@ use Rattle.typed_tree.specs.Types.{are_same, integer, cardinal, boolean, char, b
 use Rattle.def_meaning.specs.Answer.{State as Source, Answer, Value, then_give, range_fault, overflow}
 use Rattle.def_meaning.specs.Outcome.{Normal, with_answer}
 use Rattle.def_meaning.specs.Expressions.{Gives, Continues, Reaches as Reached, root_layer, component_layer, element_in, index_range, one_by_one, within, within_range, divided, ordinal, as_type, in_base, link_layer}
-use Rattle.def_meaning.specs.Around.{Around, module_place}
+use Rattle.def_meaning.specs.Environment.{Environment, module_place}
 use Rattle.def_meaning.specs.Store.{Location}
 use Rattle.def_meaning.specs.Operators.{truth, compared, is_true, absolute, capital, odd, quotient, remainder, bits, without, combined, has}
 use Rattle.def_meaning.specs.Statements.{Does, changed, rechecked, for_all, chosen, stored}
@@ -101,7 +101,7 @@ disjunctions k set p ask y value ha = or_goes k set.helpers set.small y.code val
 pub relations : Relations
 relations k set p ask o x y first second hx hy =
     let list : List Instr = relation (relation_of o) ∷ extended ∷ [] in
-    let both : ℤ → ℤ → Around → Source → Answer ℤ = λ v w a s. Value (truth (compared o v w)) s in
+    let both : ℤ → ℤ → Environment → Source → Answer ℤ = λ v w a s. Value (truth (compared o v w)) s in
     then_agrees k x.of boolean x.code (y.code ⨾ plain list) first (λ v a s. then_give (second a s) (λ w s. both v w a s)) hx
     (second_goes k set.helpers set.small x.of y.of boolean y.code (plain list) list second both hy (λ e c. refl) (compare_makes k set.helpers set.small x.of y.of o))
 
@@ -112,13 +112,13 @@ combinations k set p ask o y value ha =
 pub inclusions : Inclusions
 inclusions k set p ask inclusion.Within x y first second hx hy =
     let list : List Instr = complement ++ (operation And ∷ empty_code) in
-    let both : ℤ → ℤ → Around → Source → Answer ℤ = λ v w a s. Value (truth (without (bits v) (bits w) == 0)) s in
+    let both : ℤ → ℤ → Environment → Source → Answer ℤ = λ v w a s. Value (truth (without (bits v) (bits w) == 0)) s in
     then_agrees k bitset boolean x.code (y.code ⨾ plain list) first (λ v a s. then_give (second a s) (λ w s. both v w a s)) hx
     (second_goes k set.helpers set.small bitset bitset boolean y.code (plain list) list second both hy (λ e c. refl) (within_makes k set.helpers set.small))
 inclusions k set p ask inclusion.Around x y first second hx hy =
     let list : List Instr = operation And ∷ empty_code in
     let rest_of : ℤ → Gives ℤ = λ v a s. Value (pos (bit_xor (bits v) 4294967295)) s in
-    let both : ℤ → ℤ → Around → Source → Answer ℤ = λ v w a s. Value (truth (bit_and (bits w) (bits v) == 0)) s in
+    let both : ℤ → ℤ → Environment → Source → Answer ℤ = λ v w a s. Value (truth (bit_and (bits w) (bits v) == 0)) s in
     then_agrees k bitset boolean x.code (plain complement ⨾ y.code ⨾ plain list) first (λ v a s. then_give (rest_of v a s) (λ v s. then_give (second a s) (λ w s. both v w a s))) hx
     (then_goes k bitset bitset boolean (plain complement) (y.code ⨾ plain list) rest_of (λ v a s. then_give (second a s) (λ w s. both v w a s))
     (plain_goes k bitset bitset (plain complement) complement rest_of (λ e c. refl) (complement_goes k set.helpers set.small))
@@ -148,7 +148,7 @@ pub opposites : Opposites
 opposites k set p ask x value hx =
     let types : Types = k.setting.home.types in
     let after : Coded = with_setting (λ s. plain (operation Sub ∷ in_type s.home.types integer 2)) in
-    let opposite : ℤ → ℤ → Around → Source → Answer ℤ = λ v w a s. within_range (scalar_at types integer) overflow (v -ℤ w) s in
+    let opposite : ℤ → ℤ → Environment → Source → Answer ℤ = λ v w a s. within_range (scalar_at types integer) overflow (v -ℤ w) s in
     then_agrees k boolean integer (plain (number (pos 0) ∷ [])) (x.code ⨾ after) (λ a s. Value (pos 0) s) (λ v a s. then_give (value a s) (λ w s. opposite v w a s))
     (constant_agrees k set.helpers set.small boolean (pos 0) (omega (arith, ints), omega (arith, ints)))
     (second_goes k set.helpers set.small boolean x.of integer x.code after (operation Sub ∷ in_type types integer 2) value opposite hx (λ e c. refl) (difference_goes k set.helpers set.small boolean x.of integer (λ e. cc e)))

@@ -20,7 +20,7 @@ use Rattle.layout_storage.specs.Texts.{passed}
 use Rattle.def_meaning.specs.Store.{Location}
 use Rattle.def_meaning.specs.Answer.{State as Source, Answer, Ended, StillRunning, then_give}
 use Rattle.def_meaning.specs.Answer as answer
-use Rattle.def_meaning.specs.Around.{Passed, Number, Variable, Array as Whole, Text, named, location_of, high_of}
+use Rattle.def_meaning.specs.Environment.{Passed, Number, Variable, Array as Whole, Text, named, location_of, high_of}
 use Rattle.def_meaning.specs.Expressions.{Gives}
 use Rattle.law_memory.proofs.Procedures.{number_means}
 use Rattle.law_memory.proofs.Worlds.{lies}

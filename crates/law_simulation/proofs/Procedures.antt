@@ -16,7 +16,7 @@ use Rattle.def_meaning.specs.Store.{Location}
 use Rattle.def_meaning.specs.Answer.{State as Source, Answer, Ended, StillRunning, then_give, range_fault}
 use Rattle.def_meaning.specs.Answer as answer
 use Rattle.def_meaning.specs.Outcome.{Outcome, Normal, Returned, with_answer}
-use Rattle.def_meaning.specs.Around.{Number}
+use Rattle.def_meaning.specs.Environment.{Number}
 use Rattle.def_meaning.specs.Expressions.{as_type, within_range}
 use Rattle.def_meaning.specs.Statements.{stored as stores}
 use Rattle.law_memory.specs.Relation.{Means, IsProcedureValue, Full}

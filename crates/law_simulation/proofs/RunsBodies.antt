@@ -14,7 +14,7 @@ use Rattle.layout_storage.specs.Sizes.{size}
 use Rattle.def_meaning.specs.Answer.{State as Source}
 use Rattle.def_meaning.specs.Outcome.{Outcome, Normal, Exited}
 use Rattle.def_meaning.specs.Outcome as outcome
-use Rattle.def_meaning.specs.Around.{Modules}
+use Rattle.def_meaning.specs.Environment.{Modules}
 use Rattle.def_meaning.specs.Runs.{storage, body_frame, bodies, first_state, then_body}
 use Rattle.def_meaning.specs.Runs as runs
 use Rattle.law_memory.specs.Bodies.{BodyAt, bodies_do, run_typed}

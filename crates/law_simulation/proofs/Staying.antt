@@ -4,7 +4,7 @@ use Rattle.def_meaning.specs.Store.{Location}
 use Rattle.def_meaning.specs.Answer.{State, Answer, Value}
 use Rattle.def_meaning.specs.Answer as answer
 use Rattle.def_meaning.specs.Outcome.{Outcome, Normal, Exited, Returned, Ended, StillRunning, then_go, with_answer}
-use Rattle.def_meaning.specs.Around.{Around}
+use Rattle.def_meaning.specs.Environment.{Environment}
 use Rattle.def_meaning.specs.Operators.{is_true}
 use Rattle.def_meaning.specs.Statements.{Does, stored, loop_left, looped, while_true, until_true, has_passed, for_turns, for_all}
 
@@ -20,7 +20,7 @@ abbrev pub Stay : (State → Outcome) → Type 0
 Stay f = (s : State) → is_left (f s) ≡ false
 
 abbrev pub Stays : Does → Type 0
-Stays d = (a : Around) → Stay (d a)
+Stays d = (a : Environment) → Stay (d a)
 
 pub then_stays : (o : Outcome) (next : State → Outcome) → is_left o ≡ false → Stay next → is_left (then_go o next) ≡ false
 then_stays (Normal s) next h g = g s

@@ -29,7 +29,7 @@ use Rattle.layout_storage.specs.Shapes.{tree}
 use Rattle.def_meaning.specs.Store.{Location, copied, placed}
 use Rattle.def_meaning.specs.Answer.{State as Source, Answer, Value, Ended, StillRunning, then_give}
 use Rattle.def_meaning.specs.Outcome.{Outcome, Normal, Returned, with_answer}
-use Rattle.def_meaning.specs.Around.{Modules, Around, Named, At, Elements, location_of, named}
+use Rattle.def_meaning.specs.Environment.{Modules, Environment, Named, At, Elements, location_of, named}
 use Rattle.def_meaning.specs.Calls.{is_there}
 use Rattle.def_meaning.specs.Operators.{is_true}
 use Rattle.def_meaning.specs.Expressions as meaning
@@ -428,7 +428,7 @@ module _ (x : Context) (ask : Asks) (result : Result) (n : ℕ) where
     type : (ws : List Ty) (k : Scene) → Fits x ask ws k → component (row k.world) (l k) ≡ Some t
 
   -- what stands alone
-  alone : (r : Root) (d : Place) → d.root ≡ r → d.components ≡ [] → (a : Around) (s : Source) → locate P ask d a s ≡ Value (meaning.root_layer P ask r a) s
+  alone : (r : Root) (d : Place) → d.root ≡ r → d.components ≡ [] → (a : Environment) (s : Source) → locate P ask d a s ≡ Value (meaning.root_layer P ask r a) s
   alone r d is none a s =
       ap (λ (f : Gives Location). f a s) (place_means P ask d (out-Place d) refl)
       ∙ ap (λ (r : Root). meaning.one_by_one (map (component_value P ask) d.components) (meaning.root_layer P ask r a) a s) is

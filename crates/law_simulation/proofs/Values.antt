@@ -18,7 +18,7 @@ use Rattle.layout_storage.specs.Shapes.{tree}
 use Rattle.def_meaning.specs.Answer.{State as Source, Answer, Ended, then_give, range_fault}
 use Rattle.def_meaning.specs.Answer as answer
 use Rattle.def_meaning.specs.Outcome.{Returned}
-use Rattle.def_meaning.specs.Around.{Modules, procedure_value}
+use Rattle.def_meaning.specs.Environment.{Modules, procedure_value}
 use Rattle.def_meaning.specs.Operators.{is_between}
 use Rattle.def_meaning.specs.Expressions.{Gives, as_type, within_range}
 use Rattle.law_memory.specs.Relation.{Means}

@@ -14,9 +14,9 @@ use Rattle.def_meaning.specs.Store.{Location}
 use Rattle.def_meaning.specs.Answer.{State as Source}
 use Rattle.def_meaning.specs.Outcome.{Outcome, Normal, Exited, Returned, Ended}
 use Rattle.def_meaning.specs.Outcome as outcome
-use Rattle.def_meaning.specs.Around.{Modules}
+use Rattle.def_meaning.specs.Environment.{Modules}
 use Rattle.def_meaning.specs.Calls.{body_does, calling}
-use Rattle.def_meaning.specs.Runs.{storage, body_frame, around_body, first_state, run}
+use Rattle.def_meaning.specs.Runs.{storage, body_frame, body_environment, first_state, run}
 use Rattle.law_memory.specs.Relation.{Holds}
 use Rattle.law_memory.specs.Bodies.{BodyAt, AreThere, run_typed}
 use Rattle.law_simulation.specs.Behaves.{Behaves}
@@ -65,7 +65,7 @@ BodyDoes g calls does j f t =
 -- what a body does, where each loop makes at most n turns and calls nest at most n deep
 abbrev pub statements_do : Modules → (pages n place : ℕ) → TypedModule → Source → Outcome
 statements_do p pages n place m =
-    body_does p n (calling p n n) m.body (around_body p place m (storage p pages - body_frame))
+    body_does p n (calling p n n) m.body (body_environment p place m (storage p pages - body_frame))
 
 -- the bodies from this place on
 abbrev pub AllDo : Ground → Calling → (does : ℕ → TypedModule → Source → Outcome) → (place : ℕ)

@@ -17,7 +17,7 @@ use Rattle.layout_storage.specs.Shapes.{tree}
 use Rattle.def_meaning.specs.Store.{Location, copied, placed}
 use Rattle.def_meaning.specs.Answer.{Value, then_give}
 use Rattle.def_meaning.specs.Outcome.{Normal, Returned, with_answer}
-use Rattle.def_meaning.specs.Around.{Modules, procedure_value, named, high_of}
+use Rattle.def_meaning.specs.Environment.{Modules, procedure_value, named, high_of}
 use Rattle.def_meaning.specs.Expressions as meaning
 use Rattle.def_meaning.specs.Expressions.{Asks, Gives as Given, as_type}
 use Rattle.def_meaning.specs.Statements.{character}

@@ -18,7 +18,7 @@ use Rattle.def_meaning.specs.Store.{Location}
 use Rattle.def_meaning.specs.Answer.{State as Source, then_give}
 use Rattle.def_meaning.specs.Answer as answer
 use Rattle.def_meaning.specs.Outcome.{Normal, Returned, with_answer}
-use Rattle.def_meaning.specs.Around.{Modules, Callee, Passed, Number, module_place, entry_of, entry_callee}
+use Rattle.def_meaning.specs.Environment.{Modules, Callee, Passed, Number, module_place, entry_of, entry_callee}
 use Rattle.def_meaning.specs.Calls.{is_there}
 use Rattle.def_meaning.specs.Expressions as meaning
 use Rattle.def_meaning.specs.Expressions.{Asks, Gives, as_type, asked_if}
@@ -128,8 +128,8 @@ HeldAssigns =
 -- for a value formal
 abbrev pub HeldPasses : Type 0
 HeldPasses =
-    (k : Scene) (h : Heading) (c : Coded) (value : Gives ℤ) → AgreesHeld k h c value
-    → Passes k (ByNumber (Callable h)) c (λ a s. then_give (value a s) (λ v s. answer.Value (Number v) s))
+    (k : Scene) (h : Heading) (c : Coded) (value : Gives ℤ) → AgreesHeld k h c value → Passes k
+    (ByNumber (Callable h)) c (λ a s. then_give (value a s) (λ v s. answer.Value (Number v) s))
 
 -- RETURN
 abbrev pub HeldGives : Type 0

@@ -22,7 +22,7 @@ use Rattle.def_meaning.specs.Store.{Location}
 use Rattle.def_meaning.specs.Answer.{range_fault, halted}
 use Rattle.def_meaning.specs.Answer as answer
 use Rattle.def_meaning.specs.Outcome.{Normal, Exited, Returned, Ended, with_answer, then_go}
-use Rattle.def_meaning.specs.Around.{Modules, module_place}
+use Rattle.def_meaning.specs.Environment.{Modules, module_place}
 use Rattle.def_meaning.specs.Operators.{is_true}
 use Rattle.def_meaning.specs.Expressions as meaning
 use Rattle.def_meaning.specs.Expressions.{within as bounded, as_type, Asks, Gives, Continues, one_by_one}

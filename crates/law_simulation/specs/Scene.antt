@@ -25,7 +25,7 @@ use Rattle.def_meaning.specs.Answer.{State as Source, Answer}
 use Rattle.def_meaning.specs.Answer as answer
 use Rattle.def_meaning.specs.Outcome.{Outcome, Normal, Exited, Returned, Ended}
 use Rattle.def_meaning.specs.Outcome as outcome
-use Rattle.def_meaning.specs.Around.{Modules, Around, named, location_of}
+use Rattle.def_meaning.specs.Environment.{Modules, Environment, named, location_of}
 use Rattle.def_meaning.specs.Expressions.{Gives}
 use Rattle.def_meaning.specs.Statements.{Does}
 use Rattle.law_memory.specs.Relation.{Means, IsNumber, Holds}
@@ -45,7 +45,7 @@ pub record Scene : Type 0 where
   pub functions : Calling  -- what calls of functions do
   pub program : Modules
   pub result : Option Ty  -- the type of the function's values
-  pub around : Around
+  pub around : Environment
   pub setting : Setting
   pub world : List Ty  -- the types of the instances that live
   pub hidden : Location → ℕ → ℕ

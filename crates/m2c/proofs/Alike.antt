@@ -15,7 +15,7 @@ use Rattle.m2_graph.specs.Graph.{IsGraph, IsRefusal}
 use Rattle.m2_graph.specs.Reported.{Reported as Tale, reported as tale}
 use Rattle.law_graph.proofs.Once.{one_graph, one_refusal, graph_or_refusal}
 use Rattle.typed_tree.specs.declared.typed_module.TypedModule.{TypedModule}
-use Rattle.def_meaning.specs.Around.{Modules}
+use Rattle.def_meaning.specs.Environment.{Modules}
 use Rattle.def_scheme.specs.Modules.{typed_link}
 use Rattle.build_jobs.specs.declared.file.SourceFile.{SourceFile}
 use Rattle.m2c.specs.declared.files.Outcome.{Outcome}

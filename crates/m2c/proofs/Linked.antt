@@ -26,7 +26,7 @@ use Rattle.check_scope.specs.Elaborated.{least}
 use Rattle.layout_storage.specs.Layouts.{too_large}
 use Rattle.check_definition.specs.Compiled as types
 use Rattle.check_body.specs.Checks.{elaborated}
-use Rattle.def_meaning.specs.Around.{Modules}
+use Rattle.def_meaning.specs.Environment.{Modules}
 use Rattle.law_well_formed.specs.FormedImports.{is_imported, is_imported_by, IsImport, NamesImports, StandsOnImports}
 use Rattle.law_well_formed.proofs.NamedImports.{tables_named, modules_stand}
 use Rattle.law_modules.specs.Linked.{imported_names}

@@ -27,7 +27,7 @@ use Rattle.check_scope.specs.Elaborated.{least, both, ◌▷◌}
 use Rattle.layout_storage.specs.Layouts.{too_large}
 use Rattle.m2_emit.specs.declared.emitted.ModuleBytes.{ModuleBytes}
 use Rattle.m2_emit.specs.Emitted.{emitted}
-use Rattle.def_meaning.specs.Around.{Modules}
+use Rattle.def_meaning.specs.Environment.{Modules}
 use Rattle.def_scheme.specs.Modules.{typed_module}
 use Rattle.law_modules.specs.Linked as linked
 use Rattle.check_definition.specs.Importing.{numbered_modules}

@@ -20,7 +20,7 @@ use Rattle.def_meaning.specs.Answer.{State as Meant, Answer as Given, Value, the
 use Rattle.def_meaning.specs.Answer as answer
 use Rattle.def_meaning.specs.Outcome.{Outcome as Course, Normal, Exited, Returned, Ended, StillRunning, then_go, with_answer}
 use Rattle.def_meaning.specs.Operators.{is_true}
-use Rattle.def_meaning.specs.Around.{Modules, Around as Setting}
+use Rattle.def_meaning.specs.Environment.{Modules, Environment as Setting}
 use Rattle.def_meaning.specs.Expressions.{Asks, within, as_type}
 use Rattle.def_meaning.specs.Statements.{Does, Arm, in_turn, or_else, chosen, does, step_layer, arm_layer, stored, looped, loop_left, while_true, until_true, has_passed, for_turns, for_all, is_labelled, changed, rechecked, with_element}
 use Rattle.plain_store.specs.declared.state.State.{State}

@@ -26,7 +26,7 @@ use Rattle.typed_tree.specs.Types.{integer}
 use Rattle.def_meaning.specs.Store.{Location}
 use Rattle.def_meaning.specs.Answer.{State as Meant, Answer as Given, Value, Ended, StillRunning, then_give, range_fault, empty_procedure}
 use Rattle.def_meaning.specs.Operators.{truth, is_true, compared, combined, included, absolute, capital, odd}
-use Rattle.def_meaning.specs.Around.{Modules, Callee as Asked, Passed as Sent, Number, Variable, Array, Text, module_place, procedure_value, entry_of, entry_callee, module_callee, nested_in, named, location_of, high_of}
+use Rattle.def_meaning.specs.Environment.{Modules, Callee as Asked, Passed as Sent, Number, Variable, Array, Text, module_place, procedure_value, entry_of, entry_callee, module_callee, nested_in, named, location_of, high_of}
 use Rattle.def_meaning.specs.Expressions.{Asks, Gives, Reaches, Continues, asked_if, argument_layer, call_layer, component_layer, link_layer, expr_layer, place_layer, root_layer, value, locate, called, within, as_type, in_base, ordinal, index_range, high_index, element, element_in}
 use Rattle.def_meaning.specs.Calls.{calling, runs}
 use Rattle.plain_store.specs.declared.state.State.{State}

@@ -15,10 +15,10 @@ use Rattle.layout_storage.specs.Layouts.{IsAnswer}
 use Rattle.def_meaning.specs.Store.{Store, fresh}
 use Rattle.def_meaning.specs.Answer.{State as Meant}
 use Rattle.def_meaning.specs.Outcome.{Outcome as Course, Ended, StillRunning}
-use Rattle.def_meaning.specs.Around.{Modules, Around as Setting, Named as Name}
+use Rattle.def_meaning.specs.Environment.{Modules, Environment as Setting, Named as Name}
 use Rattle.def_meaning.specs.Statements.{does, in_turn}
 use Rattle.def_meaning.specs.Calls.{body_does, calling}
-use Rattle.def_meaning.specs.Runs.{run, bodies, data_size, storage, body_frame, first_state, around_body, then_body}
+use Rattle.def_meaning.specs.Runs.{run, bodies, data_size, storage, body_frame, first_state, body_environment, then_body}
 use Rattle.plain_store.specs.declared.state.State.{State}
 use Rattle.plain_store.specs.declared.state.Stop.{Stop}
 use Rattle.plain_store.specs.declared.state.Stop.TheVariants as stop
@@ -81,9 +81,9 @@ all_fresh p b e = ap (λ (x : Blank). contents x.held) e ∙ whole_fresh p
 -- ---- bodies
 
 abbrev setting_of : ℕ → Types → List (List Name) → List (List ℕ) → ℕ → ℕ → Setting
-setting_of place types frames withs next left = record { place = place; types = types; frames = frames; withs = withs; next = next; left = left }
+setting_of place types frames withs next left = record { place = place; types = types; frames = frames; withs = withs; next = next; free = left }
 
-setting_is : (program : Program) (home : Prepared) (place left : ℕ) (a : Around) → IsBodyAround program home place left a → surroundings a ≡ around_body (modules_of program) place home.body.now left
+setting_is : (program : Program) (home : Prepared) (place left : ℕ) (a : Around) → IsBodyAround program home place left a → surroundings a ≡ body_environment (modules_of program) place home.body.now left
 unfolding surroundings modules_of
 setting_is program home place left a i =
     ap (λ (k : ℕ). setting_of (k) (a.home.body.now.types) (frames_of a.frames) (a.withs) (a.next) (a.left)) i.at
@@ -94,12 +94,12 @@ setting_is program home place left a i =
     ∙ ap (λ (k : ℕ). setting_of (place) (home.body.now.types) ([]) ([]) (suc (length (modules_in program.modules.now))) (k)) i.free
 
 steps_are : (program : Program) (home : Prepared) (place left : ℕ) (a : Around) → IsBodyAround program home place left a → (st : Meant)
-    → body_does (modules_of program) program.bound (calling (modules_of program) program.bound program.bound) home.body.now.body (around_body (modules_of program) place home.body.now left) st ≡ steps_in a home.body.now.body st
+    → body_does (modules_of program) program.bound (calling (modules_of program) program.bound program.bound) home.body.now.body (body_environment (modules_of program) place home.body.now left) st ≡ steps_in a home.body.now.body st
 unfolding steps_in asks_of
 steps_are program home place left a i st = sym (
     ap (λ (x : Setting). in_turn (map (does (modules_of a.program.now) (calling (modules_of a.program.now) a.program.now.bound a.depth) a.program.now.bound) home.body.now.body) x st) (setting_is program home place left a i)
-    ∙ ap (λ (p : Program). in_turn (map (does (modules_of p) (calling (modules_of p) p.bound a.depth) p.bound) home.body.now.body) (around_body (modules_of program) place home.body.now left) st) i.of
-    ∙ ap (λ (d : ℕ). in_turn (map (does (modules_of program) (calling (modules_of program) program.bound d) program.bound) home.body.now.body) (around_body (modules_of program) place home.body.now left) st) i.nests)
+    ∙ ap (λ (p : Program). in_turn (map (does (modules_of p) (calling (modules_of p) p.bound a.depth) p.bound) home.body.now.body) (body_environment (modules_of program) place home.body.now left) st) i.of
+    ∙ ap (λ (d : ℕ). in_turn (map (does (modules_of program) (calling (modules_of program) program.bound d) program.bound) home.body.now.body) (body_environment (modules_of program) place home.body.now left) st) i.nests)
 
 next_is : (place next : ℕ) → next ≡ place + 1 → next ≡ suc place
 next_is place next e = omega (arith, e)

@@ -2,7 +2,7 @@
 use Rattle.std.specs.Prelude.{◌≡◌, ℕ, suc, List, [], length}
 use Rattle.def_meaning.specs.Answer.{State as Meant}
 use Rattle.def_meaning.specs.Outcome.{Outcome as Course, Ended, StillRunning}
-use Rattle.def_meaning.specs.Around.{Modules}
+use Rattle.def_meaning.specs.Environment.{Modules}
 use Rattle.def_meaning.specs.Runs.{bodies, data_size}
 use Rattle.plain_values.specs.Surroundings.{modules_of}
 use Rattle.plain_store.specs.declared.state.Stop.{Stop}

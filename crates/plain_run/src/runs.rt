@@ -10,7 +10,7 @@ ghost use Rattle.plain_steps.specs.Parts.{answered_sent, answered_all, pair_in, 
 
 use m2_rule::Fault;
 use plain_steps::callees::{module_callee, nested_callee, procedure_value, variable_callee};
-use plain_steps::entering::{Request, around_body, enter, rest_of, result};
+use plain_steps::entering::{Request, body_environment, enter, rest_of, result};
 use plain_steps::passing::{
     array_passed, in_front, loaded, number_passed, open_passed, text_passed, variable_passed,
 };
@@ -404,7 +404,7 @@ fn body_run<'a>(
                 next,
                 left: _,
             } = request;
-            let inner = around_body(program, depth, callee, next, begins, rest)?;
+            let inner = body_environment(program, depth, callee, next, begins, rest)?;
             let o = steps(&inner, room, routine.body.as_slice(), st)?;
             Ok(result(&home, routine, o, st))
         }

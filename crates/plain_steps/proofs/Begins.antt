@@ -9,7 +9,7 @@ use Rattle.layout_storage.specs.Texts.{passed}
 use Rattle.def_meaning.specs.Store.{Location, Store, assigned, copied, placed, fresh}
 use Rattle.def_meaning.specs.Answer.{State as Meant, Answer as Given}
 use Rattle.def_meaning.specs.Outcome.{Outcome as Course}
-use Rattle.def_meaning.specs.Around.{Named as Name, Passed as Sent, At, Elements, Number, Variable, Array, Text}
+use Rattle.def_meaning.specs.Environment.{Named as Name, Passed as Sent, At, Elements, Number, Variable, Array, Text}
 use Rattle.def_meaning.specs.Statements.{character, stored}
 use Rattle.def_meaning.specs.Calls.{Entered, variable_at, with_passed, with_all, variables_from, entered, result}
 use Rattle.plain_store.specs.declared.state.State.{State}

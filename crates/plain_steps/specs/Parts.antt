@@ -13,8 +13,8 @@ use Rattle.def_meaning.specs.Store.{Location, placed}
 use Rattle.def_meaning.specs.Answer.{State as Meant, Answer as Given, Value, Ended, then_give, range_fault, empty_procedure}
 use Rattle.def_meaning.specs.Outcome.{Outcome as Course, Normal}
 use Rattle.def_meaning.specs.Operators.{truth, has}
-use Rattle.def_meaning.specs.Around.{Modules, Entry, Body, Procedure, module_callee}
-use Rattle.def_meaning.specs.Around.{Callee as Asked, Passed as Sent}
+use Rattle.def_meaning.specs.Environment.{Modules, Entry, Body, Procedure, module_callee}
+use Rattle.def_meaning.specs.Environment.{Callee as Asked, Passed as Sent}
 use Rattle.def_meaning.specs.Expressions.{within, as_type}
 use Rattle.def_meaning.specs.Statements.{in_turn, does, while_true, until_true, looped, for_turns, for_all, is_labelled, stored, has_passed, character}
 use Rattle.def_meaning.specs.Calls.{Entered as Begun}
@@ -67,7 +67,7 @@ ends_in a d d' st =
 unfoldable pub asked_in : Around → Option Asked → List Argument → Meant → Given ℤ
 asked_in a c xs st =
     then_give (all_given_in a xs st) (λ vs st.
-    asks_of a c vs (surroundings a).next (surroundings a).left st)
+    asks_of a c vs (surroundings a).next (surroundings a).free st)
 
 -- the empty procedure is a fault before the arguments
 abbrev pub asked_if_in : Around → Option Asked → List Argument → Meant → Given ℤ

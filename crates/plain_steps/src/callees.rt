@@ -2,7 +2,7 @@
 
 ghost use Rattle.std.specs.Prelude.{◌≡◌, suc, pos, slice_get, IfOk, MatchOption};
 ghost use Rattle.std.specs.Option.{option_map};
-ghost use Rattle.def_meaning.specs.Around.{module_callee, nested_in, entries_before, entry_callee, entry_of, procedure_value};
+ghost use Rattle.def_meaning.specs.Environment.{module_callee, nested_in, entries_before, entry_callee, entry_of, procedure_value};
 ghost use Rattle.plain_values.specs.Surroundings.{modules_in, modules_of, surroundings, callee_of};
 ghost use Rattle.plain_steps.specs.Parts.{entries_at};
 ghost use Rattle.std.specs.Prelude.{drop};

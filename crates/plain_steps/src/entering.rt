@@ -3,7 +3,7 @@
 ghost use Rattle.std.specs.Prelude.{◌≡◌, ◌∷◌, [], ◌++◌, suc, false, map, length, IfOk, OnOk, MatchOption};
 ghost use Rattle.layout_storage.specs.Frames.{formals_of};
 ghost use Rattle.layout_storage.specs.Texts.{passed};
-ghost use Rattle.def_meaning.specs.Around.{Elements, Number, Variable, Array, Text};
+ghost use Rattle.def_meaning.specs.Environment.{Elements, Number, Variable, Array, Text};
 ghost use Rattle.def_meaning.specs.Calls.{variable_at, with_passed, with_all, variables_from, entered, is_function, copies_size, copy_size, needed};
 ghost use Rattle.def_meaning.specs.Calls.{result as end_of};
 ghost use Rattle.plain_store.specs.Seen.{seen, answered, ended};
@@ -456,7 +456,7 @@ fn innermost(
 
 /// What stands around the body of a call.
 #[tactic(auto, using(crate::proofs::Begins::frames_are))]
-pub fn around_body<'a>(
+pub fn body_environment<'a>(
     program: &'a Program<'a>,
     depth: usize,
     callee: Callee<'a>,

@@ -2,7 +2,7 @@
 
 ghost use Rattle.std.specs.Prelude.{◌≡◌, ◌∷◌, map, IfOk};
 ghost use Rattle.def_meaning.specs.Answer.{Value, then_give};
-ghost use Rattle.def_meaning.specs.Around.{Number, Variable, Array, Text, location_of, high_of, named};
+ghost use Rattle.def_meaning.specs.Environment.{Number, Variable, Array, Text, location_of, high_of, named};
 ghost use Rattle.def_meaning.specs.Expressions.{as_type, high_index};
 ghost use Rattle.plain_store.specs.Seen.{seen, answered};
 ghost use Rattle.plain_values.specs.Surroundings.{surroundings, sent};

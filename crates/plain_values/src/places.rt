@@ -5,7 +5,7 @@ ghost use Rattle.std.specs.List.{position_or_len};
 ghost use Rattle.std.specs.Option.{option_copied, option_map};
 ghost use Rattle.layout_storage.specs.Shapes.{elements_of};
 ghost use Rattle.def_meaning.specs.Answer.{then_give};
-ghost use Rattle.def_meaning.specs.Around.{named, location_of, high_of, or_root, module_place};
+ghost use Rattle.def_meaning.specs.Environment.{named, location_of, high_of, or_root, module_place};
 ghost use Rattle.def_meaning.specs.Expressions.{element, element_in, index_made, index_range, high_index, root_layer};
 ghost use Rattle.plain_store.specs.Seen.{seen, answered};
 ghost use Rattle.plain_values.specs.Surroundings.{surroundings, modules_in, modules_of, asks_of, name_of};
