@@ -3,8 +3,8 @@
 ghost use Rattle.std.specs.Prelude.{◌≡◌};
 ghost use Rattle.check_scope.specs.Elaborated.{least, of_sort, of_heading, plain};
 
-use crate::breach::{Breach, Elaborated, reported};
-use m2_rule::Rule;
+use crate::elaborated::{Elaborated, reported};
+use m2_rule::{Breach, Rule};
 use m2_tree::Pos;
 
 /// Why a name or a designator has no meaning, with what is reported of it.

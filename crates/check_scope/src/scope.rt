@@ -6,10 +6,10 @@ ghost use Rattle.std.specs.Option.{option_copied};
 ghost use Rattle.check_scope.specs.Elaborated.{least, plain};
 ghost use Rattle.check_scope.specs.Scopes.{sighted, seen_at, in_block, nearer, or_outside, known_outside, known, fields_made, fields_at, field_at, field_in, opened, heading_means, means_seen, means_as, looked_up, is_free, with_known, declared, begun, is_begun, finished, is_one_origin, is_again, imported, marked};
 
-use crate::breach::{Breach, Elaborated, reported};
+use crate::elaborated::{Elaborated, reported};
 use crate::known::{Known, Origin};
 use crate::meaningless::{Meaningless, Sought, plain};
-use m2_rule::Rule;
+use m2_rule::{Breach, Rule};
 use m2_tree::{Ident, Pos};
 use std::alloc::{AllocError, Global};
 use std::mem;
