@@ -1,4 +1,5 @@
--- How an expression ends: with a value, with a fault or HALT, or not yet, since a bound was met.
+-- How a part of a program ends: with a value, with a fault or HALT, or not yet, since a bound was
+-- met.
 use Rattle.std.specs.Prelude.{ℕ, List}
 use Rattle.def_meaning.specs.Store.{Store}
 

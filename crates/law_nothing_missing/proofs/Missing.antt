@@ -12,8 +12,8 @@ use Rattle.typed_tree.specs.declared.statement.TypedStmt.TheOpen as step
 use Rattle.typed_tree.specs.declared.statement.TypedStmt.TheVariants as stmt
 use Rattle.typed_tree.specs.Types.{char}
 use Rattle.def_meaning.specs.Store.{Location}
-use Rattle.def_meaning.specs.Answer.{State, Answer, Value, then_give}
-use Rattle.def_meaning.specs.Outcome.{Outcome, Normal, Ended, then_go, with_answer}
+use Rattle.def_meaning.specs.Answer.{State, Answer, Value, then_give, Ended}
+use Rattle.def_meaning.specs.Outcome.{Outcome, Normal, then_go}
 use Rattle.def_meaning.specs.Environment.{Modules, Environment, module_place}
 use Rattle.def_meaning.specs.Expressions.{Asks, Gives, as_type, one_by_one}
 use Rattle.def_meaning.specs.Runs.{storage, body_frame, first_state, body_environment}
@@ -44,7 +44,7 @@ module _ (lacking : ℕ) (p : Modules) (ask : Asks) (world : World) (n : ℕ) (d
   put_lacks : (function : Bool) → statements.does lacking p ask world n function (stmt.Put (expr.Load char d)) a st ≡ Ended lacking st.out
   put_lacks function =
       ap (λ (f : Does). f a st) (done.step_means lacking p ask world n function (stmt.Put (expr.Load char d)) (step.Put (expr.Load char d)) (stmt.outs-Put (expr.Load char d)))
-      ∙ ap (λ (x : Answer ℤ). with_answer x (λ v st. with_answer (as_type a.types char v st) (λ v st. Normal (record st { out = st.out ++ unsigned_abs v ∷ [] })))) value_lacks
+      ∙ ap (λ (x : Answer ℤ). then_give x (λ v st. then_give (as_type a.types char v st) (λ v st. Value Normal (record st { out = st.out ++ unsigned_abs v ∷ [] })))) value_lacks
 
 pub missing_lacks : MissingLacks
 unfolding strict_run

@@ -21,8 +21,8 @@ use Rattle.typed_tree.specs.Known.{scalar_at}
 use Rattle.layout_storage.specs.Types.{Ty, Scalar, Natural, Callable, Cell, Array, Heading, component}
 use Rattle.layout_storage.specs.Shapes.{tree}
 use Rattle.def_meaning.specs.Store.{Location, copied, placed}
-use Rattle.def_meaning.specs.Answer.{State, Answer, Value, then_give, range_fault, overflow, case_fault, halted}
-use Rattle.def_meaning.specs.Outcome.{Outcome, Normal, Returned, Ended, with_answer}
+use Rattle.def_meaning.specs.Answer.{State, Answer, Value, then_give, range_fault, overflow, case_fault, halted, Ended}
+use Rattle.def_meaning.specs.Outcome.{Outcome, Normal, Returned}
 use Rattle.def_meaning.specs.Environment.{Modules, Environment}
 use Rattle.def_meaning.specs.Operators.{is_true}
 use Rattle.def_meaning.specs.Calls.{is_there}
@@ -126,7 +126,7 @@ module _ (x : Context) (lacking : ℕ) (world : World) (sask ask : Asks) (knows 
   cells h = cell_there x lacking world sask ask knows all h
 
   -- a number that is stored
-  store_goes : (l : Bool) (c : Scalar) (at : Location) (v : ℤ) (st : State) → IsFine P world st.store → IsAt (Cell c) at → ((h : Heading) → c ≡ Callable h → IsProcedureValue P h v) → End l (Normal (stored at v st)) (Normal (stored at v st))
+  store_goes : (l : Bool) (c : Scalar) (at : Location) (v : ℤ) (st : State) → IsFine P world st.store → IsAt (Cell c) at → ((h : Heading) → c ≡ Callable h → IsProcedureValue P h v) → End l (Value Normal (stored at v st)) (Value Normal (stored at v st))
   store_goes l c at v st fine is good = goes (stored at v st) (fine_placed P world st.store at (Cell c) (λ r. v) fine is (cell_holds P c v good))
 
   from_stmt : (ws : List Ty) (l : Bool) (s : TypedStmt) (y : TypedStmt-F TypedStmt TypedArm) → out-TypedStmt s ≡ y
@@ -216,13 +216,13 @@ module _ (x : Context) (lacking : ℕ) (world : World) (sask ask : Asks) (knows 
 
   return_same : (ws : List Ty) (l : Bool) → result ≡ None → S ws l stmt.Return
   return_same ws l none = from_stmt ws l stmt.Return step.Return stmt.outs-Return
-      (λ a fit st fine. subst (λ (b : Bool). End l (if b then Ended lacking st.out else Returned (pos 0) st) (Returned (pos 0) st)) (sym (kind ∙ ap (λ (r : Result). is_there r) none)) (returns (pos 0) st fine (good_none (pos 0) none)))
+      (λ a fit st fine. subst (λ (b : Bool). End l (if b then Ended lacking st.out else Value (Returned (pos 0)) st) (Value (Returned (pos 0)) st)) (sym (kind ∙ ap (λ (r : Result). is_there r) none)) (returns (pos 0) st fine (good_none (pos 0) none)))
 
   give_same : (ws : List Ty) (l : Bool) (t : TypeNo) (e : TypedExpr) (G : ℤ → Type 0) (r : Ty) → result ≡ Some r
       → Both x lacking world sask ask knows all ws G (places.value lacking P sask world e) (value P ask e) → ((v : ℤ) → G v → is_taken lacking P sask world types t v ≡ true) → ((v : ℤ) → G v → IsGood P (Some r) v) → S ws l (stmt.Give t e)
   give_same ws l t e G r some m ok good = from_stmt ws l (stmt.Give t e) (step.Give t e) (stmt.outs-Give t e)
-      (λ a fit st fine. subst (λ (b : Bool). End l (if b then with_answer (places.value lacking P sask world e a st) (λ v st. with_answer (places.as_type lacking P sask world a.types t v st) (λ v st. Returned v st)) else Ended lacking st.out)
-      (with_answer (value P ask e a st) (λ v st. with_answer (as_type a.types t v st) (λ v st. Returned v st)))) (sym (kind ∙ ap (λ (r : Result). is_there r) some))
+      (λ a fit st fine. subst (λ (b : Bool). End l (if b then then_give (places.value lacking P sask world e a st) (λ v st. then_give (places.as_type lacking P sask world a.types t v st) (λ v st. Value (Returned v) st)) else Ended lacking st.out)
+      (then_give (value P ask e a st) (λ v st. then_give (as_type a.types t v st) (λ v st. Value (Returned v) st)))) (sym (kind ∙ ap (λ (r : Result). is_there r) some))
       (end_with P world (m a fit st fine) (λ v st fine is. end_with P world (type_checked x lacking world sask ask knows all G ws t v a fit st fine (ok v is) is)
       (λ v st fine is. returns v st fine (subst (λ (r : Result). IsGood P r v) (sym some) (good v is))))))
 

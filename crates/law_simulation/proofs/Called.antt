@@ -16,8 +16,8 @@ use Rattle.layout_storage.specs.Sizes.{size}
 use Rattle.layout_storage.specs.Shapes.{tree}
 use Rattle.def_meaning.specs.Store.{Location}
 use Rattle.def_meaning.specs.Answer.{State as Source, Answer, Ended, StillRunning, then_give}
+use Rattle.def_meaning.specs.Outcome.{Normal}
 use Rattle.def_meaning.specs.Answer as answer
-use Rattle.def_meaning.specs.Outcome.{Normal, with_answer}
 use Rattle.def_meaning.specs.Environment.{Modules, Callee, Passed, Number, Variable, Array as Whole, Text}
 use Rattle.def_meaning.specs.Expressions.{Asks, Gives, all_given}
 use Rattle.def_scheme.specs.Coded.{Coded, Counts, ◌⨾◌, all_coded, raised}
@@ -174,13 +174,13 @@ call_agrees k t c code value cell h = record {
     turn (StillRunning out) rest stack r p = p
 
 -- a statement
-pub call_executes : (k : Scene) (function : Bool) (code : Coded) (value : Gives ℤ) → Calls k None code value → Executes k function code (λ a s. with_answer (value a s) (λ v s. Normal s))
+pub call_executes : (k : Scene) (function : Bool) (code : Coded) (value : Gives ℤ) → Calls k None code value → Executes k function code (λ a s. then_give (value a s) (λ v s. answer.Value Normal s))
 call_executes k function code value h = record {
   grows = h.grows;
   goes = λ e c free full s st stands rest stack. turn (value k.around s) e rest stack (runs k ((code (inside k e) c).0 ++ rest) st stack) (h.gives e c free full s st stands rest stack);
 }
   where
-    turn : (a : Answer ℤ) (e : ℕ) (rest : List Instr) (stack : List Value) (r : Effect) → Into (GivesResult k None (runs k rest) stack) r a → Ends k function e stack (λ st. runs k rest st stack) r (with_answer a (λ v s. Normal s))
+    turn : (a : Answer ℤ) (e : ℕ) (rest : List Instr) (stack : List Value) (r : Effect) → Into (GivesResult k None (runs k rest) stack) r a → Ends k function e stack (λ st. runs k rest st stack) r (then_give a (λ v s. answer.Value Normal s))
     turn (answer.Value v s) e rest stack r p = record { st = p.st; stands = p.stands; run = p.run ∙ ap (runs k rest p.st) (append-nil stack) }
     turn (Ended n out) e rest stack r p = p
     turn (StillRunning out) e rest stack r p = p

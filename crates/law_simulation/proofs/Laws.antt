@@ -12,7 +12,7 @@ use Rattle.typed_tree.specs.declared.types.TypeNo.{TypeNo}
 use Rattle.typed_tree.specs.declared.known_types.Types.{Types}
 use Rattle.typed_tree.specs.Types.{are_same, integer, cardinal, boolean, char, bitset}
 use Rattle.def_meaning.specs.Answer.{State as Source, Answer, Value, then_give, range_fault, overflow}
-use Rattle.def_meaning.specs.Outcome.{Normal, with_answer}
+use Rattle.def_meaning.specs.Outcome.{Normal}
 use Rattle.def_meaning.specs.Expressions.{Gives, Continues, Reaches as Reached, root_layer, component_layer, element_in, index_range, one_by_one, within, within_range, divided, ordinal, as_type, in_base, link_layer}
 use Rattle.def_meaning.specs.Environment.{Environment, module_place}
 use Rattle.def_meaning.specs.Store.{Location}
@@ -238,7 +238,7 @@ executes_alike k function code f g same h = record {
 
 pub changes : Changes
 changes k set function o t c d x found value cell some based hd hx beside =
-    let here : Types → Does = λ types a s. with_answer (found a s) (λ l s. with_answer (value a s) (λ y s. with_answer (rechecked types t (changed o (s.store l) y) s) (λ v s. Normal (stored l v s)))) in
+    let here : Types → Does = λ types a s. then_give (found a s) (λ l s. then_give (value a s) (λ y s. then_give (rechecked types t (changed o (s.store l) y) s) (λ v s. Value Normal (stored l v s)))) in
     executes_alike k function (change_code o d t x.code) (here k.setting.home.types) (λ a s. here a.types a s) (λ s. ap (λ (types : Types). here types k.around s) (sym set.types))
     (change_executes k set.helpers set.small set.room function o t x.of c d x.code found value cell some based hd hx beside)
 
@@ -259,7 +259,7 @@ returns k = return_executes k false refl
 
 pub lone_ifs : LoneIfs
 lone_ifs k set function e value x step he hx =
-    let chosen : ℤ → Does = λ v a s. if is_true v then step a s else Normal s in
+    let chosen : ℤ → Does = λ v a s. if is_true v then step a s else Value Normal s in
     with_executes k function boolean e (plain (wrapped ∷ []) ⨾ if_only x) value chosen he (if_only_executes k function set.helpers set.small x step hx)
 
 pub rows : Rows
@@ -279,7 +279,7 @@ whiles k set function e value x step he hx = while_executes k function set.helpe
 
 pub cases : Cases
 cases k set function x value xs ys otherwise other sparse hx growing arms ho =
-    subst (λ (b : Bool). Executes k function (x.code ⨾ with_number (λ n. plain (instr.LocalSet n ∷ []) ⨾ (if b then table_code n xs otherwise else tests_chain n xs otherwise))) (λ a s. with_answer (value a s) (λ v s. chosen v ys other a s)))
+    subst (λ (b : Bool). Executes k function (x.code ⨾ with_number (λ n. plain (instr.LocalSet n ∷ []) ⨾ (if b then table_code n xs otherwise else tests_chain n xs otherwise))) (λ a s. then_give (value a s) (λ v s. chosen v ys other a s)))
     (sym sparse) (case_executes k set.helpers set.small function xs ys otherwise other growing arms ho x.of x.code value hx)
 
 pub unlabelled : Unlabelled
@@ -287,7 +287,7 @@ unlabelled k set function = unlabelled_executes k function set.helpers
 
 pub fors : Fors
 fors k set function t c l at start bound step_by x first last step cell some type there low high hstart hbound growing hx =
-    let here : Types → Does = λ types a s. with_answer (first a s) (λ v s. with_answer (last a s) (λ limit s. for_all k.turns (as_type types t) l step_by limit (step a) (stored l v s))) in
+    let here : Types → Does = λ types a s. then_give (first a s) (λ v s. then_give (last a s) (λ limit s. for_all k.turns (as_type types t) l step_by limit (step a) (stored l v s))) in
     executes_alike k function (for_code (with_setting (λ s. plain (at s))) t start bound step_by x) (here k.setting.home.types) (λ a s. here a.types a s) (λ s. ap (λ (types : Types). here types k.around s) (sym set.types))
     (for_executes k set.helpers set.small set.room function t bound.of c cell some l type step_by (record { low = low; high = high }) at there
     (behind start.code (λ types. cells.check_taken types t start.constant start.of)) bound.code x first last step hstart hbound growing hx)

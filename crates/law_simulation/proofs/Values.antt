@@ -16,8 +16,8 @@ use Rattle.typed_tree.specs.Known.{scalar_at}
 use Rattle.layout_storage.specs.Types.{Ty, Scalar, Cell, IsOf}
 use Rattle.layout_storage.specs.Shapes.{tree}
 use Rattle.def_meaning.specs.Answer.{State as Source, Answer, Ended, then_give, range_fault}
-use Rattle.def_meaning.specs.Answer as answer
 use Rattle.def_meaning.specs.Outcome.{Returned}
+use Rattle.def_meaning.specs.Answer as answer
 use Rattle.def_meaning.specs.Environment.{Modules, procedure_value}
 use Rattle.def_meaning.specs.Operators.{is_between}
 use Rattle.def_meaning.specs.Expressions.{Gives, as_type, within_range}
@@ -116,7 +116,7 @@ procedure_values k set p ask f has none =
 
 pub results : Results
 results k t c e value typed cell he =
-    value_executes k true t e (plain (instr.Return ∷ [])) (instr.Return ∷ []) value (λ v a s. Returned v s) he (λ e c. refl)
+    value_executes k true t e (plain (instr.Return ∷ [])) (instr.Return ∷ []) value (λ v a s. answer.Value (Returned v) s) he (λ e c. refl)
     (λ v is e s st h rest stack. record {
       below = stack;
       st = st;

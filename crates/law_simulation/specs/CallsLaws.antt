@@ -16,7 +16,7 @@ use Rattle.layout_storage.specs.Sizes.{size}
 use Rattle.layout_storage.specs.Shapes.{tree}
 use Rattle.def_meaning.specs.Store.{Location, copied, placed}
 use Rattle.def_meaning.specs.Answer.{Value, then_give}
-use Rattle.def_meaning.specs.Outcome.{Normal, Returned, with_answer}
+use Rattle.def_meaning.specs.Outcome.{Normal, Returned}
 use Rattle.def_meaning.specs.Environment.{Modules, procedure_value, named, high_of}
 use Rattle.def_meaning.specs.Expressions as meaning
 use Rattle.def_meaning.specs.Expressions.{Asks, Gives as Given, as_type}
@@ -71,8 +71,8 @@ Copies =
     → Locates k (tree k.setting.home.types t) e from
     → Executes k function
     (d ⨾ behind e (λ types. instr.I32Const (size (tree types t)) ∷ instr.Call copy ∷ [])) (λ a s.
-    with_answer (to a s) (λ l s.
-    with_answer (from a s) (λ l' s. Normal (record s { store = copied l l' s.store }))))
+    then_give (to a s) (λ l s.
+    then_give (from a s) (λ l' s. Value Normal (record s { store = copied l l' s.store }))))
 
 -- the characters of a text of the module stand behind one another in its hidden room, from this
 -- place on
@@ -103,7 +103,7 @@ Strings =
     plain (instr.LocalTee w ∷ []) ⨾ with_setting (λ s.
     plain (text_copied at (length text) (size (tree s.home.types t) - length text) w))))
     (λ a s.
-    with_answer (to a s) (λ l s. Normal (record s { store = placed l (character text) s.store })))
+    then_give (to a s) (λ l s. Value Normal (record s { store = placed l (character text) s.store })))
 
 -- RETURN with a value
 abbrev pub Gives : Type 0
@@ -113,7 +113,7 @@ Gives =
     → IsCell k.setting.home.types t c
     → Agrees k t e value
     → Executes k true (e ⨾ plain (instr.Return ∷ [])) (λ a s.
-    with_answer (value a s) (λ v s. Returned v s))
+    then_give (value a s) (λ v s. Value (Returned v) s))
 
 -- ---- formals and variables of the procedure, and of those around it
 

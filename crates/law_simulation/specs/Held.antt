@@ -16,8 +16,8 @@ use Rattle.layout_storage.specs.Shapes.{tree}
 use Rattle.layout_storage.specs.Frames.{formals_of}
 use Rattle.def_meaning.specs.Store.{Location}
 use Rattle.def_meaning.specs.Answer.{State as Source, then_give}
+use Rattle.def_meaning.specs.Outcome.{Normal, Returned}
 use Rattle.def_meaning.specs.Answer as answer
-use Rattle.def_meaning.specs.Outcome.{Normal, Returned, with_answer}
 use Rattle.def_meaning.specs.Environment.{Modules, Callee, Passed, Number, module_place, entry_of, entry_callee}
 use Rattle.def_meaning.specs.Calls.{is_there}
 use Rattle.def_meaning.specs.Expressions as meaning
@@ -123,7 +123,7 @@ HeldAssigns =
     → Locates k (Cell (Callable h)) d found
     → AgreesHeld k h e value
     → Executes k function (d ⨾ e ⨾ with_setting (λ s. plain (cells.stored s.home.types t))) (λ a s.
-    with_answer (found a s) (λ l s. with_answer (value a s) (λ v s. Normal (stored l v s))))
+    then_give (found a s) (λ l s. then_give (value a s) (λ v s. answer.Value Normal (stored l v s))))
 
 -- for a value formal
 abbrev pub HeldPasses : Type 0
@@ -138,7 +138,7 @@ HeldGives =
     → k.result ≡ Some (Cell (Callable h))
     → AgreesHeld k h e value
     → Executes k true (e ⨾ plain (instr.Return ∷ [])) (λ a s.
-    with_answer (value a s) (λ v s. Returned v s))
+    then_give (value a s) (λ v s. answer.Value (Returned v) s))
 
 -- ---- calls of them
 

@@ -19,8 +19,7 @@ use Rattle.m2_graph.specs.Files.{numbered}
 use Rattle.m2_graph.specs.Graph.{CompileEach, IsGraph, IsRefusal}
 use Rattle.typed_tree.specs.declared.typed_module.TypedModule.{TypedModule}
 use Rattle.def_meaning.specs.Environment.{Modules}
-use Rattle.def_meaning.specs.Answer.{halted}
-use Rattle.def_meaning.specs.Outcome.{Ended}
+use Rattle.def_meaning.specs.Answer.{halted, Ended}
 use Rattle.def_meaning.specs.Runs.{data_size, run}
 use Rattle.law_nothing_missing.specs.Runs.{strict_run}
 use Rattle.def_scheme.specs.Modules.{typed_module, typed_link}

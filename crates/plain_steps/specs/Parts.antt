@@ -146,7 +146,7 @@ entries_at place (m ∷ ms) (suc j) =
 -- ---- pieces of statements
 
 unfoldable pub text_put : List ℕ → Location → Meant → Course
-text_put text l st = Normal (record st { store = placed l (character text) st.store })
+text_put text l st = Value Normal (record st { store = placed l (character text) st.store })
 
 -- whether the turns of a FOR are over, after one of them
 unfoldable pub stepped : Types → TypeNo → Location → (by last : ℤ) → Meant → Given Bool

@@ -8,7 +8,7 @@ ghost use Rattle.typed_tree.specs.Known.{scalar_at};
 ghost use Rattle.typed_tree.specs.declared.statement.TypedArm.{out-TypedArm};
 ghost use Rattle.def_meaning.specs.Store.{copied};
 ghost use Rattle.def_meaning.specs.Answer.{Value, then_give, range_fault};
-ghost use Rattle.def_meaning.specs.Outcome.{Normal, Returned, with_answer};
+ghost use Rattle.def_meaning.specs.Outcome.{Normal, Returned};
 ghost use Rattle.def_meaning.specs.Expressions.{as_type, within};
 ghost use Rattle.def_meaning.specs.Statements.{stored, changed, rechecked, base_of, with_element, has_passed, is_labelled};
 ghost use Rattle.plain_store.specs.Seen.{seen, answered, ended, with_store, with_byte};
@@ -54,8 +54,8 @@ pub fn assign(
     st: &mut State,
 ) -> Result<Outcome, RunFault>
     ensures { let types = (surroundings around.now).types in
-        IfOk result (λ o. ended o st.new ≡ with_answer (answered given st.old)
-        (λ x st. with_answer (as_type types t x.v st) (λ v st. Normal (stored x.l v st)))) }
+        IfOk result (λ o. ended o st.new ≡ then_give (answered given st.old)
+        (λ x st. then_give (as_type types t x.v st) (λ v st. Normal (stored x.l v st)))) }
 {
     match given {
         Answer::Value(x) => match as_type(around, t, x.v, st) {
@@ -72,7 +72,7 @@ pub fn assign(
 /// Copies an array or a record.
 #[tactic(auto, using(plain_store::proofs::Threads::threads))]
 pub fn copy(around: &Around<'_>, given: Answer<Ends>, st: &mut State) -> Result<Outcome, RunFault>
-    ensures { IfOk result (λ o. ended o st.new ≡ with_answer (answered given st.old)
+    ensures { IfOk result (λ o. ended o st.new ≡ then_give (answered given st.old)
         (λ x st. Normal (with_store (copied x.to x.from st.store) st))) }
 {
     match given {
@@ -92,7 +92,7 @@ pub fn copy_text(
     text: &[u8],
     st: &mut State,
 ) -> Result<Outcome, RunFault>
-    ensures { IfOk result (λ o. ended o st.new ≡ with_answer (answered given st.old)
+    ensures { IfOk result (λ o. ended o st.new ≡ then_give (answered given st.old)
         (text_put text.now)) }
 {
     match given {
@@ -107,7 +107,7 @@ pub fn copy_text(
 /// The end of a call as a statement.
 #[tactic(auto, using(plain_store::proofs::Threads::threads))]
 pub fn gone(given: Answer<i64>, st: &State) -> Outcome
-    ensures { ended result st.now ≡ with_answer (answered given st.now) (λ v st. Normal st) }
+    ensures { ended result st.now ≡ then_give (answered given st.now) (λ v st. Value Normal st) }
 {
     match given {
         Answer::Value(_) => Outcome::Normal,
@@ -119,8 +119,8 @@ pub fn gone(given: Answer<i64>, st: &State) -> Outcome
 #[tactic(auto, using(plain_store::proofs::Threads::threads))]
 pub fn put(around: &Around<'_>, given: Answer<i64>, st: &mut State) -> Result<Outcome, RunFault>
     ensures { let types = (surroundings around.now).types in
-        IfOk result (λ o. ended o st.new ≡ with_answer (answered given st.old)
-        (λ v st. with_answer (as_type types char v st) (λ v st. Normal (with_byte v st)))) }
+        IfOk result (λ o. ended o st.new ≡ then_give (answered given st.old)
+        (λ v st. then_give (as_type types char v st) (λ v st. Normal (with_byte v st)))) }
 {
     match given {
         Answer::Value(v) => match as_type(around, CHAR, v, st) {
@@ -174,8 +174,8 @@ pub fn change(
     st: &mut State,
 ) -> Result<Outcome, RunFault>
     ensures { let types = (surroundings around.now).types in
-        IfOk result (λ o. ended o st.new ≡ with_answer (answered given st.old)
-        (λ x st. with_answer (rechecked types t (changed how (st.store x.l) x.v) st)
+        IfOk result (λ o. ended o st.new ≡ then_give (answered given st.old)
+        (λ x st. then_give (rechecked types t (changed how (st.store x.l) x.v) st)
         (λ v st. Normal (stored x.l v st)))) }
 {
     match given {
@@ -201,8 +201,8 @@ pub fn membership(
     given: Answer<Target>,
     st: &mut State,
 ) -> Result<Outcome, RunFault>
-    ensures { IfOk result (λ o. ended o st.new ≡ with_answer (answered given st.old)
-        (λ x st. with_answer (within (pos 0) (pos 31) range_fault x.v st)
+    ensures { IfOk result (λ o. ended o st.new ≡ then_give (answered given st.old)
+        (λ x st. then_give (within (pos 0) (pos 31) range_fault x.v st)
         (λ v st. Normal (stored x.l (with_element how (st.store x.l) v) st)))) }
 {
     match given {
@@ -222,8 +222,8 @@ pub fn membership(
 #[tactic(auto, using(plain_store::proofs::Threads::threads))]
 pub fn give(around: &Around<'_>, t: TypeNo, given: Answer<i64>, st: &State) -> Outcome
     ensures { let types = (surroundings around.now).types in
-        ended result st.now ≡ with_answer (answered given st.now)
-        (λ v st. with_answer (as_type types t v st) (λ v st. Returned v st)) }
+        ended result st.now ≡ then_give (answered given st.now)
+        (λ v st. then_give (as_type types t v st) (λ v st. Returned v st)) }
 {
     match given {
         Answer::Value(v) => match as_type(around, t, v, st) {
