@@ -2,9 +2,8 @@
 use Rattle.std.proofs.Common.{ℕ, Bool, true, false, List, [], ◌++◌, refl, sym, ap, ◌∙◌, append_assoc}
 use Rattle.std.specs.Prelude.{if◌then◌else◌}
 use Rattle.std.proofs.lemmas.List.{append-nil}
-use Rattle.def_meaning.specs.Answer.{State, Answer, Value, then_give, Ended, StillRunning}
+use Rattle.def_meaning.specs.Answer.{State, Answer, Value, ◌▷◌, Ended, StillRunning}
 use Rattle.def_meaning.specs.Outcome.{Outcome, Normal, Exited, Returned, then_go}
-use Rattle.def_meaning.specs.Answer as answer
 use Rattle.def_meaning.specs.Statements.{loop_left}
 use Rattle.def_meaning.specs.Calls.{at_end, result}
 use Rattle.def_meaning.specs.Runs.{then_body}
@@ -57,28 +56,28 @@ before d (open_yet more x b c) = open_yet more x (joined d b) c
 -- ---- one after the other
 
 module _ {A B : Type 0} {f g : A → State → Answer B} (k : (v : A) (st : State) → Later st.out (f v st) (g v st)) where
-  reported_on : {more : List ℕ} (x : Answer A) → Begins more (reported x) → Begins more (reported (then_give x g))
+  reported_on : {more : List ℕ} (x : Answer A) → Begins more (reported x) → Begins more (reported (x ▷ g))
   reported_on (Value v st) b = joined b (reported_later (k v st))
   reported_on (Ended n out) b = b
   reported_on (StillRunning out) b = b
 
-  pub then_later : {out : List ℕ} {x y : Answer A} → Later out x y → Later out (then_give x f) (then_give y g)
+  pub then_later : {out : List ℕ} {x y : Answer A} → Later out x y → Later out (x ▷ f) (y ▷ g)
   then_later (alike (Value v st) b) = earlier b (k v st)
   then_later (alike (Ended n out) b) = alike (Ended n out) b
   then_later (alike (StillRunning out) b) = alike (StillRunning out) b
-  then_later (going more x b c) = going more (then_give x g) b (reported_on x c)
+  then_later (going more x b c) = going more (x ▷ g) b (reported_on x c)
 
 module _ {A : Type 0} {f g : A → State → Outcome} (k : (v : A) (st : State) → After st.out (f v st) (g v st)) where
-  answered_on : {more : List ℕ} (x : Answer A) → Begins more (reported x) → Begins more (printed (then_give x g))
+  answered_on : {more : List ℕ} (x : Answer A) → Begins more (reported x) → Begins more (printed (x ▷ g))
   answered_on (Value v st) b = joined b (printed_later (k v st))
   answered_on (Ended n out) b = b
   answered_on (StillRunning out) b = b
 
-  pub with_later : {out : List ℕ} {x y : Answer A} → Later out x y → After out (then_give x f) (then_give y g)
+  pub with_later : {out : List ℕ} {x y : Answer A} → Later out x y → After out (x ▷ f) (y ▷ g)
   with_later (alike (Value v st) b) = before b (k v st)
   with_later (alike (Ended n out) b) = same (Ended n out) b
   with_later (alike (StillRunning out) b) = same (StillRunning out) b
-  with_later (going more x b c) = open_yet more (then_give x g) b (answered_on x c)
+  with_later (going more x b c) = open_yet more (x ▷ g) b (answered_on x c)
 
 module _ {f g : State → Outcome} (k : (st : State) → After st.out (f st) (g st)) where
   go_on : {more : List ℕ} (x : Outcome) → Begins more (printed x) → Begins more (printed (then_go x g))

@@ -15,7 +15,7 @@ use Rattle.law_effect.specs.Effect.{State as Target, Effect, FellThrough, Branch
 use Rattle.law_effect.proofs.Steps.{get_runs, i64_runs, block_runs, br_runs, br_if_runs}
 use Rattle.typed_tree.specs.declared.statement.Label.{Label}
 use Rattle.typed_tree.specs.declared.types.TypeNo.{TypeNo}
-use Rattle.def_meaning.specs.Answer.{State as Source, Ended, StillRunning, then_give}
+use Rattle.def_meaning.specs.Answer.{State as Source, Ended, StillRunning, ◌▷◌}
 use Rattle.def_meaning.specs.Outcome.{Outcome, Normal, Exited, Returned}
 use Rattle.def_meaning.specs.Answer as answer
 use Rattle.def_meaning.specs.Operators.{is_between}
@@ -152,7 +152,7 @@ module _ (k : Scene) (has : HasHelpers k) (small : AreSmall k.setting.home.types
   abbrev kept_chain : Coded
   kept_chain = with_number (λ n. plain (instr.LocalSet n ∷ []) ⨾ chain_code n xs otherwise)
 
-  pub case_executes : (t : TypeNo) (x : Coded) (value : Gives ℤ) → Agrees k t x value → Executes k function (x ⨾ kept_chain) (λ a s. then_give (value a s) (λ v s. chosen v ys other a s))
+  pub case_executes : (t : TypeNo) (x : Coded) (value : Gives ℤ) → Agrees k t x value → Executes k function (x ⨾ kept_chain) (λ a s. value a s ▷ λ v s. chosen v ys other a s)
   case_executes t x value hx = with_executes k function t x kept_chain value (λ v a s. chosen v ys other a s) hx (record {
     grows = λ e c.
         let g = growing (number_local k.setting c.numbers) e (record c { numbers = suc c.numbers }) in

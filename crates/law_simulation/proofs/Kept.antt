@@ -8,7 +8,7 @@ use Rattle.wasm_tree.specs.declared.store.Value.TheVariants.{I32, I64}
 use Rattle.law_effect.specs.Effect.{State as Target, Effect, Does as Effects}
 use Rattle.layout_storage.specs.Types.{Ty, row, component}
 use Rattle.def_meaning.specs.Store.{Location}
-use Rattle.def_meaning.specs.Answer.{State as Source, Answer, Ended, StillRunning, then_give}
+use Rattle.def_meaning.specs.Answer.{State as Source, Answer, Ended, StillRunning, ◌▷◌}
 use Rattle.def_meaning.specs.Outcome.{Outcome, Normal, Exited, Returned}
 use Rattle.def_meaning.specs.Answer as answer
 use Rattle.def_meaning.specs.Expressions.{Gives}
@@ -30,7 +30,7 @@ module _ (k : Scene) (function : Bool) where
 
   -- an address first
   pub ends_from : (exit : ℕ) (stack operands : List Value) (on : Target → Effect) (t : Ty) (go : Effects) (r : Effect) (a : Answer Location) (next : Location → Source → Outcome) → Into (GivesPlace k t go operands) r a
-      → ((l : Location) → component (row k.world) l ≡ Some t → 0 < length l → (s : Source) (st : Target) → Stands k s st → Ends k function exit stack on (go st (operands ++ I32 (place k l) ∷ [])) (next l s)) → Ends k function exit stack on r (then_give a next)
+      → ((l : Location) → component (row k.world) l ≡ Some t → 0 < length l → (s : Source) (st : Target) → Stands k s st → Ends k function exit stack on (go st (operands ++ I32 (place k l) ∷ [])) (next l s)) → Ends k function exit stack on r (a ▷ next)
   ends_from exit stack operands on t go r (answer.Value l s) next p h = subst (λ (e : Effect). Ends k function exit stack on e (next l s)) (sym p.run) (h l p.type p.some s p.st p.stands)
   ends_from exit stack operands on t go r (Ended j out) next p h = p
   ends_from exit stack operands on t go r (StillRunning out) next p h = p
@@ -41,7 +41,7 @@ module _ (k : Scene) (function : Bool) where
     abbrev address_code : Coded
     address_code = d ⨾ with_address (λ w. plain (instr.LocalSet w ∷ []) ⨾ f w)
 
-    pub address_kept : Executes k function address_code (λ a s. then_give (found a s) (λ l s. next l a s))
+    pub address_kept : Executes k function address_code (λ a s. found a s ▷ λ l s. next l a s)
     address_kept = record {
       grows = λ e c.
           let middle = (d (inside k e) c).1 in
@@ -60,7 +60,7 @@ module _ (k : Scene) (function : Bool) where
           let new : k.kept w ≡ None = free_here.addresses w (omega arith) (omega (arith, fewer)) in
           let full_here : HasLocals k middle = record { numbers = omega (arith, g.numbers, full.numbers); addresses = omega (arith, fewer) } in
           let list : List Instr = instr.LocalSet w ∷ second.0 in
-          let outcome : Source → Outcome = λ s. then_give (found k.around s) (λ l s. next l k.around s) in
+          let outcome : Source → Outcome = λ s. (found k.around s ▷ (λ l s. next l k.around s)) in
           subst (λ (code : List Instr). Ends k function e stack (λ st. runs k rest st stack) (runs k code st stack) (outcome s)) (sym (append_assoc first.0 list rest))
           (ends_from e stack stack (λ st. runs k rest st stack) t (runs k (list ++ rest)) (runs k (first.0 ++ (list ++ rest)) st stack) (found k.around s) (λ l s. next l k.around s)
           (hd.gives e c free full_here s st h (list ++ rest) stack)

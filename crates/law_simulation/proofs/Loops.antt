@@ -10,10 +10,9 @@ use Rattle.wasm_tree.specs.Numbers.{truth}
 use Rattle.law_effect.specs.Effect.{State as Target, Effect, FellThrough, Branched, StillRunning, Does as Effects, then_run, out_of, turn, turns, to_label}
 use Rattle.law_effect.proofs.Steps.{block_runs, loop_runs, br_runs, br_if_runs, to_label_keeps}
 use Rattle.typed_tree.specs.Types.{boolean}
-use Rattle.def_meaning.specs.Answer.{State as Source, Answer, Ended, then_give}
+use Rattle.def_meaning.specs.Answer.{State as Source, Answer, Ended, ◌▷◌}
 use Rattle.def_meaning.specs.Outcome.{Outcome, Normal, Exited, Returned, then_go}
 use Rattle.def_meaning.specs.Answer as answer
-use Rattle.def_meaning.specs.Outcome as outcome
 use Rattle.def_meaning.specs.Operators.{is_true}
 use Rattle.def_meaning.specs.Expressions.{Gives}
 use Rattle.def_meaning.specs.Statements.{Does, while_true, until_true, looped, loop_left}
@@ -60,7 +59,7 @@ module _ (k : Scene) (function : Bool) (has : HasHelpers k) (small : AreSmall k.
     -- the condition of a turn
     test_turned : (j : ℕ) (after : List Instr) (r : Effect) (a : Answer ℤ) (next : ℤ → Source → Outcome) → Into (GivesNumber k boolean (runs k after) stack) r a
         → ((v : ℤ) → IsValue k.setting.home.types boolean v → (s : Source) (st : Target) → Stands k s st → Ends k function (suc exit) stack (leaves 0 stack) (turned j (runs k after st (stack ++ I64 (word v) ∷ []))) (next v s))
-        → Ends k function (suc exit) stack (leaves 0 stack) (turned j r) (then_give a next)
+        → Ends k function (suc exit) stack (leaves 0 stack) (turned j r) (a ▷ next)
     test_turned j after r (answer.Value v s) next p h = subst (λ (e : Effect). Ends k function (suc exit) stack (leaves 0 stack) (turned j e) (next v s)) (sym p.run) (h v p.is s p.st p.stands)
     test_turned j after r (Ended i out) next p h = ap (turned j) p
     test_turned j after r (answer.StillRunning out) next p h = ap (turned j) p
@@ -162,7 +161,7 @@ module _ (k : Scene) (function : Bool) (has : HasHelpers k) (small : AreSmall k.
 
     test_again : (j : ℕ) (after : List Instr) (r : Effect) (a : Answer ℤ) (next : ℤ → Source → Outcome) → Into (GivesNumber k boolean (runs k after) stack) r a
         → ((v : ℤ) → IsValue k.setting.home.types boolean v → (s : Source) (st : Target) → Stands k s st → Ends k function exit stack falls (again j (runs k after st (stack ++ I64 (word v) ∷ []))) (next v s))
-        → Ends k function exit stack falls (again j r) (then_give a next)
+        → Ends k function exit stack falls (again j r) (a ▷ next)
     test_again j after r (answer.Value v s) next p h = subst (λ (e : Effect). Ends k function exit stack falls (again j e) (next v s)) (sym p.run) (h v p.is s p.st p.stands)
     test_again j after r (Ended i out) next p h = ap (again j) p
     test_again j after r (answer.StillRunning out) next p h = ap (again j) p
@@ -192,7 +191,7 @@ module _ (k : Scene) (function : Bool) (has : HasHelpers k) (small : AreSmall k.
       until_turns zero s st h = ap StillRunning h.out
       until_turns (suc j) s st h =
           body_again label until_code stack j until (runs k until_code st stack) (step k.around s)
-          (λ s. then_give (test k.around s) (λ v s. if is_true v then answer.Value Normal s else until_true j (step k.around) (test k.around) s))
+          (λ s. test k.around s ▷ λ v s. if is_true v then answer.Value Normal s else until_true j (step k.around) (test k.around) s)
           (subst (λ (l : ℕ). Ends k function l stack (λ st. runs k until st stack) (runs k until_code st stack) (step k.around s)) same
           (hy.goes (e + 1) c free (has_before k (hx.grows (e + 1) (y (inside k (e + 1)) c).1) full) s st h until stack))
           (λ s' st' h'.

@@ -136,10 +136,10 @@ module _ (k : Scene) (has : HasHelpers k) (base : List Ty) (x0 : Location → �
 
   pub ends_back : (r : Result) → k.result ≡ r → (o : Outcome) (R : Effect) → ((s : Source) → o ≡ answer.Value Exited s → ⊥) → Ends k (there_meaning r) 0 [] (λ st. runs k (end_code (there_meaning r)) st []) R o → Back r o R
   ends_back None ranged (answer.Value Normal s) R stays p = came_back k None base x0 more is ranged older locals below s p.st p.stands [] [] (pos 0) refl refl tt _ (ap (back 0 locals below) p.run)
-  ends_back None ranged (answer.Value (Returned v) s) R stays p =
-      came_back k None base x0 more is ranged older locals below s p.st p.stands.0 p.below [] v refl refl tt _ (ap (back 0 locals below) (p.run ∙ ap (λ (vs : List Value). answer.Value (Returned p.st) vs) (sym (append-nil p.below))))
+  ends_back None ranged (answer.Value (outcome.Returned v) s) R stays p =
+      came_back k None base x0 more is ranged older locals below s p.st p.stands.0 p.below [] v refl refl tt _ (ap (back 0 locals below) (p.run ∙ ap (λ (vs : List Value). Returned p.st vs) (sym (append-nil p.below))))
   ends_back (Some rng) ranged (answer.Value Normal s) R stays p = ap (back 1 locals below) (p.run ∙ faults p.st ∙ ap (λ (out : List ℕ). Ended 6 out) p.stands.out)
-  ends_back (Some rng) ranged (answer.Value (Returned v) s) R stays p =
+  ends_back (Some rng) ranged (answer.Value (outcome.Returned v) s) R stays p =
       came_back k (Some rng) base x0 more is ranged older locals below s p.st p.stands.0 p.below (I64 (word v) ∷ []) v refl refl (subst (λ (o : Option Ty). IsResult k.program o v) ranged (p.stands.1 refl)) _ (ap (back 1 locals below) p.run)
   ends_back None ranged (answer.Value Exited s) R stays p = absurd (stays s refl)
   ends_back (Some rng) ranged (answer.Value Exited s) R stays p = absurd (stays s refl)

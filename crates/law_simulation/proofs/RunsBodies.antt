@@ -13,8 +13,8 @@ use Rattle.layout_storage.specs.Types.{row}
 use Rattle.layout_storage.specs.Sizes.{size}
 use Rattle.def_meaning.specs.Answer.{State as Source}
 use Rattle.def_meaning.specs.Outcome.{Outcome, Normal, Exited}
-use Rattle.def_meaning.specs.Answer as answer
 use Rattle.def_meaning.specs.Outcome as outcome
+use Rattle.def_meaning.specs.Answer as answer
 use Rattle.def_meaning.specs.Environment.{Modules}
 use Rattle.def_meaning.specs.Runs.{storage, body_frame, bodies, first_state, then_body}
 use Rattle.def_meaning.specs.Runs as runs
@@ -29,7 +29,7 @@ use Rattle.law_simulation.specs.Bodies.{Ground, IsHeld, BodyEnds, statements_do,
 abbrev RunSame : Effect → Outcome → Type 0
 RunSame r (answer.Value Normal s) = ⊥
 RunSame r (answer.Value Exited s) = ⊥
-RunSame r (answer.Value (Returned v) s) = ⊥
+RunSame r (answer.Value (outcome.Returned v) s) = ⊥
 RunSame r (answer.Ended k out) = comes 0 r ≡ Some (Over k, out)
 RunSame r (answer.StillRunning out) = r ≡ StillRunning out
 
@@ -49,7 +49,7 @@ module _ (p : Modules) (pages n : ℕ) (g : Ground) (calls : Calling) where
       subst (λ (e : Effect). RunSame (then_run e (bodies_do calls top bs)) (bodies p n left place ms s)) (sym h.run) (rest s (record { locals = locals; bytes = h.bytes; out = s.out }) h.held refl)
   next_bodies place ms bs rest locals r (answer.Value Exited s) h =
       subst (λ (e : Effect). RunSame (then_run e (bodies_do calls top bs)) (bodies p n left place ms s)) (sym h.run) (rest s (record { locals = locals; bytes = h.bytes; out = s.out }) h.held refl)
-  next_bodies place ms bs rest locals r (answer.Value (Returned v) s) h =
+  next_bodies place ms bs rest locals r (answer.Value (outcome.Returned v) s) h =
       subst (λ (e : Effect). RunSame (then_run e (bodies_do calls top bs)) (bodies p n left place ms s)) (sym h.run) (rest s (record { locals = locals; bytes = h.bytes; out = s.out }) h.held refl)
   next_bodies place ms bs rest locals r (answer.Ended k out) h = ap (λ (e : Effect). comes 0 (then_run e (bodies_do calls top bs))) h
   next_bodies place ms bs rest locals r (answer.StillRunning out) h = ap (λ (e : Effect). then_run e (bodies_do calls top bs)) h
@@ -80,7 +80,7 @@ module _ (modules : List WModule) (least : ℕ) (c : Config) (k : ℕ) (out : Li
   comes_there (FellThrough st stack) r e = arrives _ st.out r e
   comes_there (Branched zero st stack) r e = arrives _ st.out r e
   comes_there (Branched (suc l) st stack) r e = arrives Trapped st.out r e
-  comes_there (answer.Value (Returned st) stack) r e = arrives _ st.out r e
+  comes_there (Returned st stack) r e = arrives _ st.out r e
   comes_there (Ended j last) r e = arrives (Over j) last r e
   comes_there (Traps last) r e = arrives Trapped last r e
   comes_there (StillRunning last) r e = absurd (cc e)
@@ -93,7 +93,7 @@ shown_is : (e : Effect) (k : ℕ) (out : List ℕ) → comes 0 e ≡ Some (Over 
 shown_is (FellThrough st stack) k out h = ap second_of h
 shown_is (Branched zero st stack) k out h = ap second_of h
 shown_is (Branched (suc l) st stack) k out h = ap second_of h
-shown_is (answer.Value (Returned st) stack) k out h = ap second_of h
+shown_is (Returned st stack) k out h = ap second_of h
 shown_is (Ended j last) k out h = ap second_of h
 shown_is (Traps last) k out h = ap second_of h
 shown_is (StillRunning last) k out h = absurd (cc h)
@@ -101,7 +101,7 @@ shown_is (StillRunning last) k out h = absurd (cc h)
 same_shown : (e : Effect) (o : Outcome) → RunSame e o → shown e ≡ printed o
 same_shown e (answer.Value Normal s) h = absurd h
 same_shown e (answer.Value Exited s) h = absurd h
-same_shown e (answer.Value (Returned v) s) h = absurd h
+same_shown e (answer.Value (outcome.Returned v) s) h = absurd h
 same_shown e (answer.Ended k out) h = shown_is e k out h
 same_shown e (answer.StillRunning out) h = ap shown h
 
@@ -115,7 +115,7 @@ running_comes e out x is h = none_some (sym (ap (comes 0) is) ∙ h)
 ended_is : (e : Effect) (o : Outcome) → RunSame e o → (d : Config) (out : List ℕ) → comes 0 e ≡ Some (d, out) → (k : ℕ) × (d ≡ Over k) × (o ≡ answer.Ended k out)
 ended_is e (answer.Value Normal s) h d out is = absurd h
 ended_is e (answer.Value Exited s) h d out is = absurd h
-ended_is e (answer.Value (Returned v) s) h d out is = absurd h
+ended_is e (answer.Value (outcome.Returned v) s) h d out is = absurd h
 ended_is e (answer.Ended k last) h d out is =
     let same : ◌≡◌ {A = Option Progress} (Some (d, out)) (Some (Over k, last)) = sym is ∙ h in
     (k, ap (λ (x : Option Progress). (of x).0) same, ap (answer.Ended k) (sym (ap (λ (x : Option Progress). (of x).1) same)))

@@ -1,9 +1,8 @@
 -- What does not leave by EXIT.
 use Rattle.std.proofs.Common.{◌≡◌, ℕ, zero, suc, ◌+ℤ◌, ℤ, Bool, true, false, if◌then◌else◌, refl}
 use Rattle.def_meaning.specs.Store.{Location}
-use Rattle.def_meaning.specs.Answer.{State, Answer, Value, Ended, StillRunning, then_give}
+use Rattle.def_meaning.specs.Answer.{State, Answer, Value, Ended, StillRunning, ◌▷◌}
 use Rattle.def_meaning.specs.Outcome.{Outcome, Normal, Exited, Returned, then_go}
-use Rattle.def_meaning.specs.Answer as answer
 use Rattle.def_meaning.specs.Environment.{Environment}
 use Rattle.def_meaning.specs.Operators.{is_true}
 use Rattle.def_meaning.specs.Statements.{Does, stored, loop_left, looped, while_true, until_true, has_passed, for_turns, for_all}
@@ -29,7 +28,7 @@ then_stays (Value (Returned v) s) next h g = refl
 then_stays (Ended k out) next h g = refl
 then_stays (StillRunning out) next h g = refl
 
-pub with_stays : {A : Type 0} (x : Answer A) (next : A → State → Outcome) → ((v : A) → Stay (next v)) → is_left (then_give x next) ≡ false
+pub with_stays : {A : Type 0} (x : Answer A) (next : A → State → Outcome) → ((v : A) → Stay (next v)) → is_left (x ▷ next) ≡ false
 with_stays (Value v s) next g = g v s
 with_stays (Ended k out) next g = refl
 with_stays (StillRunning out) next g = refl
@@ -59,15 +58,15 @@ while_stays (suc n) test body h s =
 pub until_stays : (n : ℕ) (body : State → Outcome) (test : State → Answer ℤ) → Stay body → Stay (until_true n body test)
 until_stays zero body test h s = refl
 until_stays (suc n) body test h s =
-    then_stays (body s) (λ s. then_give (test s) (λ v s. if is_true v then Value Normal s else until_true n body test s)) (h s)
+    then_stays (body s) (λ s. test s ▷ λ v s. if is_true v then Value Normal s else until_true n body test s) (h s)
     (λ s. with_stays (test s) (λ v s. if is_true v then Value Normal s else until_true n body test s) (λ v s. if_stays (is_true v) (Value Normal s) (until_true n body test s) refl (until_stays n body test h s)))
 
 turns_stay : (n : ℕ) (check : ℤ → State → Answer ℤ) (l : Location) (by limit : ℤ) (body : State → Outcome) → Stay body → Stay (for_turns n check l by limit body)
 turns_stay zero check l by limit body h s = refl
 turns_stay (suc n) check l by limit body h s =
-    let on : State → Outcome = λ s. if has_passed by limit (s.store l +ℤ by) then Value Normal s else then_give (check (s.store l +ℤ by) s) (λ v s. for_turns n check l by limit body (stored l v s)) in
+    let on : State → Outcome = λ s. if has_passed by limit (s.store l +ℤ by) then Value Normal s else (check (s.store l +ℤ by) s ▷ (λ v s. for_turns n check l by limit body (stored l v s))) in
     then_stays (body s) on (h s)
-    (λ s. if_stays (has_passed by limit (s.store l +ℤ by)) (Value Normal s) (then_give (check (s.store l +ℤ by) s) (λ v s. for_turns n check l by limit body (stored l v s))) refl
+    (λ s. if_stays (has_passed by limit (s.store l +ℤ by)) (Value Normal s) (check (s.store l +ℤ by) s ▷ λ v s. for_turns n check l by limit body (stored l v s)) refl
     (with_stays (check (s.store l +ℤ by) s) (λ v s. for_turns n check l by limit body (stored l v s)) (λ v s. turns_stay n check l by limit body h (stored l v s))))
 
 pub for_stays : (n : ℕ) (check : ℤ → State → Answer ℤ) (l : Location) (by limit : ℤ) (body : State → Outcome) → Stay body → Stay (for_all n check l by limit body)

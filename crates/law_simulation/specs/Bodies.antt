@@ -14,7 +14,6 @@ use Rattle.def_meaning.specs.Store.{Location}
 use Rattle.def_meaning.specs.Answer.{State as Source, Ended}
 use Rattle.def_meaning.specs.Outcome.{Outcome, Normal, Exited, Returned}
 use Rattle.def_meaning.specs.Answer as answer
-use Rattle.def_meaning.specs.Outcome as outcome
 use Rattle.def_meaning.specs.Environment.{Modules}
 use Rattle.def_meaning.specs.Calls.{body_does, calling}
 use Rattle.def_meaning.specs.Runs.{storage, body_frame, body_environment, first_state, run}

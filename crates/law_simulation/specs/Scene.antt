@@ -24,7 +24,6 @@ use Rattle.def_meaning.specs.Store.{Location}
 use Rattle.def_meaning.specs.Answer.{State as Source, Answer, Ended}
 use Rattle.def_meaning.specs.Outcome.{Outcome, Normal, Exited, Returned}
 use Rattle.def_meaning.specs.Answer as answer
-use Rattle.def_meaning.specs.Outcome as outcome
 use Rattle.def_meaning.specs.Environment.{Modules, Environment, named, location_of}
 use Rattle.def_meaning.specs.Expressions.{Gives}
 use Rattle.def_meaning.specs.Statements.{Does}
@@ -351,7 +350,8 @@ pub record Returns (k : Scene) (function : Bool) (v : ℤ) (s : Source) (r : Eff
 abbrev pub Ends : (k : Scene) (function : Bool) (exit : ℕ) (stack : List Value)
     (on : Target → Effect) → Effect → Outcome → Type 0
 Ends k function exit stack on r (answer.Value Normal s) = GoesTo k on s r
-Ends k function exit stack on r (answer.Value Exited s) = GoesTo k (λ st. does.Branched exit st stack) s r
+Ends k function exit stack on r (answer.Value Exited s) =
+    GoesTo k (λ st. does.Branched exit st stack) s r
 Ends k function exit stack on r (answer.Value (Returned v) s) = Returns k function v s r
 Ends k function exit stack on r (Ended j out) = r ≡ does.Ended j out
 Ends k function exit stack on r (answer.StillRunning out) = r ≡ StillRunning out

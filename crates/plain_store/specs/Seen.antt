@@ -3,7 +3,6 @@ use Rattle.std.specs.Prelude.{ℕ, ℤ, List, [], ◌∷◌, ◌++◌, map, unsi
 use Rattle.def_meaning.specs.Store.{Location, Store}
 use Rattle.def_meaning.specs.Answer.{Value, State as Meant, Answer as Given, Ended, StillRunning}
 use Rattle.def_meaning.specs.Outcome.{Outcome as Course, Normal, Exited, Returned}
-use Rattle.def_meaning.specs.Answer as given
 use Rattle.plain_store.specs.declared.state.State.{State}
 use Rattle.plain_store.specs.declared.state.Stop.{Stop}
 use Rattle.plain_store.specs.declared.state.Stop.TheVariants as stop
