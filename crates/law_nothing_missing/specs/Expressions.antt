@@ -108,12 +108,12 @@ module _ (lacking : ℕ) where
     abbrev pub argument_layer :
         Argument-F (Gives Passed) Calls Reaches Continues (Gives ℤ) (Gives Location) → Gives Passed
     argument_layer (layer.Value t e) a st =
-        (e a st ▷ (λ v st.
-        as_type a.types t v st ▷ λ v st. Value (Number v) st))
-    argument_layer (layer.Place d) a st = (d a st ▷ (λ l st. Value (Variable l) st))
+        e a st ▷ λ v st.
+        as_type a.types t v st ▷ λ v st. Value (Number v) st
+    argument_layer (layer.Place d) a st = d a st ▷ λ l st. Value (Variable l) st
     argument_layer (layer.Array t d) a st =
-        (d a st ▷ (λ l st.
-        needs (index_range a.types t) (λ r st. Value (Array l (elements_of (Some r) - 1)) st) st))
+        d a st ▷ λ l st.
+        needs (index_range a.types t) (λ r st. Value (Array l (elements_of (Some r) - 1)) st) st
     argument_layer (layer.Open slot) a st =
         needs (elements_named (named a slot)) (λ e st. Value (Array e.0 e.1) st) st
     argument_layer (layer.Text text) a st = Value (Text text) st
@@ -143,8 +143,8 @@ module _ (lacking : ℕ) where
         Component-F (Gives Passed) Calls Reaches Continues (Gives ℤ) (Gives Location) → Reaches
     component_layer (layer.Field t k) l a st = at_there (l ++ k ∷ []) st
     component_layer (layer.Element t i) l a st =
-        (i a st ▷ (λ v st.
-        needs (index_range a.types t) (λ r st. element l r.low r.high v st ▷ at_there) st))
+        i a st ▷ λ v st.
+        needs (index_range a.types t) (λ r st. element l r.low r.high v st ▷ at_there) st
     component_layer (layer.OpenElement slot t i) l a st =
         i a st ▷ λ v st.
         needs (elements_named (named a slot))
@@ -176,7 +176,7 @@ module _ (lacking : ℕ) where
     abbrev pub link_layer : Link-F (Gives Passed) Calls Reaches Continues (Gives ℤ) (Gives Location)
         → Continues
     link_layer (layer.Arithmetic o t e) x a st =
-        (e a st ▷ (λ y st. provided (has_range a.types o t) (operated a.types o t x y) st))
+        e a st ▷ λ y st. provided (has_range a.types o t) (operated a.types o t x y) st
     link_layer other x a st = meaning.link_layer p ask (wanting_link other) x a st
 
     -- the value of a call in an expression is wanted
@@ -193,7 +193,7 @@ module _ (lacking : ℕ) where
     abbrev pub expr_layer :
         TypedExpr-F (Gives Passed) Calls Reaches Continues (Gives ℤ) (Gives Location) → Gives ℤ
     expr_layer (layer.Load t d) a st =
-        ((d a st ▷ at_cell) ▷ (λ l st. Value (st.store l) st))
+        (d a st ▷ at_cell) ▷ λ l st. Value (st.store l) st
     expr_layer (layer.Procedure f) a st =
         provided (is_module p f.home)
         (λ st.
@@ -203,7 +203,7 @@ module _ (lacking : ℕ) where
     expr_layer (layer.High slot) a st =
         needs (elements_named (named a slot)) (λ e st. Value (pos e.1) st) st
     expr_layer (layer.Val t e) a st =
-        (e a st ▷ (λ v st. provided (is_ranged a.types t) (meaning.as_type a.types t v) st))
+        e a st ▷ λ v st. provided (is_ranged a.types t) (meaning.as_type a.types t v) st
     expr_layer other a st = meaning.expr_layer p ask (wanting other) a st
 
     unfoldable pub value : TypedExpr → Gives ℤ

@@ -84,8 +84,8 @@ module _ (lacking : ℕ) (p : Modules) (ask : Asks) (world : World) (n : ℕ) (f
       if function then Ended lacking st.out else Value (Returned (pos 0)) st
   step_layer (step.Give t e) a st =
       if function
-      then (value lacking p ask world e a st ▷ (λ v st.
-      taken_as lacking p ask world a.types t v st ▷ λ v st. Value (Returned v) st))
+      then (value lacking p ask world e a st ▷ λ v st.
+      taken_as lacking p ask world a.types t v st ▷ λ v st. Value (Returned v) st)
       else Ended lacking st.out
   step_layer (step.For d t start limit by body) a st =
       cell d a st ▷ λ l st.
