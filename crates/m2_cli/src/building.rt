@@ -1,11 +1,10 @@
 //! Programs that are built in memory.
 
-use crate::PROGRAM;
-use crate::asked::Setting;
 use crate::finding::find_program;
 use crate::showing::show;
 use anyhow::Result;
 use command_words::{FAILED, Words};
+use m2_words::{PROGRAM, Setting};
 use m2c::{Gate, Outcome, SourceFile, build};
 use run_program::ProgramFault;
 use std::rt::Files;

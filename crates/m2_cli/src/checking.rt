@@ -1,9 +1,9 @@
 //! `m2 check`: what is refused of programs.
 
-use crate::asked::Setting;
 use crate::building::build_program;
 use anyhow::Result;
 use command_words::Words;
+use m2_words::Setting;
 use std::rt::Files;
 use std::thread::Threads;
 

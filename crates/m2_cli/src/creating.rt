@@ -1,10 +1,10 @@
 //! `m2 new`: the files of a new program.
 
-use crate::PROGRAM;
 use anyhow::Result;
 use command_words::{COMMAND_LINE, FAILED};
 use m2_scan::{Fault, ScanError, scan};
 use m2_tree::{Lexeme, MAX_NAME, Token, is_console};
+use m2_words::PROGRAM;
 use std::alloc::{AllocError, Global};
 use std::fs::File;
 use std::io::{ErrorKind, Write};

@@ -1,12 +1,11 @@
 //! The files of a program.
 
-use crate::PROGRAM;
-use crate::asked::Setting;
 use crate::places::Places;
 use anyhow::Result;
 use command_words::{FAILED, Words};
 use find_modules::{FindFault, FoundModule, Part, Sources, find};
 use m2_tree::Name;
+use m2_words::{PROGRAM, Setting};
 use m2c::SourceFile;
 use std::alloc::AllocError;
 use std::fs;

@@ -1,6 +1,6 @@
 //! What is said of standard output that failed.
 
-use crate::PROGRAM;
+use m2_words::PROGRAM;
 use std::io;
 use std::io::ErrorKind;
 

@@ -1,7 +1,5 @@
 //! `m2 show`: what a pass makes of a program.
 
-use crate::PROGRAM;
-use crate::asked::{Pass, Setting};
 use crate::building::{Modules, build_program};
 use crate::finding::Program;
 use crate::output::say_output_fault;
@@ -9,6 +7,7 @@ use crate::showing::show;
 use anyhow::Result;
 use command_words::{FAILED, Words};
 use m2_tree::{Pos, Refusal};
+use m2_words::{PROGRAM, Pass, Setting};
 use m2c::SourceFile;
 use show_passes::{File, Shown, show_program, show_text_tokens, show_text_tree};
 use std::alloc::{AllocError, Global};

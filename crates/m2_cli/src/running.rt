@@ -2,8 +2,6 @@
 
 ghost use Rattle.std.specs.Prelude.{◌≡◌, ◌<◌, ◌^◌, ◌+◌};
 
-use crate::PROGRAM;
-use crate::asked::Setting;
 use crate::building::{Open, say_fault};
 use crate::finding::{Program as FoundProgram, find_program};
 use crate::output::say_output_fault;
@@ -11,6 +9,7 @@ use crate::screen::Screen;
 use crate::showing::show;
 use anyhow::Result;
 use command_words::{FAILED, Words};
+use m2_words::{PROGRAM, Setting};
 use run_program::{End, Instances, Loaded, Program, load_program};
 use std::rt::Files;
 use std::thread::Threads;

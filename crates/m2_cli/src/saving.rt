@@ -1,10 +1,9 @@
 //! `m2 build`: the modules of a program, written into a folder.
 
-use crate::PROGRAM;
-use crate::asked::Setting;
 use crate::building::{Modules, build_program};
 use anyhow::Result;
 use command_words::{FAILED, Words};
+use m2_words::{PROGRAM, Setting};
 use m2c::{SaveFault, save};
 use std::rt::Files;
 use std::thread::Threads;

@@ -1,13 +1,12 @@
 //! What people are told of a program that is refused.
 
-use crate::PROGRAM;
-use crate::asked::Style;
 use crate::finding::Program;
 use crate::output::say_output_fault;
 use crate::screen::Screen;
 use anyhow::Result;
 use command_words::FAILED;
 use m2_tree::Refusal;
+use m2_words::{PROGRAM, Style};
 use m2c::SourceFile;
 use show_refusals::{explanation, show_json};
 use std::io;
