@@ -5,12 +5,11 @@
 //! output), 2 for the command line, 3 where a file, memory or standard output failed, and 4 where it still runs at the bound.
 #![tactic(auto)]
 
-mod typed;
 mod words;
 
-use crate::typed::typed_program;
 use crate::words::{Asked, read_command_line};
 use anyhow::{Context, Result};
+use check_program::typed_program;
 use command_words::Words;
 use m2c::{Gate, Options, Outcome, SourceFile, build};
 use plain_run::{Report, Stop, run as run_program};
