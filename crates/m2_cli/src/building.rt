@@ -4,11 +4,11 @@ use crate::finding::find_program;
 use crate::showing::show;
 use anyhow::Result;
 use command_words::{FAILED, Words};
-use m2_words::{PROGRAM, Setting};
 use m2c::{Gate, Outcome, SourceFile, build};
 use run_program::ProgramFault;
 use std::rt::Files;
 use std::thread::Threads;
+use tool_words::{PROGRAM, Setting};
 
 /// The modules of a program.
 #[derive(Drop)]

@@ -3,9 +3,9 @@
 use crate::building::build_program;
 use anyhow::Result;
 use command_words::Words;
-use m2_words::Setting;
 use std::rt::Files;
 use std::thread::Threads;
+use tool_words::Setting;
 
 /// The status if no program is refused.
 const ACCEPTED: u8 = 0;

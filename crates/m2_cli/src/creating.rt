@@ -4,12 +4,12 @@ use anyhow::Result;
 use command_words::{COMMAND_LINE, FAILED};
 use m2_scan::{Fault, ScanError, scan};
 use m2_tree::{Lexeme, MAX_NAME, Token, is_console};
-use m2_words::PROGRAM;
 use std::alloc::{AllocError, Global};
 use std::fs::File;
 use std::io::{ErrorKind, Write};
 use std::rt::Files;
 use std::{fs, io};
+use tool_words::PROGRAM;
 
 /// The status if the files are written.
 const WRITTEN: u8 = 0;

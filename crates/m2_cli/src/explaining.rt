@@ -3,7 +3,7 @@
 use crate::output::say_output_fault;
 use command_words::{COMMAND_LINE, FAILED};
 use explain_rules::{list, page};
-use m2_words::PROGRAM;
+use tool_words::PROGRAM;
 
 /// The status if a page was printed.
 const EXPLAINED: u8 = 0;

@@ -5,11 +5,11 @@ use anyhow::Result;
 use command_words::{FAILED, Words};
 use find_modules::{FindFault, FoundModule, Part, Sources, find};
 use m2_tree::Name;
-use m2_words::{PROGRAM, Setting};
 use m2c::SourceFile;
 use std::alloc::AllocError;
 use std::fs;
 use std::rt::Files;
+use tool_words::{PROGRAM, Setting};
 
 /// The files of a program, and the modules that it lacks.
 #[derive(Drop)]

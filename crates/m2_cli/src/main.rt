@@ -28,10 +28,10 @@ use crate::running::run_file;
 use crate::saving::build_into;
 use anyhow::Result;
 use command_words::{FAILED, Words};
-use m2_words::{Asked, PROGRAM, read_command_line};
 use std::process::ExitCode;
 use std::rt::{Env, Files};
 use std::thread::Threads;
+use tool_words::{Asked, PROGRAM, read_command_line};
 
 /// Does what was asked for, and answers the status. An error if memory or a stream failed.
 fn answer<R, P>(rt: &R, asked: &Asked, out: P) -> Result<u8>

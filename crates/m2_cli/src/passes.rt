@@ -5,10 +5,8 @@ use crate::finding::Program;
 use crate::output::say_output_fault;
 use crate::showing::show;
 use anyhow::Result;
-use check_program::typed_program;
 use command_words::{FAILED, Words};
 use m2_tree::{Pos, Refusal};
-use m2_words::{PROGRAM, Pass, Setting};
 use m2c::SourceFile;
 use show_passes::{File, Shown, show_program, show_text_tokens, show_text_tree};
 use show_types::show_types;
@@ -16,6 +14,8 @@ use std::alloc::{AllocError, Global};
 use std::fs;
 use std::rt::Files;
 use std::thread::Threads;
+use tool_words::{PROGRAM, Pass, Setting};
+use typed_program::typed_program;
 
 /// The status of what is shown.
 const SHOWN: u8 = 0;

@@ -9,10 +9,10 @@ use crate::screen::Screen;
 use crate::showing::show;
 use anyhow::Result;
 use command_words::{FAILED, Words};
-use m2_words::{PROGRAM, Setting};
 use run_program::{End, Instances, Loaded, Program, load_program};
 use std::rt::Files;
 use std::thread::Threads;
+use tool_words::{PROGRAM, Setting};
 use wasm_engine::RunFault;
 
 /// The status of a program that ended by itself or by HALT.

@@ -3,11 +3,11 @@
 use crate::building::{Modules, build_program};
 use anyhow::Result;
 use command_words::{FAILED, Words};
-use m2_words::{PROGRAM, Setting};
 use m2c::{SaveFault, save};
 use std::rt::Files;
 use std::thread::Threads;
 use system_streams::OutFolder;
+use tool_words::{PROGRAM, Setting};
 
 /// The status if the modules are written.
 const BUILT: u8 = 0;

@@ -6,10 +6,10 @@ use crate::screen::Screen;
 use anyhow::Result;
 use command_words::FAILED;
 use m2_tree::Refusal;
-use m2_words::{PROGRAM, Style};
 use m2c::SourceFile;
 use show_refusals::{explanation, show_json};
 use std::io;
+use tool_words::{PROGRAM, Style};
 
 /// The status of a program that is refused.
 const REFUSED: u8 = 1;

@@ -9,7 +9,6 @@ mod words;
 
 use crate::words::{Asked, read_command_line};
 use anyhow::{Context, Result};
-use check_program::typed_program;
 use command_words::Words;
 use m2c::{Gate, Options, Outcome, SourceFile, build};
 use plain_run::{Report, Stop, run as run_program};
@@ -18,6 +17,7 @@ use std::fs;
 use std::process::ExitCode;
 use std::rt::{Env, Files};
 use std::thread::Threads;
+use typed_program::typed_program;
 
 /// The status of an end by itself or by HALT.
 const ENDED: u8 = 0;
