@@ -262,3 +262,9 @@ AreAlike (outcome.Refused rs) (outcome.Built link built) = ⊥
 AreAlike (outcome.Built link built) (outcome.Refused qs) = ⊥
 AreAlike (outcome.Built link built) (outcome.Built other others) =
     (link.items ≡ other.items) × (map named built.items ≡ map named others.items)
+
+-- files have at most one outcome in a number of pages
+abbrev pub OneOutcome : Type 0
+OneOutcome =
+    (files : List SourceFile) (pages : ℕ) (one other : Outcome)
+    → IsBuilt files pages one → IsBuilt files pages other → AreAlike one other
