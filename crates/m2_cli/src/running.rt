@@ -9,6 +9,7 @@ use crate::screen::Screen;
 use crate::showing::show;
 use anyhow::Result;
 use command_words::{FAILED, Words};
+use run_directory::end_word;
 use run_program::{End, Instances, Loaded, Program, load_program};
 use std::rt::Files;
 use std::thread::Threads;
@@ -71,21 +72,6 @@ fn run_slices<P: Print>(instances: &mut Instances<'_>, steps: u64, screen: &mut 
     course
 }
 
-/// What a fault is called.
-fn fault_word(number: u8) -> &'static str {
-    match number {
-        1 => "range",
-        2 => "overflow",
-        3 => "index",
-        4 => "divisor",
-        5 => "case",
-        6 => "no return",
-        7 => "empty procedure",
-        8 => "storage",
-        _ => "unknown",
-    }
-}
-
 /// Begins a line on standard error, if the last line that was printed has not ended.
 fn begin_line<R: Eprint, P: Print>(rt: &R, screen: &Screen<P>) {
     if !screen.is_at_line_begin() {
@@ -108,7 +94,7 @@ fn write_end<R: Eprint, P: Print>(rt: &R, end: End, steps: u64, screen: &Screen<
     match end {
         End::Done(0) | End::Done(HALTED) => ENDED,
         End::Done(number) => {
-            let word = fault_word(number);
+            let word = end_word(number);
             begin_line(rt, screen);
             let _ = eprintln!(rt; "fault {number}: {word}");
             FAULTED
