@@ -54,7 +54,7 @@ pub fn assign(
     st: &mut State,
 ) -> Result<Outcome, RunFault>
     ensures { let types = (surroundings around.now).types in
-        IfOk result (λ o. ended o st.new ≡ (answered given st.old ▷ λ x st. as_type types t x.v st ▷ λ v st. Normal (stored x.l v st))) }
+        IfOk result (λ o. ended o st.new ≡ (answered given st.old ▷ λ x st. as_type types t x.v st ▷ λ v st. Value Normal (stored x.l v st))) }
 {
     match given {
         Answer::Value(x) => match as_type(around, t, x.v, st) {
@@ -71,7 +71,7 @@ pub fn assign(
 /// Copies an array or a record.
 #[tactic(auto, using(plain_store::proofs::Threads::threads))]
 pub fn copy(around: &Around<'_>, given: Answer<Ends>, st: &mut State) -> Result<Outcome, RunFault>
-    ensures { IfOk result (λ o. ended o st.new ≡ (answered given st.old ▷ λ x st. Normal (with_store (copied x.to x.from st.store) st))) }
+    ensures { IfOk result (λ o. ended o st.new ≡ (answered given st.old ▷ λ x st. Value Normal (with_store (copied x.to x.from st.store) st))) }
 {
     match given {
         Answer::Value(x) => {
@@ -116,7 +116,7 @@ pub fn gone(given: Answer<i64>, st: &State) -> Outcome
 #[tactic(auto, using(plain_store::proofs::Threads::threads))]
 pub fn put(around: &Around<'_>, given: Answer<i64>, st: &mut State) -> Result<Outcome, RunFault>
     ensures { let types = (surroundings around.now).types in
-        IfOk result (λ o. ended o st.new ≡ (answered given st.old ▷ λ v st. as_type types char v st ▷ λ v st. Normal (with_byte v st))) }
+        IfOk result (λ o. ended o st.new ≡ (answered given st.old ▷ λ v st. as_type types char v st ▷ λ v st. Value Normal (with_byte v st))) }
 {
     match given {
         Answer::Value(v) => match as_type(around, CHAR, v, st) {
@@ -170,7 +170,7 @@ pub fn change(
     st: &mut State,
 ) -> Result<Outcome, RunFault>
     ensures { let types = (surroundings around.now).types in
-        IfOk result (λ o. ended o st.new ≡ (answered given st.old ▷ λ x st. rechecked types t (changed how (st.store x.l) x.v) st ▷ λ v st. Normal (stored x.l v st))) }
+        IfOk result (λ o. ended o st.new ≡ (answered given st.old ▷ λ x st. rechecked types t (changed how (st.store x.l) x.v) st ▷ λ v st. Value Normal (stored x.l v st))) }
 {
     match given {
         Answer::Value(x) => {
@@ -195,7 +195,7 @@ pub fn membership(
     given: Answer<Target>,
     st: &mut State,
 ) -> Result<Outcome, RunFault>
-    ensures { IfOk result (λ o. ended o st.new ≡ (answered given st.old ▷ λ x st. within (pos 0) (pos 31) range_fault x.v st ▷ λ v st. Normal (stored x.l (with_element how (st.store x.l) v) st))) }
+    ensures { IfOk result (λ o. ended o st.new ≡ (answered given st.old ▷ λ x st. within (pos 0) (pos 31) range_fault x.v st ▷ λ v st. Value Normal (stored x.l (with_element how (st.store x.l) v) st))) }
 {
     match given {
         Answer::Value(x) => match within(0, 31, 1, x.v, st) {
@@ -214,7 +214,7 @@ pub fn membership(
 #[tactic(auto, using(plain_store::proofs::Threads::threads))]
 pub fn give(around: &Around<'_>, t: TypeNo, given: Answer<i64>, st: &State) -> Outcome
     ensures { let types = (surroundings around.now).types in
-        ended result st.now ≡ (answered given st.now ▷ (λ v st. as_type types t v st ▷ λ v st. Returned v st)) }
+        ended result st.now ≡ (answered given st.now ▷ (λ v st. as_type types t v st ▷ λ v st. Value (Returned v) st)) }
 {
     match given {
         Answer::Value(v) => match as_type(around, t, v, st) {
