@@ -1,9 +1,11 @@
 //! Programs that are built in memory.
 
-use crate::finding::find_program;
+use crate::finding::{Program, find_program};
+use crate::pages::say_pages;
 use crate::showing::show;
 use anyhow::Result;
 use command_words::{FAILED, Words};
+use m2_tree::Refusal;
 use m2c::{Gate, Outcome, SourceFile, build};
 use run_program::ProgramFault;
 use std::rt::Files;
@@ -43,6 +45,21 @@ pub fn say_fault<R: Eprint>(rt: &R, path: &str, fault: ProgramFault) {
     let _ = eprintln!(rt; "{PROGRAM}: {path}: {words}");
 }
 
+/// Shows the refusals of a program, and says what it lacks: modules, or pages. The status.
+pub fn show_refused<R>(
+    rt: &R,
+    setting: &Setting,
+    program: &Program,
+    refusals: &[Refusal],
+) -> Result<u8>
+where
+    R: Print + Eprint + AllocGlobal + Threads + Sync,
+{
+    let status = show(rt, setting.style, program, refusals)?;
+    say_pages(rt, &program.files, setting.options, refusals);
+    Ok(status)
+}
+
 /// Finds and builds the program of this file. What is refused, and what failed, is reported: the status.
 pub fn build_program<R>(rt: &R, setting: &Setting, path: &str) -> Result<Words<Modules>>
 where
@@ -53,12 +70,9 @@ where
         Words::Reported(status) => return Ok(Words::Reported(status)),
     };
     match build(rt, rt.alloc(), &program.files, setting.options, &Open) {
-        Ok(Outcome::Refused(refusals)) => Ok(Words::Reported(show(
-            rt,
-            setting.style,
-            &program,
-            &refusals,
-        )?)),
+        Ok(Outcome::Refused(refusals)) => {
+            Ok(Words::Reported(show_refused(rt, setting, &program, &refusals)?))
+        }
         Ok(Outcome::Built { link, modules }) => Ok(Words::Read(Modules {
             files: program.files,
             link,

@@ -13,6 +13,7 @@ mod creating;
 mod explaining;
 mod finding;
 mod output;
+mod pages;
 mod passes;
 mod places;
 mod running;

@@ -2,11 +2,10 @@
 
 ghost use Rattle.std.specs.Prelude.{◌≡◌, ◌<◌, ◌^◌, ◌+◌};
 
-use crate::building::{Open, say_fault};
+use crate::building::{Open, say_fault, show_refused};
 use crate::finding::{Program as FoundProgram, find_program};
 use crate::output::say_output_fault;
 use crate::screen::Screen;
-use crate::showing::show;
 use anyhow::Result;
 use command_words::{FAILED, Words};
 use run_directory::end_word;
@@ -163,11 +162,11 @@ fn finish<R, P>(
     out: P,
 ) -> Result<u8>
 where
-    R: Print + Eprint + AllocGlobal,
+    R: Print + Eprint + AllocGlobal + Threads + Sync,
     P: Print + Drop,
 {
     match loaded {
-        Loaded::Refused(refusals) => show(rt, setting.style, found, &refusals),
+        Loaded::Refused(refusals) => show_refused(rt, setting, found, &refusals),
         Loaded::Ready(program) => {
             let mut screen = Screen::new(rt.alloc(), out)?;
             Ok(execute(rt, path, &program, steps, &mut screen))
