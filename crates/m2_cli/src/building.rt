@@ -5,8 +5,9 @@ use crate::pages::say_pages;
 use crate::showing::show;
 use anyhow::Result;
 use command_words::{FAILED, Words};
+use explain_types::side_words;
 use m2_tree::Refusal;
-use m2c::{Gate, Outcome, SourceFile, build};
+use m2c::{Gate, Options, Outcome, SourceFile, build};
 use run_program::ProgramFault;
 use std::rt::Files;
 use std::thread::Threads;
@@ -45,7 +46,27 @@ pub fn say_fault<R: Eprint>(rt: &R, path: &str, fault: ProgramFault) {
     let _ = eprintln!(rt; "{PROGRAM}: {path}: {words}");
 }
 
-/// Shows the refusals of a program, and says what it lacks: modules, or pages. The status.
+/// The most refusals of which it is said which types met there. For each the program is compiled several times.
+const MOST_SIDES: usize = 8;
+
+/// Says which types stand on both sides of refused operators and assignments.
+fn say_sides<R: Eprint + AllocGlobal + Threads + Sync>(
+    rt: &R,
+    files: &[SourceFile],
+    options: Options,
+    refusals: &[Refusal],
+) -> Result<()> {
+    for refusal in refusals.iter().take(MOST_SIDES) {
+        if let Some(words) = side_words(rt, files, options, refusal)? {
+            let file = &refusal.file;
+            let (line, col) = (refusal.pos.line, refusal.pos.col);
+            let _ = eprintln!(rt; "{PROGRAM}: {file}:{line}:{col}: {words}");
+        }
+    }
+    Ok(())
+}
+
+/// Shows the refusals of a program, and says what stands there and what it lacks: types, modules, or pages. The status.
 pub fn show_refused<R>(
     rt: &R,
     setting: &Setting,
@@ -56,6 +77,7 @@ where
     R: Print + Eprint + AllocGlobal + Threads + Sync,
 {
     let status = show(rt, setting.style, program, refusals)?;
+    say_sides(rt, &program.files, setting.options, refusals)?;
     say_pages(rt, &program.files, setting.options, refusals);
     Ok(status)
 }
