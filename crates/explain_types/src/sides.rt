@@ -33,6 +33,7 @@ fn bytes_between<'a>(text: &'a [u8], tokens: &[Token], from: usize, to: usize) -
 
 /// The left and the right side of an operator, by the numbers of tokens: the begin of the left one, the operator, and the end of
 /// the right one.
+#[derive(Clone, Copy)]
 struct Numbers {
     begin: usize,
     at: usize,

@@ -26,6 +26,7 @@ struct Changed {
 }
 
 /// A refused place whose sides are tried.
+#[derive(Drop)]
 pub struct Trial<'a> {
     /// The files of the program.
     pub files: &'a [SourceFile],
