@@ -266,25 +266,25 @@ pub ruleset lists = (links_nil, links_cons, components_nil, components_cons, giv
 
 pub asked_stays : (a : Around) (c : Option Asked) (xs : List Argument) (s : Stop) (st : Meant) (st' : State) → all_given_in a xs st ≡ stopped s st' → asked_in a c xs st ≡ stopped s st'
 unfolding asked_in
-asked_stays a c xs s st st' h = stays (all_given_in a xs st) s st' (λ vs st. asks_of a c vs (surroundings a).next (surroundings a).left st) h
+asked_stays a c xs s st st' h = stays (all_given_in a xs st) s st' (λ vs st. asks_of a c vs (surroundings a).next (surroundings a).free st) h
 
 pub asked_zero : (a : Around) (c : Option Asked) (xs : List Argument) (vs : List Sent) (st st' : Meant) → all_given_in a xs st ≡ Value vs st' → a.depth ≡ 0 → asked_in a c xs st ≡ StillRunning st'.out
 unfolding asked_in asks_of calling
-asked_zero a c xs vs st st' h e = ap (λ (r : Given (List Sent)). (r ▷ λ vs st. asks_of a c vs (surroundings a).next (surroundings a).left st)) h ∙ ap (λ (d : ℕ). calling (modules_of a.program.now) a.program.now.bound d c vs (surroundings a).next (surroundings a).left st') e
+asked_zero a c xs vs st st' h e = ap (λ (r : Given (List Sent)). (r ▷ λ vs st. asks_of a c vs (surroundings a).next (surroundings a).free st)) h ∙ ap (λ (d : ℕ). calling (modules_of a.program.now) a.program.now.bound d c vs (surroundings a).next (surroundings a).free st') e
 
 pub asked_none : (a : Around) (o : Option Callee) (xs : List Argument) (vs : List Sent) (d : ℕ) (st st' : Meant) → all_given_in a xs st ≡ Value vs st' → a.depth ≡ suc d → o ≡ None → asked_in a (option_map callee_of o) xs st ≡ Ended empty_procedure st'.out
 unfolding asked_in asks_of calling
 asked_none a o xs vs d st st' h e q =
-    ap (λ (r : Given (List Sent)). (r ▷ λ vs st. asks_of a (option_map callee_of o) vs (surroundings a).next (surroundings a).left st)) h
-    ∙ ap (λ (d : ℕ). calling (modules_of a.program.now) a.program.now.bound d (option_map callee_of o) vs (surroundings a).next (surroundings a).left st') e
-    ∙ ap (λ (x : Option Callee). calling (modules_of a.program.now) a.program.now.bound (suc d) (option_map callee_of x) vs (surroundings a).next (surroundings a).left st') q
+    ap (λ (r : Given (List Sent)). (r ▷ λ vs st. asks_of a (option_map callee_of o) vs (surroundings a).next (surroundings a).free st)) h
+    ∙ ap (λ (d : ℕ). calling (modules_of a.program.now) a.program.now.bound d (option_map callee_of o) vs (surroundings a).next (surroundings a).free st') e
+    ∙ ap (λ (x : Option Callee). calling (modules_of a.program.now) a.program.now.bound (suc d) (option_map callee_of x) vs (surroundings a).next (surroundings a).free st') q
 
 pub asked_some : (a : Around) (o : Option Callee) (c : Callee) (xs : List Argument) (vs : List Sent) (d : ℕ) (st st' : Meant) → all_given_in a xs st ≡ Value vs st' → a.depth ≡ suc d → o ≡ Some c
     → asked_in a (option_map callee_of o) xs st ≡ runs (modules_of a.program.now) a.program.now.bound (calling (modules_of a.program.now) a.program.now.bound d) (callee_of c) vs a.next a.left st'
 unfolding asked_in asks_of calling surroundings
 asked_some a o c xs vs d st st' h e q =
-    ap (λ (r : Given (List Sent)). (r ▷ λ vs st. asks_of a (option_map callee_of o) vs (surroundings a).next (surroundings a).left st)) h
-    ∙ ap (λ (d : ℕ). calling (modules_of a.program.now) a.program.now.bound d (option_map callee_of o) vs (surroundings a).next (surroundings a).left st') e
-    ∙ ap (λ (x : Option Callee). calling (modules_of a.program.now) a.program.now.bound (suc d) (option_map callee_of x) vs (surroundings a).next (surroundings a).left st') q
+    ap (λ (r : Given (List Sent)). (r ▷ λ vs st. asks_of a (option_map callee_of o) vs (surroundings a).next (surroundings a).free st)) h
+    ∙ ap (λ (d : ℕ). calling (modules_of a.program.now) a.program.now.bound d (option_map callee_of o) vs (surroundings a).next (surroundings a).free st') e
+    ∙ ap (λ (x : Option Callee). calling (modules_of a.program.now) a.program.now.bound (suc d) (option_map callee_of x) vs (surroundings a).next (surroundings a).free st') q
 
 pub ruleset asking = (asked_stays, asked_zero, asked_none, asked_some)
