@@ -13,14 +13,18 @@ struct Sort {
     test: &'static str,
 }
 
+const INTEGER: &str = "INTEGER";
+
+const CARDINAL: &str = "CARDINAL";
+
 /// The types that are tried, in this order.
 const SORTS: [Sort; 5] = [
     Sort {
-        name: "INTEGER",
+        name: INTEGER,
         test: "= MIN(INTEGER)",
     },
     Sort {
-        name: "CARDINAL",
+        name: CARDINAL,
         test: "= MIN(CARDINAL)",
     },
     Sort {
@@ -75,6 +79,17 @@ fn text_of<'a>(files: &'a [SourceFile], name: &str) -> Option<&'a [u8]> {
         .map(|it| it.bytes.as_slice())
 }
 
+/// What to do if these types meet, if that is known.
+fn advice(left: &str, right: &str) -> &'static str {
+    if left == INTEGER && right == CARDINAL {
+        "; VAL(INTEGER, x) takes x as an INTEGER"
+    } else if left == CARDINAL && right == INTEGER {
+        "; VAL(CARDINAL, x) takes x as a CARDINAL"
+    } else {
+        ""
+    }
+}
+
 /// Which types stand on both sides, if both are known.
 fn words_of<R: AllocGlobal + Threads + Sync>(
     rt: &R,
@@ -86,7 +101,10 @@ fn words_of<R: AllocGlobal + Threads + Sync>(
     let Some(right) = type_name(rt, trial, trial.sides.right)? else {
         return Ok(None);
     };
-    let words = format!(in rt.alloc(); "the left side is {left}, and the right side {right}")?;
+    let advice = advice(left, right);
+    let words = format!(in rt.alloc();
+        "the left side is {left}, and the right side {right}{advice}"
+    )?;
     Ok(Some(words))
 }
 
