@@ -129,7 +129,7 @@ fn check_body<S: Statements>(
     check_from(alloc, statements, &modules, scope, own, tree, block)
 }
 
-fn typed_program<S: Statements>(
+fn check_program<S: Statements>(
     alloc: Global,
     statements: &S,
     number: u32,
@@ -189,7 +189,7 @@ pub fn check_with<S: Statements>(
             check_implementation(alloc, statements, tree, own, tables, block)
         }
         Contents::Program(block) => {
-            typed_program(alloc, statements, number, tree, tables, block)
+            check_program(alloc, statements, number, tree, tables, block)
         }
     }
 }
