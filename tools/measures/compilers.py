@@ -36,8 +36,8 @@ cardinal words{k}(char *text, cardinal high, summary *sum)
     sum->letters = 0; sum->digits = 0; sum->others = 0;
     for (at = 0; at <= high; at++) {{
       switch (text[at]) {{
-        case 'a': case 'z': case 'A': case 'Z': sum->letters++; if (!inside) words++; inside = 1; break;
-        case '0': case '9': sum->digits++; inside = 1; break;
+        case 'a' ... 'z': case 'A' ... 'Z': sum->letters++; if (!inside) words++; inside = 1; break;
+        case '0' ... '9': sum->digits++; inside = 1; break;
         case ' ': case ',': case '.': sum->others++; inside = 0; break;
         default: inside = 0;
       }}
