@@ -52,3 +52,6 @@ pub mod FewLocals
 pub mod FunctionBytes
 pub mod BodyModules
 pub mod NestedProcedures
+pub mod KeptImports
+pub mod ProcedureLevels
+pub mod ValidNumbers

@@ -14,3 +14,5 @@ pub mod CodeNumbers
 pub mod Fits
 pub mod OutwardMeant
 pub mod ProcedureNesting
+pub mod ProcedureLevels
+pub mod ValidNumbers

@@ -18,6 +18,7 @@
 //!   so that it has an encoding, and how much of it holds. `CodeFits`, `EncodedBytes`, `FunctionsFit` and `BodyModules` have the
 //!   conditions, `ShortCode` to `FunctionBytes` the bytes of code, `OutwardTyped` to `OutwardBlocks` follow the checker.
 //! - `specs/ProcedureNesting` says how deep procedures nest, with the induction over the grammar in `proofs/NestedProcedures`.
+//!   `specs/ProcedureLevels` says how deep they stand in a module, and `proofs/ProcedureLevels` has the induction over blocks.
 //! - `proofs/Blocks` has the bodies of procedures, with the induction over blocks, and whole modules, and `proofs/Bounded` the
 //!   bound of all texts.
 #![tactic(auto)]
@@ -25,7 +26,9 @@
 ghost use Rattle.law_encoding.specs.Small.{TreesAreSmall, TextsAreSmall, ExpressionsAreSmall, DesignatorsAreSmall, StatementsAreSmall, ModulesAreSmall, BodiesAreSmall, LocalsAreFew, TableCallsAreFew};
 ghost use Rattle.law_encoding.specs.Short.{CodeIsShort, FunctionsAreShort, ExpressionsAreNear, StatementsAreNear, RoutinesAreNear};
 ghost use Rattle.law_encoding.specs.Fits.{CodeFits, EncodingsAreShort, BodiesFit, ModulesFit, BodyModulesFit, FunctionsHaveFewLocals, LocalsFit, SizesFit};
+ghost use Rattle.law_encoding.specs.ValidNumbers.{ValidNumbersFit};
 ghost use Rattle.law_encoding.specs.ProcedureNesting.{ProceduresAreShallow};
+ghost use Rattle.law_encoding.specs.ProcedureLevels.{LevelsAreLow, AcceptedAreNear};
 ghost use Rattle.law_encoding.specs.Nested.{TreesAreShallow, ModulesAreShallow, CodeIsShallow, FunctionsAreShallow, LinkIsFlat, AcceptedAreShallow};
 ghost use Rattle.check_scope.specs.Elaborated.{least, every};
 
@@ -76,6 +79,17 @@ pub fn procedure_nesting_laws()
     ensures { ProceduresAreShallow }
 {}
 
+/// Procedures stand no deeper in a module that the checker accepts than they nest in its tree.
+pub fn procedure_level_laws()
+    // That holds if the least broken rule is kept,
+    ensures least { LevelsAreLow least }
+    // and if all of them are.
+    ensures every { LevelsAreLow every }
+    // So the bodies of what is parsed and accepted go at most 200 procedures outwards.
+    ensures least_near { AcceptedAreNear least }
+    ensures every_near { AcceptedAreNear every }
+{}
+
 /// The bodies of a module that the checker accepts nest no deeper than its tree.
 pub fn module_nesting_laws()
     // That holds if the least broken rule is kept,
@@ -123,6 +137,12 @@ pub fn code_fit_laws()
     // fewer than there may be, in each module of a text that is parsed and accepted.
     ensures least_locals { LocalsFit least }
     ensures every_locals { LocalsFit every }
+{}
+
+/// The numbers of code fit.
+pub fn code_number_laws()
+    // In valid code only constants can be too large.
+    ensures valid { ValidNumbersFit }
 {}
 
 /// What the checker makes goes outwards no further than its procedure stands deep.
