@@ -31,7 +31,7 @@ use Rattle.law_encoding.proofs.FunctionsFit.{within_levels, ended_short, module_
 -- ---- the types of the functions
 
 -- each function takes eleven bytes at least
-eleven : (fs : List Function) → 11 * length fs ≤ sum_of function_bytes fs
+pub eleven : (fs : List Function) → 11 * length fs ≤ sum_of function_bytes fs
 eleven [] = none where
   none : 11 * 0 ≤ 0
   none = omega arith

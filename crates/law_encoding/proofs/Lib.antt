@@ -55,3 +55,7 @@ pub mod NestedProcedures
 pub mod KeptImports
 pub mod ProcedureLevels
 pub mod ValidNumbers
+pub mod Sections
+pub mod ListedTypes
+pub mod FewTypes
+pub mod ModuleNumbers

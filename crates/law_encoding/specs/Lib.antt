@@ -16,3 +16,5 @@ pub mod OutwardMeant
 pub mod ProcedureNesting
 pub mod ProcedureLevels
 pub mod ValidNumbers
+pub mod FunctionTypes
+pub mod ModuleNumbers

@@ -27,6 +27,8 @@ ghost use Rattle.law_encoding.specs.Small.{TreesAreSmall, TextsAreSmall, Express
 ghost use Rattle.law_encoding.specs.Short.{CodeIsShort, FunctionsAreShort, ExpressionsAreNear, StatementsAreNear, RoutinesAreNear};
 ghost use Rattle.law_encoding.specs.Fits.{CodeFits, EncodingsAreShort, BodiesFit, ModulesFit, BodyModulesFit, FunctionsHaveFewLocals, LocalsFit, SizesFit};
 ghost use Rattle.law_encoding.specs.ValidNumbers.{ValidNumbersFit};
+ghost use Rattle.law_encoding.specs.ModuleNumbers.{IndexesFit};
+ghost use Rattle.law_encoding.specs.FunctionTypes.{ListedAreFew, FewTypesFit};
 ghost use Rattle.law_encoding.specs.ProcedureNesting.{ProceduresAreShallow};
 ghost use Rattle.law_encoding.specs.ProcedureLevels.{LevelsAreLow, AcceptedAreNear};
 ghost use Rattle.law_encoding.specs.Nested.{TreesAreShallow, ModulesAreShallow, CodeIsShallow, FunctionsAreShallow, LinkIsFlat, AcceptedAreShallow};
@@ -143,6 +145,16 @@ pub fn code_fit_laws()
 pub fn code_number_laws()
     // In valid code only constants can be too large.
     ensures valid { ValidNumbersFit }
+    // So the indexes in a module with few parts fit.
+    ensures indexes { IndexesFit }
+{}
+
+/// The types of functions fit.
+pub fn function_type_laws()
+    // Each type is listed once,
+    ensures listed { ListedAreFew }
+    // and few types have an encoding.
+    ensures fit { FewTypesFit }
 {}
 
 /// What the checker makes goes outwards no further than its procedure stands deep.

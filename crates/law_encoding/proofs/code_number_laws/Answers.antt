@@ -1,5 +1,9 @@
 use Rattle.law_encoding.proofs.ValidNumbers.{code_fits}
+use Rattle.law_encoding.proofs.ModuleNumbers.{module_uses, module_numbers}
 use Rattle.law_encoding.proofs.code_number_laws.Goals as goal
 
-pub returns : goal.returns
-returns c = λ context code before after v few l e. code_fits context code before after v few l e
+pub returns-clause-valid : goal.returns-clause-valid
+returns-clause-valid c = λ context code before after v few l e. code_fits context code before after v few l e
+
+pub returns-clause-indexes : goal.returns-clause-indexes
+returns-clause-indexes c = λ m formed p. (module_uses m formed p, λ e. module_numbers m formed p e)
