@@ -59,3 +59,5 @@ pub mod Sections
 pub mod ListedTypes
 pub mod FewTypes
 pub mod ModuleNumbers
+pub mod TypesOfCalls
+pub mod NeededTypes

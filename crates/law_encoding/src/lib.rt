@@ -28,7 +28,7 @@ ghost use Rattle.law_encoding.specs.Short.{CodeIsShort, FunctionsAreShort, Expre
 ghost use Rattle.law_encoding.specs.Fits.{CodeFits, EncodingsAreShort, BodiesFit, ModulesFit, BodyModulesFit, FunctionsHaveFewLocals, LocalsFit, SizesFit};
 ghost use Rattle.law_encoding.specs.ValidNumbers.{ValidNumbersFit};
 ghost use Rattle.law_encoding.specs.ModuleNumbers.{IndexesFit};
-ghost use Rattle.law_encoding.specs.FunctionTypes.{ListedAreFew, FewTypesFit};
+ghost use Rattle.law_encoding.specs.FunctionTypes.{ListedAreFew, FewTypesFit, TypesAreFew};
 ghost use Rattle.law_encoding.specs.ProcedureNesting.{ProceduresAreShallow};
 ghost use Rattle.law_encoding.specs.ProcedureLevels.{LevelsAreLow, AcceptedAreNear};
 ghost use Rattle.law_encoding.specs.Nested.{TreesAreShallow, ModulesAreShallow, CodeIsShallow, FunctionsAreShallow, LinkIsFlat, AcceptedAreShallow};
@@ -155,6 +155,8 @@ pub fn function_type_laws()
     ensures listed { ListedAreFew }
     // and few types have an encoding.
     ensures fit { FewTypesFit }
+    // A well formed module needs few types.
+    ensures few { TypesAreFew }
 {}
 
 /// What the checker makes goes outwards no further than its procedure stands deep.
