@@ -1,8 +1,10 @@
 -- Two meanings that end alike, in a state whose procedure variables hold procedures.
 use Rattle.std.proofs.Common.{◌≡◌, ℕ, ℤ, nat_lt, Bool, true, false, List, Option, Some, None, if◌then◌else◌, refl, sym, subst}
 use Rattle.typed_tree.specs.declared.shape.Scalar.{Scalar as Range}
-use Rattle.def_meaning.specs.Answer.{State, Answer, Gave, Ended, Running, then_give, Outcome, Went, Left, Came, Stopped, Unfinished, then_go, with_answer}
-use Rattle.def_meaning.specs.Around.{Modules}
+use Rattle.def_meaning.specs.Answer.{State, Answer, Value, then_give}
+use Rattle.def_meaning.specs.Answer as answer
+use Rattle.def_meaning.specs.Outcome.{Outcome, Normal, Exited, Returned, Ended, StillRunning, then_go, with_answer}
+use Rattle.def_meaning.specs.Environment.{Modules}
 use Rattle.def_meaning.specs.Operators.{is_between}
 use Rattle.def_meaning.specs.Expressions.{within, within_range}
 use Rattle.law_nothing_missing.specs.Worlds.{World}
@@ -18,17 +20,17 @@ IsEnd k = nat_lt k 10 ≡ true
 
 -- the same answer, and what it gives is good
 pub data Same (p : Modules) (world : World) {A : Type 0} (G : A → Type 0) : Answer A → Answer A → Type 0 where
-  gives : (x : A) (st : State) → IsFine p world st.store → G x → Same p world G (Gave x st) (Gave x st)
-  ends : (k : ℕ) (out : List ℕ) → IsEnd k → Same p world G (Ended k out) (Ended k out)
-  still : (out : List ℕ) → Same p world G (Running out) (Running out)
+  gives : (x : A) (st : State) → IsFine p world st.store → G x → Same p world G (Value x st) (Value x st)
+  ends : (k : ℕ) (out : List ℕ) → IsEnd k → Same p world G (answer.Ended k out) (answer.Ended k out)
+  still : (out : List ℕ) → Same p world G (answer.StillRunning out) (answer.StillRunning out)
 
 -- the same outcome: EXIT comes from within a LOOP, and what is returned is good
 pub data SameEnd (p : Modules) (world : World) (looped : Bool) (G : ℤ → Type 0) : Outcome → Outcome → Type 0 where
-  goes : (st : State) → IsFine p world st.store → SameEnd p world looped G (Went st) (Went st)
-  leaves : (st : State) → IsFine p world st.store → looped ≡ true → SameEnd p world looped G (Left st) (Left st)
-  returns : (v : ℤ) (st : State) → IsFine p world st.store → G v → SameEnd p world looped G (Came v st) (Came v st)
-  stops : (k : ℕ) (out : List ℕ) → IsEnd k → SameEnd p world looped G (Stopped k out) (Stopped k out)
-  unfinished : (out : List ℕ) → SameEnd p world looped G (Unfinished out) (Unfinished out)
+  goes : (st : State) → IsFine p world st.store → SameEnd p world looped G (Normal st) (Normal st)
+  leaves : (st : State) → IsFine p world st.store → looped ≡ true → SameEnd p world looped G (Exited st) (Exited st)
+  returns : (v : ℤ) (st : State) → IsFine p world st.store → G v → SameEnd p world looped G (Returned v st) (Returned v st)
+  stops : (k : ℕ) (out : List ℕ) → IsEnd k → SameEnd p world looped G (Ended k out) (Ended k out)
+  unfinished : (out : List ℕ) → SameEnd p world looped G (StillRunning out) (StillRunning out)
 
 module _ (p : Modules) (world : World) where
   pub same_is : {A : Type 0} {G : A → Type 0} {x y : Answer A} → Same p world G x y → x ≡ y

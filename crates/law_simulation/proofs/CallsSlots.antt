@@ -17,8 +17,9 @@ use Rattle.layout_storage.specs.Types.{Ty, Hidden, Array, row, component}
 use Rattle.layout_storage.specs.Sizes.{Four, size, offset}
 use Rattle.layout_storage.specs.Shapes.{tree, elements_of}
 use Rattle.def_meaning.specs.Store.{Location}
-use Rattle.def_meaning.specs.Answer.{State as Source, Answer, Gave, then_give}
-use Rattle.def_meaning.specs.Around.{Named, At, Elements, Frames, named, or_empty, location_of, high_of}
+use Rattle.def_meaning.specs.Answer.{State as Source, Answer, then_give}
+use Rattle.def_meaning.specs.Answer as answer
+use Rattle.def_meaning.specs.Environment.{Named, At, Elements, Frames, named, or_empty, location_of, high_of}
 use Rattle.def_meaning.specs.Expressions.{Gives, element}
 use Rattle.law_memory.specs.Cells.{stored_in}
 use Rattle.law_memory.specs.Relation.{Keeps}
@@ -191,7 +192,7 @@ module _ (k : Scene) (set : IsSet k) (kss : List Kinds) (has : HasFrames k kss) 
   abbrev name_here : Option Named
   name_here = named k.around slot
 
-  pub kept_locates : (t : Ty) → kind_at kss slot ≡ Some (Kept t) → Locates k t (with_setting (λ s. plain (slot_code s slot []))) (λ a s. Gave (location_of (named a slot)) s)
+  pub kept_locates : (t : Ty) → kind_at kss slot ≡ Some (Kept t) → Locates k t (with_setting (λ s. plain (slot_code s slot []))) (λ a s. answer.Value (location_of (named a slot)) s)
   unfolding component
   kept_locates t there = record {
     grows = λ e c. grows_same c;
@@ -213,7 +214,7 @@ module _ (k : Scene) (set : IsSet k) (kss : List Kinds) (has : HasFrames k kss) 
       let f = here k set kss has slot (Alias t) there in
       subst (λ (o : Option Named). IsAlias k.world k.hidden f.root slot.number t (location_of o)) (sym f.named) (alias_is k.world k.hidden f.root slot.number t f.name f.is)
 
-  pub alias_locates : (t : Ty) → kind_at kss slot ≡ Some (Alias t) → Locates k t (with_setting (λ s. plain (kept_address s slot []))) (λ a s. Gave (location_of (named a slot)) s)
+  pub alias_locates : (t : Ty) → kind_at kss slot ≡ Some (Alias t) → Locates k t (with_setting (λ s. plain (kept_address s slot []))) (λ a s. answer.Value (location_of (named a slot)) s)
   unfolding component
   alias_locates t there = record {
     grows = λ e c. grows_same c;
@@ -237,7 +238,7 @@ module _ (k : Scene) (set : IsSet k) (kss : List Kinds) (has : HasFrames k kss) 
   abbrev pub open_type : Ty → Ty
   open_type t = Array (suc (high_of name_here)) t
 
-  pub open_locates : (t : Ty) → kind_at kss slot ≡ Some (Open t) → Locates k (open_type t) (with_setting (λ s. plain (open_address s slot))) (λ a s. Gave (location_of (named a slot)) s)
+  pub open_locates : (t : Ty) → kind_at kss slot ≡ Some (Open t) → Locates k (open_type t) (with_setting (λ s. plain (open_address s slot))) (λ a s. answer.Value (location_of (named a slot)) s)
   unfolding component
   open_locates t there = record {
     grows = λ e c. grows_same c;
@@ -261,7 +262,7 @@ module _ (k : Scene) (set : IsSet k) (kss : List Kinds) (has : HasFrames k kss) 
   pub high_small : (t : Ty) → kind_at kss slot ≡ Some (Open t) → high_of name_here < 2 ^ 32
   high_small t there = (array_here t there).2
 
-  pub high_agrees : (t : Ty) → kind_at kss slot ≡ Some (Open t) → Agrees k cardinal (with_setting (λ s. plain (high_code s slot))) (λ a s. Gave (pos (high_of (named a slot))) s)
+  pub high_agrees : (t : Ty) → kind_at kss slot ≡ Some (Open t) → Agrees k cardinal (with_setting (λ s. plain (high_code s slot))) (λ a s. answer.Value (pos (high_of (named a slot))) s)
   high_agrees t there = record {
     grows = λ e c. grows_same c;
     gives = λ e c free full s st h rest stack.

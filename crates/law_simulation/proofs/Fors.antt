@@ -17,7 +17,10 @@ use Rattle.typed_tree.specs.declared.known_types.Types.{Types}
 use Rattle.typed_tree.specs.Known.{scalar_at}
 use Rattle.layout_storage.specs.Types.{Scalar, Cell, row, component}
 use Rattle.def_meaning.specs.Store.{Location}
-use Rattle.def_meaning.specs.Answer.{State as Source, Answer, Gave, Ended, Running, Outcome, Went, Left, Came, Stopped, Unfinished, then_go, with_answer}
+use Rattle.def_meaning.specs.Answer.{State as Source, Answer}
+use Rattle.def_meaning.specs.Answer as answer
+use Rattle.def_meaning.specs.Outcome.{Outcome, Normal, Exited, Returned, Ended, then_go, with_answer}
+use Rattle.def_meaning.specs.Outcome as outcome
 use Rattle.def_meaning.specs.Expressions.{Gives, as_type}
 use Rattle.def_meaning.specs.Statements.{Does, has_passed, for_turns, for_all, stored as stores}
 use Rattle.def_scheme.specs.Coded.{Coded, Counts, Setting, plain, ◌⨾◌, within, with_number, with_setting, number_local, number, operation, relation}
@@ -122,21 +125,21 @@ module _ (k : Scene) (has : HasHelpers k) (small : AreSmall k.setting.home.types
     all_turns j = for_turns j (as_type k.setting.home.types t) l by limit (step k.around)
 
     abbrev after_body : ℕ → Source → Outcome
-    after_body j s = if has_passed by limit (s.store l +ℤ by) then Went s else with_answer (as_type k.setting.home.types t (s.store l +ℤ by) s) (λ v s. all_turns j (stores l v s))
+    after_body j s = if has_passed by limit (s.store l +ℤ by) then Normal s else with_answer (as_type k.setting.home.types t (s.store l +ℤ by) s) (λ v s. all_turns j (stores l v s))
 
     body_for : (j : ℕ) (r : Effect) (o : Outcome) (next : Source → Outcome) → Ends k function (suc (suc label)) stack (λ st. runs k (turn_code list) st stack) r o
         → ((s : Source) (st : Target) → Stands k s st → Turns (turned j (runs k (turn_code list) st stack)) (next s)) → Turns (turned j r) (then_go o next)
-    body_for j r (Went s) next p h = subst (λ (e : Effect). Turns (turned j e) (next s)) (sym p.run) (h s p.st p.stands)
-    body_for j r (Left s) next p h = record { st = p.st; stands = p.stands; run = ap (turned j) p.run }
-    body_for j r (Came v s) next p h = record { below = p.below; st = p.st; stands = p.stands; run = ap (turned j) p.run }
-    body_for j r (Stopped i out) next p h = ap (turned j) p
-    body_for j r (Unfinished out) next p h = ap (turned j) p
+    body_for j r (Normal s) next p h = subst (λ (e : Effect). Turns (turned j e) (next s)) (sym p.run) (h s p.st p.stands)
+    body_for j r (Exited s) next p h = record { st = p.st; stands = p.stands; run = ap (turned j) p.run }
+    body_for j r (Returned v s) next p h = record { below = p.below; st = p.st; stands = p.stands; run = ap (turned j) p.run }
+    body_for j r (Ended i out) next p h = ap (turned j) p
+    body_for j r (outcome.StillRunning out) next p h = ap (turned j) p
 
     value_for : (j : ℕ) (operands : List Value) (go : Effects) (r : Effect) (a : Answer ℤ) (next : ℤ → Source → Outcome) → Into (GivesNumber k t go operands) r a
         → ((v : ℤ) → IsValue k.setting.home.types t v → (s : Source) (st : Target) → Stands k s st → Turns (turned j (go st (operands ++ I64 (word v) ∷ []))) (next v s)) → Turns (turned j r) (with_answer a next)
-    value_for j operands go r (Gave v s) next p h = subst (λ (e : Effect). Turns (turned j e) (next v s)) (sym p.run) (h v p.is s p.st p.stands)
-    value_for j operands go r (Ended i out) next p h = ap (turned j) p
-    value_for j operands go r (Running out) next p h = ap (turned j) p
+    value_for j operands go r (answer.Value v s) next p h = subst (λ (e : Effect). Turns (turned j e) (next v s)) (sym p.run) (h v p.is s p.st p.stands)
+    value_for j operands go r (answer.Ended i out) next p h = ap (turned j) p
+    value_for j operands go r (answer.StillRunning out) next p h = ap (turned j) p
 
     abbrev Later : ℕ → Type 0
     Later j = (s : Source) (st : Target) → Stands k s st → Turns (turns j (runs k code) st stack) (all_turns j s)
@@ -160,7 +163,7 @@ module _ (k : Scene) (has : HasHelpers k) (small : AreSmall k.setting.home.types
         subst (λ (r : Effect). Turns (turned j r) (after_body j s)) (sym path) (either p.st p.stands (has_passed by limit (s.store l +ℤ by)))
       where
         either : (st : Target) → Stands k s st → (b : Bool)
-            → Turns (turned j (then_run (if truth b == 0 then FellThrough st stack else Branched 1 st stack) (runs k (next_code list)))) (if b then Went s else with_answer (as_type k.setting.home.types t (s.store l +ℤ by) s) (λ v s. all_turns j (stores l v s)))
+            → Turns (turned j (then_run (if truth b == 0 then FellThrough st stack else Branched 1 st stack) (runs k (next_code list)))) (if b then Normal s else with_answer (as_type k.setting.home.types t (s.store l +ℤ by) s) (λ v s. all_turns j (stores l v s)))
         either st h true = record { st = st; stands = h; run = refl }
         either st h false = on_goes j later s st h
 
@@ -190,7 +193,7 @@ module _ (k : Scene) (has : HasHelpers k) (small : AreSmall k.setting.home.types
       where
         either : (st : Target) → Stands k s st → (b : Bool)
             → Ends k function label stack (λ st. runs k rest st stack) (then_run (out_of 0 (length stack) (then_run (if truth b == 0 then FellThrough st stack else Branched 0 st stack) (runs k (instr.Loop None code ∷ [])))) (runs k rest))
-            (if b then Went s else all_turns k.turns s)
+            (if b then Normal s else all_turns k.turns s)
         either st h true = record { st = st; stands = h; run = ap (λ (e : Effect). then_run e (runs k rest)) (label_here st stack FellThrough) }
         either st h false =
             subst (λ (r : Effect). Ends k function label stack (λ st. runs k rest st stack) r (all_turns k.turns s)) (sym (ap (λ (r : Effect). then_run (out_of 0 (length stack) r) (runs k rest)) (loop_runs k.modules k.fixed k.turns (calls k) k.own [] st None code stack)))

@@ -14,7 +14,8 @@ use Rattle.law_effect.specs.Effect.{State as Target, Effect, FellThrough, Branch
 use Rattle.law_effect.proofs.Steps.{get_runs, i64_runs, br_if_runs, br_table_runs}
 use Rattle.typed_tree.specs.declared.statement.Label.{Label}
 use Rattle.typed_tree.specs.declared.types.TypeNo.{TypeNo}
-use Rattle.def_meaning.specs.Answer.{State as Source, with_answer}
+use Rattle.def_meaning.specs.Answer.{State as Source}
+use Rattle.def_meaning.specs.Outcome.{with_answer}
 use Rattle.def_meaning.specs.Operators.{is_between}
 use Rattle.def_meaning.specs.Expressions.{Gives}
 use Rattle.def_meaning.specs.Statements as meaning

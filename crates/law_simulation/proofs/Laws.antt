@@ -11,9 +11,10 @@ use Rattle.wasm_tree.specs.declared.store.Value.TheVariants.{I32, I64}
 use Rattle.typed_tree.specs.declared.types.TypeNo.{TypeNo}
 use Rattle.typed_tree.specs.declared.known_types.Types.{Types}
 use Rattle.typed_tree.specs.Types.{are_same, integer, cardinal, boolean, char, bitset}
-use Rattle.def_meaning.specs.Answer.{State as Source, Answer, Gave, Went, then_give, with_answer, range_fault, overflow}
+use Rattle.def_meaning.specs.Answer.{State as Source, Answer, Value, then_give, range_fault, overflow}
+use Rattle.def_meaning.specs.Outcome.{Normal, with_answer}
 use Rattle.def_meaning.specs.Expressions.{Gives, Continues, Reaches as Reached, root_layer, component_layer, element_in, index_range, one_by_one, within, within_range, divided, ordinal, as_type, in_base, link_layer}
-use Rattle.def_meaning.specs.Around.{Around, module_place}
+use Rattle.def_meaning.specs.Environment.{Environment, module_place}
 use Rattle.def_meaning.specs.Store.{Location}
 use Rattle.def_meaning.specs.Operators.{truth, compared, is_true, absolute, capital, odd, quotient, remainder, bits, without, combined, has}
 use Rattle.def_meaning.specs.Statements.{Does, changed, rechecked, for_all, chosen, stored}
@@ -100,24 +101,24 @@ disjunctions k set p ask y value ha = or_goes k set.helpers set.small y.code val
 pub relations : Relations
 relations k set p ask o x y first second hx hy =
     let list : List Instr = relation (relation_of o) ∷ extended ∷ [] in
-    let both : ℤ → ℤ → Around → Source → Answer ℤ = λ v w a s. Gave (truth (compared o v w)) s in
+    let both : ℤ → ℤ → Environment → Source → Answer ℤ = λ v w a s. Value (truth (compared o v w)) s in
     then_agrees k x.of boolean x.code (y.code ⨾ plain list) first (λ v a s. then_give (second a s) (λ w s. both v w a s)) hx
     (second_goes k set.helpers set.small x.of y.of boolean y.code (plain list) list second both hy (λ e c. refl) (compare_makes k set.helpers set.small x.of y.of o))
 
 pub combinations : Combinations
 combinations k set p ask o y value ha =
-    second_goes k set.helpers set.small bitset bitset bitset y.code (plain (set_code o)) (set_code o) value (λ x u a s. Gave (combined o x u) s) ha (λ e c. refl) (combine_makes k set.helpers set.small o)
+    second_goes k set.helpers set.small bitset bitset bitset y.code (plain (set_code o)) (set_code o) value (λ x u a s. Value (combined o x u) s) ha (λ e c. refl) (combine_makes k set.helpers set.small o)
 
 pub inclusions : Inclusions
 inclusions k set p ask inclusion.Within x y first second hx hy =
     let list : List Instr = complement ++ (operation And ∷ empty_code) in
-    let both : ℤ → ℤ → Around → Source → Answer ℤ = λ v w a s. Gave (truth (without (bits v) (bits w) == 0)) s in
+    let both : ℤ → ℤ → Environment → Source → Answer ℤ = λ v w a s. Value (truth (without (bits v) (bits w) == 0)) s in
     then_agrees k bitset boolean x.code (y.code ⨾ plain list) first (λ v a s. then_give (second a s) (λ w s. both v w a s)) hx
     (second_goes k set.helpers set.small bitset bitset boolean y.code (plain list) list second both hy (λ e c. refl) (within_makes k set.helpers set.small))
 inclusions k set p ask inclusion.Around x y first second hx hy =
     let list : List Instr = operation And ∷ empty_code in
-    let rest_of : ℤ → Gives ℤ = λ v a s. Gave (pos (bit_xor (bits v) 4294967295)) s in
-    let both : ℤ → ℤ → Around → Source → Answer ℤ = λ v w a s. Gave (truth (bit_and (bits w) (bits v) == 0)) s in
+    let rest_of : ℤ → Gives ℤ = λ v a s. Value (pos (bit_xor (bits v) 4294967295)) s in
+    let both : ℤ → ℤ → Environment → Source → Answer ℤ = λ v w a s. Value (truth (bit_and (bits w) (bits v) == 0)) s in
     then_agrees k bitset boolean x.code (plain complement ⨾ y.code ⨾ plain list) first (λ v a s. then_give (rest_of v a s) (λ v s. then_give (second a s) (λ w s. both v w a s))) hx
     (then_goes k bitset bitset boolean (plain complement) (y.code ⨾ plain list) rest_of (λ v a s. then_give (second a s) (λ w s. both v w a s))
     (plain_goes k bitset bitset (plain complement) complement rest_of (λ e c. refl) (complement_goes k set.helpers set.small))
@@ -126,12 +127,12 @@ inclusions k set p ask inclusion.Around x y first second hx hy =
 pub members : Members
 members k set p ask x y first second hx hy beside =
     then_agrees k x.of boolean x.code (has_code k set.helpers set.small y.code second hy beside) first
-    (λ x a s. then_give (within (pos 0) (pos 31) range_fault x s) (λ x s. then_give (second a s) (λ y s. Gave (truth (has y x)) s))) hx
+    (λ x a s. then_give (within (pos 0) (pos 31) range_fault x s) (λ x s. then_give (second a s) (λ y s. Value (truth (has y x)) s))) hx
     (in_goes k set.helpers set.small y.code second hy beside x.of)
 
 pub negations : Negations
 negations k set p ask x value hx =
-    let opposite : ℤ → Gives ℤ = λ v a s. Gave (truth (not (is_true v))) s in
+    let opposite : ℤ → Gives ℤ = λ v a s. Value (truth (not (is_true v))) s in
     then_agrees k boolean boolean x.code (plain empty_code) value opposite hx (plain_goes k boolean boolean (plain empty_code) empty_code opposite (λ e c. refl) (not_goes k set.helpers set.small))
 
 agrees_alike : (k : Scene) (t : TypeNo) (code : Coded) (f g : Gives ℤ) → ((s : Source) → f k.around s ≡ g k.around s) → Agrees k t code f → Agrees k t code g
@@ -147,8 +148,8 @@ pub opposites : Opposites
 opposites k set p ask x value hx =
     let types : Types = k.setting.home.types in
     let after : Coded = with_setting (λ s. plain (operation Sub ∷ in_type s.home.types integer 2)) in
-    let opposite : ℤ → ℤ → Around → Source → Answer ℤ = λ v w a s. within_range (scalar_at types integer) overflow (v -ℤ w) s in
-    then_agrees k boolean integer (plain (number (pos 0) ∷ [])) (x.code ⨾ after) (λ a s. Gave (pos 0) s) (λ v a s. then_give (value a s) (λ w s. opposite v w a s))
+    let opposite : ℤ → ℤ → Environment → Source → Answer ℤ = λ v w a s. within_range (scalar_at types integer) overflow (v -ℤ w) s in
+    then_agrees k boolean integer (plain (number (pos 0) ∷ [])) (x.code ⨾ after) (λ a s. Value (pos 0) s) (λ v a s. then_give (value a s) (λ w s. opposite v w a s))
     (constant_agrees k set.helpers set.small boolean (pos 0) (omega (arith, ints), omega (arith, ints)))
     (second_goes k set.helpers set.small boolean x.of integer x.code after (operation Sub ∷ in_type types integer 2) value opposite hx (λ e c. refl) (difference_goes k set.helpers set.small boolean x.of integer (λ e. cc e)))
 
@@ -165,7 +166,7 @@ absolutes k set p ask t x value hx among natural =
     by false e = stays_agrees k set.helpers set.small t (natural e) x.code value here
 
 pub capitals : Capitals
-capitals k set p ask x value hx = then_agrees k char char x.code (with_number (λ n. plain (capital_code n))) value (λ v a s. Gave (capital v) s) hx (number_goes k char char capital_code (λ v a s. Gave (capital v) s) (capital_goes k set.helpers set.small))
+capitals k set p ask x value hx = then_agrees k char char x.code (with_number (λ n. plain (capital_code n))) value (λ v a s. Value (capital v) s) hx (number_goes k char char capital_code (λ v a s. Value (capital v) s) (capital_goes k set.helpers set.small))
 
 -- what is made of a value by code without locals
 plainly_agrees : (k : Scene) (t u : TypeNo) (x after : Coded) (list : List Instr) (value : Gives ℤ) (next : ℤ → Gives ℤ) → Agrees k t x value → IsPlain k after list → Goes k t u list (λ v s. next v k.around s) → Agrees k u (x ⨾ after) (λ a s. then_give (value a s) (λ v s. next v a s))
@@ -176,7 +177,7 @@ characters k set p ask x value hx = plainly_agrees k x.of char x.code (plain (ch
 
 pub parities : Parities
 parities k set p ask x value hx =
-    plainly_agrees k x.of boolean x.code (plain (instr.I64Const 1 ∷ operation And ∷ [])) (instr.I64Const 1 ∷ operation And ∷ []) value (λ v a s. Gave (truth (odd v)) s) hx (λ e c. refl) (odd_goes k set.helpers set.small x.of)
+    plainly_agrees k x.of boolean x.code (plain (instr.I64Const 1 ∷ operation And ∷ [])) (instr.I64Const 1 ∷ operation And ∷ []) value (λ v a s. Value (truth (odd v)) s) hx (λ e c. refl) (odd_goes k set.helpers set.small x.of)
 
 pub ordinals : Ordinals
 ordinals k set p ask x value hx among natural =
@@ -220,7 +221,7 @@ elements k set p ask t r u i value range array hi =
     }
 
 pub designators : Designators
-designators k p ask r t u cs rs hr hs = root_then k t u (root_code r) (all_coded cs) (λ a s. Gave (root_layer p ask r a) s) (one_by_one rs) hr (all_reach k t u cs rs hs)
+designators k p ask r t u cs rs hr hs = root_then k t u (root_code r) (all_coded cs) (λ a s. Value (root_layer p ask r a) s) (one_by_one rs) hr (all_reach k t u cs rs hs)
 
 pub loads : Loads
 loads k set p ask t c d found cell hd = load_agrees k set.helpers set.small set.room t c d (with_setting (λ s. plain (cells.loaded s.home.types t))) found cell hd (λ e counts. refl)
@@ -237,7 +238,7 @@ executes_alike k function code f g same h = record {
 
 pub changes : Changes
 changes k set function o t c d x found value cell some based hd hx beside =
-    let here : Types → Does = λ types a s. with_answer (found a s) (λ l s. with_answer (value a s) (λ y s. with_answer (rechecked types t (changed o (s.store l) y) s) (λ v s. Went (stored l v s)))) in
+    let here : Types → Does = λ types a s. with_answer (found a s) (λ l s. with_answer (value a s) (λ y s. with_answer (rechecked types t (changed o (s.store l) y) s) (λ v s. Normal (stored l v s)))) in
     executes_alike k function (change_code o d t x.code) (here k.setting.home.types) (λ a s. here a.types a s) (λ s. ap (λ (types : Types). here types k.around s) (sym set.types))
     (change_executes k set.helpers set.small set.room function o t x.of c d x.code found value cell some based hd hx beside)
 
@@ -258,7 +259,7 @@ returns k = return_executes k false refl
 
 pub lone_ifs : LoneIfs
 lone_ifs k set function e value x step he hx =
-    let chosen : ℤ → Does = λ v a s. if is_true v then step a s else Went s in
+    let chosen : ℤ → Does = λ v a s. if is_true v then step a s else Normal s in
     with_executes k function boolean e (plain (wrapped ∷ []) ⨾ if_only x) value chosen he (if_only_executes k function set.helpers set.small x step hx)
 
 pub rows : Rows

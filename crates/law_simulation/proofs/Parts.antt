@@ -5,16 +5,17 @@ use Rattle.wasm_tree.specs.declared.store.Value.{Value}
 use Rattle.wasm_tree.specs.declared.store.Value.TheVariants.{I64}
 use Rattle.law_effect.specs.Effect.{State as Target, Effect}
 use Rattle.typed_tree.specs.declared.types.TypeNo.{TypeNo}
-use Rattle.def_meaning.specs.Answer.{State as Source, Answer, Gave, Ended, Running, then_give}
+use Rattle.def_meaning.specs.Answer.{State as Source, Answer, Ended, StillRunning, then_give}
+use Rattle.def_meaning.specs.Answer as answer
 use Rattle.def_meaning.specs.Expressions.{Gives}
 use Rattle.def_scheme.specs.Coded.{Coded, Counts, Setting, ◌⨾◌}
 use Rattle.law_simulation.specs.Scene.{Scene, runs, IsValue, word, Stands, Into, GivesNumber, Grows, IsFree, HasLocals, inside, Agrees, GoesOn}
 
 pub into_then : {A B : Type 0} (P : A → Source → Effect → Type 0) (Q : B → Source → Effect → Type 0) (r : Effect) (a : Answer A) (next : A → Source → Answer B)
     → Into P r a → ((x : A) (s : Source) → P x s r → Into Q r (next x s)) → Into Q r (then_give a next)
-into_then P Q r (Gave x s) next p h = h x s p
+into_then P Q r (answer.Value x s) next p h = h x s p
 into_then P Q r (Ended j out) next p h = p
-into_then P Q r (Running out) next p h = p
+into_then P Q r (StillRunning out) next p h = p
 
 pub grows_more : {c d e : Counts} → Grows c d → Grows d e → Grows c e
 grows_more g h = record { numbers = omega (arith, g.numbers, h.numbers); addresses = omega (arith, g.addresses, h.addresses) }

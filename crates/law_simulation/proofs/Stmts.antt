@@ -27,8 +27,9 @@ use Rattle.layout_storage.specs.Types.{Ty, Scalar, Natural, Callable, Cell, Arra
 use Rattle.layout_storage.specs.Sizes.{size}
 use Rattle.layout_storage.specs.Shapes.{tree}
 use Rattle.def_meaning.specs.Store.{Location, copied, placed}
-use Rattle.def_meaning.specs.Answer.{State as Source, Answer, Gave, Ended, Running, then_give, Outcome, Went, Came, with_answer}
-use Rattle.def_meaning.specs.Around.{Modules, Around, Named, At, Elements, location_of, named}
+use Rattle.def_meaning.specs.Answer.{State as Source, Answer, Value, Ended, StillRunning, then_give}
+use Rattle.def_meaning.specs.Outcome.{Outcome, Normal, Returned, with_answer}
+use Rattle.def_meaning.specs.Environment.{Modules, Environment, Named, At, Elements, location_of, named}
 use Rattle.def_meaning.specs.Calls.{is_there}
 use Rattle.def_meaning.specs.Operators.{is_true}
 use Rattle.def_meaning.specs.Expressions as meaning
@@ -80,14 +81,14 @@ executes_alike k function c f g same h = record {
 }
 
 answer_assoc : {A B : Type 0} (q : Answer A) (f : A → Source → Answer B) (g : B → Source → Outcome) → with_answer (then_give q f) g ≡ with_answer q (λ v s. with_answer (f v s) g)
-answer_assoc (Gave v s) f g = refl
+answer_assoc (Value v s) f g = refl
 answer_assoc (Ended i out) f g = refl
-answer_assoc (Running out) f g = refl
+answer_assoc (StillRunning out) f g = refl
 
 answer_alike : {A : Type 0} (q : Answer A) (f g : A → Source → Outcome) → ((v : A) (s : Source) → f v s ≡ g v s) → with_answer q f ≡ with_answer q g
-answer_alike (Gave v s) f g h = h v s
+answer_alike (Value v s) f g h = h v s
 answer_alike (Ended i out) f g h = refl
-answer_alike (Running out) f g h = refl
+answer_alike (StillRunning out) f g h = refl
 
 map_alike : {A B : Type 0} (f g : A → B) (xs : List A) → ((v : A) → f v ≡ g v) → map f xs ≡ map g xs
 map_alike f g [] h = refl
@@ -187,19 +188,19 @@ module _ (x : Context) (ask : Asks) (result : Result) (n : ℕ) where
     -- ---- simple statements
 
     -- the value is located, taken as one of the type, and stored
-    assigned_alike : (k : Scene) (c : Coded) (d : Place) (t : TypeNo) (e : TypedExpr) → Executes k F c (λ a s. with_answer (locate P ask d a s) (λ l s. with_answer (given_value t e a s) (λ v s. Went (stored l v s))))
-        → Executes k F c (λ a s. with_answer (locate P ask d a s) (λ l s. with_answer (value P ask e a s) (λ v s. with_answer (as_type a.types t v s) (λ v s. Went (stored l v s)))))
+    assigned_alike : (k : Scene) (c : Coded) (d : Place) (t : TypeNo) (e : TypedExpr) → Executes k F c (λ a s. with_answer (locate P ask d a s) (λ l s. with_answer (given_value t e a s) (λ v s. Normal (stored l v s))))
+        → Executes k F c (λ a s. with_answer (locate P ask d a s) (λ l s. with_answer (value P ask e a s) (λ v s. with_answer (as_type a.types t v s) (λ v s. Normal (stored l v s)))))
     assigned_alike k c d t e h =
         executes_alike k F c
-        (λ a s. with_answer (locate P ask d a s) (λ l s. with_answer (given_value t e a s) (λ v s. Went (stored l v s))))
-        (λ a s. with_answer (locate P ask d a s) (λ l s. with_answer (value P ask e a s) (λ v s. with_answer (as_type a.types t v s) (λ v s. Went (stored l v s)))))
-        (λ s. answer_alike (locate P ask d k.around s) (λ l s. with_answer (given_value t e k.around s) (λ v s. Went (stored l v s))) (λ l s. with_answer (value P ask e k.around s) (λ v s. with_answer (as_type k.around.types t v s) (λ v s. Went (stored l v s))))
-        (λ l s. answer_assoc (value P ask e k.around s) (λ v s. as_type k.around.types t v s) (λ v s. Went (stored l v s))))
+        (λ a s. with_answer (locate P ask d a s) (λ l s. with_answer (given_value t e a s) (λ v s. Normal (stored l v s))))
+        (λ a s. with_answer (locate P ask d a s) (λ l s. with_answer (value P ask e a s) (λ v s. with_answer (as_type a.types t v s) (λ v s. Normal (stored l v s)))))
+        (λ s. answer_alike (locate P ask d k.around s) (λ l s. with_answer (given_value t e k.around s) (λ v s. Normal (stored l v s))) (λ l s. with_answer (value P ask e k.around s) (λ v s. with_answer (as_type k.around.types t v s) (λ v s. Normal (stored l v s))))
+        (λ l s. answer_assoc (value P ask e k.around s) (λ v s. as_type k.around.types t v s) (λ v s. Normal (stored l v s))))
         h
 
-    assigned_stays : (d : Place) (t : TypeNo) (e : TypedExpr) → Stays (λ a s. with_answer (locate P ask d a s) (λ l s. with_answer (value P ask e a s) (λ v s. with_answer (as_type a.types t v s) (λ v s. Went (stored l v s)))))
-    assigned_stays d t e a s = with_stays (locate P ask d a s) (λ l s. with_answer (value P ask e a s) (λ v s. with_answer (as_type a.types t v s) (λ v s. Went (stored l v s))))
-        (λ l s. with_stays (value P ask e a s) (λ v s. with_answer (as_type a.types t v s) (λ v s. Went (stored l v s))) (λ v s. with_stays (as_type a.types t v s) (λ v s. Went (stored l v s)) (λ v s. refl)))
+    assigned_stays : (d : Place) (t : TypeNo) (e : TypedExpr) → Stays (λ a s. with_answer (locate P ask d a s) (λ l s. with_answer (value P ask e a s) (λ v s. with_answer (as_type a.types t v s) (λ v s. Normal (stored l v s)))))
+    assigned_stays d t e a s = with_stays (locate P ask d a s) (λ l s. with_answer (value P ask e a s) (λ v s. with_answer (as_type a.types t v s) (λ v s. Normal (stored l v s))))
+        (λ l s. with_stays (value P ask e a s) (λ v s. with_answer (as_type a.types t v s) (λ v s. Normal (stored l v s))) (λ v s. with_stays (as_type a.types t v s) (λ v s. Normal (stored l v s)) (λ v s. refl)))
 
     assign_made : (a b c : ℕ) (d : Place) (t : TypeNo) (r : Scalar) (e : TypedExpr) → IsCell x.home.types t r → Placed ws a b d (Cell r) → MadeGiven ws b c e t → Stmt ws l a c (stmt.Assign d t e)
     assign_made a b c d t r e cell m q = from_stmt ws l a c (stmt.Assign d t e) (step.Assign d t e) (stmt.outs-Assign d t e) (record {
@@ -228,8 +229,8 @@ module _ (x : Context) (ask : Asks) (result : Result) (n : ℕ) where
       executes = λ k fit.
           copies k fit.fits.set F t m.placed q.placed (locate P ask d) (locate P ask e) (here x ask ws k fit.fits (λ h. IsPlain (tree h.types t)) is)
           (here x ask ws k fit.fits (λ h. Locates k (tree h.types t) m.placed (locate P ask d)) (m.locates k fit.fits)) (here x ask ws k fit.fits (λ h. Locates k (tree h.types t) q.placed (locate P ask e)) (q.locates k fit.fits));
-      stays = λ e' a s. with_stays (locate P ask d a s) (λ l s. with_answer (locate P ask e a s) (λ l' s. Went (record s { store = copied l l' s.store })))
-          (λ l s. with_stays (locate P ask e a s) (λ l' s. Went (record s { store = copied l l' s.store })) (λ l' s. refl));
+      stays = λ e' a s. with_stays (locate P ask d a s) (λ l s. with_answer (locate P ask e a s) (λ l' s. Normal (record s { store = copied l l' s.store })))
+          (λ l s. with_stays (locate P ask e a s) (λ l' s. Normal (record s { store = copied l l' s.store })) (λ l' s. refl));
     })
 
     copy_text_made : (a b i : ℕ) (d : Place) (t : TypeNo) (text : List ℕ) → tree x.home.types t ≡ Array i (Cell (Natural 255)) → length text ≤ i → HasText x b text → Placed ws a b d (tree x.home.types t) → Stmt ws l a (b + length text) (stmt.CopyText d t text)
@@ -239,7 +240,7 @@ module _ (x : Context) (ask : Asks) (result : Result) (n : ℕ) where
           (pins_text b (length text) (λ at. with_setting (λ s. plain (text_copied at (length text) (size (tree s.home.types t) - length text) w))) (pins_setting (λ s. pins_plain (b + length text) (text_copied b (length text) (size (tree s.home.types t) - length text) w))))));
       executes = λ k fit. strings k fit.fits.set F t i b m.placed (locate P ask d) text (here x ask ws k fit.fits (λ h. tree h.types t ≡ Array i (Cell (Natural 255))) array) less (fit.fits.texts b text has)
           (here x ask ws k fit.fits (λ h. Locates k (tree h.types t) m.placed (locate P ask d)) (m.locates k fit.fits));
-      stays = λ e' a s. with_stays (locate P ask d a s) (λ l s. Went (record s { store = placed l (character text) s.store })) (λ l s. refl);
+      stays = λ e' a s. with_stays (locate P ask d a s) (λ l s. Normal (record s { store = placed l (character text) s.store })) (λ l s. refl);
     })
 
     call_stmt_made : (a b : ℕ) (c : Call) → MadeCall x ask ws a b None (call_code N c) (called P ask c) → Stmt ws l a b (stmt.Call c)
@@ -247,7 +248,7 @@ module _ (x : Context) (ask : Asks) (result : Result) (n : ℕ) where
       placed = m.placed;
       pins = m.pins;
       executes = λ k fit. call_executes k F m.placed (called P ask c) (m.calls k fit.fits);
-      stays = λ e' a s. with_stays (called P ask c a s) (λ v s. Went s) (λ v s. refl);
+      stays = λ e' a s. with_stays (called P ask c a s) (λ v s. Normal s) (λ v s. refl);
     })
 
     put_made : (a b : ℕ) (e : TypedExpr) → MadeGiven ws a b e char → Stmt ws l a b (stmt.Put e)
@@ -256,12 +257,12 @@ module _ (x : Context) (ask : Asks) (result : Result) (n : ℕ) where
       pins = pins_then (given_pins q) (pins_plain b (instr.Call put ∷ []));
       executes = λ k fit.
           executes_alike k F (given_code char e q.placed ⨾ plain (instr.Call put ∷ []))
-          (λ a s. with_answer (given_value char e a s) (λ v s. Went (record s { out = s.out ++ unsigned_abs v ∷ [] })))
-          (λ a s. with_answer (value P ask e a s) (λ v s. with_answer (as_type a.types char v s) (λ v s. Went (record s { out = s.out ++ unsigned_abs v ∷ [] }))))
-          (λ s. answer_assoc (value P ask e k.around s) (λ v s. as_type k.around.types char v s) (λ v s. Went (record s { out = s.out ++ unsigned_abs v ∷ [] })))
+          (λ a s. with_answer (given_value char e a s) (λ v s. Normal (record s { out = s.out ++ unsigned_abs v ∷ [] })))
+          (λ a s. with_answer (value P ask e a s) (λ v s. with_answer (as_type a.types char v s) (λ v s. Normal (record s { out = s.out ++ unsigned_abs v ∷ [] }))))
+          (λ s. answer_assoc (value P ask e k.around s) (λ v s. as_type k.around.types char v s) (λ v s. Normal (record s { out = s.out ++ unsigned_abs v ∷ [] })))
           (laws.puts k fit.fits.set F (given_code char e q.placed) (given_value char e) (q.agrees k fit.fits));
-      stays = λ e' a s. with_stays (value P ask e a s) (λ v s. with_answer (as_type a.types char v s) (λ v s. Went (record s { out = s.out ++ unsigned_abs v ∷ [] })))
-          (λ v s. with_stays (as_type a.types char v s) (λ v s. Went (record s { out = s.out ++ unsigned_abs v ∷ [] })) (λ v s. refl));
+      stays = λ e' a s. with_stays (value P ask e a s) (λ v s. with_answer (as_type a.types char v s) (λ v s. Normal (record s { out = s.out ++ unsigned_abs v ∷ [] })))
+          (λ v s. with_stays (as_type a.types char v s) (λ v s. Normal (record s { out = s.out ++ unsigned_abs v ∷ [] })) (λ v s. refl));
     })
 
     change_made : (a b c : ℕ) (o : Change) (d : Place) (t u : TypeNo) (r : Scalar) (e : TypedExpr) → IsCell x.home.types t r → (scalar_at x.home.types t ≡ None → ⊥) → (scalar_at x.home.types (base_of x.home.types t) ≡ None → ⊥)
@@ -271,9 +272,9 @@ module _ (x : Context) (ask : Asks) (result : Result) (n : ℕ) where
       pins = pins_then m.pins (pins_address (λ w. pins_then (pins_plain b (instr.LocalSet w ∷ [])) (pins_then q.pins (pins_number (λ i. pins_then (pins_plain c (instr.LocalSet i ∷ [])) (pins_setting (λ s. pins_plain c (changed o w i s.home.types t))))))));
       executes = λ k fit. laws.changes k fit.fits.set F o t r m.placed (as_part x ask (expr_part N e) q.placed) (locate P ask d) (value P ask e) (here x ask ws k fit.fits (λ h. IsCell h.types t r) cell)
           (here x ask ws k fit.fits (λ h. scalar_at h.types t ≡ None → ⊥) ranged) (here x ask ws k fit.fits (λ h. scalar_at h.types (base_of h.types t) ≡ None → ⊥) based) (m.locates k fit.fits) (q.agrees k fit.fits) (agrees_beside x ask q k fit.fits);
-      stays = λ e' a s. with_stays (locate P ask d a s) (λ l s. with_answer (value P ask e a s) (λ by s. with_answer (statements.rechecked a.types t (statements.changed o (s.store l) by) s) (λ v s. Went (stored l v s))))
-          (λ l s. with_stays (value P ask e a s) (λ by s. with_answer (statements.rechecked a.types t (statements.changed o (s.store l) by) s) (λ v s. Went (stored l v s)))
-          (λ by s. with_stays (statements.rechecked a.types t (statements.changed o (s.store l) by) s) (λ v s. Went (stored l v s)) (λ v s. refl)));
+      stays = λ e' a s. with_stays (locate P ask d a s) (λ l s. with_answer (value P ask e a s) (λ by s. with_answer (statements.rechecked a.types t (statements.changed o (s.store l) by) s) (λ v s. Normal (stored l v s))))
+          (λ l s. with_stays (value P ask e a s) (λ by s. with_answer (statements.rechecked a.types t (statements.changed o (s.store l) by) s) (λ v s. Normal (stored l v s)))
+          (λ by s. with_stays (statements.rechecked a.types t (statements.changed o (s.store l) by) s) (λ v s. Normal (stored l v s)) (λ v s. refl)));
     })
 
     member_made : (a b c : ℕ) (o : Membership) (d : Place) (u : TypeNo) (r : Scalar) (e : TypedExpr) → IsCell x.home.types bitset r → Placed ws a b d (Cell r) → Expr ws b c e u → Stmt ws l a c (stmt.Membership o d e)
@@ -283,9 +284,9 @@ module _ (x : Context) (ask : Asks) (result : Result) (n : ℕ) where
           (pins_number (λ i. pins_then (pins_plain c (instr.LocalSet i ∷ [])) (pins_setting (λ s. pins_plain c (with_member o w i s.home.types)))))))));
       executes = λ k fit. laws.memberships k fit.fits.set F o r m.placed (as_part x ask (expr_part N e) q.placed) (locate P ask d) (value P ask e) (here x ask ws k fit.fits (λ h. IsCell h.types bitset r) cell)
           (m.locates k fit.fits) (q.agrees k fit.fits) (agrees_beside x ask q k fit.fits);
-      stays = λ e' a s. with_stays (locate P ask d a s) (λ l s. with_answer (value P ask e a s) (λ i s. with_answer (meaning.within (pos 0) (pos 31) 1 i s) (λ i s. Went (stored l (statements.with_element o (s.store l) i) s))))
-          (λ l s. with_stays (value P ask e a s) (λ i s. with_answer (meaning.within (pos 0) (pos 31) 1 i s) (λ i s. Went (stored l (statements.with_element o (s.store l) i) s)))
-          (λ i s. with_stays (meaning.within (pos 0) (pos 31) 1 i s) (λ i s. Went (stored l (statements.with_element o (s.store l) i) s)) (λ i s. refl)));
+      stays = λ e' a s. with_stays (locate P ask d a s) (λ l s. with_answer (value P ask e a s) (λ i s. with_answer (meaning.within (pos 0) (pos 31) 1 i s) (λ i s. Normal (stored l (statements.with_element o (s.store l) i) s))))
+          (λ l s. with_stays (value P ask e a s) (λ i s. with_answer (meaning.within (pos 0) (pos 31) 1 i s) (λ i s. Normal (stored l (statements.with_element o (s.store l) i) s)))
+          (λ i s. with_stays (meaning.within (pos 0) (pos 31) 1 i s) (λ i s. Normal (stored l (statements.with_element o (s.store l) i) s)) (λ i s. refl)));
     })
 
     halt_made : (a : ℕ) → Stmt ws l a a stmt.Halt
@@ -295,27 +296,27 @@ module _ (x : Context) (ask : Asks) (result : Result) (n : ℕ) where
     return_made a none = from_stmt ws l a a stmt.Return step.Return stmt.outs-Return (record {
       placed = plain (instr.Return ∷ []);
       pins = pins_plain a (instr.Return ∷ []);
-      executes = λ k fit. subst (λ (r : Result). Executes k (is_there r) (plain (instr.Return ∷ [])) (λ a s. Came (pos 0) s)) (sym none) (laws.returns k);
+      executes = λ k fit. subst (λ (r : Result). Executes k (is_there r) (plain (instr.Return ∷ [])) (λ a s. Returned (pos 0) s)) (sym none) (laws.returns k);
       stays = λ e' a s. refl;
     })
 
-    given_alike : (k : Scene) (c : Coded) (t : TypeNo) (e : TypedExpr) → Executes k true c (λ a s. with_answer (given_value t e a s) (λ v s. Came v s)) → Executes k true c (λ a s. with_answer (value P ask e a s) (λ v s. with_answer (as_type a.types t v s) (λ v s. Came v s)))
+    given_alike : (k : Scene) (c : Coded) (t : TypeNo) (e : TypedExpr) → Executes k true c (λ a s. with_answer (given_value t e a s) (λ v s. Returned v s)) → Executes k true c (λ a s. with_answer (value P ask e a s) (λ v s. with_answer (as_type a.types t v s) (λ v s. Returned v s)))
     given_alike k c t e h =
         executes_alike k true c
-        (λ a s. with_answer (given_value t e a s) (λ v s. Came v s))
-        (λ a s. with_answer (value P ask e a s) (λ v s. with_answer (as_type a.types t v s) (λ v s. Came v s)))
-        (λ s. answer_assoc (value P ask e k.around s) (λ v s. as_type k.around.types t v s) (λ v s. Came v s))
+        (λ a s. with_answer (given_value t e a s) (λ v s. Returned v s))
+        (λ a s. with_answer (value P ask e a s) (λ v s. with_answer (as_type a.types t v s) (λ v s. Returned v s)))
+        (λ s. answer_assoc (value P ask e k.around s) (λ v s. as_type k.around.types t v s) (λ v s. Returned v s))
         h
 
-    given_stays : (t : TypeNo) (e : TypedExpr) → Stays (λ a s. with_answer (value P ask e a s) (λ v s. with_answer (as_type a.types t v s) (λ v s. Came v s)))
-    given_stays t e a s = with_stays (value P ask e a s) (λ v s. with_answer (as_type a.types t v s) (λ v s. Came v s)) (λ v s. with_stays (as_type a.types t v s) (λ v s. Came v s) (λ v s. refl))
+    given_stays : (t : TypeNo) (e : TypedExpr) → Stays (λ a s. with_answer (value P ask e a s) (λ v s. with_answer (as_type a.types t v s) (λ v s. Returned v s)))
+    given_stays t e a s = with_stays (value P ask e a s) (λ v s. with_answer (as_type a.types t v s) (λ v s. Returned v s)) (λ v s. with_stays (as_type a.types t v s) (λ v s. Returned v s) (λ v s. refl))
 
     give_made : (a b : ℕ) (t : TypeNo) (r : Scalar) (e : TypedExpr) → result ≡ Some (tree x.home.types t) → IsCell x.home.types t r → MadeGiven ws a b e t → Stmt ws l a b (stmt.Give t e)
     give_made a b t r e is cell q = from_stmt ws l a b (stmt.Give t e) (step.Give t e) (stmt.outs-Give t e) (record {
       placed = given_code t e q.placed ⨾ plain (instr.Return ∷ []);
       pins = pins_then (given_pins q) (pins_plain b (instr.Return ∷ []));
       executes = λ k fit.
-          subst (λ (r : Result). Executes k (is_there r) (given_code t e q.placed ⨾ plain (instr.Return ∷ [])) (λ a s. with_answer (value P ask e a s) (λ v s. with_answer (as_type a.types t v s) (λ v s. Came v s)))) (sym is)
+          subst (λ (r : Result). Executes k (is_there r) (given_code t e q.placed ⨾ plain (instr.Return ∷ [])) (λ a s. with_answer (value P ask e a s) (λ v s. with_answer (as_type a.types t v s) (λ v s. Returned v s)))) (sym is)
           (given_alike k (given_code t e q.placed ⨾ plain (instr.Return ∷ [])) t e
           (results k t r (given_code t e q.placed) (given_value t e) (here x ask ws k fit.fits (λ h. k.result ≡ Some (tree h.types t)) (fit.typed ∙ is)) (here x ask ws k fit.fits (λ h. IsCell h.types t r) cell) (q.agrees k fit.fits)));
       stays = λ e' a s. given_stays t e a s;
@@ -326,7 +327,7 @@ module _ (x : Context) (ask : Asks) (result : Result) (n : ℕ) where
       placed = given_code t e q.placed ⨾ plain (instr.Return ∷ []);
       pins = pins_then (held_pins t e q) (pins_plain b (instr.Return ∷ []));
       executes = λ k fit.
-          subst (λ (r : Result). Executes k (is_there r) (given_code t e q.placed ⨾ plain (instr.Return ∷ [])) (λ a s. with_answer (value P ask e a s) (λ v s. with_answer (as_type a.types t v s) (λ v s. Came v s)))) (sym is)
+          subst (λ (r : Result). Executes k (is_there r) (given_code t e q.placed ⨾ plain (instr.Return ∷ [])) (λ a s. with_answer (value P ask e a s) (λ v s. with_answer (as_type a.types t v s) (λ v s. Returned v s)))) (sym is)
           (given_alike k (given_code t e q.placed ⨾ plain (instr.Return ∷ [])) t e
           (held_gives k h (given_code t e q.placed) (given_value t e) (fit.typed ∙ is) (given_held x ask ws a b t h e q none k fit.fits)));
       stays = λ e' a s. given_stays t e a s;
@@ -352,7 +353,7 @@ module _ (x : Context) (ask : Asks) (result : Result) (n : ℕ) where
       placed = q.placed ⨾ plain (wrapped ∷ []) ⨾ if_only m.placed;
       pins = pins_then q.pins (pins_then (pins_plain b (wrapped ∷ [])) (pins_within 1 (λ c. instr.If None c None ∷ []) m.pins));
       executes = λ k fit. laws.lone_ifs k fit.fits.set F q.placed (value P ask e) m.placed (rows_do body) (q.agrees k fit.fits) (m.executes k fit);
-      stays = λ e' a s. with_stays (value P ask e a s) (λ v s. if is_true v then rows_do body a s else Went s) (λ v s. if_stays (is_true v) (rows_do body a s) (Went s) (m.stays e' a s) refl);
+      stays = λ e' a s. with_stays (value P ask e a s) (λ v s. if is_true v then rows_do body a s else Normal s) (λ v s. if_stays (is_true v) (rows_do body a s) (Normal s) (m.stays e' a s) refl);
     })
 
     if_else_made : (a b c z : ℕ) (e : TypedExpr) (body others : List TypedStmt) → MadeTest ws a b e → Rows ws l b c body → Rows ws l c z others → Stmt ws l a z (stmt.If e body (Some others))
@@ -423,11 +424,11 @@ module _ (x : Context) (ask : Asks) (result : Result) (n : ℕ) where
     pins : (i : ℕ) → Pins i i (place_code N d) (with_setting (λ s. plain (at s)))
     l : Scene → Location
     there : (ws : List Ty) (k : Scene) → Fits x ask ws k → IsThere k at (l k)
-    found : (k : Scene) (s : Source) → locate P ask d k.around s ≡ Gave (l k) s
+    found : (k : Scene) (s : Source) → locate P ask d k.around s ≡ Value (l k) s
     type : (ws : List Ty) (k : Scene) → Fits x ask ws k → component (row k.world) (l k) ≡ Some t
 
   -- what stands alone
-  alone : (r : Root) (d : Place) → d.root ≡ r → d.components ≡ [] → (a : Around) (s : Source) → locate P ask d a s ≡ Gave (meaning.root_layer P ask r a) s
+  alone : (r : Root) (d : Place) → d.root ≡ r → d.components ≡ [] → (a : Environment) (s : Source) → locate P ask d a s ≡ Value (meaning.root_layer P ask r a) s
   alone r d is none a s =
       ap (λ (f : Gives Location). f a s) (place_means P ask d (out-Place d) refl)
       ∙ ap (λ (r : Root). meaning.one_by_one (map (component_value P ask) d.components) (meaning.root_layer P ask r a) a s) is

@@ -1,7 +1,7 @@
 -- CASE by a table: its code does what the statement does, where its parts do.
 use Rattle.std.specs.Prelude.{◌≡◌, ℕ, ℤ, Bool, true, List, length, None}
 use Rattle.wasm_tree.specs.declared.store.Value.{Value}
-use Rattle.def_meaning.specs.Answer.{with_answer}
+use Rattle.def_meaning.specs.Outcome.{with_answer}
 use Rattle.def_meaning.specs.Expressions.{Gives}
 use Rattle.def_meaning.specs.Statements as statements
 use Rattle.def_meaning.specs.Statements.{Does}

@@ -87,7 +87,7 @@ fn write_report<R: Print + Eprint>(rt: &R, report: &Report) -> Result<u8> {
     rt.write_all(report.out.as_slice())
         .context("cannot write to standard output")?;
     match report.end {
-        Stop::Running => Ok(RUNNING),
+        Stop::StillRunning => Ok(RUNNING),
         Stop::Ended(0) | Stop::Ended(HALTED) => Ok(ENDED),
         Stop::Ended(number) => {
             let word = end_word(number);

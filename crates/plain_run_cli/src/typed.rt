@@ -6,10 +6,11 @@ use build_jobs::{Read, SourceFile, read_text};
 use check_body::check;
 use check_definition::compile_definition;
 use m2_graph::{Graph, GraphError};
-use m2_tree::{Contents, Items, Module};
+use m2_tree::{Contents, Module};
 use std::alloc::Global;
 use std::sync::Arc;
-use typed_tree::{Shared, Table, TypedModule};
+use tree_parts::{Items, Shared};
+use typed_tree::{Table, TypedModule};
 
 /// What a job of the graph gives.
 #[derive(Drop)]

@@ -14,9 +14,9 @@ ghost use Rattle.wasm_engine.specs.Reported.{with_bytes};
 
 use crate::quick::several;
 use crate::sink::Sink;
-use sqlite_items::{Items, at};
 use std::alloc::{AllocError, Global};
 use thiserror::Error;
+use tree_parts::{Items, at};
 use wasm_known::{KnownFunction, known_functions};
 use wasm_link::{linked_all, own_function, run_of};
 use wasm_machine::{Machine, Pages, Reduced, entered};

@@ -14,8 +14,8 @@ ghost use Rattle.wasm_machine.specs.Going.{store_of, going, progress};
 ghost use Rattle.wasm_engine.specs.Quick.{Checked, Goes, HasFour, Holds, IsBetween, IsQuotient, IsRemainder, Replaced};
 
 use crate::bytes::{clear_bytes, copy_bytes};
-use sqlite_items::Items;
 use std::alloc::{AllocError, Global};
+use tree_parts::Items;
 use wasm_known::{KnownFunction, known_at};
 use wasm_machine::{Machine, Reduced, callee_at, reduce};
 use wasm_operands::{Operands, compares_64, operated, truth};

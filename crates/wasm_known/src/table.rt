@@ -8,8 +8,8 @@ ghost use Rattle.wasm_known.specs.Codes.{check_typed};
 ghost use Rattle.wasm_known.specs.Table.{IsRight, Means, RowIsRight, Stands, known_in};
 
 use crate::codes::{is_check, is_copy, is_div, is_fill, is_mod};
-use sqlite_items::{Items, at};
 use std::alloc::{AllocError, Global};
+use tree_parts::{Items, at};
 use wasm_link::{TypedFunction, own_function};
 use wasm_tree::{Callee, Store};
 use wasm_valid::ValidModule;

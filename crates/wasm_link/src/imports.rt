@@ -9,8 +9,8 @@ ghost use Rattle.wasm_tree.specs.Linking.{named, extern_of, host_answer, link_an
 ghost use Rattle.wasm_link.specs.Placed.{type_of_ref};
 
 use crate::types::{agrees, is_same_value_type};
-use sqlite_items::at;
 use std::alloc::AllocError;
+use tree_parts::at;
 use wasm_tree::{
     Export, ExportKind, Extern, Import, ImportKind, Instance, Limits, Store, Value, ValueType,
     WFault, WModule,

@@ -11,8 +11,8 @@ use crate::imports::{named, with_imports};
 use crate::segments::{with_elements, with_segments};
 use crate::store::{with_functions, with_globals, with_memories, with_tables};
 use crate::types::has_types;
-use sqlite_items::{Items, at};
 use std::alloc::{AllocError, Global};
+use tree_parts::{Items, at};
 use wasm_tree::{Callee, ExportKind, FuncType, Instance, Store, WFault, WModule};
 use wasm_valid::ValidModule;
 

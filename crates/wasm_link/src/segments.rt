@@ -9,8 +9,8 @@ ghost use Rattle.wasm_tree.specs.Linking.{offset_of, addresses, with_slots, some
 ghost use Rattle.wasm_link.specs.Placed.{linked, items_of};
 
 use crate::store::value_of;
-use sqlite_items::{Items, at};
 use std::alloc::{AllocError, Global};
+use tree_parts::{Items, at};
 use wasm_tree::{Data, Element, Instance, Memory, Store, Table, Value, WFault};
 
 fn offset_of(value: Option<Value>) -> Result<usize, WFault>

@@ -63,19 +63,19 @@ pub data Named : Type 0 where
 abbrev pub Frames : Type 0
 Frames = List (List Named)
 
-pub record Around : Type 0 where
+pub record Environment : Type 0 where
   pub place : ℕ  -- the module's, in start order
   pub types : Types
   pub frames : Frames  -- its own first, then outwards
   pub withs : List Location  -- the records of the WITHs, the outermost first
   pub next : ℕ  -- the number of the next instance
-  pub left : ℕ  -- so many bytes of storage are free
+  pub free : ℕ  -- the bytes of storage that are free
 
 abbrev pub or_empty : Option (List Named) → List Named
 or_empty None = []
 or_empty (Some ns) = ns
 
-abbrev pub named : Around → Slot → Option Named
+abbrev pub named : Environment → Slot → Option Named
 named a slot = slice_get (or_empty (slice_get a.frames slot.up)) slot.number
 
 abbrev pub location_of : Option Named → Location

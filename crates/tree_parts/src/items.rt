@@ -7,7 +7,6 @@ use std::alloc::{AllocError, Global};
 use std::marker::Model;
 
 /// A `Vec` that contracts see as the list of its elements, so that clauses compare two trees by `≡`, and code by `==`.
-/// (The kit's `sqlite_items` has the same, without `==`.)
 #[derive(Drop)]
 pub struct Items<T> {
     items: Vec<T>,
@@ -155,4 +154,11 @@ impl<T: Eq> Eq for Items<T> {
     ghost use Rattle.std.specs.Cmp.Lexicographic.{lists_equiv};
 
     ghost laws = { lists_equiv T.Eq.laws };
+}
+
+/// The element at a place, from 0, with the answer as one equation.
+pub fn at<T>(items: &[T], at: usize) -> Option<&T>
+    ensures { option_copied result ≡ slice_get items.now at }
+{
+    items.get(at)
 }

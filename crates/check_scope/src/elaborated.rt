@@ -1,46 +1,20 @@
 //! Rules that are broken.
 
 ghost use Rattle.std.specs.Prelude.{◌≡◌, Err};
-ghost use Rattle.m2_rule.specs.RuleNumber.{number_of};
-ghost use Rattle.check_scope.specs.Elaborated.{is_less, lesser, least, both, beside, refusal_beside, reported_beside};
+ghost use Rattle.check_scope.specs.Elaborated.{least, both, beside, refusal_beside, reported_beside};
+ghost use Rattle.m2_rule.specs.Breaches.{breach};
 
-use m2_rule::Rule;
+use m2_rule::{Breach, Rule, lesser};
 use m2_tree::Pos;
 
-/// A rule that is broken, and where.
-#[derive(Clone, Copy, Debug, PartialEq, Eq)]
-pub struct Fault {
-    pub pos: Pos,
-    /// The number of the refusal.
-    pub number: u32,
-}
-
 /// What a part means, or the least rule that is broken in it.
-pub type Elaborated<T> = Result<T, Fault>;
-
-fn is_less(f: Fault, g: Fault) -> bool
-    ensures { result ≡ is_less f g }
-{
-    f.pos.line < g.pos.line
-        || (f.pos.line == g.pos.line
-            && (f.pos.col < g.pos.col || (f.pos.col == g.pos.col && f.number < g.number)))
-}
-
-/// The lesser of two, by place and then by number.
-pub fn lesser(f: Fault, g: Fault) -> Fault
-    ensures { result ≡ lesser f g }
-{
-    if is_less(g, f) { g } else { f }
-}
+pub type Elaborated<T> = Result<T, Breach>;
 
 /// What is reported of a rule that is broken.
 pub fn reported<T>(pos: Pos, broken: Rule) -> Elaborated<T>
-    ensures { result ≡ Err (record { pos = pos; number = number_of broken }) }
+    ensures { result ≡ Err (breach pos broken) }
 {
-    Err(Fault {
-        pos,
-        number: broken.number(),
-    })
+    Err(Breach::at(pos, broken))
 }
 
 /// Two parts that stand beside one another. Where both have broken rules, the least is reported.
@@ -68,12 +42,12 @@ pub fn beside(first: Elaborated<()>, second: Elaborated<()>) -> Elaborated<()>
 }
 
 /// A refusal, beside what is reported of the parts that stand behind.
-pub fn refusal_beside<T>(fault: Fault, rest: Elaborated<()>) -> Elaborated<T>
-    ensures { result ≡ refusal_beside least fault rest }
+pub fn refusal_beside<T>(breach: Breach, rest: Elaborated<()>) -> Elaborated<T>
+    ensures { result ≡ refusal_beside least breach rest }
 {
     match rest {
-        Ok(()) => Err(fault),
-        Err(other) => Err(lesser(fault, other)),
+        Ok(()) => Err(breach),
+        Err(other) => Err(lesser(breach, other)),
     }
 }
 
@@ -81,9 +55,5 @@ pub fn refusal_beside<T>(fault: Fault, rest: Elaborated<()>) -> Elaborated<T>
 pub fn reported_beside<T>(pos: Pos, broken: Rule, rest: Elaborated<()>) -> Elaborated<T>
     ensures { result ≡ reported_beside least pos broken rest }
 {
-    let fault = Fault {
-        pos,
-        number: broken.number(),
-    };
-    refusal_beside(fault, rest)
+    refusal_beside(Breach::at(pos, broken), rest)
 }

@@ -17,10 +17,10 @@ use Rattle.std.specs.contracts.boxed.Box as box
 use Rattle.std.specs.declared.alloc.Global.{Global}
 use Rattle.std.specs.contracts.alloc.Global as heap
 use Rattle.std.specs.contracts.impls.GlobalAllocator.TheImpl.{ghosts}
-use Rattle.m2_tree.specs.declared.boxed.Boxed.TheInside.{Inside}
-use Rattle.m2_tree.specs.declared.boxed.Boxed.TheView.{view, invariant}
-use Rattle.m2_tree.specs.contracts.boxed.Boxed as C
-use Rattle.m2_tree.specs.contracts.boxed.Boxed.TheInside as I
+use Rattle.tree_parts.specs.declared.boxed.Boxed.TheInside.{Inside}
+use Rattle.tree_parts.specs.declared.boxed.Boxed.TheView.{view, invariant}
+use Rattle.tree_parts.specs.contracts.boxed.Boxed as C
+use Rattle.tree_parts.specs.contracts.boxed.Boxed.TheInside as I
 
 abbrev pub the_former : Former {0} → Former {0}
 the_former g = g

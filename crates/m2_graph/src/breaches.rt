@@ -2,14 +2,14 @@
 
 ghost use Rattle.std.specs.Prelude.{◌≡◌, ◌<◌, ◌++◌, ◌||◌, length, take, fold};
 ghost use Rattle.m2_graph.specs.Imports.{imported, named_by, is_program};
-ghost use Rattle.m2_graph.specs.Refused.{fault, fault_where, is_less, lesser, least_of, is_built_in, is_bad_import, import_faults, any_that, is_second, is_repeated, is_without_program, is_second_program, is_lone, faults_of};
+ghost use Rattle.m2_graph.specs.Refused.{breach_where, least_with, least_of, is_built_in, is_bad_import, import_breaches, any_that, is_second, is_repeated, is_without_program, is_second_program, is_lone, breaches_of};
 ghost use Rattle.m2_graph.specs.Program.{modules_of, IsIndexed};
 ghost use Rattle.m2_graph.specs.Parts.{is_earlier};
-ghost use Rattle.m2_graph.specs.Reported.{cycle_faults};
+ghost use Rattle.m2_graph.specs.Reported.{cycle_breaches};
 
 use crate::imports::{is_definition, is_implementation, is_program};
 use crate::program::{Program, definition_of, first_file_of, implementation_of};
-use m2_rule::Rule;
+use m2_rule::{Breach, Rule, lesser};
 use m2_tree::{Ident, Import, Module, Name, Pos, is_console};
 
 /// The most files of a program.
@@ -18,48 +18,21 @@ pub const MAX_FILES: usize = 1024;
 /// The place of a text's first byte.
 pub const FIRST_PLACE: Pos = Pos { line: 1, col: 1 };
 
-/// A rule that a file breaks, and where.
-#[derive(Clone, Copy, Debug, PartialEq, Eq)]
-pub struct Fault {
-    /// The place that is refused.
-    pub pos: Pos,
-    /// The number of the rule.
-    pub number: u32,
-}
-
-/// A rule that is broken at this place.
-pub fn fault_at(pos: Pos, broken: Rule) -> Fault
-    ensures { result ≡ fault pos broken }
-{
-    Fault {
-        pos,
-        number: broken.number(),
-    }
-}
-
-fn is_less(f: Fault, g: Fault) -> bool
-    ensures { result ≡ is_less f g }
-{
-    f.pos.line < g.pos.line
-        || (f.pos.line == g.pos.line
-            && (f.pos.col < g.pos.col || (f.pos.col == g.pos.col && f.number < g.number)))
-}
-
-fn lesser(least: Option<Fault>, other: Fault) -> Option<Fault>
-    ensures { result ≡ lesser least other }
+fn least_with(least: Option<Breach>, other: Breach) -> Option<Breach>
+    ensures { result ≡ least_with least other }
 {
     match least {
         None => Some(other),
-        Some(fault) => Some(if is_less(other, fault) { other } else { fault }),
+        Some(breach) => Some(lesser(breach, other)),
     }
 }
 
-/// The least, where this fault is added if `holds`.
-fn with_fault(least: Option<Fault>, holds: bool, pos: Pos, broken: Rule) -> Option<Fault>
-    ensures { result ≡ fold lesser least (fault_where holds pos broken) }
+/// The least, where this breach is added if `holds`.
+fn with_breach(least: Option<Breach>, holds: bool, pos: Pos, broken: Rule) -> Option<Breach>
+    ensures { result ≡ fold least_with least (breach_where holds pos broken) }
 {
     if holds {
-        lesser(least, fault_at(pos, broken))
+        least_with(least, Breach::at(pos, broken))
     } else {
         least
     }
@@ -79,20 +52,20 @@ fn is_bad_import(program: &Program<'_>, tree: &Module, name: &Name) -> bool
         || (!is_definition(tree) && *name == tree.name.name)
 }
 
-/// The least, where the faults of these imports are added.
+/// The least, where the breaches of these imports are added.
 fn with_names(
     program: &Program<'_>,
     tree: &Module,
     names: &[Ident],
-    least: Option<Fault>,
-) -> Option<Fault>
+    least: Option<Breach>,
+) -> Option<Breach>
     requires { IsIndexed program.now }
-    ensures { result ≡ fold lesser least (import_faults (modules_of program.now) tree.now names.now) }
+    ensures { result ≡ fold least_with least (import_breaches (modules_of program.now) tree.now names.now) }
 {
     let mut found = least;
     for ident in names {
         let is_bad = is_bad_import(program, tree, &ident.name);
-        found = with_fault(found, is_bad, ident.pos, Rule::MissingModule);
+        found = with_breach(found, is_bad, ident.pos, Rule::MissingModule);
     }
     found
 }
@@ -154,10 +127,10 @@ fn is_lone(program: &Program<'_>, tree: &Module) -> bool
         || (is_definition(tree) && implementation_of(program, &tree.name.name).is_none())
 }
 
-/// The least fault of an import.
-fn import_fault(program: &Program<'_>, tree: &Module) -> Option<Fault>
+/// The least breach of an import.
+fn import_breach(program: &Program<'_>, tree: &Module) -> Option<Breach>
     requires { IsIndexed program.now }
-    ensures { result ≡ least_of (import_faults (modules_of program.now) tree.now (imported tree.now)) }
+    ensures { result ≡ least_of (import_breaches (modules_of program.now) tree.now (imported tree.now)) }
 {
     let mut found = None;
     let imports = tree.imports.as_slice();
@@ -171,17 +144,17 @@ fn with_import(
     program: &Program<'_>,
     tree: &Module,
     import: &Import,
-    least: Option<Fault>,
-) -> Option<Fault>
+    least: Option<Breach>,
+) -> Option<Breach>
     requires { IsIndexed program.now }
-    ensures { result ≡ fold lesser least
-        (import_faults (modules_of program.now) tree.now
+    ensures { result ≡ fold least_with least
+        (import_breaches (modules_of program.now) tree.now
         (named_by import.now.from import.now.names)) }
 {
     match &import.from {
         Some(from) => {
             let is_bad = is_bad_import(program, tree, &from.name);
-            with_fault(least, is_bad, from.pos, Rule::MissingModule)
+            with_breach(least, is_bad, from.pos, Rule::MissingModule)
         }
         None => with_names(program, tree, import.names.as_slice(), least),
     }
@@ -191,11 +164,11 @@ fn with_import(
 /// import of a module without definition, or by a body of its own module; 21 a second file for a definition or a body, or
 /// a module named Console or link; 23 a second program module, or none; 24 an implementation without definition, or the
 /// reverse; 25 over 1024 files. `given` says how many files were given before its file.
-fn file_fault(program: &Program<'_>, number: usize, given: usize, tree: &Module) -> Option<Fault>
+fn file_breach(program: &Program<'_>, number: usize, given: usize, tree: &Module) -> Option<Breach>
     requires indexed { IsIndexed program.now }
     requires within { number < length (modules_of program.now) }
     ensures { result ≡ least_of
-        (faults_of (modules_of program.now) (take number (modules_of program.now)) given
+        (breaches_of (modules_of program.now) (take number (modules_of program.now)) given
         tree.now) }
 {
     let pos = tree.name.pos;
@@ -203,38 +176,38 @@ fn file_fault(program: &Program<'_>, number: usize, given: usize, tree: &Module)
     let second = is_second_program(program, number, tree);
     let without = is_without_program(program, number);
     let lone = is_lone(program, tree);
-    let imports = import_fault(program, tree);
-    let repeats = with_fault(imports, repeated, pos, Rule::SecondFile);
-    let programs = with_fault(repeats, second, pos, Rule::ProgramCount);
-    let without_program = with_fault(programs, without, FIRST_PLACE, Rule::ProgramCount);
-    let lonely = with_fault(without_program, lone, pos, Rule::LonelyModule);
-    with_fault(lonely, given == MAX_FILES, FIRST_PLACE, Rule::FileCount)
+    let imports = import_breach(program, tree);
+    let repeats = with_breach(imports, repeated, pos, Rule::SecondFile);
+    let programs = with_breach(repeats, second, pos, Rule::ProgramCount);
+    let without_program = with_breach(programs, without, FIRST_PLACE, Rule::ProgramCount);
+    let lonely = with_breach(without_program, lone, pos, Rule::LonelyModule);
+    with_breach(lonely, given == MAX_FILES, FIRST_PLACE, Rule::FileCount)
 }
 
 /// The least, where what is reported of cycles is added.
-fn with_cycle(least: Option<Fault>, cycle: Option<(usize, Pos)>, number: usize) -> Option<Fault>
-    ensures { result ≡ fold lesser least (cycle_faults cycle number) }
+fn with_cycle(least: Option<Breach>, cycle: Option<(usize, Pos)>, number: usize) -> Option<Breach>
+    ensures { result ≡ fold least_with least (cycle_breaches cycle number) }
 {
     match cycle {
         None => least,
-        Some((node, pos)) => with_fault(least, node == number, pos, Rule::Cycle),
+        Some((node, pos)) => with_breach(least, node == number, pos, Rule::Cycle),
     }
 }
 
 /// The least (place, number) at which the module with this number breaks a rule. `cycle` is what is reported of cycles.
-pub fn fault_of(
+pub fn breach_of(
     program: &Program<'_>,
     cycle: Option<(usize, Pos)>,
     number: usize,
     given: usize,
     tree: &Module,
-) -> Option<Fault>
+) -> Option<Breach>
     requires indexed { IsIndexed program.now }
     requires within { number < length (modules_of program.now) }
     ensures { result ≡ least_of
-        (faults_of (modules_of program.now) (take number (modules_of program.now)) given
-        tree.now ++ cycle_faults cycle number) }
+        (breaches_of (modules_of program.now) (take number (modules_of program.now)) given
+        tree.now ++ cycle_breaches cycle number) }
 {
-    let fault = file_fault(program, number, given, tree);
-    with_cycle(fault, cycle, number)
+    let breach = file_breach(program, number, given, tree);
+    with_cycle(breach, cycle, number)
 }
