@@ -50,10 +50,10 @@ vector_short ts e = vector_sum _ (length (unsigned.encoding (length ts))) _ (len
 
 -- ---- types of functions
 
-abbrev type_bytes : FuncType → ℕ
+abbrev pub type_bytes : FuncType → ℕ
 type_bytes t = 11 + (length t.params + length t.results)
 
-some_bytes : (t : FuncType) → 1 ≤ type_bytes t
+pub some_bytes : (t : FuncType) → 1 ≤ type_bytes t
 some_bytes t = some (length t.params + length t.results) where
   some : (n : ℕ) → 1 ≤ 11 + n
   some n = omega arith
@@ -61,14 +61,14 @@ some_bytes t = some (length t.params + length t.results) where
 few_each : (n : ℕ) → n ≤ suc few_entries → n < max_bytes
 few_each n h = omega (arith, h)
 
-type_fits : (t : FuncType) → length t.params ≤ suc few_entries → length t.results ≤ suc few_entries → func_type.fits t ≡ true
+pub type_fits : (t : FuncType) → length t.params ≤ suc few_entries → length t.results ≤ suc few_entries → func_type.fits t ≡ true
 unfolding func_type
 type_fits t h l = both_true _ _ (both_true _ _ (lt-ltb _ max_bytes (few_each _ h)) (all_types t.params)) (both_true _ _ (lt-ltb _ max_bytes (few_each _ l)) (all_types t.results))
 
 parts_sum : (m a b n k : ℕ) → m ≡ a + b → a ≤ 5 + n → b ≤ 5 + k → suc m ≤ 11 + (n + k)
 parts_sum m a b n k e h l = omega (arith, e, h, l)
 
-type_short : (t : FuncType) → func_type.fits t ≡ true → length (func_type.encoding t) ≤ type_bytes t
+pub type_short : (t : FuncType) → func_type.fits t ≡ true → length (func_type.encoding t) ≤ type_bytes t
 unfolding func_type
 type_short t e =
     let both = and_parts ((vector value_type).fits t.params) ((vector value_type).fits t.results) e in

@@ -61,3 +61,5 @@ pub mod FewTypes
 pub mod ModuleNumbers
 pub mod TypesOfCalls
 pub mod NeededTypes
+pub mod Names
+pub mod LinkRoom

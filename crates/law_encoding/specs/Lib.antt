@@ -18,3 +18,4 @@ pub mod ProcedureLevels
 pub mod ValidNumbers
 pub mod FunctionTypes
 pub mod ModuleNumbers
+pub mod LinkRoom

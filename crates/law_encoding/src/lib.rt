@@ -27,6 +27,7 @@ ghost use Rattle.law_encoding.specs.Small.{TreesAreSmall, TextsAreSmall, Express
 ghost use Rattle.law_encoding.specs.Short.{CodeIsShort, FunctionsAreShort, ExpressionsAreNear, StatementsAreNear, RoutinesAreNear};
 ghost use Rattle.law_encoding.specs.Fits.{CodeFits, EncodingsAreShort, BodiesFit, ModulesFit, BodyModulesFit, FunctionsHaveFewLocals, LocalsFit, SizesFit};
 ghost use Rattle.law_encoding.specs.ValidNumbers.{ValidNumbersFit};
+ghost use Rattle.law_encoding.specs.LinkRoom.{LinkFits};
 ghost use Rattle.law_encoding.specs.ModuleNumbers.{IndexesFit};
 ghost use Rattle.law_encoding.specs.FunctionTypes.{ListedAreFew, FewTypesFit, TypesAreFew};
 ghost use Rattle.law_encoding.specs.ProcedureNesting.{ProceduresAreShallow};
@@ -147,6 +148,11 @@ pub fn code_number_laws()
     ensures valid { ValidNumbersFit }
     // So the indexes in a module with few parts fit.
     ensures indexes { IndexesFit }
+{}
+
+/// The module link has an encoding, if the program is small.
+pub fn link_laws()
+    ensures { LinkFits }
 {}
 
 /// The types of functions fit.
