@@ -63,3 +63,4 @@ pub mod TypesOfCalls
 pub mod NeededTypes
 pub mod Names
 pub mod LinkRoom
+pub mod ImportsRoom

@@ -19,3 +19,4 @@ pub mod ValidNumbers
 pub mod FunctionTypes
 pub mod ModuleNumbers
 pub mod LinkRoom
+pub mod ImportsRoom

@@ -28,6 +28,7 @@ ghost use Rattle.law_encoding.specs.Short.{CodeIsShort, FunctionsAreShort, Expre
 ghost use Rattle.law_encoding.specs.Fits.{CodeFits, EncodingsAreShort, BodiesFit, ModulesFit, BodyModulesFit, FunctionsHaveFewLocals, LocalsFit, SizesFit};
 ghost use Rattle.law_encoding.specs.ValidNumbers.{ValidNumbersFit};
 ghost use Rattle.law_encoding.specs.LinkRoom.{LinkFits};
+ghost use Rattle.law_encoding.specs.ImportsRoom.{ImportsFit};
 ghost use Rattle.law_encoding.specs.ModuleNumbers.{IndexesFit};
 ghost use Rattle.law_encoding.specs.FunctionTypes.{ListedAreFew, FewTypesFit, TypesAreFew};
 ghost use Rattle.law_encoding.specs.ProcedureNesting.{ProceduresAreShallow};
@@ -153,6 +154,11 @@ pub fn code_number_laws()
 /// The module link has an encoding, if the program is small.
 pub fn link_laws()
     ensures { LinkFits }
+{}
+
+/// The imports of the module of a body have an encoding, if there are few names and short ones.
+pub fn import_laws()
+    ensures { ImportsFit }
 {}
 
 /// The types of functions fit.
