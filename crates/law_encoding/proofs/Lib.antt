@@ -64,3 +64,4 @@ pub mod NeededTypes
 pub mod Names
 pub mod LinkRoom
 pub mod ImportsRoom
+pub mod AcceptedRoom

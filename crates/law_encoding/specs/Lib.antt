@@ -20,3 +20,4 @@ pub mod FunctionTypes
 pub mod ModuleNumbers
 pub mod LinkRoom
 pub mod ImportsRoom
+pub mod AcceptedRoom

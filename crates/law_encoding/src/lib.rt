@@ -28,6 +28,7 @@ ghost use Rattle.law_encoding.specs.Short.{CodeIsShort, FunctionsAreShort, Expre
 ghost use Rattle.law_encoding.specs.Fits.{CodeFits, EncodingsAreShort, BodiesFit, ModulesFit, BodyModulesFit, FunctionsHaveFewLocals, LocalsFit, SizesFit};
 ghost use Rattle.law_encoding.specs.ValidNumbers.{ValidNumbersFit};
 ghost use Rattle.law_encoding.specs.LinkRoom.{LinkFits};
+ghost use Rattle.law_encoding.specs.AcceptedRoom.{AcceptedFit};
 ghost use Rattle.law_encoding.specs.ImportsRoom.{ImportsFit};
 ghost use Rattle.law_encoding.specs.ModuleNumbers.{IndexesFit};
 ghost use Rattle.law_encoding.specs.FunctionTypes.{ListedAreFew, FewTypesFit, TypesAreFew};
@@ -169,6 +170,14 @@ pub fn function_type_laws()
     ensures fit { FewTypesFit }
     // A well formed module needs few types.
     ensures few { TypesAreFew }
+{}
+
+/// The module of a body that is parsed and accepted has an encoding, if it is small.
+pub fn accepted_laws()
+    // That holds if the least broken rule is kept,
+    ensures least { AcceptedFit least }
+    // and if all of them are.
+    ensures every { AcceptedFit every }
 {}
 
 /// What the checker makes goes outwards no further than its procedure stands deep.
