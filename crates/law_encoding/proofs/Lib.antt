@@ -65,3 +65,6 @@ pub mod Names
 pub mod LinkRoom
 pub mod ImportsRoom
 pub mod AcceptedRoom
+pub mod Constants
+pub mod ConstantPieces
+pub mod ConstantCode

@@ -96,7 +96,7 @@ bytes_mapped : (code : List Instr) → bytes code ≡ total (map bytes_in code)
 unfolding bytes
 bytes_mapped code = sym (total_map bytes_in code)
 
-mapped_all : (f : Instr → Bool) (code : List Instr) → all_fit (map f code) ≡ list_all f code
+pub mapped_all : (f : Instr → Bool) (code : List Instr) → all_fit (map f code) ≡ list_all f code
 mapped_all f [] = refl
 mapped_all f (i ∷ code) = ap (λ (b : Bool). f i && b) (mapped_all f code)
 

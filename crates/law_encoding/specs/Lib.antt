@@ -21,3 +21,4 @@ pub mod ModuleNumbers
 pub mod LinkRoom
 pub mod ImportsRoom
 pub mod AcceptedRoom
+pub mod SmallParts
