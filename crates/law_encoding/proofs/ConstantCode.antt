@@ -200,7 +200,7 @@ module _ (x : Context) (fs : List Ty) (small : HasSmallParts x fs) where
   global_few : (t : Ty) (o s n : ℕ) → o + s ≤ n → n ≤ few_entries → o < max_bytes
   global_few t o s n h l = omega (arith, h, l)
 
-  root_fine : (ws : List Ty) (a : ℕ) (r : Root) (t : Ty) → typed.IsRoot x ws r t → Good a a (root_layer r)
+  pub root_fine : (ws : List Ty) (a : ℕ) (r : Root) (t : Ty) → typed.IsRoot x ws r t → Good a a (root_layer r)
   root_fine ws a _ _ (typed.GlobalRoot v t p) =
       fine_setting m fs a (λ s h g. subst (λ (n : TypedModule). Const (global_code n v)) (sym h)
       (const_global m v (global_few t _ (size t) _ (inside (variables_row m v.home) t (v.number ∷ []) p.type) (small.rows v.home))))
@@ -277,7 +277,7 @@ module _ (x : Context) (fs : List Ty) (small : HasSmallParts x fs) where
     argument_by : {a b : ℕ} (e : Argument) (y : Argument-F Argument Call Component Link TypedExpr Place) → out-Argument e ≡ y → Good a b (argument_layer (opened_argument numbered y)) → Good a b (of_argument numbered e)
     argument_by {a = a} {b = b} e y q p = subst (λ (z : Coded). Good a b z) (sym (at_argument numbered e y q)) p
 
-    place_by : {a b : ℕ} (d : Place) → Good a b (place_layer (opened_place numbered (out-Place d))) → Good a b (place_code numbered d)
+    pub place_by : {a b : ℕ} (d : Place) → Good a b (place_layer (opened_place numbered (out-Place d))) → Good a b (place_code numbered d)
     place_by {a = a} {b = b} d p = subst (λ (z : Coded). Good a b z) (sym (at_place numbered d (out-Place d) refl)) p
 
     mutual

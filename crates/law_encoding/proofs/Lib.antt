@@ -68,3 +68,4 @@ pub mod AcceptedRoom
 pub mod Constants
 pub mod ConstantPieces
 pub mod ConstantCode
+pub mod ConstantSteps

@@ -31,6 +31,7 @@ ghost use Rattle.law_encoding.specs.LinkRoom.{LinkFits};
 ghost use Rattle.law_encoding.specs.AcceptedRoom.{AcceptedFit};
 ghost use Rattle.law_encoding.specs.ImportsRoom.{ImportsFit};
 ghost use Rattle.law_encoding.specs.ModuleNumbers.{IndexesFit};
+ghost use Rattle.law_encoding.specs.SmallParts.{ConstantsFit};
 ghost use Rattle.law_encoding.specs.FunctionTypes.{ListedAreFew, FewTypesFit, TypesAreFew};
 ghost use Rattle.law_encoding.specs.ProcedureNesting.{ProceduresAreShallow};
 ghost use Rattle.law_encoding.specs.ProcedureLevels.{LevelsAreLow, AcceptedAreNear};
@@ -150,6 +151,8 @@ pub fn code_number_laws()
     ensures valid { ValidNumbersFit }
     // So the indexes in a module with few parts fit.
     ensures indexes { IndexesFit }
+    // The constants of typed statements fit, if types, frames and texts are small.
+    ensures constants { ConstantsFit }
 {}
 
 /// The module link has an encoding, if the program is small.

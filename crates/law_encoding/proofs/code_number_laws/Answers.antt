@@ -1,5 +1,6 @@
 use Rattle.law_encoding.proofs.ValidNumbers.{code_fits}
 use Rattle.law_encoding.proofs.ModuleNumbers.{module_uses, module_numbers}
+use Rattle.law_encoding.proofs.ConstantSteps.{constants_fit}
 use Rattle.law_encoding.proofs.code_number_laws.Goals as goal
 
 pub returns-clause-valid : goal.returns-clause-valid
@@ -7,3 +8,6 @@ returns-clause-valid c = λ context code before after v few l e. code_fits conte
 
 pub returns-clause-indexes : goal.returns-clause-indexes
 returns-clause-indexes c = λ m formed p. (module_uses m formed p, λ e. module_numbers m formed p e)
+
+pub returns-clause-constants : goal.returns-clause-constants
+returns-clause-constants c = λ x fs small result ws l a b xs p numbered s counts h g e. constants_fit x fs small result ws l a b xs p numbered s counts h g e
