@@ -1,5 +1,9 @@
 -- A small module that is well formed, nests few levels and goes few procedures outwards has an encoding.
-use Rattle.std.proofs.Common.{◌≡◌, ℕ, suc, ◌+◌, ◌*◌, ◌≤◌, ◌<◌, true, List, [], ◌∷◌, length, Result, Ok, Err, arith}
+use Rattle.std.proofs.Common.{◌≡◌, ℕ, suc, ◌+◌, ◌*◌, ◌≤◌, ◌<◌, true, nat_lt, List, [], ◌∷◌, length, Result, Ok, Err, refl, arith}
+use Rattle.std.specs.Prelude.{All}
+use Rattle.std.specs.List.{list_all}
+use Rattle.std.proofs.lemmas.Bool.{lt-ltb}
+use Rattle.std.proofs.lemmas.List.Elements.{All-head, All-tail}
 use Rattle.typed_tree.specs.declared.typed_module.Routine.{Routine}
 use Rattle.typed_tree.specs.declared.typed_module.TypedModule.{TypedModule}
 use Rattle.typed_tree.specs.declared.known_types.Types.{Types}
@@ -8,7 +12,9 @@ use Rattle.def_grammar.specs.Refusal.{max_nesting}
 use Rattle.def_scheme.specs.Signatures.{needed}
 use Rattle.def_scheme.specs.Modules.{functions, slots, typed_module}
 use Rattle.wasm_binary.specs.Binary.{module_fits}
+use Rattle.law_modules.specs.Linked.{Program, text}
 use Rattle.law_modules.specs.WellFormed.{IsWellFormed}
+use Rattle.law_simulation.specs.Modules.{IsModule, IsTypedModule}
 use Rattle.law_well_formed.specs.Formed.{Holds}
 use Rattle.law_well_formed.specs.Formed as formed
 use Rattle.law_encoding.specs.Sizes.{sum_of}
@@ -22,6 +28,10 @@ use Rattle.law_encoding.specs.Fits.{few_entries, max_bytes, most_locals}
 use Rattle.law_encoding.specs.FunctionTypes.{types_count}
 use Rattle.law_encoding.specs.ModuleNumbers.{HasFewParts}
 use Rattle.law_encoding.specs.AcceptedRoom.{IsSmallBody}
+use Rattle.law_encoding.specs.ImportsRoom.{NamesAreShort}
+use Rattle.law_encoding.specs.SmallParts.{IsSmallModule}
+use Rattle.law_encoding.proofs.CodeFits.{both_true}
+use Rattle.law_encoding.proofs.ConstantFunctions.{functions_const}
 use Rattle.law_encoding.proofs.Sums.{sum_below, length_below}
 use Rattle.law_encoding.proofs.FewLocals.{functions_few}
 use Rattle.law_encoding.proofs.FunctionBytes.{sizes_fit}
@@ -98,3 +108,15 @@ holds_ok (formed.fine _ p) = p
 pub accepted_room : {T : Type 0} (r : Result TypedModule T) → AtMost most_levels max_levels r → AtMost outward_bodies max_nesting r → Holds IsWellFormed r → Holds (λ t. IsSmallBody t → module_fits (typed_module t) ≡ true) r
 accepted_room (Ok t) a b p = formed.fine t (λ small. small_body t (at_ok a) (at_ok b) (holds_ok p) small)
 accepted_room (Err e) a b p = formed.broken e
+
+-- ---- typed programs
+
+all_bytes : (bs : List ℕ) → All (λ b. b < 256) bs → list_all (λ b. nat_lt b 256) bs ≡ true
+all_bytes [] h = refl
+all_bytes (b ∷ bs) h = both_true _ _ (lt-ltb b 256 (All-head (λ b. b < 256) b bs h)) (all_bytes bs (All-tail (λ b. b < 256) b bs h))
+
+pub typed_room : (p : Program) (pages place : ℕ) (m : TypedModule) → IsModule p place m → IsTypedModule p pages place m → IsSmallModule p m → counts_in m ≤ most → NamesAreShort m
+    → most_levels m ≤ max_levels → outward_bodies m ≤ max_nesting → module_fits (typed_module m) ≡ true
+typed_room p pages place m is typed small counts names levels near =
+    small_body m levels near is.well
+    (record { counts = counts; names = names; constants = functions_const p pages place m is.ranged typed small; texts = all_bytes (text m) is.texts; texts_size = small.texts })

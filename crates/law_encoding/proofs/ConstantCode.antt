@@ -70,10 +70,10 @@ frame_component ks i k p u e h = row_component ks i k p e ∙ h
 in_frame : (o s n : ℕ) → o + s ≤ n → n ≤ few_entries → o ≤ few_entries
 in_frame o s n h l = omega (arith, h, l)
 
-abbrev AreRooms : List Ty → Type 0
+abbrev pub AreRooms : List Ty → Type 0
 AreRooms fs = AllByRecursion (λ (t : Ty). size t ≤ few_entries) fs
 
-slot_in : (kss : List Kinds) (fs : List Ty) → AreFrames kss fs → AreRooms fs → (up n : ℕ) (k : Kind) (p : Location) (u : Ty) → slice_get (or_none (slice_get kss up)) n ≡ Some k → component (kind_tree k) p ≡ Some u
+pub slot_in : (kss : List Kinds) (fs : List Ty) → AreFrames kss fs → AreRooms fs → (up n : ℕ) (k : Kind) (p : Location) (u : Ty) → slice_get (or_none (slice_get kss up)) n ≡ Some k → component (kind_tree k) p ≡ Some u
     → offset (frame_at (slice_get fs up)) (suc n ∷ p) ≤ few_entries
 slot_in [] fs a r zero n k p u e h = absurd cc
 slot_in [] fs a r (suc up) n k p u e h = absurd cc
@@ -83,19 +83,19 @@ slot_in (ks ∷ kss) (t ∷ fs) a r zero n k p u e h =
     (λ l. in_frame _ (size u) _ (inside (frame_kinds ks) u (suc n ∷ p) (frame_component ks n k p u e h)) l) r.0
 slot_in (ks ∷ kss) (t ∷ fs) a r (suc up) n k p u e h = slot_in kss fs a.1 r.1 up n k p u e h
 
-own_component : (t : Ty) → component t [] ≡ Some t
+pub own_component : (t : Ty) → component t [] ≡ Some t
 unfolding component
 own_component t = refl
 
-first_hidden : (t : Ty) → component (kind_tree (Open t)) (0 ∷ []) ≡ Some (Hidden 4)
+pub first_hidden : (t : Ty) → component (kind_tree (Open t)) (0 ∷ []) ≡ Some (Hidden 4)
 unfolding component
 first_hidden t = refl
 
-second_hidden : (t : Ty) → component (kind_tree (Open t)) (1 ∷ []) ≡ Some (Hidden 4)
+pub second_hidden : (t : Ty) → component (kind_tree (Open t)) (1 ∷ []) ≡ Some (Hidden 4)
 unfolding component
 second_hidden t = refl
 
-few_bytes : (n : ℕ) → n ≤ few_entries → n < max_bytes
+pub few_bytes : (n : ℕ) → n ≤ few_entries → n < max_bytes
 few_bytes n h = omega (arith, h)
 
 -- ---- numbers

@@ -132,6 +132,10 @@ pub const_check_changed : (types : Types) (t : TypeNo) → AreSmall types → Co
 const_check_changed types t small =
     const_both (const_in_type types (base_of types t) overflow small (omega arith)) (const_either (is_subrange types t) (const_in_type types t range_fault small (omega arith)) const_end)
 
+-- addresses, HIGH and links
+pub const_word : Const (store_scalar word)
+const_word = const_store word nought_low
+
 -- ---- places
 
 const_outwards : (k : ℕ) → Const (outwards k)

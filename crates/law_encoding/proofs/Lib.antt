@@ -69,3 +69,4 @@ pub mod Constants
 pub mod ConstantPieces
 pub mod ConstantCode
 pub mod ConstantSteps
+pub mod ConstantFunctions

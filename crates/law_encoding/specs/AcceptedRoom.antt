@@ -5,12 +5,14 @@ use Rattle.m2_tree.specs.declared.token.Token.{Token}
 use Rattle.m2_tree.specs.declared.decl.Module.{Module}
 use Rattle.typed_tree.specs.declared.table.Table.{Table}
 use Rattle.typed_tree.specs.declared.typed_module.TypedModule.{TypedModule}
-use Rattle.def_grammar.specs.Refusal.{IsTree}
+use Rattle.def_grammar.specs.Refusal.{IsTree, max_nesting}
 use Rattle.check_scope.specs.Elaborated.{Gathers}
 use Rattle.check_body.specs.Checks.{checked}
 use Rattle.layout_storage.specs.Texts.{module_texts}
 use Rattle.def_scheme.specs.Modules.{functions, all_characters, typed_module}
 use Rattle.wasm_binary.specs.Binary.{module_fits}
+use Rattle.law_modules.specs.Linked.{Program}
+use Rattle.law_simulation.specs.Modules.{IsModule, IsTypedModule}
 use Rattle.law_well_formed.specs.Formed.{Holds}
 use Rattle.law_well_formed.specs.FormedModules.{AreFor}
 use Rattle.law_encoding.specs.Short.{counts_in}
@@ -18,6 +20,9 @@ use Rattle.law_encoding.specs.Small.{most}
 use Rattle.law_encoding.specs.Fits.{few_entries}
 use Rattle.law_encoding.specs.ValidNumbers.{code_constants_fit}
 use Rattle.law_encoding.specs.ImportsRoom.{NamesAreShort}
+use Rattle.law_encoding.specs.Nested.{max_levels, most_levels}
+use Rattle.law_encoding.specs.Outward.{outward_bodies}
+use Rattle.law_encoding.specs.SmallParts.{IsSmallModule}
 
 -- The module counts no more than the tree of the longest text, it has few names and short ones, the
 -- constants in its code fit, and its texts are bytes, and few.
@@ -34,3 +39,14 @@ AcceptedFit g = (ts : List Token) (m : Module) → IsTree ts m
     → (number : ℕ) (own : Option Table) (tables : List Table) → AreFor number own tables m.contents
     → Holds (λ t. IsSmallBody t → module_fits (typed_module t) ≡ true)
     (checked g number m own tables)
+
+-- ---- typed programs
+
+-- The module of a body of a typed program has an encoding, if it is small, counts no more than the
+-- tree of the longest text, and has few names and short ones; if its functions nest at most 4096
+-- levels, and its bodies go at most 200 procedures outwards.
+abbrev pub TypedModulesFit : Type 0
+TypedModulesFit = (p : Program) (pages place : ℕ) (m : TypedModule) → IsModule p place m
+    → IsTypedModule p pages place m → IsSmallModule p m → counts_in m ≤ most → NamesAreShort m
+    → most_levels m ≤ max_levels → outward_bodies m ≤ max_nesting
+    → module_fits (typed_module m) ≡ true

@@ -1,6 +1,6 @@
 -- The constants in the code of a program fit, if its types, frames and texts are small.
-use Rattle.std.specs.Prelude.{◌≡◌, ◌≤◌, ℕ, Bool, true, List, length, Some, slice_get}
-use Rattle.std.specs.List.{AllByRecursion}
+use Rattle.std.specs.Prelude.{◌≡◌, ◌≤◌, ℕ, Bool, true, List, length, Some, slice_get, All}
+use Rattle.std.specs.List.{list_all, AllByRecursion}
 use Rattle.typed_tree.specs.declared.known_types.Types.{Types}
 use Rattle.typed_tree.specs.declared.statement.TypedStmt.{TypedStmt}
 use Rattle.typed_tree.specs.declared.typed_module.TypedModule.{TypedModule}
@@ -8,10 +8,15 @@ use Rattle.typed_tree.specs.declared.types.TypeNo.{TypeNo}
 use Rattle.layout_storage.specs.Types.{Ty, Scalar, Cell, IsScalar}
 use Rattle.layout_storage.specs.Shapes.{tree}
 use Rattle.layout_storage.specs.Sizes.{size}
+use Rattle.layout_storage.specs.Frames.{frame}
 use Rattle.def_scheme.specs.Coded.{Setting, Counts}
 use Rattle.def_scheme.specs.Exprs.{Numbered, variables_row}
 use Rattle.def_scheme.specs.Steps.{body_code}
+use Rattle.def_scheme.specs.Modules.{functions}
+use Rattle.law_modules.specs.Linked.{Program, text}
+use Rattle.law_modules.specs.Ranges.{AreRanged}
 use Rattle.law_simulation.specs.Frames.{AreFrames}
+use Rattle.law_simulation.specs.Modules.{IsTypedModule}
 use Rattle.law_simulation.specs.Passing.{Result}
 use Rattle.law_simulation.specs.Scene.{AreSmall}
 use Rattle.law_simulation.specs.StmtsTyped.{AreStmts}
@@ -45,3 +50,21 @@ ConstantsFit = (x : Context) (frames : List Ty) → HasSmallParts x frames
     → (numbered : Numbered) (s : Setting) (c : Counts)
     → s.home ≡ x.home → s.frames ≡ frames → c.texts ≡ a
     → code_constants_fit (body_code numbered xs s c).0 ≡ true
+
+-- ---- the functions of a module
+
+-- A module of a program is small, and so is what it knows of others.
+pub record IsSmallModule (p : Program) (m : TypedModule) : Type 0 where
+  pub types : (t : TypeNo) → size (tree m.types t) ≤ few_entries
+  pub rows : (home : ℕ) → size (variables_row m home) ≤ few_entries
+  pub frames : All (λ r. size (frame m.types r) ≤ few_entries) m.procedures
+  pub inner_frames : All (λ r. size (frame m.types r) ≤ few_entries) m.locals
+  pub procedures : (place : ℕ) (n : TypedModule) → slice_get p place ≡ Some n
+      → length n.procedures ≤ few_entries
+  pub texts : length (text m) ≤ few_entries
+
+-- The constants in the functions of a typed module fit, if it is small.
+abbrev pub ModuleConstantsFit : Type 0
+ModuleConstantsFit = (p : Program) (pages place : ℕ) (m : TypedModule) → AreRanged m.types
+    → IsTypedModule p pages place m → IsSmallModule p m
+    → list_all (λ f. code_constants_fit f.body.code) (functions m) ≡ true

@@ -28,10 +28,10 @@ ghost use Rattle.law_encoding.specs.Short.{CodeIsShort, FunctionsAreShort, Expre
 ghost use Rattle.law_encoding.specs.Fits.{CodeFits, EncodingsAreShort, BodiesFit, ModulesFit, BodyModulesFit, FunctionsHaveFewLocals, LocalsFit, SizesFit};
 ghost use Rattle.law_encoding.specs.ValidNumbers.{ValidNumbersFit};
 ghost use Rattle.law_encoding.specs.LinkRoom.{LinkFits};
-ghost use Rattle.law_encoding.specs.AcceptedRoom.{AcceptedFit};
+ghost use Rattle.law_encoding.specs.AcceptedRoom.{AcceptedFit, TypedModulesFit};
 ghost use Rattle.law_encoding.specs.ImportsRoom.{ImportsFit};
 ghost use Rattle.law_encoding.specs.ModuleNumbers.{IndexesFit};
-ghost use Rattle.law_encoding.specs.SmallParts.{ConstantsFit};
+ghost use Rattle.law_encoding.specs.SmallParts.{ConstantsFit, ModuleConstantsFit};
 ghost use Rattle.law_encoding.specs.FunctionTypes.{ListedAreFew, FewTypesFit, TypesAreFew};
 ghost use Rattle.law_encoding.specs.ProcedureNesting.{ProceduresAreShallow};
 ghost use Rattle.law_encoding.specs.ProcedureLevels.{LevelsAreLow, AcceptedAreNear};
@@ -153,6 +153,8 @@ pub fn code_number_laws()
     ensures indexes { IndexesFit }
     // The constants of typed statements fit, if types, frames and texts are small.
     ensures constants { ConstantsFit }
+    // So do those of the functions of a typed module.
+    ensures modules { ModuleConstantsFit }
 {}
 
 /// The module link has an encoding, if the program is small.
@@ -181,6 +183,8 @@ pub fn accepted_laws()
     ensures least { AcceptedFit least }
     // and if all of them are.
     ensures every { AcceptedFit every }
+    // So has the module of a body of a typed program.
+    ensures typed { TypedModulesFit }
 {}
 
 /// What the checker makes goes outwards no further than its procedure stands deep.

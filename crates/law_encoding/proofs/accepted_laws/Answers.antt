@@ -11,7 +11,7 @@ use Rattle.law_encoding.proofs.DeepTexts.{tree_below}
 use Rattle.law_encoding.proofs.DeepFunctions.{accepted_low}
 use Rattle.law_encoding.proofs.NestedProcedures.{tree_below as procedures_below}
 use Rattle.law_encoding.proofs.ProcedureLevels.{bodies_near}
-use Rattle.law_encoding.proofs.AcceptedRoom.{accepted_room}
+use Rattle.law_encoding.proofs.AcceptedRoom.{accepted_room, typed_room}
 use Rattle.law_encoding.proofs.accepted_laws.Goals as goal
 
 pub returns-clause-least : goal.returns-clause-least
@@ -25,3 +25,6 @@ returns-clause-every c = λ ts m d number own tables k.
     accepted_room _ (accepted_low _ (tree_below ts m d) (module_most every (elaborated every) (λ s r xs. statements_most every s _ xs) number m own tables))
     (bodies_near max_nesting every (elaborated every) (elaborated_formed every) (λ s r xs. near every s _ xs) number m own tables (omega arith) (procedures_below ts m d))
     (modules_formed every number m own tables k)
+
+pub returns-clause-typed : goal.returns-clause-typed
+returns-clause-typed c = λ p pages place m is typed small counts names levels near. typed_room p pages place m is typed small counts names levels near
