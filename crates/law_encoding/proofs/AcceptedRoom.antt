@@ -10,7 +10,7 @@ use Rattle.typed_tree.specs.declared.known_types.Types.{Types}
 use Rattle.layout_storage.specs.Frames.{formals_of}
 use Rattle.def_grammar.specs.Refusal.{max_nesting}
 use Rattle.def_scheme.specs.Signatures.{needed}
-use Rattle.def_scheme.specs.Modules.{functions, slots, typed_module}
+use Rattle.def_scheme.specs.Modules.{slots, typed_module}
 use Rattle.wasm_binary.specs.Binary.{module_fits}
 use Rattle.law_modules.specs.Linked.{Program, text}
 use Rattle.law_modules.specs.WellFormed.{IsWellFormed}

@@ -4,13 +4,12 @@ use Rattle.std.specs.Prelude.{if◌then◌else◌, ◌-◌, slice_get, ℤ, pos,
 use Rattle.std.specs.List.{AllByRecursion}
 use Rattle.std.proofs.lemmas.Int.{ints}
 use Rattle.wasm_tree.specs.declared.instr.Instr.{Instr}
-use Rattle.wasm_tree.specs.declared.instr.Instr.TheVariants.{LocalGet, LocalSet, I64Const}
+use Rattle.wasm_tree.specs.declared.instr.Instr.TheVariants.{LocalGet, I64Const}
 use Rattle.wasm_tree.specs.declared.instr.Operation.TheVariants.{And, ShrU, Sub}
 use Rattle.wasm_tree.specs.declared.kinds.ValueType.TheVariants as type
 use Rattle.typed_tree.specs.declared.computed.Argument.{Argument, Argument-F, out-Argument}
 use Rattle.typed_tree.specs.declared.computed.Argument.TheOpen as layer
 use Rattle.typed_tree.specs.declared.computed.Argument.TheVariants as argument
-use Rattle.typed_tree.specs.declared.computed.Arithmetic.{Arithmetic}
 use Rattle.typed_tree.specs.declared.computed.Arithmetic.TheVariants as op
 use Rattle.typed_tree.specs.declared.computed.Call.{Call, Call-F, out-Call}
 use Rattle.typed_tree.specs.declared.computed.Call.TheVariants as call
@@ -20,9 +19,8 @@ use Rattle.typed_tree.specs.declared.computed.Inclusion.{Inclusion}
 use Rattle.typed_tree.specs.declared.computed.Inclusion.TheVariants as inclusion
 use Rattle.typed_tree.specs.declared.computed.Link.{Link, Link-F, out-Link}
 use Rattle.typed_tree.specs.declared.computed.Link.TheVariants as link
-use Rattle.typed_tree.specs.declared.computed.Place.{Place, Place-F, out-Place}
+use Rattle.typed_tree.specs.declared.computed.Place.{Place, out-Place}
 use Rattle.typed_tree.specs.declared.computed.Root.{Root}
-use Rattle.typed_tree.specs.declared.computed.Root.TheVariants as root
 use Rattle.typed_tree.specs.declared.computed.Slot.{Slot}
 use Rattle.typed_tree.specs.declared.computed.TypedExpr.{TypedExpr, TypedExpr-F, out-TypedExpr}
 use Rattle.typed_tree.specs.declared.computed.TypedExpr.TheVariants as expr
@@ -33,15 +31,15 @@ use Rattle.typed_tree.specs.declared.typed_module.TypedModule.{TypedModule}
 use Rattle.typed_tree.specs.declared.types.TypeNo.{TypeNo}
 use Rattle.typed_tree.specs.Types.{are_same, integer}
 use Rattle.typed_tree.specs.Known.{scalar_at}
-use Rattle.layout_storage.specs.Types.{Ty, Scalar, Heading, Callable, Cell, Hidden, Array, Nothing, Field, row, frame_of, component}
+use Rattle.layout_storage.specs.Types.{Ty, Heading, Callable, Cell, Hidden, Array, row, component}
 use Rattle.layout_storage.specs.Shapes.{tree, elements_of}
 use Rattle.layout_storage.specs.Sizes.{size, offset}
 use Rattle.layout_storage.specs.Texts.{passed}
 use Rattle.def_meaning.specs.Answer.{empty_procedure, overflow, range_fault}
 use Rattle.def_meaning.specs.Store.{Location}
-use Rattle.def_scheme.specs.Coded.{Coded, Setting, Counts, plain, ◌⨾◌, all_coded, within, with_address, with_number, with_text, with_setting, number_local, address_local, top_local, operation, number, extended, wrapped, relation, raised, checked}
+use Rattle.def_scheme.specs.Coded.{Coded, Setting, Counts, plain, ◌⨾◌, all_coded, within, with_address, with_number, with_text, with_setting, number_local, address_local, operation, extended, raised, checked}
 use Rattle.def_scheme.specs.Cells.{loaded, in_type, check_taken}
-use Rattle.def_scheme.specs.Exprs.{Part, Linked, Numbered, variables_row, frame_at, slot_path, relation_of, chosen_number, absolute_code, capital_code, include_code, in_code, abs_code, and_code, or_code, behind, two, complement, empty_code, chain_code, index_of, element_tree, element_code, arithmetic_code, ord_check, high_index, passed_text, text_code, top_code, value_call, loaded_from, global_code, root_layer, argument_layer, call_layer, component_layer, link_layer, expr_layer, place_layer, expr_part, place_code, call_code}
+use Rattle.def_scheme.specs.Exprs.{Part, Linked, Numbered, variables_row, frame_at, slot_path, chosen_number, absolute_code, capital_code, include_code, in_code, and_code, or_code, behind, chain_code, index_of, element_tree, element_code, arithmetic_code, ord_check, high_index, text_code, top_code, global_code, root_layer, argument_layer, call_layer, component_layer, link_layer, expr_layer, place_layer, expr_part, place_code, call_code}
 use Rattle.law_memory.proofs.Places.{inside}
 use Rattle.law_simulation.specs.Frames.{Kind, Kept, Alias, Open, Kinds, kind_tree, frame_kinds, or_none, kind_at, AreFrames}
 use Rattle.law_simulation.specs.Passing.{Form, Forms, forms_of, Result}
@@ -50,8 +48,8 @@ use Rattle.law_simulation.specs.TreesTyped as typed
 use Rattle.law_simulation.specs.TreesTyped.{Context, IsVariable, IsNamed, HasText}
 use Rattle.law_well_formed.proofs.Places.{is_within}
 use Rattle.law_encoding.specs.Fits.{max_bytes, few_entries}
-use Rattle.law_encoding.specs.SmallParts.{AreCells, HasSmallParts}
-use Rattle.law_encoding.proofs.Constants.{sets, gets, calls, amount, IsLow, signed, computes, Const, const_end, ◌▹◌, const_both, const_either, chooses}
+use Rattle.law_encoding.specs.SmallParts.{HasSmallParts}
+use Rattle.law_encoding.proofs.Constants.{sets, gets, amount, IsLow, signed, computes, Const, const_end, ◌▹◌, const_both, chooses}
 use Rattle.law_encoding.proofs.ConstantPieces.{narrow_low, const_raised, const_checked, const_loaded, const_in_type, const_taken, const_slot, const_kept, const_open, const_high, const_element, const_open_element, const_global, const_with, const_arithmetic, const_complement, const_set, const_empty, const_ord, const_procedure, const_text, const_link, const_module_call, const_nested_call, const_value_call, index_small}
 use Rattle.law_encoding.proofs.DeepCode.{of_argument, of_component, of_link, opened_argument, opened_call, opened_component, opened_link, opened_expr, opened_place, at_argument, at_call, at_component, at_link, at_expr, at_place}
 

@@ -1,38 +1,34 @@
 -- The constants in the functions of a small typed module fit.
-use Rattle.std.proofs.Common.{map, ◌≡◌, ℕ, zero, suc, ◌+◌, ◌≤◌, ◌<◌, Bool, true, false, ◌&&◌, List, [], ◌∷◌, ◌++◌, length, Option, Some, None, refl, sym, ap, subst, ◌∙◌, append_assoc, arith}
-use Rattle.std.specs.Prelude.{if◌then◌else◌, drop, slice_get, nat_lt, All}
+use Rattle.std.proofs.Common.{map, ◌≡◌, ℕ, zero, suc, ◌+◌, ◌≤◌, ◌<◌, Bool, true, false, List, [], ◌∷◌, ◌++◌, Option, Some, None, refl, sym, ap, subst, arith}
+use Rattle.std.specs.Prelude.{if◌then◌else◌, drop, slice_get, nat_lt}
 use Rattle.std.specs.List.{list_all}
 use Rattle.std.proofs.lemmas.Bool.{and_parts}
 use Rattle.wasm_tree.specs.declared.instr.Instr.{Instr}
-use Rattle.wasm_tree.specs.declared.instr.Instr.TheVariants.{LocalGet, I32Const, Call, If}
+use Rattle.wasm_tree.specs.declared.instr.Instr.TheVariants.{LocalGet, I32Const, Call}
 use Rattle.wasm_tree.specs.declared.module.Function.{Function}
 use Rattle.typed_tree.specs.declared.known_types.Types.{Types}
 use Rattle.typed_tree.specs.declared.shape.Formal.{Formal}
-use Rattle.typed_tree.specs.declared.shape.Scalar.{Scalar as Range}
 use Rattle.typed_tree.specs.declared.typed_module.Routine.{Routine}
 use Rattle.typed_tree.specs.declared.typed_module.TypedModule.{TypedModule}
 use Rattle.typed_tree.specs.declared.typed_module.Which.{Which}
 use Rattle.typed_tree.specs.declared.typed_module.Which.TheVariants as which
 use Rattle.typed_tree.specs.declared.types.TypeNo.{TypeNo}
-use Rattle.typed_tree.specs.Known.{scalar_at}
-use Rattle.layout_storage.specs.Types.{Ty, Scalar, Cell, Hidden, Array, Nothing, Field, frame_of, component, IsPlain, IsScalar}
+use Rattle.layout_storage.specs.Types.{Ty, Scalar, Cell, Hidden, Array, Nothing, Field, frame_of, IsPlain, IsScalar}
 use Rattle.layout_storage.specs.Shapes.{tree}
 use Rattle.layout_storage.specs.Sizes.{size, offset}
 use Rattle.layout_storage.specs.Frames.{frame, formals_of}
 use Rattle.layout_storage.specs.Texts.{characters, texts_before, routines_texts}
 use Rattle.def_meaning.specs.Answer.{no_return, storage_fault}
-use Rattle.def_meaning.specs.Store.{Location}
-use Rattle.def_scheme.specs.Coded.{Setting, Counts, wrapped, fault, copy, raised}
-use Rattle.def_scheme.specs.Cells.{store_scalar, word}
+use Rattle.def_scheme.specs.Coded.{wrapped, copy}
 use Rattle.def_scheme.specs.Exprs.{Numbered, arguments_of, has_result}
-use Rattle.def_scheme.specs.Functions.{routine_of, routine_at, own_frame, around_in, frames_around, link_arguments, numbers_of, limit_check, enter_code, link_kept, formal_address, word_kept, value_kept, bytes_code, open_copied, formal_kept, formals_kept, prologue, function_of, end_code, routine_coded, routine_function, functions_from, module_coded, module_function}
+use Rattle.def_scheme.specs.Functions.{routine_of, routine_at, own_frame, around_in, frames_around, limit_check, enter_code, link_kept, formal_address, word_kept, value_kept, bytes_code, open_copied, formals_kept, end_code, routine_coded, routine_function, functions_from, module_coded, module_function}
 use Rattle.def_scheme.specs.Helpers.{copy_turn, copy_code, fill_turn, fill_code, check_tests, check_code, divisor_checked, div_rest, mod_rest}
 use Rattle.def_scheme.specs.Modules.{helpers, numbered, functions}
-use Rattle.law_modules.specs.Linked.{Program, text}
+use Rattle.law_modules.specs.Linked.{Program}
 use Rattle.law_modules.specs.Ranges.{AreRanged}
 use Rattle.law_modules.proofs.Known.{range_at}
 use Rattle.law_modules.proofs.Own.{at_place}
-use Rattle.law_simulation.specs.Frames.{Kind, Kept, Alias, Open, Kinds, kind_tree, formal_kind, kinds_of, AreFrames}
+use Rattle.law_simulation.specs.Frames.{Kind, Kept, Alias, Open, Kinds, formal_kind, kinds_of, AreFrames}
 use Rattle.law_simulation.specs.Linked.{context, environment_of, text_of}
 use Rattle.law_simulation.specs.Modules.{IsTypedModule}
 use Rattle.law_simulation.specs.Passing.{result_of}
@@ -213,10 +209,10 @@ module _ (p : Program) (pages place : ℕ) (m : TypedModule) (ranged : AreRanged
   rooms_are zero w = tt
   rooms_are (suc k) w = own_rooms (routine_at m w) (room_at w) (frames_around m k (around_in (routine_at m w))) (rooms_are k (around_in (routine_at m w)))
 
-  abbrev standing : List Kinds → Context
-  standing kss = context p (ground p pages).base (ground p pages).texts place m kss
+  abbrev stands_in : List Kinds → Context
+  stands_in kss = context p (ground p pages).base (ground p pages).texts place m kss
 
-  parts : (kss : List Kinds) (fs : List Ty) → AreFrames kss fs → AreRooms fs → HasSmallParts (standing kss) fs
+  parts : (kss : List Kinds) (fs : List Ty) → AreFrames kss fs → AreRooms fs → HasSmallParts (stands_in kss) fs
   parts kss fs known rooms = record { ranges = ranges; cells = cells; types = small.types; rows = small.rows; known = known; frames = rooms; procedures = small.procedures; texts = small.texts }
 
   -- ---- procedures
@@ -231,7 +227,7 @@ module _ (p : Program) (pages place : ℕ) (m : TypedModule) (ranged : AreRanged
       let h = parts (kinds_of m.types r ∷ environment_of m r) fs (frame_is m.types r, frames_are r.level r.around) (room, rooms_are r.level r.around) in
       let t = typed.procedures w r e in
       let body : Const (routine_coded numbers m r (characters (texts_before m w m.order))).0 = record {
-        fit = constants_fit (standing (kinds_of m.types r ∷ environment_of m r)) fs h (result_of m.types r.heading) [] false (text_of m w) t.0 r.body t.1 numbers _ _ refl refl refl;
+        fit = constants_fit (stands_in (kinds_of m.types r ∷ environment_of m r)) fs h (result_of m.types r.heading) [] false (text_of m w) t.0 r.body t.1 numbers _ _ refl refl refl;
       } in
       (const_both (const_both (const_enter _ _ (few_frame _ room)) (const_both (const_link_kept r)
       (const_formals m.types cells small.types (frame m.types r) (kinds_of m.types r) (frame_is m.types r, tt) room _ _ 0 _ (formals_of m.types r.heading) (map (λ (t : TypeNo). Kept (tree m.types t)) r.variables) refl)))
@@ -241,19 +237,19 @@ module _ (p : Program) (pages place : ℕ) (m : TypedModule) (ranged : AreRanged
   routines_const numbers w n [] h = refl
   routines_const numbers w n (r ∷ rs) h =
       both_true _ _ (routine_const numbers (w n) r (first n (h 0 r refl))) (routines_const numbers w (suc n) rs (λ k q e. later n k q (h (suc k) q e)))
-      where
-        first : (n : ℕ) → routine_of m (w (n + 0)) ≡ Some r → routine_of m (w n) ≡ Some r
-        first n e = let z : n + 0 ≡ n = omega arith in subst (λ (j : ℕ). routine_of m (w j) ≡ Some r) z e
+    where
+      first : (n : ℕ) → routine_of m (w (n + 0)) ≡ Some r → routine_of m (w n) ≡ Some r
+      first n e = let z : n + 0 ≡ n = omega arith in subst (λ (j : ℕ). routine_of m (w j) ≡ Some r) z e
 
-        later : (n k : ℕ) (q : Routine) → routine_of m (w (n + suc k)) ≡ Some q → routine_of m (w (suc n + k)) ≡ Some q
-        later n k q e = let z : n + suc k ≡ suc n + k = omega arith in subst (λ (j : ℕ). routine_of m (w j) ≡ Some q) z e
+      later : (n k : ℕ) (q : Routine) → routine_of m (w (n + suc k)) ≡ Some q → routine_of m (w (suc n + k)) ≡ Some q
+      later n k q e = let z : n + suc k ≡ suc n + k = omega arith in subst (λ (j : ℕ). routine_of m (w j) ≡ Some q) z e
 
   module_const : (numbers : Numbered) → code_constants_fit (module_function numbers m).body.code ≡ true
   module_const numbers =
       let fs = frame_of [] ∷ [] in
       let h = parts [] fs tt (own_room, tt) in
       let t = typed.body in
-      let body : Const (module_coded numbers m).0 = record { fit = constants_fit (standing []) fs h None [] false (characters (routines_texts m)) t.0 m.body t.1 numbers _ _ refl refl refl } in
+      let body : Const (module_coded numbers m).0 = record { fit = constants_fit (stands_in []) fs h None [] false (characters (routines_texts m)) t.0 m.body t.1 numbers _ _ refl refl refl } in
       (const_both (const_enter 1 _ (few_frame _ own_room)) (const_both body const_end)).fit
 
   from_nought : (n k : ℕ) → n ≡ 0 → n + k ≡ k

@@ -1,13 +1,13 @@
 -- The constants in the code of typed statements fit.
-use Rattle.std.proofs.Common.{map, ◌≡◌, ℕ, zero, suc, ◌+◌, ◌≤◌, ◌<◌, Bool, true, false, ◌&&◌, List, [], ◌∷◌, ◌++◌, length, Option, Some, None, refl, sym, ap, subst, ◌∙◌, arith}
-use Rattle.std.specs.Prelude.{if◌then◌else◌, ◌-◌, nat_le, ℤ, pos, negsuc, ◌≤ℤ◌, int_le}
-use Rattle.std.specs.List.{flat_map, fold}
+use Rattle.std.proofs.Common.{map, ◌≡◌, ℕ, suc, ◌+◌, ◌≤◌, ◌<◌, Bool, true, false, ◌&&◌, List, [], ◌∷◌, ◌++◌, length, Some, None, refl, sym, subst, arith}
+use Rattle.std.specs.Prelude.{if◌then◌else◌, ◌-◌, nat_le, ℤ, pos, ◌≤ℤ◌, int_le}
+use Rattle.std.specs.List.{fold}
 use Rattle.std.proofs.lemmas.Bool.{and_parts, leb-true}
 use Rattle.std.proofs.lemmas.Int.{ints}
 use Rattle.wasm_tree.specs.declared.instr.Instr.{Instr}
-use Rattle.wasm_tree.specs.declared.instr.Instr.TheVariants.{LocalGet, LocalSet, LocalTee, I32Const, If, Br, BrIf, Call}
+use Rattle.wasm_tree.specs.declared.instr.Instr.TheVariants.{LocalGet, I32Const, If, Br, BrIf, Call}
 use Rattle.wasm_tree.specs.declared.instr.Operation.TheVariants.{Add}
-use Rattle.typed_tree.specs.declared.computed.Place.{Place, out-Place}
+use Rattle.typed_tree.specs.declared.computed.Place.{Place}
 use Rattle.typed_tree.specs.declared.computed.Component.{Component}
 use Rattle.typed_tree.specs.declared.computed.Root.{Root}
 use Rattle.typed_tree.specs.declared.computed.TypedExpr.{TypedExpr}
@@ -21,16 +21,14 @@ use Rattle.typed_tree.specs.declared.statement.TypedStmt.TheOpen as layer
 use Rattle.typed_tree.specs.declared.statement.TypedStmt.TheVariants as stmt
 use Rattle.typed_tree.specs.declared.typed_module.TypedModule.{TypedModule}
 use Rattle.typed_tree.specs.declared.types.TypeNo.{TypeNo}
-use Rattle.typed_tree.specs.Types.{char, bitset}
-use Rattle.layout_storage.specs.Types.{Ty, Scalar, Callable, Cell}
+use Rattle.layout_storage.specs.Types.{Ty, Callable, Cell}
 use Rattle.layout_storage.specs.Shapes.{tree}
 use Rattle.layout_storage.specs.Sizes.{size}
 use Rattle.def_meaning.specs.Answer.{case_fault, halted, range_fault}
-use Rattle.def_scheme.specs.Coded.{Coded, Setting, Counts, plain, ◌⨾◌, all_coded, within, with_address, with_number, with_text, with_setting, number, operation, relation, wrapped, is_zero, copy, put, fault}
+use Rattle.def_scheme.specs.Coded.{Coded, Setting, Counts, plain, all_coded, with_setting, number, operation, relation, copy}
 use Rattle.def_scheme.specs.Cells.{loaded, stored, in_type, check_taken}
-use Rattle.def_scheme.specs.Exprs.{Numbered, Part, behind, root_layer, expr_part, place_code, call_code}
-use Rattle.def_scheme.specs.Steps.{Arm, block, loop, block_loop, leaving, under, if_else, if_only, tests_code, arm_code, chain_code, lesser, all_labels, least_of, span_of, is_dense, all_values, dispatch, boxed, jump_arms, table_code, case_code, else_code, passes, for_begin, for_turn, for_code, changed, change_code, with_member, member_code, text_copied, copy_text_code, taken, step_layer, arm_layer, step_code, body_code}
-use Rattle.law_simulation.specs.Frames.{Kept}
+use Rattle.def_scheme.specs.Exprs.{Numbered, Part, expr_part, place_code}
+use Rattle.def_scheme.specs.Steps.{Arm, block, loop, block_loop, leaving, under, if_else, tests_code, arm_code, chain_code, lesser, all_labels, least_of, span_of, is_dense, boxed, jump_arms, table_code, case_code, passes, for_turn, for_code, changed, change_code, with_member, member_code, text_copied, copy_text_code, taken, step_layer, step_code, body_code}
 use Rattle.law_simulation.specs.Passing.{Result}
 use Rattle.law_simulation.specs.Scene.{AreLabels}
 use Rattle.law_simulation.specs.StmtsTyped as steps
@@ -42,7 +40,7 @@ use Rattle.law_encoding.specs.SmallParts.{HasSmallParts}
 use Rattle.law_encoding.specs.ValidNumbers.{code_constants_fit}
 use Rattle.law_encoding.proofs.Constants.{jumps, jumps_if, goes_back, calls, gets, sets, tees, address, IsLow, signed, computes, Const, const_end, ◌▹◌, const_both, blocks, loops, tests, chooses}
 use Rattle.law_encoding.proofs.ConstantPieces.{narrow_low, const_fault, const_checked, const_loaded, const_stored, const_in_type, const_taken, const_tests, const_dispatch, const_changed, const_with_member, const_copied}
-use Rattle.law_encoding.proofs.ConstantCode.{Fine, fine_plain, fine_then, fine_within, fine_setting, fine_number, fine_address, fine_text, fine_types, root_fine, place_by, expr_fine, held_fine, place_fine, call_fine}
+use Rattle.law_encoding.proofs.ConstantCode.{Fine, fine_plain, fine_then, fine_within, fine_setting, fine_number, fine_address, fine_text, fine_types, expr_fine, held_fine, place_fine, call_fine}
 use Rattle.law_encoding.proofs.DeepCodeSteps.{of_arm, opened_step, at_step, at_arm}
 
 -- ---- labels
@@ -140,13 +138,13 @@ module _ (x : Context) (fs : List Ty) (small : HasSmallParts x fs) (numbered : N
   labels_in (no_arms a) = tt
   labels_in (more_arms a b c y ys l p ps) = both_labels y.labels (all_labels ys) l (labels_in ps)
 
-  chained : {a b : ℕ} (t : ℕ) {ys : List Arm} → ArmsFine a b ys → Good a b (all_coded (map (arm_code t) ys))
-  chained t (no_arms a) = fine_plain m fs a const_end
-  chained t (more_arms a b c y ys l p ps) =
-      fine_then m fs (fine_within m fs 1 (λ code. block (block (tests_code t y.labels) ++ (code ++ Br 1 ∷ []))) (λ code q. const_block (const_both (const_block (const_tests t y.labels l)) (const_both q (jumps 1 ▹ const_end)))) p) (chained t ps)
+  chain_arms : {a b : ℕ} (t : ℕ) {ys : List Arm} → ArmsFine a b ys → Good a b (all_coded (map (arm_code t) ys))
+  chain_arms t (no_arms a) = fine_plain m fs a const_end
+  chain_arms t (more_arms a b c y ys l p ps) =
+      fine_then m fs (fine_within m fs 1 (λ code. block (block (tests_code t y.labels) ++ (code ++ Br 1 ∷ []))) (λ code q. const_block (const_both (const_block (const_tests t y.labels l)) (const_both q (jumps 1 ▹ const_end)))) p) (chain_arms t ps)
 
   chain_fine : {a b c : ℕ} (t : ℕ) {ys : List Arm} {z : Coded} → ArmsFine a b ys → Good b c z → Good a c (chain_code t ys z)
-  chain_fine t ps q = fine_within m fs 1 block (λ code r. const_block r) (fine_then m fs (chained t ps) q)
+  chain_fine t ps q = fine_within m fs 1 block (λ code r. const_block r) (fine_then m fs (chain_arms t ps) q)
 
   jumps_fine : {a b c : ℕ} {ys : List Arm} {inner : Coded} → ArmsFine b c ys → Good a b inner → Good a c (jump_arms ys inner)
   jumps_fine (no_arms b) q = q

@@ -1,5 +1,5 @@
 -- Code whose constants fit, by its instructions.
-use Rattle.std.proofs.Common.{map, ◌≡◌, ℕ, ◌+◌, ◌^◌, ◌<◌, Bool, true, false, ◌&&◌, nat_lt, List, [], ◌∷◌, ◌++◌, Option, Some, None, refl, sym, ap, ◌∙◌, arith}
+use Rattle.std.proofs.Common.{map, ◌≡◌, ℕ, ◌^◌, ◌<◌, Bool, true, false, List, [], ◌∷◌, ◌++◌, Option, Some, None, refl, ◌∙◌, arith}
 use Rattle.std.specs.Prelude.{if◌then◌else◌}
 use Rattle.std.specs.List.{list_all}
 use Rattle.std.specs.Int.{cast_unsigned, w64}
@@ -116,19 +116,19 @@ const_either false p q = q
 
 -- ---- blocks
 
-mapped : (code : List Instr) → code_constants_fit code ≡ true → all_fit (map constants_fit code) ≡ true
+constants_mapped : (code : List Instr) → code_constants_fit code ≡ true → all_fit (map constants_fit code) ≡ true
 unfolding code_constants_fit
-mapped code e = mapped_all constants_fit code ∙ e
+constants_mapped code e = mapped_all constants_fit code ∙ e
 
 pub blocks : (t : Option ValueType) {code : List Instr} → Const code → constants_fit (instr.Block t code) ≡ true
-blocks t {code} p = at_constants (instr.Block t code) (layer.Block t code) (instr.outs-Block t code) ∙ mapped code p.fit
+blocks t {code} p = at_constants (instr.Block t code) (layer.Block t code) (instr.outs-Block t code) ∙ constants_mapped code p.fit
 
 pub loops : (t : Option ValueType) {code : List Instr} → Const code → constants_fit (instr.Loop t code) ≡ true
-loops t {code} p = at_constants (instr.Loop t code) (layer.Loop t code) (instr.outs-Loop t code) ∙ mapped code p.fit
+loops t {code} p = at_constants (instr.Loop t code) (layer.Loop t code) (instr.outs-Loop t code) ∙ constants_mapped code p.fit
 
 pub tests : (t : Option ValueType) {code : List Instr} → Const code → constants_fit (instr.If t code None) ≡ true
-tests t {code} p = at_constants (instr.If t code None) (layer.If t code None) (instr.outs-If t code None) ∙ both_true _ _ (mapped code p.fit) refl
+tests t {code} p = at_constants (instr.If t code None) (layer.If t code None) (instr.outs-If t code None) ∙ both_true _ _ (constants_mapped code p.fit) refl
 
 pub chooses : (t : Option ValueType) {code others : List Instr} → Const code → Const others → constants_fit (instr.If t code (Some others)) ≡ true
 chooses t {code} {others} p q =
-    at_constants (instr.If t code (Some others)) (layer.If t code (Some others)) (instr.outs-If t code (Some others)) ∙ both_true _ _ (mapped code p.fit) (mapped others q.fit)
+    at_constants (instr.If t code (Some others)) (layer.If t code (Some others)) (instr.outs-If t code (Some others)) ∙ both_true _ _ (constants_mapped code p.fit) (constants_mapped others q.fit)

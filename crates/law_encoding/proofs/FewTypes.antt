@@ -1,5 +1,5 @@
 -- Few types of functions have an encoding.
-use Rattle.std.proofs.Common.{map, ◌≡◌, ℕ, zero, suc, ◌+◌, ◌*◌, ◌≤◌, ◌<◌, Bool, true, false, nat_lt, List, [], ◌∷◌, ◌++◌, length, refl, ap, ◌∙◌, arith}
+use Rattle.std.proofs.Common.{map, ◌≡◌, ℕ, zero, suc, ◌+◌, ◌*◌, ◌≤◌, ◌<◌, Bool, true, false, nat_lt, List, [], ◌∷◌, ◌++◌, length, refl, ap, arith}
 use Rattle.std.specs.List.{list_all, flat_map, AllByRecursion}
 use Rattle.std.proofs.lemmas.Bool.{and_parts, lt-ltb}
 use Rattle.std.proofs.lemmas.List.{length-append}
@@ -12,11 +12,11 @@ use Rattle.wasm_code.specs.Instructions.{value_type}
 use Rattle.wasm_binary.specs.Binary.{func_type}
 use Rattle.typed_tree.specs.declared.typed_module.TypedModule.{TypedModule}
 use Rattle.def_scheme.specs.Scheme.{body_types}
-use Rattle.def_scheme.specs.Signatures.{Signature, Signatures, needed, so_many, results_of, type_of}
+use Rattle.def_scheme.specs.Signatures.{Signatures, needed, so_many, results_of, type_of}
 use Rattle.def_scheme.specs.Modules.{signatures}
 use Rattle.law_encoding.specs.Sizes.{sum_of}
 use Rattle.law_encoding.specs.Fits.{max_bytes, few_entries}
-use Rattle.law_encoding.specs.FunctionTypes.{type_counts, types_count}
+use Rattle.law_encoding.specs.FunctionTypes.{types_count}
 use Rattle.law_encoding.proofs.Sums.{sum_append}
 use Rattle.law_encoding.proofs.CodeFits.{both_true}
 use Rattle.law_encoding.proofs.EncodedBytes.{unsigned_short}

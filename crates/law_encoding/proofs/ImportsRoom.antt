@@ -1,11 +1,9 @@
 -- The imports of the module of a body have an encoding, if there are few names and short ones.
-use Rattle.std.proofs.Common.{map, ◌≡◌, ℕ, suc, ◌+◌, ◌*◌, ◌≤◌, ◌<◌, Bool, true, false, ◌&&◌, nat_lt, List, [], ◌∷◌, ◌++◌, length, Option, Some, None, refl, sym, ap, subst, ◌∙◌, arith}
+use Rattle.std.proofs.Common.{map, ◌≡◌, ℕ, suc, ◌+◌, ◌*◌, ◌≤◌, ◌<◌, true, ◌&&◌, List, [], ◌∷◌, ◌++◌, length, Option, Some, None, refl, arith}
 use Rattle.std.specs.Prelude.{codes}
-use Rattle.std.specs.List.{list_all, flat_map}
-use Rattle.std.proofs.lemmas.Bool.{and_parts, lt-ltb}
-use Rattle.std.proofs.lemmas.List.{length-append, length-map}
-use Rattle.wasm_tree.specs.declared.kinds.Limits.{Limits}
-use Rattle.wasm_tree.specs.declared.kinds.ValueType.{ValueType}
+use Rattle.std.specs.List.{list_all}
+use Rattle.std.proofs.lemmas.Bool.{and_parts}
+use Rattle.std.proofs.lemmas.List.{length-append}
 use Rattle.wasm_tree.specs.declared.kinds.ValueType.TheVariants.{I32, I64}
 use Rattle.wasm_tree.specs.declared.module.Import.{Import}
 use Rattle.wasm_tree.specs.declared.module.ImportKind.{ImportKind}
@@ -16,12 +14,11 @@ use Rattle.wasm_code.specs.Instructions.{value_type}
 use Rattle.wasm_binary.specs.Binary.{limits, table_type, memory_type, import_kind, import}
 use Rattle.typed_tree.specs.declared.typed_module.Imported.{Imported}
 use Rattle.typed_tree.specs.declared.typed_module.TypedModule.{TypedModule}
-use Rattle.def_scheme.specs.Scheme.{at_least_one, base_name, text_name, tab_name, from_link, from_host, own_imports, imported_globals, host_imports}
+use Rattle.def_scheme.specs.Scheme.{at_least_one, base_name, text_name, tab_name, from_link, from_host, imported_globals, host_imports}
 use Rattle.def_scheme.specs.Modules.{imports}
 use Rattle.law_encoding.specs.Sizes.{sum_of}
 use Rattle.law_encoding.specs.Fits.{max_bytes, few_entries}
 use Rattle.law_encoding.specs.ImportsRoom.{imported_length, NamesAreShort}
-use Rattle.law_encoding.proofs.Sums.{sum_append}
 use Rattle.law_encoding.proofs.CodeFits.{both_true}
 use Rattle.law_encoding.proofs.EncodedBytes.{unsigned_short}
 use Rattle.law_encoding.proofs.Sections.{section_fits}

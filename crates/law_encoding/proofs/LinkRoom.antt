@@ -1,36 +1,30 @@
 -- The module link has room, if the program is small.
-use Rattle.std.proofs.Common.{map, ◌≡◌, ℕ, zero, suc, ◌+◌, ◌*◌, ◌≤◌, ◌<◌, Bool, true, false, ◌&&◌, nat_lt, List, [], ◌∷◌, ◌++◌, length, Option, Some, None, refl, sym, ap, subst, ◌∙◌, arith}
+use Rattle.std.proofs.Common.{map, ◌≡◌, ℕ, suc, ◌+◌, ◌*◌, ◌≤◌, ◌<◌, true, List, [], ◌∷◌, ◌++◌, length, Some, refl, sym, subst, ◌∙◌, arith}
 use Rattle.std.specs.Prelude.{codes}
 use Rattle.std.specs.List.{list_all, flat_map}
-use Rattle.std.proofs.lemmas.Bool.{and_parts, lt-ltb, ltb-true}
+use Rattle.std.proofs.lemmas.Bool.{and_parts, lt-ltb}
 use Rattle.std.proofs.lemmas.List.{length-append, length-map}
-use Rattle.wasm_tree.specs.declared.kinds.FuncType.{FuncType}
 use Rattle.wasm_tree.specs.declared.kinds.Limits.{Limits}
 use Rattle.wasm_tree.specs.declared.kinds.ValueType.TheVariants.{I32}
-use Rattle.wasm_tree.specs.declared.instr.Instr.{Instr}
 use Rattle.wasm_tree.specs.declared.instr.Instr.TheOpen as layer
 use Rattle.wasm_tree.specs.declared.instr.Instr.TheVariants.{I32Const, GlobalGet, CallIndirect, outs-I32Const, outs-GlobalGet, outs-CallIndirect}
 use Rattle.wasm_tree.specs.declared.module.Export.{Export}
 use Rattle.wasm_tree.specs.declared.module.ExportKind.{ExportKind}
 use Rattle.wasm_tree.specs.declared.module.ExportKind.TheVariants as exported
-use Rattle.wasm_tree.specs.declared.module.Function.{Function}
 use Rattle.wasm_tree.specs.declared.module.Global.{Global}
 use Rattle.wasm_tree.specs.declared.kinds.TableType.{TableType}
-use Rattle.wasm_tree.specs.declared.kinds.MemoryType.{MemoryType}
 use Rattle.wasm_code.specs.Number.{unsigned}
 use Rattle.wasm_code.specs.Parts.{name, section}
-use Rattle.wasm_code.specs.Instructions.{value_type, code}
-use Rattle.wasm_binary.specs.Binary.{limits, table_type, memory_type, global, export_kind_fits, export_kind_encoding, export_kind, export, func_type, module_fits}
+use Rattle.wasm_code.specs.Instructions.{value_type}
+use Rattle.wasm_binary.specs.Binary.{limits, table_type, memory_type, global, export_kind, export, func_type, module_fits}
 use Rattle.typed_tree.specs.declared.typed_module.TypedModule.{TypedModule}
 use Rattle.def_scheme.specs.Scheme.{type_from, constant_global, exported_as, base_name, text_name, tab_name}
-use Rattle.def_scheme.specs.Modules.{max_pages, helper, Part, part_of, globals_from, exports_from, stack_begin, all_slots, calls_from, typed_link}
+use Rattle.def_scheme.specs.Modules.{max_pages, Part, part_of, globals_from, exports_from, stack_begin, all_slots, calls_from, typed_link}
 use Rattle.law_encoding.specs.Sizes.{sum_of}
-use Rattle.law_encoding.specs.Nesting.{deepest_of}
-use Rattle.law_encoding.specs.CodeNesting.{function_levels}
-use Rattle.law_encoding.specs.CodeBytes.{bytes, function_bytes}
+use Rattle.law_encoding.specs.CodeBytes.{bytes}
 use Rattle.law_encoding.specs.CodeNumbers.{code_numbers_fit}
 use Rattle.law_encoding.specs.Fits.{max_bytes, few_entries, FunctionsFit}
-use Rattle.law_encoding.specs.LinkRoom.{name_length, LinkIsSmall}
+use Rattle.law_encoding.specs.LinkRoom.{LinkIsSmall}
 use Rattle.law_encoding.proofs.Sums.{sum_append, sum_map}
 use Rattle.law_encoding.proofs.CodeFits.{both_true, at_numbers}
 use Rattle.law_encoding.proofs.CodeLengths.{Short, short_end}

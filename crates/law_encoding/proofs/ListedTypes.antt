@@ -1,10 +1,9 @@
 -- The types that a module lists count no more than those that it needs.
-use Rattle.std.proofs.Common.{◌≡◌, ℕ, zero, suc, ◌+◌, ◌≤◌, ◌<◌, ◌==◌, Bool, true, false, ◌&&◌, ◌||◌, List, [], ◌∷◌, ◌++◌, length, refl, sym, ap, subst, ◌∙◌, inl, inr, arith}
+use Rattle.std.proofs.Common.{◌≡◌, ℕ, zero, suc, ◌+◌, ◌≤◌, ◌<◌, ◌==◌, Bool, true, false, ◌&&◌, ◌||◌, [], ◌∷◌, ◌++◌, refl, subst, arith}
 use Rattle.std.specs.Prelude.{if◌then◌else◌}
-use Rattle.std.specs.List.{flat_map, list_any, range_with_len}
+use Rattle.std.specs.List.{flat_map, range_with_len}
 use Rattle.std.proofs.lemmas.Bool.{eqb-true}
 use Rattle.def_scheme.specs.Signatures.{Signature, Signatures, signature, same_result, is_same, is_among, if_among, of_arguments, most_arguments, ordered}
-use Rattle.law_encoding.specs.Sizes.{sum_of}
 use Rattle.law_encoding.specs.FunctionTypes.{type_counts, types_count}
 use Rattle.law_encoding.proofs.Sums.{sum_append}
 

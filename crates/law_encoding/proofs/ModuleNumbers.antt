@@ -1,15 +1,13 @@
 -- The indexes in the code of a valid module with few parts fit.
-use Rattle.std.proofs.Common.{map, ◌≡◌, ℕ, zero, suc, ◌+◌, ◌*◌, ◌≤◌, ◌<◌, Bool, true, nat_lt, List, [], ◌∷◌, ◌++◌, length, Option, Some, None, refl, sym, ap, subst, ◌∙◌, arith}
+use Rattle.std.proofs.Common.{map, ◌≡◌, ℕ, zero, suc, ◌+◌, ◌*◌, ◌≤◌, ◌<◌, true, List, [], ◌∷◌, ◌++◌, length, Option, Some, None, refl, sym, subst, ◌∙◌, arith}
 use Rattle.std.specs.Prelude.{slice_get, replicate, All}
-use Rattle.std.specs.List.{list_all, flat_map, filter_map, cons_option, AllByRecursion}
+use Rattle.std.specs.List.{list_all, filter_map, cons_option, AllByRecursion}
 use Rattle.std.proofs.lemmas.List.Sums.{sum_by-cons}
 use Rattle.std.proofs.lemmas.Bool.{and_parts, lt-ltb}
 use Rattle.std.proofs.lemmas.List.{length-append, length-map, length-replicate}
 use Rattle.std.proofs.lemmas.List.Elements.{All-head, All-tail}
 use Rattle.wasm_tree.specs.declared.kinds.FuncType.{FuncType}
-use Rattle.wasm_tree.specs.declared.kinds.ValueType.{ValueType}
 use Rattle.wasm_tree.specs.declared.module.Function.{Function}
-use Rattle.wasm_tree.specs.declared.module.Import.{Import}
 use Rattle.wasm_tree.specs.declared.module.Locals.{Locals}
 use Rattle.wasm_tree.specs.Validity as valid
 use Rattle.wasm_tree.specs.Validity.{Context, context, function_context, function_import, global_import, IsFunction, IsValid}
@@ -66,9 +64,9 @@ kept_few : {B : Type 0} (o : Option B) (ys : List B) (n : ℕ) → length ys ≤
 kept_few None ys n h = omega (arith, h)
 kept_few (Some y) ys n h = omega (arith, h)
 
-filtered : {A B : Type 0} (f : A → Option B) (xs : List A) → length (filter_map f xs) ≤ length xs
-filtered f [] = omega arith
-filtered f (x ∷ xs) = kept_few (f x) (filter_map f xs) (length xs) (filtered f xs)
+filter_few : {A B : Type 0} (f : A → Option B) (xs : List A) → length (filter_map f xs) ≤ length xs
+filter_few f [] = omega arith
+filter_few f (x ∷ xs) = kept_few (f x) (filter_map f xs) (length xs) (filter_few f xs)
 
 imported_two : (ns : List (List ℕ)) → length (imported_globals ns) ≡ 2 * length ns
 imported_two [] = refl
@@ -172,16 +170,16 @@ module_names m p =
       types = types_few _ (length (map type_of (signatures m))) (types_count (signatures m)) (length-append body_types (map type_of (signatures m))) (le_mapped (signatures m)) few;
       functions =
           functions_few _ (length (filter_map function_import (imports m))) (length (map (λ (f : Function). f.type_index) (functions m))) (length (imports m)) (length m.imports) (length (functions m)) (sum_of function_bytes (functions m))
-          (length-append (filter_map function_import (imports m)) (map (λ (f : Function). f.type_index) (functions m))) (filtered function_import (imports m)) (imports_count m) p.imported (length-map (functions m) (λ (f : Function). f.type_index))
+          (length-append (filter_map function_import (imports m)) (map (λ (f : Function). f.type_index) (functions m))) (filter_few function_import (imports m)) (imports_count m) p.imported (length-map (functions m) (λ (f : Function). f.type_index))
           (eleven (functions m)) p.size;
-      globals = globals_few _ (length (filter_map global_import (imports m))) (length (imports m)) (length m.imports) (length-append (filter_map global_import (imports m)) []) (filtered global_import (imports m)) (imports_count m) p.imported;
+      globals = globals_few _ (length (filter_map global_import (imports m))) (length (imports m)) (length m.imports) (length-append (filter_map global_import (imports m)) []) (filter_few global_import (imports m)) (imports_count m) p.imported;
       params = all_params (signatures m) few;
     }
-    where
-      le_mapped : (ss : Signatures) → length (map type_of ss) ≤ types_count ss
-      le_mapped ss = by (length (map type_of ss)) (length ss) (types_count ss) (length-map ss type_of) (length_below type_counts one_at_least ss) where
-        by : (a b k : ℕ) → a ≡ b → b ≤ k → a ≤ k
-        by a b k e h = omega (arith, e, h)
+  where
+    le_mapped : (ss : Signatures) → length (map type_of ss) ≤ types_count ss
+    le_mapped ss = by (length (map type_of ss)) (length ss) (types_count ss) (length-map ss type_of) (length_below type_counts one_at_least ss) where
+      by : (a b k : ℕ) → a ≡ b → b ≤ k → a ≤ k
+      by a b k e h = omega (arith, e, h)
 
 pub module_uses : (m : TypedModule) → IsWellFormed m → HasFewParts m → list_all unsigned.fits (types_of (functions m)) ≡ true
 module_uses m formed p = let v : IsValid (typed_module m) = typed_module_valid m formed in uses_fit (context (typed_module m)) (module_names m p) (functions m) v.bodies.functions

@@ -1,5 +1,5 @@
 -- The types that a well formed module needs count at most two for each that it counts.
-use Rattle.std.proofs.Common.{map, ◌≡◌, ℕ, suc, ◌+◌, ◌*◌, ◌≤◌, ◌<◌, Bool, true, false, List, [], ◌∷◌, ◌++◌, length, refl, sym, ap, subst, ◌∙◌, arith}
+use Rattle.std.proofs.Common.{map, ◌≡◌, ℕ, suc, ◌+◌, ◌*◌, ◌≤◌, Bool, true, false, List, [], ◌∷◌, ◌++◌, length, refl, sym, ap, subst, arith}
 use Rattle.std.specs.Prelude.{if◌then◌else◌, nat_lt, All}
 use Rattle.std.specs.List.{flat_map}
 use Rattle.std.proofs.lemmas.List.Elements.{All-head, All-tail}
@@ -9,8 +9,8 @@ use Rattle.typed_tree.specs.declared.typed_module.Routine.{Routine}
 use Rattle.typed_tree.specs.declared.typed_module.TypedModule.{TypedModule}
 use Rattle.layout_storage.specs.Frames.{formals_of}
 use Rattle.def_scheme.specs.Exprs.{all_arguments, arguments_of, has_result}
-use Rattle.def_scheme.specs.Functions.{link_arguments, numbers_of}
-use Rattle.def_scheme.specs.Signatures.{Signatures, joined, of_step, of_routine, needed, signature}
+use Rattle.def_scheme.specs.Functions.{link_arguments}
+use Rattle.def_scheme.specs.Signatures.{Signatures, joined, of_step, of_routine, needed}
 use Rattle.law_modules.specs.WellFormed.{AreStmts, IsBody, IsWellFormed}
 use Rattle.law_encoding.specs.Sizes.{sum_of}
 use Rattle.law_encoding.specs.TypedSizes.{size_body}

@@ -13,7 +13,6 @@ use Rattle.m2_tree.specs.declared.decl.Block.{Block, Block-F, out-Block, roll-Bl
 use Rattle.m2_tree.specs.declared.decl.Module.{Module}
 use Rattle.m2_tree.specs.declared.decl.Contents.{Contents}
 use Rattle.m2_tree.specs.declared.decl.Contents.TheVariants as contents
-use Rattle.m2_tree.specs.declared.token.Token.{Token}
 use Rattle.typed_tree.specs.declared.types.TypeNo.{TypeNo}
 use Rattle.typed_tree.specs.declared.statement.TypedStmt.{TypedStmt}
 use Rattle.typed_tree.specs.declared.table.Table.{Table}
@@ -22,13 +21,12 @@ use Rattle.typed_tree.specs.declared.typed_module.TypedModule.{TypedModule}
 use Rattle.typed_tree.specs.declared.typed_module.Which.{Which}
 use Rattle.typed_tree.specs.declared.typed_module.Which.TheVariants as which
 use Rattle.typed_tree.specs.Types.{integer}
-use Rattle.def_grammar.specs.Refusal.{IsTree, max_nesting}
 use Rattle.check_scope.specs.declared.scope.Scope.{Scope}
 use Rattle.check_scope.specs.declared.scope.Block.{Block as Around}
 use Rattle.check_scope.specs.Elaborated.{Gathers}
 use Rattle.check_scope.specs.Scopes.{State}
-use Rattle.check_definition.specs.Importing.{numbered_modules, with_import}
-use Rattle.check_definition.specs.Predeclared.{console, first_scope}
+use Rattle.check_definition.specs.Importing.{with_import}
+use Rattle.check_definition.specs.Predeclared.{first_scope}
 use Rattle.check_block.specs.Naming.{with_marks}
 use Rattle.check_block.specs.Nesting.{procedure_ends, within}
 use Rattle.check_block.specs.Declarations.{Declared, all_declared, declared_module}
@@ -36,18 +34,18 @@ use Rattle.check_body.specs.declared.routine.Bodies.{Bodies}
 use Rattle.check_body.specs.declared.routine.Numbered.{Numbered}
 use Rattle.check_body.specs.declared.procedure.Walk.{Walk}
 use Rattle.check_body.specs.Own.{implementation_scope}
-use Rattle.check_body.specs.Routines.{unfilled, begun_at, no_bodies, filled, routine, typed_module}
-use Rattle.check_body.specs.Elaborating.{Elaborates, statements_of}
+use Rattle.check_body.specs.Routines.{unfilled, filled, routine, typed_module}
+use Rattle.check_body.specs.Elaborating.{Elaborates}
 use Rattle.check_body.specs.Inside.{which_of, with_routine}
 use Rattle.check_body.specs.Bodies.{Steps, Checks, ChecksBlock, marked_by, declared_by, checked_by, begun_from, with_body, procedure_checked, steps_layer, block_layer, steps, checks_block, checks_decl, bodies_checked}
 use Rattle.check_body.specs.Checked.{begun_module, walked, of_walk, of_implementation, of_contents, checked}
 use Rattle.law_well_formed.specs.FormedScopes.{Leads}
 use Rattle.law_well_formed.specs.FormedBodies.{FormsStatements, Keeps, FormedBlock}
-use Rattle.law_well_formed.proofs.Parts.{AreSteps, nothing_at, no_home, nothing_open, all_marks, all_lead}
+use Rattle.law_well_formed.proofs.Parts.{nothing_at, no_home, nothing_open, all_marks, all_lead}
 use Rattle.law_well_formed.proofs.Checks.{entry, inner, inside}
 use Rattle.law_well_formed.proofs.BodiesBlocks.{step_keeps}
 use Rattle.law_well_formed.proofs.Induction.{decls_formed, blocks_formed}
-use Rattle.law_well_formed.proofs.ModulesSteps.{total, are_steps, declared_is}
+use Rattle.law_well_formed.proofs.ModulesSteps.{are_steps, declared_is}
 use Rattle.law_encoding.specs.Nesting.{◌⊔◌, deepest_of, deepest}
 use Rattle.law_encoding.specs.Counted.{AtMost, fine, broken}
 use Rattle.law_encoding.specs.Outward.{outward_body, outward_routine, outward_bodies}

@@ -1,5 +1,5 @@
 -- In valid code only constants can be too large.
-use Rattle.std.proofs.Common.{map, ◌≡◌, ℕ, zero, suc, ◌+◌, ◌*◌, ◌≤◌, ◌<◌, Bool, true, false, ◌&&◌, nat_lt, List, [], ◌∷◌, ◌++◌, length, Option, Some, None, refl, sym, ap, subst, ◌∙◌, arith}
+use Rattle.std.proofs.Common.{map, ◌≡◌, ℕ, suc, ◌+◌, ◌*◌, ◌≤◌, ◌<◌, Bool, true, ◌&&◌, nat_lt, List, [], ◌∷◌, ◌++◌, length, Some, None, refl, sym, ap, subst, ◌∙◌, arith}
 use Rattle.std.specs.Prelude.{slice_get, All}
 use Rattle.std.specs.List.{list_all}
 use Rattle.std.proofs.lemmas.Bool.{and_parts, lt-ltb}
@@ -7,12 +7,11 @@ use Rattle.std.proofs.lemmas.List.Elements.{All-head, All-tail}
 use Rattle.wasm_tree.specs.declared.kinds.ValueType.{ValueType}
 use Rattle.wasm_tree.specs.declared.instr.Instr.{Instr, Instr-F, out-Instr, map-Instr, fold_out-Instr}
 use Rattle.wasm_tree.specs.declared.instr.Instr.TheOpen as layer
-use Rattle.wasm_tree.specs.Validity.{Context, within, result_types, side_of, IsPlain, Types, Plain, Block, Loop, If, Leads, Empty, More}
+use Rattle.wasm_tree.specs.Validity.{Context, within, result_types, IsPlain, Types, Plain, Block, Loop, If, Leads, Empty, More}
 use Rattle.wasm_code.specs.Number.{unsigned}
-use Rattle.wasm_code.specs.Parts.{vector}
-use Rattle.law_encoding.specs.Sizes.{sum_of, total}
+use Rattle.law_encoding.specs.Sizes.{total}
 use Rattle.law_encoding.specs.CodeBytes.{instr_layer, bytes_in, bytes}
-use Rattle.law_encoding.specs.CodeNumbers.{all_fit, all_fit_if, numbers_layer, numbers_fit, code_numbers_fit}
+use Rattle.law_encoding.specs.CodeNumbers.{all_fit, numbers_layer, numbers_fit, code_numbers_fit}
 use Rattle.law_encoding.specs.Fits.{max_bytes}
 use Rattle.law_encoding.specs.ValidNumbers.{constants_layer, constants_fit, code_constants_fit, AreFew}
 use Rattle.law_encoding.proofs.Sums.{total_map}
@@ -110,6 +109,7 @@ numbers_in code e = mapped_all numbers_fit code ∙ e
 
 mutual
   unfolding bytes code_constants_fit code_numbers_fit
+
   instr_fits : (c : Context) (i : Instr) (p r : List ValueType) → Types c i p r → AreFew c → length c.labels + bytes_in i ≤ max_bytes → constants_fit i ≡ true → numbers_fit i ≡ true
   instr_fits c i p r (Plain _ _ _ _ v) few l e =
       at_numbers i (out-Instr i) refl

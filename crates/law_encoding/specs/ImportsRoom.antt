@@ -1,5 +1,5 @@
 -- The imports of the module of a body have an encoding.
-use Rattle.std.specs.Prelude.{◌≡◌, ◌≤◌, ℕ, ◌+◌, true, length}
+use Rattle.std.specs.Prelude.{◌≡◌, ◌≤◌, ℕ, true, length}
 use Rattle.std.specs.List.{list_all}
 use Rattle.typed_tree.specs.declared.typed_module.Imported.{Imported}
 use Rattle.typed_tree.specs.declared.typed_module.TypedModule.{TypedModule}

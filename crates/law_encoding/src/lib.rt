@@ -18,7 +18,15 @@
 //!   so that it has an encoding, and how much of it holds. `CodeFits`, `EncodedBytes`, `FunctionsFit` and `BodyModules` have the
 //!   conditions, `ShortCode` to `FunctionBytes` the bytes of code, `OutwardTyped` to `OutwardBlocks` follow the checker.
 //! - `specs/ProcedureNesting` says how deep procedures nest, with the induction over the grammar in `proofs/NestedProcedures`.
-//!   `specs/ProcedureLevels` says how deep they stand in a module, and `proofs/ProcedureLevels` has the induction over blocks.
+//!   `specs/ProcedureLevels` says how deep they stand in a module. `proofs/ProcedureLevels` has the induction over blocks, and
+//!   `proofs/KeptImports` what imports keep.
+//! - `specs/ValidNumbers` says that in valid code only constants can be too large, and `specs/ModuleNumbers` says it of modules.
+//!   `specs/FunctionTypes` counts the types of functions: `proofs/ListedTypes` has those that are listed, `proofs/TypesOfCalls` and
+//!   `proofs/NeededTypes` those that are needed, and `proofs/FewTypes` their bytes.
+//! - `specs/SmallParts` says when the constants in code fit. `proofs/Constants` and `proofs/ConstantPieces` have instructions and
+//!   pieces, `proofs/ConstantCode` and `proofs/ConstantSteps` the inductions over typed trees, `proofs/ConstantFunctions` functions.
+//! - `specs/ImportsRoom` and `specs/LinkRoom` have the imports of a body and the module link, with `proofs/Sections` and
+//!   `proofs/Names`. `specs/AcceptedRoom` puts together what is proved of the module of a body.
 //! - `proofs/Blocks` has the bodies of procedures, with the induction over blocks, and whole modules, and `proofs/Bounded` the
 //!   bound of all texts.
 #![tactic(auto)]
