@@ -66,6 +66,12 @@ slots_few : (m : TypedModule) → counts_in m ≤ most → slots m ≤ few_entri
 slots_few m h =
     slots_sum (length m.procedures) _ (sum_of (routine_counts m.types) m.locals) (size_body m.body) (length_below (routine_counts m.types) (λ r. one_or_more (length (formals_of m.types r.heading)) (size_body r.body)) m.procedures) h
 
+one_less : (n : ℕ) → suc n ≤ few_entries → n ≤ few_entries
+one_less n h = omega (arith, h)
+
+pub procedures_few : (m : TypedModule) → counts_in m ≤ most → length m.procedures ≤ few_entries
+procedures_few m h = one_less (length m.procedures) (slots_few m h)
+
 types_sum : (t c : ℕ) → t ≤ 2 * c → c ≤ most → t ≤ few_entries
 types_sum t c h l = omega (arith, h, l)
 

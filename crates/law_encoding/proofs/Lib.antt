@@ -70,3 +70,4 @@ pub mod ConstantPieces
 pub mod ConstantCode
 pub mod ConstantSteps
 pub mod ConstantFunctions
+pub mod ProgramsRoom

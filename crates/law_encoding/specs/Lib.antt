@@ -22,3 +22,4 @@ pub mod LinkRoom
 pub mod ImportsRoom
 pub mod AcceptedRoom
 pub mod SmallParts
+pub mod ProgramsRoom

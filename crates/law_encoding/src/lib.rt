@@ -26,7 +26,7 @@
 //! - `specs/SmallParts` says when the constants in code fit. `proofs/Constants` and `proofs/ConstantPieces` have instructions and
 //!   pieces, `proofs/ConstantCode` and `proofs/ConstantSteps` the inductions over typed trees, `proofs/ConstantFunctions` functions.
 //! - `specs/ImportsRoom` and `specs/LinkRoom` have the imports of a body and the module link, with `proofs/Sections` and
-//!   `proofs/Names`. `specs/AcceptedRoom` puts together what is proved of the module of a body.
+//!   `proofs/Names`. `specs/AcceptedRoom` puts together what is proved of the module of a body, and `specs/ProgramsRoom` of programs.
 //! - `proofs/Blocks` has the bodies of procedures, with the induction over blocks, and whole modules, and `proofs/Bounded` the
 //!   bound of all texts.
 #![tactic(auto)]
@@ -38,6 +38,7 @@ ghost use Rattle.law_encoding.specs.ValidNumbers.{ValidNumbersFit};
 ghost use Rattle.law_encoding.specs.LinkRoom.{LinkFits};
 ghost use Rattle.law_encoding.specs.AcceptedRoom.{AcceptedFit, TypedModulesFit};
 ghost use Rattle.law_encoding.specs.ImportsRoom.{ImportsFit};
+ghost use Rattle.law_encoding.specs.ProgramsRoom.{StoredAreSmall, ProgramsFit};
 ghost use Rattle.law_encoding.specs.ModuleNumbers.{IndexesFit};
 ghost use Rattle.law_encoding.specs.SmallParts.{ConstantsFit, ModuleConstantsFit};
 ghost use Rattle.law_encoding.specs.FunctionTypes.{ListedAreFew, FewTypesFit, TypesAreFew};
@@ -193,6 +194,14 @@ pub fn accepted_laws()
     ensures every { AcceptedFit every }
     // So has the module of a body of a typed program.
     ensures typed { TypedModulesFit }
+{}
+
+/// The modules of a typed program have encodings, if its types and storage have room.
+pub fn program_laws()
+    // Then each module is small,
+    ensures small { StoredAreSmall }
+    // and has an encoding, if it is short too.
+    ensures fit { ProgramsFit }
 {}
 
 /// What the checker makes goes outwards no further than its procedure stands deep.
