@@ -1,5 +1,5 @@
 -- The modules of a program are small, if their types and storage have room, and so they have encodings.
-use Rattle.std.proofs.Common.{◌≡◌, ℕ, zero, suc, ◌+◌, ◌≤◌, Bool, true, false, List, [], ◌∷◌, ◌++◌, map, length, Option, Some, None, refl, sym, subst, arith, lit≤}
+use Rattle.std.proofs.Common.{◌≡◌, ℕ, zero, suc, ◌+◌, ◌*◌, ◌≤◌, ◌<◌, Bool, true, false, List, [], ◌∷◌, ◌++◌, map, length, Option, Some, None, Result, Ok, refl, sym, subst, arith, lit≤}
 use Rattle.std.specs.Prelude.{All, slice_get, if◌then◌else◌}
 use Rattle.std.specs.List.{list_all}
 use Rattle.std.proofs.lemmas.List.Elements.{All-nil, All-cons, All-head, All-tail}
@@ -7,6 +7,7 @@ use Rattle.typed_tree.specs.declared.known_types.Types.{Types}
 use Rattle.typed_tree.specs.declared.typed_module.Imported.{Imported}
 use Rattle.typed_tree.specs.declared.typed_module.Routine.{Routine}
 use Rattle.typed_tree.specs.declared.typed_module.TypedModule.{TypedModule}
+use Rattle.check_scope.specs.Elaborated.{Gathers}
 use Rattle.layout_storage.specs.Types.{Ty, Nothing, row}
 use Rattle.layout_storage.specs.Sizes.{size}
 use Rattle.layout_storage.specs.Shapes.{tree}
@@ -16,15 +17,20 @@ use Rattle.layout_storage.specs.Layouts.{FramesFit}
 use Rattle.layout_storage.proofs.Fitted.{all_small}
 use Rattle.def_scheme.specs.Exprs.{is_own, import_place, imported_row}
 use Rattle.def_scheme.specs.Modules.{typed_module}
+use Rattle.wasm_code.specs.Parts.{name}
 use Rattle.wasm_binary.specs.Binary.{module_fits}
-use Rattle.law_modules.specs.Linked.{Program, text, all}
+use Rattle.law_modules.specs.Linked.{Program, text, bytes_in, all}
 use Rattle.law_modules.proofs.Stores.{text_length}
 use Rattle.law_simulation.specs.Knows.{Knows, IsCoherent}
 use Rattle.law_simulation.specs.Modules.{AreModules, AreTypedModules}
 use Rattle.law_simulation.proofs.Globals.{each_at}
 use Rattle.law_encoding.specs.Fits.{few_entries}
+use Rattle.law_encoding.specs.ImportsRoom.{NamesAreShort}
 use Rattle.law_encoding.specs.LinkRoom.{LinkIsSmall}
-use Rattle.law_encoding.specs.ProgramsRoom.{IsStored, IsShortModule}
+use Rattle.law_encoding.specs.Counted.{AtMost, fine, broken}
+use Rattle.law_encoding.specs.Nested.{AcceptedAreShallow}
+use Rattle.law_encoding.specs.ProcedureLevels.{AcceptedAreNear}
+use Rattle.law_encoding.specs.ProgramsRoom.{IsStored, IsShortModule, IsAccepted, IsSmallProgram, AcceptedProgramsFit}
 use Rattle.law_encoding.specs.SmallParts.{IsSmallModule}
 use Rattle.law_encoding.proofs.AcceptedRoom.{procedures_few, typed_room}
 use Rattle.law_encoding.proofs.CodeFits.{both_true}
@@ -109,3 +115,43 @@ module _ (p : Program) (pages : ℕ) (are : AreModules p) (typed : AreTypedModul
 
   pub programs_fit : LinkIsSmall p pages → list_all module_fits (all p pages) ≡ true
   programs_fit small = both_true _ _ (link_has_room p pages small) (each_fits p module_at)
+
+-- ---- what is accepted
+
+names_fit : (ms : List TypedModule) → All NamesAreShort ms → list_all (λ m. name.fits m.name) ms ≡ true
+names_fit [] h = refl
+names_fit (m ∷ ms) h = both_true _ _ (All-head NamesAreShort m ms h).own (names_fit ms (All-tail NamesAreShort m ms h))
+
+few_bytes : (n pages : ℕ) → n ≤ 65536 * pages → pages ≤ 1024 → n < 4294967296
+few_bytes n pages h l = omega (arith, h, l)
+
+link_small : (p : Program) (pages : ℕ) → IsSmallProgram p pages → All NamesAreShort p → LinkIsSmall p pages
+link_small p pages small names = record {
+  memory = small.memory;
+  modules = small.modules;
+  storage = few_bytes (bytes_in p) pages small.linkable.room small.memory;
+  slots = small.slots;
+  names = names_fit p names;
+  lengths = small.lengths;
+}
+
+ok_most : {T : Type 0} {size : TypedModule → ℕ} {n : ℕ} {x : TypedModule} {r : Result TypedModule T} → AtMost size n r → r ≡ Ok x → size x ≤ n
+ok_most {size = size} {n = n} {x = x} (fine y p) e = let same : y ≡ x = cc e in subst (λ t. size t ≤ n) same p
+ok_most (broken y) e = absurd cc
+
+module _ (g : Gathers) (levels : AcceptedAreShallow g) (outward : AcceptedAreNear g) where
+  all_short : (ms : List TypedModule) → All (IsAccepted g) ms → All IsStored ms → All NamesAreShort ms → All IsShortModule ms
+  all_short [] a s n = All-nil IsShortModule
+  all_short (m ∷ ms) a s n =
+      let is = All-head (IsAccepted g) m ms a in
+      All-cons IsShortModule m ms
+      (record {
+        stored = All-head IsStored m ms s;
+        names = All-head NamesAreShort m ms n;
+        levels = ok_most (levels is.tokens is.tree is.parsed is.number is.own is.tables) is.accepted;
+        outward = ok_most (outward is.tokens is.tree is.parsed is.number is.own is.tables) is.accepted;
+      })
+      (all_short ms (All-tail (IsAccepted g) m ms a) (All-tail IsStored m ms s) (All-tail NamesAreShort m ms n))
+
+  pub accepted_programs : AcceptedProgramsFit g
+  accepted_programs p pages are typed accepted stored names small = programs_fit p pages are typed (all_short p accepted stored names) (link_small p pages small names)

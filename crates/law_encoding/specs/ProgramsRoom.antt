@@ -1,18 +1,26 @@
 -- The modules of a typed program have encodings, if its types and its storage have room.
-use Rattle.std.specs.Prelude.{◌≡◌, ◌≤◌, ℕ, true, All}
+use Rattle.std.specs.Prelude.{◌≡◌, ◌≤◌, ◌<◌, ◌+◌, ℕ, true, List, length, All, Option, Ok}
 use Rattle.std.specs.List.{list_all}
+use Rattle.m2_tree.specs.declared.token.Token.{Token}
+use Rattle.m2_tree.specs.declared.decl.Module.{Module}
+use Rattle.typed_tree.specs.declared.table.Table.{Table}
 use Rattle.typed_tree.specs.declared.typed_module.TypedModule.{TypedModule}
-use Rattle.def_grammar.specs.Refusal.{max_nesting}
+use Rattle.def_grammar.specs.Refusal.{IsTree, max_nesting}
+use Rattle.check_scope.specs.Elaborated.{Gathers}
+use Rattle.check_body.specs.Checks.{checked}
+use Rattle.def_scheme.specs.Modules.{max_pages}
 use Rattle.layout_storage.specs.Fitting.{types_fit}
 use Rattle.layout_storage.specs.Layouts.{AllFits}
 use Rattle.wasm_binary.specs.Binary.{module_fits}
-use Rattle.law_modules.specs.Linked.{Program, all}
+use Rattle.law_modules.specs.Linked.{Program, slots_in, all, IsLinkable}
 use Rattle.law_simulation.specs.Knows.{IsCoherent}
 use Rattle.law_simulation.specs.Modules.{AreModules, AreTypedModules}
 use Rattle.law_encoding.specs.Short.{counts_in}
 use Rattle.law_encoding.specs.Small.{most}
+use Rattle.law_encoding.specs.Sizes.{sum_of}
+use Rattle.law_encoding.specs.Fits.{few_entries, max_bytes}
 use Rattle.law_encoding.specs.ImportsRoom.{NamesAreShort}
-use Rattle.law_encoding.specs.LinkRoom.{LinkIsSmall}
+use Rattle.law_encoding.specs.LinkRoom.{LinkIsSmall, name_length}
 use Rattle.law_encoding.specs.Nested.{max_levels, most_levels}
 use Rattle.law_encoding.specs.Outward.{outward_bodies}
 use Rattle.law_encoding.specs.SmallParts.{IsSmallModule}
@@ -41,3 +49,31 @@ pub record IsShortModule (m : TypedModule) : Type 0 where
 abbrev pub ProgramsFit : Type 0
 ProgramsFit = (p : Program) (pages : ℕ) → AreModules p → AreTypedModules p pages
     → All IsShortModule p → LinkIsSmall p pages → list_all module_fits (all p pages) ≡ true
+
+-- ---- what is accepted
+
+-- The checker makes the module of a tree that is parsed.
+pub record IsAccepted (g : Gathers) (t : TypedModule) : Type 0 where
+  pub tokens : List Token
+  pub tree : Module
+  pub parsed : IsTree tokens tree
+  pub number : ℕ
+  pub own : Option Table
+  pub tables : List Table
+  pub accepted : checked g number tree own tables ≡ Ok t
+
+-- A program has at most 1024 pages, in which its variables and texts have room. It has few modules,
+-- with short names in all, and less than 2 ^ 32 slots of the table.
+pub record IsSmallProgram (p : Program) (pages : ℕ) : Type 0 where
+  pub linkable : IsLinkable p pages
+  pub memory : pages ≤ max_pages
+  pub modules : length p ≤ few_entries
+  pub slots : 1 + slots_in p < max_bytes
+  pub lengths : sum_of name_length p ≤ few_entries
+
+-- If the modules are accepted, their functions nest few levels, and their bodies go few procedures
+-- outwards.
+abbrev pub AcceptedProgramsFit : Gathers → Type 0
+AcceptedProgramsFit g = (p : Program) (pages : ℕ) → AreModules p → AreTypedModules p pages
+    → All (IsAccepted g) p → All IsStored p → All NamesAreShort p → IsSmallProgram p pages
+    → list_all module_fits (all p pages) ≡ true

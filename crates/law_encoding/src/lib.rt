@@ -38,7 +38,7 @@ ghost use Rattle.law_encoding.specs.ValidNumbers.{ValidNumbersFit};
 ghost use Rattle.law_encoding.specs.LinkRoom.{LinkFits};
 ghost use Rattle.law_encoding.specs.AcceptedRoom.{AcceptedFit, TypedModulesFit};
 ghost use Rattle.law_encoding.specs.ImportsRoom.{ImportsFit};
-ghost use Rattle.law_encoding.specs.ProgramsRoom.{StoredAreSmall, ProgramsFit};
+ghost use Rattle.law_encoding.specs.ProgramsRoom.{StoredAreSmall, ProgramsFit, AcceptedProgramsFit};
 ghost use Rattle.law_encoding.specs.ModuleNumbers.{IndexesFit};
 ghost use Rattle.law_encoding.specs.SmallParts.{ConstantsFit, ModuleConstantsFit};
 ghost use Rattle.law_encoding.specs.FunctionTypes.{ListedAreFew, FewTypesFit, TypesAreFew};
@@ -202,6 +202,10 @@ pub fn program_laws()
     ensures small { StoredAreSmall }
     // and has an encoding, if it is short too.
     ensures fit { ProgramsFit }
+    // It is short if it is accepted, and has short names: if the least broken rule is kept,
+    ensures least { AcceptedProgramsFit least }
+    // and if all of them are.
+    ensures every { AcceptedProgramsFit every }
 {}
 
 /// What the checker makes goes outwards no further than its procedure stands deep.
