@@ -71,3 +71,4 @@ pub mod ConstantCode
 pub mod ConstantSteps
 pub mod ConstantFunctions
 pub mod ProgramsRoom
+pub mod NamesRoom

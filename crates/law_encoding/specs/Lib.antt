@@ -23,3 +23,4 @@ pub mod ImportsRoom
 pub mod AcceptedRoom
 pub mod SmallParts
 pub mod ProgramsRoom
+pub mod NamesRoom

@@ -38,6 +38,7 @@ ghost use Rattle.law_encoding.specs.ValidNumbers.{ValidNumbersFit};
 ghost use Rattle.law_encoding.specs.LinkRoom.{LinkFits};
 ghost use Rattle.law_encoding.specs.AcceptedRoom.{AcceptedFit, TypedModulesFit};
 ghost use Rattle.law_encoding.specs.ImportsRoom.{ImportsFit};
+ghost use Rattle.law_encoding.specs.NamesRoom.{TextNamesAreShort, ShortNamesFit};
 ghost use Rattle.law_encoding.specs.ProgramsRoom.{StoredAreSmall, ProgramsFit, AcceptedProgramsFit};
 ghost use Rattle.law_encoding.specs.ModuleNumbers.{IndexesFit};
 ghost use Rattle.law_encoding.specs.SmallParts.{ConstantsFit, ModuleConstantsFit};
@@ -194,6 +195,14 @@ pub fn accepted_laws()
     ensures every { AcceptedFit every }
     // So has the module of a body of a typed program.
     ensures typed { TypedModulesFit }
+{}
+
+/// Names are short.
+pub fn name_laws()
+    // The name of the module of a text is,
+    ensures texts { TextNamesAreShort }
+    // and there is room for few short names.
+    ensures room { ShortNamesFit }
 {}
 
 /// The modules of a typed program have encodings, if its types and storage have room.
