@@ -1,5 +1,5 @@
 -- The names of texts are short, by induction over the grammar, and so there is room for them.
-use Rattle.std.proofs.Common.{◌≡◌, ◌⊎◌, inl, inr, ℕ, zero, suc, ◌+◌, ◌*◌, ◌≤◌, ◌<◌, Bool, true, false, ◌&&◌, ◌||◌, List, [], ◌∷◌, ◌++◌, length, Option, Some, None, refl, sym, ap, subst, ◌∙◌, arith}
+use Rattle.std.proofs.Common.{◌≡◌, ◌⊎◌, inl, inr, ℕ, suc, ◌+◌, ◌*◌, ◌≤◌, ◌<◌, Bool, true, false, ◌&&◌, ◌||◌, List, [], ◌∷◌, ◌++◌, length, Some, None, refl, sym, ap, subst, arith}
 use Rattle.std.specs.Prelude.{nat_lt, nat_le, if◌then◌else◌}
 use Rattle.std.specs.List.{AllByRecursion, list_all}
 use Rattle.std.proofs.lemmas.Bool.{and_parts, lt-ltb, le-leb, leb-true}
@@ -8,20 +8,18 @@ use Rattle.m2_tree.specs.declared.token.Lexeme.{Lexeme}
 use Rattle.m2_tree.specs.declared.token.Lexeme.TheVariants as lexeme
 use Rattle.m2_tree.specs.declared.token.Token.{Token}
 use Rattle.m2_tree.specs.declared.decl.Module.{Module}
-use Rattle.scan_tokens.specs.declared.class.Class.{Class}
 use Rattle.scan_tokens.specs.declared.class.Class.TheVariants.{Space, Letter, Digit, Quote, Other}
 use Rattle.scan_tokens.specs.Bytes.{Text, is_space, is_letter, is_digit, is_quote, class, in_run, is_run_byte}
 use Rattle.scan_tokens.specs.Forms as forms
 use Rattle.scan_tokens.specs.Forms.{IsRun, Member}
 use Rattle.scan_tokens.specs.Division.{place, Divides, tokens_behind, HasTokens}
 use Rattle.def_grammar.specs.Rule.{Rule, Ast, module_rule, import_rule, idents_rule, def_rule, block_rule, decl_rule, constant_rule, type_decl_rule, variables_rule, formals_rule, section_rule, formal_rule, qual_rule, simple_rule, type_rule, dims_rule, parameter_rule, field_rule, stmts_rule, stmt_rule, rest_rule, arm_rule, item_rule, desig_rule, selectors_rule, args_rule, expr_rule, sum_rule, term_rule, factor_rule, set_rule}
-use Rattle.def_grammar.specs.Grammar.{Ty, token, ast, both, either, maybe, list, El, Gr, rule}
+use Rattle.def_grammar.specs.Grammar.{Ty, token, ast, both, either, maybe, list, El, Gr}
 use Rattle.def_grammar.specs.Ebnf.{grammar}
 use Rattle.def_grammar.specs.Trees.{name_said, module_of, tree}
 use Rattle.def_grammar.specs.Refusal.{IsModule}
 use Rattle.def_grammar.specs.Spelling.{Spells, one, made, pair, left, right, before, behind, absent, there_is, none, more, nested, closed}
 use Rattle.law_well_formed.proofs.Spelled.{EitherFits, MaybeFits}
-use Rattle.typed_tree.specs.declared.typed_module.Imported.{Imported}
 use Rattle.typed_tree.specs.declared.typed_module.TypedModule.{TypedModule}
 use Rattle.wasm_code.specs.Parts.{name}
 use Rattle.law_encoding.specs.Sizes.{sum_of}
@@ -192,13 +190,16 @@ short_fits n e = let s = short_parts n e in ascii_fits n s.0 (short_sum (length 
 more_sum : (n s k : ℕ) → n ≤ 64 → s ≤ 64 * k → n + s ≤ 64 * suc k
 more_sum n s k h l = omega (arith, h, l)
 
-imported_fit : (is : List Imported) → list_all (λ i. is_short_name i.name) is ≡ true → list_all (λ i. name.fits i.name) is ≡ true
-imported_fit [] e = refl
-imported_fit (i ∷ is) e = let both = and_parts (is_short_name i.name) (list_all (λ i. is_short_name i.name) is) e in both_true _ _ (short_fits i.name both.0) (imported_fit is both.1)
+module _ {A : Type 0} (called : A → List ℕ) where
+  pub all_fit : (xs : List A) → list_all (λ x. is_short_name (called x)) xs ≡ true → list_all (λ x. name.fits (called x)) xs ≡ true
+  all_fit [] e = refl
+  all_fit (x ∷ xs) e = let both = and_parts (is_short_name (called x)) (list_all (λ y. is_short_name (called y)) xs) e in both_true _ _ (short_fits (called x) both.0) (all_fit xs both.1)
 
-imported_sum : (is : List Imported) → list_all (λ i. is_short_name i.name) is ≡ true → sum_of imported_length is ≤ 64 * length is
-imported_sum [] e = omega arith
-imported_sum (i ∷ is) e = let both = and_parts (is_short_name i.name) (list_all (λ i. is_short_name i.name) is) e in more_sum (length i.name) (sum_of imported_length is) (length is) (short_parts i.name both.0).1 (imported_sum is both.1)
+  pub all_sum : (xs : List A) → list_all (λ x. is_short_name (called x)) xs ≡ true → sum_of (λ x. length (called x)) xs ≤ 64 * length xs
+  all_sum [] e = omega arith
+  all_sum (x ∷ xs) e =
+      let both = and_parts (is_short_name (called x)) (list_all (λ y. is_short_name (called y)) xs) e in
+      more_sum (length (called x)) (sum_of (λ y. length (called y)) xs) (length xs) (short_parts (called x) both.0).1 (all_sum xs both.1)
 
 pub sum_few : (s n : ℕ) → s ≤ 64 * n → n ≤ few_names → s ≤ few_entries
 sum_few s n h l = omega (arith, h, l)
@@ -210,7 +211,7 @@ pub names_room : (m : TypedModule) → is_short_name m.name ≡ true → list_al
 names_room m own others few = record {
   own = short_fits m.name own;
   own_length = few_sum (length m.name) (short_parts m.name own).1;
-  names = imported_fit m.imports others;
-  lengths = sum_few (sum_of imported_length m.imports) (length m.imports) (imported_sum m.imports others) few;
+  names = all_fit (λ i. i.name) m.imports others;
+  lengths = sum_few (sum_of imported_length m.imports) (length m.imports) (all_sum (λ i. i.name) m.imports others) few;
   count = count_few (length m.imports) few;
 }

@@ -1,6 +1,6 @@
 -- The modules of a program are small, if their types and storage have room, and so they have encodings.
 use Rattle.std.proofs.Common.{◌≡◌, ℕ, zero, suc, ◌+◌, ◌*◌, ◌≤◌, ◌<◌, Bool, true, false, List, [], ◌∷◌, ◌++◌, map, length, Option, Some, None, Result, Ok, refl, sym, subst, arith, lit≤}
-use Rattle.std.specs.Prelude.{All, slice_get, if◌then◌else◌}
+use Rattle.std.specs.Prelude.{All, IfOk, slice_get, if◌then◌else◌}
 use Rattle.std.specs.List.{list_all}
 use Rattle.std.proofs.lemmas.List.Elements.{All-nil, All-cons, All-head, All-tail}
 use Rattle.typed_tree.specs.declared.known_types.Types.{Types}
@@ -8,6 +8,7 @@ use Rattle.typed_tree.specs.declared.typed_module.Imported.{Imported}
 use Rattle.typed_tree.specs.declared.typed_module.Routine.{Routine}
 use Rattle.typed_tree.specs.declared.typed_module.TypedModule.{TypedModule}
 use Rattle.check_scope.specs.Elaborated.{Gathers}
+use Rattle.check_body.specs.Checks.{elaborated}
 use Rattle.layout_storage.specs.Types.{Ty, Nothing, row}
 use Rattle.layout_storage.specs.Sizes.{size}
 use Rattle.layout_storage.specs.Shapes.{tree}
@@ -17,23 +18,26 @@ use Rattle.layout_storage.specs.Layouts.{FramesFit}
 use Rattle.layout_storage.proofs.Fitted.{all_small}
 use Rattle.def_scheme.specs.Exprs.{is_own, import_place, imported_row}
 use Rattle.def_scheme.specs.Modules.{typed_module}
-use Rattle.wasm_code.specs.Parts.{name}
 use Rattle.wasm_binary.specs.Binary.{module_fits}
 use Rattle.law_modules.specs.Linked.{Program, text, bytes_in, all}
 use Rattle.law_modules.proofs.Stores.{text_length}
 use Rattle.law_simulation.specs.Knows.{Knows, IsCoherent}
 use Rattle.law_simulation.specs.Modules.{AreModules, AreTypedModules}
 use Rattle.law_simulation.proofs.Globals.{each_at}
+use Rattle.law_well_formed.specs.FormedImports.{StandsOnImports}
+use Rattle.law_well_formed.proofs.NamedImports.{modules_stand}
+use Rattle.law_encoding.specs.Sizes.{sum_of}
 use Rattle.law_encoding.specs.Fits.{few_entries}
-use Rattle.law_encoding.specs.ImportsRoom.{NamesAreShort}
-use Rattle.law_encoding.specs.LinkRoom.{LinkIsSmall}
+use Rattle.law_encoding.specs.LinkRoom.{LinkIsSmall, name_length}
+use Rattle.law_encoding.specs.NamesRoom.{is_short_name, few_names}
 use Rattle.law_encoding.specs.Counted.{AtMost, fine, broken}
 use Rattle.law_encoding.specs.Nested.{AcceptedAreShallow}
 use Rattle.law_encoding.specs.ProcedureLevels.{AcceptedAreNear}
-use Rattle.law_encoding.specs.ProgramsRoom.{IsStored, IsShortModule, IsAccepted, IsSmallProgram, AcceptedProgramsFit}
+use Rattle.law_encoding.specs.ProgramsRoom.{IsStored, IsShortModule, IsAccepted, IsSmallProgram}
 use Rattle.law_encoding.specs.SmallParts.{IsSmallModule}
 use Rattle.law_encoding.proofs.AcceptedRoom.{procedures_few, typed_room}
 use Rattle.law_encoding.proofs.CodeFits.{both_true}
+use Rattle.law_encoding.proofs.NamesRoom.{all_fit, all_sum, sum_few, count_few, names_room, text_named}
 use Rattle.law_encoding.proofs.LinkRoom.{link_has_room}
 
 -- ---- rows and frames
@@ -118,40 +122,58 @@ module _ (p : Program) (pages : ℕ) (are : AreModules p) (typed : AreTypedModul
 
 -- ---- what is accepted
 
-names_fit : (ms : List TypedModule) → All NamesAreShort ms → list_all (λ m. name.fits m.name) ms ≡ true
-names_fit [] h = refl
-names_fit (m ∷ ms) h = both_true _ _ (All-head NamesAreShort m ms h).own (names_fit ms (All-tail NamesAreShort m ms h))
-
 few_bytes : (n pages : ℕ) → n ≤ 65536 * pages → pages ≤ 1024 → n < 4294967296
 few_bytes n pages h l = omega (arith, h, l)
 
-link_small : (p : Program) (pages : ℕ) → IsSmallProgram p pages → All NamesAreShort p → LinkIsSmall p pages
-link_small p pages small names = record {
+link_small : (p : Program) (pages : ℕ) → IsSmallProgram p pages → list_all (λ m. is_short_name m.name) p ≡ true → LinkIsSmall p pages
+link_small p pages small short = record {
   memory = small.memory;
-  modules = small.modules;
+  modules = count_few (length p) small.modules;
   storage = few_bytes (bytes_in p) pages small.linkable.room small.memory;
   slots = small.slots;
-  names = names_fit p names;
-  lengths = small.lengths;
+  names = all_fit (λ m. m.name) p short;
+  lengths = sum_few (sum_of name_length p) (length p) (all_sum (λ m. m.name) p short) small.modules;
 }
+
+all_from : (P : TypedModule → Type 0) (ms : List TypedModule) → ((k : ℕ) (m : TypedModule) → slice_get ms k ≡ Some m → P m) → All P ms
+all_from P [] h = All-nil P
+all_from P (m ∷ ms) h = All-cons P m ms (h zero m refl) (all_from P ms (λ k n e. h (suc k) n e))
 
 ok_most : {T : Type 0} {size : TypedModule → ℕ} {n : ℕ} {x : TypedModule} {r : Result TypedModule T} → AtMost size n r → r ≡ Ok x → size x ≤ n
 ok_most {size = size} {n = n} {x = x} (fine y p) e = let same : y ≡ x = cc e in subst (λ t. size t ≤ n) same p
 ok_most (broken y) e = absurd cc
 
-module _ (g : Gathers) (levels : AcceptedAreShallow g) (outward : AcceptedAreNear g) where
-  all_short : (ms : List TypedModule) → All (IsAccepted g) ms → All IsStored ms → All NamesAreShort ms → All IsShortModule ms
-  all_short [] a s n = All-nil IsShortModule
-  all_short (m ∷ ms) a s n =
-      let is = All-head (IsAccepted g) m ms a in
-      All-cons IsShortModule m ms
-      (record {
-        stored = All-head IsStored m ms s;
-        names = All-head NamesAreShort m ms n;
-        levels = ok_most (levels is.tokens is.tree is.parsed is.number is.own is.tables) is.accepted;
-        outward = ok_most (outward is.tokens is.tree is.parsed is.number is.own is.tables) is.accepted;
-      })
-      (all_short ms (All-tail (IsAccepted g) m ms a) (All-tail IsStored m ms s) (All-tail NamesAreShort m ms n))
+own_short : (g : Gathers) (t : TypedModule) → IsAccepted g t → is_short_name t.name ≡ true
+own_short g t is =
+    let stands : StandsOnImports is.tree is.own t =
+        subst (λ r. IfOk r (StandsOnImports is.tree is.own)) is.accepted (modules_stand g (elaborated g) is.number is.tree is.own is.tables) in
+    subst (λ (n : List ℕ). is_short_name n ≡ true) (sym stands.name) (text_named is.text is.tokens is.tree is.scanned is.parsed.0)
 
-  pub accepted_programs : AcceptedProgramsFit g
-  accepted_programs p pages are typed accepted stored names small = programs_fit p pages are typed (all_short p accepted stored names) (link_small p pages small names)
+module _ (g : Gathers) (levels : AcceptedAreShallow g) (outward : AcceptedAreNear g) (p : Program) (accepted : All (IsAccepted g) p) where
+  all_own : (ms : List TypedModule) → All (IsAccepted g) ms → list_all (λ m. is_short_name m.name) ms ≡ true
+  all_own [] h = refl
+  all_own (m ∷ ms) h = both_true _ _ (own_short g m (All-head (IsAccepted g) m ms h)) (all_own ms (All-tail (IsAccepted g) m ms h))
+
+  imported_short : (m : TypedModule) (i : Imported) → Knows p m i → is_short_name i.name ≡ true
+  imported_short m i k =
+      subst (λ (n : List ℕ). is_short_name n ≡ true) (sym k.name) (own_short g k.home (each_at (IsAccepted g) p _ k.home k.there accepted))
+
+  all_imported : (m : TypedModule) (is : List Imported) → All (Knows p m) is → list_all (λ i. is_short_name i.name) is ≡ true
+  all_imported m [] h = refl
+  all_imported m (i ∷ is) h = both_true _ _ (imported_short m i (All-head (Knows p m) i is h)) (all_imported m is (All-tail (Knows p m) i is h))
+
+  short_at : (m : TypedModule) → IsAccepted g m → IsStored m → All (Knows p m) m.imports → length m.imports ≤ few_names → IsShortModule m
+  short_at m is stored known few = record {
+    stored = stored;
+    names = names_room m (own_short g m is) (all_imported m m.imports known) few;
+    levels = ok_most (levels is.tokens is.tree is.parsed is.number is.own is.tables) is.accepted;
+    outward = ok_most (outward is.tokens is.tree is.parsed is.number is.own is.tables) is.accepted;
+  }
+
+  pub accepted_programs : (pages : ℕ) → AreModules p → AreTypedModules p pages → All IsStored p → IsSmallProgram p pages → list_all module_fits (all p pages) ≡ true
+  accepted_programs pages are typed stored small =
+      programs_fit p pages are typed
+      (all_from IsShortModule p
+      (λ k m there. short_at m (each_at (IsAccepted g) p k m there accepted) (each_at IsStored p k m there stored) (are k m there).coherent.imports
+      (each_at (λ (n : TypedModule). length n.imports ≤ few_names) p k m there small.imports)))
+      (link_small p pages small (all_own p accepted))

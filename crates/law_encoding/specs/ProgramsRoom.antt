@@ -3,6 +3,7 @@ use Rattle.std.specs.Prelude.{◌≡◌, ◌≤◌, ◌<◌, ◌+◌, ℕ, true,
 use Rattle.std.specs.List.{list_all}
 use Rattle.m2_tree.specs.declared.token.Token.{Token}
 use Rattle.m2_tree.specs.declared.decl.Module.{Module}
+use Rattle.scan_tokens.specs.Division.{HasTokens}
 use Rattle.typed_tree.specs.declared.table.Table.{Table}
 use Rattle.typed_tree.specs.declared.typed_module.TypedModule.{TypedModule}
 use Rattle.def_grammar.specs.Refusal.{IsTree, max_nesting}
@@ -17,10 +18,10 @@ use Rattle.law_simulation.specs.Knows.{IsCoherent}
 use Rattle.law_simulation.specs.Modules.{AreModules, AreTypedModules}
 use Rattle.law_encoding.specs.Short.{counts_in}
 use Rattle.law_encoding.specs.Small.{most}
-use Rattle.law_encoding.specs.Sizes.{sum_of}
-use Rattle.law_encoding.specs.Fits.{few_entries, max_bytes}
+use Rattle.law_encoding.specs.Fits.{max_bytes}
 use Rattle.law_encoding.specs.ImportsRoom.{NamesAreShort}
-use Rattle.law_encoding.specs.LinkRoom.{LinkIsSmall, name_length}
+use Rattle.law_encoding.specs.LinkRoom.{LinkIsSmall}
+use Rattle.law_encoding.specs.NamesRoom.{few_names}
 use Rattle.law_encoding.specs.Nested.{max_levels, most_levels}
 use Rattle.law_encoding.specs.Outward.{outward_bodies}
 use Rattle.law_encoding.specs.SmallParts.{IsSmallModule}
@@ -52,9 +53,11 @@ ProgramsFit = (p : Program) (pages : ℕ) → AreModules p → AreTypedModules p
 
 -- ---- what is accepted
 
--- The checker makes the module of a tree that is parsed.
+-- The checker makes the module of a text that is scanned and parsed.
 pub record IsAccepted (g : Gathers) (t : TypedModule) : Type 0 where
+  pub text : List ℕ
   pub tokens : List Token
+  pub scanned : HasTokens text tokens
   pub tree : Module
   pub parsed : IsTree tokens tree
   pub number : ℕ
@@ -63,17 +66,17 @@ pub record IsAccepted (g : Gathers) (t : TypedModule) : Type 0 where
   pub accepted : checked g number tree own tables ≡ Ok t
 
 -- A program has at most 1024 pages, in which its variables and texts have room. It has few modules,
--- with short names in all, and less than 2 ^ 32 slots of the table.
+-- which import few, and less than 2 ^ 32 slots of the table.
 pub record IsSmallProgram (p : Program) (pages : ℕ) : Type 0 where
   pub linkable : IsLinkable p pages
   pub memory : pages ≤ max_pages
-  pub modules : length p ≤ few_entries
+  pub modules : length p ≤ few_names
+  pub imports : All (λ m. length m.imports ≤ few_names) p
   pub slots : 1 + slots_in p < max_bytes
-  pub lengths : sum_of name_length p ≤ few_entries
 
--- If the modules are accepted, their functions nest few levels, and their bodies go few procedures
--- outwards.
+-- If the modules are accepted, their functions nest few levels, their bodies go few procedures
+-- outwards, and their names are short.
 abbrev pub AcceptedProgramsFit : Gathers → Type 0
 AcceptedProgramsFit g = (p : Program) (pages : ℕ) → AreModules p → AreTypedModules p pages
-    → All (IsAccepted g) p → All IsStored p → All NamesAreShort p → IsSmallProgram p pages
+    → All (IsAccepted g) p → All IsStored p → IsSmallProgram p pages
     → list_all module_fits (all p pages) ≡ true

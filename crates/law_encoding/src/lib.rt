@@ -26,7 +26,8 @@
 //! - `specs/SmallParts` says when the constants in code fit. `proofs/Constants` and `proofs/ConstantPieces` have instructions and
 //!   pieces, `proofs/ConstantCode` and `proofs/ConstantSteps` the inductions over typed trees, `proofs/ConstantFunctions` functions.
 //! - `specs/ImportsRoom` and `specs/LinkRoom` have the imports of a body and the module link, with `proofs/Sections` and
-//!   `proofs/Names`. `specs/AcceptedRoom` puts together what is proved of the module of a body, and `specs/ProgramsRoom` of programs.
+//!   `proofs/Names`. `specs/NamesRoom` says that the names of texts are short, with the induction over the grammar in its proof.
+//!   `specs/AcceptedRoom` puts together what is proved of the module of a body, and `specs/ProgramsRoom` of programs.
 //! - `proofs/Blocks` has the bodies of procedures, with the induction over blocks, and whole modules, and `proofs/Bounded` the
 //!   bound of all texts.
 #![tactic(auto)]
@@ -211,7 +212,7 @@ pub fn program_laws()
     ensures small { StoredAreSmall }
     // and has an encoding, if it is short too.
     ensures fit { ProgramsFit }
-    // It is short if it is accepted, and has short names: if the least broken rule is kept,
+    // It is short if it is accepted: if the least broken rule is kept,
     ensures least { AcceptedProgramsFit least }
     // and if all of them are.
     ensures every { AcceptedProgramsFit every }

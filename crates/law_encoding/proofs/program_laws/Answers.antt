@@ -20,13 +20,13 @@ pub returns-clause-fit : goal.returns-clause-fit
 returns-clause-fit c = λ p pages are typed short small. programs_fit p pages are typed short small
 
 pub returns-clause-least : goal.returns-clause-least
-returns-clause-least c = λ p pages are typed accepted stored names small.
+returns-clause-least c = λ p pages are typed accepted stored small.
     accepted_programs least (λ ts m d number own tables. accepted_low _ (tree_below ts m d) (module_most least (elaborated least) (λ s r xs. statements_most least s _ xs) number m own tables))
     (λ ts m d number own tables. bodies_near max_nesting least (elaborated least) (elaborated_formed least) (λ s r xs. near least s _ xs) number m own tables (omega arith) (procedures_below ts m d))
-    p pages are typed accepted stored names small
+    p accepted pages are typed stored small
 
 pub returns-clause-every : goal.returns-clause-every
-returns-clause-every c = λ p pages are typed accepted stored names small.
+returns-clause-every c = λ p pages are typed accepted stored small.
     accepted_programs every (λ ts m d number own tables. accepted_low _ (tree_below ts m d) (module_most every (elaborated every) (λ s r xs. statements_most every s _ xs) number m own tables))
     (λ ts m d number own tables. bodies_near max_nesting every (elaborated every) (elaborated_formed every) (λ s r xs. near every s _ xs) number m own tables (omega arith) (procedures_below ts m d))
-    p pages are typed accepted stored names small
+    p accepted pages are typed stored small
