@@ -1,6 +1,6 @@
 use Rattle.wasm_machine.proofs.Ready.{topmost_i64, lower_i64}
 use Rattle.wasm_engine.proofs.AtOnce.{two_taken, one_back}
-use Rattle.wasm_engine.proofs.quick.reduced.Goals as goal
+use Rattle.wasm_engine.proofs.quick.divide.Goals as goal
 
 pub pop_i64-y-requires : goal.pop_i64-y-requires
 pop_i64-y-requires c = topmost_i64 c.args.stack.now.known.values c.requires

@@ -1,5 +1,5 @@
 use Rattle.wasm_engine.proofs.Taken.{fourth, third, second, first, top_is, taken, taken_four, restored}
-use Rattle.wasm_engine.proofs.quick.checked.Goals as goal
+use Rattle.wasm_engine.proofs.quick.check.Goals as goal
 
 pub pop_i64-fault-requires : goal.pop_i64-fault-requires
 pop_i64-fault-requires c = fourth c.args.stack.now.known.values c.requires
