@@ -49,7 +49,7 @@ range_more s ss a (suc n) =
     pair_sum _ _ _ _ _ _ _ _ _ (sum_append type_counts (of_arguments (s ∷ ss) a) (in_range (s ∷ ss) (a + 1) n)) (sum_append type_counts (of_arguments (s ∷ []) a) (in_range (s ∷ []) (a + 1) n)) (sum_append type_counts (of_arguments ss a) (in_range ss (a + 1) n))
     (one_more s ss a) (range_more s ss (a + 1) n)
 
--- ---- one signature alone is listed where its number of arguments is met
+-- ---- one signature is listed alone, if its number of arguments is met
 
 abbrev here : Bool → ℕ → ℕ
 here b n = if b then 1 + n else 0

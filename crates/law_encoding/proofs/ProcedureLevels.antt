@@ -101,7 +101,7 @@ module _ (most : ℕ) where
     with_routine_low s name around formals (Some k) (Ok xs) rs p q = filled_low rs k.which (routine s name k around formals xs) p q
     with_routine_low s name around formals (Some k) (Err e) rs p q = p
 
-    -- a declaration in which so many procedures stand in one another
+    -- a declaration, and how deep procedures stand in one another
     abbrev Lows : ℕ → Checks g.Reported → Type 0
     Lows n f = (around : Option Which) (seen : ℕ) (w : Walk g.Reported) → IsDeep w.scope → w.scope.level + n ≤ most → AreLow w.bodies → AreLow (f around seen w).bodies
 
@@ -254,7 +254,7 @@ module _ (most : ℕ) where
       begun_low : (n : ℕ) → n ≤ 1 → 1 ≤ most → n ⊔ 0 ≤ most
       begun_low n l k = omega (arith, l, k)
 
-      -- where a module's own block begins
+      -- the place at which a module's own block begins
       abbrev IsOutermost : Scope g.Reported → Type 0
       IsOutermost s = (length s.outer ≡ 1) × (s.level ≡ 0)
 

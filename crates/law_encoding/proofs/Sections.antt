@@ -28,7 +28,7 @@ some : (n : ℕ) → 0 < suc n
 some n = omega arith
 
 module _ {A : Type 0} (number : ℕ) (p : Format A) where
-  -- entries that take at most so many bytes
+  -- entries that take at most this number of bytes
   pub entries_fit : (xs : List A) (n : ℕ) → list_all p.fits xs ≡ true → length xs ≤ n → length (flat_map p.encoding xs) ≤ n → 5 + n < max_bytes → (section number p).fits xs ≡ true
   entries_fit [] n e h l k = refl
   entries_fit (x ∷ xs) n e h l k =

@@ -21,8 +21,8 @@ pub record HasFewParts (m : TypedModule) : Type 0 where
   pub locals : most_locals m ≤ few_entries
   pub size : 5 + sum_of function_bytes (functions m) < max_bytes
 
--- The numbers in the code of such a module fit, if it is well formed and its constants fit, and so
--- do the numbers of the types of its functions.
+-- The numbers in the code of a module with few parts fit, if it is well formed and its constants
+-- fit, and so do the numbers of the types of its functions.
 abbrev pub IndexesFit : Type 0
 IndexesFit = (m : TypedModule) → IsWellFormed m → HasFewParts m
     → (list_all unsigned.fits (types_of (functions m)) ≡ true)

@@ -13,7 +13,7 @@ use Rattle.law_encoding.specs.ImportsRoom.{NamesAreShort}
 abbrev pub is_short_name : List ℕ → Bool
 is_short_name name = list_all (λ b. nat_lt b 128) name && nat_le (length name) max_name
 
--- so few that all their names have at most 2 ^ 24 bytes
+-- this number of short names has 2 ^ 24 bytes at most
 abbrev pub few_names : ℕ
 few_names = 2 ^ 18
 
