@@ -1,7 +1,7 @@
 //! How the statements of a body are elaborated.
 
 ghost use Rattle.std.specs.Prelude.{◌≡◌, IfOk, OnOk};
-ghost use Rattle.check_scope.specs.declared.breach.Breach.{Breach as TheBreach};
+ghost use Rattle.m2_rule.specs.declared.breach.Breach.{Breach as TheBreach};
 ghost use Rattle.check_body.specs.Elaborating.{Elaborates, statements_of};
 
 use check_scope::{Elaborated, Scope};

@@ -2,9 +2,8 @@
 use Rattle.std.proofs.Common.{ℕ, Bool, true, false, List, [], ◌++◌, refl, sym, ap, ◌∙◌, append_assoc}
 use Rattle.std.specs.Prelude.{if◌then◌else◌}
 use Rattle.std.proofs.lemmas.List.{append-nil}
-use Rattle.def_meaning.specs.Answer.{State, Answer, Value, then_give}
-use Rattle.def_meaning.specs.Answer as answer
-use Rattle.def_meaning.specs.Outcome.{Outcome, Normal, Exited, Returned, Ended, StillRunning, then_go, with_answer}
+use Rattle.def_meaning.specs.Answer.{State, Answer, Value, ◌▷◌, Ended, StillRunning}
+use Rattle.def_meaning.specs.Outcome.{Outcome, Normal, Exited, Returned, then_go}
 use Rattle.def_meaning.specs.Statements.{loop_left}
 use Rattle.def_meaning.specs.Calls.{at_end, result}
 use Rattle.def_meaning.specs.Runs.{then_body}
@@ -25,12 +24,12 @@ joined {xs = xs} b c = record { more = b.more ++ c.more; rest = sym (append_asso
 
 abbrev pub reported : {A : Type 0} → Answer A → List ℕ
 reported (Value v st) = st.out
-reported (answer.Ended k out) = out
-reported (answer.StillRunning out) = out
+reported (Ended k out) = out
+reported (StillRunning out) = out
 
 pub data Later {A : Type 0} (out : List ℕ) : Answer A → Answer A → Type 0 where
   alike : (x : Answer A) → Begins out (reported x) → Later out x x
-  going : (more : List ℕ) (x : Answer A) → Begins out more → Begins more (reported x) → Later out (answer.StillRunning more) x
+  going : (more : List ℕ) (x : Answer A) → Begins out more → Begins more (reported x) → Later out (StillRunning more) x
 
 pub data After (out : List ℕ) : Outcome → Outcome → Type 0 where
   same : (x : Outcome) → Begins out (printed x) → After out x x
@@ -57,71 +56,71 @@ before d (open_yet more x b c) = open_yet more x (joined d b) c
 -- ---- one after the other
 
 module _ {A B : Type 0} {f g : A → State → Answer B} (k : (v : A) (st : State) → Later st.out (f v st) (g v st)) where
-  reported_on : {more : List ℕ} (x : Answer A) → Begins more (reported x) → Begins more (reported (then_give x g))
+  reported_on : {more : List ℕ} (x : Answer A) → Begins more (reported x) → Begins more (reported (x ▷ g))
   reported_on (Value v st) b = joined b (reported_later (k v st))
-  reported_on (answer.Ended n out) b = b
-  reported_on (answer.StillRunning out) b = b
+  reported_on (Ended n out) b = b
+  reported_on (StillRunning out) b = b
 
-  pub then_later : {out : List ℕ} {x y : Answer A} → Later out x y → Later out (then_give x f) (then_give y g)
+  pub then_later : {out : List ℕ} {x y : Answer A} → Later out x y → Later out (x ▷ f) (y ▷ g)
   then_later (alike (Value v st) b) = earlier b (k v st)
-  then_later (alike (answer.Ended n out) b) = alike (answer.Ended n out) b
-  then_later (alike (answer.StillRunning out) b) = alike (answer.StillRunning out) b
-  then_later (going more x b c) = going more (then_give x g) b (reported_on x c)
+  then_later (alike (Ended n out) b) = alike (Ended n out) b
+  then_later (alike (StillRunning out) b) = alike (StillRunning out) b
+  then_later (going more x b c) = going more (x ▷ g) b (reported_on x c)
 
 module _ {A : Type 0} {f g : A → State → Outcome} (k : (v : A) (st : State) → After st.out (f v st) (g v st)) where
-  answered_on : {more : List ℕ} (x : Answer A) → Begins more (reported x) → Begins more (printed (with_answer x g))
+  answered_on : {more : List ℕ} (x : Answer A) → Begins more (reported x) → Begins more (printed (x ▷ g))
   answered_on (Value v st) b = joined b (printed_later (k v st))
-  answered_on (answer.Ended n out) b = b
-  answered_on (answer.StillRunning out) b = b
+  answered_on (Ended n out) b = b
+  answered_on (StillRunning out) b = b
 
-  pub with_later : {out : List ℕ} {x y : Answer A} → Later out x y → After out (with_answer x f) (with_answer y g)
+  pub with_later : {out : List ℕ} {x y : Answer A} → Later out x y → After out (x ▷ f) (y ▷ g)
   with_later (alike (Value v st) b) = before b (k v st)
-  with_later (alike (answer.Ended n out) b) = same (Ended n out) b
-  with_later (alike (answer.StillRunning out) b) = same (StillRunning out) b
-  with_later (going more x b c) = open_yet more (with_answer x g) b (answered_on x c)
+  with_later (alike (Ended n out) b) = same (Ended n out) b
+  with_later (alike (StillRunning out) b) = same (StillRunning out) b
+  with_later (going more x b c) = open_yet more (x ▷ g) b (answered_on x c)
 
 module _ {f g : State → Outcome} (k : (st : State) → After st.out (f st) (g st)) where
   go_on : {more : List ℕ} (x : Outcome) → Begins more (printed x) → Begins more (printed (then_go x g))
-  go_on (Normal st) b = joined b (printed_later (k st))
-  go_on (Exited st) b = b
-  go_on (Returned v st) b = b
+  go_on (Value Normal st) b = joined b (printed_later (k st))
+  go_on (Value Exited st) b = b
+  go_on (Value (Returned v) st) b = b
   go_on (Ended n out) b = b
   go_on (StillRunning out) b = b
 
   pub go_later : {out : List ℕ} {x y : Outcome} → After out x y → After out (then_go x f) (then_go y g)
-  go_later (same (Normal st) b) = before b (k st)
-  go_later (same (Exited st) b) = same (Exited st) b
-  go_later (same (Returned v st) b) = same (Returned v st) b
+  go_later (same (Value Normal st) b) = before b (k st)
+  go_later (same (Value Exited st) b) = same (Value Exited st) b
+  go_later (same (Value (Returned v) st) b) = same (Value (Returned v) st) b
   go_later (same (Ended n out) b) = same (Ended n out) b
   go_later (same (StillRunning out) b) = same (StillRunning out) b
   go_later (open_yet more x b c) = open_yet more (then_go x g) b (go_on x c)
 
   left_on : {more : List ℕ} (x : Outcome) → Begins more (printed x) → Begins more (printed (loop_left x g))
-  left_on (Normal st) b = joined b (printed_later (k st))
-  left_on (Exited st) b = b
-  left_on (Returned v st) b = b
+  left_on (Value Normal st) b = joined b (printed_later (k st))
+  left_on (Value Exited st) b = b
+  left_on (Value (Returned v) st) b = b
   left_on (Ended n out) b = b
   left_on (StillRunning out) b = b
 
   pub left_later : {out : List ℕ} {x y : Outcome} → After out x y → After out (loop_left x f) (loop_left y g)
-  left_later (same (Normal st) b) = before b (k st)
-  left_later (same (Exited st) b) = same (Normal st) b
-  left_later (same (Returned v st) b) = same (Returned v st) b
+  left_later (same (Value Normal st) b) = before b (k st)
+  left_later (same (Value Exited st) b) = same (Value Normal st) b
+  left_later (same (Value (Returned v) st) b) = same (Value (Returned v) st) b
   left_later (same (Ended n out) b) = same (Ended n out) b
   left_later (same (StillRunning out) b) = same (StillRunning out) b
   left_later (open_yet more x b c) = open_yet more (loop_left x g) b (left_on x c)
 
   body_on : {more : List ℕ} (x : Outcome) → Begins more (printed x) → Begins more (printed (then_body x g))
-  body_on (Normal st) b = joined b (printed_later (k st))
-  body_on (Exited st) b = joined b (printed_later (k st))
-  body_on (Returned v st) b = joined b (printed_later (k st))
+  body_on (Value Normal st) b = joined b (printed_later (k st))
+  body_on (Value Exited st) b = joined b (printed_later (k st))
+  body_on (Value (Returned v) st) b = joined b (printed_later (k st))
   body_on (Ended n out) b = b
   body_on (StillRunning out) b = b
 
   pub body_later : {out : List ℕ} {x y : Outcome} → After out x y → After out (then_body x f) (then_body y g)
-  body_later (same (Normal st) b) = before b (k st)
-  body_later (same (Exited st) b) = before b (k st)
-  body_later (same (Returned v st) b) = before b (k st)
+  body_later (same (Value Normal st) b) = before b (k st)
+  body_later (same (Value Exited st) b) = before b (k st)
+  body_later (same (Value (Returned v) st) b) = before b (k st)
   body_later (same (Ended n out) b) = same (Ended n out) b
   body_later (same (StillRunning out) b) = same (StillRunning out) b
   body_later (open_yet more x b c) = open_yet more (then_body x g) b (body_on x c)
@@ -133,9 +132,9 @@ end_reported true st = begins st.out
 end_reported false st = begins st.out
 
 result_reported : {more : List ℕ} (function : Bool) (x : Outcome) → Begins more (printed x) → Begins more (reported (result function x))
-result_reported function (Normal st) b = joined b (end_reported function st)
-result_reported function (Exited st) b = joined b (end_reported function st)
-result_reported function (Returned v st) b = b
+result_reported function (Value Normal st) b = joined b (end_reported function st)
+result_reported function (Value Exited st) b = joined b (end_reported function st)
+result_reported function (Value (Returned v) st) b = b
 result_reported function (Ended n out) b = b
 result_reported function (StillRunning out) b = b
 
@@ -157,8 +156,8 @@ if_after false p q = q
 pub gave : {A : Type 0} (v : A) (st : State) → Later st.out (Value v st) (Value v st)
 gave v st = alike (Value v st) (begins st.out)
 
-pub ended : {A : Type 0} (k : ℕ) (out : List ℕ) → Later {A = A} out (answer.Ended k out) (answer.Ended k out)
-ended k out = alike (answer.Ended k out) (begins out)
+pub ended : {A : Type 0} (k : ℕ) (out : List ℕ) → Later {A = A} out (Ended k out) (Ended k out)
+ended k out = alike (Ended k out) (begins out)
 
-pub went : (st : State) → After st.out (Normal st) (Normal st)
-went st = same (Normal st) (begins st.out)
+pub went : (st : State) → After st.out (Value Normal st) (Value Normal st)
+went st = same (Value Normal st) (begins st.out)

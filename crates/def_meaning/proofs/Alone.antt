@@ -16,7 +16,7 @@ use Rattle.typed_tree.specs.declared.known_types.Types.{Types}
 use Rattle.typed_tree.specs.Types.{integer}
 use Rattle.typed_tree.specs.Known.{scalar_at}
 use Rattle.def_meaning.specs.Store.{Location}
-use Rattle.def_meaning.specs.Answer.{State, Answer, Value, then_give, range_fault, overflow, divisor_fault, index_fault}
+use Rattle.def_meaning.specs.Answer.{State, Answer, Value, ◌▷◌, range_fault, overflow, divisor_fault, index_fault}
 use Rattle.def_meaning.specs.Operators.{is_between, truth, is_true, compared, combined, included, has, absolute, capital, odd, quotient, remainder}
 use Rattle.def_meaning.specs.Environment.{Modules, Environment, location_of, high_of, named}
 use Rattle.def_meaning.specs.Expressions.{Asks, Gives, one_by_one, within, within_range, as_type, in_base, index_range, element, element_in, divided, operated, ordinal, root_layer, component_layer, link_layer, place_layer, expr_layer, value, locate}
@@ -25,7 +25,7 @@ use Rattle.def_meaning.proofs.Evaluated.{opened, opened_place, opened_component,
 
 -- ---- one after the other, and choices
 
-then_leaves : {A B : Type 0} {st : State} {x : Answer A} {f : A → State → Answer B} → ((v : A) (st : State) → Leaves st (f v st)) → Leaves st x → Leaves st (then_give x f)
+then_leaves : {A B : Type 0} {st : State} {x : Answer A} {f : A → State → Answer B} → ((v : A) (st : State) → Leaves st (f v st)) → Leaves st x → Leaves st (x ▷ f)
 then_leaves {st = st} k (gives v) = k v st
 then_leaves k (ends n) = ends n
 
@@ -202,10 +202,10 @@ module _ (p : Modules) (ask : Asks) where
   chain_alone : (e : SE) (ls : List SL) → (calls e.0 ≡ false) × (any_calls (map calls_linked (map (λ x. x.0) ls)) ≡ false) → GivesAlone (expr_layer p ask (opened p ask (bare (layer.Chain e ls))))
   chain_alone e ls n = record { at = λ a st. then_leaves (λ v st. one_leaves (continued p ask) calls_linked ls n.1 v a st) ((e.1 n.0).at a st) }
 
-  unary : {g : Gives ℤ} (f : Environment → ℤ → State → Answer ℤ) → ((a : Environment) (v : ℤ) (st : State) → Leaves st (f a v st)) → GivesAlone g → GivesAlone (λ a st. then_give (g a st) (f a))
+  unary : {g : Gives ℤ} (f : Environment → ℤ → State → Answer ℤ) → ((a : Environment) (v : ℤ) (st : State) → Leaves st (f a v st)) → GivesAlone g → GivesAlone (λ a st. g a st ▷ (f a))
   unary f h e = record { at = λ a st. then_leaves (λ v st. h a v st) (e.at a st) }
 
-  two : {g g' : Gives ℤ} (f : Environment → ℤ → ℤ → State → Answer ℤ) → ((a : Environment) (v w : ℤ) (st : State) → Leaves st (f a v w st)) → GivesAlone g → GivesAlone g' → GivesAlone (λ a st. then_give (g a st) (λ v st. then_give (g' a st) (λ w st. f a v w st)))
+  two : {g g' : Gives ℤ} (f : Environment → ℤ → ℤ → State → Answer ℤ) → ((a : Environment) (v w : ℤ) (st : State) → Leaves st (f a v w st)) → GivesAlone g → GivesAlone g' → GivesAlone (λ a st. g a st ▷ λ v st. g' a st ▷ λ w st. f a v w st)
   two f h e e' = record { at = λ a st. then_leaves (λ v st. then_leaves (λ w st. h a v w st) (e'.at a st)) (e.at a st) }
 
   both : (e e' : SE) → (calls e.0 || calls e'.0) ≡ false → GivesAlone (value p ask e.0) × GivesAlone (value p ask e'.0)

@@ -12,8 +12,8 @@ use Rattle.typed_tree.specs.declared.types.TypeNo.{TypeNo}
 use Rattle.typed_tree.specs.declared.known_types.Types.{Types}
 use Rattle.typed_tree.specs.Types.{char}
 use Rattle.typed_tree.specs.Known.{scalar_at}
-use Rattle.def_meaning.specs.Answer.{State, range_fault, case_fault, halted}
-use Rattle.def_meaning.specs.Outcome.{Exited, Returned, Ended}
+use Rattle.def_meaning.specs.Answer.{State, range_fault, case_fault, halted, Ended, Value}
+use Rattle.def_meaning.specs.Outcome.{Exited, Returned}
 use Rattle.def_meaning.specs.Operators.{is_true}
 use Rattle.def_meaning.specs.Environment.{Modules, Environment}
 use Rattle.def_meaning.specs.Expressions.{Asks, as_type, value, locate}
@@ -119,9 +119,9 @@ module _ (p : Modules) (ask ask' : Asks) (k : AsksLater ask ask') (n m : ℕ) (q
   stmt_later (step.While e xs) = record { at = λ a st. while_later (value_at e a) (body xs a) n m q st }
   stmt_later (step.Repeat xs e) = record { at = λ a st. until_later (value_at e a) (body xs a) n m q st }
   stmt_later (step.Loop xs) = record { at = λ a st. looped_later (body xs a) n m q st }
-  stmt_later step.Exit = record { at = λ a st. same (Exited st) (begins st.out) }
-  stmt_later step.Return = record { at = λ a st. same (Returned (pos 0) st) (begins st.out) }
-  stmt_later (step.Give t e) = record { at = λ a st. with_later (λ v st. with_later (λ v st. same (Returned v st) (begins st.out)) (type_later a.types t v st)) (value_at e a st) }
+  stmt_later step.Exit = record { at = λ a st. same (Value Exited st) (begins st.out) }
+  stmt_later step.Return = record { at = λ a st. same (Value (Returned (pos 0)) st) (begins st.out) }
+  stmt_later (step.Give t e) = record { at = λ a st. with_later (λ v st. with_later (λ v st. same (Value (Returned v) st) (begins st.out)) (type_later a.types t v st)) (value_at e a st) }
   stmt_later (step.For d t start limit by xs) = record {
     at = λ a st.
         with_later (λ l st. with_later (λ v st. with_later (λ v st. with_later (λ last st.

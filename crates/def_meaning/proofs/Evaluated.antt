@@ -16,7 +16,7 @@ use Rattle.typed_tree.specs.declared.known_types.Types.{Types}
 use Rattle.typed_tree.specs.Types.{integer}
 use Rattle.typed_tree.specs.Known.{scalar_at}
 use Rattle.def_meaning.specs.Store.{Location}
-use Rattle.def_meaning.specs.Answer.{State, Answer, then_give, range_fault, overflow, divisor_fault, index_fault, empty_procedure}
+use Rattle.def_meaning.specs.Answer.{State, Answer, ◌▷◌, range_fault, overflow, divisor_fault, index_fault, empty_procedure}
 use Rattle.def_meaning.specs.Operators.{is_between, truth, is_true, compared, combined, included, has, absolute, capital, odd, quotient, remainder}
 use Rattle.def_meaning.specs.Environment.{Modules, Environment, Callee, Passed, Number, Variable, Array, module_place, entry_of, entry_callee, module_callee, nested_in, named, location_of, high_of}
 use Rattle.def_meaning.specs.Expressions.{Asks, Gives, Reaches, Continues, one_by_one, within, within_range, as_type, in_base, index_range, high_index, element, element_in, divided, operated, ordinal, all_given, asked, asked_if, argument_layer, call_layer, root_layer, component_layer, link_layer, expr_layer, place_layer, value, locate, called}
@@ -244,11 +244,11 @@ module _ (p : Modules) (ask ask' : Asks) (k : AsksLater ask ask') where
   links : (xs : List SL) → Pairwise GoesLater (map (continued p ask) (map (λ x. x.0) xs)) (map (continued p ask') (map (λ x. x.0) xs))
   links xs = pairwise_maps {X = SL} {Y = Link} GoesLater (λ x. x.0) (continued p ask) (continued p ask') (λ x. x.1) xs
 
-  unary_later : {A : Type 0} {g g' : Gives ℤ} (f : ℤ → State → Answer A) → ((v : ℤ) (st : State) → Later st.out (f v st) (f v st)) → GivesLater g g' → (a : Environment) (st : State) → Later st.out (then_give (g a st) f) (then_give (g' a st) f)
+  unary_later : {A : Type 0} {g g' : Gives ℤ} (f : ℤ → State → Answer A) → ((v : ℤ) (st : State) → Later st.out (f v st) (f v st)) → GivesLater g g' → (a : Environment) (st : State) → Later st.out (g a st ▷ f) (g' a st ▷ f)
   unary_later f h e a st = then_later h (e.at a st)
 
   binary_later : {g g' x x' : Gives ℤ} (f : ℤ → ℤ → State → Answer ℤ) → ((v w : ℤ) (st : State) → Later st.out (f v w st) (f v w st)) → GivesLater g g' → GivesLater x x' → (a : Environment) (st : State)
-      → Later st.out (then_give (g a st) (λ v st. then_give (x a st) (λ w st. f v w st))) (then_give (g' a st) (λ v st. then_give (x' a st) (λ w st. f v w st)))
+      → Later st.out (g a st ▷ λ v st. x a st ▷ λ w st. f v w st) (g' a st ▷ λ v st. x' a st ▷ λ w st. f v w st)
   binary_later f h e e' a st = then_later (λ v st. then_later (λ w st. h v w st) (e'.at a st)) (e.at a st)
 
   expr_later : (y : TypedExpr-F SA SC SK SL SE SP) → GivesLater (expr_layer p ask (opened p ask (bare y))) (expr_layer p ask' (opened p ask' (bare y)))

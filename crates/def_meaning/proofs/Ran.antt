@@ -2,8 +2,8 @@
 use Rattle.std.proofs.Common.{◌≡◌, ℕ, zero, suc, ◌≤◌, ◌-◌, List, [], ◌∷◌, map, Option, Some, None, arith}
 use Rattle.std.specs.Prelude.{nat_lt}
 use Rattle.typed_tree.specs.declared.statement.TypedStmt.{TypedStmt}
-use Rattle.def_meaning.specs.Answer.{State, StillRunning, storage_fault, empty_procedure}
-use Rattle.def_meaning.specs.Outcome.{Outcome, Ended}
+use Rattle.def_meaning.specs.Answer.{State, StillRunning, storage_fault, empty_procedure, Ended}
+use Rattle.def_meaning.specs.Outcome.{Outcome}
 use Rattle.def_meaning.specs.Environment.{Modules, Environment, Callee, Passed}
 use Rattle.def_meaning.specs.Expressions.{Asks}
 use Rattle.def_meaning.specs.Statements.{does}

@@ -2,8 +2,8 @@
 use Rattle.std.proofs.Common.{ℕ, zero, suc, ◌≤◌, ℤ, arith}
 use Rattle.std.specs.Prelude.{◌+ℤ◌}
 use Rattle.def_meaning.specs.Store.{Location}
-use Rattle.def_meaning.specs.Answer.{State, Answer}
-use Rattle.def_meaning.specs.Outcome.{Outcome, StillRunning}
+use Rattle.def_meaning.specs.Answer.{State, Answer, StillRunning}
+use Rattle.def_meaning.specs.Outcome.{Outcome}
 use Rattle.def_meaning.specs.Operators.{is_true}
 use Rattle.def_meaning.specs.Statements.{stored, looped, while_true, until_true, has_passed, for_turns, for_all}
 use Rattle.def_meaning.proofs.After.{begins, Later, alike, reported_later, After, same, open_yet, printed_later, with_later, go_later, left_later, if_after, went}

@@ -1,4 +1,5 @@
--- How an expression ends: with a value, with a fault or HALT, or not yet, since a bound was met.
+-- How a part of a program ends: with a value, with a fault or HALT, or not yet, since a bound was
+-- met.
 use Rattle.std.specs.Prelude.{ℕ, List}
 use Rattle.def_meaning.specs.Store.{Store}
 
@@ -12,11 +13,12 @@ pub data Answer (A : Type 0) : Type 0 where
   Ended : (number : ℕ) (out : List ℕ) → Answer A
   StillRunning : (out : List ℕ) → Answer A
 
--- what comes next with the value
-abbrev pub then_give : {A B : Type 0} → Answer A → (A → State → Answer B) → Answer B
-then_give (Value x st) next = next x st
-then_give (Ended k out) next = Ended k out
-then_give (StillRunning out) next = StillRunning out
+-- What comes next with a value. Behind an end, and while a part goes on, nothing does.
+infixl 10 ◌▷◌
+abbrev pub ◌▷◌ : {A B : Type 0} → Answer A → (A → State → Answer B) → Answer B
+(Value x st) ▷ next = next x st
+(Ended k out) ▷ next = Ended k out
+(StillRunning out) ▷ next = StillRunning out
 
 -- the faults, and HALT
 abbrev pub range_fault : ℕ

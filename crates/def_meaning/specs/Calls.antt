@@ -14,9 +14,8 @@ use Rattle.layout_storage.specs.Shapes.{tree}
 use Rattle.layout_storage.specs.Frames.{formals_of, frame}
 use Rattle.layout_storage.specs.Texts.{passed}
 use Rattle.def_meaning.specs.Store.{Location, Store, assigned, copied, placed, fresh}
-use Rattle.def_meaning.specs.Answer.{State, Answer, Value, no_return, empty_procedure, storage_fault}
-use Rattle.def_meaning.specs.Answer as answer
-use Rattle.def_meaning.specs.Outcome.{Outcome, Normal, Exited, Returned, Ended, StillRunning}
+use Rattle.def_meaning.specs.Answer.{State, Answer, Value, no_return, empty_procedure, storage_fault, Ended, StillRunning}
+use Rattle.def_meaning.specs.Outcome.{Outcome, Normal, Exited, Returned}
 use Rattle.def_meaning.specs.Environment.{Modules, Environment, Named, At, Elements, Callee, Passed, Number, Variable, Array, Text}
 use Rattle.def_meaning.specs.Expressions.{Asks}
 use Rattle.def_meaning.specs.Statements.{character, in_turn, does}
@@ -101,15 +100,15 @@ is_function types r = is_function_made (made_at types r.heading)
 
 -- a function that comes to its end is a fault
 abbrev pub at_end : Bool → State → Answer ℤ
-at_end true st = answer.Ended no_return st.out
+at_end true st = Ended no_return st.out
 at_end false st = Value (pos 0) st
 
 abbrev pub result : Bool → Outcome → Answer ℤ
-result function (Normal st) = at_end function st
-result function (Exited st) = at_end function st
-result function (Returned v st) = Value v st
-result function (Ended k out) = answer.Ended k out
-result function (StillRunning out) = answer.StillRunning out
+result function (Value Normal st) = at_end function st
+result function (Value Exited st) = at_end function st
+result function (Value (Returned v) st) = Value v st
+result function (Ended k out) = Ended k out
+result function (StillRunning out) = StillRunning out
 
 -- the names of the variables that stand behind the formals
 abbrev pub variables_from : (activation v : ℕ) → List TypeNo → List Named
@@ -150,12 +149,12 @@ module _ (p : Modules) (n : ℕ) where
   abbrev pub runs : Asks → Callee → List Passed → (next free : ℕ) → State → Answer ℤ
   runs ask c vs next free st =
       if nat_lt free (needed c.types c.routine vs)
-      then answer.Ended storage_fault st.out
+      then Ended storage_fault st.out
       else runs_in ask c next (entered c.types c.routine next vs st.store)
       (free - needed c.types c.routine vs) st
 
   -- calls nest at most d deep
   unfoldable pub calling : (d : ℕ) → Asks
-  calling zero c vs next free st = answer.StillRunning st.out
-  calling (suc d) None vs next free st = answer.Ended empty_procedure st.out
+  calling zero c vs next free st = StillRunning st.out
+  calling (suc d) None vs next free st = Ended empty_procedure st.out
   calling (suc d) (Some c) vs next free st = runs (calling d) c vs next free st

@@ -1,13 +1,14 @@
 -- What more time makes of a run.
 use Rattle.std.specs.Prelude.{◌≡◌, ℕ, ◌≤◌, List, ◌++◌}
-use Rattle.def_meaning.specs.Outcome.{Outcome, Normal, Exited, Returned, Ended, StillRunning}
+use Rattle.def_meaning.specs.Answer.{Ended, StillRunning, Value}
+use Rattle.def_meaning.specs.Outcome.{Outcome, Normal, Exited, Returned}
 use Rattle.def_meaning.specs.Environment.{Modules}
 use Rattle.def_meaning.specs.Runs.{run}
 
 abbrev pub printed : Outcome → List ℕ
-printed (Normal st) = st.out
-printed (Exited st) = st.out
-printed (Returned v st) = st.out
+printed (Value Normal st) = st.out
+printed (Value Exited st) = st.out
+printed (Value (Returned v) st) = st.out
 printed (Ended k out) = out
 printed (StillRunning out) = out
 

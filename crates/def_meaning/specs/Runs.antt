@@ -6,8 +6,8 @@ use Rattle.layout_storage.specs.Sizes.{size}
 use Rattle.layout_storage.specs.Frames.{module_row}
 use Rattle.layout_storage.specs.Texts.{module_texts, characters}
 use Rattle.def_meaning.specs.Store.{fresh}
-use Rattle.def_meaning.specs.Answer.{State}
-use Rattle.def_meaning.specs.Outcome.{Outcome, Normal, Exited, Returned, Ended, StillRunning}
+use Rattle.def_meaning.specs.Answer.{State, Ended, StillRunning, Value}
+use Rattle.def_meaning.specs.Outcome.{Outcome, Normal, Exited, Returned}
 use Rattle.def_meaning.specs.Environment.{Modules, Environment}
 use Rattle.def_meaning.specs.Calls.{body_does, calling}
 
@@ -44,9 +44,9 @@ body_environment p place m free = record {
 
 -- a body that comes to its end or returns is followed by the next
 abbrev pub then_body : Outcome → (State → Outcome) → Outcome
-then_body (Normal st) next = next st
-then_body (Exited st) next = next st
-then_body (Returned v st) next = next st
+then_body (Value Normal st) next = next st
+then_body (Value Exited st) next = next st
+then_body (Value (Returned v) st) next = next st
 then_body (Ended k out) next = Ended k out
 then_body (StillRunning out) next = StillRunning out
 

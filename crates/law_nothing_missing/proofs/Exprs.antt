@@ -37,7 +37,7 @@ use Rattle.typed_tree.specs.Known.{scalar_at}
 use Rattle.layout_storage.specs.Types.{Ty, Scalar, Natural, Callable, Cell, Array, Heading, component}
 use Rattle.layout_storage.specs.Shapes.{tree, elements_of}
 use Rattle.def_meaning.specs.Store.{Location}
-use Rattle.def_meaning.specs.Answer.{State, Answer, Value, Ended, then_give, range_fault, overflow, index_fault, divisor_fault, empty_procedure}
+use Rattle.def_meaning.specs.Answer.{State, Answer, Value, Ended, ◌▷◌, range_fault, overflow, index_fault, divisor_fault, empty_procedure}
 use Rattle.def_meaning.specs.Environment.{Modules, Environment, Callee, Frames, Named, At, Elements, Passed, Number, Variable as Place', Array as Whole, Text, entry_of, entry_callee, module_place, module_callee, procedure_in, nested_in, callee_with, named, location_of, high_of, or_root}
 use Rattle.def_meaning.specs.Operators.{is_between, is_true, absolute, quotient, remainder}
 use Rattle.def_meaning.specs.Calls.{is_there}
@@ -166,13 +166,13 @@ module _ (x : Context) (lacking : ℕ) (world : World) (sask ask : Asks) (knows 
 
   -- ---- what is there
 
-  pub cell_there : {c : Scalar} {y z : Answer Location} → Same P world (IsAt (Cell c)) y z → Same P world (IsAt (Cell c)) (then_give y (at_cell lacking P sask world)) z
+  pub cell_there : {c : Scalar} {y z : Answer Location} → Same P world (IsAt (Cell c)) y z → Same P world (IsAt (Cell c)) (y ▷ (at_cell lacking P sask world)) z
   cell_there (gives l st fine at) = same_provided P world lacking (is_cell (type_at world l)) (Value l) st (ap is_cell at) (gives l st fine at)
   cell_there (ends k out e) = ends k out e
   cell_there (still out) = still out
 
-  there_then : {B : Type 0} {G : B → Type 0} (t : Ty) (l : Location) (f : Location → State → Answer B) (st : State) (y : Answer B) → IsAt t l → Same P world G (f l st) y → Same P world G (then_give (at_there lacking P sask world l st) f) y
-  there_then {B = B} {G = G} t l f st y at h = subst (λ (b : Bool). Same P world G (then_give (provided lacking b (Value l) st) f) y) (sym (ap is_there at)) h
+  there_then : {B : Type 0} {G : B → Type 0} (t : Ty) (l : Location) (f : Location → State → Answer B) (st : State) (y : Answer B) → IsAt t l → Same P world G (f l st) y → Same P world G (at_there lacking P sask world l st ▷ f) y
+  there_then {B = B} {G = G} t l f st y at h = subst (λ (b : Bool). Same P world G (provided lacking b (Value l) st ▷ f) y) (sym (ap is_there at)) h
 
   open_at : (ws : List Ty) (a : Environment) → Fits x world ws a → (slot : Slot) (t : Ty) → kind_at x.kinds slot ≡ Some (Open t) → OpenName world t (named a slot)
   open_at ws a fit slot t e = let n = named_at world x.kinds a fit.frames slot (Open t) e in open_named world (named a slot) (Open t) n.0 t n.1 n.2 refl
@@ -229,11 +229,11 @@ module _ (x : Context) (lacking : ℕ) (world : World) (sask ask : Asks) (knows 
     C c r = (wanted : Bool) → (wanted ≡ true → is_there r ≡ true) → Both ws (IsGood P r) (strict.called lacking P sask world c wanted) (called P ask c)
 
     unary_same : (G : ℤ → Type 0) (e : TypedExpr) (f : Environment → ℤ → State → Answer ℤ) → E e → ((a : Environment) (v : ℤ) (st : State) → IsFine P world st.store → Same P world G (f a v st) (f a v st))
-        → Both ws G (λ a st. then_give (sv e a st) (f a)) (λ a st. then_give (value P ask e a st) (f a))
+        → Both ws G (λ a st. sv e a st ▷ (f a)) (λ a st. value P ask e a st ▷ (f a))
     unary_same G e f m next = λ a fit st fine. same_then P world (m a fit st fine) (λ v st fine good. next a v st fine)
 
     binary_same : (G : ℤ → Type 0) (e e' : TypedExpr) (f : Environment → ℤ → ℤ → State → Answer ℤ) → E e → E e' → ((a : Environment) (v w : ℤ) (st : State) → IsFine P world st.store → Same P world G (f a v w st) (f a v w st))
-        → Both ws G (λ a st. then_give (sv e a st) (λ v st. then_give (sv e' a st) (λ w st. f a v w st))) (λ a st. then_give (value P ask e a st) (λ v st. then_give (value P ask e' a st) (λ w st. f a v w st)))
+        → Both ws G (λ a st. sv e a st ▷ λ v st. sv e' a st ▷ λ w st. f a v w st) (λ a st. value P ask e a st ▷ λ v st. value P ask e' a st ▷ λ w st. f a v w st)
     binary_same G e e' f m m' next = λ a fit st fine. same_then P world (m a fit st fine) (λ v st fine good. same_then P world (m' a fit st fine) (λ w st fine good. next a v w st fine))
 
     constant_same : (t : TypeNo) (n : ℤ) → E (expr.Constant t n)
@@ -396,33 +396,33 @@ module _ (x : Context) (lacking : ℕ) (world : World) (sask ask : Asks) (knows 
 
     -- an element of an array
     reach_same : (n : ℕ) (u : Ty) (l : Location) (low high v : ℤ) → IsAt (Array n u) l → (low ≤ℤ v → v ≤ℤ high → unsigned_abs (v -ℤ low) < n) → (st : State) → IsFine P world st.store
-        → Same P world (IsAt u) (then_give (element l low high v st) (at_there lacking P sask world)) (element l low high v st)
+        → Same P world (IsAt u) (element l low high v st ▷ (at_there lacking P sask world)) (element l low high v st)
     reach_same n u l low high v at less st fine = go (is_between low v high) refl
       where
         to : Location
         to = l ++ unsigned_abs (v -ℤ low) ∷ []
 
-        go : (b : Bool) → is_between low v high ≡ b → Same P world (IsAt u) (then_give (element l low high v st) (at_there lacking P sask world)) (element l low high v st)
-        go false e = subst (λ (b : Bool). Same P world (IsAt u) (then_give (if b then Value to st else Ended index_fault st.out) (at_there lacking P sask world)) (if b then Value to st else Ended index_fault st.out)) (sym e) (ends index_fault st.out refl)
+        go : (b : Bool) → is_between low v high ≡ b → Same P world (IsAt u) (element l low high v st ▷ (at_there lacking P sask world)) (element l low high v st)
+        go false e = subst (λ (b : Bool). Same P world (IsAt u) ((if b then Value to st else Ended index_fault st.out) ▷ (at_there lacking P sask world)) (if b then Value to st else Ended index_fault st.out)) (sym e) (ends index_fault st.out refl)
         go true e =
             let q = between_in low high v e in
             let is : IsAt u to = there_behind world l (Array n u) (unsigned_abs (v -ℤ low) ∷ []) at ∙ element_there n (unsigned_abs (v -ℤ low)) u (less q.0 q.1) in
-            subst (λ (b : Bool). Same P world (IsAt u) (then_give (if b then Value to st else Ended index_fault st.out) (at_there lacking P sask world)) (if b then Value to st else Ended index_fault st.out)) (sym e)
+            subst (λ (b : Bool). Same P world (IsAt u) ((if b then Value to st else Ended index_fault st.out) ▷ (at_there lacking P sask world)) (if b then Value to st else Ended index_fault st.out)) (sym e)
             (same_provided P world lacking (is_there (type_at world to)) (Value to) st (ap is_there is) (gives to st fine is))
 
     element_same : (t : TypeNo) (r : Range) (u : Ty) (i : TypedExpr) → index_of types t ≡ Some r → tree types t ≡ Array (elements_of (Some r)) u → E i → K (tree types t) (component'.Element t i) u
     element_same t r u i range array m = from_component (tree types t) u (component'.Element t i) (layer.Element t i) (component'.outs-Element t i)
         (λ l at a fit st fine. same_then P world (m a fit st fine) (λ v st fine good.
         let o : index_range a.types t ≡ Some r = ap (λ (ts : Types). index_range ts t) fit.types ∙ sym (same_index types t) ∙ range in
-        subst (λ (o : Option Range). Same P world (IsAt u) (needs lacking o (λ r st. then_give (element l r.low r.high v st) (at_there lacking P sask world)) st) (element_in l o v st)) (sym o)
+        subst (λ (o : Option Range). Same P world (IsAt u) (needs lacking o (λ r st. element l r.low r.high v st ▷ (at_there lacking P sask world)) st) (element_in l o v st)) (sym o)
         (reach_same (elements_of (Some r)) u l r.low r.high v (at ∙ ap Some array) (λ a b. lies_within r.low v r.high a b) st fine)))
 
     from_place : (d : Place) (t : Ty)
-        → Both ws (IsAt t) (λ a st. needs lacking (strict.root_layer lacking P sask world d.root a) (λ l st. then_give (at_there lacking P sask world l st) (λ l st. one_by_one (map sk d.components) l a st)) st)
+        → Both ws (IsAt t) (λ a st. needs lacking (strict.root_layer lacking P sask world d.root a) (λ l st. at_there lacking P sask world l st ▷ λ l st. one_by_one (map sk d.components) l a st) st)
         (λ a st. one_by_one (map (component_value P ask) d.components) (meaning.root_layer P ask d.root a) a st) → D d t
     from_place d t m =
         subst (λ (f : Gives Location). Both ws (IsAt t) f (locate P ask d)) (sym (strictly.place_means lacking P sask world d (out-Place d) refl))
-        (subst (λ (f : Gives Location). Both ws (IsAt t) (λ a st. needs lacking (strict.root_layer lacking P sask world d.root a) (λ l st. then_give (at_there lacking P sask world l st) (λ l st. one_by_one (map sk d.components) l a st)) st) f) (sym (place_means P ask d (out-Place d) refl)) m)
+        (subst (λ (f : Gives Location). Both ws (IsAt t) (λ a st. needs lacking (strict.root_layer lacking P sask world d.root a) (λ l st. at_there lacking P sask world l st ▷ λ l st. one_by_one (map sk d.components) l a st) st) f) (sym (place_means P ask d (out-Place d) refl)) m)
 
     designator_same : (d : Place) (t u : Ty) → typed.IsRoot x ws d.root t → Ks t d.components u → D d u
     designator_same d t u r ks = from_place d u (λ a fit st fine.
@@ -435,9 +435,9 @@ module _ (x : Context) (lacking : ℕ) (world : World) (sask ask : Asks) (knows 
     open_same : (d : Place) (slot : Slot) (t : TypeNo) (v : Ty) (i : TypedExpr) (cs : List Component) → d.root ≡ root.Open slot → kind_at x.kinds slot ≡ Some (Open (tree types t)) → d.components ≡ component'.OpenElement slot t i ∷ cs
         → E i → Ks (tree types t) cs v → D d v
     open_same d slot t v i cs r there comps m ks = from_place d v
-        (subst (λ (r : Root). Both ws (IsAt v) (λ a st. needs lacking (strict.root_layer lacking P sask world r a) (λ l st. then_give (at_there lacking P sask world l st) (λ l st. one_by_one (map sk d.components) l a st)) st)
+        (subst (λ (r : Root). Both ws (IsAt v) (λ a st. needs lacking (strict.root_layer lacking P sask world r a) (λ l st. at_there lacking P sask world l st ▷ λ l st. one_by_one (map sk d.components) l a st) st)
         (λ a st. one_by_one (map (component_value P ask) d.components) (meaning.root_layer P ask r a) a st)) (sym r)
-        (subst (λ (cs : List Component). Both ws (IsAt v) (λ a st. needs lacking (strict.root_layer lacking P sask world (root.Open slot) a) (λ l st. then_give (at_there lacking P sask world l st) (λ l st. one_by_one (map sk cs) l a st)) st)
+        (subst (λ (cs : List Component). Both ws (IsAt v) (λ a st. needs lacking (strict.root_layer lacking P sask world (root.Open slot) a) (λ l st. at_there lacking P sask world l st ▷ λ l st. one_by_one (map sk cs) l a st) st)
         (λ a st. one_by_one (map (component_value P ask) cs) (meaning.root_layer P ask (root.Open slot) a) a st)) (sym comps) whole))
       where
         k : Component
@@ -450,14 +450,14 @@ module _ (x : Context) (lacking : ℕ) (world : World) (sask ask : Asks) (knows 
             (subst (λ (f : Reaches). Same P world (IsAt (tree types t)) (strict.component_layer lacking P sask world (strictly.component_meant lacking P sask world (layer.OpenElement slot t i)) o.at a st) (f o.at a st))
             (sym (component_means P ask k (layer.OpenElement slot t i) (component'.outs-OpenElement slot t i)))
             (same_then P world (m a fit st fine) (λ z st fine good.
-            subst (λ (n : Option Named). Same P world (IsAt (tree types t)) (needs lacking (elements_named n) (λ e st. then_give (element o.at (pos 0) (pos e.1) z st) (at_there lacking P sask world)) st) (element o.at (pos 0) (pos (high_of n)) z st)) (sym o.is)
+            subst (λ (n : Option Named). Same P world (IsAt (tree types t)) (needs lacking (elements_named n) (λ e st. element o.at (pos 0) (pos e.1) z st ▷ (at_there lacking P sask world)) st) (element o.at (pos 0) (pos (high_of n)) z st)) (sym o.is)
             (reach_same (suc o.high) (tree types t) o.at (pos 0) (pos o.high) z o.type (λ a b. lies_below z o.high a b) st fine))))
 
-        whole : Both ws (IsAt v) (λ a st. needs lacking (strict.root_layer lacking P sask world (root.Open slot) a) (λ l st. then_give (at_there lacking P sask world l st) (λ l st. one_by_one (map sk (k ∷ cs)) l a st)) st)
+        whole : Both ws (IsAt v) (λ a st. needs lacking (strict.root_layer lacking P sask world (root.Open slot) a) (λ l st. at_there lacking P sask world l st ▷ λ l st. one_by_one (map sk (k ∷ cs)) l a st) st)
             (λ a st. one_by_one (map (component_value P ask) (k ∷ cs)) (meaning.root_layer P ask (root.Open slot) a) a st)
         whole a fit st fine =
             let o = open_at ws a fit slot (tree types t) there in
-            subst (λ (n : Option Named). Same P world (IsAt v) (needs lacking (first_of (elements_named n)) (λ l st. then_give (at_there lacking P sask world l st) (λ l st. one_by_one (map sk (k ∷ cs)) l a st)) st)
+            subst (λ (n : Option Named). Same P world (IsAt v) (needs lacking (first_of (elements_named n)) (λ l st. at_there lacking P sask world l st ▷ λ l st. one_by_one (map sk (k ∷ cs)) l a st) st)
             (one_by_one (map (component_value P ask) (k ∷ cs)) (location_of n) a st)) (sym o.is)
             (there_then (Array (suc o.high) (tree types t)) o.at (λ l st. one_by_one (map sk (k ∷ cs)) l a st) st _ o.type
             (same_then P world (first_same a fit o st fine) (λ l st fine at. ks l at a fit st fine)))

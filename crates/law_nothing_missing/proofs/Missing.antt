@@ -12,8 +12,8 @@ use Rattle.typed_tree.specs.declared.statement.TypedStmt.TheOpen as step
 use Rattle.typed_tree.specs.declared.statement.TypedStmt.TheVariants as stmt
 use Rattle.typed_tree.specs.Types.{char}
 use Rattle.def_meaning.specs.Store.{Location}
-use Rattle.def_meaning.specs.Answer.{State, Answer, Value, then_give}
-use Rattle.def_meaning.specs.Outcome.{Outcome, Normal, Ended, then_go, with_answer}
+use Rattle.def_meaning.specs.Answer.{State, Answer, Value, ◌▷◌, Ended}
+use Rattle.def_meaning.specs.Outcome.{Outcome, Normal, then_go}
 use Rattle.def_meaning.specs.Environment.{Modules, Environment, module_place}
 use Rattle.def_meaning.specs.Expressions.{Asks, Gives, as_type, one_by_one}
 use Rattle.def_meaning.specs.Runs.{storage, body_frame, first_state, body_environment}
@@ -33,18 +33,18 @@ module _ (lacking : ℕ) (p : Modules) (ask : Asks) (world : World) (n : ℕ) (d
   locate_lacks : strict.locate lacking p ask world d a st ≡ lacks lacking st
   locate_lacks =
       ap (λ (f : Gives Location). f a st) (meant.place_means lacking p ask world d (out-Place d) refl)
-      ∙ ap (λ (r : Root). needs lacking (strict.root_layer lacking p ask world r a) (λ l st. then_give (at_there lacking p ask world l st) (λ l st. one_by_one (map (meant.component_value lacking p ask world) d.components) l a st)) st) is
-      ∙ ap (λ (b : Bool). needs lacking (if b then Some (module_place p v.home ∷ v.number ∷ []) else None) (λ l st. then_give (at_there lacking p ask world l st) (λ l st. one_by_one (map (meant.component_value lacking p ask world) d.components) l a st)) st) missing
+      ∙ ap (λ (r : Root). needs lacking (strict.root_layer lacking p ask world r a) (λ l st. at_there lacking p ask world l st ▷ λ l st. one_by_one (map (meant.component_value lacking p ask world) d.components) l a st) st) is
+      ∙ ap (λ (b : Bool). needs lacking (if b then Some (module_place p v.home ∷ v.number ∷ []) else None) (λ l st. at_there lacking p ask world l st ▷ λ l st. one_by_one (map (meant.component_value lacking p ask world) d.components) l a st) st) missing
 
   value_lacks : strict.value lacking p ask world (expr.Load char d) a st ≡ lacks lacking st
   value_lacks =
       ap (λ (f : Gives ℤ). f a st) (meant.expr_means lacking p ask world (expr.Load char d) (layer.Load char d) (expr.outs-Load char d))
-      ∙ ap (λ (x : Answer Location). then_give (then_give x (at_cell lacking p ask world)) (λ l st. Value (st.store l) st)) locate_lacks
+      ∙ ap (λ (x : Answer Location). ((x ▷ (at_cell lacking p ask world)) ▷ λ l st. Value (st.store l) st)) locate_lacks
 
   put_lacks : (function : Bool) → statements.does lacking p ask world n function (stmt.Put (expr.Load char d)) a st ≡ Ended lacking st.out
   put_lacks function =
       ap (λ (f : Does). f a st) (done.step_means lacking p ask world n function (stmt.Put (expr.Load char d)) (step.Put (expr.Load char d)) (stmt.outs-Put (expr.Load char d)))
-      ∙ ap (λ (x : Answer ℤ). with_answer x (λ v st. with_answer (as_type a.types char v st) (λ v st. Normal (record st { out = st.out ++ unsigned_abs v ∷ [] })))) value_lacks
+      ∙ ap (λ (x : Answer ℤ). (x ▷ λ v st. as_type a.types char v st ▷ λ v st. Value Normal (record st { out = st.out ++ unsigned_abs v ∷ [] }))) value_lacks
 
 pub missing_lacks : MissingLacks
 unfolding strict_run

@@ -11,8 +11,8 @@ use Rattle.layout_storage.specs.Types.{Ty, Callable, Cell, Heading, row, frame_o
 use Rattle.layout_storage.specs.Shapes.{tree}
 use Rattle.layout_storage.specs.Frames.{module_row}
 use Rattle.def_meaning.specs.Store.{Location, fresh, first_in}
-use Rattle.def_meaning.specs.Answer.{State}
-use Rattle.def_meaning.specs.Outcome.{Outcome, Normal, Exited, Returned, Ended, StillRunning}
+use Rattle.def_meaning.specs.Answer.{State, Ended, StillRunning, Value}
+use Rattle.def_meaning.specs.Outcome.{Outcome, Normal, Exited, Returned}
 use Rattle.def_meaning.specs.Environment.{Modules, Environment, module_place}
 use Rattle.def_meaning.specs.Calls.{calling}
 use Rattle.def_meaning.specs.Runs as meaning
@@ -46,9 +46,9 @@ use Rattle.law_nothing_missing.proofs.Procedures.{HasBase, AreTyped, AreKnown, a
 
 -- the same outcome, and a number of the language, where it is one
 abbrev IsWithin : Outcome → Type 0
-IsWithin (Normal st) = Unit {0}
-IsWithin (Exited st) = Unit {0}
-IsWithin (Returned v st) = Unit {0}
+IsWithin (Value Normal st) = Unit {0}
+IsWithin (Value Exited st) = Unit {0}
+IsWithin (Value (Returned v) st) = Unit {0}
 IsWithin (Ended k out) = IsEnd k
 IsWithin (StillRunning out) = Unit {0}
 

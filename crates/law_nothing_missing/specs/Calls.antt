@@ -8,7 +8,7 @@ use Rattle.layout_storage.specs.Types as layout
 use Rattle.layout_storage.specs.Shapes.{tree}
 use Rattle.layout_storage.specs.Frames.{formals_of, frame}
 use Rattle.layout_storage.specs.Texts.{passed}
-use Rattle.def_meaning.specs.Answer.{State, Answer, Ended, StillRunning, storage_fault}
+use Rattle.def_meaning.specs.Answer.{State, Answer, Ended, StillRunning, storage_fault, Value}
 use Rattle.def_meaning.specs.Outcome.{Outcome, Exited}
 use Rattle.def_meaning.specs.Environment.{Modules, Environment, Callee, Passed, Number, Variable, Array, Text}
 use Rattle.def_meaning.specs.Expressions.{Asks}
@@ -54,7 +54,7 @@ copies_of types (f ∷ fs) (v ∷ vs) = copy_of types f v ++ copies_of types fs 
 module _ (lacking : ℕ) where
   -- EXIT does not leave it
   abbrev pub result : Bool → Outcome → Answer ℤ
-  result function (Exited st) = lacks lacking st
+  result function (Value Exited st) = lacks lacking st
   result function other = meaning.result function other
 
   module _ (p : Modules) (n : ℕ) where

@@ -7,8 +7,7 @@ use Rattle.typed_tree.specs.declared.meaning.Variable.{Variable}
 use Rattle.typed_tree.specs.declared.statement.TypedStmt.TheVariants as stmt
 use Rattle.typed_tree.specs.Types.{char}
 use Rattle.typed_tree.specs.declared.typed_module.TypedModule.{TypedModule}
-use Rattle.def_meaning.specs.Answer.{halted}
-use Rattle.def_meaning.specs.Outcome.{Ended}
+use Rattle.def_meaning.specs.Answer.{halted, Ended}
 use Rattle.def_meaning.specs.Runs.{run}
 use Rattle.law_modules.specs.Linked.{Program}
 use Rattle.law_simulation.specs.Modules.{AreModules, AreTypedModules}

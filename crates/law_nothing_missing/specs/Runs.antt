@@ -2,8 +2,8 @@
 use Rattle.std.specs.Prelude.{ℕ, suc, ◌-◌, false, [], ◌∷◌, ◌++◌, map}
 use Rattle.layout_storage.specs.Types.{frame_of}
 use Rattle.layout_storage.specs.Frames.{module_row}
-use Rattle.def_meaning.specs.Answer.{State}
-use Rattle.def_meaning.specs.Outcome.{Outcome, Exited, Ended}
+use Rattle.def_meaning.specs.Answer.{State, Ended, Value}
+use Rattle.def_meaning.specs.Outcome.{Outcome, Exited}
 use Rattle.def_meaning.specs.Environment.{Modules}
 use Rattle.def_meaning.specs.Runs as meaning
 use Rattle.def_meaning.specs.Runs.{storage, body_frame, first_state, body_environment}
@@ -17,7 +17,7 @@ first_world p = map module_row p ++ frame_of [] ∷ []
 module _ (lacking : ℕ) where
   -- EXIT does not leave a body
   abbrev pub then_body : Outcome → (State → Outcome) → Outcome
-  then_body (Exited st) next = Ended lacking st.out
+  then_body (Value Exited st) next = Ended lacking st.out
   then_body other next = meaning.then_body other next
 
   abbrev pub bodies : Modules → (n left place : ℕ) → Modules → State → Outcome

@@ -15,9 +15,9 @@ use Rattle.layout_storage.specs.Types.{Ty, Scalar, row}
 use Rattle.layout_storage.specs.Sizes.{size}
 use Rattle.layout_storage.specs.Shapes.{tree}
 use Rattle.def_meaning.specs.Store.{Location}
-use Rattle.def_meaning.specs.Answer.{State as Source, Answer, Ended, StillRunning, then_give}
+use Rattle.def_meaning.specs.Answer.{State as Source, Answer, Ended, StillRunning, ◌▷◌}
+use Rattle.def_meaning.specs.Outcome.{Normal}
 use Rattle.def_meaning.specs.Answer as answer
-use Rattle.def_meaning.specs.Outcome.{Normal, with_answer}
 use Rattle.def_meaning.specs.Environment.{Modules, Callee, Passed, Number, Variable, Array as Whole, Text}
 use Rattle.def_meaning.specs.Expressions.{Asks, Gives, all_given}
 use Rattle.def_scheme.specs.Coded.{Coded, Counts, ◌⨾◌, all_coded, raised}
@@ -47,8 +47,8 @@ all_pass k p ask _ _ _ (pass_more f fs x xs g gs hx hxs) =
       gives = λ e c free full s st h rest stack.
           let first = x (inside k e) c in
           let second = all_coded xs (inside k e) first.1 in
-          let more : Passed → Source → Answer (List Passed) = λ v s. then_give (all_given p ask gs k.around s) (λ vs s. answer.Value (v ∷ vs) s) in
-          subst (λ (code : List Instr). Into (GivesAll k (f ∷ fs) (runs k rest) stack) (runs k code st stack) (then_give (g k.around s) more)) (sym (append_assoc first.0 second.0 rest))
+          let more : Passed → Source → Answer (List Passed) = λ v s. (all_given p ask gs k.around s ▷ (λ vs s. answer.Value (v ∷ vs) s)) in
+          subst (λ (code : List Instr). Into (GivesAll k (f ∷ fs) (runs k rest) stack) (runs k code st stack) (g k.around s ▷ more)) (sym (append_assoc first.0 second.0 rest))
           (into_then (GivesPassed k f (runs k (second.0 ++ rest)) stack) (GivesAll k (f ∷ fs) (runs k rest) stack) (runs k (first.0 ++ (second.0 ++ rest)) st stack) (g k.around s) more
           (hx.gives e c free (has_before k (others.grows e first.1) full) s st h (second.0 ++ rest) stack)
           (λ v s1 p1. subst (λ (r : Effect). Into (GivesAll k (f ∷ fs) (runs k rest) stack) r (more v s1)) (sym p1.run)
@@ -129,7 +129,7 @@ module _ (k : Scene) (base : List Ty) (texts : Location → ℕ → ℕ) (top : 
   -- with its arguments before it
   module _ (xs : List Coded) (gs : List (Gives Passed)) (args : PassAll k forms xs gs) (call : Coded) (plainly : IsPlain k call code) where
     abbrev pub value : Gives ℤ
-    value a s = then_give (all_given p ask gs a s) (λ vs s. ask (Some c) vs a.next a.free s)
+    value a s = all_given p ask gs a s ▷ λ vs s. ask (Some c) vs a.next a.free s
 
     pub args_grow : (e : ℕ) (n : Counts) → Grows n ((all_coded xs ⨾ call) (inside k e) n).1
     args_grow e n = subst (λ (q : List Instr × Counts). Grows n q.1) (sym (plainly e (all_coded xs (inside k e) n).1)) ((all_pass k p ask forms xs gs args).grows e n)
@@ -140,8 +140,8 @@ module _ (k : Scene) (base : List Ty) (texts : Location → ℕ → ℕ) (top : 
         let first = all_coded xs (inside k e) n in
         let below : List Value = stack ++ front in
         let on : List Passed → Source → Answer ℤ = λ vs s. ask (Some c) vs k.around.next k.around.free s in
-        subst (λ (q : List Instr × Counts). Into (GivesResult k result (runs k rest) stack) (runs k ((first.0 ++ q.0) ++ rest) st below) (then_give (all_given p ask gs k.around s) on)) (sym (plainly e first.1))
-        (subst (λ (list : List Instr). Into (GivesResult k result (runs k rest) stack) (runs k list st below) (then_give (all_given p ask gs k.around s) on)) (sym (append_assoc first.0 code rest))
+        subst (λ (q : List Instr × Counts). Into (GivesResult k result (runs k rest) stack) (runs k ((first.0 ++ q.0) ++ rest) st below) (all_given p ask gs k.around s ▷ on)) (sym (plainly e first.1))
+        (subst (λ (list : List Instr). Into (GivesResult k result (runs k rest) stack) (runs k list st below) (all_given p ask gs k.around s ▷ on)) (sym (append_assoc first.0 code rest))
         (into_then (GivesAll k forms (runs k (code ++ rest)) below) (GivesResult k result (runs k rest) stack) (runs k (first.0 ++ (code ++ rest)) st below) (all_given p ask gs k.around s) on
         ((all_pass k p ask forms xs gs args).gives e n free (subst (λ (q : List Instr × Counts). HasLocals k q.1) (plainly e first.1) full) s st h (code ++ rest) below)
         (λ vs s' q. subst (λ (r : Effect). Into (GivesResult k result (runs k rest) stack) r (on vs s')) (sym q.run) (call_goes vs q.values q.are s' q.st q.stands rest stack))))
@@ -174,13 +174,13 @@ call_agrees k t c code value cell h = record {
     turn (StillRunning out) rest stack r p = p
 
 -- a statement
-pub call_executes : (k : Scene) (function : Bool) (code : Coded) (value : Gives ℤ) → Calls k None code value → Executes k function code (λ a s. with_answer (value a s) (λ v s. Normal s))
+pub call_executes : (k : Scene) (function : Bool) (code : Coded) (value : Gives ℤ) → Calls k None code value → Executes k function code (λ a s. value a s ▷ λ v s. answer.Value Normal s)
 call_executes k function code value h = record {
   grows = h.grows;
   goes = λ e c free full s st stands rest stack. turn (value k.around s) e rest stack (runs k ((code (inside k e) c).0 ++ rest) st stack) (h.gives e c free full s st stands rest stack);
 }
   where
-    turn : (a : Answer ℤ) (e : ℕ) (rest : List Instr) (stack : List Value) (r : Effect) → Into (GivesResult k None (runs k rest) stack) r a → Ends k function e stack (λ st. runs k rest st stack) r (with_answer a (λ v s. Normal s))
+    turn : (a : Answer ℤ) (e : ℕ) (rest : List Instr) (stack : List Value) (r : Effect) → Into (GivesResult k None (runs k rest) stack) r a → Ends k function e stack (λ st. runs k rest st stack) r (a ▷ λ v s. answer.Value Normal s)
     turn (answer.Value v s) e rest stack r p = record { st = p.st; stands = p.stands; run = p.run ∙ ap (runs k rest p.st) (append-nil stack) }
     turn (Ended n out) e rest stack r p = p
     turn (StillRunning out) e rest stack r p = p

@@ -17,7 +17,7 @@ use Rattle.layout_storage.specs.Types.{Ty, Hidden, Array, row, component}
 use Rattle.layout_storage.specs.Sizes.{Four, size, offset}
 use Rattle.layout_storage.specs.Shapes.{tree, elements_of}
 use Rattle.def_meaning.specs.Store.{Location}
-use Rattle.def_meaning.specs.Answer.{State as Source, Answer, then_give}
+use Rattle.def_meaning.specs.Answer.{State as Source, Answer, ◌▷◌}
 use Rattle.def_meaning.specs.Answer as answer
 use Rattle.def_meaning.specs.Environment.{Named, At, Elements, Frames, named, or_empty, location_of, high_of}
 use Rattle.def_meaning.specs.Expressions.{Gives, element}
@@ -282,7 +282,7 @@ module _ (k : Scene) (set : IsSet k) (kss : List Kinds) (has : HasFrames k kss) 
   range_here = record { low = pos 0; high = pos (high_of name_here); base = cardinal }
 
   pub open_reaches : (t i : TypeNo) → kind_at kss slot ≡ Some (Open (tree k.setting.home.types t)) → (index : Coded) (value : Gives ℤ) → Agrees k i index value
-      → Reaches k (open_type (tree k.setting.home.types t)) (tree k.setting.home.types t) (index ⨾ with_setting (λ s. plain (open_element_code s slot t))) (λ l a s. then_give (value a s) (λ v s. element l (pos 0) (pos (high_of (named a slot))) v s))
+      → Reaches k (open_type (tree k.setting.home.types t)) (tree k.setting.home.types t) (index ⨾ with_setting (λ s. plain (open_element_code s slot t))) (λ l a s. value a s ▷ λ v s. element l (pos 0) (pos (high_of (named a slot))) v s)
   open_reaches t i there index value ha = record {
     grows = λ e c. ha.grows e c;
     gives = λ e c free full l type some s st h rest stack.
@@ -306,7 +306,7 @@ module _ (k : Scene) (set : IsSet k) (kss : List Kinds) (has : HasFrames k kss) 
         ∙ ap (λ (i : ℕ). runs k checking st' (((below ++ I64 (word v) ∷ []) ++ I64 0 ∷ []) ++ I64 i ∷ [])) as_word
         ∙ sym (i64_runs k.modules k.fixed k.turns (calls k) k.own (instr.I64Const (word (pos high)) ∷ checking) st' (word (pos 0)) (below ++ I64 (word v) ∷ [])
         ∙ i64_runs k.modules k.fixed k.turns (calls k) k.own checking st' (word (pos high)) ((below ++ I64 (word v) ∷ []) ++ I64 (word (pos 0)) ∷ [])) in
-        subst (λ (code : List Instr). Into (GivesPlace k u (runs k rest) stack) (runs k code st below) (then_give (value k.around s) next)) (sym (append_assoc first.0 list rest))
+        subst (λ (code : List Instr). Into (GivesPlace k u (runs k rest) stack) (runs k code st below) (value k.around s ▷ next)) (sym (append_assoc first.0 list rest))
         (into_then (GivesNumber k i (runs k (list ++ rest)) below) (GivesPlace k u (runs k rest) stack) (runs k (first.0 ++ (list ++ rest)) st below) (value k.around s) next
         (ha.gives e c free full s st h (list ++ rest) below)
         (λ v s' p. subst (λ (r : Effect). Into (GivesPlace k u (runs k rest) stack) r (next v s')) (sym (p.run ∙ same v s' p.st p.stands))

@@ -25,7 +25,7 @@ use Rattle.layout_storage.specs.Sizes.{size, offset}
 use Rattle.layout_storage.specs.Shapes.{tree, elements_of}
 use Rattle.law_memory.proofs.Places.{component_append, offset_append}
 use Rattle.def_meaning.specs.Store.{Location}
-use Rattle.def_meaning.specs.Answer.{State as Source, Answer, Ended, then_give, index_fault}
+use Rattle.def_meaning.specs.Answer.{State as Source, Answer, Ended, ◌▷◌, index_fault}
 use Rattle.def_meaning.specs.Answer as answer
 use Rattle.def_meaning.specs.Environment.{or_root, named, location_of}
 use Rattle.def_meaning.specs.Operators.{is_between}
@@ -202,7 +202,7 @@ module _ (k : Scene) (has : HasHelpers k) (small : AreSmall k.setting.home.types
           (decided b e (subst (λ (b : Bool). Into (GivesNumber k i (runs k after) below) (runs k (checked r.low r.high 3 ++ after) st (below ++ I64 (word v) ∷ [])) (if b then answer.Value v s else Ended index_fault s.out)) e gives))
 
   pub element_reaches : (t i : TypeNo) (r : Range) (u : Ty) (index after : Coded) (value : Gives ℤ) → code.index_of types t ≡ Some r → tree types t ≡ Array (elements_of (Some r)) u → Agrees k i index value
-      → IsPlain k after (element_code types t) → Reaches k (tree types t) u (index ⨾ after) (λ l a s. then_give (value a s) (λ v s. element_in l (meaning.index_range types t) v s))
+      → IsPlain k after (element_code types t) → Reaches k (tree types t) u (index ⨾ after) (λ l a s. value a s ▷ λ v s. element_in l (meaning.index_range types t) v s)
   element_reaches t i r u index after value range array ha plainly = record {
     grows = λ e c. subst (λ (p : List Instr × Counts). Grows c p.1) (sym (plainly e (index (inside k e) c).1)) (ha.grows e c);
     gives = λ e c free full l type some s st h rest stack.
@@ -213,8 +213,8 @@ module _ (k : Scene) (has : HasHelpers k) (small : AreSmall k.setting.home.types
         let is : component (row k.world) l ≡ Some (Array (elements_of (Some r)) u) = type ∙ ap Some array in
         let listed : list ≡ located r (size u) = ap (λ (o : Option Range). in_range o 3 ++ (from_lower o ++ scaled (size (element_tree (tree types t))))) range ∙ ap (λ (t : Ty). checked r.low r.high 3 ++ (from_lower (Some r) ++ scaled (size (element_tree t)))) array in
         let ranged : Some r ≡ meaning.index_range types t = sym range ∙ same_index types t in
-        subst (λ (p : List Instr × Counts). Into (GivesPlace k u (runs k rest) stack) (runs k ((first.0 ++ p.0) ++ rest) st below) (then_give (value k.around s) next)) (sym (plainly e first.1))
-        (subst (λ (code : List Instr). Into (GivesPlace k u (runs k rest) stack) (runs k code st below) (then_give (value k.around s) next)) (sym (append_assoc first.0 list rest))
+        subst (λ (p : List Instr × Counts). Into (GivesPlace k u (runs k rest) stack) (runs k ((first.0 ++ p.0) ++ rest) st below) (value k.around s ▷ next)) (sym (plainly e first.1))
+        (subst (λ (code : List Instr). Into (GivesPlace k u (runs k rest) stack) (runs k code st below) (value k.around s ▷ next)) (sym (append_assoc first.0 list rest))
         (into_then (GivesNumber k i (runs k (list ++ rest)) below) (GivesPlace k u (runs k rest) stack) (runs k (first.0 ++ (list ++ rest)) st below) (value k.around s) next
         (ha.gives e c free (subst (λ (p : List Instr × Counts). HasLocals k p.1) (plainly e first.1) full) s st h (list ++ rest) below)
         (λ v s' p. subst (λ (r : Effect). Into (GivesPlace k u (runs k rest) stack) r (next v s')) (sym p.run)
@@ -258,14 +258,14 @@ with_locates k j l t is = record {
       }));
 }
 
-reach_then : (k : Scene) (t v u : Ty) (x y : Coded) (reach next : Location → Gives Location) → Reaches k t v x reach → Reaches k v u y next → Reaches k t u (x ⨾ y) (λ l a s. then_give (reach l a s) (λ l s. next l a s))
+reach_then : (k : Scene) (t v u : Ty) (x y : Coded) (reach next : Location → Gives Location) → Reaches k t v x reach → Reaches k v u y next → Reaches k t u (x ⨾ y) (λ l a s. reach l a s ▷ λ l s. next l a s)
 reach_then k t v u x y reach next hx hy = record {
   grows = λ e c. grows_more (hx.grows e c) (hy.grows e (x (inside k e) c).1);
   gives = λ e c free full l type some s st h rest stack.
       let first = x (inside k e) c in
       let second = y (inside k e) first.1 in
       let on : Location → Source → Answer Location = λ l s. next l k.around s in
-      subst (λ (code : List Instr). Into (GivesPlace k u (runs k rest) stack) (runs k code st (stack ++ I32 (place k l) ∷ [])) (then_give (reach l k.around s) on)) (sym (append_assoc first.0 second.0 rest))
+      subst (λ (code : List Instr). Into (GivesPlace k u (runs k rest) stack) (runs k code st (stack ++ I32 (place k l) ∷ [])) (reach l k.around s ▷ on)) (sym (append_assoc first.0 second.0 rest))
       (into_then (GivesPlace k v (runs k (second.0 ++ rest)) stack) (GivesPlace k u (runs k rest) stack) (runs k (first.0 ++ (second.0 ++ rest)) st (stack ++ I32 (place k l) ∷ [])) (reach l k.around s) on
       (hx.gives e c free (has_before k (hy.grows e first.1) full) l type some s st h (second.0 ++ rest) stack)
       (λ l s' p. subst (λ (r : Effect). Into (GivesPlace k u (runs k rest) stack) r (on l s')) (sym p.run) (hy.gives e first.1 (free_after k (hx.grows e c) free) full l p.type p.some s' p.st p.stands rest stack)));
@@ -278,14 +278,14 @@ all_reach k t _ [] [] (no_components _) = record {
 }
 all_reach k t u _ _ (more_components _ v _ c cs r rs h hs) = reach_then k t v u c (all_coded cs) r (one_by_one rs) h (all_reach k v u cs rs hs)
 
-pub root_then : (k : Scene) (t u : Ty) (x y : Coded) (found : Gives Location) (next : Location → Gives Location) → Locates k t x found → Reaches k t u y next → Locates k u (x ⨾ y) (λ a s. then_give (found a s) (λ l s. next l a s))
+pub root_then : (k : Scene) (t u : Ty) (x y : Coded) (found : Gives Location) (next : Location → Gives Location) → Locates k t x found → Reaches k t u y next → Locates k u (x ⨾ y) (λ a s. found a s ▷ λ l s. next l a s)
 root_then k t u x y found next hx hy = record {
   grows = λ e c. grows_more (hx.grows e c) (hy.grows e (x (inside k e) c).1);
   gives = λ e c free full s st h rest stack.
       let first = x (inside k e) c in
       let second = y (inside k e) first.1 in
       let on : Location → Source → Answer Location = λ l s. next l k.around s in
-      subst (λ (code : List Instr). Into (GivesPlace k u (runs k rest) stack) (runs k code st stack) (then_give (found k.around s) on)) (sym (append_assoc first.0 second.0 rest))
+      subst (λ (code : List Instr). Into (GivesPlace k u (runs k rest) stack) (runs k code st stack) (found k.around s ▷ on)) (sym (append_assoc first.0 second.0 rest))
       (into_then (GivesPlace k t (runs k (second.0 ++ rest)) stack) (GivesPlace k u (runs k rest) stack) (runs k (first.0 ++ (second.0 ++ rest)) st stack) (found k.around s) on
       (hx.gives e c free (has_before k (hy.grows e first.1) full) s st h (second.0 ++ rest) stack)
       (λ l s' p. subst (λ (r : Effect). Into (GivesPlace k u (runs k rest) stack) r (on l s')) (sym p.run) (hy.gives e first.1 (free_after k (hx.grows e c) free) full l p.type p.some s' p.st p.stands rest stack)));

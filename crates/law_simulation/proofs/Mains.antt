@@ -13,9 +13,9 @@ use Rattle.typed_tree.specs.declared.typed_module.TypedModule.{TypedModule}
 use Rattle.layout_storage.specs.Types.{Ty, Scalar, Hidden, Cell, Field, row, component, IsFit}
 use Rattle.layout_storage.specs.Sizes.{size, offset}
 use Rattle.def_meaning.specs.Store.{Location, placed, fresh}
-use Rattle.def_meaning.specs.Answer.{State as Source}
-use Rattle.def_meaning.specs.Outcome.{Outcome, Normal, Exited, Returned, StillRunning}
-use Rattle.def_meaning.specs.Outcome as outcome
+use Rattle.def_meaning.specs.Answer.{State as Source, StillRunning}
+use Rattle.def_meaning.specs.Outcome.{Outcome, Normal, Exited, Returned}
+use Rattle.def_meaning.specs.Answer as answer
 use Rattle.def_meaning.specs.Environment.{Modules, Environment}
 use Rattle.def_meaning.specs.Calls.{body_does, calling}
 use Rattle.def_meaning.specs.Expressions.{Asks}
@@ -179,10 +179,10 @@ module _ (k : Scene) (p : Modules) (ask : Asks) (m : TypedModule) (place text : 
     }
 
     ended : (o : Outcome) (R : Effect) → Ends K false 0 [] (λ st. runs K [] st []) R o → Back R o
-    ended (Normal s') R g = came s' g.st g.stands [] _ (ap (back 0 locals below) g.run)
-    ended (Exited s') R g = came s' g.st g.stands [] _ (ap (back 0 locals below) g.run)
-    ended (Returned v s') R g = came s' g.st g.stands.0 g.below _ (ap (back 0 locals below) g.run)
-    ended (outcome.Ended j out) R g = ap (back 0 locals below) g
+    ended (answer.Value Normal s') R g = came s' g.st g.stands [] _ (ap (back 0 locals below) g.run)
+    ended (answer.Value Exited s') R g = came s' g.st g.stands [] _ (ap (back 0 locals below) g.run)
+    ended (answer.Value (Returned v) s') R g = came s' g.st g.stands.0 g.below _ (ap (back 0 locals below) g.run)
+    ended (answer.Ended j out) R g = ap (back 0 locals below) g
     ended (StillRunning out) R g = ap (back 0 locals below) g
 
     frames_here : HasFrames K []

@@ -18,7 +18,7 @@ use Rattle.layout_storage.specs.Sizes.{offset, size}
 use Rattle.layout_storage.specs.Shapes.{tree, elements_of}
 use Rattle.layout_storage.specs.Texts.{passed}
 use Rattle.def_meaning.specs.Store.{Location}
-use Rattle.def_meaning.specs.Answer.{State as Source, Answer, Ended, StillRunning, then_give}
+use Rattle.def_meaning.specs.Answer.{State as Source, Answer, Ended, StillRunning, ◌▷◌}
 use Rattle.def_meaning.specs.Answer as answer
 use Rattle.def_meaning.specs.Environment.{Passed, Number, Variable, Array as Whole, Text, named, location_of, high_of}
 use Rattle.def_meaning.specs.Expressions.{Gives}
@@ -37,7 +37,7 @@ use Rattle.law_simulation.specs.Frames.{Kinds, Open, kind_at, HasFrames}
 use Rattle.law_simulation.specs.Passing.{Form, ByNumber, ByCopy, ByName, ByArray, IsPassed, GivesPassed, Passes}
 use Rattle.law_simulation.proofs.CallsSlots.{array_here, open_locates, high_runs}
 
-pub give_assoc : {A B C : Type 0} (a : Answer A) (f : A → Source → Answer B) (g : B → Source → Answer C) → then_give (then_give a f) g ≡ then_give a (λ x s. then_give (f x s) g)
+pub give_assoc : {A B C : Type 0} (a : Answer A) (f : A → Source → Answer B) (g : B → Source → Answer C) → ((a ▷ f) ▷ g) ≡ (a ▷ λ x s. f x s ▷ g)
 give_assoc (answer.Value x s) f g = refl
 give_assoc (Ended j out) f g = refl
 give_assoc (StillRunning out) f g = refl
@@ -49,7 +49,7 @@ passes_alike k form x f g same h = record {
 }
 
 -- a number for a value formal
-pub value_passes : (k : Scene) (t : TypeNo) (c : Scalar) (x : Coded) (value : Gives ℤ) → IsCell k.setting.home.types t c → Agrees k t x value → Passes k (ByNumber c) x (λ a s. then_give (value a s) (λ v s. answer.Value (Number v) s))
+pub value_passes : (k : Scene) (t : TypeNo) (c : Scalar) (x : Coded) (value : Gives ℤ) → IsCell k.setting.home.types t c → Agrees k t x value → Passes k (ByNumber c) x (λ a s. value a s ▷ λ v s. answer.Value (Number v) s)
 value_passes k t c x value cell ha = record {
   grows = ha.grows;
   gives = λ e counts free full s st h rest stack.
@@ -62,14 +62,14 @@ value_passes k t c x value cell ha = record {
 module _ (k : Scene) (form : Form) (t : Ty) (d after : Coded) (list : List Instr) (found : Gives Location) (next : Location → Passed) (hd : Locates k t d found) (plainly : IsPlain k after list)
     (go : (l : Location) → component (row k.world) l ≡ Some t → 0 < length l → (s : Source) (st : Target) → Stands k s st → (rest : List Instr) (stack : List Value)
     → GivesPassed k form (runs k rest) stack (next l) s (runs k (list ++ rest) st (stack ++ I32 (place k l) ∷ []))) where
-  pub address_passes : Passes k form (d ⨾ after) (λ a s. then_give (found a s) (λ l s. answer.Value (next l) s))
+  pub address_passes : Passes k form (d ⨾ after) (λ a s. found a s ▷ λ l s. answer.Value (next l) s)
   address_passes = record {
     grows = λ e c. subst (λ (p : List Instr × Counts). Grows c p.1) (sym (plainly e (d (inside k e) c).1)) (hd.grows e c);
     gives = λ e c free full s st h rest stack.
         let first = d (inside k e) c in
         let on : Location → Source → Answer Passed = λ l s. answer.Value (next l) s in
-        subst (λ (p : List Instr × Counts). Into (GivesPassed k form (runs k rest) stack) (runs k ((first.0 ++ p.0) ++ rest) st stack) (then_give (found k.around s) on)) (sym (plainly e first.1))
-        (subst (λ (code : List Instr). Into (GivesPassed k form (runs k rest) stack) (runs k code st stack) (then_give (found k.around s) on)) (sym (append_assoc first.0 list rest))
+        subst (λ (p : List Instr × Counts). Into (GivesPassed k form (runs k rest) stack) (runs k ((first.0 ++ p.0) ++ rest) st stack) (found k.around s ▷ on)) (sym (plainly e first.1))
+        (subst (λ (code : List Instr). Into (GivesPassed k form (runs k rest) stack) (runs k code st stack) (found k.around s ▷ on)) (sym (append_assoc first.0 list rest))
         (into_then (GivesPlace k t (runs k (list ++ rest)) stack) (GivesPassed k form (runs k rest) stack) (runs k (first.0 ++ (list ++ rest)) st stack) (found k.around s) on
         (hd.gives e c free (subst (λ (p : List Instr × Counts). HasLocals k p.1) (plainly e first.1) full) s st h (list ++ rest) stack)
         (λ l s' p. subst (λ (r : Effect). GivesPassed k form (runs k rest) stack (next l) s' r) (sym p.run) (go l p.type p.some s' p.st p.stands rest stack))));
@@ -88,11 +88,11 @@ module _ (k : Scene) (set : IsSet k) where
   }
 
   -- a variable for a VAR formal
-  pub name_passes : (t : Ty) (d : Coded) (found : Gives Location) → Locates k t d found → Passes k (ByName t) (d ⨾ plain (extended ∷ [])) (λ a s. then_give (found a s) (λ l s. answer.Value (Variable l) s))
+  pub name_passes : (t : Ty) (d : Coded) (found : Gives Location) → Locates k t d found → Passes k (ByName t) (d ⨾ plain (extended ∷ [])) (λ a s. found a s ▷ λ l s. answer.Value (Variable l) s)
   name_passes t d found hd = address_passes k (ByName t) t d (plain (extended ∷ [])) (extended ∷ []) found Variable hd (λ e c. refl) (place_goes (ByName t) t (λ l type some. (type, some, refl)))
 
   -- a whole array or record
-  pub copy_passes : (t : Ty) (d : Coded) (found : Gives Location) → Locates k t d found → Passes k (ByCopy t) (d ⨾ plain (extended ∷ [])) (λ a s. then_give (found a s) (λ l s. answer.Value (Variable l) s))
+  pub copy_passes : (t : Ty) (d : Coded) (found : Gives Location) → Locates k t d found → Passes k (ByCopy t) (d ⨾ plain (extended ∷ [])) (λ a s. found a s ▷ λ l s. answer.Value (Variable l) s)
   copy_passes t d found hd = address_passes k (ByCopy t) t d (plain (extended ∷ [])) (extended ∷ []) found Variable hd (λ e c. refl) (place_goes (ByCopy t) t (λ l type some. (type, some, refl)))
 
   two_pushed : (s : List Value) (a b : Value) → (s ++ a ∷ []) ++ b ∷ [] ≡ s ++ a ∷ b ∷ []
@@ -100,7 +100,7 @@ module _ (k : Scene) (set : IsSet k) where
 
   -- an array of a fixed length
   pub array_passes : (is_var : Bool) (t : TypeNo) (r : Range) (u : Ty) (d : Coded) (found : Gives Location) → code.index_of k.setting.home.types t ≡ Some r → (r.high -ℤ r.low) ≤ℤ pos 4294967295 → tree k.setting.home.types t ≡ Array (elements_of (Some r)) u → Locates k (tree k.setting.home.types t) d found
-      → Passes k (ByArray is_var u) (d ⨾ with_setting (λ s. plain (extended ∷ instr.I64Const (code.high_index s.home.types t) ∷ []))) (λ a s. then_give (found a s) (λ l s. answer.Value (Whole l (code.high_index k.setting.home.types t)) s))
+      → Passes k (ByArray is_var u) (d ⨾ with_setting (λ s. plain (extended ∷ instr.I64Const (code.high_index s.home.types t) ∷ []))) (λ a s. found a s ▷ λ l s. answer.Value (Whole l (code.high_index k.setting.home.types t)) s)
   array_passes is_var t r u d found range narrow array hd =
       let types : Types = k.setting.home.types in
       let high : ℕ = code.high_index types t in

@@ -22,8 +22,8 @@ use Rattle.layout_storage.specs.Frames.{formals_of, frame}
 use Rattle.layout_storage.specs.Shapes.{tree}
 use Rattle.def_meaning.specs.Store.{Location, Store, placed, fresh}
 use Rattle.def_meaning.specs.Answer as answer
-use Rattle.def_meaning.specs.Answer.{State as Source, Answer}
-use Rattle.def_meaning.specs.Outcome.{Outcome, Normal, Exited, StillRunning}
+use Rattle.def_meaning.specs.Answer.{State as Source, Answer, StillRunning}
+use Rattle.def_meaning.specs.Outcome.{Outcome, Normal, Exited}
 use Rattle.def_meaning.specs.Outcome as outcome
 use Rattle.def_meaning.specs.Environment.{Modules, Environment, Named, Frames, Passed}
 use Rattle.def_meaning.specs.Calls.{Entered, with_all, is_function, is_there as there_meaning, result, entered, environment_of, variables_from, needed, body_does}
@@ -134,17 +134,17 @@ module _ (k : Scene) (has : HasHelpers k) (base : List Ty) (x0 : Location → �
       i64_runs k.modules k.fixed k.turns (calls k) k.own (instr.Call 1 ∷ instr.Unreachable ∷ []) st 6 []
       ∙ stop_runs k.modules k.fixed k.turns (calls k) k.own (instr.Unreachable ∷ []) st 1 6 [] (has.stop st.bytes)
 
-  pub ends_back : (r : Result) → k.result ≡ r → (o : Outcome) (R : Effect) → ((s : Source) → o ≡ Exited s → ⊥) → Ends k (there_meaning r) 0 [] (λ st. runs k (end_code (there_meaning r)) st []) R o → Back r o R
-  ends_back None ranged (Normal s) R stays p = came_back k None base x0 more is ranged older locals below s p.st p.stands [] [] (pos 0) refl refl tt _ (ap (back 0 locals below) p.run)
-  ends_back None ranged (outcome.Returned v s) R stays p =
+  pub ends_back : (r : Result) → k.result ≡ r → (o : Outcome) (R : Effect) → ((s : Source) → o ≡ answer.Value Exited s → ⊥) → Ends k (there_meaning r) 0 [] (λ st. runs k (end_code (there_meaning r)) st []) R o → Back r o R
+  ends_back None ranged (answer.Value Normal s) R stays p = came_back k None base x0 more is ranged older locals below s p.st p.stands [] [] (pos 0) refl refl tt _ (ap (back 0 locals below) p.run)
+  ends_back None ranged (answer.Value (outcome.Returned v) s) R stays p =
       came_back k None base x0 more is ranged older locals below s p.st p.stands.0 p.below [] v refl refl tt _ (ap (back 0 locals below) (p.run ∙ ap (λ (vs : List Value). Returned p.st vs) (sym (append-nil p.below))))
-  ends_back (Some rng) ranged (Normal s) R stays p = ap (back 1 locals below) (p.run ∙ faults p.st ∙ ap (λ (out : List ℕ). Ended 6 out) p.stands.out)
-  ends_back (Some rng) ranged (outcome.Returned v s) R stays p =
+  ends_back (Some rng) ranged (answer.Value Normal s) R stays p = ap (back 1 locals below) (p.run ∙ faults p.st ∙ ap (λ (out : List ℕ). Ended 6 out) p.stands.out)
+  ends_back (Some rng) ranged (answer.Value (outcome.Returned v) s) R stays p =
       came_back k (Some rng) base x0 more is ranged older locals below s p.st p.stands.0 p.below (I64 (word v) ∷ []) v refl refl (subst (λ (o : Option Ty). IsResult k.program o v) ranged (p.stands.1 refl)) _ (ap (back 1 locals below) p.run)
-  ends_back None ranged (Exited s) R stays p = absurd (stays s refl)
-  ends_back (Some rng) ranged (Exited s) R stays p = absurd (stays s refl)
-  ends_back None ranged (outcome.Ended j out) R stays p = ap (back 0 locals below) p
-  ends_back (Some rng) ranged (outcome.Ended j out) R stays p = ap (back 1 locals below) p
+  ends_back None ranged (answer.Value Exited s) R stays p = absurd (stays s refl)
+  ends_back (Some rng) ranged (answer.Value Exited s) R stays p = absurd (stays s refl)
+  ends_back None ranged (answer.Ended j out) R stays p = ap (back 0 locals below) p
+  ends_back (Some rng) ranged (answer.Ended j out) R stays p = ap (back 1 locals below) p
   ends_back None ranged (StillRunning out) R stays p = ap (back 0 locals below) p
   ends_back (Some rng) ranged (StillRunning out) R stays p = ap (back 1 locals below) p
 

@@ -17,7 +17,7 @@ use Rattle.typed_tree.specs.declared.types.TypeNo.{TypeNo}
 use Rattle.typed_tree.specs.declared.computed.SetOperator.{SetOperator}
 use Rattle.typed_tree.specs.declared.computed.SetOperator.TheVariants as sets
 use Rattle.typed_tree.specs.Types.{boolean, bitset}
-use Rattle.def_meaning.specs.Answer.{State as Source, Answer, Ended, then_give, range_fault}
+use Rattle.def_meaning.specs.Answer.{State as Source, Answer, Ended, ◌▷◌, range_fault}
 use Rattle.def_meaning.specs.Answer as answer
 use Rattle.def_meaning.specs.Operators as of
 use Rattle.def_meaning.specs.Operators.{is_between, bits, without, combined, has}
@@ -148,9 +148,9 @@ module _ (k : Scene) (has_helpers : HasHelpers k) (small : AreSmall k.setting.ho
     has_code = plain (checked (pos 0) (pos 31) 1) ⨾ with_number (λ n. plain (instr.LocalSet n ∷ []) ⨾ y ⨾ plain (instr.LocalGet n ∷ shifted))
 
     abbrev has_element : ℤ → Source → Answer ℤ
-    has_element x s = then_give (second k.around s) (λ y s. answer.Value (of.truth (has y x)) s)
+    has_element x s = second k.around s ▷ λ y s. answer.Value (of.truth (has y x)) s
 
-    pub in_goes : (t : TypeNo) → GoesOn k t boolean has_code (λ x a s. then_give (within (pos 0) (pos 31) range_fault x s) (λ x s. then_give (second a s) (λ y s. answer.Value (of.truth (has y x)) s)))
+    pub in_goes : (t : TypeNo) → GoesOn k t boolean has_code (λ x a s. within (pos 0) (pos 31) range_fault x s ▷ λ x s. second a s ▷ λ y s. answer.Value (of.truth (has y x)) s)
     in_goes t = record {
       grows = λ e c. kept_grows k bitset boolean y (λ n. instr.LocalGet n ∷ shifted) second (λ y s. answer.Value (of.truth (has y (pos 0))) s) (pos 0) hy beside e c;
       gives = λ e c free full x is s st h rest stack. by e c free full x is s st h rest stack (is_between (pos 0) x (pos 31)) refl;
@@ -164,7 +164,7 @@ module _ (k : Scene) (has_helpers : HasHelpers k) (small : AreSmall k.setting.ho
 
         by : (e : ℕ) (c : Counts) → IsFree k c → HasLocals k (has_code (inside k e) c).1 → (x : ℤ) → IsValue k.setting.home.types t x → (s : Source) (st : Target) → Stands k s st → (rest : List Instr) (stack : List Value)
             → (b : Bool) → is_between (pos 0) x (pos 31) ≡ b
-            → Into (GivesNumber k boolean (runs k rest) stack) (runs k ((has_code (inside k e) c).0 ++ rest) st (stack ++ I64 (word x) ∷ [])) (then_give (if b then answer.Value x s else Ended range_fault s.out) has_element)
+            → Into (GivesNumber k boolean (runs k rest) stack) (runs k ((has_code (inside k e) c).0 ++ rest) st (stack ++ I64 (word x) ∷ [])) ((if b then answer.Value x s else Ended range_fault s.out) ▷ has_element)
         by e c free full x is s st h rest stack b same =
             let code : List Instr = (with_number (λ n. plain (instr.LocalSet n ∷ []) ⨾ y ⨾ plain (instr.LocalGet n ∷ shifted)) (inside k e) c).0 in
             let p = checked_gives k has_helpers t (pos 0) (pos 31) x 1 (record { low = omega (arith, ints); high = omega (arith, ints) }) (record { low = omega (arith, ints); high = omega (arith, ints) })
@@ -174,7 +174,7 @@ module _ (k : Scene) (has_helpers : HasHelpers k) (small : AreSmall k.setting.ho
             decided : (b : Bool) → is_between (pos 0) x (pos 31) ≡ b
                 → Into (GivesNumber k t (runs k ((with_number (λ n. plain (instr.LocalSet n ∷ []) ⨾ y ⨾ plain (instr.LocalGet n ∷ shifted)) (inside k e) c).0 ++ rest)) stack)
                 (runs k (checked (pos 0) (pos 31) 1 ++ ((with_number (λ n. plain (instr.LocalSet n ∷ []) ⨾ y ⨾ plain (instr.LocalGet n ∷ shifted)) (inside k e) c).0 ++ rest)) st (stack ++ I64 (word x) ∷ [])) (if b then answer.Value x s else Ended range_fault s.out)
-                → Into (GivesNumber k boolean (runs k rest) stack) (runs k ((has_code (inside k e) c).0 ++ rest) st (stack ++ I64 (word x) ∷ [])) (then_give (if b then answer.Value x s else Ended range_fault s.out) has_element)
+                → Into (GivesNumber k boolean (runs k rest) stack) (runs k ((has_code (inside k e) c).0 ++ rest) st (stack ++ I64 (word x) ∷ [])) ((if b then answer.Value x s else Ended range_fault s.out) ▷ has_element)
             decided true same p =
                 let q = between_in (pos 0) (pos 31) x same in
                 subst (λ (r : Effect). Into (GivesNumber k boolean (runs k rest) stack) r (has_element x s)) (sym p.run)

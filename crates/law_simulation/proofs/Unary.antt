@@ -20,7 +20,7 @@ use Rattle.typed_tree.specs.declared.shape.Scalar.{Scalar as Range}
 use Rattle.typed_tree.specs.declared.known_types.Types.{Types}
 use Rattle.typed_tree.specs.Types.{are_same, is_one_home, integer, cardinal, boolean, char}
 use Rattle.typed_tree.specs.Known.{scalar_at, scalar_from}
-use Rattle.def_meaning.specs.Answer.{State as Source, Answer, Ended, StillRunning, then_give, range_fault, overflow}
+use Rattle.def_meaning.specs.Answer.{State as Source, Answer, Ended, StillRunning, ◌▷◌, range_fault, overflow}
 use Rattle.def_meaning.specs.Answer as answer
 use Rattle.def_meaning.specs.Operators as of
 use Rattle.def_meaning.specs.Operators.{is_between, absolute, capital, odd}
@@ -275,13 +275,13 @@ module _ (k : Scene) (has : HasHelpers k) (small : AreSmall k.setting.home.types
       let b : is_between r.low v r.high ≡ true = grind (arith, low, high) in
       ap (λ (z : ℤ). within r.low r.high overflow z s) (absolute_not v (natural v is)) ∙ ap (λ (b : Bool). if b then answer.Value v s else Ended overflow s.out) b
 
-  pub stays_agrees : (t : TypeNo) → AreNatural types t → (code : Coded) (value : Gives ℤ) → Agrees k t code value → Agrees k t code (λ a s. then_give (value a s) (λ v s. within_range (scalar_at types t) overflow (absolute v) s))
+  pub stays_agrees : (t : TypeNo) → AreNatural types t → (code : Coded) (value : Gives ℤ) → Agrees k t code value → Agrees k t code (λ a s. value a s ▷ λ v s. within_range (scalar_at types t) overflow (absolute v) s)
   stays_agrees t natural code value hx = record {
     grows = hx.grows;
     gives = λ e c free full s st stands rest stack. stays rest stack _ (value k.around s) (hx.gives e c free full s st stands rest stack);
   }
     where
-      stays : (rest : List Instr) (stack : List Value) (r : Effect) (a : Answer ℤ) → Into (GivesNumber k t (runs k rest) stack) r a → Into (GivesNumber k t (runs k rest) stack) r (then_give a (λ v s. within_range (scalar_at types t) overflow (absolute v) s))
+      stays : (rest : List Instr) (stack : List Value) (r : Effect) (a : Answer ℤ) → Into (GivesNumber k t (runs k rest) stack) r a → Into (GivesNumber k t (runs k rest) stack) r (a ▷ λ v s. within_range (scalar_at types t) overflow (absolute v) s)
       stays rest stack r (answer.Value v s) p = subst (λ (a : Answer ℤ). Into (GivesNumber k t (runs k rest) stack) r a) (sym (natural_stays t natural (scalar_at types t) refl v p.is s)) p
       stays rest stack r (Ended j out) p = p
       stays rest stack r (StillRunning out) p = p

@@ -3,13 +3,14 @@ use Rattle.std.specs.Prelude.{◌≡◌, ℕ, ◌≤◌, List, ◌++◌}
 use Rattle.wasm_tree.specs.declared.module.WModule.{WModule}
 use Rattle.wasm_tree.specs.Machine.{Config, Over, run}
 use Rattle.law_effect.specs.Laws.{IsOver}
-use Rattle.def_meaning.specs.Outcome.{Outcome, Normal, Exited, Returned, Ended, StillRunning}
+use Rattle.def_meaning.specs.Answer.{Ended, StillRunning, Value}
+use Rattle.def_meaning.specs.Outcome.{Outcome, Normal, Exited, Returned}
 
 -- what has been printed
 abbrev pub printed : Outcome → List ℕ
-printed (Normal s) = s.out
-printed (Exited s) = s.out
-printed (Returned v s) = s.out
+printed (Value Normal s) = s.out
+printed (Value Exited s) = s.out
+printed (Value (Returned v) s) = s.out
 printed (Ended k out) = out
 printed (StillRunning out) = out
 

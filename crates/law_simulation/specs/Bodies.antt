@@ -11,9 +11,9 @@ use Rattle.typed_tree.specs.declared.typed_module.TypedModule.{TypedModule}
 use Rattle.layout_storage.specs.Types.{Ty, row}
 use Rattle.layout_storage.specs.Sizes.{size}
 use Rattle.def_meaning.specs.Store.{Location}
-use Rattle.def_meaning.specs.Answer.{State as Source}
-use Rattle.def_meaning.specs.Outcome.{Outcome, Normal, Exited, Returned, Ended}
-use Rattle.def_meaning.specs.Outcome as outcome
+use Rattle.def_meaning.specs.Answer.{State as Source, Ended}
+use Rattle.def_meaning.specs.Outcome.{Outcome, Normal, Exited, Returned}
+use Rattle.def_meaning.specs.Answer as answer
 use Rattle.def_meaning.specs.Environment.{Modules}
 use Rattle.def_meaning.specs.Calls.{body_does, calling}
 use Rattle.def_meaning.specs.Runs.{storage, body_frame, body_environment, first_state, run}
@@ -44,11 +44,11 @@ pub record IsBack (g : Ground) (locals below : List Value) (s : Source) (r : Eff
 
 -- a body comes to its end, or returns, and all else ends alike
 abbrev pub BodyEnds : Ground → (locals below : List Value) → Effect → Outcome → Type 0
-BodyEnds g locals below r (Normal s) = IsBack g locals below s r
-BodyEnds g locals below r (Exited s) = IsBack g locals below s r
-BodyEnds g locals below r (Returned v s) = IsBack g locals below s r
+BodyEnds g locals below r (answer.Value Normal s) = IsBack g locals below s r
+BodyEnds g locals below r (answer.Value Exited s) = IsBack g locals below s r
+BodyEnds g locals below r (answer.Value (Returned v) s) = IsBack g locals below s r
 BodyEnds g locals below r (Ended k out) = r ≡ effects.Ended k out
-BodyEnds g locals below r (outcome.StillRunning out) = r ≡ StillRunning out
+BodyEnds g locals below r (answer.StillRunning out) = r ≡ StillRunning out
 
 -- the function f of the module j does what the body does; its frame begins behind the instances of
 -- the modules

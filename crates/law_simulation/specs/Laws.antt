@@ -19,9 +19,9 @@ use Rattle.typed_tree.specs.Known.{scalar_at}
 use Rattle.layout_storage.specs.Types.{Ty, Scalar, Cell, Array, row, component}
 use Rattle.layout_storage.specs.Shapes.{tree, elements_of}
 use Rattle.def_meaning.specs.Store.{Location}
-use Rattle.def_meaning.specs.Answer.{range_fault, halted}
+use Rattle.def_meaning.specs.Answer.{range_fault, halted, Ended, ◌▷◌}
+use Rattle.def_meaning.specs.Outcome.{Normal, Exited, Returned, then_go}
 use Rattle.def_meaning.specs.Answer as answer
-use Rattle.def_meaning.specs.Outcome.{Normal, Exited, Returned, Ended, with_answer, then_go}
 use Rattle.def_meaning.specs.Environment.{Modules, module_place}
 use Rattle.def_meaning.specs.Operators.{is_true}
 use Rattle.def_meaning.specs.Expressions as meaning
@@ -364,7 +364,7 @@ Assigns =
     → Locates k (Cell c) d found
     → Agrees k t e value
     → Executes k function (d ⨾ e ⨾ with_setting (λ s. plain (cells.stored s.home.types t))) (λ a s.
-    with_answer (found a s) (λ l s. with_answer (value a s) (λ v s. Normal (stored l v s))))
+    found a s ▷ λ l s. value a s ▷ λ v s. answer.Value Normal (stored l v s))
 
 -- INC and DEC of a scalar variable, whose base is a scalar type, too
 abbrev pub Changes : Type 0
@@ -380,9 +380,9 @@ Changes =
     → Agrees k x.of x.code value
     → AgreesBeside k x.of x.code value
     → Executes k function (change_code o d t x.code) (λ a s.
-    with_answer (found a s) (λ l s.
-    with_answer (value a s) (λ by s.
-    with_answer (rechecked a.types t (changed o (s.store l) by) s) (λ v s. Normal (stored l v s)))))
+    found a s ▷ λ l s.
+    value a s ▷ λ by s.
+    rechecked a.types t (changed o (s.store l) by) s ▷ λ v s. answer.Value Normal (stored l v s))
 
 -- INCL and EXCL
 abbrev pub Memberships : Type 0
@@ -396,10 +396,10 @@ Memberships =
     → Agrees k x.of x.code value
     → AgreesBeside k x.of x.code value
     → Executes k function (member_code o d x.code) (λ a s.
-    with_answer (found a s) (λ l s.
-    with_answer (value a s) (λ x s.
-    with_answer (bounded (pos 0) (pos 31) range_fault x s) (λ x s.
-    Normal (stored l (with_element o (s.store l) x) s)))))
+    found a s ▷ λ l s.
+    value a s ▷ λ x s.
+    bounded (pos 0) (pos 31) range_fault x s ▷ λ x s.
+    answer.Value Normal (stored l (with_element o (s.store l) x) s))
 
 -- a byte is printed
 abbrev pub Puts : Type 0
@@ -409,7 +409,7 @@ Puts =
     → (function : Bool) (e : Coded) (value : Gives ℤ)
     → Agrees k char e value
     → Executes k function (e ⨾ plain (instr.Call put ∷ [])) (λ a s.
-    with_answer (value a s) (λ v s. Normal (record s { out = s.out ++ unsigned_abs v ∷ [] })))
+    value a s ▷ λ v s. answer.Value Normal (record s { out = s.out ++ unsigned_abs v ∷ [] }))
 
 abbrev pub Halts : Type 0
 Halts =
@@ -418,12 +418,14 @@ Halts =
 
 abbrev pub Exits : Type 0
 Exits =
-    (k : Scene) (function : Bool)
-    → Executes k function (with_setting (λ s. plain (instr.Br s.exit ∷ []))) (λ a s. Exited s)
+    (k : Scene) (function : Bool) → Executes k function
+    (with_setting (λ s. plain (instr.Br s.exit ∷ []))) (λ a s. answer.Value Exited s)
 
 -- RETURN in a body, or in a procedure without a result
 abbrev pub Returns : Type 0
-Returns = (k : Scene) → Executes k false (plain (instr.Return ∷ [])) (λ a s. Returned (pos 0) s)
+Returns =
+    (k : Scene)
+    → Executes k false (plain (instr.Return ∷ [])) (λ a s. answer.Value (Returned (pos 0)) s)
 
 abbrev pub Rows : Type 0
 Rows =
@@ -439,7 +441,7 @@ Ifs =
     → Executes k function x step
     → Executes k function y other
     → Executes k function (e ⨾ plain (wrapped ∷ []) ⨾ if_else x y) (λ a s.
-    with_answer (value a s) (λ v s. if is_true v then step a s else other a s))
+    value a s ▷ λ v s. if is_true v then step a s else other a s)
 
 abbrev pub LoneIfs : Type 0
 LoneIfs =
@@ -449,7 +451,7 @@ LoneIfs =
     → Agrees k boolean e value
     → Executes k function x step
     → Executes k function (e ⨾ plain (wrapped ∷ []) ⨾ if_only x) (λ a s.
-    with_answer (value a s) (λ v s. if is_true v then step a s else Normal s))
+    value a s ▷ λ v s. if is_true v then step a s else answer.Value Normal s)
 
 -- the record is found once, and the body runs where its address is kept
 abbrev pub Withs : Type 0
@@ -460,7 +462,7 @@ Withs =
     → ((w : ℕ) (l : Location) → k.kept w ≡ None → component (row k.world) l ≡ Some t → 0 < length l
     → Executes (opening k w l) function x step)
     → Executes k function (d ⨾ with_address (λ w. plain (instr.LocalSet w ∷ []) ⨾ under w x))
-    (λ a s. with_answer (found a s) (λ l s. step (record a { withs = a.withs ++ l ∷ [] }) s))
+    (λ a s. found a s ▷ λ l s. step (record a { withs = a.withs ++ l ∷ [] }) s)
 
 abbrev pub Whiles : Type 0
 Whiles =
@@ -497,7 +499,7 @@ Cases =
     → ((n : ℕ) (v : Value) → k.kept n ≡ None → AreArms (keeping k n v) function xs ys)
     → ((n : ℕ) (v : Value) → k.kept n ≡ None → Executes (keeping k n v) function otherwise other)
     → Executes k function (steps.case_code x.code xs otherwise) (λ a s.
-    with_answer (value a s) (λ v s. statements.chosen v ys other a s))
+    value a s ▷ λ v s. statements.chosen v ys other a s)
 
 -- without ELSE there is a fault where no label is that of the value
 abbrev pub Unlabelled : Type 0
@@ -525,9 +527,9 @@ Fors =
     → IsGrowing k x
     → ((n : ℕ) (v : Value) → k.kept n ≡ None → Executes (keeping k n v) function x step)
     → Executes k function (for_code (with_setting (λ s. plain (at s))) t start bound by x) (λ a s.
-    with_answer (first a s) (λ v s.
-    with_answer (last a s) (λ limit s.
-    for_all k.turns (as_type a.types t) l by limit (step a) (stored l v s))))
+    first a s ▷ λ v s.
+    last a s ▷ λ limit s.
+    for_all k.turns (as_type a.types t) l by limit (step a) (stored l v s))
 
 abbrev pub Repeats : Type 0
 Repeats =

@@ -14,6 +14,7 @@ use Rattle.layout_storage.specs.Frames.{frame}
 use Rattle.def_meaning.specs.Store.{Location}
 use Rattle.def_meaning.specs.Answer.{State as Source}
 use Rattle.def_meaning.specs.Outcome.{Exited}
+use Rattle.def_meaning.specs.Answer as answer
 use Rattle.def_meaning.specs.Environment.{Modules, Environment, Frames, Callee, Passed}
 use Rattle.def_meaning.specs.Calls.{body_does, is_function, runs as asked_runs}
 use Rattle.def_meaning.specs.Expressions.{Asks}
@@ -109,7 +110,8 @@ pub record DoesBody (k : Scene) (p : Modules) (ask : Asks) (numbered : Numbered)
       texts
       → Executes (body_scene k m r outer (locals_in numbered m r outer text) world x root a)
       (is_function m.types r) placed (body_does p k.turns ask r.body)
-  pub stays : (a : Environment) (s s' : Source) → body_does p k.turns ask r.body a s ≡ Exited s' → ⊥
+  pub stays : (a : Environment) (s s' : Source)
+      → body_does p k.turns ask r.body a s ≡ answer.Value Exited s' → ⊥
 
 abbrev pub callee_of : (place : ℕ) → TypedModule → Routine → Frames → Callee
 callee_of place m r nss = record { place = place; types = m.types; routine = r; frames = nss }

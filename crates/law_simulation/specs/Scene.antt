@@ -21,10 +21,9 @@ use Rattle.layout_storage.specs.Types.{Ty, Scalar, Cell, row, component, IsScala
 use Rattle.layout_storage.specs.Sizes.{offset}
 use Rattle.layout_storage.specs.Shapes.{tree}
 use Rattle.def_meaning.specs.Store.{Location}
-use Rattle.def_meaning.specs.Answer.{State as Source, Answer}
+use Rattle.def_meaning.specs.Answer.{State as Source, Answer, Ended}
+use Rattle.def_meaning.specs.Outcome.{Outcome, Normal, Exited, Returned}
 use Rattle.def_meaning.specs.Answer as answer
-use Rattle.def_meaning.specs.Outcome.{Outcome, Normal, Exited, Returned, Ended}
-use Rattle.def_meaning.specs.Outcome as outcome
 use Rattle.def_meaning.specs.Environment.{Modules, Environment, named, location_of}
 use Rattle.def_meaning.specs.Expressions.{Gives}
 use Rattle.def_meaning.specs.Statements.{Does}
@@ -202,7 +201,7 @@ opening k w l = record k {
 -- the effect is what the answer says: P of what it gives, or the same end
 abbrev pub Into : {A : Type 0} → (A → Source → Effect → Type 0) → Effect → Answer A → Type 0
 Into P r (answer.Value a s) = P a s r
-Into P r (answer.Ended j out) = r ≡ does.Ended j out
+Into P r (Ended j out) = r ≡ does.Ended j out
 Into P r (answer.StillRunning out) = r ≡ StillRunning out
 
 -- code goes on with a number of a type on top of the operands
@@ -350,11 +349,12 @@ pub record Returns (k : Scene) (function : Bool) (v : ℤ) (s : Source) (r : Eff
 -- What is on goes on, EXIT branches to its label, RETURN returns, and all else ends alike.
 abbrev pub Ends : (k : Scene) (function : Bool) (exit : ℕ) (stack : List Value)
     (on : Target → Effect) → Effect → Outcome → Type 0
-Ends k function exit stack on r (Normal s) = GoesTo k on s r
-Ends k function exit stack on r (Exited s) = GoesTo k (λ st. does.Branched exit st stack) s r
-Ends k function exit stack on r (Returned v s) = Returns k function v s r
+Ends k function exit stack on r (answer.Value Normal s) = GoesTo k on s r
+Ends k function exit stack on r (answer.Value Exited s) =
+    GoesTo k (λ st. does.Branched exit st stack) s r
+Ends k function exit stack on r (answer.Value (Returned v) s) = Returns k function v s r
 Ends k function exit stack on r (Ended j out) = r ≡ does.Ended j out
-Ends k function exit stack on r (outcome.StillRunning out) = r ≡ StillRunning out
+Ends k function exit stack on r (answer.StillRunning out) = r ≡ StillRunning out
 
 -- the code of a statement does what the statement does
 pub record Executes (k : Scene) (function : Bool) (code : Coded) (step : Does) : Type 0 where

@@ -2,7 +2,7 @@
 use Rattle.std.specs.Prelude.{◌≡◌, ℕ, false, List, []}
 use Rattle.typed_tree.specs.declared.statement.TypedStmt.{TypedStmt}
 use Rattle.layout_storage.specs.Types.{Ty}
-use Rattle.def_meaning.specs.Answer.{State}
+use Rattle.def_meaning.specs.Answer.{State, Value}
 use Rattle.def_meaning.specs.Outcome.{Exited}
 use Rattle.def_meaning.specs.Environment.{Environment}
 use Rattle.def_meaning.specs.Calls.{is_there, body_does}
@@ -40,5 +40,5 @@ Stays =
     (x : Context) (ask : Asks) (result : Result) (n a b : ℕ) (body : List TypedStmt)
     → AreStmts x result [] false a b body
     → (around : Environment) (s t : State)
-    → body_does x.p n ask body around s ≡ Exited t
+    → body_does x.p n ask body around s ≡ Value Exited t
     → ⊥

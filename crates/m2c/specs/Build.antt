@@ -19,8 +19,7 @@ use Rattle.m2_graph.specs.Files.{numbered}
 use Rattle.m2_graph.specs.Graph.{CompileEach, IsGraph, IsRefusal}
 use Rattle.typed_tree.specs.declared.typed_module.TypedModule.{TypedModule}
 use Rattle.def_meaning.specs.Environment.{Modules}
-use Rattle.def_meaning.specs.Answer.{halted}
-use Rattle.def_meaning.specs.Outcome.{Ended}
+use Rattle.def_meaning.specs.Answer.{halted, Ended}
 use Rattle.def_meaning.specs.Runs.{data_size, run}
 use Rattle.law_nothing_missing.specs.Runs.{strict_run}
 use Rattle.def_scheme.specs.Modules.{typed_module, typed_link}
@@ -263,3 +262,9 @@ AreAlike (outcome.Refused rs) (outcome.Built link built) = ⊥
 AreAlike (outcome.Built link built) (outcome.Refused qs) = ⊥
 AreAlike (outcome.Built link built) (outcome.Built other others) =
     (link.items ≡ other.items) × (map named built.items ≡ map named others.items)
+
+-- files have at most one outcome in a number of pages
+abbrev pub OneOutcome : Type 0
+OneOutcome =
+    (files : List SourceFile) (pages : ℕ) (one other : Outcome)
+    → IsBuilt files pages one → IsBuilt files pages other → AreAlike one other

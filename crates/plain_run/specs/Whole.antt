@@ -1,7 +1,7 @@
 -- The run of a program.
 use Rattle.std.specs.Prelude.{◌≡◌, ℕ, suc, List, [], length}
-use Rattle.def_meaning.specs.Answer.{State as Meant}
-use Rattle.def_meaning.specs.Outcome.{Outcome as Course, Ended, StillRunning}
+use Rattle.def_meaning.specs.Answer.{State as Meant, Ended, StillRunning}
+use Rattle.def_meaning.specs.Outcome.{Outcome as Course}
 use Rattle.def_meaning.specs.Environment.{Modules}
 use Rattle.def_meaning.specs.Runs.{bodies, data_size}
 use Rattle.plain_values.specs.Surroundings.{modules_of}

@@ -1,7 +1,7 @@
 //! Arguments that were evaluated.
 
 ghost use Rattle.std.specs.Prelude.{◌≡◌, ◌∷◌, map, IfOk};
-ghost use Rattle.def_meaning.specs.Answer.{Value, then_give};
+ghost use Rattle.def_meaning.specs.Answer.{Value, ◌▷◌};
 ghost use Rattle.def_meaning.specs.Environment.{Number, Variable, Array, Text, location_of, high_of, named};
 ghost use Rattle.def_meaning.specs.Expressions.{as_type, high_index};
 ghost use Rattle.plain_store.specs.Seen.{seen, answered};
@@ -19,7 +19,7 @@ use typed_tree::{Slot, TypeNo};
 /// The number at the location that is given.
 #[tactic(auto, using(plain_store::proofs::Threads::threads))]
 pub fn loaded(given: Answer<Items<usize>>, st: &State) -> Answer<i64>
-    ensures { answered result st.now ≡ then_give (answered given st.now) (λ l st. Value (st.store l) st) }
+    ensures { answered result st.now ≡ (answered given st.now ▷ (λ l st. Value (st.store l) st)) }
 {
     match given {
         Answer::Value(l) => Answer::Value(load(l.as_slice(), st)),
@@ -36,8 +36,7 @@ pub fn number_passed(
     st: &State,
 ) -> Answer<Passed>
     ensures { let types = (surroundings around.now).types in
-        answered_sent result st.now ≡ then_give (answered given st.now)
-        (λ v st. then_give (as_type types t v st) (λ v st. Value (Number v) st)) }
+        answered_sent result st.now ≡ (answered given st.now ▷ (λ v st. as_type types t v st ▷ λ v st. Value (Number v) st)) }
 {
     match given {
         Answer::Value(v) => match as_type(around, t, v, st) {
@@ -52,7 +51,7 @@ pub fn number_passed(
 #[tactic(auto, using(plain_store::proofs::Threads::threads))]
 pub fn variable_passed(given: Answer<Items<usize>>, st: &State) -> Answer<Passed>
     ensures { answered_sent result st.now
-        ≡ then_give (answered given st.now) (λ l st. Value (Variable l) st) }
+        ≡ (answered given st.now ▷ (λ l st. Value (Variable l) st)) }
 {
     match given {
         Answer::Value(l) => Answer::Value(Passed::Variable(l)),
@@ -70,7 +69,7 @@ pub fn array_passed(
 ) -> Result<Answer<Passed>, RunFault>
     ensures { let high = high_index (surroundings around.now).types t in
         IfOk result (λ j. answered_sent j st.now
-        ≡ then_give (answered given st.now) (λ l st. Value (Array l high) st)) }
+        ≡ (answered given st.now ▷ λ l st. Value (Array l high) st)) }
 {
     match given {
         Answer::Value(l) => Ok(Answer::Value(Passed::Array(l, high_index(around, t)?))),

@@ -7,8 +7,8 @@ ghost use Rattle.typed_tree.specs.Types.{char};
 ghost use Rattle.typed_tree.specs.Known.{scalar_at};
 ghost use Rattle.typed_tree.specs.declared.statement.TypedArm.{out-TypedArm};
 ghost use Rattle.def_meaning.specs.Store.{copied};
-ghost use Rattle.def_meaning.specs.Answer.{Value, then_give, range_fault};
-ghost use Rattle.def_meaning.specs.Outcome.{Normal, Returned, with_answer};
+ghost use Rattle.def_meaning.specs.Answer.{Value, ◌▷◌, range_fault};
+ghost use Rattle.def_meaning.specs.Outcome.{Normal, Returned};
 ghost use Rattle.def_meaning.specs.Expressions.{as_type, within};
 ghost use Rattle.def_meaning.specs.Statements.{stored, changed, rechecked, base_of, with_element, has_passed, is_labelled};
 ghost use Rattle.plain_store.specs.Seen.{seen, answered, ended, with_store, with_byte};
@@ -54,8 +54,7 @@ pub fn assign(
     st: &mut State,
 ) -> Result<Outcome, RunFault>
     ensures { let types = (surroundings around.now).types in
-        IfOk result (λ o. ended o st.new ≡ with_answer (answered given st.old)
-        (λ x st. with_answer (as_type types t x.v st) (λ v st. Normal (stored x.l v st)))) }
+        IfOk result (λ o. ended o st.new ≡ (answered given st.old ▷ λ x st. as_type types t x.v st ▷ λ v st. Value Normal (stored x.l v st))) }
 {
     match given {
         Answer::Value(x) => match as_type(around, t, x.v, st) {
@@ -72,8 +71,7 @@ pub fn assign(
 /// Copies an array or a record.
 #[tactic(auto, using(plain_store::proofs::Threads::threads))]
 pub fn copy(around: &Around<'_>, given: Answer<Ends>, st: &mut State) -> Result<Outcome, RunFault>
-    ensures { IfOk result (λ o. ended o st.new ≡ with_answer (answered given st.old)
-        (λ x st. Normal (with_store (copied x.to x.from st.store) st))) }
+    ensures { IfOk result (λ o. ended o st.new ≡ (answered given st.old ▷ λ x st. Value Normal (with_store (copied x.to x.from st.store) st))) }
 {
     match given {
         Answer::Value(x) => {
@@ -92,8 +90,7 @@ pub fn copy_text(
     text: &[u8],
     st: &mut State,
 ) -> Result<Outcome, RunFault>
-    ensures { IfOk result (λ o. ended o st.new ≡ with_answer (answered given st.old)
-        (text_put text.now)) }
+    ensures { IfOk result (λ o. ended o st.new ≡ (answered given st.old ▷ (text_put text.now))) }
 {
     match given {
         Answer::Value(l) => {
@@ -107,7 +104,7 @@ pub fn copy_text(
 /// The end of a call as a statement.
 #[tactic(auto, using(plain_store::proofs::Threads::threads))]
 pub fn gone(given: Answer<i64>, st: &State) -> Outcome
-    ensures { ended result st.now ≡ with_answer (answered given st.now) (λ v st. Normal st) }
+    ensures { ended result st.now ≡ (answered given st.now ▷ (λ v st. Value Normal st)) }
 {
     match given {
         Answer::Value(_) => Outcome::Normal,
@@ -119,8 +116,7 @@ pub fn gone(given: Answer<i64>, st: &State) -> Outcome
 #[tactic(auto, using(plain_store::proofs::Threads::threads))]
 pub fn put(around: &Around<'_>, given: Answer<i64>, st: &mut State) -> Result<Outcome, RunFault>
     ensures { let types = (surroundings around.now).types in
-        IfOk result (λ o. ended o st.new ≡ with_answer (answered given st.old)
-        (λ v st. with_answer (as_type types char v st) (λ v st. Normal (with_byte v st)))) }
+        IfOk result (λ o. ended o st.new ≡ (answered given st.old ▷ λ v st. as_type types char v st ▷ λ v st. Value Normal (with_byte v st))) }
 {
     match given {
         Answer::Value(v) => match as_type(around, CHAR, v, st) {
@@ -174,9 +170,7 @@ pub fn change(
     st: &mut State,
 ) -> Result<Outcome, RunFault>
     ensures { let types = (surroundings around.now).types in
-        IfOk result (λ o. ended o st.new ≡ with_answer (answered given st.old)
-        (λ x st. with_answer (rechecked types t (changed how (st.store x.l) x.v) st)
-        (λ v st. Normal (stored x.l v st)))) }
+        IfOk result (λ o. ended o st.new ≡ (answered given st.old ▷ λ x st. rechecked types t (changed how (st.store x.l) x.v) st ▷ λ v st. Value Normal (stored x.l v st))) }
 {
     match given {
         Answer::Value(x) => {
@@ -201,9 +195,7 @@ pub fn membership(
     given: Answer<Target>,
     st: &mut State,
 ) -> Result<Outcome, RunFault>
-    ensures { IfOk result (λ o. ended o st.new ≡ with_answer (answered given st.old)
-        (λ x st. with_answer (within (pos 0) (pos 31) range_fault x.v st)
-        (λ v st. Normal (stored x.l (with_element how (st.store x.l) v) st)))) }
+    ensures { IfOk result (λ o. ended o st.new ≡ (answered given st.old ▷ λ x st. within (pos 0) (pos 31) range_fault x.v st ▷ λ v st. Value Normal (stored x.l (with_element how (st.store x.l) v) st))) }
 {
     match given {
         Answer::Value(x) => match within(0, 31, 1, x.v, st) {
@@ -222,8 +214,7 @@ pub fn membership(
 #[tactic(auto, using(plain_store::proofs::Threads::threads))]
 pub fn give(around: &Around<'_>, t: TypeNo, given: Answer<i64>, st: &State) -> Outcome
     ensures { let types = (surroundings around.now).types in
-        ended result st.now ≡ with_answer (answered given st.now)
-        (λ v st. with_answer (as_type types t v st) (λ v st. Returned v st)) }
+        ended result st.now ≡ (answered given st.now ▷ (λ v st. as_type types t v st ▷ λ v st. Value (Returned v) st)) }
 {
     match given {
         Answer::Value(v) => match as_type(around, t, v, st) {
@@ -305,8 +296,7 @@ fn kept(
     st: &mut State,
 ) -> Result<Answer<bool>, RunFault>
     ensures { let types = (surroundings around.now).types in
-        IfOk result (λ j. answered j st.new ≡ then_give (as_type types t next.now (seen st.old))
-        (λ v st. Value false (stored of.now.l v st))) }
+        IfOk result (λ j. answered j st.new ≡ (as_type types t next.now (seen st.old) ▷ λ v st. Value false (stored of.now.l v st))) }
 {
     match as_type(around, t, *next, st) {
         Answer::Value(v) => {

@@ -1,9 +1,8 @@
 -- The definition's view of what the interpreter keeps.
 use Rattle.std.specs.Prelude.{ℕ, ℤ, List, [], ◌∷◌, ◌++◌, map, unsigned_abs}
 use Rattle.def_meaning.specs.Store.{Location, Store}
-use Rattle.def_meaning.specs.Answer.{Value, State as Meant, Answer as Given}
-use Rattle.def_meaning.specs.Answer as given
-use Rattle.def_meaning.specs.Outcome.{Outcome as Course, Normal, Exited, Returned, Ended, StillRunning}
+use Rattle.def_meaning.specs.Answer.{Value, State as Meant, Answer as Given, Ended, StillRunning}
+use Rattle.def_meaning.specs.Outcome.{Outcome as Course, Normal, Exited, Returned}
 use Rattle.plain_store.specs.declared.state.State.{State}
 use Rattle.plain_store.specs.declared.state.Stop.{Stop}
 use Rattle.plain_store.specs.declared.state.Stop.TheVariants as stop
@@ -25,8 +24,8 @@ with_byte v st = record st { out = st.out ++ unsigned_abs v ∷ [] }
 
 -- a fault, HALT, or the bound
 abbrev pub stopped : {A : Type 0} → Stop → State → Given A
-stopped (stop.Ended k) st = given.Ended k st.out
-stopped stop.StillRunning st = given.StillRunning st.out
+stopped (stop.Ended k) st = Ended k st.out
+stopped stop.StillRunning st = StillRunning st.out
 
 -- what is given
 abbrev pub answered : {A : Type 0} → Answer A → State → Given A
@@ -39,7 +38,7 @@ halted (stop.Ended k) st = Ended k st.out
 halted stop.StillRunning st = StillRunning st.out
 
 abbrev pub ended : Outcome → State → Course
-ended outcome.Normal st = Normal (seen st)
-ended outcome.Exited st = Exited (seen st)
-ended (outcome.Returned v) st = Returned v (seen st)
+ended outcome.Normal st = Value Normal (seen st)
+ended outcome.Exited st = Value Exited (seen st)
+ended (outcome.Returned v) st = Value (Returned v) (seen st)
 ended (outcome.Stopped s) st = halted s st

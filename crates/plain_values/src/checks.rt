@@ -2,7 +2,7 @@
 
 ghost use Rattle.std.specs.Prelude.{◌≡◌, ◌-ℤ◌, pos, not, IfOk};
 ghost use Rattle.typed_tree.specs.Types.{integer};
-ghost use Rattle.def_meaning.specs.Answer.{Value, then_give};
+ghost use Rattle.def_meaning.specs.Answer.{Value, ◌▷◌};
 ghost use Rattle.def_meaning.specs.Operators.{truth, is_true, absolute, capital, odd, compared, included, has, combined};
 ghost use Rattle.def_meaning.specs.Expressions.{within, within_range, as_type, in_base, operated, ordinal};
 ghost use Rattle.plain_store.specs.Seen.{seen, answered};
@@ -108,7 +108,7 @@ pub fn operated_with(
 ) -> Result<Answer<i64>, RunFault>
     ensures { let types = (surroundings around.now).types in
         IfOk result (λ j. answered j st.now
-        ≡ then_give (answered given st.now) (operated_on types o t x)) }
+        ≡ (answered given st.now ▷ (operated_on types o t x))) }
 {
     match given {
         Answer::Value(y) => operated(around, o, t, x, y, st),
@@ -125,7 +125,7 @@ pub fn combined_with(
     st: &State,
 ) -> Result<Answer<i64>, RunFault>
     ensures { IfOk result (λ j. answered j st.now
-        ≡ then_give (answered given st.now) (λ y st. Value (combined o x y) st)) }
+        ≡ (answered given st.now ▷ λ y st. Value (combined o x y) st)) }
 {
     match given {
         Answer::Value(y) => Ok(Answer::Value(operators::combined(o, x, y)?)),
@@ -138,7 +138,7 @@ pub fn combined_with(
 pub fn negated(around: &Around<'_>, given: Answer<i64>, st: &State) -> Result<Answer<i64>, RunFault>
     ensures { let types = (surroundings around.now).types in
         IfOk result (λ j. answered j st.now
-        ≡ then_give (answered given st.now) (λ v st. in_base types integer (pos 0 -ℤ v) st)) }
+        ≡ (answered given st.now ▷ λ v st. in_base types integer (pos 0 -ℤ v) st)) }
 {
     match given {
         Answer::Value(v) => Ok(in_base(around, INTEGER, difference(0, v)?, st)),
@@ -149,8 +149,7 @@ pub fn negated(around: &Around<'_>, given: Answer<i64>, st: &State) -> Result<An
 /// Whether a relation holds.
 #[tactic(auto, using(plain_store::proofs::Threads::threads))]
 pub fn compared(o: Comparison, given: Answer<Operands>, st: &State) -> Answer<i64>
-    ensures { answered result st.now ≡ then_give (answered given st.now)
-        (λ xy st. Value (truth (compared o xy.first xy.second)) st) }
+    ensures { answered result st.now ≡ (answered given st.now ▷ (λ xy st. Value (truth (compared o xy.first xy.second)) st)) }
 {
     match given {
         Answer::Value(xy) => { Answer::Value(truth(operators::compared(o, xy.first, xy.second))) }
@@ -161,8 +160,7 @@ pub fn compared(o: Comparison, given: Answer<Operands>, st: &State) -> Answer<i6
 /// Whether one set holds the other.
 #[tactic(auto, using(plain_store::proofs::Threads::threads))]
 pub fn included(o: Inclusion, given: Answer<Operands>, st: &State) -> Answer<i64>
-    ensures { answered result st.now ≡ then_give (answered given st.now)
-        (λ xy st. Value (truth (included o xy.first xy.second)) st) }
+    ensures { answered result st.now ≡ (answered given st.now ▷ (λ xy st. Value (truth (included o xy.first xy.second)) st)) }
 {
     match given {
         Answer::Value(xy) => { Answer::Value(truth(operators::included(o, xy.first, xy.second))) }
@@ -174,7 +172,7 @@ pub fn included(o: Inclusion, given: Answer<Operands>, st: &State) -> Answer<i64
 #[tactic(auto, using(plain_store::proofs::Threads::threads))]
 pub fn denied(given: Answer<i64>, st: &State) -> Answer<i64>
     ensures { answered result st.now
-        ≡ then_give (answered given st.now) (λ v st. Value (truth (not (is_true v))) st) }
+        ≡ (answered given st.now ▷ (λ v st. Value (truth (not (is_true v))) st)) }
 {
     match given {
         Answer::Value(v) => Answer::Value(truth(!is_true(v))),
@@ -186,7 +184,7 @@ pub fn denied(given: Answer<i64>, st: &State) -> Answer<i64>
 #[tactic(auto, using(plain_store::proofs::Threads::threads))]
 pub fn is_in(x: i64, given: Answer<i64>, st: &State) -> Result<Answer<i64>, RunFault>
     ensures { IfOk result (λ j. answered j st.now
-        ≡ then_give (answered given st.now) (λ s st. Value (truth (has s x)) st)) }
+        ≡ (answered given st.now ▷ λ s st. Value (truth (has s x)) st)) }
 {
     match given {
         Answer::Value(s) => Ok(Answer::Value(truth(operators::has(s, x)?))),
@@ -204,7 +202,7 @@ pub fn distance(
 ) -> Result<Answer<i64>, RunFault>
     ensures { let types = (surroundings around.now).types in
         IfOk result (λ j. answered j st.now
-        ≡ then_give (answered given st.now) (λ v st. in_base types t (absolute v) st)) }
+        ≡ (answered given st.now ▷ λ v st. in_base types t (absolute v) st)) }
 {
     match given {
         Answer::Value(v) => Ok(in_base(around, t, operators::absolute(v)?, st)),
@@ -216,7 +214,7 @@ pub fn distance(
 #[tactic(auto, using(plain_store::proofs::Threads::threads))]
 pub fn capital(given: Answer<i64>, st: &State) -> Result<Answer<i64>, RunFault>
     ensures { IfOk result (λ j. answered j st.now
-        ≡ then_give (answered given st.now) (λ v st. Value (capital v) st)) }
+        ≡ (answered given st.now ▷ λ v st. Value (capital v) st)) }
 {
     match given {
         Answer::Value(v) => Ok(Answer::Value(operators::capital(v)?)),
@@ -228,7 +226,7 @@ pub fn capital(given: Answer<i64>, st: &State) -> Result<Answer<i64>, RunFault>
 #[tactic(auto, using(plain_store::proofs::Threads::threads))]
 pub fn character(given: Answer<i64>, st: &State) -> Answer<i64>
     ensures { answered result st.now
-        ≡ then_give (answered given st.now) (λ v st. within (pos 0) (pos 255) 1 v st) }
+        ≡ (answered given st.now ▷ (λ v st. within (pos 0) (pos 255) 1 v st)) }
 {
     match given {
         Answer::Value(v) => within(0, 255, 1, v, st),
@@ -240,7 +238,7 @@ pub fn character(given: Answer<i64>, st: &State) -> Answer<i64>
 #[tactic(auto, using(plain_store::proofs::Threads::threads))]
 pub fn odd(given: Answer<i64>, st: &State) -> Answer<i64>
     ensures { answered result st.now
-        ≡ then_give (answered given st.now) (λ v st. Value (truth (odd v)) st) }
+        ≡ (answered given st.now ▷ (λ v st. Value (truth (odd v)) st)) }
 {
     match given {
         Answer::Value(v) => Answer::Value(truth(is_odd(v))),
@@ -251,7 +249,7 @@ pub fn odd(given: Answer<i64>, st: &State) -> Answer<i64>
 /// ORD.
 #[tactic(auto, using(plain_store::proofs::Threads::threads))]
 pub fn ordinal(given: Answer<i64>, st: &State) -> Answer<i64>
-    ensures { answered result st.now ≡ then_give (answered given st.now) ordinal }
+    ensures { answered result st.now ≡ (answered given st.now ▷ ordinal) }
 {
     match given {
         Answer::Value(v) => {
@@ -269,7 +267,7 @@ pub fn ordinal(given: Answer<i64>, st: &State) -> Answer<i64>
 #[tactic(auto, using(plain_store::proofs::Threads::threads))]
 pub fn taken(around: &Around<'_>, t: TypeNo, given: Answer<i64>, st: &State) -> Answer<i64>
     ensures { let types = (surroundings around.now).types in
-        answered result st.now ≡ then_give (answered given st.now) (as_type types t) }
+        answered result st.now ≡ (answered given st.now ▷ (as_type types t)) }
 {
     match given {
         Answer::Value(v) => as_type(around, t, v, st),

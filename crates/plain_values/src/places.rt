@@ -4,7 +4,7 @@ ghost use Rattle.std.specs.Prelude.{◌≡◌, ◌≤◌, ◌==◌, ◌∷◌, �
 ghost use Rattle.std.specs.List.{position_or_len};
 ghost use Rattle.std.specs.Option.{option_copied, option_map};
 ghost use Rattle.layout_storage.specs.Shapes.{elements_of};
-ghost use Rattle.def_meaning.specs.Answer.{then_give};
+ghost use Rattle.def_meaning.specs.Answer.{◌▷◌};
 ghost use Rattle.def_meaning.specs.Environment.{named, location_of, high_of, or_root, module_place};
 ghost use Rattle.def_meaning.specs.Expressions.{element, element_in, index_made, index_range, high_index, root_layer};
 ghost use Rattle.plain_store.specs.Seen.{seen, answered};
@@ -238,7 +238,7 @@ pub fn element_at(
 ) -> Result<Answer<Items<usize>>, RunFault>
     ensures { let range = index_range (surroundings around.now).types t in
         IfOk result (λ j. answered j st.now
-        ≡ then_give (answered given st.now) (λ v st. element_in l range v st)) }
+        ≡ (answered given st.now ▷ λ v st. element_in l range v st)) }
 {
     match given {
         Answer::Value(i) => element_in(l, index_range(&around.home.body.types, t), i, st),
@@ -257,7 +257,7 @@ pub fn open_element_at(
 ) -> Result<Answer<Items<usize>>, RunFault>
     ensures { let high = high_of (named (surroundings around.now) slot) in
         IfOk result (λ j. answered j st.now
-        ≡ then_give (answered given st.now) (λ v st. element l (pos 0) (pos high) v st)) }
+        ≡ (answered given st.now ▷ λ v st. element l (pos 0) (pos high) v st)) }
 {
     match given {
         Answer::Value(i) => element(l, 0, whole(slot_high(around, slot))?, i, st),

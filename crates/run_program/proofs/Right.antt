@@ -8,7 +8,7 @@ use Rattle.wasm_engine.specs.declared.engine.End.{End}
 use Rattle.wasm_engine.specs.declared.engine.End.TheVariants.{Done, Trap, StillRunning}
 use Rattle.wasm_engine.specs.Instances.{IsEnd}
 use Rattle.wasm_engine.proofs.Runs as engine
-use Rattle.def_meaning.specs.Outcome.{Ended}
+use Rattle.def_meaning.specs.Answer.{Ended}
 use Rattle.def_meaning.specs.Environment.{Modules}
 use Rattle.def_meaning.specs.Runs.{run}
 use Rattle.law_simulation.specs.Behaves.{Behaves}

@@ -7,7 +7,7 @@ use Rattle.wasm_tree.specs.declared.module.WModule.{WModule}
 use Rattle.wasm_tree.specs.Machine.{Over}
 use Rattle.wasm_engine.specs.declared.engine.End.{End}
 use Rattle.wasm_engine.specs.declared.engine.End.TheVariants.{Done, Trap}
-use Rattle.def_meaning.specs.Outcome.{Ended}
+use Rattle.def_meaning.specs.Answer.{Ended}
 use Rattle.def_meaning.specs.Environment.{Modules}
 use Rattle.def_meaning.specs.Runs.{run}
 use Rattle.def_scheme.specs.Modules.{typed_module, typed_link}

@@ -109,10 +109,10 @@ fn check_command<'a>(alloc: Global) -> Result<Command<'a>> {
 
 fn show_command<'a>(alloc: Global) -> Result<Command<'a>> {
     let command = Command::new(alloc, "show")
-        .about("Shows what a pass makes of a program: tokens, tree or code")
+        .about("Shows what a pass makes of a program: tokens, tree, types or code")
         .arg(
             Arg::new(alloc, "PASS").required(true).help(
-                "tokens or tree of the file, or code of all modules of the program",
+                "tokens or tree of the file, or types or code of all modules of the program",
             ),
         )?
         .arg(program_word(alloc))?;
@@ -307,9 +307,10 @@ fn pass_of<R: Eprint>(rt: &R, word: &str) -> Option<Pass> {
     match word {
         "tokens" => Some(Pass::Tokens),
         "tree" => Some(Pass::Tree),
+        "types" => Some(Pass::Types),
         "code" => Some(Pass::Code),
         _ => {
-            let _ = eprintln!(rt; "{PROGRAM}: PASS is tokens, tree or code, not {word}");
+            let _ = eprintln!(rt; "{PROGRAM}: PASS is tokens, tree, types or code, not {word}");
             None
         }
     }

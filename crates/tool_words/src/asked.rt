@@ -20,6 +20,8 @@ pub enum Pass {
     Tokens,
     /// The tree of a text.
     Tree,
+    /// The typed trees of all bodies of a program.
+    Types,
     /// The code of all modules of a program.
     Code,
 }

@@ -1,5 +1,6 @@
 //! The typed modules of a program, in start order. `build` of m2c hands out the modules' code alone, so files in which it found
 //! no broken rule are read and checked here once more, each module by the functions by which m2c's jobs do it.
+#![tactic(auto)]
 
 use anyhow::{Result, bail};
 use build_jobs::{Read, SourceFile, read_text};
@@ -168,7 +169,7 @@ fn in_order(alloc: Global, files: &[usize], bodies: &mut Bodies) -> Result<Vec<T
     Ok(program)
 }
 
-/// The typed bodies of a program that breaks no rule, in start order.
+/// The typed bodies of a program that breaks no rule, in start order. An error if memory ran out, or if a rule is broken.
 pub fn typed_program(alloc: Global, files: &[SourceFile]) -> Result<Vec<TypedModule>> {
     let trees = read_all(alloc, files)?;
     let graph = graph_of(alloc, files, &trees)?;
