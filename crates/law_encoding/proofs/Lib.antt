@@ -70,5 +70,6 @@ pub mod ConstantPieces
 pub mod ConstantCode
 pub mod ConstantSteps
 pub mod ConstantFunctions
+pub mod DistinctImports
 pub mod ProgramsRoom
 pub mod NamesRoom

@@ -39,6 +39,7 @@ use Rattle.law_encoding.proofs.AcceptedRoom.{procedures_few, typed_room}
 use Rattle.law_encoding.proofs.CodeFits.{both_true}
 use Rattle.law_encoding.proofs.NamesRoom.{all_fit, all_sum, sum_few, count_few, names_room, text_named}
 use Rattle.law_encoding.proofs.LinkRoom.{link_has_room}
+use Rattle.law_encoding.proofs.DistinctImports.{ImportsDiffer, module_differs, imports_few}
 
 -- ---- rows and frames
 
@@ -143,6 +144,9 @@ ok_most : {T : Type 0} {size : TypedModule → ℕ} {n : ℕ} {x : TypedModule} 
 ok_most {size = size} {n = n} {x = x} (fine y p) e = let same : y ≡ x = cc e in subst (λ t. size t ≤ n) same p
 ok_most (broken y) e = absurd cc
 
+imports_differ : (g : Gathers) (t : TypedModule) → IsAccepted g t → ImportsDiffer t
+imports_differ g t is = subst (λ r. IfOk r ImportsDiffer) is.accepted (module_differs g (elaborated g) is.tree is.number is.own is.tables)
+
 own_short : (g : Gathers) (t : TypedModule) → IsAccepted g t → is_short_name t.name ≡ true
 own_short g t is =
     let stands : StandsOnImports is.tree is.own t =
@@ -174,6 +178,8 @@ module _ (g : Gathers) (levels : AcceptedAreShallow g) (outward : AcceptedAreNea
   accepted_programs pages are typed stored small =
       programs_fit p pages are typed
       (all_from IsShortModule p
-      (λ k m there. short_at m (each_at (IsAccepted g) p k m there accepted) (each_at IsStored p k m there stored) (are k m there).coherent.imports
-      (each_at (λ (n : TypedModule). length n.imports ≤ few_names) p k m there small.imports)))
+      (λ k m there.
+          let is = each_at (IsAccepted g) p k m there accepted in
+          let known = (are k m there).coherent.imports in
+          short_at m is (each_at IsStored p k m there stored) known (less _ _ few_names (imports_few p m (imports_differ g m is) known) small.modules)))
       (link_small p pages small (all_own p accepted))

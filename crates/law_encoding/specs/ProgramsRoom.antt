@@ -66,12 +66,11 @@ pub record IsAccepted (g : Gathers) (t : TypedModule) : Type 0 where
   pub accepted : checked g number tree own tables ≡ Ok t
 
 -- A program has at most 1024 pages, in which its variables and texts have room. It has few modules,
--- which import few, and less than 2 ^ 32 slots of the table.
+-- and less than 2 ^ 32 slots of the table.
 pub record IsSmallProgram (p : Program) (pages : ℕ) : Type 0 where
   pub linkable : IsLinkable p pages
   pub memory : pages ≤ max_pages
   pub modules : length p ≤ few_names
-  pub imports : All (λ m. length m.imports ≤ few_names) p
   pub slots : 1 + slots_in p < max_bytes
 
 -- If the modules are accepted, their functions nest few levels, their bodies go few procedures

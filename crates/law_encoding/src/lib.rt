@@ -28,6 +28,7 @@
 //! - `specs/ImportsRoom` and `specs/LinkRoom` have the imports of a body and the module link, with `proofs/Sections` and
 //!   `proofs/Names`. `specs/NamesRoom` says that the names of texts are short, with the induction over the grammar in its proof.
 //!   `specs/AcceptedRoom` puts together what is proved of the module of a body, and `specs/ProgramsRoom` of programs.
+//!   `proofs/DistinctImports` shows that a module imports each module once.
 //! - `proofs/Blocks` has the bodies of procedures, with the induction over blocks, and whole modules, and `proofs/Bounded` the
 //!   bound of all texts.
 #![tactic(auto)]
