@@ -59,6 +59,13 @@ bodies_count : (m : TypedModule) → size_bodies m ≤ counts_in m
 bodies_count m =
     bodies_sum _ _ _ _ (size_body m.body) (sum_below size_routine (routine_counts m.types) (body_counts m.types) m.procedures) (sum_below size_routine (routine_counts m.types) (body_counts m.types) m.locals)
 
+slots_below : (n a b c : ℕ) → n ≤ a → a + b + c ≤ most → suc n ≤ 1 + most
+slots_below n a b c h l = omega (arith, h, l)
+
+pub slots_most : (m : TypedModule) → counts_in m ≤ most → slots m ≤ 1 + most
+slots_most m h =
+    slots_below (length m.procedures) _ (sum_of (routine_counts m.types) m.locals) (size_body m.body) (length_below (routine_counts m.types) (λ r. one_or_more (length (formals_of m.types r.heading)) (size_body r.body)) m.procedures) h
+
 slots_sum : (n a b c : ℕ) → n ≤ a → a + b + c ≤ most → suc n ≤ few_entries
 slots_sum n a b c h l = omega (arith, h, l)
 

@@ -17,9 +17,9 @@ use Rattle.layout_storage.specs.Texts.{characters, module_texts}
 use Rattle.layout_storage.specs.Layouts.{FramesFit}
 use Rattle.layout_storage.proofs.Fitted.{all_small}
 use Rattle.def_scheme.specs.Exprs.{is_own, import_place, imported_row}
-use Rattle.def_scheme.specs.Modules.{typed_module}
+use Rattle.def_scheme.specs.Modules.{slots, typed_module}
 use Rattle.wasm_binary.specs.Binary.{module_fits}
-use Rattle.law_modules.specs.Linked.{Program, text, bytes_in, all}
+use Rattle.law_modules.specs.Linked.{Program, text, slots_in, bytes_in, all}
 use Rattle.law_modules.proofs.Stores.{text_length}
 use Rattle.law_simulation.specs.Knows.{Knows, IsCoherent}
 use Rattle.law_simulation.specs.Modules.{AreModules, AreTypedModules}
@@ -27,15 +27,15 @@ use Rattle.law_simulation.proofs.Globals.{each_at}
 use Rattle.law_well_formed.specs.FormedImports.{StandsOnImports}
 use Rattle.law_well_formed.proofs.NamedImports.{modules_stand}
 use Rattle.law_encoding.specs.Sizes.{sum_of}
-use Rattle.law_encoding.specs.Fits.{few_entries}
+use Rattle.law_encoding.specs.Fits.{few_entries, max_bytes}
 use Rattle.law_encoding.specs.LinkRoom.{LinkIsSmall, name_length}
 use Rattle.law_encoding.specs.NamesRoom.{is_short_name, few_names}
 use Rattle.law_encoding.specs.Counted.{AtMost, fine, broken}
 use Rattle.law_encoding.specs.Nested.{AcceptedAreShallow}
 use Rattle.law_encoding.specs.ProcedureLevels.{AcceptedAreNear}
-use Rattle.law_encoding.specs.ProgramsRoom.{IsStored, IsShortModule, IsAccepted, IsSmallProgram}
+use Rattle.law_encoding.specs.ProgramsRoom.{IsStored, IsShortModule, IsAccepted, IsSmallProgram, most_modules}
 use Rattle.law_encoding.specs.SmallParts.{IsSmallModule}
-use Rattle.law_encoding.proofs.AcceptedRoom.{procedures_few, typed_room}
+use Rattle.law_encoding.proofs.AcceptedRoom.{procedures_few, slots_most, typed_room}
 use Rattle.law_encoding.proofs.CodeFits.{both_true}
 use Rattle.law_encoding.proofs.NamesRoom.{all_fit, all_sum, sum_few, count_few, names_room, text_named}
 use Rattle.law_encoding.proofs.LinkRoom.{link_has_room}
@@ -120,6 +120,21 @@ module _ (p : Program) (pages : ℕ) (are : AreModules p) (typed : AreTypedModul
 
   pub programs_fit : LinkIsSmall p pages → list_all module_fits (all p pages) ≡ true
   programs_fit small = both_true _ _ (link_has_room p pages small) (each_fits p module_at)
+
+-- ---- slots
+
+slots_more : (a b c : ℕ) → a ≤ 1 + 4194308 → b ≤ 4194309 * c → a + b ≤ 4194309 * suc c
+slots_more a b c h l = omega (arith, h, l)
+
+all_slots_most : (ms : List TypedModule) → All IsStored ms → slots_in ms ≤ 4194309 * length ms
+all_slots_most [] stored = omega arith
+all_slots_most (m ∷ ms) stored = slots_more (slots m) (slots_in ms) (length ms) (slots_most m (All-head IsStored m ms stored).counts) (all_slots_most ms (All-tail IsStored m ms stored))
+
+slots_below : (s n : ℕ) → s ≤ 4194309 * n → n ≤ 1023 → 1 + s < 4294967296
+slots_below s n h l = omega (arith, h, l)
+
+pub slots_fit : (p : Program) → All IsStored p → length p ≤ most_modules → 1 + slots_in p < max_bytes
+slots_fit p stored few = slots_below (slots_in p) (length p) (all_slots_most p stored) few
 
 -- ---- what is accepted
 

@@ -73,6 +73,13 @@ pub record IsSmallProgram (p : Program) (pages : ℕ) : Type 0 where
   pub modules : length p ≤ few_names
   pub slots : 1 + slots_in p < max_bytes
 
+-- A program of 1023 stored modules has less than 2 ^ 32 slots of the table.
+abbrev pub most_modules : ℕ
+most_modules = 1023
+
+abbrev pub SlotsFit : Type 0
+SlotsFit = (p : Program) → All IsStored p → length p ≤ most_modules → 1 + slots_in p < max_bytes
+
 -- If the modules are accepted, their functions nest few levels, their bodies go few procedures
 -- outwards, and their names are short.
 abbrev pub AcceptedProgramsFit : Gathers → Type 0
