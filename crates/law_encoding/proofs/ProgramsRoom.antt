@@ -1,7 +1,8 @@
 -- The modules of a program are small, if their types and storage have room, and so they have encodings.
 use Rattle.std.proofs.Common.{◌≡◌, ℕ, zero, suc, ◌+◌, ◌*◌, ◌≤◌, ◌<◌, Bool, true, false, List, [], ◌∷◌, ◌++◌, map, length, Option, Some, None, Result, Ok, refl, sym, subst, arith, lit≤}
-use Rattle.std.specs.Prelude.{All, IfOk, slice_get, if◌then◌else◌}
+use Rattle.std.specs.Prelude.{All, IfOk, nat_le, slice_get, if◌then◌else◌}
 use Rattle.std.specs.List.{list_all}
+use Rattle.std.proofs.lemmas.Bool.{leb-true, leb-false}
 use Rattle.std.proofs.lemmas.List.Elements.{All-nil, All-cons, All-head, All-tail}
 use Rattle.typed_tree.specs.declared.known_types.Types.{Types}
 use Rattle.typed_tree.specs.declared.typed_module.Imported.{Imported}
@@ -133,20 +134,21 @@ all_slots_most (m ∷ ms) stored = slots_more (slots m) (slots_in ms) (length ms
 slots_below : (s n : ℕ) → s ≤ 4194309 * n → n ≤ 1023 → 1 + s < 4294967296
 slots_below s n h l = omega (arith, h, l)
 
-pub slots_fit : (p : Program) → All IsStored p → length p ≤ most_modules → 1 + slots_in p < max_bytes
-slots_fit p stored few = slots_below (slots_in p) (length p) (all_slots_most p stored) few
+slots_by : (p : Program) (few : Bool) → nat_le (length p) most_modules ≡ few → All IsStored p → (most_modules < length p → 1 + slots_in p < max_bytes) → 1 + slots_in p < max_bytes
+slots_by p true e stored h = slots_below (slots_in p) (length p) (all_slots_most p stored) (leb-true (length p) most_modules e)
+slots_by p false e stored h = h (leb-false (length p) most_modules e)
 
 -- ---- what is accepted
 
 few_bytes : (n pages : ℕ) → n ≤ 65536 * pages → pages ≤ 1024 → n < 4294967296
 few_bytes n pages h l = omega (arith, h, l)
 
-link_small : (p : Program) (pages : ℕ) → IsSmallProgram p pages → list_all (λ m. is_short_name m.name) p ≡ true → LinkIsSmall p pages
-link_small p pages small short = record {
+link_small : (p : Program) (pages : ℕ) → All IsStored p → IsSmallProgram p pages → list_all (λ m. is_short_name m.name) p ≡ true → LinkIsSmall p pages
+link_small p pages stored small short = record {
   memory = small.memory;
   modules = count_few (length p) small.modules;
   storage = few_bytes (bytes_in p) pages small.linkable.room small.memory;
-  slots = small.slots;
+  slots = slots_by p (nat_le (length p) most_modules) refl stored small.slots;
   names = all_fit (λ m. m.name) p short;
   lengths = sum_few (sum_of name_length p) (length p) (all_sum (λ m. m.name) p short) small.modules;
 }
@@ -197,4 +199,4 @@ module _ (g : Gathers) (levels : AcceptedAreShallow g) (outward : AcceptedAreNea
           let is = each_at (IsAccepted g) p k m there accepted in
           let known = (are k m there).coherent.imports in
           short_at m is (each_at IsStored p k m there stored) known (less _ _ few_names (imports_few p m (imports_differ g m is) known) small.modules)))
-      (link_small p pages small (all_own p accepted))
+      (link_small p pages stored small (all_own p accepted))

@@ -65,20 +65,17 @@ pub record IsAccepted (g : Gathers) (t : TypedModule) : Type 0 where
   pub tables : List Table
   pub accepted : checked g number tree own tables ≡ Ok t
 
--- A program has at most 1024 pages, in which its variables and texts have room. It has few modules,
--- and less than 2 ^ 32 slots of the table.
+-- the slots of this number of stored modules always have room in the table
+abbrev pub most_modules : ℕ
+most_modules = 1023
+
+-- A program has at most 1024 pages, in which its variables and texts have room. It has few modules.
+-- If it has more than 1023, it has less than 2 ^ 32 slots of the table.
 pub record IsSmallProgram (p : Program) (pages : ℕ) : Type 0 where
   pub linkable : IsLinkable p pages
   pub memory : pages ≤ max_pages
   pub modules : length p ≤ few_names
-  pub slots : 1 + slots_in p < max_bytes
-
--- A program of 1023 stored modules has less than 2 ^ 32 slots of the table.
-abbrev pub most_modules : ℕ
-most_modules = 1023
-
-abbrev pub SlotsFit : Type 0
-SlotsFit = (p : Program) → All IsStored p → length p ≤ most_modules → 1 + slots_in p < max_bytes
+  pub slots : most_modules < length p → 1 + slots_in p < max_bytes
 
 -- If the modules are accepted, their functions nest few levels, their bodies go few procedures
 -- outwards, and their names are short.

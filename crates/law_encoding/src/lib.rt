@@ -41,7 +41,7 @@ ghost use Rattle.law_encoding.specs.LinkRoom.{LinkFits};
 ghost use Rattle.law_encoding.specs.AcceptedRoom.{AcceptedFit, TypedModulesFit};
 ghost use Rattle.law_encoding.specs.ImportsRoom.{ImportsFit};
 ghost use Rattle.law_encoding.specs.NamesRoom.{TextNamesAreShort, ShortNamesFit};
-ghost use Rattle.law_encoding.specs.ProgramsRoom.{StoredAreSmall, ProgramsFit, SlotsFit, AcceptedProgramsFit};
+ghost use Rattle.law_encoding.specs.ProgramsRoom.{StoredAreSmall, ProgramsFit, AcceptedProgramsFit};
 ghost use Rattle.law_encoding.specs.ModuleNumbers.{IndexesFit};
 ghost use Rattle.law_encoding.specs.SmallParts.{ConstantsFit, ModuleConstantsFit};
 ghost use Rattle.law_encoding.specs.FunctionTypes.{ListedAreFew, FewTypesFit, TypesAreFew};
@@ -217,8 +217,6 @@ pub fn program_laws()
     ensures least { AcceptedProgramsFit least }
     // and if all of them are.
     ensures every { AcceptedProgramsFit every }
-    // There is room for the slots of 1023 modules.
-    ensures slots { SlotsFit }
 {}
 
 /// What the checker makes goes outwards no further than its procedure stands deep.

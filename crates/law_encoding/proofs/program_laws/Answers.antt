@@ -10,7 +10,7 @@ use Rattle.law_encoding.proofs.DeepTexts.{tree_below}
 use Rattle.law_encoding.proofs.DeepFunctions.{accepted_low}
 use Rattle.law_encoding.proofs.NestedProcedures.{tree_below as procedures_below}
 use Rattle.law_encoding.proofs.ProcedureLevels.{bodies_near}
-use Rattle.law_encoding.proofs.ProgramsRoom.{modules_small, programs_fit, slots_fit, accepted_programs}
+use Rattle.law_encoding.proofs.ProgramsRoom.{modules_small, programs_fit, accepted_programs}
 use Rattle.law_encoding.proofs.program_laws.Goals as goal
 
 pub returns-clause-small : goal.returns-clause-small
@@ -30,6 +30,3 @@ returns-clause-every c = λ p pages are typed accepted stored small.
     accepted_programs every (λ ts m d number own tables. accepted_low _ (tree_below ts m d) (module_most every (elaborated every) (λ s r xs. statements_most every s _ xs) number m own tables))
     (λ ts m d number own tables. bodies_near max_nesting every (elaborated every) (elaborated_formed every) (λ s r xs. near every s _ xs) number m own tables (omega arith) (procedures_below ts m d))
     p accepted pages are typed stored small
-
-pub returns-clause-slots : goal.returns-clause-slots
-returns-clause-slots c = slots_fit
