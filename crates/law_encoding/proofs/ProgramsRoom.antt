@@ -167,7 +167,7 @@ imports_differ g t is = subst (λ r. IfOk r ImportsDiffer) is.accepted (module_d
 own_short : (g : Gathers) (t : TypedModule) → IsAccepted g t → is_short_name t.name ≡ true
 own_short g t is =
     let stands : StandsOnImports is.tree is.own t =
-        subst (λ r. IfOk r (StandsOnImports is.tree is.own)) is.accepted (modules_stand g (elaborated g) is.number is.tree is.own is.tables) in
+    subst (λ r. IfOk r (StandsOnImports is.tree is.own)) is.accepted (modules_stand g (elaborated g) is.number is.tree is.own is.tables) in
     subst (λ (n : List ℕ). is_short_name n ≡ true) (sym stands.name) (text_named is.text is.tokens is.tree is.scanned is.parsed.0)
 
 module _ (g : Gathers) (levels : AcceptedAreShallow g) (outward : AcceptedAreNear g) (p : Program) (accepted : All (IsAccepted g) p) where
@@ -196,7 +196,7 @@ module _ (g : Gathers) (levels : AcceptedAreShallow g) (outward : AcceptedAreNea
       programs_fit p pages are typed
       (all_from IsShortModule p
       (λ k m there.
-          let is = each_at (IsAccepted g) p k m there accepted in
-          let known = (are k m there).coherent.imports in
-          short_at m is (each_at IsStored p k m there stored) known (less _ _ few_names (imports_few p m (imports_differ g m is) known) small.modules)))
+      let is = each_at (IsAccepted g) p k m there accepted in
+      let known = (are k m there).coherent.imports in
+      short_at m is (each_at IsStored p k m there stored) known (less _ _ few_names (imports_few p m (imports_differ g m is) known) small.modules)))
       (link_small p pages stored small (all_own p accepted))
