@@ -1,5 +1,5 @@
 -- How many bytes the functions of a module take.
-use Rattle.std.proofs.Common.{◌≡◌, ℕ, suc, ◌+◌, ◌*◌, ◌≤◌, ◌<◌, Bool, true, false, List, [], ◌∷◌, ◌++◌, length, None, arith}
+use Rattle.std.proofs.Common.{◌≡◌, inl, inr, refl, ℕ, suc, ◌+◌, ◌*◌, ◌≤◌, ◌<◌, Bool, true, false, List, [], ◌∷◌, ◌++◌, length, None, arith}
 use Rattle.std.specs.Prelude.{nat_lt}
 use Rattle.wasm_tree.specs.declared.instr.Instr.{Instr}
 use Rattle.wasm_tree.specs.declared.instr.Instr.TheVariants.{Block, Loop, If, Call, LocalGet, I32Const}
@@ -22,12 +22,12 @@ use Rattle.def_scheme.specs.Helpers.{copy_turn, copy_code, fill_turn, fill_code,
 use Rattle.def_scheme.specs.Modules.{helpers, numbered, functions}
 use Rattle.law_encoding.specs.Nesting.{◌⊔◌, deepest_of}
 use Rattle.law_encoding.specs.Sizes.{sum_of}
-use Rattle.law_encoding.specs.TypedSizes.{size_body}
+use Rattle.law_encoding.specs.TypedSizes.{size_body, size_routine, size_bodies}
 use Rattle.law_encoding.specs.CodeBytes.{bytes, function_bytes}
 use Rattle.law_encoding.specs.Outward.{outward_body, outward_routine, outward_bodies}
-use Rattle.law_encoding.specs.Short.{unit_bytes, routine_counts, counts_in}
+use Rattle.law_encoding.specs.Short.{unit_bytes, routine_counts, counts_in, heading_counts, headings_in, heading_bytes}
 use Rattle.law_encoding.specs.Small.{most}
-use Rattle.law_encoding.specs.Fits.{max_bytes}
+use Rattle.law_encoding.specs.Fits.{max_bytes, few_headings, CountsFew}
 use Rattle.law_encoding.proofs.Sums.{sum_append}
 use Rattle.law_encoding.proofs.CodeLengths.{bytes_cons, bytes_append, block_bytes, loop_bytes, if_bytes, stops, jumps, jumps_if, calls, gets, sets, tees, globals, loads, stores, address, amount, computes, Short, short_end, short_none, ◌▹◌, short_both, short_more, short_either}
 use Rattle.law_encoding.proofs.ShortCode.{IsNear, short_raised, short_fault, short_store}
@@ -111,7 +111,7 @@ function_short : {k : ℕ} (n t : ℕ) (before : List Instr) (x : List Instr × 
 function_short {k} n t before x after p h q =
     around_body _ (bytes before) (bytes (x.0 ++ after)) (bytes x.0) (bytes after) n k (bytes_append before (x.0 ++ after)) (bytes_append x.0 after) p.at_most h q.at_most
 
-routine_sum : (a f n : ℕ) → a ≤ 41 + (66 + (15 + 204 * f) + unit_bytes * n) → a ≤ unit_bytes * (1 + f + n)
+routine_sum : (a f n : ℕ) → a ≤ 41 + (66 + (15 + 204 * f) + unit_bytes * n) → a ≤ heading_bytes * (1 + f) + unit_bytes * n
 routine_sum a f n h = omega (arith, h)
 
 first_near : (a b : ℕ) → IsNear (a ⊔ b) → IsNear a
@@ -120,22 +120,22 @@ first_near a b h = omega (arith, h)
 others_near : (a b : ℕ) → IsNear (a ⊔ b) → IsNear b
 others_near a b h = omega (arith, h)
 
-one_more : (a b k n : ℕ) → a ≤ unit_bytes * k → b ≤ unit_bytes * n → a + b ≤ unit_bytes * (k + n)
-one_more a b k n h l = omega (arith, h, l)
+one_more : (a b i j k n : ℕ) → a ≤ heading_bytes * i + unit_bytes * k → b ≤ heading_bytes * j + unit_bytes * n → a + b ≤ heading_bytes * (i + j) + unit_bytes * (k + n)
+one_more a b i j k n h l = omega (arith, h, l)
 
 none : (n : ℕ) → 0 ≤ n
 none n = omega arith
 
 module _ (types : Numbered) (m : TypedModule) where
-  routine_short : (w : Which) (r : Routine) → IsNear (outward_routine r) → function_bytes (routine_function types m w r) ≤ unit_bytes * routine_counts m.types r
+  routine_short : (w : Which) (r : Routine) → IsNear (outward_routine r) → function_bytes (routine_function types m w r) ≤ heading_bytes * heading_counts m.types r + unit_bytes * size_routine r
   routine_short w r h =
       routine_sum _ (length (formals_of m.types r.heading)) (size_body r.body)
       (function_short (size_body r.body) (types (numbers_of m.types r) (has_result m.types r.heading)) _ (routine_coded types m r (characters (texts_before m w m.order))) _ (short_prologue m.types r _ _)
       ((body_short types r.body h).at_most _ (from_text (characters (texts_before m w m.order)))) (short_end_code _))
 
-  routines_short : (w : ℕ → Which) (n : ℕ) (rs : List Routine) → IsNear (deepest_of outward_routine rs) → sum_of function_bytes (functions_from types m w n rs) ≤ unit_bytes * sum_of (routine_counts m.types) rs
+  routines_short : (w : ℕ → Which) (n : ℕ) (rs : List Routine) → IsNear (deepest_of outward_routine rs) → sum_of function_bytes (functions_from types m w n rs) ≤ heading_bytes * sum_of (heading_counts m.types) rs + unit_bytes * sum_of size_routine rs
   routines_short w n [] h = none _
-  routines_short w n (r ∷ rs) h = one_more _ _ (routine_counts m.types r) (sum_of (routine_counts m.types) rs) (routine_short (w n) r (first_near _ _ h)) (routines_short w (suc n) rs (others_near (outward_routine r) _ h))
+  routines_short w n (r ∷ rs) h = one_more _ _ (heading_counts m.types r) (sum_of (heading_counts m.types) rs) (size_routine r) (sum_of size_routine rs) (routine_short (w n) r (first_near _ _ h)) (routines_short w (suc n) rs (others_near (outward_routine r) _ h))
 
   body_bytes : IsNear (outward_body m.body) → function_bytes (module_function types m) ≤ 41 + (66 + unit_bytes * size_body m.body)
   body_bytes h = function_short (size_body m.body) 5 _ (module_coded types m) [] (short_enter 1 _) ((body_short types m.body h).at_most _ (from_text (characters (routines_texts m)))) (short_none 18)
@@ -190,20 +190,42 @@ helpers_short = all_helpers _ _ _ _ _ short_copy.at_most short_fill.at_most shor
 
 -- ---- modules
 
-functions_sum : (all h rest b rs p x y z : ℕ) → all ≡ h + (b + rest) → rest ≡ rs + p → h ≤ 501 → b ≤ 41 + (66 + unit_bytes * z) → rs ≤ unit_bytes * x → p ≤ unit_bytes * y → all ≤ unit_bytes * (1 + (x + y + z))
-functions_sum all h rest b rs p x y z e f g i j k = omega (arith, e, f, g, i, j, k)
+functions_sum : (all h rest b rs p v w x y z : ℕ) → all ≡ h + (b + rest) → rest ≡ rs + p → h ≤ 501 → b ≤ 41 + (66 + unit_bytes * z) → rs ≤ heading_bytes * v + unit_bytes * x → p ≤ heading_bytes * w + unit_bytes * y
+    → all ≤ unit_bytes * (1 + (x + y + z)) + heading_bytes * (v + w)
+functions_sum all h rest b rs p v w x y z e f g i j k = omega (arith, e, f, g, i, j, k)
 
-pub functions_short : (m : TypedModule) → IsNear (outward_bodies m) → sum_of function_bytes (functions m) ≤ unit_bytes * (1 + counts_in m)
+pub functions_short : (m : TypedModule) → IsNear (outward_bodies m) → sum_of function_bytes (functions m) ≤ unit_bytes * (1 + size_bodies m) + heading_bytes * headings_in m
 functions_short m h =
     let routines = first_near (deepest_of outward_routine m.procedures ⊔ deepest_of outward_routine m.locals) (outward_body m.body) h in
-    functions_sum _ (sum_of function_bytes helpers) _ (function_bytes (module_function (numbered m) m)) _ _ (sum_of (routine_counts m.types) m.procedures) (sum_of (routine_counts m.types) m.locals) (size_body m.body)
+    functions_sum _ (sum_of function_bytes helpers) _ (function_bytes (module_function (numbered m) m)) _ _ (sum_of (heading_counts m.types) m.procedures) (sum_of (heading_counts m.types) m.locals) (sum_of size_routine m.procedures) (sum_of size_routine m.locals) (size_body m.body)
     (sum_append function_bytes helpers (module_function (numbered m) m ∷ (functions_from (numbered m) m which.Module 0 m.procedures ++ functions_from (numbered m) m which.Local 0 m.locals)))
     (sum_append function_bytes (functions_from (numbered m) m which.Module 0 m.procedures) (functions_from (numbered m) m which.Local 0 m.locals))
     helpers_short (body_bytes (numbered m) m (others_near (deepest_of outward_routine m.procedures ⊔ deepest_of outward_routine m.locals) (outward_body m.body) h))
     (routines_short (numbered m) m which.Module 0 m.procedures (first_near _ (deepest_of outward_routine m.locals) routines)) (routines_short (numbered m) m which.Local 0 m.locals (others_near (deepest_of outward_routine m.procedures) _ routines))
 
-all_in : (a n : ℕ) → a ≤ unit_bytes * (1 + n) → n ≤ most → 5 + a < max_bytes
-all_in a n h l = omega (arith, h, l)
+-- ---- what a module counts
 
-pub sizes_fit : (m : TypedModule) → IsNear (outward_bodies m) → counts_in m ≤ most → 5 + sum_of function_bytes (functions m) < max_bytes
-sizes_fit m h l = all_in _ (counts_in m) (functions_short m h) l
+count_sum : (f b a h s : ℕ) → a ≡ h + s → 1 + f + b + a ≡ 1 + f + h + (b + s)
+count_sum f b a h s e = omega (arith, e)
+
+routines_count : (types : Types) (rs : List Routine) → sum_of (routine_counts types) rs ≡ sum_of (heading_counts types) rs + sum_of size_routine rs
+routines_count types [] = refl
+routines_count types (r ∷ rs) = count_sum (length (formals_of types r.heading)) (size_body r.body) _ (sum_of (heading_counts types) rs) (sum_of size_routine rs) (routines_count types rs)
+
+module_sum : (a b h s k t z : ℕ) → a ≡ h + s → b ≡ k + t → a + b + z ≡ s + t + z + (h + k)
+module_sum a b h s k t z e f = omega (arith, e, f)
+
+pub module_counts : (m : TypedModule) → counts_in m ≡ size_bodies m + headings_in m
+module_counts m =
+    module_sum (sum_of (routine_counts m.types) m.procedures) (sum_of (routine_counts m.types) m.locals) (sum_of (heading_counts m.types) m.procedures) (sum_of size_routine m.procedures) (sum_of (heading_counts m.types) m.locals) (sum_of size_routine m.locals) (size_body m.body)
+    (routines_count m.types m.procedures) (routines_count m.types m.locals)
+
+whole_in : (a c b h : ℕ) → a ≤ unit_bytes * (1 + b) + heading_bytes * h → c ≡ b + h → c ≤ most → 5 + a < max_bytes
+whole_in a c b h p e l = omega (arith, p, e, l)
+
+parts_in : (a b h : ℕ) → a ≤ unit_bytes * (1 + b) + heading_bytes * h → b ≤ most → h ≤ few_headings → 5 + a < max_bytes
+parts_in a b h p l k = omega (arith, p, l, k)
+
+pub sizes_fit : (m : TypedModule) → IsNear (outward_bodies m) → CountsFew m → 5 + sum_of function_bytes (functions m) < max_bytes
+sizes_fit m h (inl l) = whole_in _ (counts_in m) (size_bodies m) (headings_in m) (functions_short m h) (module_counts m) l
+sizes_fit m h (inr p) = parts_in _ (size_bodies m) (headings_in m) (functions_short m h) p.0 p.1

@@ -1,9 +1,10 @@
 -- The modules of a program are small, if their types and storage have room, and so they have encodings.
-use Rattle.std.proofs.Common.{◌≡◌, ℕ, zero, suc, ◌+◌, ◌*◌, ◌≤◌, ◌<◌, Bool, true, false, List, [], ◌∷◌, ◌++◌, map, length, Option, Some, None, Result, Ok, refl, sym, subst, arith, lit≤}
+use Rattle.std.proofs.Common.{◌≡◌, ◌⊎◌, inl, inr, ℕ, zero, suc, ◌+◌, ◌*◌, ◌≤◌, ◌<◌, Bool, true, false, List, [], ◌∷◌, ◌++◌, map, length, Option, Some, None, Result, Ok, refl, sym, subst, arith, lit≤}
 use Rattle.std.specs.Prelude.{All, IfOk, nat_le, slice_get, if◌then◌else◌}
 use Rattle.std.specs.List.{list_all}
 use Rattle.std.proofs.lemmas.Bool.{leb-true, leb-false}
 use Rattle.std.proofs.lemmas.List.Elements.{All-nil, All-cons, All-head, All-tail}
+use Rattle.scan_tokens.specs.Division.{max_text}
 use Rattle.typed_tree.specs.declared.known_types.Types.{Types}
 use Rattle.typed_tree.specs.declared.typed_module.Imported.{Imported}
 use Rattle.typed_tree.specs.declared.typed_module.Routine.{Routine}
@@ -28,13 +29,15 @@ use Rattle.law_simulation.proofs.Globals.{each_at}
 use Rattle.law_well_formed.specs.FormedImports.{StandsOnImports}
 use Rattle.law_well_formed.proofs.NamedImports.{modules_stand}
 use Rattle.law_encoding.specs.Sizes.{sum_of}
-use Rattle.law_encoding.specs.Fits.{few_entries, max_bytes}
+use Rattle.law_encoding.specs.Fits.{few_entries, max_bytes, few_headings, CountsFew}
+use Rattle.law_encoding.specs.Short.{counts_in, headings_in}
+use Rattle.law_encoding.specs.Small.{most, BodiesAreSmall}
 use Rattle.law_encoding.specs.LinkRoom.{LinkIsSmall, name_length}
 use Rattle.law_encoding.specs.NamesRoom.{is_short_name, few_names}
 use Rattle.law_encoding.specs.Counted.{AtMost, fine, broken}
 use Rattle.law_encoding.specs.Nested.{AcceptedAreShallow}
 use Rattle.law_encoding.specs.ProcedureLevels.{AcceptedAreNear}
-use Rattle.law_encoding.specs.ProgramsRoom.{IsStored, IsShortModule, IsAccepted, IsSmallProgram, most_modules}
+use Rattle.law_encoding.specs.ProgramsRoom.{HasStorage, IsStored, IsShortModule, IsAccepted, IsSmallProgram, most_modules}
 use Rattle.law_encoding.specs.SmallParts.{IsSmallModule}
 use Rattle.law_encoding.proofs.AcceptedRoom.{procedures_few, slots_most, typed_room}
 use Rattle.law_encoding.proofs.CodeFits.{both_true}
@@ -64,11 +67,11 @@ last_part : (a b c : ℕ) → a + b ≤ c → b ≤ c
 last_part a b c h = omega (arith, h)
 
 module_small : (m : TypedModule) → IsStored m → size (module_row m) ≤ few_entries
-module_small m s = first_part (size (module_row m)) (characters (module_texts m)) few_entries s.storage.bytes
+module_small m s = first_part (size (module_row m)) (characters (module_texts m)) few_entries s.parts.storage.bytes
 
 texts_small : (m : TypedModule) → IsStored m → length (text m) ≤ few_entries
 texts_small m s =
-    subst (λ (n : ℕ). n ≤ few_entries) (sym (text_length (module_texts m))) (last_part (size (module_row m)) (characters (module_texts m)) few_entries s.storage.bytes)
+    subst (λ (n : ℕ). n ≤ few_entries) (sym (text_length (module_texts m))) (last_part (size (module_row m)) (characters (module_texts m)) few_entries s.parts.storage.bytes)
 
 -- ---- small modules
 
@@ -91,10 +94,10 @@ module _ (p : Program) (m : TypedModule) (stored : All IsStored p) where
 
   stored_small : IsStored m → All (Knows p m) m.imports → IsSmallModule p m
   stored_small s known = record {
-    types = all_small m.types s.types;
+    types = all_small m.types s.parts.types;
     rows = λ home. row_small s known (import_place m home) (is_own m home);
-    frames = frames_small m.types m.procedures s.storage.procedures;
-    inner_frames = frames_small m.types m.locals s.storage.locals;
+    frames = frames_small m.types m.procedures s.parts.storage.procedures;
+    inner_frames = frames_small m.types m.locals s.parts.storage.locals;
     procedures = λ place n there. procedures_few n (each_at IsStored p place n there stored).counts;
     texts = texts_small m s;
   }
@@ -170,7 +173,12 @@ own_short g t is =
     subst (λ r. IfOk r (StandsOnImports is.tree is.own)) is.accepted (modules_stand g (elaborated g) is.number is.tree is.own is.tables) in
     subst (λ (n : List ℕ). is_short_name n ≡ true) (sym stands.name) (text_named is.text is.tokens is.tree is.scanned is.parsed.0)
 
-module _ (g : Gathers) (levels : AcceptedAreShallow g) (outward : AcceptedAreNear g) (p : Program) (accepted : All (IsAccepted g) p) where
+counts_few : (g : Gathers) (t : TypedModule) → BodiesAreSmall g → (is : IsAccepted g t)
+    → (counts_in t ≤ most) ⊎ ((length is.text ≤ max_text) × (headings_in t ≤ few_headings)) → CountsFew t
+counts_few g t small is (inl h) = inl h
+counts_few g t small is (inr p) = inr (ok_most (small is.text is.tokens is.tree p.0 is.scanned is.parsed.0 is.number is.own is.tables) is.accepted, p.1)
+
+module _ (g : Gathers) (small_bodies : BodiesAreSmall g) (levels : AcceptedAreShallow g) (outward : AcceptedAreNear g) (p : Program) (accepted : All (IsAccepted g) p) where
   all_own : (ms : List TypedModule) → All (IsAccepted g) ms → list_all (λ m. is_short_name m.name) ms ≡ true
   all_own [] h = refl
   all_own (m ∷ ms) h = both_true _ _ (own_short g m (All-head (IsAccepted g) m ms h)) (all_own ms (All-tail (IsAccepted g) m ms h))
@@ -191,8 +199,12 @@ module _ (g : Gathers) (levels : AcceptedAreShallow g) (outward : AcceptedAreNea
     outward = ok_most (outward is.tokens is.tree is.parsed is.number is.own is.tables) is.accepted;
   }
 
-  pub accepted_programs : (pages : ℕ) → AreModules p → AreTypedModules p pages → All IsStored p → IsSmallProgram p pages → list_all module_fits (all p pages) ≡ true
-  accepted_programs pages are typed stored small =
+  stored_at : (t : TypedModule) → IsAccepted g t → HasStorage t → IsStored t
+  stored_at t is has = record { parts = has; counts = counts_few g t small_bodies is is.counts }
+
+  pub accepted_programs : (pages : ℕ) → AreModules p → AreTypedModules p pages → All HasStorage p → IsSmallProgram p pages → list_all module_fits (all p pages) ≡ true
+  accepted_programs pages are typed storage small =
+      let stored : All IsStored p = all_from IsStored p (λ k m there. stored_at m (each_at (IsAccepted g) p k m there accepted) (each_at HasStorage p k m there storage)) in
       programs_fit p pages are typed
       (all_from IsShortModule p
       (λ k m there.

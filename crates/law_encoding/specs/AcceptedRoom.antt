@@ -15,19 +15,17 @@ use Rattle.law_modules.specs.Linked.{Program}
 use Rattle.law_simulation.specs.Modules.{IsModule, IsTypedModule}
 use Rattle.law_well_formed.specs.Formed.{Holds}
 use Rattle.law_well_formed.specs.FormedModules.{AreFor}
-use Rattle.law_encoding.specs.Short.{counts_in}
-use Rattle.law_encoding.specs.Small.{most}
-use Rattle.law_encoding.specs.Fits.{few_entries}
+use Rattle.law_encoding.specs.Fits.{few_entries, CountsFew}
 use Rattle.law_encoding.specs.ValidNumbers.{code_constants_fit}
 use Rattle.law_encoding.specs.ImportsRoom.{NamesAreShort}
 use Rattle.law_encoding.specs.Nested.{max_levels, most_levels}
 use Rattle.law_encoding.specs.Outward.{outward_bodies}
 use Rattle.law_encoding.specs.SmallParts.{IsSmallModule}
 
--- The module counts no more than the tree of the longest text, it has few names and short ones, the
--- constants in its code fit, and its texts are bytes, and few.
+-- The module counts few, it has few names and short ones, the constants in its code fit, and its
+-- texts are bytes, and few.
 pub record IsSmallBody (m : TypedModule) : Type 0 where
-  pub counts : counts_in m ≤ most
+  pub counts : CountsFew m
   pub names : NamesAreShort m
   pub constants : list_all (λ f. code_constants_fit f.body.code) (functions m) ≡ true
   pub texts : list_all (λ b. nat_lt b 256) (all_characters (module_texts m)) ≡ true
@@ -42,11 +40,11 @@ AcceptedFit g = (ts : List Token) (m : Module) → IsTree ts m
 
 -- ---- typed programs
 
--- The module of a body of a typed program has an encoding, if it is small, counts no more than the
--- tree of the longest text, and has few names and short ones; if its functions nest at most 4096
--- levels, and its bodies go at most 200 procedures outwards.
+-- The module of a body of a typed program has an encoding, if it is small, counts few, and has few
+-- names and short ones; if its functions nest at most 4096 levels, and its bodies go at most 200
+-- procedures outwards.
 abbrev pub TypedModulesFit : Type 0
 TypedModulesFit = (p : Program) (pages place : ℕ) (m : TypedModule) → IsModule p place m
-    → IsTypedModule p pages place m → IsSmallModule p m → counts_in m ≤ most → NamesAreShort m
+    → IsTypedModule p pages place m → IsSmallModule p m → CountsFew m → NamesAreShort m
     → most_levels m ≤ max_levels → outward_bodies m ≤ max_nesting
     → module_fits (typed_module m) ≡ true

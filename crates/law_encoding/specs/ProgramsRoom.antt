@@ -1,9 +1,9 @@
 -- The modules of a typed program have encodings, if its types and its storage have room.
-use Rattle.std.specs.Prelude.{◌≡◌, ◌≤◌, ◌<◌, ◌+◌, ℕ, true, List, length, All, Option, Ok}
+use Rattle.std.specs.Prelude.{◌≡◌, ◌⊎◌, ◌≤◌, ◌<◌, ◌+◌, ℕ, true, List, length, All, Option, Ok}
 use Rattle.std.specs.List.{list_all}
 use Rattle.m2_tree.specs.declared.token.Token.{Token}
 use Rattle.m2_tree.specs.declared.decl.Module.{Module}
-use Rattle.scan_tokens.specs.Division.{HasTokens}
+use Rattle.scan_tokens.specs.Division.{HasTokens, max_text}
 use Rattle.typed_tree.specs.declared.table.Table.{Table}
 use Rattle.typed_tree.specs.declared.typed_module.TypedModule.{TypedModule}
 use Rattle.def_grammar.specs.Refusal.{IsTree, max_nesting}
@@ -16,9 +16,9 @@ use Rattle.wasm_binary.specs.Binary.{module_fits}
 use Rattle.law_modules.specs.Linked.{Program, slots_in, all, IsLinkable}
 use Rattle.law_simulation.specs.Knows.{IsCoherent}
 use Rattle.law_simulation.specs.Modules.{AreModules, AreTypedModules}
-use Rattle.law_encoding.specs.Short.{counts_in}
+use Rattle.law_encoding.specs.Short.{counts_in, headings_in}
 use Rattle.law_encoding.specs.Small.{most}
-use Rattle.law_encoding.specs.Fits.{max_bytes}
+use Rattle.law_encoding.specs.Fits.{max_bytes, few_headings, CountsFew}
 use Rattle.law_encoding.specs.ImportsRoom.{NamesAreShort}
 use Rattle.law_encoding.specs.LinkRoom.{LinkIsSmall}
 use Rattle.law_encoding.specs.NamesRoom.{few_names}
@@ -26,12 +26,15 @@ use Rattle.law_encoding.specs.Nested.{max_levels, most_levels}
 use Rattle.law_encoding.specs.Outward.{outward_bodies}
 use Rattle.law_encoding.specs.SmallParts.{IsSmallModule}
 
--- The types, variables, texts and frames of a module have room. It counts no more than the tree of
--- the longest text.
-pub record IsStored (m : TypedModule) : Type 0 where
+-- The types, variables, texts and frames of a module have room.
+pub record HasStorage (m : TypedModule) : Type 0 where
   pub types : types_fit m.types ≡ true
   pub storage : AllFits m
-  pub counts : counts_in m ≤ most
+
+-- They have room, and the module counts few.
+pub record IsStored (m : TypedModule) : Type 0 where
+  pub parts : HasStorage m
+  pub counts : CountsFew m
 
 -- Each module of a program of stored modules is small, if it knows the others as they are.
 abbrev pub StoredAreSmall : Type 0
@@ -53,7 +56,9 @@ ProgramsFit = (p : Program) (pages : ℕ) → AreModules p → AreTypedModules p
 
 -- ---- what is accepted
 
--- The checker makes the module of a text that is scanned and parsed.
+-- The checker makes the module of a text that is scanned and parsed. If the text has more than 2 ^
+-- 20 bytes, or the module more than 20000 procedures and formals, the module counts no more than
+-- the tree of the longest text.
 pub record IsAccepted (g : Gathers) (t : TypedModule) : Type 0 where
   pub text : List ℕ
   pub tokens : List Token
@@ -64,8 +69,9 @@ pub record IsAccepted (g : Gathers) (t : TypedModule) : Type 0 where
   pub own : Option Table
   pub tables : List Table
   pub accepted : checked g number tree own tables ≡ Ok t
+  pub counts : (counts_in t ≤ most) ⊎ ((length text ≤ max_text) × (headings_in t ≤ few_headings))
 
--- the slots of this number of stored modules always have room in the table
+-- the slots of this number of modules that count few always have room in the table
 abbrev pub most_modules : ℕ
 most_modules = 1023
 
@@ -81,5 +87,5 @@ pub record IsSmallProgram (p : Program) (pages : ℕ) : Type 0 where
 -- outwards, and their names are short.
 abbrev pub AcceptedProgramsFit : Gathers → Type 0
 AcceptedProgramsFit g = (p : Program) (pages : ℕ) → AreModules p → AreTypedModules p pages
-    → All (IsAccepted g) p → All IsStored p → IsSmallProgram p pages
+    → All (IsAccepted g) p → All HasStorage p → IsSmallProgram p pages
     → list_all module_fits (all p pages) ≡ true

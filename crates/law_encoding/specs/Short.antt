@@ -21,7 +21,7 @@ use Rattle.def_scheme.specs.Exprs.{Numbered}
 use Rattle.def_scheme.specs.Steps.{body_code}
 use Rattle.def_scheme.specs.Modules.{functions}
 use Rattle.law_encoding.specs.Sizes.{sum_of}
-use Rattle.law_encoding.specs.TypedSizes.{size_body}
+use Rattle.law_encoding.specs.TypedSizes.{size_body, size_bodies}
 use Rattle.law_encoding.specs.Counted.{AtMost}
 use Rattle.law_encoding.specs.Nesting.{◌⊔◌, deepest_of}
 use Rattle.law_encoding.specs.Outward.{outward_body, outward_routine, outward_bodies}
@@ -71,8 +71,21 @@ counts_in m =
     sum_of (routine_counts m.types) m.procedures + sum_of (routine_counts m.types) m.locals
     + size_body m.body
 
+-- without the bodies: the procedures, and the formals of their headings
+abbrev pub heading_counts : Types → Routine → ℕ
+heading_counts types r = 1 + length (formals_of types r.heading)
+
+abbrev pub headings_in : TypedModule → ℕ
+headings_in m =
+    sum_of (heading_counts m.types) m.procedures + sum_of (heading_counts m.types) m.locals
+
+-- bytes for a procedure, and for a formal
+abbrev pub heading_bytes : ℕ
+heading_bytes = 204
+
 -- The functions of a module that goes at most 200 procedures outwards take at most 1023 bytes for
--- each that it counts, and 1023 more.
+-- each that its bodies count, 204 for each procedure and each formal, and 1023 more.
 abbrev pub FunctionsAreShort : Type 0
 FunctionsAreShort = (m : TypedModule) → outward_bodies m ≤ max_nesting
-    → sum_of function_bytes (functions m) ≤ unit_bytes * (1 + counts_in m)
+    → sum_of function_bytes (functions m)
+    ≤ unit_bytes * (1 + size_bodies m) + heading_bytes * headings_in m

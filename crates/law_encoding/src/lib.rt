@@ -135,7 +135,7 @@ pub fn code_size_laws()
     ensures statements { CodeIsShort }
     // and for the functions of a module.
     ensures functions { FunctionsAreShort }
-    // They fit if the module counts no more than the tree of the longest text.
+    // They fit if the module counts few.
     ensures sizes { SizesFit }
 {}
 
