@@ -1,5 +1,5 @@
 -- What one name more keeps, imports keep.
-use Rattle.std.proofs.Common.{ℕ, Bool, true, false, cond, List, [], ◌∷◌, Option, Some, None, Result, Ok, Err}
+use Rattle.std.proofs.Common.{◌≡◌, refl, ℕ, Bool, true, false, cond, List, [], ◌∷◌, Option, Some, None, Result, Ok, Err}
 use Rattle.std.specs.Prelude.{take, drop, slice_get}
 use Rattle.std.specs.List.{fold}
 use Rattle.m2_rule.specs.declared.rule.Rule.TheVariants as rule
@@ -18,17 +18,17 @@ use Rattle.check_scope.specs.declared.known.Origin.TheVariants as origin
 use Rattle.check_scope.specs.declared.scope.Scope.{Scope}
 use Rattle.check_definition.specs.Importing.{module_named, with_module_as, with_module_name, with_entry, brings_in, reported_of_taken, unless_taken, from_place, with_from, exports_of, from_module, with_imports, with_import}
 
-module _ (g : Gathers) (P : Scope g.Reported → Type 0) (named : (s : Scope g.Reported) (name : List ℕ) (k : Known g.Reported) → P s → P (with_known name k s)) where
-  free_keeps : (s : Scope g.Reported) (at : Pos) (name : List ℕ) (k : Known g.Reported) (b : Bool) → P s → P (cond {A = State (Unit {0}) g.Reported} b (with_known name k s, Ok tt) (s, reported g at rule.DeclaredTwice)).0
-  free_keeps s at name k true h = named s name k h
-  free_keeps s at name k false h = h
+module _ (g : Gathers) (P : Scope g.Reported → Type 0) (named : (s : Scope g.Reported) (name : List ℕ) (k : Known g.Reported) → is_free (found name s.own) ≡ true → P s → P (with_known name k s)) where
+  free_keeps : (s : Scope g.Reported) (at : Pos) (name : List ℕ) (k : Known g.Reported) (b : Bool) → (b ≡ true → P (with_known name k s)) → P s → P (cond {A = State (Unit {0}) g.Reported} b (with_known name k s, Ok tt) (s, reported g at rule.DeclaredTwice)).0
+  free_keeps s at name k true n h = n refl
+  free_keeps s at name k false n h = h
 
   again_keeps : (s : Scope g.Reported) (x : State (Unit {0}) g.Reported) (b : Bool) → P s → P x.0 → P (cond {A = State (Unit {0}) g.Reported} b (s, Ok tt) x).0
   again_keeps s x true h p = h
   again_keeps s x false h p = p
 
   imported_keeps : (s : Scope g.Reported) (at : Pos) (name : List ℕ) (o : Origin) (m : Result Meaning g.Reported) → P s → P (imported g s at name o m).0
-  imported_keeps s at name o m h = again_keeps s _ (is_again (found name s.own) o) h (free_keeps s at name (Declared o m) (is_free (found name s.own)) h)
+  imported_keeps s at name o m h = again_keeps s _ (is_again (found name s.own) o) h (free_keeps s at name (Declared o m) (is_free (found name s.own)) (λ e. named s name (Declared o m) e h) h)
 
   module_as_keeps : (s : Scope g.Reported) (name : Ident) (r : Result ℕ g.Reported) → P s → P (with_module_as g s name r).0
   module_as_keeps s name (Ok k) h = imported_keeps s name.pos name.name (origin.Module k) (Ok (meaning.Module k)) h

@@ -71,5 +71,9 @@ pub mod ConstantCode
 pub mod ConstantSteps
 pub mod ConstantFunctions
 pub mod DistinctImports
+pub mod Awaited
+pub mod AwaitedTypes
+pub mod AwaitedDeclarations
+pub mod DeclaredProcedures
 pub mod ProgramsRoom
 pub mod NamesRoom

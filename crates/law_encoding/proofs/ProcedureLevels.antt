@@ -264,7 +264,7 @@ module _ (most : ℕ) where
 
         begun_outermost : IsOutermost s → IsOutermost (declared_module g modules ends s m ds).0
         begun_outermost p =
-            let i : IsOutermost imported.0 = imports_keep g IsOutermost (λ s name k h. h) modules m.imports (s, Ok tt) p in
+            let i : IsOutermost imported.0 = imports_keep g IsOutermost (λ s name k e h. h) modules m.imports (s, Ok tt) p in
             let k = behind_level imported.0 imported.1 0 ds in
             subst (λ (d : Declared g.Reported). IsOutermost d.0) (sym (declared_is g elaborates forms ends imported 0 ds))
             (ap (λ (bs : List (Around g.Reported)). length bs) k.0 ∙ i.0, k.1 ∙ i.1)

@@ -22,5 +22,6 @@ pub mod LinkRoom
 pub mod ImportsRoom
 pub mod AcceptedRoom
 pub mod SmallParts
+pub mod DeclaredProcedures
 pub mod ProgramsRoom
 pub mod NamesRoom

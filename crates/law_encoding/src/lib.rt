@@ -29,6 +29,8 @@
 //!   `proofs/Names`. `specs/NamesRoom` says that the names of texts are short, with the induction over the grammar in its proof.
 //!   `specs/AcceptedRoom` puts together what is proved of the module of a body, and `specs/ProgramsRoom` of programs.
 //!   `proofs/DistinctImports` shows that a module imports each module once.
+//! - `specs/DeclaredProcedures` says that the procedures of a module are declared in its text. `proofs/Awaited` counts those that are
+//!   awaited, with `proofs/AwaitedTypes` and `proofs/AwaitedDeclarations` for the steps, and `proofs/DeclaredProcedures` whole modules.
 //! - `proofs/Blocks` has the bodies of procedures, with the induction over blocks, and whole modules, and `proofs/Bounded` the
 //!   bound of all texts.
 #![tactic(auto)]
@@ -45,6 +47,7 @@ ghost use Rattle.law_encoding.specs.ProgramsRoom.{StoredAreSmall, ProgramsFit, A
 ghost use Rattle.law_encoding.specs.ModuleNumbers.{IndexesFit};
 ghost use Rattle.law_encoding.specs.SmallParts.{ConstantsFit, ModuleConstantsFit};
 ghost use Rattle.law_encoding.specs.FunctionTypes.{ListedAreFew, FewTypesFit, TypesAreFew};
+ghost use Rattle.law_encoding.specs.DeclaredProcedures.{ProceduresAreDeclared};
 ghost use Rattle.law_encoding.specs.ProcedureNesting.{ProceduresAreShallow};
 ghost use Rattle.law_encoding.specs.ProcedureLevels.{LevelsAreLow, AcceptedAreNear};
 ghost use Rattle.law_encoding.specs.Nested.{TreesAreShallow, ModulesAreShallow, CodeIsShallow, FunctionsAreShallow, LinkIsFlat, AcceptedAreShallow};
@@ -95,6 +98,14 @@ pub fn tree_nesting_laws()
 /// At most 200 procedures stand in one another.
 pub fn procedure_nesting_laws()
     ensures { ProceduresAreShallow }
+{}
+
+/// The procedures of a module that the checker accepts are declared in its text, if its definition exports each name once.
+pub fn declared_procedure_laws()
+    // That holds if the least broken rule is kept,
+    ensures least { ProceduresAreDeclared least }
+    // and if all of them are.
+    ensures every { ProceduresAreDeclared every }
 {}
 
 /// Procedures stand no deeper in a module that the checker accepts than they nest in its tree.
