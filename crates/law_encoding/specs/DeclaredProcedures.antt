@@ -40,5 +40,6 @@ procedures_of t = length t.procedures
 -- In a module that the checker accepts there are no others: each procedure that the definition
 -- exports is declared.
 abbrev pub ProceduresAreDeclared : Gathers → Type 0
-ProceduresAreDeclared g = (number : ℕ) (m : Module) (own : Option Table) (tables : List Table)
-    → ExportsOnce own → AtMost procedures_of (outermost_in m.contents) (checked g number m own tables)
+ProceduresAreDeclared g =
+    (number : ℕ) (m : Module) (own : Option Table) (tables : List Table) → ExportsOnce own
+    → AtMost procedures_of (outermost_in m.contents) (checked g number m own tables)
