@@ -1,0 +1,6 @@
+pub mod Shapes
+pub mod Amounts
+pub mod Operators
+pub mod Things
+pub mod Functions
+pub mod Expressions

@@ -1,0 +1,5 @@
+pub mod Order
+pub mod Combining
+pub mod Gathering
+pub mod Deciding
+pub mod Operating

@@ -1,0 +1,123 @@
+-- What is elaborated, and what it stands for.
+use Rattle.std.specs.Prelude.{◌≡◌, ℕ, ℤ, List, Option, Some, None, Result, Ok, Err, slice_get}
+use Rattle.m2_rule.specs.declared.rule.Rule.TheVariants as rule
+use Rattle.m2_tree.specs.declared.pos.Pos.{Pos}
+use Rattle.m2_tree.specs.declared.name.Ident.{Ident}
+use Rattle.m2_tree.specs.declared.expr.Expr.{Expr}
+use Rattle.typed_tree.specs.declared.types.TypeNo.{TypeNo}
+use Rattle.typed_tree.specs.declared.computed.TypedExpr.{TypedExpr}
+use Rattle.typed_tree.specs.declared.computed.LocalProcedure.{LocalProcedure}
+use Rattle.typed_tree.specs.declared.computed.Place.{Place}
+use Rattle.typed_tree.specs.declared.computed.Slot.{Slot}
+use Rattle.typed_tree.specs.declared.known_types.Types.{Types}
+use Rattle.typed_tree.specs.declared.table.Table.{Table}
+use Rattle.typed_tree.specs.declared.meaning.ScalarValue.{ScalarValue}
+use Rattle.typed_tree.specs.declared.meaning.LocalKind.{LocalKind}
+use Rattle.typed_tree.specs.declared.meaning.LocalKind.TheVariants as local
+use Rattle.typed_tree.specs.declared.meaning.LocalVariable.{LocalVariable}
+use Rattle.typed_tree.specs.declared.meaning.Value.{Value as ConstantValue}
+use Rattle.typed_tree.specs.declared.meaning.Value.TheVariants as value
+use Rattle.typed_tree.specs.declared.meaning.Meaning.{Meaning}
+use Rattle.typed_tree.specs.declared.meaning.Meaning.TheVariants as meaning
+use Rattle.typed_tree.specs.declared.meaning.Procedure.{Procedure as ModuleProcedure}
+use Rattle.typed_tree.specs.declared.meaning.Standard.{Standard}
+use Rattle.check_scope.specs.declared.fault.Fault.{Fault}
+use Rattle.check_scope.specs.declared.meaningless.Meaningless.{Meaningless}
+use Rattle.check_scope.specs.declared.meaningless.Meaningless.TheVariants as meaningless
+use Rattle.check_scope.specs.declared.scope.Scope.{Scope}
+use Rattle.check_scope.specs.Elaborated.{Gathers}
+use Rattle.check_scope.specs.Scopes.{looked_up}
+use Rattle.check_const.specs.Denote.{exported_by}
+use Rattle.check_operator.specs.declared.computed.Computed.{Computed}
+use Rattle.check_operator.specs.declared.computed.Computed.TheVariants as computed
+use Rattle.check_operator.specs.declared.computed.Designated.{Designated}
+use Rattle.check_operator.specs.declared.computed.Designated.TheVariants as designated
+use Rattle.check_expr.specs.Meanings.{meant, value_of}
+use Rattle.def_typing.specs.Amounts.{Amount, Constant, Value}
+use Rattle.def_typing.specs.Operators.{◌!◌, Kind, Scalar, Set, Text, Routine, Procedure, Whole, Untaken}
+use Rattle.def_typing.specs.Things.{Thing, AValue, AVariable, AnOpenArray, AType, AProcedure, ANested, AStandard, AModule, Headless, Standing, Known, Undeclared, NotExported, Unknown}
+use Rattle.def_typing.specs.Expressions.{Has, BrokenAsValue}
+use Rattle.law_typing.specs.Judging.{Judges, Answers}
+
+-- ---- what is elaborated
+
+abbrev pub kind_of : ConstantValue → Kind
+kind_of (value.Number n) = Scalar (Constant None n)
+kind_of (value.Scalar s) = Scalar (Constant (Some s.base) s.number)
+kind_of (value.Set bits) = Set (Some bits)
+kind_of (value.Text text) = Text text
+
+-- the code that is made of an expression has no part in what it has
+pub data IsKind : Computed → Kind → Type 0 where
+  kind_constant : (v : ConstantValue) → IsKind (computed.Constant v) (kind_of v)
+  kind_scalar : (t base : TypeNo) (e : TypedExpr)
+      → IsKind (computed.Scalar t base e) (Scalar (Value base))
+  kind_set : (e : TypedExpr) → IsKind (computed.Set e) (Set None)
+  kind_routine : (t : TypeNo) (e : TypedExpr) → IsKind (computed.Routine t e) (Routine t)
+  kind_procedure : (p : ModuleProcedure) → IsKind (computed.Procedure p) (Procedure p.heading)
+  kind_whole : (t : TypeNo) (d : Place) → IsKind (computed.Whole t d) (Whole t)
+  kind_untaken : IsKind computed.Untaken Untaken
+
+pub data IsThing : Designated → Thing → Type 0 where
+  thing_value : {v : Computed} {k : Kind} → IsKind v k → IsThing (designated.Value v) (AValue k)
+  thing_variable : (t : TypeNo) (d : Place) → IsThing (designated.Variable t d) (AVariable t)
+  thing_open : (t : TypeNo) (s : Slot) → IsThing (designated.Open t s) (AnOpenArray t)
+  thing_type : (t : TypeNo) → IsThing (designated.Type t) (AType t)
+  thing_procedure : (p : ModuleProcedure) → IsThing (designated.Procedure p) (AProcedure p.heading)
+  thing_nested : (p : LocalProcedure) → IsThing (designated.Nested p) (ANested p.heading)
+  thing_standard : (f : Standard) → IsThing (designated.Standard f) (AStandard f)
+  thing_module : (k : ℕ) → IsThing (designated.Module k) (AModule k)
+
+-- ---- what is known of names
+
+abbrev pub of_local : TypeNo → LocalKind → Standing
+of_local t local.Open = Known (AnOpenArray t)
+of_local t other = Known (AVariable t)
+
+-- what a name of this meaning stands for
+abbrev pub standing : Meaning → Standing
+standing (meaning.Constant v) = Known (AValue (kind_of v))
+standing (meaning.Type t n) = Known (AType t)
+standing (meaning.Variable v) = Known (AVariable v.of)
+standing (meaning.Local v) = of_local v.of v.kind
+standing (meaning.Field f) = Known (AVariable f.of)
+standing (meaning.Procedure p) = Known (AProcedure p.heading)
+standing (meaning.LocalProcedure p) = Known (ANested p.heading)
+-- a procedure of the block, before its heading
+standing meaning.Ahead = Undeclared
+standing (meaning.Standard f) = Known (AStandard f)
+standing (meaning.Module k) = Known (AModule k)
+
+module _ (g : Gathers) (j : Judges g) where
+  -- what a name stands for, and what is looked up of it at a place
+  pub data Sees (at : Pos) : Standing → Result Meaning (Meaningless g.Reported) → Type 0 where
+    sees : (m : Meaning) → Sees at (standing m) (Ok m)
+    sees_nothing : Sees at Undeclared (Err (meaningless.Broken (g.one (at ! rule.Undeclared))))
+    sees_headless : (r : g.Reported) → Sees at (Known Headless) (Err (meaningless.Headless r))
+    sees_unknown : (r : g.Reported) → Sees at Unknown (Err (meaningless.Broken r))
+
+  -- what a module exports by a name
+  pub data Exports : Standing → Option Meaning → Type 0 where
+    has_exported : (m : Meaning) → Exports (standing m) (Some m)
+    has_nothing : Exports NotExported None
+
+  -- Names stand for what the scope knows of them, and names of modules for what the tables have.
+  pub record Knows (names : Ident → Standing) (exports : ℕ → Ident → Standing)
+      (s : Scope g.Reported) : Type 0 where
+    pub of_names : (name : Ident) → Sees name.pos (names name) (looked_up g s name)
+    pub of_modules : (k : ℕ) (name : Ident)
+        → Exports (exports k name) (exported_by name.name (slice_get s.tables k))
+
+  -- what the use of a name repeats of its declaration
+  pub data Repeats (names : Ident → Standing) (s : Scope g.Reported) (f : Fault) : Type 0 where
+    of_heading : {name : Ident} {r : g.Reported} → names name ≡ Known Headless
+        → looked_up g s name ≡ Err (meaningless.Headless r) → j.Among r f → Repeats names s f
+    of_declaration : {name : Ident} {r : g.Reported} → names name ≡ Unknown
+        → looked_up g s name ≡ Err (meaningless.Broken r) → j.Among r f → Repeats names s f
+
+  -- An expression of a body that is taken as a value is answered exactly.
+  abbrev pub IsExact : (names : Ident → Standing) → (exports : ℕ → Ident → Standing)
+      → Scope g.Reported → Expr → Type 0
+  IsExact names exports s e =
+      Answers g j (Repeats names s) IsKind (Has s.types names exports e)
+      (BrokenAsValue s.types names exports e) (value_of g s (meant g e))
