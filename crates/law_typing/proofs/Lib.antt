@@ -3,3 +3,5 @@ pub mod Combining
 pub mod Gathering
 pub mod Deciding
 pub mod Operating
+pub mod Joining
+pub mod Shaping
