@@ -5,3 +5,4 @@ pub mod Deciding
 pub mod Operating
 pub mod Joining
 pub mod Shaping
+pub mod Singles
