@@ -6,3 +6,5 @@ pub mod Operating
 pub mod Joining
 pub mod Shaping
 pub mod Singles
+pub mod Placing
+pub mod Naming
