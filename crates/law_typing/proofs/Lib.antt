@@ -8,3 +8,4 @@ pub mod Shaping
 pub mod Singles
 pub mod Placing
 pub mod Naming
+pub mod Selecting
