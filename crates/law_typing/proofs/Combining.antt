@@ -217,6 +217,26 @@ module _ (g : Gathers) (j : Judges g) (l : Lawful g j) (O : Fault → Type 0) wh
       (λ l y. nothing l (subst (λ x. N x l) (u y.0 y.1) y.2))
   heading_answers (finds_nothing r a n) next nothing unsaid = refuses r (accounts_as (λ f b. inl b) (λ f x. elim x [ inl b ↦ b | inr e ↦ absurd (n e.0 e.1) ]) a) (λ l x. n x.0 x.1)
 
+  -- the same of conditions
+  pub sort_checks : {A : Type 0} {S : Thing → Type 0} {P : Thing → Type 0} {B : Fault → Type 0} {D : Thing → Fault → Type 0} {d : Result Designated (Meaningless g.Reported)} {h : Designated → Result A g.Reported} (at : Pos) (broken : Rule)
+      → Finds S B d → ((a : Designated) (x : Thing) → IsThing a x → Checks (P x) (D x) (h a)) → Checks {A = A} (P Headless) (D Headless) (reported g at broken)
+      → Checks ((x : Thing) × S x × P x) (λ f. B f ⊎ ((x : Thing) × S x × D x f)) (of_sort g at broken d ▷ h)
+  sort_checks {P = P} {D = D} at broken (finds a x i s u n) next without = checks_as (λ y. (x, s, y)) (λ y. subst P (u y.0 y.1) y.2) (λ f y. inr (x, s, y))
+      (λ f y. elim y [ inl c ↦ absurd (n f c) | inr e ↦ subst (λ x. D x f) (u e.0 e.1) e.2 ]) (next a x i)
+  sort_checks {P = P} {D = D} at broken (finds_headless r o s u n) next without = checks_as (λ y. (Headless, s, y)) (λ y. subst P (u y.0 y.1) y.2) (λ f y. inr (Headless, s, y))
+      (λ f y. elim y [ inl c ↦ absurd (n f c) | inr e ↦ subst (λ x. D x f) (u e.0 e.1) e.2 ]) without
+  sort_checks at broken (finds_nothing r a n) next without = stops r (accounts_as (λ f b. inl b) (λ f x. elim x [ inl b ↦ b | inr e ↦ absurd (n e.0 e.1) ]) a) (λ x. n x.0 x.1)
+
+  pub heading_checks : {A : Type 0} {S : Thing → Type 0} {P : Thing → Type 0} {B : Fault → Type 0} {D : Thing → Fault → Type 0} {d : Result Designated (Meaningless g.Reported)} {h : Designated → Result A g.Reported}
+      → Finds S B d → ((a : Designated) (x : Thing) → IsThing a x → Checks (P x) (D x) (h a)) → (P Headless → ⊥) → ((f : Fault) → D Headless f → ⊥)
+      → Checks ((x : Thing) × S x × P x) (λ f. B f ⊎ ((x : Thing) × S x × D x f)) (of_heading d ▷ h)
+  heading_checks {P = P} {D = D} (finds a x i s u n) next nothing unsaid = checks_as (λ y. (x, s, y)) (λ y. subst P (u y.0 y.1) y.2) (λ f y. inr (x, s, y))
+      (λ f y. elim y [ inl c ↦ absurd (n f c) | inr e ↦ subst (λ x. D x f) (u e.0 e.1) e.2 ]) (next a x i)
+  heading_checks {P = P} {D = D} (finds_headless r o s u n) next nothing unsaid = stops r
+      (record { only = λ f m. inr (o f m); each = λ f y. elim y [ inl c ↦ absurd (n f c) | inr e ↦ absurd (unsaid f (subst (λ x. D x f) (u e.0 e.1) e.2)) ] })
+      (λ y. nothing (subst P (u y.0 y.1) y.2))
+  heading_checks (finds_nothing r a n) next nothing unsaid = stops r (accounts_as (λ f b. inl b) (λ f x. elim x [ inl b ↦ b | inr e ↦ absurd (n e.0 e.1) ]) a) (λ x. n x.0 x.1)
+
   -- what is broken in a part, whatever it stands for
   pub heading_tells : {S : Thing → Type 0} {B : Fault → Type 0} {d : Result Designated (Meaningless g.Reported)} → Finds S B d → Tells B (of_heading d ▷ λ x. Ok tt)
   heading_tells (finds a x i s u n) = silent n

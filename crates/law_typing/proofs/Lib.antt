@@ -9,3 +9,4 @@ pub mod Singles
 pub mod Placing
 pub mod Naming
 pub mod Selecting
+pub mod Passing

@@ -78,7 +78,7 @@ pub some_made : (types : Types) (t : TypeNo) {s : Shape} → shape_at types t �
 some_made types t e m = let x = sym e ∙ m in absurd cc
 
 -- what goes to a type that is made so
-data Goes (types : Types) (t : TypeNo) : Shape → Kind → Type 0 where
+pub data Goes (types : Types) (t : TypeNo) : Shape → Kind → Type 0 where
   goes_scalar : {r : Range} {a : Amount} → SuitsBase r.base (sort_of a) → Goes types t (shape.Scalar r) (Scalar a)
   goes_set : {m : Option ℕ} → Goes types t shape.Set (Set m)
   goes_routine : {h : Signature} → Goes types t (shape.Procedure h) (Routine t)
@@ -89,13 +89,13 @@ range_in r (shape.Scalar q) = q
 range_in r other = r
 
 module _ (types : Types) (t : TypeNo) where
-  goes_made : {c : Kind} {s : Shape} → Compatible types t c → IsMade types t s → Goes types t s c
+  pub goes_made : {c : Kind} {s : Shape} → Compatible types t c → IsMade types t s → Goes types t s c
   goes_made {c = c} (things.scalar m b) e = subst (λ (s : Shape). Goes types t s c) (one_made types t m e) (goes_scalar b)
   goes_made {c = c} (things.set m) e = subst (λ (s : Shape). Goes types t s c) (one_made types t m e) goes_set
   goes_made {c = c} (things.routine m) e = subst (λ (s : Shape). Goes types t s c) (one_made types t m e) goes_routine
   goes_made {c = c} (things.procedure (agree m n)) e = subst (λ (s : Shape). Goes types t s c) (one_made types t m e) (goes_procedure (agree m n))
 
-  unmade_none : {c : Kind} → shape_at types t ≡ None → Compatible types t c → ⊥
+  pub unmade_none : {c : Kind} → shape_at types t ≡ None → Compatible types t c → ⊥
   unmade_none e (things.scalar m b) = some_made types t e m
   unmade_none e (things.set m) = some_made types t e m
   unmade_none e (things.routine m) = some_made types t e m
