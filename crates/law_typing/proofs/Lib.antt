@@ -10,3 +10,4 @@ pub mod Placing
 pub mod Naming
 pub mod Selecting
 pub mod Passing
+pub mod Places

@@ -1,9 +1,17 @@
 -- What is elaborated, and what it stands for.
-use Rattle.std.specs.Prelude.{◌≡◌, ℕ, ℤ, List, Option, Some, None, Result, Ok, Err, slice_get}
+use Rattle.std.specs.Prelude.{◌≡◌, ℕ, ℤ, List, [], ◌∷◌, Option, Some, None, Result, Ok, Err, slice_get}
 use Rattle.m2_rule.specs.declared.rule.Rule.TheVariants as rule
 use Rattle.m2_tree.specs.declared.pos.Pos.{Pos}
 use Rattle.m2_tree.specs.declared.name.Ident.{Ident}
-use Rattle.m2_tree.specs.declared.expr.Expr.{Expr}
+use Rattle.m2_tree.specs.declared.expr.MulOp.{MulOp}
+use Rattle.m2_tree.specs.declared.expr.AddOp.{AddOp}
+use Rattle.m2_tree.specs.declared.expr.RelOp.{RelOp}
+use Rattle.m2_tree.specs.declared.expr.Sign.{Sign}
+use Rattle.m2_tree.specs.declared.expr.Operator.{Operator}
+use Rattle.m2_tree.specs.declared.expr.Expr.{Expr, out-Expr}
+use Rattle.m2_tree.specs.declared.expr.Expr.TheOpen as layer
+use Rattle.m2_tree.specs.declared.expr.Selector.{Selector, out-Selector}
+use Rattle.m2_tree.specs.declared.expr.Designator.{Designator, out-Designator}
 use Rattle.typed_tree.specs.declared.types.TypeNo.{TypeNo}
 use Rattle.typed_tree.specs.declared.computed.TypedExpr.{TypedExpr}
 use Rattle.typed_tree.specs.declared.computed.LocalProcedure.{LocalProcedure}
@@ -36,7 +44,7 @@ use Rattle.check_expr.specs.Meanings.{meant, value_of}
 use Rattle.def_typing.specs.Amounts.{Amount, Constant, Value}
 use Rattle.def_typing.specs.Operators.{◌!◌, Kind, Scalar, Set, Text, Routine, Procedure, Whole, Untaken}
 use Rattle.def_typing.specs.Things.{Thing, AValue, AVariable, AnOpenArray, AType, AProcedure, ANested, AStandard, AModule, Headless, Standing, Known, Undeclared, NotExported, Unknown}
-use Rattle.def_typing.specs.Expressions.{Has, BrokenAsValue}
+use Rattle.def_typing.specs.Expressions.{Has, BrokenAsValue, Operand, factors, addends}
 use Rattle.law_typing.specs.Judging.{Judges, Answers}
 
 -- ---- what is elaborated
@@ -121,3 +129,48 @@ module _ (g : Gathers) (j : Judges g) where
   IsExact names exports s e =
       Answers g j (Repeats names s) IsKind (Has s.types names exports e)
       (BrokenAsValue s.types names exports e) (value_of g s (meant g e))
+
+-- ---- expressions without braces
+
+mutual
+  pub data IsPlain : Expr → Type 0 where
+    plain_number : {e : Expr} {at : Pos} {n : ℕ} → out-Expr e ≡ layer.Number at n → IsPlain e
+    plain_character : {e : Expr} {at : Pos} {c : ℕ} → out-Expr e ≡ layer.Char at c → IsPlain e
+    plain_string : {e : Expr} {at : Pos} {text : List ℕ} → out-Expr e ≡ layer.Text at text → IsPlain e
+    plain_name : {e : Expr} {d : Designator} → out-Expr e ≡ layer.Use d None
+        → ArePlainSelectors (out-Designator d).selectors → IsPlain e
+    plain_call : {e : Expr} {d : Designator} {args : List Expr} → out-Expr e ≡ layer.Use d (Some args)
+        → ArePlainSelectors (out-Designator d).selectors → ArePlain args → IsPlain e
+    plain_not : {e : Expr} {at : Pos} {x : Expr} → out-Expr e ≡ layer.Not at x → IsPlain x → IsPlain e
+    plain_brackets : {e : Expr} {at : Pos} {x : Expr} → out-Expr e ≡ layer.Bracketed at x → IsPlain x
+        → IsPlain e
+    plain_term : {e : Expr} {x : Expr} {rest : List (Operator MulOp × Expr)} → out-Expr e ≡ layer.Term x rest
+        → IsPlain x → ArePlainOperands (factors rest) → IsPlain e
+    plain_sum : {e : Expr} {sign : Option (Operator Sign)} {x : Expr} {rest : List (Operator AddOp × Expr)}
+        → out-Expr e ≡ layer.Sum sign x rest → IsPlain x → ArePlainOperands (addends rest)
+        → IsPlain e
+    plain_relation : {e : Expr} {a b : Expr} {o : Operator RelOp} → out-Expr e ≡ layer.Relation a o b
+        → IsPlain a → IsPlain b → IsPlain e
+
+  pub data ArePlain : List Expr → Type 0 where
+    no_expression : ArePlain []
+    one_expression : {x : Expr} {xs : List Expr} → IsPlain x → ArePlain xs → ArePlain (x ∷ xs)
+
+  pub data ArePlainOperands : List Operand → Type 0 where
+    no_operand : ArePlainOperands []
+    one_operand : {x : Operand} {xs : List Operand} → IsPlain x.of → ArePlainOperands xs
+        → ArePlainOperands (x ∷ xs)
+
+  pub data ArePlainSelectors : List Selector → Type 0 where
+    no_selector : ArePlainSelectors []
+    a_field : {s : Selector} {ss : List Selector} {at : Pos} {name : Ident}
+        → out-Selector s ≡ layer.Field at name → ArePlainSelectors ss → ArePlainSelectors (s ∷ ss)
+    an_index : {s : Selector} {ss : List Selector} {at : Pos} {x : Expr}
+        → out-Selector s ≡ layer.Index at x → IsPlain x → ArePlainSelectors ss
+        → ArePlainSelectors (s ∷ ss)
+
+-- Expressions without braces are answered exactly, whatever their names stand for.
+abbrev pub ExpressionsAreExact : (g : Gathers) → Judges g → Type 0
+ExpressionsAreExact g j =
+    (names : Ident → Standing) (exports : ℕ → Ident → Standing) (s : Scope g.Reported)
+    → Knows g j names exports s → (e : Expr) → IsPlain e → IsExact g j names exports s e
