@@ -11,3 +11,5 @@ pub mod Naming
 pub mod Selecting
 pub mod Passing
 pub mod Places
+pub mod Finding
+pub mod Calling
