@@ -155,7 +155,7 @@ module _ (g : Gathers) (j : Judges g) (lawful : Lawful g j) (names : Ident → S
   standard_function (standard e) = e
 
   -- a call that is refused, with what is broken in the arguments
-  refused_call : {x : Thing} {xs : List Expr} (at : Pos) (refused : Rule) → ((k : Kind) → C x xs k → ⊥) → M at x xs (at ! refused) → ((f : Fault) → M at x xs f → f ≡ at ! refused) → ((y : Expr) → Among y xs → Found y)
+  pub refused_call : {x : Thing} {xs : List Expr} (at : Pos) (refused : Rule) → ((k : Kind) → C x xs k → ⊥) → M at x xs (at ! refused) → ((f : Fault) → M at x xs f → f ≡ at ! refused) → ((y : Expr) → Among y xs → Found y)
       → CallsSo at x xs (reported_beside g at refused (looked_at g s (map (meant g) xs)))
   refused_call {x = x} {xs = xs} at refused n m only h = exact g j lawful E (λ k c. c) (λ k c. c) (λ f b. elim b [ inl e ↦ inl (subst (M at x xs) (sym e) m) | inr a ↦ inr a ]) (λ f b. elim b [ inl q ↦ inl (only f q) | inr a ↦ inr a ])
       (declined_beside g j lawful E at refused n (look_tells g j lawful names exports s xs h))

@@ -13,3 +13,4 @@ pub mod Passing
 pub mod Places
 pub mod Finding
 pub mod Calling
+pub mod Routines
