@@ -14,3 +14,4 @@ pub mod Places
 pub mod Finding
 pub mod Calling
 pub mod Routines
+pub mod Expressing

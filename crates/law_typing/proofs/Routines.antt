@@ -257,3 +257,128 @@ module _ (g : Gathers) (j : Judges g) (lawful : Lawful g j) (names : Ident → S
 
   routine_calls : {x : Thing} {h : TypeNo} (at : Pos) (xs : List Expr) (c : Callee) → Heads s.types x h → ((y : Expr) → Among y xs → IsPlain y) → ((y : Expr) → Among y xs → Found y) → So at x xs (called_as g s at (map (meant g) xs) (called.Routine h c))
   routine_calls {h = h} at xs c w i h' = routine_by at xs c (signature_at s.types h) (signature_there s.types h) w i h'
+
+  -- ---- what is called
+
+  data IsCallee : Called → Thing → Type 0 where
+    callee_routine : {x : Thing} {h : TypeNo} (c : Callee) → Heads s.types x h → IsCallee (called.Routine h c) x
+    callee_standard : (p : Standard) → IsCallee (called.Standard p) (AStandard p)
+
+  data MayCall : Thing → Type 0 where
+    may_routine : {x : Thing} {h : TypeNo} → Heads s.types x h → MayCall x
+    may_standard : (p : Standard) → MayCall (AStandard p)
+
+  abbrev NoCall : Pos → Thing → Fault → Type 0
+  NoCall at x f = (MayCall x → ⊥) × ((x ≡ Headless → ⊥) × (f ≡ at ! rule.WrongType))
+
+  abbrev CalleeSo : Pos → Thing → Result Called g.Reported → Type 0
+  CalleeSo at x r = Answers g j E IsCallee (λ y. MayCall x × (y ≡ x)) (NoCall at x) r
+
+  no_callee : {x : Thing} (at : Pos) → (MayCall x → ⊥) → (x ≡ Headless → ⊥) → CalleeSo at x (reported g at rule.WrongType)
+  no_callee at n q = declined g j lawful E at rule.WrongType (λ y m. n m.0) (n, (q, refl)) (λ f z. z.1.1)
+
+  a_callee : {x : Thing} {c : Called} (at : Pos) → IsCallee c x → MayCall x → CalleeSo at x (Ok c)
+  a_callee {x = x} {c = c} at i m = means c x i (m, refl) (λ y z. z.1) (λ f z. z.0 m)
+
+  not_made : {t : TypeNo} (z : Option Shape) → shape_at s.types t ≡ z → ((p : Signature) → z ≡ Some (shape.Procedure p) → ⊥) → MayCall (AVariable t) → ⊥
+  not_made z e n (may_routine (heads_variable t {p = p} m)) = n p (sym e ∙ m)
+
+  no_call_of : {x : Thing} → ((h : TypeNo) → Heads s.types x h → ⊥) → ((p : Standard) → x ≡ AStandard p → ⊥) → MayCall x → ⊥
+  no_call_of n q (may_routine {h = h} w) = n h w
+  no_call_of n q (may_standard p) = q p refl
+
+  held_callee : (at : Pos) (t : TypeNo) (d : Place) (z : Option Shape) → shape_at s.types t ≡ z → CalleeSo at (AVariable t) (held_by g at t d (class_of z))
+  held_callee at t d None e = no_callee at (not_made None e (λ p q. absurd cc)) (λ q. absurd cc)
+  held_callee at t d (Some (shape.Procedure p)) e = a_callee at (callee_routine _ (heads_variable t e)) (may_routine (heads_variable t e))
+  held_callee at t d (Some (shape.Scalar r)) e = no_callee at (not_made _ e (λ p q. absurd cc)) (λ q. absurd cc)
+  held_callee at t d (Some shape.Set) e = no_callee at (not_made _ e (λ p q. absurd cc)) (λ q. absurd cc)
+  held_callee at t d (Some (shape.Array i u)) e = no_callee at (not_made _ e (λ p q. absurd cc)) (λ q. absurd cc)
+  held_callee at t d (Some (shape.Record fs)) e = no_callee at (not_made _ e (λ p q. absurd cc)) (λ q. absurd cc)
+  held_callee at t d (Some (shape.Open u)) e = no_callee at (not_made _ e (λ p q. absurd cc)) (λ q. absurd cc)
+
+  callee_answers : (at : Pos) (a : Designated) (x : Thing) → IsThing a x → CalleeSo at x (callee_of g s.types at a)
+  callee_answers at _ _ (thing_procedure p) = a_callee at (callee_routine _ (heads_procedure p.heading)) (may_routine (heads_procedure p.heading))
+  callee_answers at _ _ (thing_nested p) = a_callee at (callee_routine _ (heads_nested p.heading)) (may_routine (heads_nested p.heading))
+  callee_answers at _ _ (thing_standard p) = a_callee at (callee_standard p) (may_standard p)
+  callee_answers at _ _ (thing_variable t d) = subst (λ (c : Class). CalleeSo at (AVariable t) (held_by g at t d c)) (sym (class_is s.types t)) (held_callee at t d (shape_at s.types t) refl)
+  callee_answers at _ _ (thing_value i) = no_callee at (no_call_of (λ h w. elim w [ ]) (λ p q. absurd cc)) (λ q. absurd cc)
+  callee_answers at _ _ (thing_open t d) = no_callee at (no_call_of (λ h w. elim w [ ]) (λ p q. absurd cc)) (λ q. absurd cc)
+  callee_answers at _ _ (thing_type t) = no_callee at (no_call_of (λ h w. elim w [ ]) (λ p q. absurd cc)) (λ q. absurd cc)
+  callee_answers at _ _ (thing_module k) = no_callee at (no_call_of (λ h w. elim w [ ]) (λ p q. absurd cc)) (λ q. absurd cc)
+
+  may_variable : (t : TypeNo) (z : Option Shape) → shape_at s.types t ≡ z → MayCall (AVariable t) ⊎ (MayCall (AVariable t) → ⊥)
+  may_variable t None e = inr (not_made None e (λ p q. absurd cc))
+  may_variable t (Some (shape.Procedure p)) e = inl (may_routine (heads_variable t e))
+  may_variable t (Some (shape.Scalar r)) e = inr (not_made _ e (λ p q. absurd cc))
+  may_variable t (Some shape.Set) e = inr (not_made _ e (λ p q. absurd cc))
+  may_variable t (Some (shape.Array i u)) e = inr (not_made _ e (λ p q. absurd cc))
+  may_variable t (Some (shape.Record fs)) e = inr (not_made _ e (λ p q. absurd cc))
+  may_variable t (Some (shape.Open u)) e = inr (not_made _ e (λ p q. absurd cc))
+
+  may_or_not : (x : Thing) → MayCall x ⊎ (MayCall x → ⊥)
+  may_or_not (AVariable t) = may_variable t (shape_at s.types t) refl
+  may_or_not (AProcedure h) = inl (may_routine (heads_procedure h))
+  may_or_not (ANested h) = inl (may_routine (heads_nested h))
+  may_or_not (AStandard p) = inl (may_standard p)
+  may_or_not (AValue k) = inr (no_call_of (λ h w. elim w [ ]) (λ p q. absurd cc))
+  may_or_not (AnOpenArray t) = inr (no_call_of (λ h w. elim w [ ]) (λ p q. absurd cc))
+  may_or_not (AType t) = inr (no_call_of (λ h w. elim w [ ]) (λ p q. absurd cc))
+  may_or_not (AModule k) = inr (no_call_of (λ h w. elim w [ ]) (λ p q. absurd cc))
+  may_or_not Headless = inr (no_call_of (λ h w. elim w [ ]) (λ p q. absurd cc))
+
+  headed_may : {x : Thing} {p : Signature} → HasHeading s.types x p → MayCall x
+  headed_may (of_procedure {h = h} m) = may_routine (heads_procedure h)
+  headed_may (of_nested {h = h} m) = may_routine (heads_nested h)
+  headed_may (of_variable {t = t} m) = may_routine (heads_variable t m)
+
+  function_may : {x : Thing} {n : ℕ} → IsFunctionOf s.types x n → MayCall x
+  function_may (declared h e) = headed_may h
+  function_may (standard {f = p} e) = may_standard p
+
+  calls_may : {x : Thing} {xs : List Expr} {k : Kind} → C x xs k → MayCall x
+  calls_may (rules.of_function h e a) = headed_may h
+  calls_may (rules.of_one {f = p} m a) = may_standard p
+  calls_may (rules.of_type {f = p} h n b) = may_standard p
+  calls_may (rules.converted h n m c) = may_standard _
+  calls_may (rules.greatest_index h) = may_standard _
+
+  uncalled : {x : Thing} {xs : List Expr} (at : Pos) (f : Fault) → (MayCall x → ⊥) → M at x xs f → NoCall at x f
+  uncalled at _ n (rules.no_function q m) = (n, (q, refl))
+  uncalled at _ n (rules.wrong_count i m) = absurd (n (function_may i))
+  uncalled at f n (rules.mispassed h e c b m z) = absurd (n (headed_may h))
+  uncalled at f n (rules.no_value {p = p} t m z) = absurd (n (may_standard p))
+  uncalled at f n (rules.misapplied {p = p} i m z) = absurd (n (may_standard p))
+  uncalled at _ n (rules.no_type {p = p} t m z) = absurd (n (may_standard p))
+  uncalled at f n (rules.misconverted m z q r) = absurd (n (may_standard _))
+  uncalled at _ n (rules.no_open_array m z q) = absurd (n (may_standard _))
+
+  called_answer : (at : Pos) (xs : List Expr) (c : Called) (x : Thing) → IsCallee c x → ((y : Expr) → Among y xs → IsPlain y) → ((y : Expr) → Among y xs → Found y) → So at x xs (called_as g s at (map (meant g) xs) c)
+  called_answer at xs _ x (callee_routine c w) i h = routine_calls at xs c w i h
+  called_answer at xs _ _ (callee_standard p) i h = standard_answers g j lawful names exports s p at xs i h
+
+  -- a call of what a designator stands for
+  pub calls_answer : {D : Thing → Type 0} {F : Fault → Type 0} {d : Result Designated (Meaningless g.Reported)} (at : Pos) (xs : List Expr) → Finds g j lawful E D F d → ((y : Expr) → Among y xs → IsPlain y) → ((y : Expr) → Among y xs → Found y)
+      → Answers g j E IsKind (λ k. (x : Thing) × D x × C x xs k) (λ f. (F f ⊎ ((x : Thing) × D x × M at x xs f)) ⊎ Any xs f) (called_by g s at d (map (meant g) xs))
+  calls_answer {D = D} {F = F} at xs h i q = exact g j lawful E
+      {M = λ k. (y : Thing) × ((x : Thing) × D x × (MayCall x × (y ≡ x))) × C y xs k}
+      {N = λ k. (x : Thing) × D x × C x xs k}
+      {B = λ f. ((F f ⊎ ((x : Thing) × D x × NoCall at x f)) ⊎ ((y : Thing) × ((x : Thing) × D x × (MayCall x × (y ≡ x))) × M at y xs f)) ⊎ Any xs f}
+      {C = λ f. (F f ⊎ ((x : Thing) × D x × M at x xs f)) ⊎ Any xs f}
+      (λ k z. (z.0, subst D (sym z.1.2.1) z.1.1, z.2)) (λ k z. (z.0, (z.0, z.1, (calls_may z.2, refl)), z.2)) (λ f z. out f z) (λ f z. into f z)
+      (ahead_answers g j lawful E {N = λ y k. C y xs k} {D = λ y f. M at y xs f} (heading_answers g j lawful E {N = λ x y. MayCall x × (y ≡ x)} {D = λ x f. NoCall at x f} h (callee_answers at) (λ y m. no_call_of (λ h w. elim w [ ]) (λ p q. absurd cc) m.0) (λ f z. z.1.0 refl))
+      (look_tells g j lawful names exports s xs q) (λ c y e. called_answer at xs c y e i q))
+    where
+      out : (f : Fault) → ((F f ⊎ ((x : Thing) × D x × NoCall at x f)) ⊎ ((y : Thing) × ((x : Thing) × D x × (MayCall x × (y ≡ x))) × M at y xs f)) ⊎ Any xs f → (F f ⊎ ((x : Thing) × D x × M at x xs f)) ⊎ Any xs f
+      out f (inl (inl (inl b))) = inl (inl b)
+      out f (inl (inl (inr (x, m, (n, (z, e)))))) = inl (inr (x, m, subst (M at x xs) (sym e) (rules.no_function z (λ k w. n (function_may w)))))
+      out f (inl (inr (y, (x, m, (c, e)), z))) = inl (inr (y, subst D (sym e) m, z))
+      out f (inr a) = inr a
+
+      by : (f : Fault) (x : Thing) → D x → M at x xs f → MayCall x ⊎ (MayCall x → ⊥) → ((F f ⊎ ((x : Thing) × D x × NoCall at x f)) ⊎ ((y : Thing) × ((x : Thing) × D x × (MayCall x × (y ≡ x))) × M at y xs f)) ⊎ Any xs f
+      by f x m z (inl c) = inl (inr (x, (x, m, (c, refl)), z))
+      by f x m z (inr n) = inl (inl (inr (x, m, uncalled at f n z)))
+
+      into : (f : Fault) → (F f ⊎ ((x : Thing) × D x × M at x xs f)) ⊎ Any xs f → ((F f ⊎ ((x : Thing) × D x × NoCall at x f)) ⊎ ((y : Thing) × ((x : Thing) × D x × (MayCall x × (y ≡ x))) × M at y xs f)) ⊎ Any xs f
+      into f (inl (inl b)) = inl (inl (inl b))
+      into f (inl (inr (x, m, z))) = by f x m z (may_or_not x)
+      into f (inr a) = inr a
