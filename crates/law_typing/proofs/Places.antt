@@ -87,7 +87,7 @@ module _ (g : Gathers) where
   layer_at : (e : Expr) (y : Expr-F Expr Selector Designator Item) → out-Expr e ≡ y → (expr_layer g (opened g y)).fixed.at ≡ first_of y → (meant g e).fixed.at ≡ first e
   layer_at e y h p = ap (λ (m : Meant g.Reported). m.fixed.at) (meant_is g e y h) ∙ p ∙ sym (first_is e y h)
 
-  head_at : (d : Designator) → (head g d).fixed.at ≡ (out-Designator d).name.pos
+  pub head_at : (d : Designator) → (head g d).fixed.at ≡ (out-Designator d).name.pos
   head_at d = ap (λ (m : Meant g.Reported). m.fixed.at) (head_is g d)
 
   -- the elaboration has the same places
