@@ -124,7 +124,8 @@ module _ (types : Types) (names : Ident → Standing) (exports : ℕ → Ident �
 
     pub data Reads : Expr-F Expr Selector Designator Item → Thing → Type 0 where
       -- A constant made of number literals alone is a number.
-      literal : {at : Pos} {n : ℕ} → Reads (layer.Number at n) (AValue (Scalar (Constant None (pos n))))
+      literal : {at : Pos} {n : ℕ}
+          → Reads (layer.Number at n) (AValue (Scalar (Constant None (pos n))))
       -- Octal digits and C are a CHAR.
       character : {at : Pos} {c : ℕ}
           → Reads (layer.Char at c) (AValue (Scalar (Constant (Some char) (pos c))))
@@ -241,9 +242,12 @@ module _ (types : Types) (names : Ident → Standing) (exports : ℕ → Ident �
         → Stands e x
         → ((r : Range) → NamesScalar types x r → ⊥)
         → Miscalled at (AStandard p) args (first e ! rule.NoType)
-    misconverted : {t e : Expr} {x : Thing} {r : Range} {k : Kind} {f : Fault} → Stands t x
-        → NamesScalar types x r → Has e k
-        → Misapplied (MayConvert (operand k)) (Converts r (operand k)) (first e) rule.WrongArgument f
+    misconverted : {t e : Expr} {x : Thing} {r : Range} {k : Kind} {f : Fault}
+        → Stands t x
+        → NamesScalar types x r
+        → Has e k
+        → Misapplied (MayConvert (operand k)) (Converts r (operand k)) (first e) rule.WrongArgument
+        f
         → Miscalled at (AStandard Val) (t ∷ e ∷ []) f
     no_open_array : {e : Expr} {x : Thing} → Stands e x → ((t : TypeNo) → x ≡ AnOpenArray t → ⊥)
         → ((f : Fault) → Mistaken (first e) x f → ⊥)

@@ -73,7 +73,8 @@ Taken types (AnOpenArray t) l = l ≡ Untaken
 Taken types (AProcedure h) l = l ≡ Procedure h
 Taken types other l = ⊥
 
--- Types and modules are no values, and neither are standard procedures and procedures of procedures.
+-- Types and modules are no values, and neither are standard procedures and procedures of
+-- procedures.
 abbrev pub Mistaken : Pos → Thing → Fault → Type 0
 Mistaken at (AType t) f = f ≡ at ! rule.WrongType
 Mistaken at (AModule k) f = f ≡ at ! rule.WrongType

@@ -136,21 +136,27 @@ mutual
   pub data IsPlain : Expr → Type 0 where
     plain_number : {e : Expr} {at : Pos} {n : ℕ} → out-Expr e ≡ layer.Number at n → IsPlain e
     plain_character : {e : Expr} {at : Pos} {c : ℕ} → out-Expr e ≡ layer.Char at c → IsPlain e
-    plain_string : {e : Expr} {at : Pos} {text : List ℕ} → out-Expr e ≡ layer.Text at text → IsPlain e
+    plain_string : {e : Expr} {at : Pos} {text : List ℕ} → out-Expr e ≡ layer.Text at text
+        → IsPlain e
     plain_name : {e : Expr} {d : Designator} → out-Expr e ≡ layer.Use d None
         → ArePlainSelectors (out-Designator d).selectors → IsPlain e
-    plain_call : {e : Expr} {d : Designator} {args : List Expr} → out-Expr e ≡ layer.Use d (Some args)
+    plain_call :
+        {e : Expr} {d : Designator} {args : List Expr} → out-Expr e ≡ layer.Use d (Some args)
         → ArePlainSelectors (out-Designator d).selectors → ArePlain args → IsPlain e
-    plain_not : {e : Expr} {at : Pos} {x : Expr} → out-Expr e ≡ layer.Not at x → IsPlain x → IsPlain e
-    plain_brackets : {e : Expr} {at : Pos} {x : Expr} → out-Expr e ≡ layer.Bracketed at x → IsPlain x
+    plain_not : {e : Expr} {at : Pos} {x : Expr} → out-Expr e ≡ layer.Not at x → IsPlain x
         → IsPlain e
-    plain_term : {e : Expr} {x : Expr} {rest : List (Operator MulOp × Expr)} → out-Expr e ≡ layer.Term x rest
-        → IsPlain x → ArePlainOperands (factors rest) → IsPlain e
-    plain_sum : {e : Expr} {sign : Option (Operator Sign)} {x : Expr} {rest : List (Operator AddOp × Expr)}
-        → out-Expr e ≡ layer.Sum sign x rest → IsPlain x → ArePlainOperands (addends rest)
+    plain_brackets : {e : Expr} {at : Pos} {x : Expr} → out-Expr e ≡ layer.Bracketed at x
+        → IsPlain x → IsPlain e
+    plain_term : {e : Expr} {x : Expr} {rest : List (Operator MulOp × Expr)}
+        → out-Expr e ≡ layer.Term x rest → IsPlain x → ArePlainOperands (factors rest) → IsPlain e
+    plain_sum : {e : Expr} {sign : Option (Operator Sign)} {x : Expr}
+        {rest : List (Operator AddOp × Expr)}
+        → out-Expr e ≡ layer.Sum sign x rest
+        → IsPlain x
+        → ArePlainOperands (addends rest)
         → IsPlain e
-    plain_relation : {e : Expr} {a b : Expr} {o : Operator RelOp} → out-Expr e ≡ layer.Relation a o b
-        → IsPlain a → IsPlain b → IsPlain e
+    plain_relation : {e : Expr} {a b : Expr} {o : Operator RelOp}
+        → out-Expr e ≡ layer.Relation a o b → IsPlain a → IsPlain b → IsPlain e
 
   pub data ArePlain : List Expr → Type 0 where
     no_expression : ArePlain []
