@@ -8,7 +8,7 @@ use Rattle.m2_tree.specs.declared.expr.AddOp.{AddOp}
 use Rattle.m2_tree.specs.declared.expr.RelOp.{RelOp}
 use Rattle.m2_tree.specs.declared.expr.Sign.{Sign}
 use Rattle.m2_tree.specs.declared.expr.Operator.{Operator}
-use Rattle.m2_tree.specs.declared.expr.Expr.{Expr, Expr-F, out-Expr, fold-Expr}
+use Rattle.m2_tree.specs.declared.expr.Expr.{Expr, Expr-F, out-Expr}
 use Rattle.m2_tree.specs.declared.expr.Expr.TheOpen as layer
 use Rattle.m2_tree.specs.declared.expr.Selector.{Selector, Selector-F, out-Selector}
 use Rattle.m2_tree.specs.declared.expr.Designator.{Designator, out-Designator}
@@ -25,50 +25,14 @@ use Rattle.check_scope.specs.declared.fault.Fault.{Fault}
 use Rattle.check_const_ops.specs.declared.operator.BinaryOp.{BinaryOp}
 use Rattle.check_const_ops.specs.declared.operator.BinaryOp.TheVariants as op
 use Rattle.check_const_ops.specs.Operators.{mul_op, add_op}
+use Rattle.def_typing.specs.Parts.{first, Operand, factors, addends, Among}
+use Rattle.def_typing.specs.Constants.{Fixed, AConstant, FixedReads, FixedFails, IsFixedPart, FixedBroken}
 use Rattle.def_typing.specs.Amounts.{Constant, Value}
 use Rattle.def_typing.specs.Operators.{◌!◌, Kind, Scalar, Text, operand, Makes, Misused, Misapplied, MaySign, SignMakes, Negates}
 use Rattle.def_typing.specs.Things.{Thing, AValue, AVariable, AnOpenArray, AStandard, Headless, Standing, Known, Misnamed, Taken, Mistaken, IsAssignable, Misassigned, Picks, Indexes}
 use Rattle.def_typing.specs.Functions.{MayApply, Applies, NamesScalar, BoundOf, MayConvert, Converts, IsOfOne, given, HasHeading, IsFunctionOf, Mispassed, IsPassed}
 
--- ---- places
-
-abbrev pub first_layer : Expr-F Pos (Unit {0}) Pos (Unit {0}) → Pos
-first_layer (layer.Number at n) = at
-first_layer (layer.Char at c) = at
-first_layer (layer.Text at t) = at
-first_layer (layer.Set None at items) = at
-first_layer (layer.Set (Some name) at items) = name.pos
-first_layer (layer.Not at e) = at
-first_layer (layer.Bracketed at e) = at
-first_layer (layer.Use d args) = d
-first_layer (layer.Term e rest) = e
-first_layer (layer.Sum None e rest) = e
-first_layer (layer.Sum (Some sign) e rest) = sign.pos
-first_layer (layer.Relation a o b) = a
-
--- the place of the first token
-unfoldable pub first : Expr → Pos
-first =
-    fold-Expr Pos (Unit {0}) Pos (Unit {0}) first_layer (λ s. tt) (λ d. d.name.pos) (λ i. tt)
-
--- ---- operators with their second operands
-
-pub record Operand : Type 0 where
-  pub op : BinaryOp
-  pub spot : Pos
-  pub of : Expr
-
-abbrev pub factors : List (Operator MulOp × Expr) → List Operand
-factors xs = map (λ x. record { op = mul_op x.0.op; spot = x.0.pos; of = x.1 }) xs
-
-abbrev pub addends : List (Operator AddOp × Expr) → List Operand
-addends xs = map (λ x. record { op = add_op x.0.op; spot = x.0.pos; of = x.1 }) xs
-
 -- ---- parts
-
-pub data Among {A : Type 0} (x : A) : List A → Type 0 where
-  here : {xs : List A} → Among x (x ∷ xs)
-  later : {y : A} {xs : List A} → Among x xs → Among x (y ∷ xs)
 
 -- an argument beside its formal
 pub data Beside (formal : Formal) (x : Expr) : List Formal → List Expr → Type 0 where
@@ -130,6 +94,10 @@ module _ (types : Types) (names : Ident → Standing) (exports : ℕ → Ident �
       character : {at : Pos} {c : ℕ}
           → Reads (layer.Char at c) (AValue (Scalar (Constant (Some char) (pos c))))
       string : {at : Pos} {text : List ℕ} → Reads (layer.Text at text) (AValue (Text text))
+      -- Sets have constant elements.
+      constant_set : {name : Option Ident} {at : Pos} {items : List Item} {k : Kind}
+          → FixedReads types names exports (layer.Set name at items) (AConstant k)
+          → Reads (layer.Set name at items) (AValue k)
       designated : {d : Designator} {x : Thing} → Denotes d x → Reads (layer.Use d None) x
       called : {d : Designator} {args : List Expr} {x : Thing} {k : Kind} → Denotes d x
           → Calls x args k → Reads (layer.Use d (Some args)) (AValue k)
@@ -275,6 +243,12 @@ module _ (types : Types) (names : Ident → Standing) (exports : ℕ → Ident �
         → Miscalled (out-Designator d).name.pos x args f → Fails (layer.Use d (Some args)) f
     no_operand : {y : Expr-F Expr Selector Designator Item} {e : Expr} {x : Thing} {f : Fault}
         → IsOperand e y → Stands e x → Mistaken (first e) x f → Fails y f
+    at_set : {name : Option Ident} {at : Pos} {items : List Item} {f : Fault}
+        → FixedFails types names exports (layer.Set name at items) f
+        → Fails (layer.Set name at items) f
+    in_set : {name : Option Ident} {at : Pos} {items : List Item} {e : Expr} {f : Fault}
+        → IsFixedPart e (layer.Set name at items) → FixedBroken types names exports e f
+        → Fails (layer.Set name at items) f
     not_boolean : {at : Pos} {e : Expr} {a : Kind} → Has e a → ((k : Kind) → Negates a k → ⊥)
         → Fails (layer.Not at e) (at ! rule.WrongType)
     in_term : {e : Expr} {rest : List (Operator MulOp × Expr)} {a : Kind} {f : Fault} → Has e a

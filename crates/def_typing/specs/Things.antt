@@ -41,6 +41,8 @@ pub data Thing : Type 0 where
 -- what a name stands for, if it stands for something
 pub data Standing : Type 0 where
   Known : Thing → Standing
+  -- a procedure of the block, before its heading
+  Ahead : Standing
   Undeclared : Standing
   NotExported : Standing
   -- rules are broken in its declaration
@@ -50,6 +52,7 @@ pub data Standing : Type 0 where
 pub data Misnamed (at : Pos) : Standing → Fault → Type 0 where
   -- Constants, types and variables are declared before use.
   undeclared : Misnamed at Undeclared (at ! rule.Undeclared)
+  not_yet : Misnamed at Ahead (at ! rule.Undeclared)
   -- A name of a module is one that the module exports.
   not_exported : Misnamed at NotExported (at ! rule.NotExported)
 

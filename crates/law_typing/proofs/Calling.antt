@@ -49,7 +49,8 @@ use Rattle.def_typing.specs.Amounts.{Constant, Value}
 use Rattle.def_typing.specs.Operators.{◌!◌, Kind, Scalar, operand, Misapplied}
 use Rattle.def_typing.specs.Things.{Thing, AValue, AVariable, AnOpenArray, AType, AProcedure, ANested, AStandard, AModule, Headless, Standing, Mistaken}
 use Rattle.def_typing.specs.Functions.{TakesOne, abs_takes, cap_takes, chr_takes, odd_takes, ord_takes, MayApply, Applies, applied, NamesScalar, names_scalar, BoundOf, greatest, smallest, MayConvert, Converts, arity, IsOfOne, of_abs, of_cap, of_chr, of_odd, of_ord, given, HasHeading, of_procedure, of_nested, of_variable, IsFunctionOf, declared, standard, Mispassed, IsPassed}
-use Rattle.def_typing.specs.Expressions.{first, Among, here, later, Beside, beside, behind, TakesValue, TakesType, Stands, Has, Calls, ArePassed, no_more, one_more, Miscalled, BrokenAsValue, broken, mistaken}
+use Rattle.def_typing.specs.Parts.{first, Among, here, later}
+use Rattle.def_typing.specs.Expressions.{Beside, beside, behind, TakesValue, TakesType, Stands, Has, Calls, ArePassed, no_more, one_more, Miscalled, BrokenAsValue, broken, mistaken}
 use Rattle.def_typing.specs.Expressions as rules
 use Rattle.law_typing.specs.Judging.{Judges, Answers, means, refuses}
 use Rattle.law_typing.specs.Exact.{IsKind, kind_constant, kind_scalar, IsThing, thing_value, thing_variable, thing_open, thing_type, thing_procedure, thing_nested, thing_standard, thing_module, IsPlain}

@@ -17,7 +17,8 @@ use Rattle.check_operator.specs.declared.computed.Designated.{Designated}
 use Rattle.check_expr.specs.Meanings.{Meant, meant, value_of, taken_at, of_computed, expr_layer, looked_at, with_look}
 use Rattle.def_typing.specs.Operators.{Kind}
 use Rattle.def_typing.specs.Things.{Thing, AValue, Standing, Taken, Mistaken}
-use Rattle.def_typing.specs.Expressions.{first, Among, here, later, IsOperand, IsPart, an_operand, Stands, as_written, Has, taken, Reads, Fails, no_operand, Broken, fails, inside, BrokenAsValue, broken, mistaken}
+use Rattle.def_typing.specs.Parts.{first, Among, here, later}
+use Rattle.def_typing.specs.Expressions.{IsOperand, IsPart, an_operand, Stands, as_written, Has, taken, Reads, Fails, no_operand, Broken, fails, inside, BrokenAsValue, broken, mistaken}
 use Rattle.law_typing.specs.Judging.{Judges, Answers}
 use Rattle.law_typing.specs.Exact.{IsKind, Knows, Repeats, IsPlain}
 use Rattle.law_typing.proofs.Combining.{Lawful, exact, Finds, finds_as, computed_finds, heading_tells, Tells, silent, tells_as, beside_tells}

@@ -226,12 +226,12 @@ pub data IsProcedural : Kind → Type 0 where
   procedural : {t : TypeNo} → IsProcedural (Procedure t)
 
 module _ (types : Types) (op : BinaryOp) where
-  nothing_left : {a b : Kind} → IsNothing a → AreOperands types op a b → ⊥
+  pub nothing_left : {a b : Kind} → IsNothing a → AreOperands types op a b → ⊥
   nothing_left nothing_text (rules.routines e r) = elim r [ ]
   nothing_left nothing_whole (rules.routines e r) = elim r [ ]
   nothing_left nothing_untaken (rules.routines e r) = elim r [ ]
 
-  scalar_nothing : {a : Amount} {b : Kind} → IsNothing b → AreOperands types op (Scalar a) b → ⊥
+  pub scalar_nothing : {a : Amount} {b : Kind} → IsNothing b → AreOperands types op (Scalar a) b → ⊥
   scalar_nothing nothing_text (rules.routines e r) = elim r [ ]
   scalar_nothing nothing_whole (rules.routines e r) = elim r [ ]
   scalar_nothing nothing_untaken (rules.routines e r) = elim r [ ]
@@ -240,7 +240,7 @@ module _ (types : Types) (op : BinaryOp) where
   scalar_procedural procedural_value (rules.routines e r) = elim r [ ]
   scalar_procedural procedural (rules.routines e r) = elim r [ ]
 
-  set_nothing : {m : Option ℕ} {b : Kind} → IsNothing b → AreOperands types op (Set m) b → ⊥
+  pub set_nothing : {m : Option ℕ} {b : Kind} → IsNothing b → AreOperands types op (Set m) b → ⊥
   set_nothing nothing_text (rules.routines e r) = elim r [ ]
   set_nothing nothing_whole (rules.routines e r) = elim r [ ]
   set_nothing nothing_untaken (rules.routines e r) = elim r [ ]
@@ -249,7 +249,7 @@ module _ (types : Types) (op : BinaryOp) where
   set_procedural procedural_value (rules.routines e r) = elim r [ ]
   set_procedural procedural (rules.routines e r) = elim r [ ]
 
-  set_scalar : {m : Option ℕ} {b : Amount} → AreOperands types op (Set m) (Scalar b) → ⊥
+  pub set_scalar : {m : Option ℕ} {b : Amount} → AreOperands types op (Set m) (Scalar b) → ⊥
   set_scalar (rules.routines e r) = elim r [ ]
 
   procedures_only : {a b : Kind} → IsProcedural a → AreOperands types op a b → IsEquality op × AreRoutines types a b
@@ -352,10 +352,10 @@ module _ (g : Gathers) (j : Judges g) (lawful : Lawful g j) (O : Fault → Type 
   abbrev pub Joins : Kind → Kind → Result Computed g.Reported → Type 0
   Joins a b r = Answers g j O IsKind (Makes types op a b) (Misused types op spot left right a b) r
 
-  no_joining : {a b : Kind} → (AreOperands types op a b → ⊥) → Joins a b (reported g spot rule.WrongType)
+  pub no_joining : {a b : Kind} → (AreOperands types op a b → ⊥) → Joins a b (reported g spot rule.WrongType)
   no_joining n = declined g j lawful O spot rule.WrongType (λ c m. n (operands_of types op m)) (rules.unfit n) (λ f m. only_unfit types op spot left right f n m)
 
-  scalars_join : {a b : Amount} {r : Result Computed g.Reported} → Answers g j O IsScalar (Gives op a b) (Wrongly op spot left right a b) r → Joins (Scalar a) (Scalar b) r
+  pub scalars_join : {a b : Amount} {r : Result Computed g.Reported} → Answers g j O IsScalar (Gives op a b) (Wrongly op spot left right a b) r → Joins (Scalar a) (Scalar b) r
   scalars_join (means v c i m u n) = means v (Scalar c) i (rules.scalar m) (λ d x. let y = scalars_make types op x in y.2 ∙ ap Scalar (u y.0 y.1)) (λ f x. n f (scalars_misused types op spot left right f x))
   scalars_join (refuses r a n) = refuses r (record { only = λ f m. elim (a.only f m) [ inl w ↦ inl (wrongly_used types op spot left right f w) | inr o ↦ inr o ]; each = λ f m. a.each f (scalars_misused types op spot left right f m) })
       (λ c x. let y = scalars_make types op x in n y.0 y.1)
@@ -413,7 +413,7 @@ module _ (g : Gathers) (j : Judges g) (lawful : Lawful g j) (O : Fault → Type 
   tests_first true false v = refl
   tests_first false c v = refl
 
-  constant_member_joins : (a : Ordinal) (bits : ℕ) → Joins (Scalar (Constant a.sort a.number)) (Set (Some bits)) (of_value (sets.member g op spot left a bits))
+  pub constant_member_joins : (a : Ordinal) (bits : ℕ) → Joins (Scalar (Constant a.sort a.number)) (Set (Some bits)) (of_value (sets.member g op spot left a bits))
   constant_member_joins a bits = by_op op refl
     where
       not_in : (IsMembership op → ⊥) → Joins (Scalar (Constant a.sort a.number)) (Set (Some bits)) (reported g spot rule.WrongType)
@@ -440,7 +440,7 @@ module _ (g : Gathers) (j : Judges g) (lawful : Lawful g j) (O : Fault → Type 
       by_op (Relation rel.AtLeast) e = not_in (λ i. elim (subst IsMembership e i) [ ])
       by_op (Relation rel.In) e = is_member (subst IsMembership (sym e) rules.by_in)
 
-  constant_sets_join : (a b : ℕ) → Joins (Set (Some a)) (Set (Some b)) (of_value (sets.on_sets g op spot a b))
+  pub constant_sets_join : (a b : ℕ) → Joins (Set (Some a)) (Set (Some b)) (of_value (sets.on_sets g op spot a b))
   constant_sets_join a b = by_op op refl
     where
       neither : (IsCombining op → ⊥) → (IsSetRelation op → ⊥) → Joins (Set (Some a)) (Set (Some b)) (reported g spot rule.WrongType)

@@ -15,3 +15,6 @@ pub mod Finding
 pub mod Calling
 pub mod Routines
 pub mod Expressing
+pub mod Fixing
+pub mod Elements
+pub mod Constants

@@ -39,7 +39,8 @@ use Rattle.def_typing.specs.Shapes.{shape_at, IsMade}
 use Rattle.def_typing.specs.Operators.{◌!◌, Kind}
 use Rattle.def_typing.specs.Things.{Thing, AValue, AVariable, AnOpenArray, AType, AProcedure, ANested, AStandard, AModule, Headless, Standing}
 use Rattle.def_typing.specs.Functions.{given, HasHeading, of_procedure, of_nested, of_variable, IsFunctionOf, declared, standard, Mispassed, IsPassed}
-use Rattle.def_typing.specs.Expressions.{first, Among, here, later, Beside, beside, behind, Stands, Calls, ArePassed, no_more, one_more, Miscalled}
+use Rattle.def_typing.specs.Parts.{first, Among, here, later}
+use Rattle.def_typing.specs.Expressions.{Beside, beside, behind, Stands, Calls, ArePassed, no_more, one_more, Miscalled}
 use Rattle.def_typing.specs.Expressions as rules
 use Rattle.law_typing.specs.Judging.{Judges, Answers, means, refuses}
 use Rattle.law_typing.specs.Exact.{IsKind, IsThing, thing_value, thing_variable, thing_open, thing_type, thing_procedure, thing_nested, thing_standard, thing_module, IsPlain}

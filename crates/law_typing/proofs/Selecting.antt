@@ -39,7 +39,7 @@ use Rattle.check_operator.specs.Values.{designated_by, local_by}
 use Rattle.check_expr.specs.Meanings.{named, member_of, field_of, field_at, index_at}
 use Rattle.def_typing.specs.Shapes.{shape_at, IsMade}
 use Rattle.def_typing.specs.Operators.{◌!◌, Kind, operand}
-use Rattle.def_typing.specs.Things.{Thing, AValue, AVariable, AnOpenArray, AType, AProcedure, ANested, AStandard, AModule, Headless, Standing, Known, Undeclared, NotExported, Unknown, Misnamed, undeclared, not_exported, IsAssignable, Misassigned, Picks, of_module, of_record, Indexes, of_array, of_open}
+use Rattle.def_typing.specs.Things.{Thing, AValue, AVariable, AnOpenArray, AType, AProcedure, ANested, AStandard, AModule, Headless, Standing, Known, Ahead, Undeclared, NotExported, Unknown, Misnamed, undeclared, not_yet, not_exported, IsAssignable, Misassigned, Picks, of_module, of_record, Indexes, of_array, of_open}
 use Rattle.def_typing.specs.Things as things
 use Rattle.law_typing.specs.Judging.{Judges, Answers, means, refuses}
 use Rattle.law_typing.specs.Exact.{kind_of, IsKind, kind_constant, IsThing, thing_value, thing_variable, thing_open, thing_type, thing_procedure, thing_nested, thing_standard, thing_module, of_local, standing, Sees, sees, sees_nothing, sees_headless, sees_unknown, Exports, has_exported, has_nothing, Knows, Repeats, of_heading, of_declaration}
@@ -73,6 +73,9 @@ module _ (g : Gathers) (j : Judges g) (lawful : Lawful g j) (O : Fault → Type 
   only_undeclared : (f : Fault) → Misnamed at Undeclared f → f ≡ at ! rule.Undeclared
   only_undeclared _ undeclared = refl
 
+  only_ahead : (f : Fault) → Misnamed at Ahead f → f ≡ at ! rule.Undeclared
+  only_ahead _ not_yet = refl
+
   only_not_exported : (f : Fault) → Misnamed at NotExported f → f ≡ at ! rule.NotExported
   only_not_exported _ not_exported = refl
 
@@ -84,7 +87,7 @@ module _ (g : Gathers) (j : Judges g) (lawful : Lawful g j) (O : Fault → Type 
   designated_answers (meaning.Field f) = names_it (thing_variable f.of _)
   designated_answers (meaning.Procedure p) = names_it (thing_procedure p)
   designated_answers (meaning.LocalProcedure p) = names_it (thing_nested _)
-  designated_answers meaning.Ahead = declined g j lawful O at rule.Undeclared (λ x e. absurd cc) undeclared only_undeclared
+  designated_answers meaning.Ahead = declined g j lawful O at rule.Undeclared (λ x e. absurd cc) not_yet only_ahead
   designated_answers (meaning.Standard f) = names_it (thing_standard f)
   designated_answers (meaning.Module k) = names_it (thing_module k)
 

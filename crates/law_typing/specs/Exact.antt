@@ -12,6 +12,7 @@ use Rattle.m2_tree.specs.declared.expr.Expr.{Expr, out-Expr}
 use Rattle.m2_tree.specs.declared.expr.Expr.TheOpen as layer
 use Rattle.m2_tree.specs.declared.expr.Selector.{Selector, out-Selector}
 use Rattle.m2_tree.specs.declared.expr.Designator.{Designator, out-Designator}
+use Rattle.m2_tree.specs.declared.expr.Item.{Item, out-Item}
 use Rattle.typed_tree.specs.declared.types.TypeNo.{TypeNo}
 use Rattle.typed_tree.specs.declared.computed.TypedExpr.{TypedExpr}
 use Rattle.typed_tree.specs.declared.computed.LocalProcedure.{LocalProcedure}
@@ -43,8 +44,9 @@ use Rattle.check_operator.specs.declared.computed.Designated.TheVariants as desi
 use Rattle.check_expr.specs.Meanings.{meant, value_of}
 use Rattle.def_typing.specs.Amounts.{Amount, Constant, Value}
 use Rattle.def_typing.specs.Operators.{◌!◌, Kind, Scalar, Set, Text, Routine, Procedure, Whole, Untaken}
-use Rattle.def_typing.specs.Things.{Thing, AValue, AVariable, AnOpenArray, AType, AProcedure, ANested, AStandard, AModule, Headless, Standing, Known, Undeclared, NotExported, Unknown}
-use Rattle.def_typing.specs.Expressions.{Has, BrokenAsValue, Operand, factors, addends}
+use Rattle.def_typing.specs.Things.{Thing, AValue, AVariable, AnOpenArray, AType, AProcedure, ANested, AStandard, AModule, Headless, Standing, Known, Ahead, Undeclared, NotExported, Unknown}
+use Rattle.def_typing.specs.Parts.{Operand, factors, addends}
+use Rattle.def_typing.specs.Expressions.{Has, BrokenAsValue}
 use Rattle.law_typing.specs.Judging.{Judges, Answers}
 
 -- ---- what is elaborated
@@ -91,8 +93,7 @@ standing (meaning.Local v) = of_local v.of v.kind
 standing (meaning.Field f) = Known (AVariable f.of)
 standing (meaning.Procedure p) = Known (AProcedure p.heading)
 standing (meaning.LocalProcedure p) = Known (ANested p.heading)
--- a procedure of the block, before its heading
-standing meaning.Ahead = Undeclared
+standing meaning.Ahead = Ahead
 standing (meaning.Standard f) = Known (AStandard f)
 standing (meaning.Module k) = Known (AModule k)
 
@@ -130,7 +131,41 @@ module _ (g : Gathers) (j : Judges g) where
       Answers g j (Repeats names s) IsKind (Has s.types names exports e)
       (BrokenAsValue s.types names exports e) (value_of g s (meant g e))
 
--- ---- expressions without braces
+-- ---- expressions in whose braces nothing is called
+
+mutual
+  pub data IsCallFree : Expr → Type 0 where
+    free_number : {e : Expr} {at : Pos} {n : ℕ} → out-Expr e ≡ layer.Number at n → IsCallFree e
+    free_character : {e : Expr} {at : Pos} {c : ℕ} → out-Expr e ≡ layer.Char at c → IsCallFree e
+    free_string : {e : Expr} {at : Pos} {text : List ℕ} → out-Expr e ≡ layer.Text at text
+        → IsCallFree e
+    free_set : {e : Expr} {name : Option Ident} {at : Pos} {items : List Item}
+        → out-Expr e ≡ layer.Set name at items → AreCallFree items → IsCallFree e
+    free_name : {e : Expr} {d : Designator} → out-Expr e ≡ layer.Use d None → IsCallFree e
+    free_not : {e : Expr} {at : Pos} {x : Expr} → out-Expr e ≡ layer.Not at x → IsCallFree x
+        → IsCallFree e
+    free_brackets : {e : Expr} {at : Pos} {x : Expr} → out-Expr e ≡ layer.Bracketed at x
+        → IsCallFree x → IsCallFree e
+    free_term : {e : Expr} {x : Expr} {rest : List (Operator MulOp × Expr)}
+        → out-Expr e ≡ layer.Term x rest → IsCallFree x → AreCallFreeOperands (factors rest)
+        → IsCallFree e
+    free_sum : {e : Expr} {sign : Option (Operator Sign)} {x : Expr}
+        {rest : List (Operator AddOp × Expr)} → out-Expr e ≡ layer.Sum sign x rest → IsCallFree x
+        → AreCallFreeOperands (addends rest) → IsCallFree e
+    free_relation : {e : Expr} {a b : Expr} {o : Operator RelOp}
+        → out-Expr e ≡ layer.Relation a o b → IsCallFree a → IsCallFree b → IsCallFree e
+
+  pub data AreCallFreeOperands : List Operand → Type 0 where
+    no_free_operand : AreCallFreeOperands []
+    one_free_operand : {x : Operand} {xs : List Operand} → IsCallFree x.of
+        → AreCallFreeOperands xs → AreCallFreeOperands (x ∷ xs)
+
+  pub data AreCallFree : List Item → Type 0 where
+    no_free_item : AreCallFree []
+    one_free_item : {i : Item} {is : List Item} → IsCallFree (out-Item i).low
+        → (out-Item i).high ≡ None → AreCallFree is → AreCallFree (i ∷ is)
+    one_free_range : {i : Item} {is : List Item} {high : Expr} → IsCallFree (out-Item i).low
+        → (out-Item i).high ≡ Some high → IsCallFree high → AreCallFree is → AreCallFree (i ∷ is)
 
 mutual
   pub data IsPlain : Expr → Type 0 where
@@ -138,6 +173,8 @@ mutual
     plain_character : {e : Expr} {at : Pos} {c : ℕ} → out-Expr e ≡ layer.Char at c → IsPlain e
     plain_string : {e : Expr} {at : Pos} {text : List ℕ} → out-Expr e ≡ layer.Text at text
         → IsPlain e
+    plain_set : {e : Expr} {name : Option Ident} {at : Pos} {items : List Item}
+        → out-Expr e ≡ layer.Set name at items → AreCallFree items → IsPlain e
     plain_name : {e : Expr} {d : Designator} → out-Expr e ≡ layer.Use d None
         → ArePlainSelectors (out-Designator d).selectors → IsPlain e
     plain_call :
@@ -175,7 +212,7 @@ mutual
         → out-Selector s ≡ layer.Index at x → IsPlain x → ArePlainSelectors ss
         → ArePlainSelectors (s ∷ ss)
 
--- Expressions without braces are answered exactly, whatever their names stand for.
+-- Such expressions are answered exactly, whatever their names stand for.
 abbrev pub ExpressionsAreExact : (g : Gathers) → Judges g → Type 0
 ExpressionsAreExact g j =
     (names : Ident → Standing) (exports : ℕ → Ident → Standing) (s : Scope g.Reported)
