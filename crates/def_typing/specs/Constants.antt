@@ -109,6 +109,12 @@ pub data IsFixedPart : Expr → Expr-F Expr Selector Designator Item → Type 0 
   in_element : {name : Option Ident} {at : Pos} {items : List Item} {i : Item} {e : Expr}
       → Among i items → IsBound e (out-Item i) → IsFixedPart e (layer.Set name at items)
 
+-- the refusals at the name of a set's type
+pub data Misset (at : Pos) : Standing → Fault → Type 0 where
+  no_name : {s : Standing} {f : Fault} → FixedMisnamed at s f → Misset at s f
+  no_set_type : {x : Thing} → (x ≡ AType bitset → ⊥) → Misset at (Known x) (at ! rule.NoType)
+  no_type_yet : Misset at Ahead (at ! rule.NoType)
+
 -- ---- what constant expressions are
 
 module _ (types : Types) (names : Ident → Standing) (exports : ℕ → Ident → Standing) where
@@ -200,12 +206,6 @@ module _ (types : Types) (names : Ident → Standing) (exports : ℕ → Ident �
     empty : {high : Expr} {s t u : Option TypeNo} {n m : ℤ} → i.high ≡ Some high
         → HasNumber i.low s n → HasNumber high t m → GoTogether s t u → int_lt m n ≡ true
         → ItemFails i (first i.low ! rule.EmptyRange)
-
-  -- the refusals at the name of a set's type
-  pub data Misset (at : Pos) : Standing → Fault → Type 0 where
-    no_name : {s : Standing} {f : Fault} → FixedMisnamed at s f → Misset at s f
-    no_set_type : {x : Thing} → (x ≡ AType bitset → ⊥) → Misset at (Known x) (at ! rule.NoType)
-    no_type_yet : Misset at Ahead (at ! rule.NoType)
 
   pub data FixedFails : Expr-F Expr Selector Designator Item → Fault → Type 0 where
     fixed_at_name : {d : Designator} {f : Fault}

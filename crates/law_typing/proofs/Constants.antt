@@ -1,6 +1,6 @@
 -- Constant expressions without calls are answered exactly, layer by layer.
 use Rattle.std.proofs.Common.{◌≡◌, ℕ, ℤ, pos, Bool, true, false, not, cond, List, [], ◌∷◌, Option, Some, None, Result, Ok, Err, ◌⊎◌, inl, inr, refl, sym, ap, subst, ◌∙◌}
-use Rattle.std.specs.Prelude.{map, bit_or}
+use Rattle.std.specs.Prelude.{map, int_lt, bit_or}
 use Rattle.std.specs.List.{fold}
 use Rattle.m2_rule.specs.declared.rule.Rule.TheVariants as rule
 use Rattle.m2_tree.specs.declared.pos.Pos.{Pos}
@@ -432,3 +432,277 @@ module _ (g : Gathers) (j : Judges g) (lawful : Lawful g j) (names : Ident → S
       fails_out _ (inl (rules.no_element {e = x} {sort = sort} {n = n} b m w)) = fails_by x _ (low_only b) (inr ((sort, n), it_has m, (w, refl)))
       fails_out _ (inl (rules.unlike q m n z)) = absurd (not_both e q)
       fails_out _ (inl (rules.empty q m n t z)) = absurd (not_both e q)
+
+  abbrev Numbers : L → Expr → (Option TypeNo × ℤ) × (Option TypeNo × ℤ) → Type 0
+  Numbers l high q = Number l.low q.0 × Number high q.1
+
+  abbrev RangeSo : L → Expr → ℕ → Type 0
+  RangeSo l high bits = (q : (Option TypeNo × ℤ) × (Option TypeNo × ℤ)) × Numbers l high q × ((Within (pos 0) q.0.1 (pos 31) × Within (pos 0) q.1.1 (pos 31)) × ((((u : Option TypeNo) × GoTogether q.0.0 q.1.0 u) × (int_lt q.1.1 q.0.1 ≡ true → ⊥)) × (bits ≡ with_span 0 q.0.1 q.1.1)))
+
+  abbrev OutOfSet : Expr → Fault → Type 0
+  OutOfSet x f = (p : Option TypeNo × ℤ) × Number x p × ((Within (pos 0) p.1 (pos 31) → ⊥) × (f ≡ first x ! rule.OutOfRange))
+
+  abbrev Disordered : L → Expr → Fault → Type 0
+  Disordered l high f = (q : (Option TypeNo × ℤ) × (Option TypeNo × ℤ)) × Numbers l high q × ((((u : Option TypeNo) → GoTogether q.0.0 q.1.0 u → ⊥) × (f ≡ first high ! rule.WrongType)) ⊎ (((u : Option TypeNo) × GoTogether q.0.0 q.1.0 u) × ((int_lt q.1.1 q.0.1 ≡ true) × (f ≡ first l.low ! rule.EmptyRange))))
+
+  abbrev RangeBreaks : L → Expr → Fault → Type 0
+  RangeBreaks l high f = (NumberFails l.low f ⊎ NumberFails high f) ⊎ ((OutOfSet l.low f ⊎ OutOfSet high f) ⊎ Disordered l high f)
+
+  abbrev spanned_at : L → Expr → Pos → Pos → Result ℕ g.Reported
+  spanned_at l high at at' = spanned g at (constants.element_of g (meant g l.low).fixed.at (constants.constant g s (meant g l.low).fixed)) at' (constants.element_of g (meant g high).fixed.at (constants.constant g s (meant g high).fixed))
+
+  range_item_answers : (l : L) (high : Expr) → IsCallFree l.low → FixedFound l.low → IsCallFree high → FixedFound high → l.high ≡ Some high → Answers g j O IsSame (Adds s.types names exports l) (ItemBreaks l) (spanned_at l high (meant g l.low).fixed.at (meant g high).fixed.at)
+  range_item_answers l high i h k q e = subst (λ (at : Pos). Answers g j O IsSame (Adds s.types names exports l) (ItemBreaks l) (spanned_at l high at (meant g high).fixed.at)) (sym (free_at g i))
+      (subst (λ (at : Pos). Answers g j O IsSame (Adds s.types names exports l) (ItemBreaks l) (spanned_at l high (first l.low) at)) (sym (free_at g k))
+      (exact g j lawful O into (λ bits a. out a) fails_in (λ f b. fails_out b) (range_answers g j lawful O (first l.low) (first high) (number_at i h) (number_at k q))))
+    where
+      into : (bits : ℕ) → RangeSo l high bits → Adds s.types names exports l bits
+      into bits (p, (m, n), ((w, v), ((t, o), c))) = subst (Adds s.types names exports l) (sym c) (rules.range e (has_it p.0 m) (has_it p.1 n) w v t.1 o)
+
+      out_of : {x : Expr} {sort sort' u : Option TypeNo} {n m : ℤ} → x ≡ high → HasNumber s.types names exports l.low sort n → HasNumber s.types names exports x sort' m → Within (pos 0) n (pos 31) → Within (pos 0) m (pos 31) → GoTogether sort sort' u → (int_lt m n ≡ true → ⊥) → RangeSo l high (with_span 0 n m)
+      out_of {sort = sort} {sort' = sort'} {u = u} {n = n} {m = m} c a b w v t o = (((sort, n), (sort', m)), (it_has a, subst (λ (x : Expr). Number x (sort', m)) c (it_has b)), ((w, v), (((u, t), o), refl)))
+
+      out : {bits : ℕ} → Adds s.types names exports l bits → RangeSo l high bits
+      out (rules.single c m w) = absurd (not_both c e)
+      out (rules.range c m n w v t o) = out_of (same_some c e) m n w v t o
+
+      out_of_set : {x : Expr} (f : Fault) → IsBound x l → OutOfSet x f → ItemBreaks l f
+      out_of_set f b (p, m, (n, c)) = inl (subst (ItemFails s.types names exports l) (sym c) (rules.no_element b (has_it p m) n))
+
+      fails_in : (f : Fault) → RangeBreaks l high f → ItemBreaks l f
+      fails_in f (inl (inl b)) = bound_fails f i h (low_bound refl) b
+      fails_in f (inl (inr b)) = bound_fails f k q (high_bound e) b
+      fails_in f (inr (inl (inl b))) = out_of_set f (low_bound refl) b
+      fails_in f (inr (inl (inr b))) = out_of_set f (high_bound e) b
+      fails_in f (inr (inr (p, (m, n), inl (t, c)))) = inl (subst (ItemFails s.types names exports l) (sym c) (rules.unlike e (has_it p.0 m) (has_it p.1 n) t))
+      fails_in f (inr (inr (p, (m, n), inr (t, (o, c))))) = inl (subst (ItemFails s.types names exports l) (sym c) (rules.empty e (has_it p.0 m) (has_it p.1 n) t.1 o))
+
+      -- which of both bounds it is
+      number_of_bound : {x : Expr} (f : Fault) → IsBound x l → NumberFails x f → RangeBreaks l high f
+      number_of_bound f (low_bound c) b = inl (inl (subst (λ (x : Expr). NumberFails x f) (sym c) b))
+      number_of_bound f (high_bound c) b = inl (inr (subst (λ (x : Expr). NumberFails x f) (same_some c e) b))
+
+      set_of_bound : {x : Expr} (f : Fault) → IsBound x l → OutOfSet x f → RangeBreaks l high f
+      set_of_bound f (low_bound c) b = inr (inl (inl (subst (λ (x : Expr). OutOfSet x f) (sym c) b)))
+      set_of_bound f (high_bound c) b = inr (inl (inr (subst (λ (x : Expr). OutOfSet x f) (same_some c e) b)))
+
+      unlike_by : {x : Expr} {sort sort' : Option TypeNo} {n m : ℤ} → x ≡ high → HasNumber s.types names exports l.low sort n → HasNumber s.types names exports x sort' m → ((u : Option TypeNo) → GoTogether sort sort' u → ⊥) → RangeBreaks l high (first x ! rule.WrongType)
+      unlike_by {x = x} {sort = sort} {sort' = sort'} {n = n} {m = m} c a b t = inr (inr (((sort, n), (sort', m)), (it_has a, subst (λ (x : Expr). Number x (sort', m)) c (it_has b)), inl (t, ap (λ (x : Expr). first x ! rule.WrongType) c)))
+
+      empty_by : {x : Expr} {sort sort' u : Option TypeNo} {n m : ℤ} → x ≡ high → HasNumber s.types names exports l.low sort n → HasNumber s.types names exports x sort' m → GoTogether sort sort' u → int_lt m n ≡ true → RangeBreaks l high (first l.low ! rule.EmptyRange)
+      empty_by {sort = sort} {sort' = sort'} {u = u} {n = n} {m = m} c a b t o = inr (inr (((sort, n), (sort', m)), (it_has a, subst (λ (x : Expr). Number x (sort', m)) c (it_has b)), inr ((u, t), (o, refl))))
+
+      fails_out : {f : Fault} → ItemBreaks l f → RangeBreaks l high f
+      fails_out {f = f} (inr (x, b, c)) = number_of_bound f b (inl c)
+      fails_out (inl (rules.no_number {k = k} b m n)) = number_of_bound _ b (inr (k, m, ((λ p t. n p.0 p.1 (has_number m t.0 t.1)), refl)))
+      fails_out (inl (rules.no_element {sort = sort} {n = n} b m w)) = set_of_bound _ b ((sort, n), it_has m, (w, refl))
+      fails_out (inl (rules.unlike c m n t)) = unlike_by (same_some c e) m n t
+      fails_out (inl (rules.empty c m n t o)) = empty_by (same_some c e) m n t o
+
+  -- ---- the elements of a set
+
+  item_is : (i : Item) → item g i ≡ item_layer g (opened_item (out-Item i))
+  unfolding meant picks head item
+  item_is i = fold_out-Item (Meant g.Reported) (Picks g.Reported) (Meant g.Reported) (ItemAdds g.Reported) (expr_layer g) (selector_layer g) (designator_layer g) (item_layer g) i
+
+  item_at : (i : Item) (o : Option Expr) → (out-Item i).high ≡ o → item g i s ≡ item_layer g (opened_item (record { low = (out-Item i).low; high = o })) s
+  item_at i o h = ap (λ (m : ItemAdds g.Reported). m s) (item_is i) ∙ ap (λ (o : Option Expr). item_layer g (opened_item (record { low = (out-Item i).low; high = o })) s) h
+
+  abbrev ItemSo : Item → Type 0
+  ItemSo i = Answers g j O IsSame (Adds s.types names exports (out-Item i)) (ItemBreaks (out-Item i)) (item g i s)
+
+  abbrev SetBreaks : List Item → Fault → Type 0
+  SetBreaks is f = (i : Item) × Among i is × ItemBreaks (out-Item i) f
+
+  abbrev SetSo : (ℕ → Type 0) → (Fault → Type 0) → List Item → Result ℕ g.Reported → Type 0
+  SetSo P Q is r = Answers g j O IsSame (λ b. (a : ℕ) × P a × AddUp s.types names exports a is b) (λ f. Q f ⊎ SetBreaks is f) r
+
+  bits_of : {v b : ℕ} → IsSame v b → v ≡ b
+  bits_of (is_same n) = refl
+
+  joined_answers : {P M : ℕ → Type 0} {Q C : Fault → Type 0} {r q : Result ℕ g.Reported} → Answers g j O IsSame P Q r → Answers g j O IsSame M C q
+      → Answers g j O IsSame (λ b. (p : ℕ × ℕ) × (P p.0 × M p.1) × (b ≡ bit_or p.0 p.1)) (λ f. (Q f ⊎ C f) ⊎ ((p : ℕ × ℕ) × (P p.0 × M p.1) × ⊥)) (constants.joined_bits g r q)
+  joined_answers a b = then_answer g j lawful O {N = λ p b. b ≡ bit_or p.0 p.1} {D = λ p f. ⊥} (both_answer g j lawful O a b) (λ v p i. subst (λ (n : ℕ). Answers g j O IsSame (λ b. b ≡ n) (λ f. ⊥) (Ok (bit_or v.0 v.1))) (ap (λ (n : ℕ). bit_or n v.1) (bits_of i.0) ∙ ap (λ (n : ℕ). bit_or p.0 n) (bits_of i.1)) (fine g j lawful O (bit_or v.0 v.1) (bit_or v.0 v.1) (is_same (bit_or v.0 v.1))))
+
+  items_answer : (is : List Item) {P : ℕ → Type 0} {Q : Fault → Type 0} {r : Result ℕ g.Reported} → ((i : Item) → Among i is → ItemSo i) → Answers g j O IsSame P Q r → SetSo P Q is (fold (constants.with_item g s) r (map (λ (e : ItemAdds g.Reported). e) (map (item g) is)))
+  items_answer [] {P = P} {Q = Q} h a = exact g j lawful O (λ b m. (b, m, no_item)) (λ b m. parted m.1 m.2) (λ f b. inl b) (λ f b. elim b [ inl c ↦ c | inr c ↦ elim c.1 [ ] ]) a
+    where
+      parted : {x b : ℕ} → P x → AddUp s.types names exports x [] b → P b
+      parted m no_item = m
+  items_answer (i ∷ is) {P = P} {Q = Q} h a = exact g j lawful O {N = λ b. (a : ℕ) × P a × AddUp s.types names exports a (i ∷ is) b} {C = λ f. Q f ⊎ SetBreaks (i ∷ is) f} (λ b m. into b m) (λ b m. parted m.1 m.2) (λ f z. fails_in f z) (λ f z. fails_out f z)
+      (items_answer is {P = λ b. (p : ℕ × ℕ) × (P p.0 × Adds s.types names exports (out-Item i) p.1) × (b ≡ bit_or p.0 p.1)} {Q = λ f. (Q f ⊎ ItemBreaks (out-Item i) f) ⊎ ((p : ℕ × ℕ) × (P p.0 × Adds s.types names exports (out-Item i) p.1) × ⊥)} (λ y m. h y (later m)) (joined_answers a (h i here)))
+    where
+      into : (b : ℕ) → (a : ℕ) × ((p : ℕ × ℕ) × (P p.0 × Adds s.types names exports (out-Item i) p.1) × (a ≡ bit_or p.0 p.1)) × AddUp s.types names exports a is b → (a : ℕ) × P a × AddUp s.types names exports a (i ∷ is) b
+      into b (c, (p, (m, n), e), r) = (p.0, m, one_item n (subst (λ (c : ℕ). AddUp s.types names exports c is b) e r))
+
+      parted : {x b : ℕ} → P x → AddUp s.types names exports x (i ∷ is) b → (a : ℕ) × ((p : ℕ × ℕ) × (P p.0 × Adds s.types names exports (out-Item i) p.1) × (a ≡ bit_or p.0 p.1)) × AddUp s.types names exports a is b
+      parted {x = x} m (one_item {b = c} n r) = (bit_or x c, ((x, c), (m, n), refl), r)
+
+      fails_in : (f : Fault) → ((Q f ⊎ ItemBreaks (out-Item i) f) ⊎ ((p : ℕ × ℕ) × (P p.0 × Adds s.types names exports (out-Item i) p.1) × ⊥)) ⊎ SetBreaks is f → Q f ⊎ SetBreaks (i ∷ is) f
+      fails_in f (inl (inl (inl b))) = inl b
+      fails_in f (inl (inl (inr b))) = inr (i, here, b)
+      fails_in f (inl (inr z)) = absurd z.2
+      fails_in f (inr (y, m, b)) = inr (y, later m, b)
+
+      among_of : {y : Item} (f : Fault) → Among y (i ∷ is) → ItemBreaks (out-Item y) f → ((Q f ⊎ ItemBreaks (out-Item i) f) ⊎ ((p : ℕ × ℕ) × (P p.0 × Adds s.types names exports (out-Item i) p.1) × ⊥)) ⊎ SetBreaks is f
+      among_of f here b = inl (inl (inr b))
+      among_of {y = y} f (later m) b = inr (y, m, b)
+
+      fails_out : (f : Fault) → Q f ⊎ SetBreaks (i ∷ is) f → ((Q f ⊎ ItemBreaks (out-Item i) f) ⊎ ((p : ℕ × ℕ) × (P p.0 × Adds s.types names exports (out-Item i) p.1) × ⊥)) ⊎ SetBreaks is f
+      fails_out f (inl b) = inl (inl (inl b))
+      fails_out f (inr (y, m, b)) = among_of f m b
+
+  -- ---- the name of a set's type
+
+  abbrev SetType : Pos → Standing → Result (Unit {0}) g.Reported → Type 0
+  SetType at st r = Checks g j lawful O {A = Unit {0}} (st ≡ Known (AType bitset)) (Misset at st) r
+
+  no_set : {at : Pos} (x : Thing) → (x ≡ AType bitset → ⊥) → SetType at (Known x) (reported g at rule.NoType)
+  no_set {at = at} x n = stopped g j lawful O at rule.NoType (λ e. n (known_same e)) (rules.no_set_type n) (λ f m. one m)
+    where
+      known_same : {x y : Thing} → Known x ≡ Known y → x ≡ y
+      known_same {x = x} e = ap (λ z. elim z [ Known y ↦ y | Ahead ↦ x | Undeclared ↦ x | NotExported ↦ x | Unknown ↦ x ]) e
+
+      one : {f : Fault} → Misset at (Known x) f → f ≡ at ! rule.NoType
+      one (rules.no_name m) = elim m.misnamed [ ]
+      one (rules.no_set_type n) = refl
+
+  set_local : {at : Pos} (t : TypeNo) (k : LocalKind) → SetType at (of_local t k) (reported g at rule.NoType)
+  set_local t local.Variable = no_set (AVariable t) (λ e. absurd cc)
+  set_local t local.Value = no_set (AVariable t) (λ e. absurd cc)
+  set_local t local.Alias = no_set (AVariable t) (λ e. absurd cc)
+  set_local t local.Open = no_set (AnOpenArray t) (λ e. absurd cc)
+
+  type_same : {t u : TypeNo} → AType t ≡ AType u → t ≡ u
+  type_same {t = t} e = ap (λ z. elim z [ AType y ↦ y | AValue k ↦ t | AVariable y ↦ t | AnOpenArray y ↦ t | AProcedure y ↦ t | ANested y ↦ t | AStandard f ↦ t | AModule k ↦ t | Headless ↦ t ]) e
+
+  set_type_by : {at : Pos} (t : TypeNo) (b : Bool) → Decided (t ≡ bitset) b → SetType at (Known (AType t)) (cond (not b) (reported g at rule.NoType) (Ok tt))
+  set_type_by {at = at} t _ (holds e) = passes tt (ap (λ (t : TypeNo). Known (AType t)) e) (λ f m. none m)
+    where
+      none : {f : Fault} → Misset at (Known (AType t)) f → ⊥
+      none (rules.no_name m) = elim m.misnamed [ ]
+      none (rules.no_set_type n) = n (ap AType e)
+  set_type_by t _ (fails_it n) = no_set (AType t) (λ e. n (type_same e))
+
+  bitset_checks : {at : Pos} (m : Meaning) → SetType at (standing m) (is_bitset g at m)
+  bitset_checks (meaning.Type t n) = set_type_by t (are_same t bitset) (same_decided t bitset)
+  bitset_checks (meaning.Constant v) = no_set (AValue (kind_of v)) (λ e. absurd cc)
+  bitset_checks (meaning.Variable v) = no_set (AVariable v.of) (λ e. absurd cc)
+  bitset_checks (meaning.Local v) = set_local v.of v.kind
+  bitset_checks (meaning.Field f) = no_set (AVariable f.of) (λ e. absurd cc)
+  bitset_checks (meaning.Procedure p) = no_set (AProcedure p.heading) (λ e. absurd cc)
+  bitset_checks (meaning.LocalProcedure p) = no_set (ANested p.heading) (λ e. absurd cc)
+  bitset_checks {at = at} meaning.Ahead = stopped g j lawful O at rule.NoType (λ e. absurd cc) rules.no_type_yet (λ f m. one m)
+    where
+      one : {f : Fault} → Misset at Ahead f → f ≡ at ! rule.NoType
+      one (rules.no_name m) = absurd (m.not_ahead refl)
+      one rules.no_type_yet = refl
+  bitset_checks (meaning.Standard f) = no_set (AStandard f) (λ e. absurd cc)
+  bitset_checks (meaning.Module k) = no_set (AModule k) (λ e. absurd cc)
+
+  seen_set : (name : Ident) (st : Standing) (r : Result Meaning (Meaningless g.Reported)) → names name ≡ st → looked_up g s name ≡ r → Sees g j name.pos st r → SetType name.pos st (of_sort g name.pos rule.NoType r ▷ is_bitset g name.pos)
+  seen_set name _ _ e q (sees m) = bitset_checks m
+  seen_set name _ _ e q sees_nothing = stopped g j lawful O name.pos rule.Undeclared (λ z. absurd cc) (rules.no_name (record { not_ahead = λ z. absurd cc; misnamed = undeclared })) (λ f m. one m)
+    where
+      misnamed_one : {f : Fault} → Misnamed name.pos Undeclared f → f ≡ name.pos ! rule.Undeclared
+      misnamed_one undeclared = refl
+
+      one : {f : Fault} → Misset name.pos Undeclared f → f ≡ name.pos ! rule.Undeclared
+      one (rules.no_name m) = misnamed_one m.misnamed
+  seen_set name _ _ e q (sees_headless r) = no_set Headless (λ z. absurd cc)
+  seen_set name _ _ e q (sees_unknown r) = stops r (record { only = λ f m. inr (of_declaration e q m); each = λ f m. none m }) (λ z. absurd cc)
+    where
+      none : {f : Fault} → Misset name.pos Unknown f → j.Covers r f
+      none (rules.no_name m) = elim m.misnamed [ ]
+
+  -- ---- sets
+
+  abbrev SetOf : List Item → Type 0 → Fixed → Type 0
+  SetOf items P x = (b : ℕ) × (P × AddUp s.types names exports 0 items b) × (x ≡ AConstant (Set (Some b)))
+
+  set_answers : {P : Type 0} {Q : Fault → Type 0} (t : Result (Unit {0}) g.Reported) (items : List Item) → Checks g j lawful O P Q t → ((i : Item) → Among i items → ItemSo i)
+      → Answers g j O IsFixed (SetOf items P) (λ f. Q f ⊎ SetBreaks items f) (constants.set_of g t (fold (constants.with_item g s) (Ok 0) (map (λ (e : ItemAdds g.Reported). e) (map (item g) items))))
+  set_answers {P = P} {Q = Q} t items c h = exact g j lawful O {M = λ x. (k : Unit {0} × ℕ) × (P × ((a : ℕ) × (a ≡ 0) × AddUp s.types names exports a items k.1)) × (x ≡ AConstant (Set (Some k.1)))} {B = λ f. (Q f ⊎ (⊥ ⊎ SetBreaks items f)) ⊎ ((k : Unit {0} × ℕ) × (P × ((a : ℕ) × (a ≡ 0) × AddUp s.types names exports a items k.1)) × ⊥)}
+      (λ x m. (m.0.1, (m.1.0, subst (λ (a : ℕ). AddUp s.types names exports a items m.0.1) m.1.1.1 m.1.1.2), m.2)) (λ x m. ((tt, m.0), (m.1.0, (0, refl, m.1.1)), m.2))
+      (λ f z. elim z [ inl y ↦ elim y [ inl q ↦ inl q | inr w ↦ elim w [ inl b ↦ absurd b | inr b ↦ inr b ] ] | inr y ↦ absurd y.2 ]) (λ f z. elim z [ inl q ↦ inl (inl q) | inr b ↦ inl (inr (inr b)) ])
+      (then_answer g j lawful O {N = λ k x. x ≡ AConstant (Set (Some k.1))} {D = λ k f. ⊥}
+      (both_answer g j lawful O (checks_answer g j lawful O c) (items_answer items {P = λ a. a ≡ 0} {Q = λ f. ⊥} h (fine g j lawful O 0 0 (is_same 0))))
+      (λ v k i. means (denoted.Value (value.Set v.1)) (AConstant (Set (Some k.1))) (fixed_value (subst (λ (n : ℕ). IsConst (value.Set v.1) (Set (Some n))) (bits_of i.1) (is_const (value.Set v.1)))) refl (λ x e. e) (λ f b. b)))
+
+  item_broken : {name : Option Ident} {at : Pos} {items : List Item} (f : Fault) → SetBreaks items f → FixedIn (layer.Set name at items) f
+  item_broken f (i, a, inl z) = inl (rules.at_item a z)
+  item_broken f (i, a, inr (x, b, c)) = part_broken (rules.in_element a b) c
+
+  -- what the elaboration makes of braces
+  abbrev pub SetAnswers : Option Ident → Pos → List Item → Type 0
+  SetAnswers name at items = Answers g j O IsFixed (R (layer.Set name at items)) (FixedIn (layer.Set name at items)) ((expr_layer g (opened g (layer.Set name at items))).fixed.denotes s)
+
+  plain_set : (at : Pos) (items : List Item) → ((i : Item) → Among i items → ItemSo i) → SetAnswers None at items
+  plain_set at items h = exact g j lawful O {N = R (layer.Set None at items)} {C = FixedIn (layer.Set None at items)} (λ x m. subst (R (layer.Set None at items)) (sym m.2) (rules.fixed_set m.1.1)) (λ x r. parted r)
+      (λ f z. elim z [ inl q ↦ absurd q | inr b ↦ item_broken f b ]) out (set_answers {P = Unit {0}} {Q = λ f. ⊥} (Ok tt) items (passes tt tt (λ f b. b)) h)
+    where
+      parted : {x : Fixed} → R (layer.Set None at items) x → SetOf items (Unit {0}) x
+      parted (rules.fixed_set {bits = b} a) = (b, (tt, a), refl)
+
+      out : (f : Fault) → FixedIn (layer.Set None at items) f → ⊥ ⊎ SetBreaks items f
+      out _ (inl (no_constant (rules.in_element {i = i} a b) m z)) = inr (i, a, inr (_, b, inr (_, m, (z, refl))))
+      out f (inl (rules.at_item {i = i} a z)) = inr (i, a, inl z)
+      out f (inr (x, rules.in_element {i = i} a b, c)) = inr (i, a, inr (x, b, inl c))
+
+  named_set : (name : Ident) (at : Pos) (items : List Item) → ((i : Item) → Among i items → ItemSo i) → SetAnswers (Some name) at items
+  named_set name at items h = exact g j lawful O {N = R (layer.Set (Some name) at items)} {C = FixedIn (layer.Set (Some name) at items)} (λ x m. subst (R (layer.Set (Some name) at items)) (sym m.2) (rules.fixed_named_set m.1.0 m.1.1)) (λ x r. parted r)
+      (λ f z. elim z [ inl q ↦ inl (rules.at_set_type q) | inr b ↦ item_broken f b ]) out
+      (set_answers {P = names name ≡ Known (AType bitset)} {Q = Misset name.pos (names name)} (constants.set_type g s (Some name)) items (seen_set name (names name) (looked_up g s name) refl refl (knows.of_names name)) h)
+    where
+      parted : {x : Fixed} → R (layer.Set (Some name) at items) x → SetOf items (names name ≡ Known (AType bitset)) x
+      parted (rules.fixed_named_set {bits = b} e a) = (b, (e, a), refl)
+
+      out : (f : Fault) → FixedIn (layer.Set (Some name) at items) f → Misset name.pos (names name) f ⊎ SetBreaks items f
+      out _ (inl (no_constant (rules.in_element {i = i} a b) m z)) = inr (i, a, inr (_, b, inr (_, m, (z, refl))))
+      out f (inl (rules.at_set_type m)) = inl m
+      out f (inl (rules.at_item {i = i} a z)) = inr (i, a, inl z)
+      out f (inr (x, rules.in_element {i = i} a b, c)) = inr (i, a, inr (x, b, inl c))
+
+  set_by : (name : Option Ident) (at : Pos) (items : List Item) → ((i : Item) → Among i items → ItemSo i) → SetAnswers name at items
+  set_by None at items h = plain_set at items h
+  set_by (Some name) at items h = named_set name at items h
+
+  -- ---- all of them
+
+  free_operands : {xs : List Operand} → AreCallFreeOperands xs → (x : Operand) → Among x xs → IsCallFree x.of
+  free_operands no_free_operand x m = elim m [ ]
+  free_operands (one_free_operand i r) _ here = i
+  free_operands (one_free_operand i r) x (later m) = free_operands r x m
+
+  mutual
+    pub fixed : {e : Expr} → IsCallFree e → FixedFound e
+    fixed (free_number {at = at} {n = n} h) = number_fixed at n h
+    fixed (free_character {at = at} {c = c} h) = character_fixed at c h
+    fixed (free_string {at = at} {text = text} h) = string_fixed at text h
+    fixed (free_set {name = name} {at = at} {items = items} h i) = fixed_layer (layer.Set name at items) ((expr_layer g (opened g (layer.Set name at items))).fixed.denotes s) h refl (set_by name at items (λ x m. fixed_item i x m))
+    fixed (free_name {d = d} h) = name_fixed d h
+    fixed (free_not {at = at} {x = x} h i) = not_fixed at x h i (fixed i)
+    fixed (free_brackets {at = at} {x = x} h i) = brackets_fixed at x h i (fixed i)
+    fixed (free_term {x = x} {rest = rest} h i o) = term_fixed x rest h i (fixed i) (free_operands o) (λ y m. fixed_operand o y m)
+    fixed (free_sum {sign = None} {x = x} {rest = rest} h i o) = sum_fixed x rest h i (fixed i) (free_operands o) (λ y m. fixed_operand o y m)
+    fixed (free_sum {sign = Some sign} {x = x} {rest = rest} h i o) = signed_fixed sign x rest h i (fixed i) (free_operands o) (λ y m. fixed_operand o y m)
+    fixed (free_relation {a = a} {b = b} {o = o} h i k) = relation_fixed a o b h i k (fixed i) (fixed k)
+
+    fixed_operand : {xs : List Operand} → AreCallFreeOperands xs → (x : Operand) → Among x xs → FixedFound x.of
+    fixed_operand no_free_operand x m = elim m [ ]
+    fixed_operand (one_free_operand i r) _ here = fixed i
+    fixed_operand (one_free_operand i r) x (later m) = fixed_operand r x m
+
+    pub fixed_item : {is : List Item} → AreCallFree is → (i : Item) → Among i is → ItemSo i
+    fixed_item no_free_item i m = elim m [ ]
+    fixed_item (one_free_item l n r) i here = subst (Answers g j O IsSame (Adds s.types names exports (out-Item i)) (ItemBreaks (out-Item i))) (sym (item_at i None n)) (single_answers (out-Item i) l (fixed l) n)
+    fixed_item (one_free_item l n r) i (later m) = fixed_item r i m
+    fixed_item (one_free_range {high = high} l e k r) i here = subst (Answers g j O IsSame (Adds s.types names exports (out-Item i)) (ItemBreaks (out-Item i))) (sym (item_at i (Some high) e)) (range_item_answers (out-Item i) high l (fixed l) k (fixed k) e)
+    fixed_item (one_free_range l e k r) i (later m) = fixed_item r i m
+
+  pub exactly_fixed : {e : Expr} → IsCallFree e → ConstValued e
+  exactly_fixed i = const_valued i (fixed i)
+
+  -- braces in bodies
+  pub braces : (name : Option Ident) (at : Pos) (items : List Item) → AreCallFree items → SetAnswers name at items
+  braces name at items i = set_by name at items (fixed_item i)

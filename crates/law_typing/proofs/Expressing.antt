@@ -38,14 +38,19 @@ use Rattle.def_typing.specs.Expressions as rules
 use Rattle.def_typing.specs.Parts.{first, Operand, factors, addends, Among, here, later}
 use Rattle.def_typing.specs.Expressions.{IsOperand, IsPart, an_operand, an_argument, Reads, Denotes, Selected, Selects, Chain, done, then, Calls, Misselected, SelectionFails, Miscalled, ChainFails, at_once, further, Fails}
 use Rattle.law_typing.specs.Judging.{Judges, Answers, means, refuses}
-use Rattle.law_typing.specs.Exact.{IsKind, kind_constant, IsThing, thing_value, Knows, IsExact, IsPlain, plain_number, plain_character, plain_string, plain_name, plain_call, plain_not, plain_brackets, plain_term, plain_sum, plain_relation, ArePlain, no_expression, one_expression, ArePlainOperands, no_operand, one_operand, ArePlainSelectors, no_selector, a_field, an_index}
-use Rattle.law_typing.proofs.Combining.{Lawful, exact, both_answer, then_answer, Finds, finds, finds_as}
+use Rattle.law_typing.specs.Exact.{IsKind, kind_constant, IsThing, thing_value, Knows, IsExact, IsPlain, AreCallFree, plain_number, plain_character, plain_string, plain_set, plain_name, plain_call, plain_not, plain_brackets, plain_term, plain_sum, plain_relation, ArePlain, no_expression, one_expression, ArePlainOperands, no_operand, one_operand, ArePlainSelectors, no_selector, a_field, an_index}
+use Rattle.law_typing.proofs.Combining.{Lawful, exact, both_answer, then_answer, Finds, finds, finds_as, plain_finds}
 use Rattle.law_typing.proofs.Joining.{operated_answers}
 use Rattle.law_typing.proofs.Singles.{signed_answers, negated_answers}
 use Rattle.law_typing.proofs.Selecting.{known_one, named_finds, FieldFails, field_finds, NoElements, ElementOf, IndexFails, index_finds}
 use Rattle.law_typing.proofs.Places.{opened, meant_is, picks_is, head_is, head_at, opened_selector, at_is}
 use Rattle.law_typing.proofs.Finding.{Elsewhere, StandsFor, HasKind, IsBroken, IsBrokenValue, IsFound, IsValued, InLayer, by_layer, value_layer, valued, operand_broken, AnyBroken}
 use Rattle.law_typing.proofs.Routines.{calls_answer}
+use Rattle.typed_tree.specs.declared.meaning.Value.{Value as ConstantValue}
+use Rattle.def_typing.specs.Constants as fixed
+use Rattle.def_typing.specs.Constants.{Fixed, AConstant, FixedReads}
+use Rattle.law_typing.proofs.Fixing.{IsConst, is_const, as_constant_answers}
+use Rattle.law_typing.proofs.Constants.{FixedIn, braces}
 
 module _ (g : Gathers) (j : Judges g) (lawful : Lawful g j) (names : Ident → Standing) (exports : ℕ → Ident → Standing) (s : Scope g.Reported) (knows : Knows g j names exports s) where
   abbrev E : Fault → Type 0
@@ -109,6 +114,52 @@ module _ (g : Gathers) (j : Judges g) (lawful : Lawful g j) (names : Ident → S
       none : (f : Fault) → In (layer.Text at text) f → ⊥
       none f (inl (rules.no_operand i m z)) = elim i [ ]
       none f (inr (x, an_operand i, b)) = elim i [ ]
+
+  -- ---- sets
+
+  abbrev RC : Option Ident → Pos → List Item → Fixed → Type 0
+  RC name at items = FixedReads s.types names exports (layer.Set name at items)
+
+  abbrev NoConst : Option Ident → Pos → List Item → Pos → Fault → Type 0
+  NoConst name at items spot f = (x : Fixed) × RC name at items x × (((k : Kind) → x ≡ AConstant k → ⊥) × (f ≡ spot ! rule.NoConstant))
+
+  abbrev FC : Option Ident → Pos → List Item → Fault → Type 0
+  FC name at items f = FixedIn g j lawful names exports s knows (layer.Set name at items) f
+
+  set_constant : {name : Option Ident} {at : Pos} {items : List Item} {x : Fixed} → RC name at items x → (k : Kind) × (x ≡ AConstant k)
+  set_constant (fixed.fixed_set a) = (_, refl)
+  set_constant (fixed.fixed_named_set e a) = (_, refl)
+
+  set_found : {e : Expr} (name : Option Ident) (at : Pos) (items : List Item) → out-Expr e ≡ layer.Set name at items → AreCallFree items → Found e
+  set_found name at items h i = by_layer g j lawful names exports s (layer.Set name at items) ((expr_layer g (opened g (layer.Set name at items))).means s) h refl
+      (finds_as g j lawful E (λ y m. made m) (λ y r. reads r) into out
+      (plain_finds g j lawful E (then_answer g j lawful E {N = λ k y. y ≡ AValue k} {D = λ k f. ⊥}
+      (then_answer g j lawful E {N = λ x k. x ≡ AConstant k} {D = λ x f. ((k : Kind) → x ≡ AConstant k → ⊥) × (f ≡ spot ! rule.NoConstant)} (braces g j lawful names exports s knows name at items i) (as_constant_answers g j lawful E spot))
+      (λ v k w. means (designated.Value (computed.Constant v)) (AValue k) (thing_value (kind_is w)) refl (λ y e. e) (λ f b. b)))))
+    where
+      spot : Pos
+      spot = (expr_layer g (opened g (layer.Set name at items))).fixed.at
+
+      kind_is : {v : ConstantValue} {k : Kind} → IsConst v k → IsKind (computed.Constant v) k
+      kind_is (is_const v) = kind_constant v
+
+      made : {y : Thing} → (k : Kind) × ((x : Fixed) × RC name at items x × (x ≡ AConstant k)) × (y ≡ AValue k) → R (layer.Set name at items) y
+      made (k, (x, r, e), q) = subst (R (layer.Set name at items)) (sym q) (rules.constant_set (subst (RC name at items) e r))
+
+      reads : {y : Thing} → R (layer.Set name at items) y → (k : Kind) × ((x : Fixed) × RC name at items x × (x ≡ AConstant k)) × (y ≡ AValue k)
+      reads (rules.constant_set {k = k} r) = (k, (AConstant k, r, refl), refl)
+
+      into : (f : Fault) → (FC name at items f ⊎ NoConst name at items spot f) ⊎ ((k : Kind) × ((x : Fixed) × RC name at items x × (x ≡ AConstant k)) × ⊥) → In (layer.Set name at items) f
+      into f (inl (inl (inl z))) = inl (rules.at_set z)
+      into f (inl (inl (inr (x, m, b)))) = inl (rules.in_set m b)
+      into f (inl (inr (x, r, (n, e)))) = let c = set_constant r in absurd (n c.0 c.1)
+      into f (inr z) = absurd z.2
+
+      out : (f : Fault) → In (layer.Set name at items) f → (FC name at items f ⊎ NoConst name at items spot f) ⊎ ((k : Kind) × ((x : Fixed) × RC name at items x × (x ≡ AConstant k)) × ⊥)
+      out f (inl (rules.at_set z)) = inl (inl (inl z))
+      out f (inl (rules.in_set {e = x} m b)) = inl (inl (inr (x, m, b)))
+      out f (inl (rules.no_operand i m z)) = elim i [ ]
+      out f (inr (x, an_operand i, b)) = elim i [ ]
 
   -- ---- NOT and brackets
 
@@ -538,6 +589,7 @@ module _ (g : Gathers) (j : Judges g) (lawful : Lawful g j) (names : Ident → S
     found (plain_number {at = at} {n = n} h) = number_found at n h
     found (plain_character {at = at} {c = c} h) = character_found at c h
     found (plain_string {at = at} {text = text} h) = string_found at text h
+    found (plain_set {name = name} {at = at} {items = items} h i) = set_found name at items h i
     found (plain_name {d = d} h i) = name_found d h i (λ e x. found_index i e x.0 x.1 x.2 x.3)
     found (plain_call {d = d} {args = args} h i a) = call_found d args h i (λ e x. found_index i e x.0 x.1 x.2 x.3) (plain_all a) (λ x m. found_all a x m)
     found (plain_not {at = at} {x = x} h i) = not_found at x h i (found i)
