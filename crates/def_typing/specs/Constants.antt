@@ -71,14 +71,14 @@ pub data FixedMispicks (exports : ℕ → Ident → Standing)
       → FixedMispicks exports (AScope k) (layer.Index at e) (at ! rule.WrongType)
 
 pub data FixedSelected (exports : ℕ → Ident → Standing) : Fixed → List Selector → Fixed → Type 0
-    where
-  whole : {x : Fixed} → FixedSelected exports x [] x
-  component : {x y z : Fixed} {s : Selector} {ss : List Selector}
-      → FixedPicks exports x (out-Selector s) y → FixedSelected exports y ss z
-      → FixedSelected exports x (s ∷ ss) z
+  where
+    whole : {x : Fixed} → FixedSelected exports x [] x
+    component : {x y z : Fixed} {s : Selector} {ss : List Selector}
+        → FixedPicks exports x (out-Selector s) y → FixedSelected exports y ss z
+        → FixedSelected exports x (s ∷ ss) z
 
-pub data FixedSelectionFails (exports : ℕ → Ident → Standing) : Fixed → List Selector → Fault → Type 0
-    where
+pub data FixedSelectionFails (exports : ℕ → Ident → Standing)
+    : Fixed → List Selector → Fault → Type 0 where
   at_next : {x : Fixed} {s : Selector} {ss : List Selector} {f : Fault}
       → FixedMispicks exports x (out-Selector s) f → FixedSelectionFails exports x (s ∷ ss) f
   behind : {x y : Fixed} {s : Selector} {ss : List Selector} {f : Fault}
@@ -229,7 +229,7 @@ module _ (types : Types) (names : Ident → Standing) (exports : ℕ → Ident �
     fixed_at_sign : {sign : Operator Sign} {e : Expr} {rest : List (Operator AddOp × Expr)}
         {a : Kind} {f : Fault} → Fixes e (AConstant a)
         → Misapplied (MaySign sign.op (operand a)) (SignMakes sign.op (operand a)) sign.pos
-          rule.WrongType f
+        rule.WrongType f
         → FixedFails (layer.Sum (Some sign) e rest) f
     fixed_in_signed_sum : {sign : Operator Sign} {e : Expr} {rest : List (Operator AddOp × Expr)}
         {a b : Kind} {f : Fault} → Fixes e (AConstant a) → SignMakes sign.op (operand a) b

@@ -1,5 +1,5 @@
 -- What expressions stand for, and which rules are broken in them.
-use Rattle.std.specs.Prelude.{◌≡◌, ℕ, ℤ, pos, List, [], ◌∷◌, map, length, Option, Some, None}
+use Rattle.std.specs.Prelude.{◌≡◌, ℕ, ℤ, pos, List, [], ◌∷◌, length, Option, Some, None}
 use Rattle.m2_rule.specs.declared.rule.Rule.TheVariants as rule
 use Rattle.m2_tree.specs.declared.pos.Pos.{Pos}
 use Rattle.m2_tree.specs.declared.name.Ident.{Ident}
@@ -22,11 +22,9 @@ use Rattle.typed_tree.specs.declared.shape.Signature.{Signature}
 use Rattle.typed_tree.specs.declared.known_types.Types.{Types}
 use Rattle.typed_tree.specs.Types.{cardinal, char}
 use Rattle.check_scope.specs.declared.fault.Fault.{Fault}
-use Rattle.check_const_ops.specs.declared.operator.BinaryOp.{BinaryOp}
 use Rattle.check_const_ops.specs.declared.operator.BinaryOp.TheVariants as op
-use Rattle.check_const_ops.specs.Operators.{mul_op, add_op}
 use Rattle.def_typing.specs.Parts.{first, Operand, factors, addends, Among}
-use Rattle.def_typing.specs.Constants.{Fixed, AConstant, FixedReads, FixedFails, IsFixedPart, FixedBroken}
+use Rattle.def_typing.specs.Constants.{AConstant, FixedReads, FixedFails, IsFixedPart, FixedBroken}
 use Rattle.def_typing.specs.Amounts.{Constant, Value}
 use Rattle.def_typing.specs.Operators.{◌!◌, Kind, Scalar, Text, operand, Makes, Misused, Misapplied, MaySign, SignMakes, Negates}
 use Rattle.def_typing.specs.Things.{Thing, AValue, AVariable, AnOpenArray, AStandard, Headless, Standing, Known, Misnamed, Taken, Mistaken, IsAssignable, Misassigned, Picks, Indexes}
@@ -258,7 +256,7 @@ module _ (types : Types) (names : Ident → Standing) (exports : ℕ → Ident �
     at_sign : {sign : Operator Sign} {e : Expr} {rest : List (Operator AddOp × Expr)} {a : Kind}
         {f : Fault} → Has e a
         → Misapplied (MaySign sign.op (operand a)) (SignMakes sign.op (operand a)) sign.pos
-          rule.WrongType f
+        rule.WrongType f
         → Fails (layer.Sum (Some sign) e rest) f
     in_signed_sum : {sign : Operator Sign} {e : Expr} {rest : List (Operator AddOp × Expr)}
         {a b : Kind} {f : Fault} → Has e a → SignMakes sign.op (operand a) b

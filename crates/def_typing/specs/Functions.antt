@@ -1,5 +1,5 @@
 -- Standard functions, and which arguments formals take.
-use Rattle.std.specs.Prelude.{◌≡◌, ℕ, ℤ, pos, ◌-ℤ◌, Bool, true, false, int_lt, List, [], ◌∷◌, length, Option, Some, None}
+use Rattle.std.specs.Prelude.{◌≡◌, ℕ, ℤ, pos, ◌-ℤ◌, Bool, true, false, int_lt, List, length, Option, Some, None}
 use Rattle.std.specs.Int.{int_rem_euclid}
 use Rattle.m2_rule.specs.declared.rule.Rule.TheVariants as rule
 use Rattle.m2_tree.specs.declared.pos.Pos.{Pos}
@@ -18,7 +18,7 @@ use Rattle.check_const_ops.specs.Standards.{upper}
 use Rattle.def_typing.specs.Shapes.{shape_at, IsMade}
 use Rattle.def_typing.specs.Amounts.{Amount, Constant, Value, sort_of, IsNumber, Within, InRange, truth}
 use Rattle.def_typing.specs.Operators.{◌!◌, Kind, Scalar, Set, Text, Routine, Whole, Untaken, operand}
-use Rattle.def_typing.specs.Things.{Thing, AValue, AVariable, AnOpenArray, AType, AProcedure, ANested, AStandard, Headless, content, Taken, Mistaken, Compatible, OutOfType}
+use Rattle.def_typing.specs.Things.{Thing, AValue, AVariable, AnOpenArray, AType, AProcedure, ANested, AStandard, content, Taken, Mistaken, Compatible, OutOfType}
 
 -- ---- functions of one value
 
@@ -176,13 +176,13 @@ pub data Mispassed (types : Types) (at : Pos) : Formal → Thing → Fault → T
   no_variable : {is_open : Bool} {t : TypeNo} {x : Thing}
       → (Accepts types (record { is_var = true; is_open = is_open; of = t }) x → ⊥)
       → Mispassed types at (record { is_var = true; is_open = is_open; of = t }) x
-        (at ! rule.NoVariable)
+      (at ! rule.NoVariable)
   no_value : {is_open : Bool} {t : TypeNo} {x : Thing} {f : Fault} → Mistaken at x f
       → Mispassed types at (record { is_var = false; is_open = is_open; of = t }) x f
   wrong_argument : {is_open : Bool} {t : TypeNo} {x : Thing} (k : Kind) → Taken types x k
       → (Accepts types (record { is_var = false; is_open = is_open; of = t }) x → ⊥)
       → Mispassed types at (record { is_var = false; is_open = is_open; of = t }) x
-        (at ! rule.WrongArgument)
+      (at ! rule.WrongArgument)
   out_of_range : {t : TypeNo} {x : Thing} (k : Kind) → Taken types x k
       → Compatible types t (operand k) → OutOfType types t (operand k)
       → Mispassed types at (value_formal t) x (at ! rule.OutOfRange)

@@ -1,5 +1,5 @@
 -- Parts of expressions, and where they begin.
-use Rattle.std.specs.Prelude.{List, [], ◌∷◌, map, Option, Some, None}
+use Rattle.std.specs.Prelude.{List, ◌∷◌, map, Some, None}
 use Rattle.m2_tree.specs.declared.pos.Pos.{Pos}
 use Rattle.m2_tree.specs.declared.expr.MulOp.{MulOp}
 use Rattle.m2_tree.specs.declared.expr.AddOp.{AddOp}

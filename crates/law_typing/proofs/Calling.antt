@@ -1,65 +1,44 @@
 -- Calls in expressions answer exactly.
-use Rattle.std.proofs.Common.{◌≡◌, ℕ, ℤ, suc, Bool, true, false, not, List, [], ◌∷◌, ◌++◌, length, Option, Some, None, Result, Ok, Err, ◌⊎◌, inl, inr, refl, sym, ap, subst, ◌∙◌, arith}
-use Rattle.std.specs.Prelude.{map, ◌==◌}
-use Rattle.std.specs.List.{fold}
-use Rattle.std.proofs.lemmas.Bool.Decides.{nat_tests}
+use Rattle.std.proofs.Common.{◌≡◌, ℕ, ℤ, List, [], ◌∷◌, length, Option, Some, None, Result, Ok, ◌⊎◌, inl, inr, refl, sym, ap, subst, ◌∙◌, arith}
+use Rattle.std.specs.Prelude.{map}
 use Rattle.m2_rule.specs.declared.rule.Rule.{Rule}
 use Rattle.m2_rule.specs.declared.rule.Rule.TheVariants as rule
 use Rattle.m2_tree.specs.declared.pos.Pos.{Pos}
 use Rattle.m2_tree.specs.declared.name.Ident.{Ident}
 use Rattle.m2_tree.specs.declared.expr.Expr.{Expr}
 use Rattle.typed_tree.specs.declared.types.TypeNo.{TypeNo}
-use Rattle.typed_tree.specs.declared.computed.Argument.{Argument}
-use Rattle.typed_tree.specs.declared.computed.LocalProcedure.{LocalProcedure}
-use Rattle.typed_tree.specs.declared.computed.Place.{Place}
-use Rattle.typed_tree.specs.declared.meaning.Procedure.{Procedure as ModuleProcedure}
 use Rattle.typed_tree.specs.declared.meaning.Standard.{Standard}
 use Rattle.typed_tree.specs.declared.meaning.Standard.TheVariants.{Abs, Cap, Chr, High, Max, Min, Odd, Ord, Val, Inc, Dec, Incl, Excl, Halt, Put}
-use Rattle.typed_tree.specs.declared.shape.Formal.{Formal}
 use Rattle.typed_tree.specs.declared.shape.Scalar.{Scalar as Range}
 use Rattle.typed_tree.specs.declared.shape.Shape.{Shape}
 use Rattle.typed_tree.specs.declared.shape.Shape.TheVariants as shape
-use Rattle.typed_tree.specs.declared.shape.Signature.{Signature}
-use Rattle.typed_tree.specs.declared.known_types.Types.{Types}
-use Rattle.typed_tree.specs.Known.{scalar_at}
 use Rattle.typed_tree.specs.Types.{cardinal}
 use Rattle.check_scope.specs.declared.fault.Fault.{Fault}
-use Rattle.check_scope.specs.declared.meaningless.Meaningless.{Meaningless}
 use Rattle.check_scope.specs.declared.scope.Scope.{Scope}
-use Rattle.check_scope.specs.Elaborated.{Gathers, reported, reported_where, reported_beside, of_sort, of_heading, ahead, ◌▷◌}
+use Rattle.check_scope.specs.Elaborated.{Gathers, reported, reported_beside, of_sort, ◌▷◌}
 use Rattle.check_const.specs.Calls.{bound_by, scalar_type}
-use Rattle.check_operator.specs.declared.class.Class.{Class}
 use Rattle.check_operator.specs.declared.computed.Computed.{Computed}
 use Rattle.check_operator.specs.declared.computed.Computed.TheVariants as computed
 use Rattle.check_operator.specs.declared.computed.Designated.{Designated}
-use Rattle.check_operator.specs.Classes.{class_at, signature_at}
-use Rattle.check_call.specs.declared.callee.Callee.{Callee}
-use Rattle.check_call.specs.declared.callee.Callee.TheVariants as callee
-use Rattle.check_call.specs.declared.callee.Called.{Called}
 use Rattle.check_call.specs.declared.callee.Called.TheVariants as called
 use Rattle.check_call.specs.declared.standard.Unary.{Unary}
-use Rattle.check_call.specs.declared.standard.Unary.TheVariants as unary
-use Rattle.check_call.specs.Callees.{held_by, callee_of, counted, function_with, function_of}
-use Rattle.check_call.specs.Actuals.{with_argument}
 use Rattle.check_call.specs.Functions.{type_named, bound_at, conversion_at, converted_value, high_of, unary_at}
 use Rattle.check_expr.specs.Meanings as meanings
 use Rattle.check_expr.specs.Meanings.{meant, value_of, miscounted, looked_at, with_actual, actuals, call_given, formals_of, routine_called, scalar_named, called_as, called_by}
 use Rattle.def_typing.specs.Shapes.{shape_at, IsMade}
 use Rattle.def_typing.specs.Amounts.{Constant, Value}
 use Rattle.def_typing.specs.Operators.{◌!◌, Kind, Scalar, operand, Misapplied}
-use Rattle.def_typing.specs.Things.{Thing, AValue, AVariable, AnOpenArray, AType, AProcedure, ANested, AStandard, AModule, Headless, Standing, Mistaken}
-use Rattle.def_typing.specs.Functions.{TakesOne, abs_takes, cap_takes, chr_takes, odd_takes, ord_takes, MayApply, Applies, applied, NamesScalar, names_scalar, BoundOf, greatest, smallest, MayConvert, Converts, arity, IsOfOne, of_abs, of_cap, of_chr, of_odd, of_ord, given, HasHeading, of_procedure, of_nested, of_variable, IsFunctionOf, declared, standard, Mispassed, IsPassed}
+use Rattle.def_typing.specs.Things.{Thing, AnOpenArray, AType, AStandard, Standing, Mistaken}
+use Rattle.def_typing.specs.Functions.{TakesOne, abs_takes, cap_takes, chr_takes, odd_takes, ord_takes, MayApply, Applies, applied, NamesScalar, names_scalar, BoundOf, greatest, smallest, MayConvert, Converts, arity, IsOfOne, of_abs, of_cap, of_chr, of_odd, of_ord, IsFunctionOf, declared, standard}
 use Rattle.def_typing.specs.Parts.{first, Among, here, later}
 use Rattle.def_typing.specs.Expressions.{Beside, beside, behind, TakesValue, TakesType, Stands, Has, Calls, ArePassed, no_more, one_more, Miscalled, BrokenAsValue, broken, mistaken}
 use Rattle.def_typing.specs.Expressions as rules
-use Rattle.law_typing.specs.Judging.{Judges, Answers, means, refuses}
+use Rattle.law_typing.specs.Judging.{Judges, Answers, means}
 use Rattle.law_typing.specs.Exact.{IsKind, kind_constant, kind_scalar, IsThing, thing_value, thing_variable, thing_open, thing_type, thing_procedure, thing_nested, thing_standard, thing_module, IsPlain}
-use Rattle.law_typing.proofs.Combining.{Lawful, declined, exact, both_answer, then_answer, Checks, passes, stops, checks_as, map_checks, both_checks, then_checked, declined_beside, ahead_answers, sort_answers, heading_answers, Finds}
+use Rattle.law_typing.proofs.Combining.{Lawful, declined, exact, both_answer, then_answer, declined_beside, sort_answers}
 use Rattle.law_typing.proofs.Deciding.{some_same}
-use Rattle.law_typing.proofs.Passing.{argument_passes}
-use Rattle.law_typing.proofs.Placing.{given_is, some_made}
 use Rattle.law_typing.proofs.Places.{at_is}
-use Rattle.law_typing.proofs.Shaping.{class_of, class_is, scalar_of, scalar_is, signature_there, SignatureIs, has_signature, no_signature, one_signature, one_made}
+use Rattle.law_typing.proofs.Shaping.{scalar_of, scalar_is, one_made}
 use Rattle.law_typing.proofs.Singles.{UnaryIs, is_abs, is_cap, is_chr, is_odd, is_ord, one_answers, converted_answers}
 use Rattle.law_typing.proofs.Finding.{Elsewhere, StandsFor, HasKind, IsBroken, IsBrokenValue, IsFound, IsValued, AnyBroken, valued, look_tells}
 

@@ -1,5 +1,5 @@
 -- Constant expressions without calls are answered exactly, layer by layer.
-use Rattle.std.proofs.Common.{◌≡◌, ℕ, ℤ, pos, Bool, true, false, not, cond, List, [], ◌∷◌, Option, Some, None, Result, Ok, Err, ◌⊎◌, inl, inr, refl, sym, ap, subst, ◌∙◌}
+use Rattle.std.proofs.Common.{◌≡◌, ℕ, ℤ, pos, Bool, true, not, cond, List, [], ◌∷◌, Option, Some, None, Result, Ok, Err, ◌⊎◌, inl, inr, refl, sym, ap, subst, ◌∙◌}
 use Rattle.std.specs.Prelude.{map, int_lt, bit_or}
 use Rattle.std.specs.List.{fold}
 use Rattle.m2_rule.specs.declared.rule.Rule.TheVariants as rule
@@ -13,7 +13,7 @@ use Rattle.m2_tree.specs.declared.expr.Operator.{Operator}
 use Rattle.m2_tree.specs.declared.expr.Expr.{Expr, Expr-F, out-Expr}
 use Rattle.m2_tree.specs.declared.expr.Expr.TheOpen as layer
 use Rattle.m2_tree.specs.declared.expr.Selector.{Selector}
-use Rattle.m2_tree.specs.declared.expr.Designator.{Designator, out-Designator}
+use Rattle.m2_tree.specs.declared.expr.Designator.{Designator}
 use Rattle.m2_tree.specs.declared.expr.Item.{Item, Item-F, out-Item, map-Item, fold_out-Item}
 use Rattle.typed_tree.specs.declared.types.TypeNo.{TypeNo}
 use Rattle.typed_tree.specs.declared.meaning.LocalKind.TheVariants as local
@@ -26,32 +26,31 @@ use Rattle.typed_tree.specs.Types.{are_same, bitset, char}
 use Rattle.check_scope.specs.declared.fault.Fault.{Fault}
 use Rattle.check_scope.specs.declared.meaningless.Meaningless.{Meaningless}
 use Rattle.check_scope.specs.declared.scope.Scope.{Scope}
-use Rattle.check_scope.specs.Elaborated.{Gathers, reported, both, of_sort, ◌▷◌}
+use Rattle.check_scope.specs.Elaborated.{Gathers, reported, of_sort, ◌▷◌}
 use Rattle.check_scope.specs.Scopes.{looked_up}
-use Rattle.check_const_ops.specs.declared.operand.Ordinal.{Ordinal}
 use Rattle.check_const_ops.specs.declared.operator.BinaryOp.TheVariants as op
 use Rattle.check_const_ops.specs.Operands.{valued}
 use Rattle.check_const_ops.specs.Operate as operate
-use Rattle.check_const_ops.specs.Sets.{element, is_element, single, spanned, with_span}
+use Rattle.check_const_ops.specs.Sets.{is_element, spanned, with_span}
 use Rattle.check_const.specs.declared.denoted.Denoted.{Denoted}
 use Rattle.check_const.specs.declared.denoted.Denoted.TheVariants as denoted
 use Rattle.check_const.specs.Denote.{as_constant, of_value, is_bitset}
 use Rattle.check_const.specs.Parts as constants
 use Rattle.check_const.specs.Parts.{Adds as ItemAdds}
 use Rattle.check_expr.specs.Meanings.{Meant, Picks, meant, picks, head, item, expr_layer, selector_layer, designator_layer, item_layer}
-use Rattle.def_typing.specs.Amounts.{Constant, IsNumber, GoTogether, Within}
+use Rattle.def_typing.specs.Amounts.{Constant, GoTogether, Within}
 use Rattle.def_typing.specs.Operators.{◌!◌, Kind, Scalar, Set, Text, operand, Makes, Misused, Misapplied, MaySign, SignMakes, Negates}
-use Rattle.def_typing.specs.Things.{Thing, AValue, AVariable, AnOpenArray, AType, AProcedure, ANested, AStandard, AModule, Headless, Standing, Known, Ahead, Undeclared, NotExported, Unknown, Misnamed, undeclared, not_exported}
+use Rattle.def_typing.specs.Things.{Thing, AValue, AVariable, AnOpenArray, AType, AProcedure, ANested, AStandard, AModule, Headless, Standing, Known, Ahead, Undeclared, NotExported, Unknown, Misnamed, undeclared}
 use Rattle.def_typing.specs.Parts.{first, Operand, factors, addends, Among, here, later}
 use Rattle.def_typing.specs.Constants as rules
 use Rattle.def_typing.specs.Constants.{Fixed, AConstant, AScope, NoConstant, FixedMisnamed, IsBound, low_bound, high_bound, IsFixedPart, Fixes, as_fixed, FixedReads, FixedChain, fixed_done, fixed_then, AddUp, no_item, one_item, Adds, HasNumber, has_number, FixedChainFails, fixed_at_once, fixed_further, ItemFails, Misset, FixedFails, no_constant, FixedBroken, fixed_fails, fixed_inside}
-use Rattle.law_typing.specs.Judging.{Judges, Answers, means, refuses}
-use Rattle.law_typing.specs.Exact.{kind_of, of_local, standing, Sees, sees, sees_nothing, sees_headless, sees_unknown, Knows, Repeats, of_declaration, IsCallFree, free_number, free_character, free_string, free_set, free_name, free_not, free_brackets, free_term, free_sum, free_relation, AreCallFreeOperands, no_free_operand, one_free_operand, AreCallFree, no_free_item, one_free_item, one_free_range}
-use Rattle.law_typing.proofs.Combining.{Lawful, Decided, holds, fails_it, decided_as, declined, fine, exact, both_answer, then_answer, Checks, passes, stops, stopped, where_checks}
+use Rattle.law_typing.specs.Judging.{Judges, Answers, means}
+use Rattle.law_typing.specs.Exact.{kind_of, of_local, standing, Sees, sees, sees_nothing, sees_headless, sees_unknown, Knows, of_declaration, IsCallFree, free_number, free_character, free_string, free_set, free_name, free_not, free_brackets, free_term, free_sum, free_relation, AreCallFreeOperands, no_free_operand, one_free_operand, AreCallFree, no_free_item, one_free_item, one_free_range}
+use Rattle.law_typing.proofs.Combining.{Lawful, Decided, holds, fails_it, fine, exact, both_answer, then_answer, Checks, passes, stops, stopped}
 use Rattle.law_typing.proofs.Deciding.{same_decided, some_same}
-use Rattle.law_typing.proofs.Places.{opened, meant_is, head_is, free_at}
-use Rattle.law_typing.proofs.Fixing.{IsConst, is_const, IsFixed, fixed_value, fixed_of, as_constant_answers, const_operated, const_signed, const_negated, constant_one, E, DesignatesFixed, DesignatorFails, designator_fixes}
-use Rattle.law_typing.proofs.Elements.{IsOrdinal, IsSame, is_same, NumberOf, NoNumber, number_answers, one_meaning, checks_answer, OneElement, OneFails, one_answers, RangeOf, RangeFails, range_answers}
+use Rattle.law_typing.proofs.Places.{opened, meant_is, free_at}
+use Rattle.law_typing.proofs.Fixing.{IsConst, is_const, IsFixed, fixed_value, fixed_of, as_constant_answers, const_operated, const_signed, const_negated, E, DesignatesFixed, DesignatorFails, designator_fixes}
+use Rattle.law_typing.proofs.Elements.{IsOrdinal, IsSame, is_same, NumberOf, NoNumber, number_answers, one_meaning, checks_answer, one_answers, range_answers}
 
 module _ (g : Gathers) (j : Judges g) (lawful : Lawful g j) (names : Ident → Standing) (exports : ℕ → Ident → Standing) (s : Scope g.Reported) (knows : Knows g j names exports s) where
   abbrev O : Fault → Type 0

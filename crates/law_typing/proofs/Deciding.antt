@@ -1,6 +1,6 @@
 -- The tests of the elaboration decide what the rules speak of.
 use Rattle.std.proofs.Common.{◌≡◌, ℕ, ℤ, pos, negsuc, Bool, true, false, cond, Option, Some, None, refl, sym, ap, subst, ◌∙◌, arith}
-use Rattle.std.specs.Prelude.{◌&&◌, ◌||◌, ◌==◌, int_le}
+use Rattle.std.specs.Prelude.{◌&&◌, ◌||◌, ◌==◌}
 use Rattle.std.proofs.lemmas.Bool.Decides.{nat_tests}
 use Rattle.m2_tree.specs.declared.expr.RelOp.TheVariants as rel
 use Rattle.typed_tree.specs.declared.types.Home.{Home}

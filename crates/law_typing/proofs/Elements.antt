@@ -1,40 +1,25 @@
 -- Elements in braces are answered exactly.
-use Rattle.std.proofs.Common.{◌≡◌, ℕ, ℤ, pos, Bool, true, false, not, cond, List, [], ◌∷◌, Option, Some, None, Result, Ok, Err, ◌⊎◌, inl, inr, refl, sym, ap, subst, ◌∙◌}
-use Rattle.std.specs.Prelude.{map, int_lt, bit_or}
-use Rattle.std.specs.List.{fold}
+use Rattle.std.proofs.Common.{◌≡◌, ℕ, ℤ, pos, Bool, true, false, cond, Option, Some, None, Result, Ok, ◌⊎◌, inl, inr, refl, sym, ap, subst, ◌∙◌}
+use Rattle.std.specs.Prelude.{int_lt}
 use Rattle.m2_rule.specs.declared.rule.Rule.TheVariants as rule
 use Rattle.m2_tree.specs.declared.pos.Pos.{Pos}
-use Rattle.m2_tree.specs.declared.name.Ident.{Ident}
-use Rattle.m2_tree.specs.declared.expr.Expr.{Expr, out-Expr}
-use Rattle.m2_tree.specs.declared.expr.Selector.{Selector}
-use Rattle.m2_tree.specs.declared.expr.Designator.{Designator}
-use Rattle.m2_tree.specs.declared.expr.Item.{Item, Item-F, out-Item}
 use Rattle.typed_tree.specs.declared.types.TypeNo.{TypeNo}
 use Rattle.typed_tree.specs.declared.meaning.Value.{Value as ConstantValue}
 use Rattle.check_scope.specs.declared.fault.Fault.{Fault}
-use Rattle.check_scope.specs.declared.scope.Scope.{Scope}
-use Rattle.check_scope.specs.Elaborated.{Gathers, reported, reported_where, both, beside, ◌▷◌}
+use Rattle.check_scope.specs.Elaborated.{Gathers, reported_where, beside, ◌▷◌}
 use Rattle.check_const_ops.specs.declared.operand.Operand.{Operand as Side}
 use Rattle.check_const_ops.specs.declared.operand.Ordinal.{Ordinal}
-use Rattle.check_const_ops.specs.Operands.{operand_of, is_number}
+use Rattle.check_const_ops.specs.Operands.{is_number}
 use Rattle.check_const_ops.specs.Numbers.{is_between}
 use Rattle.check_const_ops.specs.Common.{common}
-use Rattle.check_const_ops.specs.Standards.{scalar_part, if_number, whole_number}
-use Rattle.check_const_ops.specs.Sets.{numbered, element, is_element, single, has_none, is_unlike, ordered, in_set, related, related_bounds, spanned, with_span}
-use Rattle.check_const.specs.Parts as constants
-use Rattle.check_expr.specs.Meanings.{meant}
+use Rattle.check_const_ops.specs.Standards.{scalar_part, if_number}
+use Rattle.check_const_ops.specs.Sets.{numbered, element, is_element, has_none, in_set, related, related_bounds, spanned, with_span}
 use Rattle.def_typing.specs.Amounts.{Constant, IsNumber, GoTogether, Within}
-use Rattle.def_typing.specs.Operators.{◌!◌, Kind, Scalar, Set, Text, operand}
-use Rattle.def_typing.specs.Things.{Standing}
-use Rattle.def_typing.specs.Parts.{first}
-use Rattle.def_typing.specs.Constants as rules
-use Rattle.def_typing.specs.Constants.{Fixed, AConstant, Fixes, FixedBroken, HasNumber, has_number, IsBound, low_bound, high_bound, Adds, ItemFails}
+use Rattle.def_typing.specs.Operators.{◌!◌, Kind, Scalar, operand}
 use Rattle.law_typing.specs.Judging.{Judges, Answers, means, refuses}
-use Rattle.law_typing.specs.Exact.{kind_of, Knows, Repeats, IsCallFree}
-use Rattle.law_typing.proofs.Combining.{Lawful, Decided, holds, fails_it, declined, fine, exact, both_answer, then_answer, Checks, Tests, passes, stops, stopped, checks_as, where_checks, then_check, then_checked, beside_checks}
+use Rattle.law_typing.proofs.Combining.{Lawful, Decided, holds, fails_it, declined, fine, exact, both_answer, then_answer, Checks, Tests, passes, stops, stopped, where_checks, then_check, then_checked, beside_checks}
 use Rattle.law_typing.proofs.Deciding.{number_decided, within_decided, TogetherIs, together, apart, common_is}
 use Rattle.law_typing.proofs.Singles.{IsConstantOperand, constant_scalar, constant_set, constant_text, constant_is}
-use Rattle.law_typing.proofs.Places.{free_at}
 use Rattle.law_typing.proofs.Fixing.{IsConst, is_const}
 
 -- numbers as they are answered

@@ -1,5 +1,5 @@
 -- The elaboration of an expression answers exactly what the rules say.
-use Rattle.std.proofs.Common.{◌≡◌, ℕ, ℤ, pos, List, [], ◌∷◌, Option, Some, None, Result, Ok, Err, ◌⊎◌, inl, inr, refl, sym, ap, subst, ◌∙◌}
+use Rattle.std.proofs.Common.{◌≡◌, ℕ, pos, List, [], ◌∷◌, Option, Some, None, Result, Ok, ◌⊎◌, inl, inr, refl, sym, ap, subst, ◌∙◌}
 use Rattle.std.specs.Prelude.{map}
 use Rattle.std.specs.List.{fold}
 use Rattle.m2_rule.specs.declared.rule.Rule.TheVariants as rule
@@ -16,13 +16,12 @@ use Rattle.m2_tree.specs.declared.expr.Selector.{Selector, Selector-F, out-Selec
 use Rattle.m2_tree.specs.declared.expr.Designator.{Designator, out-Designator}
 use Rattle.m2_tree.specs.declared.expr.Item.{Item}
 use Rattle.typed_tree.specs.declared.types.TypeNo.{TypeNo}
-use Rattle.typed_tree.specs.declared.known_types.Types.{Types}
 use Rattle.typed_tree.specs.declared.meaning.Value.TheVariants as value
 use Rattle.typed_tree.specs.Types.{char}
 use Rattle.check_scope.specs.declared.fault.Fault.{Fault}
 use Rattle.check_scope.specs.declared.meaningless.Meaningless.{Meaningless}
 use Rattle.check_scope.specs.declared.scope.Scope.{Scope}
-use Rattle.check_scope.specs.Elaborated.{Gathers, ◌▷◌}
+use Rattle.check_scope.specs.Elaborated.{Gathers}
 use Rattle.check_const_ops.specs.declared.operator.BinaryOp.TheVariants as op
 use Rattle.check_operator.specs.declared.computed.Computed.{Computed}
 use Rattle.check_operator.specs.declared.computed.Computed.TheVariants as computed
@@ -30,20 +29,20 @@ use Rattle.check_operator.specs.declared.computed.Designated.{Designated}
 use Rattle.check_operator.specs.declared.computed.Designated.TheVariants as designated
 use Rattle.check_operator.specs.Operations.{combined}
 use Rattle.check_operator.specs.Signs.{negated, signed}
-use Rattle.check_expr.specs.Meanings.{Meant, Picks, meant, picks, head, value_of, of_computed, factor, term as addend, named, field_at, index_at, designation, called_by, expr_layer, selector_layer}
-use Rattle.def_typing.specs.Amounts.{Constant, Value}
+use Rattle.check_expr.specs.Meanings.{Meant, Picks, meant, picks, head, value_of, of_computed, factor, term as addend, index_at, called_by, expr_layer}
+use Rattle.def_typing.specs.Amounts.{Constant}
 use Rattle.def_typing.specs.Operators.{◌!◌, Kind, Scalar, Text, operand, Makes, Misused, Misapplied, MaySign, SignMakes, Negates}
-use Rattle.def_typing.specs.Things.{Thing, AValue, AVariable, Standing, Known, Misnamed, IsAssignable, Misassigned, Picks as PicksName, Indexes}
+use Rattle.def_typing.specs.Things.{Thing, AValue, Standing, Known, Misnamed, Picks as PicksName, Indexes}
 use Rattle.def_typing.specs.Expressions as rules
 use Rattle.def_typing.specs.Parts.{first, Operand, factors, addends, Among, here, later}
 use Rattle.def_typing.specs.Expressions.{IsOperand, IsPart, an_operand, an_argument, Reads, Denotes, Selected, Selects, Chain, done, then, Calls, Misselected, SelectionFails, Miscalled, ChainFails, at_once, further, Fails}
-use Rattle.law_typing.specs.Judging.{Judges, Answers, means, refuses}
-use Rattle.law_typing.specs.Exact.{IsKind, kind_constant, IsThing, thing_value, Knows, IsExact, IsPlain, AreCallFree, plain_number, plain_character, plain_string, plain_set, plain_name, plain_call, plain_not, plain_brackets, plain_term, plain_sum, plain_relation, ArePlain, no_expression, one_expression, ArePlainOperands, no_operand, one_operand, ArePlainSelectors, no_selector, a_field, an_index}
+use Rattle.law_typing.specs.Judging.{Judges, Answers, means}
+use Rattle.law_typing.specs.Exact.{IsKind, kind_constant, thing_value, Knows, IsExact, IsPlain, AreCallFree, plain_number, plain_character, plain_string, plain_set, plain_name, plain_call, plain_not, plain_brackets, plain_term, plain_sum, plain_relation, ArePlain, no_expression, one_expression, ArePlainOperands, no_operand, one_operand, ArePlainSelectors, no_selector, a_field, an_index}
 use Rattle.law_typing.proofs.Combining.{Lawful, exact, both_answer, then_answer, Finds, finds, finds_as, plain_finds}
 use Rattle.law_typing.proofs.Joining.{operated_answers}
 use Rattle.law_typing.proofs.Singles.{signed_answers, negated_answers}
-use Rattle.law_typing.proofs.Selecting.{known_one, named_finds, FieldFails, field_finds, NoElements, ElementOf, IndexFails, index_finds}
-use Rattle.law_typing.proofs.Places.{opened, meant_is, picks_is, head_is, head_at, opened_selector, at_is}
+use Rattle.law_typing.proofs.Selecting.{named_finds, FieldFails, field_finds, NoElements, ElementOf, IndexFails, index_finds}
+use Rattle.law_typing.proofs.Places.{opened, picks_is, head_is, head_at, at_is}
 use Rattle.law_typing.proofs.Finding.{Elsewhere, StandsFor, HasKind, IsBroken, IsBrokenValue, IsFound, IsValued, InLayer, by_layer, value_layer, valued, operand_broken, AnyBroken}
 use Rattle.law_typing.proofs.Routines.{calls_answer}
 use Rattle.typed_tree.specs.declared.meaning.Value.{Value as ConstantValue}

@@ -1,5 +1,5 @@
 -- What is found of an expression, by its layer, and as a value.
-use Rattle.std.proofs.Common.{◌≡◌, ℕ, List, [], ◌∷◌, Option, Some, None, Result, Ok, Err, ◌⊎◌, inl, inr, refl, sym, ap, subst, ◌∙◌}
+use Rattle.std.proofs.Common.{◌≡◌, ℕ, List, [], ◌∷◌, Result, Ok, ◌⊎◌, inl, inr, sym, ap, subst, ◌∙◌}
 use Rattle.std.specs.Prelude.{map}
 use Rattle.std.specs.List.{fold}
 use Rattle.m2_tree.specs.declared.pos.Pos.{Pos}
@@ -11,7 +11,7 @@ use Rattle.m2_tree.specs.declared.expr.Item.{Item}
 use Rattle.check_scope.specs.declared.fault.Fault.{Fault}
 use Rattle.check_scope.specs.declared.meaningless.Meaningless.{Meaningless}
 use Rattle.check_scope.specs.declared.scope.Scope.{Scope}
-use Rattle.check_scope.specs.Elaborated.{Gathers, beside, of_heading, ◌▷◌}
+use Rattle.check_scope.specs.Elaborated.{Gathers}
 use Rattle.check_operator.specs.declared.computed.Computed.{Computed}
 use Rattle.check_operator.specs.declared.computed.Designated.{Designated}
 use Rattle.check_expr.specs.Meanings.{Meant, meant, value_of, taken_at, of_computed, expr_layer, looked_at, with_look}
@@ -20,7 +20,7 @@ use Rattle.def_typing.specs.Things.{Thing, AValue, Standing, Taken, Mistaken}
 use Rattle.def_typing.specs.Parts.{first, Among, here, later}
 use Rattle.def_typing.specs.Expressions.{IsOperand, IsPart, an_operand, Stands, as_written, Has, taken, Reads, Fails, no_operand, Broken, fails, inside, BrokenAsValue, broken, mistaken}
 use Rattle.law_typing.specs.Judging.{Judges, Answers}
-use Rattle.law_typing.specs.Exact.{IsKind, Knows, Repeats, IsPlain}
+use Rattle.law_typing.specs.Exact.{IsKind, Repeats, IsPlain}
 use Rattle.law_typing.proofs.Combining.{Lawful, exact, Finds, finds_as, computed_finds, heading_tells, Tells, silent, tells_as, beside_tells}
 use Rattle.law_typing.proofs.Placing.{value_answers}
 use Rattle.law_typing.proofs.Places.{opened, meant_is, at_is}

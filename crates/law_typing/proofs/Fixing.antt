@@ -1,20 +1,16 @@
 -- Constant expressions without calls are answered exactly.
-use Rattle.std.proofs.Common.{◌≡◌, ℕ, ℤ, pos, Bool, true, false, not, cond, List, [], ◌∷◌, Option, Some, None, Result, Ok, Err, ◌⊎◌, inl, inr, refl, sym, ap, subst, ◌∙◌}
-use Rattle.std.specs.Prelude.{map, int_lt, bit_or, slice_get}
+use Rattle.std.proofs.Common.{◌≡◌, ℕ, List, [], ◌∷◌, Option, Result, Ok, Err, ◌⊎◌, inl, inr, refl, sym, ap, subst, ◌∙◌}
+use Rattle.std.specs.Prelude.{map, slice_get}
 use Rattle.std.specs.List.{fold}
 use Rattle.m2_rule.specs.declared.rule.Rule.TheVariants as rule
 use Rattle.m2_tree.specs.declared.pos.Pos.{Pos}
 use Rattle.m2_tree.specs.declared.name.Ident.{Ident}
-use Rattle.m2_tree.specs.declared.expr.MulOp.{MulOp}
-use Rattle.m2_tree.specs.declared.expr.AddOp.{AddOp}
-use Rattle.m2_tree.specs.declared.expr.RelOp.{RelOp}
 use Rattle.m2_tree.specs.declared.expr.Sign.{Sign}
-use Rattle.m2_tree.specs.declared.expr.Operator.{Operator}
-use Rattle.m2_tree.specs.declared.expr.Expr.{Expr, Expr-F, out-Expr}
+use Rattle.m2_tree.specs.declared.expr.Expr.{Expr}
 use Rattle.m2_tree.specs.declared.expr.Expr.TheOpen as layer
 use Rattle.m2_tree.specs.declared.expr.Selector.{Selector, Selector-F, out-Selector}
 use Rattle.m2_tree.specs.declared.expr.Designator.{Designator, out-Designator}
-use Rattle.m2_tree.specs.declared.expr.Item.{Item, Item-F, out-Item}
+use Rattle.m2_tree.specs.declared.expr.Item.{Item}
 use Rattle.typed_tree.specs.declared.types.TypeNo.{TypeNo}
 use Rattle.typed_tree.specs.declared.meaning.LocalKind.TheVariants as local
 use Rattle.typed_tree.specs.declared.meaning.LocalKind.{LocalKind}
@@ -22,42 +18,34 @@ use Rattle.typed_tree.specs.declared.meaning.Meaning.{Meaning}
 use Rattle.typed_tree.specs.declared.meaning.Meaning.TheVariants as meaning
 use Rattle.typed_tree.specs.declared.meaning.Standard.{Standard}
 use Rattle.typed_tree.specs.declared.meaning.Value.{Value as ConstantValue}
-use Rattle.typed_tree.specs.declared.meaning.Value.TheVariants as value
 use Rattle.typed_tree.specs.declared.known_types.Types.{Types}
-use Rattle.typed_tree.specs.Types.{are_same, bitset, char}
 use Rattle.check_scope.specs.declared.fault.Fault.{Fault}
 use Rattle.check_scope.specs.declared.meaningless.Meaningless.{Meaningless}
 use Rattle.check_scope.specs.declared.scope.Scope.{Scope}
-use Rattle.check_scope.specs.Elaborated.{Gathers, reported, reported_where, both, beside, of_sort, ◌▷◌}
+use Rattle.check_scope.specs.Elaborated.{Gathers, ◌▷◌}
 use Rattle.check_scope.specs.Scopes.{looked_up}
 use Rattle.check_const_ops.specs.declared.operand.Operand.{Operand as Side}
-use Rattle.check_const_ops.specs.declared.operand.Ordinal.{Ordinal}
 use Rattle.check_const_ops.specs.declared.operator.BinaryOp.{BinaryOp}
-use Rattle.check_const_ops.specs.declared.operator.BinaryOp.TheVariants as op
-use Rattle.check_const_ops.specs.Operands.{operand_of, valued}
+use Rattle.check_const_ops.specs.Operands.{operand_of}
 use Rattle.check_const_ops.specs.Operate as operate
 use Rattle.check_const.specs.declared.denoted.Denoted.{Denoted}
 use Rattle.check_const.specs.declared.denoted.Denoted.TheVariants as denoted
-use Rattle.check_const.specs.Denote.{denoted_by, denoted_of, as_constant, of_value, is_bitset, component, exported, exported_by}
+use Rattle.check_const.specs.Denote.{denoted_by, denoted_of, as_constant, of_value, component, exported, exported_by}
 use Rattle.check_const.specs.Parts as constants
-use Rattle.check_operator.specs.declared.computed.Computed.{Computed}
-use Rattle.check_operator.specs.declared.computed.Computed.TheVariants as computed
 use Rattle.check_operator.specs.Operations.{of_value as computed_of}
-use Rattle.check_expr.specs.Meanings.{Meant, Picks, meant, picks, head, expr_layer, selector_layer, denotation}
-use Rattle.def_typing.specs.Amounts.{Constant, Value}
-use Rattle.def_typing.specs.Operators.{◌!◌, Kind, Scalar, Set, Text, operand, Makes, Misused, Misapplied, MaySign, SignMakes, Negates}
-use Rattle.def_typing.specs.Things.{Thing, AValue, AVariable, AnOpenArray, AType, AProcedure, ANested, AStandard, AModule, Headless, Standing, Known, Ahead, Undeclared, NotExported, Unknown, Misnamed, undeclared, not_exported}
-use Rattle.def_typing.specs.Parts.{first, Operand, factors, addends, Among, here, later}
+use Rattle.check_expr.specs.Meanings.{Meant, Picks, picks, head, selector_layer}
+use Rattle.def_typing.specs.Operators.{◌!◌, Kind, operand, Makes, Misused, Misapplied, MaySign, SignMakes, Negates}
+use Rattle.def_typing.specs.Things.{Thing, Standing, Known, Undeclared, NotExported, Misnamed, undeclared, not_exported}
 use Rattle.def_typing.specs.Constants as rules
 use Rattle.def_typing.specs.Constants.{Fixed, AConstant, AScope, NoConstant, fixed_thing, FixedAs, FixedMisnamed, FixedPicks, FixedMispicks, FixedSelected, FixedSelectionFails, IsFixedPart, Fixes, FixedReads, FixedChain, fixed_done, fixed_then, FixedChainFails, FixedFails, FixedBroken}
 use Rattle.law_typing.specs.Judging.{Judges, Answers, means, refuses}
-use Rattle.law_typing.specs.Exact.{kind_of, IsKind, kind_constant, of_local, standing, Sees, sees, sees_nothing, sees_headless, sees_unknown, Exports, has_exported, has_nothing, Knows, Repeats, of_declaration, IsCallFree}
-use Rattle.law_typing.proofs.Combining.{Lawful, declined, exact, both_answer, then_answer, accounts_one, accounts_as}
+use Rattle.law_typing.specs.Exact.{kind_of, IsKind, kind_constant, of_local, standing, Sees, sees, sees_nothing, sees_headless, sees_unknown, Exports, has_exported, has_nothing, Knows, Repeats, of_declaration}
+use Rattle.law_typing.proofs.Combining.{Lawful, declined, exact, then_answer}
 use Rattle.law_typing.proofs.Joining.{Joins, no_joining, nothing_left, nothing_text, scalar_nothing, set_nothing, set_scalar, scalars_join, constant_member_joins, constant_sets_join}
 use Rattle.law_typing.proofs.Operating.{value_answers, constants_by}
 use Rattle.law_typing.proofs.Deciding.{common_is}
-use Rattle.law_typing.proofs.Singles.{IsConstantOperand, constant_scalar, constant_set, constant_text, constant_is, Signed, signed_answers, Negated, negated_answers}
-use Rattle.law_typing.proofs.Places.{opened, opened_selector, meant_is, picks_is, head_is, free_at}
+use Rattle.law_typing.proofs.Singles.{IsConstantOperand, constant_scalar, constant_set, constant_text, constant_is, signed_answers, negated_answers}
+use Rattle.law_typing.proofs.Places.{opened_selector, picks_is, head_is}
 
 -- ---- constants as such
 

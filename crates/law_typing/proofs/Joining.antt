@@ -1,6 +1,6 @@
 -- Operators on all values answer exactly.
-use Rattle.std.proofs.Common.{◌≡◌, ℕ, ℤ, pos, Bool, true, false, not, cond, List, [], ◌∷◌, Option, Some, None, Result, Ok, ◌⊎◌, inl, inr, refl, sym, ap, subst, ◌∙◌}
-use Rattle.std.specs.Prelude.{◌&&◌, ◌==◌}
+use Rattle.std.proofs.Common.{◌≡◌, ℕ, ℤ, pos, Bool, true, false, not, List, [], ◌∷◌, Option, Some, None, Result, Ok, ◌⊎◌, inl, inr, refl, sym, ap, subst, ◌∙◌}
+use Rattle.std.specs.Prelude.{◌&&◌}
 use Rattle.m2_rule.specs.declared.rule.Rule.TheVariants as rule
 use Rattle.m2_tree.specs.declared.pos.Pos.{Pos}
 use Rattle.m2_tree.specs.declared.expr.RelOp.TheVariants as rel
@@ -32,7 +32,6 @@ use Rattle.check_operator.specs.declared.side.Side.{Side}
 use Rattle.check_operator.specs.declared.side.Side.TheVariants as side
 use Rattle.check_operator.specs.declared.operate.SetStep.{SetStep}
 use Rattle.check_operator.specs.declared.operate.SetStep.TheVariants as set_step
-use Rattle.check_operator.specs.Agreement.{headings_agree}
 use Rattle.check_operator.specs.Sides.{side_of, known_of}
 use Rattle.check_operator.specs.Operations as elaborated
 use Rattle.check_operator.specs.Operations.{equality_of, set_step_of, is_in, on_procedures, between, by_known, operated, element_fits, of_value}
@@ -43,7 +42,7 @@ use Rattle.def_typing.specs.Operators as rules
 use Rattle.def_typing.specs.Operators.{◌!◌, Kind, Scalar, Set, Text, Routine, Procedure, Whole, Untaken, operand, Combines, Relates, IsCombining, IsSetRelation, IsMembership, IsElement, constant_element, some_element, IsEquality, AreRoutines, AreOperands, NotBoth, NotConstant, Makes, Overreaches, Misused}
 use Rattle.law_typing.specs.Judging.{Judges, Answers, means, refuses}
 use Rattle.law_typing.specs.Exact.{IsKind, kind_constant, kind_scalar, kind_set, kind_routine, kind_procedure, kind_whole, kind_untaken}
-use Rattle.law_typing.proofs.Combining.{Lawful, Decided, holds, fails_it, decided_as, fine, declined, exact, where_answers, Tests, where_checks, no_check, then_checked}
+use Rattle.law_typing.proofs.Combining.{Lawful, Decided, holds, fails_it, decided_as, fine, declined, exact, Tests, where_checks, no_check, then_checked}
 use Rattle.law_typing.proofs.Deciding.{same_decided, number_decided, within_decided, both_decided, common_is}
 use Rattle.law_typing.proofs.Shaping.{agree_decided}
 use Rattle.law_typing.proofs.Operating.{kind_of, IsScalar, Wrongly, unfit, overreaches, value_answers, constants_by, amounts_answer}

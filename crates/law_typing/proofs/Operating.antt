@@ -1,11 +1,10 @@
 -- Operators answer exactly.
-use Rattle.std.proofs.Common.{◌≡◌, ℕ, ℤ, pos, Bool, true, false, not, cond, Option, Some, None, Result, Ok, ◌⊎◌, inl, inr, refl, sym, ap, subst, ◌∙◌}
+use Rattle.std.proofs.Common.{◌≡◌, ℤ, pos, Bool, true, false, not, cond, Option, Some, None, Result, Ok, ◌⊎◌, inl, inr, refl, sym, ap, subst, ◌∙◌}
 use Rattle.std.specs.Prelude.{int_lt}
 use Rattle.m2_tree.specs.declared.pos.Pos.{Pos}
 use Rattle.m2_tree.specs.declared.expr.RelOp.TheVariants as rel
 use Rattle.typed_tree.specs.declared.types.TypeNo.{TypeNo}
 use Rattle.typed_tree.specs.declared.computed.TypedExpr.{TypedExpr}
-use Rattle.typed_tree.specs.declared.known_types.Types.{Types}
 use Rattle.typed_tree.specs.declared.meaning.Value.{Value as ConstantValue}
 use Rattle.typed_tree.specs.Types.{boolean}
 use Rattle.check_scope.specs.declared.fault.Fault.{Fault}
@@ -20,7 +19,6 @@ use Rattle.check_operator.specs.declared.computed.Computed.{Computed}
 use Rattle.check_operator.specs.declared.computed.Computed.TheVariants as computed
 use Rattle.check_operator.specs.declared.side.Amount.{Amount as Sided}
 use Rattle.check_operator.specs.declared.side.Amount.TheVariants.{Known, Run}
-use Rattle.check_operator.specs.Operations as elaborated
 use Rattle.check_operator.specs.Operations.{fitting_both, fitting_of, divisor_of, stepped, on_amounts, of_value, step_of}
 use Rattle.def_typing.specs.Amounts as k
 use Rattle.def_typing.specs.Amounts.{Amount, Constant, Value, IsWhole, IsNumber, InRange, Suits, GoTogether, IsArithmetic, IsLogical, IsComparison, IsDivision, BelowOne, Evaluates, Says, Takes, Fits, AreRight, Yields, IsComputed, Gives, truth}
@@ -32,8 +30,8 @@ use Rattle.law_typing.specs.Judging.{Judges, Answers, means, refuses}
 use Rattle.typed_tree.specs.declared.meaning.ScalarValue.{ScalarValue}
 use Rattle.typed_tree.specs.declared.meaning.Value.TheVariants as value
 use Rattle.law_typing.specs.Exact.{IsKind, kind_constant, kind_scalar}
-use Rattle.law_typing.proofs.Combining.{Lawful, Decided, holds, fails_it, decided_as, fine, declined, exact, Tests, where_also, where_answers, where_checks, no_check, beside_checks, checks_as, then_checked}
-use Rattle.law_typing.proofs.Deciding.{takes_decided, takes_number, takes_nothing, not_both, no_comparison, range_decided, TogetherIs, together, apart, common_is, some_same}
+use Rattle.law_typing.proofs.Combining.{Lawful, fails_it, decided_as, fine, declined, exact, Tests, where_also, where_answers, where_checks, no_check, beside_checks, checks_as, then_checked}
+use Rattle.law_typing.proofs.Deciding.{takes_decided, takes_number, takes_nothing, not_both, no_comparison, range_decided, TogetherIs, together, apart, some_same}
 
 -- what an operand is
 abbrev pub kind_of : Sided → Amount
@@ -370,4 +368,3 @@ module _ (g : Gathers) (j : Judges g) (lawful : Lawful g j) (O : Fault → Type 
     amounts_answer p q _ c (together sort go only) = let t = computed_some c in let s = together_some go t.0 t.1 in
         subst (λ (sort : Option TypeNo). Answers g j O IsScalar (Gives op (kind_of p) (kind_of q)) (Wrongly op spot left right (kind_of p) (kind_of q)) (on_amounts g op spot left p right q (Some sort))) (sym s.1)
         (amounts_by p q s.0 c (subst (GoTogether (k.sort_of (kind_of p)) (k.sort_of (kind_of q))) s.1 go) (λ r x. only r x ∙ s.1))
-

@@ -1,6 +1,5 @@
 -- Arguments are held against formals exactly.
-use Rattle.std.proofs.Common.{◌≡◌, ℕ, ℤ, pos, Bool, true, false, not, cond, List, [], ◌∷◌, Option, Some, None, Result, Ok, Err, ◌⊎◌, inl, inr, refl, sym, ap, subst, ◌∙◌}
-use Rattle.std.specs.Prelude.{◌&&◌}
+use Rattle.std.proofs.Common.{◌≡◌, ℕ, pos, Bool, true, false, not, List, Option, Some, None, Result, Ok, ◌⊎◌, inl, inr, refl, sym, ap, subst, ◌∙◌}
 use Rattle.m2_rule.specs.declared.rule.Rule.{Rule}
 use Rattle.m2_rule.specs.declared.rule.Rule.TheVariants as rule
 use Rattle.m2_tree.specs.declared.pos.Pos.{Pos}
@@ -17,23 +16,19 @@ use Rattle.typed_tree.specs.Known.{scalar_at}
 use Rattle.typed_tree.specs.Types.{are_same, char}
 use Rattle.check_scope.specs.declared.fault.Fault.{Fault}
 use Rattle.check_scope.specs.declared.meaningless.Meaningless.{Meaningless}
-use Rattle.check_scope.specs.Elaborated.{Gathers, reported, reported_where, ◌▷◌}
-use Rattle.check_const_ops.specs.Numbers.{is_between}
+use Rattle.check_scope.specs.Elaborated.{Gathers, reported, reported_where}
 use Rattle.check_operator.specs.declared.class.Class.{Class}
 use Rattle.check_operator.specs.declared.computed.Computed.{Computed}
 use Rattle.check_operator.specs.declared.computed.Designated.{Designated}
-use Rattle.check_operator.specs.Classes.{class_at, array_at}
-use Rattle.check_operator.specs.Values.{taken}
-use Rattle.check_operator.specs.Suits.{value_suited}
-use Rattle.check_call.specs.Actuals.{starts_at_zero, elements_suit_in, elements_suit, variable_passed, open_passed, text_passed, open_value, whole_passed, simple_passed, passed_as, value_passed, actual}
+use Rattle.check_call.specs.Actuals.{starts_at_zero, elements_suit_in, elements_suit, variable_passed, open_passed, text_passed, open_value, whole_passed, simple_passed, passed_as, actual}
 use Rattle.check_expr.specs.Meanings.{argument_by}
 use Rattle.def_typing.specs.Shapes.{shape_at, IsMade}
 use Rattle.def_typing.specs.Amounts.{Within}
-use Rattle.def_typing.specs.Operators.{◌!◌, Kind, Scalar, Set, Text, Routine, Procedure, Whole, Untaken, operand}
+use Rattle.def_typing.specs.Operators.{◌!◌, Kind, Text, Whole, operand}
 use Rattle.def_typing.specs.Things.{Thing, AValue, AVariable, AnOpenArray, AType, AProcedure, ANested, AStandard, AModule, Headless, content_of, content, Taken, Mistaken, Compatible, OutOfType, IsAssignable, Misassigned}
 use Rattle.def_typing.specs.Things as things
 use Rattle.def_typing.specs.Functions.{variable_formal, open_variable_formal, value_formal, open_value_formal, HasElements, has_elements, Accepts, variable, array_variable, open_variable, array, open_array, text, whole, compatible, Mispassed, no_variable, no_value, wrong_argument, out_of_range, IsPassed}
-use Rattle.law_typing.specs.Judging.{Judges, Answers}
+use Rattle.law_typing.specs.Judging.{Judges}
 use Rattle.law_typing.specs.Exact.{IsKind, kind_constant, kind_scalar, kind_set, kind_routine, kind_procedure, kind_whole, kind_untaken, IsThing, thing_value, thing_variable, thing_open, thing_type, thing_procedure, thing_nested, thing_standard, thing_module}
 use Rattle.law_typing.proofs.Combining.{Lawful, Decided, holds, fails_it, decided_as, Checks, passes, stopped, checks_as, map_checks, then_check, Finds, sort_checks, heading_checks}
 use Rattle.law_typing.proofs.Deciding.{same_decided, within_decided, both_decided, some_same}
@@ -273,7 +268,6 @@ module _ (g : Gathers) (j : Judges g) (lawful : Lawful g j) (O : Fault → Type 
       where
         variable_same : {u v : TypeNo} → AVariable u ≡ AVariable v → u ≡ v
         variable_same {u = u} q = ap (λ x. elim x [ AVariable w ↦ w | AValue k ↦ u | AnOpenArray w ↦ u | AType w ↦ u | AProcedure w ↦ u | ANested w ↦ u | AStandard f ↦ u | AModule k ↦ u | Headless ↦ u ]) q
-
 
     whole_passes : (a : Designated) (x : Thing) → IsThing a x → Passes (value_formal t) x (whole_passed g t at a)
     whole_passes _ _ (thing_variable u d) = whole_where _ (are_same u t) (same_decided u t)

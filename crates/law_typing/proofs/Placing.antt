@@ -1,25 +1,21 @@
 -- What suits a place, what is taken as a value, and what formals take: all answered exactly.
-use Rattle.std.proofs.Common.{◌≡◌, ℕ, ℤ, pos, Bool, true, false, not, cond, List, [], ◌∷◌, Option, Some, None, Result, Ok, Err, ◌⊎◌, inl, inr, refl, sym, ap, subst, ◌∙◌}
-use Rattle.std.specs.Prelude.{◌&&◌, ◌||◌}
+use Rattle.std.proofs.Common.{◌≡◌, ℕ, ℤ, Bool, not, Option, Some, None, Result, Ok, ◌⊎◌, inl, inr, refl, sym, ap, subst, ◌∙◌}
+use Rattle.std.specs.Prelude.{◌||◌}
 use Rattle.m2_rule.specs.declared.rule.Rule.{Rule}
 use Rattle.m2_rule.specs.declared.rule.Rule.TheVariants as rule
 use Rattle.m2_tree.specs.declared.pos.Pos.{Pos}
 use Rattle.typed_tree.specs.declared.types.TypeNo.{TypeNo}
-use Rattle.typed_tree.specs.declared.computed.Argument.{Argument}
 use Rattle.typed_tree.specs.declared.computed.Place.{Place}
 use Rattle.typed_tree.specs.declared.computed.TypedExpr.{TypedExpr}
-use Rattle.typed_tree.specs.declared.meaning.Value.TheVariants as value
-use Rattle.typed_tree.specs.declared.shape.Formal.{Formal}
 use Rattle.typed_tree.specs.declared.shape.Scalar.{Scalar as Range}
 use Rattle.typed_tree.specs.declared.shape.Shape.{Shape}
 use Rattle.typed_tree.specs.declared.shape.Shape.TheVariants as shape
 use Rattle.typed_tree.specs.declared.shape.Signature.{Signature}
 use Rattle.typed_tree.specs.declared.known_types.Types.{Types}
-use Rattle.typed_tree.specs.Known.{scalar_at}
-use Rattle.typed_tree.specs.Types.{are_same, is_numeric, char}
+use Rattle.typed_tree.specs.Types.{are_same}
 use Rattle.check_scope.specs.declared.fault.Fault.{Fault}
 use Rattle.check_scope.specs.declared.meaningless.Meaningless.{Meaningless}
-use Rattle.check_scope.specs.Elaborated.{Gathers, reported, reported_where, ◌▷◌}
+use Rattle.check_scope.specs.Elaborated.{Gathers, reported, reported_where}
 use Rattle.check_const_ops.specs.Numbers.{is_between}
 use Rattle.check_operator.specs.declared.class.Class.{Class}
 use Rattle.check_operator.specs.declared.computed.Computed.{Computed}
@@ -27,23 +23,22 @@ use Rattle.check_operator.specs.declared.computed.Computed.TheVariants as comput
 use Rattle.check_operator.specs.declared.computed.Designated.{Designated}
 use Rattle.check_operator.specs.declared.side.Amount.TheVariants.{Known, Run}
 use Rattle.check_operator.specs.declared.side.Side.{Side}
-use Rattle.check_operator.specs.Classes.{class_at, array_at}
+use Rattle.check_operator.specs.Classes.{class_at}
 use Rattle.check_operator.specs.Agreement.{headings_agree}
 use Rattle.check_operator.specs.Sides.{side_of}
-use Rattle.check_operator.specs.Suits.{bases_suit, sort_suits, known_suited, run_suited, value_in, value_suited}
+use Rattle.check_operator.specs.Suits.{bases_suit, sort_suits, value_in, value_suited}
 use Rattle.check_operator.specs.Values.{given_as, given as elaborated_given, loaded_as, taken}
 use Rattle.check_expr.specs.Meanings.{taken_at}
 use Rattle.def_typing.specs.Shapes.{shape_at, IsMade, Agree, agree}
-use Rattle.def_typing.specs.Amounts.{Amount, Constant, Value, sort_of, IsWhole, Within}
-use Rattle.def_typing.specs.Operators.{◌!◌, Kind, Scalar, Set, Text, Routine, Procedure, Whole, Untaken, operand}
+use Rattle.def_typing.specs.Amounts.{Amount, Constant, sort_of, IsWhole, Within}
+use Rattle.def_typing.specs.Operators.{◌!◌, Kind, Scalar, Set, Routine, Procedure, Untaken, operand}
 use Rattle.def_typing.specs.Things.{Thing, AValue, AVariable, AnOpenArray, AType, AProcedure, ANested, AStandard, AModule, Headless, content_of, content, Taken, Mistaken, SuitsBase, same_base, both_whole, a_number, Compatible, OutOfType, out_of_type, IsAssignable, Misassigned, incompatible, out_of_range}
 use Rattle.def_typing.specs.Things as things
 use Rattle.def_typing.specs.Functions.{result_of, given}
-use Rattle.law_typing.specs.Judging.{Judges, Answers, means, refuses}
-use Rattle.law_typing.specs.Exact.{IsKind, kind_constant, kind_scalar, kind_set, kind_routine, kind_procedure, kind_whole, kind_untaken, IsThing, thing_value, thing_variable, thing_open, thing_type, thing_procedure, thing_nested, thing_standard, thing_module}
-use Rattle.law_typing.proofs.Combining.{Lawful, Decided, holds, fails_it, decided_as, declined, Checks, passes, stops, stopped, Finds, heading_answers}
-use Rattle.law_typing.proofs.Deciding.{same_decided, whole_decided, within_decided, both_decided, some_same}
-use Rattle.law_typing.proofs.Operating.{kind_of}
+use Rattle.law_typing.specs.Judging.{Judges, Answers, means}
+use Rattle.law_typing.specs.Exact.{IsKind, kind_scalar, kind_set, kind_routine, kind_procedure, kind_whole, kind_untaken, IsThing, thing_value, thing_variable, thing_open, thing_type, thing_procedure, thing_nested, thing_standard, thing_module}
+use Rattle.law_typing.proofs.Combining.{Lawful, Decided, holds, fails_it, decided_as, declined, Checks, passes, stopped, Finds, heading_answers}
+use Rattle.law_typing.proofs.Deciding.{same_decided, whole_decided, within_decided, both_decided}
 use Rattle.law_typing.proofs.Joining.{IsSide, side_scalar, side_set, side_routine, side_procedure, side_text, side_whole, side_untaken, side_is}
 use Rattle.law_typing.proofs.Shaping.{class_of, class_is, one_made, agree_decided}
 

@@ -1,5 +1,5 @@
 -- Calls of functions that are declared answer exactly, and so do all calls.
-use Rattle.std.proofs.Common.{◌≡◌, ℕ, suc, Bool, true, false, not, cond, List, [], ◌∷◌, ◌++◌, length, Option, Some, None, Result, Ok, Err, ◌⊎◌, inl, inr, refl, sym, ap, subst, ◌∙◌, arith}
+use Rattle.std.proofs.Common.{◌≡◌, ℕ, suc, Bool, true, false, not, List, [], ◌∷◌, ◌++◌, length, Option, Some, None, Result, Ok, ◌⊎◌, inl, inr, refl, sym, ap, subst, ◌∙◌, arith}
 use Rattle.std.specs.Prelude.{map, ◌==◌}
 use Rattle.std.specs.List.{fold}
 use Rattle.std.proofs.lemmas.List.{length-map}
@@ -10,10 +10,8 @@ use Rattle.m2_tree.specs.declared.name.Ident.{Ident}
 use Rattle.m2_tree.specs.declared.expr.Expr.{Expr}
 use Rattle.typed_tree.specs.declared.types.TypeNo.{TypeNo}
 use Rattle.typed_tree.specs.declared.computed.Argument.{Argument}
-use Rattle.typed_tree.specs.declared.computed.LocalProcedure.{LocalProcedure}
 use Rattle.typed_tree.specs.declared.computed.Place.{Place}
 use Rattle.typed_tree.specs.declared.computed.TypedExpr.TheVariants as expr
-use Rattle.typed_tree.specs.declared.meaning.Procedure.{Procedure as ModuleProcedure}
 use Rattle.typed_tree.specs.declared.meaning.Standard.{Standard}
 use Rattle.typed_tree.specs.declared.shape.Formal.{Formal}
 use Rattle.typed_tree.specs.declared.shape.Shape.{Shape}
@@ -23,17 +21,15 @@ use Rattle.typed_tree.specs.declared.known_types.Types.{Types}
 use Rattle.check_scope.specs.declared.fault.Fault.{Fault}
 use Rattle.check_scope.specs.declared.meaningless.Meaningless.{Meaningless}
 use Rattle.check_scope.specs.declared.scope.Scope.{Scope}
-use Rattle.check_scope.specs.Elaborated.{Gathers, reported, reported_where, of_heading, ahead, ◌▷◌}
+use Rattle.check_scope.specs.Elaborated.{Gathers, reported, reported_where, ahead, ◌▷◌}
 use Rattle.check_operator.specs.declared.class.Class.{Class}
 use Rattle.check_operator.specs.declared.computed.Computed.{Computed}
 use Rattle.check_operator.specs.declared.computed.Designated.{Designated}
-use Rattle.check_operator.specs.Classes.{class_at, signature_at}
+use Rattle.check_operator.specs.Classes.{signature_at}
 use Rattle.check_call.specs.declared.callee.Callee.{Callee}
-use Rattle.check_call.specs.declared.callee.Callee.TheVariants as callee
 use Rattle.check_call.specs.declared.callee.Called.{Called}
 use Rattle.check_call.specs.declared.callee.Called.TheVariants as called
-use Rattle.check_call.specs.Callees.{held_by, callee_of, counted, function_with, function_of, call_by}
-use Rattle.check_call.specs.Actuals.{with_argument}
+use Rattle.check_call.specs.Callees.{held_by, callee_of, function_with, function_of, call_by}
 use Rattle.check_expr.specs.Meanings.{meant, looked_at, with_actual, actuals, argument_by, call_given, formals_of, called_as, called_by}
 use Rattle.def_typing.specs.Shapes.{shape_at, IsMade}
 use Rattle.def_typing.specs.Operators.{◌!◌, Kind}
@@ -42,7 +38,7 @@ use Rattle.def_typing.specs.Functions.{given, HasHeading, of_procedure, of_neste
 use Rattle.def_typing.specs.Parts.{first, Among, here, later}
 use Rattle.def_typing.specs.Expressions.{Beside, beside, behind, Stands, Calls, ArePassed, no_more, one_more, Miscalled}
 use Rattle.def_typing.specs.Expressions as rules
-use Rattle.law_typing.specs.Judging.{Judges, Answers, means, refuses}
+use Rattle.law_typing.specs.Judging.{Judges, Answers, means}
 use Rattle.law_typing.specs.Exact.{IsKind, IsThing, thing_value, thing_variable, thing_open, thing_type, thing_procedure, thing_nested, thing_standard, thing_module, IsPlain}
 use Rattle.law_typing.proofs.Combining.{Lawful, declined, exact, Checks, passes, checks_as, map_checks, both_checks, then_checked, ahead_answers, heading_answers, Finds}
 use Rattle.law_typing.proofs.Deciding.{some_same}

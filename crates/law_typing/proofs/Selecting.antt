@@ -1,7 +1,6 @@
 -- Names and components answer exactly.
-use Rattle.std.proofs.Common.{◌≡◌, ℕ, List, Option, Some, None, Result, Ok, Err, ◌⊎◌, inl, inr, refl, sym, ap, subst, ◌∙◌}
+use Rattle.std.proofs.Common.{◌≡◌, ℕ, List, Option, Some, None, Result, Ok, ◌⊎◌, inl, inr, refl, sym, ap, subst, ◌∙◌}
 use Rattle.std.specs.Prelude.{slice_get}
-use Rattle.m2_rule.specs.declared.rule.Rule.{Rule}
 use Rattle.m2_rule.specs.declared.rule.Rule.TheVariants as rule
 use Rattle.m2_tree.specs.declared.pos.Pos.{Pos}
 use Rattle.m2_tree.specs.declared.name.Ident.{Ident}
@@ -17,15 +16,13 @@ use Rattle.typed_tree.specs.declared.meaning.Meaning.{Meaning}
 use Rattle.typed_tree.specs.declared.meaning.Meaning.TheVariants as meaning
 use Rattle.typed_tree.specs.declared.shape.Shape.{Shape}
 use Rattle.typed_tree.specs.declared.shape.Shape.TheVariants as shape
-use Rattle.typed_tree.specs.declared.known_types.Types.{Types}
 use Rattle.typed_tree.specs.Chains.{behind}
 use Rattle.typed_tree.specs.Names.{found}
 use Rattle.typed_tree.specs.Types.{cardinal}
 use Rattle.check_scope.specs.declared.fault.Fault.{Fault}
 use Rattle.check_scope.specs.declared.meaningless.Meaningless.{Meaningless}
-use Rattle.check_scope.specs.declared.meaningless.Meaningless.TheVariants as meaningless
 use Rattle.check_scope.specs.declared.scope.Scope.{Scope}
-use Rattle.check_scope.specs.Elaborated.{Gathers, reported, of_sort, plain, ◌▷◌}
+use Rattle.check_scope.specs.Elaborated.{Gathers, reported, plain, ◌▷◌}
 use Rattle.check_scope.specs.Scopes.{looked_up}
 use Rattle.check_const.specs.Denote.{exported, exported_by}
 use Rattle.check_operator.specs.declared.computed.Computed.{Computed}
@@ -33,19 +30,18 @@ use Rattle.check_operator.specs.declared.computed.Designated.{Designated}
 use Rattle.check_operator.specs.declared.computed.Designated.TheVariants as designated
 use Rattle.check_operator.specs.declared.select.Subscripted.{Subscripted}
 use Rattle.check_operator.specs.declared.select.Subscripted.TheVariants as indexes
-use Rattle.check_operator.specs.Classes.{array_at}
-use Rattle.check_operator.specs.Selection.{numbered_field, field_named, record_field, component, field, array_indexed, indices, asked, picked, with_index, indexed}
+use Rattle.check_operator.specs.Selection.{numbered_field, field_named, record_field, component, array_indexed, indices, asked, picked, with_index}
 use Rattle.check_operator.specs.Values.{designated_by, local_by}
-use Rattle.check_expr.specs.Meanings.{named, member_of, field_of, field_at, index_at}
+use Rattle.check_expr.specs.Meanings.{named, field_of, field_at, index_at}
 use Rattle.def_typing.specs.Shapes.{shape_at, IsMade}
 use Rattle.def_typing.specs.Operators.{◌!◌, Kind, operand}
 use Rattle.def_typing.specs.Things.{Thing, AValue, AVariable, AnOpenArray, AType, AProcedure, ANested, AStandard, AModule, Headless, Standing, Known, Ahead, Undeclared, NotExported, Unknown, Misnamed, undeclared, not_yet, not_exported, IsAssignable, Misassigned, Picks, of_module, of_record, Indexes, of_array, of_open}
 use Rattle.def_typing.specs.Things as things
-use Rattle.law_typing.specs.Judging.{Judges, Answers, means, refuses}
-use Rattle.law_typing.specs.Exact.{kind_of, IsKind, kind_constant, IsThing, thing_value, thing_variable, thing_open, thing_type, thing_procedure, thing_nested, thing_standard, thing_module, of_local, standing, Sees, sees, sees_nothing, sees_headless, sees_unknown, Exports, has_exported, has_nothing, Knows, Repeats, of_heading, of_declaration}
-use Rattle.law_typing.proofs.Combining.{Lawful, declined, exact, both_answer, then_answer, then_checked, Finds, finds, finds_headless, finds_nothing, plain_finds, sort_answers, accounts_one, accounts_as}
+use Rattle.law_typing.specs.Judging.{Judges, Answers, means}
+use Rattle.law_typing.specs.Exact.{IsKind, kind_constant, IsThing, thing_value, thing_variable, thing_open, thing_type, thing_procedure, thing_nested, thing_standard, thing_module, of_local, standing, Sees, sees, sees_nothing, sees_headless, sees_unknown, Exports, has_exported, has_nothing, Knows, Repeats, of_heading, of_declaration}
+use Rattle.law_typing.proofs.Combining.{Lawful, declined, exact, both_answer, then_answer, then_checked, Finds, finds_headless, finds_nothing, plain_finds, sort_answers, accounts_one, accounts_as}
 use Rattle.law_typing.proofs.Naming.{FieldIs, field_there, field_nowhere, field_is}
-use Rattle.law_typing.proofs.Placing.{some_made, value_suits}
+use Rattle.law_typing.proofs.Placing.{value_suits}
 use Rattle.law_typing.proofs.Shaping.{array_of, array_is, fields_of, fields_is, one_made}
 
 abbrev thing_in : Thing → Standing → Thing
@@ -251,7 +247,7 @@ module _ (g : Gathers) (j : Judges g) (lawful : Lawful g j) (names : Ident → S
 
     pub index_finds : {S : Thing → Type 0} {B : Fault → Type 0} {M : Kind → Type 0} {C : Fault → Type 0} {d : Result Designated (Meaningless g.Reported)} {x : Result Computed g.Reported} (spot : Pos) → Finds g j lawful R S B d → Answers g j R IsKind M C x
         → Finds g j lawful R (λ y. (p : (TypeNo × TypeNo) × Kind) × (((z : Thing) × S z × Indexes s.types z p.0.0 p.0.1) × M p.1) × ElementOf p y)
-          (λ f. ((B f ⊎ ((z : Thing) × S z × NoElements z f)) ⊎ C f) ⊎ ((p : (TypeNo × TypeNo) × Kind) × (((z : Thing) × S z × Indexes s.types z p.0.0 p.0.1) × M p.1) × IndexFails spot p f)) (index_at g s.types at d spot x)
+        (λ f. ((B f ⊎ ((z : Thing) × S z × NoElements z f)) ⊎ C f) ⊎ ((p : (TypeNo × TypeNo) × Kind) × (((z : Thing) × S z × Indexes s.types z p.0.0 p.0.1) × M p.1) × IndexFails spot p f)) (index_at g s.types at d spot x)
     index_finds spot h a = plain_finds g j lawful R (then_answer g j lawful R {N = λ p y. ElementOf p y} {D = λ p f. IndexFails spot p f}
         (both_answer g j lawful R (sort_answers g j lawful R {N = λ z p. Indexes s.types z p.0 p.1} {D = NoElements} at rule.WrongType h indices_answers (no_elements (λ i t q. elim q [ ]))) a)
         (λ p k i. index_answers spot p.0 k.0 p.1 k.1 i.0 i.1))

@@ -1,6 +1,6 @@
 -- What the elaboration sees of types, from how they are made.
-use Rattle.std.proofs.Common.{◌≡◌, ℕ, ℤ, pos, Bool, true, false, cond, List, [], ◌∷◌, Option, Some, None, ◌⊎◌, inl, inr, refl, sym, ap, subst, ◌∙◌}
-use Rattle.std.specs.Prelude.{◌&&◌, not}
+use Rattle.std.proofs.Common.{◌≡◌, ℕ, Bool, true, false, List, [], ◌∷◌, Option, Some, None, refl, sym, ap, subst, ◌∙◌}
+use Rattle.std.specs.Prelude.{◌&&◌}
 use Rattle.std.specs.Option.{option_map}
 use Rattle.typed_tree.specs.declared.types.Home.{Home}
 use Rattle.typed_tree.specs.declared.types.Home.TheVariants.{Predeclared, Module}
@@ -13,7 +13,6 @@ use Rattle.typed_tree.specs.declared.shape.Shape.TheVariants as shape
 use Rattle.typed_tree.specs.declared.shape.Signature.{Signature}
 use Rattle.typed_tree.specs.declared.known_types.Types.{Types}
 use Rattle.typed_tree.specs.Known.{made_in, made_from, predeclared_scalar, scalar_at, scalar_from, scalar_made, scalar_shape}
-use Rattle.typed_tree.specs.Types.{are_same}
 use Rattle.check_scope.specs.Scopes.{fields_at, fields_made, fields_shape}
 use Rattle.check_operator.specs.declared.class.Class.{Class}
 use Rattle.check_operator.specs.declared.class.Class.TheVariants as class

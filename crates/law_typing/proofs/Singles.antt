@@ -1,5 +1,5 @@
 -- What takes one operand answers exactly: signs, NOT, and functions of one value.
-use Rattle.std.proofs.Common.{◌≡◌, ℕ, ℤ, pos, Bool, true, false, not, cond, List, [], ◌∷◌, Option, Some, None, Result, Ok, Err, ◌⊎◌, inl, inr, refl, sym, ap, subst, ◌∙◌}
+use Rattle.std.proofs.Common.{◌≡◌, ℕ, ℤ, pos, Bool, true, false, not, cond, List, [], ◌∷◌, Option, Some, None, Result, Ok, refl, sym, ap, subst, ◌∙◌}
 use Rattle.std.specs.Prelude.{◌-ℤ◌, int_lt}
 use Rattle.std.specs.Int.{int_rem_euclid}
 use Rattle.m2_rule.specs.declared.rule.Rule.{Rule}
@@ -16,7 +16,7 @@ use Rattle.typed_tree.specs.declared.meaning.Value.TheVariants as value
 use Rattle.typed_tree.specs.declared.shape.Scalar.{Scalar as Range}
 use Rattle.typed_tree.specs.Types.{are_same, is_numeric, integer, cardinal, boolean, char}
 use Rattle.check_scope.specs.declared.fault.Fault.{Fault}
-use Rattle.check_scope.specs.Elaborated.{Gathers, reported, reported_where, ◌▷◌}
+use Rattle.check_scope.specs.Elaborated.{Gathers, reported, reported_where}
 use Rattle.check_const_ops.specs.declared.operand.Ordinal.{Ordinal}
 use Rattle.check_const_ops.specs.declared.operand.Operand.{Operand}
 use Rattle.check_const_ops.specs.declared.operand.Operand.TheVariants as operands
@@ -38,7 +38,7 @@ use Rattle.def_typing.specs.Operators as rules
 use Rattle.def_typing.specs.Operators.{◌!◌, Kind, Scalar, Set, Text, Routine, Procedure, Whole, Untaken, operand, Misapplied, unsuited, makes_nothing, MaySign, SignMakes, Negates}
 use Rattle.def_typing.specs.Functions as functions
 use Rattle.def_typing.specs.Functions.{TakesOne, AbsoluteOf, Computes, MayApply, Applies, MayConvert, Converts}
-use Rattle.law_typing.specs.Judging.{Judges, Answers, means, refuses}
+use Rattle.law_typing.specs.Judging.{Judges, Answers, means}
 use Rattle.law_typing.specs.Exact.{kind_of, IsKind, kind_constant, kind_scalar, kind_set, kind_routine, kind_procedure, kind_whole, kind_untaken}
 use Rattle.law_typing.proofs.Combining.{Lawful, Decided, holds, fails_it, decided_as, declined}
 use Rattle.law_typing.proofs.Deciding.{same_decided, number_decided, truth_decided, range_decided, within_decided, some_same}

@@ -1,5 +1,5 @@
 -- That an elaboration answers exactly: what is meant if no rule is broken, and else broken rules.
-use Rattle.std.specs.Prelude.{◌≡◌, ◌⊎◌, false, List, Result, Ok, Err}
+use Rattle.std.specs.Prelude.{◌≡◌, ◌⊎◌, false, Result, Ok, Err}
 use Rattle.std.specs.List.{Contains}
 use Rattle.check_scope.specs.declared.fault.Fault.{Fault}
 use Rattle.check_scope.specs.Elaborated.{Gathers, every, least, is_less}
