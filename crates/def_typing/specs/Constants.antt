@@ -70,12 +70,12 @@ pub data FixedMispicks (exports : ℕ → Ident → Standing)
   module_element : {k : ℕ} {at : Pos} {e : Expr}
       → FixedMispicks exports (AScope k) (layer.Index at e) (at ! rule.WrongType)
 
-pub data FixedSelected (exports : ℕ → Ident → Standing) : Fixed → List Selector → Fixed → Type 0
-  where
-    whole : {x : Fixed} → FixedSelected exports x [] x
-    component : {x y z : Fixed} {s : Selector} {ss : List Selector}
-        → FixedPicks exports x (out-Selector s) y → FixedSelected exports y ss z
-        → FixedSelected exports x (s ∷ ss) z
+pub data FixedSelected (exports : ℕ → Ident → Standing)
+    : Fixed → List Selector → Fixed → Type 0 where
+  whole : {x : Fixed} → FixedSelected exports x [] x
+  component : {x y z : Fixed} {s : Selector} {ss : List Selector}
+      → FixedPicks exports x (out-Selector s) y → FixedSelected exports y ss z
+      → FixedSelected exports x (s ∷ ss) z
 
 pub data FixedSelectionFails (exports : ℕ → Ident → Standing)
     : Fixed → List Selector → Fault → Type 0 where
@@ -248,3 +248,9 @@ module _ (types : Types) (names : Ident → Standing) (exports : ℕ → Ident �
     fixed_fails : {e : Expr} {f : Fault} → FixedFails (out-Expr e) f → FixedBroken e f
     fixed_inside : {e x : Expr} {f : Fault} → IsFixedPart x (out-Expr e) → FixedBroken x f
         → FixedBroken e f
+
+  -- the same of an expression that has to be constant
+  pub data BrokenAsConstant (e : Expr) : Fault → Type 0 where
+    broken_constant : {f : Fault} → FixedBroken e f → BrokenAsConstant e f
+    not_constant : {x : Fixed} → Fixes e x → ((k : Kind) → x ≡ AConstant k → ⊥)
+        → BrokenAsConstant e (first e ! rule.NoConstant)

@@ -6,3 +6,4 @@ pub mod Functions
 pub mod Parts
 pub mod Constants
 pub mod Expressions
+pub mod Assignments

@@ -43,13 +43,13 @@ use Rattle.def_typing.specs.Operators.{◌!◌, Kind, Scalar, Set, Text, operand
 use Rattle.def_typing.specs.Things.{Thing, AValue, AVariable, AnOpenArray, AType, AProcedure, ANested, AStandard, AModule, Headless, Standing, Known, Ahead, Undeclared, NotExported, Unknown, Misnamed, undeclared}
 use Rattle.def_typing.specs.Parts.{first, Operand, factors, addends, Among, here, later}
 use Rattle.def_typing.specs.Constants as rules
-use Rattle.def_typing.specs.Constants.{Fixed, AConstant, AScope, NoConstant, FixedMisnamed, IsBound, low_bound, high_bound, IsFixedPart, Fixes, as_fixed, FixedReads, FixedChain, fixed_done, fixed_then, AddUp, no_item, one_item, Adds, HasNumber, has_number, FixedChainFails, fixed_at_once, fixed_further, ItemFails, Misset, FixedFails, no_constant, FixedBroken, fixed_fails, fixed_inside}
+use Rattle.def_typing.specs.Constants.{Fixed, AConstant, AScope, NoConstant, FixedMisnamed, IsBound, low_bound, high_bound, IsFixedPart, Fixes, as_fixed, FixedReads, FixedChain, fixed_done, fixed_then, AddUp, no_item, one_item, Adds, HasNumber, has_number, FixedChainFails, fixed_at_once, fixed_further, ItemFails, Misset, FixedFails, no_constant, FixedBroken, fixed_fails, fixed_inside, BrokenAsConstant, broken_constant, not_constant}
 use Rattle.law_typing.specs.Judging.{Judges, Answers, means}
-use Rattle.law_typing.specs.Exact.{kind_of, of_local, standing, Sees, sees, sees_nothing, sees_headless, sees_unknown, Knows, of_declaration, IsCallFree, free_number, free_character, free_string, free_set, free_name, free_not, free_brackets, free_term, free_sum, free_relation, AreCallFreeOperands, no_free_operand, one_free_operand, AreCallFree, no_free_item, one_free_item, one_free_range}
+use Rattle.law_typing.specs.Exact.{IsConst, is_const, kind_of, of_local, standing, Sees, sees, sees_nothing, sees_headless, sees_unknown, Knows, of_declaration, IsCallFree, free_number, free_character, free_string, free_set, free_name, free_not, free_brackets, free_term, free_sum, free_relation, AreCallFreeOperands, no_free_operand, one_free_operand, AreCallFree, no_free_item, one_free_item, one_free_range}
 use Rattle.law_typing.proofs.Combining.{Lawful, Decided, holds, fails_it, fine, exact, both_answer, then_answer, Checks, passes, stops, stopped}
 use Rattle.law_typing.proofs.Deciding.{same_decided, some_same}
 use Rattle.law_typing.proofs.Places.{opened, meant_is, free_at}
-use Rattle.law_typing.proofs.Fixing.{IsConst, is_const, IsFixed, fixed_value, fixed_of, as_constant_answers, const_operated, const_signed, const_negated, E, DesignatesFixed, DesignatorFails, designator_fixes}
+use Rattle.law_typing.proofs.Fixing.{IsFixed, fixed_value, fixed_of, as_constant_answers, const_operated, const_signed, const_negated, E, DesignatesFixed, DesignatorFails, designator_fixes}
 use Rattle.law_typing.proofs.Elements.{IsOrdinal, IsSame, is_same, NumberOf, NoNumber, number_answers, one_meaning, checks_answer, one_answers, range_answers}
 
 module _ (g : Gathers) (j : Judges g) (lawful : Lawful g j) (names : Ident → Standing) (exports : ℕ → Ident → Standing) (s : Scope g.Reported) (knows : Knows g j names exports s) where
@@ -699,8 +699,16 @@ module _ (g : Gathers) (j : Judges g) (lawful : Lawful g j) (names : Ident → S
     fixed_item (one_free_range {high = high} l e k r) i here = subst (Answers g j O IsSame (Adds s.types names exports (out-Item i)) (ItemBreaks (out-Item i))) (sym (item_at i (Some high) e)) (range_item_answers (out-Item i) high l (fixed l) k (fixed k) e)
     fixed_item (one_free_range l e k r) i (later m) = fixed_item r i m
 
-  pub exactly_fixed : {e : Expr} → IsCallFree e → ConstValued e
-  exactly_fixed i = const_valued i (fixed i)
+  pub exactly_fixed : (e : Expr) → IsCallFree e → Answers g j O IsConst (λ k. F e (AConstant k)) (BrokenAsConstant s.types names exports e) (constants.constant g s (meant g e).fixed)
+  exactly_fixed e i = exact g j lawful O (λ k m. m) (λ k m. m) into out (const_valued i (fixed i))
+    where
+      into : (f : Fault) → ConstBroken e f → BrokenAsConstant s.types names exports e f
+      into f (inl b) = broken_constant b
+      into f (inr (x, m, (n, q))) = subst (BrokenAsConstant s.types names exports e) (sym q) (not_constant m n)
+
+      out : (f : Fault) → BrokenAsConstant s.types names exports e f → ConstBroken e f
+      out f (broken_constant b) = inl b
+      out _ (not_constant {x = x} m n) = inr (x, m, (n, refl))
 
   -- braces in bodies
   pub braces : (name : Option Ident) (at : Pos) (items : List Item) → AreCallFree items → SetAnswers name at items

@@ -16,11 +16,11 @@ use Rattle.check_const_ops.specs.Standards.{scalar_part, if_number}
 use Rattle.check_const_ops.specs.Sets.{numbered, element, is_element, has_none, in_set, related, related_bounds, spanned, with_span}
 use Rattle.def_typing.specs.Amounts.{Constant, IsNumber, GoTogether, Within}
 use Rattle.def_typing.specs.Operators.{◌!◌, Kind, Scalar, operand}
+use Rattle.law_typing.specs.Exact.{IsConst, is_const}
 use Rattle.law_typing.specs.Judging.{Judges, Answers, means, refuses}
 use Rattle.law_typing.proofs.Combining.{Lawful, Decided, holds, fails_it, declined, fine, exact, both_answer, then_answer, Checks, Tests, passes, stops, stopped, where_checks, then_check, then_checked, beside_checks}
 use Rattle.law_typing.proofs.Deciding.{number_decided, within_decided, TogetherIs, together, apart, common_is}
 use Rattle.law_typing.proofs.Singles.{IsConstantOperand, constant_scalar, constant_set, constant_text, constant_is}
-use Rattle.law_typing.proofs.Fixing.{IsConst, is_const}
 
 -- numbers as they are answered
 pub data IsOrdinal : Ordinal → Option TypeNo × ℤ → Type 0 where

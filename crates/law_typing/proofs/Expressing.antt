@@ -37,7 +37,7 @@ use Rattle.def_typing.specs.Expressions as rules
 use Rattle.def_typing.specs.Parts.{first, Operand, factors, addends, Among, here, later}
 use Rattle.def_typing.specs.Expressions.{IsOperand, IsPart, an_operand, an_argument, Reads, Denotes, Selected, Selects, Chain, done, then, Calls, Misselected, SelectionFails, Miscalled, ChainFails, at_once, further, Fails}
 use Rattle.law_typing.specs.Judging.{Judges, Answers, means}
-use Rattle.law_typing.specs.Exact.{IsKind, kind_constant, thing_value, Knows, IsExact, IsPlain, AreCallFree, plain_number, plain_character, plain_string, plain_set, plain_name, plain_call, plain_not, plain_brackets, plain_term, plain_sum, plain_relation, ArePlain, no_expression, one_expression, ArePlainOperands, no_operand, one_operand, ArePlainSelectors, no_selector, a_field, an_index}
+use Rattle.law_typing.specs.Exact.{IsConst, is_const, IsKind, kind_constant, thing_value, Knows, IsExact, IsPlain, AreCallFree, plain_number, plain_character, plain_string, plain_set, plain_name, plain_call, plain_not, plain_brackets, plain_term, plain_sum, plain_relation, ArePlain, no_expression, one_expression, ArePlainOperands, no_operand, one_operand, ArePlainSelectors, no_selector, a_field, an_index}
 use Rattle.law_typing.proofs.Combining.{Lawful, exact, both_answer, then_answer, Finds, finds, finds_as, plain_finds}
 use Rattle.law_typing.proofs.Joining.{operated_answers}
 use Rattle.law_typing.proofs.Singles.{signed_answers, negated_answers}
@@ -48,7 +48,7 @@ use Rattle.law_typing.proofs.Routines.{calls_answer}
 use Rattle.typed_tree.specs.declared.meaning.Value.{Value as ConstantValue}
 use Rattle.def_typing.specs.Constants as fixed
 use Rattle.def_typing.specs.Constants.{Fixed, AConstant, FixedReads}
-use Rattle.law_typing.proofs.Fixing.{IsConst, is_const, as_constant_answers}
+use Rattle.law_typing.proofs.Fixing.{as_constant_answers}
 use Rattle.law_typing.proofs.Constants.{FixedIn, braces}
 
 module _ (g : Gathers) (j : Judges g) (lawful : Lawful g j) (names : Ident → Standing) (exports : ℕ → Ident → Standing) (s : Scope g.Reported) (knows : Knows g j names exports s) where
@@ -530,17 +530,17 @@ module _ (g : Gathers) (j : Judges g) (lawful : Lawful g j) (names : Ident → S
   designator_in f (inr (inl (e, (y, at, a, q), b))) = operand_broken g j lawful names exports s (rules.as_index a q) b
   designator_in f (inr (inr (x, m, z))) = inl (rules.at_selector m z)
 
+  designator_out : {d : Designator} (f : Fault) → In (layer.Use d None) f → DesignatorFails d f
+  designator_out f (inl (rules.no_operand (rules.as_index {s = y} {at = at} {e = e} a q) m z)) = inr (inl (e, (y, at, a, q), rules.mistaken m z))
+  designator_out f (inl (rules.at_name m)) = inl m
+  designator_out f (inl (rules.at_selector {x = x} m z)) = inr (inr (x, m, z))
+  designator_out f (inr (x, an_operand (rules.as_index {s = y} {at = at} {e = e} a q), b)) = inr (inl (e, (y, at, a, q), rules.broken b))
+
   name_found : {e : Expr} (d : Designator) → out-Expr e ≡ layer.Use d None → ArePlainSelectors (out-Designator d).selectors → ((e : Expr) → IndexIn (out-Designator d).selectors e → Found e) → Found e
-  name_found d h i q = by_layer g j lawful names exports s (layer.Use d None) ((head g d).means s) h refl (finds_as g j lawful E (λ x m. rules.designated m) (λ x m. parted m) (λ f b. designator_in f b) out (denoted_finds d i q))
+  name_found d h i q = by_layer g j lawful names exports s (layer.Use d None) ((head g d).means s) h refl (finds_as g j lawful E (λ x m. rules.designated m) (λ x m. parted m) (λ f b. designator_in f b) (λ f b. designator_out f b) (denoted_finds d i q))
     where
       parted : {x : Thing} → R (layer.Use d None) x → Denotes s.types names exports d x
       parted (rules.designated m) = m
-
-      out : (f : Fault) → In (layer.Use d None) f → DesignatorFails d f
-      out f (inl (rules.no_operand (rules.as_index {s = y} {at = at} {e = e} a q) m z)) = inr (inl (e, (y, at, a, q), rules.mistaken m z))
-      out f (inl (rules.at_name m)) = inl m
-      out f (inl (rules.at_selector {x = x} m z)) = inr (inr (x, m, z))
-      out f (inr (x, an_operand (rules.as_index {s = y} {at = at} {e = e} a q), b)) = inr (inl (e, (y, at, a, q), rules.broken b))
 
   abbrev CallOf : Designator → List Expr → Kind → Type 0
   CallOf d args k = (x : Thing) × Denotes s.types names exports d x × Calls s.types names exports x args k
@@ -584,7 +584,7 @@ module _ (g : Gathers) (j : Judges g) (lawful : Lawful g j) (names : Ident → S
   not_both y h q = let clash = sym h ∙ q in absurd cc
 
   mutual
-    found : {e : Expr} → IsPlain e → Found e
+    pub found : {e : Expr} → IsPlain e → Found e
     found (plain_number {at = at} {n = n} h) = number_found at n h
     found (plain_character {at = at} {c = c} h) = character_found at c h
     found (plain_string {at = at} {text = text} h) = string_found at text h
@@ -617,3 +617,7 @@ module _ (g : Gathers) (j : Judges g) (lawful : Lawful g j) (names : Ident → S
 
   pub exactly : (e : Expr) → IsPlain e → IsExact g j names exports s e
   exactly e i = valued g j lawful names exports s i (found i)
+
+  -- a designator, with what is broken in it
+  pub designator_found : (d : Designator) → ArePlainSelectors (out-Designator d).selectors → Finds g j lawful E (Denotes s.types names exports d) (In (layer.Use d None)) ((head g d).means s)
+  designator_found d i = finds_as g j lawful E (λ x m. m) (λ x m. m) (λ f b. designator_in f b) (λ f b. designator_out f b) (denoted_finds d i (λ e x. found_index i e x.0 x.1 x.2 x.3))

@@ -39,7 +39,7 @@ use Rattle.def_typing.specs.Things.{Thing, Standing, Known, Undeclared, NotExpor
 use Rattle.def_typing.specs.Constants as rules
 use Rattle.def_typing.specs.Constants.{Fixed, AConstant, AScope, NoConstant, fixed_thing, FixedAs, FixedMisnamed, FixedPicks, FixedMispicks, FixedSelected, FixedSelectionFails, IsFixedPart, Fixes, FixedReads, FixedChain, fixed_done, fixed_then, FixedChainFails, FixedFails, FixedBroken}
 use Rattle.law_typing.specs.Judging.{Judges, Answers, means, refuses}
-use Rattle.law_typing.specs.Exact.{kind_of, IsKind, kind_constant, of_local, standing, Sees, sees, sees_nothing, sees_headless, sees_unknown, Exports, has_exported, has_nothing, Knows, Repeats, of_declaration}
+use Rattle.law_typing.specs.Exact.{IsConst, is_const, kind_of, IsKind, kind_constant, of_local, standing, Sees, sees, sees_nothing, sees_headless, sees_unknown, Exports, has_exported, has_nothing, Knows, Repeats, of_declaration}
 use Rattle.law_typing.proofs.Combining.{Lawful, declined, exact, then_answer}
 use Rattle.law_typing.proofs.Joining.{Joins, no_joining, nothing_left, nothing_text, scalar_nothing, set_nothing, set_scalar, scalars_join, constant_member_joins, constant_sets_join}
 use Rattle.law_typing.proofs.Operating.{value_answers, constants_by}
@@ -48,9 +48,6 @@ use Rattle.law_typing.proofs.Singles.{IsConstantOperand, constant_scalar, consta
 use Rattle.law_typing.proofs.Places.{opened_selector, picks_is, head_is}
 
 -- ---- constants as such
-
-pub data IsConst : ConstantValue → Kind → Type 0 where
-  is_const : (v : ConstantValue) → IsConst v (kind_of v)
 
 pub data IsFixed : Denoted → Fixed → Type 0 where
   fixed_value : {v : ConstantValue} {k : Kind} → IsConst v k → IsFixed (denoted.Value v) (AConstant k)

@@ -18,3 +18,4 @@ pub mod Expressing
 pub mod Fixing
 pub mod Elements
 pub mod Constants
+pub mod Assigning

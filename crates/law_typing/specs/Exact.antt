@@ -30,14 +30,21 @@ use Rattle.check_scope.specs.declared.fault.Fault.{Fault}
 use Rattle.check_scope.specs.declared.meaningless.Meaningless.{Meaningless}
 use Rattle.check_scope.specs.declared.meaningless.Meaningless.TheVariants as meaningless
 use Rattle.check_scope.specs.declared.scope.Scope.{Scope}
-use Rattle.check_scope.specs.Elaborated.{Gathers}
+use Rattle.check_scope.specs.Elaborated.{Gathers, ◌▷◌}
 use Rattle.check_scope.specs.Scopes.{looked_up}
 use Rattle.check_const.specs.Denote.{exported_by}
 use Rattle.check_operator.specs.declared.computed.Computed.{Computed}
 use Rattle.check_operator.specs.declared.computed.Computed.TheVariants as computed
 use Rattle.check_operator.specs.declared.computed.Designated.{Designated}
 use Rattle.check_operator.specs.declared.computed.Designated.TheVariants as designated
-use Rattle.check_expr.specs.Meanings.{meant, value_of}
+use Rattle.check_const.specs.Parts.{constant}
+use Rattle.check_operator.specs.Suits.{value_suited}
+use Rattle.check_call.specs.Effects.{target_at, assigned}
+use Rattle.typed_tree.specs.declared.statement.TypedStmt.{TypedStmt}
+use Rattle.typed_tree.specs.Types.{boolean}
+use Rattle.def_typing.specs.Constants.{AConstant, Fixes, BrokenAsConstant}
+use Rattle.def_typing.specs.Assignments.{Assigns, BrokenAssignment, IsCondition, BrokenCondition}
+use Rattle.check_expr.specs.Meanings.{meant, head, part, value_of}
 use Rattle.def_typing.specs.Amounts.{Constant, Value}
 use Rattle.def_typing.specs.Operators.{◌!◌, Kind, Scalar, Set, Text, Routine, Procedure, Whole, Untaken}
 use Rattle.def_typing.specs.Things.{Thing, AValue, AVariable, AnOpenArray, AType, AProcedure, ANested, AStandard, AModule, Headless, Standing, Known, Ahead, Undeclared, NotExported, Unknown}
@@ -63,6 +70,10 @@ pub data IsKind : Computed → Kind → Type 0 where
   kind_procedure : (p : ModuleProcedure) → IsKind (computed.Procedure p) (Procedure p.heading)
   kind_whole : (t : TypeNo) (d : Place) → IsKind (computed.Whole t d) (Whole t)
   kind_untaken : IsKind computed.Untaken Untaken
+
+-- a constant
+pub data IsConst : ConstantValue → Kind → Type 0 where
+  is_const : (v : ConstantValue) → IsConst v (kind_of v)
 
 pub data IsThing : Designated → Thing → Type 0 where
   thing_value : {v : Computed} {k : Kind} → IsKind v k → IsThing (designated.Value v) (AValue k)
@@ -213,3 +224,33 @@ abbrev pub ExpressionsAreExact : (g : Gathers) → Judges g → Type 0
 ExpressionsAreExact g j =
     (names : Ident → Standing) (exports : ℕ → Ident → Standing) (s : Scope g.Reported)
     → Knows g j names exports s → (e : Expr) → IsPlain e → IsExact g j names exports s e
+
+-- Constant expressions without calls are answered exactly.
+abbrev pub ConstantsAreExact : (g : Gathers) → Judges g → Type 0
+ConstantsAreExact g j =
+    (names : Ident → Standing) (exports : ℕ → Ident → Standing) (s : Scope g.Reported)
+    → Knows g j names exports s → (e : Expr) → IsCallFree e
+    → Answers g j (Repeats g j names s) IsConst
+      (λ k. Fixes s.types names exports e (AConstant k)) (BrokenAsConstant s.types names exports e)
+      (constant g s (part g e))
+
+-- Conditions are answered exactly: what is answered is a value of BOOLEAN.
+abbrev pub ConditionsAreExact : (g : Gathers) → Judges g → Type 0
+ConditionsAreExact g j =
+    (names : Ident → Standing) (exports : ℕ → Ident → Standing) (s : Scope g.Reported)
+    → Knows g j names exports s → (e : Expr) → IsPlain e
+    → Answers g j (Repeats g j names s) {A = TypedExpr} {K = Unit {0}} (λ v u. Unit {0})
+      (λ u. IsCondition s.types names exports e) (BrokenCondition s.types names exports e)
+      (value_of g s (meant g e)
+      ▷ value_suited g rule.WrongType s.types boolean (meant g e).fixed.at)
+
+-- Assignments are answered exactly.
+abbrev pub AssignmentsAreExact : (g : Gathers) → Judges g → Type 0
+AssignmentsAreExact g j =
+    (names : Ident → Standing) (exports : ℕ → Ident → Standing) (s : Scope g.Reported)
+    → Knows g j names exports s → (d : Designator) (e : Expr)
+    → ArePlainSelectors (out-Designator d).selectors → IsPlain e
+    → Answers g j (Repeats g j names s) {A = TypedStmt} {K = Unit {0}} (λ v u. Unit {0})
+      (λ u. Assigns s.types names exports d e) (BrokenAssignment s.types names exports d e)
+      (assigned g s.types (target_at g (head g d).fixed.at ((head g d).means s))
+      (meant g e).fixed.at (value_of g s (meant g e)))
