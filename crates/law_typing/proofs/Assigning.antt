@@ -1,6 +1,6 @@
 -- Assignments and conditions answer exactly.
-use Rattle.std.proofs.Common.{◌≡◌, ℕ, ◌-◌, ℤ, Bool, true, false, not, cond, List, [], ◌∷◌, length, Option, Some, None, Result, Ok, Err, ◌⊎◌, inl, inr, refl, sym, ap, subst, ◌∙◌}
-use Rattle.std.specs.Prelude.{◌&&◌, ◌-ℤ◌, nat_lt, unsigned_abs}
+use Rattle.std.proofs.Common.{◌≡◌, ℕ, ◌-◌, Bool, true, false, not, List, length, Option, Some, None, Result, Ok, ◌⊎◌, inl, inr, refl, sym, ap, subst, ◌∙◌}
+use Rattle.std.specs.Prelude.{◌-ℤ◌, nat_lt, unsigned_abs}
 use Rattle.m2_rule.specs.declared.rule.Rule.TheVariants as rule
 use Rattle.m2_tree.specs.declared.pos.Pos.{Pos}
 use Rattle.m2_tree.specs.declared.name.Ident.{Ident}
@@ -21,13 +21,12 @@ use Rattle.typed_tree.specs.Types.{are_same, boolean, char}
 use Rattle.check_scope.specs.declared.fault.Fault.{Fault}
 use Rattle.check_scope.specs.declared.meaningless.Meaningless.{Meaningless}
 use Rattle.check_scope.specs.declared.scope.Scope.{Scope}
-use Rattle.check_scope.specs.Elaborated.{Gathers, reported, reported_where, of_sort, ◌▷◌}
+use Rattle.check_scope.specs.Elaborated.{Gathers, reported, reported_where, ◌▷◌}
 use Rattle.check_operator.specs.declared.class.Class.{Class}
 use Rattle.check_operator.specs.declared.computed.Computed.{Computed}
 use Rattle.check_operator.specs.declared.computed.Designated.{Designated}
 use Rattle.check_operator.specs.declared.places.Accepted.{Accepted}
 use Rattle.check_operator.specs.declared.places.Accepted.TheVariants as accepted
-use Rattle.check_operator.specs.Classes.{array_at}
 use Rattle.check_operator.specs.Suits.{text_within, text_fits_in, text_fits, whole_suited, suited_in, suited, value_suited}
 use Rattle.check_call.specs.declared.effect.Target.{Target}
 use Rattle.check_call.specs.declared.effect.Target.TheVariants as target

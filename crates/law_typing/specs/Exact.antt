@@ -231,8 +231,8 @@ ConstantsAreExact g j =
     (names : Ident → Standing) (exports : ℕ → Ident → Standing) (s : Scope g.Reported)
     → Knows g j names exports s → (e : Expr) → IsCallFree e
     → Answers g j (Repeats g j names s) IsConst
-      (λ k. Fixes s.types names exports e (AConstant k)) (BrokenAsConstant s.types names exports e)
-      (constant g s (part g e))
+    (λ k. Fixes s.types names exports e (AConstant k)) (BrokenAsConstant s.types names exports e)
+    (constant g s (part g e))
 
 -- Conditions are answered exactly: what is answered is a value of BOOLEAN.
 abbrev pub ConditionsAreExact : (g : Gathers) → Judges g → Type 0
@@ -240,9 +240,9 @@ ConditionsAreExact g j =
     (names : Ident → Standing) (exports : ℕ → Ident → Standing) (s : Scope g.Reported)
     → Knows g j names exports s → (e : Expr) → IsPlain e
     → Answers g j (Repeats g j names s) {A = TypedExpr} {K = Unit {0}} (λ v u. Unit {0})
-      (λ u. IsCondition s.types names exports e) (BrokenCondition s.types names exports e)
-      (value_of g s (meant g e)
-      ▷ value_suited g rule.WrongType s.types boolean (meant g e).fixed.at)
+    (λ u. IsCondition s.types names exports e) (BrokenCondition s.types names exports e)
+    (value_of g s (meant g e)
+    ▷ value_suited g rule.WrongType s.types boolean (meant g e).fixed.at)
 
 -- Assignments are answered exactly.
 abbrev pub AssignmentsAreExact : (g : Gathers) → Judges g → Type 0
@@ -251,6 +251,6 @@ AssignmentsAreExact g j =
     → Knows g j names exports s → (d : Designator) (e : Expr)
     → ArePlainSelectors (out-Designator d).selectors → IsPlain e
     → Answers g j (Repeats g j names s) {A = TypedStmt} {K = Unit {0}} (λ v u. Unit {0})
-      (λ u. Assigns s.types names exports d e) (BrokenAssignment s.types names exports d e)
-      (assigned g s.types (target_at g (head g d).fixed.at ((head g d).means s))
-      (meant g e).fixed.at (value_of g s (meant g e)))
+    (λ u. Assigns s.types names exports d e) (BrokenAssignment s.types names exports d e)
+    (assigned g s.types (target_at g (head g d).fixed.at ((head g d).means s))
+    (meant g e).fixed.at (value_of g s (meant g e)))
