@@ -28,7 +28,7 @@ use Rattle.def_typing.specs.Constants.{AConstant, FixedReads, FixedFails, IsFixe
 use Rattle.def_typing.specs.Amounts.{Constant, Value}
 use Rattle.def_typing.specs.Operators.{◌!◌, Kind, Scalar, Text, operand, Makes, Misused, Misapplied, MaySign, SignMakes, Negates}
 use Rattle.def_typing.specs.Things.{Thing, AValue, AVariable, AnOpenArray, AStandard, Headless, Standing, Known, Misnamed, Taken, Mistaken, IsAssignable, Misassigned, Picks, Indexes}
-use Rattle.def_typing.specs.Functions.{MayApply, Applies, NamesScalar, BoundOf, MayConvert, Converts, IsOfOne, given, HasHeading, IsFunctionOf, Mispassed, IsPassed}
+use Rattle.def_typing.specs.Functions.{MayApply, Applies, NamesScalar, BoundOf, MayConvert, Converts, IsOfOne, result_kind, HasHeading, IsFunctionOf, Mispassed, IsPassed}
 
 -- ---- parts
 
@@ -142,7 +142,7 @@ module _ (types : Types) (names : Ident → Standing) (exports : ℕ → Ident �
     pub data Calls : Thing → List Expr → Kind → Type 0 where
       of_function : {x : Thing} {s : Signature} {t : TypeNo} {args : List Expr}
           → HasHeading types x s → s.result ≡ Some t → ArePassed s.formals args
-          → Calls x args (given types t)
+          → Calls x args (result_kind types t)
       of_one : {f : Standard} {x : Expr} {a k : Kind} → Has x a → Applies f (operand a) k
           → Calls (AStandard f) (x ∷ []) k
       of_type : {f : Standard} {t : Expr} {x : Thing} {r : Range} {n : ℤ} → Stands t x

@@ -116,8 +116,8 @@ result_of t (Some (shape.Procedure h)) = Routine t
 result_of t other = Untaken
 
 -- what a function of this result type gives
-abbrev pub given : Types → TypeNo → Kind
-given types t = result_of t (shape_at types t)
+abbrev pub result_kind : Types → TypeNo → Kind
+result_kind types t = result_of t (shape_at types t)
 
 -- a procedure, or a variable of a procedure type, with its heading
 pub data HasHeading (types : Types) : Thing → Signature → Type 0 where

@@ -34,7 +34,7 @@ use Rattle.def_typing.specs.Amounts.{Amount, Constant, sort_of, IsWhole, Within}
 use Rattle.def_typing.specs.Operators.{◌!◌, Kind, Scalar, Set, Routine, Procedure, Untaken, operand}
 use Rattle.def_typing.specs.Things.{Thing, AValue, AVariable, AnOpenArray, AType, AProcedure, ANested, AStandard, AModule, Headless, content_of, content, Taken, Mistaken, SuitsBase, same_base, both_whole, a_number, Compatible, OutOfType, out_of_type, IsAssignable, Misassigned, incompatible, out_of_range}
 use Rattle.def_typing.specs.Things as things
-use Rattle.def_typing.specs.Functions.{result_of, given}
+use Rattle.def_typing.specs.Functions.{result_of, result_kind}
 use Rattle.law_typing.specs.Judging.{Judges, Answers, means}
 use Rattle.law_typing.specs.Exact.{IsKind, kind_scalar, kind_set, kind_routine, kind_procedure, kind_whole, kind_untaken, IsThing, thing_value, thing_variable, thing_open, thing_type, thing_procedure, thing_nested, thing_standard, thing_module}
 use Rattle.law_typing.proofs.Combining.{Lawful, Decided, holds, fails_it, decided_as, declined, Checks, passes, stopped, Finds, heading_answers}
@@ -210,8 +210,8 @@ given_by t e (Some (shape.Record fs)) = kind_untaken
 given_by t e (Some (shape.Procedure h)) = kind_routine t e
 given_by t e (Some (shape.Open u)) = kind_untaken
 
-pub given_is : (types : Types) (t : TypeNo) (e : TypedExpr) → IsKind (elaborated_given types t e) (given types t)
-given_is types t e = subst (λ (s : Class). IsKind (given_as t e s) (given types t)) (sym (class_is types t)) (given_by t e (shape_at types t))
+pub given_is : (types : Types) (t : TypeNo) (e : TypedExpr) → IsKind (elaborated_given types t e) (result_kind types t)
+given_is types t e = subst (λ (s : Class). IsKind (given_as t e s) (result_kind types t)) (sym (class_is types t)) (given_by t e (shape_at types t))
 
 module _ (g : Gathers) (j : Judges g) (lawful : Lawful g j) (O : Fault → Type 0) (types : Types) (at : Pos) where
   pub taken_answers : (a : Designated) (x : Thing) → IsThing a x → Answers g j O IsKind (Taken types x) (Mistaken at x) (taken g types at a)

@@ -34,7 +34,7 @@ use Rattle.check_expr.specs.Meanings.{meant, looked_at, with_actual, actuals, ar
 use Rattle.def_typing.specs.Shapes.{shape_at, IsMade}
 use Rattle.def_typing.specs.Operators.{◌!◌, Kind}
 use Rattle.def_typing.specs.Things.{Thing, AValue, AVariable, AnOpenArray, AType, AProcedure, ANested, AStandard, AModule, Headless, Standing}
-use Rattle.def_typing.specs.Functions.{given, HasHeading, of_procedure, of_nested, of_variable, IsFunctionOf, declared, standard, Mispassed, IsPassed}
+use Rattle.def_typing.specs.Functions.{result_kind, HasHeading, of_procedure, of_nested, of_variable, IsFunctionOf, declared, standard, Mispassed, IsPassed}
 use Rattle.def_typing.specs.Parts.{first, Among, here, later}
 use Rattle.def_typing.specs.Expressions.{Beside, beside, behind, Stands, Calls, ArePassed, no_more, one_more, Miscalled}
 use Rattle.def_typing.specs.Expressions as rules
@@ -194,9 +194,9 @@ module _ (g : Gathers) (j : Judges g) (lawful : Lawful g j) (names : Ident → S
   wrong_right : {x : Thing} {h t : TypeNo} {p : Signature} {xs : List Expr} (at : Pos) (f : Fault) → Heads s.types x h → IsMade s.types h (shape.Procedure p) → p.result ≡ Some t → length p.formals ≡ length xs → Wrong p.formals xs f → M at x xs f
   wrong_right at f w m r e (formal, a, y, b, z, u) = rules.mispassed (heading_of s.types w m) r e b z u
 
-  function_calls : {x : Thing} {h t : TypeNo} {p : Signature} {xs : List Expr} {k : Kind} → Heads s.types x h → IsMade s.types h (shape.Procedure p) → p.result ≡ Some t → C x xs k → Passed p.formals xs × (k ≡ given s.types t)
+  function_calls : {x : Thing} {h t : TypeNo} {p : Signature} {xs : List Expr} {k : Kind} → Heads s.types x h → IsMade s.types h (shape.Procedure p) → p.result ≡ Some t → C x xs k → Passed p.formals xs × (k ≡ result_kind s.types t)
   function_calls {h = h} {t = t} {xs = xs} w m r (rules.of_function {s = q} {t = u} d e a) = let same = one_signature s.types h (made_of s.types w d) m in
-      (subst (λ (p : Signature). Passed p.formals xs) same a, ap (given s.types) (some_same u t (sym e ∙ ap (λ (p : Signature). p.result) same ∙ r)))
+      (subst (λ (p : Signature). Passed p.formals xs) same a, ap (result_kind s.types) (some_same u t (sym e ∙ ap (λ (p : Signature). p.result) same ∙ r)))
   function_calls w m r (rules.of_one z a) = absurd (no_standard s.types w)
   function_calls w m r (rules.of_type z n b) = absurd (no_standard s.types w)
   function_calls w m r (rules.converted z n y c) = absurd (no_standard s.types w)
@@ -225,12 +225,12 @@ module _ (g : Gathers) (j : Judges g) (lawful : Lawful g j) (names : Ident → S
 
       clash : Passed p.formals xs → ⊥
       clash a = not_equal (passed_length a)
-  counted_by {x = x} {t = t} {p = p} at xs c true e w m r i h = exact g j lawful E {M = λ k. (Unit {0} × Passed p.formals xs) × (k ≡ given s.types t)} {B = λ f. (⊥ ⊎ (Any xs f ⊎ Wrong p.formals xs f)) ⊎ ((Unit {0} × Passed p.formals xs) × ⊥)}
+  counted_by {x = x} {t = t} {p = p} at xs c true e w m r i h = exact g j lawful E {M = λ k. (Unit {0} × Passed p.formals xs) × (k ≡ result_kind s.types t)} {B = λ f. (⊥ ⊎ (Any xs f ⊎ Wrong p.formals xs f)) ⊎ ((Unit {0} × Passed p.formals xs) × ⊥)}
       (λ k z. subst (C x xs) (sym z.1) (rules.of_function (heading_of s.types w m) r z.0.1)) (λ k z. let q = function_calls w m r z in ((tt, q.0), q.1))
       (λ f z. elim z [ inl y ↦ elim y [ inl b ↦ absurd b | inr v ↦ elim v [ inl a ↦ inr a | inr q ↦ inl (wrong_right at f w m r equal q) ] ] | inr y ↦ absurd y.1 ])
       (λ f z. elim z [ inl q ↦ inl (inr (inr (count_right at f w m r equal q))) | inr a ↦ inl (inr (inl a)) ])
       (then_checked g j lawful E (all_pass p.formals xs {P = Unit {0}} {B = λ f. ⊥} (Ok []) equal i h (passes [] tt (λ f b. b)))
-      (λ v a. means _ (given s.types t) (given_is s.types t (expr.Call t (call_by v c))) refl (λ l q. q) (λ f b. b)))
+      (λ v a. means _ (result_kind s.types t) (given_is s.types t (expr.Call t (call_by v c))) refl (λ l q. q) (λ f b. b)))
     where
       equal : length p.formals ≡ length xs
       equal = same (length p.formals) (length (map (meant g) xs)) e ∙ length-map xs (meant g)
