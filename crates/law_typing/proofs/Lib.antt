@@ -19,3 +19,4 @@ pub mod Fixing
 pub mod Elements
 pub mod Constants
 pub mod Assigning
+pub mod Knowing

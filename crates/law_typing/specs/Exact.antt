@@ -254,3 +254,9 @@ AssignmentsAreExact g j =
     (λ u. Assigns s.types names exports d e) (BrokenAssignment s.types names exports d e)
     (assigned g s.types (target_at g (head g d).fixed.at ((head g d).means s))
     (meant g e).fixed.at (value_of g s (meant g e)))
+
+-- For each scope there are standings that it knows.
+abbrev pub ScopesAreKnown : (g : Gathers) → Judges g → Type 0
+ScopesAreKnown g j =
+    (s : Scope g.Reported)
+    → (names : Ident → Standing) × (exports : ℕ → Ident → Standing) × Knows g j names exports s
