@@ -3,6 +3,7 @@ import os
 import sys
 import tempfile
 
+from .compilers import compilers
 from .large_programs import chain, corpus, imports
 from .processes import FAILED, M2C, M2RUN, TOP, measure
 from .ratios import ratios
@@ -13,6 +14,7 @@ from .runs import run
 COMMANDS = {
     "repeats": (repeats, [(1 << 20, 1 << 20)]),
     "corpus": (corpus, [(64, 511), (300, 900)]),
+    "compilers": (compilers, [(64, 511), (300, 900)]),
     "chain": (chain, [(500, 511)]),
     "imports": (imports, [(1023, 1024), (500, 1024)]),
     "run": (run, [(100, 1_000_000)]),

@@ -9,8 +9,8 @@ use mathlib.Core.List.{[], ◌∷◌}
 use Rattle.std.proofs.Crossing.{Arc-send, Arc-sync}
 use Rattle.std.proofs.option.Option.TheSendSync as option
 use Rattle.std.specs.contracts.option.Option
-use Rattle.m2_tree.proofs.boxed.Boxed.TheSendSync as boxed
-use Rattle.m2_tree.proofs.items.Items.TheSendSync as items
+use Rattle.tree_parts.proofs.boxed.Boxed.TheSendSync as boxed
+use Rattle.tree_parts.proofs.items.Items.TheSendSync as items
 use Rattle.m2_tree.proofs.name.Ident.TheSendSync as ident
 use Rattle.m2_tree.proofs.pos.Pos.TheSendSync as pos
 use Rattle.m2_tree.proofs.text.Quoted.TheSendSync as quoted
@@ -27,8 +27,8 @@ use Rattle.m2_tree.proofs.expr.Expr.TheLaws.TheKnot as exprs
 use Rattle.m2_tree.proofs.stmt.Rest.TheLaws.TheKnot as stmts
 use Rattle.m2_tree.proofs.decl.TypeExpr.TheLaws.TheKnot as types
 use Rattle.m2_tree.proofs.decl.Decl.TheLaws.TheKnot as decls
-use Rattle.m2_tree.specs.contracts.boxed.Boxed
-use Rattle.m2_tree.specs.contracts.items.Items
+use Rattle.tree_parts.specs.contracts.boxed.Boxed
+use Rattle.tree_parts.specs.contracts.items.Items
 use Rattle.m2_tree.specs.contracts.name.Ident
 use Rattle.m2_tree.specs.contracts.expr.AddOp
 use Rattle.m2_tree.specs.contracts.expr.Designator

@@ -9,7 +9,7 @@ use Rattle.m2_tree.specs.declared.decl.Contents.TheVariants as contents
 use Rattle.m2_tree.specs.declared.decl.Module.{Module}
 use Rattle.typed_tree.specs.declared.table.Table.{Table}
 use Rattle.typed_tree.specs.declared.typed_module.TypedModule.{TypedModule}
-use Rattle.check_scope.specs.declared.fault.Fault.{Fault}
+use Rattle.m2_rule.specs.declared.breach.Breach.{Breach}
 use Rattle.check_scope.specs.Elaborated.{least}
 use Rattle.check_definition.specs.Compiled as types
 use Rattle.check_body.specs.Checks.{checked}
@@ -37,14 +37,14 @@ tables_of needed = flat_map table_in needed
 
 -- ---- definitions
 
-abbrev pub of_definition : Result Table Fault → Compiled
+abbrev pub of_definition : Result Table Breach → Compiled
 of_definition (Ok t) = Defined t
 of_definition (Err f) = Refused f
 
 -- ---- bodies
 
 -- the body of a module in which no rule is broken
-abbrev pub typed_body : Module → (number : ℕ) → List Table → Result TypedModule Fault
+abbrev pub typed_body : Module → (number : ℕ) → List Table → Result TypedModule Breach
 typed_body m number tables =
     let own = own_table m tables in checked least number m own (tables_behind own tables)
 
@@ -53,7 +53,7 @@ abbrev pub of_fit : TypedModule → Option Pos → Compiled
 of_fit t None = Built (emitted t)
 of_fit t (Some at) = Refused (record { pos = at; number = number_of rule.LargeStorage })
 
-abbrev pub of_checked : Result TypedModule Fault → Compiled
+abbrev pub of_checked : Result TypedModule Breach → Compiled
 of_checked (Ok t) = of_fit t (too_large t)
 of_checked (Err f) = Refused f
 

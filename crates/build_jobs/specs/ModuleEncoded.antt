@@ -8,7 +8,7 @@ use Rattle.m2_tree.specs.declared.decl.Module.{Module}
 use Rattle.wasm_binary.specs.Binary.{module_fits}
 use Rattle.typed_tree.specs.declared.table.Table.{Table}
 use Rattle.typed_tree.specs.declared.typed_module.TypedModule.{TypedModule}
-use Rattle.check_scope.specs.declared.fault.Fault.{Fault}
+use Rattle.m2_rule.specs.declared.breach.Breach.{Breach}
 use Rattle.layout_storage.specs.Layouts.{too_large}
 use Rattle.def_scheme.specs.Modules.{typed_module}
 use Rattle.build_jobs.specs.declared.outcome.Compiled.{Compiled}
@@ -20,7 +20,7 @@ fit_encoded t None = module_fits (typed_module t) ≡ true
 fit_encoded t (Some at) = Unit {0}
 
 -- and no rule is broken
-abbrev pub checked_encoded : Result TypedModule Fault → Type 0
+abbrev pub checked_encoded : Result TypedModule Breach → Type 0
 checked_encoded (Ok t) = fit_encoded t (too_large t)
 checked_encoded (Err f) = Unit {0}
 

@@ -11,13 +11,14 @@ use crate::outcome::{Compiled, are_sound, tables_of};
 use crate::tables::{own_table, tables_behind};
 use check_body::check;
 use check_definition::compile_definition;
-use check_scope::{Elaborated, Fault};
+use check_scope::Elaborated;
 use layout_storage::Layout;
 use m2_emit::emit;
-use m2_rule::Rule;
-use m2_tree::{Contents, Items, Module};
+use m2_rule::{Breach, Rule};
+use m2_tree::{Contents, Module};
 use std::alloc::{AllocError, Global};
-use typed_tree::{Shared, Table, TypedModule};
+use tree_parts::{Items, Shared};
+use typed_tree::{Table, TypedModule};
 use wasm_tree::EncodeError;
 
 /// A definition gives its table, or breaks a rule.
@@ -31,7 +32,7 @@ fn definition(
 {
     match compile_definition(alloc, number, tree, tables)? {
         Ok(table) => Ok(Compiled::Defined(Shared::new(alloc, table)?)),
-        Err(fault) => Ok(Compiled::Refused(fault)),
+        Err(broken) => Ok(Compiled::Refused(broken)),
     }
 }
 
@@ -55,10 +56,7 @@ fn fitted(alloc: Global, typed: &TypedModule) -> Result<Compiled, EncodeError>
     ensures encoded { OnOk result (fit_encoded typed.now (too_large typed.now)) }
 {
     match Layout::of(alloc, typed)? {
-        Err(pos) => Ok(Compiled::Refused(Fault {
-            pos,
-            number: Rule::LargeStorage.number(),
-        })),
+        Err(pos) => Ok(Compiled::Refused(Breach::at(pos, Rule::LargeStorage))),
         Ok(layout) => {
             let module = emit(alloc, typed, &layout)?;
             Ok(Compiled::Built(Shared::new(alloc, module)?))
@@ -78,7 +76,7 @@ fn body(
     ensures encoded { OnOk result (checked_encoded (typed_body tree.now number tables.now)) }
 {
     match typed_body(alloc, tree, number, tables)? {
-        Err(fault) => Ok(Compiled::Refused(fault)),
+        Err(broken) => Ok(Compiled::Refused(broken)),
         Ok(typed) => fitted(alloc, &typed),
     }
 }

@@ -11,8 +11,8 @@ use crate::made::{Made, modules_in};
 use crate::{Compiled, compile};
 use m2_tree::Module;
 use pool_board::Work;
-use sqlite_items::at;
 use std::alloc::{AllocError, Global};
+use tree_parts::at;
 use wasm_tree::EncodeError;
 
 /// What becomes of the module in this place.

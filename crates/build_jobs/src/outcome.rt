@@ -4,11 +4,11 @@ ghost use Rattle.std.specs.Prelude.{◌≡◌, IfOk, OnOk, ◌++◌, map};
 ghost use Rattle.std.specs.List.{list_all};
 ghost use Rattle.build_jobs.specs.Compiling.{is_sound, table_in, tables_of};
 
-use check_scope::Fault;
 use m2_emit::ModuleBytes;
-use m2_tree::Items;
+use m2_rule::Breach;
 use std::alloc::{AllocError, Global};
-use typed_tree::{Shared, Table};
+use tree_parts::{Items, Shared};
+use typed_tree::Table;
 
 /// What becomes of a module.
 #[derive(Drop)]
@@ -18,7 +18,7 @@ pub enum Compiled {
     /// The module of a body.
     Built(Shared<ModuleBytes>),
     /// The least rule that it breaks, or 60 where its storage is too large.
-    Refused(Fault),
+    Refused(Breach),
     /// One that it needs is refused or blocked.
     Blocked,
 }
@@ -31,7 +31,7 @@ impl Compiled {
         match self {
             Compiled::Defined(table) => Ok(Compiled::Defined(table.share()?)),
             Compiled::Built(module) => Ok(Compiled::Built(module.share()?)),
-            Compiled::Refused(fault) => Ok(Compiled::Refused(*fault)),
+            Compiled::Refused(broken) => Ok(Compiled::Refused(*broken)),
             Compiled::Blocked => Ok(Compiled::Blocked),
         }
     }

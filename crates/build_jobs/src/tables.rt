@@ -4,9 +4,10 @@ ghost use Rattle.std.specs.Prelude.{◌≡◌, IfOk};
 ghost use Rattle.std.specs.Option.{option_copied};
 ghost use Rattle.build_jobs.specs.Own.{own_table, tables_behind};
 
-use m2_tree::{Items, Module};
+use m2_tree::Module;
 use std::alloc::{AllocError, Global};
-use typed_tree::{Shared, Table};
+use tree_parts::{Items, Shared};
+use typed_tree::Table;
 
 /// The table of a body's own definition, which is the first that it needs.
 pub fn own_table<'a>(tree: &Module, tables: &'a [Shared<Table>]) -> Option<&'a Table>

@@ -14,11 +14,12 @@ use crate::naming::mark_decls;
 use check_definition::{
     begin_all, declare_constants, declare_types, declare_variables, import_all, with_variable_type,
 };
-use check_scope::{Elaborated, Fault, Known, Scope, beside, finish, reported};
+use check_scope::{Elaborated, Known, Scope, beside, finish, reported};
 use check_type_expr::{nothing_of, type_of};
-use m2_rule::Rule;
-use m2_tree::{Decl, Heading, Ident, Items, Module, Pos, Variables};
+use m2_rule::{Breach, Rule};
+use m2_tree::{Decl, Heading, Ident, Module, Pos, Variables};
 use std::alloc::{AllocError, Global};
+use tree_parts::Items;
 use typed_tree::{Dictionary, LocalKind, LocalVariable, Meaning, TypeNo};
 
 // ---- variables of procedures
@@ -27,7 +28,7 @@ fn local_meaning(level: usize, number: usize, t: Elaborated<TypeNo>) -> Elaborat
     ensures { result ≡ local_meaning level number t }
 {
     match t {
-        Err(fault) => Err(fault),
+        Err(breach) => Err(breach),
         Ok(of) => Ok(Meaning::Local(LocalVariable {
             level,
             number,
@@ -39,7 +40,7 @@ fn local_meaning(level: usize, number: usize, t: Elaborated<TypeNo>) -> Elaborat
 
 fn finish_local(
     alloc: Global,
-    scope: &mut Scope<Fault>,
+    scope: &mut Scope<Breach>,
     t: Elaborated<TypeNo>,
     name: &Ident,
 ) -> Result<(), AllocError>
@@ -52,7 +53,7 @@ fn finish_local(
 
 fn finish_locals(
     alloc: Global,
-    scope: &mut Scope<Fault>,
+    scope: &mut Scope<Breach>,
     t: Elaborated<TypeNo>,
     names: &[Ident],
 ) -> Result<(), AllocError>
@@ -66,7 +67,7 @@ fn finish_locals(
 
 fn with_locals(
     alloc: Global,
-    scope: &mut Scope<Fault>,
+    scope: &mut Scope<Breach>,
     before: Elaborated<()>,
     variables: &Variables,
 ) -> Result<Elaborated<()>, AllocError>
@@ -80,7 +81,7 @@ fn with_locals(
 
 fn declare_locals(
     alloc: Global,
-    scope: &mut Scope<Fault>,
+    scope: &mut Scope<Breach>,
     before: Elaborated<()>,
     list: &[Variables],
 ) -> Result<Elaborated<()>, AllocError>
@@ -95,7 +96,7 @@ fn declare_locals(
 
 fn with_variables_of(
     alloc: Global,
-    scope: &mut Scope<Fault>,
+    scope: &mut Scope<Breach>,
     before: Elaborated<()>,
     list: &[Variables],
 ) -> Result<Elaborated<()>, AllocError>
@@ -120,7 +121,7 @@ fn number_behind(ends: &[usize], number: usize) -> usize
 
 fn with_procedure(
     alloc: Global,
-    scope: &mut Scope<Fault>,
+    scope: &mut Scope<Breach>,
     ends: &[usize],
     next: &mut usize,
     before: Elaborated<()>,
@@ -135,7 +136,7 @@ fn with_procedure(
 
 fn with_decl(
     alloc: Global,
-    scope: &mut Scope<Fault>,
+    scope: &mut Scope<Breach>,
     ends: &[usize],
     next: &mut usize,
     before: Elaborated<()>,
@@ -153,7 +154,7 @@ fn with_decl(
 
 fn with_decls(
     alloc: Global,
-    scope: &mut Scope<Fault>,
+    scope: &mut Scope<Breach>,
     ends: &[usize],
     next: &mut usize,
     before: Elaborated<()>,
@@ -173,7 +174,7 @@ fn with_decls(
 /// procedures are known behind it. Its procedures are numbered from the first number on, if the block is a procedure's.
 pub fn declare_block(
     alloc: Global,
-    scope: &mut Scope<Fault>,
+    scope: &mut Scope<Breach>,
     ends: &[usize],
     before: Elaborated<()>,
     first: usize,
@@ -199,7 +200,7 @@ fn is_awaited(standing: Standing) -> bool
     }
 }
 
-fn or_awaited_if(so_far: bool, entry: Option<(&[u8], &Known<Fault>)>) -> bool
+fn or_awaited_if(so_far: bool, entry: Option<(&[u8], &Known<Breach>)>) -> bool
     ensures { result ≡ if_some or_awaited so_far (option_map (λ e. (e.0.now, e.1.now)) entry.entry) }
 {
     match entry {
@@ -209,7 +210,7 @@ fn or_awaited_if(so_far: bool, entry: Option<(&[u8], &Known<Fault>)>) -> bool
 }
 
 /// Whether a procedure of the definition still awaits its heading.
-fn lacks(own: &Dictionary<Known<Fault>>) -> bool
+fn lacks(own: &Dictionary<Known<Breach>>) -> bool
     ensures { result ≡ lacks own.now }
 {
     let mut found = false;
@@ -219,7 +220,7 @@ fn lacks(own: &Dictionary<Known<Fault>>) -> bool
     found
 }
 
-fn reported_of_lack(at: Pos, scope: &Scope<Fault>) -> Elaborated<()>
+fn reported_of_lack(at: Pos, scope: &Scope<Breach>) -> Elaborated<()>
     ensures { result ≡ reported_of_lack least at scope.now }
 {
     if lacks(&scope.own) {
@@ -232,7 +233,7 @@ fn reported_of_lack(at: Pos, scope: &Scope<Fault>) -> Elaborated<()>
 /// before each declaration. An exported procedure that the block lacks is 51 at the module's name.
 pub fn declare_module(
     alloc: Global,
-    scope: &mut Scope<Fault>,
+    scope: &mut Scope<Breach>,
     modules: &Dictionary<usize>,
     ends: &[usize],
     tree: &Module,

@@ -7,9 +7,9 @@ ghost use Rattle.check_block.specs.Headings.{standing_of, standing_elaborated, s
 
 use crate::agreeing::{agree, signature_of};
 use check_definition::{procedure_meaning, with_procedure_type};
-use check_scope::{Elaborated, Fault, Known, Origin, Scope, beside, reported};
+use check_scope::{Elaborated, Known, Origin, Scope, beside, reported};
 use check_type_expr::{heading_of, names_of, nothing_of, with_made};
-use m2_rule::Rule;
+use m2_rule::{Breach, Rule};
 use m2_tree::{Heading, Pos};
 use std::alloc::{AllocError, Global};
 use typed_tree::{Made, Meaning, NestedProcedure, Procedure, TypeNo, Types, made_of};
@@ -62,7 +62,7 @@ fn standing_from(origin: Origin, means: &Elaborated<Meaning>) -> Standing
 }
 
 /// What stands under a name of which this is known.
-pub fn standing_known(known: &Known<Fault>) -> Standing
+pub fn standing_known(known: &Known<Breach>) -> Standing
     ensures { result ≡ standing_known known.now }
 {
     match known {
@@ -74,7 +74,7 @@ pub fn standing_known(known: &Known<Fault>) -> Standing
     }
 }
 
-fn name_standing(known: Option<&Known<Fault>>) -> Standing
+fn name_standing(known: Option<&Known<Breach>>) -> Standing
     ensures { result ≡ name_standing (option_copied known.entry) }
 {
     match known {
@@ -89,7 +89,7 @@ fn nested_meaning(level: usize, number: usize, t: Elaborated<TypeNo>) -> Elabora
     ensures { result ≡ nested_meaning level number t }
 {
     match t {
-        Err(fault) => Err(fault),
+        Err(breach) => Err(breach),
         Ok(heading) => Ok(Meaning::LocalProcedure(NestedProcedure {
             level,
             number,
@@ -100,7 +100,7 @@ fn nested_meaning(level: usize, number: usize, t: Elaborated<TypeNo>) -> Elabora
 
 fn head(
     alloc: Global,
-    scope: &mut Scope<Fault>,
+    scope: &mut Scope<Breach>,
     name: &[u8],
     means: Elaborated<Meaning>,
 ) -> Result<(), AllocError>
@@ -111,7 +111,7 @@ fn head(
 
 fn module_procedure(
     alloc: Global,
-    scope: &mut Scope<Fault>,
+    scope: &mut Scope<Breach>,
     name: &[u8],
     t: Elaborated<TypeNo>,
 ) -> Result<(), AllocError>
@@ -124,7 +124,7 @@ fn module_procedure(
 
 fn new_procedure(
     alloc: Global,
-    scope: &mut Scope<Fault>,
+    scope: &mut Scope<Breach>,
     name: &[u8],
     number: usize,
     t: Elaborated<TypeNo>,
@@ -140,7 +140,7 @@ fn new_procedure(
 
 fn with_new(
     alloc: Global,
-    scope: &mut Scope<Fault>,
+    scope: &mut Scope<Breach>,
     name: &[u8],
     number: usize,
     made: Elaborated<Made>,
@@ -173,14 +173,14 @@ fn reported_of_heading(
     ensures { result ≡ made.now ▷ reported_of_other least types.now at procedure }
 {
     match made {
-        Err(fault) => Err(*fault),
+        Err(breach) => Err(*breach),
         Ok(made) => reported_of_other(types, at, procedure, made),
     }
 }
 
 fn with_awaited(
     alloc: Global,
-    scope: &mut Scope<Fault>,
+    scope: &mut Scope<Breach>,
     heading: &Heading,
     procedure: Procedure,
     made: &Elaborated<Made>,
@@ -199,14 +199,14 @@ fn nothing_made(made: &Elaborated<Made>) -> Elaborated<()>
     ensures { result ≡ nothing_made made.now }
 {
     match made {
-        Err(fault) => Err(*fault),
+        Err(breach) => Err(*breach),
         Ok(_) => Ok(()),
     }
 }
 
 fn headed_as(
     alloc: Global,
-    scope: &mut Scope<Fault>,
+    scope: &mut Scope<Breach>,
     heading: &Heading,
     number: usize,
     made: Elaborated<Made>,
@@ -228,7 +228,7 @@ fn headed_as(
 /// 31. A procedure of the module's definition has its heading there; one that differs is 50.
 pub fn with_heading(
     alloc: Global,
-    scope: &mut Scope<Fault>,
+    scope: &mut Scope<Breach>,
     number: usize,
     heading: &Heading,
 ) -> Result<Elaborated<()>, AllocError>

@@ -5,11 +5,13 @@ ghost use Rattle.std.specs.List.{fold};
 ghost use Rattle.check_scope.specs.Elaborated.{least};
 ghost use Rattle.check_block.specs.Inner.{inwards, outside, formal_kind, formal_meaning, unless_found, with_formal_type, with_formal, with_section, formals_in, entered_in, entered_procedure, split_last, popped, left_procedure};
 
-use check_scope::{Block, Elaborated, Fault, Known, Origin, Scope};
+use check_scope::{Block, Elaborated, Known, Origin, Scope};
 use check_type_expr::{formal_of, result_of};
-use m2_tree::{Heading, Ident, Items, Section};
+use m2_rule::Breach;
+use m2_tree::{Heading, Ident, Section};
 use std::alloc::{AllocError, Global};
 use std::mem;
+use tree_parts::Items;
 use typed_tree::{Dictionary, Formal, LocalKind, LocalVariable, Meaning, TypeNo};
 
 /// What is put back behind a procedure.
@@ -28,7 +30,7 @@ pub struct Entered {
     pub result: Elaborated<Option<TypeNo>>,
 }
 
-fn inwards(alloc: Global, scope: &mut Scope<Fault>, seen: usize) -> Result<Outside, AllocError>
+fn inwards(alloc: Global, scope: &mut Scope<Breach>, seen: usize) -> Result<Outside, AllocError>
     ensures within { OnOk result (scope.new ≡ inwards scope.old seen) }
     ensures around { IfOk result (λ o. o ≡ outside scope.old) }
 {
@@ -57,7 +59,7 @@ fn formal_meaning(level: usize, number: usize, formal: Elaborated<Formal>) -> El
     ensures { result ≡ formal_meaning level number formal }
 {
     match formal {
-        Err(fault) => Err(fault),
+        Err(breach) => Err(breach),
         Ok(formal) => Ok(Meaning::Local(LocalVariable {
             level,
             number,
@@ -69,9 +71,9 @@ fn formal_meaning(level: usize, number: usize, formal: Elaborated<Formal>) -> El
 
 fn unless_found(
     alloc: Global,
-    names: &mut Dictionary<Known<Fault>>,
+    names: &mut Dictionary<Known<Breach>>,
     name: &[u8],
-    known: Known<Fault>,
+    known: Known<Breach>,
 ) -> Result<(), AllocError>
     ensures { OnOk result (names.new ≡ unless_found name.now known names.old) }
 {
@@ -92,7 +94,7 @@ fn with_formal_type(types: &mut Items<TypeNo>, formal: Elaborated<Formal>) -> Re
 
 fn with_formal(
     alloc: Global,
-    names: &mut Dictionary<Known<Fault>>,
+    names: &mut Dictionary<Known<Breach>>,
     types: &mut Items<TypeNo>,
     level: usize,
     formal: Elaborated<Formal>,
@@ -112,7 +114,7 @@ fn with_formal(
 
 fn with_names(
     alloc: Global,
-    names: &mut Dictionary<Known<Fault>>,
+    names: &mut Dictionary<Known<Breach>>,
     types: &mut Items<TypeNo>,
     level: usize,
     formal: Elaborated<Formal>,
@@ -128,8 +130,8 @@ fn with_names(
 
 fn with_section(
     alloc: Global,
-    scope: &Scope<Fault>,
-    names: &mut Dictionary<Known<Fault>>,
+    scope: &Scope<Breach>,
+    names: &mut Dictionary<Known<Breach>>,
     types: &mut Items<TypeNo>,
     section: &Section,
 ) -> Result<(), AllocError>
@@ -148,8 +150,8 @@ fn with_section(
 
 fn with_sections(
     alloc: Global,
-    scope: &Scope<Fault>,
-    names: &mut Dictionary<Known<Fault>>,
+    scope: &Scope<Breach>,
+    names: &mut Dictionary<Known<Breach>>,
     types: &mut Items<TypeNo>,
     list: &[Section],
 ) -> Result<(), AllocError>
@@ -163,7 +165,7 @@ fn with_sections(
 
 fn enter_in(
     alloc: Global,
-    scope: &mut Scope<Fault>,
+    scope: &mut Scope<Breach>,
     heading: &Heading,
 ) -> Result<Elaborated<Option<TypeNo>>, AllocError>
     ensures { IfOk result (λ t. (scope.new, t) ≡ entered_in least scope.old heading.now) }
@@ -187,7 +189,7 @@ fn enter_in(
 /// outside of it, and its formals are the first names in it. What is reported of the heading is reported where it is declared.
 pub fn enter(
     alloc: Global,
-    scope: &mut Scope<Fault>,
+    scope: &mut Scope<Breach>,
     seen: usize,
     heading: &Heading,
 ) -> Result<Entered, AllocError>
@@ -200,7 +202,7 @@ pub fn enter(
 }
 
 /// Takes the names of the innermost block around a place.
-fn pop_names(alloc: Global, outer: &mut Items<Block<Fault>>) -> Dictionary<Known<Fault>>
+fn pop_names(alloc: Global, outer: &mut Items<Block<Breach>>) -> Dictionary<Known<Breach>>
     ensures { (outer.new, result) ≡ popped (split_last outer.old) }
 {
     match outer.pop() {
@@ -210,7 +212,7 @@ fn pop_names(alloc: Global, outer: &mut Items<Block<Fault>>) -> Dictionary<Known
 }
 
 /// Leaves a procedure. What is around it is as it was, but for the types that were made in it.
-pub fn leave(alloc: Global, scope: &mut Scope<Fault>, outside: Outside)
+pub fn leave(alloc: Global, scope: &mut Scope<Breach>, outside: Outside)
     ensures { scope.new ≡ left_procedure outside scope.old }
 {
     scope.own = pop_names(alloc, &mut scope.outer);

@@ -4,11 +4,13 @@ ghost use Rattle.std.specs.Prelude.{◌≡◌, OnOk, IfOk};
 ghost use Rattle.check_block.specs.Naming.{marked_decl, marked_decls};
 
 use check_definition::{mark_constants, mark_types, mark_variables};
-use check_scope::{Fault, Known, Scope, mark};
-use m2_tree::{Decl, Items};
+use check_scope::{Known, Scope, mark};
+use m2_rule::Breach;
+use m2_tree::Decl;
 use std::alloc::{AllocError, Global};
+use tree_parts::Items;
 
-fn mark_decl(alloc: Global, scope: &mut Scope<Fault>, decl: &Decl) -> Result<(), AllocError>
+fn mark_decl(alloc: Global, scope: &mut Scope<Breach>, decl: &Decl) -> Result<(), AllocError>
     ensures { OnOk result (scope.new ≡ marked_decl scope.old decl.now) }
 {
     match decl {
@@ -22,7 +24,7 @@ fn mark_decl(alloc: Global, scope: &mut Scope<Fault>, decl: &Decl) -> Result<(),
 /// Marks the names that a block declares, and answers how many names stand before each declaration.
 pub fn mark_decls(
     alloc: Global,
-    scope: &mut Scope<Fault>,
+    scope: &mut Scope<Breach>,
     decls: &[Decl],
 ) -> Result<Items<usize>, AllocError>
     ensures { IfOk result (λ seen. (scope.new, seen) ≡ marked_decls scope.old decls.now) }

@@ -4,8 +4,9 @@ ghost use Rattle.std.specs.Prelude.{◌≡◌, [], IfOk, OnOk};
 ghost use Rattle.std.specs.List.{fold};
 ghost use Rattle.check_block.specs.Nesting.{with_ends_within, with_decl_ends, procedure_ends};
 
-use m2_tree::{Decl, Items};
+use m2_tree::Decl;
 use std::alloc::{AllocError, Global};
+use tree_parts::Items;
 
 /// Puts the numbers behind the procedures of a procedure's declarations at the end.
 #[cycle(nesting)]

@@ -12,11 +12,12 @@ use crate::statements::{Statements, check_statements};
 use crate::{implementation_scope, no_bodies, typed_module};
 use check_block::{declare_module, procedure_ends};
 use check_definition::{first_scope, modules_of, with_console};
-use check_scope::{Elaborated, Fault, Scope, both, reported};
-use m2_rule::Rule;
-use m2_tree::{Block, Contents, Decl, Items, Module};
+use check_scope::{Elaborated, Scope, both, reported};
+use m2_rule::{Breach, Rule};
+use m2_tree::{Block, Contents, Decl, Module};
 use std::alloc::{AllocError, Global};
-use typed_tree::{Dictionary, Shared, Table, TypedModule, TypedStmt};
+use tree_parts::{Items, Shared};
+use typed_tree::{Dictionary, Table, TypedModule, TypedStmt};
 
 /// The module of a body that was checked.
 fn module_or(
@@ -24,14 +25,14 @@ fn module_or(
     modules: &Dictionary<usize>,
     own: Option<&Table>,
     tree: &Module,
-    walk: Walk<Fault>,
+    walk: Walk<Breach>,
     body: Elaborated<Items<TypedStmt>>,
 ) -> Result<Elaborated<TypedModule>, AllocError>
     ensures { IfOk result (λ j. j ≡
         module_or least modules.now (option_copied own.entry) tree.now (walk, body)) }
 {
     match both(walk.so_far, body) {
-        Err(fault) => Ok(Err(fault)),
+        Err(breach) => Ok(Err(breach)),
         Ok((_, body)) => {
             let Walk { scope, bodies, .. } = walk;
             let module = typed_module(alloc, scope, modules, own, tree, bodies, body)?;
@@ -46,10 +47,10 @@ fn begin_module(
     alloc: Global,
     modules: &Dictionary<usize>,
     ends: &[usize],
-    scope: Scope<Fault>,
+    scope: Scope<Breach>,
     tree: &Module,
     decls: &[Decl],
-) -> Result<(Walk<Fault>, Items<usize>), AllocError>
+) -> Result<(Walk<Breach>, Items<usize>), AllocError>
     ensures { IfOk result (λ r. r ≡
         begun_module least modules.now ends.now scope tree.now decls.now) }
 {
@@ -70,10 +71,10 @@ fn walk_through<S: Statements>(
     statements: &S,
     modules: &Dictionary<usize>,
     ends: &[usize],
-    scope: Scope<Fault>,
+    scope: Scope<Breach>,
     tree: &Module,
     block: &Block,
-) -> Result<(Walk<Fault>, Elaborated<Items<TypedStmt>>), AllocError>
+) -> Result<(Walk<Breach>, Elaborated<Items<TypedStmt>>), AllocError>
     ensures { IfOk result (λ r. r ≡
         walked least (S.elaborated statements.now) modules.now ends.now scope tree.now block.now) }
 {
@@ -96,7 +97,7 @@ fn check_from<S: Statements>(
     alloc: Global,
     statements: &S,
     modules: &Dictionary<usize>,
-    scope: Scope<Fault>,
+    scope: Scope<Breach>,
     own: Option<&Table>,
     tree: &Module,
     block: &Block,
@@ -115,7 +116,7 @@ fn check_from<S: Statements>(
 fn check_body<S: Statements>(
     alloc: Global,
     statements: &S,
-    scope: Scope<Fault>,
+    scope: Scope<Breach>,
     own: Option<&Table>,
     tree: &Module,
     block: &Block,

@@ -6,12 +6,14 @@ ghost use Rattle.check_scope.specs.Elaborated.{least};
 ghost use Rattle.check_body.specs.Checks.{elaborated, checked};
 
 use crate::{Statements, check_with};
-use check_scope::{Elaborated, Fault, Scope};
+use check_scope::{Elaborated, Scope};
 use check_stmt::statements;
 use check_stmt_parts::Around;
-use m2_tree::{Items, Module, Stmt};
+use m2_rule::Breach;
+use m2_tree::{Module, Stmt};
 use std::alloc::{AllocError, Global};
-use typed_tree::{Shared, Table, TypeNo, TypedModule, TypedStmt};
+use tree_parts::{Items, Shared};
+use typed_tree::{Table, TypeNo, TypedModule, TypedStmt};
 
 /// Elaborates the statements of a body.
 struct Checker;
@@ -22,7 +24,7 @@ impl Statements for Checker {
     fn check(
         &self,
         alloc: Global,
-        scope: &mut Scope<Fault>,
+        scope: &mut Scope<Breach>,
         returns: &Option<Elaborated<TypeNo>>,
         body: &[Stmt],
     ) -> Result<Elaborated<Items<TypedStmt>>, AllocError> {

@@ -9,9 +9,10 @@ ghost use Rattle.check_body.specs.Imports.{with_import_copy, definition_imports,
 
 use crate::own::exported_variables;
 use check_definition::with_import_of;
-use m2_tree::{Import, Items, is_console};
+use m2_tree::{Import, is_console};
 use std::alloc::{AllocError, Global};
-use typed_tree::{Dictionary, Imported, Shared, Table};
+use tree_parts::{Items, Shared};
+use typed_tree::{Dictionary, Imported, Table};
 
 // ---- names
 

@@ -7,18 +7,19 @@ ghost use Rattle.check_definition.specs.Steps.{if_some};
 ghost use Rattle.check_body.specs.Own.{with_own_name, own_names, with_variable_of, with_exported_variable, exported_variables, with_heading_of, with_exported_heading, exported_headings, with_field_copy, fields_copy, shape_copy, made_copy, types_made_in, own_types, with_own_types, with_own, implementation_scope};
 
 use check_definition::{first_scope, with_table};
-use check_scope::{Fault, Known, Origin, Scope};
-use m2_tree::Items;
+use check_scope::{Known, Origin, Scope};
+use m2_rule::Breach;
 use std::alloc::{AllocError, Global};
+use tree_parts::{Items, Shared};
 use typed_tree::{
-    Dictionary, Formal, Made, Meaning, ModuleTypes, Shape, Shared, Signature, Table, TypeNo, Types,
+    Dictionary, Formal, Made, Meaning, ModuleTypes, Shape, Signature, Table, TypeNo, Types,
 };
 
 // ---- names
 
 fn with_own_name(
     alloc: Global,
-    names: &mut Dictionary<Known<Fault>>,
+    names: &mut Dictionary<Known<Breach>>,
     name: &[u8],
     meaning: &Meaning,
 ) -> Result<(), AllocError>
@@ -30,7 +31,7 @@ fn with_own_name(
 
 fn with_own_name_if(
     alloc: Global,
-    names: &mut Dictionary<Known<Fault>>,
+    names: &mut Dictionary<Known<Breach>>,
     entry: Option<(&[u8], &Meaning)>,
 ) -> Result<(), AllocError>
     ensures { OnOk result (names.new ≡ if_some with_own_name names.old (option_map (λ e. (e.0.now, e.1.now)) entry.entry)) }
@@ -44,7 +45,7 @@ fn with_own_name_if(
 fn own_names(
     alloc: Global,
     exported: &Dictionary<Meaning>,
-) -> Result<Dictionary<Known<Fault>>, AllocError>
+) -> Result<Dictionary<Known<Breach>>, AllocError>
     ensures { IfOk result (λ names. names ≡ own_names exported.now) }
 {
     let mut names = Dictionary::new(alloc);
@@ -236,7 +237,7 @@ fn with_own_types(alloc: Global, types: &mut Types, own: &Table) -> Result<(), A
 
 // ---- the scope
 
-fn with_own(alloc: Global, scope: &mut Scope<Fault>, own: &Table) -> Result<(), AllocError>
+fn with_own(alloc: Global, scope: &mut Scope<Breach>, own: &Table) -> Result<(), AllocError>
     ensures { OnOk result (scope.new ≡ with_own scope.old own.now) }
 {
     with_own_types(alloc, &mut scope.types, own)?;
@@ -252,7 +253,7 @@ pub fn implementation_scope(
     alloc: Global,
     own: &Table,
     tables: Items<Shared<Table>>,
-) -> Result<Scope<Fault>, AllocError>
+) -> Result<Scope<Breach>, AllocError>
     ensures { IfOk result (λ scope. scope ≡ implementation_scope own.now tables) }
 {
     let mut scope = first_scope(alloc, own.number, tables)?;

@@ -6,9 +6,11 @@ ghost use Rattle.check_body.specs.Inside.{returns_of, which_of, begun_procedure,
 
 use crate::{Bodies, Numbered, begin_at, fill, procedure_named, routine_of};
 use check_block::{Outside, enter, leave};
-use check_scope::{Elaborated, Fault, Scope, beside};
-use m2_tree::{Heading, Ident, Items};
+use check_scope::{Elaborated, Scope, beside};
+use m2_rule::Breach;
+use m2_tree::{Heading, Ident};
 use std::alloc::{AllocError, Global};
+use tree_parts::Items;
 use typed_tree::{TypeNo, TypedStmt, Which};
 
 /// How far the bodies of a module are checked.
@@ -39,7 +41,7 @@ fn returns_of(given: Elaborated<Option<TypeNo>>) -> Option<Elaborated<TypeNo>>
     ensures { result ≡ returns_of given }
 {
     match given {
-        Err(fault) => Some(Err(fault)),
+        Err(breach) => Some(Err(breach)),
         Ok(None) => None,
         Ok(Some(t)) => Some(Ok(t)),
     }
@@ -59,10 +61,10 @@ pub fn which_of(procedure: Option<Numbered>) -> Option<Which>
 /// out.
 pub fn begin_procedure(
     alloc: Global,
-    walk: &mut Walk<Fault>,
+    walk: &mut Walk<Breach>,
     seen: usize,
     heading: &Heading,
-) -> Result<Begun<Fault>, AllocError>
+) -> Result<Begun<Breach>, AllocError>
     ensures { IfOk result (λ b. (walk.new, b) ≡ begun_procedure least walk.old seen heading.now) }
 {
     let procedure = procedure_named(&walk.scope, &heading.name);
@@ -82,14 +84,14 @@ fn reported_in(body: &Elaborated<Items<TypedStmt>>) -> Elaborated<()>
     ensures { result ≡ reported_in body.now }
 {
     match body {
-        Err(fault) => Err(*fault),
+        Err(breach) => Err(*breach),
         Ok(_) => Ok(()),
     }
 }
 
 fn fill_with(
     alloc: Global,
-    walk: &mut Walk<Fault>,
+    walk: &mut Walk<Breach>,
     name: &Ident,
     around: Option<Which>,
     formals: usize,
@@ -115,10 +117,10 @@ fn fill_with(
 /// Ends the body of a procedure. The only error is that memory ran out.
 pub fn end_procedure(
     alloc: Global,
-    walk: &mut Walk<Fault>,
+    walk: &mut Walk<Breach>,
     name: &Ident,
     around: Option<Which>,
-    begun: Begun<Fault>,
+    begun: Begun<Breach>,
     body: Elaborated<Items<TypedStmt>>,
 ) -> Result<(), AllocError>
     ensures { OnOk result

@@ -8,16 +8,18 @@ ghost use Rattle.check_body.specs.Bodies.{checks_decl, checks_block, procedure_c
 use crate::procedure::{Walk, begin_procedure, end_procedure, which_of};
 use crate::statements::{Statements, check_statements};
 use check_block::declare_block;
-use check_scope::{Elaborated, Fault};
-use m2_tree::{Block, Decl, Heading, Items};
+use check_scope::Elaborated;
+use m2_rule::Breach;
+use m2_tree::{Block, Decl, Heading};
 use std::alloc::{AllocError, Global};
+use tree_parts::Items;
 use typed_tree::{TypeNo, TypedStmt, Which};
 
 /// Declares what the block of a procedure declares, and answers how many names stand before each declaration.
 fn declare_in(
     alloc: Global,
     ends: &[usize],
-    walk: &mut Walk<Fault>,
+    walk: &mut Walk<Breach>,
     decls: &[Decl],
 ) -> Result<Items<usize>, AllocError>
     ensures { IfOk result
@@ -54,7 +56,7 @@ pub fn check_procedures<S: Statements>(
     ends: &[usize],
     around: Option<Which>,
     seen: &[usize],
-    walk: &mut Walk<Fault>,
+    walk: &mut Walk<Breach>,
     decls: &[Decl],
 ) -> Result<(), AllocError>
     ensures { OnOk result (walk.new ≡
@@ -76,7 +78,7 @@ fn check_decl<S: Statements>(
     ends: &[usize],
     around: Option<Which>,
     seen: usize,
-    walk: &mut Walk<Fault>,
+    walk: &mut Walk<Breach>,
     decl: &Decl,
 ) -> Result<(), AllocError>
     ensures { OnOk result (walk.new ≡
@@ -100,7 +102,7 @@ fn check_procedure<S: Statements>(
     ends: &[usize],
     around: Option<Which>,
     seen: usize,
-    walk: &mut Walk<Fault>,
+    walk: &mut Walk<Breach>,
     heading: &Heading,
     block: &Block,
 ) -> Result<(), AllocError>
@@ -121,7 +123,7 @@ fn check_block<S: Statements>(
     ends: &[usize],
     around: Option<Which>,
     returns: &Option<Elaborated<TypeNo>>,
-    walk: &mut Walk<Fault>,
+    walk: &mut Walk<Breach>,
     block: &Block,
 ) -> Result<Elaborated<Items<TypedStmt>>, AllocError>
     ensures { IfOk result (λ j. (walk.new, j) ≡

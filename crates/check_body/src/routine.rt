@@ -5,9 +5,11 @@ ghost use Rattle.std.specs.Option.{option_copied};
 ghost use Rattle.check_body.specs.Routines.{numbered_by, numbered_elaborated, numbered_known, procedure_named, unfilled, no_bodies, begun_at, filled, routine, imports_of, with_scope, typed_module};
 
 use crate::imports::{all_imports, typed_imports};
-use check_scope::{Elaborated, Fault, Known, Scope};
-use m2_tree::{Ident, Items, Module, Name, Pos};
+use check_scope::{Elaborated, Known, Scope};
+use m2_rule::Breach;
+use m2_tree::{Ident, Module, Name, Pos};
 use std::alloc::{AllocError, Global};
+use tree_parts::Items;
 use typed_tree::{
     Dictionary, INTEGER, Imported, Meaning, Routine, Table, TypeNo, TypedModule, TypedStmt, Which,
 };
@@ -64,7 +66,7 @@ fn numbered_elaborated(means: &Elaborated<Meaning>) -> Option<Numbered>
     }
 }
 
-fn numbered_known(known: Option<&Known<Fault>>) -> Option<Numbered>
+fn numbered_known(known: Option<&Known<Breach>>) -> Option<Numbered>
     ensures { result ≡ numbered_known (option_copied known.entry) }
 {
     match known {
@@ -80,7 +82,7 @@ fn numbered_known(known: Option<&Known<Fault>>) -> Option<Numbered>
 }
 
 /// The procedure of the block that has this name, if its heading means something.
-pub fn procedure_named(scope: &Scope<Fault>, name: &Ident) -> Option<Numbered>
+pub fn procedure_named(scope: &Scope<Breach>, name: &Ident) -> Option<Numbered>
     ensures { result ≡ procedure_named scope.now name.now }
 {
     numbered_known(scope.own.find(name.name.as_bytes()))
@@ -167,7 +169,7 @@ fn behind(alloc: Global, list: &[TypeNo], count: usize) -> Result<Items<TypeNo>,
 /// its formals. The only error is that memory ran out.
 pub fn routine_of(
     alloc: Global,
-    scope: &Scope<Fault>,
+    scope: &Scope<Breach>,
     name: &Ident,
     procedure: Numbered,
     around: Option<Which>,
@@ -191,7 +193,7 @@ pub fn routine_of(
 /// The modules that a body imports, from the scope where its block ends.
 fn imports_of(
     alloc: Global,
-    scope: &Scope<Fault>,
+    scope: &Scope<Breach>,
     modules: &Dictionary<usize>,
     own: Option<&Table>,
     tree: &Module,
@@ -209,7 +211,7 @@ fn with_scope(
     name: Name,
     pos: Pos,
     imports: Items<Imported>,
-    scope: Scope<Fault>,
+    scope: Scope<Breach>,
     bodies: Bodies,
     body: Items<TypedStmt>,
 ) -> TypedModule
@@ -237,7 +239,7 @@ fn with_scope(
 /// The module of a body, from the scope where its block ends. The only error is that memory ran out.
 pub fn typed_module(
     alloc: Global,
-    scope: Scope<Fault>,
+    scope: Scope<Breach>,
     modules: &Dictionary<usize>,
     own: Option<&Table>,
     tree: &Module,

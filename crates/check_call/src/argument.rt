@@ -7,8 +7,9 @@ ghost use Rattle.check_call.specs.Actuals.{starts_at_zero, elements_suit_in, ele
 use check_operator::{Class, Computed, Designated, array_of, class_of, taken, value_suited};
 use check_scope::{Elaborated, both, reported};
 use m2_rule::Rule;
-use m2_tree::{Items, Pos};
+use m2_tree::Pos;
 use std::alloc::AllocError;
+use tree_parts::Items;
 use typed_tree::{Argument, CHAR, Formal, Scalar, TypeNo, Types, Value, are_same, scalar_of};
 
 fn starts_at_zero(index: Option<Scalar>) -> bool
@@ -175,9 +176,9 @@ fn simple_passed(types: &Types, t: TypeNo, at: Pos, designated: Designated) -> E
     ensures { result ≡ simple_passed least types.now t at designated }
 {
     match taken(types, at, designated) {
-        Err(fault) => Err(fault),
+        Err(breach) => Err(breach),
         Ok(value) => match value_suited(Rule::WrongArgument, types, t, at, value) {
-            Err(fault) => Err(fault),
+            Err(breach) => Err(breach),
             Ok(e) => Ok(Argument::Value(t, e)),
         },
     }
@@ -236,7 +237,7 @@ pub fn with_argument(
     ensures { IfOk result (λ xs. xs ≡ with_argument least arguments argument) }
 {
     match both(arguments, argument) {
-        Err(fault) => Ok(Err(fault)),
+        Err(breach) => Ok(Err(breach)),
         Ok((mut all, one)) => {
             all.push(one)?;
             Ok(Ok(all))

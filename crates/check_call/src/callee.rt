@@ -9,7 +9,8 @@ ghost use Rattle.check_call.specs.Callees.{held_by, callee_of, counted, function
 use check_operator::{Class, Designated, class_of};
 use check_scope::{Elaborated, reported};
 use m2_rule::Rule;
-use m2_tree::{Items, Pos};
+use m2_tree::Pos;
+use tree_parts::Items;
 use typed_tree::{
     Argument, Call, LocalProcedure, Place, Procedure, Signature, Standard, TypeNo, Types,
 };
@@ -80,7 +81,7 @@ pub fn function_of(at: Pos, signature: Option<&Signature>, arguments: usize) -> 
         Some(signature) => match signature.result {
             None => reported(at, Rule::WrongType),
             Some(t) => match counted(at, signature.formals.len(), arguments) {
-                Err(fault) => Err(fault),
+                Err(breach) => Err(breach),
                 Ok(()) => Ok(t),
             },
         },

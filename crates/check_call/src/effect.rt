@@ -45,7 +45,7 @@ pub fn target_at(at: Pos, designated: Sought<Designated>) -> Elaborated<Target>
     ensures { result ≡ target_at least at designated }
 {
     match of_sort(at, Rule::WrongType, designated) {
-        Err(fault) => Err(fault),
+        Err(breach) => Err(breach),
         Ok(designated) => target_of(at, designated),
     }
 }
@@ -66,7 +66,7 @@ fn assigned_to(types: &Types, target: Target, at: Pos, value: Computed) -> Elabo
     match target {
         Target::Open => reported(at, Rule::NotAssignable),
         Target::Variable(t, place) => match suited(Rule::NotAssignable, types, t, at, value) {
-            Err(fault) => Err(fault),
+            Err(breach) => Err(breach),
             Ok(accepted) => Ok(stored(t, place, accepted)),
         },
     }
@@ -82,7 +82,7 @@ pub fn assigned(
     ensures { result ≡ assigned least types.now target at value }
 {
     match both(target, value) {
-        Err(fault) => Err(fault),
+        Err(breach) => Err(breach),
         Ok((target, value)) => assigned_to(types, target, at, value),
     }
 }
@@ -229,7 +229,7 @@ pub fn change_by(
     ensures { result ≡ change_by least change variable amount }
 {
     match both(variable, amount) {
-        Err(fault) => Err(fault),
+        Err(breach) => Err(breach),
         Ok(((t, place), amount)) => Ok(TypedStmt::Change(change, place, t, amount)),
     }
 }
@@ -243,7 +243,7 @@ pub fn membership_of(
     ensures { result ≡ membership_of least membership set element }
 {
     match both(set, element) {
-        Err(fault) => Err(fault),
+        Err(breach) => Err(breach),
         Ok((place, element)) => Ok(TypedStmt::Membership(membership, place, element)),
     }
 }
@@ -253,7 +253,7 @@ pub fn put(types: &Types, at: Pos, value: Computed) -> Elaborated<TypedStmt>
     ensures { result ≡ put least types.now at value }
 {
     match value_suited(Rule::WrongArgument, types, CHAR, at, value) {
-        Err(fault) => Err(fault),
+        Err(breach) => Err(breach),
         Ok(e) => Ok(TypedStmt::Put(e)),
     }
 }

@@ -9,8 +9,9 @@ use check_const_ops::converted;
 use check_operator::{Computed, Designated, of_value};
 use check_scope::{Elaborated, both, reported};
 use m2_rule::Rule;
-use m2_tree::{Boxed, Pos};
+use m2_tree::Pos;
 use std::alloc::{AllocError, Global};
+use tree_parts::Boxed;
 use typed_tree::{
     BOOLEAN, CARDINAL, CHAR, Scalar, Standard, TypeNo, TypedExpr, Types, are_same, is_numeric,
     scalar_of,
@@ -146,7 +147,7 @@ pub fn bound_at(standard: Standard, argument: Elaborated<(TypeNo, Scalar)>) -> E
     ensures { result ≡ bound_at standard argument }
 {
     match argument {
-        Err(fault) => Err(fault),
+        Err(breach) => Err(breach),
         Ok((t, scalar)) => Ok(Computed::Constant(bound_by(standard, t, scalar))),
     }
 }
@@ -199,7 +200,7 @@ pub fn conversion_at(
     ensures { IfOk result (λ v. v ≡ conversion_at least to at value) }
 {
     match both(to, value) {
-        Err(fault) => Ok(Err(fault)),
+        Err(breach) => Ok(Err(breach)),
         Ok(((t, scalar), value)) => converted_value(alloc, t, scalar, at, value),
     }
 }

@@ -86,7 +86,7 @@ pub fn type_argument(
     ensures { result ≡ type_argument least types.now at named }
 {
     match named {
-        Err(fault) => Err(fault),
+        Err(breach) => Err(breach),
         Ok(named) => named_scalar(types, at, named),
     }
 }
@@ -119,7 +119,7 @@ pub fn unary(standard: Standard, argument: Elaborated<(Pos, Value)>) -> Elaborat
     ensures { result ≡ unary least standard argument }
 {
     match argument {
-        Err(fault) => Err(fault),
+        Err(breach) => Err(breach),
         Ok((at, value)) => unary_of(standard, at, &value),
     }
 }
@@ -152,7 +152,7 @@ pub fn bound(standard: Standard, argument: Elaborated<(TypeNo, Scalar)>) -> Elab
     ensures { result ≡ bound standard argument }
 {
     match argument {
-        Err(fault) => Err(fault),
+        Err(breach) => Err(breach),
         Ok((t, scalar)) => Ok(bound_by(standard, t, scalar)),
     }
 }
@@ -166,7 +166,7 @@ pub fn converted_by(
     ensures { result ≡ converted_by least to at value }
 {
     match both(to, value) {
-        Err(fault) => Err(fault),
+        Err(breach) => Err(breach),
         Ok(((t, scalar), value)) => converted(t, scalar, at, &value),
     }
 }

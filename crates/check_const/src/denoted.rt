@@ -46,7 +46,7 @@ pub fn denoted_of(sought: Sought<Meaning>) -> Elaborated<Denoted>
 {
     match sought {
         Ok(meaning) => Ok(denoted_by(meaning)),
-        Err(Meaningless::Broken(fault)) => Err(fault),
+        Err(Meaningless::Broken(breach)) => Err(breach),
         Err(Meaningless::Headless(_)) => Ok(Denoted::Procedure),
     }
 }
@@ -69,7 +69,7 @@ pub fn constant_by(at: Pos, denoted: Elaborated<Denoted>) -> Elaborated<Value>
     ensures { result ≡ constant_by least at denoted }
 {
     match denoted {
-        Err(fault) => Err(fault),
+        Err(breach) => Err(breach),
         Ok(denoted) => as_constant(at, denoted),
     }
 }
@@ -79,7 +79,7 @@ pub fn of_value(value: Elaborated<Value>) -> Elaborated<Denoted>
     ensures { result ≡ of_value value }
 {
     match value {
-        Err(fault) => Err(fault),
+        Err(breach) => Err(breach),
         Ok(value) => Ok(Denoted::Value(value)),
     }
 }

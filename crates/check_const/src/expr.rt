@@ -10,11 +10,12 @@ use crate::call::type_in;
 use crate::denoted::{Denoted, component, denoted_by, denoted_of, is_bitset, of_value};
 use crate::qualified::member;
 use check_const_ops::{BinaryOp, Ordinal, combined, element, signed, single};
-use check_scope::{Elaborated, Fault, Scope, both, looked_up, of_sort};
-use m2_rule::Rule;
+use check_scope::{Elaborated, Scope, both, looked_up, of_sort};
+use m2_rule::{Breach, Rule};
 use m2_tree::{Ident, Operator, Pos, Quoted, RelOp, Sign};
 use std::alloc::{AllocError, Global};
-use typed_tree::{Shared, TypeNo, Value};
+use tree_parts::Shared;
+use typed_tree::{TypeNo, Value};
 
 /// Where a sum begins: its sign, or else its first operand.
 pub fn sign_place(sign: Option<Operator<Sign>>, at: Pos) -> Pos
@@ -47,13 +48,13 @@ pub fn set_place(name: &Option<Ident>, at: Pos) -> Pos
 }
 
 /// The type's name before a set, if one stands there: 33 at it if it is not BITSET.
-pub fn set_type(scope: &Scope<Fault>, name: &Option<Ident>) -> Result<Elaborated<()>, AllocError>
+pub fn set_type(scope: &Scope<Breach>, name: &Option<Ident>) -> Result<Elaborated<()>, AllocError>
     ensures { IfOk result (λ j. j ≡ set_type least scope.now name.now) }
 {
     match name {
         None => Ok(Ok(())),
         Some(name) => match of_sort(name.pos, Rule::NoType, looked_up(scope, name)?) {
-            Err(fault) => Ok(Err(fault)),
+            Err(breach) => Ok(Err(breach)),
             Ok(meaning) => Ok(is_bitset(name.pos, meaning)),
         },
     }
@@ -64,7 +65,7 @@ pub fn set_of(of: Elaborated<()>, bits: Elaborated<u32>) -> Elaborated<Denoted>
     ensures { result ≡ set_of least of bits }
 {
     match both(of, bits) {
-        Err(fault) => Err(fault),
+        Err(breach) => Err(breach),
         Ok(((), bits)) => Ok(Denoted::Value(Value::Set(bits))),
     }
 }
@@ -74,7 +75,7 @@ pub fn joined_bits(first: Elaborated<u32>, second: Elaborated<u32>) -> Elaborate
     ensures { result ≡ joined_bits least first second }
 {
     match both(first, second) {
-        Err(fault) => Err(fault),
+        Err(breach) => Err(breach),
         Ok((a, b)) => Ok(a | b),
     }
 }
@@ -102,27 +103,27 @@ pub fn related(
 }
 
 /// What the first name of a designator stands for.
-pub fn named(scope: &Scope<Fault>, name: &Ident) -> Result<Elaborated<Denoted>, AllocError>
+pub fn named(scope: &Scope<Breach>, name: &Ident) -> Result<Elaborated<Denoted>, AllocError>
     ensures { IfOk result (λ d. d ≡ named least scope.now name.now) }
 {
     Ok(denoted_of(looked_up(scope, name)?))
 }
 
 fn member_of(
-    scope: &Scope<Fault>,
+    scope: &Scope<Breach>,
     place: usize,
     name: &Ident,
 ) -> Result<Elaborated<Denoted>, AllocError>
     ensures { IfOk result (λ d. d ≡ member_of least scope.now place name.now) }
 {
     match member(scope, place, name)? {
-        Err(fault) => Ok(Err(fault)),
+        Err(breach) => Ok(Err(breach)),
         Ok(meaning) => Ok(Ok(denoted_by(meaning))),
     }
 }
 
 fn field_of(
-    scope: &Scope<Fault>,
+    scope: &Scope<Breach>,
     at: Pos,
     name: &Ident,
     denoted: Denoted,
@@ -141,7 +142,7 @@ fn field_of(
 
 /// A name of a module, or a component.
 pub fn field_in(
-    scope: &Scope<Fault>,
+    scope: &Scope<Breach>,
     at: Pos,
     name: &Ident,
     from: Elaborated<Denoted>,
@@ -149,7 +150,7 @@ pub fn field_in(
     ensures { IfOk result (λ d. d ≡ (from ▷ field_of least scope.now at name.now)) }
 {
     match from {
-        Err(fault) => Ok(Err(fault)),
+        Err(breach) => Ok(Err(breach)),
         Ok(denoted) => field_of(scope, at, name, denoted),
     }
 }
@@ -159,7 +160,7 @@ pub fn component_in(at: Pos, from: Elaborated<Denoted>) -> Elaborated<Denoted>
     ensures { result ≡ from ▷ component least at }
 {
     match from {
-        Err(fault) => Err(fault),
+        Err(breach) => Err(breach),
         Ok(denoted) => component(at, denoted),
     }
 }
@@ -169,7 +170,7 @@ pub fn value_at(at: Pos, value: Elaborated<Value>) -> Elaborated<(Pos, Value)>
     ensures { result ≡ value_at at value }
 {
     match value {
-        Err(fault) => Err(fault),
+        Err(breach) => Err(breach),
         Ok(value) => Ok((at, value)),
     }
 }
@@ -179,7 +180,7 @@ pub fn single_of(at: Pos, value: Elaborated<Value>) -> Elaborated<u32>
     ensures { result ≡ single_of least at value }
 {
     match value {
-        Err(fault) => Err(fault),
+        Err(breach) => Err(breach),
         Ok(value) => single(at, &value),
     }
 }
@@ -189,7 +190,7 @@ pub fn element_of(at: Pos, value: Elaborated<Value>) -> Elaborated<Ordinal>
     ensures { result ≡ element_of least at value }
 {
     match value {
-        Err(fault) => Err(fault),
+        Err(breach) => Err(breach),
         Ok(value) => element(at, &value),
     }
 }
@@ -199,7 +200,7 @@ pub fn named_type(denoted: Elaborated<Denoted>) -> Elaborated<Option<TypeNo>>
     ensures { result ≡ named_type denoted }
 {
     match denoted {
-        Err(fault) => Err(fault),
+        Err(breach) => Err(breach),
         Ok(denoted) => Ok(type_in(denoted)),
     }
 }

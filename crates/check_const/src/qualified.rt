@@ -5,11 +5,12 @@ ghost use Rattle.std.specs.Option.{option_copied};
 ghost use Rattle.check_scope.specs.Elaborated.{least};
 ghost use Rattle.check_const.specs.Denote.{exported_by, exported, member};
 
-use check_scope::{Elaborated, Fault, Scope, reported};
-use m2_rule::Rule;
+use check_scope::{Elaborated, Scope, reported};
+use m2_rule::{Breach, Rule};
 use m2_tree::{Ident, Pos};
 use std::alloc::AllocError;
-use typed_tree::{Meaning, Shared, Table};
+use tree_parts::Shared;
+use typed_tree::{Meaning, Table};
 
 fn exported_by<'a>(table: Option<&'a Shared<Table>>, name: &[u8]) -> Option<&'a Meaning>
     ensures { option_copied result ≡ exported_by name.now (option_copied table.entry) }
@@ -31,7 +32,7 @@ fn exported(at: Pos, meaning: Option<&Meaning>) -> Result<Elaborated<Meaning>, A
 
 /// What a name of a module means. The module is known by the place of its table.
 pub fn member(
-    scope: &Scope<Fault>,
+    scope: &Scope<Breach>,
     place: usize,
     name: &Ident,
 ) -> Result<Elaborated<Meaning>, AllocError>

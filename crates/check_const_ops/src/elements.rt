@@ -43,9 +43,9 @@ pub fn single(at: Pos, value: &Value) -> Elaborated<u32>
     ensures { result ≡ single least at value.now }
 {
     match element(at, value) {
-        Err(fault) => Err(fault),
+        Err(breach) => Err(breach),
         Ok(a) => match is_element(at, a) {
-            Err(fault) => Err(fault),
+            Err(breach) => Err(breach),
             Ok(()) => Ok(with_span(0, a.number, a.number)),
         },
     }
@@ -74,7 +74,7 @@ fn in_set(at: Pos, a: Elaborated<Ordinal>) -> Elaborated<()>
     ensures { result ≡ in_set least at a }
 {
     match a {
-        Err(fault) => Err(fault),
+        Err(breach) => Err(breach),
         Ok(a) => is_element(at, a),
     }
 }
@@ -97,7 +97,7 @@ fn related_bounds(
     ensures { result ≡ related_bounds least at high_at low high }
 {
     match both(low, high) {
-        Err(fault) => Err(fault),
+        Err(breach) => Err(breach),
         Ok((a, b)) => related(at, high_at, a, b),
     }
 }
@@ -114,7 +114,7 @@ pub fn spanned(
     let within = beside(in_set(at, low), in_set(high_at, high));
     let fine = beside(within, related_bounds(at, high_at, low, high));
     match both(both(low, high), fine) {
-        Err(fault) => Err(fault),
+        Err(breach) => Err(breach),
         Ok(((a, b), ())) => Ok(with_span(0, a.number, b.number)),
     }
 }

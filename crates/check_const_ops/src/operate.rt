@@ -125,7 +125,7 @@ fn operated(
     }
     let fit = beside(fitting(sort, at, a), fitting(sort, other_at, b));
     match beside(divisor(op, spot, b.number), fit) {
-        Err(fault) => Err(fault),
+        Err(breach) => Err(breach),
         Ok(()) => applied(op, spot, sort, a.number, b.number),
     }
 }
@@ -182,7 +182,7 @@ pub fn combined(
     ensures { result ≡ combined least op spot at x other_at y }
 {
     match both(x, y) {
-        Err(fault) => Err(fault),
+        Err(breach) => Err(breach),
         Ok((a, b)) => binary(op, spot, at, operand_of(&a), other_at, operand_of(&b)),
     }
 }
@@ -230,7 +230,7 @@ pub fn signed(sign: Sign, spot: Pos, x: Elaborated<Value>) -> Elaborated<Value>
     ensures { result ≡ signed least sign spot x }
 {
     match x {
-        Err(fault) => Err(fault),
+        Err(breach) => Err(breach),
         Ok(value) => signed_value(sign, spot, operand_of(&value)),
     }
 }
@@ -255,7 +255,7 @@ pub fn negated(spot: Pos, x: Elaborated<Value>) -> Elaborated<Value>
     ensures { result ≡ negated least spot x }
 {
     match x {
-        Err(fault) => Err(fault),
+        Err(breach) => Err(breach),
         Ok(value) => negated_value(spot, operand_of(&value)),
     }
 }

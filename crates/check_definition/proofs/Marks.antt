@@ -10,20 +10,20 @@ use Rattle.m2_tree.specs.declared.decl.TypeExpr.{TypeExpr, TypeExpr-F, out-TypeE
 use Rattle.m2_tree.specs.declared.decl.TypeExpr.TheOpen as layer
 use Rattle.m2_tree.specs.declared.decl.TypeExpr.TheVariants as type
 use Rattle.m2_tree.specs.declared.decl.Field.{Field, out-Field, fold_out-Field}
-use Rattle.check_scope.specs.declared.fault.Fault.{Fault}
+use Rattle.m2_rule.specs.declared.breach.Breach.{Breach}
 use Rattle.check_scope.specs.declared.scope.Scope.{Scope}
 use Rattle.check_definition.specs.Marking.{marked_simple, then_marks, type_layer, field_layer, marked_in, marked_field, marked_with_field}
 
 abbrev M : Type 0
-M = Scope Fault → Scope Fault
+M = Scope Breach → Scope Breach
 
-at : (s : Scope Fault) (e : TypeExpr) (x : TypeExpr-F TypeExpr Field) → out-TypeExpr e ≡ x
+at : (s : Scope Breach) (e : TypeExpr) (x : TypeExpr-F TypeExpr Field) → out-TypeExpr e ≡ x
     → marked_in e s ≡ type_layer (map-TypeExpr TypeExpr Field M M marked_in marked_field x) s
 unfolding marked_in marked_field
 at s e x h = ap (λ (f : M). f s) (fold_out-TypeExpr M M type_layer field_layer e
     ∙ ap (λ (y : TypeExpr-F TypeExpr Field). type_layer (map-TypeExpr TypeExpr Field M M marked_in marked_field y)) h)
 
-module _ (s : Scope Fault) where
+module _ (s : Scope Breach) where
   pub marks_Simple : (t : Simple) → marked_in (type.Simple t) s ≡ marked_simple t s
   marks_Simple t = at s (type.Simple t) (layer.Simple t) (type.outs-Simple t)
 

@@ -6,8 +6,9 @@ ghost use Rattle.check_scope.specs.Elaborated.{least};
 ghost use Rattle.check_definition.specs.Declare.{constant_meaning, nothing_reported, with_constant, brings_simple, brings_with, type_meaning, with_type, begun_name, variable_meaning, with_variable_type, finished_variable, with_variables, procedure_meaning, with_procedure_type, declared_procedure, with_procedure, with_def};
 
 use check_expr::constant_of;
-use check_scope::{Elaborated, Fault, Scope, begin, beside, declare, finish};
+use check_scope::{Elaborated, Scope, begin, beside, declare, finish};
 use check_type_expr::{heading_of, names_of, nothing_of, type_of, with_made};
+use m2_rule::Breach;
 use m2_tree::{Constant, Def, Heading, Ident, Simple, TypeDecl, TypeExpr, Variables};
 use std::alloc::{AllocError, Global};
 use typed_tree::{Meaning, Procedure, TypeNo, Value, Variable};
@@ -18,7 +19,7 @@ fn nothing_reported(value: &Elaborated<Value>) -> Elaborated<()>
     ensures { result ≡ nothing_reported value.now }
 {
     match value {
-        Err(fault) => Err(*fault),
+        Err(breach) => Err(*breach),
         Ok(_) => Ok(()),
     }
 }
@@ -27,14 +28,14 @@ fn constant_meaning(value: Elaborated<Value>) -> Elaborated<Meaning>
     ensures { result ≡ constant_meaning value }
 {
     match value {
-        Err(fault) => Err(fault),
+        Err(breach) => Err(breach),
         Ok(value) => Ok(Meaning::Constant(value)),
     }
 }
 
 fn with_constant(
     alloc: Global,
-    scope: &mut Scope<Fault>,
+    scope: &mut Scope<Breach>,
     before: Elaborated<()>,
     constant: &Constant,
 ) -> Result<Elaborated<()>, AllocError>
@@ -50,7 +51,7 @@ fn with_constant(
 /// Declares constants.
 pub fn declare_constants(
     alloc: Global,
-    scope: &mut Scope<Fault>,
+    scope: &mut Scope<Breach>,
     before: Elaborated<()>,
     list: &[Constant],
 ) -> Result<Elaborated<()>, AllocError>
@@ -91,14 +92,14 @@ fn type_meaning(t: Elaborated<TypeNo>, names: usize) -> Elaborated<Meaning>
     ensures { result ≡ type_meaning t names }
 {
     match t {
-        Err(fault) => Err(fault),
+        Err(breach) => Err(breach),
         Ok(t) => Ok(Meaning::Type(t, names)),
     }
 }
 
 fn with_type(
     alloc: Global,
-    scope: &mut Scope<Fault>,
+    scope: &mut Scope<Breach>,
     before: Elaborated<()>,
     decl: &TypeDecl,
 ) -> Result<Elaborated<()>, AllocError>
@@ -118,7 +119,7 @@ fn with_type(
 /// Declares types.
 pub fn declare_types(
     alloc: Global,
-    scope: &mut Scope<Fault>,
+    scope: &mut Scope<Breach>,
     before: Elaborated<()>,
     list: &[TypeDecl],
 ) -> Result<Elaborated<()>, AllocError>
@@ -136,7 +137,7 @@ pub fn declare_types(
 /// Begins the declarations of names.
 pub fn begin_all(
     alloc: Global,
-    scope: &mut Scope<Fault>,
+    scope: &mut Scope<Breach>,
     before: Elaborated<()>,
     names: &[Ident],
 ) -> Result<Elaborated<()>, AllocError>
@@ -154,13 +155,16 @@ fn variable_meaning(home: u32, number: usize, t: Elaborated<TypeNo>) -> Elaborat
     ensures { result ≡ variable_meaning home number t }
 {
     match t {
-        Err(fault) => Err(fault),
+        Err(breach) => Err(breach),
         Ok(of) => Ok(Meaning::Variable(Variable { home, number, of })),
     }
 }
 
 /// Numbers one more variable of this type.
-pub fn with_variable_type(scope: &mut Scope<Fault>, t: Elaborated<TypeNo>) -> Result<(), AllocError>
+pub fn with_variable_type(
+    scope: &mut Scope<Breach>,
+    t: Elaborated<TypeNo>,
+) -> Result<(), AllocError>
     ensures { OnOk result (scope.new ≡ with_variable_type scope.old t) }
 {
     match t {
@@ -174,7 +178,7 @@ pub fn with_variable_type(scope: &mut Scope<Fault>, t: Elaborated<TypeNo>) -> Re
 
 fn finish_variable(
     alloc: Global,
-    scope: &mut Scope<Fault>,
+    scope: &mut Scope<Breach>,
     t: Elaborated<TypeNo>,
     name: &Ident,
 ) -> Result<(), AllocError>
@@ -187,7 +191,7 @@ fn finish_variable(
 
 fn finish_all(
     alloc: Global,
-    scope: &mut Scope<Fault>,
+    scope: &mut Scope<Breach>,
     t: Elaborated<TypeNo>,
     names: &[Ident],
 ) -> Result<(), AllocError>
@@ -201,7 +205,7 @@ fn finish_all(
 
 fn with_variables(
     alloc: Global,
-    scope: &mut Scope<Fault>,
+    scope: &mut Scope<Breach>,
     before: Elaborated<()>,
     variables: &Variables,
 ) -> Result<Elaborated<()>, AllocError>
@@ -216,7 +220,7 @@ fn with_variables(
 /// Declares variables of a module.
 pub fn declare_variables(
     alloc: Global,
-    scope: &mut Scope<Fault>,
+    scope: &mut Scope<Breach>,
     before: Elaborated<()>,
     list: &[Variables],
 ) -> Result<Elaborated<()>, AllocError>
@@ -236,7 +240,7 @@ pub fn procedure_meaning(home: u32, number: usize, t: Elaborated<TypeNo>) -> Ela
     ensures { result ≡ procedure_meaning home number t }
 {
     match t {
-        Err(fault) => Err(fault),
+        Err(breach) => Err(breach),
         Ok(heading) => Ok(Meaning::Procedure(Procedure {
             home,
             number,
@@ -247,7 +251,7 @@ pub fn procedure_meaning(home: u32, number: usize, t: Elaborated<TypeNo>) -> Ela
 
 /// Numbers one more procedure with this heading.
 pub fn with_procedure_type(
-    scope: &mut Scope<Fault>,
+    scope: &mut Scope<Breach>,
     t: Elaborated<TypeNo>,
 ) -> Result<(), AllocError>
     ensures { OnOk result (scope.new ≡ with_procedure_type scope.old t) }
@@ -263,7 +267,7 @@ pub fn with_procedure_type(
 
 fn declare_procedure(
     alloc: Global,
-    scope: &mut Scope<Fault>,
+    scope: &mut Scope<Breach>,
     name: &Ident,
     t: Elaborated<TypeNo>,
 ) -> Result<Elaborated<()>, AllocError>
@@ -276,7 +280,7 @@ fn declare_procedure(
 
 fn with_procedure(
     alloc: Global,
-    scope: &mut Scope<Fault>,
+    scope: &mut Scope<Breach>,
     before: Elaborated<()>,
     heading: &Heading,
 ) -> Result<Elaborated<()>, AllocError>
@@ -293,7 +297,7 @@ fn with_procedure(
 
 fn with_def(
     alloc: Global,
-    scope: &mut Scope<Fault>,
+    scope: &mut Scope<Breach>,
     before: Elaborated<()>,
     def: &Def,
 ) -> Result<Elaborated<()>, AllocError>
@@ -310,7 +314,7 @@ fn with_def(
 /// Declares what a definition declares.
 pub fn declare_all(
     alloc: Global,
-    scope: &mut Scope<Fault>,
+    scope: &mut Scope<Breach>,
     before: Elaborated<()>,
     defs: &[Def],
 ) -> Result<Elaborated<()>, AllocError>

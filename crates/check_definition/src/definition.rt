@@ -10,11 +10,12 @@ use crate::export::{exports, imported_modules, reached_of};
 use crate::importing::{import_all, modules_of};
 use crate::marking::mark_defs;
 use crate::predeclared::{console, first_scope};
-use check_scope::{Elaborated, Fault, Scope, reported};
-use m2_rule::Rule;
-use m2_tree::{Contents, Def, Items, Module};
+use check_scope::{Elaborated, Scope, reported};
+use m2_rule::{Breach, Rule};
+use m2_tree::{Contents, Def, Module};
 use std::alloc::{AllocError, Global};
-use typed_tree::{Dictionary, Shared, Table};
+use tree_parts::{Items, Shared};
+use typed_tree::{Dictionary, Table};
 
 /// The tables of a module's imports, and that of Console.
 pub fn with_console(
@@ -33,7 +34,7 @@ fn table_of(
     alloc: Global,
     tree: &Module,
     modules: &Dictionary<usize>,
-    scope: Scope<Fault>,
+    scope: Scope<Breach>,
 ) -> Result<Table, AllocError>
     ensures { IfOk result (λ table. table ≡ table_of tree.now modules.now scope) }
 {
@@ -56,13 +57,13 @@ fn table_or(
     alloc: Global,
     tree: &Module,
     modules: &Dictionary<usize>,
-    scope: Scope<Fault>,
+    scope: Scope<Breach>,
     elaborated: Elaborated<()>,
 ) -> Result<Elaborated<Table>, AllocError>
     ensures { IfOk result (λ j. j ≡ table_or tree.now modules.now scope elaborated) }
 {
     match elaborated {
-        Err(fault) => Ok(Err(fault)),
+        Err(breach) => Ok(Err(breach)),
         Ok(()) => Ok(Ok(table_of(alloc, tree, modules, scope)?)),
     }
 }
@@ -70,7 +71,7 @@ fn table_or(
 /// What is known behind a definition's declarations, and what is reported of it.
 fn declared_in(
     alloc: Global,
-    scope: &mut Scope<Fault>,
+    scope: &mut Scope<Breach>,
     tree: &Module,
     modules: &Dictionary<usize>,
     defs: &[Def],

@@ -6,10 +6,12 @@ ghost use Rattle.std.specs.Option.{option_map, option_copied};
 ghost use Rattle.check_definition.specs.Steps.{if_some};
 ghost use Rattle.check_definition.specs.Export.{with_meaning, with_declared, with_export, exports, with_types, own_types, reached_of, with_table_if, with_imported, with_import_of, imported_modules};
 
-use check_scope::{Fault, Known, Origin};
-use m2_tree::{Ident, Import, Items};
+use check_scope::{Known, Origin};
+use m2_rule::Breach;
+use m2_tree::{Ident, Import};
 use std::alloc::{AllocError, Global};
-use typed_tree::{Dictionary, Made, Meaning, ModuleTypes, Reached, Shared, Table, Types};
+use tree_parts::{Items, Shared};
+use typed_tree::{Dictionary, Made, Meaning, ModuleTypes, Reached, Table, Types};
 
 // ---- exports
 
@@ -17,7 +19,7 @@ fn with_meaning(
     alloc: Global,
     exported: &mut Dictionary<Meaning>,
     name: &[u8],
-    means: &Result<Meaning, Fault>,
+    means: &Result<Meaning, Breach>,
 ) -> Result<(), AllocError>
     ensures { OnOk result (exported.new ≡ with_meaning exported.old name.now means.now) }
 {
@@ -32,7 +34,7 @@ fn with_declared(
     exported: &mut Dictionary<Meaning>,
     name: &[u8],
     origin: Origin,
-    means: &Result<Meaning, Fault>,
+    means: &Result<Meaning, Breach>,
 ) -> Result<(), AllocError>
     ensures { OnOk result (exported.new ≡ with_declared exported.old name.now origin means.now) }
 {
@@ -47,7 +49,7 @@ fn with_export(
     alloc: Global,
     exported: &mut Dictionary<Meaning>,
     name: &[u8],
-    known: &Known<Fault>,
+    known: &Known<Breach>,
 ) -> Result<(), AllocError>
     ensures { OnOk result (exported.new ≡ with_export exported.old (name.now, known.now)) }
 {
@@ -63,7 +65,7 @@ fn with_export(
 fn with_export_if(
     alloc: Global,
     exported: &mut Dictionary<Meaning>,
-    entry: Option<(&[u8], &Known<Fault>)>,
+    entry: Option<(&[u8], &Known<Breach>)>,
 ) -> Result<(), AllocError>
     ensures { OnOk result (exported.new ≡ if_some with_export exported.old (option_map (λ e. (e.0.now, e.1.now)) entry.entry)) }
 {
@@ -76,7 +78,7 @@ fn with_export_if(
 /// What is declared in a block, in order.
 pub fn exports(
     alloc: Global,
-    own: &Dictionary<Known<Fault>>,
+    own: &Dictionary<Known<Breach>>,
 ) -> Result<Dictionary<Meaning>, AllocError>
     ensures { IfOk result (λ exported. exported ≡ exports own.now) }
 {

@@ -10,11 +10,12 @@ ghost use Rattle.check_definition.specs.Steps.{if_some};
 ghost use Rattle.check_definition.specs.Importing.{with_place, numbered_modules, module_named, with_module_as, with_module_name, with_entry, brings_in, brings_of, reported_of_taken, from_place, with_from, exports_of, from_module, with_import};
 ghost use Rattle.m2_rule.specs.declared.rule.Rule.TheVariants as rule;
 
-use check_scope::{Elaborated, Fault, Known, Origin, Scope, beside, import, reported};
-use m2_rule::Rule;
+use check_scope::{Elaborated, Known, Origin, Scope, beside, import, reported};
+use m2_rule::{Breach, Rule};
 use m2_tree::{Ident, Import, Pos};
 use std::alloc::{AllocError, Global};
-use typed_tree::{Dictionary, Meaning, Shared, Table};
+use tree_parts::Shared;
+use typed_tree::{Dictionary, Meaning, Table};
 
 /// Gives the name of a module its place, unless it has one.
 fn with_module(
@@ -53,14 +54,14 @@ fn module_named(modules: &Dictionary<usize>, name: &Ident) -> Elaborated<usize>
 
 fn with_module_as(
     alloc: Global,
-    scope: &mut Scope<Fault>,
+    scope: &mut Scope<Breach>,
     name: &Ident,
     place: Elaborated<usize>,
 ) -> Result<Elaborated<()>, AllocError>
     ensures { IfOk result (λ j. (scope.new, j) ≡ with_module_as least scope.old name.now place) }
 {
     match place {
-        Err(fault) => Ok(Err(fault)),
+        Err(breach) => Ok(Err(breach)),
         Ok(place) => import(
             alloc,
             scope,
@@ -74,7 +75,7 @@ fn with_module_as(
 
 fn import_modules(
     alloc: Global,
-    scope: &mut Scope<Fault>,
+    scope: &mut Scope<Breach>,
     modules: &Dictionary<usize>,
     before: Elaborated<()>,
     names: &[Ident],
@@ -91,7 +92,7 @@ fn import_modules(
 
 fn with_entry(
     alloc: Global,
-    scope: &mut Scope<Fault>,
+    scope: &mut Scope<Breach>,
     at: Pos,
     place: usize,
     before: Elaborated<()>,
@@ -107,7 +108,7 @@ fn with_entry(
 
 fn with_entry_if(
     alloc: Global,
-    scope: &mut Scope<Fault>,
+    scope: &mut Scope<Breach>,
     at: Pos,
     place: usize,
     before: Elaborated<()>,
@@ -124,7 +125,7 @@ fn with_entry_if(
 /// Imports so many names of a table from a place on.
 fn bring_all(
     alloc: Global,
-    scope: &mut Scope<Fault>,
+    scope: &mut Scope<Breach>,
     at: Pos,
     place: usize,
     exported: &Dictionary<Meaning>,
@@ -145,7 +146,7 @@ fn bring_all(
 /// Imports so many names of a table from a place on, as far as there are names.
 fn bring(
     alloc: Global,
-    scope: &mut Scope<Fault>,
+    scope: &mut Scope<Breach>,
     at: Pos,
     place: usize,
     exported: &Dictionary<Meaning>,
@@ -189,7 +190,7 @@ fn brings_in(entry: Option<(&[u8], &Meaning)>) -> usize
 }
 
 /// What is reported of an import whose name is taken, if it is.
-fn reported_of_taken(known: Option<&Known<Fault>>, at: Pos, place: usize) -> Option<Elaborated<()>>
+fn reported_of_taken(known: Option<&Known<Breach>>, at: Pos, place: usize) -> Option<Elaborated<()>>
     ensures { result ≡ reported_of_taken least at place (option_copied known.entry) }
 {
     match known {
@@ -220,7 +221,7 @@ fn reported_unless_from(origin: Origin, at: Pos, place: usize) -> Elaborated<()>
 /// Imports a name of a table, with those that come with it. One that is taken brings nothing.
 fn from_place(
     alloc: Global,
-    scope: &mut Scope<Fault>,
+    scope: &mut Scope<Breach>,
     name: &Ident,
     place: usize,
     exported: &Dictionary<Meaning>,
@@ -243,7 +244,7 @@ fn from_place(
 
 fn import_names(
     alloc: Global,
-    scope: &mut Scope<Fault>,
+    scope: &mut Scope<Breach>,
     place: usize,
     exported: &Dictionary<Meaning>,
     before: Elaborated<()>,
@@ -262,7 +263,7 @@ fn import_names(
 
 fn import_from(
     alloc: Global,
-    scope: &mut Scope<Fault>,
+    scope: &mut Scope<Breach>,
     place: usize,
     before: Elaborated<()>,
     names: &[Ident],
@@ -283,7 +284,7 @@ fn import_from(
 
 fn import_from_module(
     alloc: Global,
-    scope: &mut Scope<Fault>,
+    scope: &mut Scope<Breach>,
     place: Elaborated<usize>,
     before: Elaborated<()>,
     names: &[Ident],
@@ -291,14 +292,14 @@ fn import_from_module(
     ensures { IfOk result (λ j. (scope.new, j) ≡ from_module least place (scope.old, before) names.now) }
 {
     match place {
-        Err(fault) => Ok(beside(before, Err(fault))),
+        Err(breach) => Ok(beside(before, Err(breach))),
         Ok(place) => import_from(alloc, scope, place, before, names),
     }
 }
 
 fn with_import(
     alloc: Global,
-    scope: &mut Scope<Fault>,
+    scope: &mut Scope<Breach>,
     modules: &Dictionary<usize>,
     before: Elaborated<()>,
     one: &Import,
@@ -317,7 +318,7 @@ fn with_import(
 /// Imports what a module imports.
 pub fn import_all(
     alloc: Global,
-    scope: &mut Scope<Fault>,
+    scope: &mut Scope<Breach>,
     modules: &Dictionary<usize>,
     imports: &[Import],
 ) -> Result<Elaborated<()>, AllocError>

@@ -4,11 +4,12 @@ ghost use Rattle.std.specs.Prelude.{◌≡◌, OnOk};
 ghost use Rattle.std.specs.List.{fold};
 ghost use Rattle.check_definition.specs.Marking.{marked_later, marked_simple, marked_in, marked_field, marked_constant, marked_type, marked_variables, marked_def, marked_with_field};
 
-use check_scope::{Fault, Known, Scope, mark};
+use check_scope::{Known, Scope, mark};
+use m2_rule::Breach;
 use m2_tree::{Constant, Def, Field, Ident, Simple, TypeDecl, TypeExpr, Variables};
 use std::alloc::{AllocError, Global};
 
-fn mark_names(alloc: Global, scope: &mut Scope<Fault>, names: &[Ident]) -> Result<(), AllocError>
+fn mark_names(alloc: Global, scope: &mut Scope<Breach>, names: &[Ident]) -> Result<(), AllocError>
     ensures { OnOk result (scope.new ≡ fold marked_later scope.old names.now) }
 {
     for name in names {
@@ -17,7 +18,7 @@ fn mark_names(alloc: Global, scope: &mut Scope<Fault>, names: &[Ident]) -> Resul
     Ok(())
 }
 
-fn mark_simple(alloc: Global, scope: &mut Scope<Fault>, t: &Simple) -> Result<(), AllocError>
+fn mark_simple(alloc: Global, scope: &mut Scope<Breach>, t: &Simple) -> Result<(), AllocError>
     ensures { OnOk result (scope.new ≡ marked_simple t.now scope.old) }
 {
     match t {
@@ -30,7 +31,7 @@ fn mark_simple(alloc: Global, scope: &mut Scope<Fault>, t: &Simple) -> Result<()
 /// Marks the constants of the enumerations in a type.
 #[cycle(marks)]
 #[tactic(auto, using(crate::proofs::Marks::marks))]
-fn mark_in(alloc: Global, scope: &mut Scope<Fault>, t: &TypeExpr) -> Result<(), AllocError>
+fn mark_in(alloc: Global, scope: &mut Scope<Breach>, t: &TypeExpr) -> Result<(), AllocError>
     ensures { OnOk result (scope.new ≡ marked_in t.now scope.old) }
 {
     match t {
@@ -45,7 +46,7 @@ fn mark_in(alloc: Global, scope: &mut Scope<Fault>, t: &TypeExpr) -> Result<(), 
 }
 
 #[cycle(marks)]
-fn mark_fields(alloc: Global, scope: &mut Scope<Fault>, fields: &[Field]) -> Result<(), AllocError>
+fn mark_fields(alloc: Global, scope: &mut Scope<Breach>, fields: &[Field]) -> Result<(), AllocError>
     ensures { OnOk result (scope.new ≡ fold marked_with_field scope.old fields.now) }
 {
     for field in fields {
@@ -56,7 +57,7 @@ fn mark_fields(alloc: Global, scope: &mut Scope<Fault>, fields: &[Field]) -> Res
 
 #[cycle(marks)]
 #[tactic(auto, using(crate::proofs::Marks::marks))]
-fn mark_field(alloc: Global, scope: &mut Scope<Fault>, field: &Field) -> Result<(), AllocError>
+fn mark_field(alloc: Global, scope: &mut Scope<Breach>, field: &Field) -> Result<(), AllocError>
     ensures { OnOk result (scope.new ≡ marked_field field.now scope.old) }
 {
     mark_in(alloc, scope, &field.of)
@@ -65,7 +66,7 @@ fn mark_field(alloc: Global, scope: &mut Scope<Fault>, field: &Field) -> Result<
 /// Marks the names of constants.
 pub fn mark_constants(
     alloc: Global,
-    scope: &mut Scope<Fault>,
+    scope: &mut Scope<Breach>,
     list: &[Constant],
 ) -> Result<(), AllocError>
     ensures { OnOk result (scope.new ≡ fold marked_constant scope.old list.now) }
@@ -79,7 +80,7 @@ pub fn mark_constants(
 /// Marks the names of types, and the constants in them.
 pub fn mark_types(
     alloc: Global,
-    scope: &mut Scope<Fault>,
+    scope: &mut Scope<Breach>,
     list: &[TypeDecl],
 ) -> Result<(), AllocError>
     ensures { OnOk result (scope.new ≡ fold marked_type scope.old list.now) }
@@ -94,7 +95,7 @@ pub fn mark_types(
 /// Marks the names of variables, and the constants in their types.
 pub fn mark_variables(
     alloc: Global,
-    scope: &mut Scope<Fault>,
+    scope: &mut Scope<Breach>,
     list: &[Variables],
 ) -> Result<(), AllocError>
     ensures { OnOk result (scope.new ≡ fold marked_variables scope.old list.now) }
@@ -106,7 +107,7 @@ pub fn mark_variables(
     Ok(())
 }
 
-fn mark_def(alloc: Global, scope: &mut Scope<Fault>, def: &Def) -> Result<(), AllocError>
+fn mark_def(alloc: Global, scope: &mut Scope<Breach>, def: &Def) -> Result<(), AllocError>
     ensures { OnOk result (scope.new ≡ marked_def scope.old def.now) }
 {
     match def {
@@ -118,7 +119,7 @@ fn mark_def(alloc: Global, scope: &mut Scope<Fault>, def: &Def) -> Result<(), Al
 }
 
 /// Marks the names that a definition declares.
-pub fn mark_defs(alloc: Global, scope: &mut Scope<Fault>, defs: &[Def]) -> Result<(), AllocError>
+pub fn mark_defs(alloc: Global, scope: &mut Scope<Breach>, defs: &[Def]) -> Result<(), AllocError>
     ensures { OnOk result (scope.new ≡ fold marked_def scope.old defs.now) }
 {
     for def in defs {

@@ -4,17 +4,19 @@ ghost use Rattle.std.specs.Prelude.{◌≡◌, [], IfOk, OnOk};
 ghost use Rattle.std.specs.List.{fold};
 ghost use Rattle.check_definition.specs.Predeclared.{predeclared_as, truth, with_types, with_truth, with_functions, with_bounds, with_procedures, predeclared, console, with_reached, with_table, others_of, first_scope};
 
-use check_scope::{Block, Fault, Known, Origin, Scope};
-use m2_tree::{Items, Name};
+use check_scope::{Block, Known, Origin, Scope};
+use m2_rule::Breach;
+use m2_tree::Name;
 use std::alloc::{AllocError, Global};
+use tree_parts::{Items, Shared};
 use typed_tree::{
     BITSET, BOOLEAN, CARDINAL, CHAR, Dictionary, INTEGER, Meaning, ModuleTypes, Reached,
-    ScalarValue, Shared, Standard, Table, Types, Value,
+    ScalarValue, Standard, Table, Types, Value,
 };
 
 fn predeclare(
     alloc: Global,
-    names: &mut Dictionary<Known<Fault>>,
+    names: &mut Dictionary<Known<Breach>>,
     name: &[u8],
     means: Meaning,
 ) -> Result<(), AllocError>
@@ -23,7 +25,7 @@ fn predeclare(
     names.enter(alloc, name, Known::Declared(Origin::Here, Ok(means)))
 }
 
-fn predeclare_types(alloc: Global, names: &mut Dictionary<Known<Fault>>) -> Result<(), AllocError>
+fn predeclare_types(alloc: Global, names: &mut Dictionary<Known<Breach>>) -> Result<(), AllocError>
     ensures { OnOk result (names.new ≡ with_types names.old) }
 {
     predeclare(
@@ -58,7 +60,7 @@ fn truth(number: i64) -> Meaning
     }))
 }
 
-fn predeclare_truth(alloc: Global, names: &mut Dictionary<Known<Fault>>) -> Result<(), AllocError>
+fn predeclare_truth(alloc: Global, names: &mut Dictionary<Known<Breach>>) -> Result<(), AllocError>
     ensures { OnOk result (names.new ≡ with_truth names.old) }
 {
     predeclare(alloc, names, b"FALSE".as_slice(), truth(0))?;
@@ -67,7 +69,7 @@ fn predeclare_truth(alloc: Global, names: &mut Dictionary<Known<Fault>>) -> Resu
 
 fn predeclare_functions(
     alloc: Global,
-    names: &mut Dictionary<Known<Fault>>,
+    names: &mut Dictionary<Known<Breach>>,
 ) -> Result<(), AllocError>
     ensures { OnOk result (names.new ≡ with_functions names.old) }
 {
@@ -97,7 +99,7 @@ fn predeclare_functions(
     )
 }
 
-fn predeclare_bounds(alloc: Global, names: &mut Dictionary<Known<Fault>>) -> Result<(), AllocError>
+fn predeclare_bounds(alloc: Global, names: &mut Dictionary<Known<Breach>>) -> Result<(), AllocError>
     ensures { OnOk result (names.new ≡ with_bounds names.old) }
 {
     predeclare(
@@ -134,7 +136,7 @@ fn predeclare_bounds(alloc: Global, names: &mut Dictionary<Known<Fault>>) -> Res
 
 fn predeclare_procedures(
     alloc: Global,
-    names: &mut Dictionary<Known<Fault>>,
+    names: &mut Dictionary<Known<Breach>>,
 ) -> Result<(), AllocError>
     ensures { OnOk result (names.new ≡ with_procedures names.old) }
 {
@@ -172,7 +174,7 @@ fn predeclare_procedures(
 
 /// The predeclared names.
 #[tactic(auto, unfolding(crate::specs::Predeclared::predeclared))]
-fn predeclared(alloc: Global) -> Result<Dictionary<Known<Fault>>, AllocError>
+fn predeclared(alloc: Global) -> Result<Dictionary<Known<Breach>>, AllocError>
     ensures { IfOk result (λ names. names ≡ predeclared) }
 {
     let mut names = Dictionary::new(alloc);
@@ -235,7 +237,7 @@ pub fn first_scope(
     alloc: Global,
     home: u32,
     tables: Items<Shared<Table>>,
-) -> Result<Scope<Fault>, AllocError>
+) -> Result<Scope<Breach>, AllocError>
     ensures { IfOk result (λ s. s ≡ first_scope home tables) }
 {
     let others = others_of(alloc, tables.as_slice())?;

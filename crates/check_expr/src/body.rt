@@ -28,12 +28,12 @@ use check_const_ops::{
 };
 use check_operator::{Computed, Designated, combined, negated, signature_of};
 use check_scope::{
-    Elaborated, Fault, Scope, Sought, beside, of_heading, plain, refusal_beside, reported,
-    reported_beside,
+    Elaborated, Scope, Sought, beside, of_heading, plain, refusal_beside, reported, reported_beside,
 };
-use m2_rule::Rule;
-use m2_tree::{AddOp, Designator, Expr, Item, Items, MulOp, Operator, Pos, Selector};
+use m2_rule::{Breach, Rule};
+use m2_tree::{AddOp, Designator, Expr, Item, MulOp, Operator, Pos, Selector};
 use std::alloc::{AllocError, Global};
+use tree_parts::Items;
 use typed_tree::{Argument, CHAR, Formal, Scalar, Standard, TypeNo, Value};
 
 /// What an expression stands for.
@@ -41,7 +41,7 @@ use typed_tree::{Argument, CHAR, Formal, Scalar, Standard, TypeNo, Value};
 #[tactic(auto, using(crate::proofs::Variants::variants))]
 pub fn stands_for(
     alloc: Global,
-    scope: &Scope<Fault>,
+    scope: &Scope<Breach>,
     e: &Expr,
 ) -> Result<Sought<Designated>, AllocError>
     ensures { IfOk result (λ d. d ≡ (meant least e.now).means scope.now) }
@@ -93,7 +93,7 @@ pub fn stands_for(
 #[cycle(body)]
 pub fn value_of(
     alloc: Global,
-    scope: &Scope<Fault>,
+    scope: &Scope<Breach>,
     e: &Expr,
 ) -> Result<Elaborated<Computed>, AllocError>
     ensures { IfOk result (λ v. v ≡ value_of least scope.now (meant least e.now)) }
@@ -107,7 +107,7 @@ pub fn value_of(
 #[tactic(auto, using(crate::proofs::Variants::variants))]
 pub fn designated(
     alloc: Global,
-    scope: &Scope<Fault>,
+    scope: &Scope<Breach>,
     designator: &Designator,
 ) -> Result<Sought<Designated>, AllocError>
     ensures { IfOk result (λ d. d ≡ (head least designator.now).means scope.now) }
@@ -120,7 +120,7 @@ pub fn designated(
 #[cycle(body)]
 fn picked(
     alloc: Global,
-    scope: &Scope<Fault>,
+    scope: &Scope<Breach>,
     first: Sought<Designated>,
     selectors: &[Selector],
 ) -> Result<Sought<Designated>, AllocError>
@@ -138,7 +138,7 @@ fn picked(
 #[tactic(auto, using(crate::proofs::Variants::variants))]
 fn pick(
     alloc: Global,
-    scope: &Scope<Fault>,
+    scope: &Scope<Breach>,
     from: Sought<Designated>,
     selector: &Selector,
 ) -> Result<Sought<Designated>, AllocError>
@@ -157,7 +157,7 @@ fn pick(
 #[cycle(body)]
 fn factors(
     alloc: Global,
-    scope: &Scope<Fault>,
+    scope: &Scope<Breach>,
     at: Pos,
     left: Elaborated<Computed>,
     rest: &[(Operator<MulOp>, Expr)],
@@ -187,7 +187,7 @@ fn factors(
 #[cycle(body)]
 fn terms(
     alloc: Global,
-    scope: &Scope<Fault>,
+    scope: &Scope<Breach>,
     at: Pos,
     left: Elaborated<Computed>,
     rest: &[(Operator<AddOp>, Expr)],
@@ -217,7 +217,7 @@ fn terms(
 #[cycle(body)]
 fn called_by(
     alloc: Global,
-    scope: &Scope<Fault>,
+    scope: &Scope<Breach>,
     at: Pos,
     callee: Sought<Designated>,
     args: &[Expr],
@@ -225,13 +225,13 @@ fn called_by(
     ensures { IfOk result (λ v. v ≡ called_by least scope.now at callee (map (meant least) args.now)) }
 {
     let called = match of_heading(callee) {
-        Err(fault) => Err(fault),
+        Err(breach) => Err(breach),
         Ok(designated) => callee_of(&scope.types, at, designated),
     };
     match called {
-        Err(fault) => {
+        Err(breach) => {
             let rest = looked_at(alloc, scope, args)?;
-            Ok(refusal_beside(fault, rest))
+            Ok(refusal_beside(breach, rest))
         }
         Ok(called) => called_as(alloc, scope, at, args, called),
     }
@@ -240,7 +240,7 @@ fn called_by(
 #[cycle(body)]
 fn called_as(
     alloc: Global,
-    scope: &Scope<Fault>,
+    scope: &Scope<Breach>,
     at: Pos,
     args: &[Expr],
     called: Called,
@@ -260,7 +260,7 @@ fn called_as(
 #[tactic(auto, using(crate::proofs::Variants::actuals_is, crate::proofs::Variants::count_is))]
 fn routine_called(
     alloc: Global,
-    scope: &Scope<Fault>,
+    scope: &Scope<Breach>,
     at: Pos,
     heading: TypeNo,
     callee: Callee,
@@ -271,9 +271,9 @@ fn routine_called(
 {
     let signature = signature_of(&scope.types, heading);
     match function_of(at, signature, args.len()) {
-        Err(fault) => {
+        Err(breach) => {
             let rest = looked_at(alloc, scope, args)?;
-            Ok(refusal_beside(fault, rest))
+            Ok(refusal_beside(breach, rest))
         }
         Ok(t) => {
             let arguments = actuals(alloc, scope, formals_of(signature), args)?;
@@ -286,7 +286,7 @@ fn routine_called(
 #[cycle(body)]
 pub fn actuals(
     alloc: Global,
-    scope: &Scope<Fault>,
+    scope: &Scope<Breach>,
     formals: &[Formal],
     args: &[Expr],
 ) -> Result<Elaborated<Items<Argument>>, AllocError>
@@ -310,7 +310,7 @@ pub fn actuals(
 #[tactic(auto, using(crate::proofs::Variants::looks_is))]
 pub fn looked_at(
     alloc: Global,
-    scope: &Scope<Fault>,
+    scope: &Scope<Breach>,
     args: &[Expr],
 ) -> Result<Elaborated<()>, AllocError>
     ensures { IfOk result (λ j. j ≡ looked_at least scope.now (map (meant least) args.now)) }
@@ -327,7 +327,7 @@ pub fn looked_at(
 #[cycle(body)]
 fn miscounted(
     alloc: Global,
-    scope: &Scope<Fault>,
+    scope: &Scope<Breach>,
     at: Pos,
     args: &[Expr],
 ) -> Result<Elaborated<Computed>, AllocError>
@@ -341,7 +341,7 @@ fn miscounted(
 #[cycle(body)]
 fn by_form(
     alloc: Global,
-    scope: &Scope<Fault>,
+    scope: &Scope<Breach>,
     at: Pos,
     standard: Standard,
     args: &[Expr],
@@ -365,7 +365,7 @@ fn by_form(
 #[cycle(body)]
 fn unary(
     alloc: Global,
-    scope: &Scope<Fault>,
+    scope: &Scope<Breach>,
     at: Pos,
     standard: Standard,
     function: Unary,
@@ -388,7 +388,7 @@ fn unary(
 #[cycle(body)]
 fn bound(
     alloc: Global,
-    scope: &Scope<Fault>,
+    scope: &Scope<Breach>,
     at: Pos,
     standard: Standard,
     args: &[Expr],
@@ -409,7 +409,7 @@ fn bound(
 #[cycle(body)]
 fn conversion(
     alloc: Global,
-    scope: &Scope<Fault>,
+    scope: &Scope<Breach>,
     at: Pos,
     args: &[Expr],
 ) -> Result<Elaborated<Computed>, AllocError>
@@ -432,7 +432,7 @@ fn conversion(
 #[cycle(body)]
 fn high(
     alloc: Global,
-    scope: &Scope<Fault>,
+    scope: &Scope<Breach>,
     at: Pos,
     args: &[Expr],
 ) -> Result<Elaborated<Computed>, AllocError>
@@ -450,11 +450,11 @@ fn high(
 
 /// A constant expression that stands for itself.
 #[cycle(body)]
-fn itself(alloc: Global, scope: &Scope<Fault>, e: &Expr) -> Result<Sought<Designated>, AllocError>
+fn itself(alloc: Global, scope: &Scope<Breach>, e: &Expr) -> Result<Sought<Designated>, AllocError>
     ensures { IfOk result (λ d. d ≡ as_constant least scope.now (part least e.now)) }
 {
     match constant_of(alloc, scope, e)? {
-        Err(fault) => Ok(plain(Err(fault))),
+        Err(breach) => Ok(plain(Err(breach))),
         Ok(value) => Ok(Ok(Designated::Value(Computed::Constant(value)))),
     }
 }
@@ -462,7 +462,11 @@ fn itself(alloc: Global, scope: &Scope<Fault>, e: &Expr) -> Result<Sought<Design
 /// What a constant expression stands for.
 #[cycle(body)]
 #[tactic(auto, using(crate::proofs::Variants::variants))]
-fn denotes(alloc: Global, scope: &Scope<Fault>, e: &Expr) -> Result<Elaborated<Denoted>, AllocError>
+fn denotes(
+    alloc: Global,
+    scope: &Scope<Breach>,
+    e: &Expr,
+) -> Result<Elaborated<Denoted>, AllocError>
     ensures { IfOk result (λ d. d ≡ (part least e.now).denotes scope.now) }
 {
     match e {
@@ -513,7 +517,7 @@ fn denotes(alloc: Global, scope: &Scope<Fault>, e: &Expr) -> Result<Elaborated<D
 #[cycle(body)]
 pub fn constant_of(
     alloc: Global,
-    scope: &Scope<Fault>,
+    scope: &Scope<Breach>,
     e: &Expr,
 ) -> Result<Elaborated<Value>, AllocError>
     ensures { IfOk result (λ v. v ≡ constants.constant least scope.now (part least e.now)) }
@@ -527,7 +531,7 @@ pub fn constant_of(
 #[tactic(auto, using(crate::proofs::Variants::naming))]
 fn type_named(
     alloc: Global,
-    scope: &Scope<Fault>,
+    scope: &Scope<Breach>,
     e: &Expr,
 ) -> Result<Elaborated<Option<TypeNo>>, AllocError>
     ensures { IfOk result (λ t. t ≡ (part least e.now).names scope.now) }
@@ -554,7 +558,7 @@ fn type_named(
 #[tactic(auto, using(crate::proofs::Variants::naming))]
 fn type_designated(
     alloc: Global,
-    scope: &Scope<Fault>,
+    scope: &Scope<Breach>,
     designator: &Designator,
 ) -> Result<Elaborated<Option<TypeNo>>, AllocError>
     ensures { IfOk result (λ t. t ≡ (head least designator.now).fixed.names scope.now) }
@@ -570,7 +574,7 @@ fn type_designated(
 #[cycle(body)]
 fn constant_call(
     alloc: Global,
-    scope: &Scope<Fault>,
+    scope: &Scope<Breach>,
     at: Pos,
     callee: Elaborated<Denoted>,
     args: &[Expr],
@@ -579,7 +583,7 @@ fn constant_call(
         (λ v. v ≡ constants.called least scope.now at callee (map (part least) args.now)) }
 {
     match callee {
-        Err(fault) => Ok(Err(fault)),
+        Err(breach) => Ok(Err(breach)),
         Ok(denoted) => constant_call_of(alloc, scope, at, denoted, args),
     }
 }
@@ -587,7 +591,7 @@ fn constant_call(
 #[cycle(body)]
 fn constant_call_of(
     alloc: Global,
-    scope: &Scope<Fault>,
+    scope: &Scope<Breach>,
     at: Pos,
     callee: Denoted,
     args: &[Expr],
@@ -609,7 +613,7 @@ fn constant_call_of(
 #[cycle(body)]
 fn by_sort(
     alloc: Global,
-    scope: &Scope<Fault>,
+    scope: &Scope<Breach>,
     at: Pos,
     standard: Standard,
     args: &[Expr],
@@ -630,7 +634,7 @@ fn by_sort(
 #[cycle(body)]
 fn one(
     alloc: Global,
-    scope: &Scope<Fault>,
+    scope: &Scope<Breach>,
     at: Pos,
     args: &[Expr],
 ) -> Result<Elaborated<(Pos, Value)>, AllocError>
@@ -650,7 +654,7 @@ fn one(
 #[cycle(body)]
 fn type_only(
     alloc: Global,
-    scope: &Scope<Fault>,
+    scope: &Scope<Breach>,
     at: Pos,
     args: &[Expr],
 ) -> Result<Elaborated<(TypeNo, Scalar)>, AllocError>
@@ -671,7 +675,7 @@ fn type_only(
 #[cycle(body)]
 fn constant_conversion(
     alloc: Global,
-    scope: &Scope<Fault>,
+    scope: &Scope<Breach>,
     at: Pos,
     args: &[Expr],
 ) -> Result<Elaborated<Value>, AllocError>
@@ -695,7 +699,7 @@ fn constant_conversion(
 #[cycle(body)]
 fn constant_factors(
     alloc: Global,
-    scope: &Scope<Fault>,
+    scope: &Scope<Breach>,
     at: Pos,
     left: Elaborated<Value>,
     rest: &[(Operator<MulOp>, Expr)],
@@ -715,7 +719,7 @@ fn constant_factors(
 #[cycle(body)]
 fn constant_terms(
     alloc: Global,
-    scope: &Scope<Fault>,
+    scope: &Scope<Breach>,
     at: Pos,
     left: Elaborated<Value>,
     rest: &[(Operator<AddOp>, Expr)],
@@ -735,7 +739,7 @@ fn constant_terms(
 #[cycle(body)]
 fn elements(
     alloc: Global,
-    scope: &Scope<Fault>,
+    scope: &Scope<Breach>,
     items: &[Item],
 ) -> Result<Elaborated<u32>, AllocError>
     ensures { IfOk result (λ b. b ≡ fold (item_in scope.now) (Ok 0) items.now) }
@@ -751,7 +755,11 @@ fn elements(
 /// One element or a range of elements.
 #[cycle(body)]
 #[tactic(auto, using(crate::proofs::Variants::adds_is))]
-fn added(alloc: Global, scope: &Scope<Fault>, element: &Item) -> Result<Elaborated<u32>, AllocError>
+fn added(
+    alloc: Global,
+    scope: &Scope<Breach>,
+    element: &Item,
+) -> Result<Elaborated<u32>, AllocError>
     ensures { IfOk result (λ b. b ≡ item least element.now scope.now) }
 {
     match &element.high {

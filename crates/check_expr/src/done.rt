@@ -13,10 +13,11 @@ use check_call::{
     proper_of, put, set_variable,
 };
 use check_operator::signature_of;
-use check_scope::{Elaborated, Fault, Scope, of_heading, of_sort, refusal_beside, reported_beside};
-use m2_rule::Rule;
-use m2_tree::{Designator, Expr, Items, Pos};
+use check_scope::{Elaborated, Scope, of_heading, of_sort, refusal_beside, reported_beside};
+use m2_rule::{Breach, Rule};
+use m2_tree::{Designator, Expr, Pos};
 use std::alloc::{AllocError, Global};
+use tree_parts::Items;
 use typed_tree::{
     Argument, CARDINAL, Change, Membership, Place, Standard, TypeNo, TypedExpr, TypedStmt,
 };
@@ -25,7 +26,7 @@ fn call_done(callee: Callee, arguments: Elaborated<Items<Argument>>) -> Elaborat
     ensures { result ≡ call_done callee arguments }
 {
     match arguments {
-        Err(fault) => Err(fault),
+        Err(breach) => Err(breach),
         Ok(arguments) => Ok(TypedStmt::Call(call_by(callee, arguments))),
     }
 }
@@ -34,7 +35,7 @@ fn call_done(callee: Callee, arguments: Elaborated<Items<Argument>>) -> Elaborat
 #[tactic(auto, using(crate::proofs::Variants::actuals_is, crate::proofs::Variants::count_is))]
 fn routine_done(
     alloc: Global,
-    scope: &Scope<Fault>,
+    scope: &Scope<Breach>,
     at: Pos,
     heading: TypeNo,
     callee: Callee,
@@ -45,9 +46,9 @@ fn routine_done(
 {
     let signature = signature_of(&scope.types, heading);
     match proper_of(at, signature, args.len()) {
-        Err(fault) => {
+        Err(breach) => {
             let rest = looked_at(alloc, scope, args)?;
-            Ok(refusal_beside(fault, rest))
+            Ok(refusal_beside(breach, rest))
         }
         Ok(()) => {
             let arguments = actuals(alloc, scope, formals_of(signature), args)?;
@@ -59,7 +60,7 @@ fn routine_done(
 /// A wrong number of arguments, beside what is broken in them.
 fn miscounted(
     alloc: Global,
-    scope: &Scope<Fault>,
+    scope: &Scope<Breach>,
     at: Pos,
     args: &[Expr],
 ) -> Result<Elaborated<TypedStmt>, AllocError>
@@ -72,7 +73,7 @@ fn miscounted(
 /// The variable of INC or DEC.
 fn changed_at(
     alloc: Global,
-    scope: &Scope<Fault>,
+    scope: &Scope<Breach>,
     arg: &Expr,
 ) -> Result<Elaborated<(TypeNo, Place)>, AllocError>
     ensures { IfOk result
@@ -80,7 +81,7 @@ fn changed_at(
 {
     let at = place_of(arg);
     match of_sort(at, Rule::NoVariable, stands_for(alloc, scope, arg)?) {
-        Err(fault) => Ok(Err(fault)),
+        Err(breach) => Ok(Err(breach)),
         Ok(designated) => Ok(changed(&scope.types, at, designated)),
     }
 }
@@ -88,7 +89,7 @@ fn changed_at(
 /// The amount of INC or DEC.
 fn amount_at(
     alloc: Global,
-    scope: &Scope<Fault>,
+    scope: &Scope<Breach>,
     arg: &Expr,
 ) -> Result<Elaborated<TypedExpr>, AllocError>
     ensures { IfOk result
@@ -96,7 +97,7 @@ fn amount_at(
         ▷ amount least (meant least arg.now).fixed.at)) }
 {
     match value_of(alloc, scope, arg)? {
-        Err(fault) => Ok(Err(fault)),
+        Err(breach) => Ok(Err(breach)),
         Ok(value) => Ok(amount(place_of(arg), value)),
     }
 }
@@ -104,7 +105,7 @@ fn amount_at(
 /// INC and DEC by an amount.
 fn changed_by_amount(
     alloc: Global,
-    scope: &Scope<Fault>,
+    scope: &Scope<Breach>,
     change: Change,
     variable: &Expr,
     by: &Expr,
@@ -121,7 +122,7 @@ fn changed_by_amount(
 /// INC and DEC.
 fn changed_by(
     alloc: Global,
-    scope: &Scope<Fault>,
+    scope: &Scope<Breach>,
     at: Pos,
     change: Change,
     args: &[Expr],
@@ -141,13 +142,13 @@ fn changed_by(
 }
 
 /// The set of INCL or EXCL.
-fn set_at(alloc: Global, scope: &Scope<Fault>, arg: &Expr) -> Result<Elaborated<Place>, AllocError>
+fn set_at(alloc: Global, scope: &Scope<Breach>, arg: &Expr) -> Result<Elaborated<Place>, AllocError>
     ensures { IfOk result
         (λ j. j ≡ set_in least scope.now (meant least arg.now)) }
 {
     let at = place_of(arg);
     match of_sort(at, Rule::NoVariable, stands_for(alloc, scope, arg)?) {
-        Err(fault) => Ok(Err(fault)),
+        Err(breach) => Ok(Err(breach)),
         Ok(designated) => Ok(set_variable(&scope.types, at, designated)),
     }
 }
@@ -155,7 +156,7 @@ fn set_at(alloc: Global, scope: &Scope<Fault>, arg: &Expr) -> Result<Elaborated<
 /// The element of INCL or EXCL.
 fn element_at(
     alloc: Global,
-    scope: &Scope<Fault>,
+    scope: &Scope<Breach>,
     arg: &Expr,
 ) -> Result<Elaborated<TypedExpr>, AllocError>
     ensures { IfOk result
@@ -163,7 +164,7 @@ fn element_at(
         ▷ element least (meant least arg.now).fixed.at)) }
 {
     match value_of(alloc, scope, arg)? {
-        Err(fault) => Ok(Err(fault)),
+        Err(breach) => Ok(Err(breach)),
         Ok(value) => Ok(element(place_of(arg), value)),
     }
 }
@@ -171,7 +172,7 @@ fn element_at(
 /// INCL and EXCL of an element.
 fn member_of(
     alloc: Global,
-    scope: &Scope<Fault>,
+    scope: &Scope<Breach>,
     membership: Membership,
     set: &Expr,
     arg: &Expr,
@@ -189,7 +190,7 @@ fn member_of(
 /// INCL and EXCL.
 fn member_by(
     alloc: Global,
-    scope: &Scope<Fault>,
+    scope: &Scope<Breach>,
     at: Pos,
     membership: Membership,
     args: &[Expr],
@@ -207,7 +208,7 @@ fn member_by(
 
 fn halted(
     alloc: Global,
-    scope: &Scope<Fault>,
+    scope: &Scope<Breach>,
     at: Pos,
     args: &[Expr],
 ) -> Result<Elaborated<TypedStmt>, AllocError>
@@ -222,7 +223,7 @@ fn halted(
 /// A function is no statement.
 fn function_done(
     alloc: Global,
-    scope: &Scope<Fault>,
+    scope: &Scope<Breach>,
     at: Pos,
     args: &[Expr],
 ) -> Result<Elaborated<TypedStmt>, AllocError>
@@ -235,7 +236,7 @@ fn function_done(
 /// `Console.Put`.
 fn put_by(
     alloc: Global,
-    scope: &Scope<Fault>,
+    scope: &Scope<Breach>,
     at: Pos,
     args: &[Expr],
 ) -> Result<Elaborated<TypedStmt>, AllocError>
@@ -244,7 +245,7 @@ fn put_by(
     match args {
         [] => miscounted(alloc, scope, at, args),
         [arg] => match value_of(alloc, scope, arg)? {
-            Err(fault) => Ok(Err(fault)),
+            Err(breach) => Ok(Err(breach)),
             Ok(value) => Ok(put(&scope.types, place_of(arg), value)),
         },
         [_, _, ..] => miscounted(alloc, scope, at, args),
@@ -254,7 +255,7 @@ fn put_by(
 /// A call of a standard procedure.
 fn standard_done(
     alloc: Global,
-    scope: &Scope<Fault>,
+    scope: &Scope<Breach>,
     at: Pos,
     args: &[Expr],
     standard: Standard,
@@ -283,7 +284,7 @@ fn standard_done(
 
 fn done_as(
     alloc: Global,
-    scope: &Scope<Fault>,
+    scope: &Scope<Breach>,
     at: Pos,
     args: &[Expr],
     called: Called,
@@ -302,7 +303,7 @@ fn done_as(
 /// of arguments is 42 there; each argument is elaborated for itself.
 pub fn done_by(
     alloc: Global,
-    scope: &Scope<Fault>,
+    scope: &Scope<Breach>,
     designator: &Designator,
     args: &[Expr],
 ) -> Result<Elaborated<TypedStmt>, AllocError>
@@ -311,13 +312,13 @@ pub fn done_by(
 {
     let at = first_of(designator);
     let called = match of_heading(designated(alloc, scope, designator)?) {
-        Err(fault) => Err(fault),
+        Err(breach) => Err(breach),
         Ok(designated) => callee_of(&scope.types, at, designated),
     };
     match called {
-        Err(fault) => {
+        Err(breach) => {
             let rest = looked_at(alloc, scope, args)?;
-            Ok(refusal_beside(fault, rest))
+            Ok(refusal_beside(breach, rest))
         }
         Ok(called) => done_as(alloc, scope, at, args, called),
     }

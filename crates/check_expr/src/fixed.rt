@@ -6,14 +6,15 @@ ghost use Rattle.check_scope.specs.Elaborated.{least};
 ghost use Rattle.check_expr.specs.Meanings.{picks, head, constant_pick_in};
 
 use check_const::{Denoted, component_in, field_in, named};
-use check_scope::{Elaborated, Fault, Scope};
+use check_scope::{Elaborated, Scope};
+use m2_rule::Breach;
 use m2_tree::{Designator, Selector};
 use std::alloc::AllocError;
 
 /// What a selector picks.
 #[tactic(auto, using(crate::proofs::Variants::variants))]
 fn pick(
-    scope: &Scope<Fault>,
+    scope: &Scope<Breach>,
     from: Elaborated<Denoted>,
     selector: &Selector,
 ) -> Result<Elaborated<Denoted>, AllocError>
@@ -27,7 +28,7 @@ fn pick(
 
 /// What selectors pick, one after another.
 fn picked(
-    scope: &Scope<Fault>,
+    scope: &Scope<Breach>,
     first: Elaborated<Denoted>,
     selectors: &[Selector],
 ) -> Result<Elaborated<Denoted>, AllocError>
@@ -43,7 +44,7 @@ fn picked(
 /// What a designator stands for.
 #[tactic(auto, using(crate::proofs::Variants::variants))]
 pub fn denoted(
-    scope: &Scope<Fault>,
+    scope: &Scope<Breach>,
     designator: &Designator,
 ) -> Result<Elaborated<Denoted>, AllocError>
     ensures { IfOk result (λ d. d ≡ (head least designator.now).fixed.denotes scope.now) }

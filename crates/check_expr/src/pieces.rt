@@ -14,12 +14,11 @@ use check_const_ops::BinaryOp;
 use check_operator::{
     Computed, Designated, combined, designated_by, field, given, indexed, indices, signed, taken,
 };
-use check_scope::{
-    Elaborated, Fault, Scope, Sought, looked_up, of_heading, of_sort, plain, reported,
-};
-use m2_rule::Rule;
-use m2_tree::{Boxed, Designator, Expr, Ident, Items, Operator, Pos, RelOp, Sign};
+use check_scope::{Elaborated, Scope, Sought, looked_up, of_heading, of_sort, plain, reported};
+use m2_rule::{Breach, Rule};
+use m2_tree::{Designator, Expr, Ident, Operator, Pos, RelOp, Sign};
 use std::alloc::{AllocError, Global};
+use tree_parts::{Boxed, Items};
 use typed_tree::{Argument, Formal, Scalar, Signature, Standard, TypeNo, TypedExpr, Types, Value};
 
 /// The place of an expression's first token.
@@ -54,7 +53,7 @@ pub fn of_computed(value: Elaborated<Computed>) -> Sought<Designated>
     ensures { result ≡ of_computed value }
 {
     match value {
-        Err(fault) => plain(Err(fault)),
+        Err(breach) => plain(Err(breach)),
         Ok(value) => Ok(Designated::Value(value)),
     }
 }
@@ -64,7 +63,7 @@ pub fn taken_at(types: &Types, at: Pos, designated: Sought<Designated>) -> Elabo
     ensures { result ≡ taken_at least types.now at designated }
 {
     match of_heading(designated) {
-        Err(fault) => Err(fault),
+        Err(breach) => Err(breach),
         Ok(designated) => taken(types, at, designated),
     }
 }
@@ -114,7 +113,7 @@ pub fn related(
 /// What the first name of a designator stands for.
 pub fn named(
     alloc: Global,
-    scope: &Scope<Fault>,
+    scope: &Scope<Breach>,
     name: &Ident,
 ) -> Result<Sought<Designated>, AllocError>
     ensures { IfOk result (λ d. d ≡ named least scope.now name.now) }
@@ -127,14 +126,14 @@ pub fn named(
 
 fn member_of(
     alloc: Global,
-    scope: &Scope<Fault>,
+    scope: &Scope<Breach>,
     place: usize,
     name: &Ident,
 ) -> Result<Elaborated<Designated>, AllocError>
     ensures { IfOk result (λ d. d ≡ member_of least scope.now place name.now) }
 {
     match member(scope, place, name)? {
-        Err(fault) => Ok(Err(fault)),
+        Err(breach) => Ok(Err(breach)),
         Ok(meaning) => designated_by(alloc, scope.level, name.pos, meaning),
     }
 }
@@ -142,7 +141,7 @@ fn member_of(
 /// A name of a module, or a field of a record, of what stands before it.
 pub fn field_of(
     alloc: Global,
-    scope: &Scope<Fault>,
+    scope: &Scope<Breach>,
     at: Pos,
     name: &Ident,
     from: Designated,
@@ -172,7 +171,7 @@ pub fn field_of(
 /// A name of a module, or a field of a record.
 pub fn field_at(
     alloc: Global,
-    scope: &Scope<Fault>,
+    scope: &Scope<Breach>,
     at: Pos,
     name: &Ident,
     from: Sought<Designated>,
@@ -180,7 +179,7 @@ pub fn field_at(
     ensures { IfOk result (λ d. d ≡ field_at least scope.now at name.now from) }
 {
     match of_sort(at, Rule::WrongType, from) {
-        Err(fault) => Ok(plain(Err(fault))),
+        Err(breach) => Ok(plain(Err(breach))),
         Ok(from) => Ok(plain(field_of(alloc, scope, at, name, from)?)),
     }
 }
@@ -197,7 +196,7 @@ pub fn index_at(
     ensures { IfOk result (λ d. d ≡ index_at least types.now at from other_at index) }
 {
     let array = match of_sort(at, Rule::WrongType, from) {
-        Err(fault) => Err(fault),
+        Err(breach) => Err(breach),
         Ok(from) => indices(types, at, from),
     };
     Ok(plain(indexed(alloc, types, array, other_at, index)?))
@@ -226,7 +225,7 @@ pub fn type_of(at: Pos, designated: Sought<Designated>) -> Elaborated<Option<Typ
     ensures { result ≡ type_of least at designated }
 {
     match of_sort(at, Rule::NoType, designated) {
-        Err(fault) => Err(fault),
+        Err(breach) => Err(breach),
         Ok(designated) => Ok(type_in(designated)),
     }
 }
@@ -264,7 +263,7 @@ pub fn argument_by(
     match formal {
         None => reported(at, Rule::ArgumentCount),
         Some(formal) => match passed_for(formal, at, designated) {
-            Err(fault) => Err(fault),
+            Err(breach) => Err(breach),
             Ok(designated) => actual(types, formal, at, designated),
         },
     }
@@ -281,7 +280,7 @@ pub fn call_given(
     ensures { IfOk result (λ v. v ≡ call_given least types.now t callee arguments) }
 {
     match arguments {
-        Err(fault) => Ok(Err(fault)),
+        Err(breach) => Ok(Err(breach)),
         Ok(arguments) => {
             let call = Boxed::new(alloc, call_by(callee, arguments))?;
             Ok(Ok(given(types, t, TypedExpr::Call(t, call))))
@@ -298,7 +297,7 @@ pub fn type_at(
     ensures { result ≡ (of_sort least at rule.NoType designated ▷ type_named least types.now at) }
 {
     match of_sort(at, Rule::NoType, designated) {
-        Err(fault) => Err(fault),
+        Err(breach) => Err(breach),
         Ok(designated) => type_named(types, at, designated),
     }
 }
@@ -308,7 +307,7 @@ pub fn high_at(at: Pos, designated: Sought<Designated>) -> Elaborated<Computed>
     ensures { result ≡ (of_sort least at rule.WrongArgument designated ▷ high_of least at) }
 {
     match of_sort(at, Rule::WrongArgument, designated) {
-        Err(fault) => Err(fault),
+        Err(breach) => Err(breach),
         Ok(designated) => high_of(at, designated),
     }
 }
@@ -324,7 +323,7 @@ pub fn unary_of(
     ensures { IfOk result (λ v. v ≡ (value ▷ unary_at least standard function at)) }
 {
     match value {
-        Err(fault) => Ok(Err(fault)),
+        Err(breach) => Ok(Err(breach)),
         Ok(value) => unary_at(alloc, standard, function, at, value),
     }
 }
@@ -334,7 +333,7 @@ pub fn looked(designated: Sought<Designated>) -> Elaborated<()>
     ensures { result ≡ (of_heading designated ▷ λ d. Ok tt) }
 {
     match of_heading(designated) {
-        Err(fault) => Err(fault),
+        Err(breach) => Err(breach),
         Ok(designated) => {
             drop(designated);
             Ok(())

@@ -223,7 +223,7 @@ fn on_amounts(
     match common(sort_of(&a), sort_of(&b)) {
         None => Ok(reported(spot, Rule::WrongType)),
         Some(sort) => match fitting_both(op, spot, sort, at, &a, other_at, &b) {
-            Err(fault) => Ok(Err(fault)),
+            Err(breach) => Ok(Err(breach)),
             Ok(()) => stepped(alloc, spot, sort, a, b, step_of(op)),
         },
     }
@@ -260,7 +260,7 @@ fn member(
         return Ok(reported(spot, Rule::WrongType));
     }
     match element_fits(at, &a) {
-        Err(fault) => Ok(Err(fault)),
+        Err(breach) => Ok(Err(breach)),
         Ok(()) => {
             let (element, whole) = boxed(alloc, run_of(or_cardinal(sort), a), set)?;
             Ok(Ok(truth_of(TypedExpr::In(element, whole))))
@@ -506,7 +506,7 @@ pub fn combined(
     ensures { IfOk result (λ v. v ≡ combined least types.now op spot at x other_at y) }
 {
     match both(x, y) {
-        Err(fault) => Ok(Err(fault)),
+        Err(breach) => Ok(Err(breach)),
         Ok((a, b)) => operated(alloc, types, op, spot, at, a, other_at, b),
     }
 }

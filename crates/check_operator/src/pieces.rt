@@ -5,8 +5,8 @@ ghost use Rattle.check_operator.specs.Operations.{of_value, truth_of};
 
 use crate::computed::Computed;
 use check_scope::Elaborated;
-use m2_tree::Boxed;
 use std::alloc::{AllocError, Global};
+use tree_parts::Boxed;
 use typed_tree::{BOOLEAN, TypedExpr, Value};
 
 /// A constant as a value.
@@ -14,7 +14,7 @@ pub fn of_value(value: Elaborated<Value>) -> Elaborated<Computed>
     ensures { result ≡ of_value value }
 {
     match value {
-        Err(fault) => Err(fault),
+        Err(breach) => Err(breach),
         Ok(value) => Ok(Computed::Constant(value)),
     }
 }

@@ -12,8 +12,9 @@ use check_const_ops::Ordinal;
 use check_scope::{Elaborated, reported};
 use m2_rule::Rule;
 use m2_tree::{Pos, Quoted};
+use tree_parts::Shared;
 use typed_tree::{
-    CHAR, Place, Scalar, Shared, TypeNo, TypedExpr, Types, Value, are_same, is_numeric, scalar_of,
+    CHAR, Place, Scalar, TypeNo, TypedExpr, Types, Value, are_same, is_numeric, scalar_of,
 };
 
 /// A value as a place takes it.
@@ -236,7 +237,7 @@ fn of_expr(e: Elaborated<TypedExpr>) -> Elaborated<Accepted>
     ensures { result ≡ of_expr e }
 {
     match e {
-        Err(fault) => Err(fault),
+        Err(breach) => Err(breach),
         Ok(e) => Ok(Accepted::Value(e)),
     }
 }

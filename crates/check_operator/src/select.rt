@@ -57,7 +57,7 @@ fn component(
     ensures { IfOk result (λ d. d ≡ component least types.now at name.now t place) }
 {
     match record_field(at, name, fields_of(types, t)) {
-        Err(fault) => Ok(Err(fault)),
+        Err(breach) => Ok(Err(breach)),
         Ok((number, of)) => {
             let place = behind(place, Component::Field(t, number))?;
             Ok(Ok(Designated::Variable(of, place)))
@@ -166,7 +166,7 @@ fn with_index(
     ensures { IfOk result (λ d. d ≡ with_index least types.now at array index) }
 {
     match value_suited(Rule::NotAssignable, types, asked(&array), at, index) {
-        Err(fault) => Ok(Err(fault)),
+        Err(breach) => Ok(Err(breach)),
         Ok(e) => Ok(Ok(picked(alloc, array, e)?)),
     }
 }
@@ -183,7 +183,7 @@ pub fn indexed(
     ensures { IfOk result (λ d. d ≡ indexed least types.now array at index) }
 {
     match both(array, index) {
-        Err(fault) => Ok(Err(fault)),
+        Err(breach) => Ok(Err(breach)),
         Ok((array, index)) => with_index(alloc, types, at, array, index),
     }
 }

@@ -8,8 +8,9 @@ use crate::computed::Computed;
 use crate::pieces::{of_value, truth_of};
 use check_scope::{Elaborated, reported};
 use m2_rule::Rule;
-use m2_tree::{Boxed, Pos, Sign};
+use m2_tree::{Pos, Sign};
 use std::alloc::{AllocError, Global};
+use tree_parts::Boxed;
 use typed_tree::{BOOLEAN, TypeNo, TypedExpr, are_same, is_integer, is_numeric};
 
 fn signed_scalar(
@@ -68,7 +69,7 @@ pub fn signed(
     ensures { IfOk result (λ v. v ≡ signed least sign spot x) }
 {
     match x {
-        Err(fault) => Ok(Err(fault)),
+        Err(breach) => Ok(Err(breach)),
         Ok(value) => signed_value(alloc, sign, spot, value),
     }
 }
@@ -115,7 +116,7 @@ pub fn negated(
     ensures { IfOk result (λ v. v ≡ negated least spot x) }
 {
     match x {
-        Err(fault) => Ok(Err(fault)),
+        Err(breach) => Ok(Err(breach)),
         Ok(value) => negated_value(alloc, spot, value),
     }
 }

@@ -2,39 +2,29 @@
 use Rattle.std.specs.Prelude.{ℕ, Bool, cond, ◌&&◌, ◌||◌, ◌==◌, nat_lt, List, [], ◌∷◌, ◌++◌, Result, Ok, Err}
 use Rattle.m2_tree.specs.declared.pos.Pos.{Pos}
 use Rattle.m2_rule.specs.declared.rule.Rule.{Rule}
-use Rattle.m2_rule.specs.RuleNumber.{number_of}
-use Rattle.check_scope.specs.declared.fault.Fault.{Fault}
+use Rattle.m2_rule.specs.Breaches.{breach, lesser}
+use Rattle.m2_rule.specs.declared.breach.Breach.{Breach}
 use Rattle.check_scope.specs.declared.meaningless.Meaningless.{Meaningless}
 use Rattle.check_scope.specs.declared.meaningless.Meaningless.TheVariants.{Broken, Headless}
 
 -- how broken rules are gathered
 pub record Gathers : Type 1 where
   pub Reported : Type 0
-  pub one : Fault → Reported
+  pub one : Breach → Reported
   pub join : Reported → Reported → Reported
 
 -- all of them
 abbrev pub every : Gathers
-every = record { Reported = List Fault; one = λ f. f ∷ []; join = λ fs gs. fs ++ gs }
-
--- by place, and then by number
-abbrev pub is_less : Fault → Fault → Bool
-is_less f g =
-    nat_lt f.pos.line g.pos.line
-    || (f.pos.line == g.pos.line
-    && (nat_lt f.pos.col g.pos.col || (f.pos.col == g.pos.col && nat_lt f.number g.number)))
-
-abbrev pub lesser : Fault → Fault → Fault
-lesser f g = cond (is_less g f) g f
+every = record { Reported = List Breach; one = λ f. f ∷ []; join = λ fs gs. fs ++ gs }
 
 -- the least of them
 abbrev pub least : Gathers
-least = record { Reported = Fault; one = λ f. f; join = lesser }
+least = record { Reported = Breach; one = λ f. f; join = lesser }
 
 -- A part means something, or rules are broken in it. The use of a name in whose declaration rules
 -- are broken repeats these.
 abbrev pub reported : (g : Gathers) {A : Type 0} → Pos → Rule → Result A g.Reported
-reported g pos broken = Err (g.one (record { pos = pos; number = number_of broken }))
+reported g pos broken = Err (g.one (breach pos broken))
 
 abbrev pub reported_where : (g : Gathers) {A : Type 0} → Bool → Pos → Rule → Result A g.Reported
     → Result A g.Reported
@@ -69,7 +59,7 @@ refusal_beside g e (Err f) = Err (g.join e f)
 abbrev pub reported_beside : (g : Gathers) {A : Type 0} → Pos → Rule → Result (Unit {0}) g.Reported
     → Result A g.Reported
 reported_beside g pos broken rest =
-    refusal_beside g (g.one (record { pos = pos; number = number_of broken })) rest
+    refusal_beside g (g.one (breach pos broken)) rest
 
 abbrev pub ahead : (g : Gathers) {A B : Type 0} → Result A g.Reported → Result (Unit {0}) g.Reported
     → (A → Result B g.Reported) → Result B g.Reported

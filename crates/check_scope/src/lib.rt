@@ -1,14 +1,12 @@
 //! Broken rules, and the names in scope.
 #![tactic(auto)]
 
-mod fault;
+mod elaborated;
 mod known;
 mod meaningless;
 mod scope;
 
-pub use fault::{
-    Elaborated, Fault, beside, both, lesser, refusal_beside, reported, reported_beside,
-};
+pub use elaborated::{Elaborated, beside, both, refusal_beside, reported, reported_beside};
 pub use known::{Known, Origin};
 pub use meaningless::{Meaningless, Sought, of_heading, of_sort, plain};
 pub use scope::{

@@ -3,8 +3,8 @@
 ghost use Rattle.std.specs.Prelude.{◌≡◌};
 ghost use Rattle.check_scope.specs.Elaborated.{least, of_sort, of_heading, plain};
 
-use crate::fault::{Elaborated, Fault, reported};
-use m2_rule::Rule;
+use crate::elaborated::{Elaborated, reported};
+use m2_rule::{Breach, Rule};
 use m2_tree::Pos;
 
 /// Why a name or a designator has no meaning, with what is reported of it.
@@ -17,7 +17,7 @@ pub enum Meaningless<T> {
 }
 
 /// What a name or a designator means, or why it means nothing.
-pub type Sought<T> = Result<T, Meaningless<Fault>>;
+pub type Sought<T> = Result<T, Meaningless<Breach>>;
 
 /// What a rule looks at that asks what sort of thing a name is. It is broken by a procedure, whatever its heading.
 pub fn of_sort<T>(pos: Pos, broken: Rule, sought: Sought<T>) -> Elaborated<T>
@@ -25,7 +25,7 @@ pub fn of_sort<T>(pos: Pos, broken: Rule, sought: Sought<T>) -> Elaborated<T>
 {
     match sought {
         Ok(meaning) => Ok(meaning),
-        Err(Meaningless::Broken(fault)) => Err(fault),
+        Err(Meaningless::Broken(breach)) => Err(breach),
         Err(Meaningless::Headless(_)) => reported(pos, broken),
     }
 }
@@ -36,8 +36,8 @@ pub fn of_heading<T>(sought: Sought<T>) -> Elaborated<T>
 {
     match sought {
         Ok(meaning) => Ok(meaning),
-        Err(Meaningless::Broken(fault)) => Err(fault),
-        Err(Meaningless::Headless(fault)) => Err(fault),
+        Err(Meaningless::Broken(breach)) => Err(breach),
+        Err(Meaningless::Headless(breach)) => Err(breach),
     }
 }
 
@@ -47,6 +47,6 @@ pub fn plain<T>(elaborated: Elaborated<T>) -> Sought<T>
 {
     match elaborated {
         Ok(meaning) => Ok(meaning),
-        Err(fault) => Err(Meaningless::Broken(fault)),
+        Err(breach) => Err(Meaningless::Broken(breach)),
     }
 }

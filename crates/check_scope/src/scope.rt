@@ -6,15 +6,16 @@ ghost use Rattle.std.specs.Option.{option_copied};
 ghost use Rattle.check_scope.specs.Elaborated.{least, plain};
 ghost use Rattle.check_scope.specs.Scopes.{sighted, seen_at, in_block, nearer, or_outside, known_outside, known, fields_made, fields_at, field_at, field_in, opened, heading_means, means_seen, means_as, looked_up, is_free, with_known, declared, begun, is_begun, finished, is_one_origin, is_again, imported, marked};
 
-use crate::fault::{Elaborated, Fault, reported};
+use crate::elaborated::{Elaborated, reported};
 use crate::known::{Known, Origin};
 use crate::meaningless::{Meaningless, Sought, plain};
-use m2_rule::Rule;
-use m2_tree::{Ident, Items, Pos};
+use m2_rule::{Breach, Rule};
+use m2_tree::{Ident, Pos};
 use std::alloc::{AllocError, Global};
 use std::mem;
+use tree_parts::{Items, Shared};
 use typed_tree::{
-    Dictionary, Made, Meaning, OpenedField, Reached, Shape, Shared, Table, TypeNo, Types, made_of,
+    Dictionary, Made, Meaning, OpenedField, Reached, Shape, Table, TypeNo, Types, made_of,
 };
 
 /// The names of a block around the innermost one.
@@ -75,7 +76,7 @@ impl<T: Drop> Drop for Scope<T> {
     }
 }
 
-impl Scope<Fault> {
+impl Scope<Breach> {
     /// The types that are known, and those of the module's variables. What else is known is dropped.
     pub fn into_types(self, alloc: Global) -> (Types, Items<TypeNo>)
         ensures { result ≡ (self.types, self.variables) }
@@ -93,9 +94,9 @@ impl Scope<Fault> {
 }
 
 /// What is known of a name, and whether it stands before the procedure in which it is used.
-type Sight<'a> = Option<(&'a Known<Fault>, bool)>;
+type Sight<'a> = Option<(&'a Known<Breach>, bool)>;
 
-fn in_block<'a>(block: &'a Block<Fault>, name: &[u8]) -> Sight<'a>
+fn in_block<'a>(block: &'a Block<Breach>, name: &[u8]) -> Sight<'a>
     ensures { sighted result ≡ in_block name.now block.now }
 {
     let place = block.names.place(name)?;
@@ -112,7 +113,7 @@ fn or_outside<'a>(near: Sight<'a>, far: Sight<'a>) -> Sight<'a>
     }
 }
 
-fn known_outside<'a>(outer: &'a [Block<Fault>], name: &[u8]) -> Sight<'a>
+fn known_outside<'a>(outer: &'a [Block<Breach>], name: &[u8]) -> Sight<'a>
     ensures { sighted result ≡ known_outside name.now outer.now }
 {
     let mut known = None;
@@ -122,7 +123,7 @@ fn known_outside<'a>(outer: &'a [Block<Fault>], name: &[u8]) -> Sight<'a>
     known
 }
 
-fn known_in<'a>(scope: &'a Scope<Fault>, name: &[u8]) -> Sight<'a>
+fn known_in<'a>(scope: &'a Scope<Breach>, name: &[u8]) -> Sight<'a>
     ensures { sighted result ≡ known name.now scope.now }
 {
     match scope.own.find(name) {
@@ -135,7 +136,7 @@ fn copied(means: &Elaborated<Meaning>) -> Result<Elaborated<Meaning>, AllocError
     ensures { IfOk result (λ m. m ≡ means.now) }
 {
     match means {
-        Err(fault) => Ok(Err(*fault)),
+        Err(breach) => Ok(Err(*breach)),
         Ok(meaning) => Ok(Ok(meaning.copy()?)),
     }
 }
@@ -152,12 +153,12 @@ fn heading_means(means: &Elaborated<Meaning>) -> Result<Sought<Meaning>, AllocEr
     ensures { IfOk result (λ m. m ≡ heading_means means.now) }
 {
     match means {
-        Err(fault) => Ok(Err(Meaningless::Headless(*fault))),
+        Err(breach) => Ok(Err(Meaningless::Headless(*breach))),
         Ok(meaning) => Ok(Ok(meaning.copy()?)),
     }
 }
 
-fn means_seen(at: Pos, known: &Known<Fault>, seen: bool) -> Result<Sought<Meaning>, AllocError>
+fn means_seen(at: Pos, known: &Known<Breach>, seen: bool) -> Result<Sought<Meaning>, AllocError>
     ensures { IfOk result (λ m. m ≡ means_seen least at known.now seen) }
 {
     match known {
@@ -243,7 +244,7 @@ fn opened(types: &Types, withs: &[OpenedRecord], name: &[u8]) -> Option<OpenedFi
 }
 
 /// What a name means where it is used.
-pub fn looked_up(scope: &Scope<Fault>, name: &Ident) -> Result<Sought<Meaning>, AllocError>
+pub fn looked_up(scope: &Scope<Breach>, name: &Ident) -> Result<Sought<Meaning>, AllocError>
     ensures { IfOk result (λ m. m ≡ looked_up least scope.now name.now) }
 {
     let bytes = name.name.as_bytes();
@@ -253,7 +254,7 @@ pub fn looked_up(scope: &Scope<Fault>, name: &Ident) -> Result<Sought<Meaning>, 
     }
 }
 
-fn is_free(known: Option<&Known<Fault>>) -> bool
+fn is_free(known: Option<&Known<Breach>>) -> bool
     ensures { result ≡ is_free (option_copied known.entry) }
 {
     match known {
@@ -267,9 +268,9 @@ fn is_free(known: Option<&Known<Fault>>) -> bool
 
 fn with_known(
     alloc: Global,
-    scope: &mut Scope<Fault>,
+    scope: &mut Scope<Breach>,
     name: &[u8],
-    known: Known<Fault>,
+    known: Known<Breach>,
 ) -> Result<(), AllocError>
     ensures { OnOk result (scope.new ≡ with_known name.now known scope.old) }
 {
@@ -279,7 +280,7 @@ fn with_known(
 /// Declares a name, unless it is declared.
 pub fn declare(
     alloc: Global,
-    scope: &mut Scope<Fault>,
+    scope: &mut Scope<Breach>,
     name: &Ident,
     means: Elaborated<Meaning>,
 ) -> Result<Elaborated<()>, AllocError>
@@ -300,7 +301,7 @@ pub fn declare(
 /// Begins the declaration of a name, unless it is declared.
 pub fn begin(
     alloc: Global,
-    scope: &mut Scope<Fault>,
+    scope: &mut Scope<Breach>,
     name: &Ident,
 ) -> Result<Elaborated<()>, AllocError>
     ensures { IfOk result (λ j. (scope.new, j) ≡ begun least scope.old name.now) }
@@ -312,7 +313,7 @@ pub fn begin(
     Ok(Ok(()))
 }
 
-fn is_begun(known: Option<&Known<Fault>>) -> bool
+fn is_begun(known: Option<&Known<Breach>>) -> bool
     ensures { result ≡ is_begun (option_copied known.entry) }
 {
     match known {
@@ -327,7 +328,7 @@ fn is_begun(known: Option<&Known<Fault>>) -> bool
 /// Finishes the declaration of a name that has begun.
 pub fn finish(
     alloc: Global,
-    scope: &mut Scope<Fault>,
+    scope: &mut Scope<Breach>,
     name: &Ident,
     means: Elaborated<Meaning>,
 ) -> Result<(), AllocError>
@@ -360,7 +361,7 @@ fn is_one_origin(first: Origin, second: Origin) -> bool
     }
 }
 
-fn is_again(known: Option<&Known<Fault>>, origin: Origin) -> bool
+fn is_again(known: Option<&Known<Breach>>, origin: Origin) -> bool
     ensures { result ≡ is_again (option_copied known.entry) origin }
 {
     match known {
@@ -375,7 +376,7 @@ fn is_again(known: Option<&Known<Fault>>, origin: Origin) -> bool
 /// Imports a name, unless it is declared. The same declaration may come twice.
 pub fn import(
     alloc: Global,
-    scope: &mut Scope<Fault>,
+    scope: &mut Scope<Breach>,
     at: Pos,
     name: &[u8],
     origin: Origin,
@@ -397,9 +398,9 @@ pub fn import(
 /// Marks a name as one that the block declares, unless it is marked.
 pub fn mark(
     alloc: Global,
-    scope: &mut Scope<Fault>,
+    scope: &mut Scope<Breach>,
     name: &Ident,
-    known: Known<Fault>,
+    known: Known<Breach>,
 ) -> Result<(), AllocError>
     ensures { OnOk result (scope.new ≡ marked name.now known scope.old) }
 {

@@ -17,7 +17,7 @@ use Rattle.typed_tree.specs.declared.computed.Place.{Place}
 use Rattle.typed_tree.specs.declared.computed.TypedExpr.{TypedExpr}
 use Rattle.typed_tree.specs.declared.statement.TypedStmt.{TypedStmt}
 use Rattle.typed_tree.specs.declared.statement.TypedArm.{TypedArm}
-use Rattle.check_scope.specs.declared.fault.Fault.{Fault}
+use Rattle.m2_rule.specs.declared.breach.Breach.{Breach}
 use Rattle.check_scope.specs.declared.scope.Scope.{Scope}
 use Rattle.check_scope.specs.Elaborated.{least, refusal_beside, ahead}
 use Rattle.check_expr.specs.Meanings.{meant, head}
@@ -30,16 +30,16 @@ use Rattle.check_stmt_parts.specs.Control.{course_of, repeated_for}
 use Rattle.check_stmt.specs.Statements.{Elaborates, ElaboratesRest, ElaboratesArm, Arms, args_meant, with_stmt, with_arm, stmt_layer, rest_layer, arm_layer, stmt, rest, arm, statements, arms}
 
 abbrev R : Type 0
-R = ElaboratesRest Fault
+R = ElaboratesRest Breach
 
 abbrev S : Type 0
-S = Elaborates Fault
+S = Elaborates Breach
 
 abbrev A : Type 0
-A = ElaboratesArm Fault
+A = ElaboratesArm Breach
 
 abbrev Steps : Type 0
-Steps = Result (List TypedStmt) Fault
+Steps = Result (List TypedStmt) Breach
 
 -- ---- a layer, each part of which has its meaning
 
@@ -70,7 +70,7 @@ fold_mapped : {A X Y : Type 0} (f : A → Y → A) (h : X → Y) (a : A) (xs : L
 fold_mapped f h a [] = refl
 fold_mapped f h a (x ∷ xs) = fold_mapped f h (f a (h x)) xs
 
-module _ (s : Scope Fault) (w : Around Fault) where
+module _ (s : Scope Breach) (w : Around Breach) where
   body_is : (xs : List Stmt) → fold (with_stmt least s w) (Ok []) (map (stmt least) xs) ≡ statements least s w xs
   body_is xs = fold_mapped (with_stmt least s w) (stmt least) (Ok []) xs
 
@@ -104,7 +104,7 @@ module _ (s : Scope Fault) (w : Around Fault) where
       ∙ ap (λ (x : Steps). repeated_for least (course_of least s name (meant least start) (meant least limit) (meant_if least by)) x) (body_is body)
 
   arms_are : (base : Option TypeNo) (xs : List Arm) → (fold (with_arm least s w base) ([], Ok []) (map (arm least) xs)).1 ≡ arms least s w base xs
-  arms_are base xs = ap (λ (st : Arms Fault). st.1) (fold_mapped (with_arm least s w base) (arm least) ([], Ok []) xs)
+  arms_are base xs = ap (λ (st : Arms Breach). st.1) (fold_mapped (with_arm least s w base) (arm least) ([], Ok []) xs)
 
   pub is_Elsif : (c : Expr) (body : List Stmt) (r : Rest) →
       rest least (Elsif c body r) s w ≡ chosen_else (chosen least (condition least s (meant least c)) (statements least s w body) (rest least r s w))
@@ -120,25 +120,25 @@ module _ (s : Scope Fault) (w : Around Fault) where
 
 -- ---- what the parts decide
 
-with_same : (e : Result (TypeNo × Place) Fault) (a b : Steps) (f h : TypeNo → Steps) → a ≡ b → ((t : TypeNo) → f t ≡ h t) → ahead least e (reported_in a) (λ r. within r.1 (f r.0)) ≡ ahead least e (reported_in b) (λ r. within r.1 (h r.0))
+with_same : (e : Result (TypeNo × Place) Breach) (a b : Steps) (f h : TypeNo → Steps) → a ≡ b → ((t : TypeNo) → f t ≡ h t) → ahead least e (reported_in a) (λ r. within r.1 (f r.0)) ≡ ahead least e (reported_in b) (λ r. within r.1 (h r.0))
 with_same (Ok x) a b f h p q = ap (λ (y : Steps). within x.1 y) (q x.0)
 with_same (Err e) a b f h p q = ap (λ (y : Steps). refusal_beside least {A = TypedStmt} e (reported_in y)) p
 
-module _ (s : Scope Fault) (w : Around Fault) where
+module _ (s : Scope Breach) (w : Around Breach) where
   pub is_Loop : (body : List Stmt) → stmt least (Loop body) s w ≡ looped (statements least s (in_loop w) body)
   is_Loop body = ap (λ (f : S). f s w) (at (Loop body) (layer.Loop body) (outs-Loop body)) ∙ ap (λ (x : Steps). looped x) (body_is s (in_loop w) body)
 
-  abbrev chosen_type : Expr → Result (TypeNo × TypedExpr) Fault
+  abbrev chosen_type : Expr → Result (TypeNo × TypedExpr) Breach
   chosen_type e = selected least s (meant least e)
 
   pub is_Case : (e : Expr) (xs : List Arm) → stmt least (Case e xs None) s w ≡ cased least (selected least s (meant least e)) (arms least s w (base_in (selected least s (meant least e))) xs) (Ok None)
   is_Case e xs = ap (λ (f : S). f s w) (at (Case e xs None) (layer.Case e xs None) (outs-Case e xs None))
-      ∙ ap (λ (y : Result (List TypedArm) Fault). cased least (chosen_type e) y (Ok None)) (arms_are s w (base_in (chosen_type e)) xs)
+      ∙ ap (λ (y : Result (List TypedArm) Breach). cased least (chosen_type e) y (Ok None)) (arms_are s w (base_in (chosen_type e)) xs)
 
   pub is_CaseElse : (e : Expr) (xs : List Arm) (body : List Stmt) →
       stmt least (Case e xs (Some body)) s w ≡ cased least (selected least s (meant least e)) (arms least s w (base_in (selected least s (meant least e))) xs) (standing (statements least s w body))
   is_CaseElse e xs body = ap (λ (f : S). f s w) (at (Case e xs (Some body)) (layer.Case e xs (Some body)) (outs-Case e xs (Some body)))
-      ∙ ap (λ (y : Result (List TypedArm) Fault). cased least (chosen_type e) y (standing (fold (with_stmt least s w) (Ok []) (map (stmt least) body)))) (arms_are s w (base_in (chosen_type e)) xs)
+      ∙ ap (λ (y : Result (List TypedArm) Breach). cased least (chosen_type e) y (standing (fold (with_stmt least s w) (Ok []) (map (stmt least) body)))) (arms_are s w (base_in (chosen_type e)) xs)
       ∙ ap (λ (x : Steps). cased least (chosen_type e) (arms least s w (base_in (chosen_type e)) xs) (standing x)) (body_is s w body)
 
   pub is_With : (d : Designator) (body : List Stmt) → stmt least (With d body) s w

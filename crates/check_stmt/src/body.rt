@@ -8,23 +8,25 @@ ghost use Rattle.check_stmt_parts.specs.Simple.{meant_if, in_loop, condition, se
 ghost use Rattle.check_stmt_parts.specs.Control.{course_of, repeated_for};
 ghost use Rattle.check_stmt.specs.Statements.{stmt, rest, arm, statements, arms};
 
-use check_scope::{Elaborated, Fault, Scope, refusal_beside};
+use check_scope::{Elaborated, Scope, refusal_beside};
 use check_stmt_parts::{
     Around, Ranges, armed, assignment, base_in, called, cased, chosen, chosen_else, close,
     condition, course_of, exited, in_loop, labels_in, looped, open, opened_type, record_of,
     repeated_for, repeated_until, repeated_while, reported_in, returned, selected, standing,
     with_next, within,
 };
-use m2_tree::{Arm, Boxed, Designator, Expr, Ident, Items, Rest, Stmt};
+use m2_rule::Breach;
+use m2_tree::{Arm, Designator, Expr, Ident, Rest, Stmt};
 use std::alloc::{AllocError, Global};
+use tree_parts::{Boxed, Items};
 use typed_tree::{TypeNo, TypedArm, TypedExpr, TypedStmt};
 
 /// Elaborates statements, one after another.
 #[cycle(body)]
 pub fn statements(
     alloc: Global,
-    scope: &mut Scope<Fault>,
-    around: &Around<Fault>,
+    scope: &mut Scope<Breach>,
+    around: &Around<Breach>,
     body: &[Stmt],
 ) -> Result<Elaborated<Items<TypedStmt>>, AllocError>
     ensures stays { OnOk result (scope.new ≡ scope.old) }
@@ -43,8 +45,8 @@ pub fn statements(
 #[tactic(auto, using(crate::proofs::Variants::variants))]
 fn statement(
     alloc: Global,
-    scope: &mut Scope<Fault>,
-    around: &Around<Fault>,
+    scope: &mut Scope<Breach>,
+    around: &Around<Breach>,
     written: &Stmt,
 ) -> Result<Elaborated<TypedStmt>, AllocError>
     ensures stays { OnOk result (scope.new ≡ scope.old) }
@@ -89,8 +91,8 @@ fn statement(
 #[cycle(body)]
 fn tested(
     alloc: Global,
-    scope: &mut Scope<Fault>,
-    around: &Around<Fault>,
+    scope: &mut Scope<Breach>,
+    around: &Around<Breach>,
     body: &[Stmt],
     e: &Expr,
 ) -> Result<(Elaborated<TypedExpr>, Elaborated<Items<TypedStmt>>), AllocError>
@@ -110,8 +112,8 @@ fn tested(
 #[cycle(body)]
 fn if_rest(
     alloc: Global,
-    scope: &mut Scope<Fault>,
-    around: &Around<Fault>,
+    scope: &mut Scope<Breach>,
+    around: &Around<Breach>,
     written: &Rest,
     first: (Elaborated<TypedExpr>, Elaborated<Items<TypedStmt>>),
 ) -> Result<Elaborated<TypedStmt>, AllocError>
@@ -128,8 +130,8 @@ fn if_rest(
 #[cycle(body)]
 fn case_arms(
     alloc: Global,
-    scope: &mut Scope<Fault>,
-    around: &Around<Fault>,
+    scope: &mut Scope<Breach>,
+    around: &Around<Breach>,
     all: &[Arm],
     selector: &Expr,
 ) -> Result<(Elaborated<(TypeNo, TypedExpr)>, Elaborated<Items<TypedArm>>), AllocError>
@@ -146,8 +148,8 @@ fn case_arms(
 #[cycle(body)]
 fn case_alone(
     alloc: Global,
-    scope: &mut Scope<Fault>,
-    around: &Around<Fault>,
+    scope: &mut Scope<Breach>,
+    around: &Around<Breach>,
     all: &[Arm],
     selector: &Expr,
 ) -> Result<Elaborated<TypedStmt>, AllocError>
@@ -164,8 +166,8 @@ fn case_alone(
 #[cycle(body)]
 fn case_else(
     alloc: Global,
-    scope: &mut Scope<Fault>,
-    around: &Around<Fault>,
+    scope: &mut Scope<Breach>,
+    around: &Around<Breach>,
     body: &[Stmt],
     first: (Elaborated<(TypeNo, TypedExpr)>, Elaborated<Items<TypedArm>>),
 ) -> Result<Elaborated<TypedStmt>, AllocError>
@@ -182,8 +184,8 @@ fn case_else(
 #[cycle(body)]
 fn while_of(
     alloc: Global,
-    scope: &mut Scope<Fault>,
-    around: &Around<Fault>,
+    scope: &mut Scope<Breach>,
+    around: &Around<Breach>,
     body: &[Stmt],
     e: &Expr,
 ) -> Result<Elaborated<TypedStmt>, AllocError>
@@ -200,8 +202,8 @@ fn while_of(
 #[cycle(body)]
 fn repeat_of(
     alloc: Global,
-    scope: &mut Scope<Fault>,
-    around: &Around<Fault>,
+    scope: &mut Scope<Breach>,
+    around: &Around<Breach>,
     body: &[Stmt],
     e: &Expr,
 ) -> Result<Elaborated<TypedStmt>, AllocError>
@@ -218,8 +220,8 @@ fn repeat_of(
 #[cycle(body)]
 fn loop_of(
     alloc: Global,
-    scope: &mut Scope<Fault>,
-    around: &Around<Fault>,
+    scope: &mut Scope<Breach>,
+    around: &Around<Breach>,
     body: &[Stmt],
 ) -> Result<Elaborated<TypedStmt>, AllocError>
     ensures stays { OnOk result (scope.new ≡ scope.old) }
@@ -235,8 +237,8 @@ fn loop_of(
 #[cycle(body)]
 fn for_of(
     alloc: Global,
-    scope: &mut Scope<Fault>,
-    around: &Around<Fault>,
+    scope: &mut Scope<Breach>,
+    around: &Around<Breach>,
     body: &[Stmt],
     name: &Ident,
     start: &Expr,
@@ -257,8 +259,8 @@ fn for_of(
 #[cycle(body)]
 fn with_of(
     alloc: Global,
-    scope: &mut Scope<Fault>,
-    around: &Around<Fault>,
+    scope: &mut Scope<Breach>,
+    around: &Around<Breach>,
     body: &[Stmt],
     whole: &Designator,
 ) -> Result<Elaborated<TypedStmt>, AllocError>
@@ -269,10 +271,10 @@ fn with_of(
         (λ r. within r.1 (statements least (opened scope.old r.0) around.now body.now))) }
 {
     match record_of(alloc, scope, whole)? {
-        Err(fault) => {
+        Err(breach) => {
             let t = opened_type(alloc, scope, whole)?;
             let rest = opened_if_body(alloc, scope, around, body, t)?;
-            Ok(refusal_beside(fault, reported_in(rest)))
+            Ok(refusal_beside(breach, reported_in(rest)))
         }
         Ok((t, place)) => {
             let body = opened_body(alloc, scope, around, body, t)?;
@@ -285,8 +287,8 @@ fn with_of(
 #[cycle(body)]
 fn opened_if_body(
     alloc: Global,
-    scope: &mut Scope<Fault>,
-    around: &Around<Fault>,
+    scope: &mut Scope<Breach>,
+    around: &Around<Breach>,
     body: &[Stmt],
     t: Option<TypeNo>,
 ) -> Result<Elaborated<Items<TypedStmt>>, AllocError>
@@ -305,8 +307,8 @@ fn opened_if_body(
 #[tactic(auto, using(check_stmt_parts::proofs::Closing::closed_opened))]
 fn opened_body(
     alloc: Global,
-    scope: &mut Scope<Fault>,
-    around: &Around<Fault>,
+    scope: &mut Scope<Breach>,
+    around: &Around<Breach>,
     body: &[Stmt],
     t: TypeNo,
 ) -> Result<Elaborated<Items<TypedStmt>>, AllocError>
@@ -325,8 +327,8 @@ fn opened_body(
 #[tactic(auto, using(crate::proofs::Variants::variants))]
 fn rest(
     alloc: Global,
-    scope: &mut Scope<Fault>,
-    around: &Around<Fault>,
+    scope: &mut Scope<Breach>,
+    around: &Around<Breach>,
     written: &Rest,
 ) -> Result<Elaborated<Option<Items<TypedStmt>>>, AllocError>
     ensures stays { OnOk result (scope.new ≡ scope.old) }
@@ -353,8 +355,8 @@ fn rest(
 #[cycle(body)]
 fn arms(
     alloc: Global,
-    scope: &mut Scope<Fault>,
-    around: &Around<Fault>,
+    scope: &mut Scope<Breach>,
+    around: &Around<Breach>,
     all: &[Arm],
     base: Option<TypeNo>,
 ) -> Result<Elaborated<Items<TypedArm>>, AllocError>
@@ -375,8 +377,8 @@ fn arms(
 #[tactic(auto, using(crate::proofs::Variants::arm_is))]
 fn arm(
     alloc: Global,
-    scope: &mut Scope<Fault>,
-    around: &Around<Fault>,
+    scope: &mut Scope<Breach>,
+    around: &Around<Breach>,
     written: &Arm,
     base: Option<TypeNo>,
     ranges: &mut Ranges,

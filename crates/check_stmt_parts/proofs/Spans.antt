@@ -2,14 +2,14 @@
 use Rattle.std.proofs.Common.{◌≡◌, Option, Some, Result, ap, ◌∙◌}
 use Rattle.m2_tree.specs.declared.pos.Pos.{Pos}
 use Rattle.typed_tree.specs.declared.types.TypeNo.{TypeNo}
-use Rattle.check_scope.specs.declared.fault.Fault.{Fault}
+use Rattle.m2_rule.specs.declared.breach.Breach.{Breach}
 use Rattle.check_scope.specs.declared.scope.Scope.{Scope}
 use Rattle.check_scope.specs.Elaborated.{least}
 use Rattle.check_const_ops.specs.declared.operand.Ordinal.{Ordinal}
 use Rattle.check_expr.specs.Meanings.{Meant}
 use Rattle.check_stmt_parts.specs.Labels.{bound_of, spanned, label_between}
 
-pub range_is : (s : Scope Fault) (base : Option TypeNo) (low high : Meant Fault) (at at' : Pos) (first last : Result Ordinal Fault)
+pub range_is : (s : Scope Breach) (base : Option TypeNo) (low high : Meant Breach) (at at' : Pos) (first last : Result Ordinal Breach)
     → at ≡ low.fixed.at → at' ≡ high.fixed.at → first ≡ bound_of least s base at low → last ≡ bound_of least s base at high
     → spanned least base at first at' last ≡ label_between least s base low (Some high)
 range_is s base low high at at' first last p q f l =

@@ -4,8 +4,8 @@ ghost use Rattle.std.specs.Prelude.{◌≡◌};
 ghost use Rattle.check_scope.specs.Elaborated.{least};
 ghost use Rattle.check_stmt_parts.specs.Simple.{in_loop, exited};
 
-use check_scope::{Elaborated, Fault, reported};
-use m2_rule::Rule;
+use check_scope::{Elaborated, reported};
+use m2_rule::{Breach, Rule};
 use m2_tree::Pos;
 use typed_tree::{TypeNo, TypedStmt};
 
@@ -19,7 +19,7 @@ pub struct Around<T> {
 }
 
 /// The same, inside a LOOP.
-pub fn in_loop(around: &Around<Fault>) -> Around<Fault>
+pub fn in_loop(around: &Around<Breach>) -> Around<Breach>
     ensures { result ≡ in_loop around.now }
 {
     Around {
@@ -29,7 +29,7 @@ pub fn in_loop(around: &Around<Fault>) -> Around<Fault>
 }
 
 /// EXIT: 45 where no LOOP stands around it.
-pub fn exited(at: Pos, around: &Around<Fault>) -> Elaborated<TypedStmt>
+pub fn exited(at: Pos, around: &Around<Breach>) -> Elaborated<TypedStmt>
     ensures { result ≡ exited least at around.now }
 {
     if !around.in_loop {

@@ -12,10 +12,11 @@ use check_expr::{constant_of, place_of, value_of};
 use check_operator::{
     Amount, Class, Computed, Side, bases_suit, class_of, side_of, slot_of, sort_suits, value_suited,
 };
-use check_scope::{Elaborated, Fault, Scope, both, looked_up, of_sort, reported};
-use m2_rule::Rule;
-use m2_tree::{Boxed, Expr, Ident, Items, Pos};
+use check_scope::{Elaborated, Scope, both, looked_up, of_sort, reported};
+use m2_rule::{Breach, Rule};
+use m2_tree::{Expr, Ident, Pos};
 use std::alloc::{AllocError, Global};
+use tree_parts::{Boxed, Items};
 use typed_tree::{
     LocalKind, Meaning, Place, Root, TypeNo, TypedExpr, TypedStmt, Types, Value, rooted,
 };
@@ -63,7 +64,12 @@ fn is_own(kind: LocalKind) -> bool
     }
 }
 
-fn control_by(alloc: Global, scope: &Scope<Fault>, at: Pos, meaning: Meaning) -> Elaborated<Control>
+fn control_by(
+    alloc: Global,
+    scope: &Scope<Breach>,
+    at: Pos,
+    meaning: Meaning,
+) -> Elaborated<Control>
     ensures { result ≡ control_by least scope.now at meaning }
 {
     match meaning {
@@ -95,13 +101,13 @@ fn control_by(alloc: Global, scope: &Scope<Fault>, at: Pos, meaning: Meaning) ->
 
 fn control_of(
     alloc: Global,
-    scope: &Scope<Fault>,
+    scope: &Scope<Breach>,
     name: &Ident,
 ) -> Result<Elaborated<Control>, AllocError>
     ensures { IfOk result (λ j. j ≡ control_of least scope.now name.now) }
 {
     match of_sort(name.pos, Rule::WrongControl, looked_up(scope, name)?) {
-        Err(fault) => Ok(Err(fault)),
+        Err(breach) => Ok(Err(breach)),
         Ok(meaning) => Ok(control_by(alloc, scope, name.pos, meaning)),
     }
 }
@@ -115,7 +121,7 @@ fn start_at(
     ensures { result ≡ start_at least types.now at t value }
 {
     match both(t, value) {
-        Err(fault) => Err(fault),
+        Err(breach) => Err(breach),
         Ok((t, value)) => value_suited(Rule::NotAssignable, types, t, at, value),
     }
 }
@@ -169,7 +175,7 @@ fn limit_at(at: Pos, base: Elaborated<TypeNo>, value: Elaborated<Computed>) -> E
     ensures { result ≡ limit_at least at base value }
 {
     match both(base, value) {
-        Err(fault) => Err(fault),
+        Err(breach) => Err(breach),
         Ok((base, value)) => limit_by(base, at, side_of(value)),
     }
 }
@@ -203,7 +209,7 @@ fn step_by(at: Pos, value: &Value) -> Elaborated<i64>
 /// The step: a constant, or else 1.
 fn step_of(
     alloc: Global,
-    scope: &Scope<Fault>,
+    scope: &Scope<Breach>,
     by: &Option<Boxed<Expr>>,
 ) -> Result<Elaborated<i64>, AllocError>
     ensures { IfOk result (λ j. j ≡ step_of least scope.now (meant_if least by.now)) }
@@ -213,7 +219,7 @@ fn step_of(
         Some(by) => {
             let by = by.get();
             match constant_of(alloc, scope, by)? {
-                Err(fault) => Ok(Err(fault)),
+                Err(breach) => Ok(Err(breach)),
                 Ok(value) => Ok(step_by(place_of(by), &value)),
             }
         }
@@ -224,7 +230,7 @@ fn type_of(control: &Elaborated<Control>) -> Elaborated<TypeNo>
     ensures { result ≡ type_of control.now }
 {
     match control {
-        Err(fault) => Err(*fault),
+        Err(breach) => Err(*breach),
         Ok(control) => Ok(control.of),
     }
 }
@@ -233,7 +239,7 @@ fn base_of(control: &Elaborated<Control>) -> Elaborated<TypeNo>
     ensures { result ≡ base_of control.now }
 {
     match control {
-        Err(fault) => Err(*fault),
+        Err(breach) => Err(*breach),
         Ok(control) => Ok(control.base),
     }
 }
@@ -247,7 +253,7 @@ fn joined(
     ensures { result ≡ course least control start limit by }
 {
     match both(both(control, start), both(limit, by)) {
-        Err(fault) => Err(fault),
+        Err(breach) => Err(breach),
         Ok(((control, start), (limit, by))) => Ok(Course {
             control,
             start,
@@ -260,7 +266,7 @@ fn joined(
 /// The start of a FOR.
 fn start_of(
     alloc: Global,
-    scope: &Scope<Fault>,
+    scope: &Scope<Breach>,
     control: &Elaborated<Control>,
     e: &Expr,
 ) -> Result<Elaborated<TypedExpr>, AllocError>
@@ -274,7 +280,7 @@ fn start_of(
 /// The limit of a FOR.
 fn limit_of(
     alloc: Global,
-    scope: &Scope<Fault>,
+    scope: &Scope<Breach>,
     control: &Elaborated<Control>,
     e: &Expr,
 ) -> Result<Elaborated<TypedExpr>, AllocError>
@@ -290,7 +296,7 @@ fn limit_of(
 /// 41. The step is a constant whole number, else 34 or 40, and not zero: else 48. A number out of range is 52.
 pub fn course_of(
     alloc: Global,
-    scope: &Scope<Fault>,
+    scope: &Scope<Breach>,
     name: &Ident,
     start: &Expr,
     limit: &Expr,
@@ -314,7 +320,7 @@ pub fn repeated_for(
     ensures { result ≡ repeated_for least course body }
 {
     match both(course, body) {
-        Err(fault) => Err(fault),
+        Err(breach) => Err(breach),
         Ok((course, body)) => {
             let Course {
                 control,

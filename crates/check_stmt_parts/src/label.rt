@@ -12,10 +12,11 @@ use crate::lists::with_next;
 use check_const_ops::{Operand, Ordinal, common, fits, operand_of};
 use check_expr::{place_of, stands_for};
 use check_operator::{Class, Computed, Designated, class_of};
-use check_scope::{Elaborated, Fault, Meaningless, Scope, Sought, beside, both, reported};
-use m2_rule::Rule;
-use m2_tree::{Expr, Item, Items, Pos};
+use check_scope::{Elaborated, Meaningless, Scope, Sought, beside, both, reported};
+use m2_rule::{Breach, Rule};
+use m2_tree::{Expr, Item, Pos};
 use std::alloc::{AllocError, Global};
+use tree_parts::Items;
 use typed_tree::{Label, TypeNo, Types, are_same, is_numeric};
 
 fn ordinal_in(at: Pos, operand: Option<Operand>) -> Elaborated<Ordinal>
@@ -43,7 +44,7 @@ fn no_constant(alike: bool, label: Pos, at: Pos) -> Elaborated<Ordinal>
 {
     let unknown: Elaborated<Ordinal> = reported(label, Rule::WrongLabel);
     match both(of_type(alike, at), unknown) {
-        Err(fault) => Err(fault),
+        Err(breach) => Err(breach),
         Ok(((), a)) => Ok(a),
     }
 }
@@ -115,7 +116,7 @@ fn bound_in(
 {
     match sought {
         Ok(designated) => bound_by(types, base, label, at, designated),
-        Err(Meaningless::Broken(fault)) => Err(fault),
+        Err(Meaningless::Broken(breach)) => Err(breach),
         Err(Meaningless::Headless(_)) => no_constant(false, label, at),
     }
 }
@@ -123,7 +124,7 @@ fn bound_in(
 /// A bound of a label at a place.
 fn bound_of(
     alloc: Global,
-    scope: &Scope<Fault>,
+    scope: &Scope<Breach>,
     base: Option<TypeNo>,
     label: Pos,
     e: &Expr,
@@ -176,7 +177,7 @@ fn bound_suits(base: Option<TypeNo>, at: Pos, bound: Elaborated<Ordinal>) -> Ela
     ensures { result ≡ bound_suits least base at bound }
 {
     match bound {
-        Err(fault) => Err(fault),
+        Err(breach) => Err(breach),
         Ok(a) => suits_base(base, at, a),
     }
 }
@@ -186,7 +187,7 @@ fn single(base: Option<TypeNo>, at: Pos, bound: Elaborated<Ordinal>) -> Elaborat
     ensures { result ≡ single least base at bound }
 {
     match both(bound, bound_suits(base, at, bound)) {
-        Err(fault) => Err(fault),
+        Err(breach) => Err(breach),
         Ok((a, ())) => Ok(Label {
             low: a.number,
             high: a.number,
@@ -213,7 +214,7 @@ fn are_ordered(at: Pos, low: Elaborated<Ordinal>, high: Elaborated<Ordinal>) -> 
     ensures { result ≡ are_ordered least at low high }
 {
     match both(low, high) {
-        Err(fault) => Err(fault),
+        Err(breach) => Err(breach),
         Ok((a, b)) => ordered_if(at, a, b),
     }
 }
@@ -231,7 +232,7 @@ fn spanned(
     let suit = beside(bound_suits(base, at, low), bound_suits(base, high_at, high));
     let fine = beside(suit, are_ordered(at, low, high));
     match both(both(low, high), fine) {
-        Err(fault) => Err(fault),
+        Err(breach) => Err(breach),
         Ok(((a, b), ())) => Ok(Label {
             low: a.number,
             high: b.number,
@@ -243,7 +244,7 @@ fn spanned(
 #[tactic(auto, using(crate::proofs::Spans::range_is))]
 fn range_from(
     alloc: Global,
-    scope: &Scope<Fault>,
+    scope: &Scope<Breach>,
     base: Option<TypeNo>,
     low: &Expr,
     high: &Expr,
@@ -261,7 +262,7 @@ fn range_from(
 /// What an item of a list of labels stands for.
 fn label_of(
     alloc: Global,
-    scope: &Scope<Fault>,
+    scope: &Scope<Breach>,
     base: Option<TypeNo>,
     item: &Item,
 ) -> Result<Elaborated<Label>, AllocError>
@@ -303,14 +304,14 @@ fn with_label(
     ensures { IfOk result (λ j. (ranges.new, j) ≡ with_label least at (ranges.old, done) label) }
 {
     match label {
-        Err(fault) => with_next(done, Err(fault)),
+        Err(breach) => with_next(done, Err(breach)),
         Ok(label) => with_new(at, ranges, done, label),
     }
 }
 
 fn with_item(
     alloc: Global,
-    scope: &Scope<Fault>,
+    scope: &Scope<Breach>,
     base: Option<TypeNo>,
     ranges: &mut Ranges,
     done: Elaborated<Items<Label>>,
@@ -329,7 +330,7 @@ fn with_item(
 /// 35, and a label with a value of another is 49.
 pub fn labels_in(
     alloc: Global,
-    scope: &Scope<Fault>,
+    scope: &Scope<Breach>,
     base: Option<TypeNo>,
     ranges: &mut Ranges,
     items: &[Item],

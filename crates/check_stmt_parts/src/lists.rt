@@ -5,8 +5,8 @@ ghost use Rattle.check_scope.specs.Elaborated.{least};
 ghost use Rattle.check_stmt_parts.specs.Lists.{with_next, standing, chosen, chosen_else, base_in, cased, armed, repeated_while, repeated_until, looped, within, reported_in};
 
 use check_scope::{Elaborated, both};
-use m2_tree::Items;
 use std::alloc::{AllocError, Global};
+use tree_parts::Items;
 use typed_tree::{Label, Place, TypeNo, TypedArm, TypedExpr, TypedStmt};
 
 /// One more of a list.
@@ -17,7 +17,7 @@ pub fn with_next<A: Drop>(
     ensures { IfOk result (λ j. j ≡ with_next least done next) }
 {
     match both(done, next) {
-        Err(fault) => Ok(Err(fault)),
+        Err(breach) => Ok(Err(breach)),
         Ok((mut all, last)) => {
             all.push(last)?;
             Ok(Ok(all))
@@ -30,7 +30,7 @@ pub fn standing(body: Elaborated<Items<TypedStmt>>) -> Elaborated<Option<Items<T
     ensures { result ≡ standing body }
 {
     match body {
-        Err(fault) => Err(fault),
+        Err(breach) => Err(breach),
         Ok(body) => Ok(Some(body)),
     }
 }
@@ -44,7 +44,7 @@ pub fn chosen(
     ensures { result ≡ chosen least condition body rest }
 {
     match both(condition, both(body, rest)) {
-        Err(fault) => Err(fault),
+        Err(breach) => Err(breach),
         Ok((condition, (body, rest))) => Ok(TypedStmt::If(condition, body, rest)),
     }
 }
@@ -57,7 +57,7 @@ pub fn chosen_else(
     ensures { IfOk result (λ j. j ≡ chosen_else inner) }
 {
     match inner {
-        Err(fault) => Ok(Err(fault)),
+        Err(breach) => Ok(Err(breach)),
         Ok(inner) => {
             let mut body = Items::new(alloc);
             body.push(inner)?;
@@ -85,7 +85,7 @@ pub fn cased(
     ensures { result ≡ cased least selector arms otherwise }
 {
     match both(selector, both(arms, otherwise)) {
-        Err(fault) => Err(fault),
+        Err(breach) => Err(breach),
         Ok(((_, e), (arms, otherwise))) => Ok(TypedStmt::Case(e, arms, otherwise)),
     }
 }
@@ -98,7 +98,7 @@ pub fn armed(
     ensures { result ≡ armed least labels body }
 {
     match both(labels, body) {
-        Err(fault) => Err(fault),
+        Err(breach) => Err(breach),
         Ok((labels, body)) => Ok(TypedArm { labels, body }),
     }
 }
@@ -111,7 +111,7 @@ pub fn repeated_while(
     ensures { result ≡ repeated_while least condition body }
 {
     match both(condition, body) {
-        Err(fault) => Err(fault),
+        Err(breach) => Err(breach),
         Ok((condition, body)) => Ok(TypedStmt::While(condition, body)),
     }
 }
@@ -124,7 +124,7 @@ pub fn repeated_until(
     ensures { result ≡ repeated_until least body condition }
 {
     match both(body, condition) {
-        Err(fault) => Err(fault),
+        Err(breach) => Err(breach),
         Ok((body, condition)) => Ok(TypedStmt::Repeat(body, condition)),
     }
 }
@@ -134,7 +134,7 @@ pub fn looped(body: Elaborated<Items<TypedStmt>>) -> Elaborated<TypedStmt>
     ensures { result ≡ looped body }
 {
     match body {
-        Err(fault) => Err(fault),
+        Err(breach) => Err(breach),
         Ok(body) => Ok(TypedStmt::Loop(body)),
     }
 }
@@ -144,7 +144,7 @@ pub fn within(place: Place, body: Elaborated<Items<TypedStmt>>) -> Elaborated<Ty
     ensures { result ≡ within place body }
 {
     match body {
-        Err(fault) => Err(fault),
+        Err(breach) => Err(breach),
         Ok(body) => Ok(TypedStmt::With(place, body)),
     }
 }
@@ -154,7 +154,7 @@ pub fn reported_in(body: Elaborated<Items<TypedStmt>>) -> Elaborated<()>
     ensures { result ≡ reported_in body }
 {
     match body {
-        Err(fault) => Err(fault),
+        Err(breach) => Err(breach),
         Ok(body) => {
             drop(body);
             Ok(())

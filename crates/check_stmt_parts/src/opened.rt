@@ -8,7 +8,8 @@ ghost use Rattle.check_stmt_parts.specs.Simple.{known_of, element_in, element_of
 use crate::simple::is_record;
 use check_expr::{field_of, named};
 use check_operator::{Designated, array_of};
-use check_scope::{Elaborated, Fault, Scope, Sought};
+use check_scope::{Elaborated, Scope, Sought};
+use m2_rule::Breach;
 use m2_tree::{Designator, Selector};
 use std::alloc::{AllocError, Global};
 use typed_tree::{Place, Root, TypeNo, Types, rooted};
@@ -64,7 +65,7 @@ fn element_of(alloc: Global, types: &Types, array: Designated) -> Option<Designa
 /// Where a selector leads, whatever its subscript is.
 fn led(
     alloc: Global,
-    scope: &Scope<Fault>,
+    scope: &Scope<Breach>,
     from: Option<Designated>,
     selector: &Selector,
 ) -> Result<Option<Designated>, AllocError>
@@ -81,7 +82,7 @@ fn led(
 
 fn all_led(
     alloc: Global,
-    scope: &Scope<Fault>,
+    scope: &Scope<Breach>,
     first: Option<Designated>,
     selectors: &[Selector],
 ) -> Result<Option<Designated>, AllocError>
@@ -124,7 +125,7 @@ fn record_led_to(types: &Types, designated: Option<Designated>) -> Option<TypeNo
 /// The record type to which a designator leads, whatever its subscripts are, if it leads to one.
 pub fn opened_type(
     alloc: Global,
-    scope: &Scope<Fault>,
+    scope: &Scope<Breach>,
     designator: &Designator,
 ) -> Result<Option<TypeNo>, AllocError>
     ensures { IfOk result (λ t. t ≡ opened_type least scope.now designator.now) }

@@ -12,11 +12,12 @@ use check_call::{assigned, target_at, untyped};
 use check_expr::{designated, done_by, first_of, place_of, value_of};
 use check_operator::{Amount, Computed, Designated, Side, side_of, value_suited};
 use check_scope::{
-    Elaborated, Fault, OpenedRecord, Scope, both, fields_of, of_sort, reported, reported_beside,
+    Elaborated, OpenedRecord, Scope, both, fields_of, of_sort, reported, reported_beside,
 };
-use m2_rule::Rule;
-use m2_tree::{Designator, Expr, Items, Pos};
+use m2_rule::{Breach, Rule};
+use m2_tree::{Designator, Expr, Pos};
 use std::alloc::{AllocError, Global};
+use tree_parts::Items;
 use typed_tree::{BOOLEAN, Place, TypeNo, TypedExpr, TypedStmt, Types};
 
 fn given_back(
@@ -28,9 +29,9 @@ fn given_back(
     ensures { result ≡ given_back least types.now t at value }
 {
     match both(t, value) {
-        Err(fault) => Err(fault),
+        Err(breach) => Err(breach),
         Ok((t, value)) => match value_suited(Rule::NotAssignable, types, t, at, value) {
-            Err(fault) => Err(fault),
+            Err(breach) => Err(breach),
             Ok(e) => Ok(TypedStmt::Give(t, e)),
         },
     }
@@ -40,7 +41,7 @@ fn given_back(
 /// compatible with the type of the result is 41, and a constant out of range is 52.
 pub fn returned(
     alloc: Global,
-    scope: &Scope<Fault>,
+    scope: &Scope<Breach>,
     at: Pos,
     gives: Option<Elaborated<TypeNo>>,
     value: &Option<Expr>,
@@ -52,7 +53,7 @@ pub fn returned(
         None => match value {
             None => Ok(Ok(TypedStmt::Return)),
             Some(e) => match value_of(alloc, scope, e)? {
-                Err(fault) => Ok(reported_beside(at, Rule::WrongReturn, Err(fault))),
+                Err(breach) => Ok(reported_beside(at, Rule::WrongReturn, Err(breach))),
                 Ok(value) => {
                     drop(value);
                     Ok(reported(at, Rule::WrongReturn))
@@ -72,13 +73,13 @@ pub fn returned(
 /// A condition: 40 where it is no BOOLEAN.
 pub fn condition(
     alloc: Global,
-    scope: &Scope<Fault>,
+    scope: &Scope<Breach>,
     e: &Expr,
 ) -> Result<Elaborated<TypedExpr>, AllocError>
     ensures { IfOk result (λ j. j ≡ condition least scope.now (meant least e.now)) }
 {
     match value_of(alloc, scope, e)? {
-        Err(fault) => Ok(Err(fault)),
+        Err(breach) => Ok(Err(breach)),
         Ok(value) => Ok(value_suited(Rule::WrongType, &scope.types, BOOLEAN, place_of(e), value)),
     }
 }
@@ -86,7 +87,7 @@ pub fn condition(
 /// An assignment. What is no variable is 40, what is not assignment compatible is 41, and a constant out of range is 52.
 pub fn assignment(
     alloc: Global,
-    scope: &Scope<Fault>,
+    scope: &Scope<Breach>,
     designator: &Designator,
     e: &Expr,
 ) -> Result<Elaborated<TypedStmt>, AllocError>
@@ -101,7 +102,7 @@ pub fn assignment(
 /// A call as a statement. Where there are no brackets there are no arguments.
 pub fn called(
     alloc: Global,
-    scope: &Scope<Fault>,
+    scope: &Scope<Breach>,
     designator: &Designator,
     args: &Option<Items<Expr>>,
 ) -> Result<Elaborated<TypedStmt>, AllocError>
@@ -141,13 +142,13 @@ fn selector_of(at: Pos, side: Option<Side>) -> Elaborated<(TypeNo, TypedExpr)>
 /// The selector of a CASE with its base type: 40 where it is no scalar.
 pub fn selected(
     alloc: Global,
-    scope: &Scope<Fault>,
+    scope: &Scope<Breach>,
     e: &Expr,
 ) -> Result<Elaborated<(TypeNo, TypedExpr)>, AllocError>
     ensures { IfOk result (λ j. j ≡ selected least scope.now (meant least e.now)) }
 {
     match value_of(alloc, scope, e)? {
-        Err(fault) => Ok(Err(fault)),
+        Err(breach) => Ok(Err(breach)),
         Ok(value) => Ok(selector_of(place_of(e), side_of(value))),
     }
 }
@@ -188,20 +189,20 @@ fn record_by(types: &Types, at: Pos, designated: Designated) -> Elaborated<(Type
 /// The record of a WITH with its type: 40 where it is no variable of a record type.
 pub fn record_of(
     alloc: Global,
-    scope: &Scope<Fault>,
+    scope: &Scope<Breach>,
     designator: &Designator,
 ) -> Result<Elaborated<(TypeNo, Place)>, AllocError>
     ensures { IfOk result (λ j. j ≡ record_of least scope.now (head least designator.now)) }
 {
     let at = first_of(designator);
     match of_sort(at, Rule::WrongType, designated(alloc, scope, designator)?) {
-        Err(fault) => Ok(Err(fault)),
+        Err(breach) => Ok(Err(breach)),
         Ok(designated) => Ok(record_by(&scope.types, at, designated)),
     }
 }
 
 /// Puts the fields of a record of this type before all other names.
-pub fn open(scope: &mut Scope<Fault>, t: TypeNo) -> Result<(), AllocError>
+pub fn open(scope: &mut Scope<Breach>, t: TypeNo) -> Result<(), AllocError>
     ensures { OnOk result (scope.new ≡ opened scope.old t) }
 {
     let number = scope.withs.len();
@@ -210,7 +211,7 @@ pub fn open(scope: &mut Scope<Fault>, t: TypeNo) -> Result<(), AllocError>
 
 /// Takes back what was opened last.
 #[tactic(auto, using(crate::proofs::Closing::front_push))]
-pub fn close(scope: &mut Scope<Fault>)
+pub fn close(scope: &mut Scope<Breach>)
     ensures { scope.new ≡ closed scope.old }
 {
     let _last = scope.withs.pop();

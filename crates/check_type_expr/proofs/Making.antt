@@ -11,7 +11,7 @@ use Rattle.m2_tree.specs.declared.decl.TypeExpr.{TypeExpr, TypeExpr-F, out-TypeE
 use Rattle.m2_tree.specs.declared.decl.TypeExpr.TheOpen as layer
 use Rattle.m2_tree.specs.declared.decl.TypeExpr.TheVariants as type
 use Rattle.m2_tree.specs.declared.decl.Field.{Field, Field-F, out-Field, fold_out-Field}
-use Rattle.check_scope.specs.declared.fault.Fault.{Fault}
+use Rattle.m2_rule.specs.declared.breach.Breach.{Breach}
 use Rattle.check_scope.specs.declared.scope.Scope.{Scope}
 use Rattle.check_scope.specs.Elaborated.{least}
 use Rattle.check_type_expr.specs.declared.field.Fields.{Fields}
@@ -19,13 +19,13 @@ use Rattle.check_type_expr.specs.Fields.{no_fields}
 use Rattle.check_type_expr.specs.Headings.{procedure_type}
 use Rattle.check_type_expr.specs.Made.{Makes, MakesFields, simple_type, index_type, array_type, then_fields, with_field_list, record_type, fields_named, type_layer, field_layer, type_of, field_list, with_made}
 
-at : (s : Scope Fault) (e : TypeExpr) (x : TypeExpr-F TypeExpr Field) → out-TypeExpr e ≡ x
+at : (s : Scope Breach) (e : TypeExpr) (x : TypeExpr-F TypeExpr Field) → out-TypeExpr e ≡ x
     → type_of least e s ≡ type_layer least (map-TypeExpr TypeExpr Field (Makes least) (MakesFields least) (type_of least) (field_list least) x) s
 unfolding type_of field_list
 at s e x h = ap (λ (f : Makes least). f s) (fold_out-TypeExpr (Makes least) (MakesFields least) (type_layer least) (field_layer least) e
     ∙ ap (λ (y : TypeExpr-F TypeExpr Field). type_layer least (map-TypeExpr TypeExpr Field (Makes least) (MakesFields least) (type_of least) (field_list least) y)) h)
 
-module _ (s : Scope Fault) where
+module _ (s : Scope Breach) where
   pub makes_Simple : (t : Simple) → type_of least (type.Simple t) s ≡ simple_type least s t
   makes_Simple t = at s (type.Simple t) (layer.Simple t) (type.outs-Simple t)
 
@@ -40,7 +40,7 @@ module _ (s : Scope Fault) where
   makes_Procedure p ps None = at s (type.Procedure p ps None) (layer.Procedure p ps None) (type.outs-Procedure p ps None)
   makes_Procedure p ps (Some q) = at s (type.Procedure p ps (Some q)) (layer.Procedure p ps (Some q)) (type.outs-Procedure p ps (Some q))
 
-pub makes_field : (f : Field) (st : Scope Fault × Fields × Result (Unit {0}) Fault) → field_list least f st ≡ fields_named least (type_of least (out-Field f).of st.0) (out-Field f).names st.1 st.2
+pub makes_field : (f : Field) (st : Scope Breach × Fields × Result (Unit {0}) Breach) → field_list least f st ≡ fields_named least (type_of least (out-Field f).of st.0) (out-Field f).names st.1 st.2
 unfolding type_of field_list
 makes_field f st = ap (λ (m : MakesFields least). m st) (fold_out-Field (Makes least) (MakesFields least) (type_layer least) (field_layer least) f)
 

@@ -7,22 +7,23 @@ ghost use Rattle.check_type_expr.specs.Headings.{formal_of, result_in, result_of
 
 use crate::field::{Fields, no_fields, with_names};
 use crate::named::{first_of, named_type};
-use check_scope::{Elaborated, Fault, Scope, both, reported};
-use m2_rule::Rule;
-use m2_tree::{FormalType, Heading, Ident, Items, Parameter, Pos, Qualified, Section};
+use check_scope::{Elaborated, Scope, both, reported};
+use m2_rule::{Breach, Rule};
+use m2_tree::{FormalType, Heading, Ident, Parameter, Pos, Qualified, Section};
 use std::alloc::{AllocError, Global};
+use tree_parts::Items;
 use typed_tree::{Formal, INTEGER, Made, Shape, Signature, TypeNo, Types, is_result};
 
 /// A formal, from what stands before its names and its type.
 pub fn formal_of(
-    scope: &Scope<Fault>,
+    scope: &Scope<Breach>,
     is_var: bool,
     of: &FormalType,
 ) -> Result<Elaborated<Formal>, AllocError>
     ensures { IfOk result (λ f. f ≡ formal_of least scope.now is_var of.now) }
 {
     match named_type(scope, &of.of)? {
-        Err(fault) => Ok(Err(fault)),
+        Err(breach) => Ok(Err(breach)),
         Ok(t) => Ok(Ok(Formal {
             is_var,
             is_open: of.is_open,
@@ -42,7 +43,7 @@ fn result_in(types: &Types, at: Pos, t: TypeNo) -> Elaborated<Option<TypeNo>>
 
 /// What a procedure gives, if it gives something.
 pub fn result_of(
-    scope: &Scope<Fault>,
+    scope: &Scope<Breach>,
     of: &Option<Qualified>,
 ) -> Result<Elaborated<Option<TypeNo>>, AllocError>
     ensures { IfOk result (λ t. t ≡ result_of least scope.now of.now) }
@@ -50,7 +51,7 @@ pub fn result_of(
     match of {
         None => Ok(Ok(None)),
         Some(q) => match named_type(scope, q)? {
-            Err(fault) => Ok(Err(fault)),
+            Err(breach) => Ok(Err(breach)),
             Ok(t) => Ok(result_in(&scope.types, first_of(q), t)),
         },
     }
@@ -63,7 +64,7 @@ fn joined_formal(
     ensures { IfOk result (λ fs. fs ≡ joined_formal least formals formal) }
 {
     match both(formals, formal) {
-        Err(fault) => Ok(Err(fault)),
+        Err(breach) => Ok(Err(breach)),
         Ok((mut all, one)) => {
             all.push(one)?;
             Ok(Ok(all))
@@ -73,7 +74,7 @@ fn joined_formal(
 
 fn parameters(
     alloc: Global,
-    scope: &Scope<Fault>,
+    scope: &Scope<Breach>,
     list: &[Parameter],
 ) -> Result<Elaborated<Items<Formal>>, AllocError>
     ensures { IfOk result (λ fs. fs ≡ fold (with_parameter least scope.now) (Ok []) list.now) }
@@ -105,7 +106,7 @@ fn joined_formals(
     ensures { IfOk result (λ fs. fs ≡ joined_formals least formals formal names.now) }
 {
     match both(formals, formal) {
-        Err(fault) => Ok(Err(fault)),
+        Err(breach) => Ok(Err(breach)),
         Ok((mut all, one)) => {
             all.append(repeated(alloc, one, names)?)?;
             Ok(Ok(all))
@@ -116,7 +117,7 @@ fn joined_formals(
 /// One more section of formals.
 fn with_section(
     alloc: Global,
-    scope: &Scope<Fault>,
+    scope: &Scope<Breach>,
     formals: Elaborated<Items<Formal>>,
     section: &Section,
 ) -> Result<Elaborated<Items<Formal>>, AllocError>
@@ -128,7 +129,7 @@ fn with_section(
 
 fn sections(
     alloc: Global,
-    scope: &Scope<Fault>,
+    scope: &Scope<Breach>,
     list: &[Section],
 ) -> Result<Elaborated<Items<Formal>>, AllocError>
     ensures { IfOk result (λ fs. fs ≡ fold (with_section least scope.now) (Ok []) list.now) }
@@ -147,7 +148,7 @@ fn procedure_made(
     ensures { result ≡ procedure_made least formals of }
 {
     match both(formals, of) {
-        Err(fault) => Err(fault),
+        Err(breach) => Err(breach),
         Ok((formals, result)) => Ok(Made {
             shape: Shape::Procedure(Signature { formals, result }),
             cells: 1,
@@ -158,7 +159,7 @@ fn procedure_made(
 /// The type of a procedure with this heading, whatever the names of its formals.
 pub fn heading_of(
     alloc: Global,
-    scope: &Scope<Fault>,
+    scope: &Scope<Breach>,
     heading: &Heading,
 ) -> Result<Elaborated<Made>, AllocError>
     ensures { IfOk result (λ m. m ≡ heading_of least scope.now heading.now) }
@@ -190,7 +191,7 @@ pub fn names_of(alloc: Global, heading: &Heading) -> Result<Elaborated<()>, Allo
 /// A procedure type.
 pub fn procedure_type(
     alloc: Global,
-    scope: &Scope<Fault>,
+    scope: &Scope<Breach>,
     list: &[Parameter],
     of: &Option<Qualified>,
 ) -> Result<Elaborated<Made>, AllocError>

@@ -13,8 +13,8 @@ use crate::named::{first_of, named_type};
 use crate::subrange::{bound_of, under, unnamed};
 use check_const_ops::Ordinal;
 use check_expr::{constant_of, place_of};
-use check_scope::{Elaborated, Fault, Scope, beside, both, declare, reported};
-use m2_rule::Rule;
+use check_scope::{Elaborated, Scope, beside, both, declare, reported};
+use m2_rule::{Breach, Rule};
 use m2_tree::{Expr, Field, Ident, Pos, Qualified, Simple, TypeExpr};
 use std::alloc::{AllocError, Global};
 use typed_tree::{
@@ -24,13 +24,13 @@ use typed_tree::{
 
 /// Makes a type.
 pub fn with_made(
-    scope: &mut Scope<Fault>,
+    scope: &mut Scope<Breach>,
     made: Elaborated<Made>,
 ) -> Result<Elaborated<TypeNo>, AllocError>
     ensures { IfOk result (λ t. (scope.new, t) ≡ with_made scope.old made) }
 {
     match made {
-        Err(fault) => Ok(Err(fault)),
+        Err(breach) => Ok(Err(breach)),
         Ok(made) => {
             let t = TypeNo {
                 home: Home::Module(scope.types.home),
@@ -46,7 +46,7 @@ fn scalar_made(scalar: Elaborated<Scalar>) -> Elaborated<Made>
     ensures { result ≡ scalar_made scalar }
 {
     match scalar {
-        Err(fault) => Err(fault),
+        Err(breach) => Err(breach),
         Ok(scalar) => Ok(Made {
             shape: Shape::Scalar(scalar),
             cells: 1,
@@ -78,7 +78,7 @@ fn enumeration_constant(t: TypeNo, number: i64) -> Meaning
 
 fn enumerated(
     alloc: Global,
-    scope: &mut Scope<Fault>,
+    scope: &mut Scope<Breach>,
     t: TypeNo,
     before: Elaborated<()>,
     names: &[Ident],
@@ -98,7 +98,7 @@ fn of_type(elaborated: Elaborated<()>, t: TypeNo) -> Elaborated<TypeNo>
     ensures { result ≡ elaborated ▷ λ fine. Ok t }
 {
     match elaborated {
-        Err(fault) => Err(fault),
+        Err(breach) => Err(breach),
         Ok(()) => Ok(t),
     }
 }
@@ -118,7 +118,7 @@ fn enumeration_scalar(t: TypeNo, names: &[Ident]) -> Made
 
 fn enumeration(
     alloc: Global,
-    scope: &mut Scope<Fault>,
+    scope: &mut Scope<Breach>,
     names: &[Ident],
 ) -> Result<Elaborated<TypeNo>, AllocError>
     ensures { IfOk result (λ t. (scope.new, t) ≡ enumeration least scope.old names.now) }
@@ -138,7 +138,7 @@ fn scalar_in(types: &Types, at: Pos, t: Elaborated<TypeNo>) -> Elaborated<Scalar
     ensures { result ≡ scalar_in least types.now at t }
 {
     match t {
-        Err(fault) => Err(fault),
+        Err(breach) => Err(breach),
         Ok(t) => match scalar_of(types, t) {
             None => reported(at, Rule::NoType),
             Some(scalar) => Ok(scalar),
@@ -147,7 +147,7 @@ fn scalar_in(types: &Types, at: Pos, t: Elaborated<TypeNo>) -> Elaborated<Scalar
 }
 
 /// The scalar type of a subrange's name.
-fn scalar_named(scope: &Scope<Fault>, q: &Qualified) -> Result<Elaborated<Scalar>, AllocError>
+fn scalar_named(scope: &Scope<Breach>, q: &Qualified) -> Result<Elaborated<Scalar>, AllocError>
     ensures { IfOk result (λ s. s ≡ scalar_named least scope.now q.now) }
 {
     let t = named_type(scope, q)?;
@@ -156,7 +156,7 @@ fn scalar_named(scope: &Scope<Fault>, q: &Qualified) -> Result<Elaborated<Scalar
 
 fn bound_at(
     alloc: Global,
-    scope: &Scope<Fault>,
+    scope: &Scope<Breach>,
     e: &Expr,
 ) -> Result<Elaborated<Ordinal>, AllocError>
     ensures { IfOk result (λ a. a ≡ bound_at least scope.now (part least e.now)) }
@@ -167,7 +167,7 @@ fn bound_at(
 
 fn subrange(
     alloc: Global,
-    scope: &Scope<Fault>,
+    scope: &Scope<Breach>,
     of: &Option<Qualified>,
     low: &Expr,
     high: &Expr,
@@ -208,7 +208,7 @@ fn subrange_place(of: &Option<Qualified>, at: Pos) -> Pos
 
 fn simple_type(
     alloc: Global,
-    scope: &mut Scope<Fault>,
+    scope: &mut Scope<Breach>,
     t: &Simple,
 ) -> Result<Elaborated<TypeNo>, AllocError>
     ensures { IfOk result (λ j. (scope.new, j) ≡ simple_type least scope.old t.now) }
@@ -229,7 +229,7 @@ fn index_in(types: &Types, at: Pos, t: Elaborated<TypeNo>) -> Elaborated<TypeNo>
     ensures { result ≡ index_in least types.now at t }
 {
     match t {
-        Err(fault) => Err(fault),
+        Err(breach) => Err(breach),
         Ok(t) => {
             if !is_index(types, t) {
                 return reported(at, Rule::NoIndex);
@@ -243,7 +243,7 @@ fn array_in(types: &Types, at: Pos, index: TypeNo, element: TypeNo) -> Elaborate
     ensures { result ≡ array_in least types.now at index element }
 {
     match array_cells(at, count_at(types, index), cells_of(types, element)) {
-        Err(fault) => Err(fault),
+        Err(breach) => Err(breach),
         Ok(cells) => Ok(Made {
             shape: Shape::Array(index, element),
             cells,
@@ -260,7 +260,7 @@ fn array_of(
     ensures { result ≡ array_of least types.now at index element }
 {
     match both(index, element) {
-        Err(fault) => Err(fault),
+        Err(breach) => Err(breach),
         Ok((i, e)) => array_in(types, at, i, e),
     }
 }
@@ -268,7 +268,7 @@ fn array_of(
 /// The type of an index.
 fn index_type(
     alloc: Global,
-    scope: &mut Scope<Fault>,
+    scope: &mut Scope<Breach>,
     t: &Simple,
 ) -> Result<Elaborated<TypeNo>, AllocError>
     ensures { IfOk result (λ j. (scope.new, j) ≡ index_type least scope.old t.now) }
@@ -278,7 +278,7 @@ fn index_type(
 }
 
 fn array_made(
-    scope: &mut Scope<Fault>,
+    scope: &mut Scope<Breach>,
     at: Pos,
     index: Elaborated<TypeNo>,
     element: Elaborated<TypeNo>,
@@ -306,7 +306,7 @@ pub fn nothing_of(t: Elaborated<TypeNo>) -> Elaborated<()>
     ensures { result ≡ nothing_of t }
 {
     match t {
-        Err(fault) => Err(fault),
+        Err(breach) => Err(breach),
         Ok(_) => Ok(()),
     }
 }
@@ -327,7 +327,7 @@ fn record_of(at: Pos, fields: Fields, elaborated: Elaborated<()>) -> Elaborated<
     ensures { result ≡ record_of least at fields elaborated }
 {
     match elaborated {
-        Err(fault) => Err(fault),
+        Err(breach) => Err(breach),
         Ok(()) => record_in(at, fields),
     }
 }
@@ -339,7 +339,7 @@ fn record_of(at: Pos, fields: Fields, elaborated: Elaborated<()>) -> Elaborated<
 #[tactic(auto, using(crate::proofs::Making::types))]
 pub fn type_of(
     alloc: Global,
-    scope: &mut Scope<Fault>,
+    scope: &mut Scope<Breach>,
     t: &TypeExpr,
 ) -> Result<Elaborated<TypeNo>, AllocError>
     ensures { IfOk result (λ j. (scope.new, j) ≡ type_of least t.now scope.old) }
@@ -366,7 +366,7 @@ pub fn type_of(
 #[cycle(types)]
 fn fields_of(
     alloc: Global,
-    scope: &mut Scope<Fault>,
+    scope: &mut Scope<Breach>,
     fields: &mut Fields,
     list: &[Field],
 ) -> Result<Elaborated<()>, AllocError>
@@ -383,7 +383,7 @@ fn fields_of(
 #[tactic(auto, using(crate::proofs::Making::types))]
 fn field_list(
     alloc: Global,
-    scope: &mut Scope<Fault>,
+    scope: &mut Scope<Breach>,
     fields: &mut Fields,
     before: Elaborated<()>,
     field: &Field,

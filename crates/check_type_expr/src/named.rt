@@ -5,8 +5,8 @@ ghost use Rattle.check_scope.specs.Elaborated.{least, ◌▷◌};
 ghost use Rattle.check_type_expr.specs.Named.{first_of, type_meant, in_module, of_module, named_type};
 
 use check_const::member;
-use check_scope::{Elaborated, Fault, Scope, looked_up, of_sort, reported};
-use m2_rule::Rule;
+use check_scope::{Elaborated, Scope, looked_up, of_sort, reported};
+use m2_rule::{Breach, Rule};
 use m2_tree::{Ident, Pos, Qualified};
 use std::alloc::AllocError;
 use typed_tree::{Meaning, TypeNo};
@@ -42,13 +42,13 @@ fn type_by(at: Pos, meaning: Elaborated<Meaning>) -> Elaborated<TypeNo>
     ensures { result ≡ meaning ▷ type_meant least at }
 {
     match meaning {
-        Err(fault) => Err(fault),
+        Err(breach) => Err(breach),
         Ok(meaning) => type_meant(at, meaning),
     }
 }
 
 fn in_module(
-    scope: &Scope<Fault>,
+    scope: &Scope<Breach>,
     at: Pos,
     name: &Ident,
     meaning: Meaning,
@@ -70,7 +70,7 @@ fn in_module(
 }
 
 /// The type of this name.
-pub fn named_type(scope: &Scope<Fault>, q: &Qualified) -> Result<Elaborated<TypeNo>, AllocError>
+pub fn named_type(scope: &Scope<Breach>, q: &Qualified) -> Result<Elaborated<TypeNo>, AllocError>
     ensures { IfOk result (λ t. t ≡ named_type least scope.now q.now) }
 {
     match &q.module {
@@ -79,7 +79,7 @@ pub fn named_type(scope: &Scope<Fault>, q: &Qualified) -> Result<Elaborated<Type
             of_sort(q.name.pos, Rule::NoType, looked_up(scope, &q.name)?),
         )),
         Some(home) => match of_sort(home.pos, Rule::NoType, looked_up(scope, home)?) {
-            Err(fault) => Ok(Err(fault)),
+            Err(breach) => Ok(Err(breach)),
             Ok(meaning) => in_module(scope, home.pos, &q.name, meaning),
         },
     }

@@ -25,7 +25,7 @@ pub fn bound_of(at: Pos, value: Elaborated<Value>) -> Elaborated<Ordinal>
     ensures { result ≡ bound_of least at value }
 {
     match value {
-        Err(fault) => Err(fault),
+        Err(breach) => Err(breach),
         Ok(value) => ordinal_in(at, operand_of(&value)),
     }
 }
@@ -84,7 +84,7 @@ fn between(
             let base = base_of(sort, a.number);
             let fit = beside(fits_at(at, base, a), fits_at(high_at, base, b));
             match beside(ordered(at, a.number, b.number), fit) {
-                Err(fault) => Err(fault),
+                Err(breach) => Err(breach),
                 Ok(()) => Ok(Scalar {
                     base,
                     low: a.number,
@@ -105,7 +105,7 @@ pub fn unnamed(
     ensures { result ≡ unnamed least at low high_at high }
 {
     match both(low, high) {
-        Err(fault) => Err(fault),
+        Err(breach) => Err(breach),
         Ok((a, b)) => between(at, a, high_at, b, common(a.sort, b.sort)),
     }
 }
@@ -136,7 +136,7 @@ fn bound_in(of: Elaborated<Scalar>, at: Pos, a: Elaborated<Ordinal>) -> Elaborat
     ensures { result ≡ bound_in least of at a }
 {
     match both(of, a) {
-        Err(fault) => Err(fault),
+        Err(breach) => Err(breach),
         Ok((of, a)) => is_of(of, at, a),
     }
 }
@@ -146,7 +146,7 @@ fn alike_ordered(at: Pos, low: Elaborated<Ordinal>, high: Elaborated<Ordinal>) -
     ensures { result ≡ alike_ordered least at low high }
 {
     match both(low, high) {
-        Err(fault) => Err(fault),
+        Err(breach) => Err(breach),
         Ok((a, b)) => match common(a.sort, b.sort) {
             None => Ok(()),
             Some(_) => ordered(at, a.number, b.number),
@@ -174,7 +174,7 @@ fn limited(
     ensures { result ≡ limited least parts fine }
 {
     match both(parts, fine) {
-        Err(fault) => Err(fault),
+        Err(breach) => Err(breach),
         Ok(((of, (a, b)), ())) => Ok(Scalar {
             base: of.base,
             low: a.number,

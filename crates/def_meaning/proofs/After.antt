@@ -2,7 +2,8 @@
 use Rattle.std.proofs.Common.{ℕ, Bool, true, false, List, [], ◌++◌, refl, sym, ap, ◌∙◌, append_assoc}
 use Rattle.std.specs.Prelude.{if◌then◌else◌}
 use Rattle.std.proofs.lemmas.List.{append-nil}
-use Rattle.def_meaning.specs.Answer.{State, Answer, Gave, Ended, Running, then_give, Outcome, Went, Left, Came, Stopped, Unfinished, then_go, with_answer}
+use Rattle.def_meaning.specs.Answer.{State, Answer, Value, ◌▷◌, Ended, StillRunning}
+use Rattle.def_meaning.specs.Outcome.{Outcome, Normal, Exited, Returned, then_go}
 use Rattle.def_meaning.specs.Statements.{loop_left}
 use Rattle.def_meaning.specs.Calls.{at_end, result}
 use Rattle.def_meaning.specs.Runs.{then_body}
@@ -22,17 +23,17 @@ joined {xs = xs} b c = record { more = b.more ++ c.more; rest = sym (append_asso
 -- ---- the ends of expressions and of statements, where this was printed before
 
 abbrev pub reported : {A : Type 0} → Answer A → List ℕ
-reported (Gave v st) = st.out
+reported (Value v st) = st.out
 reported (Ended k out) = out
-reported (Running out) = out
+reported (StillRunning out) = out
 
 pub data Later {A : Type 0} (out : List ℕ) : Answer A → Answer A → Type 0 where
   alike : (x : Answer A) → Begins out (reported x) → Later out x x
-  going : (more : List ℕ) (x : Answer A) → Begins out more → Begins more (reported x) → Later out (Running more) x
+  going : (more : List ℕ) (x : Answer A) → Begins out more → Begins more (reported x) → Later out (StillRunning more) x
 
 pub data After (out : List ℕ) : Outcome → Outcome → Type 0 where
   same : (x : Outcome) → Begins out (printed x) → After out x x
-  open_yet : (more : List ℕ) (x : Outcome) → Begins out more → Begins more (printed x) → After out (Unfinished more) x
+  open_yet : (more : List ℕ) (x : Outcome) → Begins out more → Begins more (printed x) → After out (StillRunning more) x
 
 -- ---- the second of both
 
@@ -55,73 +56,73 @@ before d (open_yet more x b c) = open_yet more x (joined d b) c
 -- ---- one after the other
 
 module _ {A B : Type 0} {f g : A → State → Answer B} (k : (v : A) (st : State) → Later st.out (f v st) (g v st)) where
-  reported_on : {more : List ℕ} (x : Answer A) → Begins more (reported x) → Begins more (reported (then_give x g))
-  reported_on (Gave v st) b = joined b (reported_later (k v st))
+  reported_on : {more : List ℕ} (x : Answer A) → Begins more (reported x) → Begins more (reported (x ▷ g))
+  reported_on (Value v st) b = joined b (reported_later (k v st))
   reported_on (Ended n out) b = b
-  reported_on (Running out) b = b
+  reported_on (StillRunning out) b = b
 
-  pub then_later : {out : List ℕ} {x y : Answer A} → Later out x y → Later out (then_give x f) (then_give y g)
-  then_later (alike (Gave v st) b) = earlier b (k v st)
+  pub then_later : {out : List ℕ} {x y : Answer A} → Later out x y → Later out (x ▷ f) (y ▷ g)
+  then_later (alike (Value v st) b) = earlier b (k v st)
   then_later (alike (Ended n out) b) = alike (Ended n out) b
-  then_later (alike (Running out) b) = alike (Running out) b
-  then_later (going more x b c) = going more (then_give x g) b (reported_on x c)
+  then_later (alike (StillRunning out) b) = alike (StillRunning out) b
+  then_later (going more x b c) = going more (x ▷ g) b (reported_on x c)
 
 module _ {A : Type 0} {f g : A → State → Outcome} (k : (v : A) (st : State) → After st.out (f v st) (g v st)) where
-  answered_on : {more : List ℕ} (x : Answer A) → Begins more (reported x) → Begins more (printed (with_answer x g))
-  answered_on (Gave v st) b = joined b (printed_later (k v st))
+  answered_on : {more : List ℕ} (x : Answer A) → Begins more (reported x) → Begins more (printed (x ▷ g))
+  answered_on (Value v st) b = joined b (printed_later (k v st))
   answered_on (Ended n out) b = b
-  answered_on (Running out) b = b
+  answered_on (StillRunning out) b = b
 
-  pub with_later : {out : List ℕ} {x y : Answer A} → Later out x y → After out (with_answer x f) (with_answer y g)
-  with_later (alike (Gave v st) b) = before b (k v st)
-  with_later (alike (Ended n out) b) = same (Stopped n out) b
-  with_later (alike (Running out) b) = same (Unfinished out) b
-  with_later (going more x b c) = open_yet more (with_answer x g) b (answered_on x c)
+  pub with_later : {out : List ℕ} {x y : Answer A} → Later out x y → After out (x ▷ f) (y ▷ g)
+  with_later (alike (Value v st) b) = before b (k v st)
+  with_later (alike (Ended n out) b) = same (Ended n out) b
+  with_later (alike (StillRunning out) b) = same (StillRunning out) b
+  with_later (going more x b c) = open_yet more (x ▷ g) b (answered_on x c)
 
 module _ {f g : State → Outcome} (k : (st : State) → After st.out (f st) (g st)) where
   go_on : {more : List ℕ} (x : Outcome) → Begins more (printed x) → Begins more (printed (then_go x g))
-  go_on (Went st) b = joined b (printed_later (k st))
-  go_on (Left st) b = b
-  go_on (Came v st) b = b
-  go_on (Stopped n out) b = b
-  go_on (Unfinished out) b = b
+  go_on (Value Normal st) b = joined b (printed_later (k st))
+  go_on (Value Exited st) b = b
+  go_on (Value (Returned v) st) b = b
+  go_on (Ended n out) b = b
+  go_on (StillRunning out) b = b
 
   pub go_later : {out : List ℕ} {x y : Outcome} → After out x y → After out (then_go x f) (then_go y g)
-  go_later (same (Went st) b) = before b (k st)
-  go_later (same (Left st) b) = same (Left st) b
-  go_later (same (Came v st) b) = same (Came v st) b
-  go_later (same (Stopped n out) b) = same (Stopped n out) b
-  go_later (same (Unfinished out) b) = same (Unfinished out) b
+  go_later (same (Value Normal st) b) = before b (k st)
+  go_later (same (Value Exited st) b) = same (Value Exited st) b
+  go_later (same (Value (Returned v) st) b) = same (Value (Returned v) st) b
+  go_later (same (Ended n out) b) = same (Ended n out) b
+  go_later (same (StillRunning out) b) = same (StillRunning out) b
   go_later (open_yet more x b c) = open_yet more (then_go x g) b (go_on x c)
 
   left_on : {more : List ℕ} (x : Outcome) → Begins more (printed x) → Begins more (printed (loop_left x g))
-  left_on (Went st) b = joined b (printed_later (k st))
-  left_on (Left st) b = b
-  left_on (Came v st) b = b
-  left_on (Stopped n out) b = b
-  left_on (Unfinished out) b = b
+  left_on (Value Normal st) b = joined b (printed_later (k st))
+  left_on (Value Exited st) b = b
+  left_on (Value (Returned v) st) b = b
+  left_on (Ended n out) b = b
+  left_on (StillRunning out) b = b
 
   pub left_later : {out : List ℕ} {x y : Outcome} → After out x y → After out (loop_left x f) (loop_left y g)
-  left_later (same (Went st) b) = before b (k st)
-  left_later (same (Left st) b) = same (Went st) b
-  left_later (same (Came v st) b) = same (Came v st) b
-  left_later (same (Stopped n out) b) = same (Stopped n out) b
-  left_later (same (Unfinished out) b) = same (Unfinished out) b
+  left_later (same (Value Normal st) b) = before b (k st)
+  left_later (same (Value Exited st) b) = same (Value Normal st) b
+  left_later (same (Value (Returned v) st) b) = same (Value (Returned v) st) b
+  left_later (same (Ended n out) b) = same (Ended n out) b
+  left_later (same (StillRunning out) b) = same (StillRunning out) b
   left_later (open_yet more x b c) = open_yet more (loop_left x g) b (left_on x c)
 
   body_on : {more : List ℕ} (x : Outcome) → Begins more (printed x) → Begins more (printed (then_body x g))
-  body_on (Went st) b = joined b (printed_later (k st))
-  body_on (Left st) b = joined b (printed_later (k st))
-  body_on (Came v st) b = joined b (printed_later (k st))
-  body_on (Stopped n out) b = b
-  body_on (Unfinished out) b = b
+  body_on (Value Normal st) b = joined b (printed_later (k st))
+  body_on (Value Exited st) b = joined b (printed_later (k st))
+  body_on (Value (Returned v) st) b = joined b (printed_later (k st))
+  body_on (Ended n out) b = b
+  body_on (StillRunning out) b = b
 
   pub body_later : {out : List ℕ} {x y : Outcome} → After out x y → After out (then_body x f) (then_body y g)
-  body_later (same (Went st) b) = before b (k st)
-  body_later (same (Left st) b) = before b (k st)
-  body_later (same (Came v st) b) = before b (k st)
-  body_later (same (Stopped n out) b) = same (Stopped n out) b
-  body_later (same (Unfinished out) b) = same (Unfinished out) b
+  body_later (same (Value Normal st) b) = before b (k st)
+  body_later (same (Value Exited st) b) = before b (k st)
+  body_later (same (Value (Returned v) st) b) = before b (k st)
+  body_later (same (Ended n out) b) = same (Ended n out) b
+  body_later (same (StillRunning out) b) = same (StillRunning out) b
   body_later (open_yet more x b c) = open_yet more (then_body x g) b (body_on x c)
 
 -- ---- results of functions
@@ -131,11 +132,11 @@ end_reported true st = begins st.out
 end_reported false st = begins st.out
 
 result_reported : {more : List ℕ} (function : Bool) (x : Outcome) → Begins more (printed x) → Begins more (reported (result function x))
-result_reported function (Went st) b = joined b (end_reported function st)
-result_reported function (Left st) b = joined b (end_reported function st)
-result_reported function (Came v st) b = b
-result_reported function (Stopped n out) b = b
-result_reported function (Unfinished out) b = b
+result_reported function (Value Normal st) b = joined b (end_reported function st)
+result_reported function (Value Exited st) b = joined b (end_reported function st)
+result_reported function (Value (Returned v) st) b = b
+result_reported function (Ended n out) b = b
+result_reported function (StillRunning out) b = b
 
 pub result_later : {out : List ℕ} {x y : Outcome} (function : Bool) → After out x y → Later out (result function x) (result function y)
 result_later function (same x b) = alike (result function x) (result_reported function x b)
@@ -152,11 +153,11 @@ if_after true p q = p
 if_after false p q = q
 
 -- what is at once given, and what ends at once
-pub gave : {A : Type 0} (v : A) (st : State) → Later st.out (Gave v st) (Gave v st)
-gave v st = alike (Gave v st) (begins st.out)
+pub gave : {A : Type 0} (v : A) (st : State) → Later st.out (Value v st) (Value v st)
+gave v st = alike (Value v st) (begins st.out)
 
 pub ended : {A : Type 0} (k : ℕ) (out : List ℕ) → Later {A = A} out (Ended k out) (Ended k out)
 ended k out = alike (Ended k out) (begins out)
 
-pub went : (st : State) → After st.out (Went st) (Went st)
-went st = same (Went st) (begins st.out)
+pub went : (st : State) → After st.out (Value Normal st) (Value Normal st)
+went st = same (Value Normal st) (begins st.out)

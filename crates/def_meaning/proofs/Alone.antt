@@ -16,16 +16,16 @@ use Rattle.typed_tree.specs.declared.known_types.Types.{Types}
 use Rattle.typed_tree.specs.Types.{integer}
 use Rattle.typed_tree.specs.Known.{scalar_at}
 use Rattle.def_meaning.specs.Store.{Location}
-use Rattle.def_meaning.specs.Answer.{State, Answer, Gave, then_give, range_fault, overflow, divisor_fault, index_fault}
+use Rattle.def_meaning.specs.Answer.{State, Answer, Value, ◌▷◌, range_fault, overflow, divisor_fault, index_fault}
 use Rattle.def_meaning.specs.Operators.{is_between, truth, is_true, compared, combined, included, has, absolute, capital, odd, quotient, remainder}
-use Rattle.def_meaning.specs.Around.{Modules, Around, location_of, high_of, named}
+use Rattle.def_meaning.specs.Environment.{Modules, Environment, location_of, high_of, named}
 use Rattle.def_meaning.specs.Expressions.{Asks, Gives, one_by_one, within, within_range, as_type, in_base, index_range, element, element_in, divided, operated, ordinal, root_layer, component_layer, link_layer, place_layer, expr_layer, value, locate}
 use Rattle.def_meaning.specs.Calm.{argument_calls, call_calls, component_calls, any_calls, link_calls, place_calls, expr_calls, calls, calls_at, Leaves, gives, ends, ChangesNothing, FindsAlone}
 use Rattle.def_meaning.proofs.Evaluated.{opened, opened_place, opened_component, opened_link, reached, continued, at_place, at_expr, at_component, at_link}
 
 -- ---- one after the other, and choices
 
-then_leaves : {A B : Type 0} {st : State} {x : Answer A} {f : A → State → Answer B} → ((v : A) (st : State) → Leaves st (f v st)) → Leaves st x → Leaves st (then_give x f)
+then_leaves : {A B : Type 0} {st : State} {x : Answer A} {f : A → State → Answer B} → ((v : A) (st : State) → Leaves st (f v st)) → Leaves st x → Leaves st (x ▷ f)
 then_leaves {st = st} k (gives v) = k v st
 then_leaves k (ends n) = ends n
 
@@ -119,14 +119,14 @@ neither true b h = cc h
 neither false b h = (refl, h)
 
 record GivesAlone {A : Type 0} (g : Gives A) : Type 0 where
-  at : (a : Around) (st : State) → Leaves st (g a st)
+  at : (a : Environment) (st : State) → Leaves st (g a st)
 
 -- the same of what goes on from a value
 record GoesAlone {A : Type 0} (f : A → Gives A) : Type 0 where
-  from : (x : A) (a : Around) (st : State) → Leaves st (f x a st)
+  from : (x : A) (a : Environment) (st : State) → Leaves st (f x a st)
 
 one_leaves : {A X : Type 0} (f : X → A → Gives A) (c : X → Bool) (xs : List ((x : X) × (c x ≡ false → GoesAlone (f x)))) → any_calls (map c (map (λ x. x.0) xs)) ≡ false
-    → (v : A) (a : Around) (st : State) → Leaves st (one_by_one (map f (map (λ x. x.0) xs)) v a st)
+    → (v : A) (a : Environment) (st : State) → Leaves st (one_by_one (map f (map (λ x. x.0) xs)) v a st)
 one_leaves f c [] h v a st = gives v
 one_leaves f c (x ∷ xs) h v a st = let n = neither (c x.0) (any_calls (map c (map (λ x. x.0) xs))) h in then_leaves (λ w st. one_leaves f c xs n.1 w a st) ((x.1 n.0).from v a st)
 
@@ -202,10 +202,10 @@ module _ (p : Modules) (ask : Asks) where
   chain_alone : (e : SE) (ls : List SL) → (calls e.0 ≡ false) × (any_calls (map calls_linked (map (λ x. x.0) ls)) ≡ false) → GivesAlone (expr_layer p ask (opened p ask (bare (layer.Chain e ls))))
   chain_alone e ls n = record { at = λ a st. then_leaves (λ v st. one_leaves (continued p ask) calls_linked ls n.1 v a st) ((e.1 n.0).at a st) }
 
-  unary : {g : Gives ℤ} (f : Around → ℤ → State → Answer ℤ) → ((a : Around) (v : ℤ) (st : State) → Leaves st (f a v st)) → GivesAlone g → GivesAlone (λ a st. then_give (g a st) (f a))
+  unary : {g : Gives ℤ} (f : Environment → ℤ → State → Answer ℤ) → ((a : Environment) (v : ℤ) (st : State) → Leaves st (f a v st)) → GivesAlone g → GivesAlone (λ a st. g a st ▷ (f a))
   unary f h e = record { at = λ a st. then_leaves (λ v st. h a v st) (e.at a st) }
 
-  two : {g g' : Gives ℤ} (f : Around → ℤ → ℤ → State → Answer ℤ) → ((a : Around) (v w : ℤ) (st : State) → Leaves st (f a v w st)) → GivesAlone g → GivesAlone g' → GivesAlone (λ a st. then_give (g a st) (λ v st. then_give (g' a st) (λ w st. f a v w st)))
+  two : {g g' : Gives ℤ} (f : Environment → ℤ → ℤ → State → Answer ℤ) → ((a : Environment) (v w : ℤ) (st : State) → Leaves st (f a v w st)) → GivesAlone g → GivesAlone g' → GivesAlone (λ a st. g a st ▷ λ v st. g' a st ▷ λ w st. f a v w st)
   two f h e e' = record { at = λ a st. then_leaves (λ v st. then_leaves (λ w st. h a v w st) (e'.at a st)) (e.at a st) }
 
   both : (e e' : SE) → (calls e.0 || calls e'.0) ≡ false → GivesAlone (value p ask e.0) × GivesAlone (value p ask e'.0)
@@ -221,9 +221,9 @@ module _ (p : Modules) (ask : Asks) where
   expr_alone (layer.Plus t e) h = e.1 h
   expr_alone (layer.Negate e) h = unary (λ a v st. in_base a.types integer (pos 0 -ℤ v) st) (λ a v st. base_leaves a.types integer (pos 0 -ℤ v) st) (e.1 h)
   expr_alone (layer.Chain e ls) h = chain_alone e ls (neither (calls e.0) (any_calls (map calls_linked (map (λ x. x.0) ls))) h)
-  expr_alone (layer.Compare o e e') h = let n = both e e' h in two (λ a x y st. Gave (truth (compared o x y)) st) (λ a x y st. gives _) n.0 n.1
+  expr_alone (layer.Compare o e e') h = let n = both e e' h in two (λ a x y st. Value (truth (compared o x y)) st) (λ a x y st. gives _) n.0 n.1
   expr_alone (layer.Not e) h = record { at = λ a st. then_leaves (λ v st. gives _) ((e.1 h).at a st) }
-  expr_alone (layer.Include o e e') h = let n = both e e' h in two (λ a x y st. Gave (truth (included o x y)) st) (λ a x y st. gives _) n.0 n.1
+  expr_alone (layer.Include o e e') h = let n = both e e' h in two (λ a x y st. Value (truth (included o x y)) st) (λ a x y st. gives _) n.0 n.1
   expr_alone (layer.In e e') h = in_alone e e' (both e e' h)
   expr_alone (layer.Abs t e) h = record { at = λ a st. then_leaves (λ v st. base_leaves a.types t (absolute v) st) ((e.1 h).at a st) }
   expr_alone (layer.Cap e) h = record { at = λ a st. then_leaves (λ v st. gives (capital v)) ((e.1 h).at a st) }

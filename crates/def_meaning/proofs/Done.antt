@@ -12,9 +12,10 @@ use Rattle.typed_tree.specs.declared.types.TypeNo.{TypeNo}
 use Rattle.typed_tree.specs.declared.known_types.Types.{Types}
 use Rattle.typed_tree.specs.Types.{char}
 use Rattle.typed_tree.specs.Known.{scalar_at}
-use Rattle.def_meaning.specs.Answer.{State, Left, Came, Stopped, range_fault, case_fault, halted}
+use Rattle.def_meaning.specs.Answer.{State, range_fault, case_fault, halted, Ended, Value}
+use Rattle.def_meaning.specs.Outcome.{Exited, Returned}
 use Rattle.def_meaning.specs.Operators.{is_true}
-use Rattle.def_meaning.specs.Around.{Modules, Around}
+use Rattle.def_meaning.specs.Environment.{Modules, Environment}
 use Rattle.def_meaning.specs.Expressions.{Asks, as_type, value, locate}
 use Rattle.def_meaning.specs.Statements.{Does, in_turn, stored, is_labelled, or_else, Arm, chosen, base_of, changed, rechecked, step_layer, arm_layer, does}
 use Rattle.def_meaning.proofs.After.{begins, begins_more, Later, then_later, After, same, with_later, go_later, if_after, went}
@@ -22,12 +23,12 @@ use Rattle.def_meaning.proofs.Evaluated.{AsksLater, Pairwise, none, more, pairwi
 use Rattle.def_meaning.proofs.Turns.{looped_later, while_later, until_later, for_later}
 
 pub record DoesLater (d d' : Does) : Type 0 where
-  pub at : (a : Around) (st : State) → After st.out (d a st) (d' a st)
+  pub at : (a : Environment) (st : State) → After st.out (d a st) (d' a st)
 
 pub data ArmLater : Arm → Arm → Type 0 where
   arm : (labels : List Label) {d d' : Does} → DoesLater d d' → ArmLater (record { labels = labels; does = d }) (record { labels = labels; does = d' })
 
-pub turn_later : {ds ds' : List Does} → Pairwise DoesLater ds ds' → (a : Around) (st : State) → After st.out (in_turn ds a st) (in_turn ds' a st)
+pub turn_later : {ds ds' : List Does} → Pairwise DoesLater ds ds' → (a : Environment) (st : State) → After st.out (in_turn ds a st) (in_turn ds' a st)
 turn_later none a st = went st
 turn_later (more d ds) a st = go_later (turn_later ds a) (d.at a st)
 
@@ -35,7 +36,7 @@ pub turns_later : {ds ds' : List Does} → Pairwise DoesLater ds ds' → DoesLat
 turns_later ds = record { at = turn_later ds }
 
 nothing_else : DoesLater (or_else None) (or_else None)
-nothing_else = record { at = λ a st. same (Stopped case_fault st.out) (begins st.out) }
+nothing_else = record { at = λ a st. same (Ended case_fault st.out) (begins st.out) }
 
 if_does : {d d' e e' : Does} (b : Bool) → DoesLater d e → DoesLater d' e' → DoesLater (if b then d else d') (if b then e else e')
 if_does true h k = h
@@ -69,10 +70,10 @@ module _ (p : Modules) (ask : Asks) (n : ℕ) where
   at_arm e x h = fold_out-TypedArm Does Arm (step_layer p ask n) (arm_layer p ask n) e ∙ ap (λ (y : TypedArm-F TypedStmt TypedArm). arm_layer p ask n (opened_arm y)) h
 
 module _ (p : Modules) (ask ask' : Asks) (k : AsksLater ask ask') (n m : ℕ) (q : n ≤ m) where
-  value_at : (e : TypedExpr) (a : Around) (st : State) → Later st.out (value p ask e a st) (value p ask' e a st)
+  value_at : (e : TypedExpr) (a : Environment) (st : State) → Later st.out (value p ask e a st) (value p ask' e a st)
   value_at e a st = (value_later p ask ask' k e).at a st
 
-  place_at : (d : Place) (a : Around) (st : State) → Later st.out (locate p ask d a st) (locate p ask' d a st)
+  place_at : (d : Place) (a : Environment) (st : State) → Later st.out (locate p ask d a st) (locate p ask' d a st)
   place_at d a st = (locate_later p ask ask' k d).at a st
 
   abbrev DS : TypedStmt → Type 0
@@ -96,7 +97,7 @@ module _ (p : Modules) (ask ask' : Asks) (k : AsksLater ask ask') (n m : ℕ) (q
   all : (xs : List SS) → Pairwise DoesLater (map (does p ask n) (map (λ s. s.0) xs)) (map (does p ask' m) (map (λ s. s.0) xs))
   all xs = pairwise_maps {X = SS} {Y = TypedStmt} DoesLater (λ s. s.0) (does p ask n) (does p ask' m) (λ s. s.1) xs
 
-  body : (xs : List SS) (a : Around) (st : State) → After st.out (in_turn (map (does p ask n) (map (λ s. s.0) xs)) a st) (in_turn (map (does p ask' m) (map (λ s. s.0) xs)) a st)
+  body : (xs : List SS) (a : Environment) (st : State) → After st.out (in_turn (map (does p ask n) (map (λ s. s.0) xs)) a st) (in_turn (map (does p ask' m) (map (λ s. s.0) xs)) a st)
   body xs = turn_later (all xs)
 
   arms : (xs : List SA) → Pairwise ArmLater (map (armed p ask n) (map (λ s. s.0) xs)) (map (armed p ask' m) (map (λ s. s.0) xs))
@@ -110,7 +111,7 @@ module _ (p : Modules) (ask ask' : Asks) (k : AsksLater ask ask') (n m : ℕ) (q
   stmt_later (step.Put e) = record { at = λ a st. with_later (λ v st. with_later (λ v st. same _ (begins_more st.out (unsigned_abs v ∷ []))) (type_later a.types char v st)) (value_at e a st) }
   stmt_later (step.Change o d t e) = record { at = λ a st. with_later (λ l st. with_later (λ by st. with_later (λ v st. went (stored l v st)) (rechecked_later a.types t (changed o (st.store l) by) st)) (value_at e a st)) (place_at d a st) }
   stmt_later (step.Membership o d e) = record { at = λ a st. with_later (λ l st. with_later (λ x st. with_later (λ x st. went _) (within_later (pos 0) (pos 31) range_fault x st)) (value_at e a st)) (place_at d a st) }
-  stmt_later step.Halt = record { at = λ a st. same (Stopped halted st.out) (begins st.out) }
+  stmt_later step.Halt = record { at = λ a st. same (Ended halted st.out) (begins st.out) }
   stmt_later (step.If e xs None) = record { at = λ a st. with_later (λ v st. if_after (is_true v) (body xs a st) (went st)) (value_at e a st) }
   stmt_later (step.If e xs (Some ys)) = record { at = λ a st. with_later (λ v st. if_after (is_true v) (body xs a st) (body ys a st)) (value_at e a st) }
   stmt_later (step.Case e xs None) = record { at = λ a st. with_later (λ v st. (chosen_later v (arms xs) nothing_else).at a st) (value_at e a st) }
@@ -118,9 +119,9 @@ module _ (p : Modules) (ask ask' : Asks) (k : AsksLater ask ask') (n m : ℕ) (q
   stmt_later (step.While e xs) = record { at = λ a st. while_later (value_at e a) (body xs a) n m q st }
   stmt_later (step.Repeat xs e) = record { at = λ a st. until_later (value_at e a) (body xs a) n m q st }
   stmt_later (step.Loop xs) = record { at = λ a st. looped_later (body xs a) n m q st }
-  stmt_later step.Exit = record { at = λ a st. same (Left st) (begins st.out) }
-  stmt_later step.Return = record { at = λ a st. same (Came (pos 0) st) (begins st.out) }
-  stmt_later (step.Give t e) = record { at = λ a st. with_later (λ v st. with_later (λ v st. same (Came v st) (begins st.out)) (type_later a.types t v st)) (value_at e a st) }
+  stmt_later step.Exit = record { at = λ a st. same (Value Exited st) (begins st.out) }
+  stmt_later step.Return = record { at = λ a st. same (Value (Returned (pos 0)) st) (begins st.out) }
+  stmt_later (step.Give t e) = record { at = λ a st. with_later (λ v st. with_later (λ v st. same (Value (Returned v) st) (begins st.out)) (type_later a.types t v st)) (value_at e a st) }
   stmt_later (step.For d t start limit by xs) = record {
     at = λ a st.
         with_later (λ l st. with_later (λ v st. with_later (λ v st. with_later (λ last st.

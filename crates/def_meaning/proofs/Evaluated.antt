@@ -16,9 +16,9 @@ use Rattle.typed_tree.specs.declared.known_types.Types.{Types}
 use Rattle.typed_tree.specs.Types.{integer}
 use Rattle.typed_tree.specs.Known.{scalar_at}
 use Rattle.def_meaning.specs.Store.{Location}
-use Rattle.def_meaning.specs.Answer.{State, Answer, then_give, range_fault, overflow, divisor_fault, index_fault, empty_procedure}
+use Rattle.def_meaning.specs.Answer.{State, Answer, ◌▷◌, range_fault, overflow, divisor_fault, index_fault, empty_procedure}
 use Rattle.def_meaning.specs.Operators.{is_between, truth, is_true, compared, combined, included, has, absolute, capital, odd, quotient, remainder}
-use Rattle.def_meaning.specs.Around.{Modules, Around, Callee, Passed, Number, Variable, Array, module_place, entry_of, entry_callee, module_callee, nested_in, named, location_of, high_of}
+use Rattle.def_meaning.specs.Environment.{Modules, Environment, Callee, Passed, Number, Variable, Array, module_place, entry_of, entry_callee, module_callee, nested_in, named, location_of, high_of}
 use Rattle.def_meaning.specs.Expressions.{Asks, Gives, Reaches, Continues, one_by_one, within, within_range, as_type, in_base, index_range, high_index, element, element_in, divided, operated, ordinal, all_given, asked, asked_if, argument_layer, call_layer, root_layer, component_layer, link_layer, expr_layer, place_layer, value, locate, called}
 use Rattle.def_meaning.proofs.After.{Later, then_later, if_later, gave, ended}
 
@@ -63,11 +63,11 @@ pub record AsksLater (ask ask' : Asks) : Type 0 where
   pub at : (c : Option Callee) (vs : List Passed) (next left : ℕ) (st : State) → Later st.out (ask c vs next left st) (ask' c vs next left st)
 
 pub record GivesLater {A : Type 0} (g g' : Gives A) : Type 0 where
-  pub at : (a : Around) (st : State) → Later st.out (g a st) (g' a st)
+  pub at : (a : Environment) (st : State) → Later st.out (g a st) (g' a st)
 
 -- the same of what goes on from a value
 pub record GoesLater {A : Type 0} (f f' : A → Gives A) : Type 0 where
-  pub from : (x : A) (a : Around) (st : State) → Later st.out (f x a st) (f' x a st)
+  pub from : (x : A) (a : Environment) (st : State) → Later st.out (f x a st) (f' x a st)
 
 pub data Pairwise {A B : Type 0} (R : A → B → Type 0) : List A → List B → Type 0 where
   none : Pairwise R [] []
@@ -81,7 +81,7 @@ pairwise_maps R h f g p (x ∷ xs) = more (p x) (pairwise_maps R h f g p xs)
 pub carry : {A B : Type 0} (R : A → B → Type 0) {a a' : A} {b b' : B} → a ≡ a' → b ≡ b' → R a' b' → R a b
 carry R {a = a} {b' = b'} p q r = subst (R a) (sym q) (subst (λ x. R x b') (sym p) r)
 
-one_later : {A : Type 0} {fs fs' : List (A → Gives A)} → Pairwise GoesLater fs fs' → (x : A) (a : Around) (st : State) → Later st.out (one_by_one fs x a st) (one_by_one fs' x a st)
+one_later : {A : Type 0} {fs fs' : List (A → Gives A)} → Pairwise GoesLater fs fs' → (x : A) (a : Environment) (st : State) → Later st.out (one_by_one fs x a st) (one_by_one fs' x a st)
 one_later none x a st = gave x st
 one_later (more f fs) x a st = then_later (λ y st. one_later fs y a st) (f.from x a st)
 
@@ -142,14 +142,14 @@ module _ (p : Modules) (ask : Asks) where
 module _ (p : Modules) (ask ask' : Asks) (k : AsksLater ask ask') where
   -- ---- calls
 
-  given_later : {xs ys : List (Gives Passed)} → Pairwise GivesLater xs ys → (a : Around) (st : State) → Later st.out (all_given p ask xs a st) (all_given p ask' ys a st)
+  given_later : {xs ys : List (Gives Passed)} → Pairwise GivesLater xs ys → (a : Environment) (st : State) → Later st.out (all_given p ask xs a st) (all_given p ask' ys a st)
   given_later none a st = gave [] st
   given_later (more x xs) a st = then_later (λ v st. then_later (λ vs st. gave (v ∷ vs) st) (given_later xs a st)) (x.at a st)
 
-  asked_later : (c : Option Callee) {xs ys : List (Gives Passed)} → Pairwise GivesLater xs ys → (a : Around) (st : State) → Later st.out (asked p ask c xs a st) (asked p ask' c ys a st)
-  asked_later c xs a st = then_later (λ vs st. k.at c vs a.next a.left st) (given_later xs a st)
+  asked_later : (c : Option Callee) {xs ys : List (Gives Passed)} → Pairwise GivesLater xs ys → (a : Environment) (st : State) → Later st.out (asked p ask c xs a st) (asked p ask' c ys a st)
+  asked_later c xs a st = then_later (λ vs st. k.at c vs a.next a.free st) (given_later xs a st)
 
-  asked_if_later : (c : Option Callee) {xs ys : List (Gives Passed)} → Pairwise GivesLater xs ys → (a : Around) (st : State) → Later st.out (asked_if p ask c xs a st) (asked_if p ask' c ys a st)
+  asked_if_later : (c : Option Callee) {xs ys : List (Gives Passed)} → Pairwise GivesLater xs ys → (a : Environment) (st : State) → Later st.out (asked_if p ask c xs a st) (asked_if p ask' c ys a st)
   asked_if_later None xs a st = ended empty_procedure st.out
   asked_if_later (Some c) xs a st = asked_later (Some c) xs a st
 
@@ -244,11 +244,11 @@ module _ (p : Modules) (ask ask' : Asks) (k : AsksLater ask ask') where
   links : (xs : List SL) → Pairwise GoesLater (map (continued p ask) (map (λ x. x.0) xs)) (map (continued p ask') (map (λ x. x.0) xs))
   links xs = pairwise_maps {X = SL} {Y = Link} GoesLater (λ x. x.0) (continued p ask) (continued p ask') (λ x. x.1) xs
 
-  unary_later : {A : Type 0} {g g' : Gives ℤ} (f : ℤ → State → Answer A) → ((v : ℤ) (st : State) → Later st.out (f v st) (f v st)) → GivesLater g g' → (a : Around) (st : State) → Later st.out (then_give (g a st) f) (then_give (g' a st) f)
+  unary_later : {A : Type 0} {g g' : Gives ℤ} (f : ℤ → State → Answer A) → ((v : ℤ) (st : State) → Later st.out (f v st) (f v st)) → GivesLater g g' → (a : Environment) (st : State) → Later st.out (g a st ▷ f) (g' a st ▷ f)
   unary_later f h e a st = then_later h (e.at a st)
 
-  binary_later : {g g' x x' : Gives ℤ} (f : ℤ → ℤ → State → Answer ℤ) → ((v w : ℤ) (st : State) → Later st.out (f v w st) (f v w st)) → GivesLater g g' → GivesLater x x' → (a : Around) (st : State)
-      → Later st.out (then_give (g a st) (λ v st. then_give (x a st) (λ w st. f v w st))) (then_give (g' a st) (λ v st. then_give (x' a st) (λ w st. f v w st)))
+  binary_later : {g g' x x' : Gives ℤ} (f : ℤ → ℤ → State → Answer ℤ) → ((v w : ℤ) (st : State) → Later st.out (f v w st) (f v w st)) → GivesLater g g' → GivesLater x x' → (a : Environment) (st : State)
+      → Later st.out (g a st ▷ λ v st. x a st ▷ λ w st. f v w st) (g' a st ▷ λ v st. x' a st ▷ λ w st. f v w st)
   binary_later f h e e' a st = then_later (λ v st. then_later (λ w st. h v w st) (e'.at a st)) (e.at a st)
 
   expr_later : (y : TypedExpr-F SA SC SK SL SE SP) → GivesLater (expr_layer p ask (opened p ask (bare y))) (expr_layer p ask' (opened p ask' (bare y)))

@@ -2,12 +2,13 @@
 use Rattle.std.proofs.Common.{◌≡◌, ℕ, zero, suc, ◌≤◌, ◌-◌, List, [], ◌∷◌, map, Option, Some, None, arith}
 use Rattle.std.specs.Prelude.{nat_lt}
 use Rattle.typed_tree.specs.declared.statement.TypedStmt.{TypedStmt}
-use Rattle.def_meaning.specs.Answer.{State, Running, Outcome, Stopped, storage_fault, empty_procedure}
-use Rattle.def_meaning.specs.Around.{Modules, Around, Callee, Passed}
+use Rattle.def_meaning.specs.Answer.{State, StillRunning, storage_fault, empty_procedure, Ended}
+use Rattle.def_meaning.specs.Outcome.{Outcome}
+use Rattle.def_meaning.specs.Environment.{Modules, Environment, Callee, Passed}
 use Rattle.def_meaning.specs.Expressions.{Asks}
 use Rattle.def_meaning.specs.Statements.{does}
-use Rattle.def_meaning.specs.Calls.{needed, is_function, entered, around_of, body_does, runs, calling}
-use Rattle.def_meaning.specs.Runs.{storage, body_frame, first_state, around_body, bodies, run}
+use Rattle.def_meaning.specs.Calls.{needed, is_function, entered, environment_of, body_does, runs, calling}
+use Rattle.def_meaning.specs.Runs.{storage, body_frame, first_state, body_environment, bodies, run}
 use Rattle.def_meaning.specs.Later.{printed, Begins, EndsAlike, PrintsOn}
 use Rattle.def_meaning.proofs.After.{begins, Later, alike, going, reported_later, After, same, open_yet, if_later, ended, result_later, body_later}
 use Rattle.def_meaning.proofs.Evaluated.{AsksLater, Pairwise, none, more}
@@ -18,13 +19,13 @@ each R f g h [] = none
 each R f g h (x ∷ xs) = more (h x) (each R f g h xs)
 
 module _ (p : Modules) (n m : ℕ) (q : n ≤ m) where
-  body_runs : {ask ask' : Asks} → AsksLater ask ask' → (body : List TypedStmt) (a : Around) (st : State) → After st.out (body_does p n ask body a st) (body_does p m ask' body a st)
+  body_runs : {ask ask' : Asks} → AsksLater ask ask' → (body : List TypedStmt) (a : Environment) (st : State) → After st.out (body_does p n ask body a st) (body_does p m ask' body a st)
   body_runs {ask = ask} {ask' = ask'} k body a st = turn_later (each DoesLater (does p ask n) (does p ask' m) (does_later p ask ask' k n m q) body) a st
 
   runs_later : {ask ask' : Asks} → AsksLater ask ask' → (c : Callee) (vs : List Passed) (next left : ℕ) (st : State) → Later st.out (runs p n ask c vs next left st) (runs p m ask' c vs next left st)
   runs_later k c vs next left st =
       if_later (nat_lt left (needed c.types c.routine vs)) (ended storage_fault st.out)
-      (result_later (is_function c.types c.routine) (body_runs k c.routine.body (around_of c next (entered c.types c.routine next vs st.store) (left - needed c.types c.routine vs)) (record st { store = (entered c.types c.routine next vs st.store).store })))
+      (result_later (is_function c.types c.routine) (body_runs k c.routine.body (environment_of c next (entered c.types c.routine next vs st.store) (left - needed c.types c.routine vs)) (record st { store = (entered c.types c.routine next vs st.store).store })))
 
   -- one more level of calls
   deeper : (d e : ℕ) → AsksLater (calling p n d) (calling p m e) → (c : Option Callee) (vs : List Passed) (next left : ℕ) (st : State) → Later st.out (calling p n (suc d) c vs next left st) (calling p m (suc e) c vs next left st)
@@ -34,7 +35,7 @@ module _ (p : Modules) (n m : ℕ) (q : n ≤ m) where
 
 calling_twice : (p : Modules) (m d : ℕ) → AsksLater (calling p m d) (calling p m d)
 unfolding calling
-calling_twice p m zero = record { at = λ c vs next left st. alike (Running st.out) (begins st.out) }
+calling_twice p m zero = record { at = λ c vs next left st. alike (StillRunning st.out) (begins st.out) }
 calling_twice p m (suc d) = record { at = deeper p m m (omega arith) d d (calling_twice p m d) }
 
 no_more : (p : Modules) (n m e : ℕ) (c : Option Callee) (vs : List Passed) (next left : ℕ) (st : State) → Later st.out (calling p n zero c vs next left st) (calling p m e c vs next left st)
@@ -47,9 +48,9 @@ calling_later p n m q (suc d) zero r = absurd (omega arith)
 calling_later p n m q (suc d) (suc e) r = record { at = deeper p n m q d e (calling_later p n m q d e (omega arith)) }
 
 bodies_later : (p : Modules) (n m : ℕ) → n ≤ m → (left place : ℕ) (ms : Modules) (st : State) → After st.out (bodies p n left place ms st) (bodies p m left place ms st)
-bodies_later p n m q left place [] st = same (Stopped 0 st.out) (begins st.out)
+bodies_later p n m q left place [] st = same (Ended 0 st.out) (begins st.out)
 bodies_later p n m q left place (x ∷ xs) st =
-    body_later (bodies_later p n m q left (suc place) xs) (body_runs p n m q (calling_later p n m q n m q) x.body (around_body p place x left) st)
+    body_later (bodies_later p n m q left (suc place) xs) (body_runs p n m q (calling_later p n m q n m q) x.body (body_environment p place x left) st)
 
 run_later : (p : Modules) (pages n m : ℕ) → n ≤ m → After [] (run p pages n) (run p pages m)
 unfolding run
@@ -57,7 +58,7 @@ run_later p pages n m q = bodies_later p n m q (storage p pages - body_frame) 0 
 
 -- ---- the laws
 
-still : {out : List ℕ} {x y : Outcome} (k : ℕ) (all : List ℕ) → After out x y → x ≡ Stopped k all → y ≡ Stopped k all
+still : {out : List ℕ} {x y : Outcome} (k : ℕ) (all : List ℕ) → After out x y → x ≡ Ended k all → y ≡ Ended k all
 still k all (same x b) e = e
 still k all (open_yet first x b c) e = cc e
 

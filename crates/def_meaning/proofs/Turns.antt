@@ -2,7 +2,8 @@
 use Rattle.std.proofs.Common.{ℕ, zero, suc, ◌≤◌, ℤ, arith}
 use Rattle.std.specs.Prelude.{◌+ℤ◌}
 use Rattle.def_meaning.specs.Store.{Location}
-use Rattle.def_meaning.specs.Answer.{State, Answer, Outcome, Unfinished}
+use Rattle.def_meaning.specs.Answer.{State, Answer, StillRunning}
+use Rattle.def_meaning.specs.Outcome.{Outcome}
 use Rattle.def_meaning.specs.Operators.{is_true}
 use Rattle.def_meaning.specs.Statements.{stored, looped, while_true, until_true, has_passed, for_turns, for_all}
 use Rattle.def_meaning.proofs.After.{begins, Later, alike, reported_later, After, same, open_yet, printed_later, with_later, go_later, left_later, if_after, went}
@@ -14,11 +15,11 @@ abbrev Tests : (State → Answer ℤ) → (State → Answer ℤ) → Type 0
 Tests f g = (st : State) → Later st.out (f st) (g st)
 
 -- at the end of the lesser bound the other goes on
-on : (st : State) {x y : Outcome} → After st.out x y → After st.out (Unfinished st.out) y
+on : (st : State) {x y : Outcome} → After st.out x y → After st.out (StillRunning st.out) y
 on st {y = y} h = open_yet st.out y (begins st.out) (printed_later h)
 
-stays : (st : State) → After st.out (Unfinished st.out) (Unfinished st.out)
-stays st = same (Unfinished st.out) (begins st.out)
+stays : (st : State) → After st.out (StillRunning st.out) (StillRunning st.out)
+stays st = same (StillRunning st.out) (begins st.out)
 
 -- the second of both beside itself
 pub second : {f g : State → Outcome} → Alike f g → Alike g g

@@ -1,6 +1,6 @@
 -- How a part of a program ends: with a value, with a fault or HALT, or not yet, since a bound was
 -- met.
-use Rattle.std.specs.Prelude.{ℕ, ℤ, List}
+use Rattle.std.specs.Prelude.{ℕ, List}
 use Rattle.def_meaning.specs.Store.{Store}
 
 -- what the variables hold, and what has been printed
@@ -9,36 +9,16 @@ pub record State : Type 0 where
   pub out : List ℕ
 
 pub data Answer (A : Type 0) : Type 0 where
-  Gave : (value : A) (st : State) → Answer A
+  Value : (value : A) (st : State) → Answer A
   Ended : (number : ℕ) (out : List ℕ) → Answer A
-  Running : (out : List ℕ) → Answer A
+  StillRunning : (out : List ℕ) → Answer A
 
--- what comes next with the value
-abbrev pub then_give : {A B : Type 0} → Answer A → (A → State → Answer B) → Answer B
-then_give (Gave x st) next = next x st
-then_give (Ended k out) next = Ended k out
-then_give (Running out) next = Running out
-
--- how statements end: normally, by EXIT, by RETURN with a value (0 without one), or as above
-pub data Outcome : Type 0 where
-  Went : (st : State) → Outcome
-  Left : (st : State) → Outcome
-  Came : (value : ℤ) (st : State) → Outcome
-  Stopped : (number : ℕ) (out : List ℕ) → Outcome
-  Unfinished : (out : List ℕ) → Outcome
-
-abbrev pub then_go : Outcome → (State → Outcome) → Outcome
-then_go (Went st) next = next st
-then_go (Left st) next = Left st
-then_go (Came v st) next = Came v st
-then_go (Stopped k out) next = Stopped k out
-then_go (Unfinished out) next = Unfinished out
-
--- a statement that needs a value first
-abbrev pub with_answer : {A : Type 0} → Answer A → (A → State → Outcome) → Outcome
-with_answer (Gave x st) next = next x st
-with_answer (Ended k out) next = Stopped k out
-with_answer (Running out) next = Unfinished out
+-- What comes next with a value. Behind an end, and while a part goes on, nothing does.
+infixl 10 ◌▷◌
+abbrev pub ◌▷◌ : {A B : Type 0} → Answer A → (A → State → Answer B) → Answer B
+(Value x st) ▷ next = next x st
+(Ended k out) ▷ next = Ended k out
+(StillRunning out) ▷ next = StillRunning out
 
 -- the faults, and HALT
 abbrev pub range_fault : ℕ

@@ -14,8 +14,9 @@ use Rattle.layout_storage.specs.Shapes.{tree}
 use Rattle.layout_storage.specs.Frames.{formals_of, frame}
 use Rattle.layout_storage.specs.Texts.{passed}
 use Rattle.def_meaning.specs.Store.{Location, Store, assigned, copied, placed, fresh}
-use Rattle.def_meaning.specs.Answer.{State, Answer, Gave, Ended, Running, Outcome, Went, Left, Came, Stopped, Unfinished, no_return, empty_procedure, storage_fault}
-use Rattle.def_meaning.specs.Around.{Modules, Around, Named, At, Elements, Callee, Passed, Number, Variable, Array, Text}
+use Rattle.def_meaning.specs.Answer.{State, Answer, Value, no_return, empty_procedure, storage_fault, Ended, StillRunning}
+use Rattle.def_meaning.specs.Outcome.{Outcome, Normal, Exited, Returned}
+use Rattle.def_meaning.specs.Environment.{Modules, Environment, Named, At, Elements, Callee, Passed, Number, Variable, Array, Text}
 use Rattle.def_meaning.specs.Expressions.{Asks}
 use Rattle.def_meaning.specs.Statements.{character, in_turn, does}
 
@@ -100,14 +101,14 @@ is_function types r = is_function_made (made_at types r.heading)
 -- a function that comes to its end is a fault
 abbrev pub at_end : Bool → State → Answer ℤ
 at_end true st = Ended no_return st.out
-at_end false st = Gave (pos 0) st
+at_end false st = Value (pos 0) st
 
 abbrev pub result : Bool → Outcome → Answer ℤ
-result function (Went st) = at_end function st
-result function (Left st) = at_end function st
-result function (Came v st) = Gave v st
-result function (Stopped k out) = Ended k out
-result function (Unfinished out) = Running out
+result function (Value Normal st) = at_end function st
+result function (Value Exited st) = at_end function st
+result function (Value (Returned v) st) = Value v st
+result function (Ended k out) = Ended k out
+result function (StillRunning out) = StillRunning out
 
 -- the names of the variables that stand behind the formals
 abbrev pub variables_from : (activation v : ℕ) → List TypeNo → List Named
@@ -124,35 +125,36 @@ entered types r activation vs store =
     })
 
 -- the body's names are the formals and then the variables
-abbrev pub around_of : Callee → (activation : ℕ) → Entered → (left : ℕ) → Around
-around_of c activation e left = record {
+abbrev pub environment_of : Callee → (activation : ℕ) → Entered → (free : ℕ) → Environment
+environment_of c activation e free = record {
   place = c.place;
   types = c.types;
   frames = (e.names ++ variables_from activation (length e.names) c.routine.variables) ∷ c.frames;
   withs = [];
   next = e.next;
-  left = left;
+  free = free;
 }
 
 module _ (p : Modules) (n : ℕ) where
-  abbrev pub body_does : Asks → List TypedStmt → Around → State → Outcome
+  abbrev pub body_does : Asks → List TypedStmt → Environment → State → Outcome
   body_does ask body a st = in_turn (map (does p ask n) body) a st
 
-  abbrev pub runs_in : Asks → Callee → (activation : ℕ) → Entered → (left : ℕ) → State → Answer ℤ
-  runs_in ask c activation e left st =
+  abbrev pub runs_in : Asks → Callee → (activation : ℕ) → Entered → (free : ℕ) → State → Answer ℤ
+  runs_in ask c activation e free st =
       result (is_function c.types c.routine)
-      (body_does ask c.routine.body (around_of c activation e left) (record st { store = e.store }))
+      (body_does ask c.routine.body (environment_of c activation e free)
+      (record st { store = e.store }))
 
   -- a call whose frame and copies do not fit into the free storage is a fault
-  abbrev pub runs : Asks → Callee → List Passed → (next left : ℕ) → State → Answer ℤ
-  runs ask c vs next left st =
-      if nat_lt left (needed c.types c.routine vs)
+  abbrev pub runs : Asks → Callee → List Passed → (next free : ℕ) → State → Answer ℤ
+  runs ask c vs next free st =
+      if nat_lt free (needed c.types c.routine vs)
       then Ended storage_fault st.out
       else runs_in ask c next (entered c.types c.routine next vs st.store)
-      (left - needed c.types c.routine vs) st
+      (free - needed c.types c.routine vs) st
 
   -- calls nest at most d deep
   unfoldable pub calling : (d : ℕ) → Asks
-  calling zero c vs next left st = Running st.out
-  calling (suc d) None vs next left st = Ended empty_procedure st.out
-  calling (suc d) (Some c) vs next left st = runs (calling d) c vs next left st
+  calling zero c vs next free st = StillRunning st.out
+  calling (suc d) None vs next free st = Ended empty_procedure st.out
+  calling (suc d) (Some c) vs next free st = runs (calling d) c vs next free st

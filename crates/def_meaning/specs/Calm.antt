@@ -7,8 +7,8 @@ use Rattle.typed_tree.specs.declared.computed.Component.{Component-F}
 use Rattle.typed_tree.specs.declared.computed.Link.{Link-F}
 use Rattle.typed_tree.specs.declared.computed.Place.{Place, Place-F, fold-Place}
 use Rattle.typed_tree.specs.declared.computed.TypedExpr.{TypedExpr, TypedExpr-F, fold-TypedExpr}
-use Rattle.def_meaning.specs.Answer.{State, Answer, Gave, Ended}
-use Rattle.def_meaning.specs.Around.{Modules, Around}
+use Rattle.def_meaning.specs.Answer.{State, Answer, Value, Ended}
+use Rattle.def_meaning.specs.Environment.{Modules, Environment}
 use Rattle.def_meaning.specs.Expressions.{Asks, value, locate}
 
 -- ---- whether there is a call in an expression
@@ -76,17 +76,17 @@ calls_at =
 
 -- a value, or a fault, and all is as it was
 pub data Leaves {A : Type 0} (st : State) : Answer A → Type 0 where
-  gives : (v : A) → Leaves st (Gave v st)
+  gives : (v : A) → Leaves st (Value v st)
   ends : (k : ℕ) → Leaves st (Ended k st.out)
 
 -- an expression without calls changes nothing and prints nothing
 abbrev pub ChangesNothing : Type 0
 ChangesNothing =
-    (p : Modules) (ask : Asks) (e : TypedExpr) (a : Around) (st : State) → calls e ≡ false
+    (p : Modules) (ask : Asks) (e : TypedExpr) (a : Environment) (st : State) → calls e ≡ false
     → Leaves st (value p ask e a st)
 
 -- nor does a designator without calls
 abbrev pub FindsAlone : Type 0
 FindsAlone =
-    (p : Modules) (ask : Asks) (d : Place) (a : Around) (st : State) → calls_at d ≡ false
+    (p : Modules) (ask : Asks) (d : Place) (a : Environment) (st : State) → calls_at d ≡ false
     → Leaves st (locate p ask d a st)

@@ -1,15 +1,16 @@
 -- What more time makes of a run.
 use Rattle.std.specs.Prelude.{◌≡◌, ℕ, ◌≤◌, List, ◌++◌}
-use Rattle.def_meaning.specs.Answer.{Outcome, Went, Left, Came, Stopped, Unfinished}
-use Rattle.def_meaning.specs.Around.{Modules}
+use Rattle.def_meaning.specs.Answer.{Ended, StillRunning, Value}
+use Rattle.def_meaning.specs.Outcome.{Outcome, Normal, Exited, Returned}
+use Rattle.def_meaning.specs.Environment.{Modules}
 use Rattle.def_meaning.specs.Runs.{run}
 
 abbrev pub printed : Outcome → List ℕ
-printed (Went st) = st.out
-printed (Left st) = st.out
-printed (Came v st) = st.out
-printed (Stopped k out) = out
-printed (Unfinished out) = out
+printed (Value Normal st) = st.out
+printed (Value Exited st) = st.out
+printed (Value (Returned v) st) = st.out
+printed (Ended k out) = out
+printed (StillRunning out) = out
 
 -- the second is the first, and then more
 pub record Begins (xs ys : List ℕ) : Type 0 where
@@ -19,8 +20,8 @@ pub record Begins (xs ys : List ℕ) : Type 0 where
 -- a run that ended with a bound ends alike with every greater one
 abbrev pub EndsAlike : Type 0
 EndsAlike =
-    (p : Modules) (pages n m k : ℕ) (out : List ℕ) → n ≤ m → run p pages n ≡ Stopped k out
-    → run p pages m ≡ Stopped k out
+    (p : Modules) (pages n m k : ℕ) (out : List ℕ) → n ≤ m → run p pages n ≡ Ended k out
+    → run p pages m ≡ Ended k out
 
 -- what is printed with a bound is a beginning of what is printed with every greater one
 abbrev pub PrintsOn : Type 0

@@ -1,7 +1,8 @@
 pub mod Store
 pub mod Answer
+pub mod Outcome
 pub mod Operators
-pub mod Around
+pub mod Environment
 pub mod Expressions
 pub mod Calls
 pub mod Statements

@@ -6,8 +6,9 @@ use Rattle.layout_storage.specs.Sizes.{size}
 use Rattle.layout_storage.specs.Frames.{module_row}
 use Rattle.layout_storage.specs.Texts.{module_texts, characters}
 use Rattle.def_meaning.specs.Store.{fresh}
-use Rattle.def_meaning.specs.Answer.{State, Outcome, Went, Left, Came, Stopped, Unfinished}
-use Rattle.def_meaning.specs.Around.{Modules, Around}
+use Rattle.def_meaning.specs.Answer.{State, Ended, StillRunning, Value}
+use Rattle.def_meaning.specs.Outcome.{Outcome, Normal, Exited, Returned}
+use Rattle.def_meaning.specs.Environment.{Modules, Environment}
 use Rattle.def_meaning.specs.Calls.{body_does, calling}
 
 -- ---- storage
@@ -31,30 +32,30 @@ first_state p = record { store = fresh (row (map module_row p)); out = [] }
 
 -- what stands around the body of a module. The instance behind those of the modules is the body's
 -- frame.
-abbrev pub around_body : Modules → (place : ℕ) → TypedModule → (left : ℕ) → Around
-around_body p place m left = record {
+abbrev pub body_environment : Modules → (place : ℕ) → TypedModule → (free : ℕ) → Environment
+body_environment p place m free = record {
   place = place;
   types = m.types;
   frames = [];
   withs = [];
   next = suc (length p);
-  left = left;
+  free = free;
 }
 
 -- a body that comes to its end or returns is followed by the next
 abbrev pub then_body : Outcome → (State → Outcome) → Outcome
-then_body (Went st) next = next st
-then_body (Left st) next = next st
-then_body (Came v st) next = next st
-then_body (Stopped k out) next = Stopped k out
-then_body (Unfinished out) next = Unfinished out
+then_body (Value Normal st) next = next st
+then_body (Value Exited st) next = next st
+then_body (Value (Returned v) st) next = next st
+then_body (Ended k out) next = Ended k out
+then_body (StillRunning out) next = StillRunning out
 
 -- after the last body the end is 0
-abbrev pub bodies : Modules → (n left place : ℕ) → Modules → State → Outcome
-bodies p n left place [] st = Stopped 0 st.out
-bodies p n left place (m ∷ ms) st =
-    then_body (body_does p n (calling p n n) m.body (around_body p place m left) st)
-    (bodies p n left (suc place) ms)
+abbrev pub bodies : Modules → (n free place : ℕ) → Modules → State → Outcome
+bodies p n free place [] st = Ended 0 st.out
+bodies p n free place (m ∷ ms) st =
+    then_body (body_does p n (calling p n n) m.body (body_environment p place m free) st)
+    (bodies p n free (suc place) ms)
 
 -- The run of a program with the bound n: each loop makes at most n turns, and calls nest at most n
 -- deep.

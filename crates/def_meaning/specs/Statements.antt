@@ -15,21 +15,22 @@ use Rattle.typed_tree.specs.declared.known_types.Types.{Types}
 use Rattle.typed_tree.specs.Types.{char}
 use Rattle.typed_tree.specs.Known.{scalar_at}
 use Rattle.def_meaning.specs.Store.{Location, assigned, copied, placed}
-use Rattle.def_meaning.specs.Answer.{State, Answer, then_give, Outcome, Went, Left, Came, Stopped, Unfinished, then_go, with_answer, range_fault, case_fault, halted}
+use Rattle.def_meaning.specs.Answer.{State, Answer, ◌▷◌, range_fault, case_fault, halted, Ended, StillRunning, Value}
+use Rattle.def_meaning.specs.Outcome.{Outcome, Normal, Exited, Returned, then_go}
 use Rattle.def_meaning.specs.Operators.{is_between, is_true, bits, without, single}
-use Rattle.def_meaning.specs.Around.{Modules, Around}
+use Rattle.def_meaning.specs.Environment.{Modules, Environment}
 use Rattle.def_meaning.specs.Expressions.{Asks, within, as_type, in_base, value, locate, called}
 
 abbrev pub Does : Type 0
-Does = Around → State → Outcome
+Does = Environment → State → Outcome
 
 -- one after the other
 abbrev pub in_turn : List Does → Does
-in_turn [] a st = Went st
+in_turn [] a st = Value Normal st
 in_turn (d ∷ ds) a st = then_go (d a st) (in_turn ds a)
 
 abbrev pub if_there : Option (List Does) → Does
-if_there None a st = Went st
+if_there None a st = Value Normal st
 if_there (Some ds) a st = in_turn ds a st
 
 -- ---- storing
@@ -49,30 +50,30 @@ character text (k ∷ r) = or_zero (slice_get text k)
 -- ---- loops
 
 abbrev pub loop_left : Outcome → (State → Outcome) → Outcome
-loop_left (Went st) next = next st
-loop_left (Left st) next = Went st
-loop_left (Came v st) next = Came v st
-loop_left (Stopped k out) next = Stopped k out
-loop_left (Unfinished out) next = Unfinished out
+loop_left (Value Normal st) next = next st
+loop_left (Value Exited st) next = Value Normal st
+loop_left (Value (Returned v) st) next = Value (Returned v) st
+loop_left (Ended k out) next = Ended k out
+loop_left (StillRunning out) next = StillRunning out
 
 -- LOOP: EXIT ends it
 abbrev pub looped : ℕ → (State → Outcome) → State → Outcome
-looped zero body st = Unfinished st.out
+looped zero body st = StillRunning st.out
 looped (suc n) body st = loop_left (body st) (looped n body)
 
 -- WHILE: the condition is evaluated before each turn
 abbrev pub while_true : ℕ → (State → Answer ℤ) → (State → Outcome) → State → Outcome
-while_true zero test body st = Unfinished st.out
+while_true zero test body st = StillRunning st.out
 while_true (suc n) test body st =
-    with_answer (test st) (λ v st.
-    if is_true v then then_go (body st) (while_true n test body) else Went st)
+    test st ▷ λ v st.
+    if is_true v then then_go (body st) (while_true n test body) else Value Normal st
 
 -- REPEAT: and behind each turn
 abbrev pub until_true : ℕ → (State → Outcome) → (State → Answer ℤ) → State → Outcome
-until_true zero body test st = Unfinished st.out
+until_true zero body test st = StillRunning st.out
 until_true (suc n) body test st =
     then_go (body st) (λ st.
-    with_answer (test st) (λ v st. if is_true v then Went st else until_true n body test st))
+    test st ▷ λ v st. if is_true v then Value Normal st else until_true n body test st)
 
 -- FOR: whether a number has passed the limit
 abbrev pub has_passed : (by limit v : ℤ) → Bool
@@ -81,18 +82,20 @@ has_passed by limit v = if int_lt by (pos 0) then int_lt v limit else int_lt lim
 -- after a turn the variable steps on, where that does not pass the limit
 abbrev pub for_turns : ℕ → (check : ℤ → State → Answer ℤ) → Location → (by limit : ℤ)
     → (State → Outcome) → State → Outcome
-for_turns zero check l by limit body st = Unfinished st.out
+for_turns zero check l by limit body st = StillRunning st.out
 for_turns (suc n) check l by limit body st =
     then_go (body st) (λ st.
     if has_passed by limit (st.store l +ℤ by)
-    then Went st
-    else with_answer (check (st.store l +ℤ by) st) (λ v st.
+    then Value Normal st
+    else (check (st.store l +ℤ by) st ▷ λ v st.
     for_turns n check l by limit body (stored l v st)))
 
 abbrev pub for_all : ℕ → (check : ℤ → State → Answer ℤ) → Location → (by limit : ℤ)
     → (State → Outcome) → State → Outcome
 for_all n check l by limit body st =
-    if has_passed by limit (st.store l) then Went st else for_turns n check l by limit body st
+    if has_passed by limit (st.store l)
+    then Value Normal st
+    else for_turns n check l by limit body st
 
 -- ---- CASE
 
@@ -102,7 +105,7 @@ is_labelled v x = is_between x.low v x.high
 -- the first arm with a label for the value, or else what stands behind ELSE, without which there is
 -- a fault
 abbrev pub or_else : Option (List Does) → Does
-or_else None a st = Stopped case_fault st.out
+or_else None a st = Ended case_fault st.out
 or_else (Some ds) a st = in_turn ds a st
 
 -- an arm: its labels, and what it does
@@ -128,7 +131,7 @@ changed change.Decrease x by = x -ℤ by
 -- the result is one of the base type, and then one of the variable's
 abbrev pub rechecked : Types → TypeNo → ℤ → State → Answer ℤ
 rechecked types t v st =
-    then_give (in_base types (base_of t (scalar_at types t)) v st) (as_type types t)
+    in_base types (base_of t (scalar_at types t)) v st ▷ (as_type types t)
 
 abbrev pub with_element : Membership → ℤ → ℤ → ℤ
 with_element member.Include s x = pos (bit_or (bits s) (single x))
@@ -139,56 +142,56 @@ with_element member.Exclude s x = pos (without (bits s) (single x))
 module _ (p : Modules) (ask : Asks) (n : ℕ) where
   abbrev pub step_layer : TypedStmt-F Does Arm → Does
   step_layer (step.Assign d t e) a st =
-      with_answer (locate p ask d a st) (λ l st.
-      with_answer (value p ask e a st) (λ v st.
-      with_answer (as_type a.types t v st) (λ v st. Went (stored l v st))))
+      locate p ask d a st ▷ λ l st.
+      value p ask e a st ▷ λ v st.
+      as_type a.types t v st ▷ λ v st. Value Normal (stored l v st)
   step_layer (step.Copy to from t) a st =
-      with_answer (locate p ask to a st) (λ l st.
-      with_answer (locate p ask from a st) (λ l' st.
-      Went (record st { store = copied l l' st.store })))
+      locate p ask to a st ▷ λ l st.
+      locate p ask from a st ▷ λ l' st.
+      Value Normal (record st { store = copied l l' st.store })
   step_layer (step.CopyText d t text) a st =
-      with_answer (locate p ask d a st) (λ l st.
-      Went (record st { store = placed l (character text) st.store }))
-  step_layer (step.Call c) a st = with_answer (called p ask c a st) (λ v st. Went st)
+      locate p ask d a st ▷ λ l st.
+      Value Normal (record st { store = placed l (character text) st.store })
+  step_layer (step.Call c) a st = called p ask c a st ▷ λ v st. Value Normal st
   step_layer (step.Put e) a st =
-      with_answer (value p ask e a st) (λ v st.
-      with_answer (as_type a.types char v st) (λ v st.
-      Went (record st { out = st.out ++ unsigned_abs v ∷ [] })))
+      value p ask e a st ▷ λ v st.
+      as_type a.types char v st ▷ λ v st.
+      Value Normal (record st { out = st.out ++ unsigned_abs v ∷ [] })
   step_layer (step.Change o d t e) a st =
-      with_answer (locate p ask d a st) (λ l st.
-      with_answer (value p ask e a st) (λ by st.
-      with_answer (rechecked a.types t (changed o (st.store l) by) st) (λ v st.
-      Went (stored l v st))))
+      locate p ask d a st ▷ λ l st.
+      value p ask e a st ▷ λ by st.
+      rechecked a.types t (changed o (st.store l) by) st ▷ λ v st.
+      Value Normal (stored l v st)
   step_layer (step.Membership o d e) a st =
-      with_answer (locate p ask d a st) (λ l st.
-      with_answer (value p ask e a st) (λ x st.
-      with_answer (within (pos 0) (pos 31) range_fault x st) (λ x st.
-      Went (stored l (with_element o (st.store l) x) st))))
-  step_layer step.Halt a st = Stopped halted st.out
+      locate p ask d a st ▷ λ l st.
+      value p ask e a st ▷ λ x st.
+      within (pos 0) (pos 31) range_fault x st ▷ λ x st.
+      Value Normal (stored l (with_element o (st.store l) x) st)
+  step_layer step.Halt a st = Ended halted st.out
   step_layer (step.If e body others) a st =
-      with_answer (value p ask e a st) (λ v st.
-      if is_true v then in_turn body a st else if_there others a st)
+      value p ask e a st ▷ λ v st.
+      if is_true v then in_turn body a st else if_there others a st
   step_layer (step.Case e arms others) a st =
-      with_answer (value p ask e a st) (λ v st. chosen v arms (or_else others) a st)
+      value p ask e a st ▷ λ v st. chosen v arms (or_else others) a st
   step_layer (step.While e body) a st = while_true n (value p ask e a) (in_turn body a) st
   step_layer (step.Repeat body e) a st = until_true n (in_turn body a) (value p ask e a) st
   step_layer (step.Loop body) a st = looped n (in_turn body a) st
-  step_layer step.Exit a st = Left st
-  step_layer step.Return a st = Came (pos 0) st
+  step_layer step.Exit a st = Value Exited st
+  step_layer step.Return a st = Value (Returned (pos 0)) st
   step_layer (step.Give t e) a st =
-      with_answer (value p ask e a st) (λ v st.
-      with_answer (as_type a.types t v st) (λ v st. Came v st))
+      value p ask e a st ▷ λ v st.
+      as_type a.types t v st ▷ λ v st. Value (Returned v) st
   -- the start, the limit, and then the assignment
   step_layer (step.For d t start limit by body) a st =
-      with_answer (locate p ask d a st) (λ l st.
-      with_answer (value p ask start a st) (λ v st.
-      with_answer (as_type a.types t v st) (λ v st.
-      with_answer (value p ask limit a st) (λ last st.
-      for_all n (as_type a.types t) l by last (in_turn body a) (stored l v st)))))
+      locate p ask d a st ▷ λ l st.
+      value p ask start a st ▷ λ v st.
+      as_type a.types t v st ▷ λ v st.
+      value p ask limit a st ▷ λ last st.
+      for_all n (as_type a.types t) l by last (in_turn body a) (stored l v st)
   -- the record is found once
   step_layer (step.With d body) a st =
-      with_answer (locate p ask d a st) (λ l st.
-      in_turn body (record a { withs = a.withs ++ l ∷ [] }) st)
+      locate p ask d a st ▷ λ l st.
+      in_turn body (record a { withs = a.withs ++ l ∷ [] }) st
 
   abbrev pub arm_layer : TypedArm-F Does Arm → Arm
   arm_layer x = record { labels = x.labels; does = in_turn x.body }

@@ -20,8 +20,8 @@ use emit_buffer::{Draft, Framed, Home, Setting, exact, fault};
 use emit_stmt::{addresses_in, body_code};
 use emit_tables::{has_result, numbers_of};
 use m2_rule::Fault;
-use sqlite_items::Items;
 use std::alloc::{AllocError, Global};
+use tree_parts::Items;
 use typed_tree::{Routine, Which};
 use wasm_tree::{Body, Code, EncodeError, Function, Locals, ValueType, plus, small};
 

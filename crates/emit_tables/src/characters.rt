@@ -2,9 +2,9 @@
 
 ghost use Rattle.std.specs.Prelude.{◌≡◌, ◌++◌, [], length, IfOk, OnOk};
 
-use sqlite_items::Items;
 use std::alloc::{AllocError, Global};
 use std::marker::Model;
+use tree_parts::Items;
 
 /// Characters that more are appended to. Contracts see their list.
 #[derive(Drop)]

@@ -3,8 +3,8 @@
 ghost use Rattle.std.specs.Prelude.{◌≡◌, ◌<◌, None, length, replicate, slice_get, IfOk, OnSome};
 ghost use Rattle.emit_tables.specs.Offsets.{noted, noted_which, or_else, noted_or, no_offsets};
 
-use m2_tree::Items;
 use std::alloc::{AllocError, Global};
+use tree_parts::Items;
 use typed_tree::{TypedModule, Which};
 
 /// Where the texts of procedures begin, as far as it is known.

@@ -13,9 +13,9 @@ use crate::marks::Mark;
 use crate::signature::{Numbers, Signature};
 use crate::steps::module_marks;
 use crate::table::{Table, table_of};
-use m2_tree::Items;
 use std::alloc::{AllocError, Global};
 use std::marker::Model;
+use tree_parts::Items;
 use typed_tree::TypedModule;
 use wasm_tree::EncodeError;
 

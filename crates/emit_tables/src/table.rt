@@ -5,8 +5,8 @@ ghost use Rattle.emit_tables.specs.Tables.{entered, number_behind, with_mark, ta
 
 use crate::marks::Mark;
 use crate::signature::{Numbers, Signature};
-use m2_tree::Items;
 use std::alloc::Global;
+use tree_parts::Items;
 use wasm_tree::{EncodeError, plus, small};
 
 /// Types of functions in order, and their numbers by how many arguments they have.

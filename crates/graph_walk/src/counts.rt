@@ -7,8 +7,8 @@ ghost use Rattle.graph_walk.specs.Waiting.{held, count_at, Settles};
 
 use crate::flags::is_marked;
 use crate::least::Least;
-use sqlite_items::Items;
 use std::alloc::{AllocError, Global};
+use tree_parts::Items;
 
 /// For each node one more than its imports.
 pub fn counts_of(alloc: Global, links: &[Items<usize>]) -> Result<Vec<usize>, AllocError>

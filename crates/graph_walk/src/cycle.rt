@@ -11,8 +11,8 @@ ghost use Rattle.graph_walk.specs.Turned.{IsTurned};
 
 use crate::flags::{is_marked, mark_all, targets, unmarked};
 use crate::starts::start_order;
-use sqlite_items::Items;
 use std::alloc::{AllocError, Global};
+use tree_parts::Items;
 
 /// Marks too the nodes to which a chain of pairs leads from this one. With each node that is marked already, those to
 /// which it leads are.

@@ -5,8 +5,8 @@ ghost use Rattle.std.specs.List.{All};
 ghost use Rattle.graph_walk.specs.Links.{flag, targets, AreEachOnce};
 ghost use Rattle.graph_walk.specs.Marks.{Marks, Unmarks, AreUnmarked};
 
-use sqlite_items::Items;
 use std::alloc::{AllocError, Global};
+use tree_parts::Items;
 
 /// Marks for this many nodes, none of which is marked.
 pub fn unmarked(alloc: Global, count: usize) -> Result<Vec<bool>, AllocError>

@@ -8,8 +8,8 @@ ghost use Rattle.graph_walk.specs.Numbering.{IsNumbering};
 use crate::counts::{counts_of, settle_all};
 use crate::flags::{targets, unmarked};
 use crate::least::Least;
-use sqlite_items::Items;
 use std::alloc::{AllocError, Global};
+use tree_parts::Items;
 
 /// The definitions in the order in which they get numbers: each time the first whose imports all have numbers. Those
 /// that are on cycles, or import such definitions, get none. `links` has for each node those that it imports, `back` the

@@ -6,8 +6,8 @@ ghost use Rattle.graph_walk.specs.Links.{targets, times, AreNodes};
 ghost use Rattle.graph_walk.specs.Turned.{Gathers, IsTurned};
 
 use crate::flags::targets;
-use sqlite_items::Items;
 use std::alloc::{AllocError, Global};
+use tree_parts::Items;
 
 /// No pairs from any of this many nodes.
 fn no_links(alloc: Global, count: usize) -> Result<Vec<Items<usize>>, AllocError>

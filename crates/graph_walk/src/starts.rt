@@ -6,8 +6,8 @@ ghost use Rattle.graph_walk.specs.Starts.{IsStartOrder};
 ghost use Rattle.graph_walk.specs.Frames.{entering, Advances};
 
 use crate::flags::{is_marked, targets, unmarked};
-use sqlite_items::Items;
 use std::alloc::{AllocError, Global};
+use tree_parts::Items;
 
 /// A node that was entered, and how many of its imports were walked. It starts when all were.
 #[derive(Clone, Copy)]

@@ -12,12 +12,13 @@ use Rattle.m2_rule.specs.declared.rule.Rule.{Rule}
 use Rattle.m2_tree.specs.declared.decl.Module.{Module}
 use Rattle.m2_tree.specs.declared.name.Ident.{Ident}
 use Rattle.m2_tree.specs.declared.pos.Pos.{Pos}
-use Rattle.m2_graph.specs.declared.faults.Fault.{Fault}
+use Rattle.m2_rule.specs.declared.breach.Breach.{Breach}
 use Rattle.m2_graph.specs.Files.{File, trees}
 use Rattle.m2_tree.specs.Names.{same_name, is_console}
 use Rattle.m2_graph.specs.Imports.{imported, is_definition, is_implementation, defines, implements, definition_of, first_that}
-use Rattle.m2_graph.specs.Refused.{fault, fault_where, first_place, least_of, is_bad_import, import_faults, are_one_part, is_second, is_repeated, is_second_program, is_without_program, is_built_in, is_lone, max_files, faults_of}
-use Rattle.m2_graph.specs.Reported.{Reported, reported_at, cycle_faults, refused_from, refused_of, IsReported}
+use Rattle.m2_graph.specs.Refused.{breach_where, first_place, least_of, is_bad_import, import_breaches, are_one_part, is_second, is_repeated, is_second_program, is_without_program, is_built_in, is_lone, max_files, breaches_of}
+use Rattle.m2_rule.specs.Breaches.{breach}
+use Rattle.m2_graph.specs.Reported.{Reported, reported_at, cycle_breaches, refused_from, refused_of, IsReported}
 use Rattle.m2_graph.proofs.Deciding.{never_none, nothing_reported}
 use Rattle.law_graph.proofs.Lists.{Among, none_among, among_cases}
 use Rattle.law_graph.proofs.Passing.{some_that, none_that, among_taken}
@@ -31,7 +32,7 @@ pub record Fine (modules before : List Module) (given : ℕ) (m : Module) : Type
 
 -- ---- nothing reported, nothing refused
 
-none_least : (fs : List Fault) → least_of fs ≡ None → fs ≡ []
+none_least : (fs : List Breach) → least_of fs ≡ None → fs ≡ []
 none_least [] e = refl
 none_least (f ∷ fs) e = absurd (never_none [] f fs e)
 
@@ -39,7 +40,7 @@ parts_none : {X : Type 0} (xs ys : List X) → xs ++ ys ≡ [] → (xs ≡ []) �
 parts_none [] ys e = (refl, e)
 parts_none (x ∷ xs) ys e = cc
 
-where_none : (b : Bool) (pos : Pos) (n : Rule) → fault_where b pos n ≡ [] → b ≡ false
+where_none : (b : Bool) (pos : Pos) (n : Rule) → breach_where b pos n ≡ [] → b ≡ false
 where_none true pos n e = cc
 where_none false pos n e = refl
 
@@ -55,22 +56,22 @@ filter_none {X} p (y ∷ xs) x e a = step (λ h b. filter_none p xs x h b) (p y)
     step later true g h = cc
     step later false g h = elim (among_cases y xs x a) [ inl s ↦ ap p (sym s) ∙ g | inr more ↦ later h more ]
 
-fine_one : (modules before : List Module) (given : ℕ) (m : Module) (cycle : List Fault) → least_of (faults_of modules before given m ++ cycle) ≡ None → Fine modules before given m
+fine_one : (modules before : List Module) (given : ℕ) (m : Module) (cycle : List Breach) → least_of (breaches_of modules before given m ++ cycle) ≡ None → Fine modules before given m
 fine_one modules before given m cycle e =
-    let a = import_faults modules m (imported m) in
-    let b = fault_where (is_repeated before m) m.name.pos rule.SecondFile in
-    let c = fault_where (is_second_program before m) m.name.pos rule.ProgramCount in
-    let d = fault_where (is_without_program modules before) first_place rule.ProgramCount in
-    let f = fault_where (is_lone modules m) m.name.pos rule.LonelyModule in
-    let g = fault_where (given == max_files) first_place rule.FileCount in
-    let p = parts_none (faults_of modules before given m) cycle (none_least (faults_of modules before given m ++ cycle) e) in
+    let a = import_breaches modules m (imported m) in
+    let b = breach_where (is_repeated before m) m.name.pos rule.SecondFile in
+    let c = breach_where (is_second_program before m) m.name.pos rule.ProgramCount in
+    let d = breach_where (is_without_program modules before) first_place rule.ProgramCount in
+    let f = breach_where (is_lone modules m) m.name.pos rule.LonelyModule in
+    let g = breach_where (given == max_files) first_place rule.FileCount in
+    let p = parts_none (breaches_of modules before given m) cycle (none_least (breaches_of modules before given m ++ cycle) e) in
     let q = parts_none (a ++ b ++ c ++ d ++ f) g p.0 in
     let r = parts_none (a ++ b ++ c ++ d) f q.0 in
     let s = parts_none (a ++ b ++ c) d r.0 in
     let t = parts_none (a ++ b) c s.0 in
     let u = parts_none a b t.0 in
     record {
-      imports = λ x i. filter_none (λ (y : Ident). is_bad_import modules m y.name) (imported m) x (map_none (λ (y : Ident). fault y.pos rule.MissingModule) (filter (λ (y : Ident). is_bad_import modules m y.name) (imported m)) u.0) i;
+      imports = λ x i. filter_none (λ (y : Ident). is_bad_import modules m y.name) (imported m) x (map_none (λ (y : Ident). breach y.pos rule.MissingModule) (filter (λ (y : Ident). is_bad_import modules m y.name) (imported m)) u.0) i;
       first = where_none (is_repeated before m) m.name.pos rule.SecondFile u.1;
       whole = where_none (is_lone modules m) m.name.pos rule.LonelyModule r.1;
       counted = where_none (given == max_files) first_place rule.FileCount q.1;
@@ -82,11 +83,11 @@ rest_none xs ys e = (parts_none xs ys e).1
 fine_from : (modules : List Module) (cycle : Option (ℕ × Pos)) (before : List Module) (fs : List File) → refused_from modules cycle before fs ≡ [] → (k : ℕ) (f : File) → slice_get fs k ≡ Some f → Fine modules (before ++ take k (trees fs)) f.given f.tree
 fine_from modules cycle before [] e k f at = absurd (none-some f at)
 fine_from modules cycle before (g ∷ fs) e zero f at =
-    let o = least_of (faults_of modules before g.given g.tree ++ cycle_faults cycle (length before)) in
-    let h : Fine modules before g.given g.tree = fine_one modules before g.given g.tree (cycle_faults cycle (length before)) (nothing_reported g.name o (refused_from modules cycle (before ++ g.tree ∷ []) fs) e) in
+    let o = least_of (breaches_of modules before g.given g.tree ++ cycle_breaches cycle (length before)) in
+    let h : Fine modules before g.given g.tree = fine_one modules before g.given g.tree (cycle_breaches cycle (length before)) (nothing_reported g.name o (refused_from modules cycle (before ++ g.tree ∷ []) fs) e) in
     subst (λ (x : File). Fine modules (before ++ []) x.given x.tree) (same_Some g f at) (subst (λ (xs : List Module). Fine modules xs g.given g.tree) (sym (append-nil before)) h)
 fine_from modules cycle before (g ∷ fs) e (suc k) f at =
-    let o = least_of (faults_of modules before g.given g.tree ++ cycle_faults cycle (length before)) in
+    let o = least_of (breaches_of modules before g.given g.tree ++ cycle_breaches cycle (length before)) in
     let h = fine_from modules cycle (before ++ g.tree ∷ []) fs (rest_none (reported_at g.name o) (refused_from modules cycle (before ++ g.tree ∷ []) fs) e) k f at in
     subst (λ (xs : List Module). Fine modules xs f.given f.tree) (append_assoc before (g.tree ∷ []) (take k (trees fs))) h
 

@@ -2,7 +2,7 @@
 use Rattle.std.specs.Prelude.{Bool, true, List, Option, Some, None, Result}
 use Rattle.m2_tree.specs.declared.expr.Expr.{Expr}
 use Rattle.typed_tree.specs.declared.types.TypeNo.{TypeNo}
-use Rattle.check_scope.specs.declared.fault.Fault.{Fault}
+use Rattle.m2_rule.specs.declared.breach.Breach.{Breach}
 use Rattle.check_scope.specs.declared.scope.Scope.{Scope}
 use Rattle.check_scope.specs.Elaborated.{every, least}
 use Rattle.check_stmt_parts.specs.declared.around.Around.{Around}
@@ -12,17 +12,17 @@ use Rattle.law_least_definition.specs.Beside.{Optionwise, nothing, something, Sc
 use Rattle.law_least_definition.proofs.Pieces.{MeantBeside}
 use Rattle.law_least_definition.proofs.Exprs.{meant_beside}
 
-pub data AroundBeside : Around Fault → Around (List Fault) → Type 0 where
-  arounds : {gives : Option (Result TypeNo Fault)} {gives' : Option (Result TypeNo (List Fault))} → Optionwise Reports gives gives' → (looped : Bool)
+pub data AroundBeside : Around Breach → Around (List Breach) → Type 0 where
+  arounds : {gives : Option (Result TypeNo Breach)} {gives' : Option (Result TypeNo (List Breach))} → Optionwise Reports gives gives' → (looped : Bool)
       → AroundBeside (record { gives = gives; in_loop = looped }) (record { gives = gives'; in_loop = looped })
 
-pub in_loop_beside : {w : Around Fault} {w' : Around (List Fault)} → AroundBeside w w' → AroundBeside (in_loop w) (in_loop w')
+pub in_loop_beside : {w : Around Breach} {w' : Around (List Breach)} → AroundBeside w w' → AroundBeside (in_loop w) (in_loop w')
 in_loop_beside (arounds gives looped) = arounds gives true
 
-pub opened_beside : {s : Scope Fault} {s' : Scope (List Fault)} → ScopeBeside s s' → (t : TypeNo) → ScopeBeside (opened s t) (opened s' t)
+pub opened_beside : {s : Scope Breach} {s' : Scope (List Breach)} → ScopeBeside s s' → (t : TypeNo) → ScopeBeside (opened s t) (opened s' t)
 opened_beside (scopes tables types vars procs own outer) t = scopes tables types vars procs own outer
 
-pub opened_if_beside : {s : Scope Fault} {s' : Scope (List Fault)} → ScopeBeside s s' → (t : Option TypeNo) → ScopeBeside (opened_if s t) (opened_if s' t)
+pub opened_if_beside : {s : Scope Breach} {s' : Scope (List Breach)} → ScopeBeside s s' → (t : Option TypeNo) → ScopeBeside (opened_if s t) (opened_if s' t)
 opened_if_beside b None = b
 opened_if_beside b (Some t) = opened_beside b t
 

@@ -19,7 +19,7 @@ use Rattle.typed_tree.specs.declared.statement.TypedStmt.{TypedStmt}
 use Rattle.typed_tree.specs.declared.table.Table.{Table}
 use Rattle.typed_tree.specs.declared.typed_module.TypedModule.{TypedModule}
 use Rattle.typed_tree.specs.declared.typed_module.Which.{Which}
-use Rattle.check_scope.specs.declared.fault.Fault.{Fault}
+use Rattle.m2_rule.specs.declared.breach.Breach.{Breach}
 use Rattle.check_scope.specs.declared.known.Known.{Known}
 use Rattle.check_scope.specs.declared.scope.Scope.{Scope}
 use Rattle.check_scope.specs.Elaborated.{every, least}
@@ -54,39 +54,39 @@ use Rattle.law_least_body.proofs.Statements.{statements_reports}
 
 -- ---- walks over bodies
 
-pub data WalkBeside : Walk Fault → Walk (List Fault) → Type 0 where
-  walks : {s : Scope Fault} {s' : Scope (List Fault)} → ScopeBeside s s' → {r : Result (Unit {0}) Fault} {r' : Result (Unit {0}) (List Fault)} → Reports r r' → (bodies : Filled)
+pub data WalkBeside : Walk Breach → Walk (List Breach) → Type 0 where
+  walks : {s : Scope Breach} {s' : Scope (List Breach)} → ScopeBeside s s' → {r : Result (Unit {0}) Breach} {r' : Result (Unit {0}) (List Breach)} → Reports r r' → (bodies : Filled)
       → WalkBeside (record { scope = s; so_far = r; bodies = bodies }) (record { scope = s'; so_far = r'; bodies = bodies })
 
-walks_same : {s : Scope Fault} {s' : Scope (List Fault)} → ScopeBeside s s' → {r : Result (Unit {0}) Fault} {r' : Result (Unit {0}) (List Fault)} → Reports r r' → {bodies bodies' : Filled} → bodies ≡ bodies'
+walks_same : {s : Scope Breach} {s' : Scope (List Breach)} → ScopeBeside s s' → {r : Result (Unit {0}) Breach} {r' : Result (Unit {0}) (List Breach)} → Reports r r' → {bodies bodies' : Filled} → bodies ≡ bodies'
     → WalkBeside (record { scope = s; so_far = r; bodies = bodies }) (record { scope = s'; so_far = r'; bodies = bodies' })
 walks_same {s = s} {s' = s'} b {r = r} {r' = r'} t {bodies = bodies} e = subst (λ (rs : Filled). WalkBeside (record { scope = s; so_far = r; bodies = bodies }) (record { scope = s'; so_far = r'; bodies = rs })) e (walks b t bodies)
 
-pub data BegunBeside : Begun Fault → Begun (List Fault) → Type 0 where
-  begins : (o : Outside) (p : Option Numbered) (n : ℕ) {returns : Option (Result TypeNo Fault)} {returns' : Option (Result TypeNo (List Fault))} → Optionwise Reports returns returns'
+pub data BegunBeside : Begun Breach → Begun (List Breach) → Type 0 where
+  begins : (o : Outside) (p : Option Numbered) (n : ℕ) {returns : Option (Result TypeNo Breach)} {returns' : Option (Result TypeNo (List Breach))} → Optionwise Reports returns returns'
       → BegunBeside (record { outside = o; procedure = p; formals = n; returns = returns }) (record { outside = o; procedure = p; formals = n; returns = returns' })
 
-data InsideBeside : Walk Fault × Begun Fault → Walk (List Fault) × Begun (List Fault) → Type 0 where
-  inside : {w : Walk Fault} {w' : Walk (List Fault)} → WalkBeside w w' → {b : Begun Fault} {b' : Begun (List Fault)} → BegunBeside b b' → InsideBeside (w, b) (w', b')
+data InsideBeside : Walk Breach × Begun Breach → Walk (List Breach) × Begun (List Breach) → Type 0 where
+  inside : {w : Walk Breach} {w' : Walk (List Breach)} → WalkBeside w w' → {b : Begun Breach} {b' : Begun (List Breach)} → BegunBeside b b' → InsideBeside (w, b) (w', b')
 
-pub data CheckedBeside : Checked Fault → Checked (List Fault) → Type 0 where
-  is_checked : {w : Walk Fault} {w' : Walk (List Fault)} → WalkBeside w w' → {r : Result (List TypedStmt) Fault} {r' : Result (List TypedStmt) (List Fault)} → Reports r r' → CheckedBeside (w, r) (w', r')
+pub data CheckedBeside : Checked Breach → Checked (List Breach) → Type 0 where
+  is_checked : {w : Walk Breach} {w' : Walk (List Breach)} → WalkBeside w w' → {r : Result (List TypedStmt) Breach} {r' : Result (List TypedStmt) (List Breach)} → Reports r r' → CheckedBeside (w, r) (w', r')
 
 -- ---- into a procedure, and out of it
 
-returns_beside : {t : Result (Option TypeNo) Fault} {t' : Result (Option TypeNo) (List Fault)} → Reports t t' → Optionwise Reports (returns_of t) (returns_of t')
+returns_beside : {t : Result (Option TypeNo) Breach} {t' : Result (Option TypeNo) (List Breach)} → Reports t t' → Optionwise Reports (returns_of t) (returns_of t')
 returns_beside (fine None) = nothing
 returns_beside (fine (Some t)) = something (fine t)
 returns_beside (is_refused f fs p) = something (is_refused f fs p)
 
-begun_in : {w : Walk Fault} {w' : Walk (List Fault)} → WalkBeside w w' → (p : Option Numbered) {s : Scope Fault} {s' : Scope (List Fault)} → ScopeBeside s s' → {r : Result (Option TypeNo) Fault} {r' : Result (Option TypeNo) (List Fault)} → Reports r r'
+begun_in : {w : Walk Breach} {w' : Walk (List Breach)} → WalkBeside w w' → (p : Option Numbered) {s : Scope Breach} {s' : Scope (List Breach)} → ScopeBeside s s' → {r : Result (Option TypeNo) Breach} {r' : Result (Option TypeNo) (List Breach)} → Reports r r'
     → InsideBeside (begun_as w p (s, r)) (begun_as w' p (s', r'))
 begun_in (walks (scopes tables types vars procs own outer) t bodies) p (scopes tables' types' vars' procs' own' outer') r = inside (walks (scopes tables' types' vars' procs' own' outer') t _) (begins _ p _ (returns_beside r))
 
-begun_as_beside : {w : Walk Fault} {w' : Walk (List Fault)} → WalkBeside w w' → (p : Option Numbered) {e : State (Option TypeNo) Fault} {e' : State (Option TypeNo) (List Fault)} → StateBeside e e' → InsideBeside (begun_as w p e) (begun_as w' p e')
+begun_as_beside : {w : Walk Breach} {w' : Walk (List Breach)} → WalkBeside w w' → (p : Option Numbered) {e : State (Option TypeNo) Breach} {e' : State (Option TypeNo) (List Breach)} → StateBeside e e' → InsideBeside (begun_as w p e) (begun_as w' p e')
 begun_as_beside w p e = begun_in w p e.scope e.reported
 
-numbered_same : {k : Option (Known Fault)} {k' : Option (Known (List Fault))} → Optionwise KnownBeside k k' → numbered_known k ≡ numbered_known k'
+numbered_same : {k : Option (Known Breach)} {k' : Option (Known (List Breach))} → Optionwise KnownBeside k k' → numbered_known k ≡ numbered_known k'
 numbered_same nothing = refl
 numbered_same (something known_later) = refl
 numbered_same (something known_ahead) = refl
@@ -95,94 +95,94 @@ numbered_same (something (known_headed (fine m))) = refl
 numbered_same (something (known_headed (is_refused f fs p))) = refl
 numbered_same (something (known_declared o m)) = refl
 
-begun_procedure_beside : {w : Walk Fault} {w' : Walk (List Fault)} → WalkBeside w w' → (seen : ℕ) (h : Heading) → InsideBeside (begun_procedure least w seen h) (begun_procedure every w' seen h)
+begun_procedure_beside : {w : Walk Breach} {w' : Walk (List Breach)} → WalkBeside w w' → (seen : ℕ) (h : Heading) → InsideBeside (begun_procedure least w seen h) (begun_procedure every w' seen h)
 begun_procedure_beside (walks {s = s} {s' = s'} b {r = r} {r' = r'} t bodies) seen h = subst
     (λ (p : Option Numbered). InsideBeside (begun_procedure least (record { scope = s; so_far = r; bodies = bodies }) seen h) (begun_as (record { scope = s'; so_far = r'; bodies = bodies }) p (entered_procedure every s' seen h)))
     (numbered_same (own_beside h.name.name b)) (begun_as_beside (walks b t bodies) (procedure_named s h.name) (entered_procedure_goes b seen h))
 
-reported_in_reports : {r : Result (List TypedStmt) Fault} {r' : Result (List TypedStmt) (List Fault)} → Reports r r' → Reports (reported_in r) (reported_in r')
+reported_in_reports : {r : Result (List TypedStmt) Breach} {r' : Result (List TypedStmt) (List Breach)} → Reports r r' → Reports (reported_in r) (reported_in r')
 reported_in_reports r = then_reports r (λ xs. fine tt)
 
-with_routine_same : {s : Scope Fault} {s' : Scope (List Fault)} → ScopeBeside s s' → (name : Ident) (around : Option Which) (n : ℕ) (p : Option Numbered) {r : Result (List TypedStmt) Fault} {r' : Result (List TypedStmt) (List Fault)} → Reports r r' → (bodies : Filled)
+with_routine_same : {s : Scope Breach} {s' : Scope (List Breach)} → ScopeBeside s s' → (name : Ident) (around : Option Which) (n : ℕ) (p : Option Numbered) {r : Result (List TypedStmt) Breach} {r' : Result (List TypedStmt) (List Breach)} → Reports r r' → (bodies : Filled)
     → with_routine s name around n p r bodies ≡ with_routine s' name around n p r' bodies
 with_routine_same b name around n None r bodies = refl
 with_routine_same (scopes tables types vars procs own outer) name around n (Some p) (fine xs) bodies = refl
 with_routine_same b name around n (Some p) (is_refused f fs q) bodies = refl
 
-ended_procedure_beside : (name : Ident) (around : Option Which) {b : Begun Fault} {b' : Begun (List Fault)} → BegunBeside b b' → {e : Checked Fault} {e' : Checked (List Fault)} → CheckedBeside e e' → WalkBeside (ended_procedure least name around b e) (ended_procedure every name around b' e')
+ended_procedure_beside : (name : Ident) (around : Option Which) {b : Begun Breach} {b' : Begun (List Breach)} → BegunBeside b b' → {e : Checked Breach} {e' : Checked (List Breach)} → CheckedBeside e e' → WalkBeside (ended_procedure least name around b e) (ended_procedure every name around b' e')
 ended_procedure_beside name around (begins o p n returns) (is_checked (walks s t bodies) r) = walks_same (left_procedure_beside o s) (beside_reports t (reported_in_reports r)) (with_routine_same s name around n p r bodies)
 
 -- ---- the bodies of a block
 
-pub record ChecksBeside (f : Checks Fault) (f' : Checks (List Fault)) : Type 0 where
-  pub checks : (around : Option Which) (seen : ℕ) (w : Walk Fault) (w' : Walk (List Fault)) → WalkBeside w w' → WalkBeside (f around seen w) (f' around seen w')
+pub record ChecksBeside (f : Checks Breach) (f' : Checks (List Breach)) : Type 0 where
+  pub checks : (around : Option Which) (seen : ℕ) (w : Walk Breach) (w' : Walk (List Breach)) → WalkBeside w w' → WalkBeside (f around seen w) (f' around seen w')
 
-pub record BlockChecksBeside (f : ChecksBlock Fault) (f' : ChecksBlock (List Fault)) : Type 0 where
-  pub checks : (around : Option Which) (r : Option (Result TypeNo Fault)) (r' : Option (Result TypeNo (List Fault))) → Optionwise Reports r r' → (w : Walk Fault) (w' : Walk (List Fault)) → WalkBeside w w' → CheckedBeside (f around r w) (f' around r' w')
+pub record BlockChecksBeside (f : ChecksBlock Breach) (f' : ChecksBlock (List Breach)) : Type 0 where
+  pub checks : (around : Option Which) (r : Option (Result TypeNo Breach)) (r' : Option (Result TypeNo (List Breach))) → Optionwise Reports r r' → (w : Walk Breach) (w' : Walk (List Breach)) → WalkBeside w w' → CheckedBeside (f around r w) (f' around r' w')
 
-pub record StepsBeside (x : Steps Fault) (x' : Steps (List Fault)) : Type 0 where
-  pub marks : (s : Scope Fault) (s' : Scope (List Fault)) → ScopeBeside s s' → ScopeBeside (x.marks s) (x'.marks s')
-  pub declares : (c : Course Fault) (c' : Course (List Fault)) → CourseBeside c c' → CourseBeside (x.declares c) (x'.declares c')
+pub record StepsBeside (x : Steps Breach) (x' : Steps (List Breach)) : Type 0 where
+  pub marks : (s : Scope Breach) (s' : Scope (List Breach)) → ScopeBeside s s' → ScopeBeside (x.marks s) (x'.marks s')
+  pub declares : (c : Course Breach) (c' : Course (List Breach)) → CourseBeside c c' → CourseBeside (x.declares c) (x'.declares c')
   pub checks : ChecksBeside x.checks x'.checks
 
-pub record StatementsBeside (f : Elaborates Fault) (f' : Elaborates (List Fault)) : Type 0 where
-  pub elaborates : (s : Scope Fault) (s' : Scope (List Fault)) → ScopeBeside s s' → (r : Option (Result TypeNo Fault)) (r' : Option (Result TypeNo (List Fault))) → Optionwise Reports r r' → (xs : List Stmt) → Reports (f s r xs) (f' s' r' xs)
+pub record StatementsBeside (f : Elaborates Breach) (f' : Elaborates (List Breach)) : Type 0 where
+  pub elaborates : (s : Scope Breach) (s' : Scope (List Breach)) → ScopeBeside s s' → (r : Option (Result TypeNo Breach)) (r' : Option (Result TypeNo (List Breach))) → Optionwise Reports r r' → (xs : List Stmt) → Reports (f s r xs) (f' s' r' xs)
 
-data CountedBeside : Walk Fault × ℕ → Walk (List Fault) × ℕ → Type 0 where
-  counted : {w : Walk Fault} {w' : Walk (List Fault)} → WalkBeside w w' → (n : ℕ) → CountedBeside (w, n) (w', n)
+data CountedBeside : Walk Breach × ℕ → Walk (List Breach) × ℕ → Type 0 where
+  counted : {w : Walk Breach} {w' : Walk (List Breach)} → WalkBeside w w' → (n : ℕ) → CountedBeside (w, n) (w', n)
 
-uncounted : {c : Walk Fault × ℕ} {c' : Walk (List Fault) × ℕ} → CountedBeside c c' → WalkBeside c.0 c'.0
+uncounted : {c : Walk Breach × ℕ} {c' : Walk (List Breach) × ℕ} → CountedBeside c c' → WalkBeside c.0 c'.0
 uncounted (counted w n) = w
 
-module _ {X Y : Type 0} (R : X → Y → Type 0) (checks : X → ℕ → Walk Fault → Walk Fault) (checks' : Y → ℕ → Walk (List Fault) → Walk (List Fault))
-    (c : (x : X) (y : Y) → R x y → (n : ℕ) (w : Walk Fault) (w' : Walk (List Fault)) → WalkBeside w w' → WalkBeside (checks x n w) (checks' y n w')) (seen : List ℕ) where
-  with_body_beside : {st : Walk Fault × ℕ} {st' : Walk (List Fault) × ℕ} → CountedBeside st st' → (x : X) (y : Y) → R x y → CountedBeside (with_body checks seen st x) (with_body checks' seen st' y)
+module _ {X Y : Type 0} (R : X → Y → Type 0) (checks : X → ℕ → Walk Breach → Walk Breach) (checks' : Y → ℕ → Walk (List Breach) → Walk (List Breach))
+    (c : (x : X) (y : Y) → R x y → (n : ℕ) (w : Walk Breach) (w' : Walk (List Breach)) → WalkBeside w w' → WalkBeside (checks x n w) (checks' y n w')) (seen : List ℕ) where
+  with_body_beside : {st : Walk Breach × ℕ} {st' : Walk (List Breach) × ℕ} → CountedBeside st st' → (x : X) (y : Y) → R x y → CountedBeside (with_body checks seen st x) (with_body checks' seen st' y)
   with_body_beside (counted w n) x y r = counted (c x y r (unwrap_or (slice_get seen n) 0) _ _ w) (n + 1)
 
-  with_bodies_beside : {w : Walk Fault} {w' : Walk (List Fault)} → WalkBeside w w' → {xs : List X} {ys : List Y} → Pairwise R xs ys → WalkBeside (with_bodies checks seen w xs) (with_bodies checks' seen w' ys)
+  with_bodies_beside : {w : Walk Breach} {w' : Walk (List Breach)} → WalkBeside w w' → {xs : List X} {ys : List Y} → Pairwise R xs ys → WalkBeside (with_bodies checks seen w xs) (with_bodies checks' seen w' ys)
   with_bodies_beside w xs = uncounted (fold_pairwise CountedBeside R (with_body checks seen) (with_body checks' seen) (λ a b x y p q. with_body_beside p x y q) xs _ _ (counted w 0))
 
-module _ {elaborates : Elaborates Fault} {elaborates' : Elaborates (List Fault)} (J : StatementsBeside elaborates elaborates') where
-  statements_of_reports : {s : Scope Fault} {s' : Scope (List Fault)} → ScopeBeside s s' → {r : Option (Result TypeNo Fault)} {r' : Option (Result TypeNo (List Fault))} → Optionwise Reports r r' → (body : Option (List Stmt))
+module _ {elaborates : Elaborates Breach} {elaborates' : Elaborates (List Breach)} (J : StatementsBeside elaborates elaborates') where
+  statements_of_reports : {s : Scope Breach} {s' : Scope (List Breach)} → ScopeBeside s s' → {r : Option (Result TypeNo Breach)} {r' : Option (Result TypeNo (List Breach))} → Optionwise Reports r r' → (body : Option (List Stmt))
       → Reports (statements_of elaborates s r body) (statements_of elaborates' s' r' body)
   statements_of_reports b r None = fine []
   statements_of_reports b r (Some xs) = J.elaborates _ _ b _ _ r xs
 
-  with_statements_beside : {r : Option (Result TypeNo Fault)} {r' : Option (Result TypeNo (List Fault))} → Optionwise Reports r r' → (body : Option (List Stmt)) {w : Walk Fault} {w' : Walk (List Fault)} → WalkBeside w w'
+  with_statements_beside : {r : Option (Result TypeNo Breach)} {r' : Option (Result TypeNo (List Breach))} → Optionwise Reports r r' → (body : Option (List Stmt)) {w : Walk Breach} {w' : Walk (List Breach)} → WalkBeside w w'
       → CheckedBeside (with_statements elaborates r body w) (with_statements elaborates' r' body w')
   with_statements_beside r body (walks s t bodies) = is_checked (walks s t bodies) (statements_of_reports s r body)
 
-  block_from_beside : (around : Option Which) {r : Option (Result TypeNo Fault)} {r' : Option (Result TypeNo (List Fault))} → Optionwise Reports r r' → {d : Declared Fault} {d' : Declared (List Fault)} → DeclaredBeside d d'
-      → {xs : List (Steps Fault)} {xs' : List (Steps (List Fault))} → Pairwise StepsBeside xs xs' → (body : Option (List Stmt)) (bodies : Filled)
+  block_from_beside : (around : Option Which) {r : Option (Result TypeNo Breach)} {r' : Option (Result TypeNo (List Breach))} → Optionwise Reports r r' → {d : Declared Breach} {d' : Declared (List Breach)} → DeclaredBeside d d'
+      → {xs : List (Steps Breach)} {xs' : List (Steps (List Breach))} → Pairwise StepsBeside xs xs' → (body : Option (List Stmt)) (bodies : Filled)
       → CheckedBeside (block_from elaborates checked_by around r d xs body bodies) (block_from elaborates' checked_by around r' d' xs' body bodies)
   block_from_beside around r (are_declared b t seen) xs body bodies = with_statements_beside r body
       (with_bodies_beside StepsBeside (λ x. checked_by x around) (λ x. checked_by x around) (λ x y q n w w' p. q.checks.checks around n w w' p) seen (walks b t bodies) xs)
 
 -- ---- procedures
 
-procedure_end : (name : Ident) (around : Option Which) {b : Walk Fault × Begun Fault} {b' : Walk (List Fault) × Begun (List Fault)} → InsideBeside b b' → {f : ChecksBlock Fault} {f' : ChecksBlock (List Fault)} → BlockChecksBeside f f'
+procedure_end : (name : Ident) (around : Option Which) {b : Walk Breach × Begun Breach} {b' : Walk (List Breach) × Begun (List Breach)} → InsideBeside b b' → {f : ChecksBlock Breach} {f' : ChecksBlock (List Breach)} → BlockChecksBeside f f'
     → WalkBeside (ended_procedure least name around b.1 (f (which_of b.1.procedure) b.1.returns b.0)) (ended_procedure every name around b'.1 (f' (which_of b'.1.procedure) b'.1.returns b'.0))
 procedure_end name around (inside w (begins o p n returns)) block = ended_procedure_beside name around (begins o p n returns) (block.checks (which_of p) _ _ returns _ _ w)
 
-block_end : {w : Walk Fault} {w' : Walk (List Fault)} → WalkBeside w w' → w.bodies ≡ w'.bodies
+block_end : {w : Walk Breach} {w' : Walk (List Breach)} → WalkBeside w w' → w.bodies ≡ w'.bodies
 block_end (walks s t bodies) = refl
 
-walk_goes : {w : Walk Fault} {w' : Walk (List Fault)} → WalkBeside w w' → StateBeside (w.scope, w.so_far) (w'.scope, w'.so_far)
+walk_goes : {w : Walk Breach} {w' : Walk (List Breach)} → WalkBeside w w' → StateBeside (w.scope, w.so_far) (w'.scope, w'.so_far)
 walk_goes (walks s t bodies) = goes s t
 
 -- ---- by induction
 
-module _ {elaborates : Elaborates Fault} {elaborates' : Elaborates (List Fault)} (J : StatementsBeside elaborates elaborates') (ends : List ℕ) where
-  abbrev steps_1 : Decl → Steps Fault
+module _ {elaborates : Elaborates Breach} {elaborates' : Elaborates (List Breach)} (J : StatementsBeside elaborates elaborates') (ends : List ℕ) where
+  abbrev steps_1 : Decl → Steps Breach
   steps_1 = steps least elaborates ends
 
-  abbrev steps_2 : Decl → Steps (List Fault)
+  abbrev steps_2 : Decl → Steps (List Breach)
   steps_2 = steps every elaborates' ends
 
-  abbrev block_1 : Block → ChecksBlock Fault
+  abbrev block_1 : Block → ChecksBlock Breach
   block_1 = checks_block least elaborates ends
 
-  abbrev block_2 : Block → ChecksBlock (List Fault)
+  abbrev block_2 : Block → ChecksBlock (List Breach)
   block_2 = checks_block every elaborates' ends
 
   abbrev PD : Decl → Type 0
@@ -203,33 +203,33 @@ module _ {elaborates : Elaborates Fault} {elaborates' : Elaborates (List Fault)}
   abbrev bare_block : Block-F SD SB → Block-F Decl Block
   bare_block x = map-Block SD SB Decl Block (λ e. e.0) (λ e. e.0) x
 
-  abbrev open_1 : Decl-F Decl Block → Decl-F (Steps Fault) (ChecksBlock Fault)
-  open_1 x = map-Decl Decl Block (Steps Fault) (ChecksBlock Fault) steps_1 block_1 x
+  abbrev open_1 : Decl-F Decl Block → Decl-F (Steps Breach) (ChecksBlock Breach)
+  open_1 x = map-Decl Decl Block (Steps Breach) (ChecksBlock Breach) steps_1 block_1 x
 
-  abbrev open_2 : Decl-F Decl Block → Decl-F (Steps (List Fault)) (ChecksBlock (List Fault))
-  open_2 x = map-Decl Decl Block (Steps (List Fault)) (ChecksBlock (List Fault)) steps_2 block_2 x
+  abbrev open_2 : Decl-F Decl Block → Decl-F (Steps (List Breach)) (ChecksBlock (List Breach))
+  open_2 x = map-Decl Decl Block (Steps (List Breach)) (ChecksBlock (List Breach)) steps_2 block_2 x
 
-  abbrev open_block_1 : Block-F Decl Block → Block-F (Steps Fault) (ChecksBlock Fault)
-  open_block_1 x = map-Block Decl Block (Steps Fault) (ChecksBlock Fault) steps_1 block_1 x
+  abbrev open_block_1 : Block-F Decl Block → Block-F (Steps Breach) (ChecksBlock Breach)
+  open_block_1 x = map-Block Decl Block (Steps Breach) (ChecksBlock Breach) steps_1 block_1 x
 
-  abbrev open_block_2 : Block-F Decl Block → Block-F (Steps (List Fault)) (ChecksBlock (List Fault))
-  open_block_2 x = map-Block Decl Block (Steps (List Fault)) (ChecksBlock (List Fault)) steps_2 block_2 x
+  abbrev open_block_2 : Block-F Decl Block → Block-F (Steps (List Breach)) (ChecksBlock (List Breach))
+  open_block_2 x = map-Block Decl Block (Steps (List Breach)) (ChecksBlock (List Breach)) steps_2 block_2 x
 
   at_1 : (e : Decl) (x : Decl-F Decl Block) → out-Decl e ≡ x → steps_1 e ≡ steps_layer least elaborates ends (open_1 x)
   unfolding steps checks_block
-  at_1 e x h = fold_out-Decl (Steps Fault) (ChecksBlock Fault) (steps_layer least elaborates ends) (block_layer least elaborates ends) e ∙ ap (λ (y : Decl-F Decl Block). steps_layer least elaborates ends (open_1 y)) h
+  at_1 e x h = fold_out-Decl (Steps Breach) (ChecksBlock Breach) (steps_layer least elaborates ends) (block_layer least elaborates ends) e ∙ ap (λ (y : Decl-F Decl Block). steps_layer least elaborates ends (open_1 y)) h
 
   at_2 : (e : Decl) (x : Decl-F Decl Block) → out-Decl e ≡ x → steps_2 e ≡ steps_layer every elaborates' ends (open_2 x)
   unfolding steps checks_block
-  at_2 e x h = fold_out-Decl (Steps (List Fault)) (ChecksBlock (List Fault)) (steps_layer every elaborates' ends) (block_layer every elaborates' ends) e ∙ ap (λ (y : Decl-F Decl Block). steps_layer every elaborates' ends (open_2 y)) h
+  at_2 e x h = fold_out-Decl (Steps (List Breach)) (ChecksBlock (List Breach)) (steps_layer every elaborates' ends) (block_layer every elaborates' ends) e ∙ ap (λ (y : Decl-F Decl Block). steps_layer every elaborates' ends (open_2 y)) h
 
   at_block_1 : (e : Block) (x : Block-F Decl Block) → out-Block e ≡ x → block_1 e ≡ block_layer least elaborates ends (open_block_1 x)
   unfolding steps checks_block
-  at_block_1 e x h = fold_out-Block (Steps Fault) (ChecksBlock Fault) (steps_layer least elaborates ends) (block_layer least elaborates ends) e ∙ ap (λ (y : Block-F Decl Block). block_layer least elaborates ends (open_block_1 y)) h
+  at_block_1 e x h = fold_out-Block (Steps Breach) (ChecksBlock Breach) (steps_layer least elaborates ends) (block_layer least elaborates ends) e ∙ ap (λ (y : Block-F Decl Block). block_layer least elaborates ends (open_block_1 y)) h
 
   at_block_2 : (e : Block) (x : Block-F Decl Block) → out-Block e ≡ x → block_2 e ≡ block_layer every elaborates' ends (open_block_2 x)
   unfolding steps checks_block
-  at_block_2 e x h = fold_out-Block (Steps (List Fault)) (ChecksBlock (List Fault)) (steps_layer every elaborates' ends) (block_layer every elaborates' ends) e ∙ ap (λ (y : Block-F Decl Block). block_layer every elaborates' ends (open_block_2 y)) h
+  at_block_2 e x h = fold_out-Block (Steps (List Breach)) (ChecksBlock (List Breach)) (steps_layer every elaborates' ends) (block_layer every elaborates' ends) e ∙ ap (λ (y : Block-F Decl Block). block_layer every elaborates' ends (open_block_2 y)) h
 
   unchecked : ChecksBeside (λ around seen w. w) (λ around seen w. w)
   unchecked = record { checks = λ around seen w w' p. p }
@@ -247,7 +247,7 @@ module _ {elaborates : Elaborates Fault} {elaborates' : Elaborates (List Fault)}
   all_steps : (xs : List SD) → Pairwise StepsBeside (map steps_1 (map (λ (e : SD). e.0) xs)) (map steps_2 (map (λ (e : SD). e.0) xs))
   all_steps xs = pairwise_maps {X = SD} {Y = Decl} StepsBeside (λ e. e.0) steps_1 steps_2 (λ e. e.1) xs
 
-  block_steps : (xs : List SD) (body : Option (List Stmt)) (around : Option Which) {r : Option (Result TypeNo Fault)} {r' : Option (Result TypeNo (List Fault))} → Optionwise Reports r r' → {w : Walk Fault} {w' : Walk (List Fault)} → WalkBeside w w'
+  block_steps : (xs : List SD) (body : Option (List Stmt)) (around : Option Which) {r : Option (Result TypeNo Breach)} {r' : Option (Result TypeNo (List Breach))} → Optionwise Reports r r' → {w : Walk Breach} {w' : Walk (List Breach)} → WalkBeside w w'
       → CheckedBeside (block_layer least elaborates ends (open_block_1 (bare_block (record { decls = xs; body = body }))) around r w) (block_layer every elaborates' ends (open_block_2 (bare_block (record { decls = xs; body = body }))) around r' w')
   block_steps xs body around r (walks s t bodies) = block_from_beside J around r
       (all_declared_beside StepsBeside marked_by marked_by declared_by declared_by (λ x y q s s' b. q.marks s s' b) (λ x y q c c' p. q.declares c c' p) (goes s t) _ (all_steps xs)) (all_steps xs) body bodies
@@ -262,47 +262,47 @@ module _ {elaborates : Elaborates Fault} {elaborates' : Elaborates (List Fault)}
   steps_beside : (d : Decl) → PD d
   steps_beside = ind-Decl PD PB step_decl step_block
 
-  bodies_checked_beside : (around : Option Which) (seen : List ℕ) {w : Walk Fault} {w' : Walk (List Fault)} → WalkBeside w w' → (ds : List Decl) → WalkBeside (bodies_checked least elaborates ends around seen w ds) (bodies_checked every elaborates' ends around seen w' ds)
+  bodies_checked_beside : (around : Option Which) (seen : List ℕ) {w : Walk Breach} {w' : Walk (List Breach)} → WalkBeside w w' → (ds : List Decl) → WalkBeside (bodies_checked least elaborates ends around seen w ds) (bodies_checked every elaborates' ends around seen w' ds)
   bodies_checked_beside around seen w ds = with_bodies_beside Same (λ d. checks_decl least elaborates ends d around) (λ d. checks_decl every elaborates' ends d around) checks_same seen w (pairwise_same ds)
     where
-      checks_same : (x y : Decl) → Same x y → (n : ℕ) (w : Walk Fault) (w' : Walk (List Fault)) → WalkBeside w w' → WalkBeside (checks_decl least elaborates ends x around n w) (checks_decl every elaborates' ends y around n w')
+      checks_same : (x y : Decl) → Same x y → (n : ℕ) (w : Walk Breach) (w' : Walk (List Breach)) → WalkBeside w w' → WalkBeside (checks_decl least elaborates ends x around n w) (checks_decl every elaborates' ends y around n w')
       checks_same x y (same z) n w w' p = (steps_beside z).checks.checks around n w w' p
 
 -- ---- modules
 
-data BegunModule : Walk Fault × List ℕ → Walk (List Fault) × List ℕ → Type 0 where
-  begun_so : {w : Walk Fault} {w' : Walk (List Fault)} → WalkBeside w w' → (seen : List ℕ) → BegunModule (w, seen) (w', seen)
+data BegunModule : Walk Breach × List ℕ → Walk (List Breach) × List ℕ → Type 0 where
+  begun_so : {w : Walk Breach} {w' : Walk (List Breach)} → WalkBeside w w' → (seen : List ℕ) → BegunModule (w, seen) (w', seen)
 
-from_declared : {d : Declared Fault} {d' : Declared (List Fault)} → DeclaredBeside d d' → BegunModule (begun_from d (no_bodies d.0.procedures), d.2) (begun_from d' (no_bodies d'.0.procedures), d'.2)
+from_declared : {d : Declared Breach} {d' : Declared (List Breach)} → DeclaredBeside d d' → BegunModule (begun_from d (no_bodies d.0.procedures), d.2) (begun_from d' (no_bodies d'.0.procedures), d'.2)
 from_declared (are_declared (scopes tables types vars procs own outer) t seen) = begun_so (walks (scopes tables types vars procs own outer) t _) seen
 
-begun_module_beside : (modules : List (List ℕ × ℕ)) (ends : List ℕ) {s : Scope Fault} {s' : Scope (List Fault)} → ScopeBeside s s' → (m : Module) (ds : List Decl) → BegunModule (begun_module least modules ends s m ds) (begun_module every modules ends s' m ds)
+begun_module_beside : (modules : List (List ℕ × ℕ)) (ends : List ℕ) {s : Scope Breach} {s' : Scope (List Breach)} → ScopeBeside s s' → (m : Module) (ds : List Decl) → BegunModule (begun_module least modules ends s m ds) (begun_module every modules ends s' m ds)
 begun_module_beside modules ends b m ds = from_declared (declared_module_beside modules ends b m ds)
 
-module_or_reports : (modules : List (List ℕ × ℕ)) (own : Option Table) (m : Module) {c : Checked Fault} {c' : Checked (List Fault)} → CheckedBeside c c' → Reports (module_or least modules own m c) (module_or every modules own m c')
+module_or_reports : (modules : List (List ℕ × ℕ)) (own : Option Table) (m : Module) {c : Checked Breach} {c' : Checked (List Breach)} → CheckedBeside c c' → Reports (module_or least modules own m c) (module_or every modules own m c')
 module_or_reports modules own m (is_checked (walks (scopes tables types vars procs own' outer) t bodies) r) = then_reports (both_reports t r) (λ p. fine _)
 
 own_names_beside : (es : List (List ℕ × Meaning)) → Pairwise EntryBeside (own_names es) (own_names es)
 own_names_beside es = fold_keeps (Pairwise EntryBeside) with_own_name with_own_name (λ ns ns' e p. entered_beside e.0 (known_declared Here (fine e.1)) p) es _ _ none
 
-with_own_beside : {s : Scope Fault} {s' : Scope (List Fault)} → ScopeBeside s s' → (own : Table) → ScopeBeside (with_own s own) (with_own s' own)
+with_own_beside : {s : Scope Breach} {s' : Scope (List Breach)} → ScopeBeside s s' → (own : Table) → ScopeBeside (with_own s own) (with_own s' own)
 with_own_beside (scopes tables types vars procs names outer) own = scopes tables (with_own_types types own) (exported_variables own.exported) (exported_headings own.exported) (own_names_beside own.exported) outer
 
 implementation_scope_beside : (own : Table) (tables : List Table) → ScopeBeside (implementation_scope own tables) (implementation_scope own tables)
 implementation_scope_beside own tables = with_own_beside (first_scope_beside own.number tables) own
 
-module _ {elaborates : Elaborates Fault} {elaborates' : Elaborates (List Fault)} (J : StatementsBeside elaborates elaborates') where
-  walked_from : (ends : List ℕ) (ds : List Decl) (body : Option (List Stmt)) {w : Walk Fault × List ℕ} {w' : Walk (List Fault) × List ℕ} → BegunModule w w'
+module _ {elaborates : Elaborates Breach} {elaborates' : Elaborates (List Breach)} (J : StatementsBeside elaborates elaborates') where
+  walked_from : (ends : List ℕ) (ds : List Decl) (body : Option (List Stmt)) {w : Walk Breach × List ℕ} {w' : Walk (List Breach) × List ℕ} → BegunModule w w'
       → CheckedBeside (with_statements elaborates None body (bodies_checked least elaborates ends None w.1 w.0 ds)) (with_statements elaborates' None body (bodies_checked every elaborates' ends None w'.1 w'.0 ds))
   walked_from ends ds body (begun_so w seen) = with_statements_beside J nothing body (bodies_checked_beside J ends None seen w ds)
 
-  walked_beside : (modules : List (List ℕ × ℕ)) (ends : List ℕ) {s : Scope Fault} {s' : Scope (List Fault)} → ScopeBeside s s' → (m : Module) (b : Block) → CheckedBeside (walked least elaborates modules ends s m b) (walked every elaborates' modules ends s' m b)
+  walked_beside : (modules : List (List ℕ × ℕ)) (ends : List ℕ) {s : Scope Breach} {s' : Scope (List Breach)} → ScopeBeside s s' → (m : Module) (b : Block) → CheckedBeside (walked least elaborates modules ends s m b) (walked every elaborates' modules ends s' m b)
   walked_beside modules ends s m b = walked_from ends (out-Block b).decls (out-Block b).body (begun_module_beside modules ends s m (out-Block b).decls)
 
-  of_walk_reports : (modules : List (List ℕ × ℕ)) {s : Scope Fault} {s' : Scope (List Fault)} → ScopeBeside s s' → (own : Option Table) (m : Module) (b : Block) → Reports (of_walk least elaborates modules s own m b) (of_walk every elaborates' modules s' own m b)
+  of_walk_reports : (modules : List (List ℕ × ℕ)) {s : Scope Breach} {s' : Scope (List Breach)} → ScopeBeside s s' → (own : Option Table) (m : Module) (b : Block) → Reports (of_walk least elaborates modules s own m b) (of_walk every elaborates' modules s' own m b)
   of_walk_reports modules s own m b = module_or_reports modules own m (walked_beside modules (procedure_ends (out-Block b).decls) s m b)
 
-  of_body_reports : {s : Scope Fault} {s' : Scope (List Fault)} → ScopeBeside s s' → (own : Option Table) (m : Module) (b : Block) → Reports (of_body least elaborates s own m b) (of_body every elaborates' s' own m b)
+  of_body_reports : {s : Scope Breach} {s' : Scope (List Breach)} → ScopeBeside s s' → (own : Option Table) (m : Module) (b : Block) → Reports (of_body least elaborates s own m b) (of_body every elaborates' s' own m b)
   of_body_reports (scopes tables types vars procs {level = level} {withs = withs} names outer) own m b = of_walk_reports (numbered_modules tables).0 (scopes tables types vars procs {level = level} {withs = withs} names outer) own m b
 
   of_implementation_reports : (m : Module) (own : Option Table) (tables : List Table) (b : Block) → Reports (of_implementation least elaborates m own tables b) (of_implementation every elaborates' m own tables b)

@@ -30,7 +30,7 @@ use Rattle.check_operator.specs.Suits.{sort_suits, bases_suit}
 use Rattle.check_expr.specs.Meanings.{Meant}
 use Rattle.check_stmt_parts.specs.declared.control.Control.{Control}
 use Rattle.check_stmt_parts.specs.declared.control.Course.{Course}
-use Rattle.check_scope.specs.declared.fault.Fault.{Fault}
+use Rattle.m2_rule.specs.declared.breach.Breach.{Breach}
 use Rattle.check_scope.specs.Elaborated.{every, least}
 use Rattle.law_least_definition.specs.Least.{Reports, fine}
 use Rattle.check_stmt_parts.specs.Control.{controlled_as, controlled, is_own, control_by, control_of, start_at, limit_number, limit_by, limit_at, is_zero, step_number, step_by, step_of, type_of, base_of, course, course_of, repeated_for}
@@ -52,7 +52,7 @@ controlled_as_reports at t d class.Whole = reported_reports at rule.WrongControl
 pub controlled_reports : (types : Types) → (at : Pos) → (t : TypeNo) → (d : Place) → Reports (controlled least types at t d) (controlled every types at t d)
 controlled_reports types at t d = controlled_as_reports at t d (class_at types t)
 
-pub control_by_reports : {s : Scope Fault} {s' : Scope (List Fault)} → ScopeBeside s s' → (at : Pos) → (p2 : Meaning) → Reports (control_by least s at p2) (control_by every s' at p2)
+pub control_by_reports : {s : Scope Breach} {s' : Scope (List Breach)} → ScopeBeside s s' → (at : Pos) → (p2 : Meaning) → Reports (control_by least s at p2) (control_by every s' at p2)
 control_by_reports s at (meaning.Constant v) = reported_reports at rule.WrongControl
 control_by_reports s at (meaning.Type t n) = reported_reports at rule.WrongControl
 control_by_reports (scopes tables types vars procs {level = level} {withs = withs} own outer) at (meaning.Variable v) = where_reports (not (v.home == types.home)) at rule.WrongControl (controlled_reports types at v.of (rooted (root.Global v)))
@@ -64,10 +64,10 @@ control_by_reports s at meaning.Ahead = reported_reports at rule.Undeclared
 control_by_reports s at (meaning.Standard f) = reported_reports at rule.WrongControl
 control_by_reports s at (meaning.Module k) = reported_reports at rule.WrongControl
 
-pub control_of_reports : {s : Scope Fault} {s' : Scope (List Fault)} → ScopeBeside s s' → (name : Ident) → Reports (control_of least s name) (control_of every s' name)
+pub control_of_reports : {s : Scope Breach} {s' : Scope (List Breach)} → ScopeBeside s s' → (name : Ident) → Reports (control_of least s name) (control_of every s' name)
 control_of_reports s name = then_reports (of_sort_reports name.pos rule.WrongControl (looked_up_sought name s)) (λ v. control_by_reports s name.pos v)
 
-pub start_at_reports : (types : Types) → (at : Pos) → {t : Result TypeNo Fault} {t' : Result TypeNo (List Fault)} → Reports t t' → {x : Result Computed Fault} {x' : Result Computed (List Fault)} → Reports x x' → Reports (start_at least types at t x) (start_at every types at t' x')
+pub start_at_reports : (types : Types) → (at : Pos) → {t : Result TypeNo Breach} {t' : Result TypeNo (List Breach)} → Reports t t' → {x : Result Computed Breach} {x' : Result Computed (List Breach)} → Reports x x' → Reports (start_at least types at t x) (start_at every types at t' x')
 start_at_reports types at t x = then_reports (both_reports t x) (λ p. value_suited_reports rule.NotAssignable types p.0 at p.1)
 
 pub limit_number_reports : (base : TypeNo) → (at : Pos) → (n : ℤ) → (p3 : Option TypeNo) → Reports (limit_number least base at n p3) (limit_number every base at n p3)
@@ -82,7 +82,7 @@ limit_by_reports base at (Some (side.Set e)) = reported_reports at rule.NotAssig
 limit_by_reports base at (Some (side.Routine t e)) = reported_reports at rule.NotAssignable
 limit_by_reports base at (Some (side.Procedure p)) = reported_reports at rule.NotAssignable
 
-pub limit_at_reports : (at : Pos) → {base : Result TypeNo Fault} {base' : Result TypeNo (List Fault)} → Reports base base' → {x : Result Computed Fault} {x' : Result Computed (List Fault)} → Reports x x' → Reports (limit_at least at base x) (limit_at every at base' x')
+pub limit_at_reports : (at : Pos) → {base : Result TypeNo Breach} {base' : Result TypeNo (List Breach)} → Reports base base' → {x : Result Computed Breach} {x' : Result Computed (List Breach)} → Reports x x' → Reports (limit_at least at base x) (limit_at every at base' x')
 limit_at_reports at base x = then_reports (both_reports base x) (λ p. limit_by_reports p.0 at (side_of p.1))
 
 pub step_number_reports : (at : Pos) → (p1 : Option Ordinal) → Reports (step_number least at p1) (step_number every at p1)
@@ -92,25 +92,25 @@ step_number_reports at (Some a) = where_reports (is_zero a.number) at rule.ZeroS
 pub step_by_reports : (at : Pos) → (v : Value) → Reports (step_by least at v) (step_by every at v)
 step_by_reports at v = step_number_reports at (whole_number v)
 
-pub step_of_reports : {s : Scope Fault} {s' : Scope (List Fault)} → ScopeBeside s s' → {p1 : Option (Meant Fault)} {p1' : Option (Meant (List Fault))} → Optionwise MeantBeside p1 p1' → Reports (step_of least s p1) (step_of every s' p1')
+pub step_of_reports : {s : Scope Breach} {s' : Scope (List Breach)} → ScopeBeside s s' → {p1 : Option (Meant Breach)} {p1' : Option (Meant (List Breach))} → Optionwise MeantBeside p1 p1' → Reports (step_of least s p1) (step_of every s' p1')
 step_of_reports s nothing = fine _
 step_of_reports s (something (meants (parts x_at x_p x_n) x_m)) = then_reports (constant_reports s (parts x_at x_p x_n)) (λ v. step_by_reports x_at v)
 
-pub type_of_reports : {v : Result Control Fault} {v' : Result Control (List Fault)} → Reports v v' → Reports (type_of v) (type_of v')
+pub type_of_reports : {v : Result Control Breach} {v' : Result Control (List Breach)} → Reports v v' → Reports (type_of v) (type_of v')
 type_of_reports v = then_reports v (λ x. fine _)
 
-pub base_of_reports : {v : Result Control Fault} {v' : Result Control (List Fault)} → Reports v v' → Reports (base_of v) (base_of v')
+pub base_of_reports : {v : Result Control Breach} {v' : Result Control (List Breach)} → Reports v v' → Reports (base_of v) (base_of v')
 base_of_reports v = then_reports v (λ x. fine _)
 
-pub course_reports : {v : Result Control Fault} {v' : Result Control (List Fault)} → Reports v v' → {start : Result TypedExpr Fault} {start' : Result TypedExpr (List Fault)} → Reports start start' → {limit : Result TypedExpr Fault} {limit' : Result TypedExpr (List Fault)} → Reports limit limit' → {by : Result ℤ Fault} {by' : Result ℤ (List Fault)} → Reports by by' → Reports (course least v start limit by) (course every v' start' limit' by')
+pub course_reports : {v : Result Control Breach} {v' : Result Control (List Breach)} → Reports v v' → {start : Result TypedExpr Breach} {start' : Result TypedExpr (List Breach)} → Reports start start' → {limit : Result TypedExpr Breach} {limit' : Result TypedExpr (List Breach)} → Reports limit limit' → {by : Result ℤ Breach} {by' : Result ℤ (List Breach)} → Reports by by' → Reports (course least v start limit by) (course every v' start' limit' by')
 course_reports v start limit by = then_reports (both_reports (both_reports v start) (both_reports limit by)) (λ p. fine _)
 
-pub course_of_reports : {s : Scope Fault} {s' : Scope (List Fault)} → ScopeBeside s s' → (name : Ident) → {start : Meant Fault} {start' : Meant (List Fault)} → MeantBeside start start' → {limit : Meant Fault} {limit' : Meant (List Fault)} → MeantBeside limit limit'
-    → {by : Option (Meant Fault)} {by' : Option (Meant (List Fault))} → Optionwise MeantBeside by by' → Reports (course_of least s name start limit by) (course_of every s' name start' limit' by')
+pub course_of_reports : {s : Scope Breach} {s' : Scope (List Breach)} → ScopeBeside s s' → (name : Ident) → {start : Meant Breach} {start' : Meant (List Breach)} → MeantBeside start start' → {limit : Meant Breach} {limit' : Meant (List Breach)} → MeantBeside limit limit'
+    → {by : Option (Meant Breach)} {by' : Option (Meant (List Breach))} → Optionwise MeantBeside by by' → Reports (course_of least s name start limit by) (course_of every s' name start' limit' by')
 course_of_reports (scopes tables types vars procs {level = level} {withs = withs} own outer) name (meants (parts p f f_n) m) (meants (parts q h h_n) n) by =
     let s = (scopes tables types vars procs {level = level} {withs = withs} own outer) in
     let v = control_of_reports s name in
     course_reports v (start_at_reports types p (type_of_reports v) (value_of_reports s (meants (parts p f f_n) m))) (limit_at_reports q (base_of_reports v) (value_of_reports s (meants (parts q h h_n) n))) (step_of_reports s by)
 
-pub repeated_for_reports : {c : Result Course Fault} {c' : Result Course (List Fault)} → Reports c c' → {body : Result (List TypedStmt) Fault} {body' : Result (List TypedStmt) (List Fault)} → Reports body body' → Reports (repeated_for least c body) (repeated_for every c' body')
+pub repeated_for_reports : {c : Result Course Breach} {c' : Result Course (List Breach)} → Reports c c' → {body : Result (List TypedStmt) Breach} {body' : Result (List TypedStmt) (List Breach)} → Reports body body' → Reports (repeated_for least c body) (repeated_for every c' body')
 repeated_for_reports c body = then_reports (both_reports c body) (λ p. fine _)

@@ -23,7 +23,7 @@ use Rattle.check_operator.specs.declared.computed.Designated.TheVariants as desi
 use Rattle.check_operator.specs.Classes.{class_at}
 use Rattle.check_expr.specs.Meanings.{Meant}
 use Rattle.check_stmt_parts.specs.Ranges.{taken}
-use Rattle.check_scope.specs.declared.fault.Fault.{Fault}
+use Rattle.m2_rule.specs.declared.breach.Breach.{Breach}
 use Rattle.check_scope.specs.Elaborated.{every, least}
 use Rattle.law_least_definition.specs.Least.{Reports, fine}
 use Rattle.check_stmt_parts.specs.Labels.{suits_selector, ordinal_in, of_type, no_constant, value_bound, variable_bound, bound_by, bound_in, bound_of, is_of_base, number_fits, suits_base, bound_suits, single, ordered_if, are_ordered, spanned, label_between, Labels, with_new, with_label, item_label, with_item, labels_in}
@@ -73,12 +73,12 @@ bound_by_reports types base label at (designated.Nested p) = reported_reports at
 bound_by_reports types base label at (designated.Standard f) = reported_reports at rule.NoProcedureValue
 bound_by_reports types base label at (designated.Module k) = no_constant_reports false label at
 
-pub bound_in_reports : (types : Types) → (base : Option TypeNo) → (label : Pos) → (at : Pos) → {d : Result Designated (Meaningless Fault)} {d' : Result Designated (Meaningless (List Fault))} → SoughtBeside d d' → Reports (bound_in least types base label at d) (bound_in every types base label at d')
+pub bound_in_reports : (types : Types) → (base : Option TypeNo) → (label : Pos) → (at : Pos) → {d : Result Designated (Meaningless Breach)} {d' : Result Designated (Meaningless (List Breach))} → SoughtBeside d d' → Reports (bound_in least types base label at d) (bound_in every types base label at d')
 bound_in_reports types base label at (is_found d) = bound_by_reports types base label at d
 bound_in_reports types base label at (is_broken f fs p) = is_refused f fs p
 bound_in_reports types base label at (is_headless f fs p) = no_constant_reports false label at
 
-pub bound_of_reports : {s : Scope Fault} {s' : Scope (List Fault)} → ScopeBeside s s' → (base : Option TypeNo) → (label : Pos) → {x : Meant Fault} {x' : Meant (List Fault)} → MeantBeside x x' → Reports (bound_of least s base label x) (bound_of every s' base label x')
+pub bound_of_reports : {s : Scope Breach} {s' : Scope (List Breach)} → ScopeBeside s s' → (base : Option TypeNo) → (label : Pos) → {x : Meant Breach} {x' : Meant (List Breach)} → MeantBeside x x' → Reports (bound_of least s base label x) (bound_of every s' base label x')
 bound_of_reports (scopes tables types vars procs {level = level} {withs = withs} own outer) base label (meants (parts x_at x_p x_n) x_m) = bound_in_reports types base label x_at (x_m _ _ (scopes tables types vars procs {level = level} {withs = withs} own outer))
 
 pub number_fits_reports : (base : TypeNo) → (at : Pos) → (a : Ordinal) → (p3 : Option TypeNo) → Reports (number_fits least base at a p3) (number_fits every base at a p3)
@@ -89,42 +89,42 @@ pub suits_base_reports : (base : Option TypeNo) → (at : Pos) → (a : Ordinal)
 suits_base_reports None at a = fine tt
 suits_base_reports (Some base) at a = where_reports (not (is_of_base base a.sort)) at rule.WrongType (number_fits_reports base at a a.sort)
 
-pub bound_suits_reports : (base : Option TypeNo) → (at : Pos) → {a : Result Ordinal Fault} {a' : Result Ordinal (List Fault)} → Reports a a' → Reports (bound_suits least base at a) (bound_suits every base at a')
+pub bound_suits_reports : (base : Option TypeNo) → (at : Pos) → {a : Result Ordinal Breach} {a' : Result Ordinal (List Breach)} → Reports a a' → Reports (bound_suits least base at a) (bound_suits every base at a')
 bound_suits_reports base at a = then_reports a (λ v. suits_base_reports base at v)
 
-pub single_reports : (base : Option TypeNo) → (at : Pos) → {a : Result Ordinal Fault} {a' : Result Ordinal (List Fault)} → Reports a a' → Reports (single least base at a) (single every base at a')
+pub single_reports : (base : Option TypeNo) → (at : Pos) → {a : Result Ordinal Breach} {a' : Result Ordinal (List Breach)} → Reports a a' → Reports (single least base at a) (single every base at a')
 single_reports base at a = then_reports (both_reports a (bound_suits_reports base at a)) (λ p. fine _)
 
 pub ordered_if_reports : (at : Pos) → (a : Ordinal) → (b : Ordinal) → (p3 : Option (Option TypeNo)) → Reports (ordered_if least at a b p3) (ordered_if every at a b p3)
 ordered_if_reports at a b None = fine tt
 ordered_if_reports at a b (Some sort) = where_reports (int_lt b.number a.number) at rule.EmptyRange (fine tt)
 
-pub are_ordered_reports : (at : Pos) → {a : Result Ordinal Fault} {a' : Result Ordinal (List Fault)} → Reports a a' → {b : Result Ordinal Fault} {b' : Result Ordinal (List Fault)} → Reports b b' → Reports (are_ordered least at a b) (are_ordered every at a' b')
+pub are_ordered_reports : (at : Pos) → {a : Result Ordinal Breach} {a' : Result Ordinal (List Breach)} → Reports a a' → {b : Result Ordinal Breach} {b' : Result Ordinal (List Breach)} → Reports b b' → Reports (are_ordered least at a b) (are_ordered every at a' b')
 are_ordered_reports at a b = then_reports (both_reports a b) (λ p. ordered_if_reports at p.0 p.1 (common p.0.sort p.1.sort))
 
-pub spanned_reports : (base : Option TypeNo) → (at : Pos) → {a : Result Ordinal Fault} {a' : Result Ordinal (List Fault)} → Reports a a' → (at' : Pos) → {b : Result Ordinal Fault} {b' : Result Ordinal (List Fault)} → Reports b b' → Reports (spanned least base at a at' b) (spanned every base at a' at' b')
+pub spanned_reports : (base : Option TypeNo) → (at : Pos) → {a : Result Ordinal Breach} {a' : Result Ordinal (List Breach)} → Reports a a' → (at' : Pos) → {b : Result Ordinal Breach} {b' : Result Ordinal (List Breach)} → Reports b b' → Reports (spanned least base at a at' b) (spanned every base at a' at' b')
 spanned_reports base at a at' b = then_reports (both_reports (both_reports a b) (beside_reports (beside_reports (bound_suits_reports base at a) (bound_suits_reports base at' b)) (are_ordered_reports at a b))) (λ p. fine _)
 
-pub label_between_reports : {s : Scope Fault} {s' : Scope (List Fault)} → ScopeBeside s s' → (base : Option TypeNo) → {low : Meant Fault} {low' : Meant (List Fault)} → MeantBeside low low' → {p3 : Option (Meant Fault)} {p3' : Option (Meant (List Fault))} → Optionwise MeantBeside p3 p3' → Reports (label_between least s base low p3) (label_between every s' base low' p3')
+pub label_between_reports : {s : Scope Breach} {s' : Scope (List Breach)} → ScopeBeside s s' → (base : Option TypeNo) → {low : Meant Breach} {low' : Meant (List Breach)} → MeantBeside low low' → {p3 : Option (Meant Breach)} {p3' : Option (Meant (List Breach))} → Optionwise MeantBeside p3 p3' → Reports (label_between least s base low p3) (label_between every s' base low' p3')
 label_between_reports s base (meants (parts low_at low_p low_n) low_m) nothing = single_reports base low_at (bound_of_reports s base low_at (meants (parts low_at low_p low_n) low_m))
 label_between_reports s base (meants (parts low_at low_p low_n) low_m) (something (meants (parts high_at high_p high_n) high_m)) = spanned_reports base low_at (bound_of_reports s base low_at (meants (parts low_at low_p low_n) low_m)) high_at (bound_of_reports s base low_at (meants (parts high_at high_p high_n) high_m))
 
-with_new_kept : (at : Pos) → {st : Labels Fault} {st' : Labels (List Fault)} → KeptBeside st st' → (l : Label) → KeptBeside (with_new least at st l) (with_new every at st' l)
+with_new_kept : (at : Pos) → {st : Labels Breach} {st' : Labels (List Breach)} → KeptBeside st st' → (l : Label) → KeptBeside (with_new least at st l) (with_new every at st' l)
 with_new_kept at (is_kept ranges so) l = is_kept (taken l.low l.high ranges).0 (with_next_reports so (where_reports (not (taken l.low l.high ranges).1) at rule.WrongLabel (fine l)))
 
-with_label_kept : (at : Pos) → {st : Labels Fault} {st' : Labels (List Fault)} → KeptBeside st st' → {l : Result Label Fault} {l' : Result Label (List Fault)} → Reports l l' → KeptBeside (with_label least at st l) (with_label every at st' l')
+with_label_kept : (at : Pos) → {st : Labels Breach} {st' : Labels (List Breach)} → KeptBeside st st' → {l : Result Label Breach} {l' : Result Label (List Breach)} → Reports l l' → KeptBeside (with_label least at st l) (with_label every at st' l')
 with_label_kept at st (fine l) = with_new_kept at st l
 with_label_kept at (is_kept ranges so) (is_refused f fs p) = is_kept ranges (with_next_reports so (is_refused f fs p))
 
-labelled_kept : {x : Meant Fault} {x' : Meant (List Fault)} → MeantBeside x x' → {st : Labels Fault} {st' : Labels (List Fault)} → KeptBeside st st' → {l : Result Label Fault} {l' : Result Label (List Fault)} → Reports l l'
+labelled_kept : {x : Meant Breach} {x' : Meant (List Breach)} → MeantBeside x x' → {st : Labels Breach} {st' : Labels (List Breach)} → KeptBeside st st' → {l : Result Label Breach} {l' : Result Label (List Breach)} → Reports l l'
     → KeptBeside (with_label least x.fixed.at st l) (with_label every x'.fixed.at st' l')
 labelled_kept (meants (parts at p p_n) m) st l = with_label_kept at st l
 
-item_label_reports : {s : Scope Fault} {s' : Scope (List Fault)} → ScopeBeside s s' → (base : Option TypeNo) → (i : Item) → Reports (item_label least s base i) (item_label every s' base i)
+item_label_reports : {s : Scope Breach} {s' : Scope (List Breach)} → ScopeBeside s s' → (base : Option TypeNo) → (i : Item) → Reports (item_label least s base i) (item_label every s' base i)
 item_label_reports s base i = label_between_reports s base (meant_beside (out-Item i).low) (meant_if_beside (out-Item i).high)
 
-with_item_kept : {s : Scope Fault} {s' : Scope (List Fault)} → ScopeBeside s s' → (base : Option TypeNo) → {st : Labels Fault} {st' : Labels (List Fault)} → KeptBeside st st' → (i : Item) → KeptBeside (with_item least s base st i) (with_item every s' base st' i)
+with_item_kept : {s : Scope Breach} {s' : Scope (List Breach)} → ScopeBeside s s' → (base : Option TypeNo) → {st : Labels Breach} {st' : Labels (List Breach)} → KeptBeside st st' → (i : Item) → KeptBeside (with_item least s base st i) (with_item every s' base st' i)
 with_item_kept s base st i = labelled_kept (meant_beside (out-Item i).low) st (item_label_reports s base i)
 
-pub labels_in_kept : {s : Scope Fault} {s' : Scope (List Fault)} → ScopeBeside s s' → (base : Option TypeNo) → (ranges : List (ℤ × ℤ)) → (items : List Item) → KeptBeside (labels_in least s base ranges items) (labels_in every s' base ranges items)
+pub labels_in_kept : {s : Scope Breach} {s' : Scope (List Breach)} → ScopeBeside s s' → (base : Option TypeNo) → (ranges : List (ℤ × ℤ)) → (items : List Item) → KeptBeside (labels_in least s base ranges items) (labels_in every s' base ranges items)
 labels_in_kept {s = s} {s' = s'} b base ranges items = fold_keeps KeptBeside (with_item least s base) (with_item every s' base) (λ st st' i r. with_item_kept b base r i) items _ _ (is_kept ranges (fine []))

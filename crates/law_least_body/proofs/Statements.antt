@@ -13,7 +13,7 @@ use Rattle.typed_tree.specs.declared.computed.TypedExpr.{TypedExpr}
 use Rattle.typed_tree.specs.declared.statement.TypedStmt.{TypedStmt}
 use Rattle.typed_tree.specs.declared.statement.TypedArm.{TypedArm}
 use Rattle.typed_tree.specs.declared.statement.Label.{Label}
-use Rattle.check_scope.specs.declared.fault.Fault.{Fault}
+use Rattle.m2_rule.specs.declared.breach.Breach.{Breach}
 use Rattle.check_scope.specs.declared.scope.Scope.{Scope}
 use Rattle.check_scope.specs.Elaborated.{Gathers, every, least}
 use Rattle.check_expr.specs.Meanings.{meant}
@@ -36,14 +36,14 @@ use Rattle.law_least_body.proofs.Control.{course_of_reports, repeated_for_report
 
 -- ---- what elaborates, in scopes and surroundings that go together
 
-pub record ElaboratesBeside (f : Elaborates Fault) (f' : Elaborates (List Fault)) : Type 0 where
-  pub elaborates : (s : Scope Fault) (s' : Scope (List Fault)) → ScopeBeside s s' → (w : Around Fault) (w' : Around (List Fault)) → AroundBeside w w' → Reports (f s w) (f' s' w')
+pub record ElaboratesBeside (f : Elaborates Breach) (f' : Elaborates (List Breach)) : Type 0 where
+  pub elaborates : (s : Scope Breach) (s' : Scope (List Breach)) → ScopeBeside s s' → (w : Around Breach) (w' : Around (List Breach)) → AroundBeside w w' → Reports (f s w) (f' s' w')
 
-record RestBeside (f : ElaboratesRest Fault) (f' : ElaboratesRest (List Fault)) : Type 0 where
-  follows : (s : Scope Fault) (s' : Scope (List Fault)) → ScopeBeside s s' → (w : Around Fault) (w' : Around (List Fault)) → AroundBeside w w' → Reports (f s w) (f' s' w')
+record RestBeside (f : ElaboratesRest Breach) (f' : ElaboratesRest (List Breach)) : Type 0 where
+  follows : (s : Scope Breach) (s' : Scope (List Breach)) → ScopeBeside s s' → (w : Around Breach) (w' : Around (List Breach)) → AroundBeside w w' → Reports (f s w) (f' s' w')
 
-record ArmBeside (f : ElaboratesArm Fault) (f' : ElaboratesArm (List Fault)) : Type 0 where
-  keeps : (s : Scope Fault) (s' : Scope (List Fault)) → ScopeBeside s s' → (w : Around Fault) (w' : Around (List Fault)) → AroundBeside w w' → (base : Option TypeNo) (ranges : List (ℤ × ℤ)) → KeptBeside (f s w base ranges) (f' s' w' base ranges)
+record ArmBeside (f : ElaboratesArm Breach) (f' : ElaboratesArm (List Breach)) : Type 0 where
+  keeps : (s : Scope Breach) (s' : Scope (List Breach)) → ScopeBeside s s' → (w : Around Breach) (w' : Around (List Breach)) → AroundBeside w w' → (base : Option TypeNo) (ranges : List (ℤ × ℤ)) → KeptBeside (f s w base ranges) (f' s' w' base ranges)
 
 -- ---- one after another
 
@@ -55,42 +55,42 @@ args_meant_beside : (args : Option (List Expr)) → Pairwise MeantBeside (args_m
 args_meant_beside None = none
 args_meant_beside (Some xs) = args_beside xs
 
-gives_beside : {w : Around Fault} {w' : Around (List Fault)} → AroundBeside w w' → Optionwise Reports w.gives w'.gives
+gives_beside : {w : Around Breach} {w' : Around (List Breach)} → AroundBeside w w' → Optionwise Reports w.gives w'.gives
 gives_beside (arounds gives looped) = gives
 
-module _ {s : Scope Fault} {s' : Scope (List Fault)} (b : ScopeBeside s s') {w : Around Fault} {w' : Around (List Fault)} (a : AroundBeside w w') where
-  all_of_reports : {xs : List (Elaborates Fault)} {xs' : List (Elaborates (List Fault))} → Pairwise ElaboratesBeside xs xs' → Reports (all_of least s w xs) (all_of every s' w' xs')
+module _ {s : Scope Breach} {s' : Scope (List Breach)} (b : ScopeBeside s s') {w : Around Breach} {w' : Around (List Breach)} (a : AroundBeside w w') where
+  all_of_reports : {xs : List (Elaborates Breach)} {xs' : List (Elaborates (List Breach))} → Pairwise ElaboratesBeside xs xs' → Reports (all_of least s w xs) (all_of every s' w' xs')
   all_of_reports xs = fold_pairwise Reports ElaboratesBeside (with_stmt least s w) (with_stmt every s' w') (λ so so' x x' p q. with_next_reports p (q.elaborates s s' b w w' a)) xs _ _ (fine [])
 
-  all_if_reports : {xs : Option (List (Elaborates Fault))} {xs' : Option (List (Elaborates (List Fault)))} → Optionwise (Pairwise ElaboratesBeside) xs xs' → Reports (all_if least s w xs) (all_if every s' w' xs')
+  all_if_reports : {xs : Option (List (Elaborates Breach))} {xs' : Option (List (Elaborates (List Breach)))} → Optionwise (Pairwise ElaboratesBeside) xs xs' → Reports (all_if least s w xs) (all_if every s' w' xs')
   all_if_reports nothing = fine None
   all_if_reports (something xs) = standing_reports (all_of_reports xs)
 
-next_arm : {so : Result (List TypedArm) Fault} {so' : Result (List TypedArm) (List Fault)} → Reports so so' → {r : List (ℤ × ℤ) × Result TypedArm Fault} {r' : List (ℤ × ℤ) × Result TypedArm (List Fault)} → KeptBeside r r'
+next_arm : {so : Result (List TypedArm) Breach} {so' : Result (List TypedArm) (List Breach)} → Reports so so' → {r : List (ℤ × ℤ) × Result TypedArm Breach} {r' : List (ℤ × ℤ) × Result TypedArm (List Breach)} → KeptBeside r r'
     → KeptBeside (r.0, with_next least so r.1) (r'.0, with_next every so' r'.1)
 next_arm so (is_kept ranges x) = is_kept ranges (with_next_reports so x)
 
-with_arm_kept : {s : Scope Fault} {s' : Scope (List Fault)} → ScopeBeside s s' → {w : Around Fault} {w' : Around (List Fault)} → AroundBeside w w' → (base : Option TypeNo) {st : Arms Fault} {st' : Arms (List Fault)} → KeptBeside st st'
-    → {x : ElaboratesArm Fault} {x' : ElaboratesArm (List Fault)} → ArmBeside x x' → KeptBeside (with_arm least s w base st x) (with_arm every s' w' base st' x')
+with_arm_kept : {s : Scope Breach} {s' : Scope (List Breach)} → ScopeBeside s s' → {w : Around Breach} {w' : Around (List Breach)} → AroundBeside w w' → (base : Option TypeNo) {st : Arms Breach} {st' : Arms (List Breach)} → KeptBeside st st'
+    → {x : ElaboratesArm Breach} {x' : ElaboratesArm (List Breach)} → ArmBeside x x' → KeptBeside (with_arm least s w base st x) (with_arm every s' w' base st' x')
 with_arm_kept {s = s} {s' = s'} b {w = w} {w' = w'} a base (is_kept ranges so) x = next_arm so (x.keeps s s' b w w' a base ranges)
 
-arms_of_reports : {s : Scope Fault} {s' : Scope (List Fault)} → ScopeBeside s s' → {w : Around Fault} {w' : Around (List Fault)} → AroundBeside w w' → (base : Option TypeNo) {xs : List (ElaboratesArm Fault)} {xs' : List (ElaboratesArm (List Fault))} → Pairwise ArmBeside xs xs'
+arms_of_reports : {s : Scope Breach} {s' : Scope (List Breach)} → ScopeBeside s s' → {w : Around Breach} {w' : Around (List Breach)} → AroundBeside w w' → (base : Option TypeNo) {xs : List (ElaboratesArm Breach)} {xs' : List (ElaboratesArm (List Breach))} → Pairwise ArmBeside xs xs'
     → Reports (arms_of least s w base xs) (arms_of every s' w' base xs')
 arms_of_reports {s = s} {s' = s'} b {w = w} {w' = w'} a base xs = reported_of (fold_pairwise KeptBeside ArmBeside (with_arm least s w base) (with_arm every s' w' base) (λ st st' x x' p q. with_arm_kept b a base p q) xs _ _ (is_kept [] (fine [])))
 
-case_of_reports : {s : Scope Fault} {s' : Scope (List Fault)} → ScopeBeside s s' → {w : Around Fault} {w' : Around (List Fault)} → AroundBeside w w' → {x : Result (TypeNo × TypedExpr) Fault} {x' : Result (TypeNo × TypedExpr) (List Fault)} → Reports x x'
-    → {xs : List (ElaboratesArm Fault)} {xs' : List (ElaboratesArm (List Fault))} → Pairwise ArmBeside xs xs' → {ys : Option (List (Elaborates Fault))} {ys' : Option (List (Elaborates (List Fault)))} → Optionwise (Pairwise ElaboratesBeside) ys ys'
+case_of_reports : {s : Scope Breach} {s' : Scope (List Breach)} → ScopeBeside s s' → {w : Around Breach} {w' : Around (List Breach)} → AroundBeside w w' → {x : Result (TypeNo × TypedExpr) Breach} {x' : Result (TypeNo × TypedExpr) (List Breach)} → Reports x x'
+    → {xs : List (ElaboratesArm Breach)} {xs' : List (ElaboratesArm (List Breach))} → Pairwise ArmBeside xs xs' → {ys : Option (List (Elaborates Breach))} {ys' : Option (List (Elaborates (List Breach)))} → Optionwise (Pairwise ElaboratesBeside) ys ys'
     → Reports (case_of least s w x xs ys) (case_of every s' w' x' xs' ys')
 case_of_reports b a (fine x) xs ys = cased_reports (fine x) (arms_of_reports b a (Some x.0) xs) (all_if_reports b a ys)
 case_of_reports b a (is_refused f fs p) xs ys = cased_reports (is_refused f fs p) (arms_of_reports b a None xs) (all_if_reports b a ys)
 
-looked_at_reports : {s : Scope Fault} {s' : Scope (List Fault)} → ScopeBeside s s' → {w : Around Fault} {w' : Around (List Fault)} → AroundBeside w w' → (d : Designator) {xs : List (Elaborates Fault)} {xs' : List (Elaborates (List Fault))} → Pairwise ElaboratesBeside xs xs'
+looked_at_reports : {s : Scope Breach} {s' : Scope (List Breach)} → ScopeBeside s s' → {w : Around Breach} {w' : Around (List Breach)} → AroundBeside w w' → (d : Designator) {xs : List (Elaborates Breach)} {xs' : List (Elaborates (List Breach))} → Pairwise ElaboratesBeside xs xs'
     → Reports (reported_in (all_of least (opened_if s (opened_type least s d)) w xs)) (reported_in (all_of every (opened_if s' (opened_type every s' d)) w' xs'))
 looked_at_reports {s = s} {s' = s'} b {w = w} {w' = w'} a d {xs = xs} {xs' = xs'} p =
     subst (λ (t : Option TypeNo). Reports (reported_in (all_of least (opened_if s (opened_type least s d)) w xs)) (reported_in (all_of every (opened_if s' t) w' xs'))) (opened_type_same b d)
     (reported_in_reports (all_of_reports (opened_if_beside b (opened_type least s d)) a p))
 
-with_of_reports : {s : Scope Fault} {s' : Scope (List Fault)} → ScopeBeside s s' → {w : Around Fault} {w' : Around (List Fault)} → AroundBeside w w' → (d : Designator) {xs : List (Elaborates Fault)} {xs' : List (Elaborates (List Fault))} → Pairwise ElaboratesBeside xs xs'
+with_of_reports : {s : Scope Breach} {s' : Scope (List Breach)} → ScopeBeside s s' → {w : Around Breach} {w' : Around (List Breach)} → AroundBeside w w' → (d : Designator) {xs : List (Elaborates Breach)} {xs' : List (Elaborates (List Breach))} → Pairwise ElaboratesBeside xs xs'
     → Reports (with_of least s w d xs) (with_of every s' w' d xs')
 with_of_reports b a d xs = ahead_reports (record_of_reports b (head_beside d)) (looked_at_reports b a d xs) (λ r. within_reports r.1 (all_of_reports (opened_beside b r.0) a xs))
 
@@ -172,7 +172,7 @@ rest_beside_layer (layer.Elsif c body follow) = record { follows = λ s s' b w w
 rest_beside_layer (layer.Else None) = record { follows = λ s s' b w w' a. all_if_reports b a nothing }
 rest_beside_layer (layer.Else (Some body)) = record { follows = λ s s' b w w' a. all_if_reports b a (something (elaborated body)) }
 
-labelled_arm : {l : List (ℤ × ℤ) × Result (List Label) Fault} {l' : List (ℤ × ℤ) × Result (List Label) (List Fault)} → KeptBeside l l' → {body : Result (List TypedStmt) Fault} {body' : Result (List TypedStmt) (List Fault)} → Reports body body'
+labelled_arm : {l : List (ℤ × ℤ) × Result (List Label) Breach} {l' : List (ℤ × ℤ) × Result (List Label) (List Breach)} → KeptBeside l l' → {body : Result (List TypedStmt) Breach} {body' : Result (List TypedStmt) (List Breach)} → Reports body body'
     → KeptBeside (l.0, armed least l.1 body) (l'.0, armed every l'.1 body')
 labelled_arm (is_kept ranges labels) body = is_kept ranges (armed_reports labels body)
 
@@ -193,5 +193,5 @@ step_arm x y q = carry ArmBeside (at_arm least (roll-Arm x) (bare_arm y) (out-ro
 pub stmt_beside : (x : Stmt) → ElaboratesBeside (stmt least x) (stmt every x)
 stmt_beside = ind-Stmt PR PS PA step_rest step_stmt step_arm
 
-pub statements_reports : {s : Scope Fault} {s' : Scope (List Fault)} → ScopeBeside s s' → {w : Around Fault} {w' : Around (List Fault)} → AroundBeside w w' → (xs : List Stmt) → Reports (statements least s w xs) (statements every s' w' xs)
+pub statements_reports : {s : Scope Breach} {s' : Scope (List Breach)} → ScopeBeside s s' → {w : Around Breach} {w' : Around (List Breach)} → AroundBeside w w' → (xs : List Stmt) → Reports (statements least s w xs) (statements every s' w' xs)
 statements_reports {s = s} {s' = s'} b {w = w} {w' = w'} a xs = fold_keeps Reports (with_written least s w) (with_written every s' w') (λ so so' x p. with_next_reports p ((stmt_beside x).elaborates s s' b w w' a)) xs _ _ (fine [])

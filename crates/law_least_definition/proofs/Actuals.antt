@@ -16,7 +16,7 @@ use Rattle.check_operator.specs.declared.computed.Computed.TheVariants as value
 use Rattle.check_operator.specs.declared.computed.Designated.{Designated}
 use Rattle.check_operator.specs.declared.computed.Designated.TheVariants as designated
 use Rattle.check_operator.specs.Classes.{class_at}
-use Rattle.check_scope.specs.declared.fault.Fault.{Fault}
+use Rattle.m2_rule.specs.declared.breach.Breach.{Breach}
 use Rattle.check_scope.specs.Elaborated.{every, least}
 use Rattle.law_least_definition.specs.Least.{Reports, fine}
 use Rattle.check_call.specs.Actuals.{elements_suit, variable_passed, open_passed, text_argument, text_passed, open_value, whole_passed, simple_passed, passed_as, value_passed, actual, with_argument}
@@ -94,5 +94,5 @@ value_passed_reports types t at d = passed_as_reports types t at d (class_at typ
 pub actual_reports : (types : Types) → (f : Formal) → (at : Pos) → (d : Designated) → Reports (actual least types f at d) (actual every types f at d)
 actual_reports types f at d = cond_keeps Reports f.is_var (cond_keeps Reports f.is_open (open_passed_reports types f.of at d) (variable_passed_reports f.of at d)) (cond_keeps Reports f.is_open (open_value_reports types f.of at d) (value_passed_reports types f.of at d))
 
-pub with_argument_reports : {so : Result (List Argument) Fault} {so' : Result (List Argument) (List Fault)} → Reports so so' → {x : Result Argument Fault} {x' : Result Argument (List Fault)} → Reports x x' → Reports (with_argument least so x) (with_argument every so' x')
+pub with_argument_reports : {so : Result (List Argument) Breach} {so' : Result (List Argument) (List Breach)} → Reports so so' → {x : Result Argument Breach} {x' : Result Argument (List Breach)} → Reports x x' → Reports (with_argument least so x) (with_argument every so' x')
 with_argument_reports so x = then_reports (both_reports so x) (λ p. fine _)

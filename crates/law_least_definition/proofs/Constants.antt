@@ -19,7 +19,7 @@ use Rattle.typed_tree.specs.declared.meaning.Standard.{Standard}
 use Rattle.typed_tree.specs.declared.meaning.Standard.TheVariants as standard
 use Rattle.typed_tree.specs.declared.table.Table.{Table}
 use Rattle.typed_tree.specs.Types.{are_same, bitset}
-use Rattle.check_scope.specs.declared.fault.Fault.{Fault}
+use Rattle.m2_rule.specs.declared.breach.Breach.{Breach}
 use Rattle.typed_tree.specs.declared.known_types.Types.{Types}
 use Rattle.check_scope.specs.declared.meaningless.Meaningless.{Meaningless}
 use Rattle.check_scope.specs.declared.scope.Scope.{Scope}
@@ -42,7 +42,7 @@ use Rattle.law_least_definition.proofs.Values.{absolute_reports, capital_reports
 
 -- ---- what names denote
 
-denoted_of_reports : {m : Result Meaning (Meaningless Fault)} {m' : Result Meaning (Meaningless (List Fault))} → SoughtBeside m m' → Reports (denoted_of m) (denoted_of m')
+denoted_of_reports : {m : Result Meaning (Meaningless Breach)} {m' : Result Meaning (Meaningless (List Breach))} → SoughtBeside m m' → Reports (denoted_of m) (denoted_of m')
 denoted_of_reports (is_found m) = fine (denoted_by m)
 denoted_of_reports (is_broken f fs p) = is_refused f fs p
 denoted_of_reports (is_headless f fs p) = fine denoted.Procedure
@@ -55,10 +55,10 @@ as_constant_reports at denoted.Procedure = reported_reports at rule.NoConstant
 as_constant_reports at (denoted.Standard f) = reported_reports at rule.NoConstant
 as_constant_reports at (denoted.Module k) = reported_reports at rule.NoConstant
 
-pub constant_by_reports : (at : Pos) {d : Result Denoted Fault} {d' : Result Denoted (List Fault)} → Reports d d' → Reports (constant_by least at d) (constant_by every at d')
+pub constant_by_reports : (at : Pos) {d : Result Denoted Breach} {d' : Result Denoted (List Breach)} → Reports d d' → Reports (constant_by least at d) (constant_by every at d')
 constant_by_reports at p = then_reports p (λ d. as_constant_reports at d)
 
-pub of_value_reports : {v : Result Value Fault} {v' : Result Value (List Fault)} → Reports v v' → Reports (of_value v) (of_value v')
+pub of_value_reports : {v : Result Value Breach} {v' : Result Value (List Breach)} → Reports v v' → Reports (of_value v) (of_value v')
 of_value_reports p = then_reports p (λ x. fine (denoted.Value x))
 
 pub is_bitset_reports : (at : Pos) (m : Meaning) → Reports (is_bitset least at m) (is_bitset every at m)
@@ -98,7 +98,7 @@ named_scalar_reports : (types : Types) (at : Pos) (t : Option TypeNo) → Report
 named_scalar_reports types at None = reported_reports at rule.NoType
 named_scalar_reports types at (Some t) = scalar_type_reports at t (scalar_at types t)
 
-type_argument_reports : (types : Types) (at : Pos) {t : Result (Option TypeNo) Fault} {t' : Result (Option TypeNo) (List Fault)} → Reports t t' → Reports (type_argument least types at t) (type_argument every types at t')
+type_argument_reports : (types : Types) (at : Pos) {t : Result (Option TypeNo) Breach} {t' : Result (Option TypeNo) (List Breach)} → Reports t t' → Reports (type_argument least types at t) (type_argument every types at t')
 type_argument_reports types at p = then_reports p (λ t. named_scalar_reports types at t)
 
 pub unary_of_reports : (f : Standard) (at : Pos) (v : Value) → Reports (unary_of least f at v) (unary_of every f at v)
@@ -118,71 +118,71 @@ unary_of_reports standard.Excl at v = reported_reports at rule.NoConstant
 unary_of_reports standard.Halt at v = reported_reports at rule.NoConstant
 unary_of_reports standard.Put at v = reported_reports at rule.NoConstant
 
-unary_reports : (f : Standard) {x : Result (Pos × Value) Fault} {x' : Result (Pos × Value) (List Fault)} → Reports x x' → Reports (unary least f x) (unary every f x')
+unary_reports : (f : Standard) {x : Result (Pos × Value) Breach} {x' : Result (Pos × Value) (List Breach)} → Reports x x' → Reports (unary least f x) (unary every f x')
 unary_reports f p = then_reports p (λ x. unary_of_reports f x.0 x.1)
 
-bound_reports : (f : Standard) {x : Result (TypeNo × Scalar) Fault} {x' : Result (TypeNo × Scalar) (List Fault)} → Reports x x' → Reports (bound f x) (bound f x')
+bound_reports : (f : Standard) {x : Result (TypeNo × Scalar) Breach} {x' : Result (TypeNo × Scalar) (List Breach)} → Reports x x' → Reports (bound f x) (bound f x')
 bound_reports f p = then_reports p (λ x. fine _)
 
-converted_by_reports : {t : Result (TypeNo × Scalar) Fault} {t' : Result (TypeNo × Scalar) (List Fault)} → Reports t t' → (at : Pos) {v : Result Value Fault} {v' : Result Value (List Fault)} → Reports v v'
+converted_by_reports : {t : Result (TypeNo × Scalar) Breach} {t' : Result (TypeNo × Scalar) (List Breach)} → Reports t t' → (at : Pos) {v : Result Value Breach} {v' : Result Value (List Breach)} → Reports v v'
     → Reports (converted_by least t at v) (converted_by every t' at v')
 converted_by_reports p at q = then_reports (both_reports p q) (λ x. converted_reports x.0.0 x.0.1 at x.1)
 
 -- ---- parts
 
 -- what stands for something in any two scopes that go together
-abbrev pub DenotesBeside : (Scope Fault → Result Denoted Fault) → (Scope (List Fault) → Result Denoted (List Fault)) → Type 0
-DenotesBeside d d' = (s : Scope Fault) (s' : Scope (List Fault)) → ScopeBeside s s' → Reports (d s) (d' s')
+abbrev pub DenotesBeside : (Scope Breach → Result Denoted Breach) → (Scope (List Breach) → Result Denoted (List Breach)) → Type 0
+DenotesBeside d d' = (s : Scope Breach) (s' : Scope (List Breach)) → ScopeBeside s s' → Reports (d s) (d' s')
 
 -- the type that something names there
-abbrev pub NamesBeside : (Scope Fault → Result (Option TypeNo) Fault) → (Scope (List Fault) → Result (Option TypeNo) (List Fault)) → Type 0
-NamesBeside n n' = (s : Scope Fault) (s' : Scope (List Fault)) → ScopeBeside s s' → Reports (n s) (n' s')
+abbrev pub NamesBeside : (Scope Breach → Result (Option TypeNo) Breach) → (Scope (List Breach) → Result (Option TypeNo) (List Breach)) → Type 0
+NamesBeside n n' = (s : Scope Breach) (s' : Scope (List Breach)) → ScopeBeside s s' → Reports (n s) (n' s')
 
-pub data PartBeside : Part Fault → Part (List Fault) → Type 0 where
-  parts : (at : Pos) {d : Scope Fault → Result Denoted Fault} {d' : Scope (List Fault) → Result Denoted (List Fault)} → DenotesBeside d d'
-      → {n : Scope Fault → Result (Option TypeNo) Fault} {n' : Scope (List Fault) → Result (Option TypeNo) (List Fault)} → NamesBeside n n'
+pub data PartBeside : Part Breach → Part (List Breach) → Type 0 where
+  parts : (at : Pos) {d : Scope Breach → Result Denoted Breach} {d' : Scope (List Breach) → Result Denoted (List Breach)} → DenotesBeside d d'
+      → {n : Scope Breach → Result (Option TypeNo) Breach} {n' : Scope (List Breach) → Result (Option TypeNo) (List Breach)} → NamesBeside n n'
       → PartBeside (record { at = at; denotes = d; names = n }) (record { at = at; denotes = d'; names = n' })
 
 -- what names a type where it stands for one
-standing_beside : (at : Pos) {d : Scope Fault → Result Denoted Fault} {d' : Scope (List Fault) → Result Denoted (List Fault)} → DenotesBeside d d' → PartBeside (standing at d) (standing at d')
+standing_beside : (at : Pos) {d : Scope Breach → Result Denoted Breach} {d' : Scope (List Breach) → Result Denoted (List Breach)} → DenotesBeside d d' → PartBeside (standing at d) (standing at d')
 standing_beside at d = parts at d (λ s s' b. then_reports (d s s' b) (λ x. fine _))
 
-pub record PickBeside (f : Pick Fault) (f' : Pick (List Fault)) : Type 0 where
-  pub picks : (s : Scope Fault) (s' : Scope (List Fault)) → ScopeBeside s s' → (d : Result Denoted Fault) (d' : Result Denoted (List Fault)) → Reports d d' → Reports (f s d) (f' s' d')
+pub record PickBeside (f : Pick Breach) (f' : Pick (List Breach)) : Type 0 where
+  pub picks : (s : Scope Breach) (s' : Scope (List Breach)) → ScopeBeside s s' → (d : Result Denoted Breach) (d' : Result Denoted (List Breach)) → Reports d d' → Reports (f s d) (f' s' d')
 
-pub record AddsBeside (f : Adds Fault) (f' : Adds (List Fault)) : Type 0 where
-  pub adds : (s : Scope Fault) (s' : Scope (List Fault)) → ScopeBeside s s' → Reports (f s) (f' s')
+pub record AddsBeside (f : Adds Breach) (f' : Adds (List Breach)) : Type 0 where
+  pub adds : (s : Scope Breach) (s' : Scope (List Breach)) → ScopeBeside s s' → Reports (f s) (f' s')
 
-pub constant_reports : {s : Scope Fault} {s' : Scope (List Fault)} → ScopeBeside s s' → {x : Part Fault} {x' : Part (List Fault)} → PartBeside x x' → Reports (constant least s x) (constant every s' x')
+pub constant_reports : {s : Scope Breach} {s' : Scope (List Breach)} → ScopeBeside s s' → {x : Part Breach} {x' : Part (List Breach)} → PartBeside x x' → Reports (constant least s x) (constant every s' x')
 constant_reports {s = s} {s' = s'} b (parts at d d_n) = constant_by_reports at (d s s' b)
 
 -- ---- calls
 
-one_reports : {s : Scope Fault} {s' : Scope (List Fault)} → ScopeBeside s s' → (at : Pos) {xs : List (Part Fault)} {xs' : List (Part (List Fault))} → Pairwise PartBeside xs xs' → Reports (one least s at xs) (one every s' at xs')
+one_reports : {s : Scope Breach} {s' : Scope (List Breach)} → ScopeBeside s s' → (at : Pos) {xs : List (Part Breach)} {xs' : List (Part (List Breach))} → Pairwise PartBeside xs xs' → Reports (one least s at xs) (one every s' at xs')
 one_reports b at none = reported_reports at rule.ArgumentCount
 one_reports b at (more (parts p d d_n) none) = then_reports (constant_reports b (parts p d d_n)) (λ x. fine (p, x))
 one_reports b at (more x (more y zs)) = reported_reports at rule.ArgumentCount
 
-type_only_reports : {s : Scope Fault} {s' : Scope (List Fault)} → ScopeBeside s s' → (at : Pos) {xs : List (Part Fault)} {xs' : List (Part (List Fault))} → Pairwise PartBeside xs xs' → Reports (type_only least s at xs) (type_only every s' at xs')
+type_only_reports : {s : Scope Breach} {s' : Scope (List Breach)} → ScopeBeside s s' → (at : Pos) {xs : List (Part Breach)} {xs' : List (Part (List Breach))} → Pairwise PartBeside xs xs' → Reports (type_only least s at xs) (type_only every s' at xs')
 type_only_reports b at none = reported_reports at rule.ArgumentCount
 type_only_reports (scopes t types v h own outer) at (more (parts p d d_n) none) = type_argument_reports types p (d_n _ _ (scopes t types v h own outer))
 type_only_reports b at (more x (more y zs)) = reported_reports at rule.ArgumentCount
 
-conversion_reports : {s : Scope Fault} {s' : Scope (List Fault)} → ScopeBeside s s' → (at : Pos) {xs : List (Part Fault)} {xs' : List (Part (List Fault))} → Pairwise PartBeside xs xs' → Reports (conversion least s at xs) (conversion every s' at xs')
+conversion_reports : {s : Scope Breach} {s' : Scope (List Breach)} → ScopeBeside s s' → (at : Pos) {xs : List (Part Breach)} {xs' : List (Part (List Breach))} → Pairwise PartBeside xs xs' → Reports (conversion least s at xs) (conversion every s' at xs')
 conversion_reports b at none = reported_reports at rule.ArgumentCount
 conversion_reports b at (more x none) = reported_reports at rule.ArgumentCount
 conversion_reports (scopes t types v h own outer) at (more (parts p d d_n) (more (parts q e e_n) none)) =
     converted_by_reports (type_argument_reports types p (d_n _ _ (scopes t types v h own outer))) q (constant_reports (scopes t types v h own outer) (parts q e e_n))
 conversion_reports b at (more x (more y (more z zs))) = reported_reports at rule.ArgumentCount
 
-by_sort_reports : {s : Scope Fault} {s' : Scope (List Fault)} → ScopeBeside s s' → (at : Pos) (f : Standard) {xs : List (Part Fault)} {xs' : List (Part (List Fault))} → Pairwise PartBeside xs xs' → (c : Sort)
+by_sort_reports : {s : Scope Breach} {s' : Scope (List Breach)} → ScopeBeside s s' → (at : Pos) (f : Standard) {xs : List (Part Breach)} {xs' : List (Part (List Breach))} → Pairwise PartBeside xs xs' → (c : Sort)
     → Reports (by_sort least s at f xs c) (by_sort every s' at f xs' c)
 by_sort_reports b at f xs Unary = unary_reports f (one_reports b at xs)
 by_sort_reports b at f xs Bound = bound_reports f (type_only_reports b at xs)
 by_sort_reports b at f xs Conversion = conversion_reports b at xs
 by_sort_reports b at f xs Never = reported_reports at rule.NoConstant
 
-called_as_reports : {s : Scope Fault} {s' : Scope (List Fault)} → ScopeBeside s s' → (at : Pos) (d : Denoted) {xs : List (Part Fault)} {xs' : List (Part (List Fault))} → Pairwise PartBeside xs xs' → Reports (called_as least s at d xs) (called_as every s' at d xs')
+called_as_reports : {s : Scope Breach} {s' : Scope (List Breach)} → ScopeBeside s s' → (at : Pos) (d : Denoted) {xs : List (Part Breach)} {xs' : List (Part (List Breach))} → Pairwise PartBeside xs xs' → Reports (called_as least s at d xs) (called_as every s' at d xs')
 called_as_reports b at (denoted.Standard f) xs = by_sort_reports b at f xs (sort_of f)
 called_as_reports b at (denoted.Value v) xs = reported_reports at rule.NoConstant
 called_as_reports b at (denoted.Type t) xs = reported_reports at rule.NoConstant
@@ -190,43 +190,43 @@ called_as_reports b at denoted.Variable xs = reported_reports at rule.NoConstant
 called_as_reports b at denoted.Procedure xs = reported_reports at rule.NoConstant
 called_as_reports b at (denoted.Module k) xs = reported_reports at rule.NoConstant
 
-used_with_beside : {d : Part Fault} {d' : Part (List Fault)} → PartBeside d d' → {xs : Option (List (Part Fault))} {xs' : Option (List (Part (List Fault)))} → Optionwise (Pairwise PartBeside) xs xs' → PartBeside (used_with least d xs) (used_with every d' xs')
+used_with_beside : {d : Part Breach} {d' : Part (List Breach)} → PartBeside d d' → {xs : Option (List (Part Breach))} {xs' : Option (List (Part (List Breach)))} → Optionwise (Pairwise PartBeside) xs xs' → PartBeside (used_with least d xs) (used_with every d' xs')
 used_with_beside d nothing = d
 used_with_beside (parts at d d_n) (something xs) = standing_beside at (λ s s' b. of_value_reports (then_reports (d s s' b) (λ x. called_as_reports b at x xs)))
 
 -- ---- operators and elements
 
-pub data OperandBeside {O : Type 0} : Operator O × Part Fault → Operator O × Part (List Fault) → Type 0 where
-  operand : (o : Operator O) {x : Part Fault} {x' : Part (List Fault)} → PartBeside x x' → OperandBeside (o, x) (o, x')
+pub data OperandBeside {O : Type 0} : Operator O × Part Breach → Operator O × Part (List Breach) → Type 0 where
+  operand : (o : Operator O) {x : Part Breach} {x' : Part (List Breach)} → PartBeside x x' → OperandBeside (o, x) (o, x')
 
-factor_reports : {s : Scope Fault} {s' : Scope (List Fault)} → ScopeBeside s s' → (at : Pos) {v : Result Value Fault} {v' : Result Value (List Fault)} → Reports v v' → {x : Operator MulOp × Part Fault} {x' : Operator MulOp × Part (List Fault)} → OperandBeside x x'
+factor_reports : {s : Scope Breach} {s' : Scope (List Breach)} → ScopeBeside s s' → (at : Pos) {v : Result Value Breach} {v' : Result Value (List Breach)} → Reports v v' → {x : Operator MulOp × Part Breach} {x' : Operator MulOp × Part (List Breach)} → OperandBeside x x'
     → Reports (factor least s at v x) (factor every s' at v' x')
 factor_reports b at p (operand o (parts q d d_n)) = combined_reports (mul_op o.op) o.pos at p q (constant_reports b (parts q d d_n))
 
-term_reports : {s : Scope Fault} {s' : Scope (List Fault)} → ScopeBeside s s' → (at : Pos) {v : Result Value Fault} {v' : Result Value (List Fault)} → Reports v v' → {x : Operator AddOp × Part Fault} {x' : Operator AddOp × Part (List Fault)} → OperandBeside x x'
+term_reports : {s : Scope Breach} {s' : Scope (List Breach)} → ScopeBeside s s' → (at : Pos) {v : Result Value Breach} {v' : Result Value (List Breach)} → Reports v v' → {x : Operator AddOp × Part Breach} {x' : Operator AddOp × Part (List Breach)} → OperandBeside x x'
     → Reports (term least s at v x) (term every s' at v' x')
 term_reports b at p (operand o (parts q d d_n)) = combined_reports (add_op o.op) o.pos at p q (constant_reports b (parts q d d_n))
 
-signed_first_reports : (o : Option (Operator Sign)) {v : Result Value Fault} {v' : Result Value (List Fault)} → Reports v v' → Reports (signed_first least o v) (signed_first every o v')
+signed_first_reports : (o : Option (Operator Sign)) {v : Result Value Breach} {v' : Result Value (List Breach)} → Reports v v' → Reports (signed_first least o v) (signed_first every o v')
 signed_first_reports None p = p
 signed_first_reports (Some o) p = signed_reports o.op o.pos p
 
-pub added_reports : {s : Scope Fault} {s' : Scope (List Fault)} → ScopeBeside s s' → {x : Part Fault} {x' : Part (List Fault)} → PartBeside x x' → {y : Option (Part Fault)} {y' : Option (Part (List Fault))} → Optionwise PartBeside y y'
+pub added_reports : {s : Scope Breach} {s' : Scope (List Breach)} → ScopeBeside s s' → {x : Part Breach} {x' : Part (List Breach)} → PartBeside x x' → {y : Option (Part Breach)} {y' : Option (Part (List Breach))} → Optionwise PartBeside y y'
     → Reports (added least s x y) (added every s' x' y')
 added_reports b (parts at d d_n) nothing = then_reports (constant_reports b (parts at d d_n)) (λ v. single_reports at v)
 added_reports b (parts at d d_n) (something (parts at' e e_n)) =
     spanned_reports at (then_reports (constant_reports b (parts at d d_n)) (λ v. element_reports at v)) at' (then_reports (constant_reports b (parts at' e e_n)) (λ v. element_reports at' v))
 
-set_type_reports : {s : Scope Fault} {s' : Scope (List Fault)} → ScopeBeside s s' → (name : Option Ident) → Reports (set_type least s name) (set_type every s' name)
+set_type_reports : {s : Scope Breach} {s' : Scope (List Breach)} → ScopeBeside s s' → (name : Option Ident) → Reports (set_type least s name) (set_type every s' name)
 set_type_reports b None = fine tt
 set_type_reports b (Some name) = then_reports (of_sort_reports name.pos rule.NoType (looked_up_sought name b)) (λ m. is_bitset_reports name.pos m)
 
 -- ---- designators
 
-named_reports : {s : Scope Fault} {s' : Scope (List Fault)} → ScopeBeside s s' → (name : Ident) → Reports (named least s name) (named every s' name)
+named_reports : {s : Scope Breach} {s' : Scope (List Breach)} → ScopeBeside s s' → (name : Ident) → Reports (named least s name) (named every s' name)
 named_reports b name = denoted_of_reports (looked_up_sought name b)
 
-pub field_of_reports : {s : Scope Fault} {s' : Scope (List Fault)} → ScopeBeside s s' → (at : Pos) (name : Ident) (d : Denoted) → Reports (field_of least s at name d) (field_of every s' at name d)
+pub field_of_reports : {s : Scope Breach} {s' : Scope (List Breach)} → ScopeBeside s s' → (at : Pos) (name : Ident) (d : Denoted) → Reports (field_of least s at name d) (field_of every s' at name d)
 field_of_reports (scopes t types v h own outer) at name (denoted.Module k) = then_reports (member_reports t k name) (λ m. fine (denoted_by m))
 field_of_reports b at name denoted.Variable = component_reports at denoted.Variable
 field_of_reports b at name (denoted.Value v) = component_reports at (denoted.Value v)
@@ -245,32 +245,32 @@ of_char at n = standing_beside at (λ s s' b. fine _)
 pub of_text : (at : Pos) (t : List ℕ) → PartBeside (expr_layer least (layer.Text at t)) (expr_layer every (layer.Text at t))
 of_text at t = standing_beside at (λ s s' b. fine _)
 
-pub of_term : {e : Part Fault} {e' : Part (List Fault)} → PartBeside e e' → {xs : List (Operator MulOp × Part Fault)} {xs' : List (Operator MulOp × Part (List Fault))} → Pairwise OperandBeside xs xs'
+pub of_term : {e : Part Breach} {e' : Part (List Breach)} → PartBeside e e' → {xs : List (Operator MulOp × Part Breach)} {xs' : List (Operator MulOp × Part (List Breach))} → Pairwise OperandBeside xs xs'
     → PartBeside (expr_layer least (layer.Term e xs)) (expr_layer every (layer.Term e' xs'))
 of_term (parts at d d_n) xs = standing_beside at (λ s s' b. of_value_reports (fold_pairwise Reports OperandBeside (factor least s at) (factor every s' at) (λ v v' x x' p q. factor_reports b at p q) xs _ _ (constant_reports b (parts at d d_n))))
 
-pub of_sum : (o : Option (Operator Sign)) {e : Part Fault} {e' : Part (List Fault)} → PartBeside e e' → {xs : List (Operator AddOp × Part Fault)} {xs' : List (Operator AddOp × Part (List Fault))} → Pairwise OperandBeside xs xs'
+pub of_sum : (o : Option (Operator Sign)) {e : Part Breach} {e' : Part (List Breach)} → PartBeside e e' → {xs : List (Operator AddOp × Part Breach)} {xs' : List (Operator AddOp × Part (List Breach))} → Pairwise OperandBeside xs xs'
     → PartBeside (expr_layer least (layer.Sum o e xs)) (expr_layer every (layer.Sum o e' xs'))
 of_sum o (parts at d d_n) xs = standing_beside (sign_place o at) (λ s s' b. of_value_reports (fold_pairwise Reports OperandBeside (term least s (sign_place o at)) (term every s' (sign_place o at)) (λ v v' x x' p q. term_reports b (sign_place o at) p q) xs _ _
     (signed_first_reports o (constant_reports b (parts at d d_n)))))
 
-pub of_relation : {e : Part Fault} {e' : Part (List Fault)} → PartBeside e e' → (o : Operator RelOp) {f : Part Fault} {f' : Part (List Fault)} → PartBeside f f' → PartBeside (expr_layer least (layer.Relation e o f)) (expr_layer every (layer.Relation e' o f'))
+pub of_relation : {e : Part Breach} {e' : Part (List Breach)} → PartBeside e e' → (o : Operator RelOp) {f : Part Breach} {f' : Part (List Breach)} → PartBeside f f' → PartBeside (expr_layer least (layer.Relation e o f)) (expr_layer every (layer.Relation e' o f'))
 of_relation (parts at d d_n) o (parts at' e e_n) = standing_beside at (λ s s' b. of_value_reports (combined_reports (op.Relation o.op) o.pos at (constant_reports b (parts at d d_n)) at' (constant_reports b (parts at' e e_n))))
 
-pub of_set : (name : Option Ident) (at : Pos) {xs : List (Adds Fault)} {xs' : List (Adds (List Fault))} → Pairwise AddsBeside xs xs' → PartBeside (expr_layer least (layer.Set name at xs)) (expr_layer every (layer.Set name at xs'))
+pub of_set : (name : Option Ident) (at : Pos) {xs : List (Adds Breach)} {xs' : List (Adds (List Breach))} → Pairwise AddsBeside xs xs' → PartBeside (expr_layer least (layer.Set name at xs)) (expr_layer every (layer.Set name at xs'))
 of_set name at xs = standing_beside (set_place name at) (λ s s' b. then_reports (both_reports (set_type_reports b name)
     (fold_pairwise Reports AddsBeside (with_item least s) (with_item every s') (λ so so' f f' p q. then_reports (both_reports p (q.adds s s' b)) (λ x. fine _)) xs _ _ (fine 0))) (λ x. fine _))
 
-pub of_not : (at : Pos) {e : Part Fault} {e' : Part (List Fault)} → PartBeside e e' → PartBeside (expr_layer least (layer.Not at e)) (expr_layer every (layer.Not at e'))
+pub of_not : (at : Pos) {e : Part Breach} {e' : Part (List Breach)} → PartBeside e e' → PartBeside (expr_layer least (layer.Not at e)) (expr_layer every (layer.Not at e'))
 of_not at e = standing_beside at (λ s s' b. of_value_reports (negated_reports at (constant_reports b e)))
 
-pub of_bracketed : (at : Pos) {e : Part Fault} {e' : Part (List Fault)} → PartBeside e e' → PartBeside (expr_layer least (layer.Bracketed at e)) (expr_layer every (layer.Bracketed at e'))
+pub of_bracketed : (at : Pos) {e : Part Breach} {e' : Part (List Breach)} → PartBeside e e' → PartBeside (expr_layer least (layer.Bracketed at e)) (expr_layer every (layer.Bracketed at e'))
 of_bracketed at e = standing_beside at (λ s s' b. of_value_reports (constant_reports b e))
 
-pub of_use : {d : Part Fault} {d' : Part (List Fault)} → PartBeside d d' → {xs : Option (List (Part Fault))} {xs' : Option (List (Part (List Fault)))} → Optionwise (Pairwise PartBeside) xs xs'
+pub of_use : {d : Part Breach} {d' : Part (List Breach)} → PartBeside d d' → {xs : Option (List (Part Breach))} {xs' : Option (List (Part (List Breach)))} → Optionwise (Pairwise PartBeside) xs xs'
     → PartBeside (expr_layer least (layer.Use d xs)) (expr_layer every (layer.Use d' xs'))
 of_use d xs = used_with_beside d xs
 
 -- what a name with selectors stands for
-pub picked_reports : {s : Scope Fault} {s' : Scope (List Fault)} → ScopeBeside s s' → (name : Ident) {ps : List (Pick Fault)} {ps' : List (Pick (List Fault))} → Pairwise PickBeside ps ps' → Reports (picked least s name ps) (picked every s' name ps')
+pub picked_reports : {s : Scope Breach} {s' : Scope (List Breach)} → ScopeBeside s s' → (name : Ident) {ps : List (Pick Breach)} {ps' : List (Pick (List Breach))} → Pairwise PickBeside ps ps' → Reports (picked least s name ps) (picked every s' name ps')
 picked_reports {s = s} {s' = s'} b name ps = fold_pairwise Reports PickBeside (λ x p. p s x) (λ x p. p s' x) (λ x x' f f' p q. q.picks s s' b x x' p) ps _ _ (named_reports b name)

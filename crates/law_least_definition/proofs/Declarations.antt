@@ -10,7 +10,7 @@ use Rattle.m2_tree.specs.declared.decl.Def.{Def}
 use Rattle.m2_tree.specs.declared.decl.Def.TheVariants as def
 use Rattle.typed_tree.specs.declared.types.TypeNo.{TypeNo}
 use Rattle.typed_tree.specs.declared.meaning.Meaning.TheVariants as meaning
-use Rattle.check_scope.specs.declared.fault.Fault.{Fault}
+use Rattle.m2_rule.specs.declared.breach.Breach.{Breach}
 use Rattle.check_scope.specs.declared.scope.Scope.{Scope}
 use Rattle.check_scope.specs.Elaborated.{every, least}
 use Rattle.check_definition.specs.Declare.{with_constant, brings_with, with_type, begun_name, variable_meaning, with_variable_type, finished_variable, with_variables, procedure_meaning, with_procedure_type, declared_procedure, with_procedure, with_def}
@@ -24,10 +24,10 @@ use Rattle.law_least_definition.proofs.Making.{heading_of_reports, names_of_repo
 use Rattle.law_least_definition.proofs.TypeExprs.{nothing_of_reports, type_of_beside}
 
 abbrev One : Type 0
-One = Scope Fault × Result (Unit {0}) Fault
+One = Scope Breach × Result (Unit {0}) Breach
 
 abbrev All : Type 0
-All = Scope (List Fault) × Result (Unit {0}) (List Fault)
+All = Scope (List Breach) × Result (Unit {0}) (List Breach)
 
 -- ---- constants
 
@@ -50,18 +50,18 @@ type_goes p d =
 pub begun_name_goes : {st : One} {st' : All} → StateBeside st st' → (name : Ident) → StateBeside (begun_name least st name) (begun_name every st' name)
 begun_name_goes p name = let b = begun_goes name p.scope in goes b.scope (beside_reports p.reported b.reported)
 
-pub with_variable_type_beside : {s : Scope Fault} {s' : Scope (List Fault)} → ScopeBeside s s' → {t : Result TypeNo Fault} {t' : Result TypeNo (List Fault)} → Reports t t' → ScopeBeside (with_variable_type s t) (with_variable_type s' t')
+pub with_variable_type_beside : {s : Scope Breach} {s' : Scope (List Breach)} → ScopeBeside s s' → {t : Result TypeNo Breach} {t' : Result TypeNo (List Breach)} → Reports t t' → ScopeBeside (with_variable_type s t) (with_variable_type s' t')
 with_variable_type_beside (scopes tables ty v h own outer) (fine t) = scopes _ _ _ _ own outer
 with_variable_type_beside b (is_refused f fs l) = b
 
-pub variable_meaning_reports : {s : Scope Fault} {s' : Scope (List Fault)} → ScopeBeside s s' → {t : Result TypeNo Fault} {t' : Result TypeNo (List Fault)} → Reports t t'
+pub variable_meaning_reports : {s : Scope Breach} {s' : Scope (List Breach)} → ScopeBeside s s' → {t : Result TypeNo Breach} {t' : Result TypeNo (List Breach)} → Reports t t'
     → Reports (variable_meaning s.types.home (length s.variables) t) (variable_meaning s'.types.home (length s'.variables) t')
 variable_meaning_reports (scopes tables ty v h own outer) p = then_reports p (λ x. fine _)
 
-finished_variable_beside : {t : Result TypeNo Fault} {t' : Result TypeNo (List Fault)} → Reports t t' → {s : Scope Fault} {s' : Scope (List Fault)} → ScopeBeside s s' → (name : Ident) → ScopeBeside (finished_variable t s name) (finished_variable t' s' name)
+finished_variable_beside : {t : Result TypeNo Breach} {t' : Result TypeNo (List Breach)} → Reports t t' → {s : Scope Breach} {s' : Scope (List Breach)} → ScopeBeside s s' → (name : Ident) → ScopeBeside (finished_variable t s name) (finished_variable t' s' name)
 finished_variable_beside p b name = finished_beside name (variable_meaning_reports b p) (with_variable_type_beside b p)
 
-all_finished : {t : Result TypeNo Fault} {t' : Result TypeNo (List Fault)} → Reports t t' → {s : Scope Fault} {s' : Scope (List Fault)} → ScopeBeside s s' → (names : List Ident) → ScopeBeside (fold (finished_variable t) s names) (fold (finished_variable t') s' names)
+all_finished : {t : Result TypeNo Breach} {t' : Result TypeNo (List Breach)} → Reports t t' → {s : Scope Breach} {s' : Scope (List Breach)} → ScopeBeside s s' → (names : List Ident) → ScopeBeside (fold (finished_variable t) s names) (fold (finished_variable t') s' names)
 all_finished {t = t} {t' = t'} p b names = fold_keeps ScopeBeside (finished_variable t) (finished_variable t') (λ s s' name q. finished_variable_beside p q name) names _ _ b
 
 variables_goes : {st : One} {st' : All} → StateBeside st st' → (v : Variables) → StateBeside (with_variables least st v) (with_variables every st' v)
@@ -72,15 +72,15 @@ variables_goes p v =
 
 -- ---- procedures
 
-pub with_procedure_type_beside : {s : Scope Fault} {s' : Scope (List Fault)} → ScopeBeside s s' → {t : Result TypeNo Fault} {t' : Result TypeNo (List Fault)} → Reports t t' → ScopeBeside (with_procedure_type s t) (with_procedure_type s' t')
+pub with_procedure_type_beside : {s : Scope Breach} {s' : Scope (List Breach)} → ScopeBeside s s' → {t : Result TypeNo Breach} {t' : Result TypeNo (List Breach)} → Reports t t' → ScopeBeside (with_procedure_type s t) (with_procedure_type s' t')
 with_procedure_type_beside (scopes tables ty v h own outer) (fine t) = scopes _ _ _ _ own outer
 with_procedure_type_beside b (is_refused f fs l) = b
 
-pub procedure_meaning_reports : {s : Scope Fault} {s' : Scope (List Fault)} → ScopeBeside s s' → {t : Result TypeNo Fault} {t' : Result TypeNo (List Fault)} → Reports t t'
+pub procedure_meaning_reports : {s : Scope Breach} {s' : Scope (List Breach)} → ScopeBeside s s' → {t : Result TypeNo Breach} {t' : Result TypeNo (List Breach)} → Reports t t'
     → Reports (procedure_meaning s.types.home (length s.procedures) t) (procedure_meaning s'.types.home (length s'.procedures) t')
 procedure_meaning_reports (scopes tables ty v h own outer) p = then_reports p (λ x. fine _)
 
-pub declared_procedure_goes : {s : Scope Fault} {s' : Scope (List Fault)} → ScopeBeside s s' → (name : Ident) {t : Result TypeNo Fault} {t' : Result TypeNo (List Fault)} → Reports t t' → StateBeside (declared_procedure least s name t) (declared_procedure every s' name t')
+pub declared_procedure_goes : {s : Scope Breach} {s' : Scope (List Breach)} → ScopeBeside s s' → (name : Ident) {t : Result TypeNo Breach} {t' : Result TypeNo (List Breach)} → Reports t t' → StateBeside (declared_procedure least s name t) (declared_procedure every s' name t')
 declared_procedure_goes b name p = declared_goes name (procedure_meaning_reports b p) (with_procedure_type_beside b p)
 
 pub procedure_goes : {st : One} {st' : All} → StateBeside st st' → (h : Heading) → StateBeside (with_procedure least st h) (with_procedure every st' h)

@@ -21,7 +21,7 @@ use Rattle.check_operator.specs.declared.computed.Designated.TheVariants as desi
 use Rattle.check_operator.specs.Classes.{class_at}
 use Rattle.check_call.specs.declared.effect.Target.{Target}
 use Rattle.check_call.specs.declared.effect.Target.TheVariants as target
-use Rattle.check_scope.specs.declared.fault.Fault.{Fault}
+use Rattle.m2_rule.specs.declared.breach.Breach.{Breach}
 use Rattle.check_scope.specs.declared.meaningless.Meaningless.{Meaningless}
 use Rattle.check_scope.specs.Elaborated.{every, least}
 use Rattle.law_least_definition.specs.Least.{Reports, fine}
@@ -40,14 +40,14 @@ target_of_reports at (designated.Nested p) = reported_reports at rule.WrongType
 target_of_reports at (designated.Standard f) = reported_reports at rule.WrongType
 target_of_reports at (designated.Module k) = reported_reports at rule.WrongType
 
-pub target_at_reports : (at : Pos) → {d : Result Designated (Meaningless Fault)} {d' : Result Designated (Meaningless (List Fault))} → SoughtBeside d d' → Reports (target_at least at d) (target_at every at d')
+pub target_at_reports : (at : Pos) → {d : Result Designated (Meaningless Breach)} {d' : Result Designated (Meaningless (List Breach))} → SoughtBeside d d' → Reports (target_at least at d) (target_at every at d')
 target_at_reports at d = then_reports (of_sort_reports at rule.WrongType d) (λ v. target_of_reports at v)
 
 pub assigned_to_reports : (types : Types) → (p1 : Target) → (at : Pos) → (x : Computed) → Reports (assigned_to least types p1 at x) (assigned_to every types p1 at x)
 assigned_to_reports types target.Open at x = reported_reports at rule.NotAssignable
 assigned_to_reports types (target.Variable t d) at x = then_reports (suited_reports rule.NotAssignable types t at x) (λ a. fine _)
 
-pub assigned_reports : (types : Types) → {left : Result Target Fault} {left' : Result Target (List Fault)} → Reports left left' → (at : Pos) → {x : Result Computed Fault} {x' : Result Computed (List Fault)} → Reports x x' → Reports (assigned least types left at x) (assigned every types left' at x')
+pub assigned_reports : (types : Types) → {left : Result Target Breach} {left' : Result Target (List Breach)} → Reports left left' → (at : Pos) → {x : Result Computed Breach} {x' : Result Computed (List Breach)} → Reports x x' → Reports (assigned least types left at x) (assigned every types left' at x')
 assigned_reports types left at x = then_reports (both_reports left x) (λ p. assigned_to_reports types p.0 at p.1)
 
 pub changed_as_reports : (at : Pos) → (t : TypeNo) → (d : Place) → (p3 : Class) → Reports (changed_as least at t d p3) (changed_as every at t d p3)
@@ -79,7 +79,7 @@ amount_reports at (value.Procedure p) = reported_reports at rule.WrongArgument
 amount_reports at (value.Whole t d) = reported_reports at rule.WrongArgument
 amount_reports at value.Untaken = reported_reports at rule.WrongArgument
 
-pub change_by_reports : (o : Change) → {variable : Result (TypeNo × Place) Fault} {variable' : Result (TypeNo × Place) (List Fault)} → Reports variable variable' → {by : Result TypedExpr Fault} {by' : Result TypedExpr (List Fault)} → Reports by by' → Reports (change_by least o variable by) (change_by every o variable' by')
+pub change_by_reports : (o : Change) → {variable : Result (TypeNo × Place) Breach} {variable' : Result (TypeNo × Place) (List Breach)} → Reports variable variable' → {by : Result TypedExpr Breach} {by' : Result TypedExpr (List Breach)} → Reports by by' → Reports (change_by least o variable by) (change_by every o variable' by')
 change_by_reports o variable by = then_reports (both_reports variable by) (λ p. fine _)
 
 pub set_as_reports : (at : Pos) → (d : Place) → (p2 : Class) → Reports (set_as least at d p2) (set_as every at d p2)
@@ -111,7 +111,7 @@ element_reports at (value.Procedure p) = reported_reports at rule.WrongArgument
 element_reports at (value.Whole t d) = reported_reports at rule.WrongArgument
 element_reports at value.Untaken = reported_reports at rule.WrongArgument
 
-pub membership_of_reports : (o : Membership) → {set : Result Place Fault} {set' : Result Place (List Fault)} → Reports set set' → {x : Result TypedExpr Fault} {x' : Result TypedExpr (List Fault)} → Reports x x' → Reports (membership_of least o set x) (membership_of every o set' x')
+pub membership_of_reports : (o : Membership) → {set : Result Place Breach} {set' : Result Place (List Breach)} → Reports set set' → {x : Result TypedExpr Breach} {x' : Result TypedExpr (List Breach)} → Reports x x' → Reports (membership_of least o set x) (membership_of every o set' x')
 membership_of_reports o set x = then_reports (both_reports set x) (λ p. fine _)
 
 pub put_reports : (types : Types) → (at : Pos) → (x : Computed) → Reports (put least types at x) (put every types at x)

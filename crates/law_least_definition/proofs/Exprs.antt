@@ -13,7 +13,7 @@ use Rattle.m2_tree.specs.declared.expr.Expr.TheOpen as layer
 use Rattle.m2_tree.specs.declared.expr.Selector.{Selector, Selector-F, out-Selector, roll-Selector, out-roll-Selector, map-Selector, fold_out-Selector}
 use Rattle.m2_tree.specs.declared.expr.Designator.{Designator, Designator-F, out-Designator, roll-Designator, out-roll-Designator, map-Designator, fold_out-Designator, ind-Designator}
 use Rattle.m2_tree.specs.declared.expr.Item.{Item, Item-F, out-Item, roll-Item, out-roll-Item, map-Item, fold_out-Item}
-use Rattle.check_scope.specs.declared.fault.Fault.{Fault}
+use Rattle.m2_rule.specs.declared.breach.Breach.{Breach}
 use Rattle.check_scope.specs.declared.meaningless.Meaningless.{Meaningless}
 use Rattle.check_scope.specs.declared.scope.Scope.{Scope}
 use Rattle.check_scope.specs.Elaborated.{Gathers, every, least}
@@ -39,68 +39,68 @@ char_meant at n = meants (of_char at n) (λ s s' b. as_constant_sought b (of_cha
 text_meant : (at : Pos) (t : List ℕ) → MeantBeside (expr_layer least (layer.Text at t)) (expr_layer every (layer.Text at t))
 text_meant at t = meants (of_text at t) (λ s s' b. as_constant_sought b (of_text at t))
 
-set_meant : (name : Option Ident) (at : Pos) {xs : List (Adds Fault)} {xs' : List (Adds (List Fault))} → Pairwise AddsBeside xs xs' → MeantBeside (expr_layer least (layer.Set name at xs)) (expr_layer every (layer.Set name at xs'))
+set_meant : (name : Option Ident) (at : Pos) {xs : List (Adds Breach)} {xs' : List (Adds (List Breach))} → Pairwise AddsBeside xs xs' → MeantBeside (expr_layer least (layer.Set name at xs)) (expr_layer every (layer.Set name at xs'))
 set_meant name at xs =
-    let set = of_set name at (pairwise_over {A = Adds Fault} {B = Adds (List Fault)} AddsBeside (λ e. e) (λ e. e) (λ a b p. p) xs) in
+    let set = of_set name at (pairwise_over {A = Adds Breach} {B = Adds (List Breach)} AddsBeside (λ e. e) (λ e. e) (λ a b p. p) xs) in
     meants set (λ s s' b. as_constant_sought b set)
 
-not_meant : (at : Pos) {e : Meant Fault} {e' : Meant (List Fault)} → MeantBeside e e' → MeantBeside (expr_layer least (layer.Not at e)) (expr_layer every (layer.Not at e'))
+not_meant : (at : Pos) {e : Meant Breach} {e' : Meant (List Breach)} → MeantBeside e e' → MeantBeside (expr_layer least (layer.Not at e)) (expr_layer every (layer.Not at e'))
 not_meant at e = meants (of_not at (fixed_beside e)) (λ s s' b. of_computed_sought (negated_reports at (value_of_reports b e)))
 
-bracketed_meant : (at : Pos) {e : Meant Fault} {e' : Meant (List Fault)} → MeantBeside e e' → MeantBeside (expr_layer least (layer.Bracketed at e)) (expr_layer every (layer.Bracketed at e'))
+bracketed_meant : (at : Pos) {e : Meant Breach} {e' : Meant (List Breach)} → MeantBeside e e' → MeantBeside (expr_layer least (layer.Bracketed at e)) (expr_layer every (layer.Bracketed at e'))
 bracketed_meant at e = meants (of_bracketed at (fixed_beside e)) (λ s s' b. of_computed_sought (value_of_reports b e))
 
-use_meant : {d : Meant Fault} {d' : Meant (List Fault)} → MeantBeside d d' → {xs : Option (List (Meant Fault))} {xs' : Option (List (Meant (List Fault)))} → Optionwise (Pairwise MeantBeside) xs xs'
+use_meant : {d : Meant Breach} {d' : Meant (List Breach)} → MeantBeside d d' → {xs : Option (List (Meant Breach))} {xs' : Option (List (Meant (List Breach)))} → Optionwise (Pairwise MeantBeside) xs xs'
     → MeantBeside (expr_layer least (layer.Use d xs)) (expr_layer every (layer.Use d' xs'))
 use_meant d nothing = meants (of_use (fixed_beside d) nothing) (λ s s' b. used_with_sought b d nothing)
-use_meant d (something xs) = meants (of_use (fixed_beside d) (something (pairwise_over {A = Meant Fault} {B = Meant (List Fault)} PartBeside (λ e. e.fixed) (λ e. e.fixed) (λ a b p. fixed_beside p) xs))) (λ s s' b. used_with_sought b d (something xs))
+use_meant d (something xs) = meants (of_use (fixed_beside d) (something (pairwise_over {A = Meant Breach} {B = Meant (List Breach)} PartBeside (λ e. e.fixed) (λ e. e.fixed) (λ a b p. fixed_beside p) xs))) (λ s s' b. used_with_sought b d (something xs))
 
-operand_fixed : {O : Type 0} {x : Operator O × Meant Fault} {x' : Operator O × Meant (List Fault)} → TermBeside x x' → OperandBeside (x.0, x.1.fixed) (x'.0, x'.1.fixed)
+operand_fixed : {O : Type 0} {x : Operator O × Meant Breach} {x' : Operator O × Meant (List Breach)} → TermBeside x x' → OperandBeside (x.0, x.1.fixed) (x'.0, x'.1.fixed)
 operand_fixed (is_term o x) = operand o (fixed_beside x)
 
-operands_fixed : {O : Type 0} {xs : List (Operator O × Meant Fault)} {xs' : List (Operator O × Meant (List Fault))} → Pairwise TermBeside xs xs'
-    → Pairwise OperandBeside (map (λ (x : Operator O × Meant Fault). (x.0, x.1.fixed)) xs) (map (λ (x : Operator O × Meant (List Fault)). (x.0, x.1.fixed)) xs')
-operands_fixed {O = O} xs = pairwise_over OperandBeside (λ (x : Operator O × Meant Fault). (x.0, x.1.fixed)) (λ (x : Operator O × Meant (List Fault)). (x.0, x.1.fixed)) (λ a b p. operand_fixed p) xs
+operands_fixed : {O : Type 0} {xs : List (Operator O × Meant Breach)} {xs' : List (Operator O × Meant (List Breach))} → Pairwise TermBeside xs xs'
+    → Pairwise OperandBeside (map (λ (x : Operator O × Meant Breach). (x.0, x.1.fixed)) xs) (map (λ (x : Operator O × Meant (List Breach)). (x.0, x.1.fixed)) xs')
+operands_fixed {O = O} xs = pairwise_over OperandBeside (λ (x : Operator O × Meant Breach). (x.0, x.1.fixed)) (λ (x : Operator O × Meant (List Breach)). (x.0, x.1.fixed)) (λ a b p. operand_fixed p) xs
 
-term_meant : {e : Meant Fault} {e' : Meant (List Fault)} → MeantBeside e e' → {xs : List (Operator MulOp × Meant Fault)} {xs' : List (Operator MulOp × Meant (List Fault))} → Pairwise TermBeside xs xs'
+term_meant : {e : Meant Breach} {e' : Meant (List Breach)} → MeantBeside e e' → {xs : List (Operator MulOp × Meant Breach)} {xs' : List (Operator MulOp × Meant (List Breach))} → Pairwise TermBeside xs xs'
     → MeantBeside (expr_layer least (layer.Term e xs)) (expr_layer every (layer.Term e' xs'))
 term_meant (meants (parts at p p_n) m) xs = meants (of_term (parts at p p_n) (operands_fixed xs))
     (λ s s' b. of_computed_sought (fold_pairwise Reports TermBeside (factor least s at) (factor every s' at) (λ v v' x x' t u. factor_reports b at t u) xs _ _ (value_of_reports b (meants (parts at p p_n) m))))
 
-sum_meant : (o : Option (Operator Sign)) {e : Meant Fault} {e' : Meant (List Fault)} → MeantBeside e e' → {xs : List (Operator AddOp × Meant Fault)} {xs' : List (Operator AddOp × Meant (List Fault))} → Pairwise TermBeside xs xs'
+sum_meant : (o : Option (Operator Sign)) {e : Meant Breach} {e' : Meant (List Breach)} → MeantBeside e e' → {xs : List (Operator AddOp × Meant Breach)} {xs' : List (Operator AddOp × Meant (List Breach))} → Pairwise TermBeside xs xs'
     → MeantBeside (expr_layer least (layer.Sum o e xs)) (expr_layer every (layer.Sum o e' xs'))
 sum_meant o (meants (parts at p p_n) m) xs = meants (of_sum o (parts at p p_n) (operands_fixed xs))
     (λ s s' b. of_computed_sought (fold_pairwise Reports TermBeside (addend least s (sign_place o at)) (addend every s' (sign_place o at)) (λ v v' x x' t u. term_reports b (sign_place o at) t u) xs _ _ (signed_first_reports o (value_of_reports b (meants (parts at p p_n) m)))))
 
-relation_meant : {e : Meant Fault} {e' : Meant (List Fault)} → MeantBeside e e' → (o : Operator RelOp) {f : Meant Fault} {f' : Meant (List Fault)} → MeantBeside f f' → MeantBeside (expr_layer least (layer.Relation e o f)) (expr_layer every (layer.Relation e' o f'))
+relation_meant : {e : Meant Breach} {e' : Meant (List Breach)} → MeantBeside e e' → (o : Operator RelOp) {f : Meant Breach} {f' : Meant (List Breach)} → MeantBeside f f' → MeantBeside (expr_layer least (layer.Relation e o f)) (expr_layer every (layer.Relation e' o f'))
 relation_meant e o f = meants (of_relation (fixed_beside e) o (fixed_beside f)) (λ s s' b. of_computed_sought (relation_reports b e o f))
 
 field_picks : (at : Pos) (name : Ident) → PicksBeside (selector_layer least (layer.Field at name)) (selector_layer every (layer.Field at name))
 field_picks at name = record { fixed = record { picks = λ s s' b d d' t. then_reports t (λ x. field_of_reports b at name x) }; picks = λ s s' b d d' t. field_at_sought b at name t }
 
-index_picks : (at : Pos) {e : Meant Fault} {e' : Meant (List Fault)} → MeantBeside e e' → PicksBeside (selector_layer least (layer.Index at e)) (selector_layer every (layer.Index at e'))
+index_picks : (at : Pos) {e : Meant Breach} {e' : Meant (List Breach)} → MeantBeside e e' → PicksBeside (selector_layer least (layer.Index at e)) (selector_layer every (layer.Index at e'))
 index_picks at (meants (parts q p p_n) m) = record {
   fixed = record { picks = λ s s' b d d' t. then_reports t (λ x. component_reports at x) };
   picks = λ s s' b d d' t. index_picked b at t (meants (parts q p p_n) m);
 }
   where
-    index_picked : {s : Scope Fault} {s' : Scope (List Fault)} → ScopeBeside s s' → (spot : Pos) {d : Result Designated (Meaningless Fault)} {d' : Result Designated (Meaningless (List Fault))} → SoughtBeside d d' → {x : Meant Fault} {x' : Meant (List Fault)} → MeantBeside x x'
+    index_picked : {s : Scope Breach} {s' : Scope (List Breach)} → ScopeBeside s s' → (spot : Pos) {d : Result Designated (Meaningless Breach)} {d' : Result Designated (Meaningless (List Breach))} → SoughtBeside d d' → {x : Meant Breach} {x' : Meant (List Breach)} → MeantBeside x x'
         → SoughtBeside (index_at least s.types spot d x.fixed.at (value_of least s x)) (index_at every s'.types spot d' x'.fixed.at (value_of every s' x'))
     index_picked (scopes tables types vars procs {level = level} {withs = withs} own outer) spot t (meants (parts r h h_n) n) = index_at_sought types spot t r (value_of_reports (scopes tables types vars procs {level = level} {withs = withs} own outer) (meants (parts r h h_n) n))
 
 -- ---- names with selectors
 
-designation_sought : {s : Scope Fault} {s' : Scope (List Fault)} → ScopeBeside s s' → (name : Ident) {ps : List (Picks Fault)} {ps' : List (Picks (List Fault))} → Pairwise PicksBeside ps ps' → SoughtBeside (designation least s name ps) (designation every s' name ps')
+designation_sought : {s : Scope Breach} {s' : Scope (List Breach)} → ScopeBeside s s' → (name : Ident) {ps : List (Picks Breach)} {ps' : List (Picks (List Breach))} → Pairwise PicksBeside ps ps' → SoughtBeside (designation least s name ps) (designation every s' name ps')
 designation_sought {s = s} {s' = s'} b name ps = fold_pairwise SoughtBeside PicksBeside (λ x p. p.picks s x) (λ x p. p.picks s' x) (λ x x' f f' p q. q.picks s s' b x x' p) ps _ _ (named_sought b name)
 
-denotation_reports : {s : Scope Fault} {s' : Scope (List Fault)} → ScopeBeside s s' → (name : Ident) {ps : List (Picks Fault)} {ps' : List (Picks (List Fault))} → Pairwise PicksBeside ps ps' → Reports (denotation least s name ps) (denotation every s' name ps')
-denotation_reports b name ps = picked_reports b name (pairwise_over {A = Picks Fault} {B = Picks (List Fault)} PickBeside (λ e. e.fixed) (λ e. e.fixed) (λ a b p. p.fixed) ps)
+denotation_reports : {s : Scope Breach} {s' : Scope (List Breach)} → ScopeBeside s s' → (name : Ident) {ps : List (Picks Breach)} {ps' : List (Picks (List Breach))} → Pairwise PicksBeside ps ps' → Reports (denotation least s name ps) (denotation every s' name ps')
+denotation_reports b name ps = picked_reports b name (pairwise_over {A = Picks Breach} {B = Picks (List Breach)} PickBeside (λ e. e.fixed) (λ e. e.fixed) (λ a b p. p.fixed) ps)
 
-names_by_reports : {A B C : Type 0} {R : A → B → Type 0} {xs : List A} {ys : List B} → Pairwise R xs ys → {p q : Result C Fault} {p' q' : Result C (List Fault)} → Reports p p' → Reports q q' → Reports (names_by xs p q) (names_by ys p' q')
+names_by_reports : {A B C : Type 0} {R : A → B → Type 0} {xs : List A} {ys : List B} → Pairwise R xs ys → {p q : Result C Breach} {p' q' : Result C (List Breach)} → Reports p p' → Reports q q' → Reports (names_by xs p q) (names_by ys p' q')
 names_by_reports none p q = p
 names_by_reports (more x xs) p q = q
 
-designator_meant : (name : Ident) {ps : List (Picks Fault)} {ps' : List (Picks (List Fault))} → Pairwise PicksBeside ps ps'
+designator_meant : (name : Ident) {ps : List (Picks Breach)} {ps' : List (Picks (List Breach))} → Pairwise PicksBeside ps ps'
     → MeantBeside (designator_layer least (record { name = name; selectors = ps })) (designator_layer every (record { name = name; selectors = ps' }))
 designator_meant name ps = meants
     (parts name.pos (λ s s' b. denotation_reports b name ps)

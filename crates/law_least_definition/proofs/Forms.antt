@@ -5,64 +5,65 @@ use Rattle.std.specs.List.{fold}
 use Rattle.m2_rule.specs.RuleNumber.{number_of}
 use Rattle.m2_rule.specs.declared.rule.Rule.{Rule}
 use Rattle.m2_tree.specs.declared.pos.Pos.{Pos}
-use Rattle.check_scope.specs.declared.fault.Fault.{Fault}
+use Rattle.m2_rule.specs.declared.breach.Breach.{Breach}
 use Rattle.check_scope.specs.declared.meaningless.Meaningless.{Meaningless}
-use Rattle.check_scope.specs.Elaborated.{every, least, lesser, reported, reported_where, both, beside, refusal_beside, reported_beside, ahead, of_sort, of_heading, plain, ◌▷◌}
+use Rattle.check_scope.specs.Elaborated.{every, least, reported, reported_where, both, beside, refusal_beside, reported_beside, ahead, of_sort, of_heading, plain, ◌▷◌}
+use Rattle.m2_rule.specs.Breaches.{lesser}
 use Rattle.law_least_definition.specs.Least.{IsLeast, Reports, fine, is_refused}
 use Rattle.law_least_definition.specs.Beside.{Pairwise, none, more, SoughtBeside, is_found, is_broken, is_headless}
 use Rattle.law_least_definition.proofs.Order.{least_of_both, least_of_one}
 
 pub reported_reports : {A : Type 0} (at : Pos) (n : Rule) → Reports {A = A} (reported least at n) (reported every at n)
-reported_reports at n = let f : Fault = record { pos = at; number = number_of n } in is_refused f (f ∷ []) (least_of_one f)
+reported_reports at n = let f : Breach = record { pos = at; number = number_of n } in is_refused f (f ∷ []) (least_of_one f)
 
-pub where_reports : {A : Type 0} (b : Bool) (at : Pos) (n : Rule) {x : Result A Fault} {x' : Result A (List Fault)} → Reports x x' → Reports (reported_where least b at n x) (reported_where every b at n x')
+pub where_reports : {A : Type 0} (b : Bool) (at : Pos) (n : Rule) {x : Result A Breach} {x' : Result A (List Breach)} → Reports x x' → Reports (reported_where least b at n x) (reported_where every b at n x')
 where_reports true at n h = reported_reports at n
 where_reports false at n h = h
 
-pub both_reports : {A B : Type 0} {x : Result A Fault} {x' : Result A (List Fault)} {y : Result B Fault} {y' : Result B (List Fault)} → Reports x x' → Reports y y' → Reports (both least x y) (both every x' y')
+pub both_reports : {A B : Type 0} {x : Result A Breach} {x' : Result A (List Breach)} {y : Result B Breach} {y' : Result B (List Breach)} → Reports x x' → Reports y y' → Reports (both least x y) (both every x' y')
 both_reports (fine a) (fine b) = fine (a, b)
 both_reports (fine a) (is_refused g gs q) = is_refused g gs q
 both_reports (is_refused f fs p) (fine b) = is_refused f fs p
 both_reports (is_refused f fs p) (is_refused g gs q) = is_refused (lesser f g) (fs ++ gs) (least_of_both f g fs gs p q)
 
-pub then_reports : {A B : Type 0} {x : Result A Fault} {x' : Result A (List Fault)} {k : A → Result B Fault} {k' : A → Result B (List Fault)} → Reports x x' → ((a : A) → Reports (k a) (k' a)) → Reports (x ▷ k) (x' ▷ k')
+pub then_reports : {A B : Type 0} {x : Result A Breach} {x' : Result A (List Breach)} {k : A → Result B Breach} {k' : A → Result B (List Breach)} → Reports x x' → ((a : A) → Reports (k a) (k' a)) → Reports (x ▷ k) (x' ▷ k')
 then_reports (fine a) h = h a
 then_reports (is_refused f fs p) h = is_refused f fs p
 
-pub beside_reports : {x : Result (Unit {0}) Fault} {x' : Result (Unit {0}) (List Fault)} {y : Result (Unit {0}) Fault} {y' : Result (Unit {0}) (List Fault)} → Reports x x' → Reports y y' → Reports (beside least x y) (beside every x' y')
+pub beside_reports : {x : Result (Unit {0}) Breach} {x' : Result (Unit {0}) (List Breach)} {y : Result (Unit {0}) Breach} {y' : Result (Unit {0}) (List Breach)} → Reports x x' → Reports y y' → Reports (beside least x y) (beside every x' y')
 beside_reports p q = then_reports (both_reports p q) (λ x. fine tt)
 
 -- ---- what stands behind a part is looked at, also if the part has no meaning
 
-pub refusal_beside_reports : {A : Type 0} (f : Fault) (fs : List Fault) → IsLeast f fs → {y : Result (Unit {0}) Fault} {y' : Result (Unit {0}) (List Fault)} → Reports y y' → Reports {A = A} (refusal_beside least f y) (refusal_beside every fs y')
+pub refusal_beside_reports : {A : Type 0} (f : Breach) (fs : List Breach) → IsLeast f fs → {y : Result (Unit {0}) Breach} {y' : Result (Unit {0}) (List Breach)} → Reports y y' → Reports {A = A} (refusal_beside least f y) (refusal_beside every fs y')
 refusal_beside_reports f fs p (fine u) = is_refused f fs p
 refusal_beside_reports f fs p (is_refused g gs q) = is_refused (lesser f g) (fs ++ gs) (least_of_both f g fs gs p q)
 
-pub reported_beside_reports : {A : Type 0} (at : Pos) (n : Rule) {y : Result (Unit {0}) Fault} {y' : Result (Unit {0}) (List Fault)} → Reports y y' → Reports {A = A} (reported_beside least at n y) (reported_beside every at n y')
-reported_beside_reports at n q = let f : Fault = record { pos = at; number = number_of n } in refusal_beside_reports f (f ∷ []) (least_of_one f) q
+pub reported_beside_reports : {A : Type 0} (at : Pos) (n : Rule) {y : Result (Unit {0}) Breach} {y' : Result (Unit {0}) (List Breach)} → Reports y y' → Reports {A = A} (reported_beside least at n y) (reported_beside every at n y')
+reported_beside_reports at n q = let f : Breach = record { pos = at; number = number_of n } in refusal_beside_reports f (f ∷ []) (least_of_one f) q
 
-pub ahead_reports : {A B : Type 0} {x : Result A Fault} {x' : Result A (List Fault)} {y : Result (Unit {0}) Fault} {y' : Result (Unit {0}) (List Fault)} {k : A → Result B Fault} {k' : A → Result B (List Fault)} → Reports x x' → Reports y y' → ((a : A) → Reports (k a) (k' a))
+pub ahead_reports : {A B : Type 0} {x : Result A Breach} {x' : Result A (List Breach)} {y : Result (Unit {0}) Breach} {y' : Result (Unit {0}) (List Breach)} {k : A → Result B Breach} {k' : A → Result B (List Breach)} → Reports x x' → Reports y y' → ((a : A) → Reports (k a) (k' a))
     → Reports (ahead least x y k) (ahead every x' y' k')
 ahead_reports (fine a) q h = h a
 ahead_reports (is_refused f fs p) q h = refusal_beside_reports f fs p q
 
 -- ---- names that have no meaning
 
-pub of_sort_reports : {A : Type 0} (at : Pos) (n : Rule) {x : Result A (Meaningless Fault)} {x' : Result A (Meaningless (List Fault))} → SoughtBeside x x' → Reports (of_sort least at n x) (of_sort every at n x')
+pub of_sort_reports : {A : Type 0} (at : Pos) (n : Rule) {x : Result A (Meaningless Breach)} {x' : Result A (Meaningless (List Breach))} → SoughtBeside x x' → Reports (of_sort least at n x) (of_sort every at n x')
 of_sort_reports at n (is_found a) = fine a
 of_sort_reports at n (is_broken f fs p) = is_refused f fs p
 of_sort_reports at n (is_headless f fs p) = reported_reports at n
 
-pub of_heading_reports : {A : Type 0} {x : Result A (Meaningless Fault)} {x' : Result A (Meaningless (List Fault))} → SoughtBeside x x' → Reports (of_heading x) (of_heading x')
+pub of_heading_reports : {A : Type 0} {x : Result A (Meaningless Breach)} {x' : Result A (Meaningless (List Breach))} → SoughtBeside x x' → Reports (of_heading x) (of_heading x')
 of_heading_reports (is_found a) = fine a
 of_heading_reports (is_broken f fs p) = is_refused f fs p
 of_heading_reports (is_headless f fs p) = is_refused f fs p
 
-pub plain_sought : {A : Type 0} {x : Result A Fault} {x' : Result A (List Fault)} → Reports x x' → SoughtBeside (plain x) (plain x')
+pub plain_sought : {A : Type 0} {x : Result A Breach} {x' : Result A (List Breach)} → Reports x x' → SoughtBeside (plain x) (plain x')
 plain_sought (fine a) = is_found a
 plain_sought (is_refused f fs p) = is_broken f fs p
 
-pub then_sought : {A B : Type 0} {x : Result A (Meaningless Fault)} {x' : Result A (Meaningless (List Fault))} {k : A → Result B (Meaningless Fault)} {k' : A → Result B (Meaningless (List Fault))} → SoughtBeside x x' → ((a : A) → SoughtBeside (k a) (k' a)) → SoughtBeside (x ▷ k) (x' ▷ k')
+pub then_sought : {A B : Type 0} {x : Result A (Meaningless Breach)} {x' : Result A (Meaningless (List Breach))} {k : A → Result B (Meaningless Breach)} {k' : A → Result B (Meaningless (List Breach))} → SoughtBeside x x' → ((a : A) → SoughtBeside (k a) (k' a)) → SoughtBeside (x ▷ k) (x' ▷ k')
 then_sought (is_found a) h = h a
 then_sought (is_broken f fs p) h = is_broken f fs p
 then_sought (is_headless f fs p) h = is_headless f fs p

@@ -14,7 +14,7 @@ use Rattle.check_operator.specs.declared.computed.Computed.TheVariants as value
 use Rattle.check_operator.specs.declared.computed.Designated.{Designated}
 use Rattle.check_operator.specs.declared.computed.Designated.TheVariants as designated
 use Rattle.check_call.specs.declared.standard.Unary.{Unary}
-use Rattle.check_scope.specs.declared.fault.Fault.{Fault}
+use Rattle.m2_rule.specs.declared.breach.Breach.{Breach}
 use Rattle.check_scope.specs.Elaborated.{every, least}
 use Rattle.law_least_definition.specs.Least.{Reports, fine}
 use Rattle.check_call.specs.Functions.{unary_takes, unary_scalar, unary_at, type_named, bound_at, converted_scalar, converted_value, conversion_at, high_of}
@@ -45,7 +45,7 @@ type_named_reports types at (designated.Nested p) = reported_reports at rule.NoT
 type_named_reports types at (designated.Standard f) = reported_reports at rule.NoType
 type_named_reports types at (designated.Module k) = reported_reports at rule.NoType
 
-pub bound_at_reports : (f : Standard) → {x : Result (TypeNo × Range) Fault} {x' : Result (TypeNo × Range) (List Fault)} → Reports x x' → Reports (bound_at f x) (bound_at f x')
+pub bound_at_reports : (f : Standard) → {x : Result (TypeNo × Range) Breach} {x' : Result (TypeNo × Range) (List Breach)} → Reports x x' → Reports (bound_at f x) (bound_at f x')
 bound_at_reports f x = then_reports x (λ p. fine _)
 
 pub converted_scalar_reports : (t : TypeNo) → (s : Range) → (at : Pos) → (b : TypeNo) → (e : TypedExpr) → Reports (converted_scalar least t s at b e) (converted_scalar every t s at b e)
@@ -60,7 +60,7 @@ converted_value_reports t s at (value.Procedure p) = reported_reports at rule.Wr
 converted_value_reports t s at (value.Whole u d) = reported_reports at rule.WrongArgument
 converted_value_reports t s at value.Untaken = reported_reports at rule.WrongArgument
 
-pub conversion_at_reports : {to : Result (TypeNo × Range) Fault} {to' : Result (TypeNo × Range) (List Fault)} → Reports to to' → (at : Pos) → {x : Result Computed Fault} {x' : Result Computed (List Fault)} → Reports x x' → Reports (conversion_at least to at x) (conversion_at every to' at x')
+pub conversion_at_reports : {to : Result (TypeNo × Range) Breach} {to' : Result (TypeNo × Range) (List Breach)} → Reports to to' → (at : Pos) → {x : Result Computed Breach} {x' : Result Computed (List Breach)} → Reports x x' → Reports (conversion_at least to at x) (conversion_at every to' at x')
 conversion_at_reports to at x = then_reports (both_reports to x) (λ p. converted_value_reports p.0.0 p.0.1 at p.1)
 
 pub high_of_reports : (at : Pos) → (p1 : Designated) → Reports (high_of least at p1) (high_of every at p1)

@@ -22,14 +22,14 @@ use Rattle.check_operator.specs.declared.side.Side.TheVariants as side
 use Rattle.check_operator.specs.declared.operate.Step.{Step}
 use Rattle.check_operator.specs.declared.operate.SetStep.{SetStep}
 use Rattle.check_operator.specs.Sides.{known_of, side_of, sort_of}
-use Rattle.check_scope.specs.declared.fault.Fault.{Fault}
+use Rattle.m2_rule.specs.declared.breach.Breach.{Breach}
 use Rattle.check_scope.specs.Elaborated.{every, least}
 use Rattle.law_least_definition.specs.Least.{Reports, fine}
 use Rattle.check_operator.specs.Operations.{of_value, step_of, set_step_of, equality_of, is_in, fitting_of, divisor_of, fitting_both, stepped, on_amounts, element_fits, member, on_sets, on_procedures, with_scalar, set_in, with_set, partner_of, routine_of, with_partner, between, folded, by_known, operated, combined}
 use Rattle.law_least_definition.proofs.Forms.{beside_reports, both_reports, then_reports, reported_reports, where_reports}
 use Rattle.law_least_definition.proofs.Values.{binary_reports, divisor_reports, fitting_reports}
 
-pub of_value_reports : {v : Result Value Fault} {v' : Result Value (List Fault)} → Reports v v' → Reports (of_value v) (of_value v')
+pub of_value_reports : {v : Result Value Breach} {v' : Result Value (List Breach)} → Reports v v' → Reports (of_value v) (of_value v')
 of_value_reports v = then_reports v (λ x. fine _)
 
 pub fitting_of_reports : (sort : Option TypeNo) → (at : Pos) → (p2 : Amount) → Reports (fitting_of least sort at p2) (fitting_of every sort at p2)
@@ -99,5 +99,5 @@ by_known_reports types op spot at x at' y (Some a) (Some b) = folded_reports op 
 pub operated_reports : (types : Types) → (op : BinaryOp) → (spot : Pos) → (at : Pos) → (x : Computed) → (at' : Pos) → (y : Computed) → Reports (operated least types op spot at x at' y) (operated every types op spot at x at' y)
 operated_reports types op spot at x at' y = by_known_reports types op spot at x at' y (known_of x) (known_of y)
 
-pub combined_reports : (types : Types) → (op : BinaryOp) → (spot : Pos) → (at : Pos) → {x : Result Computed Fault} {x' : Result Computed (List Fault)} → Reports x x' → (at' : Pos) → {y : Result Computed Fault} {y' : Result Computed (List Fault)} → Reports y y' → Reports (combined least types op spot at x at' y) (combined every types op spot at x' at' y')
+pub combined_reports : (types : Types) → (op : BinaryOp) → (spot : Pos) → (at : Pos) → {x : Result Computed Breach} {x' : Result Computed (List Breach)} → Reports x x' → (at' : Pos) → {y : Result Computed Breach} {y' : Result Computed (List Breach)} → Reports y y' → Reports (combined least types op spot at x at' y) (combined every types op spot at x' at' y')
 combined_reports types op spot at x at' y = then_reports (both_reports x y) (λ p. operated_reports types op spot at p.0 at' p.1)

@@ -12,7 +12,7 @@ use Rattle.check_operator.specs.declared.computed.Designated.{Designated}
 use Rattle.check_operator.specs.declared.computed.Designated.TheVariants as designated
 use Rattle.check_operator.specs.declared.select.Subscripted.{Subscripted}
 use Rattle.check_operator.specs.Classes.{array_at}
-use Rattle.check_scope.specs.declared.fault.Fault.{Fault}
+use Rattle.m2_rule.specs.declared.breach.Breach.{Breach}
 use Rattle.check_scope.specs.Elaborated.{every, least}
 use Rattle.law_least_definition.specs.Least.{Reports, fine}
 use Rattle.check_operator.specs.Selection.{numbered_field, field_named, record_field, component, field, array_indexed, indices, asked, with_index, indexed}
@@ -57,5 +57,5 @@ indices_reports types at (designated.Module k) = reported_reports at rule.WrongT
 pub with_index_reports : (types : Types) → (at : Pos) → (a : Subscripted) → (x : Computed) → Reports (with_index least types at a x) (with_index every types at a x)
 with_index_reports types at a x = then_reports (value_suited_reports rule.NotAssignable types (asked a) at x) (λ e. fine _)
 
-pub indexed_reports : (types : Types) → {a : Result Subscripted Fault} {a' : Result Subscripted (List Fault)} → Reports a a' → (at : Pos) → {x : Result Computed Fault} {x' : Result Computed (List Fault)} → Reports x x' → Reports (indexed least types a at x) (indexed every types a' at x')
+pub indexed_reports : (types : Types) → {a : Result Subscripted Breach} {a' : Result Subscripted (List Breach)} → Reports a a' → (at : Pos) → {x : Result Computed Breach} {x' : Result Computed (List Breach)} → Reports x x' → Reports (indexed least types a at x) (indexed every types a' at x')
 indexed_reports types a at x = then_reports (both_reports a x) (λ p. with_index_reports types at p.0 p.1)

@@ -22,7 +22,7 @@ use Rattle.check_operator.specs.declared.side.Side.TheVariants as side
 use Rattle.check_operator.specs.Classes.{class_at}
 use Rattle.check_operator.specs.Agreement.{headings_agree}
 use Rattle.check_operator.specs.Sides.{side_of}
-use Rattle.check_scope.specs.declared.fault.Fault.{Fault}
+use Rattle.m2_rule.specs.declared.breach.Breach.{Breach}
 use Rattle.check_scope.specs.Elaborated.{every, least}
 use Rattle.law_least_definition.specs.Least.{Reports, fine}
 use Rattle.check_operator.specs.Suits.{bases_suit, sort_suits, known_suited, run_suited, scalar_suited, set_suited, procedure_suited, value_in, value_suited, text_fits, text_suited, whole_suited, of_expr, suited_in, suited}
@@ -80,7 +80,7 @@ whole_suited_reports broken types t at (value.Routine u e) = reported_reports at
 whole_suited_reports broken types t at (value.Procedure p) = reported_reports at broken
 whole_suited_reports broken types t at value.Untaken = reported_reports at broken
 
-pub of_expr_reports : {e : Result TypedExpr Fault} {e' : Result TypedExpr (List Fault)} → Reports e e' → Reports (of_expr e) (of_expr e')
+pub of_expr_reports : {e : Result TypedExpr Breach} {e' : Result TypedExpr (List Breach)} → Reports e e' → Reports (of_expr e) (of_expr e')
 of_expr_reports e = then_reports e (λ x. fine _)
 
 pub suited_in_reports : (broken : Rule) → (types : Types) → (t : TypeNo) → (at : Pos) → (x : Computed) → (p5 : Class) → Reports (suited_in least broken types t at x p5) (suited_in every broken types t at x p5)

@@ -8,7 +8,7 @@ use Rattle.m2_tree.specs.declared.decl.Module.{Module}
 use Rattle.typed_tree.specs.declared.meaning.Meaning.{Meaning}
 use Rattle.typed_tree.specs.declared.table.Table.{Table}
 use Rattle.typed_tree.specs.Names.{entered}
-use Rattle.check_scope.specs.declared.fault.Fault.{Fault}
+use Rattle.m2_rule.specs.declared.breach.Breach.{Breach}
 use Rattle.check_scope.specs.declared.known.Known.{Known}
 use Rattle.check_scope.specs.declared.known.Origin.TheVariants as origin
 use Rattle.check_scope.specs.declared.scope.Scope.{Scope}
@@ -27,7 +27,7 @@ use Rattle.law_least_definition.proofs.Declarations.{all_defs}
 
 -- what is exported is the same
 
-with_export_same : {so so' : List (List ℕ × Meaning)} → so ≡ so' → {e : List ℕ × Known Fault} {e' : List ℕ × Known (List Fault)} → EntryBeside e e' → with_export so e ≡ with_export so' e'
+with_export_same : {so so' : List (List ℕ × Meaning)} → so ≡ so' → {e : List ℕ × Known Breach} {e' : List ℕ × Known (List Breach)} → EntryBeside e e' → with_export so e ≡ with_export so' e'
 with_export_same h (entry name known_later) = h
 with_export_same h (entry name known_ahead) = h
 with_export_same h (entry name known_begun) = h
@@ -38,18 +38,18 @@ with_export_same h (entry name (known_declared origin.Here (is_refused f fs l)))
 with_export_same h (entry name (known_declared (origin.Module k) t)) = h
 with_export_same h (entry name (known_declared (origin.Export k) t)) = h
 
-exports_same : {own : List (List ℕ × Known Fault)} {own' : List (List ℕ × Known (List Fault))} → Pairwise EntryBeside own own' → exports own ≡ exports own'
+exports_same : {own : List (List ℕ × Known Breach)} {own' : List (List ℕ × Known (List Breach))} → Pairwise EntryBeside own own' → exports own ≡ exports own'
 exports_same p = fold_pairwise ◌≡◌ EntryBeside with_export with_export (λ so so' e e' h q. with_export_same h q) p [] [] refl
 
-table_same : (m : Module) (modules : List (List ℕ × ℕ)) {s : Scope Fault} {s' : Scope (List Fault)} → ScopeBeside s s' → table_of m modules s ≡ table_of m modules s'
+table_same : (m : Module) (modules : List (List ℕ × ℕ)) {s : Scope Breach} {s' : Scope (List Breach)} → ScopeBeside s s' → table_of m modules s ≡ table_of m modules s'
 table_same m modules (scopes tables types v p own outer) = ap (λ (es : List (List ℕ × Meaning)). record { number = types.home; name = m.name.name; imports = imported_modules modules tables m.imports; exported = es; reached = reached_of types }) (exports_same own)
 
-table_or_reports : (m : Module) (modules : List (List ℕ × ℕ)) {s : Scope Fault} {s' : Scope (List Fault)} → ScopeBeside s s' → {r : Result (Unit {0}) Fault} {r' : Result (Unit {0}) (List Fault)} → Reports r r'
+table_or_reports : (m : Module) (modules : List (List ℕ × ℕ)) {s : Scope Breach} {s' : Scope (List Breach)} → ScopeBeside s s' → {r : Result (Unit {0}) Breach} {r' : Result (Unit {0}) (List Breach)} → Reports r r'
     → Reports (table_or m modules s r) (table_or m modules s' r')
 table_or_reports m modules {s = s} b (fine u) = subst (λ (t : Table). Reports (Ok (table_of m modules s)) (Ok t)) (table_same m modules b) (fine _)
 table_or_reports m modules b (is_refused f fs l) = is_refused f fs l
 
-declared_in_goes : (m : Module) (modules : List (List ℕ × ℕ)) (defs : List Def) {s : Scope Fault} {s' : Scope (List Fault)} → ScopeBeside s s' → StateBeside (declared_in least m modules s defs) (declared_in every m modules s' defs)
+declared_in_goes : (m : Module) (modules : List (List ℕ × ℕ)) (defs : List Def) {s : Scope Breach} {s' : Scope (List Breach)} → ScopeBeside s s' → StateBeside (declared_in least m modules s defs) (declared_in every m modules s' defs)
 declared_in_goes m modules defs b = all_defs (all_imports modules m.imports (goes (all_marks defs b) (fine tt))) defs
 
 of_definition_reports : (number : ℕ) (m : Module) (tables : List Table) (defs : List Def) → Reports (of_definition least number m tables defs) (of_definition every number m tables defs)

@@ -11,7 +11,7 @@ use Rattle.typed_tree.specs.declared.types.TypeNo.{TypeNo}
 use Rattle.typed_tree.specs.declared.shape.Scalar.{Scalar}
 use Rattle.typed_tree.specs.declared.meaning.Value.{Value}
 use Rattle.typed_tree.specs.Types.{cardinal}
-use Rattle.check_scope.specs.declared.fault.Fault.{Fault}
+use Rattle.m2_rule.specs.declared.breach.Breach.{Breach}
 use Rattle.check_scope.specs.Elaborated.{every, least}
 use Rattle.check_const_ops.specs.declared.operand.Ordinal.{Ordinal}
 use Rattle.check_const_ops.specs.declared.operand.Operand.{Operand}
@@ -141,7 +141,7 @@ ordered_reports at low high = where_reports (int_lt high low) at rule.EmptyRange
 related_reports : (at at' : Pos) (a b : Ordinal) → Reports (related least at at' a b) (related every at at' a b)
 related_reports at at' a b = where_reports (is_unlike a b) at' rule.WrongType (ordered_reports at a.number b.number)
 
-pub spanned_reports : (at : Pos) {a : Result Ordinal Fault} {a' : Result Ordinal (List Fault)} → Reports a a' → (at' : Pos) {b : Result Ordinal Fault} {b' : Result Ordinal (List Fault)} → Reports b b'
+pub spanned_reports : (at : Pos) {a : Result Ordinal Breach} {a' : Result Ordinal (List Breach)} → Reports a a' → (at' : Pos) {b : Result Ordinal Breach} {b' : Result Ordinal (List Breach)} → Reports b b'
     → Reports (spanned least at a at' b) (spanned every at a' at' b')
 spanned_reports at p at' q =
     then_reports (both_reports (both_reports p q) (beside_reports (beside_reports (then_reports p (λ x. is_element_reports at x)) (then_reports q (λ x. is_element_reports at' x)))
@@ -184,7 +184,7 @@ binary_reports op spot at (Some (operands.Set a)) at' (Some (operands.Set b)) = 
 binary_reports op spot at (Some (operands.Set a)) at' None = reported_reports spot rule.WrongType
 binary_reports op spot at None at' y = reported_reports spot rule.WrongType
 
-pub combined_reports : (op : BinaryOp) (spot at : Pos) {x : Result Value Fault} {x' : Result Value (List Fault)} → Reports x x' → (at' : Pos) {y : Result Value Fault} {y' : Result Value (List Fault)} → Reports y y'
+pub combined_reports : (op : BinaryOp) (spot at : Pos) {x : Result Value Breach} {x' : Result Value (List Breach)} → Reports x x' → (at' : Pos) {y : Result Value Breach} {y' : Result Value (List Breach)} → Reports y y'
     → Reports (combined least op spot at x at' y) (combined every op spot at x' at' y')
 combined_reports op spot at p at' q = then_reports (both_reports p q) (λ v. binary_reports op spot at (operand_of v.0) at' (operand_of v.1))
 
@@ -199,7 +199,7 @@ signed_value_reports o at None = reported_reports at rule.WrongType
 signed_value_reports o at (Some (operands.Set bits)) = reported_reports at rule.WrongType
 signed_value_reports o at (Some (operands.Scalar a)) = signed_scalar_reports o at a
 
-pub signed_reports : (o : Sign) (at : Pos) {x : Result Value Fault} {x' : Result Value (List Fault)} → Reports x x' → Reports (signed least o at x) (signed every o at x')
+pub signed_reports : (o : Sign) (at : Pos) {x : Result Value Breach} {x' : Result Value (List Breach)} → Reports x x' → Reports (signed least o at x) (signed every o at x')
 signed_reports o at p = then_reports p (λ v. signed_value_reports o at (operand_of v))
 
 negated_value_reports : (at : Pos) (x : Option Operand) → Reports (negated_value least at x) (negated_value every at x)
@@ -207,5 +207,5 @@ negated_value_reports at None = reported_reports at rule.WrongType
 negated_value_reports at (Some (operands.Set bits)) = reported_reports at rule.WrongType
 negated_value_reports at (Some (operands.Scalar a)) = where_reports (not (is_truth a.sort)) at rule.WrongType (fine _)
 
-pub negated_reports : (at : Pos) {x : Result Value Fault} {x' : Result Value (List Fault)} → Reports x x' → Reports (negated least at x) (negated every at x')
+pub negated_reports : (at : Pos) {x : Result Value Breach} {x' : Result Value (List Breach)} → Reports x x' → Reports (negated least at x) (negated every at x')
 negated_reports at p = then_reports p (λ v. negated_value_reports at (operand_of v))

@@ -3,7 +3,7 @@ use Rattle.std.specs.Prelude.{ℕ, Bool, List, [], ◌∷◌, Option, Some, None
 use Rattle.typed_tree.specs.declared.types.TypeNo.{TypeNo}
 use Rattle.typed_tree.specs.declared.meaning.Meaning.{Meaning}
 use Rattle.typed_tree.specs.declared.table.Table.{Table}
-use Rattle.check_scope.specs.declared.fault.Fault.{Fault}
+use Rattle.m2_rule.specs.declared.breach.Breach.{Breach}
 use Rattle.check_scope.specs.declared.known.Origin.{Origin}
 use Rattle.check_scope.specs.declared.known.Known.{Known}
 use Rattle.check_scope.specs.declared.known.Known.TheVariants.{Later, Ahead, Begun, Headed, Declared}
@@ -28,41 +28,41 @@ pub data Optionwise {A B : Type 0} (R : A → B → Type 0) : Option A → Optio
 
 -- what a name or a designator means: the same meaning, or no meaning in both for the same reason
 pub data SoughtBeside {A : Type 0}
-    : Result A (Meaningless Fault) → Result A (Meaningless (List Fault)) → Type 0 where
+    : Result A (Meaningless Breach) → Result A (Meaningless (List Breach)) → Type 0 where
   is_found : (a : A) → SoughtBeside (Ok a) (Ok a)
-  is_broken : (f : Fault) (fs : List Fault) → IsLeast f fs
+  is_broken : (f : Breach) (fs : List Breach) → IsLeast f fs
       → SoughtBeside (Err (Broken f)) (Err (Broken fs))
-  is_headless : (f : Fault) (fs : List Fault) → IsLeast f fs
+  is_headless : (f : Breach) (fs : List Breach) → IsLeast f fs
       → SoughtBeside (Err (Headless f)) (Err (Headless fs))
 
-pub data KnownBeside : Known Fault → Known (List Fault) → Type 0 where
+pub data KnownBeside : Known Breach → Known (List Breach) → Type 0 where
   known_later : KnownBeside Later Later
   known_ahead : KnownBeside Ahead Ahead
   known_begun : KnownBeside Begun Begun
-  known_headed : {m : Result Meaning Fault} {m' : Result Meaning (List Fault)} → Reports m m'
+  known_headed : {m : Result Meaning Breach} {m' : Result Meaning (List Breach)} → Reports m m'
       → KnownBeside (Headed m) (Headed m')
-  known_declared : (o : Origin) {m : Result Meaning Fault} {m' : Result Meaning (List Fault)}
+  known_declared : (o : Origin) {m : Result Meaning Breach} {m' : Result Meaning (List Breach)}
       → Reports m m' → KnownBeside (Declared o m) (Declared o m')
 
-pub data EntryBeside : List ℕ × Known Fault → List ℕ × Known (List Fault) → Type 0 where
-  entry : (name : List ℕ) {k : Known Fault} {k' : Known (List Fault)} → KnownBeside k k'
+pub data EntryBeside : List ℕ × Known Breach → List ℕ × Known (List Breach) → Type 0 where
+  entry : (name : List ℕ) {k : Known Breach} {k' : Known (List Breach)} → KnownBeside k k'
       → EntryBeside (name, k) (name, k')
 
-pub data BlockBeside : Block Fault → Block (List Fault) → Type 0 where
-  block : (seen : ℕ) {names : List (List ℕ × Known Fault)}
-      {names' : List (List ℕ × Known (List Fault))}
+pub data BlockBeside : Block Breach → Block (List Breach) → Type 0 where
+  block : (seen : ℕ) {names : List (List ℕ × Known Breach)}
+      {names' : List (List ℕ × Known (List Breach))}
       → Pairwise EntryBeside names names'
       → BlockBeside (record { names = names; seen = seen }) (record { names = names'; seen = seen })
 
-pub data SightBeside : Known Fault × Bool → Known (List Fault) × Bool → Type 0 where
-  sight : (seen : Bool) {k : Known Fault} {k' : Known (List Fault)} → KnownBeside k k'
+pub data SightBeside : Known Breach × Bool → Known (List Breach) × Bool → Type 0 where
+  sight : (seen : Bool) {k : Known Breach} {k' : Known (List Breach)} → KnownBeside k k'
       → SightBeside (k, seen) (k', seen)
 
-pub data ScopeBeside : Scope Fault → Scope (List Fault) → Type 0 where
+pub data ScopeBeside : Scope Breach → Scope (List Breach) → Type 0 where
   scopes : (tables : List Table) (types : Types) (variables procedures : List TypeNo) {level : ℕ}
-      {withs : List OpenedRecord} {own : List (List ℕ × Known Fault)}
-      {own' : List (List ℕ × Known (List Fault))} {outer : List (Block Fault)}
-      {outer' : List (Block (List Fault))}
+      {withs : List OpenedRecord} {own : List (List ℕ × Known Breach)}
+      {own' : List (List ℕ × Known (List Breach))} {outer : List (Block Breach)}
+      {outer' : List (Block (List Breach))}
       → Pairwise EntryBeside own own'
       → Pairwise BlockBeside outer outer'
       → ScopeBeside
@@ -87,7 +87,7 @@ pub data ScopeBeside : Scope Fault → Scope (List Fault) → Type 0 where
       })
 
 -- a scope and what is reported
-pub record StateBeside {A : Type 0} (st : Scope Fault × Result A Fault)
-    (st' : Scope (List Fault) × Result A (List Fault)) : Type 0 where
+pub record StateBeside {A : Type 0} (st : Scope Breach × Result A Breach)
+    (st' : Scope (List Breach) × Result A (List Breach)) : Type 0 where
   pub scope : ScopeBeside st.0 st'.0
   pub reported : Reports st.1 st'.1

@@ -3,7 +3,7 @@ use Rattle.std.proofs.Common.{◌≡◌, ◌⊎◌, ⊎_elim, ℕ, ◌+◌, ◌�
 use Rattle.law_effect.specs.Bytes.{copied_bytes, cleared_bytes}
 use Rattle.law_effect.proofs.Bytes.{copied_length, copied_small, copied_only, copied_moved, cleared_length, cleared_small, cleared_only, cleared_zero}
 use Rattle.layout_storage.specs.Types.{Ty, row, component, IsPlain, IsFit}
-use Rattle.def_meaning.specs.Around.{Modules}
+use Rattle.def_meaning.specs.Environment.{Modules}
 use Rattle.def_meaning.specs.Store.{Location, Store, placed, copied, fresh}
 use Rattle.layout_storage.specs.Sizes.{size, offset}
 use Rattle.law_memory.specs.Relation.{Shows, Holds}

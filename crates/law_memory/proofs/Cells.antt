@@ -10,7 +10,7 @@ use Rattle.wasm_tree.specs.Numbers.{load_size, loaded, extended}
 use Rattle.law_effect.specs.Bytes.{byte, IsOnly}
 use Rattle.law_effect.proofs.Bytes.{byte_part, byte_pasted, pasted_only, length-pasted, small_pasted, part0}
 use Rattle.layout_storage.specs.Types.{Scalar, Natural, Integer, Between, Callable, IsOf, IsScalar}
-use Rattle.def_meaning.specs.Around.{Modules}
+use Rattle.def_meaning.specs.Environment.{Modules}
 use Rattle.layout_storage.specs.Sizes.{Room, One, Two, Four, room_for, bytes_in, room_of, width, value_of}
 use Rattle.law_memory.specs.Cells.{number, word, unsigned_load, load_of, raised, lowered, fetched, put, stored_in}
 use Rattle.law_memory.specs.Relation.{Means, Says}

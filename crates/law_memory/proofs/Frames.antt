@@ -11,7 +11,7 @@ use Rattle.wasm_tree.specs.Numbers.{load_size, loaded}
 use Rattle.law_effect.specs.Bytes.{byte, IsOnly}
 use Rattle.law_effect.proofs.Bytes.{pasted_only, byte_pasted, length-pasted, small_pasted}
 use Rattle.layout_storage.specs.Types.{Ty, Scalar, Natural, Integer, Between, Callable, Cell, Hidden, row, frame_of, component, IsFit, IsOf, IsScalar, first}
-use Rattle.def_meaning.specs.Around.{Modules}
+use Rattle.def_meaning.specs.Environment.{Modules}
 use Rattle.def_meaning.specs.Store.{Location, Store, placed, fresh, first_in}
 use Rattle.layout_storage.specs.Sizes.{Four, size, offset, width, value_of}
 use Rattle.law_memory.specs.Cells.{number, load_of, raised, fetched, stored_in}

@@ -3,7 +3,7 @@ use Rattle.std.proofs.Common.{◌≡◌, ⊎_elim, ℕ, zero, suc, ◌+◌, ℤ,
 use Rattle.std.proofs.lemmas.Option.{none-some}
 use Rattle.law_effect.specs.Bytes.{byte, AreMoved, IsOnly}
 use Rattle.layout_storage.specs.Types.{Ty, Scalar, Cell, Hidden, component}
-use Rattle.def_meaning.specs.Around.{Modules}
+use Rattle.def_meaning.specs.Environment.{Modules}
 use Rattle.def_meaning.specs.Store.{Location, behind}
 use Rattle.layout_storage.specs.Sizes.{size, offset, width, value_of}
 use Rattle.law_memory.specs.Cells.{number}

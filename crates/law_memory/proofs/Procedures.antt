@@ -6,7 +6,7 @@ use Rattle.std.proofs.lemmas.Option.{none-some}
 use Rattle.typed_tree.specs.declared.typed_module.Routine.{Routine}
 use Rattle.typed_tree.specs.declared.typed_module.TypedModule.{TypedModule}
 use Rattle.layout_storage.specs.Types.{Scalar, Natural, Integer, Between, Callable, Heading, IsScalar}
-use Rattle.def_meaning.specs.Around.{Modules, Entry, Procedure, numbered_from, entries_from, entries_before, entry_of}
+use Rattle.def_meaning.specs.Environment.{Modules, Entry, Procedure, numbered_from, entries_from, entries_before, entry_of}
 use Rattle.law_memory.specs.Relation.{Means, IsNumber, value_number}
 
 -- a number stands for itself

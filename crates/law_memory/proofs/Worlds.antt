@@ -4,7 +4,7 @@ use Rattle.std.proofs.lemmas.Bool.{ne_eqb}
 use Rattle.std.proofs.lemmas.Option.{none-some, same_Some}
 use Rattle.law_effect.specs.Bytes.{byte, AreMoved, IsOnly}
 use Rattle.layout_storage.specs.Types.{Ty, Scalar, Callable, Cell, Hidden, Array, Nothing, Field, Heading, row, component, IsOf, IsScalar, IsPlain}
-use Rattle.def_meaning.specs.Around.{Modules}
+use Rattle.def_meaning.specs.Environment.{Modules}
 use Rattle.def_meaning.specs.Store.{Location, Store, behind, placed, chosen, assigned, copied}
 use Rattle.layout_storage.specs.Sizes.{size, offset, width}
 use Rattle.law_memory.specs.Cells.{word, fetched, put}

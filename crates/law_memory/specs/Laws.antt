@@ -6,7 +6,7 @@ use Rattle.wasm_tree.specs.Numbers.{loaded}
 use Rattle.wasm_tree.specs.Machine.{bytes_at, pasted}
 use Rattle.law_effect.specs.Bytes.{copied_bytes, cleared_bytes}
 use Rattle.layout_storage.specs.Types.{Ty, Scalar, Natural, Callable, Cell, Hidden, Heading, row, frame_of, component, IsScalar, IsOf, IsPlain, IsFit}
-use Rattle.def_meaning.specs.Around.{Modules}
+use Rattle.def_meaning.specs.Environment.{Modules}
 use Rattle.def_meaning.specs.Store.{Location, Store, placed, assigned, copied, fresh}
 use Rattle.layout_storage.specs.Sizes.{Four, size, offset}
 use Rattle.law_memory.specs.Cells.{word, stored_in, fetched, put}

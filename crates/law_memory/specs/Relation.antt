@@ -11,7 +11,7 @@ use Rattle.typed_tree.specs.declared.types.TypeNo.{TypeNo}
 use Rattle.typed_tree.specs.Known.{made_at}
 use Rattle.layout_storage.specs.Types.{Ty, Scalar, Natural, Integer, Between, Callable, Cell, Hidden, Heading, row, component, IsOf}
 use Rattle.layout_storage.specs.Shapes.{heading_tree, known_trees}
-use Rattle.def_meaning.specs.Around.{Modules, entries_before}
+use Rattle.def_meaning.specs.Environment.{Modules, entries_before}
 use Rattle.def_meaning.specs.Store.{Location, Store}
 use Rattle.layout_storage.specs.Sizes.{width, value_of, size, offset}
 use Rattle.law_memory.specs.Cells.{number}

@@ -37,8 +37,8 @@ use Rattle.typed_tree.specs.Known.{scalar_at}
 use Rattle.layout_storage.specs.Types.{Ty, Scalar, Natural, Callable, Cell, Array, Heading, component}
 use Rattle.layout_storage.specs.Shapes.{tree, elements_of}
 use Rattle.def_meaning.specs.Store.{Location}
-use Rattle.def_meaning.specs.Answer.{State, Answer, Gave, Ended, then_give, range_fault, overflow, index_fault, divisor_fault, empty_procedure}
-use Rattle.def_meaning.specs.Around.{Modules, Around, Callee, Frames, Named, At, Elements, Passed, Number, Variable as Place', Array as Whole, Text, entry_of, entry_callee, module_place, module_callee, procedure_in, nested_in, callee_with, named, location_of, high_of, or_root}
+use Rattle.def_meaning.specs.Answer.{State, Answer, Value, Ended, ◌▷◌, range_fault, overflow, index_fault, divisor_fault, empty_procedure}
+use Rattle.def_meaning.specs.Environment.{Modules, Environment, Callee, Frames, Named, At, Elements, Passed, Number, Variable as Place', Array as Whole, Text, entry_of, entry_callee, module_place, module_callee, procedure_in, nested_in, callee_with, named, location_of, high_of, or_root}
 use Rattle.def_meaning.specs.Operators.{is_between, is_true, absolute, quotient, remainder}
 use Rattle.def_meaning.specs.Calls.{is_there}
 use Rattle.def_meaning.specs.Expressions as meaning
@@ -56,7 +56,7 @@ use Rattle.law_simulation.specs.ProceduresLaws.{callee_of}
 use Rattle.law_simulation.specs.TreesTyped as typed
 use Rattle.law_simulation.specs.TreesTyped.{Context, IsKnown, IsVariable, IsNamed, IsInner}
 use Rattle.law_simulation.proofs.TreesMeant.{argument_value, component_value, link_value, expr_meant, expr_means, link_meant, link_means, component_meant, component_means, place_means, call_meant, call_means, argument_meant, argument_means}
-use Rattle.law_simulation.specs.Linked.{Spot, around_of}
+use Rattle.law_simulation.specs.Linked.{Spot, environment_of}
 use Rattle.law_nothing_missing.specs.Worlds.{World, type_at, is_cell}
 use Rattle.law_nothing_missing.specs.Expressions as strict
 use Rattle.law_nothing_missing.specs.Expressions.{Calls, is_module, is_ranged, is_procedure, is_taken, has_range, variable_of, elements_named, first_of, provided, needs, at_there, at_cell, suits_call}
@@ -127,17 +127,17 @@ CalleeSame p world sask ask c forms result =
 
 abbrev pub AllSame : (p : Modules) (world : World) (sask ask : Asks) → Type 0
 AllSame p world sask ask =
-    (o : Spot p) (frames : Frames) → AreFrames world (around_of o.home o.routine) frames
+    (o : Spot p) (frames : Frames) → AreFrames world (environment_of o.home o.routine) frames
     → CalleeSame p world sask ask (callee_of o.place o.home o.routine frames) (forms_of o.home.types o.routine.heading) (result_of o.home.types o.routine.heading)
 
 -- what a tree of a module may name is there
 pub record Knows (x : Context) (world : World) : Type 0 where
   pub modules : (home : ℕ) → IsKnown x.home home → is_module x.p home ≡ true
   pub globals : (v : Variable) (t : Ty) → IsVariable x v t → type_at world (module_place x.p v.home ∷ v.number ∷ []) ≡ Some t
-  pub outermost : (o : Spot x.p) (number : ℕ) → o.at ≡ which.Module number → around_of o.home o.routine ≡ []
+  pub outermost : (o : Spot x.p) (number : ℕ) → o.at ≡ which.Module number → environment_of o.home o.routine ≡ []
 
 -- what stands around a body of the context, within WITHs of records of these types
-pub record Fits (x : Context) (world : World) (ws : List Ty) (a : Around) : Type 0 where
+pub record Fits (x : Context) (world : World) (ws : List Ty) (a : Environment) : Type 0 where
   pub place : a.place ≡ x.place
   pub types : a.types ≡ x.home.types
   pub frames : AreFrames world x.kinds a.frames
@@ -159,26 +159,26 @@ module _ (x : Context) (lacking : ℕ) (world : World) (sask ask : Asks) (knows 
 
   -- in every state in which the procedure variables hold procedures
   abbrev pub Both : {A : Type 0} (ws : List Ty) (G : A → Type 0) → Gives A → Gives A → Type 0
-  Both ws G f g = (a : Around) → Fits x world ws a → (st : State) → IsFine P world st.store → Same P world G (f a st) (g a st)
+  Both ws G f g = (a : Environment) → Fits x world ws a → (st : State) → IsFine P world st.store → Same P world G (f a st) (g a st)
 
   abbrev IsAt : Ty → Location → Type 0
   IsAt t l = type_at world l ≡ Some t
 
   -- ---- what is there
 
-  pub cell_there : {c : Scalar} {y z : Answer Location} → Same P world (IsAt (Cell c)) y z → Same P world (IsAt (Cell c)) (then_give y (at_cell lacking P sask world)) z
-  cell_there (gives l st fine at) = same_provided P world lacking (is_cell (type_at world l)) (Gave l) st (ap is_cell at) (gives l st fine at)
+  pub cell_there : {c : Scalar} {y z : Answer Location} → Same P world (IsAt (Cell c)) y z → Same P world (IsAt (Cell c)) (y ▷ (at_cell lacking P sask world)) z
+  cell_there (gives l st fine at) = same_provided P world lacking (is_cell (type_at world l)) (Value l) st (ap is_cell at) (gives l st fine at)
   cell_there (ends k out e) = ends k out e
   cell_there (still out) = still out
 
-  there_then : {B : Type 0} {G : B → Type 0} (t : Ty) (l : Location) (f : Location → State → Answer B) (st : State) (y : Answer B) → IsAt t l → Same P world G (f l st) y → Same P world G (then_give (at_there lacking P sask world l st) f) y
-  there_then {B = B} {G = G} t l f st y at h = subst (λ (b : Bool). Same P world G (then_give (provided lacking b (Gave l) st) f) y) (sym (ap is_there at)) h
+  there_then : {B : Type 0} {G : B → Type 0} (t : Ty) (l : Location) (f : Location → State → Answer B) (st : State) (y : Answer B) → IsAt t l → Same P world G (f l st) y → Same P world G (at_there lacking P sask world l st ▷ f) y
+  there_then {B = B} {G = G} t l f st y at h = subst (λ (b : Bool). Same P world G (provided lacking b (Value l) st ▷ f) y) (sym (ap is_there at)) h
 
-  open_at : (ws : List Ty) (a : Around) → Fits x world ws a → (slot : Slot) (t : Ty) → kind_at x.kinds slot ≡ Some (Open t) → OpenName world t (named a slot)
+  open_at : (ws : List Ty) (a : Environment) → Fits x world ws a → (slot : Slot) (t : Ty) → kind_at x.kinds slot ≡ Some (Open t) → OpenName world t (named a slot)
   open_at ws a fit slot t e = let n = named_at world x.kinds a fit.frames slot (Open t) e in open_named world (named a slot) (Open t) n.0 t n.1 n.2 refl
 
   -- a value that is taken as one of a type
-  pub type_checked : (G : ℤ → Type 0) (ws : List Ty) (t : TypeNo) (v : ℤ) (a : Around) → Fits x world ws a → (st : State) → IsFine P world st.store → is_taken lacking P sask world types t v ≡ true → G v
+  pub type_checked : (G : ℤ → Type 0) (ws : List Ty) (t : TypeNo) (v : ℤ) (a : Environment) → Fits x world ws a → (st : State) → IsFine P world st.store → is_taken lacking P sask world types t v ≡ true → G v
       → Same P world G (strict.as_type lacking P sask world a.types t v st) (as_type a.types t v st)
   type_checked G ws t v a fit st fine ok good =
       same_provided P world lacking (is_taken lacking P sask world a.types t v) (as_type a.types t v) st (ap (λ (ts : Types). is_taken lacking P sask world ts t v) fit.types ∙ ok)
@@ -228,12 +228,12 @@ module _ (x : Context) (lacking : ℕ) (world : World) (sask ask : Asks) (knows 
     abbrev pub C : Call → Result → Type 0
     C c r = (wanted : Bool) → (wanted ≡ true → is_there r ≡ true) → Both ws (IsGood P r) (strict.called lacking P sask world c wanted) (called P ask c)
 
-    unary_same : (G : ℤ → Type 0) (e : TypedExpr) (f : Around → ℤ → State → Answer ℤ) → E e → ((a : Around) (v : ℤ) (st : State) → IsFine P world st.store → Same P world G (f a v st) (f a v st))
-        → Both ws G (λ a st. then_give (sv e a st) (f a)) (λ a st. then_give (value P ask e a st) (f a))
+    unary_same : (G : ℤ → Type 0) (e : TypedExpr) (f : Environment → ℤ → State → Answer ℤ) → E e → ((a : Environment) (v : ℤ) (st : State) → IsFine P world st.store → Same P world G (f a v st) (f a v st))
+        → Both ws G (λ a st. sv e a st ▷ (f a)) (λ a st. value P ask e a st ▷ (f a))
     unary_same G e f m next = λ a fit st fine. same_then P world (m a fit st fine) (λ v st fine good. next a v st fine)
 
-    binary_same : (G : ℤ → Type 0) (e e' : TypedExpr) (f : Around → ℤ → ℤ → State → Answer ℤ) → E e → E e' → ((a : Around) (v w : ℤ) (st : State) → IsFine P world st.store → Same P world G (f a v w st) (f a v w st))
-        → Both ws G (λ a st. then_give (sv e a st) (λ v st. then_give (sv e' a st) (λ w st. f a v w st))) (λ a st. then_give (value P ask e a st) (λ v st. then_give (value P ask e' a st) (λ w st. f a v w st)))
+    binary_same : (G : ℤ → Type 0) (e e' : TypedExpr) (f : Environment → ℤ → ℤ → State → Answer ℤ) → E e → E e' → ((a : Environment) (v w : ℤ) (st : State) → IsFine P world st.store → Same P world G (f a v w st) (f a v w st))
+        → Both ws G (λ a st. sv e a st ▷ λ v st. sv e' a st ▷ λ w st. f a v w st) (λ a st. value P ask e a st ▷ λ v st. value P ask e' a st ▷ λ w st. f a v w st)
     binary_same G e e' f m m' next = λ a fit st fine. same_then P world (m a fit st fine) (λ v st fine good. same_then P world (m' a fit st fine) (λ w st fine good. next a v w st fine))
 
     constant_same : (t : TypeNo) (n : ℤ) → E (expr.Constant t n)
@@ -312,7 +312,7 @@ module _ (x : Context) (lacking : ℕ) (world : World) (sask ask : Asks) (knows 
     high_same slot t e = from_expr ws Any (expr.High slot) (layer.High slot) (expr.outs-High slot)
         (λ a fit st fine.
         let o = open_at ws a fit slot t e in
-        subst (λ (n : Option Named). Same P world Any (needs lacking (elements_named n) (λ e st. Gave (pos e.1) st) st) (Gave (pos (high_of n)) st)) (sym o.is) (gives (pos o.high) st fine tt))
+        subst (λ (n : Option Named). Same P world Any (needs lacking (elements_named n) (λ e st. Value (pos e.1) st) st) (Value (pos (high_of n)) st)) (sym o.is) (gives (pos o.high) st fine tt))
 
     call_same : (t : TypeNo) (r : Ty) (c : Call) → C c (Some r) → Both ws (IsGood P (Some r)) (sv (expr.Call t c)) (value P ask (expr.Call t c))
     call_same t r c m = from_expr ws (IsGood P (Some r)) (expr.Call t c) (layer.Call t c) (expr.outs-Call t c) (λ a fit st fine. m true (λ e. refl) a fit st fine)
@@ -358,7 +358,7 @@ module _ (x : Context) (lacking : ℕ) (world : World) (sask ask : Asks) (knows 
 
     -- ---- designators
 
-    root_same : (r : Root) (t : Ty) → typed.IsRoot x ws r t → (a : Around) → Fits x world ws a → (strict.root_layer lacking P sask world r a ≡ Some (meaning.root_layer P ask r a)) × IsAt t (meaning.root_layer P ask r a)
+    root_same : (r : Root) (t : Ty) → typed.IsRoot x ws r t → (a : Environment) → Fits x world ws a → (strict.root_layer lacking P sask world r a ≡ Some (meaning.root_layer P ask r a)) × IsAt t (meaning.root_layer P ask r a)
     root_same _ _ (typed.GlobalRoot v t is) a fit =
         (ap (λ (b : Bool). if b then Some (module_place P v.home ∷ v.number ∷ []) else None) (knows.modules v.home is.known), knows.globals v t is)
     root_same _ _ (typed.LocalRoot slot t e) a fit =
@@ -392,37 +392,37 @@ module _ (x : Context) (lacking : ℕ) (world : World) (sask ask : Asks) (knows 
     field_same t n j u e = from_component t u (component'.Field n j) (layer.Field n j) (component'.outs-Field n j)
         (λ l at a fit st fine.
         let is : IsAt u (l ++ j ∷ []) = there_behind world l t (j ∷ []) at ∙ e in
-        same_provided P world lacking (is_there (type_at world (l ++ j ∷ []))) (Gave (l ++ j ∷ [])) st (ap is_there is) (gives (l ++ j ∷ []) st fine is))
+        same_provided P world lacking (is_there (type_at world (l ++ j ∷ []))) (Value (l ++ j ∷ [])) st (ap is_there is) (gives (l ++ j ∷ []) st fine is))
 
     -- an element of an array
     reach_same : (n : ℕ) (u : Ty) (l : Location) (low high v : ℤ) → IsAt (Array n u) l → (low ≤ℤ v → v ≤ℤ high → unsigned_abs (v -ℤ low) < n) → (st : State) → IsFine P world st.store
-        → Same P world (IsAt u) (then_give (element l low high v st) (at_there lacking P sask world)) (element l low high v st)
+        → Same P world (IsAt u) (element l low high v st ▷ (at_there lacking P sask world)) (element l low high v st)
     reach_same n u l low high v at less st fine = go (is_between low v high) refl
       where
         to : Location
         to = l ++ unsigned_abs (v -ℤ low) ∷ []
 
-        go : (b : Bool) → is_between low v high ≡ b → Same P world (IsAt u) (then_give (element l low high v st) (at_there lacking P sask world)) (element l low high v st)
-        go false e = subst (λ (b : Bool). Same P world (IsAt u) (then_give (if b then Gave to st else Ended index_fault st.out) (at_there lacking P sask world)) (if b then Gave to st else Ended index_fault st.out)) (sym e) (ends index_fault st.out refl)
+        go : (b : Bool) → is_between low v high ≡ b → Same P world (IsAt u) (element l low high v st ▷ (at_there lacking P sask world)) (element l low high v st)
+        go false e = subst (λ (b : Bool). Same P world (IsAt u) ((if b then Value to st else Ended index_fault st.out) ▷ (at_there lacking P sask world)) (if b then Value to st else Ended index_fault st.out)) (sym e) (ends index_fault st.out refl)
         go true e =
             let q = between_in low high v e in
             let is : IsAt u to = there_behind world l (Array n u) (unsigned_abs (v -ℤ low) ∷ []) at ∙ element_there n (unsigned_abs (v -ℤ low)) u (less q.0 q.1) in
-            subst (λ (b : Bool). Same P world (IsAt u) (then_give (if b then Gave to st else Ended index_fault st.out) (at_there lacking P sask world)) (if b then Gave to st else Ended index_fault st.out)) (sym e)
-            (same_provided P world lacking (is_there (type_at world to)) (Gave to) st (ap is_there is) (gives to st fine is))
+            subst (λ (b : Bool). Same P world (IsAt u) ((if b then Value to st else Ended index_fault st.out) ▷ (at_there lacking P sask world)) (if b then Value to st else Ended index_fault st.out)) (sym e)
+            (same_provided P world lacking (is_there (type_at world to)) (Value to) st (ap is_there is) (gives to st fine is))
 
     element_same : (t : TypeNo) (r : Range) (u : Ty) (i : TypedExpr) → index_of types t ≡ Some r → tree types t ≡ Array (elements_of (Some r)) u → E i → K (tree types t) (component'.Element t i) u
     element_same t r u i range array m = from_component (tree types t) u (component'.Element t i) (layer.Element t i) (component'.outs-Element t i)
         (λ l at a fit st fine. same_then P world (m a fit st fine) (λ v st fine good.
         let o : index_range a.types t ≡ Some r = ap (λ (ts : Types). index_range ts t) fit.types ∙ sym (same_index types t) ∙ range in
-        subst (λ (o : Option Range). Same P world (IsAt u) (needs lacking o (λ r st. then_give (element l r.low r.high v st) (at_there lacking P sask world)) st) (element_in l o v st)) (sym o)
+        subst (λ (o : Option Range). Same P world (IsAt u) (needs lacking o (λ r st. element l r.low r.high v st ▷ (at_there lacking P sask world)) st) (element_in l o v st)) (sym o)
         (reach_same (elements_of (Some r)) u l r.low r.high v (at ∙ ap Some array) (λ a b. lies_within r.low v r.high a b) st fine)))
 
     from_place : (d : Place) (t : Ty)
-        → Both ws (IsAt t) (λ a st. needs lacking (strict.root_layer lacking P sask world d.root a) (λ l st. then_give (at_there lacking P sask world l st) (λ l st. one_by_one (map sk d.components) l a st)) st)
+        → Both ws (IsAt t) (λ a st. needs lacking (strict.root_layer lacking P sask world d.root a) (λ l st. at_there lacking P sask world l st ▷ λ l st. one_by_one (map sk d.components) l a st) st)
         (λ a st. one_by_one (map (component_value P ask) d.components) (meaning.root_layer P ask d.root a) a st) → D d t
     from_place d t m =
         subst (λ (f : Gives Location). Both ws (IsAt t) f (locate P ask d)) (sym (strictly.place_means lacking P sask world d (out-Place d) refl))
-        (subst (λ (f : Gives Location). Both ws (IsAt t) (λ a st. needs lacking (strict.root_layer lacking P sask world d.root a) (λ l st. then_give (at_there lacking P sask world l st) (λ l st. one_by_one (map sk d.components) l a st)) st) f) (sym (place_means P ask d (out-Place d) refl)) m)
+        (subst (λ (f : Gives Location). Both ws (IsAt t) (λ a st. needs lacking (strict.root_layer lacking P sask world d.root a) (λ l st. at_there lacking P sask world l st ▷ λ l st. one_by_one (map sk d.components) l a st) st) f) (sym (place_means P ask d (out-Place d) refl)) m)
 
     designator_same : (d : Place) (t u : Ty) → typed.IsRoot x ws d.root t → Ks t d.components u → D d u
     designator_same d t u r ks = from_place d u (λ a fit st fine.
@@ -435,29 +435,29 @@ module _ (x : Context) (lacking : ℕ) (world : World) (sask ask : Asks) (knows 
     open_same : (d : Place) (slot : Slot) (t : TypeNo) (v : Ty) (i : TypedExpr) (cs : List Component) → d.root ≡ root.Open slot → kind_at x.kinds slot ≡ Some (Open (tree types t)) → d.components ≡ component'.OpenElement slot t i ∷ cs
         → E i → Ks (tree types t) cs v → D d v
     open_same d slot t v i cs r there comps m ks = from_place d v
-        (subst (λ (r : Root). Both ws (IsAt v) (λ a st. needs lacking (strict.root_layer lacking P sask world r a) (λ l st. then_give (at_there lacking P sask world l st) (λ l st. one_by_one (map sk d.components) l a st)) st)
+        (subst (λ (r : Root). Both ws (IsAt v) (λ a st. needs lacking (strict.root_layer lacking P sask world r a) (λ l st. at_there lacking P sask world l st ▷ λ l st. one_by_one (map sk d.components) l a st) st)
         (λ a st. one_by_one (map (component_value P ask) d.components) (meaning.root_layer P ask r a) a st)) (sym r)
-        (subst (λ (cs : List Component). Both ws (IsAt v) (λ a st. needs lacking (strict.root_layer lacking P sask world (root.Open slot) a) (λ l st. then_give (at_there lacking P sask world l st) (λ l st. one_by_one (map sk cs) l a st)) st)
+        (subst (λ (cs : List Component). Both ws (IsAt v) (λ a st. needs lacking (strict.root_layer lacking P sask world (root.Open slot) a) (λ l st. at_there lacking P sask world l st ▷ λ l st. one_by_one (map sk cs) l a st) st)
         (λ a st. one_by_one (map (component_value P ask) cs) (meaning.root_layer P ask (root.Open slot) a) a st)) (sym comps) whole))
       where
         k : Component
         k = component'.OpenElement slot t i
 
         -- the element
-        first_same : (a : Around) → Fits x world ws a → (o : OpenName world (tree types t) (named a slot)) → (st : State) → IsFine P world st.store → Same P world (IsAt (tree types t)) (sk k o.at a st) (component_value P ask k o.at a st)
+        first_same : (a : Environment) → Fits x world ws a → (o : OpenName world (tree types t) (named a slot)) → (st : State) → IsFine P world st.store → Same P world (IsAt (tree types t)) (sk k o.at a st) (component_value P ask k o.at a st)
         first_same a fit o st fine =
             subst (λ (f : Reaches). Same P world (IsAt (tree types t)) (f o.at a st) (component_value P ask k o.at a st)) (sym (strictly.component_means lacking P sask world k (layer.OpenElement slot t i) (component'.outs-OpenElement slot t i)))
             (subst (λ (f : Reaches). Same P world (IsAt (tree types t)) (strict.component_layer lacking P sask world (strictly.component_meant lacking P sask world (layer.OpenElement slot t i)) o.at a st) (f o.at a st))
             (sym (component_means P ask k (layer.OpenElement slot t i) (component'.outs-OpenElement slot t i)))
             (same_then P world (m a fit st fine) (λ z st fine good.
-            subst (λ (n : Option Named). Same P world (IsAt (tree types t)) (needs lacking (elements_named n) (λ e st. then_give (element o.at (pos 0) (pos e.1) z st) (at_there lacking P sask world)) st) (element o.at (pos 0) (pos (high_of n)) z st)) (sym o.is)
+            subst (λ (n : Option Named). Same P world (IsAt (tree types t)) (needs lacking (elements_named n) (λ e st. element o.at (pos 0) (pos e.1) z st ▷ (at_there lacking P sask world)) st) (element o.at (pos 0) (pos (high_of n)) z st)) (sym o.is)
             (reach_same (suc o.high) (tree types t) o.at (pos 0) (pos o.high) z o.type (λ a b. lies_below z o.high a b) st fine))))
 
-        whole : Both ws (IsAt v) (λ a st. needs lacking (strict.root_layer lacking P sask world (root.Open slot) a) (λ l st. then_give (at_there lacking P sask world l st) (λ l st. one_by_one (map sk (k ∷ cs)) l a st)) st)
+        whole : Both ws (IsAt v) (λ a st. needs lacking (strict.root_layer lacking P sask world (root.Open slot) a) (λ l st. at_there lacking P sask world l st ▷ λ l st. one_by_one (map sk (k ∷ cs)) l a st) st)
             (λ a st. one_by_one (map (component_value P ask) (k ∷ cs)) (meaning.root_layer P ask (root.Open slot) a) a st)
         whole a fit st fine =
             let o = open_at ws a fit slot (tree types t) there in
-            subst (λ (n : Option Named). Same P world (IsAt v) (needs lacking (first_of (elements_named n)) (λ l st. then_give (at_there lacking P sask world l st) (λ l st. one_by_one (map sk (k ∷ cs)) l a st)) st)
+            subst (λ (n : Option Named). Same P world (IsAt v) (needs lacking (first_of (elements_named n)) (λ l st. at_there lacking P sask world l st ▷ λ l st. one_by_one (map sk (k ∷ cs)) l a st) st)
             (one_by_one (map (component_value P ask) (k ∷ cs)) (location_of n) a st)) (sym o.is)
             (there_then (Array (suc o.high) (tree types t)) o.at (λ l st. one_by_one (map sk (k ∷ cs)) l a st) st _ o.type
             (same_then P world (first_same a fit o st fine) (λ l st fine at. ks l at a fit st fine)))
@@ -502,14 +502,14 @@ module _ (x : Context) (lacking : ℕ) (world : World) (sask ask : Asks) (knows 
         (λ a fit st fine. same_then P world (m a fit st fine) (λ l st fine at.
         let o : index_range a.types t ≡ Some r = ap (λ (ts : Types). index_range ts t) fit.types ∙ sym (same_index types t) ∙ range in
         let n : ℕ = unsigned_abs (r.high -ℤ r.low) in
-        subst (λ (o : Option Range). Same P world (IsGiven P world (ByArray is_var u)) (needs lacking o (λ r st. Gave (Whole l (elements_of (Some r) - 1)) st) st) (Gave (Whole l (elements_of o - 1)) st)) (sym o)
+        subst (λ (o : Option Range). Same P world (IsGiven P world (ByArray is_var u)) (needs lacking o (λ r st. Value (Whole l (elements_of (Some r) - 1)) st) st) (Value (Whole l (elements_of o - 1)) st)) (sym o)
         (gives (Whole l (n + 1 - 1)) st fine (given_array is_var u l (n + 1 - 1) (at ∙ ap Some array ∙ ap (λ (n : ℕ). Some (Array n u)) (sym (one_less n)))))))
 
     whole_same : (slot : Slot) (is_var : Bool) (u : Ty) → kind_at x.kinds slot ≡ Some (Open u) → A (argument.Open slot) (ByArray is_var u)
     whole_same slot is_var u e = from_argument (ByArray is_var u) (argument.Open slot) (layer.Open slot) (argument.outs-Open slot)
         (λ a fit st fine.
         let o = open_at ws a fit slot u e in
-        subst (λ (n : Option Named). Same P world (IsGiven P world (ByArray is_var u)) (needs lacking (elements_named n) (λ e st. Gave (Whole e.0 e.1) st) st) (Gave (Whole (location_of n) (high_of n)) st)) (sym o.is)
+        subst (λ (n : Option Named). Same P world (IsGiven P world (ByArray is_var u)) (needs lacking (elements_named n) (λ e st. Value (Whole e.0 e.1) st) st) (Value (Whole (location_of n) (high_of n)) st)) (sym o.is)
         (gives (Whole o.at o.high) st fine (given_array is_var u o.at o.high o.type)))
 
     text_same : (text : List ℕ) → A (argument.Text text) (ByArray false (Cell (Natural 255)))
@@ -531,8 +531,8 @@ module _ (x : Context) (lacking : ℕ) (world : World) (sask ask : Asks) (knows 
     suits_same false function h = refl
 
     -- of a procedure that is known
-    asked_same : (o : Spot P) (frames : Frames) → AreFrames world (around_of o.home o.routine) frames → (fs : Forms) (r : Result) → forms_of o.home.types o.routine.heading ≡ fs → result_of o.home.types o.routine.heading ≡ r
-        → (gs : List Argument) → As gs fs → (wanted : Bool) → (wanted ≡ true → is_there r ≡ true) → (a : Around) → Fits x world ws a → (st : State) → IsFine P world st.store
+    asked_same : (o : Spot P) (frames : Frames) → AreFrames world (environment_of o.home o.routine) frames → (fs : Forms) (r : Result) → forms_of o.home.types o.routine.heading ≡ fs → result_of o.home.types o.routine.heading ≡ r
+        → (gs : List Argument) → As gs fs → (wanted : Bool) → (wanted ≡ true → is_there r ≡ true) → (a : Environment) → Fits x world ws a → (st : State) → IsFine P world st.store
         → Same P world (IsGood P r) (strict.asked lacking P sask world wanted (Some (callee_of o.place o.home o.routine frames)) (map sg gs) a st) (meaning.asked P ask (Some (callee_of o.place o.home o.routine frames)) (map (argument_value P ask) gs) a st)
     asked_same o frames is fs r forms result gs ms wanted ok a fit st fine =
         let c : Callee = callee_of o.place o.home o.routine frames in
@@ -541,13 +541,13 @@ module _ (x : Context) (lacking : ℕ) (world : World) (sask ask : Asks) (knows 
         subst (λ (fs : Forms). CalleeSame P world sask ask c fs r) forms (subst (λ (r : Result). CalleeSame P world sask ask c (forms_of o.home.types o.routine.heading) r) result (all o frames is)) in
         same_provided P world lacking (suits_call lacking P sask world wanted c) (meaning.asked P sask (Some c) (map sg gs) a) st suits
         (same_then P world (ms a fit st fine) (λ vs st fine given.
-        subst (λ (n : ℕ). Same P world (IsGood P r) (sask (Some c) vs n a.left st) (ask (Some c) vs n a.left st)) (sym fit.next) (all' vs given a.left st fine)))
+        subst (λ (n : ℕ). Same P world (IsGood P r) (sask (Some c) vs n a.free st) (ask (Some c) vs n a.free st)) (sym fit.next) (all' vs given a.free st fine)))
 
     module_same : (f : Procedure) (args : List Argument) → IsNamed x f → As args (forms_of types f.heading) → C (call.Module f args) (result_of types f.heading)
     module_same f args h ms = from_call (result_of types f.heading) (call.Module f args) (layer.Module f args) (call.outs-Module f args)
         (λ wanted ok a fit st fine.
         let o : Spot P = spot_of f h in
-        let none : AreFrames world (around_of h.home h.routine) [] = subst (λ (kss : List Kinds). AreFrames world kss []) (sym h.outermost) no_pairs in
+        let none : AreFrames world (environment_of h.home h.routine) [] = subst (λ (kss : List Kinds). AreFrames world kss []) (sym h.outermost) no_pairs in
         same_provided P world lacking (is_module P f.home) _ st (knows.modules f.home h.known)
         (subst (λ (q : Option Callee). Same P world (IsGood P (result_of types f.heading)) (strict.asked lacking P sask world wanted q (map sg args) a st) (meaning.asked P ask q (map (argument_value P ask) args) a st)) (sym (named_callee f h))
         (asked_same o [] none (forms_of types f.heading) (result_of types f.heading) h.forms h.result args ms wanted ok a fit st fine)))
@@ -557,7 +557,7 @@ module _ (x : Context) (lacking : ℕ) (world : World) (sask ask : Asks) (knows 
         (λ wanted ok a fit st fine.
         let frames : Frames = drop f.up a.frames in
         let o : Spot P = record { place = x.place; home = x.home; there = h.there; at = which.Local f.number; routine = h.routine; is = h.is } in
-        let is : AreFrames world (around_of x.home h.routine) frames = subst (λ (kss : List Kinds). AreFrames world kss frames) (sym h.kinds) (pairs_drop (AreNames world) f.up x.kinds a.frames fit.frames) in
+        let is : AreFrames world (environment_of x.home h.routine) frames = subst (λ (kss : List Kinds). AreFrames world kss frames) (sym h.kinds) (pairs_drop (AreNames world) f.up x.kinds a.frames fit.frames) in
         let less : f.up < length a.frames = subst (λ (n : ℕ). f.up < n) (pairs_length (AreNames world) x.kinds a.frames fit.frames) h.less in
         let found : nested_in a.place (slice_get P a.place) frames f.number ≡ Some (callee_of x.place x.home h.routine frames) =
         ap (λ (n : ℕ). nested_in n (slice_get P n) frames f.number) fit.place ∙ ap (λ (q : Option TypedModule). nested_in x.place q frames f.number) h.there ∙ ap (λ (q : Option Routine). callee_with x.place types frames q) h.is in
@@ -567,12 +567,12 @@ module _ (x : Context) (lacking : ℕ) (world : World) (sask ask : Asks) (knows 
 
     -- of the procedure that a variable holds
     held_same : (t : TypeNo) (h : Heading) → heading_at types t ≡ Some h → (args : List Argument) → As args (forms_of types t) → (wanted : Bool) → (wanted ≡ true → is_there (result_of types t) ≡ true) → (v : ℤ) → IsProcedureValue P h v
-        → (a : Around) → Fits x world ws a → (st : State) → IsFine P world st.store
+        → (a : Environment) → Fits x world ws a → (st : State) → IsFine P world st.store
         → Same P world (IsGood P (result_of types t)) (strict.asked_value lacking P sask world wanted v (map sg args) a st) (meaning.asked_if P ask (entry_callee P (entry_of P v)) (map (argument_value P ask) args) a st)
     held_same t h e args ms wanted ok _ Empty a fit st fine = ends empty_procedure st.out refl
     held_same t h e args ms wanted ok _ (Full n names) a fit st fine =
         let o : Spot P = record { place = names.place; home = names.home; there = names.there; at = which.Module names.number; routine = names.routine; is = names.is } in
-        let none : AreFrames world (around_of names.home names.routine) [] = subst (λ (kss : List Kinds). AreFrames world kss []) (sym (knows.outermost o names.number refl)) no_pairs in
+        let none : AreFrames world (environment_of names.home names.routine) [] = subst (λ (kss : List Kinds). AreFrames world kss []) (sym (knows.outermost o names.number refl)) no_pairs in
         let forms : forms_of names.home.types names.routine.heading ≡ forms_of types t = forms_same names.home.types names.routine.heading h names.heading ∙ sym (forms_same types t h e) in
         let result : result_of names.home.types names.routine.heading ≡ result_of types t = result_same names.home.types names.routine.heading h names.heading ∙ sym (result_same types t h e) in
         subst (λ (n : ℕ). Same P world (IsGood P (result_of types t)) (strict.asked_value lacking P sask world wanted (pos n) (map sg args) a st) (meaning.asked_if P ask (entry_callee P (entry_of P (pos n))) (map (argument_value P ask) args) a st)) (sym names.value)

@@ -8,10 +8,11 @@ use Rattle.typed_tree.specs.declared.typed_module.TypedModule.{TypedModule}
 use Rattle.layout_storage.specs.Types.{Ty}
 use Rattle.layout_storage.specs.Frames.{formals_of, frame, module_row}
 use Rattle.def_meaning.specs.Store.{Location}
-use Rattle.def_meaning.specs.Answer.{Outcome, storage_fault, no_return}
-use Rattle.def_meaning.specs.Around.{Modules, Around, Callee, Frames}
+use Rattle.def_meaning.specs.Answer.{storage_fault, no_return}
+use Rattle.def_meaning.specs.Outcome.{Outcome}
+use Rattle.def_meaning.specs.Environment.{Modules, Environment, Callee, Frames}
 use Rattle.def_meaning.specs.Calls as meaning
-use Rattle.def_meaning.specs.Calls.{Entered, calling, entered, around_of, needed, is_function, is_there, variables_from}
+use Rattle.def_meaning.specs.Calls.{Entered, calling, entered, environment_of, needed, is_function, is_there, variables_from}
 use Rattle.law_simulation.specs.Frames.{Kinds, kinds_of}
 use Rattle.law_simulation.specs.Passing.{Result, forms_of, result_of}
 use Rattle.law_simulation.proofs.Headings.{means_it}
@@ -52,7 +53,7 @@ result_same p lacking world more function r kind _ _ (unfinished out) = still ou
 -- the bodies of the procedures are typed, and what they may name is there
 module _ (p : Modules) (lacking n : ℕ) (base : List Ty) (texts : Location → ℕ → ℕ) where
   abbrev pub context_of : (o : Spot p) → Context
-  context_of o = context p base texts o.place o.home (kinds_of o.home.types o.routine ∷ linked.around_of o.home o.routine)
+  context_of o = context p base texts o.place o.home (kinds_of o.home.types o.routine ∷ linked.environment_of o.home o.routine)
 
   abbrev pub AreTyped : Type 0
   AreTyped = (o : Spot p) → (a b : ℕ) × AreStmts (context_of o) (result_of o.home.types o.routine.heading) [] false a b o.routine.body
@@ -62,7 +63,7 @@ module _ (p : Modules) (lacking n : ℕ) (base : List Ty) (texts : Location → 
 
   module _ (typed : AreTyped) (known : AreKnown) where
     -- one call, where those in its body are the same
-    call_same : (d : ℕ) (o : Spot p) (frames : Frames) (world : World) → HasBase p world → AreFrames world (linked.around_of o.home o.routine) frames
+    call_same : (d : ℕ) (o : Spot p) (frames : Frames) (world : World) → HasBase p world → AreFrames world (linked.environment_of o.home o.routine) frames
         → ((w : World) → HasBase p w → AllSame p w (strict_calling lacking p n d w) (calling p n d))
         → CalleeSame p world (strict_calling lacking p n (suc d) world) (calling p n (suc d)) (callee_of o.place o.home o.routine frames) (forms_of o.home.types o.routine.heading) (result_of o.home.types o.routine.heading)
     unfolding strict_calling calling
@@ -78,17 +79,17 @@ module _ (p : Modules) (lacking n : ℕ) (base : List Ty) (texts : Location → 
         let left' : ℕ = left - needed m.types r vs in
         let q = is_entered p m.types r world vs st.store fine given in
         let kind : is_function m.types r ≡ is_there result = means_it m.types r.heading in
-        let a : Around = around_of c (length world) e left' in
+        let a : Environment = environment_of c (length world) e left' in
         let fit : Fits (context_of o) w [] a = record {
           place = refl;
           types = refl;
-          frames = more_pairs (kinds_of m.types r) (linked.around_of m r) (e.names ++ variables_from (length world) (length e.names) r.variables) frames q.names (frames_more world more (linked.around_of m r) frames is);
+          frames = more_pairs (kinds_of m.types r) (linked.environment_of m r) (e.names ++ variables_from (length world) (length e.names) r.variables) frames q.names (frames_more world more (linked.environment_of m r) frames is);
           withs = no_pairs;
           next = q.next;
         } in
         let there = base_more p world more has in
         let t = typed o in
-        let body = stmts_same (context_of o) lacking w (strict_calling lacking p n d w) (calling p n d) (known o.place m o.there (kinds_of m.types r ∷ linked.around_of m r) w there) (below w there) result (is_function m.types r) kind n
+        let body = stmts_same (context_of o) lacking w (strict_calling lacking p n d w) (calling p n d) (known o.place m o.there (kinds_of m.types r ∷ linked.environment_of m r) w there) (below w there) result (is_function m.types r) kind n
         [] false t.0 t.1 r.body t.2 a fit (record st { store = e.store }) q.fine in
         let fresh : (nat_eq (length world) (length world) && all_suit m.types world fs vs) ≡ true = ap (λ (b : Bool). b && all_suit m.types world fs vs) (eq-eqb (length world) (length world) refl) ∙ all_given_suit p m.types world fs vs given in
         same_provided p world lacking (nat_eq (length world) (length world) && all_suit m.types world fs vs) (strict.runs_with lacking p n (strict_calling lacking p n d) world c vs (length world) left) st fresh

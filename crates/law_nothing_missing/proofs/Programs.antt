@@ -11,11 +11,12 @@ use Rattle.layout_storage.specs.Types.{Ty, Callable, Cell, Heading, row, frame_o
 use Rattle.layout_storage.specs.Shapes.{tree}
 use Rattle.layout_storage.specs.Frames.{module_row}
 use Rattle.def_meaning.specs.Store.{Location, fresh, first_in}
-use Rattle.def_meaning.specs.Answer.{State, Outcome, Went, Left, Came, Stopped, Unfinished}
-use Rattle.def_meaning.specs.Around.{Modules, Around, module_place}
+use Rattle.def_meaning.specs.Answer.{State, Ended, StillRunning, Value}
+use Rattle.def_meaning.specs.Outcome.{Outcome, Normal, Exited, Returned}
+use Rattle.def_meaning.specs.Environment.{Modules, Environment, module_place}
 use Rattle.def_meaning.specs.Calls.{calling}
 use Rattle.def_meaning.specs.Runs as meaning
-use Rattle.def_meaning.specs.Runs.{run, storage, body_frame, first_state, around_body}
+use Rattle.def_meaning.specs.Runs.{run, storage, body_frame, first_state, body_environment}
 use Rattle.law_memory.specs.Relation.{IsProcedureValue, Empty}
 use Rattle.law_memory.proofs.Worlds.{component_old}
 use Rattle.def_scheme.specs.Exprs.{is_own, import_place, imported_row}
@@ -25,7 +26,7 @@ use Rattle.law_modules.proofs.Numbers.{mapped_at}
 use Rattle.law_modules.proofs.Own.{at_place}
 use Rattle.law_simulation.specs.Frames.{Kinds}
 use Rattle.law_simulation.specs.TreesTyped.{IsVariable, kinds_around}
-use Rattle.law_simulation.specs.Linked.{Spot, context, text_of, around_of}
+use Rattle.law_simulation.specs.Linked.{Spot, context, text_of, environment_of}
 use Rattle.law_simulation.specs.RunsPrograms.{ground}
 use Rattle.law_simulation.specs.Knows.{IsKnown, Knows as KnowsImport}
 use Rattle.law_simulation.specs.Modules.{AreModules, AreTypedModules}
@@ -45,11 +46,11 @@ use Rattle.law_nothing_missing.proofs.Procedures.{HasBase, AreTyped, AreKnown, a
 
 -- the same outcome, and a number of the language, where it is one
 abbrev IsWithin : Outcome → Type 0
-IsWithin (Went st) = Unit {0}
-IsWithin (Left st) = Unit {0}
-IsWithin (Came v st) = Unit {0}
-IsWithin (Stopped k out) = IsEnd k
-IsWithin (Unfinished out) = Unit {0}
+IsWithin (Value Normal st) = Unit {0}
+IsWithin (Value Exited st) = Unit {0}
+IsWithin (Value (Returned v) st) = Unit {0}
+IsWithin (Ended k out) = IsEnd k
+IsWithin (StillRunning out) = Unit {0}
 
 record SameRun (y z : Outcome) : Type 0 where
   pub is : y ≡ z
@@ -128,7 +129,7 @@ module _ (p : Program) (pages : ℕ) (modules : AreModules p) where
         row_there v.home k.home v.number t world has (ap (λ (n : ℕ). slice_get p (module_place p n)) (sym i.number) ∙ k.there)
         (ap (λ (ts : List Ty). component (row ts) (v.number ∷ [])) k.variables ∙ component_old (map (tree m.types) i.import.variables) k.more v.number [] t first)
 
-  outermost : (o : Spot p) (number : ℕ) → o.at ≡ which.Module number → around_of o.home o.routine ≡ []
+  outermost : (o : Spot p) (number : ℕ) → o.at ≡ which.Module number → environment_of o.home o.routine ≡ []
   outermost o number e =
       let none : o.routine.around ≡ None = at_place (λ r. r.around ≡ None) o.home.procedures number o.routine (ap (routine_of o.home) (sym e) ∙ o.is) (modules o.place o.home o.there).outermost in
       ap (kinds_around o.home o.routine.level) none ∙ no_kinds o.home o.routine.level
@@ -169,7 +170,7 @@ module _ (p : Program) (pages : ℕ) (modules : AreModules p) where
         let place : ℕ = length before in
         let at : slice_get p place ≡ Some m = ap (λ (q : Program). slice_get q place) is ∙ get_here before ms m in
         let t = (typed place m at).body in
-        let a : Around = around_body p place m left in
+        let a : Environment = body_environment p place m left in
         let fit : Fits (context p base texts place m []) (first_world p) [] a = record { place = refl; types = refl; frames = no_pairs; withs = no_pairs; next = next_place } in
         let body = stmts_same (context p base texts place m []) lacking (first_world p) (strict_calling lacking p n n (first_world p)) (calling p n n) (all_known lacking n place m at [] (first_world p) first_base) all_asked None false refl n
         [] false _ t.0 m.body t.1 a fit st fine in

@@ -1,8 +1,9 @@
 -- Two meanings that end alike, in a state whose procedure variables hold procedures.
 use Rattle.std.proofs.Common.{◌≡◌, ℕ, ℤ, nat_lt, Bool, true, false, List, Option, Some, None, if◌then◌else◌, refl, sym, subst}
 use Rattle.typed_tree.specs.declared.shape.Scalar.{Scalar as Range}
-use Rattle.def_meaning.specs.Answer.{State, Answer, Gave, Ended, Running, then_give, Outcome, Went, Left, Came, Stopped, Unfinished, then_go, with_answer}
-use Rattle.def_meaning.specs.Around.{Modules}
+use Rattle.def_meaning.specs.Answer.{State, Answer, Value, ◌▷◌, Ended, StillRunning}
+use Rattle.def_meaning.specs.Outcome.{Outcome, Normal, Exited, Returned, then_go}
+use Rattle.def_meaning.specs.Environment.{Modules}
 use Rattle.def_meaning.specs.Operators.{is_between}
 use Rattle.def_meaning.specs.Expressions.{within, within_range}
 use Rattle.law_nothing_missing.specs.Worlds.{World}
@@ -18,17 +19,17 @@ IsEnd k = nat_lt k 10 ≡ true
 
 -- the same answer, and what it gives is good
 pub data Same (p : Modules) (world : World) {A : Type 0} (G : A → Type 0) : Answer A → Answer A → Type 0 where
-  gives : (x : A) (st : State) → IsFine p world st.store → G x → Same p world G (Gave x st) (Gave x st)
+  gives : (x : A) (st : State) → IsFine p world st.store → G x → Same p world G (Value x st) (Value x st)
   ends : (k : ℕ) (out : List ℕ) → IsEnd k → Same p world G (Ended k out) (Ended k out)
-  still : (out : List ℕ) → Same p world G (Running out) (Running out)
+  still : (out : List ℕ) → Same p world G (StillRunning out) (StillRunning out)
 
 -- the same outcome: EXIT comes from within a LOOP, and what is returned is good
 pub data SameEnd (p : Modules) (world : World) (looped : Bool) (G : ℤ → Type 0) : Outcome → Outcome → Type 0 where
-  goes : (st : State) → IsFine p world st.store → SameEnd p world looped G (Went st) (Went st)
-  leaves : (st : State) → IsFine p world st.store → looped ≡ true → SameEnd p world looped G (Left st) (Left st)
-  returns : (v : ℤ) (st : State) → IsFine p world st.store → G v → SameEnd p world looped G (Came v st) (Came v st)
-  stops : (k : ℕ) (out : List ℕ) → IsEnd k → SameEnd p world looped G (Stopped k out) (Stopped k out)
-  unfinished : (out : List ℕ) → SameEnd p world looped G (Unfinished out) (Unfinished out)
+  goes : (st : State) → IsFine p world st.store → SameEnd p world looped G (Value Normal st) (Value Normal st)
+  leaves : (st : State) → IsFine p world st.store → looped ≡ true → SameEnd p world looped G (Value Exited st) (Value Exited st)
+  returns : (v : ℤ) (st : State) → IsFine p world st.store → G v → SameEnd p world looped G (Value (Returned v) st) (Value (Returned v) st)
+  stops : (k : ℕ) (out : List ℕ) → IsEnd k → SameEnd p world looped G (Ended k out) (Ended k out)
+  unfinished : (out : List ℕ) → SameEnd p world looped G (StillRunning out) (StillRunning out)
 
 module _ (p : Modules) (world : World) where
   pub same_is : {A : Type 0} {G : A → Type 0} {x y : Answer A} → Same p world G x y → x ≡ y
@@ -42,13 +43,13 @@ module _ (p : Modules) (world : World) where
   same_weak f (still out) = still out
 
   pub same_then : {A B : Type 0} {G : A → Type 0} {H : B → Type 0} {x y : Answer A} {f g : A → State → Answer B} → Same p world G x y
-      → ((v : A) (st : State) → IsFine p world st.store → G v → Same p world H (f v st) (g v st)) → Same p world H (then_give x f) (then_give y g)
+      → ((v : A) (st : State) → IsFine p world st.store → G v → Same p world H (f v st) (g v st)) → Same p world H (x ▷ f) (y ▷ g)
   same_then (gives x st fine good) next = next x st fine good
   same_then (ends k out e) next = ends k out e
   same_then (still out) next = still out
 
   pub end_with : {A : Type 0} {G : A → Type 0} {l : Bool} {H : ℤ → Type 0} {x y : Answer A} {f g : A → State → Outcome} → Same p world G x y
-      → ((v : A) (st : State) → IsFine p world st.store → G v → SameEnd p world l H (f v st) (g v st)) → SameEnd p world l H (with_answer x f) (with_answer y g)
+      → ((v : A) (st : State) → IsFine p world st.store → G v → SameEnd p world l H (f v st) (g v st)) → SameEnd p world l H (x ▷ f) (y ▷ g)
   end_with (gives x st fine good) next = next x st fine good
   end_with (ends k out e) next = stops k out e
   end_with (still out) next = unfinished out

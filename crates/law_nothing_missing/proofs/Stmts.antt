@@ -21,8 +21,9 @@ use Rattle.typed_tree.specs.Known.{scalar_at}
 use Rattle.layout_storage.specs.Types.{Ty, Scalar, Natural, Callable, Cell, Array, Heading, component}
 use Rattle.layout_storage.specs.Shapes.{tree}
 use Rattle.def_meaning.specs.Store.{Location, copied, placed}
-use Rattle.def_meaning.specs.Answer.{State, Answer, Gave, then_give, Outcome, Went, Came, Stopped, with_answer, range_fault, overflow, case_fault, halted}
-use Rattle.def_meaning.specs.Around.{Modules, Around}
+use Rattle.def_meaning.specs.Answer.{State, Answer, Value, ◌▷◌, range_fault, overflow, case_fault, halted, Ended}
+use Rattle.def_meaning.specs.Outcome.{Outcome, Normal, Returned}
+use Rattle.def_meaning.specs.Environment.{Modules, Environment}
 use Rattle.def_meaning.specs.Operators.{is_true}
 use Rattle.def_meaning.specs.Calls.{is_there}
 use Rattle.def_meaning.specs.Expressions.{Asks, Gives, value, locate, as_type}
@@ -104,7 +105,7 @@ module _ (x : Context) (lacking : ℕ) (world : World) (sask ask : Asks) (knows 
   Turn l f g = (st : State) → IsFine P world st.store → End l (f st) (g st)
 
   abbrev pub Ends : (ws : List Ty) → Bool → Does → Does → Type 0
-  Ends ws l f g = (a : Around) → Fits x world ws a → Turn l (f a) (g a)
+  Ends ws l f g = (a : Environment) → Fits x world ws a → Turn l (f a) (g a)
 
   abbrev S : (ws : List Ty) → Bool → TypedStmt → Type 0
   S ws l s = Ends ws l (sdo s) (does P ask n s)
@@ -121,11 +122,11 @@ module _ (x : Context) (lacking : ℕ) (world : World) (sask ask : Asks) (knows 
   abbrev Dx : (ws : List Ty) → Place → Ty → Type 0
   Dx ws d t = D x lacking world sask ask knows all ws d t
 
-  abbrev cells : {c : Scalar} {y z : Answer Location} → Same P world (IsAt (Cell c)) y z → Same P world (IsAt (Cell c)) (then_give y (at_cell lacking P sask world)) z
+  abbrev cells : {c : Scalar} {y z : Answer Location} → Same P world (IsAt (Cell c)) y z → Same P world (IsAt (Cell c)) (y ▷ (at_cell lacking P sask world)) z
   cells h = cell_there x lacking world sask ask knows all h
 
   -- a number that is stored
-  store_goes : (l : Bool) (c : Scalar) (at : Location) (v : ℤ) (st : State) → IsFine P world st.store → IsAt (Cell c) at → ((h : Heading) → c ≡ Callable h → IsProcedureValue P h v) → End l (Went (stored at v st)) (Went (stored at v st))
+  store_goes : (l : Bool) (c : Scalar) (at : Location) (v : ℤ) (st : State) → IsFine P world st.store → IsAt (Cell c) at → ((h : Heading) → c ≡ Callable h → IsProcedureValue P h v) → End l (Value Normal (stored at v st)) (Value Normal (stored at v st))
   store_goes l c at v st fine is good = goes (stored at v st) (fine_placed P world st.store at (Cell c) (λ r. v) fine is (cell_holds P c v good))
 
   from_stmt : (ws : List Ty) (l : Bool) (s : TypedStmt) (y : TypedStmt-F TypedStmt TypedArm) → out-TypedStmt s ≡ y
@@ -148,10 +149,10 @@ module _ (x : Context) (lacking : ℕ) (world : World) (sask ask : Asks) (knows 
       end_with P world (type_checked x lacking world sask ask knows all (IsProcedureValue P h) ws t v a fit st fine (cell_taken x lacking world sask ask knows all t (Callable h) v type) good)
       (λ v st fine good. store_goes l (Callable h) at v st fine is (λ g e. subst (λ (g : Heading). IsProcedureValue P g v) (callable_in h g e) good)))))
 
-  like_there : (t : Ty) (l : Location) {y z : Answer Location} → IsAt t l → Same P world (IsAt t) y z → Same P world (IsAt t) (then_give y (strict.copied_from lacking P sask world n function (type_at world l))) z
+  like_there : (t : Ty) (l : Location) {y z : Answer Location} → IsAt t l → Same P world (IsAt t) y z → Same P world (IsAt t) (y ▷ (strict.copied_from lacking P sask world n function (type_at world l))) z
   like_there t l is (gives k st fine at) =
-      subst (λ (o : Option Ty). Same P world (IsAt t) (strict.copied_from lacking P sask world n function o k st) (Gave k st)) (sym is)
-      (same_provided P world lacking (is_like (type_at world k) t) (Gave k) st (ap (λ (o : Option Ty). is_like o t) at ∙ alike_itself t) (gives k st fine at))
+      subst (λ (o : Option Ty). Same P world (IsAt t) (strict.copied_from lacking P sask world n function o k st) (Value k st)) (sym is)
+      (same_provided P world lacking (is_like (type_at world k) t) (Value k) st (ap (λ (o : Option Ty). is_like o t) at ∙ alike_itself t) (gives k st fine at))
   like_there t l is (ends k out e) = ends k out e
   like_there t l is (still out) = still out
 
@@ -160,9 +161,9 @@ module _ (x : Context) (lacking : ℕ) (world : World) (sask ask : Asks) (knows 
       (λ a fit st fine. end_with P world (m a fit st fine) (λ to st fine is. end_with P world (like_there (tree types t) to is (q a fit st fine)) (λ from st fine at.
       goes (record st { store = copied to from st.store }) (fine_placed P world st.store to (tree types t) (λ r. st.store (from ++ r)) fine is (record { each = λ r h e. fine.each (from ++ r) h (there_behind world from (tree types t) r at ∙ e) })))))
 
-  room_there : (k m : ℕ) {y z : Answer Location} → k ≤ m → Same P world (IsAt (Array m (Cell (Natural 255)))) y z → Same P world (IsAt (Array m (Cell (Natural 255)))) (then_give y (strict.at_room lacking P sask world n function k)) z
+  room_there : (k m : ℕ) {y z : Answer Location} → k ≤ m → Same P world (IsAt (Array m (Cell (Natural 255)))) y z → Same P world (IsAt (Array m (Cell (Natural 255)))) (y ▷ (strict.at_room lacking P sask world n function k)) z
   room_there k m less (gives l st fine at) =
-      same_provided P world lacking (has_room (type_at world l) k) (Gave l) st (ap (λ (o : Option Ty). has_room o k) at ∙ ap not (le-ltb m k less)) (gives l st fine at)
+      same_provided P world lacking (has_room (type_at world l) k) (Value l) st (ap (λ (o : Option Ty). has_room o k) at ∙ ap not (le-ltb m k less)) (gives l st fine at)
   room_there k m less (ends j out e) = ends j out e
   room_there k m less (still out) = still out
 
@@ -215,13 +216,13 @@ module _ (x : Context) (lacking : ℕ) (world : World) (sask ask : Asks) (knows 
 
   return_same : (ws : List Ty) (l : Bool) → result ≡ None → S ws l stmt.Return
   return_same ws l none = from_stmt ws l stmt.Return step.Return stmt.outs-Return
-      (λ a fit st fine. subst (λ (b : Bool). End l (if b then Stopped lacking st.out else Came (pos 0) st) (Came (pos 0) st)) (sym (kind ∙ ap (λ (r : Result). is_there r) none)) (returns (pos 0) st fine (good_none (pos 0) none)))
+      (λ a fit st fine. subst (λ (b : Bool). End l (if b then Ended lacking st.out else Value (Returned (pos 0)) st) (Value (Returned (pos 0)) st)) (sym (kind ∙ ap (λ (r : Result). is_there r) none)) (returns (pos 0) st fine (good_none (pos 0) none)))
 
   give_same : (ws : List Ty) (l : Bool) (t : TypeNo) (e : TypedExpr) (G : ℤ → Type 0) (r : Ty) → result ≡ Some r
       → Both x lacking world sask ask knows all ws G (places.value lacking P sask world e) (value P ask e) → ((v : ℤ) → G v → is_taken lacking P sask world types t v ≡ true) → ((v : ℤ) → G v → IsGood P (Some r) v) → S ws l (stmt.Give t e)
   give_same ws l t e G r some m ok good = from_stmt ws l (stmt.Give t e) (step.Give t e) (stmt.outs-Give t e)
-      (λ a fit st fine. subst (λ (b : Bool). End l (if b then with_answer (places.value lacking P sask world e a st) (λ v st. with_answer (places.as_type lacking P sask world a.types t v st) (λ v st. Came v st)) else Stopped lacking st.out)
-      (with_answer (value P ask e a st) (λ v st. with_answer (as_type a.types t v st) (λ v st. Came v st)))) (sym (kind ∙ ap (λ (r : Result). is_there r) some))
+      (λ a fit st fine. subst (λ (b : Bool). End l (if b then (places.value lacking P sask world e a st ▷ (λ v st. places.as_type lacking P sask world a.types t v st ▷ λ v st. Value (Returned v) st)) else Ended lacking st.out)
+      (value P ask e a st ▷ λ v st. as_type a.types t v st ▷ λ v st. Value (Returned v) st)) (sym (kind ∙ ap (λ (r : Result). is_there r) some))
       (end_with P world (m a fit st fine) (λ v st fine is. end_with P world (type_checked x lacking world sask ask knows all G ws t v a fit st fine (ok v is) is)
       (λ v st fine is. returns v st fine (subst (λ (r : Result). IsGood P r v) (sym some) (good v is))))))
 

@@ -3,7 +3,7 @@ use Rattle.std.proofs.Common.{◌≡◌, ℕ, zero, suc, ℤ, Bool, true, false,
 use Rattle.std.specs.Prelude.{slice_get, ◌&&◌}
 use Rattle.std.proofs.lemmas.Bool.{eqb-true, eq-eqb}
 use Rattle.layout_storage.specs.Types.{Ty, Callable, Cell, Hidden, Array, Nothing, Field, Heading, row, component}
-use Rattle.def_meaning.specs.Around.{Modules}
+use Rattle.def_meaning.specs.Environment.{Modules}
 use Rattle.def_meaning.specs.Store.{Location, Store, behind, placed}
 use Rattle.law_memory.specs.Relation.{IsProcedureValue}
 use Rattle.law_memory.proofs.Places.{behind_is, component_append}

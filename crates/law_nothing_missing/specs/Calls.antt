@@ -8,12 +8,13 @@ use Rattle.layout_storage.specs.Types as layout
 use Rattle.layout_storage.specs.Shapes.{tree}
 use Rattle.layout_storage.specs.Frames.{formals_of, frame}
 use Rattle.layout_storage.specs.Texts.{passed}
-use Rattle.def_meaning.specs.Answer.{State, Answer, Ended, Running, Outcome, Left, storage_fault}
-use Rattle.def_meaning.specs.Around.{Modules, Around, Callee, Passed, Number, Variable, Array, Text}
+use Rattle.def_meaning.specs.Answer.{State, Answer, Ended, StillRunning, storage_fault, Value}
+use Rattle.def_meaning.specs.Outcome.{Outcome, Exited}
+use Rattle.def_meaning.specs.Environment.{Modules, Environment, Callee, Passed, Number, Variable, Array, Text}
 use Rattle.def_meaning.specs.Expressions.{Asks}
 use Rattle.def_meaning.specs.Statements.{in_turn}
 use Rattle.def_meaning.specs.Calls as meaning
-use Rattle.def_meaning.specs.Calls.{Entered, needed, is_function, entered, around_of}
+use Rattle.def_meaning.specs.Calls.{Entered, needed, is_function, entered, environment_of}
 use Rattle.law_nothing_missing.specs.Worlds.{World, type_at, is_cell, is_like}
 use Rattle.law_nothing_missing.specs.Expressions.{lacks, provided}
 use Rattle.law_nothing_missing.specs.Statements.{does}
@@ -53,11 +54,11 @@ copies_of types (f ∷ fs) (v ∷ vs) = copy_of types f v ++ copies_of types fs 
 module _ (lacking : ℕ) where
   -- EXIT does not leave it
   abbrev pub result : Bool → Outcome → Answer ℤ
-  result function (Left st) = lacks lacking st
+  result function (Value Exited st) = lacks lacking st
   result function other = meaning.result function other
 
   module _ (p : Modules) (n : ℕ) where
-    abbrev pub body_does : Asks → World → (function : Bool) → List TypedStmt → Around → State
+    abbrev pub body_does : Asks → World → (function : Bool) → List TypedStmt → Environment → State
         → Outcome
     body_does ask world function body a st =
         in_turn (map (does lacking p ask world n function) body) a st
@@ -68,7 +69,7 @@ module _ (lacking : ℕ) where
     runs_in ask world c activation e left st =
         result (is_function c.types c.routine)
         (body_does (ask world) world (is_function c.types c.routine) c.routine.body
-        (around_of c activation e left) (record st { store = e.store }))
+        (environment_of c activation e left) (record st { store = e.store }))
 
     abbrev pub runs_with : (World → Asks) → World → Callee → List Passed → (next left : ℕ) → State
         → Answer ℤ
@@ -88,6 +89,6 @@ module _ (lacking : ℕ) where
         (runs_with ask world c vs next left) st
 
     unfoldable pub calling : (d : ℕ) → World → Asks
-    calling zero world c vs next left st = Running st.out
+    calling zero world c vs next left st = StillRunning st.out
     calling (suc d) world None vs next left st = lacks lacking st
     calling (suc d) world (Some c) vs next left st = runs (calling d) world c vs next left st

@@ -19,8 +19,8 @@ use Rattle.typed_tree.specs.declared.known_types.Types.{Types}
 use Rattle.typed_tree.specs.Known.{scalar_at}
 use Rattle.layout_storage.specs.Shapes.{tree, elements_of}
 use Rattle.def_meaning.specs.Store.{Location}
-use Rattle.def_meaning.specs.Answer.{State, Answer, Gave, Ended, then_give, empty_procedure}
-use Rattle.def_meaning.specs.Around.{Modules, Around, Named, At, Elements, Callee, Passed, Number, Variable, Array, Text, module_place, procedure_value, entry_of, entry_callee, module_callee, nested_in, named}
+use Rattle.def_meaning.specs.Answer.{State, Answer, Value, Ended, ◌▷◌, empty_procedure}
+use Rattle.def_meaning.specs.Environment.{Modules, Environment, Named, At, Elements, Callee, Passed, Number, Variable, Array, Text, module_place, procedure_value, entry_of, entry_callee, module_callee, nested_in, named}
 use Rattle.def_meaning.specs.Calls.{is_there, is_function}
 use Rattle.def_meaning.specs.Expressions as meaning
 use Rattle.def_meaning.specs.Expressions.{Asks, Gives, Reaches, Continues, index_range, element, operated, one_by_one}
@@ -69,23 +69,24 @@ module _ (lacking : ℕ) where
   module _ (p : Modules) (ask : Asks) (world : World) where
     -- something stands there, and a number does
     abbrev pub at_there : Location → State → Answer Location
-    at_there l st = provided (is_there (type_at world l)) (Gave l) st
+    at_there l st = provided (is_there (type_at world l)) (Value l) st
 
     abbrev pub at_cell : Location → State → Answer Location
-    at_cell l st = provided (is_cell (type_at world l)) (Gave l) st
+    at_cell l st = provided (is_cell (type_at world l)) (Value l) st
 
     -- where a value is wanted, a function is called
     abbrev pub suits_call : (wanted : Bool) → Callee → Bool
     suits_call wanted c = not wanted || is_function c.types c.routine
 
-    abbrev pub asked : (wanted : Bool) → Option Callee → List (Gives Passed) → Around → State
+    abbrev pub asked : (wanted : Bool) → Option Callee → List (Gives Passed) → Environment → State
         → Answer ℤ
     asked wanted None args a st = lacks st
     asked wanted (Some c) args a st =
         provided (suits_call wanted c) (meaning.asked p ask (Some c) args a) st
 
     -- 0 is the empty procedure, and any other value is that of a procedure
-    abbrev pub asked_value : (wanted : Bool) → ℤ → List (Gives Passed) → Around → State → Answer ℤ
+    abbrev pub asked_value : (wanted : Bool) → ℤ → List (Gives Passed) → Environment → State
+        → Answer ℤ
     asked_value wanted (pos zero) args a st = Ended empty_procedure st.out
     asked_value wanted (pos (suc k)) args a st =
         asked wanted (entry_callee p (entry_of p (pos (suc k)))) args a st
@@ -107,14 +108,15 @@ module _ (lacking : ℕ) where
     abbrev pub argument_layer :
         Argument-F (Gives Passed) Calls Reaches Continues (Gives ℤ) (Gives Location) → Gives Passed
     argument_layer (layer.Value t e) a st =
-        then_give (e a st) (λ v st. then_give (as_type a.types t v st) (λ v st. Gave (Number v) st))
-    argument_layer (layer.Place d) a st = then_give (d a st) (λ l st. Gave (Variable l) st)
+        e a st ▷ λ v st.
+        as_type a.types t v st ▷ λ v st. Value (Number v) st
+    argument_layer (layer.Place d) a st = d a st ▷ λ l st. Value (Variable l) st
     argument_layer (layer.Array t d) a st =
-        then_give (d a st) (λ l st.
-        needs (index_range a.types t) (λ r st. Gave (Array l (elements_of (Some r) - 1)) st) st)
+        d a st ▷ λ l st.
+        needs (index_range a.types t) (λ r st. Value (Array l (elements_of (Some r) - 1)) st) st
     argument_layer (layer.Open slot) a st =
-        needs (elements_named (named a slot)) (λ e st. Gave (Array e.0 e.1) st) st
-    argument_layer (layer.Text text) a st = Gave (Text text) st
+        needs (elements_named (named a slot)) (λ e st. Value (Array e.0 e.1) st) st
+    argument_layer (layer.Text text) a st = Value (Text text) st
 
     abbrev pub call_layer : Call-F (Gives Passed) Calls Reaches Continues (Gives ℤ) (Gives Location)
         → Calls
@@ -127,9 +129,9 @@ module _ (lacking : ℕ) where
         a)
         st
     call_layer (layer.Variable t d args) wanted a st =
-        then_give (then_give (d a st) at_cell) (λ l st. asked_value wanted (st.store l) args a st)
+        (d a st ▷ at_cell) ▷ λ l st. asked_value wanted (st.store l) args a st
 
-    abbrev pub root_layer : Root → Around → Option Location
+    abbrev pub root_layer : Root → Environment → Option Location
     root_layer (root.Global v) a =
         if is_module p v.home then Some (module_place p v.home ∷ v.number ∷ []) else None
     root_layer (root.Local slot) a = variable_of (named a slot)
@@ -141,19 +143,19 @@ module _ (lacking : ℕ) where
         Component-F (Gives Passed) Calls Reaches Continues (Gives ℤ) (Gives Location) → Reaches
     component_layer (layer.Field t k) l a st = at_there (l ++ k ∷ []) st
     component_layer (layer.Element t i) l a st =
-        then_give (i a st) (λ v st.
-        needs (index_range a.types t) (λ r st. then_give (element l r.low r.high v st) at_there) st)
+        i a st ▷ λ v st.
+        needs (index_range a.types t) (λ r st. element l r.low r.high v st ▷ at_there) st
     component_layer (layer.OpenElement slot t i) l a st =
-        then_give (i a st) (λ v st.
+        i a st ▷ λ v st.
         needs (elements_named (named a slot))
-        (λ e st. then_give (element l (pos 0) (pos e.1) v st) at_there) st)
+        (λ e st. element l (pos 0) (pos e.1) v st ▷ at_there) st
 
     -- a variable, and then its components
     abbrev pub place_layer :
         Place-F (Gives Passed) Calls Reaches Continues (Gives ℤ) (Gives Location) → Gives Location
     place_layer d a st =
         needs (root_layer d.root a)
-        (λ l st. then_give (at_there l st) (λ l st. one_by_one d.components l a st)) st
+        (λ l st. at_there l st ▷ λ l st. one_by_one d.components l a st) st
 
     abbrev pub wanting_link :
         Link-F (Gives Passed) Calls Reaches Continues (Gives ℤ) (Gives Location)
@@ -174,7 +176,7 @@ module _ (lacking : ℕ) where
     abbrev pub link_layer : Link-F (Gives Passed) Calls Reaches Continues (Gives ℤ) (Gives Location)
         → Continues
     link_layer (layer.Arithmetic o t e) x a st =
-        then_give (e a st) (λ y st. provided (has_range a.types o t) (operated a.types o t x y) st)
+        e a st ▷ λ y st. provided (has_range a.types o t) (operated a.types o t x y) st
     link_layer other x a st = meaning.link_layer p ask (wanting_link other) x a st
 
     -- the value of a call in an expression is wanted
@@ -191,17 +193,17 @@ module _ (lacking : ℕ) where
     abbrev pub expr_layer :
         TypedExpr-F (Gives Passed) Calls Reaches Continues (Gives ℤ) (Gives Location) → Gives ℤ
     expr_layer (layer.Load t d) a st =
-        then_give (then_give (d a st) at_cell) (λ l st. Gave (st.store l) st)
+        (d a st ▷ at_cell) ▷ λ l st. Value (st.store l) st
     expr_layer (layer.Procedure f) a st =
         provided (is_module p f.home)
         (λ st.
         provided (is_there (module_callee p (module_place p f.home) f.number))
-        (Gave (procedure_value p f.home f.number)) st)
+        (Value (procedure_value p f.home f.number)) st)
         st
     expr_layer (layer.High slot) a st =
-        needs (elements_named (named a slot)) (λ e st. Gave (pos e.1) st) st
+        needs (elements_named (named a slot)) (λ e st. Value (pos e.1) st) st
     expr_layer (layer.Val t e) a st =
-        then_give (e a st) (λ v st. provided (is_ranged a.types t) (meaning.as_type a.types t v) st)
+        e a st ▷ λ v st. provided (is_ranged a.types t) (meaning.as_type a.types t v) st
     expr_layer other a st = meaning.expr_layer p ask (wanting other) a st
 
     unfoldable pub value : TypedExpr → Gives ℤ

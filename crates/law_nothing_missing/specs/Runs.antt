@@ -2,10 +2,11 @@
 use Rattle.std.specs.Prelude.{ℕ, suc, ◌-◌, false, [], ◌∷◌, ◌++◌, map}
 use Rattle.layout_storage.specs.Types.{frame_of}
 use Rattle.layout_storage.specs.Frames.{module_row}
-use Rattle.def_meaning.specs.Answer.{State, Outcome, Left, Stopped}
-use Rattle.def_meaning.specs.Around.{Modules}
+use Rattle.def_meaning.specs.Answer.{State, Ended, Value}
+use Rattle.def_meaning.specs.Outcome.{Outcome, Exited}
+use Rattle.def_meaning.specs.Environment.{Modules}
 use Rattle.def_meaning.specs.Runs as meaning
-use Rattle.def_meaning.specs.Runs.{storage, body_frame, first_state, around_body}
+use Rattle.def_meaning.specs.Runs.{storage, body_frame, first_state, body_environment}
 use Rattle.law_nothing_missing.specs.Worlds.{World}
 use Rattle.law_nothing_missing.specs.Calls.{body_does, calling}
 
@@ -16,15 +17,15 @@ first_world p = map module_row p ++ frame_of [] ∷ []
 module _ (lacking : ℕ) where
   -- EXIT does not leave a body
   abbrev pub then_body : Outcome → (State → Outcome) → Outcome
-  then_body (Left st) next = Stopped lacking st.out
+  then_body (Value Exited st) next = Ended lacking st.out
   then_body other next = meaning.then_body other next
 
   abbrev pub bodies : Modules → (n left place : ℕ) → Modules → State → Outcome
-  bodies p n left place [] st = Stopped 0 st.out
+  bodies p n left place [] st = Ended 0 st.out
   bodies p n left place (m ∷ ms) st =
       then_body
       (body_does lacking p n (calling lacking p n n (first_world p)) (first_world p) false m.body
-      (around_body p place m left) st)
+      (body_environment p place m left) st)
       (bodies p n left (suc place) ms)
 
   -- the run of a program with the bound n, which ends with the number `lacking` where it lacks

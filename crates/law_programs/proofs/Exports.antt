@@ -24,7 +24,7 @@ use Rattle.layout_storage.specs.Shapes.{tree}
 use Rattle.layout_storage.specs.Texts.{characters, module_texts}
 use Rattle.check_definition.specs.Compiled as types
 use Rattle.check_body.specs.Own.{exported_variables, exported_headings}
-use Rattle.def_meaning.specs.Around.{module_place}
+use Rattle.def_meaning.specs.Environment.{module_place}
 use Rattle.def_scheme.specs.Exprs.{is_own, import_place, imported_row, variables_row}
 use Rattle.law_modules.specs.Linked.{Program}
 use Rattle.law_memory.specs.Relation.{heading_at}

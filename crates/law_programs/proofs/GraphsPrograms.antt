@@ -18,7 +18,7 @@ use Rattle.typed_tree.specs.declared.table.Table.{Table}
 use Rattle.typed_tree.specs.declared.types.TypeNo.{TypeNo}
 use Rattle.typed_tree.specs.declared.typed_module.Imported.{Imported}
 use Rattle.typed_tree.specs.declared.typed_module.TypedModule.{TypedModule}
-use Rattle.check_scope.specs.declared.fault.Fault.{Fault}
+use Rattle.m2_rule.specs.declared.breach.Breach.{Breach}
 use Rattle.check_scope.specs.Elaborated.{Gathers, least}
 use Rattle.check_scope.specs.Scopes.{State}
 use Rattle.check_scope.specs.declared.scope.Scope.{Scope}
@@ -33,7 +33,7 @@ use Rattle.check_definition.specs.Export.{imported_modules}
 use Rattle.check_definition.specs.Compiled as types
 use Rattle.check_body.specs.Own.{exported_variables}
 use Rattle.check_body.specs.Checks.{elaborated}
-use Rattle.def_meaning.specs.Around.{module_place}
+use Rattle.def_meaning.specs.Environment.{module_place}
 use Rattle.law_modules.specs.Linked.{Program}
 use Rattle.law_simulation.specs.Knows.{Knows, IsCoherent}
 use Rattle.law_well_formed.specs.Formed.{Holds, fine, broken}
@@ -153,11 +153,11 @@ module _ (trees : List Module) (files : List ℕ) (jobs : List (List ℕ)) (fit 
   no_fit t b None e = absurd cc
   no_fit t b (Some at) e = absurd cc
 
-  no_body : (t : Table) (r : Result TypedModule Fault) → of_checked r ≡ Defined t → ⊥
+  no_body : (t : Table) (r : Result TypedModule Breach) → of_checked r ≡ Defined t → ⊥
   no_body t (Ok b) e = no_fit t b (too_large b) e
   no_body t (Err f) e = absurd cc
 
-  definition_ok : (t : Table) (r : Result Table Fault) → of_definition r ≡ Defined t → r ≡ Ok t
+  definition_ok : (t : Table) (r : Result Table Breach) → of_definition r ≡ Defined t → r ≡ Ok t
   definition_ok t (Ok x) e = let same : x ≡ t = cc in ap Ok same
   definition_ok t (Err f) e = absurd cc
 

@@ -25,7 +25,7 @@ use Rattle.check_scope.specs.declared.scope.Scope.{Scope}
 use Rattle.check_const.specs.Denote.{member}
 use Rattle.law_simulation.specs.Frames.{kinds_of}
 use Rattle.law_simulation.specs.Passing.{result_of}
-use Rattle.law_simulation.specs.Linked.{around_of}
+use Rattle.law_simulation.specs.Linked.{environment_of}
 use Rattle.def_scheme.specs.Functions.{routine_of}
 use Rattle.check_definition.specs.Importing.{with_import}
 use Rattle.check_block.specs.Naming.{with_marks}
@@ -121,7 +121,7 @@ unfilled_headings (h ∷ hs) (suc n) t e = unfilled_headings hs n t e
 unfilled_bodies : (z : Stage) (hs : List TypeNo) → AllBodies z (map unfilled hs)
 unfilled_bodies z [] n r e = absurd cc
 unfilled_bodies z (h ∷ hs) zero r e =
-    subst (λ (x : Routine). BodyTyped z x) (same_Some (unfilled h) r e) (row_typed (stands z (kinds_of z.home.types (unfilled h) ∷ around_of z.home (unfilled h))) (result_of z.home.types h) [] false [] tt)
+    subst (λ (x : Routine). BodyTyped z x) (same_Some (unfilled h) r e) (row_typed (stands z (kinds_of z.home.types (unfilled h) ∷ environment_of z.home (unfilled h))) (result_of z.home.types h) [] false [] tt)
 unfilled_bodies z (h ∷ hs) (suc n) r e = unfilled_bodies z hs n r e
 
 module _ (g : Gathers) (elaborates : Elaborates g.Reported) (forms : FormsStatements g elaborates) (writes : TypesStatements g elaborates) (base : Types) (words : WordsStay g) (ends : List ℕ) (keeps : LocalsStay g) (headings : HeadingsAgree g) where

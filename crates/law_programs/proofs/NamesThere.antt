@@ -23,7 +23,7 @@ use Rattle.typed_tree.specs.declared.typed_module.Routine.{Routine}
 use Rattle.typed_tree.specs.declared.typed_module.TypedModule.{TypedModule}
 use Rattle.m2_tree.specs.Names.{same_name}
 use Rattle.typed_tree.specs.Names.{found}
-use Rattle.check_scope.specs.declared.fault.Fault.{Fault}
+use Rattle.m2_rule.specs.declared.breach.Breach.{Breach}
 use Rattle.check_scope.specs.declared.known.Known.{Known}
 use Rattle.check_scope.specs.declared.known.Known.TheVariants.{Later, Ahead, Begun, Headed, Declared}
 use Rattle.check_scope.specs.declared.known.Origin.{Origin}
@@ -39,7 +39,7 @@ use Rattle.check_definition.specs.Importing.{numbered_modules, exports_of}
 use Rattle.check_block.specs.Nesting.{procedure_ends}
 use Rattle.check_body.specs.Own.{implementation_scope}
 use Rattle.check_body.specs.Checks.{elaborated}
-use Rattle.def_meaning.specs.Around.{module_place}
+use Rattle.def_meaning.specs.Environment.{module_place}
 use Rattle.law_modules.specs.WellFormed.{IsProcedure}
 use Rattle.law_modules.specs.Linked.{Program}
 use Rattle.law_memory.specs.Relation.{heading_at}
@@ -221,10 +221,10 @@ module _ (fs : List (List ℕ × Tree)) (files : List ℕ) (jobs : List (List �
 
   -- ---- the names of the module
 
-  abbrev Brought : Scope Fault → Type 0
+  abbrev Brought : Scope Breach → Type 0
   Brought s = IsBrought (MeaningElse x opens 0 []) least opens ts (λ n h. h) (λ n h. all_else (exports_of (slice_get ts n)) (exports_at n h)) s
 
-  names_stand : (s : Scope Fault) (body : Block) (es : List (List ℕ × Meaning)) → s.tables ≡ ts → Brought s → HasBegun least s b.tree body es m → NamesStand x opens s b.tree body
+  names_stand : (s : Scope Breach) (body : Block) (es : List (List ℕ × Meaning)) → s.tables ≡ ts → Brought s → HasBegun least s b.tree body es m → NamesStand x opens s b.tree body
   names_stand s body es e q h =
       let ds : List Decl = (out-Block body).decls in
       let modules : List (List ℕ × ℕ) = (numbered_modules s.tables).0 in
@@ -234,7 +234,7 @@ module _ (fs : List (List ℕ × Tree)) (files : List ℕ) (jobs : List (List �
       = module_brought (MeaningElse x opens 0 []) least opens ts (λ n h. h) (λ n h. all_else (exports_of (slice_get ts n)) (exports_at n h)) m modules (procedure_ends ds) s b.tree ds opened q in
       record {
         others = names_else (declared_of s b.tree body).own formed all.names;
-        outer = subst (λ (bs : List (Around Fault)). BlocksThere x opens 0 bs) (sym h.outer) (around_there x opens Fault);
+        outer = subst (λ (bs : List (Around Breach)). BlocksThere x opens 0 bs) (sym h.outer) (around_there x opens Breach);
         members = λ k name g. subst (λ (us : List Table). Holds (MeaningThere x opens 0) (member least us k name)) (sym all.tables_are) (member_there k name g);
       }
 
@@ -259,7 +259,7 @@ module _ (fs : List (List ℕ × Tree)) (files : List ℕ) (jobs : List (List �
       let k : AreForOwn (Some o) imported
       = subst (λ (w : Option Table). AreForOwn w imported) q (subst (λ (c : Contents). AreFor b.job own imported c) e (for_it fs files jobs starts graph each fit m b)) in
       names_stand (implementation_scope o ts) block o.exported refl
-      (record { tables_are = refl; outermost = refl; names = own_brought (MeaningElse x opens 0 []) Fault o.number o.exported k.0.exports }) h
+      (record { tables_are = refl; outermost = refl; names = own_brought (MeaningElse x opens 0 []) Breach o.number o.exported k.0.exports }) h
 
   pub body_named : BodyNamed trees files jobs b x
   body_named = record { own = instance; exports = exports_there; program = program_named; implementation = implementation_named }

@@ -13,7 +13,7 @@ use Rattle.check_scope.specs.declared.known.Known.TheVariants.{Later, Ahead, Beg
 use Rattle.layout_storage.specs.Types.{Ty, row, component}
 use Rattle.layout_storage.specs.Shapes.{tree}
 use Rattle.layout_storage.specs.Frames.{module_row}
-use Rattle.def_meaning.specs.Around.{module_place}
+use Rattle.def_meaning.specs.Environment.{module_place}
 use Rattle.def_scheme.specs.Exprs.{is_own, import_place, imported_row}
 use Rattle.law_simulation.specs.Frames.{Kinds}
 use Rattle.law_simulation.specs.TreesTyped.{Context, IsVariable}

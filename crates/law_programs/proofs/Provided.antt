@@ -20,7 +20,7 @@ use Rattle.law_modules.specs.Linked.{Program, text}
 use Rattle.law_modules.proofs.Stores.{text_length}
 use Rattle.law_simulation.specs.Frames.{Kinds, kinds_of}
 use Rattle.law_simulation.specs.TreesTyped.{Context, HasText}
-use Rattle.law_simulation.specs.Linked.{text_of, around_of}
+use Rattle.law_simulation.specs.Linked.{text_of, environment_of}
 use Rattle.law_simulation.specs.Modules.{IsTypedModule}
 use Rattle.law_programs.specs.Wanted.{TextsStand, AreNeeded, Has}
 use Rattle.law_programs.specs.Asked.{wanted_by}
@@ -191,6 +191,6 @@ module _ (z : Stage) (ordered : AreOrdered z.home) (bytes : All (λ b. b < 256) 
 module _ (p : Program) (pages place : ℕ) (m : TypedModule) (opens : ℕ → Bool) (typed : AreBodiesTyped (placed p pages place m opens) m.body) (provided : AreProvided (placed p pages place m opens)) where
   pub module_typed : IsTypedModule p pages place m
   module_typed = record {
-    procedures = λ w r is. (text_of m w + characters (body_texts r.body), typed.procedures w r is (text_of m w) (provided.procedures w r is (kinds_of m.types r ∷ around_of m r)));
+    procedures = λ w r is. (text_of m w + characters (body_texts r.body), typed.procedures w r is (text_of m w) (provided.procedures w r is (kinds_of m.types r ∷ environment_of m r)));
     body = (characters (routines_texts m) + characters (body_texts m.body), typed.body (characters (routines_texts m)) (provided.body []));
   }

@@ -15,7 +15,7 @@ use Rattle.typed_tree.specs.declared.shape.Made.{Made}
 use Rattle.typed_tree.specs.declared.table.ModuleTypes.{ModuleTypes}
 use Rattle.typed_tree.specs.declared.table.Table.{Table}
 use Rattle.typed_tree.specs.declared.typed_module.TypedModule.{TypedModule}
-use Rattle.check_scope.specs.declared.fault.Fault.{Fault}
+use Rattle.m2_rule.specs.declared.breach.Breach.{Breach}
 use Rattle.check_scope.specs.Elaborated.{least}
 use Rattle.layout_storage.specs.Layouts.{too_large}
 use Rattle.check_definition.specs.Compiled as types
@@ -141,7 +141,7 @@ module _ (trees : List Module) (files : List ℕ) (jobs : List (List ℕ)) (fit 
 
     -- ---- a definition
 
-    result_formed : (t : Table) (r : Result Table Fault) → Holds (λ u. (u.number ≡ n) × (types_made_in n u.reached ≡ its_types n → TableFormed its_types (suc n) u)) r → (t.number ≡ n → types_made_in n t.reached ≡ its_types n) → of_definition r ≡ Defined t → IsFormedAt n t
+    result_formed : (t : Table) (r : Result Table Breach) → Holds (λ u. (u.number ≡ n) × (types_made_in n u.reached ≡ its_types n → TableFormed its_types (suc n) u)) r → (t.number ≡ n → types_made_in n t.reached ≡ its_types n) → of_definition r ≡ Defined t → IsFormedAt n t
     result_formed t _ (fine u h) k is = let same : u ≡ t = cc in let j = subst (λ (v : Table). (v.number ≡ n) × (types_made_in n v.reached ≡ its_types n → TableFormed its_types (suc n) v)) same h in (j.0, j.1 (k j.0))
     result_formed t _ (broken e) k is = absurd cc
 
@@ -149,7 +149,7 @@ module _ (trees : List Module) (files : List ℕ) (jobs : List (List ℕ)) (fit 
     no_fit t b None e = absurd cc
     no_fit t b (Some at) e = absurd cc
 
-    no_body : (t : Table) (r : Result TypedModule Fault) → of_checked r ≡ Defined t → ⊥
+    no_body : (t : Table) (r : Result TypedModule Breach) → of_checked r ≡ Defined t → ⊥
     no_body t (Ok b) e = no_fit t b (too_large b) e
     no_body t (Err f) e = absurd cc
 

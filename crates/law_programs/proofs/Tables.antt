@@ -12,7 +12,7 @@ use Rattle.typed_tree.specs.declared.shape.Made.{Made}
 use Rattle.typed_tree.specs.declared.table.Table.{Table}
 use Rattle.typed_tree.specs.declared.typed_module.TypedModule.{TypedModule}
 use Rattle.typed_tree.specs.declared.types.TypeNo.{TypeNo}
-use Rattle.check_scope.specs.declared.fault.Fault.{Fault}
+use Rattle.m2_rule.specs.declared.breach.Breach.{Breach}
 use Rattle.check_scope.specs.declared.scope.Scope.{Scope}
 use Rattle.check_scope.specs.Elaborated.{Gathers, least}
 use Rattle.layout_storage.specs.Layouts.{too_large}
@@ -95,7 +95,7 @@ module _ (made_of : ℕ → List Made) (n : ℕ) (m : Module) (ts : List Table) 
   contents_stand t (contents.Implementation b) e own numbered = absurd cc
   contents_stand t (contents.Program b) e own numbered = absurd cc
 
-  result_stands : (t : Table) (r : Result Table Fault) → r ≡ types.compiled least n m ts → IfOk r (λ t. AreExports n t.exported) → IfOk r (λ t. AreNumberedBy (exported_headings t.exported) t.exported) → of_definition r ≡ Defined t → TableStands n t
+  result_stands : (t : Table) (r : Result Table Breach) → r ≡ types.compiled least n m ts → IfOk r (λ t. AreExports n t.exported) → IfOk r (λ t. AreNumberedBy (exported_headings t.exported) t.exported) → of_definition r ≡ Defined t → TableStands n t
   result_stands t (Ok u) q own numbered e = let same : u ≡ t = cc in subst (λ (t : Table). TableStands n t) same (contents_stand u m.contents (sym q) own numbered)
   result_stands t (Err f) q own numbered e = absurd cc
 
@@ -141,7 +141,7 @@ module _ (trees : List Module) (files : List ℕ) (jobs : List (List ℕ)) (fit 
     no_fit t b None e = absurd cc
     no_fit t b (Some at) e = absurd cc
 
-    no_body : (t : Table) (r : Result TypedModule Fault) → of_checked r ≡ Defined t → ⊥
+    no_body : (t : Table) (r : Result TypedModule Breach) → of_checked r ≡ Defined t → ⊥
     no_body t (Ok b) e = no_fit t b (too_large b) e
     no_body t (Err f) e = absurd cc
 

@@ -22,7 +22,7 @@ use Rattle.law_graph.proofs.Given.{given_among}
 use Rattle.law_graph.proofs.Fine.{fine_file, tree_at}
 use Rattle.typed_tree.specs.declared.table.Table.{Table}
 use Rattle.typed_tree.specs.declared.typed_module.TypedModule.{TypedModule}
-use Rattle.check_scope.specs.declared.fault.Fault.{Fault}
+use Rattle.m2_rule.specs.declared.breach.Breach.{Breach}
 use Rattle.check_scope.specs.Elaborated.{least}
 use Rattle.layout_storage.specs.Layouts.{too_large}
 use Rattle.check_definition.specs.Compiled as types
@@ -137,7 +137,7 @@ module _ (fs : List (List ℕ × Module)) (files : List ℕ) (jobs : List (List 
     n.number,
   )
 
-  result_of : (m : Module) (job : ℕ) (t : Table) (r : Result Table Fault) → is_console m.name.name ≡ false → IfOk r (NamesImports m job) → IfOk r (λ t. AreExports job t.exported) → IfOk r (λ t. AreNumberedBy (exported_headings t.exported) t.exported)
+  result_of : (m : Module) (job : ℕ) (t : Table) (r : Result Table Breach) → is_console m.name.name ≡ false → IfOk r (NamesImports m job) → IfOk r (λ t. AreExports job t.exported) → IfOk r (λ t. AreNumberedBy (exported_headings t.exported) t.exported)
       → of_definition r ≡ Defined t → IsOf job t
   result_of m job t (Ok x) free n e k is = let same : x ≡ t = cc in subst (λ (y : Table). IsOf job y) same (defined_of m job x free n e k)
   result_of m job t (Err f) free n e k is = absurd cc
@@ -146,7 +146,7 @@ module _ (fs : List (List ℕ × Module)) (files : List ℕ) (jobs : List (List 
   no_fit t b None e = absurd cc
   no_fit t b (Some at) e = absurd cc
 
-  no_body : (t : Table) (r : Result TypedModule Fault) → of_checked r ≡ Defined t → ⊥
+  no_body : (t : Table) (r : Result TypedModule Breach) → of_checked r ≡ Defined t → ⊥
   no_body t (Ok b) e = no_fit t b (too_large b) e
   no_body t (Err f) e = absurd cc
 

@@ -29,7 +29,7 @@ use Rattle.check_definition.specs.Compiled as types
 use Rattle.check_body.specs.Imports.{all_imports}
 use Rattle.check_body.specs.Own.{exported_headings}
 use Rattle.check_body.specs.Checks.{elaborated}
-use Rattle.def_meaning.specs.Around.{module_place}
+use Rattle.def_meaning.specs.Environment.{module_place}
 use Rattle.law_modules.specs.WellFormed.{IsRoutine}
 use Rattle.law_modules.specs.Linked.{Program}
 use Rattle.law_simulation.specs.Knows.{IsCoherent}

@@ -13,7 +13,7 @@ use Rattle.check_scope.specs.declared.known.Known.{Known}
 use Rattle.check_scope.specs.declared.known.Known.TheVariants.{Later, Ahead, Begun, Headed, Declared}
 use Rattle.layout_storage.specs.Types.{Ty, row}
 use Rattle.layout_storage.specs.Shapes.{tree}
-use Rattle.def_meaning.specs.Around.{module_place}
+use Rattle.def_meaning.specs.Environment.{module_place}
 use Rattle.def_scheme.specs.Exprs.{variables_row}
 use Rattle.law_simulation.specs.Frames.{Kinds, kind_at}
 use Rattle.law_simulation.specs.TreesTyped.{Context, IsKnown, IsVariable, IsNamed}

@@ -36,7 +36,7 @@ use Rattle.layout_storage.specs.Frames.{formals_of}
 use Rattle.layout_storage.specs.Shapes.{tree}
 use Rattle.layout_storage.specs.Texts.{module_texts}
 use Rattle.def_meaning.specs.Store.{Location}
-use Rattle.def_meaning.specs.Around.{Modules}
+use Rattle.def_meaning.specs.Environment.{Modules}
 use Rattle.def_scheme.specs.Modules.{all_characters}
 use Rattle.def_scheme.specs.Functions.{routine_of}
 use Rattle.check_definition.specs.Importing.{with_import}
@@ -56,7 +56,7 @@ use Rattle.check_body.specs.Checks.{elaborated}
 use Rattle.law_simulation.specs.Frames.{Kinds, Kept, formal_kind, kinds_of}
 use Rattle.law_simulation.specs.Passing.{Result as Gives, result_of}
 use Rattle.law_simulation.specs.TreesTyped.{Context, kinds_around}
-use Rattle.law_simulation.specs.Linked.{around_of, context}
+use Rattle.law_simulation.specs.Linked.{environment_of, context}
 use Rattle.law_well_formed.specs.Formed.{Holds}
 use Rattle.law_well_formed.specs.FormedScopes.{AreFormedNames}
 use Rattle.law_well_formed.specs.FormedBodies.{Keeps, Begins}
@@ -116,7 +116,7 @@ pub record StageTyped (z : Stage) : Type 0 where
 -- the body of a procedure is typed
 abbrev pub BodyTyped : Stage → Routine → Type 0
 BodyTyped z r =
-    StmtsTyped (stands z (kinds_of z.home.types r ∷ around_of z.home r))
+    StmtsTyped (stands z (kinds_of z.home.types r ∷ environment_of z.home r))
     (result_of z.home.types r.heading) [] false r.body
 
 -- what statements are elaborated to be is typed, where names mean what is there

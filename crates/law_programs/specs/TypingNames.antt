@@ -12,7 +12,7 @@ use Rattle.typed_tree.specs.declared.table.Table.{Table}
 use Rattle.typed_tree.specs.declared.typed_module.Imported.{Imported}
 use Rattle.typed_tree.specs.declared.typed_module.TypedModule.{TypedModule}
 use Rattle.m2_tree.specs.Names.{same_name}
-use Rattle.check_scope.specs.declared.fault.Fault.{Fault}
+use Rattle.m2_rule.specs.declared.breach.Breach.{Breach}
 use Rattle.check_scope.specs.declared.scope.Scope.{Scope}
 use Rattle.check_scope.specs.Elaborated.{least}
 use Rattle.check_const.specs.Denote.{member}
@@ -47,14 +47,14 @@ is_open tables is k = is_open_table is (slice_get tables k)
 -- ---- modules
 
 -- behind the declarations of a module that begins in this scope
-abbrev pub declared_of : Scope Fault → Module → Block → Scope Fault
+abbrev pub declared_of : Scope Breach → Module → Block → Scope Breach
 declared_of s m b =
     let ds = (out-Block b).decls in
     (declared_module least (numbered_modules s.tables).0 (procedure_ends ds) s m ds).0
 
 module _ (x : Context) (opens : ℕ → Bool) where
   -- the names of a module, of what stands around it, and of its open modules
-  pub record NamesStand (s : Scope Fault) (m : Module) (b : Block) : Type 0 where
+  pub record NamesStand (s : Scope Breach) (m : Module) (b : Block) : Type 0 where
     pub others : NamesElse x opens 0 [] (declared_of s m b).own
     pub outer : BlocksThere x opens 0 (declared_of s m b).outer
     pub members : (k : ℕ) (name : Ident) → opens k ≡ true

@@ -16,7 +16,7 @@ use Rattle.law_effect.proofs.Steps.{i32_runs, get_runs, tee_runs, store_runs}
 use Rattle.layout_storage.specs.Types.{Ty, Hidden, row, component, IsFit}
 use Rattle.layout_storage.specs.Sizes.{size, offset}
 use Rattle.def_meaning.specs.Store.{Location, Store, placed, fresh}
-use Rattle.def_meaning.specs.Around.{Named, At, Elements, Frames}
+use Rattle.def_meaning.specs.Environment.{Named, At, Elements, Frames}
 use Rattle.law_memory.specs.Cells.{stored_in}
 use Rattle.law_memory.specs.Relation.{Holds, Keeps}
 use Rattle.layout_storage.specs.Sizes.{Four}

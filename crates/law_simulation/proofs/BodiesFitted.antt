@@ -18,7 +18,7 @@ use Rattle.layout_storage.specs.Types.{Ty, Hidden, Heading, row, component}
 use Rattle.layout_storage.specs.Sizes.{offset}
 use Rattle.layout_storage.specs.Frames.{formals_of}
 use Rattle.def_meaning.specs.Store.{Location}
-use Rattle.def_meaning.specs.Around.{Modules, Around, Frames, Callee, entry_of, entry_callee, callee_with, module_place, procedure_in, module_callee, nested_in}
+use Rattle.def_meaning.specs.Environment.{Modules, Environment, Frames, Callee, entry_of, entry_callee, callee_with, module_place, procedure_in, module_callee, nested_in}
 use Rattle.def_meaning.specs.Calls.{is_there, calling}
 use Rattle.law_memory.specs.Relation.{NamesProcedure}
 use Rattle.law_memory.proofs.Procedures.{entry_there}
@@ -39,7 +39,7 @@ use Rattle.law_simulation.specs.TreesTyped.{Context, IsVariable, IsNamed, IsCall
 use Rattle.law_simulation.specs.Fitting.{IsCalled, Fits}
 use Rattle.law_simulation.specs.ProceduresLaws.{is_inner, callee_of}
 use Rattle.law_simulation.specs.Knot.{core, AllDo}
-use Rattle.law_simulation.specs.Linked.{Spot, function_of, called_by, routine_typed, around_of, part_of, context, IsLinked}
+use Rattle.law_simulation.specs.Linked.{Spot, function_of, called_by, routine_typed, environment_of, part_of, context, IsLinked}
 use Rattle.law_simulation.specs.BodiesLaws.{AreLinked}
 use Rattle.law_simulation.proofs.Counted.{some_around}
 
@@ -58,8 +58,8 @@ takes_many m w r b e =
     omega (arith, same, many, level)
 
 module _ (modules : List WModule) (fx : Fixed) (serves : (k f : ℕ) → Bool) (extra : (k f : ℕ) → ℕ) (n limit : ℕ) (p : Modules) (base : List Ty) (texts : Location → ℕ → ℕ)
-    (linked : AreLinked modules fx serves extra n limit p base texts) (levels : (o : Spot p) → nat_lt 1 o.routine.level ≡ is_inner (around_of o.home o.routine)) (outermost : (o : Spot p) (number : ℕ) → o.at ≡ which.Module number → around_of o.home o.routine ≡ []) (d : ℕ) (all : AllDo modules fx serves extra n limit p base texts (Spot p) part_of d) where
-  module _ (place : ℕ) (m : TypedModule) (at : slice_get p place ≡ Some m) (kinds : List Kinds) (a : Around) (frames : List Ty) (arguments addresses : ℕ) (world : List Ty) (y : Location → ℕ → ℕ) (locals : ℕ) (result : Option Ty) (kept : ℕ → Option Value) where
+    (linked : AreLinked modules fx serves extra n limit p base texts) (levels : (o : Spot p) → nat_lt 1 o.routine.level ≡ is_inner (environment_of o.home o.routine)) (outermost : (o : Spot p) (number : ℕ) → o.at ≡ which.Module number → environment_of o.home o.routine ≡ []) (d : ℕ) (all : AllDo modules fx serves extra n limit p base texts (Spot p) part_of d) where
+  module _ (place : ℕ) (m : TypedModule) (at : slice_get p place ≡ Some m) (kinds : List Kinds) (a : Environment) (frames : List Ty) (arguments addresses : ℕ) (world : List Ty) (y : Location → ℕ → ℕ) (locals : ℕ) (result : Option Ty) (kept : ℕ → Option Value) where
     -- the scene of a body
     abbrev pub K : Scene
     K = record (core modules fx serves extra n limit p base texts (suc place) place m d) {
@@ -184,7 +184,7 @@ module _ (modules : List WModule) (fx : Fixed) (serves : (k f : ℕ) → Bool) (
               own = suc o.place;
               function = 6 + f.number;
               typed = routine_typed h.home (which.Module f.number) h.routine;
-              does = asked callee (around_of h.home h.routine) [] (forms_of h.home.types h.routine.heading) (forms_of m.types f.heading) (result_of h.home.types h.routine.heading) (result_of m.types f.heading) (suc o.place) (6 + f.number) (routine_typed h.home (which.Module f.number) h.routine) h.outermost h.forms h.result (all o []);
+              does = asked callee (environment_of h.home h.routine) [] (forms_of h.home.types h.routine.heading) (forms_of m.types f.heading) (result_of h.home.types h.routine.heading) (result_of m.types f.heading) (suc o.place) (6 + f.number) (routine_typed h.home (which.Module f.number) h.routine) h.outermost h.forms h.result (all o []);
               is_call = module_calls f c (is_own m f.home) refl;
               count = omega (arith, many, same);
             },
@@ -208,7 +208,7 @@ module _ (modules : List WModule) (fx : Fixed) (serves : (k f : ℕ) → Bool) (
               own = suc place;
               function = function_of m w;
               typed = routine_typed m w h.routine;
-              does = asked callee (around_of m h.routine) (drop f.up kinds) (forms_of m.types h.routine.heading) (forms_of m.types f.heading) (result_of m.types h.routine.heading) (result_of m.types f.heading) (suc place) (function_of m w) (routine_typed m w h.routine) h.kinds h.forms h.result (all o nss);
+              does = asked callee (environment_of m h.routine) (drop f.up kinds) (forms_of m.types h.routine.heading) (forms_of m.types f.heading) (result_of m.types h.routine.heading) (result_of m.types f.heading) (suc place) (function_of m w) (routine_typed m w h.routine) h.kinds h.forms h.result (all o nss);
               is_call = direct_calls K (called_by m w) (suc place) (function_of m w) (routine_typed m w h.routine) (g.called w h.routine h.is) (g.functions w h.routine h.is);
               count = omega (arith, many, same);
             },
@@ -217,7 +217,7 @@ module _ (modules : List WModule) (fx : Fixed) (serves : (k f : ℕ) → Bool) (
       -- ---- procedures by their numbers
 
       -- a procedure of a module itself has the type of its heading
-      outermost_type : (o : Spot p) → around_of o.home o.routine ≡ [] → signature (numbers_of o.home.types o.routine) (has_result o.home.types o.routine.heading) ≡ of_heading o.home.types o.routine.heading
+      outermost_type : (o : Spot p) → environment_of o.home o.routine ≡ [] → signature (numbers_of o.home.types o.routine) (has_result o.home.types o.routine.heading) ≡ of_heading o.home.types o.routine.heading
       outermost_type o outer =
           let none : nat_lt 1 o.routine.level ≡ false = levels o ∙ ap is_inner outer in
           let link : ◌≡◌ {A = ℕ} (if nat_lt 1 o.routine.level then 1 else 0) 0 = ap (λ (b : Bool). if b then 1 else 0) none in
@@ -228,7 +228,7 @@ module _ (modules : List WModule) (fx : Fixed) (serves : (k f : ℕ) → Bool) (
       callee_here h i names =
           let w : Which = which.Module names.number in
           let o : Spot p = record { place = names.place; home = names.home; there = names.there; at = w; routine = names.routine; is = names.is } in
-          let outer : around_of names.home names.routine ≡ [] = outermost o names.number refl in
+          let outer : environment_of names.home names.routine ≡ [] = outermost o names.number refl in
           let entry = g.entries names.place names.home names.number names.routine names.there names.is in
           let value = names.value in
           let small = entry.small in
@@ -250,7 +250,7 @@ module _ (modules : List WModule) (fx : Fixed) (serves : (k f : ℕ) → Bool) (
             filled = λ bytes. ap (callee_in (store_of fx bytes) (suc place)) value ∙ entry.filled bytes;
             there = (linked names.place names.home names.there).functions w names.routine names.is;
             type = ap type_of (outermost_type o outer) ∙ type_same names.home.types names.routine.heading h names.heading;
-            does = asked callee (around_of names.home names.routine) [] (forms_of names.home.types names.routine.heading) (forms_in h) (result_of names.home.types names.routine.heading) (heading_result h) (suc names.place) (6 + names.number) t outer
+            does = asked callee (environment_of names.home names.routine) [] (forms_of names.home.types names.routine.heading) (forms_in h) (result_of names.home.types names.routine.heading) (heading_result h) (suc names.place) (6 + names.number) t outer
                 (forms_same names.home.types names.routine.heading h names.heading) (result_same names.home.types names.routine.heading h names.heading) (all o []);
           }
 

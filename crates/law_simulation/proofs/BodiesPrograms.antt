@@ -6,7 +6,8 @@ use Rattle.layout_storage.specs.Types.{row}
 use Rattle.layout_storage.specs.Sizes.{size}
 use Rattle.layout_storage.specs.Frames.{module_row}
 use Rattle.layout_storage.specs.Texts.{characters, module_texts}
-use Rattle.def_meaning.specs.Answer.{State, Outcome}
+use Rattle.def_meaning.specs.Answer.{State}
+use Rattle.def_meaning.specs.Outcome.{Outcome}
 use Rattle.def_meaning.specs.Runs.{data_size, storage, body_frame}
 use Rattle.def_scheme.specs.Modules.{slots}
 use Rattle.law_effect.specs.Effect.{Calling, nested}

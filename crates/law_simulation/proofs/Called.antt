@@ -15,8 +15,10 @@ use Rattle.layout_storage.specs.Types.{Ty, Scalar, row}
 use Rattle.layout_storage.specs.Sizes.{size}
 use Rattle.layout_storage.specs.Shapes.{tree}
 use Rattle.def_meaning.specs.Store.{Location}
-use Rattle.def_meaning.specs.Answer.{State as Source, Answer, Gave, Ended, Running, then_give, Went, with_answer}
-use Rattle.def_meaning.specs.Around.{Modules, Callee, Passed, Number, Variable, Array as Whole, Text}
+use Rattle.def_meaning.specs.Answer.{State as Source, Answer, Ended, StillRunning, ◌▷◌}
+use Rattle.def_meaning.specs.Outcome.{Normal}
+use Rattle.def_meaning.specs.Answer as answer
+use Rattle.def_meaning.specs.Environment.{Modules, Callee, Passed, Number, Variable, Array as Whole, Text}
 use Rattle.def_meaning.specs.Expressions.{Asks, Gives, all_given}
 use Rattle.def_scheme.specs.Coded.{Coded, Counts, ◌⨾◌, all_coded, raised}
 use Rattle.law_simulation.specs.Scene.{Scene, IsSet, IsCell, calls, runs, Stands, Into, GivesNumber, Grows, IsFree, HasLocals, inside, Agrees, Ends, Executes}
@@ -45,12 +47,12 @@ all_pass k p ask _ _ _ (pass_more f fs x xs g gs hx hxs) =
       gives = λ e c free full s st h rest stack.
           let first = x (inside k e) c in
           let second = all_coded xs (inside k e) first.1 in
-          let more : Passed → Source → Answer (List Passed) = λ v s. then_give (all_given p ask gs k.around s) (λ vs s. Gave (v ∷ vs) s) in
-          subst (λ (code : List Instr). Into (GivesAll k (f ∷ fs) (runs k rest) stack) (runs k code st stack) (then_give (g k.around s) more)) (sym (append_assoc first.0 second.0 rest))
+          let more : Passed → Source → Answer (List Passed) = λ v s. (all_given p ask gs k.around s ▷ (λ vs s. answer.Value (v ∷ vs) s)) in
+          subst (λ (code : List Instr). Into (GivesAll k (f ∷ fs) (runs k rest) stack) (runs k code st stack) (g k.around s ▷ more)) (sym (append_assoc first.0 second.0 rest))
           (into_then (GivesPassed k f (runs k (second.0 ++ rest)) stack) (GivesAll k (f ∷ fs) (runs k rest) stack) (runs k (first.0 ++ (second.0 ++ rest)) st stack) (g k.around s) more
           (hx.gives e c free (has_before k (others.grows e first.1) full) s st h (second.0 ++ rest) stack)
           (λ v s1 p1. subst (λ (r : Effect). Into (GivesAll k (f ∷ fs) (runs k rest) stack) r (more v s1)) (sym p1.run)
-          (into_then (GivesAll k fs (runs k rest) (stack ++ p1.values)) (GivesAll k (f ∷ fs) (runs k rest) stack) (runs k (second.0 ++ rest) p1.st (stack ++ p1.values)) (all_given p ask gs k.around s1) (λ vs s. Gave (v ∷ vs) s)
+          (into_then (GivesAll k fs (runs k rest) (stack ++ p1.values)) (GivesAll k (f ∷ fs) (runs k rest) stack) (runs k (second.0 ++ rest) p1.st (stack ++ p1.values)) (all_given p ask gs k.around s1) (λ vs s. answer.Value (v ∷ vs) s)
           (others.gives e first.1 (free_after k (hx.grows e c) free) full s1 p1.st p1.stands rest (stack ++ p1.values))
           (λ vs s2 p2. record {
             st = p2.st;
@@ -100,25 +102,25 @@ module _ (k : Scene) (base : List Ty) (texts : Location → ℕ → ℕ) (top : 
 
   back_gives : (s : Source) (st : Target) → Stands k s st → (rest : List Instr) (stack : List Value) (r : Effect) (a : Answer ℤ) → Into (CallGives k.program k.world k.hidden k.limit result st.locals stack) r a
       → Into (GivesResult k result (runs k rest) stack) (then_run r (runs k rest)) a
-  back_gives s st h rest stack r (Gave v s') g = record {
+  back_gives s st h rest stack r (answer.Value v s') g = record {
     st = record { locals = st.locals; bytes = g.bytes; out = s'.out };
     stands = record { holds = g.holds; long = g.long; count = h.count; kept = h.kept; out = refl };
     is = g.is;
     run = ap (λ (e : Effect). then_run e (runs k rest)) g.run;
   }
   back_gives s st h rest stack r (Ended n out) g = ap (λ (e : Effect). then_run e (runs k rest)) g
-  back_gives s st h rest stack r (Running out) g = ap (λ (e : Effect). then_run e (runs k rest)) g
+  back_gives s st h rest stack r (StillRunning out) g = ap (λ (e : Effect). then_run e (runs k rest)) g
 
   pub call_goes : (vs : List Passed) (values : List Value) → ArePassed k.program k.world k.hidden forms vs values → (s : Source) (st : Target) → Stands k s st → (rest : List Instr) (stack : List Value)
-      → Into (GivesResult k result (runs k rest) stack) (runs k (code ++ rest) st ((stack ++ front) ++ values)) (ask (Some c) vs k.around.next k.around.left s)
+      → Into (GivesResult k result (runs k rest) stack) (runs k (code ++ rest) st ((stack ++ front) ++ values)) (ask (Some c) vs k.around.next k.around.free s)
   call_goes vs values are s st h rest stack =
       let args : List Value = front ++ values in
       let shape : (stack ++ front) ++ values ≡ stack ++ args = append_assoc stack front values in
       let many : length args ≡ length t.type.params = (let a = operands_count k.program k.world k.hidden forms vs values are in let b = length-append (links k.world roots) values in omega (arith, a, b, count)) in
-      let answer : ℕ → Answer ℤ = λ n. ask (Some c) vs n k.around.left s in
+      let answer : ℕ → Answer ℤ = λ n. ask (Some c) vs n k.around.free s in
       let did : List ℕ → Effect = λ out. back (length t.type.results) st.locals stack (calls k j f t args st.bytes out) in
       let got : Into (CallGives k.program k.world k.hidden k.limit result st.locals stack) (did s.out) (answer (length k.world)) =
-      does k.world k.hidden top.based roots chain s st.bytes h.holds h.long vs values are k.around.left top.left st.locals stack in
+      does k.world k.hidden top.based roots chain s st.bytes h.holds h.long vs values are k.around.free top.left st.locals stack in
       subst (λ (r : Effect). Into (GivesResult k result (runs k rest) stack) r (answer k.around.next)) (sym (ap (runs k (code ++ rest) st) shape ∙ is_call s st h rest stack args many))
       (back_gives s st h rest stack (did st.out) (answer k.around.next)
       (subst (λ (n : ℕ). Into (CallGives k.program k.world k.hidden k.limit result st.locals stack) (did st.out) (answer n)) (sym top.next)
@@ -127,7 +129,7 @@ module _ (k : Scene) (base : List Ty) (texts : Location → ℕ → ℕ) (top : 
   -- with its arguments before it
   module _ (xs : List Coded) (gs : List (Gives Passed)) (args : PassAll k forms xs gs) (call : Coded) (plainly : IsPlain k call code) where
     abbrev pub value : Gives ℤ
-    value a s = then_give (all_given p ask gs a s) (λ vs s. ask (Some c) vs a.next a.left s)
+    value a s = all_given p ask gs a s ▷ λ vs s. ask (Some c) vs a.next a.free s
 
     pub args_grow : (e : ℕ) (n : Counts) → Grows n ((all_coded xs ⨾ call) (inside k e) n).1
     args_grow e n = subst (λ (q : List Instr × Counts). Grows n q.1) (sym (plainly e (all_coded xs (inside k e) n).1)) ((all_pass k p ask forms xs gs args).grows e n)
@@ -137,9 +139,9 @@ module _ (k : Scene) (base : List Ty) (texts : Location → ℕ → ℕ) (top : 
     args_go e n free full s st h rest stack =
         let first = all_coded xs (inside k e) n in
         let below : List Value = stack ++ front in
-        let on : List Passed → Source → Answer ℤ = λ vs s. ask (Some c) vs k.around.next k.around.left s in
-        subst (λ (q : List Instr × Counts). Into (GivesResult k result (runs k rest) stack) (runs k ((first.0 ++ q.0) ++ rest) st below) (then_give (all_given p ask gs k.around s) on)) (sym (plainly e first.1))
-        (subst (λ (list : List Instr). Into (GivesResult k result (runs k rest) stack) (runs k list st below) (then_give (all_given p ask gs k.around s) on)) (sym (append_assoc first.0 code rest))
+        let on : List Passed → Source → Answer ℤ = λ vs s. ask (Some c) vs k.around.next k.around.free s in
+        subst (λ (q : List Instr × Counts). Into (GivesResult k result (runs k rest) stack) (runs k ((first.0 ++ q.0) ++ rest) st below) (all_given p ask gs k.around s ▷ on)) (sym (plainly e first.1))
+        (subst (λ (list : List Instr). Into (GivesResult k result (runs k rest) stack) (runs k list st below) (all_given p ask gs k.around s ▷ on)) (sym (append_assoc first.0 code rest))
         (into_then (GivesAll k forms (runs k (code ++ rest)) below) (GivesResult k result (runs k rest) stack) (runs k (first.0 ++ (code ++ rest)) st below) (all_given p ask gs k.around s) on
         ((all_pass k p ask forms xs gs args).gives e n free (subst (λ (q : List Instr × Counts). HasLocals k q.1) (plainly e first.1) full) s st h (code ++ rest) below)
         (λ vs s' q. subst (λ (r : Effect). Into (GivesResult k result (runs k rest) stack) r (on vs s')) (sym q.run) (call_goes vs q.values q.are s' q.st q.stands rest stack))))
@@ -167,21 +169,21 @@ call_agrees k t c code value cell h = record {
 }
   where
     turn : (a : Answer ℤ) (rest : List Instr) (stack : List Value) (r : Effect) → Into (GivesResult k (Some (tree k.setting.home.types t)) (runs k rest) stack) r a → Into (GivesNumber k t (runs k rest) stack) r a
-    turn (Gave v s) rest stack r p = record { st = p.st; stands = p.stands; is = cell.values v (p.is c cell.is).0; run = p.run }
+    turn (answer.Value v s) rest stack r p = record { st = p.st; stands = p.stands; is = cell.values v (p.is c cell.is).0; run = p.run }
     turn (Ended n out) rest stack r p = p
-    turn (Running out) rest stack r p = p
+    turn (StillRunning out) rest stack r p = p
 
 -- a statement
-pub call_executes : (k : Scene) (function : Bool) (code : Coded) (value : Gives ℤ) → Calls k None code value → Executes k function code (λ a s. with_answer (value a s) (λ v s. Went s))
+pub call_executes : (k : Scene) (function : Bool) (code : Coded) (value : Gives ℤ) → Calls k None code value → Executes k function code (λ a s. value a s ▷ λ v s. answer.Value Normal s)
 call_executes k function code value h = record {
   grows = h.grows;
   goes = λ e c free full s st stands rest stack. turn (value k.around s) e rest stack (runs k ((code (inside k e) c).0 ++ rest) st stack) (h.gives e c free full s st stands rest stack);
 }
   where
-    turn : (a : Answer ℤ) (e : ℕ) (rest : List Instr) (stack : List Value) (r : Effect) → Into (GivesResult k None (runs k rest) stack) r a → Ends k function e stack (λ st. runs k rest st stack) r (with_answer a (λ v s. Went s))
-    turn (Gave v s) e rest stack r p = record { st = p.st; stands = p.stands; run = p.run ∙ ap (runs k rest p.st) (append-nil stack) }
+    turn : (a : Answer ℤ) (e : ℕ) (rest : List Instr) (stack : List Value) (r : Effect) → Into (GivesResult k None (runs k rest) stack) r a → Ends k function e stack (λ st. runs k rest st stack) r (a ▷ λ v s. answer.Value Normal s)
+    turn (answer.Value v s) e rest stack r p = record { st = p.st; stands = p.stands; run = p.run ∙ ap (runs k rest p.st) (append-nil stack) }
     turn (Ended n out) e rest stack r p = p
-    turn (Running out) e rest stack r p = p
+    turn (StillRunning out) e rest stack r p = p
 
 -- ---- code that calls
 

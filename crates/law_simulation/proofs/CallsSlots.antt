@@ -17,8 +17,9 @@ use Rattle.layout_storage.specs.Types.{Ty, Hidden, Array, row, component}
 use Rattle.layout_storage.specs.Sizes.{Four, size, offset}
 use Rattle.layout_storage.specs.Shapes.{tree, elements_of}
 use Rattle.def_meaning.specs.Store.{Location}
-use Rattle.def_meaning.specs.Answer.{State as Source, Answer, Gave, then_give}
-use Rattle.def_meaning.specs.Around.{Named, At, Elements, Frames, named, or_empty, location_of, high_of}
+use Rattle.def_meaning.specs.Answer.{State as Source, Answer, ◌▷◌}
+use Rattle.def_meaning.specs.Answer as answer
+use Rattle.def_meaning.specs.Environment.{Named, At, Elements, Frames, named, or_empty, location_of, high_of}
 use Rattle.def_meaning.specs.Expressions.{Gives, element}
 use Rattle.law_memory.specs.Cells.{stored_in}
 use Rattle.law_memory.specs.Relation.{Keeps}
@@ -191,7 +192,7 @@ module _ (k : Scene) (set : IsSet k) (kss : List Kinds) (has : HasFrames k kss) 
   abbrev name_here : Option Named
   name_here = named k.around slot
 
-  pub kept_locates : (t : Ty) → kind_at kss slot ≡ Some (Kept t) → Locates k t (with_setting (λ s. plain (slot_code s slot []))) (λ a s. Gave (location_of (named a slot)) s)
+  pub kept_locates : (t : Ty) → kind_at kss slot ≡ Some (Kept t) → Locates k t (with_setting (λ s. plain (slot_code s slot []))) (λ a s. answer.Value (location_of (named a slot)) s)
   unfolding component
   kept_locates t there = record {
     grows = λ e c. grows_same c;
@@ -213,7 +214,7 @@ module _ (k : Scene) (set : IsSet k) (kss : List Kinds) (has : HasFrames k kss) 
       let f = here k set kss has slot (Alias t) there in
       subst (λ (o : Option Named). IsAlias k.world k.hidden f.root slot.number t (location_of o)) (sym f.named) (alias_is k.world k.hidden f.root slot.number t f.name f.is)
 
-  pub alias_locates : (t : Ty) → kind_at kss slot ≡ Some (Alias t) → Locates k t (with_setting (λ s. plain (kept_address s slot []))) (λ a s. Gave (location_of (named a slot)) s)
+  pub alias_locates : (t : Ty) → kind_at kss slot ≡ Some (Alias t) → Locates k t (with_setting (λ s. plain (kept_address s slot []))) (λ a s. answer.Value (location_of (named a slot)) s)
   unfolding component
   alias_locates t there = record {
     grows = λ e c. grows_same c;
@@ -237,7 +238,7 @@ module _ (k : Scene) (set : IsSet k) (kss : List Kinds) (has : HasFrames k kss) 
   abbrev pub open_type : Ty → Ty
   open_type t = Array (suc (high_of name_here)) t
 
-  pub open_locates : (t : Ty) → kind_at kss slot ≡ Some (Open t) → Locates k (open_type t) (with_setting (λ s. plain (open_address s slot))) (λ a s. Gave (location_of (named a slot)) s)
+  pub open_locates : (t : Ty) → kind_at kss slot ≡ Some (Open t) → Locates k (open_type t) (with_setting (λ s. plain (open_address s slot))) (λ a s. answer.Value (location_of (named a slot)) s)
   unfolding component
   open_locates t there = record {
     grows = λ e c. grows_same c;
@@ -261,7 +262,7 @@ module _ (k : Scene) (set : IsSet k) (kss : List Kinds) (has : HasFrames k kss) 
   pub high_small : (t : Ty) → kind_at kss slot ≡ Some (Open t) → high_of name_here < 2 ^ 32
   high_small t there = (array_here t there).2
 
-  pub high_agrees : (t : Ty) → kind_at kss slot ≡ Some (Open t) → Agrees k cardinal (with_setting (λ s. plain (high_code s slot))) (λ a s. Gave (pos (high_of (named a slot))) s)
+  pub high_agrees : (t : Ty) → kind_at kss slot ≡ Some (Open t) → Agrees k cardinal (with_setting (λ s. plain (high_code s slot))) (λ a s. answer.Value (pos (high_of (named a slot))) s)
   high_agrees t there = record {
     grows = λ e c. grows_same c;
     gives = λ e c free full s st h rest stack.
@@ -281,7 +282,7 @@ module _ (k : Scene) (set : IsSet k) (kss : List Kinds) (has : HasFrames k kss) 
   range_here = record { low = pos 0; high = pos (high_of name_here); base = cardinal }
 
   pub open_reaches : (t i : TypeNo) → kind_at kss slot ≡ Some (Open (tree k.setting.home.types t)) → (index : Coded) (value : Gives ℤ) → Agrees k i index value
-      → Reaches k (open_type (tree k.setting.home.types t)) (tree k.setting.home.types t) (index ⨾ with_setting (λ s. plain (open_element_code s slot t))) (λ l a s. then_give (value a s) (λ v s. element l (pos 0) (pos (high_of (named a slot))) v s))
+      → Reaches k (open_type (tree k.setting.home.types t)) (tree k.setting.home.types t) (index ⨾ with_setting (λ s. plain (open_element_code s slot t))) (λ l a s. value a s ▷ λ v s. element l (pos 0) (pos (high_of (named a slot))) v s)
   open_reaches t i there index value ha = record {
     grows = λ e c. ha.grows e c;
     gives = λ e c free full l type some s st h rest stack.
@@ -305,7 +306,7 @@ module _ (k : Scene) (set : IsSet k) (kss : List Kinds) (has : HasFrames k kss) 
         ∙ ap (λ (i : ℕ). runs k checking st' (((below ++ I64 (word v) ∷ []) ++ I64 0 ∷ []) ++ I64 i ∷ [])) as_word
         ∙ sym (i64_runs k.modules k.fixed k.turns (calls k) k.own (instr.I64Const (word (pos high)) ∷ checking) st' (word (pos 0)) (below ++ I64 (word v) ∷ [])
         ∙ i64_runs k.modules k.fixed k.turns (calls k) k.own checking st' (word (pos high)) ((below ++ I64 (word v) ∷ []) ++ I64 (word (pos 0)) ∷ [])) in
-        subst (λ (code : List Instr). Into (GivesPlace k u (runs k rest) stack) (runs k code st below) (then_give (value k.around s) next)) (sym (append_assoc first.0 list rest))
+        subst (λ (code : List Instr). Into (GivesPlace k u (runs k rest) stack) (runs k code st below) (value k.around s ▷ next)) (sym (append_assoc first.0 list rest))
         (into_then (GivesNumber k i (runs k (list ++ rest)) below) (GivesPlace k u (runs k rest) stack) (runs k (first.0 ++ (list ++ rest)) st below) (value k.around s) next
         (ha.gives e c free full s st h (list ++ rest) below)
         (λ v s' p. subst (λ (r : Effect). Into (GivesPlace k u (runs k rest) stack) r (next v s')) (sym (p.run ∙ same v s' p.st p.stands))

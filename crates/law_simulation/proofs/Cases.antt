@@ -15,7 +15,9 @@ use Rattle.law_effect.specs.Effect.{State as Target, Effect, FellThrough, Branch
 use Rattle.law_effect.proofs.Steps.{get_runs, i64_runs, block_runs, br_runs, br_if_runs}
 use Rattle.typed_tree.specs.declared.statement.Label.{Label}
 use Rattle.typed_tree.specs.declared.types.TypeNo.{TypeNo}
-use Rattle.def_meaning.specs.Answer.{State as Source, Outcome, Went, Left, Came, Stopped, Unfinished, with_answer}
+use Rattle.def_meaning.specs.Answer.{State as Source, Ended, StillRunning, ◌▷◌}
+use Rattle.def_meaning.specs.Outcome.{Outcome, Normal, Exited, Returned}
+use Rattle.def_meaning.specs.Answer as answer
 use Rattle.def_meaning.specs.Operators.{is_between}
 use Rattle.def_meaning.specs.Expressions.{Gives}
 use Rattle.def_meaning.specs.Statements as meaning
@@ -90,17 +92,17 @@ module _ (k : Scene) (has : HasHelpers k) (small : AreSmall k.setting.home.types
 
     -- an arm ends by a branch out of the block around all
     arm_ends : (others : List Instr) (r : Effect) (o : Outcome) → Ends k function (suc (suc label)) stack (λ st. runs k (instr.Br 1 ∷ []) st stack) r o → Chosen (arm_left others r) o
-    arm_ends others r (Went s) p = record {
+    arm_ends others r (answer.Value Normal s) p = record {
       st = p.st;
       stands = p.stands;
       run =
           ap (λ (r : Effect). out_block (arm_left others r)) (p.run ∙ br_runs k.modules k.fixed k.turns (calls k) k.own [] p.st 1 stack)
           ∙ ap (λ (e : Effect). then_run e (runs k rest)) (label_here p.st stack FellThrough);
     }
-    arm_ends others r (Left s) p = record { st = p.st; stands = p.stands; run = ap (λ (r : Effect). out_block (arm_left others r)) p.run }
-    arm_ends others r (Came w s) p = record { below = p.below; st = p.st; stands = p.stands; run = ap (λ (r : Effect). out_block (arm_left others r)) p.run }
-    arm_ends others r (Stopped i out) p = ap (λ (r : Effect). out_block (arm_left others r)) p
-    arm_ends others r (Unfinished out) p = ap (λ (r : Effect). out_block (arm_left others r)) p
+    arm_ends others r (answer.Value Exited s) p = record { st = p.st; stands = p.stands; run = ap (λ (r : Effect). out_block (arm_left others r)) p.run }
+    arm_ends others r (answer.Value (Returned w) s) p = record { below = p.below; st = p.st; stands = p.stands; run = ap (λ (r : Effect). out_block (arm_left others r)) p.run }
+    arm_ends others r (Ended i out) p = ap (λ (r : Effect). out_block (arm_left others r)) p
+    arm_ends others r (StillRunning out) p = ap (λ (r : Effect). out_block (arm_left others r)) p
 
     arms_grow : (xs : List code.Arm) (ys : List meaning.Arm) → AreArms k function xs ys → (c : Counts) → Grows c (arms_code xs (inside k inner) c).1
     arms_grow [] [] no_arms c = ho.grows inner c
@@ -150,7 +152,7 @@ module _ (k : Scene) (has : HasHelpers k) (small : AreSmall k.setting.home.types
   abbrev kept_chain : Coded
   kept_chain = with_number (λ n. plain (instr.LocalSet n ∷ []) ⨾ chain_code n xs otherwise)
 
-  pub case_executes : (t : TypeNo) (x : Coded) (value : Gives ℤ) → Agrees k t x value → Executes k function (x ⨾ kept_chain) (λ a s. with_answer (value a s) (λ v s. chosen v ys other a s))
+  pub case_executes : (t : TypeNo) (x : Coded) (value : Gives ℤ) → Agrees k t x value → Executes k function (x ⨾ kept_chain) (λ a s. value a s ▷ λ v s. chosen v ys other a s)
   case_executes t x value hx = with_executes k function t x kept_chain value (λ v a s. chosen v ys other a s) hx (record {
     grows = λ e c.
         let g = growing (number_local k.setting c.numbers) e (record c { numbers = suc c.numbers }) in

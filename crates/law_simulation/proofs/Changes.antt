@@ -26,7 +26,9 @@ use Rattle.typed_tree.specs.Types.{are_same, is_one_home, bitset}
 use Rattle.typed_tree.specs.Known.{scalar_at, scalar_from}
 use Rattle.layout_storage.specs.Types.{Scalar, Cell, row, component}
 use Rattle.def_meaning.specs.Store.{Location}
-use Rattle.def_meaning.specs.Answer.{State as Source, Answer, Gave, Ended, then_give, Outcome, Went, with_answer, range_fault}
+use Rattle.def_meaning.specs.Answer.{State as Source, Answer, Ended, ◌▷◌, range_fault}
+use Rattle.def_meaning.specs.Outcome.{Outcome, Normal}
+use Rattle.def_meaning.specs.Answer as answer
 use Rattle.def_meaning.specs.Operators.{is_between, bits, without, single}
 use Rattle.def_meaning.specs.Expressions.{Gives, within, within_range, as_type, in_base}
 use Rattle.def_meaning.specs.Statements as meaning
@@ -62,9 +64,9 @@ same_base t None = refl
 same_base t (Some r) = refl
 
 -- a value that is one of a type stays
-stays : (o : Option Range) (j : ℕ) (v : ℤ) → IsIn o v → (s : Source) → within_range o j v s ≡ Gave v s
+stays : (o : Option Range) (j : ℕ) (v : ℤ) → IsIn o v → (s : Source) → within_range o j v s ≡ answer.Value v s
 stays None j v is s = refl
-stays (Some r) j v is s = let l = is.0 in let h = is.1 in let b : is_between r.low v r.high ≡ true = inner r.low v r.high l h in ap (λ (b : Bool). if b then Gave v s else Ended j s.out) b
+stays (Some r) j v is s = let l = is.0 in let h = is.1 in let b : is_between r.low v r.high ≡ true = inner r.low v r.high l h in ap (λ (b : Bool). if b then answer.Value v s else Ended j s.out) b
   where
     inner : (low v high : ℤ) → low ≤ℤ v → v ≤ℤ high → is_between low v high ≡ true
     inner low v high l h = grind (arith, l, h)
@@ -93,8 +95,8 @@ module _ (k : Scene) (has : HasHelpers k) (small : AreSmall k.setting.home.types
       let base : TypeNo = base_of types t in
       let first : List Instr = in_type types base 2 in
       let second : List Instr = if not (are_same base t) then in_type types t 1 else [] in
-      subst (λ (base : TypeNo). Into (GivesNumber k t (runs k rest) stack) (runs k (check_changed types t ++ rest) st (stack ++ I64 (word v) ∷ [])) (then_give (in_base types base v s) (as_type types t))) (same_base t (scalar_at types t))
-      (subst (λ (c : List Instr). Into (GivesNumber k t (runs k rest) stack) (runs k c st (stack ++ I64 (word v) ∷ [])) (then_give (in_base types base v s) (as_type types t))) (sym (append_assoc first second rest))
+      subst (λ (base : TypeNo). Into (GivesNumber k t (runs k rest) stack) (runs k (check_changed types t ++ rest) st (stack ++ I64 (word v) ∷ [])) (in_base types base v s ▷ (as_type types t))) (same_base t (scalar_at types t))
+      (subst (λ (c : List Instr). Into (GivesNumber k t (runs k rest) stack) (runs k c st (stack ++ I64 (word v) ∷ [])) (in_base types base v s ▷ (as_type types t))) (sym (append_assoc first second rest))
       (into_then (GivesNumber k base (runs k (second ++ rest)) stack) (GivesNumber k t (runs k rest) stack) (runs k (first ++ (second ++ rest)) st (stack ++ I64 (word v) ∷ [])) (in_base types base v s) (as_type types t)
       (range_gives k has small base (scalar_at types base) refl 2 (omega arith) (omega arith) v hv (λ e. absurd (based e)) s st h (second ++ rest) stack)
       (λ v s p. subst (λ (r : Effect). Into (GivesNumber k t (runs k rest) stack) r (as_type types t v s)) (sym p.run) (by (are_same base t) refl v p.is s p.st p.stands))))
@@ -138,13 +140,13 @@ module _ (k : Scene) (has : HasHelpers k) (small : AreSmall k.setting.home.types
 
   -- a value is stored at the address
   stored_ends : (t : TypeNo) (c : Scalar) → IsCell types t c → (l : Location) → component (row k.world) l ≡ Some (Cell c) → (v : ℤ) → IsValue types t v → (e : ℕ) (s : Source) (st : Target) → Stands k s st → (rest : List Instr) (stack : List Value)
-      → Ends k function e stack (λ st. runs k rest st stack) (runs k (stored types t ++ rest) st ((stack ++ I32 (place k l) ∷ []) ++ I64 (word v) ∷ [])) (Went (stores l v s))
+      → Ends k function e stack (λ st. runs k rest st stack) (runs k (stored types t ++ rest) st ((stack ++ I32 (place k l) ∷ []) ++ I64 (word v) ∷ [])) (answer.Value Normal (stores l v s))
   stored_ends t c cell l type v is e s st h rest stack =
       let p = stored_goes k has small room t c cell l v is type s st h rest stack in record { st = p.st; stands = p.stands; run = p.run }
 
   change_goes : (o : Change) (t : TypeNo) (c : Scalar) → IsCell types t c → (scalar_at types t ≡ None → ⊥) → (scalar_at types (base_of types t) ≡ None → ⊥) → (l : Location) → component (row k.world) l ≡ Some (Cell c)
       → (y : ℤ) → IsNarrow y → (w n : ℕ) → k.kept w ≡ Some (I32 (place k l)) → k.kept n ≡ Some (I64 (word y)) → (e : ℕ) (s : Source) (st : Target) → Stands k s st → (rest : List Instr) (stack : List Value)
-      → Ends k function e stack (λ st. runs k rest st stack) (runs k (changed o w n types t ++ rest) st stack) (with_answer (rechecked types t (meaning.changed o (s.store l) y) s) (λ v s. Went (stores l v s)))
+      → Ends k function e stack (λ st. runs k rest st stack) (runs k (changed o w n types t ++ rest) st stack) (rechecked types t (meaning.changed o (s.store l) y) s ▷ λ v s. answer.Value Normal (stores l v s))
   change_goes o t c cell some based l type y hy w n at_w at_n e s st h rest stack =
       let check : List Instr = check_changed types t in
       let store : List Instr = stored types t in
@@ -160,8 +162,8 @@ module _ (k : Scene) (has : HasHelpers k) (small : AreSmall k.setting.home.types
       ∙ get_runs k.modules k.fixed k.turns (calls k) k.own (change_operation o ∷ (check ++ (store ++ rest))) p.st n (I64 (word y)) (below ++ I64 (word (s.store l)) ∷ []) (p.stands.kept n (I64 (word y)) at_n)
       ∙ operation_of o (s.store l) y hx hy (check ++ (store ++ rest)) p.st below
       in
-      subst (λ (r : Effect). Ends k function e stack (λ st. runs k rest st stack) r (with_answer (rechecked types t v s) (λ v s. Went (stores l v s)))) (sym path)
-      (ends_with k function e stack below (λ st. runs k rest st stack) t (runs k (store ++ rest)) (runs k (check ++ (store ++ rest)) p.st (below ++ I64 (word v) ∷ [])) (rechecked types t v s) (λ v s. Went (stores l v s))
+      subst (λ (r : Effect). Ends k function e stack (λ st. runs k rest st stack) r (rechecked types t v s ▷ λ v s. answer.Value Normal (stores l v s))) (sym path)
+      (ends_with k function e stack below (λ st. runs k rest st stack) t (runs k (store ++ rest)) (runs k (check ++ (store ++ rest)) p.st (below ++ I64 (word v) ∷ [])) (rechecked types t v s) (λ v s. answer.Value Normal (stores l v s))
       (changed_gives t some based v (wide_of o (s.store l) y hx hy) s p.st p.stands (store ++ rest) below)
       (λ v is s st h. stored_ends t c cell l type v is e s st h rest stack))
 
@@ -192,7 +194,7 @@ module _ (k : Scene) (has : HasHelpers k) (small : AreSmall k.setting.home.types
 
   member_goes : (o : Membership) (c : Scalar) → IsCell types bitset c → (l : Location) → component (row k.world) l ≡ Some (Cell c)
       → (x : ℤ) → pos 0 ≤ℤ x → x ≤ℤ pos 31 → (w n : ℕ) → k.kept w ≡ Some (I32 (place k l)) → k.kept n ≡ Some (I64 (word x)) → (e : ℕ) (s : Source) (st : Target) → Stands k s st → (rest : List Instr) (stack : List Value)
-      → Ends k function e stack (λ st. runs k rest st stack) (runs k (with_member o w n types ++ rest) st stack) (Went (stores l (with_element o (s.store l) x) s))
+      → Ends k function e stack (λ st. runs k rest st stack) (runs k (with_member o w n types ++ rest) st stack) (answer.Value Normal (stores l (with_element o (s.store l) x) s))
   member_goes o c cell l type x low high w n at_w at_n e s st h rest stack =
       let member_list : List Instr = member_operation o in
       let store : List Instr = stored types bitset in
@@ -211,7 +213,7 @@ module _ (k : Scene) (has : HasHelpers k) (small : AreSmall k.setting.home.types
       ∙ operation_runs k has small Shl 1 (word x) (single x) joined p.st set (ap Some (element_word x low high))
       ∙ member_runs o (s.store l) x p.is low high (store ++ rest) p.st below
       in
-      subst (λ (r : Effect). Ends k function e stack (λ st. runs k rest st stack) r (Went (stores l (with_element o (s.store l) x) s))) (sym path)
+      subst (λ (r : Effect). Ends k function e stack (λ st. runs k rest st stack) r (answer.Value Normal (stores l (with_element o (s.store l) x) s))) (sym path)
       (stored_ends bitset c cell l type (with_element o (s.store l) x) (element_in o (s.store l) x p.is low high) e s p.st p.stands rest stack)
 
 -- ---- both statements
@@ -227,17 +229,17 @@ module _ (k : Scene) (has : HasHelpers k) (small : AreSmall k.setting.home.types
   pub change_executes : (o : Change) (t u : TypeNo) (c : Scalar) (d x : Coded) (found : Gives Location) (value : Gives ℤ) → IsCell k.setting.home.types t c
       → (scalar_at k.setting.home.types t ≡ None → ⊥) → (scalar_at k.setting.home.types (base_of k.setting.home.types t) ≡ None → ⊥)
       → Locates k (Cell c) d found → Agrees k u x value → AgreesBeside k u x value
-      → Executes k function (change_code o d t x) (λ a s. with_answer (found a s) (λ l s. with_answer (value a s) (λ y s. with_answer (rechecked k.setting.home.types t (meaning.changed o (s.store l) y) s) (λ v s. Went (stores l v s)))))
+      → Executes k function (change_code o d t x) (λ a s. found a s ▷ λ l s. value a s ▷ λ y s. rechecked k.setting.home.types t (meaning.changed o (s.store l) y) s ▷ λ v s. answer.Value Normal (stores l v s))
   change_executes o t u c d x found value cell some based hd hx beside =
       address_kept k function (Cell c) d found (λ w. changing o t w x) next hd
       (λ w e c. grows_more (hx.grows e c) (number_grows k function (λ n. changed o w n k.setting.home.types t) (λ n. with_setting (λ s. plain (changed o w n s.home.types t))) (λ n e c. refl) e (x (inside k e) c).1))
       (λ w l new type some_place. goes w l new type)
     where
       then_stored : Location → ℤ → Source → Outcome
-      then_stored l y s = with_answer (rechecked k.setting.home.types t (meaning.changed o (s.store l) y) s) (λ v s. Went (stores l v s))
+      then_stored l y s = rechecked k.setting.home.types t (meaning.changed o (s.store l) y) s ▷ λ v s. answer.Value Normal (stores l v s)
 
       next : Location → Does
-      next l a s = with_answer (value a s) (then_stored l)
+      next l a s = value a s ▷ (then_stored l)
 
       goes : (w : ℕ) (l : Location) → k.kept w ≡ None → component (row k.world) l ≡ Some (Cell c) → Executes (keeping k w (I32 (place k l))) function (changing o t w x) (next l)
       goes w l new type =
@@ -259,10 +261,10 @@ module _ (k : Scene) (has : HasHelpers k) (small : AreSmall k.setting.home.types
 
   module _ (o : Membership) (u : TypeNo) (c : Scalar) (cell : IsCell k.setting.home.types bitset c) (x : Coded) (value : Gives ℤ) (beside : AgreesBeside k u x value) where
     abbrev put_in : Location → ℤ → Source → Outcome
-    put_in l y s = Went (stores l (with_element o (s.store l) y) s)
+    put_in l y s = answer.Value Normal (stores l (with_element o (s.store l) y) s)
 
     abbrev puts : Location → Does
-    puts l a s = with_answer (value a s) (λ y s. with_answer (within (pos 0) (pos 31) range_fault y s) (put_in l))
+    puts l a s = value a s ▷ λ y s. within (pos 0) (pos 31) range_fault y s ▷ (put_in l)
 
     module _ (w : ℕ) (l : Location) (new : k.kept w ≡ None) (type : component (row k.world) l ≡ Some (Cell c)) where
       abbrev here : Scene
@@ -279,8 +281,8 @@ module _ (k : Scene) (has : HasHelpers k) (small : AreSmall k.setting.home.types
 
       put_decided : (e : ℕ) (counts : Counts) → IsFree here counts → HasLocals here (kept_code (inside here e) counts).1 → (y : ℤ) → (s : Source) (st : Target) → Stands here s st → (rest : List Instr) (stack : List Value)
           → IsNarrow y → (b : Bool) → is_between (pos 0) y (pos 31) ≡ b
-          → Into (GivesNumber here u (runs here ((kept_code (inside here e) counts).0 ++ rest)) stack) (runs here (checked (pos 0) (pos 31) 1 ++ ((kept_code (inside here e) counts).0 ++ rest)) st (stack ++ I64 (word y) ∷ [])) (if b then Gave y s else Ended range_fault s.out)
-          → Ends here function e stack (λ st. runs here rest st stack) (runs here (checked (pos 0) (pos 31) 1 ++ ((kept_code (inside here e) counts).0 ++ rest)) st (stack ++ I64 (word y) ∷ [])) (with_answer (if b then Gave y s else Ended range_fault s.out) (put_in l))
+          → Into (GivesNumber here u (runs here ((kept_code (inside here e) counts).0 ++ rest)) stack) (runs here (checked (pos 0) (pos 31) 1 ++ ((kept_code (inside here e) counts).0 ++ rest)) st (stack ++ I64 (word y) ∷ [])) (if b then answer.Value y s else Ended range_fault s.out)
+          → Ends here function e stack (λ st. runs here rest st stack) (runs here (checked (pos 0) (pos 31) 1 ++ ((kept_code (inside here e) counts).0 ++ rest)) st (stack ++ I64 (word y) ∷ [])) ((if b then answer.Value y s else Ended range_fault s.out) ▷ (put_in l))
       put_decided e counts free full y s st h rest stack ny false same p = p
       put_decided e counts free full y s st h rest stack ny true same p =
           let q = between_in (pos 0) (pos 31) y same in
@@ -293,7 +295,7 @@ module _ (k : Scene) (has : HasHelpers k) (small : AreSmall k.setting.home.types
 
       put_goes : Executes here function (x ⨾ including o w) (puts l)
       put_goes =
-          with_executes here function u x (including o w) value (λ y a s. with_answer (within (pos 0) (pos 31) range_fault y s) (put_in l)) (beside w (I32 (place k l)) new) (record {
+          with_executes here function u x (including o w) value (λ y a s. within (pos 0) (pos 31) range_fault y s ▷ (put_in l)) (beside w (I32 (place k l)) new) (record {
             grows = λ e c. number_grows here function list code (λ n e c. refl) e c;
             goes = λ e counts free full y is s st h rest stack.
                 let after : List Instr = (kept_code (inside here e) counts).0 ++ rest in
@@ -303,7 +305,7 @@ module _ (k : Scene) (has : HasHelpers k) (small : AreSmall k.setting.home.types
                 put_decided e counts free full y s st h rest stack ny (is_between (pos 0) y (pos 31)) refl checks;
           })
 
-    pub member_executes : (d : Coded) (found : Gives Location) → Locates k (Cell c) d found → Agrees k u x value → Executes k function (member_code o d x) (λ a s. with_answer (found a s) (λ l s. puts l a s))
+    pub member_executes : (d : Coded) (found : Gives Location) → Locates k (Cell c) d found → Agrees k u x value → Executes k function (member_code o d x) (λ a s. found a s ▷ λ l s. puts l a s)
     member_executes d found hd hx =
         address_kept k function (Cell c) d found (λ w. x ⨾ including o w) puts hd
         (λ w e c. grows_more (hx.grows e c) (number_grows k function (λ n. with_member o w n k.setting.home.types) (λ n. with_setting (λ s. plain (with_member o w n s.home.types))) (λ n e c. refl) e (x (inside k e) c).1))

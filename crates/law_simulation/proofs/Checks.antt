@@ -12,7 +12,7 @@ use Rattle.law_effect.specs.Effect.{State as Target, Effect, then_run}
 use Rattle.law_effect.specs.Effect as does
 use Rattle.law_effect.proofs.Steps.{split_end_at, i64_runs}
 use Rattle.typed_tree.specs.declared.types.TypeNo.{TypeNo}
-use Rattle.def_meaning.specs.Answer.{State as Source, Answer, Gave}
+use Rattle.def_meaning.specs.Answer.{State as Source, Answer}
 use Rattle.def_meaning.specs.Answer as answer
 use Rattle.def_meaning.specs.Operators.{is_between}
 use Rattle.def_meaning.specs.Expressions.{within}
@@ -74,13 +74,13 @@ module _ (k : Scene) (has : HasHelpers k) where
       → Into (GivesNumber k u (runs k rest) stack) (runs k (checked low high j ++ rest) st (stack ++ I64 (word v) ∷ [])) (within low high j v s)
   checked_gives u low high v j hl hh hv least most is s st h rest stack =
       subst (λ (r : Effect). Into (GivesNumber k u (runs k rest) stack) r (within low high j v s)) (sym (check_runs low high v j hl hh hv least most rest st stack))
-      (subst (λ (b : Bool). Into (GivesNumber k u (runs k rest) stack) after (if b then Gave v s else answer.Ended j s.out)) (sym (between_is low v high)) (by (int_lt v low) (int_lt high v) refl refl))
+      (subst (λ (b : Bool). Into (GivesNumber k u (runs k rest) stack) after (if b then answer.Value v s else answer.Ended j s.out)) (sym (between_is low v high)) (by (int_lt v low) (int_lt high v) refl refl))
     where
       after : Effect
       after = tested (int_lt v low) (int_lt high v) j st.out (runs k rest st (stack ++ I64 (word v) ∷ []))
 
       by : (a b : Bool) → int_lt v low ≡ a → int_lt high v ≡ b
-          → Into (GivesNumber k u (runs k rest) stack) (tested a b j st.out (runs k rest st (stack ++ I64 (word v) ∷ []))) (if not a && not b then Gave v s else answer.Ended j s.out)
+          → Into (GivesNumber k u (runs k rest) stack) (tested a b j st.out (runs k rest st (stack ++ I64 (word v) ∷ []))) (if not a && not b then answer.Value v s else answer.Ended j s.out)
       by true b ea eb = ap (λ (out : List ℕ). does.Ended j out) h.out
       by false true ea eb = ap (λ (out : List ℕ). does.Ended j out) h.out
       by false false ea eb = record {

@@ -25,8 +25,9 @@ use Rattle.layout_storage.specs.Sizes.{size, offset}
 use Rattle.layout_storage.specs.Shapes.{tree, elements_of}
 use Rattle.law_memory.proofs.Places.{component_append, offset_append}
 use Rattle.def_meaning.specs.Store.{Location}
-use Rattle.def_meaning.specs.Answer.{State as Source, Answer, Gave, Ended, then_give, index_fault}
-use Rattle.def_meaning.specs.Around.{or_root, named, location_of}
+use Rattle.def_meaning.specs.Answer.{State as Source, Answer, Ended, ◌▷◌, index_fault}
+use Rattle.def_meaning.specs.Answer as answer
+use Rattle.def_meaning.specs.Environment.{or_root, named, location_of}
 use Rattle.def_meaning.specs.Operators.{is_between}
 use Rattle.def_meaning.specs.Expressions as meaning
 use Rattle.def_meaning.specs.Expressions.{Gives, one_by_one, element, element_in}
@@ -100,13 +101,13 @@ module _ (k : Scene) (has : HasHelpers k) (small : AreSmall k.setting.home.types
 
   -- ---- fields
 
-  pub field_reaches : (t u : Ty) (j : ℕ) (code : Coded) → component t (j ∷ []) ≡ Some u → IsPlain k code (raised (offset t (j ∷ []))) → Reaches k t u code (λ l a s. Gave (l ++ j ∷ []) s)
+  pub field_reaches : (t u : Ty) (j : ℕ) (code : Coded) → component t (j ∷ []) ≡ Some u → IsPlain k code (raised (offset t (j ∷ []))) → Reaches k t u code (λ l a s. answer.Value (l ++ j ∷ []) s)
   field_reaches t u j code there plainly = record {
     grows = λ e c. subst (λ (p : List Instr × Counts). Grows c p.1) (sym (plainly e c)) (grows_same c);
     gives = λ e c free full l type some s st h rest stack.
         let at : place k l + offset t (j ∷ []) ≡ place k (l ++ j ∷ []) = sym (offset_append (row k.world) t l (j ∷ []) type) in
         let is : component (row k.world) (l ++ j ∷ []) ≡ Some u = component_append (row k.world) t l (j ∷ []) type ∙ there in
-        subst (λ (p : List Instr × Counts). Into (GivesPlace k u (runs k rest) stack) (runs k (p.0 ++ rest) st (stack ++ I32 (place k l) ∷ [])) (Gave (l ++ j ∷ []) s)) (sym (plainly e c))
+        subst (λ (p : List Instr × Counts). Into (GivesPlace k u (runs k rest) stack) (runs k (p.0 ++ rest) st (stack ++ I32 (place k l) ∷ [])) (answer.Value (l ++ j ∷ []) s)) (sym (plainly e c))
         (record {
           st = st;
           stands = h;
@@ -172,8 +173,8 @@ module _ (k : Scene) (has : HasHelpers k) (small : AreSmall k.setting.home.types
           checked_gives k has i r.low r.high v 3 (bound r.low (omega (arith, ints)) order) (bound r.high order (omega (arith, ints))) (wide v (narrow k has small i v is)) (omega arith) (omega arith) (λ e. is) s st h after below
 
       decided : (b : Bool) → is_between r.low v r.high ≡ b
-          → Into (GivesNumber k i (runs k after) below) (runs k (checked r.low r.high 3 ++ after) st (below ++ I64 (word v) ∷ [])) (if b then Gave v s else Ended index_fault s.out)
-          → Into (GivesPlace k u (runs k rest) stack) (runs k (checked r.low r.high 3 ++ after) st (below ++ I64 (word v) ∷ [])) (if b then Gave (l ++ unsigned_abs (v -ℤ r.low) ∷ []) s else Ended index_fault s.out)
+          → Into (GivesNumber k i (runs k after) below) (runs k (checked r.low r.high 3 ++ after) st (below ++ I64 (word v) ∷ [])) (if b then answer.Value v s else Ended index_fault s.out)
+          → Into (GivesPlace k u (runs k rest) stack) (runs k (checked r.low r.high 3 ++ after) st (below ++ I64 (word v) ∷ [])) (if b then answer.Value (l ++ unsigned_abs (v -ℤ r.low) ∷ []) s else Ended index_fault s.out)
       decided false e p = p
       decided true e p =
           let q = between_in r.low r.high v e in
@@ -197,11 +198,11 @@ module _ (k : Scene) (has : HasHelpers k) (small : AreSmall k.setting.home.types
 
       by : (b : Bool) → is_between r.low v r.high ≡ b → Into (GivesPlace k u (runs k rest) stack) (runs k (located r (size u) ++ rest) st (below ++ I64 (word v) ∷ [])) (element l r.low r.high v s)
       by b e =
-          subst (λ (b : Bool). Into (GivesPlace k u (runs k rest) stack) (runs k (checked r.low r.high 3 ++ after) st (below ++ I64 (word v) ∷ [])) (if b then Gave (l ++ unsigned_abs (v -ℤ r.low) ∷ []) s else Ended index_fault s.out)) (sym e)
-          (decided b e (subst (λ (b : Bool). Into (GivesNumber k i (runs k after) below) (runs k (checked r.low r.high 3 ++ after) st (below ++ I64 (word v) ∷ [])) (if b then Gave v s else Ended index_fault s.out)) e gives))
+          subst (λ (b : Bool). Into (GivesPlace k u (runs k rest) stack) (runs k (checked r.low r.high 3 ++ after) st (below ++ I64 (word v) ∷ [])) (if b then answer.Value (l ++ unsigned_abs (v -ℤ r.low) ∷ []) s else Ended index_fault s.out)) (sym e)
+          (decided b e (subst (λ (b : Bool). Into (GivesNumber k i (runs k after) below) (runs k (checked r.low r.high 3 ++ after) st (below ++ I64 (word v) ∷ [])) (if b then answer.Value v s else Ended index_fault s.out)) e gives))
 
   pub element_reaches : (t i : TypeNo) (r : Range) (u : Ty) (index after : Coded) (value : Gives ℤ) → code.index_of types t ≡ Some r → tree types t ≡ Array (elements_of (Some r)) u → Agrees k i index value
-      → IsPlain k after (element_code types t) → Reaches k (tree types t) u (index ⨾ after) (λ l a s. then_give (value a s) (λ v s. element_in l (meaning.index_range types t) v s))
+      → IsPlain k after (element_code types t) → Reaches k (tree types t) u (index ⨾ after) (λ l a s. value a s ▷ λ v s. element_in l (meaning.index_range types t) v s)
   element_reaches t i r u index after value range array ha plainly = record {
     grows = λ e c. subst (λ (p : List Instr × Counts). Grows c p.1) (sym (plainly e (index (inside k e) c).1)) (ha.grows e c);
     gives = λ e c free full l type some s st h rest stack.
@@ -212,8 +213,8 @@ module _ (k : Scene) (has : HasHelpers k) (small : AreSmall k.setting.home.types
         let is : component (row k.world) l ≡ Some (Array (elements_of (Some r)) u) = type ∙ ap Some array in
         let listed : list ≡ located r (size u) = ap (λ (o : Option Range). in_range o 3 ++ (from_lower o ++ scaled (size (element_tree (tree types t))))) range ∙ ap (λ (t : Ty). checked r.low r.high 3 ++ (from_lower (Some r) ++ scaled (size (element_tree t)))) array in
         let ranged : Some r ≡ meaning.index_range types t = sym range ∙ same_index types t in
-        subst (λ (p : List Instr × Counts). Into (GivesPlace k u (runs k rest) stack) (runs k ((first.0 ++ p.0) ++ rest) st below) (then_give (value k.around s) next)) (sym (plainly e first.1))
-        (subst (λ (code : List Instr). Into (GivesPlace k u (runs k rest) stack) (runs k code st below) (then_give (value k.around s) next)) (sym (append_assoc first.0 list rest))
+        subst (λ (p : List Instr × Counts). Into (GivesPlace k u (runs k rest) stack) (runs k ((first.0 ++ p.0) ++ rest) st below) (value k.around s ▷ next)) (sym (plainly e first.1))
+        (subst (λ (code : List Instr). Into (GivesPlace k u (runs k rest) stack) (runs k code st below) (value k.around s ▷ next)) (sym (append_assoc first.0 list rest))
         (into_then (GivesNumber k i (runs k (list ++ rest)) below) (GivesPlace k u (runs k rest) stack) (runs k (first.0 ++ (list ++ rest)) st below) (value k.around s) next
         (ha.gives e c free (subst (λ (p : List Instr × Counts). HasLocals k p.1) (plainly e first.1) full) s st h (list ++ rest) below)
         (λ v s' p. subst (λ (r : Effect). Into (GivesPlace k u (runs k rest) stack) r (next v s')) (sym p.run)
@@ -225,12 +226,12 @@ module _ (k : Scene) (has : HasHelpers k) (small : AreSmall k.setting.home.types
 -- ---- roots and what is behind them
 
 pub own_locates : (k : Scene) → HasHelpers k → AreSmall k.setting.home.types → k.limit < 2 ^ 32 → (i : ℕ) (l : Location) (t : Ty) → IsOwn k i l t
-    → Locates k t (with_setting (λ s. plain (slot_code s (record { up = 0; number = i }) []))) (λ a s. Gave (location_of (named a (record { up = 0; number = i }))) s)
+    → Locates k t (with_setting (λ s. plain (slot_code s (record { up = 0; number = i }) []))) (λ a s. answer.Value (location_of (named a (record { up = 0; number = i }))) s)
 own_locates k has small room i l t is = record {
   grows = λ e c. grows_same c;
   gives = λ e c free full s st h rest stack.
       let path : ℕ = slot_path k.setting (record { up = 0; number = i }) [] in
-      subst (λ (to : Location). Into (GivesPlace k t (runs k rest) stack) (runs k ((instr.LocalGet 0 ∷ raised path) ++ rest) st stack) (Gave to s)) (sym is.is)
+      subst (λ (to : Location). Into (GivesPlace k t (runs k rest) stack) (runs k ((instr.LocalGet 0 ∷ raised path) ++ rest) st stack) (answer.Value to s)) (sym is.is)
       (record {
         st = st;
         stands = h;
@@ -242,12 +243,12 @@ own_locates k has small room i l t is = record {
       });
 }
 
-pub with_locates : (k : Scene) (j : ℕ) (l : Location) (t : Ty) → IsWith k j l t → Locates k t (with_setting (λ s. plain (with_code (slice_get s.withs j)))) (λ a s. Gave (or_root (slice_get a.withs j)) s)
+pub with_locates : (k : Scene) (j : ℕ) (l : Location) (t : Ty) → IsWith k j l t → Locates k t (with_setting (λ s. plain (with_code (slice_get s.withs j)))) (λ a s. answer.Value (or_root (slice_get a.withs j)) s)
 with_locates k j l t is = record {
   grows = λ e c. grows_same c;
   gives = λ e c free full s st h rest stack.
-      subst (λ (o : Option ℕ). Into (GivesPlace k t (runs k rest) stack) (runs k (with_code o ++ rest) st stack) (Gave (or_root (slice_get k.around.withs j)) s)) (sym is.there)
-      (subst (λ (o : Option Location). Into (GivesPlace k t (runs k rest) stack) (runs k (instr.LocalGet is.local ∷ rest) st stack) (Gave (or_root o) s)) (sym is.is)
+      subst (λ (o : Option ℕ). Into (GivesPlace k t (runs k rest) stack) (runs k (with_code o ++ rest) st stack) (answer.Value (or_root (slice_get k.around.withs j)) s)) (sym is.there)
+      (subst (λ (o : Option Location). Into (GivesPlace k t (runs k rest) stack) (runs k (instr.LocalGet is.local ∷ rest) st stack) (answer.Value (or_root o) s)) (sym is.is)
       (record {
         st = st;
         stands = h;
@@ -257,14 +258,14 @@ with_locates k j l t is = record {
       }));
 }
 
-reach_then : (k : Scene) (t v u : Ty) (x y : Coded) (reach next : Location → Gives Location) → Reaches k t v x reach → Reaches k v u y next → Reaches k t u (x ⨾ y) (λ l a s. then_give (reach l a s) (λ l s. next l a s))
+reach_then : (k : Scene) (t v u : Ty) (x y : Coded) (reach next : Location → Gives Location) → Reaches k t v x reach → Reaches k v u y next → Reaches k t u (x ⨾ y) (λ l a s. reach l a s ▷ λ l s. next l a s)
 reach_then k t v u x y reach next hx hy = record {
   grows = λ e c. grows_more (hx.grows e c) (hy.grows e (x (inside k e) c).1);
   gives = λ e c free full l type some s st h rest stack.
       let first = x (inside k e) c in
       let second = y (inside k e) first.1 in
       let on : Location → Source → Answer Location = λ l s. next l k.around s in
-      subst (λ (code : List Instr). Into (GivesPlace k u (runs k rest) stack) (runs k code st (stack ++ I32 (place k l) ∷ [])) (then_give (reach l k.around s) on)) (sym (append_assoc first.0 second.0 rest))
+      subst (λ (code : List Instr). Into (GivesPlace k u (runs k rest) stack) (runs k code st (stack ++ I32 (place k l) ∷ [])) (reach l k.around s ▷ on)) (sym (append_assoc first.0 second.0 rest))
       (into_then (GivesPlace k v (runs k (second.0 ++ rest)) stack) (GivesPlace k u (runs k rest) stack) (runs k (first.0 ++ (second.0 ++ rest)) st (stack ++ I32 (place k l) ∷ [])) (reach l k.around s) on
       (hx.gives e c free (has_before k (hy.grows e first.1) full) l type some s st h (second.0 ++ rest) stack)
       (λ l s' p. subst (λ (r : Effect). Into (GivesPlace k u (runs k rest) stack) r (on l s')) (sym p.run) (hy.gives e first.1 (free_after k (hx.grows e c) free) full l p.type p.some s' p.st p.stands rest stack)));
@@ -277,14 +278,14 @@ all_reach k t _ [] [] (no_components _) = record {
 }
 all_reach k t u _ _ (more_components _ v _ c cs r rs h hs) = reach_then k t v u c (all_coded cs) r (one_by_one rs) h (all_reach k v u cs rs hs)
 
-pub root_then : (k : Scene) (t u : Ty) (x y : Coded) (found : Gives Location) (next : Location → Gives Location) → Locates k t x found → Reaches k t u y next → Locates k u (x ⨾ y) (λ a s. then_give (found a s) (λ l s. next l a s))
+pub root_then : (k : Scene) (t u : Ty) (x y : Coded) (found : Gives Location) (next : Location → Gives Location) → Locates k t x found → Reaches k t u y next → Locates k u (x ⨾ y) (λ a s. found a s ▷ λ l s. next l a s)
 root_then k t u x y found next hx hy = record {
   grows = λ e c. grows_more (hx.grows e c) (hy.grows e (x (inside k e) c).1);
   gives = λ e c free full s st h rest stack.
       let first = x (inside k e) c in
       let second = y (inside k e) first.1 in
       let on : Location → Source → Answer Location = λ l s. next l k.around s in
-      subst (λ (code : List Instr). Into (GivesPlace k u (runs k rest) stack) (runs k code st stack) (then_give (found k.around s) on)) (sym (append_assoc first.0 second.0 rest))
+      subst (λ (code : List Instr). Into (GivesPlace k u (runs k rest) stack) (runs k code st stack) (found k.around s ▷ on)) (sym (append_assoc first.0 second.0 rest))
       (into_then (GivesPlace k t (runs k (second.0 ++ rest)) stack) (GivesPlace k u (runs k rest) stack) (runs k (first.0 ++ (second.0 ++ rest)) st stack) (found k.around s) on
       (hx.gives e c free (has_before k (hy.grows e first.1) full) s st h (second.0 ++ rest) stack)
       (λ l s' p. subst (λ (r : Effect). Into (GivesPlace k u (runs k rest) stack) r (on l s')) (sym p.run) (hy.gives e first.1 (free_after k (hx.grows e c) free) full l p.type p.some s' p.st p.stands rest stack)));

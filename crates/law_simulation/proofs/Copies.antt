@@ -15,9 +15,11 @@ use Rattle.law_effect.proofs.Steps.{split_end_at, i32_runs, get_runs, tee_runs, 
 use Rattle.layout_storage.specs.Types.{Ty, Scalar, Natural, Cell, Hidden, Array, row, component, IsPlain, IsScalar}
 use Rattle.layout_storage.specs.Sizes.{size, offset}
 use Rattle.layout_storage.specs.Shapes.{tree}
-use Rattle.def_meaning.specs.Around.{Modules}
+use Rattle.def_meaning.specs.Environment.{Modules}
 use Rattle.def_meaning.specs.Store.{Location, Store, behind, copied, placed}
-use Rattle.def_meaning.specs.Answer.{State as Source, Outcome, Went, with_answer}
+use Rattle.def_meaning.specs.Answer.{State as Source, ◌▷◌}
+use Rattle.def_meaning.specs.Outcome.{Outcome, Normal}
+use Rattle.def_meaning.specs.Answer as answer
 use Rattle.def_meaning.specs.Expressions.{Gives}
 use Rattle.def_meaning.specs.Statements.{or_zero, character}
 use Rattle.law_memory.specs.Cells.{number}
@@ -161,7 +163,7 @@ module _ (k : Scene) (set : IsSet k) where
 
   copy_executes : (function : Bool) (t : Ty) (d e after : Coded) (to from : Gives Location) → IsPlain t → Locates k t d to → Locates k t e from
       → ((x : ℕ) (c : Counts) → after (inside k x) c ≡ (instr.I32Const (size t) ∷ instr.Call 2 ∷ [], c))
-      → Executes k function (d ⨾ e ⨾ after) (λ a s. with_answer (to a s) (λ l s. with_answer (from a s) (λ l' s. Went (record s { store = copied l l' s.store }))))
+      → Executes k function (d ⨾ e ⨾ after) (λ a s. to a s ▷ λ l s. from a s ▷ λ l' s. answer.Value Normal (record s { store = copied l l' s.store }))
   copy_executes function t d e after to from whole hd he plainly = record {
     grows = λ x c. subst (λ (p : List Instr × Counts). Grows c p.1) (sym (plainly x (e (inside k x) (d (inside k x) c).1).1)) (grows_more (hd.grows x c) (he.grows x (d (inside k x) c).1));
     goes = λ x c free full s st h rest stack.
@@ -169,14 +171,14 @@ module _ (k : Scene) (set : IsSet k) where
         let second = e (inside k x) first.1 in
         let list : List Instr = instr.I32Const (size t) ∷ instr.Call 2 ∷ [] in
         let on : Target → Effect = λ st. runs k rest st stack in
-        let next : Location → Source → Outcome = λ l s. with_answer (from k.around s) (λ l' s. Went (record s { store = copied l l' s.store })) in
+        let next : Location → Source → Outcome = λ l s. (from k.around s ▷ (λ l' s. answer.Value Normal (record s { store = copied l l' s.store }))) in
         let full2 : HasLocals k second.1 = subst (λ (p : List Instr × Counts). HasLocals k p.1) (plainly x second.1) full in
-        subst (λ (p : List Instr × Counts). Ends k function x stack on (runs k ((first.0 ++ (second.0 ++ p.0)) ++ rest) st stack) (with_answer (to k.around s) next)) (sym (plainly x second.1))
-        (subst (λ (code : List Instr). Ends k function x stack on (runs k code st stack) (with_answer (to k.around s) next)) (sym (three first.0 second.0 list rest))
+        subst (λ (p : List Instr × Counts). Ends k function x stack on (runs k ((first.0 ++ (second.0 ++ p.0)) ++ rest) st stack) (to k.around s ▷ next)) (sym (plainly x second.1))
+        (subst (λ (code : List Instr). Ends k function x stack on (runs k code st stack) (to k.around s ▷ next)) (sym (three first.0 second.0 list rest))
         (ends_from k function x stack stack on t (runs k (second.0 ++ (list ++ rest))) (runs k (first.0 ++ (second.0 ++ (list ++ rest))) st stack) (to k.around s) next
         (hd.gives x c free (has_before k (he.grows x first.1) full2) s st h (second.0 ++ (list ++ rest)) stack)
         (λ l type some s' st' h'.
-        ends_from k function x stack (stack ++ I32 (place k l) ∷ []) on t (runs k (list ++ rest)) (runs k (second.0 ++ (list ++ rest)) st' (stack ++ I32 (place k l) ∷ [])) (from k.around s') (λ l' s. Went (record s { store = copied l l' s.store }))
+        ends_from k function x stack (stack ++ I32 (place k l) ∷ []) on t (runs k (list ++ rest)) (runs k (second.0 ++ (list ++ rest)) st' (stack ++ I32 (place k l) ∷ [])) (from k.around s') (λ l' s. answer.Value Normal (record s { store = copied l l' s.store }))
         (he.gives x first.1 (free_after k (hd.grows x c) free) full2 s' st' h' (list ++ rest) (stack ++ I32 (place k l) ∷ []))
         (λ l' type' some' s'' st'' h''. copy_goes t whole l l' type type' s'' st'' h'' rest stack))));
   }
@@ -307,7 +309,7 @@ module _ (k : Scene) (set : IsSet k) (at : ℕ) (text : List ℕ) (is : IsText k
 
   string_executes : (function : Bool) (n : ℕ) → bytes ≤ n → (d : Coded) (to : Gives Location) (f : ℕ → Coded) → Locates k (characters_of n) d to
       → ((w x : ℕ) (c : Counts) → f w (inside k x) c ≡ (instr.LocalTee w ∷ text_copied at bytes (size (characters_of n) - bytes) w, c))
-      → Executes k function (d ⨾ with_address f) (λ a s. with_answer (to a s) (λ l s. Went (record s { store = placed l (character text) s.store })))
+      → Executes k function (d ⨾ with_address f) (λ a s. to a s ▷ λ l s. answer.Value Normal (record s { store = placed l (character text) s.store }))
   string_executes function n fewer d to f hd plainly = record {
     grows = λ x c.
         let middle = (d (inside k x) c).1 in
@@ -327,9 +329,9 @@ module _ (k : Scene) (set : IsSet k) (at : ℕ) (text : List ℕ) (is : IsText k
         let new : k.kept w ≡ None = free_here.addresses w (omega arith) (omega (arith, fewer')) in
         let full_here : HasLocals k middle = record { numbers = full'.numbers; addresses = omega (arith, fewer') } in
         let on : Target → Effect = λ st. runs k rest st stack in
-        let next : Location → Source → Outcome = λ l s. Went (record s { store = placed l (character text) s.store }) in
-        subst (λ (p : List Instr × Counts). Ends k function x stack on (runs k ((first.0 ++ p.0) ++ rest) st stack) (with_answer (to k.around s) next)) (sym (plainly w x after))
-        (subst (λ (code : List Instr). Ends k function x stack on (runs k code st stack) (with_answer (to k.around s) next)) (sym (append_assoc first.0 list rest))
+        let next : Location → Source → Outcome = λ l s. answer.Value Normal (record s { store = placed l (character text) s.store }) in
+        subst (λ (p : List Instr × Counts). Ends k function x stack on (runs k ((first.0 ++ p.0) ++ rest) st stack) (to k.around s ▷ next)) (sym (plainly w x after))
+        (subst (λ (code : List Instr). Ends k function x stack on (runs k code st stack) (to k.around s ▷ next)) (sym (append_assoc first.0 list rest))
         (ends_from k function x stack stack on (characters_of n) (runs k (list ++ rest)) (runs k (first.0 ++ (list ++ rest)) st stack) (to k.around s) next
         (hd.gives x c free full_here s st h (list ++ rest) stack)
         (λ l type some s' st' h'. string_goes n fewer l type w less new s' st' h' rest stack)));

@@ -44,8 +44,8 @@ use Rattle.layout_storage.specs.Shapes.{tree, elements_of}
 use Rattle.layout_storage.specs.Frames.{formals_of}
 use Rattle.layout_storage.specs.Texts.{passed}
 use Rattle.def_meaning.specs.Store.{Location}
-use Rattle.def_meaning.specs.Answer.{State as Source, Gave, then_give}
-use Rattle.def_meaning.specs.Around.{Modules, Callee, Frames, Passed, Number, Array as Whole, entry_of, entry_callee, module_place, nested_in, named, high_of}
+use Rattle.def_meaning.specs.Answer.{State as Source, Value, ◌▷◌}
+use Rattle.def_meaning.specs.Environment.{Modules, Callee, Frames, Passed, Number, Array as Whole, entry_of, entry_callee, module_place, nested_in, named, high_of}
 use Rattle.def_meaning.specs.Expressions as meaning
 use Rattle.def_meaning.specs.Expressions.{Asks, Gives, Reaches as Reached, Continues, value, locate, called}
 use Rattle.def_scheme.specs.Coded.{Coded, top_local, plain, ◌⨾◌, all_coded, with_setting, with_number, number, operation, extended, wrapped, relation, checked, raised}
@@ -467,7 +467,7 @@ module _ (x : Context) (ask : Asks) where
   -- ---- designators
 
   module _ (ws : List Ty) where
-    root_locates : (r : Root) (t : Ty) → typed.IsRoot x ws r t → (k : Scene) → Fits x ask ws k → Locates k t (code.root_layer r) (λ a s. Gave (meaning.root_layer P ask r a) s)
+    root_locates : (r : Root) (t : Ty) → typed.IsRoot x ws r t → (k : Scene) → Fits x ask ws k → Locates k t (code.root_layer r) (λ a s. Value (meaning.root_layer P ask r a) s)
     root_locates _ _ (typed.GlobalRoot v t is) k fit = laws.globals k fit.set P ask v t (fit.globals v t is)
     root_locates _ _ (typed.LocalRoot slot t there) k fit = kept_locates k fit.set x.kinds fit.frames slot t there
     root_locates _ _ (typed.AliasRoot slot t there) k fit = alias_locates k fit.set x.kinds fit.frames slot t there
@@ -563,7 +563,7 @@ module _ (x : Context) (ask : Asks) where
 
   -- ---- values that are taken as ones of other types
 
-  constant_given : (k : Scene) (u t : TypeNo) (c : Coded) (v : Gives ℤ) (n : ℤ) → ((s : Source) → v k.around s ≡ Gave n s) → IsValue k.setting.home.types t n → Agrees k u c v → Agrees k t c v
+  constant_given : (k : Scene) (u t : TypeNo) (c : Coded) (v : Gives ℤ) (n : ℤ) → ((s : Source) → v k.around s ≡ Value n s) → IsValue k.setting.home.types t n → Agrees k u c v → Agrees k t c v
   constant_given k u t c v n is in_type h = record {
     grows = h.grows;
     gives = λ e d free full s st stands rest stack.
@@ -575,7 +575,7 @@ module _ (x : Context) (ask : Asks) where
       again s rest stack r p = record { st = p.st; stands = p.stands; is = in_type; run = p.run }
 
   pub taken_agrees : (ws : List Ty) (a b : ℕ) (t u : TypeNo) (e : TypedExpr) → (m : Expr ws a b e u) → IsTaken x.home t e u → (k : Scene) → Fits x ask ws k
-      → Agrees k t (behind m.placed (λ types. check_taken types t (expr_part N e).constant (expr_part N e).of)) (λ s st. then_give (value P ask e s st) (λ v st. meaning.as_type s.types t v st))
+      → Agrees k t (behind m.placed (λ types. check_taken types t (expr_part N e).constant (expr_part N e).of)) (λ s st. value P ask e s st ▷ λ v st. meaning.as_type s.types t v st)
   taken_agrees ws a b t u e m is k fit =
       let part : Part = expr_part N e in
       let is' : IsTaken k.setting.home t e part.of = subst (λ (w : TypeNo). IsTaken k.setting.home t e w) (sym m.of) (here ws k fit (λ h. IsTaken h t e u) is) in
@@ -588,7 +588,7 @@ module _ (x : Context) (ask : Asks) where
       is'.unranged
 
   pub given_held : (ws : List Ty) (a b : ℕ) (t : TypeNo) (h : Heading) (e : TypedExpr) → (m : Held ws a b e h) → scalar_at x.home.types t ≡ None → (k : Scene) → Fits x ask ws k
-      → AgreesHeld k h (behind m.placed (λ types. check_taken types t (expr_part N e).constant (expr_part N e).of)) (λ s st. then_give (value P ask e s st) (λ v st. meaning.as_type s.types t v st))
+      → AgreesHeld k h (behind m.placed (λ types. check_taken types t (expr_part N e).constant (expr_part N e).of)) (λ s st. value P ask e s st ▷ λ v st. meaning.as_type s.types t v st)
   given_held ws a b t h e m none k fit = held_taken k fit.set t h (as_part (expr_part N e) m.placed) (value P ask e) (here ws k fit (λ m. scalar_at m.types t ≡ None) none) (m.agrees k fit)
 
   -- ---- arguments
@@ -606,9 +606,9 @@ module _ (x : Context) (ask : Asks) where
       pins = pins_then m.pins (pins_setting (λ s. pins_plain b (check_taken s.home.types t (expr_part N e).constant (expr_part N e).of)));
       passes = λ k fit.
           passes_alike k (ByNumber c) (behind m.placed (λ types. check_taken types t (expr_part N e).constant (expr_part N e).of))
-          (λ s st. then_give (then_give (value P ask e s st) (λ v st. meaning.as_type s.types t v st)) (λ v st. Gave (Number v) st)) (meaning.argument_layer P ask (layer.Value t (value P ask e)))
-          (λ st. give_assoc (value P ask e k.around st) (λ v st. meaning.as_type k.around.types t v st) (λ v st. Gave (Number v) st))
-          (value_passes k t c (behind m.placed (λ types. check_taken types t (expr_part N e).constant (expr_part N e).of)) (λ s st. then_give (value P ask e s st) (λ v st. meaning.as_type s.types t v st))
+          (λ s st. (value P ask e s st ▷ λ v st. meaning.as_type s.types t v st) ▷ λ v st. Value (Number v) st) (meaning.argument_layer P ask (layer.Value t (value P ask e)))
+          (λ st. give_assoc (value P ask e k.around st) (λ v st. meaning.as_type k.around.types t v st) (λ v st. Value (Number v) st))
+          (value_passes k t c (behind m.placed (λ types. check_taken types t (expr_part N e).constant (expr_part N e).of)) (λ s st. value P ask e s st ▷ λ v st. meaning.as_type s.types t v st)
           (here ws k fit (λ h. IsCell h.types t c) cell) (taken_agrees ws a b t u e m is k fit));
     })
 
@@ -618,9 +618,9 @@ module _ (x : Context) (ask : Asks) where
       pins = pins_then m.pins (pins_setting (λ s. pins_plain b (check_taken s.home.types t (expr_part N e).constant (expr_part N e).of)));
       passes = λ k fit.
           passes_alike k (ByNumber (Callable h)) (behind m.placed (λ types. check_taken types t (expr_part N e).constant (expr_part N e).of))
-          (λ s st. then_give (then_give (value P ask e s st) (λ v st. meaning.as_type s.types t v st)) (λ v st. Gave (Number v) st)) (meaning.argument_layer P ask (layer.Value t (value P ask e)))
-          (λ st. give_assoc (value P ask e k.around st) (λ v st. meaning.as_type k.around.types t v st) (λ v st. Gave (Number v) st))
-          (held_passes k h (behind m.placed (λ types. check_taken types t (expr_part N e).constant (expr_part N e).of)) (λ s st. then_give (value P ask e s st) (λ v st. meaning.as_type s.types t v st))
+          (λ s st. (value P ask e s st ▷ λ v st. meaning.as_type s.types t v st) ▷ λ v st. Value (Number v) st) (meaning.argument_layer P ask (layer.Value t (value P ask e)))
+          (λ st. give_assoc (value P ask e k.around st) (λ v st. meaning.as_type k.around.types t v st) (λ v st. Value (Number v) st))
+          (held_passes k h (behind m.placed (λ types. check_taken types t (expr_part N e).constant (expr_part N e).of)) (λ s st. value P ask e s st ▷ λ v st. meaning.as_type s.types t v st)
           (given_held ws a b t h e m none k fit));
     })
 
@@ -645,8 +645,8 @@ module _ (x : Context) (ask : Asks) where
       pins = pins_then m.pins (pins_setting (λ s. pins_plain b (extended ∷ instr.I64Const (code.high_index s.home.types t) ∷ [])));
       passes = λ k fit.
           let same : code.high_index k.setting.home.types t ≡ meaning.high_index k.around.types t = ap (λ (o : Option Range). elements_of o - 1) (same_index k.setting.home.types t) ∙ ap (λ (types : Types). meaning.high_index types t) (sym fit.set.types) in
-          passes_alike k (ByArray is_var u) (behind m.placed (λ types. extended ∷ instr.I64Const (code.high_index types t) ∷ [])) (λ s st. then_give (locate P ask d s st) (λ l st. Gave (Whole l (code.high_index k.setting.home.types t)) st)) (meaning.argument_layer P ask (layer.Array t (locate P ask d)))
-          (λ st. ap (λ (n : ℕ). then_give (locate P ask d k.around st) (λ l st. Gave (Whole l n) st)) same)
+          passes_alike k (ByArray is_var u) (behind m.placed (λ types. extended ∷ instr.I64Const (code.high_index types t) ∷ [])) (λ s st. locate P ask d s st ▷ λ l st. Value (Whole l (code.high_index k.setting.home.types t)) st) (meaning.argument_layer P ask (layer.Array t (locate P ask d)))
+          (λ st. ap (λ (n : ℕ). (locate P ask d k.around st ▷ λ l st. Value (Whole l n) st)) same)
           (array_passes k fit.set is_var t r u m.placed (locate P ask d) (here ws k fit (λ h. index_of h.types t ≡ Some r) range) narrow (here ws k fit (λ h. tree h.types t ≡ Array (elements_of (Some r)) u) array)
           (here ws k fit (λ h. Locates k (tree h.types t) m.placed (locate P ask d)) (m.locates k fit)));
     })
@@ -774,10 +774,10 @@ module _ (x : Context) (ask : Asks) where
           let gs : List (Gives Passed) = map (argument_value P ask) args in
           let list : Coded = held_call N t (code.loaded_from m.placed t) ms.placed in
           let load : Gives ℤ = meaning.expr_layer P ask (layer.Load t (locate P ask d)) in
-          calls_alike k (result_of x.home.types t) list (λ s st. then_give (load s st) (λ v st. meaning.asked_if P ask (entry_callee P (entry_of P v)) gs s st)) (meaning.call_layer P ask (layer.Variable t (locate P ask d) gs))
-          (λ st. give_assoc (locate P ask d k.around st) (λ l st. Gave (st.store l) st) (λ v st. meaning.asked_if P ask (entry_callee P (entry_of P v)) gs k.around st))
-          (subst (λ (r : Result). Calls k r list (λ s st. then_give (load s st) (λ v st. meaning.asked_if P ask (entry_callee P (entry_of P v)) gs s st))) (sym (result_same x.home.types t h is))
-          (in_program ws k fit (λ p. Calls k (heading_result h) list (λ s st. then_give (load s st) (λ v st. meaning.asked_if p ask (entry_callee p (entry_of p v)) gs s st)))
+          calls_alike k (result_of x.home.types t) list (λ s st. load s st ▷ λ v st. meaning.asked_if P ask (entry_callee P (entry_of P v)) gs s st) (meaning.call_layer P ask (layer.Variable t (locate P ask d) gs))
+          (λ st. give_assoc (locate P ask d k.around st) (λ l st. Value (st.store l) st) (λ v st. meaning.asked_if P ask (entry_callee P (entry_of P v)) gs k.around st))
+          (subst (λ (r : Result). Calls k r list (λ s st. load s st ▷ λ v st. meaning.asked_if P ask (entry_callee P (entry_of P v)) gs s st)) (sym (result_same x.home.types t h is))
+          (in_program ws k fit (λ p. Calls k (heading_result h) list (λ s st. load s st ▷ λ v st. meaning.asked_if p ask (entry_callee p (entry_of p v)) gs s st))
           (held_calls k fit.set ask N x.base x.texts fit.top fit.callees t h (here ws k fit (λ m. heading_at m.types t ≡ Some h) is)
           (here ws k fit (λ m. type_at k.modules k.own (N (all_arguments (formals_of m.types t)) (has_result m.types t)) ≡ Some (type_of (of_heading m.types t))) (fit.signed t signed))
           (code.loaded_from m.placed t) load (held_loads k fit.set P ask t h m.placed (locate P ask d) (here ws k fit (λ m. tree m.types t ≡ Cell (Callable h)) type) (m.locates k fit))

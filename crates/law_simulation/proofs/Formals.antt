@@ -13,7 +13,7 @@ use Rattle.layout_storage.specs.Sizes.{Four, size, offset}
 use Rattle.layout_storage.specs.Texts.{passed}
 use Rattle.def_meaning.specs.Store.{Location, Store, placed}
 use Rattle.def_meaning.specs.Statements.{character}
-use Rattle.def_meaning.specs.Around.{Modules, Named, At, Elements, Passed, Number, Variable, Array as Whole, Text}
+use Rattle.def_meaning.specs.Environment.{Modules, Named, At, Elements, Passed, Number, Variable, Array as Whole, Text}
 use Rattle.def_meaning.specs.Calls.{Entered, with_passed}
 use Rattle.law_memory.specs.Cells.{stored_in}
 use Rattle.law_memory.specs.Relation.{Shows, Keeps}

@@ -13,7 +13,7 @@ use Rattle.layout_storage.specs.Shapes.{tree}
 use Rattle.layout_storage.specs.Frames.{formals_of, formal_tree, frame}
 use Rattle.layout_storage.specs.Texts.{passed}
 use Rattle.def_meaning.specs.Store.{Location}
-use Rattle.def_meaning.specs.Around.{Modules, Passed, Number, Variable, Array as Whole, Text}
+use Rattle.def_meaning.specs.Environment.{Modules, Passed, Number, Variable, Array as Whole, Text}
 use Rattle.def_meaning.specs.Calls.{Entered, with_passed, with_all, copy_size, copies_size}
 use Rattle.def_scheme.specs.Exprs.{arguments_of, all_arguments}
 use Rattle.def_scheme.specs.Functions.{formals_kept, value_kept, word_kept, open_copied}

@@ -17,7 +17,9 @@ use Rattle.typed_tree.specs.declared.known_types.Types.{Types}
 use Rattle.typed_tree.specs.Known.{scalar_at}
 use Rattle.layout_storage.specs.Types.{Scalar, Cell, row, component}
 use Rattle.def_meaning.specs.Store.{Location}
-use Rattle.def_meaning.specs.Answer.{State as Source, Answer, Gave, Ended, Running, Outcome, Went, Left, Came, Stopped, Unfinished, then_go, with_answer}
+use Rattle.def_meaning.specs.Answer.{State as Source, Answer, Ended, ◌▷◌}
+use Rattle.def_meaning.specs.Outcome.{Outcome, Normal, Exited, Returned, then_go}
+use Rattle.def_meaning.specs.Answer as answer
 use Rattle.def_meaning.specs.Expressions.{Gives, as_type}
 use Rattle.def_meaning.specs.Statements.{Does, has_passed, for_turns, for_all, stored as stores}
 use Rattle.def_scheme.specs.Coded.{Coded, Counts, Setting, plain, ◌⨾◌, within, with_number, with_setting, number_local, number, operation, relation}
@@ -122,27 +124,27 @@ module _ (k : Scene) (has : HasHelpers k) (small : AreSmall k.setting.home.types
     all_turns j = for_turns j (as_type k.setting.home.types t) l by limit (step k.around)
 
     abbrev after_body : ℕ → Source → Outcome
-    after_body j s = if has_passed by limit (s.store l +ℤ by) then Went s else with_answer (as_type k.setting.home.types t (s.store l +ℤ by) s) (λ v s. all_turns j (stores l v s))
+    after_body j s = if has_passed by limit (s.store l +ℤ by) then answer.Value Normal s else (as_type k.setting.home.types t (s.store l +ℤ by) s ▷ λ v s. all_turns j (stores l v s))
 
     body_for : (j : ℕ) (r : Effect) (o : Outcome) (next : Source → Outcome) → Ends k function (suc (suc label)) stack (λ st. runs k (turn_code list) st stack) r o
         → ((s : Source) (st : Target) → Stands k s st → Turns (turned j (runs k (turn_code list) st stack)) (next s)) → Turns (turned j r) (then_go o next)
-    body_for j r (Went s) next p h = subst (λ (e : Effect). Turns (turned j e) (next s)) (sym p.run) (h s p.st p.stands)
-    body_for j r (Left s) next p h = record { st = p.st; stands = p.stands; run = ap (turned j) p.run }
-    body_for j r (Came v s) next p h = record { below = p.below; st = p.st; stands = p.stands; run = ap (turned j) p.run }
-    body_for j r (Stopped i out) next p h = ap (turned j) p
-    body_for j r (Unfinished out) next p h = ap (turned j) p
+    body_for j r (answer.Value Normal s) next p h = subst (λ (e : Effect). Turns (turned j e) (next s)) (sym p.run) (h s p.st p.stands)
+    body_for j r (answer.Value Exited s) next p h = record { st = p.st; stands = p.stands; run = ap (turned j) p.run }
+    body_for j r (answer.Value (Returned v) s) next p h = record { below = p.below; st = p.st; stands = p.stands; run = ap (turned j) p.run }
+    body_for j r (Ended i out) next p h = ap (turned j) p
+    body_for j r (answer.StillRunning out) next p h = ap (turned j) p
 
     value_for : (j : ℕ) (operands : List Value) (go : Effects) (r : Effect) (a : Answer ℤ) (next : ℤ → Source → Outcome) → Into (GivesNumber k t go operands) r a
-        → ((v : ℤ) → IsValue k.setting.home.types t v → (s : Source) (st : Target) → Stands k s st → Turns (turned j (go st (operands ++ I64 (word v) ∷ []))) (next v s)) → Turns (turned j r) (with_answer a next)
-    value_for j operands go r (Gave v s) next p h = subst (λ (e : Effect). Turns (turned j e) (next v s)) (sym p.run) (h v p.is s p.st p.stands)
+        → ((v : ℤ) → IsValue k.setting.home.types t v → (s : Source) (st : Target) → Stands k s st → Turns (turned j (go st (operands ++ I64 (word v) ∷ []))) (next v s)) → Turns (turned j r) (a ▷ next)
+    value_for j operands go r (answer.Value v s) next p h = subst (λ (e : Effect). Turns (turned j e) (next v s)) (sym p.run) (h v p.is s p.st p.stands)
     value_for j operands go r (Ended i out) next p h = ap (turned j) p
-    value_for j operands go r (Running out) next p h = ap (turned j) p
+    value_for j operands go r (answer.StillRunning out) next p h = ap (turned j) p
 
     abbrev Later : ℕ → Type 0
     Later j = (s : Source) (st : Target) → Stands k s st → Turns (turns j (runs k code) st stack) (all_turns j s)
 
     -- the variable steps on, and the next turn follows
-    on_goes : (j : ℕ) → Later j → (s : Source) (st : Target) → Stands k s st → Turns (turned j (runs k (next_code list) st stack)) (with_answer (as_type k.setting.home.types t (s.store l +ℤ by) s) (λ v s. all_turns j (stores l v s)))
+    on_goes : (j : ℕ) → Later j → (s : Source) (st : Target) → Stands k s st → Turns (turned j (runs k (next_code list) st stack)) (as_type k.setting.home.types t (s.store l +ℤ by) s ▷ λ v s. all_turns j (stores l v s))
     on_goes j later s st h =
         let below : List Value = stack ++ I32 (place k l) ∷ [] in
         value_for j below (runs k stores_code) (runs k (next_code list) st stack) (as_type k.setting.home.types t (s.store l +ℤ by) s) (λ v s. all_turns j (stores l v s)) (next_gives list at s st h stack)
@@ -160,7 +162,7 @@ module _ (k : Scene) (has : HasHelpers k) (small : AreSmall k.setting.home.types
         subst (λ (r : Effect). Turns (turned j r) (after_body j s)) (sym path) (either p.st p.stands (has_passed by limit (s.store l +ℤ by)))
       where
         either : (st : Target) → Stands k s st → (b : Bool)
-            → Turns (turned j (then_run (if truth b == 0 then FellThrough st stack else Branched 1 st stack) (runs k (next_code list)))) (if b then Went s else with_answer (as_type k.setting.home.types t (s.store l +ℤ by) s) (λ v s. all_turns j (stores l v s)))
+            → Turns (turned j (then_run (if truth b == 0 then FellThrough st stack else Branched 1 st stack) (runs k (next_code list)))) (if b then answer.Value Normal s else (as_type k.setting.home.types t (s.store l +ℤ by) s ▷ λ v s. all_turns j (stores l v s)))
         either st h true = record { st = st; stands = h; run = refl }
         either st h false = on_goes j later s st h
 
@@ -190,7 +192,7 @@ module _ (k : Scene) (has : HasHelpers k) (small : AreSmall k.setting.home.types
       where
         either : (st : Target) → Stands k s st → (b : Bool)
             → Ends k function label stack (λ st. runs k rest st stack) (then_run (out_of 0 (length stack) (then_run (if truth b == 0 then FellThrough st stack else Branched 0 st stack) (runs k (instr.Loop None code ∷ [])))) (runs k rest))
-            (if b then Went s else all_turns k.turns s)
+            (if b then answer.Value Normal s else all_turns k.turns s)
         either st h true = record { st = st; stands = h; run = ap (λ (e : Effect). then_run e (runs k rest)) (label_here st stack FellThrough) }
         either st h false =
             subst (λ (r : Effect). Ends k function label stack (λ st. runs k rest st stack) r (all_turns k.turns s)) (sym (ap (λ (r : Effect). then_run (out_of 0 (length stack) r) (runs k rest)) (loop_runs k.modules k.fixed k.turns (calls k) k.own [] st None code stack)))
@@ -214,7 +216,7 @@ module _ (k : Scene) (has : HasHelpers k) (small : AreSmall k.setting.home.types
       ⨾ within 1 block (behind variable (λ types. loaded types t) ⨾ plain (instr.LocalGet n ∷ relation (passes by) ∷ instr.BrIf 0 ∷ []) ⨾ within 1 loop (for_turn variable t by n y))
 
   pub for_executes : Executes k function (variable ⨾ start ⨾ bound ⨾ with_number behind_bound)
-      (λ a s. with_answer (first a s) (λ v s. with_answer (last a s) (λ x s. for_all k.turns (as_type types t) l by x (step a) (stores l v s))))
+      (λ a s. first a s ▷ λ v s. last a s ▷ λ x s. for_all k.turns (as_type types t) l by x (step a) (stores l v s))
   for_executes = record {
     grows = λ e c.
         let f = (start (inside k e) c).1 in
@@ -245,7 +247,7 @@ module _ (k : Scene) (has : HasHelpers k) (small : AreSmall k.setting.home.types
         let tail : List Instr = (instr.LocalSet n ∷ store) ++ ending in
         let last_code : List Instr = instr.LocalSet n ∷ (store ++ (instr.Block None block_list ∷ rest)) in
         let on : Target → Effect = λ st. runs k rest st stack in
-        let outcome : Source → Outcome = λ s. with_answer (first k.around s) (λ v s. with_answer (last k.around s) (λ x s. for_all k.turns (as_type types t) l by x (step k.around) (stores l v s))) in
+        let outcome : Source → Outcome = λ s. (first k.around s ▷ (λ v s. last k.around s ▷ λ x s. for_all k.turns (as_type types t) l by x (step k.around) (stores l v s))) in
         let front : List Instr = at (inside k e) in
         let lists : (front ++ (f.0 ++ (m.0 ++ tail))) ++ rest ≡ front ++ (f.0 ++ (m.0 ++ last_code)) =
         append_assoc front (f.0 ++ (m.0 ++ tail)) rest
@@ -253,7 +255,7 @@ module _ (k : Scene) (has : HasHelpers k) (small : AreSmall k.setting.home.types
         in
         subst (λ (r : Effect). Ends k function e stack on r (outcome s)) (sym (ap (λ (c : List Instr). runs k c st stack) lists ∙ there e s st h (f.0 ++ (m.0 ++ last_code)) stack))
         (ends_with k function e stack (stack ++ a ∷ []) on t (runs k (m.0 ++ last_code)) (runs k (f.0 ++ (m.0 ++ last_code)) st (stack ++ a ∷ [])) (first k.around s)
-        (λ v s. with_answer (last k.around s) (λ x s. for_all k.turns (as_type types t) l by x (step k.around) (stores l v s)))
+        (λ v s. last k.around s ▷ λ x s. for_all k.turns (as_type types t) l by x (step k.around) (stores l v s))
         (hstart.gives e c0 free (has_before k h1 full_m) s st h (m.0 ++ last_code) (stack ++ a ∷ []))
         (λ v is s st h.
         ends_with k function e stack ((stack ++ a ∷ []) ++ I64 (word v) ∷ []) on u (runs k last_code) (runs k (m.0 ++ last_code) st ((stack ++ a ∷ []) ++ I64 (word v) ∷ [])) (last k.around s)

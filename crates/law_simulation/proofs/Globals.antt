@@ -19,7 +19,7 @@ use Rattle.layout_storage.specs.Sizes.{size, offset}
 use Rattle.layout_storage.specs.Shapes.{tree}
 use Rattle.layout_storage.specs.Frames.{module_row}
 use Rattle.layout_storage.specs.Texts.{characters, module_texts}
-use Rattle.def_meaning.specs.Around.{module_place}
+use Rattle.def_meaning.specs.Environment.{module_place}
 use Rattle.def_scheme.specs.Exprs.{is_own, import_place, base_global, variables_row, imported_row}
 use Rattle.law_modules.specs.Linked.{Program, names, imported_names, variables, values, place_of, base_at, text_at, tab_at, imported_places, link_values, slots_in, bytes_in}
 use Rattle.law_modules.proofs.Stores.{slot_is, text_is}

@@ -19,8 +19,9 @@ use Rattle.layout_storage.specs.Types.{Ty, Heading, row}
 use Rattle.layout_storage.specs.Sizes.{size}
 use Rattle.layout_storage.specs.Frames.{formals_of}
 use Rattle.def_meaning.specs.Store.{Location}
-use Rattle.def_meaning.specs.Answer.{State as Source, Answer, Gave, Ended, Running, then_give}
-use Rattle.def_meaning.specs.Around.{Callee, Frames, Passed, entry_of, entry_callee}
+use Rattle.def_meaning.specs.Answer.{State as Source, Answer, Ended, StillRunning, ◌▷◌}
+use Rattle.def_meaning.specs.Answer as answer
+use Rattle.def_meaning.specs.Environment.{Callee, Frames, Passed, entry_of, entry_callee}
 use Rattle.def_meaning.specs.Operators.{is_between}
 use Rattle.def_meaning.specs.Expressions.{Asks, Gives, all_given, asked_if}
 use Rattle.law_memory.specs.Relation.{IsProcedureValue, Empty, Full, heading_at}
@@ -108,7 +109,7 @@ module _ (k : Scene) (set : IsSet k) (ask : Asks) (numbered : Numbered) (base : 
     top_here = record { kept = still_kept k.kept w v new (top_local k.setting) (I32 (size (row k.world))) top.kept; next = top.next; left = top.left; based = top.based }
 
     kept_calls : (xs : List Coded) (gs : List (Gives Passed)) → PassAll K forms xs gs
-        → Calls K result (top_code ⨾ (all_coded xs ⨾ value_call numbered w t)) (λ a s. then_give (all_given k.program ask gs a s) (λ vs s. ask (Some q.callee) vs a.next a.left s))
+        → Calls K result (top_code ⨾ (all_coded xs ⨾ value_call numbered w t)) (λ a s. all_given k.program ask gs a s ▷ λ vs s. ask (Some q.callee) vs a.next a.free s)
     kept_calls xs gs hs =
         let chain : IsChain K.world K.hidden [] q.callee.frames [] = subst (λ (nss : Frames). IsChain K.world K.hidden [] nss []) (sym q.outermost) chain_end in
         let many : length q.typed.type.params ≡ suc (all_operands forms) = ap (λ (f : FuncType). length f.params) q.type ∙ ap suc (many_length (all_operands forms)) in
@@ -119,9 +120,9 @@ module _ (k : Scene) (set : IsSet k) (ask : Asks) (numbered : Numbered) (base : 
 
     -- what was kept is forgotten
     forgotten : (rest : List Instr) (stack : List Value) (r : Effect) (a : Answer ℤ) → Into (GivesResult K result (runs K rest) stack) r a → Into (GivesResult k result (runs k rest) stack) r a
-    forgotten rest stack r (Gave i s) g = record { st = g.st; stands = forgets k w v new s g.st g.stands; is = g.is; run = g.run }
+    forgotten rest stack r (answer.Value i s) g = record { st = g.st; stands = forgets k w v new s g.st g.stands; is = g.is; run = g.run }
     forgotten rest stack r (Ended i out) g = g
-    forgotten rest stack r (Running out) g = g
+    forgotten rest stack r (StillRunning out) g = g
 
   -- ---- all of it
 
@@ -168,12 +169,12 @@ module _ (k : Scene) (set : IsSet k) (ask : Asks) (numbered : Numbered) (base : 
         let high : pos n ≤ℤ pos 4294967295 = omega (arith, ints, small) in
         let code : List Instr = (kept_code (inside k e) c).0 ++ rest in
         let got : GivesNumber k bitset (runs k code) stack (pos n) s (runs k (checked (pos 1) (pos 4294967295) 7 ++ code) st (stack ++ I64 (word (pos n)) ∷ [])) =
-        subst (λ (b : Bool). Into (GivesNumber k bitset (runs k code) stack) (runs k (checked (pos 1) (pos 4294967295) 7 ++ code) st (stack ++ I64 (word (pos n)) ∷ [])) (if b then Gave (pos n) s else Ended 7 s.out)) (inner (pos 1) (pos n) (pos 4294967295) low high)
+        subst (λ (b : Bool). Into (GivesNumber k bitset (runs k code) stack) (runs k (checked (pos 1) (pos 4294967295) 7 ++ code) st (stack ++ I64 (word (pos n)) ∷ [])) (if b then answer.Value (pos n) s else Ended 7 s.out)) (inner (pos 1) (pos n) (pos 4294967295) low high)
         (checked_gives k set.helpers bitset (pos 1) (pos 4294967295) (pos n) 7 (wide 1 (omega arith)) (wide 4294967295 (omega arith)) (wide n small) (omega arith) (omega arith) (λ o. bit_set n small) s st stands code stack)
         in
         subst (λ (r : Effect). Into (GivesResult k result (runs k rest) stack) r (next (pos n) s)) (sym got.run) (full_goes n q e c free full s got.st got.stands rest stack)
 
-    pub calls_held : (x : Coded) (value : Gives ℤ) → AgreesHeld k h x value → Calls k result (held_call numbered t x xs) (λ a s. then_give (value a s) (λ v s. asked_if k.program ask (entry_callee k.program (entry_of k.program v)) gs a s))
+    pub calls_held : (x : Coded) (value : Gives ℤ) → AgreesHeld k h x value → Calls k result (held_call numbered t x xs) (λ a s. value a s ▷ λ v s. asked_if k.program ask (entry_callee k.program (entry_of k.program v)) gs a s)
     calls_held x value hx = record {
       grows = λ e c.
           let f = hx.grows e c in
@@ -182,7 +183,7 @@ module _ (k : Scene) (set : IsSet k) (ask : Asks) (numbered : Numbered) (base : 
       gives = λ e c free full s st stands rest stack.
           let first = x (inside k e) c in
           let second = behind_it (inside k e) first.1 in
-          subst (λ (code : List Instr). Into (GivesResult k result (runs k rest) stack) (runs k code st stack) (then_give (value k.around s) next)) (sym (append_assoc first.0 second.0 rest))
+          subst (λ (code : List Instr). Into (GivesResult k result (runs k rest) stack) (runs k code st stack) (value k.around s ▷ next)) (sym (append_assoc first.0 second.0 rest))
           (into_then (GivesHeld k h (runs k (second.0 ++ rest)) stack) (GivesResult k result (runs k rest) stack) (runs k (first.0 ++ (second.0 ++ rest)) st stack) (value k.around s) next
           (hx.gives e c free (has_before k (kept_grows e first.1) full) s st stands (second.0 ++ rest) stack)
           (λ i s' g. subst (λ (r : Effect). Into (GivesResult k result (runs k rest) stack) r (next i s')) (sym g.run) (held_goes i g.held e first.1 (free_after k (hx.grows e c) free) full s' g.st g.stands rest stack)));

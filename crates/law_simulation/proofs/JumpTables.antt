@@ -14,7 +14,7 @@ use Rattle.law_effect.specs.Effect.{State as Target, Effect, FellThrough, Branch
 use Rattle.law_effect.proofs.Steps.{get_runs, i64_runs, br_if_runs, br_table_runs}
 use Rattle.typed_tree.specs.declared.statement.Label.{Label}
 use Rattle.typed_tree.specs.declared.types.TypeNo.{TypeNo}
-use Rattle.def_meaning.specs.Answer.{State as Source, with_answer}
+use Rattle.def_meaning.specs.Answer.{State as Source, ◌▷◌}
 use Rattle.def_meaning.specs.Operators.{is_between}
 use Rattle.def_meaning.specs.Expressions.{Gives}
 use Rattle.def_meaning.specs.Statements as meaning
@@ -150,7 +150,7 @@ module _ (k : Scene) (has : HasHelpers k) (small : AreSmall k.setting.home.types
   abbrev kept_table : Coded
   kept_table = with_number (λ n. plain (instr.LocalSet n ∷ []) ⨾ table_code n xs otherwise)
 
-  table_executes : (t : TypeNo) (x : Coded) (value : Gives ℤ) → Agrees k t x value → Executes k function (x ⨾ kept_table) (λ a s. with_answer (value a s) (λ v s. chosen v ys other a s))
+  table_executes : (t : TypeNo) (x : Coded) (value : Gives ℤ) → Agrees k t x value → Executes k function (x ⨾ kept_table) (λ a s. value a s ▷ λ v s. chosen v ys other a s)
   table_executes t x value hx = with_executes k function t x kept_table value (λ v a s. chosen v ys other a s) hx (record {
     grows = λ e c.
         let g = growing (number_local k.setting c.numbers) e (record c { numbers = suc c.numbers }) in
@@ -176,5 +176,5 @@ module _ (k : Scene) (has : HasHelpers k) (small : AreSmall k.setting.home.types
 
 pub table_cases : TableCases
 table_cases k set function x value xs ys otherwise other dense hx growing arms ho =
-    subst (λ (b : Bool). Executes k function (x.code ⨾ with_number (λ n. plain (instr.LocalSet n ∷ []) ⨾ (if b then table_code n xs otherwise else chain_code n xs otherwise))) (λ a s. with_answer (value a s) (λ v s. chosen v ys other a s)))
+    subst (λ (b : Bool). Executes k function (x.code ⨾ with_number (λ n. plain (instr.LocalSet n ∷ []) ⨾ (if b then table_code n xs otherwise else chain_code n xs otherwise))) (λ a s. value a s ▷ λ v s. chosen v ys other a s))
     (sym dense) (table_executes k set.helpers set.small function xs ys otherwise other dense growing arms ho x.of x.code value hx)

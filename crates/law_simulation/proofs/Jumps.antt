@@ -7,7 +7,9 @@ use Rattle.wasm_tree.specs.declared.store.Value.{Value}
 use Rattle.law_effect.specs.Effect.{State as Target, Effect, FellThrough, Branched, then_run, out_of}
 use Rattle.law_effect.proofs.Steps.{block_runs, br_runs}
 use Rattle.typed_tree.specs.declared.statement.Label.{Label}
-use Rattle.def_meaning.specs.Answer.{State as Source, Outcome, Went, Left, Came, Stopped, Unfinished}
+use Rattle.def_meaning.specs.Answer.{State as Source, Ended, StillRunning}
+use Rattle.def_meaning.specs.Outcome.{Outcome, Normal, Exited, Returned}
+use Rattle.def_meaning.specs.Answer as answer
 use Rattle.def_meaning.specs.Statements as meaning
 use Rattle.def_meaning.specs.Statements.{Does, is_labelled, chosen}
 use Rattle.def_scheme.specs.Coded.{Coded, Counts}
@@ -52,11 +54,11 @@ module _ (k : Scene) (function : Bool) (e : ℕ) (stack : List Value) (s : Sourc
   behind_block list r = then_run (out_of 0 (length stack) r) (runs k list)
 
   past_arm : (left : ℕ) (r : Effect) (o : Outcome) (list : List Instr) → Pends (suc left) r (Past o) → Pends left (behind_block list r) (Past o)
-  past_arm left r (Went s') list p = record { st = p.st; stands = p.stands; run = ap (behind_block list) p.run }
-  past_arm left r (Left s') list p = record { st = p.st; stands = p.stands; run = ap (behind_block list) p.run }
-  past_arm left r (Came v s') list p = record { below = p.below; st = p.st; stands = p.stands; run = ap (behind_block list) p.run }
-  past_arm left r (Stopped j out) list p = ap (behind_block list) p
-  past_arm left r (Unfinished out) list p = ap (behind_block list) p
+  past_arm left r (answer.Value Normal s') list p = record { st = p.st; stands = p.stands; run = ap (behind_block list) p.run }
+  past_arm left r (answer.Value Exited s') list p = record { st = p.st; stands = p.stands; run = ap (behind_block list) p.run }
+  past_arm left r (answer.Value (Returned v) s') list p = record { below = p.below; st = p.st; stands = p.stands; run = ap (behind_block list) p.run }
+  past_arm left r (Ended j out) list p = ap (behind_block list) p
+  past_arm left r (StillRunning out) list p = ap (behind_block list) p
 
   one_arm : (left : ℕ) (r : Effect) (p : Pick) (list : List Instr) (o : Outcome) → Pends left (runs k list st stack) (Past o) → Pends (suc left) r p → Pends left (behind_block list r) (passed o p)
   one_arm left r (To zero) list o arm p =
@@ -66,11 +68,11 @@ module _ (k : Scene) (function : Bool) (e : ℕ) (stack : List Value) (s : Sourc
 
   -- an arm ends by a branch out of the block around all
   arm_leaves : (exit left : ℕ) (r : Effect) (o : Outcome) → Ends k function exit stack (λ st. runs k (instr.Br (left + 1) ∷ []) st stack) r o → Ends k function exit stack (λ st. Branched (suc left) st stack) r o
-  arm_leaves exit left r (Went s') p = record { st = p.st; stands = p.stands; run = p.run ∙ br_runs k.modules k.fixed k.turns (calls k) k.own [] p.st (left + 1) stack ∙ ap (λ (n : ℕ). Branched n p.st stack) (omega arith) }
-  arm_leaves exit left r (Left s') p = p
-  arm_leaves exit left r (Came v s') p = p
-  arm_leaves exit left r (Stopped j out) p = p
-  arm_leaves exit left r (Unfinished out) p = p
+  arm_leaves exit left r (answer.Value Normal s') p = record { st = p.st; stands = p.stands; run = p.run ∙ br_runs k.modules k.fixed k.turns (calls k) k.own [] p.st (left + 1) stack ∙ ap (λ (n : ℕ). Branched n p.st stack) (omega arith) }
+  arm_leaves exit left r (answer.Value Exited s') p = p
+  arm_leaves exit left r (answer.Value (Returned v) s') p = p
+  arm_leaves exit left r (Ended j out) p = p
+  arm_leaves exit left r (StillRunning out) p = p
 
   abbrev all_passed : List meaning.Arm → Pick → Pick
   all_passed [] p = p
@@ -152,15 +154,15 @@ module _ (k : Scene) (function : Bool) (e : ℕ) (stack : List Value) (s : Sourc
           subst (λ (x : Effect). Ends k function e stack (λ st. runs k rest st stack) x (other k.around s)) (sym (ap out_of_all p ∙ ap (λ (x : Effect). then_run (out_of 0 (length stack) (then_run x (runs k others))) (runs k rest)) (label_here st stack FellThrough)))
           (through_block k function e rest stack (runs k others st stack) (other k.around s) last)
       ends_all r (To (suc j)) is p last = absurd is
-      ends_all r (Past (Went s')) is p last = record {
+      ends_all r (Past (answer.Value Normal s')) is p last = record {
         st = p.st;
         stands = p.stands;
         run = ap out_of_all p.run ∙ ap (λ (x : Effect). then_run x (runs k rest)) (label_here p.st stack FellThrough);
       }
-      ends_all r (Past (Left s')) is p last = record { st = p.st; stands = p.stands; run = ap out_of_all p.run }
-      ends_all r (Past (Came v s')) is p last = record { below = p.below; st = p.st; stands = p.stands; run = ap out_of_all p.run }
-      ends_all r (Past (Stopped j out)) is p last = ap out_of_all p
-      ends_all r (Past (Unfinished out)) is p last = ap out_of_all p
+      ends_all r (Past (answer.Value Exited s')) is p last = record { st = p.st; stands = p.stands; run = ap out_of_all p.run }
+      ends_all r (Past (answer.Value (Returned v) s')) is p last = record { below = p.below; st = p.st; stands = p.stands; run = ap out_of_all p.run }
+      ends_all r (Past (Ended j out)) is p last = ap out_of_all p
+      ends_all r (Past (StillRunning out)) is p last = ap out_of_all p
 
   -- a jump to the arm of a value, or past all of them, and what stands behind ELSE
   pub table_goes : (xs : List code.Arm) (ys : List meaning.Arm) (otherwise : Coded) (other : Does) → AreArms k function xs ys → Executes k function otherwise other → (v : ℤ) (inner : List Instr) (c : Counts) → IsFree k c

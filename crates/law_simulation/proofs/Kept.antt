@@ -8,7 +8,9 @@ use Rattle.wasm_tree.specs.declared.store.Value.TheVariants.{I32, I64}
 use Rattle.law_effect.specs.Effect.{State as Target, Effect, Does as Effects}
 use Rattle.layout_storage.specs.Types.{Ty, row, component}
 use Rattle.def_meaning.specs.Store.{Location}
-use Rattle.def_meaning.specs.Answer.{State as Source, Answer, Gave, Ended, Running, Outcome, Went, Left, Came, Stopped, Unfinished, with_answer}
+use Rattle.def_meaning.specs.Answer.{State as Source, Answer, Ended, StillRunning, ◌▷◌}
+use Rattle.def_meaning.specs.Outcome.{Outcome, Normal, Exited, Returned}
+use Rattle.def_meaning.specs.Answer as answer
 use Rattle.def_meaning.specs.Expressions.{Gives}
 use Rattle.def_meaning.specs.Statements.{Does}
 use Rattle.def_scheme.specs.Steps.{under}
@@ -20,18 +22,18 @@ use Rattle.law_simulation.proofs.Locals.{set_keeps, forgets, set_runs_here, addr
 module _ (k : Scene) (function : Bool) where
   -- what is kept may be forgotten at the end
   pub ends_forgets : (n : ℕ) (v : Value) → k.kept n ≡ None → (exit : ℕ) (stack : List Value) (on : Target → Effect) (r : Effect) (o : Outcome) → Ends (keeping k n v) function exit stack on r o → Ends k function exit stack on r o
-  ends_forgets n v new exit stack on r (Went s) p = record { st = p.st; stands = forgets k n v new s p.st p.stands; run = p.run }
-  ends_forgets n v new exit stack on r (Left s) p = record { st = p.st; stands = forgets k n v new s p.st p.stands; run = p.run }
-  ends_forgets n v new exit stack on r (Came w s) p = record { below = p.below; st = p.st; stands = (forgets k n v new s p.st p.stands.0, p.stands.1); run = p.run }
-  ends_forgets n v new exit stack on r (Stopped j out) p = p
-  ends_forgets n v new exit stack on r (Unfinished out) p = p
+  ends_forgets n v new exit stack on r (answer.Value Normal s) p = record { st = p.st; stands = forgets k n v new s p.st p.stands; run = p.run }
+  ends_forgets n v new exit stack on r (answer.Value Exited s) p = record { st = p.st; stands = forgets k n v new s p.st p.stands; run = p.run }
+  ends_forgets n v new exit stack on r (answer.Value (Returned w) s) p = record { below = p.below; st = p.st; stands = (forgets k n v new s p.st p.stands.0, p.stands.1); run = p.run }
+  ends_forgets n v new exit stack on r (Ended j out) p = p
+  ends_forgets n v new exit stack on r (StillRunning out) p = p
 
   -- an address first
   pub ends_from : (exit : ℕ) (stack operands : List Value) (on : Target → Effect) (t : Ty) (go : Effects) (r : Effect) (a : Answer Location) (next : Location → Source → Outcome) → Into (GivesPlace k t go operands) r a
-      → ((l : Location) → component (row k.world) l ≡ Some t → 0 < length l → (s : Source) (st : Target) → Stands k s st → Ends k function exit stack on (go st (operands ++ I32 (place k l) ∷ [])) (next l s)) → Ends k function exit stack on r (with_answer a next)
-  ends_from exit stack operands on t go r (Gave l s) next p h = subst (λ (e : Effect). Ends k function exit stack on e (next l s)) (sym p.run) (h l p.type p.some s p.st p.stands)
+      → ((l : Location) → component (row k.world) l ≡ Some t → 0 < length l → (s : Source) (st : Target) → Stands k s st → Ends k function exit stack on (go st (operands ++ I32 (place k l) ∷ [])) (next l s)) → Ends k function exit stack on r (a ▷ next)
+  ends_from exit stack operands on t go r (answer.Value l s) next p h = subst (λ (e : Effect). Ends k function exit stack on e (next l s)) (sym p.run) (h l p.type p.some s p.st p.stands)
   ends_from exit stack operands on t go r (Ended j out) next p h = p
-  ends_from exit stack operands on t go r (Running out) next p h = p
+  ends_from exit stack operands on t go r (StillRunning out) next p h = p
 
   -- the address of a variable is kept while a statement runs
   module _ (t : Ty) (d : Coded) (found : Gives Location) (f : ℕ → Coded) (next : Location → Does) (hd : Locates k t d found) (grows_on : (w e : ℕ) (c : Counts) → Grows c (f w (inside k e) c).1)
@@ -39,7 +41,7 @@ module _ (k : Scene) (function : Bool) where
     abbrev address_code : Coded
     address_code = d ⨾ with_address (λ w. plain (instr.LocalSet w ∷ []) ⨾ f w)
 
-    pub address_kept : Executes k function address_code (λ a s. with_answer (found a s) (λ l s. next l a s))
+    pub address_kept : Executes k function address_code (λ a s. found a s ▷ λ l s. next l a s)
     address_kept = record {
       grows = λ e c.
           let middle = (d (inside k e) c).1 in
@@ -58,7 +60,7 @@ module _ (k : Scene) (function : Bool) where
           let new : k.kept w ≡ None = free_here.addresses w (omega arith) (omega (arith, fewer)) in
           let full_here : HasLocals k middle = record { numbers = omega (arith, g.numbers, full.numbers); addresses = omega (arith, fewer) } in
           let list : List Instr = instr.LocalSet w ∷ second.0 in
-          let outcome : Source → Outcome = λ s. with_answer (found k.around s) (λ l s. next l k.around s) in
+          let outcome : Source → Outcome = λ s. (found k.around s ▷ (λ l s. next l k.around s)) in
           subst (λ (code : List Instr). Ends k function e stack (λ st. runs k rest st stack) (runs k code st stack) (outcome s)) (sym (append_assoc first.0 list rest))
           (ends_from e stack stack (λ st. runs k rest st stack) t (runs k (list ++ rest)) (runs k (first.0 ++ (list ++ rest)) st stack) (found k.around s) (λ l s. next l k.around s)
           (hd.gives e c free full_here s st h (list ++ rest) stack)
@@ -114,11 +116,11 @@ module _ (k : Scene) (function : Bool) (w : ℕ) (l : Location) where
   closed_stands s st h = record { holds = h.holds; long = h.long; count = h.count; kept = h.kept; out = h.out }
 
   ends_closed : (exit : ℕ) (stack : List Value) (on : Target → Effect) (r : Effect) (o : Outcome) → Ends inside_it function exit stack on r o → Ends around_it function exit stack on r o
-  ends_closed exit stack on r (Went s) p = record { st = p.st; stands = closed_stands s p.st p.stands; run = p.run }
-  ends_closed exit stack on r (Left s) p = record { st = p.st; stands = closed_stands s p.st p.stands; run = p.run }
-  ends_closed exit stack on r (Came v s) p = record { below = p.below; st = p.st; stands = (closed_stands s p.st p.stands.0, p.stands.1); run = p.run }
-  ends_closed exit stack on r (Stopped j out) p = p
-  ends_closed exit stack on r (Unfinished out) p = p
+  ends_closed exit stack on r (answer.Value Normal s) p = record { st = p.st; stands = closed_stands s p.st p.stands; run = p.run }
+  ends_closed exit stack on r (answer.Value Exited s) p = record { st = p.st; stands = closed_stands s p.st p.stands; run = p.run }
+  ends_closed exit stack on r (answer.Value (Returned v) s) p = record { below = p.below; st = p.st; stands = (closed_stands s p.st p.stands.0, p.stands.1); run = p.run }
+  ends_closed exit stack on r (Ended j out) p = p
+  ends_closed exit stack on r (StillRunning out) p = p
 
   pub under_executes : (x : Coded) (step : Does) → Executes inside_it function x step → Executes around_it function (under w x) (λ a s. step (record a { withs = a.withs ++ l ∷ [] }) s)
   under_executes x step h = record {

@@ -7,7 +7,7 @@ use Rattle.wasm_tree.specs.Machine.{Typed, zeros}
 use Rattle.law_effect.specs.Effect.{Fixed, StillRunning, State as Target, back, effect, nested, calling as helping}
 use Rattle.layout_storage.specs.Types.{Ty}
 use Rattle.def_meaning.specs.Store.{Location}
-use Rattle.def_meaning.specs.Around.{Modules}
+use Rattle.def_meaning.specs.Environment.{Modules}
 use Rattle.def_meaning.specs.Calls.{calling}
 use Rattle.def_scheme.specs.Modules.{numbered}
 use Rattle.law_simulation.proofs.Routines.{routine_does}

@@ -11,9 +11,10 @@ use Rattle.wasm_tree.specs.declared.store.Value.TheVariants.{I32, I64}
 use Rattle.typed_tree.specs.declared.types.TypeNo.{TypeNo}
 use Rattle.typed_tree.specs.declared.known_types.Types.{Types}
 use Rattle.typed_tree.specs.Types.{are_same, integer, cardinal, boolean, char, bitset}
-use Rattle.def_meaning.specs.Answer.{State as Source, Answer, Gave, Went, then_give, with_answer, range_fault, overflow}
+use Rattle.def_meaning.specs.Answer.{State as Source, Answer, Value, ◌▷◌, range_fault, overflow}
+use Rattle.def_meaning.specs.Outcome.{Normal}
 use Rattle.def_meaning.specs.Expressions.{Gives, Continues, Reaches as Reached, root_layer, component_layer, element_in, index_range, one_by_one, within, within_range, divided, ordinal, as_type, in_base, link_layer}
-use Rattle.def_meaning.specs.Around.{Around, module_place}
+use Rattle.def_meaning.specs.Environment.{Environment, module_place}
 use Rattle.def_meaning.specs.Store.{Location}
 use Rattle.def_meaning.specs.Operators.{truth, compared, is_true, absolute, capital, odd, quotient, remainder, bits, without, combined, has}
 use Rattle.def_meaning.specs.Statements.{Does, changed, rechecked, for_all, chosen, stored}
@@ -61,24 +62,24 @@ pub sums : Sums
 sums k set p ask t w y value ha some =
     let types : Types = k.setting.home.types in
     let after : Coded = with_setting (λ s. plain (arithmetic_code s.home.types op.Add w)) in
-    let here : ℤ → Gives ℤ = λ x a s. then_give (value a s) (λ u s. in_base types w (x +ℤ u) s) in
-    goes_alike k t w (y.code ⨾ after) here (link_layer p ask (layer.Arithmetic op.Add w value)) (λ v s. ap (λ (types : Types). then_give (value k.around s) (λ u s. in_base types w (v +ℤ u) s)) (sym set.types))
+    let here : ℤ → Gives ℤ = λ x a s. (value a s ▷ (λ u s. in_base types w (x +ℤ u) s)) in
+    goes_alike k t w (y.code ⨾ after) here (link_layer p ask (layer.Arithmetic op.Add w value)) (λ v s. ap (λ (types : Types). (value k.around s ▷ λ u s. in_base types w (v +ℤ u) s)) (sym set.types))
     (second_goes k set.helpers set.small t y.of w y.code after (arithmetic_code types op.Add w) value (λ x u a s. in_base types w (x +ℤ u) s) ha (λ e c. refl) (sum_goes k set.helpers set.small t y.of w some))
 
 pub differences : Differences
 differences k set p ask t w y value ha some =
     let types : Types = k.setting.home.types in
     let after : Coded = with_setting (λ s. plain (arithmetic_code s.home.types op.Subtract w)) in
-    let here : ℤ → Gives ℤ = λ x a s. then_give (value a s) (λ u s. in_base types w (x -ℤ u) s) in
-    goes_alike k t w (y.code ⨾ after) here (link_layer p ask (layer.Arithmetic op.Subtract w value)) (λ v s. ap (λ (types : Types). then_give (value k.around s) (λ u s. in_base types w (v -ℤ u) s)) (sym set.types))
+    let here : ℤ → Gives ℤ = λ x a s. (value a s ▷ (λ u s. in_base types w (x -ℤ u) s)) in
+    goes_alike k t w (y.code ⨾ after) here (link_layer p ask (layer.Arithmetic op.Subtract w value)) (λ v s. ap (λ (types : Types). (value k.around s ▷ λ u s. in_base types w (v -ℤ u) s)) (sym set.types))
     (second_goes k set.helpers set.small t y.of w y.code after (arithmetic_code types op.Subtract w) value (λ x u a s. in_base types w (x -ℤ u) s) ha (λ e c. refl) (difference_goes k set.helpers set.small t y.of w some))
 
 pub products : Products
 products k set p ask t w y value ha some =
     let types : Types = k.setting.home.types in
     let after : Coded = with_setting (λ s. plain (arithmetic_code s.home.types op.Multiply w)) in
-    let here : ℤ → Gives ℤ = λ x a s. then_give (value a s) (λ u s. in_base types w (x *ℤ u) s) in
-    goes_alike k t w (y.code ⨾ after) here (link_layer p ask (layer.Arithmetic op.Multiply w value)) (λ v s. ap (λ (types : Types). then_give (value k.around s) (λ u s. in_base types w (v *ℤ u) s)) (sym set.types))
+    let here : ℤ → Gives ℤ = λ x a s. (value a s ▷ (λ u s. in_base types w (x *ℤ u) s)) in
+    goes_alike k t w (y.code ⨾ after) here (link_layer p ask (layer.Arithmetic op.Multiply w value)) (λ v s. ap (λ (types : Types). (value k.around s ▷ λ u s. in_base types w (v *ℤ u) s)) (sym set.types))
     (second_goes k set.helpers set.small t y.of w y.code after (arithmetic_code types op.Multiply w) value (λ x u a s. in_base types w (x *ℤ u) s) ha (λ e c. refl) (product_goes k set.helpers set.small t y.of w some))
 
 pub quotients : Quotients
@@ -100,38 +101,38 @@ disjunctions k set p ask y value ha = or_goes k set.helpers set.small y.code val
 pub relations : Relations
 relations k set p ask o x y first second hx hy =
     let list : List Instr = relation (relation_of o) ∷ extended ∷ [] in
-    let both : ℤ → ℤ → Around → Source → Answer ℤ = λ v w a s. Gave (truth (compared o v w)) s in
-    then_agrees k x.of boolean x.code (y.code ⨾ plain list) first (λ v a s. then_give (second a s) (λ w s. both v w a s)) hx
+    let both : ℤ → ℤ → Environment → Source → Answer ℤ = λ v w a s. Value (truth (compared o v w)) s in
+    then_agrees k x.of boolean x.code (y.code ⨾ plain list) first (λ v a s. second a s ▷ λ w s. both v w a s) hx
     (second_goes k set.helpers set.small x.of y.of boolean y.code (plain list) list second both hy (λ e c. refl) (compare_makes k set.helpers set.small x.of y.of o))
 
 pub combinations : Combinations
 combinations k set p ask o y value ha =
-    second_goes k set.helpers set.small bitset bitset bitset y.code (plain (set_code o)) (set_code o) value (λ x u a s. Gave (combined o x u) s) ha (λ e c. refl) (combine_makes k set.helpers set.small o)
+    second_goes k set.helpers set.small bitset bitset bitset y.code (plain (set_code o)) (set_code o) value (λ x u a s. Value (combined o x u) s) ha (λ e c. refl) (combine_makes k set.helpers set.small o)
 
 pub inclusions : Inclusions
 inclusions k set p ask inclusion.Within x y first second hx hy =
     let list : List Instr = complement ++ (operation And ∷ empty_code) in
-    let both : ℤ → ℤ → Around → Source → Answer ℤ = λ v w a s. Gave (truth (without (bits v) (bits w) == 0)) s in
-    then_agrees k bitset boolean x.code (y.code ⨾ plain list) first (λ v a s. then_give (second a s) (λ w s. both v w a s)) hx
+    let both : ℤ → ℤ → Environment → Source → Answer ℤ = λ v w a s. Value (truth (without (bits v) (bits w) == 0)) s in
+    then_agrees k bitset boolean x.code (y.code ⨾ plain list) first (λ v a s. second a s ▷ λ w s. both v w a s) hx
     (second_goes k set.helpers set.small bitset bitset boolean y.code (plain list) list second both hy (λ e c. refl) (within_makes k set.helpers set.small))
 inclusions k set p ask inclusion.Around x y first second hx hy =
     let list : List Instr = operation And ∷ empty_code in
-    let rest_of : ℤ → Gives ℤ = λ v a s. Gave (pos (bit_xor (bits v) 4294967295)) s in
-    let both : ℤ → ℤ → Around → Source → Answer ℤ = λ v w a s. Gave (truth (bit_and (bits w) (bits v) == 0)) s in
-    then_agrees k bitset boolean x.code (plain complement ⨾ y.code ⨾ plain list) first (λ v a s. then_give (rest_of v a s) (λ v s. then_give (second a s) (λ w s. both v w a s))) hx
-    (then_goes k bitset bitset boolean (plain complement) (y.code ⨾ plain list) rest_of (λ v a s. then_give (second a s) (λ w s. both v w a s))
+    let rest_of : ℤ → Gives ℤ = λ v a s. Value (pos (bit_xor (bits v) 4294967295)) s in
+    let both : ℤ → ℤ → Environment → Source → Answer ℤ = λ v w a s. Value (truth (bit_and (bits w) (bits v) == 0)) s in
+    then_agrees k bitset boolean x.code (plain complement ⨾ y.code ⨾ plain list) first (λ v a s. rest_of v a s ▷ λ v s. second a s ▷ λ w s. both v w a s) hx
+    (then_goes k bitset bitset boolean (plain complement) (y.code ⨾ plain list) rest_of (λ v a s. second a s ▷ λ w s. both v w a s)
     (plain_goes k bitset bitset (plain complement) complement rest_of (λ e c. refl) (complement_goes k set.helpers set.small))
     (second_goes k set.helpers set.small bitset bitset boolean y.code (plain list) list second both hy (λ e c. refl) (around_makes k set.helpers set.small)))
 
 pub members : Members
 members k set p ask x y first second hx hy beside =
     then_agrees k x.of boolean x.code (has_code k set.helpers set.small y.code second hy beside) first
-    (λ x a s. then_give (within (pos 0) (pos 31) range_fault x s) (λ x s. then_give (second a s) (λ y s. Gave (truth (has y x)) s))) hx
+    (λ x a s. within (pos 0) (pos 31) range_fault x s ▷ λ x s. second a s ▷ λ y s. Value (truth (has y x)) s) hx
     (in_goes k set.helpers set.small y.code second hy beside x.of)
 
 pub negations : Negations
 negations k set p ask x value hx =
-    let opposite : ℤ → Gives ℤ = λ v a s. Gave (truth (not (is_true v))) s in
+    let opposite : ℤ → Gives ℤ = λ v a s. Value (truth (not (is_true v))) s in
     then_agrees k boolean boolean x.code (plain empty_code) value opposite hx (plain_goes k boolean boolean (plain empty_code) empty_code opposite (λ e c. refl) (not_goes k set.helpers set.small))
 
 agrees_alike : (k : Scene) (t : TypeNo) (code : Coded) (f g : Gives ℤ) → ((s : Source) → f k.around s ≡ g k.around s) → Agrees k t code f → Agrees k t code g
@@ -147,28 +148,28 @@ pub opposites : Opposites
 opposites k set p ask x value hx =
     let types : Types = k.setting.home.types in
     let after : Coded = with_setting (λ s. plain (operation Sub ∷ in_type s.home.types integer 2)) in
-    let opposite : ℤ → ℤ → Around → Source → Answer ℤ = λ v w a s. within_range (scalar_at types integer) overflow (v -ℤ w) s in
-    then_agrees k boolean integer (plain (number (pos 0) ∷ [])) (x.code ⨾ after) (λ a s. Gave (pos 0) s) (λ v a s. then_give (value a s) (λ w s. opposite v w a s))
+    let opposite : ℤ → ℤ → Environment → Source → Answer ℤ = λ v w a s. within_range (scalar_at types integer) overflow (v -ℤ w) s in
+    then_agrees k boolean integer (plain (number (pos 0) ∷ [])) (x.code ⨾ after) (λ a s. Value (pos 0) s) (λ v a s. value a s ▷ λ w s. opposite v w a s)
     (constant_agrees k set.helpers set.small boolean (pos 0) (omega (arith, ints), omega (arith, ints)))
     (second_goes k set.helpers set.small boolean x.of integer x.code after (operation Sub ∷ in_type types integer 2) value opposite hx (λ e c. refl) (difference_goes k set.helpers set.small boolean x.of integer (λ e. cc e)))
 
 pub absolutes : Absolutes
 absolutes k set p ask t x value hx among natural =
-    agrees_alike k t (abs_code t x.code) (λ a s. then_give (value a s) (λ v s. in_base k.setting.home.types t (absolute v) s)) (λ a s. then_give (value a s) (λ v s. in_base a.types t (absolute v) s))
-    (λ s. ap (λ (types : Types). then_give (value k.around s) (λ v s. in_base types t (absolute v) s)) (sym set.types)) (by (are_same t integer) refl)
+    agrees_alike k t (abs_code t x.code) (λ a s. value a s ▷ λ v s. in_base k.setting.home.types t (absolute v) s) (λ a s. value a s ▷ λ v s. in_base a.types t (absolute v) s)
+    (λ s. ap (λ (types : Types). (value k.around s ▷ λ v s. in_base types t (absolute v) s)) (sym set.types)) (by (are_same t integer) refl)
   where
     here : Agrees k t x.code value
     here = among_agrees k set.helpers set.small x.of t x.code value hx among
 
-    by : (b : Bool) → are_same t integer ≡ b → Agrees k t (if b then x.code ⨾ with_number (λ n. plain (absolute_code n)) else x.code) (λ a s. then_give (value a s) (λ v s. in_base k.setting.home.types t (absolute v) s))
+    by : (b : Bool) → are_same t integer ≡ b → Agrees k t (if b then x.code ⨾ with_number (λ n. plain (absolute_code n)) else x.code) (λ a s. value a s ▷ λ v s. in_base k.setting.home.types t (absolute v) s)
     by true e = then_agrees k t t x.code (with_number (λ n. plain (absolute_code n))) value (λ v a s. in_base k.setting.home.types t (absolute v) s) here (number_goes k t t absolute_code (λ v a s. in_base k.setting.home.types t (absolute v) s) (absolute_goes k set.helpers set.small t e))
     by false e = stays_agrees k set.helpers set.small t (natural e) x.code value here
 
 pub capitals : Capitals
-capitals k set p ask x value hx = then_agrees k char char x.code (with_number (λ n. plain (capital_code n))) value (λ v a s. Gave (capital v) s) hx (number_goes k char char capital_code (λ v a s. Gave (capital v) s) (capital_goes k set.helpers set.small))
+capitals k set p ask x value hx = then_agrees k char char x.code (with_number (λ n. plain (capital_code n))) value (λ v a s. Value (capital v) s) hx (number_goes k char char capital_code (λ v a s. Value (capital v) s) (capital_goes k set.helpers set.small))
 
 -- what is made of a value by code without locals
-plainly_agrees : (k : Scene) (t u : TypeNo) (x after : Coded) (list : List Instr) (value : Gives ℤ) (next : ℤ → Gives ℤ) → Agrees k t x value → IsPlain k after list → Goes k t u list (λ v s. next v k.around s) → Agrees k u (x ⨾ after) (λ a s. then_give (value a s) (λ v s. next v a s))
+plainly_agrees : (k : Scene) (t u : TypeNo) (x after : Coded) (list : List Instr) (value : Gives ℤ) (next : ℤ → Gives ℤ) → Agrees k t x value → IsPlain k after list → Goes k t u list (λ v s. next v k.around s) → Agrees k u (x ⨾ after) (λ a s. value a s ▷ λ v s. next v a s)
 plainly_agrees k t u x after list value next hx is go = then_agrees k t u x after value next hx (plain_goes k t u after list next is go)
 
 pub characters : Characters
@@ -176,7 +177,7 @@ characters k set p ask x value hx = plainly_agrees k x.of char x.code (plain (ch
 
 pub parities : Parities
 parities k set p ask x value hx =
-    plainly_agrees k x.of boolean x.code (plain (instr.I64Const 1 ∷ operation And ∷ [])) (instr.I64Const 1 ∷ operation And ∷ []) value (λ v a s. Gave (truth (odd v)) s) hx (λ e c. refl) (odd_goes k set.helpers set.small x.of)
+    plainly_agrees k x.of boolean x.code (plain (instr.I64Const 1 ∷ operation And ∷ [])) (instr.I64Const 1 ∷ operation And ∷ []) value (λ v a s. Value (truth (odd v)) s) hx (λ e c. refl) (odd_goes k set.helpers set.small x.of)
 
 pub ordinals : Ordinals
 ordinals k set p ask x value hx among natural =
@@ -184,8 +185,8 @@ ordinals k set p ask x value hx among natural =
 
 pub conversions : Conversions
 conversions k set p ask t x value hx some =
-    agrees_alike k t (x.code ⨾ with_setting (λ s. plain (in_type s.home.types t 1))) (λ a s. then_give (value a s) (λ v s. as_type k.setting.home.types t v s)) (λ a s. then_give (value a s) (λ v s. as_type a.types t v s))
-    (λ s. ap (λ (types : Types). then_give (value k.around s) (λ v s. as_type types t v s)) (sym set.types))
+    agrees_alike k t (x.code ⨾ with_setting (λ s. plain (in_type s.home.types t 1))) (λ a s. value a s ▷ λ v s. as_type k.setting.home.types t v s) (λ a s. value a s ▷ λ v s. as_type a.types t v s)
+    (λ s. ap (λ (types : Types). (value k.around s ▷ λ v s. as_type types t v s)) (sym set.types))
     (plainly_agrees k x.of t x.code (with_setting (λ s. plain (in_type s.home.types t 1))) (in_type k.setting.home.types t 1) value (λ v a s. as_type k.setting.home.types t v s) hx (λ e c. refl) (val_goes k set.helpers set.small x.of t some))
 
 -- ---- designators
@@ -208,8 +209,8 @@ fields k set p ask t j u there =
 
 pub elements : Elements
 elements k set p ask t r u i value range array hi =
-    reaches_alike k (tree k.setting.home.types t) u (i.code ⨾ with_setting (λ s. plain (element_code s.home.types t))) (λ l a s. then_give (value a s) (λ v s. element_in l (index_range k.setting.home.types t) v s))
-    (component_layer p ask (layer.Element t value)) (λ l s. ap (λ (types : Types). then_give (value k.around s) (λ v s. element_in l (index_range types t) v s)) (sym set.types))
+    reaches_alike k (tree k.setting.home.types t) u (i.code ⨾ with_setting (λ s. plain (element_code s.home.types t))) (λ l a s. value a s ▷ λ v s. element_in l (index_range k.setting.home.types t) v s)
+    (component_layer p ask (layer.Element t value)) (λ l s. ap (λ (types : Types). (value k.around s ▷ λ v s. element_in l (index_range types t) v s)) (sym set.types))
     (element_reaches k set.helpers set.small set.room t i.of r u i.code (with_setting (λ s. plain (element_code s.home.types t))) value range array hi (λ e c. refl))
   where
     reaches_alike : (k : Scene) (t u : Ty) (code : Coded) (f g : Reached) → ((l : Location) (s : Source) → f l k.around s ≡ g l k.around s) → Reaches k t u code f → Reaches k t u code g
@@ -220,7 +221,7 @@ elements k set p ask t r u i value range array hi =
     }
 
 pub designators : Designators
-designators k p ask r t u cs rs hr hs = root_then k t u (root_code r) (all_coded cs) (λ a s. Gave (root_layer p ask r a) s) (one_by_one rs) hr (all_reach k t u cs rs hs)
+designators k p ask r t u cs rs hr hs = root_then k t u (root_code r) (all_coded cs) (λ a s. Value (root_layer p ask r a) s) (one_by_one rs) hr (all_reach k t u cs rs hs)
 
 pub loads : Loads
 loads k set p ask t c d found cell hd = load_agrees k set.helpers set.small set.room t c d (with_setting (λ s. plain (cells.loaded s.home.types t))) found cell hd (λ e counts. refl)
@@ -237,7 +238,7 @@ executes_alike k function code f g same h = record {
 
 pub changes : Changes
 changes k set function o t c d x found value cell some based hd hx beside =
-    let here : Types → Does = λ types a s. with_answer (found a s) (λ l s. with_answer (value a s) (λ y s. with_answer (rechecked types t (changed o (s.store l) y) s) (λ v s. Went (stored l v s)))) in
+    let here : Types → Does = λ types a s. (found a s ▷ (λ l s. value a s ▷ λ y s. rechecked types t (changed o (s.store l) y) s ▷ λ v s. Value Normal (stored l v s))) in
     executes_alike k function (change_code o d t x.code) (here k.setting.home.types) (λ a s. here a.types a s) (λ s. ap (λ (types : Types). here types k.around s) (sym set.types))
     (change_executes k set.helpers set.small set.room function o t x.of c d x.code found value cell some based hd hx beside)
 
@@ -258,7 +259,7 @@ returns k = return_executes k false refl
 
 pub lone_ifs : LoneIfs
 lone_ifs k set function e value x step he hx =
-    let chosen : ℤ → Does = λ v a s. if is_true v then step a s else Went s in
+    let chosen : ℤ → Does = λ v a s. if is_true v then step a s else Value Normal s in
     with_executes k function boolean e (plain (wrapped ∷ []) ⨾ if_only x) value chosen he (if_only_executes k function set.helpers set.small x step hx)
 
 pub rows : Rows
@@ -278,7 +279,7 @@ whiles k set function e value x step he hx = while_executes k function set.helpe
 
 pub cases : Cases
 cases k set function x value xs ys otherwise other sparse hx growing arms ho =
-    subst (λ (b : Bool). Executes k function (x.code ⨾ with_number (λ n. plain (instr.LocalSet n ∷ []) ⨾ (if b then table_code n xs otherwise else tests_chain n xs otherwise))) (λ a s. with_answer (value a s) (λ v s. chosen v ys other a s)))
+    subst (λ (b : Bool). Executes k function (x.code ⨾ with_number (λ n. plain (instr.LocalSet n ∷ []) ⨾ (if b then table_code n xs otherwise else tests_chain n xs otherwise))) (λ a s. value a s ▷ λ v s. chosen v ys other a s))
     (sym sparse) (case_executes k set.helpers set.small function xs ys otherwise other growing arms ho x.of x.code value hx)
 
 pub unlabelled : Unlabelled
@@ -286,7 +287,7 @@ unlabelled k set function = unlabelled_executes k function set.helpers
 
 pub fors : Fors
 fors k set function t c l at start bound step_by x first last step cell some type there low high hstart hbound growing hx =
-    let here : Types → Does = λ types a s. with_answer (first a s) (λ v s. with_answer (last a s) (λ limit s. for_all k.turns (as_type types t) l step_by limit (step a) (stored l v s))) in
+    let here : Types → Does = λ types a s. (first a s ▷ (λ v s. last a s ▷ λ limit s. for_all k.turns (as_type types t) l step_by limit (step a) (stored l v s))) in
     executes_alike k function (for_code (with_setting (λ s. plain (at s))) t start bound step_by x) (here k.setting.home.types) (λ a s. here a.types a s) (λ s. ap (λ (types : Types). here types k.around s) (sym set.types))
     (for_executes k set.helpers set.small set.room function t bound.of c cell some l type step_by (record { low = low; high = high }) at there
     (behind start.code (λ types. cells.check_taken types t start.constant start.of)) bound.code x first last step hstart hbound growing hx)

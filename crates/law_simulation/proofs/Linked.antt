@@ -21,7 +21,7 @@ use Rattle.layout_storage.specs.Types.{Ty, row, component}
 use Rattle.layout_storage.specs.Shapes.{tree}
 use Rattle.layout_storage.specs.Frames.{module_row}
 use Rattle.layout_storage.specs.Texts.{characters, module_texts}
-use Rattle.def_meaning.specs.Around.{module_place, entries_before}
+use Rattle.def_meaning.specs.Environment.{module_place, entries_before}
 use Rattle.law_memory.specs.Relation.{value_number}
 use Rattle.def_scheme.specs.Coded.{body_index}
 use Rattle.def_scheme.specs.Exprs.{is_own, import_place, slots_global, variables_row, imported_row}

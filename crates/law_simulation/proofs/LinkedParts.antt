@@ -54,11 +54,11 @@ outermost_kinds m r e = ap (kinds_around m r.level) e ∙ no_kinds m r.level
 
 inner_kinds : (m : TypedModule) (level : ℕ) (w : Which) (r : Routine) → 0 < level → routine_of m w ≡ Some r → is_inner (kinds_around m level (Some w)) ≡ true
 inner_kinds m zero w r less e = absurd (omega (arith, less))
-inner_kinds m (suc k) w r less e = ap (λ (o : Option Routine). is_inner (own_kinds m o ++ kinds_around m k (around_of o))) e
+inner_kinds m (suc k) w r less e = ap (λ (o : Option Routine). is_inner (own_kinds m o ++ kinds_around m k (environment_of o))) e
   where
-    around_of : Option Routine → Option Which
-    around_of None = None
-    around_of (Some r) = r.around
+    environment_of : Option Routine → Option Which
+    environment_of None = None
+    environment_of (Some r) = r.around
 
 own_linked : (m : TypedModule) (r : Routine) → r.level ≡ 1 → r.around ≡ None → nat_lt 1 r.level ≡ is_inner (kinds_around m r.level r.around)
 own_linked m r level e = le-ltb 1 r.level (omega (arith, level)) ∙ sym (ap is_inner (outermost_kinds m r e))

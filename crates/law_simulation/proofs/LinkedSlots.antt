@@ -13,7 +13,7 @@ use Rattle.layout_storage.specs.Types.{Ty, Hidden, row, component}
 use Rattle.layout_storage.specs.Sizes.{size, offset}
 use Rattle.layout_storage.specs.Shapes.{tree}
 use Rattle.layout_storage.specs.Texts.{characters, module_texts}
-use Rattle.def_meaning.specs.Around.{module_place, entries_before}
+use Rattle.def_meaning.specs.Environment.{module_place, entries_before}
 use Rattle.def_scheme.specs.Exprs.{is_own, import_place, slots_global}
 use Rattle.def_scheme.specs.Modules.{slots}
 use Rattle.law_modules.specs.Linked.{Program, names, imported_names, variables, text, image, base_at, text_at, tab_at, imported_places, slots_in, bytes_in}

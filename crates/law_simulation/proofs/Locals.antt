@@ -9,7 +9,7 @@ use Rattle.wasm_tree.specs.declared.store.Value.TheVariants.{I64}
 use Rattle.law_effect.specs.Effect.{State as Target, Effect}
 use Rattle.law_effect.proofs.Steps.{get_runs, set_runs}
 use Rattle.typed_tree.specs.declared.types.TypeNo.{TypeNo}
-use Rattle.def_meaning.specs.Answer.{State as Source, Answer, then_give}
+use Rattle.def_meaning.specs.Answer.{State as Source, Answer, ◌▷◌}
 use Rattle.def_meaning.specs.Expressions.{Gives}
 use Rattle.def_scheme.specs.Coded.{Coded, Counts, plain, ◌⨾◌, with_number, number_local, address_local}
 use Rattle.law_simulation.specs.Scene.{Scene, calls, runs, HasHelpers, IsValue, word, Stands, keeping, Into, GivesNumber, Grows, IsFree, HasLocals, inside, Agrees, AgreesBeside, GoesOn}
@@ -143,7 +143,7 @@ module _ (k : Scene) where
     pub kept_gives : ((n : ℕ) → k.kept n ≡ None → (y : ℤ) → IsValue k.setting.home.types u y → (s : Source) (st : Target) → Stands (keeping k n (I64 (word x))) s st → (rest : List Instr) (stack : List Value)
         → Into (GivesNumber k w (runs k rest) stack) (runs k (list n ++ rest) st (stack ++ I64 (word y) ∷ [])) (f y s))
         → (e : ℕ) (c : Counts) → IsFree k c → HasLocals k (kept_code (inside k e) c).1 → (s : Source) (st : Target) → Stands k s st → (rest : List Instr) (stack : List Value)
-        → Into (GivesNumber k w (runs k rest) stack) (runs k ((kept_code (inside k e) c).0 ++ rest) st (stack ++ I64 (word x) ∷ [])) (then_give (second k.around s) f)
+        → Into (GivesNumber k w (runs k rest) stack) (runs k ((kept_code (inside k e) c).0 ++ rest) st (stack ++ I64 (word x) ∷ [])) (second k.around s ▷ f)
     kept_gives after e c free full s st h rest stack =
         let n : ℕ = number_local k.setting c.numbers in
         let more_numbers : Counts = record c { numbers = suc c.numbers } in
@@ -154,8 +154,8 @@ module _ (k : Scene) where
         let new : k.kept n ≡ None = free.numbers n (omega arith) in
         let set : Target = record st { locals = slice_set st.locals n v } in
         let kept : Stands (keeping k n v) s set = set_keeps k n v new less s st h in
-        subst (λ (c : List Instr). Into (GivesNumber k w (runs k rest) stack) (runs k (instr.LocalSet n ∷ c) st (stack ++ v ∷ [])) (then_give (second k.around s) f)) (sym (append_assoc code (list n) rest))
-        (subst (λ (r : Effect). Into (GivesNumber k w (runs k rest) stack) r (then_give (second k.around s) f)) (sym (set_runs_here k n v (code ++ (list n ++ rest)) s st stack less h))
+        subst (λ (c : List Instr). Into (GivesNumber k w (runs k rest) stack) (runs k (instr.LocalSet n ∷ c) st (stack ++ v ∷ [])) (second k.around s ▷ f)) (sym (append_assoc code (list n) rest))
+        (subst (λ (r : Effect). Into (GivesNumber k w (runs k rest) stack) r (second k.around s ▷ f)) (sym (set_runs_here k n v (code ++ (list n ++ rest)) s st stack less h))
         (into_then (GivesNumber (keeping k n v) u (runs k (list n ++ rest)) stack) (GivesNumber k w (runs k rest) stack) (runs k (code ++ (list n ++ rest)) set stack) (second k.around s) f
         ((beside n v new).gives e more_numbers (free_beside n v c refl free) (has_beside n v (y (inside k e) more_numbers).1 full) s set kept (list n ++ rest) stack)
         (λ y s' p. subst (λ (r : Effect). Into (GivesNumber k w (runs k rest) stack) r (f y s')) (sym p.run) (after n new y p.is s' p.st p.stands rest stack))))

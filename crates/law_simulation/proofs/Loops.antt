@@ -10,7 +10,9 @@ use Rattle.wasm_tree.specs.Numbers.{truth}
 use Rattle.law_effect.specs.Effect.{State as Target, Effect, FellThrough, Branched, StillRunning, Does as Effects, then_run, out_of, turn, turns, to_label}
 use Rattle.law_effect.proofs.Steps.{block_runs, loop_runs, br_runs, br_if_runs, to_label_keeps}
 use Rattle.typed_tree.specs.Types.{boolean}
-use Rattle.def_meaning.specs.Answer.{State as Source, Answer, Gave, Ended, Running, Outcome, Went, Left, Came, Stopped, Unfinished, then_go, with_answer}
+use Rattle.def_meaning.specs.Answer.{State as Source, Answer, Ended, ◌▷◌}
+use Rattle.def_meaning.specs.Outcome.{Outcome, Normal, Exited, Returned, then_go}
+use Rattle.def_meaning.specs.Answer as answer
 use Rattle.def_meaning.specs.Operators.{is_true}
 use Rattle.def_meaning.specs.Expressions.{Gives}
 use Rattle.def_meaning.specs.Statements.{Does, while_true, until_true, looped, loop_left}
@@ -47,20 +49,20 @@ module _ (k : Scene) (function : Bool) (has : HasHelpers k) (small : AreSmall k.
     -- the body of a turn, and the turns behind it
     body_turned : (j : ℕ) (r : Effect) (o : Outcome) (next : Source → Outcome) → Ends k function (suc (suc exit)) stack (leaves 0 stack) r o
         → ((s : Source) (st : Target) → Stands k s st → Ends k function (suc exit) stack (leaves 0 stack) (turns j (runs k code) st stack) (next s)) → Ends k function (suc exit) stack (leaves 0 stack) (turned j r) (then_go o next)
-    body_turned j r (Went s) next p h =
+    body_turned j r (answer.Value Normal s) next p h =
         subst (λ (e : Effect). Ends k function (suc exit) stack (leaves 0 stack) e (next s)) (sym (ap (turned j) p.run ∙ label_here p.st stack (turns j (runs k code)))) (h s p.st p.stands)
-    body_turned j r (Left s) next p h = record { st = p.st; stands = p.stands; run = ap (turned j) p.run }
-    body_turned j r (Came v s) next p h = record { below = p.below; st = p.st; stands = p.stands; run = ap (turned j) p.run }
-    body_turned j r (Stopped i out) next p h = ap (turned j) p
-    body_turned j r (Unfinished out) next p h = ap (turned j) p
+    body_turned j r (answer.Value Exited s) next p h = record { st = p.st; stands = p.stands; run = ap (turned j) p.run }
+    body_turned j r (answer.Value (Returned v) s) next p h = record { below = p.below; st = p.st; stands = p.stands; run = ap (turned j) p.run }
+    body_turned j r (Ended i out) next p h = ap (turned j) p
+    body_turned j r (answer.StillRunning out) next p h = ap (turned j) p
 
     -- the condition of a turn
     test_turned : (j : ℕ) (after : List Instr) (r : Effect) (a : Answer ℤ) (next : ℤ → Source → Outcome) → Into (GivesNumber k boolean (runs k after) stack) r a
         → ((v : ℤ) → IsValue k.setting.home.types boolean v → (s : Source) (st : Target) → Stands k s st → Ends k function (suc exit) stack (leaves 0 stack) (turned j (runs k after st (stack ++ I64 (word v) ∷ []))) (next v s))
-        → Ends k function (suc exit) stack (leaves 0 stack) (turned j r) (with_answer a next)
-    test_turned j after r (Gave v s) next p h = subst (λ (e : Effect). Ends k function (suc exit) stack (leaves 0 stack) (turned j e) (next v s)) (sym p.run) (h v p.is s p.st p.stands)
+        → Ends k function (suc exit) stack (leaves 0 stack) (turned j r) (a ▷ next)
+    test_turned j after r (answer.Value v s) next p h = subst (λ (e : Effect). Ends k function (suc exit) stack (leaves 0 stack) (turned j e) (next v s)) (sym p.run) (h v p.is s p.st p.stands)
     test_turned j after r (Ended i out) next p h = ap (turned j) p
-    test_turned j after r (Running out) next p h = ap (turned j) p
+    test_turned j after r (answer.StillRunning out) next p h = ap (turned j) p
 
   -- out of the block around the loop
   module _ (exit : ℕ) (rest : List Instr) (stack : List Value) where
@@ -68,15 +70,15 @@ module _ (k : Scene) (function : Bool) (has : HasHelpers k) (small : AreSmall k.
     out_loop r = then_run (out_of 0 (length stack) (then_run r (runs k []))) (runs k rest)
 
     pub after_loop : (r : Effect) (o : Outcome) → Ends k function (suc exit) stack (leaves 0 stack) r o → Ends k function exit stack (λ st. runs k rest st stack) (out_loop r) o
-    after_loop r (Went s) p = record {
+    after_loop r (answer.Value Normal s) p = record {
       st = p.st;
       stands = p.stands;
       run = ap out_loop p.run ∙ ap (λ (e : Effect). then_run e (runs k rest)) (label_here p.st stack FellThrough);
     }
-    after_loop r (Left s) p = record { st = p.st; stands = p.stands; run = ap out_loop p.run }
-    after_loop r (Came v s) p = record { below = p.below; st = p.st; stands = p.stands; run = ap out_loop p.run }
-    after_loop r (Stopped i out) p = ap out_loop p
-    after_loop r (Unfinished out) p = ap out_loop p
+    after_loop r (answer.Value Exited s) p = record { st = p.st; stands = p.stands; run = ap out_loop p.run }
+    after_loop r (answer.Value (Returned v) s) p = record { below = p.below; st = p.st; stands = p.stands; run = ap out_loop p.run }
+    after_loop r (Ended i out) p = ap out_loop p
+    after_loop r (answer.StillRunning out) p = ap out_loop p
 
   module _ (x y : Coded) (test : Gives ℤ) (step : Does) (hx : Agrees k boolean x test) (hy : Executes k function y step) where
     abbrev while_coded : Coded
@@ -102,26 +104,26 @@ module _ (k : Scene) (function : Bool) (has : HasHelpers k) (small : AreSmall k.
           (branches (step k.around s) (hy.goes (e + 2) middle (free_after k (hx.grows (e + 2) c) free) full s st h (instr.Br 0 ∷ []) stack))
         where
           branches : (o : Outcome) → Ends k function (e + 2) stack (λ st. runs k (instr.Br 0 ∷ []) st stack) (runs k (body ++ instr.Br 0 ∷ []) st stack) o → Ends k function (e + 2) stack (leaves 0 stack) (runs k (body ++ instr.Br 0 ∷ []) st stack) o
-          branches (Went s) p = record { st = p.st; stands = p.stands; run = p.run ∙ br_runs k.modules k.fixed k.turns (calls k) k.own [] p.st 0 stack }
-          branches (Left s) p = p
-          branches (Came v s) p = p
-          branches (Stopped j out) p = p
-          branches (Unfinished out) p = p
+          branches (answer.Value Normal s) p = record { st = p.st; stands = p.stands; run = p.run ∙ br_runs k.modules k.fixed k.turns (calls k) k.own [] p.st 0 stack }
+          branches (answer.Value Exited s) p = p
+          branches (answer.Value (Returned v) s) p = p
+          branches (Ended j out) p = p
+          branches (answer.StillRunning out) p = p
 
       while_turns : (j : ℕ) (s : Source) (st : Target) → Stands k s st → Ends k function (suc label) stack (leaves 0 stack) (turns j (runs k code) st stack) (while_true j (test k.around) (step k.around) s)
       while_turns zero s st h = ap StillRunning h.out
       while_turns (suc j) s st h =
           test_turned label code stack j (is_zero ∷ instr.BrIf 1 ∷ (body ++ instr.Br 0 ∷ [])) (runs k code st stack) (test k.around s)
-          (λ v s. if is_true v then then_go (step k.around s) (while_true j (test k.around) (step k.around)) else Went s)
+          (λ v s. if is_true v then then_go (step k.around s) (while_true j (test k.around) (step k.around)) else answer.Value Normal s)
           (hx.gives (e + 2) c free (has_before k (hy.grows (e + 2) middle) full) s st h (is_zero ∷ instr.BrIf 1 ∷ (body ++ instr.Br 0 ∷ [])) stack)
           (λ v is s' st' h'.
-          subst (λ (r : Effect). Ends k function (suc label) stack (leaves 0 stack) (turned label code stack j r) (if is_true v then then_go (step k.around s') (while_true j (test k.around) (step k.around)) else Went s'))
+          subst (λ (r : Effect). Ends k function (suc label) stack (leaves 0 stack) (turned label code stack j r) (if is_true v then then_go (step k.around s') (while_true j (test k.around) (step k.around)) else answer.Value Normal s'))
           (sym (tested v is 1 (body ++ instr.Br 0 ∷ []) st' stack)) (by (λ s'' st'' h''. while_turns j s'' st'' h'') s' st' h' (is_true v)))
         where
           by : ((s : Source) (st : Target) → Stands k s st → Ends k function (suc label) stack (leaves 0 stack) (turns j (runs k code) st stack) (while_true j (test k.around) (step k.around) s))
               → (s : Source) (st : Target) → Stands k s st → (b : Bool)
               → Ends k function (suc label) stack (leaves 0 stack) (turned label code stack j (then_run (if truth (not b) == 0 then FellThrough st stack else Branched 1 st stack) (runs k (body ++ instr.Br 0 ∷ []))))
-              (if b then then_go (step k.around s) (while_true j (test k.around) (step k.around)) else Went s)
+              (if b then then_go (step k.around s) (while_true j (test k.around) (step k.around)) else answer.Value Normal s)
           by next s st h true =
               body_turned label code stack j (runs k (body ++ instr.Br 0 ∷ []) st stack) (step k.around s) (while_true j (test k.around) (step k.around)) (body_goes s st h) next
           by next s st h false = record { st = st; stands = h; run = refl }
@@ -151,25 +153,25 @@ module _ (k : Scene) (function : Bool) (has : HasHelpers k) (small : AreSmall k.
     -- the body, and the condition behind it
     body_again : (j : ℕ) (after : List Instr) (r : Effect) (o : Outcome) (next : Source → Outcome) → Ends k function (suc exit) stack (λ st. runs k after st stack) r o
         → ((s : Source) (st : Target) → Stands k s st → Ends k function exit stack falls (again j (runs k after st stack)) (next s)) → Ends k function exit stack falls (again j r) (then_go o next)
-    body_again j after r (Went s) next p h = subst (λ (e : Effect). Ends k function exit stack falls (again j e) (next s)) (sym p.run) (h s p.st p.stands)
-    body_again j after r (Left s) next p h = record { st = p.st; stands = p.stands; run = ap (again j) p.run }
-    body_again j after r (Came v s) next p h = record { below = p.below; st = p.st; stands = p.stands; run = ap (again j) p.run }
-    body_again j after r (Stopped i out) next p h = ap (again j) p
-    body_again j after r (Unfinished out) next p h = ap (again j) p
+    body_again j after r (answer.Value Normal s) next p h = subst (λ (e : Effect). Ends k function exit stack falls (again j e) (next s)) (sym p.run) (h s p.st p.stands)
+    body_again j after r (answer.Value Exited s) next p h = record { st = p.st; stands = p.stands; run = ap (again j) p.run }
+    body_again j after r (answer.Value (Returned v) s) next p h = record { below = p.below; st = p.st; stands = p.stands; run = ap (again j) p.run }
+    body_again j after r (Ended i out) next p h = ap (again j) p
+    body_again j after r (answer.StillRunning out) next p h = ap (again j) p
 
     test_again : (j : ℕ) (after : List Instr) (r : Effect) (a : Answer ℤ) (next : ℤ → Source → Outcome) → Into (GivesNumber k boolean (runs k after) stack) r a
         → ((v : ℤ) → IsValue k.setting.home.types boolean v → (s : Source) (st : Target) → Stands k s st → Ends k function exit stack falls (again j (runs k after st (stack ++ I64 (word v) ∷ []))) (next v s))
-        → Ends k function exit stack falls (again j r) (with_answer a next)
-    test_again j after r (Gave v s) next p h = subst (λ (e : Effect). Ends k function exit stack falls (again j e) (next v s)) (sym p.run) (h v p.is s p.st p.stands)
+        → Ends k function exit stack falls (again j r) (a ▷ next)
+    test_again j after r (answer.Value v s) next p h = subst (λ (e : Effect). Ends k function exit stack falls (again j e) (next v s)) (sym p.run) (h v p.is s p.st p.stands)
     test_again j after r (Ended i out) next p h = ap (again j) p
-    test_again j after r (Running out) next p h = ap (again j) p
+    test_again j after r (answer.StillRunning out) next p h = ap (again j) p
 
   fallen : (exit : ℕ) (rest : List Instr) (stack : List Value) (r : Effect) (o : Outcome) → Ends k function exit stack (λ st. FellThrough st stack) r o → Ends k function exit stack (λ st. runs k rest st stack) (then_run r (runs k rest)) o
-  fallen exit rest stack r (Went s) p = record { st = p.st; stands = p.stands; run = ap (λ (e : Effect). then_run e (runs k rest)) p.run }
-  fallen exit rest stack r (Left s) p = record { st = p.st; stands = p.stands; run = ap (λ (e : Effect). then_run e (runs k rest)) p.run }
-  fallen exit rest stack r (Came v s) p = record { below = p.below; st = p.st; stands = p.stands; run = ap (λ (e : Effect). then_run e (runs k rest)) p.run }
-  fallen exit rest stack r (Stopped i out) p = ap (λ (e : Effect). then_run e (runs k rest)) p
-  fallen exit rest stack r (Unfinished out) p = ap (λ (e : Effect). then_run e (runs k rest)) p
+  fallen exit rest stack r (answer.Value Normal s) p = record { st = p.st; stands = p.stands; run = ap (λ (e : Effect). then_run e (runs k rest)) p.run }
+  fallen exit rest stack r (answer.Value Exited s) p = record { st = p.st; stands = p.stands; run = ap (λ (e : Effect). then_run e (runs k rest)) p.run }
+  fallen exit rest stack r (answer.Value (Returned v) s) p = record { below = p.below; st = p.st; stands = p.stands; run = ap (λ (e : Effect). then_run e (runs k rest)) p.run }
+  fallen exit rest stack r (Ended i out) p = ap (λ (e : Effect). then_run e (runs k rest)) p
+  fallen exit rest stack r (answer.StillRunning out) p = ap (λ (e : Effect). then_run e (runs k rest)) p
 
   module _ (x y : Coded) (test : Gives ℤ) (step : Does) (hx : Agrees k boolean x test) (hy : Executes k function y step) where
     abbrev repeat_coded : Coded
@@ -189,21 +191,21 @@ module _ (k : Scene) (function : Bool) (has : HasHelpers k) (small : AreSmall k.
       until_turns zero s st h = ap StillRunning h.out
       until_turns (suc j) s st h =
           body_again label until_code stack j until (runs k until_code st stack) (step k.around s)
-          (λ s. with_answer (test k.around s) (λ v s. if is_true v then Went s else until_true j (step k.around) (test k.around) s))
+          (λ s. test k.around s ▷ λ v s. if is_true v then answer.Value Normal s else until_true j (step k.around) (test k.around) s)
           (subst (λ (l : ℕ). Ends k function l stack (λ st. runs k until st stack) (runs k until_code st stack) (step k.around s)) same
           (hy.goes (e + 1) c free (has_before k (hx.grows (e + 1) (y (inside k (e + 1)) c).1) full) s st h until stack))
           (λ s' st' h'.
           test_again label until_code stack j (is_zero ∷ instr.BrIf 0 ∷ []) (runs k until st' stack) (test k.around s')
-          (λ v s. if is_true v then Went s else until_true j (step k.around) (test k.around) s)
+          (λ v s. if is_true v then answer.Value Normal s else until_true j (step k.around) (test k.around) s)
           (hx.gives (e + 1) (y (inside k (e + 1)) c).1 (free_after k (hy.grows (e + 1) c) free) full s' st' h' (is_zero ∷ instr.BrIf 0 ∷ []) stack)
           (λ v is s'' st'' h''.
-          subst (λ (r : Effect). Ends k function label stack (λ st. FellThrough st stack) (again label until_code stack j r) (if is_true v then Went s'' else until_true j (step k.around) (test k.around) s''))
+          subst (λ (r : Effect). Ends k function label stack (λ st. FellThrough st stack) (again label until_code stack j r) (if is_true v then answer.Value Normal s'' else until_true j (step k.around) (test k.around) s''))
           (sym (tested v is 0 [] st'' stack)) (by (λ s st h. until_turns j s st h) s'' st'' h'' (is_true v))))
         where
           by : ((s : Source) (st : Target) → Stands k s st → Ends k function label stack (λ st. FellThrough st stack) (turns j (runs k until_code) st stack) (until_true j (step k.around) (test k.around) s))
               → (s : Source) (st : Target) → Stands k s st → (b : Bool)
               → Ends k function label stack (λ st. FellThrough st stack) (again label until_code stack j (then_run (if truth (not b) == 0 then FellThrough st stack else Branched 0 st stack) (runs k [])))
-              (if b then Went s else until_true j (step k.around) (test k.around) s)
+              (if b then answer.Value Normal s else until_true j (step k.around) (test k.around) s)
           by next s st h true = record { st = st; stands = h; run = refl }
           by next s st h false =
               subst (λ (r : Effect). Ends k function label stack (λ st. FellThrough st stack) r (until_true j (step k.around) (test k.around) s)) (sym (label_here st stack (turns j (runs k until_code)))) (next s st h)
@@ -231,13 +233,13 @@ module _ (k : Scene) (function : Bool) (has : HasHelpers k) (small : AreSmall k.
       body_loops : (j : ℕ) (r : Effect) (o : Outcome) (next : Source → Outcome) → Ends k function 1 stack (λ st. runs k (instr.Br 0 ∷ []) st stack) r o
           → ((s : Source) (st : Target) → Stands k s st → Ends k function (suc exit) stack (leaves 0 stack) (turns j (runs k loop_code) st stack) (next s))
           → Ends k function (suc exit) stack (leaves 0 stack) (again exit loop_code stack j r) (loop_left o next)
-      body_loops j r (Went s) next p h =
+      body_loops j r (answer.Value Normal s) next p h =
           subst (λ (e : Effect). Ends k function (suc exit) stack (leaves 0 stack) e (next s))
           (sym (ap (again exit loop_code stack j) (p.run ∙ br_runs k.modules k.fixed k.turns (calls k) k.own [] p.st 0 stack) ∙ label_here p.st stack (turns j (runs k loop_code)))) (h s p.st p.stands)
-      body_loops j r (Left s) next p h = record { st = p.st; stands = p.stands; run = ap (again exit loop_code stack j) p.run }
-      body_loops j r (Came v s) next p h = record { below = p.below; st = p.st; stands = p.stands; run = ap (again exit loop_code stack j) p.run }
-      body_loops j r (Stopped i out) next p h = ap (again exit loop_code stack j) p
-      body_loops j r (Unfinished out) next p h = ap (again exit loop_code stack j) p
+      body_loops j r (answer.Value Exited s) next p h = record { st = p.st; stands = p.stands; run = ap (again exit loop_code stack j) p.run }
+      body_loops j r (answer.Value (Returned v) s) next p h = record { below = p.below; st = p.st; stands = p.stands; run = ap (again exit loop_code stack j) p.run }
+      body_loops j r (Ended i out) next p h = ap (again exit loop_code stack j) p
+      body_loops j r (answer.StillRunning out) next p h = ap (again exit loop_code stack j) p
 
       loop_turns : (j : ℕ) (s : Source) (st : Target) → Stands k s st → Ends k function (suc exit) stack (leaves 0 stack) (turns j (runs k loop_code) st stack) (looped j (step k.around) s)
       loop_turns zero s st h = ap StillRunning h.out

@@ -13,11 +13,13 @@ use Rattle.typed_tree.specs.declared.typed_module.TypedModule.{TypedModule}
 use Rattle.layout_storage.specs.Types.{Ty, Scalar, Hidden, Cell, Field, row, component, IsFit}
 use Rattle.layout_storage.specs.Sizes.{size, offset}
 use Rattle.def_meaning.specs.Store.{Location, placed, fresh}
-use Rattle.def_meaning.specs.Answer.{State as Source, Outcome, Went, Left, Came, Stopped, Unfinished}
-use Rattle.def_meaning.specs.Around.{Modules, Around}
+use Rattle.def_meaning.specs.Answer.{State as Source, StillRunning}
+use Rattle.def_meaning.specs.Outcome.{Outcome, Normal, Exited, Returned}
+use Rattle.def_meaning.specs.Answer as answer
+use Rattle.def_meaning.specs.Environment.{Modules, Environment}
 use Rattle.def_meaning.specs.Calls.{body_does, calling}
 use Rattle.def_meaning.specs.Expressions.{Asks}
-use Rattle.def_meaning.specs.Runs.{around_body, body_frame, storage}
+use Rattle.def_meaning.specs.Runs.{body_environment, body_frame, storage}
 use Rattle.law_memory.specs.Relation.{Says, Holds}
 use Rattle.law_memory.proofs.Worlds.{row_size, call_ends, Where, Old, New, All, where_is, other_behind, placed_else}
 use Rattle.def_scheme.specs.Coded.{Counts}
@@ -87,8 +89,8 @@ module _ (k : Scene) (p : Modules) (ask : Asks) (m : TypedModule) (place text : 
   abbrev many : ℕ
   many = locals_main m text
 
-  abbrev a : Around
-  a = around_body p place m left
+  abbrev a : Environment
+  a = body_environment p place m left
 
   abbrev K : Scene
   K = main_scene k m text base texts a
@@ -177,11 +179,11 @@ module _ (k : Scene) (p : Modules) (ask : Asks) (m : TypedModule) (place text : 
     }
 
     ended : (o : Outcome) (R : Effect) → Ends K false 0 [] (λ st. runs K [] st []) R o → Back R o
-    ended (Went s') R g = came s' g.st g.stands [] _ (ap (back 0 locals below) g.run)
-    ended (Left s') R g = came s' g.st g.stands [] _ (ap (back 0 locals below) g.run)
-    ended (Came v s') R g = came s' g.st g.stands.0 g.below _ (ap (back 0 locals below) g.run)
-    ended (Stopped j out) R g = ap (back 0 locals below) g
-    ended (Unfinished out) R g = ap (back 0 locals below) g
+    ended (answer.Value Normal s') R g = came s' g.st g.stands [] _ (ap (back 0 locals below) g.run)
+    ended (answer.Value Exited s') R g = came s' g.st g.stands [] _ (ap (back 0 locals below) g.run)
+    ended (answer.Value (Returned v) s') R g = came s' g.st g.stands.0 g.below _ (ap (back 0 locals below) g.run)
+    ended (answer.Ended j out) R g = ap (back 0 locals below) g
+    ended (StillRunning out) R g = ap (back 0 locals below) g
 
     frames_here : HasFrames K []
     frames_here = record { roots = []; chain = chain_end; frames = tt; own = tt }
@@ -233,6 +235,6 @@ pub main_does : MainDoes
 main_does modules fx serves extra limit p pages base texts n own place text f m t count room ours bound is s bytes held locals below =
     let left : ℕ = storage p pages - body_frame in
     let g : Ground = record { program = p; base = base; texts = texts; limit = limit } in
-    subst (λ (r : Effect). BodyEnds g locals below (back 0 locals below r) (body_does p n (calling p n n) m.body (around_body p place m left) s))
+    subst (λ (r : Effect). BodyEnds g locals below (back 0 locals below r) (body_does p n (calling p n n) m.body (body_environment p place m left) s))
     (sym (one_more modules fx serves extra n limit p base texts n own f t (I32 (size (row base)) ∷ []) bytes s.out ours bound))
     (body_goes (core modules fx serves extra n limit p base texts own place m n) p (calling p n n) m place text base texts left t is count room s bytes held.holds held.long locals below)

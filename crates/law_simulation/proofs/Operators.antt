@@ -16,9 +16,10 @@ use Rattle.typed_tree.specs.declared.types.TypeNo.{TypeNo}
 use Rattle.typed_tree.specs.declared.shape.Scalar.{Scalar as Range}
 use Rattle.typed_tree.specs.declared.known_types.Types.{Types}
 use Rattle.typed_tree.specs.Known.{scalar_at}
-use Rattle.def_meaning.specs.Answer.{State as Source, Answer, Gave, then_give, overflow}
+use Rattle.def_meaning.specs.Answer.{State as Source, Answer, ◌▷◌, overflow}
+use Rattle.def_meaning.specs.Answer as answer
 use Rattle.def_meaning.specs.Operators.{is_between}
-use Rattle.def_meaning.specs.Around.{Around}
+use Rattle.def_meaning.specs.Environment.{Environment}
 use Rattle.def_meaning.specs.Expressions.{Gives, within_range}
 use Rattle.def_scheme.specs.Coded.{Coded, Counts, plain, ◌⨾◌, number, operation}
 use Rattle.def_scheme.specs.Cells.{in_range}
@@ -56,8 +57,8 @@ module _ (k : Scene) (has : HasHelpers k) (small : AreSmall k.setting.home.types
 
   -- ---- constants
 
-  pub constant_agrees : (t : TypeNo) (n : ℤ) → IsValue types t n → Agrees k t (plain (number n ∷ [])) (λ a s. Gave n s)
-  constant_agrees t n is = plain_agrees k t (plain (number n ∷ [])) (number n ∷ []) (λ a s. Gave n s) (λ e c. refl) (λ s st h rest stack. record {
+  pub constant_agrees : (t : TypeNo) (n : ℤ) → IsValue types t n → Agrees k t (plain (number n ∷ [])) (λ a s. answer.Value n s)
+  constant_agrees t n is = plain_agrees k t (plain (number n ∷ [])) (number n ∷ []) (λ a s. answer.Value n s) (λ e c. refl) (λ s st h rest stack. record {
     st = st;
     stands = h;
     is = is;
@@ -85,14 +86,14 @@ module _ (k : Scene) (has : HasHelpers k) (small : AreSmall k.setting.home.types
       (x : ℤ) → IsValue types t x → (y : ℤ) → IsValue types u y → (s : Source) (st : Target) → Stands k s st → (rest : List Instr) (stack : List Value)
       → Into (Numbers w rest stack) (runs k (list ++ rest) st ((stack ++ I64 (word x) ∷ []) ++ I64 (word y) ∷ [])) (f x y s)
 
-  pub second_goes : (t u w : TypeNo) (code after : Coded) (list : List Instr) (value : Gives ℤ) (f : ℤ → ℤ → Around → Source → Answer ℤ) → Agrees k u code value → IsPlain k after list
-      → Makes t u w list (λ x y s. f x y k.around s) → GoesOn k t w (code ⨾ after) (λ x a s. then_give (value a s) (λ y s. f x y a s))
+  pub second_goes : (t u w : TypeNo) (code after : Coded) (list : List Instr) (value : Gives ℤ) (f : ℤ → ℤ → Environment → Source → Answer ℤ) → Agrees k u code value → IsPlain k after list
+      → Makes t u w list (λ x y s. f x y k.around s) → GoesOn k t w (code ⨾ after) (λ x a s. value a s ▷ λ y s. f x y a s)
   second_goes t u w code after list value f ha is go = record {
     grows = λ e c. subst (λ (p : List Instr × Counts). Grows c p.1) (sym (is e (code (inside k e) c).1)) (ha.grows e c);
     gives = λ e c free full x in_type s st h rest stack.
         let first = code (inside k e) c in
-        subst (λ (p : List Instr × Counts). Into (Numbers w rest stack) (runs k ((first.0 ++ p.0) ++ rest) st (stack ++ I64 (word x) ∷ [])) (then_give (value k.around s) (λ y s. f x y k.around s))) (sym (is e first.1))
-        (subst (λ (code : List Instr). Into (Numbers w rest stack) (runs k code st (stack ++ I64 (word x) ∷ [])) (then_give (value k.around s) (λ y s. f x y k.around s))) (sym (append_assoc first.0 list rest))
+        subst (λ (p : List Instr × Counts). Into (Numbers w rest stack) (runs k ((first.0 ++ p.0) ++ rest) st (stack ++ I64 (word x) ∷ [])) (value k.around s ▷ λ y s. f x y k.around s)) (sym (is e first.1))
+        (subst (λ (code : List Instr). Into (Numbers w rest stack) (runs k code st (stack ++ I64 (word x) ∷ [])) (value k.around s ▷ λ y s. f x y k.around s)) (sym (append_assoc first.0 list rest))
         (into_then (Numbers u (list ++ rest) (stack ++ I64 (word x) ∷ [])) (Numbers w rest stack) (runs k (first.0 ++ (list ++ rest)) st (stack ++ I64 (word x) ∷ [])) (value k.around s) (λ y s. f x y k.around s)
         (ha.gives e c free (subst (λ (p : List Instr × Counts). HasLocals k p.1) (is e first.1) full) s st h (list ++ rest) (stack ++ I64 (word x) ∷ []))
         (λ y s' p. subst (λ (r : Effect). Into (Numbers w rest stack) r (f x y k.around s')) (sym p.run) (go x in_type y p.is s' p.st p.stands rest stack))));

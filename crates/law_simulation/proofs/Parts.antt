@@ -5,16 +5,17 @@ use Rattle.wasm_tree.specs.declared.store.Value.{Value}
 use Rattle.wasm_tree.specs.declared.store.Value.TheVariants.{I64}
 use Rattle.law_effect.specs.Effect.{State as Target, Effect}
 use Rattle.typed_tree.specs.declared.types.TypeNo.{TypeNo}
-use Rattle.def_meaning.specs.Answer.{State as Source, Answer, Gave, Ended, Running, then_give}
+use Rattle.def_meaning.specs.Answer.{State as Source, Answer, Ended, StillRunning, ◌▷◌}
+use Rattle.def_meaning.specs.Answer as answer
 use Rattle.def_meaning.specs.Expressions.{Gives}
 use Rattle.def_scheme.specs.Coded.{Coded, Counts, Setting, ◌⨾◌}
 use Rattle.law_simulation.specs.Scene.{Scene, runs, IsValue, word, Stands, Into, GivesNumber, Grows, IsFree, HasLocals, inside, Agrees, GoesOn}
 
 pub into_then : {A B : Type 0} (P : A → Source → Effect → Type 0) (Q : B → Source → Effect → Type 0) (r : Effect) (a : Answer A) (next : A → Source → Answer B)
-    → Into P r a → ((x : A) (s : Source) → P x s r → Into Q r (next x s)) → Into Q r (then_give a next)
-into_then P Q r (Gave x s) next p h = h x s p
+    → Into P r a → ((x : A) (s : Source) → P x s r → Into Q r (next x s)) → Into Q r (a ▷ next)
+into_then P Q r (answer.Value x s) next p h = h x s p
 into_then P Q r (Ended j out) next p h = p
-into_then P Q r (Running out) next p h = p
+into_then P Q r (StillRunning out) next p h = p
 
 pub grows_more : {c d e : Counts} → Grows c d → Grows d e → Grows c e
 grows_more g h = record { numbers = omega (arith, g.numbers, h.numbers); addresses = omega (arith, g.addresses, h.addresses) }
@@ -44,13 +45,13 @@ module _ (k : Scene) where
     pub both : (from : Target) (below : List Value)
         → Into (Numbers t (second ++ rest) stack) (runs k (first ++ (second ++ rest)) from below) a
         → ((v : ℤ) → IsValue k.setting.home.types t v → (s : Source) (st : Target) → Stands k s st → Into (Numbers u rest stack) (runs k (second ++ rest) st (stack ++ I64 (word v) ∷ [])) (next v s))
-        → Into (Numbers u rest stack) (runs k ((first ++ second) ++ rest) from below) (then_give a next)
+        → Into (Numbers u rest stack) (runs k ((first ++ second) ++ rest) from below) (a ▷ next)
     both from below h go =
-        subst (λ (code : List Instr). Into (Numbers u rest stack) (runs k code from below) (then_give a next)) (sym (append_assoc first second rest))
+        subst (λ (code : List Instr). Into (Numbers u rest stack) (runs k code from below) (a ▷ next)) (sym (append_assoc first second rest))
         (into_then (Numbers t (second ++ rest) stack) (Numbers u rest stack) (runs k (first ++ (second ++ rest)) from below) a next h
         (λ v s p. subst (λ (r : Effect). Into (Numbers u rest stack) r (next v s)) (sym p.run) (go v p.is s p.st p.stands)))
 
-  pub then_agrees : (t u : TypeNo) (x y : Coded) (value : Gives ℤ) (next : ℤ → Gives ℤ) → Agrees k t x value → GoesOn k t u y next → Agrees k u (x ⨾ y) (λ a s. then_give (value a s) (λ v s. next v a s))
+  pub then_agrees : (t u : TypeNo) (x y : Coded) (value : Gives ℤ) (next : ℤ → Gives ℤ) → Agrees k t x value → GoesOn k t u y next → Agrees k u (x ⨾ y) (λ a s. value a s ▷ λ v s. next v a s)
   then_agrees t u x y value next hx hy = record {
     grows = λ e c. grows_more (hx.grows e c) (hy.grows e (x (inside k e) c).1);
     gives = λ e c free has s st h rest stack.
@@ -61,7 +62,7 @@ module _ (k : Scene) where
         (λ v is s' st' h'. hy.gives e first.1 (free_after (hx.grows e c) free) has v is s' st' h' rest stack);
   }
 
-  pub then_goes : (t u w : TypeNo) (x y : Coded) (value next : ℤ → Gives ℤ) → GoesOn k t u x value → GoesOn k u w y next → GoesOn k t w (x ⨾ y) (λ v a s. then_give (value v a s) (λ v s. next v a s))
+  pub then_goes : (t u w : TypeNo) (x y : Coded) (value next : ℤ → Gives ℤ) → GoesOn k t u x value → GoesOn k u w y next → GoesOn k t w (x ⨾ y) (λ v a s. value v a s ▷ λ v s. next v a s)
   then_goes t u w x y value next hx hy = record {
     grows = λ e c. grows_more (hx.grows e c) (hy.grows e (x (inside k e) c).1);
     gives = λ e c free has v is s st h rest stack.

@@ -18,8 +18,9 @@ use Rattle.layout_storage.specs.Sizes.{offset, size}
 use Rattle.layout_storage.specs.Shapes.{tree, elements_of}
 use Rattle.layout_storage.specs.Texts.{passed}
 use Rattle.def_meaning.specs.Store.{Location}
-use Rattle.def_meaning.specs.Answer.{State as Source, Answer, Gave, Ended, Running, then_give}
-use Rattle.def_meaning.specs.Around.{Passed, Number, Variable, Array as Whole, Text, named, location_of, high_of}
+use Rattle.def_meaning.specs.Answer.{State as Source, Answer, Ended, StillRunning, ◌▷◌}
+use Rattle.def_meaning.specs.Answer as answer
+use Rattle.def_meaning.specs.Environment.{Passed, Number, Variable, Array as Whole, Text, named, location_of, high_of}
 use Rattle.def_meaning.specs.Expressions.{Gives}
 use Rattle.law_memory.proofs.Procedures.{number_means}
 use Rattle.law_memory.proofs.Worlds.{lies}
@@ -36,10 +37,10 @@ use Rattle.law_simulation.specs.Frames.{Kinds, Open, kind_at, HasFrames}
 use Rattle.law_simulation.specs.Passing.{Form, ByNumber, ByCopy, ByName, ByArray, IsPassed, GivesPassed, Passes}
 use Rattle.law_simulation.proofs.CallsSlots.{array_here, open_locates, high_runs}
 
-pub give_assoc : {A B C : Type 0} (a : Answer A) (f : A → Source → Answer B) (g : B → Source → Answer C) → then_give (then_give a f) g ≡ then_give a (λ x s. then_give (f x s) g)
-give_assoc (Gave x s) f g = refl
+pub give_assoc : {A B C : Type 0} (a : Answer A) (f : A → Source → Answer B) (g : B → Source → Answer C) → ((a ▷ f) ▷ g) ≡ (a ▷ λ x s. f x s ▷ g)
+give_assoc (answer.Value x s) f g = refl
 give_assoc (Ended j out) f g = refl
-give_assoc (Running out) f g = refl
+give_assoc (StillRunning out) f g = refl
 
 pub passes_alike : (k : Scene) (form : Form) (x : Coded) (f g : Gives Passed) → ((s : Source) → f k.around s ≡ g k.around s) → Passes k form x f → Passes k form x g
 passes_alike k form x f g same h = record {
@@ -48,11 +49,11 @@ passes_alike k form x f g same h = record {
 }
 
 -- a number for a value formal
-pub value_passes : (k : Scene) (t : TypeNo) (c : Scalar) (x : Coded) (value : Gives ℤ) → IsCell k.setting.home.types t c → Agrees k t x value → Passes k (ByNumber c) x (λ a s. then_give (value a s) (λ v s. Gave (Number v) s))
+pub value_passes : (k : Scene) (t : TypeNo) (c : Scalar) (x : Coded) (value : Gives ℤ) → IsCell k.setting.home.types t c → Agrees k t x value → Passes k (ByNumber c) x (λ a s. value a s ▷ λ v s. answer.Value (Number v) s)
 value_passes k t c x value cell ha = record {
   grows = ha.grows;
   gives = λ e counts free full s st h rest stack.
-      into_then (GivesNumber k t (runs k rest) stack) (GivesPassed k (ByNumber c) (runs k rest) stack) (runs k ((x (inside k e) counts).0 ++ rest) st stack) (value k.around s) (λ v s. Gave (Number v) s)
+      into_then (GivesNumber k t (runs k rest) stack) (GivesPassed k (ByNumber c) (runs k rest) stack) (runs k ((x (inside k e) counts).0 ++ rest) st stack) (value k.around s) (λ v s. answer.Value (Number v) s)
       (ha.gives e counts free full s st h rest stack)
       (λ v s' p. record { st = p.st; stands = p.stands; values = I64 (word v) ∷ []; is = (cell.bounds v p.is, number_means k.program c v cell.number, refl); run = p.run });
 }
@@ -61,14 +62,14 @@ value_passes k t c x value cell ha = record {
 module _ (k : Scene) (form : Form) (t : Ty) (d after : Coded) (list : List Instr) (found : Gives Location) (next : Location → Passed) (hd : Locates k t d found) (plainly : IsPlain k after list)
     (go : (l : Location) → component (row k.world) l ≡ Some t → 0 < length l → (s : Source) (st : Target) → Stands k s st → (rest : List Instr) (stack : List Value)
     → GivesPassed k form (runs k rest) stack (next l) s (runs k (list ++ rest) st (stack ++ I32 (place k l) ∷ []))) where
-  pub address_passes : Passes k form (d ⨾ after) (λ a s. then_give (found a s) (λ l s. Gave (next l) s))
+  pub address_passes : Passes k form (d ⨾ after) (λ a s. found a s ▷ λ l s. answer.Value (next l) s)
   address_passes = record {
     grows = λ e c. subst (λ (p : List Instr × Counts). Grows c p.1) (sym (plainly e (d (inside k e) c).1)) (hd.grows e c);
     gives = λ e c free full s st h rest stack.
         let first = d (inside k e) c in
-        let on : Location → Source → Answer Passed = λ l s. Gave (next l) s in
-        subst (λ (p : List Instr × Counts). Into (GivesPassed k form (runs k rest) stack) (runs k ((first.0 ++ p.0) ++ rest) st stack) (then_give (found k.around s) on)) (sym (plainly e first.1))
-        (subst (λ (code : List Instr). Into (GivesPassed k form (runs k rest) stack) (runs k code st stack) (then_give (found k.around s) on)) (sym (append_assoc first.0 list rest))
+        let on : Location → Source → Answer Passed = λ l s. answer.Value (next l) s in
+        subst (λ (p : List Instr × Counts). Into (GivesPassed k form (runs k rest) stack) (runs k ((first.0 ++ p.0) ++ rest) st stack) (found k.around s ▷ on)) (sym (plainly e first.1))
+        (subst (λ (code : List Instr). Into (GivesPassed k form (runs k rest) stack) (runs k code st stack) (found k.around s ▷ on)) (sym (append_assoc first.0 list rest))
         (into_then (GivesPlace k t (runs k (list ++ rest)) stack) (GivesPassed k form (runs k rest) stack) (runs k (first.0 ++ (list ++ rest)) st stack) (found k.around s) on
         (hd.gives e c free (subst (λ (p : List Instr × Counts). HasLocals k p.1) (plainly e first.1) full) s st h (list ++ rest) stack)
         (λ l s' p. subst (λ (r : Effect). GivesPassed k form (runs k rest) stack (next l) s' r) (sym p.run) (go l p.type p.some s' p.st p.stands rest stack))));
@@ -87,11 +88,11 @@ module _ (k : Scene) (set : IsSet k) where
   }
 
   -- a variable for a VAR formal
-  pub name_passes : (t : Ty) (d : Coded) (found : Gives Location) → Locates k t d found → Passes k (ByName t) (d ⨾ plain (extended ∷ [])) (λ a s. then_give (found a s) (λ l s. Gave (Variable l) s))
+  pub name_passes : (t : Ty) (d : Coded) (found : Gives Location) → Locates k t d found → Passes k (ByName t) (d ⨾ plain (extended ∷ [])) (λ a s. found a s ▷ λ l s. answer.Value (Variable l) s)
   name_passes t d found hd = address_passes k (ByName t) t d (plain (extended ∷ [])) (extended ∷ []) found Variable hd (λ e c. refl) (place_goes (ByName t) t (λ l type some. (type, some, refl)))
 
   -- a whole array or record
-  pub copy_passes : (t : Ty) (d : Coded) (found : Gives Location) → Locates k t d found → Passes k (ByCopy t) (d ⨾ plain (extended ∷ [])) (λ a s. then_give (found a s) (λ l s. Gave (Variable l) s))
+  pub copy_passes : (t : Ty) (d : Coded) (found : Gives Location) → Locates k t d found → Passes k (ByCopy t) (d ⨾ plain (extended ∷ [])) (λ a s. found a s ▷ λ l s. answer.Value (Variable l) s)
   copy_passes t d found hd = address_passes k (ByCopy t) t d (plain (extended ∷ [])) (extended ∷ []) found Variable hd (λ e c. refl) (place_goes (ByCopy t) t (λ l type some. (type, some, refl)))
 
   two_pushed : (s : List Value) (a b : Value) → (s ++ a ∷ []) ++ b ∷ [] ≡ s ++ a ∷ b ∷ []
@@ -99,7 +100,7 @@ module _ (k : Scene) (set : IsSet k) where
 
   -- an array of a fixed length
   pub array_passes : (is_var : Bool) (t : TypeNo) (r : Range) (u : Ty) (d : Coded) (found : Gives Location) → code.index_of k.setting.home.types t ≡ Some r → (r.high -ℤ r.low) ≤ℤ pos 4294967295 → tree k.setting.home.types t ≡ Array (elements_of (Some r)) u → Locates k (tree k.setting.home.types t) d found
-      → Passes k (ByArray is_var u) (d ⨾ with_setting (λ s. plain (extended ∷ instr.I64Const (code.high_index s.home.types t) ∷ []))) (λ a s. then_give (found a s) (λ l s. Gave (Whole l (code.high_index k.setting.home.types t)) s))
+      → Passes k (ByArray is_var u) (d ⨾ with_setting (λ s. plain (extended ∷ instr.I64Const (code.high_index s.home.types t) ∷ []))) (λ a s. found a s ▷ λ l s. answer.Value (Whole l (code.high_index k.setting.home.types t)) s)
   array_passes is_var t r u d found range narrow array hd =
       let types : Types = k.setting.home.types in
       let high : ℕ = code.high_index types t in
@@ -123,7 +124,7 @@ module _ (k : Scene) (set : IsSet k) where
 
   -- an open array
   pub open_passes : (is_var : Bool) (kss : List Kinds) → HasFrames k kss → (slot : Slot) (u : Ty) → kind_at kss slot ≡ Some (Open u)
-      → Passes k (ByArray is_var u) (with_setting (λ s. plain (open_address s slot ++ (extended ∷ high_code s slot)))) (λ a s. Gave (Whole (location_of (named a slot)) (high_of (named a slot))) s)
+      → Passes k (ByArray is_var u) (with_setting (λ s. plain (open_address s slot ++ (extended ∷ high_code s slot)))) (λ a s. answer.Value (Whole (location_of (named a slot)) (high_of (named a slot))) s)
   open_passes is_var kss has slot u there = record {
     grows = λ e c. grows_same c;
     gives = λ e c free full s st h rest stack.
@@ -147,7 +148,7 @@ module _ (k : Scene) (set : IsSet k) where
 
   -- a string
   pub text_passes : (at : ℕ) (text : List ℕ) → IsText k at (passed text) → length (passed text) ≤ 2 ^ 32
-      → Passes k (ByArray false (Cell (Natural 255))) (plain (text_code at ++ (extended ∷ instr.I64Const (length (passed text) - 1) ∷ []))) (λ a s. Gave (Text text) s)
+      → Passes k (ByArray false (Cell (Natural 255))) (plain (text_code at ++ (extended ∷ instr.I64Const (length (passed text) - 1) ∷ []))) (λ a s. answer.Value (Text text) s)
   unfolding size
   text_passes at text is below = record {
     grows = λ e c. grows_same c;

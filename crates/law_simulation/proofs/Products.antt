@@ -11,7 +11,7 @@ use Rattle.law_effect.specs.Effect as does
 use Rattle.typed_tree.specs.declared.types.TypeNo.{TypeNo}
 use Rattle.typed_tree.specs.declared.shape.Scalar.{Scalar as Range}
 use Rattle.typed_tree.specs.Known.{scalar_at}
-use Rattle.def_meaning.specs.Answer.{Gave, Ended, overflow}
+use Rattle.def_meaning.specs.Answer.{Value, Ended, overflow}
 use Rattle.def_meaning.specs.Expressions.{within_range}
 use Rattle.def_scheme.specs.Coded.{operation}
 use Rattle.def_scheme.specs.Cells.{in_range}
@@ -98,5 +98,5 @@ module _ (k : Scene) (has : HasHelpers k) (small : AreSmall k.setting.home.types
           ∙ below_fails k has r.low r.high n 2 wide_low below (omega arith) (omega arith) rest st stack
           ∙ ap (does.Ended 2) h.out
           in
-          subst (λ (b : Bool). Into (GivesNumber k w (runs k rest) stack) (runs k (operation Mul ∷ (in_range (Some r) 2 ++ rest)) st ((stack ++ I64 (word x) ∷ []) ++ I64 (word y) ∷ [])) (if b then Gave (x *ℤ y) s else Ended 2 s.out))
+          subst (λ (b : Bool). Into (GivesNumber k w (runs k rest) stack) (runs k (operation Mul ∷ (in_range (Some r) 2 ++ rest)) st ((stack ++ I64 (word x) ∷ []) ++ I64 (word y) ∷ [])) (if b then Value (x *ℤ y) s else Ended 2 s.out))
           (sym (above_between r.low (x *ℤ y) r.high above)) left

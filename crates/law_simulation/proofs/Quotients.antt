@@ -16,7 +16,8 @@ use Rattle.typed_tree.specs.declared.types.TypeNo.{TypeNo}
 use Rattle.typed_tree.specs.declared.shape.Scalar.{Scalar as Range}
 use Rattle.typed_tree.specs.declared.known_types.Types.{Types}
 use Rattle.typed_tree.specs.Known.{scalar_at}
-use Rattle.def_meaning.specs.Answer.{Gave, Ended, divisor_fault}
+use Rattle.def_meaning.specs.Answer.{Ended, divisor_fault}
+use Rattle.def_meaning.specs.Answer as answer
 use Rattle.def_meaning.specs.Operators.{quotient, remainder}
 use Rattle.def_meaning.specs.Expressions.{divided}
 use Rattle.wasm_tree.specs.declared.kinds.ValueType.TheVariants as kind
@@ -153,7 +154,7 @@ module _ (k : Scene) (has : HasHelpers k) (small : AreSmall k.setting.home.types
       by (pos zero) hy = ap (effects.Ended 4) h.out
       by (pos (suc n)) hy =
           let high = (narrow k has small u (pos (suc n)) hy).high in
-          subst (λ (b : Bool). Into (GivesNumber k w (runs k rest) stack) (tested (int_lt (pos (suc n)) (pos 1)) (int_lt (pos 4294967295) (pos (suc n))) st.out (on (pos (suc n)))) (if b then Gave (of x (pos (suc n))) s else Ended divisor_fault s.out)) (sym (some n))
+          subst (λ (b : Bool). Into (GivesNumber k w (runs k rest) stack) (tested (int_lt (pos (suc n)) (pos 1)) (int_lt (pos 4294967295) (pos (suc n))) st.out (on (pos (suc n)))) (if b then answer.Value (of x (pos (suc n))) s else Ended divisor_fault s.out)) (sym (some n))
           (record {
             st = st;
             stands = h;

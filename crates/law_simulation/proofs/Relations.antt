@@ -20,7 +20,8 @@ use Rattle.typed_tree.specs.declared.types.TypeNo.{TypeNo}
 use Rattle.typed_tree.specs.declared.computed.Comparison.{Comparison}
 use Rattle.typed_tree.specs.declared.computed.Comparison.TheVariants as compare
 use Rattle.typed_tree.specs.Types.{boolean}
-use Rattle.def_meaning.specs.Answer.{State as Source, Answer, Gave, Ended, Running}
+use Rattle.def_meaning.specs.Answer.{State as Source, Answer, Ended, StillRunning}
+use Rattle.def_meaning.specs.Answer as answer
 use Rattle.def_meaning.specs.Operators as of
 use Rattle.def_meaning.specs.Operators.{compared, is_true}
 use Rattle.def_meaning.specs.Expressions.{Gives}
@@ -93,7 +94,7 @@ module _ (k : Scene) (has : HasHelpers k) (small : AreSmall k.setting.home.types
       number_runs k.modules k.fixed k.turns (calls k) k.own rest st (numeric.I64Relation r) ((stack ++ I64 i ∷ []) ++ I64 j ∷ []) stack (I32 (truth (compares w64 r i j)))
       (two_64 stack i j (λ n m. Some (I32 (truth (compares w64 r n m)))))
 
-  pub compare_makes : (t u : TypeNo) (o : Comparison) → Makes k has small t u boolean (relation (relation_of o) ∷ extended ∷ []) (λ x y s. Gave (of.truth (compared o x y)) s)
+  pub compare_makes : (t u : TypeNo) (o : Comparison) → Makes k has small t u boolean (relation (relation_of o) ∷ extended ∷ []) (λ x y s. answer.Value (of.truth (compared o x y)) s)
   compare_makes t u o x hx y hy s st h rest stack =
       let nx = narrow k has small t x hx in let ny = narrow k has small u y hy in
       truth_gives (compared o x y) s st h rest stack _
@@ -111,7 +112,7 @@ module _ (k : Scene) (has : HasHelpers k) (small : AreSmall k.setting.home.types
   pub zero_runs : (n : ℕ) (rest : List Instr) (st : Target) (stack : List Value) → runs k (is_zero ∷ rest) st (stack ++ I64 n ∷ []) ≡ runs k rest st (stack ++ I32 (truth (n == 0)) ∷ [])
   zero_runs n rest st stack = number_runs k.modules k.fixed k.turns (calls k) k.own rest st numeric.I64Eqz (stack ++ I64 n ∷ []) stack (I32 (truth (n == 0))) (one_64 stack n (λ i. I32 (truth (i == 0))))
 
-  pub not_goes : Goes k boolean boolean empty_code (λ v s. Gave (of.truth (not (is_true v))) s)
+  pub not_goes : Goes k boolean boolean empty_code (λ v s. answer.Value (of.truth (not (is_true v))) s)
   not_goes v is s st h rest stack =
       truth_gives (not (is_true v)) s st h rest stack _
       (zero_runs (word v) (extended ∷ rest) st stack ∙ extended_runs (truth (word v == 0)) rest st stack
@@ -128,14 +129,14 @@ module _ (k : Scene) (has : HasHelpers k) (small : AreSmall k.setting.home.types
 
   -- what a side of the if leaves, with the rest behind it
   pub side : (u : TypeNo) (rest : List Instr) (stack : List Value) (r : Effect) (a : Answer ℤ) → Into (Numbers u [] stack) r a → Into (Numbers u rest stack) (then_run (leaves_block stack r) (runs k rest)) a
-  side u rest stack r (Gave v s) p = record {
+  side u rest stack r (answer.Value v s) p = record {
     st = p.st;
     stands = p.stands;
     is = p.is;
     run = ap (λ (e : Effect). then_run (leaves_block stack e) (runs k rest)) p.run;
   }
   side u rest stack r (Ended j out) p = ap (λ (e : Effect). then_run (leaves_block stack e) (runs k rest)) p
-  side u rest stack r (Running out) p = ap (λ (e : Effect). then_run (leaves_block stack e) (runs k rest)) p
+  side u rest stack r (StillRunning out) p = ap (λ (e : Effect). then_run (leaves_block stack e) (runs k rest)) p
 
   module _ (first second : List Instr) (rest : List Instr) (st : Target) (stack : List Value) where
     abbrev chooses : Instr
@@ -166,7 +167,7 @@ module _ (k : Scene) (has : HasHelpers k) (small : AreSmall k.setting.home.types
         subst (λ (code : List Instr). Into (Numbers boolean [] stack) (runs k code st stack) (value k.around s)) (append-nil (y (inside k ex) c).0) (agrees.gives ex c free full s st h [] stack)
 
     abbrev conjunction : ℤ → Gives ℤ
-    conjunction v a s = if is_true v then value a s else Gave (of.truth false) s
+    conjunction v a s = if is_true v then value a s else answer.Value (of.truth false) s
 
     pub and_goes : GoesOn k boolean boolean (and_code y) conjunction
     and_goes = record {
@@ -177,7 +178,7 @@ module _ (k : Scene) (has : HasHelpers k) (small : AreSmall k.setting.home.types
       where
         by : (ex : ℕ) (c : Counts) → IsFree k c → HasLocals k (y (inside k (ex + 1)) c).1 → (v : ℤ) → IsValue k.setting.home.types boolean v
             → (s : Source) (st : Target) → Stands k s st → (rest : List Instr) (stack : List Value) (b : Bool) → is_true v ≡ b
-            → Into (Numbers boolean rest stack) (runs k (wrapped ∷ chosen_number (y (inside k (ex + 1)) c).0 (instr.I64Const 0 ∷ []) ∷ rest) st (stack ++ I64 (word v) ∷ [])) (if b then value k.around s else Gave (of.truth false) s)
+            → Into (Numbers boolean rest stack) (runs k (wrapped ∷ chosen_number (y (inside k (ex + 1)) c).0 (instr.I64Const 0 ∷ []) ∷ rest) st (stack ++ I64 (word v) ∷ [])) (if b then value k.around s else answer.Value (of.truth false) s)
         by ex c free full v is s st h rest stack true e =
             let code : List Instr = (y (inside k (ex + 1)) c).0 in
             let other : List Instr = instr.I64Const 0 ∷ [] in
@@ -192,7 +193,7 @@ module _ (k : Scene) (has : HasHelpers k) (small : AreSmall k.setting.home.types
             ∙ ap (λ (e : Effect). then_run (leaves_block stack e) (runs k rest)) (i64_runs k.modules k.fixed k.turns (calls k) k.own [] st 0 stack))
 
     abbrev disjunction : ℤ → Gives ℤ
-    disjunction v a s = if is_true v then Gave (of.truth true) s else value a s
+    disjunction v a s = if is_true v then answer.Value (of.truth true) s else value a s
 
     pub or_goes : GoesOn k boolean boolean (or_code y) disjunction
     or_goes = record {
@@ -202,7 +203,7 @@ module _ (k : Scene) (has : HasHelpers k) (small : AreSmall k.setting.home.types
       where
         by : (ex : ℕ) (c : Counts) → IsFree k c → HasLocals k (y (inside k (ex + 1)) c).1 → (v : ℤ) → IsValue k.setting.home.types boolean v
             → (s : Source) (st : Target) → Stands k s st → (rest : List Instr) (stack : List Value) (b : Bool) → is_true v ≡ b
-            → Into (Numbers boolean rest stack) (runs k (wrapped ∷ chosen_number (instr.I64Const 1 ∷ []) (y (inside k (ex + 1)) c).0 ∷ rest) st (stack ++ I64 (word v) ∷ [])) (if b then Gave (of.truth true) s else value k.around s)
+            → Into (Numbers boolean rest stack) (runs k (wrapped ∷ chosen_number (instr.I64Const 1 ∷ []) (y (inside k (ex + 1)) c).0 ∷ rest) st (stack ++ I64 (word v) ∷ [])) (if b then answer.Value (of.truth true) s else value k.around s)
         by ex c free full v is s st h rest stack true e =
             let code : List Instr = (y (inside k (ex + 1)) c).0 in
             let other : List Instr = instr.I64Const 1 ∷ [] in

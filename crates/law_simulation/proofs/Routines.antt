@@ -22,9 +22,11 @@ use Rattle.layout_storage.specs.Frames.{formals_of, frame}
 use Rattle.layout_storage.specs.Shapes.{tree}
 use Rattle.def_meaning.specs.Store.{Location, Store, placed, fresh}
 use Rattle.def_meaning.specs.Answer as answer
-use Rattle.def_meaning.specs.Answer.{State as Source, Answer, Gave, Outcome, Went, Left, Came, Stopped, Unfinished}
-use Rattle.def_meaning.specs.Around.{Modules, Around, Named, Frames, Passed}
-use Rattle.def_meaning.specs.Calls.{Entered, with_all, is_function, is_there as there_meaning, result, entered, around_of, variables_from, needed, body_does}
+use Rattle.def_meaning.specs.Answer.{State as Source, Answer, StillRunning}
+use Rattle.def_meaning.specs.Outcome.{Outcome, Normal, Exited}
+use Rattle.def_meaning.specs.Outcome as outcome
+use Rattle.def_meaning.specs.Environment.{Modules, Environment, Named, Frames, Passed}
+use Rattle.def_meaning.specs.Calls.{Entered, with_all, is_function, is_there as there_meaning, result, entered, environment_of, variables_from, needed, body_does}
 use Rattle.def_meaning.specs.Expressions.{Asks}
 use Rattle.law_memory.specs.Relation.{Holds}
 use Rattle.law_memory.proofs.Worlds.{row_size, call_ends, offset_old}
@@ -132,19 +134,19 @@ module _ (k : Scene) (has : HasHelpers k) (base : List Ty) (x0 : Location → �
       i64_runs k.modules k.fixed k.turns (calls k) k.own (instr.Call 1 ∷ instr.Unreachable ∷ []) st 6 []
       ∙ stop_runs k.modules k.fixed k.turns (calls k) k.own (instr.Unreachable ∷ []) st 1 6 [] (has.stop st.bytes)
 
-  pub ends_back : (r : Result) → k.result ≡ r → (o : Outcome) (R : Effect) → ((s : Source) → o ≡ Left s → ⊥) → Ends k (there_meaning r) 0 [] (λ st. runs k (end_code (there_meaning r)) st []) R o → Back r o R
-  ends_back None ranged (Went s) R stays p = came_back k None base x0 more is ranged older locals below s p.st p.stands [] [] (pos 0) refl refl tt _ (ap (back 0 locals below) p.run)
-  ends_back None ranged (Came v s) R stays p =
+  pub ends_back : (r : Result) → k.result ≡ r → (o : Outcome) (R : Effect) → ((s : Source) → o ≡ answer.Value Exited s → ⊥) → Ends k (there_meaning r) 0 [] (λ st. runs k (end_code (there_meaning r)) st []) R o → Back r o R
+  ends_back None ranged (answer.Value Normal s) R stays p = came_back k None base x0 more is ranged older locals below s p.st p.stands [] [] (pos 0) refl refl tt _ (ap (back 0 locals below) p.run)
+  ends_back None ranged (answer.Value (outcome.Returned v) s) R stays p =
       came_back k None base x0 more is ranged older locals below s p.st p.stands.0 p.below [] v refl refl tt _ (ap (back 0 locals below) (p.run ∙ ap (λ (vs : List Value). Returned p.st vs) (sym (append-nil p.below))))
-  ends_back (Some rng) ranged (Went s) R stays p = ap (back 1 locals below) (p.run ∙ faults p.st ∙ ap (λ (out : List ℕ). Ended 6 out) p.stands.out)
-  ends_back (Some rng) ranged (Came v s) R stays p =
+  ends_back (Some rng) ranged (answer.Value Normal s) R stays p = ap (back 1 locals below) (p.run ∙ faults p.st ∙ ap (λ (out : List ℕ). Ended 6 out) p.stands.out)
+  ends_back (Some rng) ranged (answer.Value (outcome.Returned v) s) R stays p =
       came_back k (Some rng) base x0 more is ranged older locals below s p.st p.stands.0 p.below (I64 (word v) ∷ []) v refl refl (subst (λ (o : Option Ty). IsResult k.program o v) ranged (p.stands.1 refl)) _ (ap (back 1 locals below) p.run)
-  ends_back None ranged (Left s) R stays p = absurd (stays s refl)
-  ends_back (Some rng) ranged (Left s) R stays p = absurd (stays s refl)
-  ends_back None ranged (Stopped j out) R stays p = ap (back 0 locals below) p
-  ends_back (Some rng) ranged (Stopped j out) R stays p = ap (back 1 locals below) p
-  ends_back None ranged (Unfinished out) R stays p = ap (back 0 locals below) p
-  ends_back (Some rng) ranged (Unfinished out) R stays p = ap (back 1 locals below) p
+  ends_back None ranged (answer.Value Exited s) R stays p = absurd (stays s refl)
+  ends_back (Some rng) ranged (answer.Value Exited s) R stays p = absurd (stays s refl)
+  ends_back None ranged (answer.Ended j out) R stays p = ap (back 0 locals below) p
+  ends_back (Some rng) ranged (answer.Ended j out) R stays p = ap (back 1 locals below) p
+  ends_back None ranged (StillRunning out) R stays p = ap (back 0 locals below) p
+  ends_back (Some rng) ranged (StillRunning out) R stays p = ap (back 1 locals below) p
 
 -- ---- the whole function
 
@@ -181,7 +183,7 @@ module _ (k : Scene) (p : Modules) (ask asks : Asks) (called : Calling) (numbere
   abbrev top : ℕ
   top = top_of m r
 
-  abbrev scene_at : (world : List Ty) (x : Location → ℕ → ℕ) (root : ℕ) → Around → Scene
+  abbrev scene_at : (world : List Ty) (x : Location → ℕ → ℕ) (root : ℕ) → Environment → Scene
   scene_at world x root a = body_scene k m r outer many world x root a
 
   abbrev kinds : Kinds
@@ -199,7 +201,7 @@ module _ (k : Scene) (p : Modules) (ask asks : Asks) (called : Calling) (numbere
   abbrev coded : List Instr × Counts
   coded = coded_body numbered m r outer text
 
-  helpers_at : (world : List Ty) (x : Location → ℕ → ℕ) (root : ℕ) (a : Around) → HasHelpers (scene_at world x root a)
+  helpers_at : (world : List Ty) (x : Location → ℕ → ℕ) (root : ℕ) (a : Environment) → HasHelpers (scene_at world x root a)
   helpers_at world x root a = let has = proc.helpers in record {
     memory = has.memory;
     put = has.put;
@@ -224,10 +226,10 @@ module _ (k : Scene) (p : Modules) (ask asks : Asks) (called : Calling) (numbere
     many = has.many;
   }
 
-  set_at : (world : List Ty) (x : Location → ℕ → ℕ) (root : ℕ) (a : Around) → a.types ≡ m.types → IsSet (scene_at world x root a)
+  set_at : (world : List Ty) (x : Location → ℕ → ℕ) (root : ℕ) (a : Environment) → a.types ≡ m.types → IsSet (scene_at world x root a)
   set_at world x root a e = let small = proc.limit.small in record { helpers = helpers_at world x root a; types = e; small = proc.small; room = omega (arith, small) }
 
-  limit_at : (world : List Ty) (x : Location → ℕ → ℕ) (root : ℕ) (a : Around) → HasLimit (scene_at world x root a)
+  limit_at : (world : List Ty) (x : Location → ℕ → ℕ) (root : ℕ) (a : Environment) → HasLimit (scene_at world x root a)
   limit_at world x root a = record { there = proc.limit.there; small = proc.limit.small }
 
   posi : 0 < top
@@ -237,8 +239,8 @@ module _ (k : Scene) (p : Modules) (ask asks : Asks) (called : Calling) (numbere
   two = omega arith
 
   -- any scene for the prologue
-  abbrev nowhere : Around
-  nowhere = record { place = place; types = m.types; frames = []; withs = []; next = 0; left = 0 }
+  abbrev nowhere : Environment
+  nowhere = record { place = place; types = m.types; frames = []; withs = []; next = 0; free = 0 }
 
   abbrev K0 : Scene
   K0 = scene_at [] (λ l j. 0) 0 nowhere
@@ -375,8 +377,8 @@ module _ (k : Scene) (p : Modules) (ask asks : Asks) (called : Calling) (numbere
         ap (λ (u : Ty). with_all root (formals_of m.types r.heading) vs (record { names = []; next = suc root; store = placed (root ∷ []) (fresh u) s.store })) (frame_is m.types r)
         ∙ all_names m.types root (formals_of m.types r.heading) vs e0
 
-    abbrev body_around : Around
-    body_around = around_of (callee_of place m r nss) root e1 (left - need)
+    abbrev body_around : Environment
+    body_around = environment_of (callee_of place m r nss) root e1 (left - need)
 
     abbrev entered_state : Source
     entered_state = record s { store = e1.store }
@@ -532,6 +534,6 @@ routine_does k p ask asks called numbered m place r outer text kss base texts f 
     (subst (λ (R : Effect). on (arity (result_of m.types r.heading)) R) (sym (enters args bytes s.out))
     (subst (λ (a : Answer ℤ). Into (CallGives k.program world x k.limit (result_of m.types r.heading) locals below) (back (arity (result_of m.types r.heading)) locals below (runs k t.function.body.code (record { locals = args ++ flat_map zeros t.function.body.locals; bytes = bytes; out = s.out }) [])) a) (sym (asked vs (length world) left s))
     (subst (λ (e : Entered). Into (CallGives k.program world x k.limit (result_of m.types r.heading) locals below) (back (arity (result_of m.types r.heading)) locals below (runs k t.function.body.code (record { locals = args ++ flat_map zeros t.function.body.locals; bytes = bytes; out = s.out }) []))
-    (if nat_lt left (needed m.types r vs) then answer.Ended 8 s.out else result (is_function m.types r) (body_does p k.turns ask r.body (around_of (callee_of place m r nss) (length world) e (left - needed m.types r vs)) (record s { store = e.store }))))
+    (if nat_lt left (needed m.types r vs) then answer.Ended 8 s.out else result (is_function m.types r) (body_does p k.turns ask r.body (environment_of (callee_of place m r nss) (length world) e (left - needed m.types r vs)) (record s { store = e.store }))))
     (sym (entered_is k p ask asks called numbered m place r outer text kss base texts f t proc fn body nss world x based roots chain s bytes holds long vs values passed left whole locals below))
     (goes_on k p ask asks called numbered m place r outer text kss base texts f t proc fn body nss world x based roots chain s bytes holds long vs values passed left whole locals below))))

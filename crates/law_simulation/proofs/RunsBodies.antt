@@ -11,8 +11,11 @@ use Rattle.law_effect.proofs.Follows.{nested_runs}
 use Rattle.law_effect.proofs.Whole.{nested_only, nested_prints}
 use Rattle.layout_storage.specs.Types.{row}
 use Rattle.layout_storage.specs.Sizes.{size}
-use Rattle.def_meaning.specs.Answer.{State as Source, Outcome, Went, Left, Came, Stopped, Unfinished}
-use Rattle.def_meaning.specs.Around.{Modules}
+use Rattle.def_meaning.specs.Answer.{State as Source}
+use Rattle.def_meaning.specs.Outcome.{Outcome, Normal, Exited}
+use Rattle.def_meaning.specs.Outcome as outcome
+use Rattle.def_meaning.specs.Answer as answer
+use Rattle.def_meaning.specs.Environment.{Modules}
 use Rattle.def_meaning.specs.Runs.{storage, body_frame, bodies, first_state, then_body}
 use Rattle.def_meaning.specs.Runs as runs
 use Rattle.law_memory.specs.Bodies.{BodyAt, bodies_do, run_typed}
@@ -24,11 +27,11 @@ use Rattle.law_simulation.specs.Bodies.{Ground, IsHeld, BodyEnds, statements_do,
 
 -- a run ends as the program does, or still runs as it does
 abbrev RunSame : Effect → Outcome → Type 0
-RunSame r (Went s) = ⊥
-RunSame r (Left s) = ⊥
-RunSame r (Came v s) = ⊥
-RunSame r (Stopped k out) = comes 0 r ≡ Some (Over k, out)
-RunSame r (Unfinished out) = r ≡ StillRunning out
+RunSame r (answer.Value Normal s) = ⊥
+RunSame r (answer.Value Exited s) = ⊥
+RunSame r (answer.Value (outcome.Returned v) s) = ⊥
+RunSame r (answer.Ended k out) = comes 0 r ≡ Some (Over k, out)
+RunSame r (answer.StillRunning out) = r ≡ StillRunning out
 
 module _ (p : Modules) (pages n : ℕ) (g : Ground) (calls : Calling) where
   abbrev left : ℕ
@@ -42,14 +45,14 @@ module _ (p : Modules) (pages n : ℕ) (g : Ground) (calls : Calling) where
 
   next_bodies : (place : ℕ) (ms : Modules) (bs : List BodyAt) → From place ms bs → (locals : List Value) (r : Effect) (o : Outcome) → BodyEnds g locals [] r o
       → RunSame (then_run r (bodies_do calls top bs)) (then_body o (bodies p n left place ms))
-  next_bodies place ms bs rest locals r (Went s) h =
+  next_bodies place ms bs rest locals r (answer.Value Normal s) h =
       subst (λ (e : Effect). RunSame (then_run e (bodies_do calls top bs)) (bodies p n left place ms s)) (sym h.run) (rest s (record { locals = locals; bytes = h.bytes; out = s.out }) h.held refl)
-  next_bodies place ms bs rest locals r (Left s) h =
+  next_bodies place ms bs rest locals r (answer.Value Exited s) h =
       subst (λ (e : Effect). RunSame (then_run e (bodies_do calls top bs)) (bodies p n left place ms s)) (sym h.run) (rest s (record { locals = locals; bytes = h.bytes; out = s.out }) h.held refl)
-  next_bodies place ms bs rest locals r (Came v s) h =
+  next_bodies place ms bs rest locals r (answer.Value (outcome.Returned v) s) h =
       subst (λ (e : Effect). RunSame (then_run e (bodies_do calls top bs)) (bodies p n left place ms s)) (sym h.run) (rest s (record { locals = locals; bytes = h.bytes; out = s.out }) h.held refl)
-  next_bodies place ms bs rest locals r (Stopped k out) h = ap (λ (e : Effect). comes 0 (then_run e (bodies_do calls top bs))) h
-  next_bodies place ms bs rest locals r (Unfinished out) h = ap (λ (e : Effect). then_run e (bodies_do calls top bs)) h
+  next_bodies place ms bs rest locals r (answer.Ended k out) h = ap (λ (e : Effect). comes 0 (then_run e (bodies_do calls top bs))) h
+  next_bodies place ms bs rest locals r (answer.StillRunning out) h = ap (λ (e : Effect). then_run e (bodies_do calls top bs)) h
 
   bodies_same : (place : ℕ) (ms : Modules) (bs : List BodyAt) → AllDo g calls (statements_do p pages n) place ms bs → From place ms bs
   bodies_same place [] [] all s st held out = ap (λ (o : List ℕ). Some (Over 0, o)) out
@@ -96,11 +99,11 @@ shown_is (Traps last) k out h = ap second_of h
 shown_is (StillRunning last) k out h = absurd (cc h)
 
 same_shown : (e : Effect) (o : Outcome) → RunSame e o → shown e ≡ printed o
-same_shown e (Went s) h = absurd h
-same_shown e (Left s) h = absurd h
-same_shown e (Came v s) h = absurd h
-same_shown e (Stopped k out) h = shown_is e k out h
-same_shown e (Unfinished out) h = ap shown h
+same_shown e (answer.Value Normal s) h = absurd h
+same_shown e (answer.Value Exited s) h = absurd h
+same_shown e (answer.Value (outcome.Returned v) s) h = absurd h
+same_shown e (answer.Ended k out) h = shown_is e k out h
+same_shown e (answer.StillRunning out) h = ap shown h
 
 running_comes : (e : Effect) (out : List ℕ) (x : Progress) → e ≡ StillRunning out → comes 0 e ≡ Some x → ⊥
 running_comes e out x is h = none_some (sym (ap (comes 0) is) ∙ h)
@@ -109,23 +112,23 @@ running_comes e out x is h = none_some (sym (ap (comes 0) is) ∙ h)
     none_some h = cc h
 
 -- where the machine is over, so is the program
-ended_is : (e : Effect) (o : Outcome) → RunSame e o → (d : Config) (out : List ℕ) → comes 0 e ≡ Some (d, out) → (k : ℕ) × (d ≡ Over k) × (o ≡ Stopped k out)
-ended_is e (Went s) h d out is = absurd h
-ended_is e (Left s) h d out is = absurd h
-ended_is e (Came v s) h d out is = absurd h
-ended_is e (Stopped k last) h d out is =
+ended_is : (e : Effect) (o : Outcome) → RunSame e o → (d : Config) (out : List ℕ) → comes 0 e ≡ Some (d, out) → (k : ℕ) × (d ≡ Over k) × (o ≡ answer.Ended k out)
+ended_is e (answer.Value Normal s) h d out is = absurd h
+ended_is e (answer.Value Exited s) h d out is = absurd h
+ended_is e (answer.Value (outcome.Returned v) s) h d out is = absurd h
+ended_is e (answer.Ended k last) h d out is =
     let same : ◌≡◌ {A = Option Progress} (Some (d, out)) (Some (Over k, last)) = sym is ∙ h in
-    (k, ap (λ (x : Option Progress). (of x).0) same, ap (Stopped k) (sym (ap (λ (x : Option Progress). (of x).1) same)))
+    (k, ap (λ (x : Option Progress). (of x).0) same, ap (answer.Ended k) (sym (ap (λ (x : Option Progress). (of x).1) same)))
   where
     of : Option Progress → Progress
     of None = (Trapped, [])
     of (Some x) = x
-ended_is e (Unfinished last) h d out is = absurd (running_comes e last (d, out) h is)
+ended_is e (answer.StillRunning last) h d out is = absurd (running_comes e last (d, out) h is)
 
-unfinished_is : (e : Effect) (o : Outcome) (out : List ℕ) → RunSame e o → o ≡ Unfinished out → e ≡ StillRunning out
+unfinished_is : (e : Effect) (o : Outcome) (out : List ℕ) → RunSame e o → o ≡ answer.StillRunning out → e ≡ StillRunning out
 unfinished_is e o out h is = subst (RunSame e) is h
 
-stopped_is : (e : Effect) (o : Outcome) (k : ℕ) (out : List ℕ) → RunSame e o → o ≡ Stopped k out → comes 0 e ≡ Some (Over k, out)
+stopped_is : (e : Effect) (o : Outcome) (k : ℕ) (out : List ℕ) → RunSame e o → o ≡ answer.Ended k out → comes 0 e ≡ Some (Over k, out)
 stopped_is e o k out h is = subst (RunSame e) is h
 
 -- what a run leads to does not depend on how its effect is written

@@ -17,7 +17,8 @@ use Rattle.typed_tree.specs.declared.types.TypeNo.{TypeNo}
 use Rattle.typed_tree.specs.declared.computed.SetOperator.{SetOperator}
 use Rattle.typed_tree.specs.declared.computed.SetOperator.TheVariants as sets
 use Rattle.typed_tree.specs.Types.{boolean, bitset}
-use Rattle.def_meaning.specs.Answer.{State as Source, Answer, Gave, Ended, then_give, range_fault}
+use Rattle.def_meaning.specs.Answer.{State as Source, Answer, Ended, ◌▷◌, range_fault}
+use Rattle.def_meaning.specs.Answer as answer
 use Rattle.def_meaning.specs.Operators as of
 use Rattle.def_meaning.specs.Operators.{is_between, bits, without, combined, has}
 use Rattle.def_meaning.specs.Expressions.{Gives, within}
@@ -80,7 +81,7 @@ module _ (k : Scene) (has_helpers : HasHelpers k) (small : AreSmall k.setting.ho
   one_set x y hx hy o n e less s st h rest stack =
       set_gives n less s st h rest stack _ (as_bits x y hx hy (operation o ∷ rest) st stack ∙ operation_runs k has_helpers small o (bits x) (bits y) n rest st stack e)
 
-  pub combine_makes : (o : SetOperator) → Makes k has_helpers small bitset bitset bitset (set_code o) (λ x y s. Gave (combined o x y) s)
+  pub combine_makes : (o : SetOperator) → Makes k has_helpers small bitset bitset bitset (set_code o) (λ x y s. answer.Value (combined o x y) s)
   combine_makes sets.Union x hx y hy s st h rest stack =
       one_set x y hx hy Or (bit_or (bits x) (bits y)) refl (or_lt 32 (bits x) (bits y) (set_small x hx.0 hx.1) (set_small y hy.0 hy.1)) s st h rest stack
   combine_makes sets.Intersection x hx y hy s st h rest stack =
@@ -99,19 +100,19 @@ module _ (k : Scene) (has_helpers : HasHelpers k) (small : AreSmall k.setting.ho
   empty_gives n s st h rest stack r e =
       truth_gives k has_helpers small (n == 0) s st h rest stack r (e ∙ zero_runs k has_helpers small n (instr.Numeric numeric.I64ExtendI32U ∷ rest) st stack ∙ extended_runs k has_helpers small (truth (n == 0)) rest st stack)
 
-  pub within_makes : Makes k has_helpers small bitset bitset boolean (complement ++ (operation And ∷ empty_code)) (λ x y s. Gave (of.truth (without (bits x) (bits y) == 0)) s)
+  pub within_makes : Makes k has_helpers small bitset bitset boolean (complement ++ (operation And ∷ empty_code)) (λ x y s. answer.Value (of.truth (without (bits x) (bits y) == 0)) s)
   within_makes x hx y hy s st h rest stack =
       empty_gives (without (bits x) (bits y)) s st h rest stack _
       (as_bits x y hx hy (complement ++ (operation And ∷ (empty_code ++ rest))) st stack
       ∙ complement_runs (bits y) (operation And ∷ (empty_code ++ rest)) st (stack ++ I64 (bits x) ∷ [])
       ∙ operation_runs k has_helpers small And (bits x) (bit_xor (bits y) 4294967295) (without (bits x) (bits y)) (empty_code ++ rest) st stack refl)
 
-  pub complement_goes : Goes k bitset bitset complement (λ v s. Gave (pos (bit_xor (bits v) 4294967295)) s)
+  pub complement_goes : Goes k bitset bitset complement (λ v s. answer.Value (pos (bit_xor (bits v) 4294967295)) s)
   complement_goes v is s st h rest stack =
       set_gives (bit_xor (bits v) 4294967295) (xor_lt 32 (bits v) 4294967295 (set_small v is.0 is.1) (omega arith)) s st h rest stack _
       (ap (λ (i : ℕ). runs k (complement ++ rest) st (stack ++ I64 i ∷ [])) (set_word v is.0 is.1) ∙ complement_runs (bits v) rest st stack)
 
-  pub around_makes : Makes k has_helpers small bitset bitset boolean (operation And ∷ empty_code) (λ x y s. Gave (of.truth (bit_and (bits y) (bits x) == 0)) s)
+  pub around_makes : Makes k has_helpers small bitset bitset boolean (operation And ∷ empty_code) (λ x y s. answer.Value (of.truth (bit_and (bits y) (bits x) == 0)) s)
   around_makes x hx y hy s st h rest stack =
       empty_gives (bit_and (bits y) (bits x)) s st h rest stack _
       (as_bits x y hx hy (operation And ∷ (empty_code ++ rest)) st stack
@@ -147,35 +148,35 @@ module _ (k : Scene) (has_helpers : HasHelpers k) (small : AreSmall k.setting.ho
     has_code = plain (checked (pos 0) (pos 31) 1) ⨾ with_number (λ n. plain (instr.LocalSet n ∷ []) ⨾ y ⨾ plain (instr.LocalGet n ∷ shifted))
 
     abbrev has_element : ℤ → Source → Answer ℤ
-    has_element x s = then_give (second k.around s) (λ y s. Gave (of.truth (has y x)) s)
+    has_element x s = second k.around s ▷ λ y s. answer.Value (of.truth (has y x)) s
 
-    pub in_goes : (t : TypeNo) → GoesOn k t boolean has_code (λ x a s. then_give (within (pos 0) (pos 31) range_fault x s) (λ x s. then_give (second a s) (λ y s. Gave (of.truth (has y x)) s)))
+    pub in_goes : (t : TypeNo) → GoesOn k t boolean has_code (λ x a s. within (pos 0) (pos 31) range_fault x s ▷ λ x s. second a s ▷ λ y s. answer.Value (of.truth (has y x)) s)
     in_goes t = record {
-      grows = λ e c. kept_grows k bitset boolean y (λ n. instr.LocalGet n ∷ shifted) second (λ y s. Gave (of.truth (has y (pos 0))) s) (pos 0) hy beside e c;
+      grows = λ e c. kept_grows k bitset boolean y (λ n. instr.LocalGet n ∷ shifted) second (λ y s. answer.Value (of.truth (has y (pos 0))) s) (pos 0) hy beside e c;
       gives = λ e c free full x is s st h rest stack. by e c free full x is s st h rest stack (is_between (pos 0) x (pos 31)) refl;
     }
       where
         after : (x : ℤ) → pos 0 ≤ℤ x → x ≤ℤ pos 31 → (n : ℕ) → k.kept n ≡ None → (y : ℤ) → IsValue k.setting.home.types bitset y → (s : Source) (st : Target) → Stands (keeping k n (I64 (word x))) s st → (rest : List Instr) (stack : List Value)
-            → Into (GivesNumber k boolean (runs k rest) stack) (runs k ((instr.LocalGet n ∷ shifted) ++ rest) st (stack ++ I64 (word y) ∷ [])) (Gave (of.truth (has y x)) s)
+            → Into (GivesNumber k boolean (runs k rest) stack) (runs k ((instr.LocalGet n ∷ shifted) ++ rest) st (stack ++ I64 (word y) ∷ [])) (answer.Value (of.truth (has y x)) s)
         after x l u n new y hy s st h rest stack =
             let p = in_gives x y l u hy s st (forgets k n (I64 (word x)) new s st h) rest stack in
             record { st = p.st; stands = p.stands; is = p.is; run = kept_runs k n (I64 (word x)) (shifted ++ rest) s st (stack ++ I64 (word y) ∷ []) h ∙ p.run }
 
         by : (e : ℕ) (c : Counts) → IsFree k c → HasLocals k (has_code (inside k e) c).1 → (x : ℤ) → IsValue k.setting.home.types t x → (s : Source) (st : Target) → Stands k s st → (rest : List Instr) (stack : List Value)
             → (b : Bool) → is_between (pos 0) x (pos 31) ≡ b
-            → Into (GivesNumber k boolean (runs k rest) stack) (runs k ((has_code (inside k e) c).0 ++ rest) st (stack ++ I64 (word x) ∷ [])) (then_give (if b then Gave x s else Ended range_fault s.out) has_element)
+            → Into (GivesNumber k boolean (runs k rest) stack) (runs k ((has_code (inside k e) c).0 ++ rest) st (stack ++ I64 (word x) ∷ [])) ((if b then answer.Value x s else Ended range_fault s.out) ▷ has_element)
         by e c free full x is s st h rest stack b same =
             let code : List Instr = (with_number (λ n. plain (instr.LocalSet n ∷ []) ⨾ y ⨾ plain (instr.LocalGet n ∷ shifted)) (inside k e) c).0 in
             let p = checked_gives k has_helpers t (pos 0) (pos 31) x 1 (record { low = omega (arith, ints); high = omega (arith, ints) }) (record { low = omega (arith, ints); high = omega (arith, ints) })
             (wide x (narrow k has_helpers small t x is)) (omega arith) (omega arith) (λ q. is) s st h (code ++ rest) stack in
-            decided b same (subst (λ (b : Bool). Into (GivesNumber k t (runs k (code ++ rest)) stack) (runs k (checked (pos 0) (pos 31) 1 ++ (code ++ rest)) st (stack ++ I64 (word x) ∷ [])) (if b then Gave x s else Ended range_fault s.out)) same p)
+            decided b same (subst (λ (b : Bool). Into (GivesNumber k t (runs k (code ++ rest)) stack) (runs k (checked (pos 0) (pos 31) 1 ++ (code ++ rest)) st (stack ++ I64 (word x) ∷ [])) (if b then answer.Value x s else Ended range_fault s.out)) same p)
           where
             decided : (b : Bool) → is_between (pos 0) x (pos 31) ≡ b
                 → Into (GivesNumber k t (runs k ((with_number (λ n. plain (instr.LocalSet n ∷ []) ⨾ y ⨾ plain (instr.LocalGet n ∷ shifted)) (inside k e) c).0 ++ rest)) stack)
-                (runs k (checked (pos 0) (pos 31) 1 ++ ((with_number (λ n. plain (instr.LocalSet n ∷ []) ⨾ y ⨾ plain (instr.LocalGet n ∷ shifted)) (inside k e) c).0 ++ rest)) st (stack ++ I64 (word x) ∷ [])) (if b then Gave x s else Ended range_fault s.out)
-                → Into (GivesNumber k boolean (runs k rest) stack) (runs k ((has_code (inside k e) c).0 ++ rest) st (stack ++ I64 (word x) ∷ [])) (then_give (if b then Gave x s else Ended range_fault s.out) has_element)
+                (runs k (checked (pos 0) (pos 31) 1 ++ ((with_number (λ n. plain (instr.LocalSet n ∷ []) ⨾ y ⨾ plain (instr.LocalGet n ∷ shifted)) (inside k e) c).0 ++ rest)) st (stack ++ I64 (word x) ∷ [])) (if b then answer.Value x s else Ended range_fault s.out)
+                → Into (GivesNumber k boolean (runs k rest) stack) (runs k ((has_code (inside k e) c).0 ++ rest) st (stack ++ I64 (word x) ∷ [])) ((if b then answer.Value x s else Ended range_fault s.out) ▷ has_element)
             decided true same p =
                 let q = between_in (pos 0) (pos 31) x same in
                 subst (λ (r : Effect). Into (GivesNumber k boolean (runs k rest) stack) r (has_element x s)) (sym p.run)
-                (kept_gives k bitset boolean y (λ n. instr.LocalGet n ∷ shifted) second (λ y s. Gave (of.truth (has y x)) s) x hy beside (after x q.0 q.1) e c free full s p.st p.stands rest stack)
+                (kept_gives k bitset boolean y (λ n. instr.LocalGet n ∷ shifted) second (λ y s. answer.Value (of.truth (has y x)) s) x hy beside (after x q.0 q.1) e c free full s p.st p.stands rest stack)
             decided false same p = p

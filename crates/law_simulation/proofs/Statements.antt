@@ -12,7 +12,10 @@ use Rattle.law_effect.specs.Effect as effects
 use Rattle.law_effect.proofs.Steps.{i64_runs, if_runs, if_one_runs, br_runs, return_runs, put_runs, stop_runs}
 use Rattle.typed_tree.specs.declared.types.TypeNo.{TypeNo}
 use Rattle.typed_tree.specs.Types.{boolean, char}
-use Rattle.def_meaning.specs.Answer.{State as Source, Answer, Gave, Ended, Running, Outcome, Went, Left, Came, Stopped, Unfinished, then_go, with_answer}
+use Rattle.def_meaning.specs.Answer.{State as Source, Answer, Ended, ◌▷◌}
+use Rattle.def_meaning.specs.Outcome.{Outcome, Normal, Exited, then_go}
+use Rattle.def_meaning.specs.Outcome as outcome
+use Rattle.def_meaning.specs.Answer as answer
 use Rattle.def_meaning.specs.Operators.{is_true}
 use Rattle.def_meaning.specs.Expressions.{Gives}
 use Rattle.def_meaning.specs.Statements.{Does, in_turn}
@@ -31,18 +34,18 @@ module _ (k : Scene) (function : Bool) where
   -- what follows where a statement goes on
   pub ends_then : (exit : ℕ) (stack : List Value) (middle on : On) (r : Effect) (o : Outcome) (next : Source → Outcome) → Ends k function exit stack middle r o
       → ((s : Source) (st : Target) → Stands k s st → Ends k function exit stack on (middle st) (next s)) → Ends k function exit stack on r (then_go o next)
-  ends_then exit stack middle on r (Went s) next p h = subst (λ (e : Effect). Ends k function exit stack on e (next s)) (sym p.run) (h s p.st p.stands)
-  ends_then exit stack middle on r (Left s) next p h = p
-  ends_then exit stack middle on r (Came v s) next p h = p
-  ends_then exit stack middle on r (Stopped j out) next p h = p
-  ends_then exit stack middle on r (Unfinished out) next p h = p
+  ends_then exit stack middle on r (answer.Value Normal s) next p h = subst (λ (e : Effect). Ends k function exit stack on e (next s)) (sym p.run) (h s p.st p.stands)
+  ends_then exit stack middle on r (answer.Value Exited s) next p h = p
+  ends_then exit stack middle on r (answer.Value (outcome.Returned v) s) next p h = p
+  ends_then exit stack middle on r (Ended j out) next p h = p
+  ends_then exit stack middle on r (answer.StillRunning out) next p h = p
 
   -- a value first
   pub ends_with : (exit : ℕ) (stack operands : List Value) (on : On) (t : TypeNo) (go : Effects) (r : Effect) (a : Answer ℤ) (next : ℤ → Source → Outcome) → Into (GivesNumber k t go operands) r a
-      → ((v : ℤ) → IsValue k.setting.home.types t v → (s : Source) (st : Target) → Stands k s st → Ends k function exit stack on (go st (operands ++ I64 (word v) ∷ [])) (next v s)) → Ends k function exit stack on r (with_answer a next)
-  ends_with exit stack operands on t go r (Gave v s) next p h = subst (λ (e : Effect). Ends k function exit stack on e (next v s)) (sym p.run) (h v p.is s p.st p.stands)
+      → ((v : ℤ) → IsValue k.setting.home.types t v → (s : Source) (st : Target) → Stands k s st → Ends k function exit stack on (go st (operands ++ I64 (word v) ∷ [])) (next v s)) → Ends k function exit stack on r (a ▷ next)
+  ends_with exit stack operands on t go r (answer.Value v s) next p h = subst (λ (e : Effect). Ends k function exit stack on e (next v s)) (sym p.run) (h v p.is s p.st p.stands)
   ends_with exit stack operands on t go r (Ended j out) next p h = p
-  ends_with exit stack operands on t go r (Running out) next p h = p
+  ends_with exit stack operands on t go r (answer.StillRunning out) next p h = p
 
   abbrev behind : (rest : List Instr) (stack : List Value) → On
   behind rest stack st = runs k rest st stack
@@ -60,7 +63,7 @@ module _ (k : Scene) (function : Bool) where
         (λ s' st' h'. hy.goes e first.1 (free_after k (hx.grows e c) free) full s' st' h' rest stack));
   }
 
-  pub nothing_executes : Executes k function nothing (λ a s. Went s)
+  pub nothing_executes : Executes k function nothing (λ a s. answer.Value Normal s)
   nothing_executes = record { grows = λ e c. grows_same c; goes = λ e c free full s st h rest stack. record { st = st; stands = h; run = refl } }
 
   -- statements in a row
@@ -74,13 +77,13 @@ module _ (k : Scene) (function : Bool) where
 
   -- ---- EXIT, RETURN, HALT
 
-  pub exit_executes : Executes k function (λ s c. (instr.Br s.exit ∷ [], c)) (λ a s. Left s)
+  pub exit_executes : Executes k function (λ s c. (instr.Br s.exit ∷ [], c)) (λ a s. answer.Value Exited s)
   exit_executes = record {
     grows = λ e c. grows_same c;
     goes = λ e c free full s st h rest stack. record { st = st; stands = h; run = br_runs k.modules k.fixed k.turns (calls k) k.own rest st e stack };
   }
 
-  pub halt_executes : HasHelpers k → Executes k function (plain (fault 9)) (λ a s. Stopped 9 s.out)
+  pub halt_executes : HasHelpers k → Executes k function (plain (fault 9)) (λ a s. Ended 9 s.out)
   halt_executes has = record {
     grows = λ e c. grows_same c;
     goes = λ e c free full s st h rest stack.
@@ -90,7 +93,7 @@ module _ (k : Scene) (function : Bool) where
   }
 
   -- the fault of a CASE
-  pub unlabelled_executes : HasHelpers k → Executes k function (plain (fault 5)) (λ a s. Stopped 5 s.out)
+  pub unlabelled_executes : HasHelpers k → Executes k function (plain (fault 5)) (λ a s. Ended 5 s.out)
   unlabelled_executes has = record {
     grows = λ e c. grows_same c;
     goes = λ e c free full s st h rest stack.
@@ -101,7 +104,7 @@ module _ (k : Scene) (function : Bool) where
 
   -- ---- RETURN of a procedure without a result
 
-  pub return_executes : function ≡ false → Executes k function (plain (instr.Return ∷ [])) (λ a s. Came (pos 0) s)
+  pub return_executes : function ≡ false → Executes k function (plain (instr.Return ∷ [])) (λ a s. answer.Value (outcome.Returned (pos 0)) s)
   return_executes proper = record {
     grows = λ e c. grows_same c;
     goes = λ e c free full s st h rest stack. record {
@@ -120,13 +123,13 @@ module _ (k : Scene) (function : Bool) where
   pub value_executes : (t : TypeNo) (code after : Coded) (list : List Instr) (value : Gives ℤ) (next : ℤ → Does) → Agrees k t code value → ((e : ℕ) (c : Counts) → after (inside k e) c ≡ (list, c))
       → ((v : ℤ) → IsValue k.setting.home.types t v → (e : ℕ) (s : Source) (st : Target) → Stands k s st → (rest : List Instr) (stack : List Value)
       → Ends k function e stack (behind rest stack) (runs k (list ++ rest) st (stack ++ I64 (word v) ∷ [])) (next v k.around s))
-      → Executes k function (code ⨾ after) (λ a s. with_answer (value a s) (λ v s. next v a s))
+      → Executes k function (code ⨾ after) (λ a s. value a s ▷ λ v s. next v a s)
   value_executes t code after list value next ha is go = record {
     grows = λ e c. subst (λ (p : List Instr × Counts). Grows c p.1) (sym (is e (code (inside k e) c).1)) (ha.grows e c);
     goes = λ e c free full s st h rest stack.
         let first = code (inside k e) c in
-        subst (λ (p : List Instr × Counts). Ends k function e stack (behind rest stack) (runs k ((first.0 ++ p.0) ++ rest) st stack) (with_answer (value k.around s) (λ v s. next v k.around s))) (sym (is e first.1))
-        (subst (λ (code : List Instr). Ends k function e stack (behind rest stack) (runs k code st stack) (with_answer (value k.around s) (λ v s. next v k.around s))) (sym (append_assoc first.0 list rest))
+        subst (λ (p : List Instr × Counts). Ends k function e stack (behind rest stack) (runs k ((first.0 ++ p.0) ++ rest) st stack) (value k.around s ▷ λ v s. next v k.around s)) (sym (is e first.1))
+        (subst (λ (code : List Instr). Ends k function e stack (behind rest stack) (runs k code st stack) (value k.around s ▷ λ v s. next v k.around s)) (sym (append_assoc first.0 list rest))
         (ends_with e stack stack (behind rest stack) t (runs k (list ++ rest)) (runs k (first.0 ++ (list ++ rest)) st stack) (value k.around s) (λ v s. next v k.around s)
         (ha.gives e c free (subst (λ (p : List Instr × Counts). HasLocals k p.1) (is e first.1) full) s st h (list ++ rest) stack)
         (λ v in_type s' st' h'. go v in_type e s' st' h' rest stack)));
@@ -139,13 +142,13 @@ module _ (k : Scene) (function : Bool) where
         → (s : Source) (st : Target) → Stands k s st → (rest : List Instr) (stack : List Value)
         → Ends k function exit stack (behind rest stack) (runs k ((code (inside k exit) c).0 ++ rest) st (stack ++ I64 (word v) ∷ [])) (next v k.around s)
 
-  pub with_executes : (t : TypeNo) (x y : Coded) (value : Gives ℤ) (next : ℤ → Does) → Agrees k t x value → ExecutesWith t y next → Executes k function (x ⨾ y) (λ a s. with_answer (value a s) (λ v s. next v a s))
+  pub with_executes : (t : TypeNo) (x y : Coded) (value : Gives ℤ) (next : ℤ → Does) → Agrees k t x value → ExecutesWith t y next → Executes k function (x ⨾ y) (λ a s. value a s ▷ λ v s. next v a s)
   with_executes t x y value next hx hy = record {
     grows = λ e c. grows_more (hx.grows e c) (hy.grows e (x (inside k e) c).1);
     goes = λ e c free full s st h rest stack.
         let first = x (inside k e) c in
         let second = y (inside k e) first.1 in
-        subst (λ (code : List Instr). Ends k function e stack (behind rest stack) (runs k code st stack) (with_answer (value k.around s) (λ v s. next v k.around s))) (sym (append_assoc first.0 second.0 rest))
+        subst (λ (code : List Instr). Ends k function e stack (behind rest stack) (runs k code st stack) (value k.around s ▷ λ v s. next v k.around s)) (sym (append_assoc first.0 second.0 rest))
         (ends_with e stack stack (behind rest stack) t (runs k (second.0 ++ rest)) (runs k (first.0 ++ (second.0 ++ rest)) st stack) (value k.around s) (λ v s. next v k.around s)
         (hx.gives e c free (has_before k (hy.grows e first.1) full) s st h (second.0 ++ rest) stack)
         (λ v is s' st' h'. hy.goes e first.1 (free_after k (hx.grows e c) free) full v is s' st' h' rest stack));
@@ -156,9 +159,9 @@ module _ (k : Scene) (function : Bool) where
   byte_of (negsuc n) l h = absurd (omega (arith, ints))
 
   abbrev printed : ℤ → Does
-  printed v a s = Went (record s { out = s.out ++ unsigned_abs v ∷ [] })
+  printed v a s = answer.Value Normal (record s { out = s.out ++ unsigned_abs v ∷ [] })
 
-  pub put_executes : HasHelpers k → (code : Coded) (value : Gives ℤ) → Agrees k char code value → Executes k function (code ⨾ plain (instr.Call 0 ∷ [])) (λ a s. with_answer (value a s) (λ v s. printed v a s))
+  pub put_executes : HasHelpers k → (code : Coded) (value : Gives ℤ) → Agrees k char code value → Executes k function (code ⨾ plain (instr.Call 0 ∷ [])) (λ a s. value a s ▷ λ v s. printed v a s)
   put_executes has code value ha =
       value_executes char code (plain (instr.Call 0 ∷ [])) (instr.Call 0 ∷ []) value printed ha (λ e c. refl) (λ v is e s st h rest stack. record {
         st = record st { out = st.out ++ word v % 256 ∷ [] };
@@ -179,11 +182,11 @@ module _ (k : Scene) (function : Bool) where
   out_block rest stack r = then_run (out_of 0 (length stack) r) (runs k rest)
 
   pub through_block : (exit : ℕ) (rest : List Instr) (stack : List Value) (r : Effect) (o : Outcome) → Ends k function (suc exit) stack (λ st. FellThrough st stack) r o → Ends k function exit stack (behind rest stack) (out_block rest stack r) o
-  through_block exit rest stack r (Went s) p = record { st = p.st; stands = p.stands; run = ap (out_block rest stack) p.run }
-  through_block exit rest stack r (Left s) p = record { st = p.st; stands = p.stands; run = ap (out_block rest stack) p.run }
-  through_block exit rest stack r (Came v s) p = record { below = p.below; st = p.st; stands = p.stands; run = ap (out_block rest stack) p.run }
-  through_block exit rest stack r (Stopped j out) p = ap (out_block rest stack) p
-  through_block exit rest stack r (Unfinished out) p = ap (out_block rest stack) p
+  through_block exit rest stack r (answer.Value Normal s) p = record { st = p.st; stands = p.stands; run = ap (out_block rest stack) p.run }
+  through_block exit rest stack r (answer.Value Exited s) p = record { st = p.st; stands = p.stands; run = ap (out_block rest stack) p.run }
+  through_block exit rest stack r (answer.Value (outcome.Returned v) s) p = record { below = p.below; st = p.st; stands = p.stands; run = ap (out_block rest stack) p.run }
+  through_block exit rest stack r (Ended j out) p = ap (out_block rest stack) p
+  through_block exit rest stack r (answer.StillRunning out) p = ap (out_block rest stack) p
 
   -- a statement's code alone
   pub alone : (x : Coded) (step : Does) → Executes k function x step → (exit : ℕ) (c : Counts) → IsFree k c → HasLocals k (x (inside k exit) c).1 → (s : Source) (st : Target) → Stands k s st → (stack : List Value)
@@ -208,7 +211,7 @@ module _ (k : Scene) (function : Bool) where
 
     if_only_goes : (x : Coded) (step : Does) → Executes k function x step → (exit : ℕ) (c : Counts) → IsFree k c → HasLocals k (x (inside k (exit + 1)) c).1 → (v : ℤ) → IsValue k.setting.home.types boolean v
         → (s : Source) (st : Target) → Stands k s st → (rest : List Instr) (stack : List Value) (b : Bool) → is_true v ≡ b
-        → Ends k function exit stack (behind rest stack) (runs k (wrapped ∷ chosen (x (inside k (exit + 1)) c).0 ∷ rest) st (stack ++ I64 (word v) ∷ [])) (if b then step k.around s else Went s)
+        → Ends k function exit stack (behind rest stack) (runs k (wrapped ∷ chosen (x (inside k (exit + 1)) c).0 ∷ rest) st (stack ++ I64 (word v) ∷ [])) (if b then step k.around s else answer.Value Normal s)
     if_only_goes x step hx exit c free full v is s st h rest stack b e =
         let code : List Instr = (x (inside k (exit + 1)) c).0 in
         let path : runs k (wrapped ∷ chosen code ∷ rest) st (stack ++ I64 (word v) ∷ []) ≡ out_block rest stack (one_side (not b) code st stack) =
@@ -216,13 +219,13 @@ module _ (k : Scene) (function : Bool) where
         ∙ if_one_runs k.modules k.fixed k.turns (calls k) k.own rest st None code stack (word v % 2 ^ 32)
         ∙ ap (λ (b : Bool). out_block rest stack (one_side b code st stack)) (chosen_by k has small v is.0 is.1 ∙ ap not e)
         in
-        subst (λ (r : Effect). Ends k function exit stack (behind rest stack) r (if b then step k.around s else Went s)) (sym path) (by b)
+        subst (λ (r : Effect). Ends k function exit stack (behind rest stack) r (if b then step k.around s else answer.Value Normal s)) (sym path) (by b)
       where
-        by : (b : Bool) → Ends k function exit stack (behind rest stack) (out_block rest stack (one_side (not b) (x (inside k (exit + 1)) c).0 st stack)) (if b then step k.around s else Went s)
+        by : (b : Bool) → Ends k function exit stack (behind rest stack) (out_block rest stack (one_side (not b) (x (inside k (exit + 1)) c).0 st stack)) (if b then step k.around s else answer.Value Normal s)
         by true = through_block exit rest stack (runs k (x (inside k (exit + 1)) c).0 st stack) (step k.around s) (alone_inside x step hx exit 1 (suc exit) (omega arith) c free full s st h stack)
         by false = record { st = st; stands = h; run = refl }
 
-    pub if_only_executes : (x : Coded) (step : Does) → Executes k function x step → ExecutesWith boolean (plain (wrapped ∷ []) ⨾ within 1 (λ code. chosen code ∷ []) x) (λ v a s. if is_true v then step a s else Went s)
+    pub if_only_executes : (x : Coded) (step : Does) → Executes k function x step → ExecutesWith boolean (plain (wrapped ∷ []) ⨾ within 1 (λ code. chosen code ∷ []) x) (λ v a s. if is_true v then step a s else answer.Value Normal s)
     if_only_executes x step hx = record {
       grows = λ e c. hx.grows (e + 1) c;
       goes = λ e c free full v is s st h rest stack. if_only_goes x step hx e c free full v is s st h rest stack (is_true v) refl;

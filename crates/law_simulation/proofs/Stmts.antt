@@ -27,8 +27,9 @@ use Rattle.layout_storage.specs.Types.{Ty, Scalar, Natural, Callable, Cell, Arra
 use Rattle.layout_storage.specs.Sizes.{size}
 use Rattle.layout_storage.specs.Shapes.{tree}
 use Rattle.def_meaning.specs.Store.{Location, copied, placed}
-use Rattle.def_meaning.specs.Answer.{State as Source, Answer, Gave, Ended, Running, then_give, Outcome, Went, Came, with_answer}
-use Rattle.def_meaning.specs.Around.{Modules, Around, Named, At, Elements, location_of, named}
+use Rattle.def_meaning.specs.Answer.{State as Source, Answer, Value, Ended, StillRunning, ◌▷◌}
+use Rattle.def_meaning.specs.Outcome.{Outcome, Normal, Returned}
+use Rattle.def_meaning.specs.Environment.{Modules, Environment, Named, At, Elements, location_of, named}
 use Rattle.def_meaning.specs.Calls.{is_there}
 use Rattle.def_meaning.specs.Operators.{is_true}
 use Rattle.def_meaning.specs.Expressions as meaning
@@ -79,15 +80,15 @@ executes_alike k function c f g same h = record {
   goes = λ e n free full s st stands rest stack. subst (Ends k function e stack (λ st. runs k rest st stack) (runs k ((c (inside k e) n).0 ++ rest) st stack)) (same s) (h.goes e n free full s st stands rest stack);
 }
 
-answer_assoc : {A B : Type 0} (q : Answer A) (f : A → Source → Answer B) (g : B → Source → Outcome) → with_answer (then_give q f) g ≡ with_answer q (λ v s. with_answer (f v s) g)
-answer_assoc (Gave v s) f g = refl
+answer_assoc : {A B : Type 0} (q : Answer A) (f : A → Source → Answer B) (g : B → Source → Outcome) → ((q ▷ f) ▷ g) ≡ (q ▷ λ v s. f v s ▷ g)
+answer_assoc (Value v s) f g = refl
 answer_assoc (Ended i out) f g = refl
-answer_assoc (Running out) f g = refl
+answer_assoc (StillRunning out) f g = refl
 
-answer_alike : {A : Type 0} (q : Answer A) (f g : A → Source → Outcome) → ((v : A) (s : Source) → f v s ≡ g v s) → with_answer q f ≡ with_answer q g
-answer_alike (Gave v s) f g h = h v s
+answer_alike : {A : Type 0} (q : Answer A) (f g : A → Source → Outcome) → ((v : A) (s : Source) → f v s ≡ g v s) → (q ▷ f) ≡ (q ▷ g)
+answer_alike (Value v s) f g h = h v s
 answer_alike (Ended i out) f g h = refl
-answer_alike (Running out) f g h = refl
+answer_alike (StillRunning out) f g h = refl
 
 map_alike : {A B : Type 0} (f g : A → B) (xs : List A) → ((v : A) → f v ≡ g v) → map f xs ≡ map g xs
 map_alike f g [] h = refl
@@ -148,7 +149,7 @@ module _ (x : Context) (ask : Asks) (result : Result) (n : ℕ) where
 
   -- the value as one of a type
   abbrev given_value : TypeNo → TypedExpr → Gives ℤ
-  given_value t e a s = then_give (value P ask e a s) (λ v s. as_type a.types t v s)
+  given_value t e a s = value P ask e a s ▷ λ v s. as_type a.types t v s
 
   abbrev given_code : TypeNo → TypedExpr → Coded → Coded
   given_code t e c = behind c (λ types. check_taken types t (expr_part N e).constant (expr_part N e).of)
@@ -187,19 +188,19 @@ module _ (x : Context) (ask : Asks) (result : Result) (n : ℕ) where
     -- ---- simple statements
 
     -- the value is located, taken as one of the type, and stored
-    assigned_alike : (k : Scene) (c : Coded) (d : Place) (t : TypeNo) (e : TypedExpr) → Executes k F c (λ a s. with_answer (locate P ask d a s) (λ l s. with_answer (given_value t e a s) (λ v s. Went (stored l v s))))
-        → Executes k F c (λ a s. with_answer (locate P ask d a s) (λ l s. with_answer (value P ask e a s) (λ v s. with_answer (as_type a.types t v s) (λ v s. Went (stored l v s)))))
+    assigned_alike : (k : Scene) (c : Coded) (d : Place) (t : TypeNo) (e : TypedExpr) → Executes k F c (λ a s. locate P ask d a s ▷ λ l s. given_value t e a s ▷ λ v s. Value Normal (stored l v s))
+        → Executes k F c (λ a s. locate P ask d a s ▷ λ l s. value P ask e a s ▷ λ v s. as_type a.types t v s ▷ λ v s. Value Normal (stored l v s))
     assigned_alike k c d t e h =
         executes_alike k F c
-        (λ a s. with_answer (locate P ask d a s) (λ l s. with_answer (given_value t e a s) (λ v s. Went (stored l v s))))
-        (λ a s. with_answer (locate P ask d a s) (λ l s. with_answer (value P ask e a s) (λ v s. with_answer (as_type a.types t v s) (λ v s. Went (stored l v s)))))
-        (λ s. answer_alike (locate P ask d k.around s) (λ l s. with_answer (given_value t e k.around s) (λ v s. Went (stored l v s))) (λ l s. with_answer (value P ask e k.around s) (λ v s. with_answer (as_type k.around.types t v s) (λ v s. Went (stored l v s))))
-        (λ l s. answer_assoc (value P ask e k.around s) (λ v s. as_type k.around.types t v s) (λ v s. Went (stored l v s))))
+        (λ a s. locate P ask d a s ▷ λ l s. given_value t e a s ▷ λ v s. Value Normal (stored l v s))
+        (λ a s. locate P ask d a s ▷ λ l s. value P ask e a s ▷ λ v s. as_type a.types t v s ▷ λ v s. Value Normal (stored l v s))
+        (λ s. answer_alike (locate P ask d k.around s) (λ l s. given_value t e k.around s ▷ λ v s. Value Normal (stored l v s)) (λ l s. value P ask e k.around s ▷ λ v s. as_type k.around.types t v s ▷ λ v s. Value Normal (stored l v s))
+        (λ l s. answer_assoc (value P ask e k.around s) (λ v s. as_type k.around.types t v s) (λ v s. Value Normal (stored l v s))))
         h
 
-    assigned_stays : (d : Place) (t : TypeNo) (e : TypedExpr) → Stays (λ a s. with_answer (locate P ask d a s) (λ l s. with_answer (value P ask e a s) (λ v s. with_answer (as_type a.types t v s) (λ v s. Went (stored l v s)))))
-    assigned_stays d t e a s = with_stays (locate P ask d a s) (λ l s. with_answer (value P ask e a s) (λ v s. with_answer (as_type a.types t v s) (λ v s. Went (stored l v s))))
-        (λ l s. with_stays (value P ask e a s) (λ v s. with_answer (as_type a.types t v s) (λ v s. Went (stored l v s))) (λ v s. with_stays (as_type a.types t v s) (λ v s. Went (stored l v s)) (λ v s. refl)))
+    assigned_stays : (d : Place) (t : TypeNo) (e : TypedExpr) → Stays (λ a s. locate P ask d a s ▷ λ l s. value P ask e a s ▷ λ v s. as_type a.types t v s ▷ λ v s. Value Normal (stored l v s))
+    assigned_stays d t e a s = with_stays (locate P ask d a s) (λ l s. value P ask e a s ▷ λ v s. as_type a.types t v s ▷ λ v s. Value Normal (stored l v s))
+        (λ l s. with_stays (value P ask e a s) (λ v s. as_type a.types t v s ▷ λ v s. Value Normal (stored l v s)) (λ v s. with_stays (as_type a.types t v s) (λ v s. Value Normal (stored l v s)) (λ v s. refl)))
 
     assign_made : (a b c : ℕ) (d : Place) (t : TypeNo) (r : Scalar) (e : TypedExpr) → IsCell x.home.types t r → Placed ws a b d (Cell r) → MadeGiven ws b c e t → Stmt ws l a c (stmt.Assign d t e)
     assign_made a b c d t r e cell m q = from_stmt ws l a c (stmt.Assign d t e) (step.Assign d t e) (stmt.outs-Assign d t e) (record {
@@ -228,8 +229,8 @@ module _ (x : Context) (ask : Asks) (result : Result) (n : ℕ) where
       executes = λ k fit.
           copies k fit.fits.set F t m.placed q.placed (locate P ask d) (locate P ask e) (here x ask ws k fit.fits (λ h. IsPlain (tree h.types t)) is)
           (here x ask ws k fit.fits (λ h. Locates k (tree h.types t) m.placed (locate P ask d)) (m.locates k fit.fits)) (here x ask ws k fit.fits (λ h. Locates k (tree h.types t) q.placed (locate P ask e)) (q.locates k fit.fits));
-      stays = λ e' a s. with_stays (locate P ask d a s) (λ l s. with_answer (locate P ask e a s) (λ l' s. Went (record s { store = copied l l' s.store })))
-          (λ l s. with_stays (locate P ask e a s) (λ l' s. Went (record s { store = copied l l' s.store })) (λ l' s. refl));
+      stays = λ e' a s. with_stays (locate P ask d a s) (λ l s. locate P ask e a s ▷ λ l' s. Value Normal (record s { store = copied l l' s.store }))
+          (λ l s. with_stays (locate P ask e a s) (λ l' s. Value Normal (record s { store = copied l l' s.store })) (λ l' s. refl));
     })
 
     copy_text_made : (a b i : ℕ) (d : Place) (t : TypeNo) (text : List ℕ) → tree x.home.types t ≡ Array i (Cell (Natural 255)) → length text ≤ i → HasText x b text → Placed ws a b d (tree x.home.types t) → Stmt ws l a (b + length text) (stmt.CopyText d t text)
@@ -239,7 +240,7 @@ module _ (x : Context) (ask : Asks) (result : Result) (n : ℕ) where
           (pins_text b (length text) (λ at. with_setting (λ s. plain (text_copied at (length text) (size (tree s.home.types t) - length text) w))) (pins_setting (λ s. pins_plain (b + length text) (text_copied b (length text) (size (tree s.home.types t) - length text) w))))));
       executes = λ k fit. strings k fit.fits.set F t i b m.placed (locate P ask d) text (here x ask ws k fit.fits (λ h. tree h.types t ≡ Array i (Cell (Natural 255))) array) less (fit.fits.texts b text has)
           (here x ask ws k fit.fits (λ h. Locates k (tree h.types t) m.placed (locate P ask d)) (m.locates k fit.fits));
-      stays = λ e' a s. with_stays (locate P ask d a s) (λ l s. Went (record s { store = placed l (character text) s.store })) (λ l s. refl);
+      stays = λ e' a s. with_stays (locate P ask d a s) (λ l s. Value Normal (record s { store = placed l (character text) s.store })) (λ l s. refl);
     })
 
     call_stmt_made : (a b : ℕ) (c : Call) → MadeCall x ask ws a b None (call_code N c) (called P ask c) → Stmt ws l a b (stmt.Call c)
@@ -247,7 +248,7 @@ module _ (x : Context) (ask : Asks) (result : Result) (n : ℕ) where
       placed = m.placed;
       pins = m.pins;
       executes = λ k fit. call_executes k F m.placed (called P ask c) (m.calls k fit.fits);
-      stays = λ e' a s. with_stays (called P ask c a s) (λ v s. Went s) (λ v s. refl);
+      stays = λ e' a s. with_stays (called P ask c a s) (λ v s. Value Normal s) (λ v s. refl);
     })
 
     put_made : (a b : ℕ) (e : TypedExpr) → MadeGiven ws a b e char → Stmt ws l a b (stmt.Put e)
@@ -256,12 +257,12 @@ module _ (x : Context) (ask : Asks) (result : Result) (n : ℕ) where
       pins = pins_then (given_pins q) (pins_plain b (instr.Call put ∷ []));
       executes = λ k fit.
           executes_alike k F (given_code char e q.placed ⨾ plain (instr.Call put ∷ []))
-          (λ a s. with_answer (given_value char e a s) (λ v s. Went (record s { out = s.out ++ unsigned_abs v ∷ [] })))
-          (λ a s. with_answer (value P ask e a s) (λ v s. with_answer (as_type a.types char v s) (λ v s. Went (record s { out = s.out ++ unsigned_abs v ∷ [] }))))
-          (λ s. answer_assoc (value P ask e k.around s) (λ v s. as_type k.around.types char v s) (λ v s. Went (record s { out = s.out ++ unsigned_abs v ∷ [] })))
+          (λ a s. given_value char e a s ▷ λ v s. Value Normal (record s { out = s.out ++ unsigned_abs v ∷ [] }))
+          (λ a s. value P ask e a s ▷ λ v s. as_type a.types char v s ▷ λ v s. Value Normal (record s { out = s.out ++ unsigned_abs v ∷ [] }))
+          (λ s. answer_assoc (value P ask e k.around s) (λ v s. as_type k.around.types char v s) (λ v s. Value Normal (record s { out = s.out ++ unsigned_abs v ∷ [] })))
           (laws.puts k fit.fits.set F (given_code char e q.placed) (given_value char e) (q.agrees k fit.fits));
-      stays = λ e' a s. with_stays (value P ask e a s) (λ v s. with_answer (as_type a.types char v s) (λ v s. Went (record s { out = s.out ++ unsigned_abs v ∷ [] })))
-          (λ v s. with_stays (as_type a.types char v s) (λ v s. Went (record s { out = s.out ++ unsigned_abs v ∷ [] })) (λ v s. refl));
+      stays = λ e' a s. with_stays (value P ask e a s) (λ v s. as_type a.types char v s ▷ λ v s. Value Normal (record s { out = s.out ++ unsigned_abs v ∷ [] }))
+          (λ v s. with_stays (as_type a.types char v s) (λ v s. Value Normal (record s { out = s.out ++ unsigned_abs v ∷ [] })) (λ v s. refl));
     })
 
     change_made : (a b c : ℕ) (o : Change) (d : Place) (t u : TypeNo) (r : Scalar) (e : TypedExpr) → IsCell x.home.types t r → (scalar_at x.home.types t ≡ None → ⊥) → (scalar_at x.home.types (base_of x.home.types t) ≡ None → ⊥)
@@ -271,9 +272,9 @@ module _ (x : Context) (ask : Asks) (result : Result) (n : ℕ) where
       pins = pins_then m.pins (pins_address (λ w. pins_then (pins_plain b (instr.LocalSet w ∷ [])) (pins_then q.pins (pins_number (λ i. pins_then (pins_plain c (instr.LocalSet i ∷ [])) (pins_setting (λ s. pins_plain c (changed o w i s.home.types t))))))));
       executes = λ k fit. laws.changes k fit.fits.set F o t r m.placed (as_part x ask (expr_part N e) q.placed) (locate P ask d) (value P ask e) (here x ask ws k fit.fits (λ h. IsCell h.types t r) cell)
           (here x ask ws k fit.fits (λ h. scalar_at h.types t ≡ None → ⊥) ranged) (here x ask ws k fit.fits (λ h. scalar_at h.types (base_of h.types t) ≡ None → ⊥) based) (m.locates k fit.fits) (q.agrees k fit.fits) (agrees_beside x ask q k fit.fits);
-      stays = λ e' a s. with_stays (locate P ask d a s) (λ l s. with_answer (value P ask e a s) (λ by s. with_answer (statements.rechecked a.types t (statements.changed o (s.store l) by) s) (λ v s. Went (stored l v s))))
-          (λ l s. with_stays (value P ask e a s) (λ by s. with_answer (statements.rechecked a.types t (statements.changed o (s.store l) by) s) (λ v s. Went (stored l v s)))
-          (λ by s. with_stays (statements.rechecked a.types t (statements.changed o (s.store l) by) s) (λ v s. Went (stored l v s)) (λ v s. refl)));
+      stays = λ e' a s. with_stays (locate P ask d a s) (λ l s. value P ask e a s ▷ λ by s. statements.rechecked a.types t (statements.changed o (s.store l) by) s ▷ λ v s. Value Normal (stored l v s))
+          (λ l s. with_stays (value P ask e a s) (λ by s. statements.rechecked a.types t (statements.changed o (s.store l) by) s ▷ λ v s. Value Normal (stored l v s))
+          (λ by s. with_stays (statements.rechecked a.types t (statements.changed o (s.store l) by) s) (λ v s. Value Normal (stored l v s)) (λ v s. refl)));
     })
 
     member_made : (a b c : ℕ) (o : Membership) (d : Place) (u : TypeNo) (r : Scalar) (e : TypedExpr) → IsCell x.home.types bitset r → Placed ws a b d (Cell r) → Expr ws b c e u → Stmt ws l a c (stmt.Membership o d e)
@@ -283,9 +284,9 @@ module _ (x : Context) (ask : Asks) (result : Result) (n : ℕ) where
           (pins_number (λ i. pins_then (pins_plain c (instr.LocalSet i ∷ [])) (pins_setting (λ s. pins_plain c (with_member o w i s.home.types)))))))));
       executes = λ k fit. laws.memberships k fit.fits.set F o r m.placed (as_part x ask (expr_part N e) q.placed) (locate P ask d) (value P ask e) (here x ask ws k fit.fits (λ h. IsCell h.types bitset r) cell)
           (m.locates k fit.fits) (q.agrees k fit.fits) (agrees_beside x ask q k fit.fits);
-      stays = λ e' a s. with_stays (locate P ask d a s) (λ l s. with_answer (value P ask e a s) (λ i s. with_answer (meaning.within (pos 0) (pos 31) 1 i s) (λ i s. Went (stored l (statements.with_element o (s.store l) i) s))))
-          (λ l s. with_stays (value P ask e a s) (λ i s. with_answer (meaning.within (pos 0) (pos 31) 1 i s) (λ i s. Went (stored l (statements.with_element o (s.store l) i) s)))
-          (λ i s. with_stays (meaning.within (pos 0) (pos 31) 1 i s) (λ i s. Went (stored l (statements.with_element o (s.store l) i) s)) (λ i s. refl)));
+      stays = λ e' a s. with_stays (locate P ask d a s) (λ l s. value P ask e a s ▷ λ i s. meaning.within (pos 0) (pos 31) 1 i s ▷ λ i s. Value Normal (stored l (statements.with_element o (s.store l) i) s))
+          (λ l s. with_stays (value P ask e a s) (λ i s. meaning.within (pos 0) (pos 31) 1 i s ▷ λ i s. Value Normal (stored l (statements.with_element o (s.store l) i) s))
+          (λ i s. with_stays (meaning.within (pos 0) (pos 31) 1 i s) (λ i s. Value Normal (stored l (statements.with_element o (s.store l) i) s)) (λ i s. refl)));
     })
 
     halt_made : (a : ℕ) → Stmt ws l a a stmt.Halt
@@ -295,27 +296,27 @@ module _ (x : Context) (ask : Asks) (result : Result) (n : ℕ) where
     return_made a none = from_stmt ws l a a stmt.Return step.Return stmt.outs-Return (record {
       placed = plain (instr.Return ∷ []);
       pins = pins_plain a (instr.Return ∷ []);
-      executes = λ k fit. subst (λ (r : Result). Executes k (is_there r) (plain (instr.Return ∷ [])) (λ a s. Came (pos 0) s)) (sym none) (laws.returns k);
+      executes = λ k fit. subst (λ (r : Result). Executes k (is_there r) (plain (instr.Return ∷ [])) (λ a s. Value (Returned (pos 0)) s)) (sym none) (laws.returns k);
       stays = λ e' a s. refl;
     })
 
-    given_alike : (k : Scene) (c : Coded) (t : TypeNo) (e : TypedExpr) → Executes k true c (λ a s. with_answer (given_value t e a s) (λ v s. Came v s)) → Executes k true c (λ a s. with_answer (value P ask e a s) (λ v s. with_answer (as_type a.types t v s) (λ v s. Came v s)))
+    given_alike : (k : Scene) (c : Coded) (t : TypeNo) (e : TypedExpr) → Executes k true c (λ a s. given_value t e a s ▷ λ v s. Value (Returned v) s) → Executes k true c (λ a s. value P ask e a s ▷ λ v s. as_type a.types t v s ▷ λ v s. Value (Returned v) s)
     given_alike k c t e h =
         executes_alike k true c
-        (λ a s. with_answer (given_value t e a s) (λ v s. Came v s))
-        (λ a s. with_answer (value P ask e a s) (λ v s. with_answer (as_type a.types t v s) (λ v s. Came v s)))
-        (λ s. answer_assoc (value P ask e k.around s) (λ v s. as_type k.around.types t v s) (λ v s. Came v s))
+        (λ a s. given_value t e a s ▷ λ v s. Value (Returned v) s)
+        (λ a s. value P ask e a s ▷ λ v s. as_type a.types t v s ▷ λ v s. Value (Returned v) s)
+        (λ s. answer_assoc (value P ask e k.around s) (λ v s. as_type k.around.types t v s) (λ v s. Value (Returned v) s))
         h
 
-    given_stays : (t : TypeNo) (e : TypedExpr) → Stays (λ a s. with_answer (value P ask e a s) (λ v s. with_answer (as_type a.types t v s) (λ v s. Came v s)))
-    given_stays t e a s = with_stays (value P ask e a s) (λ v s. with_answer (as_type a.types t v s) (λ v s. Came v s)) (λ v s. with_stays (as_type a.types t v s) (λ v s. Came v s) (λ v s. refl))
+    given_stays : (t : TypeNo) (e : TypedExpr) → Stays (λ a s. value P ask e a s ▷ λ v s. as_type a.types t v s ▷ λ v s. Value (Returned v) s)
+    given_stays t e a s = with_stays (value P ask e a s) (λ v s. as_type a.types t v s ▷ λ v s. Value (Returned v) s) (λ v s. with_stays (as_type a.types t v s) (λ v s. Value (Returned v) s) (λ v s. refl))
 
     give_made : (a b : ℕ) (t : TypeNo) (r : Scalar) (e : TypedExpr) → result ≡ Some (tree x.home.types t) → IsCell x.home.types t r → MadeGiven ws a b e t → Stmt ws l a b (stmt.Give t e)
     give_made a b t r e is cell q = from_stmt ws l a b (stmt.Give t e) (step.Give t e) (stmt.outs-Give t e) (record {
       placed = given_code t e q.placed ⨾ plain (instr.Return ∷ []);
       pins = pins_then (given_pins q) (pins_plain b (instr.Return ∷ []));
       executes = λ k fit.
-          subst (λ (r : Result). Executes k (is_there r) (given_code t e q.placed ⨾ plain (instr.Return ∷ [])) (λ a s. with_answer (value P ask e a s) (λ v s. with_answer (as_type a.types t v s) (λ v s. Came v s)))) (sym is)
+          subst (λ (r : Result). Executes k (is_there r) (given_code t e q.placed ⨾ plain (instr.Return ∷ [])) (λ a s. value P ask e a s ▷ λ v s. as_type a.types t v s ▷ λ v s. Value (Returned v) s)) (sym is)
           (given_alike k (given_code t e q.placed ⨾ plain (instr.Return ∷ [])) t e
           (results k t r (given_code t e q.placed) (given_value t e) (here x ask ws k fit.fits (λ h. k.result ≡ Some (tree h.types t)) (fit.typed ∙ is)) (here x ask ws k fit.fits (λ h. IsCell h.types t r) cell) (q.agrees k fit.fits)));
       stays = λ e' a s. given_stays t e a s;
@@ -326,7 +327,7 @@ module _ (x : Context) (ask : Asks) (result : Result) (n : ℕ) where
       placed = given_code t e q.placed ⨾ plain (instr.Return ∷ []);
       pins = pins_then (held_pins t e q) (pins_plain b (instr.Return ∷ []));
       executes = λ k fit.
-          subst (λ (r : Result). Executes k (is_there r) (given_code t e q.placed ⨾ plain (instr.Return ∷ [])) (λ a s. with_answer (value P ask e a s) (λ v s. with_answer (as_type a.types t v s) (λ v s. Came v s)))) (sym is)
+          subst (λ (r : Result). Executes k (is_there r) (given_code t e q.placed ⨾ plain (instr.Return ∷ [])) (λ a s. value P ask e a s ▷ λ v s. as_type a.types t v s ▷ λ v s. Value (Returned v) s)) (sym is)
           (given_alike k (given_code t e q.placed ⨾ plain (instr.Return ∷ [])) t e
           (held_gives k h (given_code t e q.placed) (given_value t e) (fit.typed ∙ is) (given_held x ask ws a b t h e q none k fit.fits)));
       stays = λ e' a s. given_stays t e a s;
@@ -352,7 +353,7 @@ module _ (x : Context) (ask : Asks) (result : Result) (n : ℕ) where
       placed = q.placed ⨾ plain (wrapped ∷ []) ⨾ if_only m.placed;
       pins = pins_then q.pins (pins_then (pins_plain b (wrapped ∷ [])) (pins_within 1 (λ c. instr.If None c None ∷ []) m.pins));
       executes = λ k fit. laws.lone_ifs k fit.fits.set F q.placed (value P ask e) m.placed (rows_do body) (q.agrees k fit.fits) (m.executes k fit);
-      stays = λ e' a s. with_stays (value P ask e a s) (λ v s. if is_true v then rows_do body a s else Went s) (λ v s. if_stays (is_true v) (rows_do body a s) (Went s) (m.stays e' a s) refl);
+      stays = λ e' a s. with_stays (value P ask e a s) (λ v s. if is_true v then rows_do body a s else Value Normal s) (λ v s. if_stays (is_true v) (rows_do body a s) (Value Normal s) (m.stays e' a s) refl);
     })
 
     if_else_made : (a b c z : ℕ) (e : TypedExpr) (body others : List TypedStmt) → MadeTest ws a b e → Rows ws l b c body → Rows ws l c z others → Stmt ws l a z (stmt.If e body (Some others))
@@ -423,11 +424,11 @@ module _ (x : Context) (ask : Asks) (result : Result) (n : ℕ) where
     pins : (i : ℕ) → Pins i i (place_code N d) (with_setting (λ s. plain (at s)))
     l : Scene → Location
     there : (ws : List Ty) (k : Scene) → Fits x ask ws k → IsThere k at (l k)
-    found : (k : Scene) (s : Source) → locate P ask d k.around s ≡ Gave (l k) s
+    found : (k : Scene) (s : Source) → locate P ask d k.around s ≡ Value (l k) s
     type : (ws : List Ty) (k : Scene) → Fits x ask ws k → component (row k.world) (l k) ≡ Some t
 
   -- what stands alone
-  alone : (r : Root) (d : Place) → d.root ≡ r → d.components ≡ [] → (a : Around) (s : Source) → locate P ask d a s ≡ Gave (meaning.root_layer P ask r a) s
+  alone : (r : Root) (d : Place) → d.root ≡ r → d.components ≡ [] → (a : Environment) (s : Source) → locate P ask d a s ≡ Value (meaning.root_layer P ask r a) s
   alone r d is none a s =
       ap (λ (f : Gives Location). f a s) (place_means P ask d (out-Place d) refl)
       ∙ ap (λ (r : Root). meaning.one_by_one (map (component_value P ask) d.components) (meaning.root_layer P ask r a) a s) is
@@ -478,9 +479,9 @@ module _ (x : Context) (ask : Asks) (result : Result) (n : ℕ) where
         (laws.fors k fit.fits.set F t r (g.l k) g.at (as_part x ask (expr_part N start) q.placed) (as_part x ask (expr_part N limit) v.placed) by m.placed (given_value t start) (value P ask limit) (rows_do body)
         (here x ask ws k fit.fits (λ h. IsCell h.types t r) cell) (here x ask ws k fit.fits (λ h. scalar_at h.types t ≡ None → ⊥) ranged) (g.type ws k fit.fits) (g.there ws k fit.fits) low high
         (q.agrees k fit.fits) (v.agrees k fit.fits) (λ e c. m.pins.grows (inside k e) c) (λ w i new. m.executes (keeping k w i) (suits_keeping ws k w i new fit))));
-    stays = λ e' a s. with_stays (locate P ask d a s) (λ l s. with_answer (value P ask start a s) (λ v s. with_answer (as_type a.types t v s) (λ v s. with_answer (value P ask limit a s) (λ last s. for_all n (as_type a.types t) l by last (rows_do body a) (stored l v s)))))
-        (λ l s. with_stays (value P ask start a s) (λ v s. with_answer (as_type a.types t v s) (λ v s. with_answer (value P ask limit a s) (λ last s. for_all n (as_type a.types t) l by last (rows_do body a) (stored l v s))))
-        (λ v s. with_stays (as_type a.types t v s) (λ v s. with_answer (value P ask limit a s) (λ last s. for_all n (as_type a.types t) l by last (rows_do body a) (stored l v s)))
+    stays = λ e' a s. with_stays (locate P ask d a s) (λ l s. value P ask start a s ▷ λ v s. as_type a.types t v s ▷ λ v s. value P ask limit a s ▷ λ last s. for_all n (as_type a.types t) l by last (rows_do body a) (stored l v s))
+        (λ l s. with_stays (value P ask start a s) (λ v s. as_type a.types t v s ▷ λ v s. value P ask limit a s ▷ λ last s. for_all n (as_type a.types t) l by last (rows_do body a) (stored l v s))
+        (λ v s. with_stays (as_type a.types t v s) (λ v s. value P ask limit a s ▷ λ last s. for_all n (as_type a.types t) l by last (rows_do body a) (stored l v s))
         (λ v s. with_stays (value P ask limit a s) (λ last s. for_all n (as_type a.types t) l by last (rows_do body a) (stored l v s))
         (λ last s. for_stays n (as_type a.types t) l by last (rows_do body a) (m.stays e' a) (stored l v s)))));
   })
@@ -492,15 +493,15 @@ module _ (x : Context) (ask : Asks) (result : Result) (n : ℕ) where
       variable = with_setting (λ s. plain (g.at s))
 
       turned : ℕ → Does
-      turned i a s = with_answer (locate P ask d a s) (λ l s. with_answer (value P ask start a s) (λ v s. with_answer (as_type a.types t v s) (λ v s. with_answer (value P ask limit a s) (λ last s. for_all i (as_type a.types t) l by last (rows_do body a) (stored l v s)))))
+      turned i a s = locate P ask d a s ▷ λ l s. value P ask start a s ▷ λ v s. as_type a.types t v s ▷ λ v s. value P ask limit a s ▷ λ last s. for_all i (as_type a.types t) l by last (rows_do body a) (stored l v s)
 
       short : Location → ℕ → Does
-      short l i a s = with_answer (given_value t start a s) (λ v s. with_answer (value P ask limit a s) (λ last s. for_all i (as_type a.types t) l by last (rows_do body a) (stored l v s)))
+      short l i a s = given_value t start a s ▷ λ v s. value P ask limit a s ▷ λ last s. for_all i (as_type a.types t) l by last (rows_do body a) (stored l v s)
 
       steps_same : (k : Scene) (i : ℕ) (s : Source) → short (g.l k) i k.around s ≡ turned i k.around s
       steps_same k i s =
-          answer_assoc (value P ask start k.around s) (λ v s. as_type k.around.types t v s) (λ v s. with_answer (value P ask limit k.around s) (λ last s. for_all i (as_type k.around.types t) (g.l k) by last (rows_do body k.around) (stored (g.l k) v s)))
-          ∙ ap (λ (q : Answer Location). with_answer q (λ l s. with_answer (value P ask start k.around s) (λ v s. with_answer (as_type k.around.types t v s) (λ v s. with_answer (value P ask limit k.around s) (λ last s. for_all i (as_type k.around.types t) l by last (rows_do body k.around) (stored l v s))))))
+          answer_assoc (value P ask start k.around s) (λ v s. as_type k.around.types t v s) (λ v s. value P ask limit k.around s ▷ λ last s. for_all i (as_type k.around.types t) (g.l k) by last (rows_do body k.around) (stored (g.l k) v s))
+          ∙ ap (λ (q : Answer Location). (q ▷ λ l s. value P ask start k.around s ▷ λ v s. as_type k.around.types t v s ▷ λ v s. value P ask limit k.around s ▷ λ last s. for_all i (as_type k.around.types t) l by last (rows_do body k.around) (stored l v s)))
           (sym (g.found k s))
 
   -- ---- CASE
@@ -582,7 +583,7 @@ module _ (x : Context) (ask : Asks) (result : Result) (n : ℕ) where
     case_pins : Pins a z (case_code (expr_part N e).code xs y) (case_code q.placed m.placed o.placed)
     case_pins = pins_then q.pins (pins_number (λ t. pins_then (pins_plain b (instr.LocalSet t ∷ [])) (pins_either (is_dense (length xs) (all_labels xs)) (is_dense (length m.placed) (all_labels m.placed)) dense (table_pins t) (chain_pins t))))
 
-    case_executes : (k : Scene) → Suited ws k → Executes k F (case_code q.placed m.placed o.placed) (λ a s. with_answer (value P ask e a s) (λ v s. chosen v ys d a s))
+    case_executes : (k : Scene) → Suited ws k → Executes k F (case_code q.placed m.placed o.placed) (λ a s. value P ask e a s ▷ λ v s. chosen v ys d a s)
     case_executes k fit = by (is_dense (length m.placed) (all_labels m.placed)) refl
       where
         arms_beside : (w : ℕ) (v : Operand) → k.kept w ≡ None → AreArms (keeping k w v) F m.placed ys
@@ -591,11 +592,11 @@ module _ (x : Context) (ask : Asks) (result : Result) (n : ℕ) where
         else_beside : (w : ℕ) (v : Operand) → k.kept w ≡ None → Executes (keeping k w v) F o.placed d
         else_beside w v new = o.executes (keeping k w v) (suits_keeping ws k w v new fit)
 
-        by : (i : Bool) → is_dense (length m.placed) (all_labels m.placed) ≡ i → Executes k F (case_code q.placed m.placed o.placed) (λ a s. with_answer (value P ask e a s) (λ v s. chosen v ys d a s))
+        by : (i : Bool) → is_dense (length m.placed) (all_labels m.placed) ≡ i → Executes k F (case_code q.placed m.placed o.placed) (λ a s. value P ask e a s ▷ λ v s. chosen v ys d a s)
         by true is = table_cases k fit.fits.set F (as_part x ask (expr_part N e) q.placed) (value P ask e) m.placed ys o.placed d is (q.agrees k fit.fits) (λ t i n. (table_pins t).grows (inside k i) n) arms_beside else_beside
         by false is = laws.cases k fit.fits.set F (as_part x ask (expr_part N e) q.placed) (value P ask e) m.placed ys o.placed d is (q.agrees k fit.fits) (λ t i n. (chain_pins t).grows (inside k i) n) arms_beside else_beside
 
-    case_stays : l ≡ false → Stays (λ a s. with_answer (value P ask e a s) (λ v s. chosen v ys d a s))
+    case_stays : l ≡ false → Stays (λ a s. value P ask e a s ▷ λ v s. chosen v ys d a s)
     case_stays e' a s = with_stays (value P ask e a s) (λ v s. chosen v ys d a s) (λ v s. m.stays e' v d (o.stays e') a s)
 
   case_made : (ws : List Ty) (l : Bool) (a b c : ℕ) (u : TypeNo) (e : TypedExpr) (arms : List TypedArm) → Expr ws a b e u → MadeArms ws l b c (map (armed N) arms) (map (arm_does P ask n) arms) → Stmt ws l a c (stmt.Case e arms None)

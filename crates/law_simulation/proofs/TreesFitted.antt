@@ -9,7 +9,7 @@ use Rattle.typed_tree.specs.declared.types.TypeNo.{TypeNo}
 use Rattle.layout_storage.specs.Types.{Ty, Heading, row, component}
 use Rattle.layout_storage.specs.Sizes.{size}
 use Rattle.def_meaning.specs.Store.{Location}
-use Rattle.def_meaning.specs.Around.{Callee}
+use Rattle.def_meaning.specs.Environment.{Callee}
 use Rattle.def_meaning.specs.Expressions.{Asks}
 use Rattle.def_scheme.specs.Coded.{top_local}
 use Rattle.law_simulation.specs.Scene.{Scene, IsWith, place, keeping, opening}

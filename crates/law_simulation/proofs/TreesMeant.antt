@@ -7,7 +7,7 @@ use Rattle.typed_tree.specs.declared.computed.Link.{Link, Link-F, out-Link, map-
 use Rattle.typed_tree.specs.declared.computed.Place.{Place, Place-F, out-Place, map-Place, fold_out-Place}
 use Rattle.typed_tree.specs.declared.computed.TypedExpr.{TypedExpr, TypedExpr-F, out-TypedExpr, map-TypedExpr, fold_out-TypedExpr}
 use Rattle.def_meaning.specs.Store.{Location}
-use Rattle.def_meaning.specs.Around.{Modules, Passed}
+use Rattle.def_meaning.specs.Environment.{Modules, Passed}
 use Rattle.def_meaning.specs.Expressions.{Asks, Gives, Reaches, Continues, argument_layer, call_layer, component_layer, link_layer, expr_layer, place_layer, value, locate, called}
 
 module _ (p : Modules) (ask : Asks) where

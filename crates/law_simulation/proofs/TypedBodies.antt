@@ -10,9 +10,9 @@ use Rattle.layout_storage.specs.Types.{Ty}
 use Rattle.layout_storage.specs.Frames.{frame}
 use Rattle.layout_storage.specs.Texts.{characters, routines_texts}
 use Rattle.def_meaning.specs.Store.{Location}
-use Rattle.def_meaning.specs.Around.{Modules, Around}
+use Rattle.def_meaning.specs.Environment.{Modules, Environment}
 use Rattle.def_meaning.specs.Calls.{is_there, body_does, calling}
-use Rattle.def_meaning.specs.Runs.{around_body, storage, body_frame}
+use Rattle.def_meaning.specs.Runs.{body_environment, storage, body_frame}
 use Rattle.def_meaning.specs.Statements.{Does}
 use Rattle.def_scheme.specs.Coded.{Coded, Setting}
 use Rattle.def_scheme.specs.Addresses.{addresses_in}
@@ -35,7 +35,7 @@ use Rattle.law_simulation.specs.Main.{body_row, IsMain, main_scene}
 use Rattle.law_simulation.proofs.Knots.{knot}
 use Rattle.law_simulation.proofs.Mains.{main_does}
 use Rattle.law_simulation.specs.RunsPrograms.{body_typed}
-use Rattle.law_simulation.specs.Linked.{Spot, routine_typed, around_of, text_of, part_of, context}
+use Rattle.law_simulation.specs.Linked.{Spot, routine_typed, environment_of, text_of, part_of, context}
 use Rattle.law_simulation.specs.BodiesLaws.{AreLinked, AreTyped, IsTypedMain, Parts, Mains, TypedBodies}
 use Rattle.law_simulation.proofs.Counted.{function_it, results_length}
 use Rattle.law_simulation.proofs.BodiesFitted.{fits_here}
@@ -57,10 +57,10 @@ counted_same from to x y s h = sym (h.is s (from_text from))
 
 module _ (modules : List WModule) (fx : Fixed) (serves : (k f : ℕ) → Bool) (extra : (k f : ℕ) → ℕ) (n limit : ℕ) (p : Modules) (base : List Ty) (texts : Location → ℕ → ℕ)
     (linked : AreLinked modules fx serves extra n limit p base texts) (typed : AreTyped modules fx serves extra n limit p base texts) where
-  levels : (o : Spot p) → nat_lt 1 o.routine.level ≡ is_inner (around_of o.home o.routine)
+  levels : (o : Spot p) → nat_lt 1 o.routine.level ≡ is_inner (environment_of o.home o.routine)
   levels o = ((typed o).procedure 0).linked
 
-  outermost : (o : Spot p) (number : ℕ) → o.at ≡ which.Module number → around_of o.home o.routine ≡ []
+  outermost : (o : Spot p) (number : ℕ) → o.at ≡ which.Module number → environment_of o.home o.routine ≡ []
   outermost o number e = (typed o).outermost number e
 
   function_there : (o : Spot p) → IsFunction (numbered o.home) o.home o.routine (frames_around o.home o.routine.level o.routine.around) (text_of o.home o.at) (routine_typed o.home o.at o.routine)
@@ -73,12 +73,12 @@ module _ (modules : List WModule) (fx : Fixed) (serves : (k f : ℕ) → Bool) (
   }
 
   body_there : (o : Spot p) (d : ℕ) → AllDo modules fx serves extra n limit p base texts (Spot p) part_of d
-      → DoesBody (core modules fx serves extra n limit p base texts (suc o.place) o.place o.home d) p (calling p n d) (numbered o.home) o.home o.place o.routine (frames_around o.home o.routine.level o.routine.around) (text_of o.home o.at) (around_of o.home o.routine) base texts
+      → DoesBody (core modules fx serves extra n limit p base texts (suc o.place) o.place o.home d) p (calling p n d) (numbered o.home) o.home o.place o.routine (frames_around o.home o.routine.level o.routine.around) (text_of o.home o.at) (environment_of o.home o.routine) base texts
   body_there o d all =
       let m : TypedModule = o.home in
       let r : Routine = o.routine in
       let outer : List Ty = frames_around m r.level r.around in
-      let kinds : List Kinds = kinds_of m.types r ∷ around_of m r in
+      let kinds : List Kinds = kinds_of m.types r ∷ environment_of m r in
       let x : Context = context p base texts o.place m kinds in
       let result : Result = result_of m.types r.heading in
       let t = typed o in
@@ -104,7 +104,7 @@ module _ (modules : List WModule) (fx : Fixed) (serves : (k f : ℕ) → Bool) (
       let text : ℕ = characters (routines_texts m) in
       let x : Context = context p base texts place m [] in
       let q = bodies x (calling p n n) None n text t.to m.body t.typed in
-      let a : Around = around_body p place m left in
+      let a : Environment = body_environment p place m left in
       let K : Scene = main_scene (core modules fx serves extra n limit p base texts (suc place) place m n) m text base texts a in
       record {
         helpers = t.helpers;

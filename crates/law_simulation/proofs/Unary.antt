@@ -20,7 +20,8 @@ use Rattle.typed_tree.specs.declared.shape.Scalar.{Scalar as Range}
 use Rattle.typed_tree.specs.declared.known_types.Types.{Types}
 use Rattle.typed_tree.specs.Types.{are_same, is_one_home, integer, cardinal, boolean, char}
 use Rattle.typed_tree.specs.Known.{scalar_at, scalar_from}
-use Rattle.def_meaning.specs.Answer.{State as Source, Answer, Gave, Ended, Running, then_give, range_fault, overflow}
+use Rattle.def_meaning.specs.Answer.{State as Source, Answer, Ended, StillRunning, ◌▷◌, range_fault, overflow}
+use Rattle.def_meaning.specs.Answer as answer
 use Rattle.def_meaning.specs.Operators as of
 use Rattle.def_meaning.specs.Operators.{is_between, absolute, capital, odd}
 use Rattle.def_meaning.specs.Expressions.{Gives, within, within_range, ordinal}
@@ -91,11 +92,11 @@ module _ (k : Scene) (has : HasHelpers k) (small : AreSmall k.setting.home.types
   }
     where
       as_other : (rest : List Instr) (stack : List Value) (r : Effect) (a : Answer ℤ) → Into (GivesNumber k t (runs k rest) stack) r a → Into (GivesNumber k u (runs k rest) stack) r a
-      as_other rest stack r (Gave v s) p = record { st = p.st; stands = p.stands; is = among v p.is; run = p.run }
+      as_other rest stack r (answer.Value v s) p = record { st = p.st; stands = p.stands; is = among v p.is; run = p.run }
       as_other rest stack r (Ended j out) p = p
-      as_other rest stack r (Running out) p = p
+      as_other rest stack r (StillRunning out) p = p
 
-  pub odd_goes : (t : TypeNo) → Goes k t boolean (instr.I64Const 1 ∷ operation And ∷ []) (λ v s. Gave (of.truth (odd v)) s)
+  pub odd_goes : (t : TypeNo) → Goes k t boolean (instr.I64Const 1 ∷ operation And ∷ []) (λ v s. answer.Value (of.truth (odd v)) s)
   odd_goes t v is s st h rest stack =
       truth_gives k has small (odd v) s st h rest stack _
       (i64_runs k.modules k.fixed k.turns (calls k) k.own (operation And ∷ rest) st 1 (stack ++ I64 (word v) ∷ [])
@@ -116,7 +117,7 @@ module _ (k : Scene) (has : HasHelpers k) (small : AreSmall k.setting.home.types
   ordinal_given t v is some s st h rest stack =
       let n = narrow k has small t v is in
       let not_below : int_lt v (pos 0) ≡ false = grind (arith, some) in
-      subst (λ (b : Bool). Into (GivesNumber k cardinal (runs k rest) stack) (runs k rest st (stack ++ I64 (word v) ∷ [])) (if b then Ended range_fault s.out else Gave v s)) (sym not_below)
+      subst (λ (b : Bool). Into (GivesNumber k cardinal (runs k rest) stack) (runs k rest st (stack ++ I64 (word v) ∷ [])) (if b then Ended range_fault s.out else answer.Value v s)) (sym not_below)
       (record { st = st; stands = h; is = (some, n.high); run = refl })
 
   pub ord_goes : (t : TypeNo) → AreAmong types t (base_of types t) → (are_same (base_of types t) integer ≡ false → AreNatural types t) → Goes k t cardinal (ord_check types t) (λ v s. ordinal v s)
@@ -127,12 +128,12 @@ module _ (k : Scene) (has : HasHelpers k) (small : AreSmall k.setting.home.types
       by true e =
           let based : IsIn (scalar_at types integer) v = subst (λ (o : Option Range). IsIn o v) (as_integer types (base_of types t) e) (among v is) in
           let high = based.1 in
-          let same : within (pos 0) (pos 2147483647) range_fault v s ≡ ordinal v s = (let b : is_between (pos 0) v (pos 2147483647) ≡ not (int_lt v (pos 0)) = grind (arith, high) in ap (λ (b : Bool). if b then Gave v s else Ended range_fault s.out) b ∙ either (int_lt v (pos 0))) in
+          let same : within (pos 0) (pos 2147483647) range_fault v s ≡ ordinal v s = (let b : is_between (pos 0) v (pos 2147483647) ≡ not (int_lt v (pos 0)) = grind (arith, high) in ap (λ (b : Bool). if b then answer.Value v s else Ended range_fault s.out) b ∙ either (int_lt v (pos 0))) in
           subst (λ (a : Answer ℤ). Into (GivesNumber k cardinal (runs k rest) stack) (runs k (checked (pos 0) (pos 2147483647) 1 ++ rest) st (stack ++ I64 (word v) ∷ [])) a) same
           (checked_gives k has cardinal (pos 0) (pos 2147483647) v 1 (record { low = omega (arith, ints); high = omega (arith, ints) }) (record { low = omega (arith, ints); high = omega (arith, ints) })
           (wide v (narrow k has small t v is)) (omega arith) (omega arith) (λ e. let p = between_in (pos 0) (pos 2147483647) v e in let a = p.0 in let b = p.1 in (a, omega (arith, ints))) s st h rest stack)
         where
-          either : (b : Bool) → (if not b then Gave v s else Ended range_fault s.out) ≡ (if b then Ended range_fault s.out else Gave v s)
+          either : (b : Bool) → (if not b then answer.Value v s else Ended range_fault s.out) ≡ (if b then Ended range_fault s.out else answer.Value v s)
           either true = refl
           either false = refl
       by false e = ordinal_given t v is (natural e v is) s st h rest stack
@@ -244,7 +245,7 @@ module _ (k : Scene) (has : HasHelpers k) (small : AreSmall k.setting.home.types
             ∙ operation_runs k has small Sub 0 (word v) (word (absolute v)) [] set stack (ap Some (difference_word (pos 0) v zero_wide wide_v w ∙ ap word (sym (absolute_less v below)))))
         by check false e = second_left opposite same check 0 (word (absolute v)) refl (same_left ∙ ap (λ (z : ℤ). runs k [] set (stack ++ I64 (word z) ∷ [])) (sym (absolute_not v (not_less v (pos 0) e))))
 
-  pub capital_goes : (n : ℕ) → n < k.locals → k.kept n ≡ None → Goes k char char (capital_code n) (λ v s. Gave (capital v) s)
+  pub capital_goes : (n : ℕ) → n < k.locals → k.kept n ≡ None → Goes k char char (capital_code n) (λ v s. answer.Value (capital v) s)
   capital_goes n less new v is s st h rest stack = cap_gives n less new char v is s st h stack is.0 is.1 rest
 
   pub absolute_goes : (t : TypeNo) → are_same t integer ≡ true → (n : ℕ) → n < k.locals → k.kept n ≡ None → Goes k t t (absolute_code n) (λ v s. within_range (scalar_at types t) overflow (absolute v) s)
@@ -254,7 +255,7 @@ module _ (k : Scene) (has : HasHelpers k) (small : AreSmall k.setting.home.types
       let nv = narrow k has small t v is in let low = nv.low in let high = nv.high in
       let wide_absolute : IsWide (absolute v) = record { low = omega (arith, ints); high = absolute_high v low high } in
       subst (λ (o : Option Range). Into (GivesNumber k t (runs k rest) stack) (runs k (absolute_code n ++ rest) st (stack ++ I64 (word v) ∷ [])) (within_range o overflow (absolute v) s)) (sym (as_integer types t e))
-      (subst (λ (b : Bool). Into (GivesNumber k t (runs k rest) stack) (runs k (absolute_code n ++ rest) st (stack ++ I64 (word v) ∷ [])) (if b then Gave (absolute v) s else Ended overflow s.out)) (from_nought (unsigned_abs v))
+      (subst (λ (b : Bool). Into (GivesNumber k t (runs k rest) stack) (runs k (absolute_code n ++ rest) st (stack ++ I64 (word v) ∷ [])) (if b then answer.Value (absolute v) s else Ended overflow s.out)) (from_nought (unsigned_abs v))
       (subst (λ (r : Effect). Into (GivesNumber k t (runs k rest) stack) r (within (pos 0) (pos 2147483647) overflow (absolute v) s)) (sym (abs_runs n less new t v is s st h stack rest))
       (checked_gives k has t (pos 0) (pos 2147483647) (absolute v) 2 (record { low = omega (arith, ints); high = omega (arith, ints) }) (record { low = omega (arith, ints); high = omega (arith, ints) }) wide_absolute (omega arith) (omega arith)
       (λ b. let p = between_in (pos 0) (pos 2147483647) (absolute v) b in let l = p.0 in let h = p.1 in subst (λ (o : Option Range). IsIn o (absolute v)) (sym (as_integer types t e)) (omega (arith, ints), omega (arith, ints))) s set stands rest stack)))
@@ -267,20 +268,20 @@ module _ (k : Scene) (has : HasHelpers k) (small : AreSmall k.setting.home.types
       absolute_high (negsuc n) l h = omega (arith, ints)
 
   -- a value that is not negative stays
-  natural_stays : (t : TypeNo) → AreNatural types t → (o : Option Range) → scalar_at types t ≡ o → (v : ℤ) → IsValue types t v → (s : Source) → within_range o overflow (absolute v) s ≡ Gave v s
-  natural_stays t natural None e v is s = ap (λ (z : ℤ). Gave z s) (absolute_not v (natural v is))
+  natural_stays : (t : TypeNo) → AreNatural types t → (o : Option Range) → scalar_at types t ≡ o → (v : ℤ) → IsValue types t v → (s : Source) → within_range o overflow (absolute v) s ≡ answer.Value v s
+  natural_stays t natural None e v is s = ap (λ (z : ℤ). answer.Value z s) (absolute_not v (natural v is))
   natural_stays t natural (Some r) e v is s =
       let at : IsIn (Some r) v = subst (λ (o : Option Range). IsIn o v) e is in let low = at.0 in let high = at.1 in
       let b : is_between r.low v r.high ≡ true = grind (arith, low, high) in
-      ap (λ (z : ℤ). within r.low r.high overflow z s) (absolute_not v (natural v is)) ∙ ap (λ (b : Bool). if b then Gave v s else Ended overflow s.out) b
+      ap (λ (z : ℤ). within r.low r.high overflow z s) (absolute_not v (natural v is)) ∙ ap (λ (b : Bool). if b then answer.Value v s else Ended overflow s.out) b
 
-  pub stays_agrees : (t : TypeNo) → AreNatural types t → (code : Coded) (value : Gives ℤ) → Agrees k t code value → Agrees k t code (λ a s. then_give (value a s) (λ v s. within_range (scalar_at types t) overflow (absolute v) s))
+  pub stays_agrees : (t : TypeNo) → AreNatural types t → (code : Coded) (value : Gives ℤ) → Agrees k t code value → Agrees k t code (λ a s. value a s ▷ λ v s. within_range (scalar_at types t) overflow (absolute v) s)
   stays_agrees t natural code value hx = record {
     grows = hx.grows;
     gives = λ e c free full s st stands rest stack. stays rest stack _ (value k.around s) (hx.gives e c free full s st stands rest stack);
   }
     where
-      stays : (rest : List Instr) (stack : List Value) (r : Effect) (a : Answer ℤ) → Into (GivesNumber k t (runs k rest) stack) r a → Into (GivesNumber k t (runs k rest) stack) r (then_give a (λ v s. within_range (scalar_at types t) overflow (absolute v) s))
-      stays rest stack r (Gave v s) p = subst (λ (a : Answer ℤ). Into (GivesNumber k t (runs k rest) stack) r a) (sym (natural_stays t natural (scalar_at types t) refl v p.is s)) p
+      stays : (rest : List Instr) (stack : List Value) (r : Effect) (a : Answer ℤ) → Into (GivesNumber k t (runs k rest) stack) r a → Into (GivesNumber k t (runs k rest) stack) r (a ▷ λ v s. within_range (scalar_at types t) overflow (absolute v) s)
+      stays rest stack r (answer.Value v s) p = subst (λ (a : Answer ℤ). Into (GivesNumber k t (runs k rest) stack) r a) (sym (natural_stays t natural (scalar_at types t) refl v p.is s)) p
       stays rest stack r (Ended j out) p = p
-      stays rest stack r (Running out) p = p
+      stays rest stack r (StillRunning out) p = p

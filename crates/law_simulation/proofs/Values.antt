@@ -15,8 +15,10 @@ use Rattle.typed_tree.specs.declared.known_types.Types.{Types}
 use Rattle.typed_tree.specs.Known.{scalar_at}
 use Rattle.layout_storage.specs.Types.{Ty, Scalar, Cell, IsOf}
 use Rattle.layout_storage.specs.Shapes.{tree}
-use Rattle.def_meaning.specs.Answer.{State as Source, Answer, Gave, Ended, then_give, Came, range_fault}
-use Rattle.def_meaning.specs.Around.{Modules, procedure_value}
+use Rattle.def_meaning.specs.Answer.{State as Source, Answer, Ended, ◌▷◌, range_fault}
+use Rattle.def_meaning.specs.Outcome.{Returned}
+use Rattle.def_meaning.specs.Answer as answer
+use Rattle.def_meaning.specs.Environment.{Modules, procedure_value}
 use Rattle.def_meaning.specs.Operators.{is_between}
 use Rattle.def_meaning.specs.Expressions.{Gives, as_type, within_range}
 use Rattle.law_memory.specs.Relation.{Means}
@@ -43,9 +45,9 @@ between_holds : (low v high : ℤ) → low ≤ℤ v → v ≤ℤ high → is_bet
 between_holds low v high l h = grind (arith, l, h)
 
 -- a value of the type stays
-in_range_stays : (o : Option Range) (v : ℤ) (s : Source) → IsIn o v → within_range o range_fault v s ≡ Gave v s
+in_range_stays : (o : Option Range) (v : ℤ) (s : Source) → IsIn o v → within_range o range_fault v s ≡ answer.Value v s
 in_range_stays None v s is = refl
-in_range_stays (Some r) v s is = ap (λ (b : Bool). if b then Gave v s else Ended range_fault s.out) (between_holds r.low v r.high is.0 is.1)
+in_range_stays (Some r) v s is = ap (λ (b : Bool). if b then answer.Value v s else Ended range_fault s.out) (between_holds r.low v r.high is.0 is.1)
 
 module _ (k : Scene) (set : IsSet k) where
   abbrev types : Types
@@ -69,7 +71,7 @@ module _ (k : Scene) (set : IsSet k) where
 
   taken_here : (t : TypeNo) (x : Part) (value : Gives ℤ) → Agrees k x.of x.code value → (is_free types t x.constant x.of ≡ true → Agrees k t x.code value) → (scalar_at types t ≡ None → AreAmong types x.of t)
       → (b : Bool) → is_free types t x.constant x.of ≡ b
-      → Agrees k t (x.code ⨾ with_setting (λ s. plain (check_taken s.home.types t x.constant x.of))) (λ a s. then_give (value a s) (λ v s. as_type types t v s))
+      → Agrees k t (x.code ⨾ with_setting (λ s. plain (check_taken s.home.types t x.constant x.of))) (λ a s. value a s ▷ λ v s. as_type types t v s)
   taken_here t x value hx free among true e =
       then_agrees k t t x.code (with_setting (λ s. plain (check_taken s.home.types t x.constant x.of))) value (λ v a s. as_type types t v s) (free e)
       (plain_goes k t t (with_setting (λ s. plain (check_taken s.home.types t x.constant x.of))) [] (λ v a s. as_type types t v s) (λ e' c. ap (λ (b : Bool). (if b then [] else in_type types t 1, c)) e) (stays_goes t))
@@ -80,8 +82,8 @@ module _ (k : Scene) (set : IsSet k) where
 
 pub taken : Taken
 taken k set t x value hx free among =
-    agrees_alike k t (x.code ⨾ with_setting (λ s. plain (check_taken s.home.types t x.constant x.of))) (λ a s. then_give (value a s) (λ v s. as_type k.setting.home.types t v s)) (λ a s. then_give (value a s) (λ v s. as_type a.types t v s))
-    (λ s. ap (λ (types : Types). then_give (value k.around s) (λ v s. as_type types t v s)) (sym set.types))
+    agrees_alike k t (x.code ⨾ with_setting (λ s. plain (check_taken s.home.types t x.constant x.of))) (λ a s. value a s ▷ λ v s. as_type k.setting.home.types t v s) (λ a s. value a s ▷ λ v s. as_type a.types t v s)
+    (λ s. ap (λ (types : Types). (value k.around s ▷ λ v s. as_type types t v s)) (sym set.types))
     (taken_here k set t x value hx free among (is_free k.setting.home.types t x.constant x.of) refl)
 
 -- the number of a procedure
@@ -104,7 +106,7 @@ procedure_small k p f has = subst (λ (v : ℤ). (pos 0 ≤ℤ v) × (v ≤ℤ p
 
 pub procedure_values : ProcedureValues
 procedure_values k set p ask f has none =
-    plain_agrees k f.heading (with_setting (λ s. plain (procedure_code s.home f))) (procedure_code k.setting.home f) (λ a s. Gave (procedure_value p f.home f.number) s) (λ e c. refl)
+    plain_agrees k f.heading (with_setting (λ s. plain (procedure_code s.home f))) (procedure_code k.setting.home f) (λ a s. answer.Value (procedure_value p f.home f.number) s) (λ e c. refl)
     (λ s st h rest stack. record {
       st = st;
       stands = h;
@@ -114,7 +116,7 @@ procedure_values k set p ask f has none =
 
 pub results : Results
 results k t c e value typed cell he =
-    value_executes k true t e (plain (instr.Return ∷ [])) (instr.Return ∷ []) value (λ v a s. Came v s) he (λ e c. refl)
+    value_executes k true t e (plain (instr.Return ∷ [])) (instr.Return ∷ []) value (λ v a s. answer.Value (Returned v) s) he (λ e c. refl)
     (λ v is e s st h rest stack. record {
       below = stack;
       st = st;

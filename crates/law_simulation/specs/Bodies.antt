@@ -11,10 +11,12 @@ use Rattle.typed_tree.specs.declared.typed_module.TypedModule.{TypedModule}
 use Rattle.layout_storage.specs.Types.{Ty, row}
 use Rattle.layout_storage.specs.Sizes.{size}
 use Rattle.def_meaning.specs.Store.{Location}
-use Rattle.def_meaning.specs.Answer.{State as Source, Outcome, Went, Left, Came, Stopped, Unfinished}
-use Rattle.def_meaning.specs.Around.{Modules}
+use Rattle.def_meaning.specs.Answer.{State as Source, Ended}
+use Rattle.def_meaning.specs.Outcome.{Outcome, Normal, Exited, Returned}
+use Rattle.def_meaning.specs.Answer as answer
+use Rattle.def_meaning.specs.Environment.{Modules}
 use Rattle.def_meaning.specs.Calls.{body_does, calling}
-use Rattle.def_meaning.specs.Runs.{storage, body_frame, around_body, first_state, run}
+use Rattle.def_meaning.specs.Runs.{storage, body_frame, body_environment, first_state, run}
 use Rattle.law_memory.specs.Relation.{Holds}
 use Rattle.law_memory.specs.Bodies.{BodyAt, AreThere, run_typed}
 use Rattle.law_simulation.specs.Behaves.{Behaves}
@@ -42,11 +44,11 @@ pub record IsBack (g : Ground) (locals below : List Value) (s : Source) (r : Eff
 
 -- a body comes to its end, or returns, and all else ends alike
 abbrev pub BodyEnds : Ground → (locals below : List Value) → Effect → Outcome → Type 0
-BodyEnds g locals below r (Went s) = IsBack g locals below s r
-BodyEnds g locals below r (Left s) = IsBack g locals below s r
-BodyEnds g locals below r (Came v s) = IsBack g locals below s r
-BodyEnds g locals below r (Stopped k out) = r ≡ effects.Ended k out
-BodyEnds g locals below r (Unfinished out) = r ≡ StillRunning out
+BodyEnds g locals below r (answer.Value Normal s) = IsBack g locals below s r
+BodyEnds g locals below r (answer.Value Exited s) = IsBack g locals below s r
+BodyEnds g locals below r (answer.Value (Returned v) s) = IsBack g locals below s r
+BodyEnds g locals below r (Ended k out) = r ≡ effects.Ended k out
+BodyEnds g locals below r (answer.StillRunning out) = r ≡ StillRunning out
 
 -- the function f of the module j does what the body does; its frame begins behind the instances of
 -- the modules
@@ -63,7 +65,7 @@ BodyDoes g calls does j f t =
 -- what a body does, where each loop makes at most n turns and calls nest at most n deep
 abbrev pub statements_do : Modules → (pages n place : ℕ) → TypedModule → Source → Outcome
 statements_do p pages n place m =
-    body_does p n (calling p n n) m.body (around_body p place m (storage p pages - body_frame))
+    body_does p n (calling p n n) m.body (body_environment p place m (storage p pages - body_frame))
 
 -- the bodies from this place on
 abbrev pub AllDo : Ground → Calling → (does : ℕ → TypedModule → Source → Outcome) → (place : ℕ)

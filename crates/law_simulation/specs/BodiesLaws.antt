@@ -9,7 +9,7 @@ use Rattle.layout_storage.specs.Types.{Ty, row}
 use Rattle.layout_storage.specs.Sizes.{size}
 use Rattle.layout_storage.specs.Texts.{characters, routines_texts}
 use Rattle.def_meaning.specs.Store.{Location}
-use Rattle.def_meaning.specs.Around.{Modules}
+use Rattle.def_meaning.specs.Environment.{Modules}
 use Rattle.def_meaning.specs.Calls.{calling}
 use Rattle.def_meaning.specs.Runs.{storage, body_frame}
 use Rattle.def_scheme.specs.Addresses.{addresses_in}
@@ -25,7 +25,7 @@ use Rattle.law_simulation.specs.Stage.{HasLimit}
 use Rattle.law_simulation.specs.ProceduresLaws.{IsProcedure, coded_body}
 use Rattle.law_simulation.specs.Knot.{core, AllDo, IsPart}
 use Rattle.law_simulation.specs.Main.{coded_main, IsMain}
-use Rattle.law_simulation.specs.Linked.{Spot, function_of, around_of, text_of, part_of, context, IsLinked}
+use Rattle.law_simulation.specs.Linked.{Spot, function_of, environment_of, text_of, part_of, context, IsLinked}
 
 module _ (modules : List WModule) (fx : Fixed) (serves : (k f : ℕ) → Bool) (extra : (k f : ℕ) → ℕ)
     (n limit : ℕ) (p : Modules) (base : List Ty) (texts : Location → ℕ → ℕ) where
@@ -41,9 +41,9 @@ module _ (modules : List WModule) (fx : Fixed) (serves : (k f : ℕ) → Bool) (
         → IsProcedure
         (core modules fx serves extra n limit p base texts (suc o.place) o.place o.home d) o.home
         o.routine (frames_around o.home o.routine.level o.routine.around)
-        (around_of o.home o.routine)
+        (environment_of o.home o.routine)
     -- a procedure of the module itself stands in no other
-    pub outermost : (number : ℕ) → o.at ≡ which.Module number → around_of o.home o.routine ≡ []
+    pub outermost : (number : ℕ) → o.at ≡ which.Module number → environment_of o.home o.routine ≡ []
     pub addresses : (coded_body (numbered o.home) o.home o.routine
         (frames_around o.home o.routine.level o.routine.around) (text_of o.home o.at)).1.addresses
         ≡ addresses_in o.routine.body
@@ -52,7 +52,7 @@ module _ (modules : List WModule) (fx : Fixed) (serves : (k f : ℕ) → Bool) (
     pub to : ℕ
     pub typed : AreStmts
         (context p base texts o.place o.home
-        (kinds_of o.home.types o.routine ∷ around_of o.home o.routine))
+        (kinds_of o.home.types o.routine ∷ environment_of o.home o.routine))
         (result_of o.home.types o.routine.heading) [] false (text_of o.home o.at) to o.routine.body
 
   abbrev pub AreTyped : Type 0

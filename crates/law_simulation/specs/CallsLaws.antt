@@ -15,8 +15,9 @@ use Rattle.layout_storage.specs.Types.{Ty, Scalar, Natural, Cell, Hidden, Array,
 use Rattle.layout_storage.specs.Sizes.{size}
 use Rattle.layout_storage.specs.Shapes.{tree}
 use Rattle.def_meaning.specs.Store.{Location, copied, placed}
-use Rattle.def_meaning.specs.Answer.{Gave, Went, Came, then_give, with_answer}
-use Rattle.def_meaning.specs.Around.{Modules, procedure_value, named, high_of}
+use Rattle.def_meaning.specs.Answer.{Value, ◌▷◌}
+use Rattle.def_meaning.specs.Outcome.{Normal, Returned}
+use Rattle.def_meaning.specs.Environment.{Modules, procedure_value, named, high_of}
 use Rattle.def_meaning.specs.Expressions as meaning
 use Rattle.def_meaning.specs.Expressions.{Asks, Gives as Given, as_type}
 use Rattle.def_meaning.specs.Statements.{character}
@@ -38,7 +39,7 @@ Taken =
     → (is_free k.setting.home.types t x.constant x.of ≡ true → Agrees k t x.code value)
     → (scalar_at k.setting.home.types t ≡ None → AreAmong k.setting.home.types x.of t)
     → Agrees k t (behind x.code (λ types. check_taken types t x.constant x.of)) (λ a s.
-    then_give (value a s) (λ v s. as_type a.types t v s))
+    value a s ▷ λ v s. as_type a.types t v s)
 
 -- the table has the procedures of each module behind its body, from the slot in a global on
 pub record HasSlot (k : Scene) (p : Modules) (f : Procedure) : Type 0 where
@@ -70,8 +71,8 @@ Copies =
     → Locates k (tree k.setting.home.types t) e from
     → Executes k function
     (d ⨾ behind e (λ types. instr.I32Const (size (tree types t)) ∷ instr.Call copy ∷ [])) (λ a s.
-    with_answer (to a s) (λ l s.
-    with_answer (from a s) (λ l' s. Went (record s { store = copied l l' s.store }))))
+    to a s ▷ λ l s.
+    from a s ▷ λ l' s. Value Normal (record s { store = copied l l' s.store }))
 
 -- the characters of a text of the module stand behind one another in its hidden room, from this
 -- place on
@@ -102,7 +103,7 @@ Strings =
     plain (instr.LocalTee w ∷ []) ⨾ with_setting (λ s.
     plain (text_copied at (length text) (size (tree s.home.types t) - length text) w))))
     (λ a s.
-    with_answer (to a s) (λ l s. Went (record s { store = placed l (character text) s.store })))
+    to a s ▷ λ l s. Value Normal (record s { store = placed l (character text) s.store }))
 
 -- RETURN with a value
 abbrev pub Gives : Type 0
@@ -112,7 +113,7 @@ Gives =
     → IsCell k.setting.home.types t c
     → Agrees k t e value
     → Executes k true (e ⨾ plain (instr.Return ∷ [])) (λ a s.
-    with_answer (value a s) (λ v s. Came v s))
+    value a s ▷ λ v s. Value (Returned v) s)
 
 -- ---- formals and variables of the procedure, and of those around it
 
@@ -125,7 +126,7 @@ Locals =
     → (slot : Slot) (t : Ty)
     → kind_at kss slot ≡ Some (Kept t)
     → Locates k t (code.root_layer (root.Local slot)) (λ a s.
-    Gave (meaning.root_layer p ask (root.Local slot) a) s)
+    Value (meaning.root_layer p ask (root.Local slot) a) s)
 
 -- a VAR formal
 abbrev pub Aliases : Type 0
@@ -137,7 +138,7 @@ Aliases =
     → (slot : Slot) (t : Ty)
     → kind_at kss slot ≡ Some (Alias t)
     → Locates k t (code.root_layer (root.Alias slot)) (λ a s.
-    Gave (meaning.root_layer p ask (root.Alias slot) a) s)
+    Value (meaning.root_layer p ask (root.Alias slot) a) s)
 
 -- an open array, which has an element for each number up to its HIGH
 abbrev pub OpenArrays : Type 0
@@ -149,7 +150,7 @@ OpenArrays =
     → (slot : Slot) (t : Ty)
     → kind_at kss slot ≡ Some (Open t)
     → Locates k (Array (suc (high_of (named k.around slot))) t) (code.root_layer (root.Open slot))
-    (λ a s. Gave (meaning.root_layer p ask (root.Open slot) a) s)
+    (λ a s. Value (meaning.root_layer p ask (root.Open slot) a) s)
 
 abbrev pub OpenElements : Type 0
 OpenElements =

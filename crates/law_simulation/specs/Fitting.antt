@@ -9,7 +9,7 @@ use Rattle.typed_tree.specs.declared.types.TypeNo.{TypeNo}
 use Rattle.layout_storage.specs.Types.{Ty}
 use Rattle.layout_storage.specs.Frames.{formals_of}
 use Rattle.def_meaning.specs.Store.{Location}
-use Rattle.def_meaning.specs.Around.{Callee, module_place, module_callee, nested_in}
+use Rattle.def_meaning.specs.Environment.{Callee, module_place, module_callee, nested_in}
 use Rattle.def_meaning.specs.Expressions.{Asks}
 use Rattle.def_scheme.specs.Exprs.{all_arguments, has_result, module_call, nested_call}
 use Rattle.def_scheme.specs.Modules.{numbered}

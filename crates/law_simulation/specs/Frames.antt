@@ -12,7 +12,7 @@ use Rattle.layout_storage.specs.Sizes.{Four, offset}
 use Rattle.layout_storage.specs.Shapes.{tree}
 use Rattle.layout_storage.specs.Frames.{formals_of}
 use Rattle.def_meaning.specs.Store.{Location}
-use Rattle.def_meaning.specs.Around.{Named, At, Elements, Frames}
+use Rattle.def_meaning.specs.Environment.{Named, At, Elements, Frames}
 use Rattle.law_memory.specs.Cells.{stored_in}
 use Rattle.law_memory.specs.Relation.{Keeps}
 use Rattle.law_simulation.specs.Scene.{Scene, place}

@@ -15,8 +15,10 @@ use Rattle.layout_storage.specs.Types.{Ty, Scalar, Callable, Cell, Heading, IsOf
 use Rattle.layout_storage.specs.Shapes.{tree}
 use Rattle.layout_storage.specs.Frames.{formals_of}
 use Rattle.def_meaning.specs.Store.{Location}
-use Rattle.def_meaning.specs.Answer.{State as Source, Gave, Went, Came, then_give, with_answer}
-use Rattle.def_meaning.specs.Around.{Modules, Callee, Passed, Number, module_place, entry_of, entry_callee}
+use Rattle.def_meaning.specs.Answer.{State as Source, ◌▷◌}
+use Rattle.def_meaning.specs.Outcome.{Normal, Returned}
+use Rattle.def_meaning.specs.Answer as answer
+use Rattle.def_meaning.specs.Environment.{Modules, Callee, Passed, Number, module_place, entry_of, entry_callee}
 use Rattle.def_meaning.specs.Calls.{is_there}
 use Rattle.def_meaning.specs.Expressions as meaning
 use Rattle.def_meaning.specs.Expressions.{Asks, Gives, as_type, asked_if}
@@ -109,7 +111,7 @@ HeldTaken =
     → scalar_at k.setting.home.types t ≡ None
     → AgreesHeld k h x.code value
     → AgreesHeld k h (behind x.code (λ types. check_taken types t x.constant x.of)) (λ a s.
-    then_give (value a s) (λ v s. as_type a.types t v s))
+    value a s ▷ λ v s. as_type a.types t v s)
 
 abbrev pub HeldAssigns : Type 0
 HeldAssigns =
@@ -121,13 +123,13 @@ HeldAssigns =
     → Locates k (Cell (Callable h)) d found
     → AgreesHeld k h e value
     → Executes k function (d ⨾ e ⨾ with_setting (λ s. plain (cells.stored s.home.types t))) (λ a s.
-    with_answer (found a s) (λ l s. with_answer (value a s) (λ v s. Went (stored l v s))))
+    found a s ▷ λ l s. value a s ▷ λ v s. answer.Value Normal (stored l v s))
 
 -- for a value formal
 abbrev pub HeldPasses : Type 0
 HeldPasses =
-    (k : Scene) (h : Heading) (c : Coded) (value : Gives ℤ) → AgreesHeld k h c value
-    → Passes k (ByNumber (Callable h)) c (λ a s. then_give (value a s) (λ v s. Gave (Number v) s))
+    (k : Scene) (h : Heading) (c : Coded) (value : Gives ℤ) → AgreesHeld k h c value → Passes k
+    (ByNumber (Callable h)) c (λ a s. value a s ▷ λ v s. answer.Value (Number v) s)
 
 -- RETURN
 abbrev pub HeldGives : Type 0
@@ -136,7 +138,7 @@ HeldGives =
     → k.result ≡ Some (Cell (Callable h))
     → AgreesHeld k h e value
     → Executes k true (e ⨾ plain (instr.Return ∷ [])) (λ a s.
-    with_answer (value a s) (λ v s. Came v s))
+    value a s ▷ λ v s. answer.Value (Returned v) s)
 
 -- ---- calls of them
 
@@ -188,5 +190,5 @@ HeldCalls =
     → IsGrowing k (all_coded xs)
     → ((n : ℕ) (v : Value) → k.kept n ≡ None → PassAll (keeping k n v) (forms_in h) xs gs)
     → Calls k (heading_result h) (held_call numbered t x xs) (λ a s.
-    then_give (value a s) (λ v s.
-    asked_if k.program ask (entry_callee k.program (entry_of k.program v)) gs a s))
+    value a s ▷ λ v s.
+    asked_if k.program ask (entry_callee k.program (entry_of k.program v)) gs a s)

@@ -7,7 +7,7 @@ use Rattle.typed_tree.specs.declared.typed_module.Routine.{Routine}
 use Rattle.typed_tree.specs.declared.typed_module.TypedModule.{TypedModule}
 use Rattle.layout_storage.specs.Types.{Ty}
 use Rattle.def_meaning.specs.Store.{Location}
-use Rattle.def_meaning.specs.Around.{Modules, Around, Frames}
+use Rattle.def_meaning.specs.Environment.{Modules, Environment, Frames}
 use Rattle.def_meaning.specs.Calls.{calling}
 use Rattle.def_scheme.specs.Functions.{setting}
 use Rattle.def_scheme.specs.Modules.{numbered}
@@ -30,9 +30,9 @@ pub record Part : Type 0 where
 
 module _ (modules : List WModule) (fx : Fixed) (serves : (k f : ℕ) → Bool) (extra : (k f : ℕ) → ℕ)
     (n limit : ℕ) (p : Modules) (base : List Ty) (texts : Location → ℕ → ℕ) where
-  abbrev pub nowhere : (place : ℕ) → TypedModule → Around
+  abbrev pub nowhere : (place : ℕ) → TypedModule → Environment
   nowhere place m =
-      record { place = place; types = m.types; frames = []; withs = []; next = 0; left = 0 }
+      record { place = place; types = m.types; frames = []; withs = []; next = 0; free = 0 }
 
   -- what all scenes in a module have in common, where calls nest so deep
   abbrev pub core : (own place : ℕ) → TypedModule → (d : ℕ) → Scene

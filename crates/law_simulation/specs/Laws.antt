@@ -19,8 +19,10 @@ use Rattle.typed_tree.specs.Known.{scalar_at}
 use Rattle.layout_storage.specs.Types.{Ty, Scalar, Cell, Array, row, component}
 use Rattle.layout_storage.specs.Shapes.{tree, elements_of}
 use Rattle.def_meaning.specs.Store.{Location}
-use Rattle.def_meaning.specs.Answer.{Gave, Went, Left, Came, Stopped, with_answer, then_go, range_fault, halted}
-use Rattle.def_meaning.specs.Around.{Modules, module_place}
+use Rattle.def_meaning.specs.Answer.{range_fault, halted, Ended, ◌▷◌}
+use Rattle.def_meaning.specs.Outcome.{Normal, Exited, Returned, then_go}
+use Rattle.def_meaning.specs.Answer as answer
+use Rattle.def_meaning.specs.Environment.{Modules, module_place}
 use Rattle.def_meaning.specs.Operators.{is_true}
 use Rattle.def_meaning.specs.Expressions as meaning
 use Rattle.def_meaning.specs.Expressions.{within as bounded, as_type, Asks, Gives, Continues, one_by_one}
@@ -278,7 +280,7 @@ Globals =
     → (p : Modules) (ask : Asks) (v : Variable) (t : Ty)
     → IsGlobal k v (module_place p v.home ∷ v.number ∷ []) t
     → Locates k t (code.root_layer (root.Global v)) (λ a s.
-    Gave (meaning.root_layer p ask (root.Global v) a) s)
+    answer.Value (meaning.root_layer p ask (root.Global v) a) s)
 
 -- a formal or a variable of the procedure itself
 abbrev pub Own : Type 0
@@ -288,7 +290,7 @@ Own =
     → (p : Modules) (ask : Asks) (i : ℕ) (l : Location) (t : Ty)
     → IsOwn k i l t
     → Locates k t (code.root_layer (root.Local (record { up = 0; number = i }))) (λ a s.
-    Gave (meaning.root_layer p ask (root.Local (record { up = 0; number = i })) a) s)
+    answer.Value (meaning.root_layer p ask (root.Local (record { up = 0; number = i })) a) s)
 
 abbrev pub Entire : Type 0
 Entire =
@@ -301,7 +303,7 @@ Opened =
     (k : Scene) (p : Modules) (ask : Asks) (j : ℕ) (l : Location) (t : Ty)
     → IsWith k j l t
     → Locates k t (code.root_layer (root.With j)) (λ a s.
-    Gave (meaning.root_layer p ask (root.With j) a) s)
+    answer.Value (meaning.root_layer p ask (root.With j) a) s)
 
 abbrev pub Fields : Type 0
 Fields =
@@ -335,7 +337,7 @@ abbrev pub Designators : Type 0
 Designators =
     (k : Scene) (p : Modules) (ask : Asks) (r : Root) (t u : Ty) (cs : List Coded)
     (rs : List meaning.Reaches)
-    → Locates k t (code.root_layer r) (λ a s. Gave (meaning.root_layer p ask r a) s)
+    → Locates k t (code.root_layer r) (λ a s. answer.Value (meaning.root_layer p ask r a) s)
     → AreReached k t u cs rs
     → Locates k u (code.root_layer r ⨾ all_coded cs) (λ a s.
     one_by_one rs (meaning.root_layer p ask r a) a s)
@@ -362,7 +364,7 @@ Assigns =
     → Locates k (Cell c) d found
     → Agrees k t e value
     → Executes k function (d ⨾ e ⨾ with_setting (λ s. plain (cells.stored s.home.types t))) (λ a s.
-    with_answer (found a s) (λ l s. with_answer (value a s) (λ v s. Went (stored l v s))))
+    found a s ▷ λ l s. value a s ▷ λ v s. answer.Value Normal (stored l v s))
 
 -- INC and DEC of a scalar variable, whose base is a scalar type, too
 abbrev pub Changes : Type 0
@@ -378,9 +380,9 @@ Changes =
     → Agrees k x.of x.code value
     → AgreesBeside k x.of x.code value
     → Executes k function (change_code o d t x.code) (λ a s.
-    with_answer (found a s) (λ l s.
-    with_answer (value a s) (λ by s.
-    with_answer (rechecked a.types t (changed o (s.store l) by) s) (λ v s. Went (stored l v s)))))
+    found a s ▷ λ l s.
+    value a s ▷ λ by s.
+    rechecked a.types t (changed o (s.store l) by) s ▷ λ v s. answer.Value Normal (stored l v s))
 
 -- INCL and EXCL
 abbrev pub Memberships : Type 0
@@ -394,10 +396,10 @@ Memberships =
     → Agrees k x.of x.code value
     → AgreesBeside k x.of x.code value
     → Executes k function (member_code o d x.code) (λ a s.
-    with_answer (found a s) (λ l s.
-    with_answer (value a s) (λ x s.
-    with_answer (bounded (pos 0) (pos 31) range_fault x s) (λ x s.
-    Went (stored l (with_element o (s.store l) x) s)))))
+    found a s ▷ λ l s.
+    value a s ▷ λ x s.
+    bounded (pos 0) (pos 31) range_fault x s ▷ λ x s.
+    answer.Value Normal (stored l (with_element o (s.store l) x) s))
 
 -- a byte is printed
 abbrev pub Puts : Type 0
@@ -407,21 +409,23 @@ Puts =
     → (function : Bool) (e : Coded) (value : Gives ℤ)
     → Agrees k char e value
     → Executes k function (e ⨾ plain (instr.Call put ∷ [])) (λ a s.
-    with_answer (value a s) (λ v s. Went (record s { out = s.out ++ unsigned_abs v ∷ [] })))
+    value a s ▷ λ v s. answer.Value Normal (record s { out = s.out ++ unsigned_abs v ∷ [] }))
 
 abbrev pub Halts : Type 0
 Halts =
     (k : Scene) → IsSet k → (function : Bool)
-    → Executes k function (plain (fault 9)) (λ a s. Stopped halted s.out)
+    → Executes k function (plain (fault 9)) (λ a s. Ended halted s.out)
 
 abbrev pub Exits : Type 0
 Exits =
-    (k : Scene) (function : Bool)
-    → Executes k function (with_setting (λ s. plain (instr.Br s.exit ∷ []))) (λ a s. Left s)
+    (k : Scene) (function : Bool) → Executes k function
+    (with_setting (λ s. plain (instr.Br s.exit ∷ []))) (λ a s. answer.Value Exited s)
 
 -- RETURN in a body, or in a procedure without a result
 abbrev pub Returns : Type 0
-Returns = (k : Scene) → Executes k false (plain (instr.Return ∷ [])) (λ a s. Came (pos 0) s)
+Returns =
+    (k : Scene)
+    → Executes k false (plain (instr.Return ∷ [])) (λ a s. answer.Value (Returned (pos 0)) s)
 
 abbrev pub Rows : Type 0
 Rows =
@@ -437,7 +441,7 @@ Ifs =
     → Executes k function x step
     → Executes k function y other
     → Executes k function (e ⨾ plain (wrapped ∷ []) ⨾ if_else x y) (λ a s.
-    with_answer (value a s) (λ v s. if is_true v then step a s else other a s))
+    value a s ▷ λ v s. if is_true v then step a s else other a s)
 
 abbrev pub LoneIfs : Type 0
 LoneIfs =
@@ -447,7 +451,7 @@ LoneIfs =
     → Agrees k boolean e value
     → Executes k function x step
     → Executes k function (e ⨾ plain (wrapped ∷ []) ⨾ if_only x) (λ a s.
-    with_answer (value a s) (λ v s. if is_true v then step a s else Went s))
+    value a s ▷ λ v s. if is_true v then step a s else answer.Value Normal s)
 
 -- the record is found once, and the body runs where its address is kept
 abbrev pub Withs : Type 0
@@ -458,7 +462,7 @@ Withs =
     → ((w : ℕ) (l : Location) → k.kept w ≡ None → component (row k.world) l ≡ Some t → 0 < length l
     → Executes (opening k w l) function x step)
     → Executes k function (d ⨾ with_address (λ w. plain (instr.LocalSet w ∷ []) ⨾ under w x))
-    (λ a s. with_answer (found a s) (λ l s. step (record a { withs = a.withs ++ l ∷ [] }) s))
+    (λ a s. found a s ▷ λ l s. step (record a { withs = a.withs ++ l ∷ [] }) s)
 
 abbrev pub Whiles : Type 0
 Whiles =
@@ -495,7 +499,7 @@ Cases =
     → ((n : ℕ) (v : Value) → k.kept n ≡ None → AreArms (keeping k n v) function xs ys)
     → ((n : ℕ) (v : Value) → k.kept n ≡ None → Executes (keeping k n v) function otherwise other)
     → Executes k function (steps.case_code x.code xs otherwise) (λ a s.
-    with_answer (value a s) (λ v s. statements.chosen v ys other a s))
+    value a s ▷ λ v s. statements.chosen v ys other a s)
 
 -- without ELSE there is a fault where no label is that of the value
 abbrev pub Unlabelled : Type 0
@@ -523,9 +527,9 @@ Fors =
     → IsGrowing k x
     → ((n : ℕ) (v : Value) → k.kept n ≡ None → Executes (keeping k n v) function x step)
     → Executes k function (for_code (with_setting (λ s. plain (at s))) t start bound by x) (λ a s.
-    with_answer (first a s) (λ v s.
-    with_answer (last a s) (λ limit s.
-    for_all k.turns (as_type a.types t) l by limit (step a) (stored l v s))))
+    first a s ▷ λ v s.
+    last a s ▷ λ limit s.
+    for_all k.turns (as_type a.types t) l by limit (step a) (stored l v s))
 
 abbrev pub Repeats : Type 0
 Repeats =

@@ -15,7 +15,7 @@ use Rattle.layout_storage.specs.Types.{Ty, Hidden, row, component}
 use Rattle.layout_storage.specs.Sizes.{offset}
 use Rattle.layout_storage.specs.Texts.{characters, module_texts, texts_before}
 use Rattle.def_meaning.specs.Store.{Location}
-use Rattle.def_meaning.specs.Around.{Modules, module_place, procedure_value}
+use Rattle.def_meaning.specs.Environment.{Modules, module_place, procedure_value}
 use Rattle.law_memory.specs.Relation.{value_number}
 use Rattle.def_scheme.specs.Coded.{body_index}
 use Rattle.def_scheme.specs.Exprs.{base_global, slots_global, text_global, variables_row, slot_number, has_result}
@@ -53,8 +53,8 @@ routine_typed m w r = record {
   function = routine_function (numbered m) m w r;
 }
 
-abbrev pub around_of : TypedModule → Routine → List Kinds
-around_of m r = kinds_around m r.level r.around
+abbrev pub environment_of : TypedModule → Routine → List Kinds
+environment_of m r = kinds_around m r.level r.around
 
 abbrev pub text_of : TypedModule → Which → ℕ
 text_of m w = characters (texts_before m w m.order)
@@ -68,7 +68,7 @@ part_of o = record {
   routine = o.routine;
   outer = frames_around o.home o.routine.level o.routine.around;
   text = text_of o.home o.at;
-  kinds = around_of o.home o.routine;
+  kinds = environment_of o.home o.routine;
   function = function_of o.home o.at;
   typed = routine_typed o.home o.at o.routine;
 }

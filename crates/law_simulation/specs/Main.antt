@@ -8,10 +8,10 @@ use Rattle.typed_tree.specs.declared.typed_module.TypedModule.{TypedModule}
 use Rattle.layout_storage.specs.Types.{Ty, row, frame_of}
 use Rattle.layout_storage.specs.Sizes.{size, offset}
 use Rattle.def_meaning.specs.Store.{Location, placed}
-use Rattle.def_meaning.specs.Around.{Modules, Around}
+use Rattle.def_meaning.specs.Environment.{Modules, Environment}
 use Rattle.def_meaning.specs.Calls.{body_does, calling}
 use Rattle.def_meaning.specs.Expressions.{Asks}
-use Rattle.def_meaning.specs.Runs.{around_body, body_frame, storage}
+use Rattle.def_meaning.specs.Runs.{body_environment, body_frame, storage}
 use Rattle.def_scheme.specs.Coded.{Coded, Counts}
 use Rattle.def_scheme.specs.Addresses.{addresses_in}
 use Rattle.def_scheme.specs.Functions.{setting, from_text, locals_of, enter_code, coded}
@@ -38,7 +38,7 @@ locals_main m text = 1 + (2 + (coded_main m text).1.addresses + (coded_main m te
 
 -- where it runs
 abbrev pub main_scene : Scene → TypedModule → (text : ℕ) → (base : List Ty)
-    (texts : Location → ℕ → ℕ) → Around → Scene
+    (texts : Location → ℕ → ℕ) → Environment → Scene
 main_scene k m text base texts a = record k {
   around = a;
   setting = setting m (body_row ∷ []) 1 (addresses_in m.body);
@@ -62,10 +62,10 @@ pub record IsMain (k : Scene) (p : Modules) (ask : Asks) (m : TypedModule) (plac
   pub placed : Coded
   pub same : placed (setting m (body_row ∷ []) 1 (addresses_in m.body)) (from_text text)
       ≡ coded_main m text
-  pub executes : IsSet (main_scene k m text base texts (around_body p place m left))
-      → HasFrames (main_scene k m text base texts (around_body p place m left)) []
-      → HasTop (main_scene k m text base texts (around_body p place m left)) base texts
-      → Executes (main_scene k m text base texts (around_body p place m left)) false placed
+  pub executes : IsSet (main_scene k m text base texts (body_environment p place m left))
+      → HasFrames (main_scene k m text base texts (body_environment p place m left)) []
+      → HasTop (main_scene k m text base texts (body_environment p place m left)) base texts
+      → Executes (main_scene k m text base texts (body_environment p place m left)) false placed
       (body_does p k.turns ask m.body)
 
 -- The function of a body does what its statements do.

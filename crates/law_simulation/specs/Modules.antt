@@ -13,7 +13,7 @@ use Rattle.law_simulation.specs.Frames.{kinds_of}
 use Rattle.law_simulation.specs.Passing.{result_of}
 use Rattle.law_simulation.specs.RunsPrograms.{ground}
 use Rattle.law_simulation.specs.StmtsTyped.{AreStmts}
-use Rattle.law_simulation.specs.Linked.{around_of, text_of, context}
+use Rattle.law_simulation.specs.Linked.{environment_of, text_of, context}
 use Rattle.law_modules.specs.Ranges.{AreRanged}
 use Rattle.law_simulation.specs.Knows.{IsCoherent}
 
@@ -48,7 +48,7 @@ pub record IsTypedModule (p : Program) (pages place : ℕ) (m : TypedModule) : T
       → (to : ℕ)
       × AreStmts
       (context p (ground p pages).base (ground p pages).texts place m
-      (kinds_of m.types r ∷ around_of m r))
+      (kinds_of m.types r ∷ environment_of m r))
       (result_of m.types r.heading) [] false (text_of m w) to r.body
   pub body : (to : ℕ)
       × AreStmts (context p (ground p pages).base (ground p pages).texts place m []) None [] false

@@ -21,7 +21,7 @@ use Rattle.layout_storage.specs.Frames.{formals_of}
 use Rattle.layout_storage.specs.Texts.{passed}
 use Rattle.def_meaning.specs.Store.{Location}
 use Rattle.def_meaning.specs.Answer.{State as Source}
-use Rattle.def_meaning.specs.Around.{Modules, Callee, Passed, Number, Variable, Array as Whole, Text}
+use Rattle.def_meaning.specs.Environment.{Modules, Callee, Passed, Number, Variable, Array as Whole, Text}
 use Rattle.def_meaning.specs.Expressions.{Asks, Gives}
 use Rattle.law_memory.specs.Relation.{Means, Holds}
 use Rattle.def_scheme.specs.Coded.{Coded, Counts, top_local}
@@ -263,7 +263,7 @@ pub record Calls (k : Scene) (result : Result) (code : Coded) (value : Gives ℤ
 pub record HasTop (k : Scene) (base : List Ty) (texts : Location → ℕ → ℕ) : Type 0 where
   pub kept : k.kept (top_local k.setting) ≡ Some (I32 (size (row k.world)))
   pub next : k.around.next ≡ length k.world
-  pub left : size (row k.world) + k.around.left ≡ k.limit
+  pub left : size (row k.world) + k.around.free ≡ k.limit
   pub based : IsBased base texts k.world k.hidden
 
 -- this code calls the function

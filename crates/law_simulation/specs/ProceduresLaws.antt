@@ -12,8 +12,10 @@ use Rattle.layout_storage.specs.Types.{Ty, row, IsFit}
 use Rattle.layout_storage.specs.Sizes.{size, offset}
 use Rattle.layout_storage.specs.Frames.{frame}
 use Rattle.def_meaning.specs.Store.{Location}
-use Rattle.def_meaning.specs.Answer.{State as Source, Left}
-use Rattle.def_meaning.specs.Around.{Modules, Around, Frames, Callee, Passed}
+use Rattle.def_meaning.specs.Answer.{State as Source}
+use Rattle.def_meaning.specs.Outcome.{Exited}
+use Rattle.def_meaning.specs.Answer as answer
+use Rattle.def_meaning.specs.Environment.{Modules, Environment, Frames, Callee, Passed}
 use Rattle.def_meaning.specs.Calls.{body_does, is_function, runs as asked_runs}
 use Rattle.def_meaning.specs.Expressions.{Asks}
 use Rattle.def_scheme.specs.Coded.{Coded, Counts}
@@ -36,7 +38,7 @@ abbrev pub top_of : TypedModule → Routine → ℕ
 top_of m r = suc (numbers_of m.types r)
 
 module _ (k : Scene) (m : TypedModule) (r : Routine) (outer : List Ty) (locals : ℕ) where
-  abbrev pub body_scene : (world : List Ty) (x : Location → ℕ → ℕ) (root : ℕ) → Around → Scene
+  abbrev pub body_scene : (world : List Ty) (x : Location → ℕ → ℕ) (root : ℕ) → Environment → Scene
   body_scene world x root a = record k {
     around = a;
     setting = setting m (frame m.types r ∷ outer) (top_of m r) (addresses_in r.body);
@@ -97,7 +99,7 @@ pub record DoesBody (k : Scene) (p : Modules) (ask : Asks) (numbered : Numbered)
   pub same : placed (setting m (frame m.types r ∷ outer) (top_of m r) (addresses_in r.body))
       (from_text text)
       ≡ coded_body numbered m r outer text
-  pub executes : (world : List Ty) (x : Location → ℕ → ℕ) (root : ℕ) (a : Around)
+  pub executes : (world : List Ty) (x : Location → ℕ → ℕ) (root : ℕ) (a : Environment)
       → a.types ≡ m.types
       → a.place ≡ place
       → a.withs ≡ []
@@ -108,7 +110,8 @@ pub record DoesBody (k : Scene) (p : Modules) (ask : Asks) (numbered : Numbered)
       texts
       → Executes (body_scene k m r outer (locals_in numbered m r outer text) world x root a)
       (is_function m.types r) placed (body_does p k.turns ask r.body)
-  pub stays : (a : Around) (s s' : Source) → body_does p k.turns ask r.body a s ≡ Left s' → ⊥
+  pub stays : (a : Environment) (s s' : Source)
+      → body_does p k.turns ask r.body a s ≡ answer.Value Exited s' → ⊥
 
 abbrev pub callee_of : (place : ℕ) → TypedModule → Routine → Frames → Callee
 callee_of place m r nss = record { place = place; types = m.types; routine = r; frames = nss }

@@ -21,8 +21,10 @@ use Rattle.layout_storage.specs.Types.{Ty, Scalar, Cell, row, component, IsScala
 use Rattle.layout_storage.specs.Sizes.{offset}
 use Rattle.layout_storage.specs.Shapes.{tree}
 use Rattle.def_meaning.specs.Store.{Location}
-use Rattle.def_meaning.specs.Answer.{State as Source, Answer, Gave, Ended, Running, Outcome, Went, Left, Came, Stopped, Unfinished}
-use Rattle.def_meaning.specs.Around.{Modules, Around, named, location_of}
+use Rattle.def_meaning.specs.Answer.{State as Source, Answer, Ended}
+use Rattle.def_meaning.specs.Outcome.{Outcome, Normal, Exited, Returned}
+use Rattle.def_meaning.specs.Answer as answer
+use Rattle.def_meaning.specs.Environment.{Modules, Environment, named, location_of}
 use Rattle.def_meaning.specs.Expressions.{Gives}
 use Rattle.def_meaning.specs.Statements.{Does}
 use Rattle.law_memory.specs.Relation.{Means, IsNumber, Holds}
@@ -42,7 +44,7 @@ pub record Scene : Type 0 where
   pub functions : Calling  -- what calls of functions do
   pub program : Modules
   pub result : Option Ty  -- the type of the function's values
-  pub around : Around
+  pub around : Environment
   pub setting : Setting
   pub world : List Ty  -- the types of the instances that live
   pub hidden : Location → ℕ → ℕ
@@ -198,9 +200,9 @@ opening k w l = record k {
 
 -- the effect is what the answer says: P of what it gives, or the same end
 abbrev pub Into : {A : Type 0} → (A → Source → Effect → Type 0) → Effect → Answer A → Type 0
-Into P r (Gave a s) = P a s r
+Into P r (answer.Value a s) = P a s r
 Into P r (Ended j out) = r ≡ does.Ended j out
-Into P r (Running out) = r ≡ StillRunning out
+Into P r (answer.StillRunning out) = r ≡ StillRunning out
 
 -- code goes on with a number of a type on top of the operands
 pub record GivesNumber (k : Scene) (t : TypeNo) (go : Effects) (stack : List Value) (v : ℤ)
@@ -347,11 +349,12 @@ pub record Returns (k : Scene) (function : Bool) (v : ℤ) (s : Source) (r : Eff
 -- What is on goes on, EXIT branches to its label, RETURN returns, and all else ends alike.
 abbrev pub Ends : (k : Scene) (function : Bool) (exit : ℕ) (stack : List Value)
     (on : Target → Effect) → Effect → Outcome → Type 0
-Ends k function exit stack on r (Went s) = GoesTo k on s r
-Ends k function exit stack on r (Left s) = GoesTo k (λ st. does.Branched exit st stack) s r
-Ends k function exit stack on r (Came v s) = Returns k function v s r
-Ends k function exit stack on r (Stopped j out) = r ≡ does.Ended j out
-Ends k function exit stack on r (Unfinished out) = r ≡ StillRunning out
+Ends k function exit stack on r (answer.Value Normal s) = GoesTo k on s r
+Ends k function exit stack on r (answer.Value Exited s) =
+    GoesTo k (λ st. does.Branched exit st stack) s r
+Ends k function exit stack on r (answer.Value (Returned v) s) = Returns k function v s r
+Ends k function exit stack on r (Ended j out) = r ≡ does.Ended j out
+Ends k function exit stack on r (answer.StillRunning out) = r ≡ StillRunning out
 
 -- the code of a statement does what the statement does
 pub record Executes (k : Scene) (function : Bool) (code : Coded) (step : Does) : Type 0 where

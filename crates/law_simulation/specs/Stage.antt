@@ -10,7 +10,7 @@ use Rattle.layout_storage.specs.Types.{Ty, Cell, Array, row, component, IsScalar
 use Rattle.layout_storage.specs.Sizes.{size, offset}
 use Rattle.layout_storage.specs.Texts.{passed}
 use Rattle.def_meaning.specs.Store.{Location, Store}
-use Rattle.def_meaning.specs.Around.{Passed, Array as Whole, Text}
+use Rattle.def_meaning.specs.Environment.{Passed, Array as Whole, Text}
 use Rattle.def_meaning.specs.Calls.{Entered, with_passed}
 use Rattle.law_memory.specs.Relation.{Holds}
 use Rattle.def_scheme.specs.Coded.{copy, wrapped}

@@ -2,8 +2,9 @@
 use Rattle.std.specs.Prelude.{◌≡◌, ℕ, false, List, []}
 use Rattle.typed_tree.specs.declared.statement.TypedStmt.{TypedStmt}
 use Rattle.layout_storage.specs.Types.{Ty}
-use Rattle.def_meaning.specs.Answer.{State, Left}
-use Rattle.def_meaning.specs.Around.{Around}
+use Rattle.def_meaning.specs.Answer.{State, Value}
+use Rattle.def_meaning.specs.Outcome.{Exited}
+use Rattle.def_meaning.specs.Environment.{Environment}
 use Rattle.def_meaning.specs.Calls.{is_there, body_does}
 use Rattle.def_meaning.specs.Expressions.{Asks}
 use Rattle.def_scheme.specs.Coded.{Coded}
@@ -38,6 +39,6 @@ abbrev pub Stays : Type 0
 Stays =
     (x : Context) (ask : Asks) (result : Result) (n a b : ℕ) (body : List TypedStmt)
     → AreStmts x result [] false a b body
-    → (around : Around) (s t : State)
-    → body_does x.p n ask body around s ≡ Left t
+    → (around : Environment) (s t : State)
+    → body_does x.p n ask body around s ≡ Value Exited t
     → ⊥

@@ -1,7 +1,7 @@
 -- CASE by a table: its code does what the statement does, where its parts do.
 use Rattle.std.specs.Prelude.{◌≡◌, ℕ, ℤ, Bool, true, List, length, None}
 use Rattle.wasm_tree.specs.declared.store.Value.{Value}
-use Rattle.def_meaning.specs.Answer.{with_answer}
+use Rattle.def_meaning.specs.Answer.{◌▷◌}
 use Rattle.def_meaning.specs.Expressions.{Gives}
 use Rattle.def_meaning.specs.Statements as statements
 use Rattle.def_meaning.specs.Statements.{Does}
@@ -25,4 +25,4 @@ TableCases =
     → ((n : ℕ) (v : Value) → k.kept n ≡ None → AreArms (keeping k n v) function xs ys)
     → ((n : ℕ) (v : Value) → k.kept n ≡ None → Executes (keeping k n v) function otherwise other)
     → Executes k function (steps.case_code x.code xs otherwise) (λ a s.
-    with_answer (value a s) (λ v s. statements.chosen v ys other a s))
+    value a s ▷ λ v s. statements.chosen v ys other a s)

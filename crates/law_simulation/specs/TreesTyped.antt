@@ -35,7 +35,7 @@ use Rattle.layout_storage.specs.Types.{Ty, Scalar, Natural, Callable, Cell, Arra
 use Rattle.layout_storage.specs.Shapes.{tree, elements_of}
 use Rattle.layout_storage.specs.Texts.{passed}
 use Rattle.def_meaning.specs.Store.{Location}
-use Rattle.def_meaning.specs.Around.{Modules, module_place}
+use Rattle.def_meaning.specs.Environment.{Modules, module_place}
 use Rattle.law_memory.specs.Relation.{heading_at}
 use Rattle.def_scheme.specs.Cells.{base_of, is_free}
 use Rattle.def_scheme.specs.Exprs.{is_own, variables_row, index_of, expr_part}

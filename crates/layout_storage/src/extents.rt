@@ -16,9 +16,9 @@ ghost use Rattle.layout_storage.specs.Extents.{scalar_extent, in_module, or_noth
 use crate::extent::{Extent, element_in, field_in, kind_in, size_in};
 use crate::kind::{Kind, bytes_of, kind_of};
 use indexmap::IndexMap;
-use m2_tree::Items;
 use std::alloc::{AllocError, Global};
 use std::marker::Model;
+use tree_parts::Items;
 use typed_tree::{Home, Scalar, TypeNo, Types, scalar_of};
 
 /// What is kept of the types of modules, by the modules' numbers and then by the numbers of the types. A type is found

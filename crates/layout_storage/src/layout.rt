@@ -16,8 +16,9 @@ use crate::extents::Extents;
 use crate::frame::{frame_row, variables_row};
 use crate::making::extents_of;
 use crate::row::Row;
-use m2_tree::{Items, Pos};
+use m2_tree::Pos;
 use std::alloc::{AllocError, Global};
+use tree_parts::Items;
 use typed_tree::{Imported, Routine, TypedModule, Types};
 
 /// Where the variables of a module stand, and those of its procedures. A size or an offset that does not fit into 32 bits

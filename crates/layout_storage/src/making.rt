@@ -14,9 +14,9 @@ use crate::extent::Extent;
 use crate::extents::{Extents, scalar_extent, size_or};
 use crate::kind::{Kind, bytes_of, elements_of, kind_of};
 use crate::row::{Row, begun, with_part};
-use m2_tree::Items;
 use std::alloc::{AllocError, Global};
-use typed_tree::{Dictionary, Home, Made, Shape, Shared, TypeNo, Types, scalar_of};
+use tree_parts::{Items, Shared};
+use typed_tree::{Dictionary, Home, Made, Shape, TypeNo, Types, scalar_of};
 
 /// The modules before, the number of the module that is at work, and what is kept of its types so far.
 #[derive(Drop)]

@@ -7,8 +7,8 @@ ghost use Rattle.layout_storage.specs.Sizes.{size, offset};
 ghost use Rattle.layout_storage.specs.Extents.{begun, with_part, row_of, start_in};
 
 use crate::capped::sum;
-use m2_tree::Items;
 use std::alloc::{AllocError, Global};
+use tree_parts::Items;
 
 /// The parts of a record, of a module's variables, or of a frame.
 #[derive(Drop)]

@@ -1,15 +1,17 @@
 //! Programs that are built in memory.
 
-use crate::PROGRAM;
-use crate::asked::Setting;
-use crate::finding::find_program;
+use crate::finding::{Program, find_program};
+use crate::pages::say_pages;
 use crate::showing::show;
 use anyhow::Result;
 use command_words::{FAILED, Words};
-use m2c::{Gate, Outcome, SourceFile, build};
+use explain_types::side_words;
+use m2_tree::Refusal;
+use m2c::{Gate, Options, Outcome, SourceFile, build};
 use run_program::ProgramFault;
 use std::rt::Files;
 use std::thread::Threads;
+use tool_words::{PROGRAM, Setting};
 
 /// The modules of a program.
 #[derive(Drop)]
@@ -44,6 +46,42 @@ pub fn say_fault<R: Eprint>(rt: &R, path: &str, fault: ProgramFault) {
     let _ = eprintln!(rt; "{PROGRAM}: {path}: {words}");
 }
 
+/// The most refusals of which it is said which types met there. For each the program is compiled several times.
+const MOST_SIDES: usize = 8;
+
+/// Says which types stand on both sides of refused operators and assignments.
+fn say_sides<R: Eprint + AllocGlobal + Threads + Sync>(
+    rt: &R,
+    files: &[SourceFile],
+    options: Options,
+    refusals: &[Refusal],
+) -> Result<()> {
+    for refusal in refusals.iter().take(MOST_SIDES) {
+        if let Some(words) = side_words(rt, files, options, refusal)? {
+            let file = &refusal.file;
+            let (line, col) = (refusal.pos.line, refusal.pos.col);
+            let _ = eprintln!(rt; "{PROGRAM}: {file}:{line}:{col}: {words}");
+        }
+    }
+    Ok(())
+}
+
+/// Shows the refusals of a program, and says what stands there and what it lacks: types, modules, or pages. The status.
+pub fn show_refused<R>(
+    rt: &R,
+    setting: &Setting,
+    program: &Program,
+    refusals: &[Refusal],
+) -> Result<u8>
+where
+    R: Print + Eprint + AllocGlobal + Threads + Sync,
+{
+    let status = show(rt, setting.style, program, refusals)?;
+    say_sides(rt, &program.files, setting.options, refusals)?;
+    say_pages(rt, &program.files, setting.options, refusals);
+    Ok(status)
+}
+
 /// Finds and builds the program of this file. What is refused, and what failed, is reported: the status.
 pub fn build_program<R>(rt: &R, setting: &Setting, path: &str) -> Result<Words<Modules>>
 where
@@ -54,12 +92,9 @@ where
         Words::Reported(status) => return Ok(Words::Reported(status)),
     };
     match build(rt, rt.alloc(), &program.files, setting.options, &Open) {
-        Ok(Outcome::Refused(refusals)) => Ok(Words::Reported(show(
-            rt,
-            setting.style,
-            &program,
-            &refusals,
-        )?)),
+        Ok(Outcome::Refused(refusals)) => {
+            Ok(Words::Reported(show_refused(rt, setting, &program, &refusals)?))
+        }
         Ok(Outcome::Built { link, modules }) => Ok(Words::Read(Modules {
             files: program.files,
             link,

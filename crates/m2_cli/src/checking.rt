@@ -1,11 +1,11 @@
 //! `m2 check`: what is refused of programs.
 
-use crate::asked::Setting;
 use crate::building::build_program;
 use anyhow::Result;
 use command_words::Words;
 use std::rt::Files;
 use std::thread::Threads;
+use tool_words::Setting;
 
 /// The status if no program is refused.
 const ACCEPTED: u8 = 0;

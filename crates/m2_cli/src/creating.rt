@@ -1,6 +1,5 @@
 //! `m2 new`: the files of a new program.
 
-use crate::PROGRAM;
 use anyhow::Result;
 use command_words::{COMMAND_LINE, FAILED};
 use m2_scan::{Fault, ScanError, scan};
@@ -10,6 +9,7 @@ use std::fs::File;
 use std::io::{ErrorKind, Write};
 use std::rt::Files;
 use std::{fs, io};
+use tool_words::PROGRAM;
 
 /// The status if the files are written.
 const WRITTEN: u8 = 0;

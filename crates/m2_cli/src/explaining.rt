@@ -1,9 +1,9 @@
 //! `m2 explain`: what the numbers mean.
 
-use crate::PROGRAM;
 use crate::output::say_output_fault;
 use command_words::{COMMAND_LINE, FAILED};
 use explain_rules::{list, page};
+use tool_words::PROGRAM;
 
 /// The status if a page was printed.
 const EXPLAINED: u8 = 0;

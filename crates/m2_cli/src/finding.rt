@@ -1,7 +1,5 @@
 //! The files of a program.
 
-use crate::PROGRAM;
-use crate::asked::Setting;
 use crate::places::Places;
 use anyhow::Result;
 use command_words::{FAILED, Words};
@@ -11,6 +9,7 @@ use m2c::SourceFile;
 use std::alloc::AllocError;
 use std::fs;
 use std::rt::Files;
+use tool_words::{PROGRAM, Setting};
 
 /// The files of a program, and the modules that it lacks.
 #[derive(Drop)]

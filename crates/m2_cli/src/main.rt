@@ -7,38 +7,32 @@
 //! The statuses are those of `m2c` for what is refused, and those of `m2run` for runs: see docs/statuses.md.
 #![tactic(auto)]
 
-mod asked;
 mod building;
 mod checking;
 mod creating;
 mod explaining;
 mod finding;
-mod libraries;
 mod output;
+mod pages;
 mod passes;
 mod places;
 mod running;
 mod saving;
 mod screen;
 mod showing;
-mod words;
 
-use crate::asked::Asked;
 use crate::checking::check_all;
 use crate::creating::create;
 use crate::explaining::explain;
 use crate::passes::show_pass;
 use crate::running::run_file;
 use crate::saving::build_into;
-use crate::words::read_command_line;
 use anyhow::Result;
 use command_words::{FAILED, Words};
 use std::process::ExitCode;
 use std::rt::{Env, Files};
 use std::thread::Threads;
-
-/// The name of the program, in front of what it says.
-pub const PROGRAM: &str = "m2";
+use tool_words::{Asked, PROGRAM, read_command_line};
 
 /// Does what was asked for, and answers the status. An error if memory or a stream failed.
 fn answer<R, P>(rt: &R, asked: &Asked, out: P) -> Result<u8>

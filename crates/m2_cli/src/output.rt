@@ -1,8 +1,8 @@
 //! What is said of standard output that failed.
 
-use crate::PROGRAM;
 use std::io;
 use std::io::ErrorKind;
+use tool_words::PROGRAM;
 
 /// Says why standard output failed: there is no space left, it is closed, or what the system says.
 pub fn say_output_fault<R: Eprint>(rt: &R, error: &io::Error) {

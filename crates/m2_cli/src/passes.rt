@@ -1,7 +1,5 @@
 //! `m2 show`: what a pass makes of a program.
 
-use crate::PROGRAM;
-use crate::asked::{Pass, Setting};
 use crate::building::{Modules, build_program};
 use crate::finding::Program;
 use crate::output::say_output_fault;
@@ -11,10 +9,13 @@ use command_words::{FAILED, Words};
 use m2_tree::{Pos, Refusal};
 use m2c::SourceFile;
 use show_passes::{File, Shown, show_program, show_text_tokens, show_text_tree};
+use show_types::show_types;
 use std::alloc::{AllocError, Global};
 use std::fs;
 use std::rt::Files;
 use std::thread::Threads;
+use tool_words::{PROGRAM, Pass, Setting};
+use typed_program::typed_program;
 
 /// The status of what is shown.
 const SHOWN: u8 = 0;
@@ -97,20 +98,35 @@ fn named(alloc: Global, files: &[SourceFile]) -> Result<Vec<File<'_>>, AllocErro
 }
 
 /// The code of a program that was built.
-fn page_of(alloc: Global, built: &Modules) -> Result<Vec<u8>> {
+fn code_of(alloc: Global, built: &Modules) -> Result<Vec<u8>> {
     let files = named(alloc, &built.files)?;
     Ok(show_program(alloc, &files, &built.link, &built.others)?)
 }
 
-/// Shows the code of the program of this file with all its modules. The status.
-fn show_whole<R>(rt: &R, setting: &Setting, path: &str) -> Result<u8>
+/// The typed trees of a program that was built, in start order.
+fn types_of(alloc: Global, built: &Modules) -> Result<Vec<u8>> {
+    let mut page = Vec::new(alloc);
+    for module in &typed_program(alloc, &built.files)? {
+        page.extend_from_slice(&show_types(alloc, module)?)?;
+    }
+    Ok(page)
+}
+
+/// Shows the types or the code of the program of this file with all its modules. The status.
+fn show_whole<R>(rt: &R, setting: &Setting, pass: Pass, path: &str) -> Result<u8>
 where
     R: Files + Print + Eprint + AllocGlobal + Threads + Sync,
 {
-    match build_program(rt, setting, path)? {
-        Words::Reported(status) => Ok(status),
-        Words::Read(built) => Ok(write_page(rt, &page_of(rt.alloc(), &built)?)),
-    }
+    let built = match build_program(rt, setting, path)? {
+        Words::Reported(status) => return Ok(status),
+        Words::Read(built) => built,
+    };
+    let page = if pass == Pass::Types {
+        types_of(rt.alloc(), &built)?
+    } else {
+        code_of(rt.alloc(), &built)?
+    };
+    Ok(write_page(rt, &page))
 }
 
 /// Shows what a pass makes of the program of this file. The status.
@@ -118,8 +134,8 @@ pub fn show_pass<R>(rt: &R, setting: &Setting, pass: Pass, path: &str) -> Result
 where
     R: Files + Print + Eprint + AllocGlobal + Threads + Sync,
 {
-    if pass == Pass::Code {
-        return show_whole(rt, setting, path);
+    if pass == Pass::Types || pass == Pass::Code {
+        return show_whole(rt, setting, pass, path);
     }
     let text = match text_of(rt, path) {
         Words::Read(text) => text,
@@ -127,7 +143,7 @@ where
     };
     let made = match pass {
         Pass::Tokens => show_text_tokens(rt.alloc(), &text)?,
-        Pass::Tree | Pass::Code => show_text_tree(rt.alloc(), &text)?,
+        Pass::Tree | Pass::Types | Pass::Code => show_text_tree(rt.alloc(), &text)?,
     };
     show_text(rt, setting, path, text, made)
 }

@@ -2,18 +2,17 @@
 
 ghost use Rattle.std.specs.Prelude.{◌≡◌, ◌<◌, ◌^◌, ◌+◌};
 
-use crate::PROGRAM;
-use crate::asked::Setting;
-use crate::building::{Open, say_fault};
+use crate::building::{Open, say_fault, show_refused};
 use crate::finding::{Program as FoundProgram, find_program};
 use crate::output::say_output_fault;
 use crate::screen::Screen;
-use crate::showing::show;
 use anyhow::Result;
 use command_words::{FAILED, Words};
+use run_directory::end_word;
 use run_program::{End, Instances, Loaded, Program, load_program};
 use std::rt::Files;
 use std::thread::Threads;
+use tool_words::{PROGRAM, Setting};
 use wasm_engine::RunFault;
 
 /// The status of a program that ended by itself or by HALT.
@@ -72,21 +71,6 @@ fn run_slices<P: Print>(instances: &mut Instances<'_>, steps: u64, screen: &mut 
     course
 }
 
-/// What a fault is called.
-fn fault_word(number: u8) -> &'static str {
-    match number {
-        1 => "range",
-        2 => "overflow",
-        3 => "index",
-        4 => "divisor",
-        5 => "case",
-        6 => "no return",
-        7 => "empty procedure",
-        8 => "storage",
-        _ => "unknown",
-    }
-}
-
 /// Begins a line on standard error, if the last line that was printed has not ended.
 fn begin_line<R: Eprint, P: Print>(rt: &R, screen: &Screen<P>) {
     if !screen.is_at_line_begin() {
@@ -109,7 +93,7 @@ fn write_end<R: Eprint, P: Print>(rt: &R, end: End, steps: u64, screen: &Screen<
     match end {
         End::Done(0) | End::Done(HALTED) => ENDED,
         End::Done(number) => {
-            let word = fault_word(number);
+            let word = end_word(number);
             begin_line(rt, screen);
             let _ = eprintln!(rt; "fault {number}: {word}");
             FAULTED
@@ -178,11 +162,11 @@ fn finish<R, P>(
     out: P,
 ) -> Result<u8>
 where
-    R: Print + Eprint + AllocGlobal,
+    R: Print + Eprint + AllocGlobal + Threads + Sync,
     P: Print + Drop,
 {
     match loaded {
-        Loaded::Refused(refusals) => show(rt, setting.style, found, &refusals),
+        Loaded::Refused(refusals) => show_refused(rt, setting, found, &refusals),
         Loaded::Ready(program) => {
             let mut screen = Screen::new(rt.alloc(), out)?;
             Ok(execute(rt, path, &program, steps, &mut screen))

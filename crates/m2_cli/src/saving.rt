@@ -1,7 +1,5 @@
 //! `m2 build`: the modules of a program, written into a folder.
 
-use crate::PROGRAM;
-use crate::asked::Setting;
 use crate::building::{Modules, build_program};
 use anyhow::Result;
 use command_words::{FAILED, Words};
@@ -9,6 +7,7 @@ use m2c::{SaveFault, save};
 use std::rt::Files;
 use std::thread::Threads;
 use system_streams::OutFolder;
+use tool_words::{PROGRAM, Setting};
 
 /// The status if the modules are written.
 const BUILT: u8 = 0;

@@ -1,7 +1,5 @@
 //! What people are told of a program that is refused.
 
-use crate::PROGRAM;
-use crate::asked::Style;
 use crate::finding::Program;
 use crate::output::say_output_fault;
 use crate::screen::Screen;
@@ -11,6 +9,7 @@ use m2_tree::Refusal;
 use m2c::SourceFile;
 use show_refusals::{explanation, show_json};
 use std::io;
+use tool_words::{PROGRAM, Style};
 
 /// The status of a program that is refused.
 const REFUSED: u8 = 1;

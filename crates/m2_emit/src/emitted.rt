@@ -1,6 +1,7 @@
 //! What is emitted for a module.
 
-use m2_tree::{Items, Name};
+use m2_tree::Name;
+use tree_parts::Items;
 
 /// The bytes of a module, and what the module link needs to know of it.
 #[derive(Drop)]

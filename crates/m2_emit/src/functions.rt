@@ -10,8 +10,8 @@ use crate::helpers::helpers;
 use emit_buffer::Home;
 use emit_proc::{module_function, routine_function};
 use emit_tables::ModuleTexts;
-use sqlite_items::Items;
 use std::alloc::Global;
+use tree_parts::Items;
 use typed_tree::{Routine, Which};
 use wasm_tree::{EncodeError, Function};
 

@@ -7,8 +7,8 @@ ghost use Rattle.def_scheme.specs.Modules.{helper, helpers, mod_function};
 use crate::code::code_of;
 use emit_buffer::Helper;
 use m2_rule::Fault;
-use sqlite_items::Items;
 use std::alloc::{AllocError, Global};
+use tree_parts::Items;
 use wasm_tree::{
     Body, Code, Function, Load, Locals, Numeric, Op, Operation, Relation, StoreWidth, ValueType,
 };

@@ -6,8 +6,8 @@ ghost use Rattle.def_scheme.specs.Modules.{imports};
 ghost use Rattle.m2_emit.specs.OwnImports.{linked_as, own_globals, stores};
 
 use crate::parts::{AT_LEAST_ONE, joined};
-use sqlite_items::Items;
 use std::alloc::{AllocError, Global};
+use tree_parts::Items;
 use typed_tree::{Imported, TypedModule};
 use wasm_tree::{Import, ImportKind, MemoryType, TableType, ValueType};
 

@@ -11,8 +11,8 @@ ghost use Rattle.m2_emit.specs.Emitted.{parts, link_exports};
 use crate::emitted::ModuleBytes;
 use crate::helpers::helper;
 use crate::parts::{constant_global, exported_as, joined, one, type_from};
-use sqlite_items::Items;
 use std::alloc::{AllocError, Global};
+use tree_parts::Items;
 use wasm_tree::{
     Code, EncodeError, Export, ExportKind, FuncType, Function, Global as Constant, Limits,
     MemoryType, Op, TableType, ValueType, WModule, plus,

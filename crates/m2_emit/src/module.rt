@@ -13,8 +13,8 @@ use crate::types::types_of;
 use emit_buffer::Home;
 use emit_tables::{ModuleTexts, Signatures, module_texts, signatures_of};
 use layout_storage::Layout;
-use sqlite_items::Items;
 use std::alloc::Global;
+use tree_parts::Items;
 use typed_tree::TypedModule;
 use wasm_tree::{EncodeError, Function, WModule, plus, small};
 

@@ -4,8 +4,8 @@ ghost use Rattle.std.specs.Prelude.{◌≡◌, ◌++◌, ◌∷◌, [], IfOk};
 ghost use Rattle.def_scheme.specs.Scheme.{type_from, exported_as, constant_global};
 
 use crate::code::number_code;
-use sqlite_items::Items;
 use std::alloc::{AllocError, Global};
+use tree_parts::Items;
 use wasm_tree::{Export, ExportKind, FuncType, Global as Constant, Limits, ValueType};
 
 /// At least one page, or one slot.

@@ -8,8 +8,8 @@ ghost use Rattle.def_scheme.specs.Modules.{data_of};
 
 use crate::code::global_code;
 use crate::parts::one;
-use sqlite_items::Items;
 use std::alloc::{AllocError, Global};
+use tree_parts::Items;
 use wasm_tree::{Data, Element, EncodeError, plus};
 
 /// The body, and the procedures behind it.

@@ -8,8 +8,8 @@ ghost use Rattle.emit_tables.specs.Seen.{seen};
 
 use crate::parts::type_from;
 use emit_tables::{Signature, Signatures};
-use sqlite_items::Items;
 use std::alloc::{AllocError, Global};
+use tree_parts::Items;
 use wasm_tree::{FuncType, ValueType};
 
 /// One type more.

@@ -1,5 +1,5 @@
 pub mod Importing
-pub mod Faulty
+pub mod Breaching
 pub mod Tables
 pub mod Bodies
 pub mod Ordered

@@ -4,15 +4,15 @@ use Rattle.std.proofs.lemmas.List.{append-nil, take_more, length-take-le, length
 use Rattle.m2_tree.specs.declared.decl.Module.{Module}
 use Rattle.m2_tree.specs.declared.pos.Pos.{Pos}
 use Rattle.m2_tree.specs.declared.refusal.Refusal.{Refusal}
-use Rattle.m2_graph.specs.declared.faults.Fault.{Fault}
+use Rattle.m2_rule.specs.declared.breach.Breach.{Breach}
 use Rattle.m2_graph.specs.declared.sources.Source.{Source}
-use Rattle.m2_graph.specs.Refused.{faults_of, least_of}
+use Rattle.m2_graph.specs.Refused.{breaches_of, least_of}
 use Rattle.m2_graph.specs.Files.{File, trees}
 use Rattle.m2_graph.specs.Sources.{file_of}
-use Rattle.m2_graph.specs.Reported.{Reported, cycle_faults, reported, reported_at, refused_from, refused_of}
+use Rattle.m2_graph.specs.Reported.{Reported, cycle_breaches, reported, reported_at, refused_from, refused_of}
 
 abbrev here : List Module → Option (ℕ × Pos) → List Module → ℕ → File → List Reported
-here ms cycle before k f = reported_at f.name (least_of (faults_of ms before f.given f.tree ++ cycle_faults cycle k))
+here ms cycle before k f = reported_at f.name (least_of (breaches_of ms before f.given f.tree ++ cycle_breaches cycle k))
 
 refused_push : (ms : List Module) (cycle : Option (ℕ × Pos)) (before : List Module) (fs : List File) (f : File) (k : ℕ) → length before + length fs ≡ k → refused_from ms cycle before (fs ++ f ∷ []) ≡ refused_from ms cycle before fs ++ here ms cycle (before ++ trees fs) k f
 refused_push ms cycle before [] f k e = append-nil (here ms cycle before (length before) f) ∙ ap (λ (b : List Module). here ms cycle b (length before) f) (sym (append-nil before)) ∙ ap (λ (n : ℕ). here ms cycle (before ++ []) n f) (let s : length before ≡ k = omega arith in s)
@@ -29,27 +29,27 @@ trees_take fs i = sym (take-map (λ (f : File). f.tree) i fs)
 files_take : (xs : List Source) (i : ℕ) → map file_of (take i xs) ≡ take i (map file_of xs)
 files_take xs i = sym (take-map file_of i xs)
 
-pub refused_more : (cycle : Option (ℕ × Pos)) (xs : List Source) (i : ℕ) (d : Source) (fault : Option Fault) (all all' : List Refusal) → i < length xs →
+pub refused_more : (cycle : Option (ℕ × Pos)) (xs : List Source) (i : ℕ) (d : Source) (breach : Option Breach) (all all' : List Refusal) → i < length xs →
     map reported all ≡ refused_from (trees (map file_of xs)) cycle [] (map file_of (take i xs)) →
-    fault ≡ least_of (faults_of (trees (map file_of xs)) (take i (trees (map file_of xs))) (get_or xs i d).given (get_or xs i d).tree.now ++ cycle_faults cycle i) →
-    map reported all' ≡ map reported all ++ reported_at (get_or xs i d).name.now fault →
+    breach ≡ least_of (breaches_of (trees (map file_of xs)) (take i (trees (map file_of xs))) (get_or xs i d).given (get_or xs i d).tree.now ++ cycle_breaches cycle i) →
+    map reported all' ≡ map reported all ++ reported_at (get_or xs i d).name.now breach →
     map reported all' ≡ refused_from (trees (map file_of xs)) cycle [] (map file_of (take (i + 1) xs))
-refused_more cycle xs i d fault all all' l is found more =
+refused_more cycle xs i d breach all all' l is found more =
     let ms = trees (map file_of xs) in
     let f = file_of (get_or xs i d) in
     let much : 0 + length (map file_of (take i xs)) ≡ i = rw length-map (omega (arith, length-take-le i xs (omega arith))) in
     let before : trees (map file_of (take i xs)) ≡ take i ms = ap trees (files_take xs i) ∙ trees_take (map file_of xs) i in
-    more ∙ ap (λ (ts : List Reported). ts ++ reported_at f.name fault) is
-    ∙ ap (λ (o : Option Fault). refused_from ms cycle [] (map file_of (take i xs)) ++ reported_at f.name o) found
+    more ∙ ap (λ (ts : List Reported). ts ++ reported_at f.name breach) is
+    ∙ ap (λ (o : Option Breach). refused_from ms cycle [] (map file_of (take i xs)) ++ reported_at f.name o) found
     ∙ ap (λ (b : List Module). refused_from ms cycle [] (map file_of (take i xs)) ++ here ms cycle b i f) (sym before)
     ∙ sym (refused_push ms cycle [] (map file_of (take i xs)) f i much)
     ∙ ap (refused_from ms cycle []) (sym (map-append file_of (take i xs) (get_or xs i d ∷ [])) ∙ ap (map file_of) (sym (take_more xs i d l)))
 
-pub fault_within : (ms : List Module) (xs : List Source) (i : ℕ) → ms ≡ trees (map file_of xs) → i < length xs → i < length ms
-fault_within ms xs i e l = omega (arith, ap length e, length-map (map file_of xs) (λ (f : File). f.tree), length-map xs file_of)
+pub breach_within : (ms : List Module) (xs : List Source) (i : ℕ) → ms ≡ trees (map file_of xs) → i < length xs → i < length ms
+breach_within ms xs i e l = omega (arith, ap length e, length-map (map file_of xs) (λ (f : File). f.tree), length-map xs file_of)
 
-pub same_fault : (ms ns : List Module) (cycle : Option (ℕ × Pos)) (i given : ℕ) (tree : Module) (fault : Option Fault) → ms ≡ ns → fault ≡ least_of (faults_of ms (take i ms) given tree ++ cycle_faults cycle i) → fault ≡ least_of (faults_of ns (take i ns) given tree ++ cycle_faults cycle i)
-same_fault ms ns cycle i given tree fault e h = subst (λ (xs : List Module). fault ≡ least_of (faults_of xs (take i xs) given tree ++ cycle_faults cycle i)) e h
+pub same_breach : (ms ns : List Module) (cycle : Option (ℕ × Pos)) (i given : ℕ) (tree : Module) (breach : Option Breach) → ms ≡ ns → breach ≡ least_of (breaches_of ms (take i ms) given tree ++ cycle_breaches cycle i) → breach ≡ least_of (breaches_of ns (take i ns) given tree ++ cycle_breaches cycle i)
+same_breach ms ns cycle i given tree breach e h = subst (λ (xs : List Module). breach ≡ least_of (breaches_of xs (take i xs) given tree ++ cycle_breaches cycle i)) e h
 
 pub refused_all : (cycle : Option (ℕ × Pos)) (xs : List Source) (i : ℕ) (all : List Refusal) → length xs ≤ i → map reported all ≡ refused_from (trees (map file_of xs)) cycle [] (map file_of (take i xs)) → map reported all ≡ refused_from (trees (map file_of xs)) cycle [] (map file_of xs)
 refused_all cycle xs i all g is = is ∙ ap (λ (ys : List Source). refused_from (trees (map file_of xs)) cycle [] (map file_of ys)) (take_all i xs g)
@@ -58,13 +58,13 @@ pub refused_some : (cycle : Option (ℕ × Pos)) (xs : List Source) (all : List 
 refused_some cycle [] all n is = absurd (n refl)
 refused_some cycle (x ∷ xs) all n is = is
 
-pub refused_next : (ms : List Module) (cycle : Option (ℕ × Pos)) (xs : List Source) (i : ℕ) (x : Source) (fault : Option Fault) (all all' : List Refusal) → ms ≡ trees (map file_of xs) → i < length xs → x ≡ get_or xs i x →
+pub refused_next : (ms : List Module) (cycle : Option (ℕ × Pos)) (xs : List Source) (i : ℕ) (x : Source) (breach : Option Breach) (all all' : List Refusal) → ms ≡ trees (map file_of xs) → i < length xs → x ≡ get_or xs i x →
     map reported all ≡ refused_from (trees (map file_of xs)) cycle [] (map file_of (take i xs)) →
-    fault ≡ least_of (faults_of ms (take i ms) x.given x.tree.now ++ cycle_faults cycle i) →
-    map reported all' ≡ map reported all ++ reported_at x.name.now fault →
+    breach ≡ least_of (breaches_of ms (take i ms) x.given x.tree.now ++ cycle_breaches cycle i) →
+    map reported all' ≡ map reported all ++ reported_at x.name.now breach →
     map reported all' ≡ refused_from (trees (map file_of xs)) cycle [] (map file_of (take (i + 1) xs))
-refused_next ms cycle xs i x fault all all' e0 l e is found more =
+refused_next ms cycle xs i x breach all all' e0 l e is found more =
     let ns = trees (map file_of xs) in
-    refused_more cycle xs i x fault all all' l is
-    (subst (λ (y : Source). fault ≡ least_of (faults_of ns (take i ns) y.given y.tree.now ++ cycle_faults cycle i)) e (same_fault ms ns cycle i x.given x.tree.now fault e0 found))
-    (subst (λ (y : Source). map reported all' ≡ map reported all ++ reported_at y.name.now fault) e more)
+    refused_more cycle xs i x breach all all' l is
+    (subst (λ (y : Source). breach ≡ least_of (breaches_of ns (take i ns) y.given y.tree.now ++ cycle_breaches cycle i)) e (same_breach ms ns cycle i x.given x.tree.now breach e0 found))
+    (subst (λ (y : Source). map reported all' ≡ map reported all ++ reported_at y.name.now breach) e more)

@@ -17,9 +17,10 @@ use Rattle.m2_graph.specs.Files.{File, AreInOrder, trees, given_of}
 use Rattle.m2_graph.specs.Imports.{is_definition, imported, links_of, links}
 use Rattle.m2_graph.specs.Graph.{IsJobs, CompileEach}
 use Rattle.m2_graph.specs.Order.{body_numbers}
-use Rattle.m2_graph.specs.Refused.{fault, fault_where, faults_of, least_of}
+use Rattle.m2_graph.specs.Refused.{breach_where, breaches_of, least_of}
+use Rattle.m2_rule.specs.Breaches.{breach}
 use Rattle.m2_tree.specs.declared.refusal.Refusal.{Refusal}
-use Rattle.m2_graph.specs.Reported.{Reported, reported, reported_at, cycle_faults, AreCycles, refused_from, refused_of, IsReported}
+use Rattle.m2_graph.specs.Reported.{Reported, reported, reported_at, cycle_breaches, AreCycles, refused_from, refused_of, IsReported}
 use Rattle.m2_graph.proofs.Importing.{links_are_nodes}
 use Rattle.m2_graph.proofs.Deciding.{never_none, nothing_reported}
 use Rattle.m2_graph.proofs.Smaller.{linked, at_least, numbered_definition}
@@ -34,8 +35,8 @@ rest_none (x ∷ xs) ys e = cc
 refused_somewhere : (ms : List Module) (t : ℕ × Pos) (before : List Module) (fs : List File) → refused_from ms (Some t) before fs ≡ [] → length before ≤ t.0 → t.0 < length before + length fs → ⊥
 refused_somewhere ms t before [] e low high = omega arith
 refused_somewhere ms t before (f ∷ fs) e low high = elim (cases_eq t.0 (length before)) [
-  | inl s ↦ never_none (faults_of ms before f.given f.tree) (fault t.1 rule.Cycle) [] (ap (λ b. least_of (faults_of ms before f.given f.tree ++ fault_where b t.1 rule.Cycle)) (sym (eq-eqb t.0 (length before) s)) ∙ nothing_reported f.name (least_of (faults_of ms before f.given f.tree ++ cycle_faults (Some t) (length before))) (refused_from ms (Some t) (before ++ f.tree ∷ []) fs) e)
-  | inr ne ↦ (let more = length_push before f.tree in refused_somewhere ms t (before ++ f.tree ∷ []) fs (rest_none (reported_at f.name (least_of (faults_of ms before f.given f.tree ++ cycle_faults (Some t) (length before)))) (refused_from ms (Some t) (before ++ f.tree ∷ []) fs) e) (beyond ne more) (omega (arith, more)))
+  | inl s ↦ never_none (breaches_of ms before f.given f.tree) (breach t.1 rule.Cycle) [] (ap (λ b. least_of (breaches_of ms before f.given f.tree ++ breach_where b t.1 rule.Cycle)) (sym (eq-eqb t.0 (length before) s)) ∙ nothing_reported f.name (least_of (breaches_of ms before f.given f.tree ++ cycle_breaches (Some t) (length before))) (refused_from ms (Some t) (before ++ f.tree ∷ []) fs) e)
+  | inr ne ↦ (let more = length_push before f.tree in refused_somewhere ms t (before ++ f.tree ∷ []) fs (rest_none (reported_at f.name (least_of (breaches_of ms before f.given f.tree ++ cycle_breaches (Some t) (length before)))) (refused_from ms (Some t) (before ++ f.tree ∷ []) fs) e) (beyond ne more) (omega (arith, more)))
 ]
   where
     beyond : (t.0 ≡ length before → ⊥) → length (before ++ f.tree ∷ []) ≡ length before + 1 → length (before ++ f.tree ∷ []) ≤ t.0

@@ -6,15 +6,12 @@ use Rattle.std.specs.Option.{is_none, is_some}
 use Rattle.m2_rule.specs.declared.rule.Rule.TheVariants as rule
 use Rattle.m2_tree.specs.declared.pos.Pos.{Pos}
 use Rattle.m2_rule.specs.declared.rule.Rule.{Rule}
-use Rattle.m2_rule.specs.RuleNumber.{number_of}
+use Rattle.m2_rule.specs.Breaches.{breach, lesser}
 use Rattle.m2_tree.specs.declared.name.Ident.{Ident}
 use Rattle.m2_tree.specs.declared.decl.Module.{Module}
-use Rattle.m2_graph.specs.declared.faults.Fault.{Fault}
+use Rattle.m2_rule.specs.declared.breach.Breach.{Breach}
 use Rattle.m2_tree.specs.Names.{same_name, is_console}
 use Rattle.m2_graph.specs.Imports.{imported, is_definition, is_program, is_implementation, defines, implements, definition_of, first_that}
-
-abbrev pub fault : Pos → Rule → Fault
-fault pos broken = record { pos = pos; number = number_of broken }
 
 -- the place of a text's first byte
 abbrev pub first_place : Pos
@@ -22,22 +19,15 @@ first_place = record { line = 1; col = 1 }
 
 -- ---- the least of several
 
--- by place, and then by number
-abbrev pub is_less : Fault → Fault → Bool
-is_less f g =
-    nat_lt f.pos.line g.pos.line
-    || (f.pos.line == g.pos.line
-    && (nat_lt f.pos.col g.pos.col || (f.pos.col == g.pos.col && nat_lt f.number g.number)))
+abbrev pub least_with : Option Breach → Breach → Option Breach
+least_with None g = Some g
+least_with (Some f) g = Some (lesser f g)
 
-abbrev pub lesser : Option Fault → Fault → Option Fault
-lesser None g = Some g
-lesser (Some f) g = Some (cond (is_less g f) g f)
+abbrev pub least_of : List Breach → Option Breach
+least_of fs = fold least_with None fs
 
-abbrev pub least_of : List Fault → Option Fault
-least_of fs = fold lesser None fs
-
-abbrev pub fault_where : Bool → Pos → Rule → List Fault
-fault_where holds pos broken = cond holds (fault pos broken ∷ []) []
+abbrev pub breach_where : Bool → Pos → Rule → List Breach
+breach_where holds pos broken = cond holds (breach pos broken ∷ []) []
 
 -- ---- what is refused in a module, beside cycles
 
@@ -54,9 +44,9 @@ is_bad_import modules m name =
     (not (is_console name) && is_none (definition_of modules name))
     || (not (is_definition m) && same_name name m.name.name)
 
-abbrev pub import_faults : List Module → Module → List Ident → List Fault
-import_faults modules m names =
-    map (λ x. fault x.pos rule.MissingModule) (filter (λ x. is_bad_import modules m x.name) names)
+abbrev pub import_breaches : List Module → Module → List Ident → List Breach
+import_breaches modules m names =
+    map (λ x. breach x.pos rule.MissingModule) (filter (λ x. is_bad_import modules m x.name) names)
 
 -- two definitions, or two bodies, of one name
 abbrev pub are_one_part : Module → Module → Bool
@@ -89,11 +79,11 @@ abbrev pub max_files : ℕ
 max_files = 1024
 
 -- What is refused in the file with this many before it in order, and this many given before it.
-abbrev pub faults_of : List Module → List Module → ℕ → Module → List Fault
-faults_of modules before given m =
-    import_faults modules m (imported m)
-    ++ fault_where (is_repeated before m) m.name.pos rule.SecondFile
-    ++ fault_where (is_second_program before m) m.name.pos rule.ProgramCount
-    ++ fault_where (is_without_program modules before) first_place rule.ProgramCount
-    ++ fault_where (is_lone modules m) m.name.pos rule.LonelyModule
-    ++ fault_where (given == max_files) first_place rule.FileCount
+abbrev pub breaches_of : List Module → List Module → ℕ → Module → List Breach
+breaches_of modules before given m =
+    import_breaches modules m (imported m)
+    ++ breach_where (is_repeated before m) m.name.pos rule.SecondFile
+    ++ breach_where (is_second_program before m) m.name.pos rule.ProgramCount
+    ++ breach_where (is_without_program modules before) first_place rule.ProgramCount
+    ++ breach_where (is_lone modules m) m.name.pos rule.LonelyModule
+    ++ breach_where (given == max_files) first_place rule.FileCount

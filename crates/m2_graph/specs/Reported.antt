@@ -7,10 +7,11 @@ use Rattle.m2_tree.specs.declared.pos.Pos.{Pos}
 use Rattle.m2_tree.specs.declared.name.Ident.{Ident}
 use Rattle.m2_tree.specs.declared.decl.Module.{Module}
 use Rattle.m2_tree.specs.declared.refusal.Refusal.{Refusal}
-use Rattle.m2_graph.specs.declared.faults.Fault.{Fault}
+use Rattle.m2_rule.specs.declared.breach.Breach.{Breach}
 use Rattle.graph_walk.specs.Links.{Leads, flag}
 use Rattle.m2_graph.specs.Imports.{imported, definition_of, links}
-use Rattle.m2_graph.specs.Refused.{fault, first_place, fault_where, faults_of, least_of}
+use Rattle.m2_graph.specs.Refused.{first_place, breach_where, breaches_of, least_of}
+use Rattle.m2_rule.specs.Breaches.{breach}
 use Rattle.m2_graph.specs.Files.{File, trees}
 
 -- ---- cycles
@@ -56,9 +57,9 @@ abbrev pub AreCycles : List Module → Option (ℕ × Pos) → Type 0
 AreCycles modules None = (node : ℕ) → ¬ Leads (links modules) node node
 AreCycles modules (Some reported) = IsReportedCycle modules reported.0 reported.1
 
-abbrev pub cycle_faults : Option (ℕ × Pos) → ℕ → List Fault
-cycle_faults None number = []
-cycle_faults (Some reported) number = fault_where (reported.0 == number) reported.1 rule.Cycle
+abbrev pub cycle_breaches : Option (ℕ × Pos) → ℕ → List Breach
+cycle_breaches None number = []
+cycle_breaches (Some reported) number = breach_where (reported.0 == number) reported.1 rule.Cycle
 
 -- ---- refusals
 
@@ -71,12 +72,12 @@ pub record Reported : Type 0 where
 abbrev pub reported : Refusal → Reported
 reported r = record { file = string_bytes r.file; pos = r.pos; number = r.number }
 
-abbrev pub reported_of : (file : List ℕ) → Fault → Reported
-reported_of file fault = record { file = file; pos = fault.pos; number = fault.number }
+abbrev pub reported_of : (file : List ℕ) → Breach → Reported
+reported_of file breach = record { file = file; pos = breach.pos; number = breach.number }
 
-abbrev pub reported_at : (file : List ℕ) → Option Fault → List Reported
+abbrev pub reported_at : (file : List ℕ) → Option Breach → List Reported
 reported_at file None = []
-reported_at file (Some fault) = reported_of file fault ∷ []
+reported_at file (Some breach) = reported_of file breach ∷ []
 
 -- for each of these files, which stand behind those modules, the least that is refused in it
 abbrev pub refused_from : List Module → Option (ℕ × Pos) → (before : List Module) → List File
@@ -84,12 +85,12 @@ abbrev pub refused_from : List Module → Option (ℕ × Pos) → (before : List
 refused_from modules cycle before [] = []
 refused_from modules cycle before (f ∷ fs) =
     reported_at f.name
-    (least_of (faults_of modules before f.given f.tree ++ cycle_faults cycle (length before)))
+    (least_of (breaches_of modules before f.given f.tree ++ cycle_breaches cycle (length before)))
     ++ refused_from modules cycle (before ++ f.tree ∷ []) fs
 
 -- files in order, of which the first is the least; without any file there is no program module
 abbrev pub refused_of : List File → Option (ℕ × Pos) → List Reported
-refused_of [] cycle = reported_of [] (fault first_place rule.ProgramCount) ∷ []
+refused_of [] cycle = reported_of [] (breach first_place rule.ProgramCount) ∷ []
 refused_of (f ∷ fs) cycle = refused_from (trees (f ∷ fs)) cycle [] (f ∷ fs)
 
 -- this is reported of files in order

@@ -11,9 +11,9 @@ ghost use Rattle.m2_graph.specs.Reported.{LeadsBack, AreLeading, IsFirstBack, Ar
 use crate::program::{Program, definition_of};
 use graph_walk::{first_on_cycle, is_marked, led_to};
 use m2_tree::{Ident, Import, Module, Pos};
-use sqlite_items::Items;
 use std::alloc::{AllocError, Global};
 use std::slice::from_ref;
+use tree_parts::Items;
 
 /// Whether an import leads back to a node. `leading` marks the nodes that lead to it.
 fn leads_back(program: &Program<'_>, leading: &[bool], node: usize, ident: &Ident) -> bool

@@ -13,8 +13,8 @@ use crate::given::given_all;
 use crate::order::{add_bodies, jobs_of};
 use crate::program::Program;
 use crate::sources::Source;
-use sqlite_items::Items;
 use std::alloc::{AllocError, Global};
+use tree_parts::Items;
 
 /// For each job the file that it compiles, and its prerequisites.
 #[derive(Drop)]

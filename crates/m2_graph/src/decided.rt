@@ -17,8 +17,8 @@ use crate::reported::refused_of;
 use crate::sources::Source;
 use graph_walk::turned;
 use m2_tree::Refusal;
-use sqlite_items::Items;
 use std::alloc::{AllocError, Global};
+use tree_parts::Items;
 
 /// What is reported of files in order, and the definitions in the order in which they get numbers.
 #[derive(Drop)]

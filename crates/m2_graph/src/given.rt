@@ -13,8 +13,8 @@ use crate::needs::walks;
 use crate::program::{Program, implementation_of};
 use crate::sources::Source;
 use graph_walk::start_order;
-use sqlite_items::Items;
 use std::alloc::{AllocError, Global};
+use tree_parts::Items;
 
 /// How many files were given before the file with this number in order.
 fn given_of(sources: &[Source<'_>], number: usize) -> usize

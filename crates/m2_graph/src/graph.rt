@@ -16,8 +16,8 @@ use crate::given::starts_of;
 use crate::program::{Program, program_with};
 use crate::sources::{Source, in_order, trees};
 use m2_tree::Module;
-use sqlite_items::Items;
 use std::alloc::{AllocError, Global};
+use tree_parts::Items;
 
 /// The jobs of a program, and the order in which its bodies start. Files go by how many were given before them.
 pub struct Graph {

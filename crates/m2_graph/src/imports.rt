@@ -9,8 +9,8 @@ ghost use Rattle.m2_graph.specs.Program.{modules_of, IsIndexed};
 
 use crate::program::{Program, definition_of};
 use m2_tree::{Contents, Ident, Import, Module, Name};
-use sqlite_items::Items;
 use std::alloc::{AllocError, Global};
+use tree_parts::Items;
 
 /// Whether it is a definition module.
 pub fn is_definition(tree: &Module) -> bool

@@ -9,8 +9,8 @@ ghost use Rattle.m2_graph.specs.Jobs.{number_of, place_of, ArePlaces, ArePlacesB
 ghost use Rattle.m2_graph.specs.Parts.{or_first};
 
 use graph_walk::each_once;
-use sqlite_items::Items;
 use std::alloc::{AllocError, Global};
+use tree_parts::Items;
 
 /// The place of a node.
 fn place_of(places: &[Option<usize>], node: usize) -> Option<usize>

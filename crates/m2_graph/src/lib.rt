@@ -3,10 +3,10 @@
 #![tactic(auto)]
 
 mod back;
+mod breaches;
 mod compiled;
 mod decided;
 mod error;
-mod faults;
 mod given;
 mod graph;
 mod imports;

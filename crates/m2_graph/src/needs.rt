@@ -8,8 +8,8 @@ ghost use Rattle.m2_graph.specs.Program.{modules_of, IsIndexed};
 use crate::imports::{add_imports, add_link, is_definition};
 use crate::program::{Program, implementation_of};
 use m2_tree::Module;
-use sqlite_items::Items;
 use std::alloc::{AllocError, Global};
+use tree_parts::Items;
 
 fn add_own(program: &Program<'_>, tree: &Module, needs: &mut Items<usize>) -> Result<(), AllocError>
     requires { IsIndexed program.now }

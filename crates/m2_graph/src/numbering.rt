@@ -9,8 +9,8 @@ ghost use Rattle.m2_graph.specs.Program.{modules_of};
 use crate::order::definition_flags;
 use crate::program::Program;
 use graph_walk::definition_order;
-use sqlite_items::Items;
 use std::alloc::{AllocError, Global};
+use tree_parts::Items;
 
 /// The definitions of a program in the order in which they get numbers. `pairs` has for each module the definitions that
 /// it imports, and `back` the same the other way round.

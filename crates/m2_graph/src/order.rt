@@ -14,8 +14,8 @@ use crate::needs::needs_of;
 use crate::program::Program;
 use graph_walk::unmarked;
 use m2_tree::Module;
-use sqlite_items::Items;
 use std::alloc::{AllocError, Global};
+use tree_parts::Items;
 
 /// Which of the modules are definitions.
 pub fn definition_flags(alloc: Global, modules: &[&Module]) -> Result<Vec<bool>, AllocError>

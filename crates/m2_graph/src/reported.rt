@@ -3,24 +3,24 @@
 ghost use Rattle.std.specs.Prelude.{◌≡◌, ◌<◌, ◌++◌, [], length, map, take, IfOk, OnOk};
 ghost use Rattle.m2_graph.specs.Files.{trees};
 ghost use Rattle.m2_graph.specs.Program.{modules_of, IsIndexed};
-ghost use Rattle.m2_graph.specs.Refused.{faults_of, least_of};
+ghost use Rattle.m2_graph.specs.Refused.{breaches_of, least_of};
 ghost use Rattle.m2_graph.specs.Sources.{file_of};
-ghost use Rattle.m2_graph.specs.Reported.{cycle_faults, reported, reported_of, reported_at, refused_from, refused_of};
+ghost use Rattle.m2_graph.specs.Reported.{cycle_breaches, reported, reported_of, reported_at, refused_from, refused_of};
 
-use crate::faults::{FIRST_PLACE, Fault, fault_at, fault_of};
+use crate::breaches::{FIRST_PLACE, breach_of};
 use crate::program::Program;
 use crate::sources::Source;
-use m2_rule::Rule;
+use m2_rule::{Breach, Rule};
 use m2_tree::{Pos, Refusal};
 use std::alloc::{AllocError, Global};
 
-fn refusal(alloc: Global, file: &str, fault: Fault) -> Result<Refusal, AllocError>
-    ensures { IfOk result (λ r. reported r ≡ reported_of file.now fault) }
+fn refusal(alloc: Global, file: &str, breach: Breach) -> Result<Refusal, AllocError>
+    ensures { IfOk result (λ r. reported r ≡ reported_of file.now breach) }
 {
     Ok(Refusal {
         file: String::from_str(alloc, file)?,
-        pos: fault.pos,
-        number: fault.number,
+        pos: breach.pos,
+        number: breach.number,
     })
 }
 
@@ -28,13 +28,13 @@ fn refusal(alloc: Global, file: &str, fault: Fault) -> Result<Refusal, AllocErro
 fn add_refusal(
     alloc: Global,
     file: &str,
-    fault: Option<Fault>,
+    breach: Option<Breach>,
     refusals: &mut Vec<Refusal>,
 ) -> Result<(), AllocError>
     ensures { OnOk result
-        (map reported refusals.new.items ≡ map reported refusals.old.items ++ reported_at file.now fault) }
+        (map reported refusals.new.items ≡ map reported refusals.old.items ++ reported_at file.now breach) }
 {
-    match fault {
+    match breach {
         None => Ok(()),
         Some(found) => {
             refusals.push(refusal(alloc, file, found)?)?;
@@ -59,8 +59,8 @@ fn refused_from(
 {
     let mut refusals = Vec::new(alloc);
     for (number, source) in sources.iter().enumerate() {
-        let fault = fault_of(program, cycle, number, source.given, source.tree);
-        add_refusal(alloc, source.name, fault, &mut refusals)?;
+        let breach = breach_of(program, cycle, number, source.given, source.tree);
+        add_refusal(alloc, source.name, breach, &mut refusals)?;
     }
     Ok(refusals)
 }
@@ -78,7 +78,7 @@ pub fn refused_of(
 {
     if sources.is_empty() {
         let mut refusals = Vec::new(alloc);
-        let without_program = fault_at(FIRST_PLACE, Rule::ProgramCount);
+        let without_program = Breach::at(FIRST_PLACE, Rule::ProgramCount);
         add_refusal(alloc, "", Some(without_program), &mut refusals)?;
         return Ok(refusals);
     }

@@ -32,11 +32,11 @@ ghost use Rattle.def_grammar.specs.Reading.{is_among, read, read_rule, Reads, Re
 
 use def_grammar::{Kind, Stop};
 use m2_tree::{
-    Block, Boxed, Constant, Decl, Def, Heading, Items, Qualified, Section, Stmt, Symbol, TypeDecl,
-    Variables,
+    Block, Constant, Decl, Def, Heading, Qualified, Section, Stmt, Symbol, TypeDecl, Variables,
 };
 use parse_expr::Cursor;
 use parse_stmt::stmts;
+use tree_parts::{Boxed, Items};
 
 /// The formals of a procedure, and its result.
 type Formals = (Items<Section>, Option<Qualified>);

@@ -13,9 +13,10 @@ ghost use Rattle.def_grammar.specs.Reading.{is_among, read, read_rule, Reads, Re
 
 use crate::decl::{begins_decl, block, def};
 use def_grammar::{Fault, Kind, ParseError, Stop};
-use m2_tree::{Block, Contents, Def, Ident, Import, Items, Module, Symbol, Token};
+use m2_tree::{Block, Contents, Def, Ident, Import, Module, Symbol, Token};
 use parse_expr::Cursor;
 use std::alloc::Global;
+use tree_parts::Items;
 
 /// How deep procedures, statements, types and expressions nest.
 const MAX_NESTING: usize = 200;

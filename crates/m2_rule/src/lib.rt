@@ -2,8 +2,10 @@
 //! the grammar stand in `scan_tokens` and `m2_parse`.
 #![tactic(auto)]
 
+mod breach;
 mod fault;
 mod rule;
 
+pub use breach::{Breach, is_less, lesser};
 pub use fault::Fault;
 pub use rule::Rule;

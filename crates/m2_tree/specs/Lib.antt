@@ -6,6 +6,5 @@ pub mod SoundLeaves
 pub mod SoundModule
 pub mod SoundStmt
 pub mod SoundTypes
-pub mod formers
 pub mod Limits
 pub mod Names

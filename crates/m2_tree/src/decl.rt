@@ -1,11 +1,10 @@
 //! Types, declarations and modules as they are written.
 
-use crate::boxed::Boxed;
 use crate::expr::{Expr, Qualified};
-use crate::items::Items;
 use crate::name::Ident;
 use crate::pos::Pos;
 use crate::stmt::Stmt;
+use tree_parts::{Boxed, Items};
 
 /// A type that can stand as an index: a name, an enumeration or a subrange.
 #[derive(PartialEq, Eq)]

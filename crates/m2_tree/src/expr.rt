@@ -1,10 +1,9 @@
 //! Expressions and designators as they are written.
 
-use crate::boxed::Boxed;
-use crate::items::Items;
 use crate::name::Ident;
 use crate::pos::Pos;
 use crate::text::Quoted;
+use tree_parts::{Boxed, Items};
 
 /// A relation between two values.
 #[derive(Clone, Copy, PartialEq, Eq)]

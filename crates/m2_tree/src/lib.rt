@@ -4,12 +4,10 @@
 //! clause can say that two trees are equal, and `==` decides it. Whatever a refusal can point at carries its place.
 #![tactic(auto)]
 
-mod boxed;
 mod bytes;
 mod decl;
 mod exact;
 mod expr;
-mod items;
 mod name;
 mod pos;
 mod refusal;
@@ -17,14 +15,12 @@ mod stmt;
 mod text;
 mod token;
 
-pub use boxed::Boxed;
 pub use decl::{
     Block, Constant, Contents, Decl, Def, Field, FormalType, Heading, Import, Module, Parameter,
     Section, Simple, TypeDecl, TypeExpr, Variables,
 };
 pub use exact::{Exact, are_equal};
 pub use expr::{AddOp, Designator, Expr, Item, MulOp, Operator, Qualified, RelOp, Selector, Sign};
-pub use items::Items;
 pub use name::{Ident, MAX_NAME, Name, is_console};
 pub use pos::Pos;
 pub use refusal::Refusal;

@@ -1,10 +1,9 @@
 //! Statements as they are written. An empty statement leaves no trace.
 
-use crate::boxed::Boxed;
 use crate::expr::{Designator, Expr, Item};
-use crate::items::Items;
 use crate::name::Ident;
 use crate::pos::Pos;
+use tree_parts::{Boxed, Items};
 
 /// A statement.
 #[cycle(stmt)]

@@ -4,7 +4,7 @@ use Rattle.std.specs.Global.{Vec}
 use Rattle.std.proofs.lemmas.Option.{same_Some}
 use Rattle.m2_rule.specs.RuleNumber.{number_of}
 use Rattle.m2_rule.specs.declared.rule.Rule.TheVariants as rule
-use Rattle.check_scope.specs.declared.fault.Fault.{Fault}
+use Rattle.m2_rule.specs.declared.breach.Breach.{Breach}
 use Rattle.build_jobs.specs.Compiling.{tables_of, typed_body}
 use Rattle.m2_tree.specs.declared.refusal.Refusal.{Refusal}
 use Rattle.m2_tree.specs.declared.decl.Module.{Module}
@@ -15,7 +15,7 @@ use Rattle.m2_graph.specs.Graph.{IsGraph, IsRefusal}
 use Rattle.m2_graph.specs.Reported.{Reported as Tale, reported as tale}
 use Rattle.law_graph.proofs.Once.{one_graph, one_refusal, graph_or_refusal}
 use Rattle.typed_tree.specs.declared.typed_module.TypedModule.{TypedModule}
-use Rattle.def_meaning.specs.Around.{Modules}
+use Rattle.def_meaning.specs.Environment.{Modules}
 use Rattle.def_scheme.specs.Modules.{typed_link}
 use Rattle.build_jobs.specs.declared.file.SourceFile.{SourceFile}
 use Rattle.m2c.specs.declared.files.Outcome.{Outcome}
@@ -36,7 +36,7 @@ module _ (trees : List Module) (numbers : List ℕ) (jobs : List (List ℕ)) whe
       let same = ap (λ (m : Module). typed_body m a.job (tables_of (needed_of trees numbers jobs a.job))) tree ∙ ap (λ (k : ℕ). typed_body b.tree k (tables_of (needed_of trees numbers jobs k))) job in
       same_ok t u (sym a.typed ∙ same ∙ b.typed)
     where
-      same_ok : (x y : TypedModule) → ◌≡◌ {A = Result TypedModule Fault} (Ok x) (Ok y) → x ≡ y
+      same_ok : (x y : TypedModule) → ◌≡◌ {A = Result TypedModule Breach} (Ok x) (Ok y) → x ≡ y
       same_ok x y e = cc
 
   pub one_program : (starts : List ℕ) (p q : Modules) → AreTyped trees numbers jobs starts p → AreTyped trees numbers jobs starts q → p ≡ q

@@ -3,7 +3,7 @@ use Rattle.std.proofs.Common.{◌≡◌, ℕ, Bool, true, List, [], ◌∷◌, r
 use Rattle.std.specs.List.{list_all}
 use Rattle.std.specs.Arc.{arc_value}
 use Rattle.m2_tree.specs.declared.decl.Module.{Module}
-use Rattle.def_meaning.specs.Around.{Modules}
+use Rattle.def_meaning.specs.Environment.{Modules}
 use Rattle.law_well_formed.specs.FormedKnown.{fits_module}
 use Rattle.law_well_formed.proofs.Folds.{and_both}
 use Rattle.law_well_formed.proofs.Spelled.{module_fits}

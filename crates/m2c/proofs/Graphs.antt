@@ -22,7 +22,7 @@ use Rattle.typed_tree.specs.declared.typed_module.TypedModule.{TypedModule}
 use Rattle.layout_storage.specs.Sizes.{size}
 use Rattle.layout_storage.specs.Frames.{module_row}
 use Rattle.layout_storage.specs.Texts.{characters, module_texts}
-use Rattle.def_meaning.specs.Around.{Modules}
+use Rattle.def_meaning.specs.Environment.{Modules}
 use Rattle.def_meaning.specs.Runs.{data_size}
 use Rattle.def_scheme.specs.Modules.{Part, typed_module, typed_link, part_of, link_of, stack_begin}
 use Rattle.m2_emit.specs.declared.emitted.ModuleBytes.{ModuleBytes}

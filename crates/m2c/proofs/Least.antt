@@ -9,7 +9,7 @@ use Rattle.m2_tree.specs.declared.decl.Module.{Module}
 use Rattle.m2_tree.specs.declared.pos.Pos.{Pos}
 use Rattle.typed_tree.specs.declared.table.Table.{Table}
 use Rattle.typed_tree.specs.declared.typed_module.TypedModule.{TypedModule}
-use Rattle.check_scope.specs.declared.fault.Fault.{Fault}
+use Rattle.m2_rule.specs.declared.breach.Breach.{Breach}
 use Rattle.layout_storage.specs.Layouts.{too_large}
 use Rattle.law_least_definition.specs.Least.{Reports, fine, is_refused}
 use Rattle.law_least_definition.proofs.Tables.{compiled_reports}
@@ -20,7 +20,7 @@ use Rattle.build_jobs.specs.Own.{own_table, tables_behind}
 use Rattle.build_jobs.specs.Compiling.{compiled, is_sound, of_checked, of_contents, of_definition, of_fit, tables_of}
 use Rattle.m2c.specs.Least.{broken, all_broken, ReportsLeast, IsLeastReported}
 
-definition_least : (r : Result Table Fault) (all : Result Table (List Fault)) → Reports r all → ReportsLeast (broken all) (of_definition r)
+definition_least : (r : Result Table Breach) (all : Result Table (List Breach)) → Reports r all → ReportsLeast (broken all) (of_definition r)
 definition_least _ _ (fine t) = refl
 definition_least _ _ (is_refused f faults h) = inl h
 
@@ -28,7 +28,7 @@ fit_least : (t : TypedModule) (at : Option Pos) → ReportsLeast [] (of_fit t at
 fit_least t None = refl
 fit_least t (Some pos) = inr (refl, refl)
 
-body_least : (r : Result TypedModule Fault) (all : Result TypedModule (List Fault)) → Reports r all → ReportsLeast (broken all) (of_checked r)
+body_least : (r : Result TypedModule Breach) (all : Result TypedModule (List Breach)) → Reports r all → ReportsLeast (broken all) (of_checked r)
 body_least _ _ (fine t) = fit_least t (too_large t)
 body_least _ _ (is_refused f faults h) = inl h
 

@@ -21,12 +21,12 @@ use Rattle.law_graph.proofs.Defined.{one_definition}
 use Rattle.typed_tree.specs.declared.table.Table.{Table}
 use Rattle.typed_tree.specs.declared.typed_module.Imported.{Imported}
 use Rattle.typed_tree.specs.declared.typed_module.TypedModule.{TypedModule}
-use Rattle.check_scope.specs.declared.fault.Fault.{Fault}
+use Rattle.m2_rule.specs.declared.breach.Breach.{Breach}
 use Rattle.check_scope.specs.Elaborated.{least}
 use Rattle.layout_storage.specs.Layouts.{too_large}
 use Rattle.check_definition.specs.Compiled as types
 use Rattle.check_body.specs.Checks.{elaborated}
-use Rattle.def_meaning.specs.Around.{Modules}
+use Rattle.def_meaning.specs.Environment.{Modules}
 use Rattle.law_well_formed.specs.FormedImports.{is_imported, is_imported_by, IsImport, NamesImports, StandsOnImports}
 use Rattle.law_well_formed.proofs.NamedImports.{tables_named, modules_stand}
 use Rattle.law_modules.specs.Linked.{imported_names}
@@ -77,8 +77,8 @@ module _ (fs : List (List ℕ × Module)) (numbers : List ℕ) (jobs : List (Lis
     home : ℕ
     known : NamesImports tree home t
 
-  defined_result : (m : Module) (job : ℕ) (tables : List Table) (t : Table) (r : Result Table Fault) → types.compiled least job m tables ≡ r → of_definition r ≡ Defined t → NamesImports m job t
-  defined_result m job tables t (Ok x) e is = subst (NamesImports m job) (same_table is) (subst (λ (r : Result Table Fault). IfOk r (NamesImports m job)) e (tables_named least job m tables))
+  defined_result : (m : Module) (job : ℕ) (tables : List Table) (t : Table) (r : Result Table Breach) → types.compiled least job m tables ≡ r → of_definition r ≡ Defined t → NamesImports m job t
+  defined_result m job tables t (Ok x) e is = subst (NamesImports m job) (same_table is) (subst (λ (r : Result Table Breach). IfOk r (NamesImports m job)) e (tables_named least job m tables))
     where
       same_table : Defined x ≡ Defined t → x ≡ t
       same_table e = cc e
@@ -88,7 +88,7 @@ module _ (fs : List (List ℕ × Module)) (numbers : List ℕ) (jobs : List (Lis
   no_fit t b None e = absurd (cc e)
   no_fit t b (Some at) e = absurd (cc e)
 
-  no_body : (t : Table) (r : Result TypedModule Fault) → of_checked r ≡ Defined t → ⊥
+  no_body : (t : Table) (r : Result TypedModule Breach) → of_checked r ≡ Defined t → ⊥
   no_body t (Ok b) e = no_fit t b (too_large b) e
   no_body t (Err f) e = absurd (cc e)
 
@@ -197,7 +197,7 @@ module _ (fs : List (List ℕ × Module)) (numbers : List ℕ) (jobs : List (Lis
         let tables : List Table = tables_of (needed_of trees numbers jobs typed.job) in
         let own : Option Table = own_table m tables in
         let stands : StandsOnImports m own t =
-        subst (λ (r : Result TypedModule Fault). IfOk r (StandsOnImports m own)) typed.typed (modules_stand least (elaborated least) typed.job m own (tables_behind own tables))
+        subst (λ (r : Result TypedModule Breach). IfOk r (StandsOnImports m own)) typed.typed (modules_stand least (elaborated least) typed.job m own (tables_behind own tables))
         in
         all_imports m closed own (λ o e. own_known m tables o (needed_tables typed.job) e) t.imports stands.imports
 

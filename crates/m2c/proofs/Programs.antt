@@ -21,13 +21,13 @@ use Rattle.law_graph.proofs.Lists.{some_at}
 use Rattle.typed_tree.specs.declared.table.Table.{Table}
 use Rattle.typed_tree.specs.declared.statement.TypedStmt.{TypedStmt}
 use Rattle.typed_tree.specs.declared.typed_module.TypedModule.{TypedModule}
-use Rattle.check_scope.specs.declared.fault.Fault.{Fault}
+use Rattle.m2_rule.specs.declared.breach.Breach.{Breach}
 use Rattle.check_scope.specs.declared.scope.Scope.{Scope}
 use Rattle.check_scope.specs.Elaborated.{least, both, ◌▷◌}
 use Rattle.layout_storage.specs.Layouts.{too_large}
 use Rattle.m2_emit.specs.declared.emitted.ModuleBytes.{ModuleBytes}
 use Rattle.m2_emit.specs.Emitted.{emitted}
-use Rattle.def_meaning.specs.Around.{Modules}
+use Rattle.def_meaning.specs.Environment.{Modules}
 use Rattle.def_scheme.specs.Modules.{typed_module}
 use Rattle.law_modules.specs.Linked as linked
 use Rattle.check_definition.specs.Importing.{numbered_modules}
@@ -53,13 +53,13 @@ use Rattle.m2c.proofs.Unrefused.{IsUnrefused, compiled_is, needed, one, result_i
 
 -- ---- a typed body has the name of its module
 
-module_name : (ms : List (List ℕ × ℕ)) (own : Option Table) (m : Module) (c : Checked Fault) (t : TypedModule) → bodies.module_or least ms own m c ≡ Ok t → t.name ≡ m.name.name
+module_name : (ms : List (List ℕ × ℕ)) (own : Option Table) (m : Module) (c : Checked Breach) (t : TypedModule) → bodies.module_or least ms own m c ≡ Ok t → t.name ≡ m.name.name
 module_name ms own m c t e = by (both least c.0.so_far c.1) e
   where
-    by : (r : Result (Unit {0} × List TypedStmt) Fault) → (r ▷ λ p. Ok (routines.typed_module c.0.scope ms own m c.0.bodies p.1)) ≡ Ok t → t.name ≡ m.name.name
+    by : (r : Result (Unit {0} × List TypedStmt) Breach) → (r ▷ λ p. Ok (routines.typed_module c.0.scope ms own m c.0.bodies p.1)) ≡ Ok t → t.name ≡ m.name.name
     by (Ok p) e = sym (ap named e)
       where
-        named : Result TypedModule Fault → List ℕ
+        named : Result TypedModule Breach → List ℕ
         named (Ok x) = x.name
         named (Err f) = []
     by (Err f) e = absurd (cc e)
@@ -68,10 +68,10 @@ contents_name : (n : ℕ) (m : Module) (own : Option Table) (ts : List Table) (c
 contents_name n m own ts (contents.Definition ds) t e = absurd (cc e)
 contents_name n m None ts (contents.Implementation b) t e = absurd (cc e)
 contents_name n m (Some own) ts (contents.Implementation b) t e =
-    let s : Scope Fault = implementation_scope own ts in
+    let s : Scope Breach = implementation_scope own ts in
     module_name (numbered_modules s.tables).0 (Some own) m (bodies.walked least (elaborated least) (numbered_modules s.tables).0 (procedure_ends (out-Block b).decls) s m b) t e
 contents_name n m own ts (contents.Program b) t e =
-    let s : Scope Fault = first_scope n ts in
+    let s : Scope Breach = first_scope n ts in
     module_name (numbered_modules s.tables).0 None m (bodies.walked least (elaborated least) (numbered_modules s.tables).0 (procedure_ends (out-Block b).decls) s m b) t e
 
 pub typed_name : (n : ℕ) (m : Module) (ts : List Table) (t : TypedModule) → typed_body m n ts ≡ Ok t → t.name ≡ m.name.name
@@ -90,7 +90,7 @@ from_fit : (m : Module) (n : ℕ) (ts : List Table) (t : TypedModule) → typed_
 from_fit m n ts t e None small s h = record { typed = t; is = e; small = small; fits = s; becomes = refl }
 from_fit m n ts t e (Some at) small s h = absurd (h _ refl)
 
-from_checked : (m : Module) (n : ℕ) (ts : List Table) (r : Result TypedModule Fault) → typed_body m n ts ≡ r → checked_encoded r → IsUnrefused (of_checked r) → IsBody m n ts (of_checked r)
+from_checked : (m : Module) (n : ℕ) (ts : List Table) (r : Result TypedModule Breach) → typed_body m n ts ≡ r → checked_encoded r → IsUnrefused (of_checked r) → IsBody m n ts (of_checked r)
 from_checked m n ts (Ok t) e s h = from_fit m n ts t e (too_large t) refl s h
 from_checked m n ts (Err f) e s h = absurd (h f refl)
 

@@ -15,7 +15,7 @@ use Rattle.pool_board.proofs.Resulting.{results-length}
 use Rattle.m2_graph.specs.Files.{numbered}
 use Rattle.m2_graph.specs.Graph.{CompileEach}
 use Rattle.typed_tree.specs.declared.table.Table.{Table}
-use Rattle.check_scope.specs.declared.fault.Fault.{Fault}
+use Rattle.m2_rule.specs.declared.breach.Breach.{Breach}
 use Rattle.layout_storage.specs.Layouts.{too_large}
 use Rattle.build_jobs.specs.declared.outcome.Compiled.{Compiled}
 use Rattle.build_jobs.specs.declared.outcome.Compiled.TheVariants.{Refused, Blocked}
@@ -32,9 +32,9 @@ use Rattle.m2c.proofs.EachOnce.{job_of}
 -- ---- one module
 
 abbrev pub IsUnrefused : Compiled → Type 0
-IsUnrefused c = (f : Fault) → c ≢ Refused f
+IsUnrefused c = (f : Breach) → c ≢ Refused f
 
-definition_sound : (r : Result Table Fault) → IsUnrefused (of_definition r) → is_sound (of_definition r) ≡ true
+definition_sound : (r : Result Table Breach) → IsUnrefused (of_definition r) → is_sound (of_definition r) ≡ true
 definition_sound (Ok t) h = refl
 definition_sound (Err f) h = absurd (h f refl)
 
@@ -42,7 +42,7 @@ fit_sound : (t : TypedModule) (o : Option Pos) → IsUnrefused (of_fit t o) → 
 fit_sound t None h = refl
 fit_sound t (Some at) h = absurd (h _ refl)
 
-checked_sound : (r : Result TypedModule Fault) → IsUnrefused (of_checked r) → is_sound (of_checked r) ≡ true
+checked_sound : (r : Result TypedModule Breach) → IsUnrefused (of_checked r) → is_sound (of_checked r) ≡ true
 checked_sound (Ok t) h = fit_sound t (too_large t) h
 checked_sound (Err f) h = absurd (h f refl)
 
@@ -85,7 +85,7 @@ picked_sound xs (p ∷ ps) h = by (slice_get xs p) refl (picked_sound xs ps h)
 
 -- ---- what is reported
 
-some_refused : (name : List ℕ) (f : Fault) → refusal_in name (Some (Refused f)) ≡ [] → ⊥
+some_refused : (name : List ℕ) (f : Breach) → refusal_in name (Some (Refused f)) ≡ [] → ⊥
 some_refused name f e = absurd cc
 
 left_empty : {A : Type 0} (xs ys : List A) → xs ++ ys ≡ [] → xs ≡ []

@@ -18,8 +18,8 @@ use Rattle.m2_graph.specs.declared.error.GraphError.TheVariants as graph_error
 use Rattle.m2_graph.specs.Files.{numbered}
 use Rattle.m2_graph.specs.Graph.{CompileEach, IsGraph, IsRefusal}
 use Rattle.typed_tree.specs.declared.typed_module.TypedModule.{TypedModule}
-use Rattle.def_meaning.specs.Around.{Modules}
-use Rattle.def_meaning.specs.Answer.{Stopped, halted}
+use Rattle.def_meaning.specs.Environment.{Modules}
+use Rattle.def_meaning.specs.Answer.{halted, Ended}
 use Rattle.def_meaning.specs.Runs.{data_size, run}
 use Rattle.law_nothing_missing.specs.Runs.{strict_run}
 use Rattle.def_scheme.specs.Modules.{typed_module, typed_link}
@@ -243,7 +243,7 @@ pub record IsProgram (files : List SourceFile) (pages : ℕ) (link : List ℕ)
       × Behaves (typed_link program pages ∷ map typed_module program) c (run program pages)
   pub strict : (lacking n : ℕ) → strict_run lacking program pages n ≡ run program pages n
   pub whole : (lacking n : ℕ) → halted < lacking → (out : List ℕ)
-      → strict_run lacking program pages n ≢ Stopped lacking out
+      → strict_run lacking program pages n ≢ Ended lacking out
 
 -- The outcome of a build of these files. Rules of tokens and of the grammar come first, then those
 -- of imports, then those of modules, and then what does not fit into the memory.
@@ -262,3 +262,9 @@ AreAlike (outcome.Refused rs) (outcome.Built link built) = ⊥
 AreAlike (outcome.Built link built) (outcome.Refused qs) = ⊥
 AreAlike (outcome.Built link built) (outcome.Built other others) =
     (link.items ≡ other.items) × (map named built.items ≡ map named others.items)
+
+-- files have at most one outcome in a number of pages
+abbrev pub OneOutcome : Type 0
+OneOutcome =
+    (files : List SourceFile) (pages : ℕ) (one other : Outcome)
+    → IsBuilt files pages one → IsBuilt files pages other → AreAlike one other

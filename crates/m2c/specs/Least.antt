@@ -6,7 +6,7 @@ use Rattle.m2_tree.specs.declared.decl.Contents.{Contents}
 use Rattle.m2_tree.specs.declared.decl.Contents.TheVariants as contents
 use Rattle.m2_tree.specs.declared.decl.Module.{Module}
 use Rattle.typed_tree.specs.declared.table.Table.{Table}
-use Rattle.check_scope.specs.declared.fault.Fault.{Fault}
+use Rattle.m2_rule.specs.declared.breach.Breach.{Breach}
 use Rattle.check_scope.specs.Elaborated.{every}
 use Rattle.check_definition.specs.Compiled as definition
 use Rattle.check_body.specs.Checks.{checked}
@@ -17,17 +17,17 @@ use Rattle.build_jobs.specs.Own.{own_table, tables_behind}
 use Rattle.build_jobs.specs.Compiling.{compiled, tables_of}
 
 -- the rules that are broken in what has no meaning
-abbrev pub broken : {A : Type 0} → Result A (List Fault) → List Fault
+abbrev pub broken : {A : Type 0} → Result A (List Breach) → List Breach
 broken (Ok a) = []
-broken (Err faults) = faults
+broken (Err breaches) = breaches
 
-abbrev pub broken_in_body : Module → (number : ℕ) → List Table → List Fault
+abbrev pub broken_in_body : Module → (number : ℕ) → List Table → List Breach
 broken_in_body m number tables =
     let own = own_table m tables in broken (checked every number m own (tables_behind own tables))
 
 -- all rules of definitions and bodies that a module breaks, beside the tables of those that it
 -- needs
-abbrev pub all_broken : Module → (number : ℕ) → List Table → Contents → List Fault
+abbrev pub all_broken : Module → (number : ℕ) → List Table → Contents → List Breach
 all_broken m number tables (contents.Definition defs) =
     broken (definition.compiled every number m tables)
 all_broken m number tables (contents.Implementation b) = broken_in_body m number tables
@@ -35,12 +35,12 @@ all_broken m number tables (contents.Program b) = broken_in_body m number tables
 
 -- A module that breaks rules is refused with the least of them, by place and then by number. One
 -- that breaks none has a table or is built, or its storage is too large.
-abbrev pub ReportsLeast : List Fault → Compiled → Type 0
-ReportsLeast faults (jobs.Defined t) = faults ≡ []
-ReportsLeast faults (jobs.Built b) = faults ≡ []
-ReportsLeast faults (jobs.Refused f) =
-    IsLeast f faults ⊎ ((faults ≡ []) × (f.number ≡ number_of rule.LargeStorage))
-ReportsLeast faults jobs.Blocked = Unit {0}
+abbrev pub ReportsLeast : List Breach → Compiled → Type 0
+ReportsLeast breaches (jobs.Defined t) = breaches ≡ []
+ReportsLeast breaches (jobs.Built b) = breaches ≡ []
+ReportsLeast breaches (jobs.Refused f) =
+    IsLeast f breaches ⊎ ((breaches ≡ []) × (f.number ≡ number_of rule.LargeStorage))
+ReportsLeast breaches jobs.Blocked = Unit {0}
 
 -- the same of a module, whatever became of those that it needs
 abbrev pub IsLeastReported : Module → Type 0

@@ -4,6 +4,7 @@
 mod compiling;
 mod ending;
 mod files;
+mod laws;
 mod modules;
 mod order;
 mod outcome;
@@ -16,6 +17,7 @@ mod texts;
 pub use build_jobs::SourceFile;
 pub use compiling::compile;
 pub use files::{BuildFault, MAX_PAGES, Options, Outcome, build};
+pub use laws::outcome_laws;
 pub use m2_tree::Refusal;
 pub use pool_board::{Gate, MAX_WORKERS};
 pub use run_directory::{InDir, Sink, execute};

@@ -89,8 +89,8 @@ fn add_refusal(
         None => Ok(()),
         Some(compiled) => match compiled {
             Compiled::Defined(_) | Compiled::Built(_) | Compiled::Blocked => Ok(()),
-            Compiled::Refused(fault) => {
-                let reported = refusal(alloc, file, fault.pos, fault.number)?;
+            Compiled::Refused(broken) => {
+                let reported = refusal(alloc, file, broken.pos, broken.number)?;
                 refusals.push(reported)?;
                 Ok(())
             }

@@ -44,10 +44,9 @@ ghost use Rattle.def_grammar.specs.Reading.{read, read_rule, Reads, ReadsAs, Rea
 use crate::begins::{begins_expr, begins_selector};
 use crate::cursor::Cursor;
 use def_grammar::{Kind, Stop};
-use m2_tree::{
-    AddOp, Boxed, Designator, Expr, Item, Items, MulOp, Operator, Pos, Selector, Sign, Symbol,
-};
+use m2_tree::{AddOp, Designator, Expr, Item, MulOp, Operator, Pos, Selector, Sign, Symbol};
 use std::alloc::{AllocError, Global};
+use tree_parts::{Boxed, Items};
 
 fn sum_of(
     alloc: Global,

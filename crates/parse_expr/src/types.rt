@@ -44,10 +44,10 @@ use crate::begins::{begins_formal, begins_simple};
 use crate::cursor::Cursor;
 use def_grammar::{Kind, Stop};
 use m2_tree::{
-    Boxed, Expr, Field, FormalType, Ident, Items, Parameter, Pos, Qualified, Simple, Symbol,
-    TypeExpr,
+    Expr, Field, FormalType, Ident, Parameter, Pos, Qualified, Simple, Symbol, TypeExpr,
 };
 use std::alloc::{AllocError, Global};
+use tree_parts::{Boxed, Items};
 
 /// The formals of a procedure type, and its result.
 type Signature = (Items<Parameter>, Option<Qualified>);

@@ -43,9 +43,10 @@ ghost use Rattle.def_grammar.specs.Trees.{
 ghost use Rattle.def_grammar.specs.Reading.{is_among, read, read_rule, Reads, ReadsAs, ReadsOnto};
 
 use def_grammar::{Kind, Stop};
-use m2_tree::{Arm, Boxed, Expr, Ident, Items, Rest, Stmt, Symbol};
+use m2_tree::{Arm, Expr, Ident, Rest, Stmt, Symbol};
 use parse_expr::{Cursor, begins_expr};
 use std::alloc::{AllocError, Global};
+use tree_parts::{Boxed, Items};
 
 /// Whether a statement can begin so.
 #[tactic(auto, using(def_grammar::proofs::Truth::symbols), unfolding(def_grammar::specs::Kinds::same_kind))]

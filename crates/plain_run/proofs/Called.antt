@@ -3,8 +3,8 @@ use Rattle.std.proofs.Common.{◌≡◌, ℕ, suc, ℤ, List, map, Option, Some,
 use Rattle.std.specs.Option.{option_map}
 use Rattle.typed_tree.specs.declared.computed.Argument.{Argument}
 use Rattle.typed_tree.specs.declared.statement.TypedStmt.{TypedStmt}
-use Rattle.def_meaning.specs.Answer.{State as Meant, Answer as Given, Outcome as Course}
-use Rattle.def_meaning.specs.Answer.{Gave, Ended, empty_procedure, storage_fault}
+use Rattle.def_meaning.specs.Answer.{State as Meant, Answer as Given, Value, Ended, empty_procedure, storage_fault}
+use Rattle.def_meaning.specs.Outcome.{Outcome as Course}
 use Rattle.def_meaning.specs.Calls.{calling, runs, entered, is_function, result}
 use Rattle.plain_store.specs.declared.state.State.{State}
 use Rattle.plain_store.specs.declared.state.Answer.{Answer}
@@ -23,15 +23,15 @@ use Rattle.plain_steps.specs.Parts.{answered_all, asked_in}
 use Rattle.plain_steps.proofs.Bodies.{too_small, fits}
 use Rattle.plain_run.proofs.Variants.{asked_none, asked_some}
 
-given_is : (a : Around) (xs : List Argument) (j : Answer (List Passed)) (vs : List Passed) (st : Meant) (st' : State) → answered_all j st' ≡ all_given_in a xs st → j ≡ answer.Gave vs → all_given_in a xs st ≡ Gave (map sent vs) (seen st')
+given_is : (a : Around) (xs : List Argument) (j : Answer (List Passed)) (vs : List Passed) (st : Meant) (st' : State) → answered_all j st' ≡ all_given_in a xs st → j ≡ answer.Value vs → all_given_in a xs st ≡ Value (map sent vs) (seen st')
 given_is a xs j vs st st' g e = sym g ∙ ap (λ (k : Answer (List Passed)). answered_all k st') e
 
-pub none_asked : (a : Around) (o : Option Callee) (xs : List Argument) (j : Answer (List Passed)) (vs : List Passed) (d : ℕ) (st : Meant) (st' : State) → answered_all j st' ≡ all_given_in a xs st → j ≡ answer.Gave vs → a.depth ≡ suc d → o ≡ None
+pub none_asked : (a : Around) (o : Option Callee) (xs : List Argument) (j : Answer (List Passed)) (vs : List Passed) (d : ℕ) (st : Meant) (st' : State) → answered_all j st' ≡ all_given_in a xs st → j ≡ answer.Value vs → a.depth ≡ suc d → o ≡ None
     → Ended empty_procedure st'.out ≡ asked_in a (option_map callee_of o) xs st
 none_asked a o xs j vs d st st' g e n q = sym (asked_none a o xs (map sent vs) d st (seen st') (given_is a xs j vs st st' g e) n q)
 
 pub some_asked : {E : Type 0} (a : Around) (o : Option Callee) (c : Callee) (xs : List Argument) (j : Answer (List Passed)) (vs : List Passed) (d : ℕ) (st : Meant) (st' st2 : State) (r : Result (Answer ℤ) E)
-    → answered_all j st' ≡ all_given_in a xs st → j ≡ answer.Gave vs → a.depth ≡ suc d → o ≡ Some c
+    → answered_all j st' ≡ all_given_in a xs st → j ≡ answer.Value vs → a.depth ≡ suc d → o ≡ Some c
     → IfOk r (λ k. answered k st2 ≡ runs (modules_of a.program.now) a.program.now.bound (calling (modules_of a.program.now) a.program.now.bound d) (callee_of c) (map sent vs) a.next a.left (seen st'))
     → IfOk r (λ k. answered k st2 ≡ asked_in a (option_map callee_of o) xs st)
 some_asked a o c xs j vs d st st' st2 (Err x) g e n q k = tt

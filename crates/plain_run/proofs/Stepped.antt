@@ -16,10 +16,10 @@ use Rattle.typed_tree.specs.declared.statement.TypedStmt.TheVariants as sv
 use Rattle.typed_tree.specs.declared.statement.TypedArm.{TypedArm, out-TypedArm, fold-TypedArm, fold_out-TypedArm}
 use Rattle.typed_tree.specs.Types.{char}
 use Rattle.def_meaning.specs.Store.{Location, copied}
-use Rattle.def_meaning.specs.Answer.{State as Meant, Answer as Given, Outcome as Course}
-use Rattle.def_meaning.specs.Answer.{Gave, Ended, Running, then_give, Went, Left, Came, Stopped, Unfinished, then_go, with_answer, range_fault, case_fault, halted}
+use Rattle.def_meaning.specs.Answer.{State as Meant, Answer as Given, Value, ◌▷◌, range_fault, case_fault, halted, Ended, StillRunning}
+use Rattle.def_meaning.specs.Outcome.{Outcome as Course, Normal, Exited, Returned, then_go}
 use Rattle.def_meaning.specs.Operators.{is_true}
-use Rattle.def_meaning.specs.Around.{Modules, Around as Setting}
+use Rattle.def_meaning.specs.Environment.{Modules, Environment as Setting}
 use Rattle.def_meaning.specs.Expressions.{Asks, within, as_type}
 use Rattle.def_meaning.specs.Statements.{Does, Arm, in_turn, or_else, chosen, does, step_layer, arm_layer, stored, looped, loop_left, while_true, until_true, has_passed, for_turns, for_all, is_labelled, changed, rechecked, with_element}
 use Rattle.plain_store.specs.declared.state.State.{State}
@@ -58,53 +58,53 @@ target_of l v = record { l = l; v = v }
 abbrev ends_of : (to from : Location) → Ends
 ends_of l l' = record { to = l; from = l' }
 
-target_last : (s : Given ℤ) (l : Location) (k : Location → ℤ → Meant → Course) → with_answer s (λ v st. k l v st) ≡ with_answer (then_give s (λ v st. Gave (target_of l v) st)) (λ (x : Target) (st : Meant). k x.l x.v st)
-target_last (Gave v st) l k = refl
+target_last : (s : Given ℤ) (l : Location) (k : Location → ℤ → Meant → Course) → (s ▷ (λ v st. k l v st)) ≡ ((s ▷ λ v st. Value (target_of l v) st) ▷ λ (x : Target) (st : Meant). k x.l x.v st)
+target_last (Value v st) l k = refl
 target_last (Ended n out) l k = refl
-target_last (Running out) l k = refl
+target_last (StillRunning out) l k = refl
 
 target_both : (r : Given Location) (f : Meant → Given ℤ) (k : Location → ℤ → Meant → Course)
-    → with_answer r (λ l st. with_answer (f st) (λ v st. k l v st)) ≡ with_answer (then_give r (λ l st. then_give (f st) (λ v st. Gave (target_of l v) st))) (λ (x : Target) (st : Meant). k x.l x.v st)
-target_both (Gave l st) f k = target_last (f st) l k
+    → (r ▷ (λ l st. f st ▷ λ v st. k l v st)) ≡ ((r ▷ λ l st. f st ▷ λ v st. Value (target_of l v) st) ▷ λ (x : Target) (st : Meant). k x.l x.v st)
+target_both (Value l st) f k = target_last (f st) l k
 target_both (Ended n out) f k = refl
-target_both (Running out) f k = refl
+target_both (StillRunning out) f k = refl
 
-ends_last : (s : Given Location) (l : Location) (k : Location → Location → Meant → Course) → with_answer s (λ l' st. k l l' st) ≡ with_answer (then_give s (λ l' st. Gave (ends_of l l') st)) (λ (x : Ends) (st : Meant). k x.to x.from st)
-ends_last (Gave v st) l k = refl
+ends_last : (s : Given Location) (l : Location) (k : Location → Location → Meant → Course) → (s ▷ (λ l' st. k l l' st)) ≡ ((s ▷ λ l' st. Value (ends_of l l') st) ▷ λ (x : Ends) (st : Meant). k x.to x.from st)
+ends_last (Value v st) l k = refl
 ends_last (Ended n out) l k = refl
-ends_last (Running out) l k = refl
+ends_last (StillRunning out) l k = refl
 
 ends_both : (r : Given Location) (f : Meant → Given Location) (k : Location → Location → Meant → Course)
-    → with_answer r (λ l st. with_answer (f st) (λ l' st. k l l' st)) ≡ with_answer (then_give r (λ l st. then_give (f st) (λ l' st. Gave (ends_of l l') st))) (λ (x : Ends) (st : Meant). k x.to x.from st)
-ends_both (Gave l st) f k = ends_last (f st) l k
+    → (r ▷ (λ l st. f st ▷ λ l' st. k l l' st)) ≡ ((r ▷ λ l st. f st ▷ λ l' st. Value (ends_of l l') st) ▷ λ (x : Ends) (st : Meant). k x.to x.from st)
+ends_both (Value l st) f k = ends_last (f st) l k
 ends_both (Ended n out) f k = refl
-ends_both (Running out) f k = refl
+ends_both (StillRunning out) f k = refl
 
 abbrev made : Location → ℤ → ℤ → Turns
 made l v last = record { l = l; v = v; last = last }
 
-turns_1 : (s : Given ℤ) (l : Location) (v : ℤ) (k : Turns → Meant → Course) → with_answer s (λ last st. k (made l v last) st) ≡ with_answer (then_give s (λ last st. Gave (made l v last) st)) k
-turns_1 (Gave last st) l v k = refl
+turns_1 : (s : Given ℤ) (l : Location) (v : ℤ) (k : Turns → Meant → Course) → (s ▷ (λ last st. k (made l v last) st)) ≡ ((s ▷ λ last st. Value (made l v last) st) ▷ k)
+turns_1 (Value last st) l v k = refl
 turns_1 (Ended n out) l v k = refl
-turns_1 (Running out) l v k = refl
+turns_1 (StillRunning out) l v k = refl
 
 turns_2 : (s : Given ℤ) (l : Location) (h : Meant → Given ℤ) (k : Turns → Meant → Course)
-    → with_answer s (λ v st. with_answer (h st) (λ last st. k (made l v last) st)) ≡ with_answer (then_give s (λ v st. then_give (h st) (λ last st. Gave (made l v last) st))) k
-turns_2 (Gave v st) l h k = turns_1 (h st) l v k
+    → (s ▷ (λ v st. h st ▷ λ last st. k (made l v last) st)) ≡ ((s ▷ λ v st. h st ▷ λ last st. Value (made l v last) st) ▷ k)
+turns_2 (Value v st) l h k = turns_1 (h st) l v k
 turns_2 (Ended n out) l h k = refl
-turns_2 (Running out) l h k = refl
+turns_2 (StillRunning out) l h k = refl
 
 turns_3 : (s : Given ℤ) (l : Location) (g : ℤ → Meant → Given ℤ) (h : Meant → Given ℤ) (k : Turns → Meant → Course)
-    → with_answer s (λ v st. with_answer (g v st) (λ v st. with_answer (h st) (λ last st. k (made l v last) st))) ≡ with_answer (then_give s (λ v st. then_give (g v st) (λ v st. then_give (h st) (λ last st. Gave (made l v last) st)))) k
-turns_3 (Gave v st) l g h k = turns_2 (g v st) l h k
+    → (s ▷ (λ v st. g v st ▷ λ v st. h st ▷ λ last st. k (made l v last) st)) ≡ ((s ▷ λ v st. g v st ▷ λ v st. h st ▷ λ last st. Value (made l v last) st) ▷ k)
+turns_3 (Value v st) l g h k = turns_2 (g v st) l h k
 turns_3 (Ended n out) l g h k = refl
-turns_3 (Running out) l g h k = refl
+turns_3 (StillRunning out) l g h k = refl
 
 turns_4 : (r : Given Location) (f : Meant → Given ℤ) (g : ℤ → Meant → Given ℤ) (h : Meant → Given ℤ) (k : Turns → Meant → Course)
-    → with_answer r (λ l st. with_answer (f st) (λ v st. with_answer (g v st) (λ v st. with_answer (h st) (λ last st. k (made l v last) st)))) ≡ with_answer (then_give r (λ l st. then_give (f st) (λ v st. then_give (g v st) (λ v st. then_give (h st) (λ last st. Gave (made l v last) st))))) k
-turns_4 (Gave l st) f g h k = turns_3 (f st) l g h k
+    → (r ▷ (λ l st. f st ▷ λ v st. g v st ▷ λ v st. h st ▷ λ last st. k (made l v last) st)) ≡ ((r ▷ λ l st. f st ▷ λ v st. g v st ▷ λ v st. h st ▷ λ last st. Value (made l v last) st) ▷ k)
+turns_4 (Value l st) f g h k = turns_3 (f st) l g h k
 turns_4 (Ended n out) f g h k = refl
-turns_4 (Running out) f g h k = refl
+turns_4 (StillRunning out) f g h k = refl
 
 -- ---- the arms of a CASE
 
@@ -127,53 +127,53 @@ chosen_is a v (x ∷ xs) other st =
     ∙ if_applied (list_any (is_labelled v) (out-TypedArm x).labels) (in_turn (map (does (modules_of a.program.now) (asks_of a) a.program.now.bound) (out-TypedArm x).body)) rest (surroundings a) st
     ∙ picked a (list_any (is_labelled v) (out-TypedArm x).labels) x (first_arm v xs) (rest (surroundings a) st) (λ st. other (surroundings a) st) st (chosen_is a v xs other st)
 
-pub step_Assign : (a : Around) (d : Place) (t : TypeNo) (e : TypedExpr) (st : Meant) → does_in a (sv.Assign d t e) st ≡ with_answer (target_in a d e st) (λ x st. with_answer (as_type (surroundings a).types t x.v st) (λ v st. Went (stored x.l v st)))
+pub step_Assign : (a : Around) (d : Place) (t : TypeNo) (e : TypedExpr) (st : Meant) → does_in a (sv.Assign d t e) st ≡ (target_in a d e st ▷ λ x st. as_type (surroundings a).types t x.v st ▷ λ v st. Value Normal (stored x.l v st))
 unfolding does_in steps_in value_in located_in called_in target_in ends_in turns_in while_in repeat_in loop_in for_begun under_in text_put
-step_Assign a d t e st = ap (λ (g : Does). g (surroundings a) st) (at_stmt (modules_of a.program.now) (asks_of a) a.program.now.bound (sv.Assign d t e) (layer.Assign d t e) (sv.outs-Assign d t e)) ∙ target_both (located_in a d st) (value_in a e) (λ l v st. with_answer (as_type (surroundings a).types t v st) (λ v st. Went (stored l v st)))
+step_Assign a d t e st = ap (λ (g : Does). g (surroundings a) st) (at_stmt (modules_of a.program.now) (asks_of a) a.program.now.bound (sv.Assign d t e) (layer.Assign d t e) (sv.outs-Assign d t e)) ∙ target_both (located_in a d st) (value_in a e) (λ l v st. as_type (surroundings a).types t v st ▷ λ v st. Value Normal (stored l v st))
 
-pub step_Copy : (a : Around) (d : Place) (d' : Place) (t : TypeNo) (st : Meant) → does_in a (sv.Copy d d' t) st ≡ with_answer (ends_in a d d' st) (λ x st. Went (with_store (copied x.to x.from st.store) st))
+pub step_Copy : (a : Around) (d : Place) (d' : Place) (t : TypeNo) (st : Meant) → does_in a (sv.Copy d d' t) st ≡ (ends_in a d d' st ▷ λ x st. Value Normal (with_store (copied x.to x.from st.store) st))
 unfolding does_in steps_in value_in located_in called_in target_in ends_in turns_in while_in repeat_in loop_in for_begun under_in text_put
-step_Copy a d d' t st = ap (λ (g : Does). g (surroundings a) st) (at_stmt (modules_of a.program.now) (asks_of a) a.program.now.bound (sv.Copy d d' t) (layer.Copy d d' t) (sv.outs-Copy d d' t)) ∙ ends_both (located_in a d st) (located_in a d') (λ l l' st. Went (with_store (copied l l' st.store) st))
+step_Copy a d d' t st = ap (λ (g : Does). g (surroundings a) st) (at_stmt (modules_of a.program.now) (asks_of a) a.program.now.bound (sv.Copy d d' t) (layer.Copy d d' t) (sv.outs-Copy d d' t)) ∙ ends_both (located_in a d st) (located_in a d') (λ l l' st. Value Normal (with_store (copied l l' st.store) st))
 
-pub step_CopyText : (a : Around) (d : Place) (t : TypeNo) (text : List ℕ) (st : Meant) → does_in a (sv.CopyText d t text) st ≡ with_answer (located_in a d st) (text_put text)
+pub step_CopyText : (a : Around) (d : Place) (t : TypeNo) (text : List ℕ) (st : Meant) → does_in a (sv.CopyText d t text) st ≡ (located_in a d st ▷ (text_put text))
 unfolding does_in steps_in value_in located_in called_in target_in ends_in turns_in while_in repeat_in loop_in for_begun under_in text_put
 step_CopyText a d t text st = ap (λ (g : Does). g (surroundings a) st) (at_stmt (modules_of a.program.now) (asks_of a) a.program.now.bound (sv.CopyText d t text) (layer.CopyText d t text) (sv.outs-CopyText d t text))
 
-pub step_Call : (a : Around) (c : Call) (st : Meant) → does_in a (sv.Call c) st ≡ with_answer (called_in a c st) (λ v st. Went st)
+pub step_Call : (a : Around) (c : Call) (st : Meant) → does_in a (sv.Call c) st ≡ (called_in a c st ▷ λ v st. Value Normal st)
 unfolding does_in steps_in value_in located_in called_in target_in ends_in turns_in while_in repeat_in loop_in for_begun under_in text_put
 step_Call a c st = ap (λ (g : Does). g (surroundings a) st) (at_stmt (modules_of a.program.now) (asks_of a) a.program.now.bound (sv.Call c) (layer.Call c) (sv.outs-Call c))
 
-pub step_Put : (a : Around) (e : TypedExpr) (st : Meant) → does_in a (sv.Put e) st ≡ with_answer (value_in a e st) (λ v st. with_answer (as_type (surroundings a).types char v st) (λ v st. Went (with_byte v st)))
+pub step_Put : (a : Around) (e : TypedExpr) (st : Meant) → does_in a (sv.Put e) st ≡ (value_in a e st ▷ λ v st. as_type (surroundings a).types char v st ▷ λ v st. Value Normal (with_byte v st))
 unfolding does_in steps_in value_in located_in called_in target_in ends_in turns_in while_in repeat_in loop_in for_begun under_in text_put
 step_Put a e st = ap (λ (g : Does). g (surroundings a) st) (at_stmt (modules_of a.program.now) (asks_of a) a.program.now.bound (sv.Put e) (layer.Put e) (sv.outs-Put e))
 
-pub step_Change : (a : Around) (o : Change) (d : Place) (t : TypeNo) (e : TypedExpr) (st : Meant) → does_in a (sv.Change o d t e) st ≡ with_answer (target_in a d e st) (λ x st. with_answer (rechecked (surroundings a).types t (changed o (st.store x.l) x.v) st) (λ v st. Went (stored x.l v st)))
+pub step_Change : (a : Around) (o : Change) (d : Place) (t : TypeNo) (e : TypedExpr) (st : Meant) → does_in a (sv.Change o d t e) st ≡ (target_in a d e st ▷ λ x st. rechecked (surroundings a).types t (changed o (st.store x.l) x.v) st ▷ λ v st. Value Normal (stored x.l v st))
 unfolding does_in steps_in value_in located_in called_in target_in ends_in turns_in while_in repeat_in loop_in for_begun under_in text_put
-step_Change a o d t e st = ap (λ (g : Does). g (surroundings a) st) (at_stmt (modules_of a.program.now) (asks_of a) a.program.now.bound (sv.Change o d t e) (layer.Change o d t e) (sv.outs-Change o d t e)) ∙ target_both (located_in a d st) (value_in a e) (λ l by st. with_answer (rechecked (surroundings a).types t (changed o (st.store l) by) st) (λ v st. Went (stored l v st)))
+step_Change a o d t e st = ap (λ (g : Does). g (surroundings a) st) (at_stmt (modules_of a.program.now) (asks_of a) a.program.now.bound (sv.Change o d t e) (layer.Change o d t e) (sv.outs-Change o d t e)) ∙ target_both (located_in a d st) (value_in a e) (λ l by st. rechecked (surroundings a).types t (changed o (st.store l) by) st ▷ λ v st. Value Normal (stored l v st))
 
-pub step_Membership : (a : Around) (o : Membership) (d : Place) (e : TypedExpr) (st : Meant) → does_in a (sv.Membership o d e) st ≡ with_answer (target_in a d e st) (λ x st. with_answer (within (pos 0) (pos 31) range_fault x.v st) (λ v st. Went (stored x.l (with_element o (st.store x.l) v) st)))
+pub step_Membership : (a : Around) (o : Membership) (d : Place) (e : TypedExpr) (st : Meant) → does_in a (sv.Membership o d e) st ≡ (target_in a d e st ▷ λ x st. within (pos 0) (pos 31) range_fault x.v st ▷ λ v st. Value Normal (stored x.l (with_element o (st.store x.l) v) st))
 unfolding does_in steps_in value_in located_in called_in target_in ends_in turns_in while_in repeat_in loop_in for_begun under_in text_put
-step_Membership a o d e st = ap (λ (g : Does). g (surroundings a) st) (at_stmt (modules_of a.program.now) (asks_of a) a.program.now.bound (sv.Membership o d e) (layer.Membership o d e) (sv.outs-Membership o d e)) ∙ target_both (located_in a d st) (value_in a e) (λ l x st. with_answer (within (pos 0) (pos 31) range_fault x st) (λ x st. Went (stored l (with_element o (st.store l) x) st)))
+step_Membership a o d e st = ap (λ (g : Does). g (surroundings a) st) (at_stmt (modules_of a.program.now) (asks_of a) a.program.now.bound (sv.Membership o d e) (layer.Membership o d e) (sv.outs-Membership o d e)) ∙ target_both (located_in a d st) (value_in a e) (λ l x st. within (pos 0) (pos 31) range_fault x st ▷ λ x st. Value Normal (stored l (with_element o (st.store l) x) st))
 
-pub step_Halt : (a : Around) (st : Meant) → does_in a sv.Halt st ≡ Stopped halted st.out
+pub step_Halt : (a : Around) (st : Meant) → does_in a sv.Halt st ≡ Ended halted st.out
 unfolding does_in steps_in value_in located_in called_in target_in ends_in turns_in while_in repeat_in loop_in for_begun under_in text_put
 step_Halt a st = ap (λ (g : Does). g (surroundings a) st) (at_stmt (modules_of a.program.now) (asks_of a) a.program.now.bound sv.Halt layer.Halt sv.outs-Halt)
 
-pub step_If_None : (a : Around) (e : TypedExpr) (xs : List TypedStmt) (st : Meant) → does_in a (sv.If e xs None) st ≡ with_answer (value_in a e st) (λ v st. if is_true v then steps_in a xs st else Went st)
+pub step_If_None : (a : Around) (e : TypedExpr) (xs : List TypedStmt) (st : Meant) → does_in a (sv.If e xs None) st ≡ (value_in a e st ▷ λ v st. if is_true v then steps_in a xs st else Value Normal st)
 unfolding does_in steps_in value_in located_in called_in target_in ends_in turns_in while_in repeat_in loop_in for_begun under_in text_put
 step_If_None a e xs st = ap (λ (g : Does). g (surroundings a) st) (at_stmt (modules_of a.program.now) (asks_of a) a.program.now.bound (sv.If e xs None) (layer.If e xs None) (sv.outs-If e xs None))
 
-pub step_If_Some : (a : Around) (e : TypedExpr) (xs : List TypedStmt) (ys : List TypedStmt) (st : Meant) → does_in a (sv.If e xs (Some ys)) st ≡ with_answer (value_in a e st) (λ v st. if is_true v then steps_in a xs st else steps_in a ys st)
+pub step_If_Some : (a : Around) (e : TypedExpr) (xs : List TypedStmt) (ys : List TypedStmt) (st : Meant) → does_in a (sv.If e xs (Some ys)) st ≡ (value_in a e st ▷ λ v st. if is_true v then steps_in a xs st else steps_in a ys st)
 unfolding does_in steps_in value_in located_in called_in target_in ends_in turns_in while_in repeat_in loop_in for_begun under_in text_put
 step_If_Some a e xs ys st = ap (λ (g : Does). g (surroundings a) st) (at_stmt (modules_of a.program.now) (asks_of a) a.program.now.bound (sv.If e xs (Some ys)) (layer.If e xs (Some ys)) (sv.outs-If e xs (Some ys)))
 
-pub step_Case_None : (a : Around) (e : TypedExpr) (arms : List TypedArm) (st : Meant) → does_in a (sv.Case e arms None) st ≡ with_answer (value_in a e st) (λ v st. cased a (first_arm v arms) (λ st. Stopped case_fault st.out) st)
+pub step_Case_None : (a : Around) (e : TypedExpr) (arms : List TypedArm) (st : Meant) → does_in a (sv.Case e arms None) st ≡ (value_in a e st ▷ λ v st. cased a (first_arm v arms) (λ st. Ended case_fault st.out) st)
 unfolding does_in steps_in value_in located_in called_in target_in ends_in turns_in while_in repeat_in loop_in for_begun under_in text_put
-step_Case_None a e arms st = ap (λ (g : Does). g (surroundings a) st) (at_stmt (modules_of a.program.now) (asks_of a) a.program.now.bound (sv.Case e arms None) (layer.Case e arms None) (sv.outs-Case e arms None)) ∙ ap (λ (k : ℤ → Meant → Course). with_answer (value_in a e st) k) (fun_ext (λ v. fun_ext (λ st. chosen_is a v arms (or_else None) st)))
+step_Case_None a e arms st = ap (λ (g : Does). g (surroundings a) st) (at_stmt (modules_of a.program.now) (asks_of a) a.program.now.bound (sv.Case e arms None) (layer.Case e arms None) (sv.outs-Case e arms None)) ∙ ap (λ (k : ℤ → Meant → Course). (value_in a e st ▷ k)) (fun_ext (λ v. fun_ext (λ st. chosen_is a v arms (or_else None) st)))
 
-pub step_Case_Some : (a : Around) (e : TypedExpr) (arms : List TypedArm) (ys : List TypedStmt) (st : Meant) → does_in a (sv.Case e arms (Some ys)) st ≡ with_answer (value_in a e st) (λ v st. cased a (first_arm v arms) (λ st. steps_in a ys st) st)
+pub step_Case_Some : (a : Around) (e : TypedExpr) (arms : List TypedArm) (ys : List TypedStmt) (st : Meant) → does_in a (sv.Case e arms (Some ys)) st ≡ (value_in a e st ▷ λ v st. cased a (first_arm v arms) (λ st. steps_in a ys st) st)
 unfolding does_in steps_in value_in located_in called_in target_in ends_in turns_in while_in repeat_in loop_in for_begun under_in text_put
-step_Case_Some a e arms ys st = ap (λ (g : Does). g (surroundings a) st) (at_stmt (modules_of a.program.now) (asks_of a) a.program.now.bound (sv.Case e arms (Some ys)) (layer.Case e arms (Some ys)) (sv.outs-Case e arms (Some ys))) ∙ ap (λ (k : ℤ → Meant → Course). with_answer (value_in a e st) k) (fun_ext (λ v. fun_ext (λ st. chosen_is a v arms (or_else (Some (map (does (modules_of a.program.now) (asks_of a) a.program.now.bound) ys))) st)))
+step_Case_Some a e arms ys st = ap (λ (g : Does). g (surroundings a) st) (at_stmt (modules_of a.program.now) (asks_of a) a.program.now.bound (sv.Case e arms (Some ys)) (layer.Case e arms (Some ys)) (sv.outs-Case e arms (Some ys))) ∙ ap (λ (k : ℤ → Meant → Course). (value_in a e st ▷ k)) (fun_ext (λ v. fun_ext (λ st. chosen_is a v arms (or_else (Some (map (does (modules_of a.program.now) (asks_of a) a.program.now.bound) ys))) st)))
 
 pub step_While : (a : Around) (e : TypedExpr) (xs : List TypedStmt) (st : Meant) → does_in a (sv.While e xs) st ≡ while_in a e xs a.program.now.bound st
 unfolding does_in steps_in value_in located_in called_in target_in ends_in turns_in while_in repeat_in loop_in for_begun under_in text_put
@@ -187,23 +187,23 @@ pub step_Loop : (a : Around) (xs : List TypedStmt) (st : Meant) → does_in a (s
 unfolding does_in steps_in value_in located_in called_in target_in ends_in turns_in while_in repeat_in loop_in for_begun under_in text_put
 step_Loop a xs st = ap (λ (g : Does). g (surroundings a) st) (at_stmt (modules_of a.program.now) (asks_of a) a.program.now.bound (sv.Loop xs) (layer.Loop xs) (sv.outs-Loop xs))
 
-pub step_Exit : (a : Around) (st : Meant) → does_in a sv.Exit st ≡ Left st
+pub step_Exit : (a : Around) (st : Meant) → does_in a sv.Exit st ≡ Value Exited st
 unfolding does_in steps_in value_in located_in called_in target_in ends_in turns_in while_in repeat_in loop_in for_begun under_in text_put
 step_Exit a st = ap (λ (g : Does). g (surroundings a) st) (at_stmt (modules_of a.program.now) (asks_of a) a.program.now.bound sv.Exit layer.Exit sv.outs-Exit)
 
-pub step_Return : (a : Around) (st : Meant) → does_in a sv.Return st ≡ Came (pos 0) st
+pub step_Return : (a : Around) (st : Meant) → does_in a sv.Return st ≡ Value (Returned (pos 0)) st
 unfolding does_in steps_in value_in located_in called_in target_in ends_in turns_in while_in repeat_in loop_in for_begun under_in text_put
 step_Return a st = ap (λ (g : Does). g (surroundings a) st) (at_stmt (modules_of a.program.now) (asks_of a) a.program.now.bound sv.Return layer.Return sv.outs-Return)
 
-pub step_Give : (a : Around) (t : TypeNo) (e : TypedExpr) (st : Meant) → does_in a (sv.Give t e) st ≡ with_answer (value_in a e st) (λ v st. with_answer (as_type (surroundings a).types t v st) (λ v st. Came v st))
+pub step_Give : (a : Around) (t : TypeNo) (e : TypedExpr) (st : Meant) → does_in a (sv.Give t e) st ≡ (value_in a e st ▷ λ v st. as_type (surroundings a).types t v st ▷ λ v st. Value (Returned v) st)
 unfolding does_in steps_in value_in located_in called_in target_in ends_in turns_in while_in repeat_in loop_in for_begun under_in text_put
 step_Give a t e st = ap (λ (g : Does). g (surroundings a) st) (at_stmt (modules_of a.program.now) (asks_of a) a.program.now.bound (sv.Give t e) (layer.Give t e) (sv.outs-Give t e))
 
-pub step_For : (a : Around) (d : Place) (t : TypeNo) (e : TypedExpr) (e' : TypedExpr) (by : ℤ) (xs : List TypedStmt) (st : Meant) → does_in a (sv.For d t e e' by xs) st ≡ with_answer (turns_in a d t e e' st) (for_begun a t by xs)
+pub step_For : (a : Around) (d : Place) (t : TypeNo) (e : TypedExpr) (e' : TypedExpr) (by : ℤ) (xs : List TypedStmt) (st : Meant) → does_in a (sv.For d t e e' by xs) st ≡ (turns_in a d t e e' st ▷ (for_begun a t by xs))
 unfolding does_in steps_in value_in located_in called_in target_in ends_in turns_in while_in repeat_in loop_in for_begun under_in text_put
 step_For a d t e e' by xs st = ap (λ (g : Does). g (surroundings a) st) (at_stmt (modules_of a.program.now) (asks_of a) a.program.now.bound (sv.For d t e e' by xs) (layer.For d t e e' by xs) (sv.outs-For d t e e' by xs)) ∙ turns_4 (located_in a d st) (value_in a e) (as_type (surroundings a).types t) (value_in a e') (for_begun a t by xs)
 
-pub step_With : (a : Around) (d : Place) (xs : List TypedStmt) (st : Meant) → does_in a (sv.With d xs) st ≡ with_answer (located_in a d st) (λ l st. under_in a l xs st)
+pub step_With : (a : Around) (d : Place) (xs : List TypedStmt) (st : Meant) → does_in a (sv.With d xs) st ≡ (located_in a d st ▷ λ l st. under_in a l xs st)
 unfolding does_in steps_in value_in located_in called_in target_in ends_in turns_in while_in repeat_in loop_in for_begun under_in text_put
 step_With a d xs st = ap (λ (g : Does). g (surroundings a) st) (at_stmt (modules_of a.program.now) (asks_of a) a.program.now.bound (sv.With d xs) (layer.With d xs) (sv.outs-With d xs))
 
@@ -222,23 +222,23 @@ under_is a inner l xs st i = sym (
     ∙ ap (λ (k : Asks). in_turn (map (does (modules_of inner.program.now) k inner.program.now.bound) xs) (record (surroundings a) { withs = (surroundings a).withs ++ l ∷ [] }) st) i.asks
     ∙ ap (λ (p : Program). in_turn (map (does (modules_of p) (asks_of a) p.bound) xs) (record (surroundings a) { withs = (surroundings a).withs ++ l ∷ [] }) st) i.program)
 
-pub for_over : (a : Around) (t : TypeNo) (by : ℤ) (b : Bool) (xs : List TypedStmt) (x : Turns) (st st' : Meant) → st' ≡ stored x.l x.v st → b ≡ has_passed by x.last (st'.store x.l) → b ≡ true → for_begun a t by xs x st ≡ Went st'
+pub for_over : (a : Around) (t : TypeNo) (by : ℤ) (b : Bool) (xs : List TypedStmt) (x : Turns) (st st' : Meant) → st' ≡ stored x.l x.v st → b ≡ has_passed by x.last (st'.store x.l) → b ≡ true → for_begun a t by xs x st ≡ Value Normal st'
 unfolding for_begun
 for_over a t by b xs x st st' e f h =
     ap (λ (s : Meant). for_all a.program.now.bound (as_type (surroundings a).types t) x.l by x.last (steps_in a xs) s) (sym e)
-    ∙ ap (λ (b : Bool). if b then Went st' else for_turns a.program.now.bound (as_type (surroundings a).types t) x.l by x.last (steps_in a xs) st') (sym f ∙ h)
+    ∙ ap (λ (b : Bool). if b then Value Normal st' else for_turns a.program.now.bound (as_type (surroundings a).types t) x.l by x.last (steps_in a xs) st') (sym f ∙ h)
 
 pub for_on : (a : Around) (t : TypeNo) (by : ℤ) (b : Bool) (xs : List TypedStmt) (x : Turns) (st st' : Meant) → st' ≡ stored x.l x.v st → b ≡ has_passed by x.last (st'.store x.l) → b ≡ false → for_begun a t by xs x st ≡ for_in a t by xs x.l x.last a.program.now.bound st'
 unfolding for_begun for_in
 for_on a t by b xs x st st' e f h =
     ap (λ (s : Meant). for_all a.program.now.bound (as_type (surroundings a).types t) x.l by x.last (steps_in a xs) s) (sym e)
-    ∙ ap (λ (b : Bool). if b then Went st' else for_turns a.program.now.bound (as_type (surroundings a).types t) x.l by x.last (steps_in a xs) st') (sym f ∙ h)
+    ∙ ap (λ (b : Bool). if b then Value Normal st' else for_turns a.program.now.bound (as_type (surroundings a).types t) x.l by x.last (steps_in a xs) st') (sym f ∙ h)
 
 pub ruleset variants = (step_Assign, step_Copy, step_CopyText, step_Call, step_Put, step_Change, step_Membership, step_Halt, step_If_None, step_If_Some, step_Case_None, step_Case_Some, step_While, step_Repeat, step_Loop, step_Exit, step_Return, step_Give, step_For, step_With, cased_some, cased_none, under_is, for_over, for_on, with_gave, with_stays)
 
 -- ---- lists
 
-pub steps_nil : (a : Around) (st : Meant) → steps_in a [] st ≡ Went st
+pub steps_nil : (a : Around) (st : Meant) → steps_in a [] st ≡ Value Normal st
 unfolding steps_in
 steps_nil a st = refl
 
@@ -256,180 +256,180 @@ less n i h = omega (arith, h)
 none_left : (n i : ℕ) → n ≤ i → n - i ≡ 0
 none_left n i h = omega (arith, h)
 
-pub while_over : (a : Around) (e : TypedExpr) (xs : List TypedStmt) (n i : ℕ) (st : Meant) → n ≤ i → while_in a e xs (n - i) st ≡ Unfinished st.out
+pub while_over : (a : Around) (e : TypedExpr) (xs : List TypedStmt) (n i : ℕ) (st : Meant) → n ≤ i → while_in a e xs (n - i) st ≡ StillRunning st.out
 unfolding while_in
 while_over a e xs n i st h = ap (λ (k : ℕ). while_in a e xs k st) (none_left n i h)
 
 pub while_stays : (a : Around) (e : TypedExpr) (xs : List TypedStmt) (n i : ℕ) (s : Stop) (st : Meant) (st' : State) → i < n → value_in a e st ≡ stopped s st' → while_in a e xs (n - i) st ≡ halts s st'
 unfolding while_in
 while_stays a e xs n i s st st' h g = ap (λ (k : ℕ). while_in a e xs k st) (less n i h)
-    ∙ with_stays (value_in a e st) s st' (λ v st. if is_true v then then_go (steps_in a xs st) (while_true (n - (i + 1)) (value_in a e) (steps_in a xs)) else Went st) g
+    ∙ with_stays (value_in a e st) s st' (λ v st. if is_true v then then_go (steps_in a xs st) (while_true (n - (i + 1)) (value_in a e) (steps_in a xs)) else Value Normal st) g
 
-pub while_ends : (a : Around) (e : TypedExpr) (xs : List TypedStmt) (n i : ℕ) (v : ℤ) (st st' : Meant) → i < n → value_in a e st ≡ Gave v st' → is_true v ≡ false → while_in a e xs (n - i) st ≡ Went st'
+pub while_ends : (a : Around) (e : TypedExpr) (xs : List TypedStmt) (n i : ℕ) (v : ℤ) (st st' : Meant) → i < n → value_in a e st ≡ Value v st' → is_true v ≡ false → while_in a e xs (n - i) st ≡ Value Normal st'
 unfolding while_in
 while_ends a e xs n i v st st' h g b = ap (λ (k : ℕ). while_in a e xs k st) (less n i h)
-    ∙ ap (λ (r : Given ℤ). with_answer r (λ v st. if is_true v then then_go (steps_in a xs st) (while_true (n - (i + 1)) (value_in a e) (steps_in a xs)) else Went st)) g
-    ∙ ap (λ (b : Bool). if b then then_go (steps_in a xs st') (while_true (n - (i + 1)) (value_in a e) (steps_in a xs)) else Went st') b
+    ∙ ap (λ (r : Given ℤ). (r ▷ λ v st. if is_true v then then_go (steps_in a xs st) (while_true (n - (i + 1)) (value_in a e) (steps_in a xs)) else Value Normal st)) g
+    ∙ ap (λ (b : Bool). if b then then_go (steps_in a xs st') (while_true (n - (i + 1)) (value_in a e) (steps_in a xs)) else Value Normal st') b
 
-pub while_left : (a : Around) (e : TypedExpr) (xs : List TypedStmt) (n i : ℕ) (v : ℤ) (st st' : Meant) (st2 : Meant) → i < n → value_in a e st ≡ Gave v st' → is_true v ≡ true → steps_in a xs st' ≡ Left st2 → while_in a e xs (n - i) st ≡ Left st2
+pub while_left : (a : Around) (e : TypedExpr) (xs : List TypedStmt) (n i : ℕ) (v : ℤ) (st st' : Meant) (st2 : Meant) → i < n → value_in a e st ≡ Value v st' → is_true v ≡ true → steps_in a xs st' ≡ Value Exited st2 → while_in a e xs (n - i) st ≡ Value Exited st2
 unfolding while_in
 while_left a e xs n i v st st' st2 h g b q = ap (λ (k : ℕ). while_in a e xs k st) (less n i h)
-    ∙ ap (λ (r : Given ℤ). with_answer r (λ v st. if is_true v then then_go (steps_in a xs st) (while_true (n - (i + 1)) (value_in a e) (steps_in a xs)) else Went st)) g
-    ∙ ap (λ (b : Bool). if b then then_go (steps_in a xs st') (while_true (n - (i + 1)) (value_in a e) (steps_in a xs)) else Went st') b
+    ∙ ap (λ (r : Given ℤ). (r ▷ λ v st. if is_true v then then_go (steps_in a xs st) (while_true (n - (i + 1)) (value_in a e) (steps_in a xs)) else Value Normal st)) g
+    ∙ ap (λ (b : Bool). if b then then_go (steps_in a xs st') (while_true (n - (i + 1)) (value_in a e) (steps_in a xs)) else Value Normal st') b
     ∙ ap (λ (r : Course). then_go r (while_true (n - (i + 1)) (value_in a e) (steps_in a xs))) q
 
-pub while_came : (a : Around) (e : TypedExpr) (xs : List TypedStmt) (n i : ℕ) (v : ℤ) (st st' : Meant) (w : ℤ) (st2 : Meant) → i < n → value_in a e st ≡ Gave v st' → is_true v ≡ true → steps_in a xs st' ≡ Came w st2 → while_in a e xs (n - i) st ≡ Came w st2
+pub while_came : (a : Around) (e : TypedExpr) (xs : List TypedStmt) (n i : ℕ) (v : ℤ) (st st' : Meant) (w : ℤ) (st2 : Meant) → i < n → value_in a e st ≡ Value v st' → is_true v ≡ true → steps_in a xs st' ≡ Value (Returned w) st2 → while_in a e xs (n - i) st ≡ Value (Returned w) st2
 unfolding while_in
 while_came a e xs n i v st st' w st2 h g b q = ap (λ (k : ℕ). while_in a e xs k st) (less n i h)
-    ∙ ap (λ (r : Given ℤ). with_answer r (λ v st. if is_true v then then_go (steps_in a xs st) (while_true (n - (i + 1)) (value_in a e) (steps_in a xs)) else Went st)) g
-    ∙ ap (λ (b : Bool). if b then then_go (steps_in a xs st') (while_true (n - (i + 1)) (value_in a e) (steps_in a xs)) else Went st') b
+    ∙ ap (λ (r : Given ℤ). (r ▷ λ v st. if is_true v then then_go (steps_in a xs st) (while_true (n - (i + 1)) (value_in a e) (steps_in a xs)) else Value Normal st)) g
+    ∙ ap (λ (b : Bool). if b then then_go (steps_in a xs st') (while_true (n - (i + 1)) (value_in a e) (steps_in a xs)) else Value Normal st') b
     ∙ ap (λ (r : Course). then_go r (while_true (n - (i + 1)) (value_in a e) (steps_in a xs))) q
 
-pub while_halts : (a : Around) (e : TypedExpr) (xs : List TypedStmt) (n i : ℕ) (v : ℤ) (st st' : Meant) (s : Stop) (st2 : State) → i < n → value_in a e st ≡ Gave v st' → is_true v ≡ true → steps_in a xs st' ≡ halts s st2 → while_in a e xs (n - i) st ≡ halts s st2
+pub while_halts : (a : Around) (e : TypedExpr) (xs : List TypedStmt) (n i : ℕ) (v : ℤ) (st st' : Meant) (s : Stop) (st2 : State) → i < n → value_in a e st ≡ Value v st' → is_true v ≡ true → steps_in a xs st' ≡ halts s st2 → while_in a e xs (n - i) st ≡ halts s st2
 unfolding while_in
 while_halts a e xs n i v st st' s st2 h g b q = ap (λ (k : ℕ). while_in a e xs k st) (less n i h)
-    ∙ ap (λ (r : Given ℤ). with_answer r (λ v st. if is_true v then then_go (steps_in a xs st) (while_true (n - (i + 1)) (value_in a e) (steps_in a xs)) else Went st)) g
-    ∙ ap (λ (b : Bool). if b then then_go (steps_in a xs st') (while_true (n - (i + 1)) (value_in a e) (steps_in a xs)) else Went st') b
+    ∙ ap (λ (r : Given ℤ). (r ▷ λ v st. if is_true v then then_go (steps_in a xs st) (while_true (n - (i + 1)) (value_in a e) (steps_in a xs)) else Value Normal st)) g
+    ∙ ap (λ (b : Bool). if b then then_go (steps_in a xs st') (while_true (n - (i + 1)) (value_in a e) (steps_in a xs)) else Value Normal st') b
     ∙ halts_on (steps_in a xs st') s st2 (while_true (n - (i + 1)) (value_in a e) (steps_in a xs)) q
 
-pub while_goes : (a : Around) (e : TypedExpr) (xs : List TypedStmt) (n i : ℕ) (v : ℤ) (st st' st2 : Meant) → i < n → value_in a e st ≡ Gave v st' → is_true v ≡ true → steps_in a xs st' ≡ Went st2 → while_in a e xs (n - i) st ≡ while_in a e xs (n - (i + 1)) st2
+pub while_goes : (a : Around) (e : TypedExpr) (xs : List TypedStmt) (n i : ℕ) (v : ℤ) (st st' st2 : Meant) → i < n → value_in a e st ≡ Value v st' → is_true v ≡ true → steps_in a xs st' ≡ Value Normal st2 → while_in a e xs (n - i) st ≡ while_in a e xs (n - (i + 1)) st2
 unfolding while_in
 while_goes a e xs n i v st st' st2 h g b q = ap (λ (k : ℕ). while_in a e xs k st) (less n i h)
-    ∙ ap (λ (r : Given ℤ). with_answer r (λ v st. if is_true v then then_go (steps_in a xs st) (while_true (n - (i + 1)) (value_in a e) (steps_in a xs)) else Went st)) g
-    ∙ ap (λ (b : Bool). if b then then_go (steps_in a xs st') (while_true (n - (i + 1)) (value_in a e) (steps_in a xs)) else Went st') b
+    ∙ ap (λ (r : Given ℤ). (r ▷ λ v st. if is_true v then then_go (steps_in a xs st) (while_true (n - (i + 1)) (value_in a e) (steps_in a xs)) else Value Normal st)) g
+    ∙ ap (λ (b : Bool). if b then then_go (steps_in a xs st') (while_true (n - (i + 1)) (value_in a e) (steps_in a xs)) else Value Normal st') b
     ∙ ap (λ (r : Course). then_go r (while_true (n - (i + 1)) (value_in a e) (steps_in a xs))) q
 
 pub ruleset whiles = (while_over, while_stays, while_ends, while_left, while_came, while_halts, while_goes)
 
-pub repeat_over : (a : Around) (xs : List TypedStmt) (e : TypedExpr) (n i : ℕ) (st : Meant) → n ≤ i → repeat_in a xs e (n - i) st ≡ Unfinished st.out
+pub repeat_over : (a : Around) (xs : List TypedStmt) (e : TypedExpr) (n i : ℕ) (st : Meant) → n ≤ i → repeat_in a xs e (n - i) st ≡ StillRunning st.out
 unfolding repeat_in
 repeat_over a xs e n i st h = ap (λ (k : ℕ). repeat_in a xs e k st) (none_left n i h)
 
-pub repeat_left : (a : Around) (xs : List TypedStmt) (e : TypedExpr) (n i : ℕ) (st st' : Meant) → i < n → steps_in a xs st ≡ Left st' → repeat_in a xs e (n - i) st ≡ Left st'
+pub repeat_left : (a : Around) (xs : List TypedStmt) (e : TypedExpr) (n i : ℕ) (st st' : Meant) → i < n → steps_in a xs st ≡ Value Exited st' → repeat_in a xs e (n - i) st ≡ Value Exited st'
 unfolding repeat_in
 repeat_left a xs e n i st st' h q = ap (λ (k : ℕ). repeat_in a xs e k st) (less n i h)
-    ∙ ap (λ (r : Course). then_go r (λ st. with_answer (value_in a e st) (λ v st. if is_true v then Went st else until_true (n - (i + 1)) (steps_in a xs) (value_in a e) st))) q
+    ∙ ap (λ (r : Course). then_go r (λ st. value_in a e st ▷ λ v st. if is_true v then Value Normal st else until_true (n - (i + 1)) (steps_in a xs) (value_in a e) st)) q
 
-pub repeat_came : (a : Around) (xs : List TypedStmt) (e : TypedExpr) (n i : ℕ) (w : ℤ) (st st' : Meant) → i < n → steps_in a xs st ≡ Came w st' → repeat_in a xs e (n - i) st ≡ Came w st'
+pub repeat_came : (a : Around) (xs : List TypedStmt) (e : TypedExpr) (n i : ℕ) (w : ℤ) (st st' : Meant) → i < n → steps_in a xs st ≡ Value (Returned w) st' → repeat_in a xs e (n - i) st ≡ Value (Returned w) st'
 unfolding repeat_in
 repeat_came a xs e n i w st st' h q = ap (λ (k : ℕ). repeat_in a xs e k st) (less n i h)
-    ∙ ap (λ (r : Course). then_go r (λ st. with_answer (value_in a e st) (λ v st. if is_true v then Went st else until_true (n - (i + 1)) (steps_in a xs) (value_in a e) st))) q
+    ∙ ap (λ (r : Course). then_go r (λ st. value_in a e st ▷ λ v st. if is_true v then Value Normal st else until_true (n - (i + 1)) (steps_in a xs) (value_in a e) st)) q
 
 pub repeat_halts : (a : Around) (xs : List TypedStmt) (e : TypedExpr) (n i : ℕ) (s : Stop) (st : Meant) (st' : State) → i < n → steps_in a xs st ≡ halts s st' → repeat_in a xs e (n - i) st ≡ halts s st'
 unfolding repeat_in
 repeat_halts a xs e n i s st st' h q = ap (λ (k : ℕ). repeat_in a xs e k st) (less n i h)
-    ∙ halts_on (steps_in a xs st) s st' (λ st. with_answer (value_in a e st) (λ v st. if is_true v then Went st else until_true (n - (i + 1)) (steps_in a xs) (value_in a e) st)) q
+    ∙ halts_on (steps_in a xs st) s st' (λ st. value_in a e st ▷ λ v st. if is_true v then Value Normal st else until_true (n - (i + 1)) (steps_in a xs) (value_in a e) st) q
 
-pub repeat_stays : (a : Around) (xs : List TypedStmt) (e : TypedExpr) (n i : ℕ) (s : Stop) (st st' : Meant) (st2 : State) → i < n → steps_in a xs st ≡ Went st' → value_in a e st' ≡ stopped s st2 → repeat_in a xs e (n - i) st ≡ halts s st2
+pub repeat_stays : (a : Around) (xs : List TypedStmt) (e : TypedExpr) (n i : ℕ) (s : Stop) (st st' : Meant) (st2 : State) → i < n → steps_in a xs st ≡ Value Normal st' → value_in a e st' ≡ stopped s st2 → repeat_in a xs e (n - i) st ≡ halts s st2
 unfolding repeat_in
 repeat_stays a xs e n i s st st' st2 h q g = ap (λ (k : ℕ). repeat_in a xs e k st) (less n i h)
-    ∙ ap (λ (r : Course). then_go r (λ st. with_answer (value_in a e st) (λ v st. if is_true v then Went st else until_true (n - (i + 1)) (steps_in a xs) (value_in a e) st))) q
-    ∙ with_stays (value_in a e st') s st2 (λ v st. if is_true v then Went st else until_true (n - (i + 1)) (steps_in a xs) (value_in a e) st) g
+    ∙ ap (λ (r : Course). then_go r (λ st. value_in a e st ▷ λ v st. if is_true v then Value Normal st else until_true (n - (i + 1)) (steps_in a xs) (value_in a e) st)) q
+    ∙ with_stays (value_in a e st') s st2 (λ v st. if is_true v then Value Normal st else until_true (n - (i + 1)) (steps_in a xs) (value_in a e) st) g
 
-pub repeat_ends : (a : Around) (xs : List TypedStmt) (e : TypedExpr) (n i : ℕ) (v : ℤ) (st st' st2 : Meant) → i < n → steps_in a xs st ≡ Went st' → value_in a e st' ≡ Gave v st2 → is_true v ≡ true → repeat_in a xs e (n - i) st ≡ Went st2
+pub repeat_ends : (a : Around) (xs : List TypedStmt) (e : TypedExpr) (n i : ℕ) (v : ℤ) (st st' st2 : Meant) → i < n → steps_in a xs st ≡ Value Normal st' → value_in a e st' ≡ Value v st2 → is_true v ≡ true → repeat_in a xs e (n - i) st ≡ Value Normal st2
 unfolding repeat_in
 repeat_ends a xs e n i v st st' st2 h q g b = ap (λ (k : ℕ). repeat_in a xs e k st) (less n i h)
-    ∙ ap (λ (r : Course). then_go r (λ st. with_answer (value_in a e st) (λ v st. if is_true v then Went st else until_true (n - (i + 1)) (steps_in a xs) (value_in a e) st))) q
-    ∙ ap (λ (r : Given ℤ). with_answer r (λ v st. if is_true v then Went st else until_true (n - (i + 1)) (steps_in a xs) (value_in a e) st)) g
-    ∙ ap (λ (b : Bool). if b then Went st2 else until_true (n - (i + 1)) (steps_in a xs) (value_in a e) st2) b
+    ∙ ap (λ (r : Course). then_go r (λ st. value_in a e st ▷ λ v st. if is_true v then Value Normal st else until_true (n - (i + 1)) (steps_in a xs) (value_in a e) st)) q
+    ∙ ap (λ (r : Given ℤ). (r ▷ λ v st. if is_true v then Value Normal st else until_true (n - (i + 1)) (steps_in a xs) (value_in a e) st)) g
+    ∙ ap (λ (b : Bool). if b then Value Normal st2 else until_true (n - (i + 1)) (steps_in a xs) (value_in a e) st2) b
 
-pub repeat_goes : (a : Around) (xs : List TypedStmt) (e : TypedExpr) (n i : ℕ) (v : ℤ) (st st' st2 : Meant) → i < n → steps_in a xs st ≡ Went st' → value_in a e st' ≡ Gave v st2 → is_true v ≡ false → repeat_in a xs e (n - i) st ≡ repeat_in a xs e (n - (i + 1)) st2
+pub repeat_goes : (a : Around) (xs : List TypedStmt) (e : TypedExpr) (n i : ℕ) (v : ℤ) (st st' st2 : Meant) → i < n → steps_in a xs st ≡ Value Normal st' → value_in a e st' ≡ Value v st2 → is_true v ≡ false → repeat_in a xs e (n - i) st ≡ repeat_in a xs e (n - (i + 1)) st2
 unfolding repeat_in
 repeat_goes a xs e n i v st st' st2 h q g b = ap (λ (k : ℕ). repeat_in a xs e k st) (less n i h)
-    ∙ ap (λ (r : Course). then_go r (λ st. with_answer (value_in a e st) (λ v st. if is_true v then Went st else until_true (n - (i + 1)) (steps_in a xs) (value_in a e) st))) q
-    ∙ ap (λ (r : Given ℤ). with_answer r (λ v st. if is_true v then Went st else until_true (n - (i + 1)) (steps_in a xs) (value_in a e) st)) g
-    ∙ ap (λ (b : Bool). if b then Went st2 else until_true (n - (i + 1)) (steps_in a xs) (value_in a e) st2) b
+    ∙ ap (λ (r : Course). then_go r (λ st. value_in a e st ▷ λ v st. if is_true v then Value Normal st else until_true (n - (i + 1)) (steps_in a xs) (value_in a e) st)) q
+    ∙ ap (λ (r : Given ℤ). (r ▷ λ v st. if is_true v then Value Normal st else until_true (n - (i + 1)) (steps_in a xs) (value_in a e) st)) g
+    ∙ ap (λ (b : Bool). if b then Value Normal st2 else until_true (n - (i + 1)) (steps_in a xs) (value_in a e) st2) b
 
 pub ruleset repeats = (repeat_over, repeat_left, repeat_came, repeat_halts, repeat_stays, repeat_ends, repeat_goes)
 
-pub loop_over : (a : Around) (xs : List TypedStmt) (n i : ℕ) (st : Meant) → n ≤ i → loop_in a xs (n - i) st ≡ Unfinished st.out
+pub loop_over : (a : Around) (xs : List TypedStmt) (n i : ℕ) (st : Meant) → n ≤ i → loop_in a xs (n - i) st ≡ StillRunning st.out
 unfolding loop_in
 loop_over a xs n i st h = ap (λ (k : ℕ). loop_in a xs k st) (none_left n i h)
 
-pub loop_leaves : (a : Around) (xs : List TypedStmt) (n i : ℕ) (st st' : Meant) → i < n → steps_in a xs st ≡ Left st' → loop_in a xs (n - i) st ≡ Went st'
+pub loop_leaves : (a : Around) (xs : List TypedStmt) (n i : ℕ) (st st' : Meant) → i < n → steps_in a xs st ≡ Value Exited st' → loop_in a xs (n - i) st ≡ Value Normal st'
 unfolding loop_in
 loop_leaves a xs n i st st' h q = ap (λ (k : ℕ). loop_in a xs k st) (less n i h)
     ∙ ap (λ (r : Course). loop_left r (looped (n - (i + 1)) (steps_in a xs))) q
 
-pub loop_came : (a : Around) (xs : List TypedStmt) (n i : ℕ) (w : ℤ) (st st' : Meant) → i < n → steps_in a xs st ≡ Came w st' → loop_in a xs (n - i) st ≡ Came w st'
+pub loop_came : (a : Around) (xs : List TypedStmt) (n i : ℕ) (w : ℤ) (st st' : Meant) → i < n → steps_in a xs st ≡ Value (Returned w) st' → loop_in a xs (n - i) st ≡ Value (Returned w) st'
 unfolding loop_in
 loop_came a xs n i w st st' h q = ap (λ (k : ℕ). loop_in a xs k st) (less n i h)
     ∙ ap (λ (r : Course). loop_left r (looped (n - (i + 1)) (steps_in a xs))) q
 
 leaves_on : (r : Course) (s : Stop) (st : State) (next : Meant → Course) → r ≡ halts s st → loop_left r next ≡ halts s st
 leaves_on r (stop.Ended k) st next h = ap (λ (x : Course). loop_left x next) h
-leaves_on r stop.Running st next h = ap (λ (x : Course). loop_left x next) h
+leaves_on r stop.StillRunning st next h = ap (λ (x : Course). loop_left x next) h
 
 pub loop_halts : (a : Around) (xs : List TypedStmt) (n i : ℕ) (s : Stop) (st : Meant) (st' : State) → i < n → steps_in a xs st ≡ halts s st' → loop_in a xs (n - i) st ≡ halts s st'
 unfolding loop_in
 loop_halts a xs n i s st st' h q = ap (λ (k : ℕ). loop_in a xs k st) (less n i h)
     ∙ leaves_on (steps_in a xs st) s st' (looped (n - (i + 1)) (steps_in a xs)) q
 
-pub loop_goes : (a : Around) (xs : List TypedStmt) (n i : ℕ) (st st' : Meant) → i < n → steps_in a xs st ≡ Went st' → loop_in a xs (n - i) st ≡ loop_in a xs (n - (i + 1)) st'
+pub loop_goes : (a : Around) (xs : List TypedStmt) (n i : ℕ) (st st' : Meant) → i < n → steps_in a xs st ≡ Value Normal st' → loop_in a xs (n - i) st ≡ loop_in a xs (n - (i + 1)) st'
 unfolding loop_in
 loop_goes a xs n i st st' h q = ap (λ (k : ℕ). loop_in a xs k st) (less n i h)
     ∙ ap (λ (r : Course). loop_left r (looped (n - (i + 1)) (steps_in a xs))) q
 
 pub ruleset loops = (loop_over, loop_leaves, loop_came, loop_halts, loop_goes)
 
-pub for_over_turns : (a : Around) (t : TypeNo) (by : ℤ) (xs : List TypedStmt) (l : Location) (last : ℤ) (n i : ℕ) (st : Meant) → n ≤ i → for_in a t by xs l last (n - i) st ≡ Unfinished st.out
+pub for_over_turns : (a : Around) (t : TypeNo) (by : ℤ) (xs : List TypedStmt) (l : Location) (last : ℤ) (n i : ℕ) (st : Meant) → n ≤ i → for_in a t by xs l last (n - i) st ≡ StillRunning st.out
 unfolding for_in
 for_over_turns a t by xs l last n i st h = ap (λ (k : ℕ). for_in a t by xs l last k st) (none_left n i h)
 
-pub for_left : (a : Around) (t : TypeNo) (by : ℤ) (xs : List TypedStmt) (l : Location) (last : ℤ) (n i : ℕ) (st st' : Meant) → i < n → steps_in a xs st ≡ Left st' → for_in a t by xs l last (n - i) st ≡ Left st'
+pub for_left : (a : Around) (t : TypeNo) (by : ℤ) (xs : List TypedStmt) (l : Location) (last : ℤ) (n i : ℕ) (st st' : Meant) → i < n → steps_in a xs st ≡ Value Exited st' → for_in a t by xs l last (n - i) st ≡ Value Exited st'
 unfolding for_in
 for_left a t by xs l last n i st st' h q = ap (λ (k : ℕ). for_in a t by xs l last k st) (less n i h)
-    ∙ ap (λ (r : Course). then_go r (λ st. if has_passed by last (st.store l +ℤ by) then Went st else with_answer (as_type (surroundings a).types t (st.store l +ℤ by) st) (λ v st. for_turns (n - (i + 1)) (as_type (surroundings a).types t) l by last (steps_in a xs) (stored l v st)))) q
+    ∙ ap (λ (r : Course). then_go r (λ st. if has_passed by last (st.store l +ℤ by) then Value Normal st else (as_type (surroundings a).types t (st.store l +ℤ by) st ▷ λ v st. for_turns (n - (i + 1)) (as_type (surroundings a).types t) l by last (steps_in a xs) (stored l v st)))) q
 
-pub for_came : (a : Around) (t : TypeNo) (by : ℤ) (xs : List TypedStmt) (l : Location) (last : ℤ) (n i : ℕ) (w : ℤ) (st st' : Meant) → i < n → steps_in a xs st ≡ Came w st' → for_in a t by xs l last (n - i) st ≡ Came w st'
+pub for_came : (a : Around) (t : TypeNo) (by : ℤ) (xs : List TypedStmt) (l : Location) (last : ℤ) (n i : ℕ) (w : ℤ) (st st' : Meant) → i < n → steps_in a xs st ≡ Value (Returned w) st' → for_in a t by xs l last (n - i) st ≡ Value (Returned w) st'
 unfolding for_in
 for_came a t by xs l last n i w st st' h q = ap (λ (k : ℕ). for_in a t by xs l last k st) (less n i h)
-    ∙ ap (λ (r : Course). then_go r (λ st. if has_passed by last (st.store l +ℤ by) then Went st else with_answer (as_type (surroundings a).types t (st.store l +ℤ by) st) (λ v st. for_turns (n - (i + 1)) (as_type (surroundings a).types t) l by last (steps_in a xs) (stored l v st)))) q
+    ∙ ap (λ (r : Course). then_go r (λ st. if has_passed by last (st.store l +ℤ by) then Value Normal st else (as_type (surroundings a).types t (st.store l +ℤ by) st ▷ λ v st. for_turns (n - (i + 1)) (as_type (surroundings a).types t) l by last (steps_in a xs) (stored l v st)))) q
 
 pub for_halts : (a : Around) (t : TypeNo) (by : ℤ) (xs : List TypedStmt) (l : Location) (last : ℤ) (n i : ℕ) (s : Stop) (st : Meant) (st' : State) → i < n → steps_in a xs st ≡ halts s st' → for_in a t by xs l last (n - i) st ≡ halts s st'
 unfolding for_in
 for_halts a t by xs l last n i s st st' h q = ap (λ (k : ℕ). for_in a t by xs l last k st) (less n i h)
-    ∙ halts_on (steps_in a xs st) s st' (λ st. if has_passed by last (st.store l +ℤ by) then Went st else with_answer (as_type (surroundings a).types t (st.store l +ℤ by) st) (λ v st. for_turns (n - (i + 1)) (as_type (surroundings a).types t) l by last (steps_in a xs) (stored l v st))) q
+    ∙ halts_on (steps_in a xs st) s st' (λ st. if has_passed by last (st.store l +ℤ by) then Value Normal st else (as_type (surroundings a).types t (st.store l +ℤ by) st ▷ λ v st. for_turns (n - (i + 1)) (as_type (surroundings a).types t) l by last (steps_in a xs) (stored l v st))) q
 
 abbrev turn : Types → TypeNo → (by : ℤ) → (l : Location) → (last : ℤ) → (m : ℕ) → (Meant → Course) → Bool → Meant → Course
-turn types t by l last m body true st = Went st
+turn types t by l last m body true st = Value Normal st
 turn types t by l last m body false st = for_turns m (as_type types t) l by last body st
 
 turn_one : (types : Types) (t : TypeNo) (by : ℤ) (l : Location) (last : ℤ) (m : ℕ) (body : Meant → Course) (s : Given ℤ)
-    → with_answer s (λ v st. for_turns m (as_type types t) l by last body (stored l v st)) ≡ with_answer (then_give s (λ v st. Gave false (stored l v st))) (turn types t by l last m body)
-turn_one types t by l last m body (Gave v st) = refl
+    → (s ▷ (λ v st. for_turns m (as_type types t) l by last body (stored l v st))) ≡ ((s ▷ λ v st. Value false (stored l v st)) ▷ (turn types t by l last m body))
+turn_one types t by l last m body (Value v st) = refl
 turn_one types t by l last m body (Ended n out) = refl
-turn_one types t by l last m body (Running out) = refl
+turn_one types t by l last m body (StillRunning out) = refl
 
 turn_if : (b : Bool) (types : Types) (t : TypeNo) (by : ℤ) (l : Location) (last : ℤ) (m : ℕ) (body : Meant → Course) (s : Given ℤ) (st : Meant)
-    → (if b then Went st else with_answer s (λ v st. for_turns m (as_type types t) l by last body (stored l v st))) ≡ with_answer (if b then Gave true st else then_give s (λ v st. Gave false (stored l v st))) (turn types t by l last m body)
+    → (if b then Value Normal st else (s ▷ λ v st. for_turns m (as_type types t) l by last body (stored l v st))) ≡ ((if b then Value true st else (s ▷ λ v st. Value false (stored l v st))) ▷ (turn types t by l last m body))
 turn_if true types t by l last m body s st = refl
 turn_if false types t by l last m body s st = turn_one types t by l last m body s
 
 turn_is : (types : Types) (t : TypeNo) (by : ℤ) (l : Location) (last : ℤ) (m : ℕ) (body : Meant → Course) (st : Meant)
-    → (if has_passed by last (st.store l +ℤ by) then Went st else with_answer (as_type types t (st.store l +ℤ by) st) (λ v st. for_turns m (as_type types t) l by last body (stored l v st))) ≡ with_answer (stepped types t l by last st) (turn types t by l last m body)
+    → (if has_passed by last (st.store l +ℤ by) then Value Normal st else (as_type types t (st.store l +ℤ by) st ▷ λ v st. for_turns m (as_type types t) l by last body (stored l v st))) ≡ (stepped types t l by last st ▷ (turn types t by l last m body))
 unfolding stepped
 turn_is types t by l last m body st = turn_if (has_passed by last (st.store l +ℤ by)) types t by l last m body (as_type types t (st.store l +ℤ by) st) st
 
-pub for_ends : (a : Around) (t : TypeNo) (by : ℤ) (xs : List TypedStmt) (l : Location) (last : ℤ) (n i : ℕ) (st st' st2 : Meant) → i < n → steps_in a xs st ≡ Went st' → stepped (surroundings a).types t l by last st' ≡ Gave true st2 → for_in a t by xs l last (n - i) st ≡ Went st2
+pub for_ends : (a : Around) (t : TypeNo) (by : ℤ) (xs : List TypedStmt) (l : Location) (last : ℤ) (n i : ℕ) (st st' st2 : Meant) → i < n → steps_in a xs st ≡ Value Normal st' → stepped (surroundings a).types t l by last st' ≡ Value true st2 → for_in a t by xs l last (n - i) st ≡ Value Normal st2
 unfolding for_in
 for_ends a t by xs l last n i st st' st2 h q g = ap (λ (k : ℕ). for_in a t by xs l last k st) (less n i h)
-    ∙ ap (λ (r : Course). then_go r (λ st. if has_passed by last (st.store l +ℤ by) then Went st else with_answer (as_type (surroundings a).types t (st.store l +ℤ by) st) (λ v st. for_turns (n - (i + 1)) (as_type (surroundings a).types t) l by last (steps_in a xs) (stored l v st)))) q
+    ∙ ap (λ (r : Course). then_go r (λ st. if has_passed by last (st.store l +ℤ by) then Value Normal st else (as_type (surroundings a).types t (st.store l +ℤ by) st ▷ λ v st. for_turns (n - (i + 1)) (as_type (surroundings a).types t) l by last (steps_in a xs) (stored l v st)))) q
     ∙ turn_is (surroundings a).types t by l last (n - (i + 1)) (steps_in a xs) st'
-    ∙ ap (λ (r : Given Bool). with_answer r (turn (surroundings a).types t by l last (n - (i + 1)) (steps_in a xs))) g
+    ∙ ap (λ (r : Given Bool). (r ▷ (turn (surroundings a).types t by l last (n - (i + 1)) (steps_in a xs)))) g
 
-pub for_stays : (a : Around) (t : TypeNo) (by : ℤ) (xs : List TypedStmt) (l : Location) (last : ℤ) (n i : ℕ) (s : Stop) (st st' : Meant) (st2 : State) → i < n → steps_in a xs st ≡ Went st' → stepped (surroundings a).types t l by last st' ≡ stopped s st2 → for_in a t by xs l last (n - i) st ≡ halts s st2
+pub for_stays : (a : Around) (t : TypeNo) (by : ℤ) (xs : List TypedStmt) (l : Location) (last : ℤ) (n i : ℕ) (s : Stop) (st st' : Meant) (st2 : State) → i < n → steps_in a xs st ≡ Value Normal st' → stepped (surroundings a).types t l by last st' ≡ stopped s st2 → for_in a t by xs l last (n - i) st ≡ halts s st2
 unfolding for_in
 for_stays a t by xs l last n i s st st' st2 h q g = ap (λ (k : ℕ). for_in a t by xs l last k st) (less n i h)
-    ∙ ap (λ (r : Course). then_go r (λ st. if has_passed by last (st.store l +ℤ by) then Went st else with_answer (as_type (surroundings a).types t (st.store l +ℤ by) st) (λ v st. for_turns (n - (i + 1)) (as_type (surroundings a).types t) l by last (steps_in a xs) (stored l v st)))) q
+    ∙ ap (λ (r : Course). then_go r (λ st. if has_passed by last (st.store l +ℤ by) then Value Normal st else (as_type (surroundings a).types t (st.store l +ℤ by) st ▷ λ v st. for_turns (n - (i + 1)) (as_type (surroundings a).types t) l by last (steps_in a xs) (stored l v st)))) q
     ∙ turn_is (surroundings a).types t by l last (n - (i + 1)) (steps_in a xs) st'
     ∙ with_stays (stepped (surroundings a).types t l by last st') s st2 (turn (surroundings a).types t by l last (n - (i + 1)) (steps_in a xs)) g
 
-pub for_goes : (a : Around) (t : TypeNo) (by : ℤ) (xs : List TypedStmt) (l : Location) (last : ℤ) (n i : ℕ) (st st' st2 : Meant) → i < n → steps_in a xs st ≡ Went st' → stepped (surroundings a).types t l by last st' ≡ Gave false st2 → for_in a t by xs l last (n - i) st ≡ for_in a t by xs l last (n - (i + 1)) st2
+pub for_goes : (a : Around) (t : TypeNo) (by : ℤ) (xs : List TypedStmt) (l : Location) (last : ℤ) (n i : ℕ) (st st' st2 : Meant) → i < n → steps_in a xs st ≡ Value Normal st' → stepped (surroundings a).types t l by last st' ≡ Value false st2 → for_in a t by xs l last (n - i) st ≡ for_in a t by xs l last (n - (i + 1)) st2
 unfolding for_in
 for_goes a t by xs l last n i st st' st2 h q g = ap (λ (k : ℕ). for_in a t by xs l last k st) (less n i h)
-    ∙ ap (λ (r : Course). then_go r (λ st. if has_passed by last (st.store l +ℤ by) then Went st else with_answer (as_type (surroundings a).types t (st.store l +ℤ by) st) (λ v st. for_turns (n - (i + 1)) (as_type (surroundings a).types t) l by last (steps_in a xs) (stored l v st)))) q
+    ∙ ap (λ (r : Course). then_go r (λ st. if has_passed by last (st.store l +ℤ by) then Value Normal st else (as_type (surroundings a).types t (st.store l +ℤ by) st ▷ λ v st. for_turns (n - (i + 1)) (as_type (surroundings a).types t) l by last (steps_in a xs) (stored l v st)))) q
     ∙ turn_is (surroundings a).types t by l last (n - (i + 1)) (steps_in a xs) st'
-    ∙ ap (λ (r : Given Bool). with_answer r (turn (surroundings a).types t by l last (n - (i + 1)) (steps_in a xs))) g
+    ∙ ap (λ (r : Given Bool). (r ▷ (turn (surroundings a).types t by l last (n - (i + 1)) (steps_in a xs)))) g
 
 pub ruleset fors = (for_over_turns, for_left, for_came, for_halts, for_ends, for_stays, for_goes)

@@ -13,12 +13,12 @@ use Rattle.layout_storage.specs.Texts.{characters, module_texts}
 use Rattle.layout_storage.specs.Capped.{capped}
 use Rattle.layout_storage.specs.Layouts.{IsAnswer}
 use Rattle.def_meaning.specs.Store.{Store, fresh}
-use Rattle.def_meaning.specs.Answer.{State as Meant, Outcome as Course}
-use Rattle.def_meaning.specs.Answer.{Stopped, Unfinished}
-use Rattle.def_meaning.specs.Around.{Modules, Around as Setting, Named as Name}
+use Rattle.def_meaning.specs.Answer.{State as Meant, Ended, StillRunning, Value}
+use Rattle.def_meaning.specs.Outcome.{Outcome as Course}
+use Rattle.def_meaning.specs.Environment.{Modules, Environment as Setting, Named as Name}
 use Rattle.def_meaning.specs.Statements.{does, in_turn}
 use Rattle.def_meaning.specs.Calls.{body_does, calling}
-use Rattle.def_meaning.specs.Runs.{run, bodies, data_size, storage, body_frame, first_state, around_body, then_body}
+use Rattle.def_meaning.specs.Runs.{run, bodies, data_size, storage, body_frame, first_state, body_environment, then_body}
 use Rattle.plain_store.specs.declared.state.State.{State}
 use Rattle.plain_store.specs.declared.state.Stop.{Stop}
 use Rattle.plain_store.specs.declared.state.Stop.TheVariants as stop
@@ -81,9 +81,9 @@ all_fresh p b e = ap (λ (x : Blank). contents x.held) e ∙ whole_fresh p
 -- ---- bodies
 
 abbrev setting_of : ℕ → Types → List (List Name) → List (List ℕ) → ℕ → ℕ → Setting
-setting_of place types frames withs next left = record { place = place; types = types; frames = frames; withs = withs; next = next; left = left }
+setting_of place types frames withs next left = record { place = place; types = types; frames = frames; withs = withs; next = next; free = left }
 
-setting_is : (program : Program) (home : Prepared) (place left : ℕ) (a : Around) → IsBodyAround program home place left a → surroundings a ≡ around_body (modules_of program) place home.body.now left
+setting_is : (program : Program) (home : Prepared) (place left : ℕ) (a : Around) → IsBodyAround program home place left a → surroundings a ≡ body_environment (modules_of program) place home.body.now left
 unfolding surroundings modules_of
 setting_is program home place left a i =
     ap (λ (k : ℕ). setting_of (k) (a.home.body.now.types) (frames_of a.frames) (a.withs) (a.next) (a.left)) i.at
@@ -94,12 +94,12 @@ setting_is program home place left a i =
     ∙ ap (λ (k : ℕ). setting_of (place) (home.body.now.types) ([]) ([]) (suc (length (modules_in program.modules.now))) (k)) i.free
 
 steps_are : (program : Program) (home : Prepared) (place left : ℕ) (a : Around) → IsBodyAround program home place left a → (st : Meant)
-    → body_does (modules_of program) program.bound (calling (modules_of program) program.bound program.bound) home.body.now.body (around_body (modules_of program) place home.body.now left) st ≡ steps_in a home.body.now.body st
+    → body_does (modules_of program) program.bound (calling (modules_of program) program.bound program.bound) home.body.now.body (body_environment (modules_of program) place home.body.now left) st ≡ steps_in a home.body.now.body st
 unfolding steps_in asks_of
 steps_are program home place left a i st = sym (
     ap (λ (x : Setting). in_turn (map (does (modules_of a.program.now) (calling (modules_of a.program.now) a.program.now.bound a.depth) a.program.now.bound) home.body.now.body) x st) (setting_is program home place left a i)
-    ∙ ap (λ (p : Program). in_turn (map (does (modules_of p) (calling (modules_of p) p.bound a.depth) p.bound) home.body.now.body) (around_body (modules_of program) place home.body.now left) st) i.of
-    ∙ ap (λ (d : ℕ). in_turn (map (does (modules_of program) (calling (modules_of program) program.bound d) program.bound) home.body.now.body) (around_body (modules_of program) place home.body.now left) st) i.nests)
+    ∙ ap (λ (p : Program). in_turn (map (does (modules_of p) (calling (modules_of p) p.bound a.depth) p.bound) home.body.now.body) (body_environment (modules_of program) place home.body.now left) st) i.of
+    ∙ ap (λ (d : ℕ). in_turn (map (does (modules_of program) (calling (modules_of program) program.bound d) program.bound) home.body.now.body) (body_environment (modules_of program) place home.body.now left) st) i.nests)
 
 next_is : (place next : ℕ) → next ≡ place + 1 → next ≡ suc place
 next_is place next e = omega (arith, e)
@@ -122,7 +122,7 @@ begun_with program (y ∷ ys) home place next left a ss x st n h i e b g =
     ∙ sym (begun program home place left a (modules_in ys) st i)
     ∙ ap (λ (m : Prepared). bodies_in program left place (m.body.now ∷ modules_in ys) st) h
 
-pub no_bodies : (program : Program) (hs : List Prepared) (left place : ℕ) (st : Meant) → length hs < 1 → Stopped 0 st.out ≡ bodies_in program left place (modules_in hs) st
+pub no_bodies : (program : Program) (hs : List Prepared) (left place : ℕ) (st : Meant) → length hs < 1 → Ended 0 st.out ≡ bodies_in program left place (modules_in hs) st
 unfolding bodies_in
 no_bodies program [] left place st h = refl
 no_bodies program (x ∷ xs) left place st h = absurd (omega (arith, h))
@@ -141,18 +141,18 @@ module _ {E : Type 0} (program : Program) (hs : List Prepared) (home : Prepared)
   ended_by : (w : Outcome) → o ≡ w → then_body (ended w st1) rest ≡ bodies_in program left place (modules_in hs) st
   ended_by w q = ap (λ (y : Outcome). then_body (ended y st1) rest) (sym q) ∙ all_is
 
-  pub body_went : o ≡ outcome.Went → IfOk r (λ s. halted s st2 ≡ rest (seen st1)) → IfOk r (λ s. halted s st2 ≡ bodies_in program left place (modules_in hs) st)
-  body_went q k = goes r st2 (rest (seen st1)) _ k (ended_by outcome.Went q)
+  pub body_went : o ≡ outcome.Normal → IfOk r (λ s. halted s st2 ≡ rest (seen st1)) → IfOk r (λ s. halted s st2 ≡ bodies_in program left place (modules_in hs) st)
+  body_went q k = goes r st2 (rest (seen st1)) _ k (ended_by outcome.Normal q)
 
-  pub body_left : o ≡ outcome.Left → IfOk r (λ s. halted s st2 ≡ rest (seen st1)) → IfOk r (λ s. halted s st2 ≡ bodies_in program left place (modules_in hs) st)
-  body_left q k = goes r st2 (rest (seen st1)) _ k (ended_by outcome.Left q)
+  pub body_left : o ≡ outcome.Exited → IfOk r (λ s. halted s st2 ≡ rest (seen st1)) → IfOk r (λ s. halted s st2 ≡ bodies_in program left place (modules_in hs) st)
+  body_left q k = goes r st2 (rest (seen st1)) _ k (ended_by outcome.Exited q)
 
-  pub body_came : (v : ℤ) → o ≡ outcome.Came v → IfOk r (λ s. halted s st2 ≡ rest (seen st1)) → IfOk r (λ s. halted s st2 ≡ bodies_in program left place (modules_in hs) st)
-  body_came v q k = goes r st2 (rest (seen st1)) _ k (ended_by (outcome.Came v) q)
+  pub body_came : (v : ℤ) → o ≡ outcome.Returned v → IfOk r (λ s. halted s st2 ≡ rest (seen st1)) → IfOk r (λ s. halted s st2 ≡ bodies_in program left place (modules_in hs) st)
+  body_came v q k = goes r st2 (rest (seen st1)) _ k (ended_by (outcome.Returned v) q)
 
 stays : (s : Stop) (x : State) (rest : Meant → Course) → halted s x ≡ then_body (halted s x) rest
 stays (stop.Ended k) x rest = refl
-stays stop.Running x rest = refl
+stays stop.StillRunning x rest = refl
 
 pub body_stopped : (program : Program) (hs : List Prepared) (home : Prepared) (place next left : ℕ) (a : Around) (ss : List TypedStmt) (o : Outcome) (s : Stop) (st : Meant) (st1 : State) → 1 ≤ length hs → home ≡ get_or hs 0 home → IsBodyAround program home place left a → next ≡ place + 1 → ss ≡ home.body.now.body → ended o st1 ≡ steps_in a ss st → o ≡ outcome.Stopped s
     → halted s st1 ≡ bodies_in program left place (modules_in hs) st
@@ -172,5 +172,5 @@ run_is ms program pages left st st' x p l s o h out =
     ∙ ap (λ (k : ℕ). bodies (modules_in ms) program.bound k 0 (modules_in ms) (first_state (modules_in ms))) l
   where
     ends : (s : Stop) (out : List ℕ) (st : State) → out ≡ st.out → reported (record { end = s; out = out }) ≡ halted s st
-    ends (stop.Ended k) out st e = ap (λ (w : List ℕ). Stopped k w) e
-    ends stop.Running out st e = ap (λ (w : List ℕ). Unfinished w) e
+    ends (stop.Ended k) out st e = ap (λ (w : List ℕ). Ended k w) e
+    ends stop.StillRunning out st e = ap (λ (w : List ℕ). StillRunning w) e

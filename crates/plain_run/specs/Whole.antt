@@ -1,11 +1,10 @@
 -- The run of a program.
 use Rattle.std.specs.Prelude.{◌≡◌, ℕ, suc, List, [], length}
-use Rattle.def_meaning.specs.Answer.{Outcome as Course}
-use Rattle.def_meaning.specs.Answer.{State as Meant}
-use Rattle.def_meaning.specs.Around.{Modules}
+use Rattle.def_meaning.specs.Answer.{State as Meant, Ended, StillRunning}
+use Rattle.def_meaning.specs.Outcome.{Outcome as Course}
+use Rattle.def_meaning.specs.Environment.{Modules}
 use Rattle.def_meaning.specs.Runs.{bodies, data_size}
 use Rattle.plain_values.specs.Surroundings.{modules_of}
-use Rattle.def_meaning.specs.Answer.{Stopped, Unfinished}
 use Rattle.plain_store.specs.declared.state.Stop.{Stop}
 use Rattle.plain_store.specs.declared.state.Stop.TheVariants as stop
 use Rattle.plain_store.specs.declared.prepared.Prepared.{Prepared}
@@ -15,8 +14,8 @@ use Rattle.plain_run.specs.declared.whole.Report.{Report}
 
 -- a fault or the end, or the bound, with what has been printed
 abbrev pub answered_end : Stop → List ℕ → Course
-answered_end (stop.Ended k) out = Stopped k out
-answered_end stop.Running out = Unfinished out
+answered_end (stop.Ended k) out = Ended k out
+answered_end stop.StillRunning out = StillRunning out
 
 abbrev pub reported : Report → Course
 reported x = answered_end x.end x.out

@@ -9,9 +9,8 @@ ghost use Rattle.plain_values.specs.Surroundings.{modules_of, callee_of, sent, v
 ghost use Rattle.plain_steps.specs.Parts.{answered_sent, answered_all, pair_in, in_in, target_in, ends_in, asked_in, while_in, repeat_in, loop_in, for_in, for_begun, turns_in};
 
 use m2_rule::Fault;
-use m2_tree::Items;
 use plain_steps::callees::{module_callee, nested_callee, procedure_value, variable_callee};
-use plain_steps::entering::{Request, around_body, enter, rest_of, result};
+use plain_steps::entering::{Request, body_environment, enter, rest_of, result};
 use plain_steps::passing::{
     array_passed, in_front, loaded, number_passed, open_passed, text_passed, variable_passed,
 };
@@ -29,6 +28,7 @@ use plain_values::places::{
     component, element_at, module_place, open_element_at, root_location, slot_high, whole,
 };
 use plain_values::program::{Around, Callee, Passed, Program, under};
+use tree_parts::Items;
 use typed_tree::{Argument, Call, Component, Link, Place, TypeNo, TypedArm, TypedExpr, TypedStmt};
 
 /// The value of an expression.
@@ -44,13 +44,13 @@ pub fn value<'a>(
 {
     let room = deeper(room)?;
     match e {
-        TypedExpr::Constant(_, n) => Ok(Answer::Gave(*n)),
+        TypedExpr::Constant(_, n) => Ok(Answer::Value(*n)),
         TypedExpr::Load(_, d) => Ok(loaded(located(around, room, d, st)?, st)),
-        TypedExpr::Procedure(f) => Ok(Answer::Gave(procedure_value(around, f.home, f.number)?)),
+        TypedExpr::Procedure(f) => Ok(Answer::Value(procedure_value(around, f.home, f.number)?)),
         TypedExpr::Plus(_, a) => value(around, room, a.get(), st),
         TypedExpr::Negate(a) => negated(around, value(around, room, a.get(), st)?, st),
         TypedExpr::Chain(a, links) => match value(around, room, a.get(), st)? {
-            Answer::Gave(x) => links_value(around, room, links.as_slice(), x, st),
+            Answer::Value(x) => links_value(around, room, links.as_slice(), x, st),
             Answer::Stopped(stop) => Ok(Answer::Stopped(stop)),
         },
         TypedExpr::Compare(o, a, b) => {
@@ -84,7 +84,7 @@ fn function_value<'a>(
         TypedExpr::Odd(a) => Ok(odd(value(around, room, a.get(), st)?, st)),
         TypedExpr::Ord(a) => Ok(ordinal(value(around, room, a.get(), st)?, st)),
         TypedExpr::Val(t, a) => Ok(taken(around, *t, value(around, room, a.get(), st)?, st)),
-        TypedExpr::High(slot) => Ok(Answer::Gave(whole(slot_high(around, *slot))?)),
+        TypedExpr::High(slot) => Ok(Answer::Value(whole(slot_high(around, *slot))?)),
         TypedExpr::Call(_, call) => called(around, room, call.get(), st),
         _ => value(around, room, e, st),
     }
@@ -104,8 +104,8 @@ fn operands<'a>(
 {
     let room = deeper(room)?;
     match value(around, room, a, st)? {
-        Answer::Gave(first) => match value(around, room, b, st)? {
-            Answer::Gave(second) => Ok(Answer::Gave(Operands { first, second })),
+        Answer::Value(first) => match value(around, room, b, st)? {
+            Answer::Value(second) => Ok(Answer::Value(Operands { first, second })),
             Answer::Stopped(stop) => Ok(Answer::Stopped(stop)),
         },
         Answer::Stopped(stop) => Ok(Answer::Stopped(stop)),
@@ -126,8 +126,8 @@ fn in_value<'a>(
 {
     let room = deeper(room)?;
     match value(around, room, a, st)? {
-        Answer::Gave(x) => match within(0, 31, 1, x, st) {
-            Answer::Gave(x) => is_in(x, value(around, room, b, st)?, st),
+        Answer::Value(x) => match within(0, 31, 1, x, st) {
+            Answer::Value(x) => is_in(x, value(around, room, b, st)?, st),
             Answer::Stopped(stop) => Ok(Answer::Stopped(stop)),
         },
         Answer::Stopped(stop) => Ok(Answer::Stopped(stop)),
@@ -150,11 +150,11 @@ fn links_value<'a>(
     let mut x = first;
     for link in links {
         match link_value(around, room, link, x, st)? {
-            Answer::Gave(y) => x = y,
+            Answer::Value(y) => x = y,
             Answer::Stopped(stop) => return Ok(Answer::Stopped(stop)),
         }
     }
-    Ok(Answer::Gave(x))
+    Ok(Answer::Value(x))
 }
 
 /// What an operator makes of a value.
@@ -178,12 +178,12 @@ fn link_value<'a>(
             if is_true(x) {
                 value(around, room, b, st)
             } else {
-                Ok(Answer::Gave(truth(false)))
+                Ok(Answer::Value(truth(false)))
             }
         }
         Link::Or(b) => {
             if is_true(x) {
-                Ok(Answer::Gave(truth(true)))
+                Ok(Answer::Value(truth(true)))
             } else {
                 value(around, room, b, st)
             }
@@ -225,11 +225,11 @@ fn reached_all<'a>(
     let mut l = first;
     for component in components {
         match reached(around, room, component, l, st)? {
-            Answer::Gave(next) => l = next,
+            Answer::Value(next) => l = next,
             Answer::Stopped(stop) => return Ok(Answer::Stopped(stop)),
         }
     }
-    Ok(Answer::Gave(l))
+    Ok(Answer::Value(l))
 }
 
 /// What a field or an index makes of a location.
@@ -246,7 +246,7 @@ fn reached<'a>(
 {
     let room = deeper(room)?;
     match of {
-        Component::Field(_, k) => Ok(Answer::Gave(component(l, *k)?)),
+        Component::Field(_, k) => Ok(Answer::Value(component(l, *k)?)),
         Component::Element(t, i) => element_at(around, *t, l, value(around, room, i, st)?, st),
         Component::OpenElement(slot, _, i) => {
             open_element_at(around, *slot, l, value(around, room, i, st)?, st)
@@ -276,7 +276,7 @@ pub fn called<'a>(
             asked(around, room, callee, arguments.as_slice(), st)
         }
         Call::Variable(_, d, arguments) => match located(around, room, d, st)? {
-            Answer::Gave(l) => {
+            Answer::Value(l) => {
                 match variable_callee(around, load(l.as_slice(), st))? {
                     None => Ok(Answer::Stopped(Stop::Ended(Fault::NoProcedure.number()))),
                     Some(callee) => { asked(around, room, Some(callee), arguments.as_slice(), st) }
@@ -309,8 +309,8 @@ fn asked<'a>(
 {
     let room = deeper(room)?;
     match given_all(around, room, arguments, st)? {
-        Answer::Gave(passed) => match fewer(around.depth) {
-            None => Ok(Answer::Stopped(Stop::Running)),
+        Answer::Value(passed) => match fewer(around.depth) {
+            None => Ok(Answer::Stopped(Stop::StillRunning)),
             Some(depth) => match callee {
                 None => Ok(Answer::Stopped(Stop::Ended(Fault::NoProcedure.number()))),
                 Some(callee) => {
@@ -342,10 +342,10 @@ fn given_all<'a>(
 {
     let room = deeper(room)?;
     match arguments {
-        [] => Ok(Answer::Gave(Items::new(around.program.alloc))),
+        [] => Ok(Answer::Value(Items::new(around.program.alloc))),
         [x, rest @ ..] => match given(around, room, x, st)? {
-            Answer::Gave(v) => match given_all(around, room, rest, st)? {
-                Answer::Gave(vs) => Ok(Answer::Gave(in_front(around.program.alloc, v, vs)?)),
+            Answer::Value(v) => match given_all(around, room, rest, st)? {
+                Answer::Value(vs) => Ok(Answer::Value(in_front(around.program.alloc, v, vs)?)),
                 Answer::Stopped(stop) => Ok(Answer::Stopped(stop)),
             },
             Answer::Stopped(stop) => Ok(Answer::Stopped(stop)),
@@ -369,9 +369,9 @@ fn given<'a>(
         Argument::Value(t, e) => { Ok(number_passed(around, *t, value(around, room, e, st)?, st)) }
         Argument::Place(d) => Ok(variable_passed(located(around, room, d, st)?, st)),
         Argument::Array(t, d) => array_passed(around, *t, located(around, room, d, st)?, st),
-        Argument::Open(slot) => Ok(Answer::Gave(open_passed(around, *slot)?)),
+        Argument::Open(slot) => Ok(Answer::Value(open_passed(around, *slot)?)),
         Argument::Text(text) => {
-            Ok(Answer::Gave(text_passed(around.program.alloc, text.get().as_bytes())?))
+            Ok(Answer::Value(text_passed(around.program.alloc, text.get().as_bytes())?))
         }
     }
 }
@@ -404,7 +404,7 @@ fn body_run<'a>(
                 next,
                 left: _,
             } = request;
-            let inner = around_body(program, depth, callee, next, begins, rest)?;
+            let inner = body_environment(program, depth, callee, next, begins, rest)?;
             let o = steps(&inner, room, routine.body.as_slice(), st)?;
             Ok(result(&home, routine, o, st))
         }
@@ -425,13 +425,13 @@ pub fn steps<'a>(
     let room = deeper(room)?;
     for stmt in body {
         match step(around, room, stmt, st)? {
-            Outcome::Went => {}
-            Outcome::Left => return Ok(Outcome::Left),
-            Outcome::Came(v) => return Ok(Outcome::Came(v)),
+            Outcome::Normal => {}
+            Outcome::Exited => return Ok(Outcome::Exited),
+            Outcome::Returned(v) => return Ok(Outcome::Returned(v)),
             Outcome::Stopped(stop) => return Ok(Outcome::Stopped(stop)),
         }
     }
-    Ok(Outcome::Went)
+    Ok(Outcome::Normal)
 }
 
 /// A statement.
@@ -471,12 +471,12 @@ fn step<'a>(
         TypedStmt::While(e, body) => while_turns(around, room, e, body.as_slice(), st),
         TypedStmt::Repeat(body, e) => repeat_turns(around, room, body.as_slice(), e, st),
         TypedStmt::Loop(body) => loop_turns(around, room, body.as_slice(), st),
-        TypedStmt::Exit => Ok(Outcome::Left),
-        TypedStmt::Return => Ok(Outcome::Came(0)),
+        TypedStmt::Exit => Ok(Outcome::Exited),
+        TypedStmt::Return => Ok(Outcome::Returned(0)),
         TypedStmt::Give(t, e) => Ok(give(around, *t, value(around, room, e, st)?, st)),
         TypedStmt::For(d, t, start, limit, by, body) => {
             match turns(around, room, d, *t, start, limit, st)? {
-                Answer::Gave(of) => for_run(around, room, *t, by, body.as_slice(), &of, st),
+                Answer::Value(of) => for_run(around, room, *t, by, body.as_slice(), &of, st),
                 Answer::Stopped(stop) => Ok(Outcome::Stopped(stop)),
             }
         }
@@ -500,12 +500,12 @@ fn if_run<'a>(
 {
     let room = deeper(room)?;
     match value(around, room, e, st)? {
-        Answer::Gave(v) => {
+        Answer::Value(v) => {
             if is_true(v) {
                 return steps(around, room, body.as_slice(), st);
             }
             match others {
-                None => Ok(Outcome::Went),
+                None => Ok(Outcome::Normal),
                 Some(others) => steps(around, room, others.as_slice(), st),
             }
         }
@@ -529,7 +529,7 @@ fn case_run<'a>(
 {
     let room = deeper(room)?;
     match value(around, room, e, st)? {
-        Answer::Gave(v) => match chosen_arm(v, arms.as_slice()) {
+        Answer::Value(v) => match chosen_arm(v, arms.as_slice()) {
             Some(arm) => steps(around, room, arm.body.as_slice(), st),
             None => match others {
                 None => Ok(Outcome::Stopped(Stop::Ended(Fault::NoLabel.number()))),
@@ -555,7 +555,7 @@ fn with_run<'a>(
 {
     let room = deeper(room)?;
     match located(around, room, d, st)? {
-        Answer::Gave(l) => {
+        Answer::Value(l) => {
             let inner = under(around, l)?;
             steps(&inner, room, body.as_slice(), st)
         }
@@ -579,7 +579,7 @@ fn for_run<'a>(
 {
     let room = deeper(room)?;
     if begin_for(around, by, of, st)? {
-        return Ok(Outcome::Went);
+        return Ok(Outcome::Normal);
     }
     for_turns(around, room, t, by, body, of, st)
 }
@@ -598,8 +598,8 @@ fn target<'a>(
 {
     let room = deeper(room)?;
     match located(around, room, d, st)? {
-        Answer::Gave(l) => match value(around, room, e, st)? {
-            Answer::Gave(v) => Ok(Answer::Gave(Target { l, v })),
+        Answer::Value(l) => match value(around, room, e, st)? {
+            Answer::Value(v) => Ok(Answer::Value(Target { l, v })),
             Answer::Stopped(stop) => Ok(Answer::Stopped(stop)),
         },
         Answer::Stopped(stop) => Ok(Answer::Stopped(stop)),
@@ -620,8 +620,8 @@ fn ends<'a>(
 {
     let room = deeper(room)?;
     match located(around, room, to, st)? {
-        Answer::Gave(to) => match located(around, room, from, st)? {
-            Answer::Gave(from) => Ok(Answer::Gave(Ends { to, from })),
+        Answer::Value(to) => match located(around, room, from, st)? {
+            Answer::Value(from) => Ok(Answer::Value(Ends { to, from })),
             Answer::Stopped(stop) => Ok(Answer::Stopped(stop)),
         },
         Answer::Stopped(stop) => Ok(Answer::Stopped(stop)),
@@ -644,21 +644,21 @@ fn while_turns<'a>(
     let room = deeper(room)?;
     for _ in 0..around.program.bound {
         match value(around, room, e, st)? {
-            Answer::Gave(v) => {
+            Answer::Value(v) => {
                 if !is_true(v) {
-                    return Ok(Outcome::Went);
+                    return Ok(Outcome::Normal);
                 }
             }
             Answer::Stopped(stop) => return Ok(Outcome::Stopped(stop)),
         }
         match steps(around, room, body, st)? {
-            Outcome::Went => {}
-            Outcome::Left => return Ok(Outcome::Left),
-            Outcome::Came(v) => return Ok(Outcome::Came(v)),
+            Outcome::Normal => {}
+            Outcome::Exited => return Ok(Outcome::Exited),
+            Outcome::Returned(v) => return Ok(Outcome::Returned(v)),
             Outcome::Stopped(stop) => return Ok(Outcome::Stopped(stop)),
         }
     }
-    Ok(Outcome::Stopped(Stop::Running))
+    Ok(Outcome::Stopped(Stop::StillRunning))
 }
 
 /// REPEAT: the condition is evaluated behind each turn.
@@ -677,21 +677,21 @@ fn repeat_turns<'a>(
     let room = deeper(room)?;
     for _ in 0..around.program.bound {
         match steps(around, room, body, st)? {
-            Outcome::Went => {}
-            Outcome::Left => return Ok(Outcome::Left),
-            Outcome::Came(v) => return Ok(Outcome::Came(v)),
+            Outcome::Normal => {}
+            Outcome::Exited => return Ok(Outcome::Exited),
+            Outcome::Returned(v) => return Ok(Outcome::Returned(v)),
             Outcome::Stopped(stop) => return Ok(Outcome::Stopped(stop)),
         }
         match value(around, room, e, st)? {
-            Answer::Gave(v) => {
+            Answer::Value(v) => {
                 if is_true(v) {
-                    return Ok(Outcome::Went);
+                    return Ok(Outcome::Normal);
                 }
             }
             Answer::Stopped(stop) => return Ok(Outcome::Stopped(stop)),
         }
     }
-    Ok(Outcome::Stopped(Stop::Running))
+    Ok(Outcome::Stopped(Stop::StillRunning))
 }
 
 /// LOOP: EXIT ends it.
@@ -709,13 +709,13 @@ fn loop_turns<'a>(
     let room = deeper(room)?;
     for _ in 0..around.program.bound {
         match steps(around, room, body, st)? {
-            Outcome::Went => {}
-            Outcome::Left => return Ok(Outcome::Went),
-            Outcome::Came(v) => return Ok(Outcome::Came(v)),
+            Outcome::Normal => {}
+            Outcome::Exited => return Ok(Outcome::Normal),
+            Outcome::Returned(v) => return Ok(Outcome::Returned(v)),
             Outcome::Stopped(stop) => return Ok(Outcome::Stopped(stop)),
         }
     }
-    Ok(Outcome::Stopped(Stop::Running))
+    Ok(Outcome::Stopped(Stop::StillRunning))
 }
 
 /// The control variable of a FOR, its start, and the limit, in this order.
@@ -735,9 +735,9 @@ fn turns<'a>(
 {
     let room = deeper(room)?;
     match located(around, room, d, st)? {
-        Answer::Gave(l) => match taken(around, t, value(around, room, start, st)?, st) {
-            Answer::Gave(v) => match value(around, room, limit, st)? {
-                Answer::Gave(last) => Ok(Answer::Gave(Turns { l, v, last })),
+        Answer::Value(l) => match taken(around, t, value(around, room, start, st)?, st) {
+            Answer::Value(v) => match value(around, room, limit, st)? {
+                Answer::Value(last) => Ok(Answer::Value(Turns { l, v, last })),
                 Answer::Stopped(stop) => Ok(Answer::Stopped(stop)),
             },
             Answer::Stopped(stop) => Ok(Answer::Stopped(stop)),
@@ -765,19 +765,19 @@ fn for_turns<'a>(
     let room = deeper(room)?;
     for _ in 0..around.program.bound {
         match steps(around, room, body, st)? {
-            Outcome::Went => {}
-            Outcome::Left => return Ok(Outcome::Left),
-            Outcome::Came(v) => return Ok(Outcome::Came(v)),
+            Outcome::Normal => {}
+            Outcome::Exited => return Ok(Outcome::Exited),
+            Outcome::Returned(v) => return Ok(Outcome::Returned(v)),
             Outcome::Stopped(stop) => return Ok(Outcome::Stopped(stop)),
         }
         match next_turn(around, t, by, of, st)? {
-            Answer::Gave(over) => {
+            Answer::Value(over) => {
                 if over {
-                    return Ok(Outcome::Went);
+                    return Ok(Outcome::Normal);
                 }
             }
             Answer::Stopped(stop) => return Ok(Outcome::Stopped(stop)),
         }
     }
-    Ok(Outcome::Stopped(Stop::Running))
+    Ok(Outcome::Stopped(Stop::StillRunning))
 }

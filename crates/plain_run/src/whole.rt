@@ -14,13 +14,13 @@ ghost use Rattle.plain_run.specs.Whole.{IsBodyAround, reported, data_of, bodies_
 
 use crate::runs::steps;
 use layout_storage::Layout;
-use m2_tree::Items;
 use plain_store::blanks::{Blank, Kept, known, plus, row, variables_blank};
 use plain_store::held::Held;
 use plain_store::prepared::Prepared;
 use plain_store::state::{Outcome, RunFault, State, Stop};
 use plain_values::program::{Around, Program};
 use std::alloc::Global;
+use tree_parts::Items;
 use typed_tree::TypedModule;
 
 /// How a run ends, and what it has printed.
@@ -183,9 +183,9 @@ fn bodies<'a>(
             let around = around_module(program, *home, place, left)?;
             let next = plus(place, 1)?;
             match steps(&around, nesting, home.body.body.as_slice(), st)? {
-                Outcome::Went => bodies(program, rest, next, left, nesting, st),
-                Outcome::Left => bodies(program, rest, next, left, nesting, st),
-                Outcome::Came(_) => bodies(program, rest, next, left, nesting, st),
+                Outcome::Normal => bodies(program, rest, next, left, nesting, st),
+                Outcome::Exited => bodies(program, rest, next, left, nesting, st),
+                Outcome::Returned(_) => bodies(program, rest, next, left, nesting, st),
                 Outcome::Stopped(stop) => Ok(stop),
             }
         }

@@ -5,20 +5,20 @@
 //! output), 2 for the command line, 3 where a file, memory or standard output failed, and 4 where it still runs at the bound.
 #![tactic(auto)]
 
-mod typed;
 mod words;
 
-use crate::typed::typed_program;
 use crate::words::{Asked, read_command_line};
 use anyhow::{Context, Result};
 use command_words::Words;
 use m2c::{Gate, Options, Outcome, SourceFile, build};
 use plain_run::{Report, Stop, run as run_program};
+use run_directory::end_word;
 use std::fmt::Display;
 use std::fs;
 use std::process::ExitCode;
 use std::rt::{Env, Files};
 use std::thread::Threads;
+use typed_program::typed_program;
 
 /// The status of an end by itself or by HALT.
 const ENDED: u8 = 0;
@@ -67,30 +67,15 @@ fn print_all<T: Display>(rt: &impl Print, refusals: &[T]) -> Result<()> {
     Ok(())
 }
 
-/// How m2run calls a fault.
-fn end_word(number: u32) -> &'static str {
-    match number {
-        1 => "range",
-        2 => "overflow",
-        3 => "index",
-        4 => "divisor",
-        5 => "case",
-        6 => "no return",
-        7 => "empty procedure",
-        8 => "storage",
-        _ => "unknown",
-    }
-}
-
 /// Prints what a run printed, reports a fault, and answers the status.
 fn write_report<R: Print + Eprint>(rt: &R, report: &Report) -> Result<u8> {
     rt.write_all(report.out.as_slice())
         .context("cannot write to standard output")?;
     match report.end {
-        Stop::Running => Ok(RUNNING),
+        Stop::StillRunning => Ok(RUNNING),
         Stop::Ended(0) | Stop::Ended(HALTED) => Ok(ENDED),
         Stop::Ended(number) => {
-            let word = end_word(number);
+            let word = end_word(u8::try_from(number).unwrap_or(0));
             let _ = eprintln!(rt; "fault {number}: {word}");
             Ok(OTHERWISE)
         }

@@ -6,8 +6,8 @@ use Rattle.std.specs.Option.{option_map}
 use Rattle.std.specs.List.{drop-map}
 use Rattle.typed_tree.specs.declared.typed_module.Routine.{Routine}
 use Rattle.typed_tree.specs.declared.typed_module.TypedModule.{TypedModule}
-use Rattle.def_meaning.specs.Around.{Modules, Entry, Body, Procedure, Frames, callee_with, procedure_in, nested_in, module_callee, entries, entries_from, entry_of, entry_callee}
-use Rattle.def_meaning.specs.Around.{Callee as Asked, Named as Name}
+use Rattle.def_meaning.specs.Environment.{Modules, Entry, Body, Procedure, Frames, callee_with, procedure_in, nested_in, module_callee, entries, entries_from, entry_of, entry_callee}
+use Rattle.def_meaning.specs.Environment.{Callee as Asked, Named as Name}
 use Rattle.plain_store.specs.declared.prepared.Prepared.{Prepared}
 use Rattle.plain_values.specs.declared.program.Program.{Program}
 use Rattle.plain_values.specs.declared.program.Around.{Around}

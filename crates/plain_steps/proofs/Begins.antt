@@ -7,8 +7,9 @@ use Rattle.typed_tree.specs.declared.known_types.Types.{Types}
 use Rattle.layout_storage.specs.Frames.{formals_of, frame}
 use Rattle.layout_storage.specs.Texts.{passed}
 use Rattle.def_meaning.specs.Store.{Location, Store, assigned, copied, placed, fresh}
-use Rattle.def_meaning.specs.Answer.{State as Meant, Answer as Given, Outcome as Course}
-use Rattle.def_meaning.specs.Around.{Named as Name, Passed as Sent, At, Elements, Number, Variable, Array, Text}
+use Rattle.def_meaning.specs.Answer.{State as Meant, Answer as Given}
+use Rattle.def_meaning.specs.Outcome.{Outcome as Course}
+use Rattle.def_meaning.specs.Environment.{Named as Name, Passed as Sent, At, Elements, Number, Variable, Array, Text}
 use Rattle.def_meaning.specs.Statements.{character, stored}
 use Rattle.def_meaning.specs.Calls.{Entered, variable_at, with_passed, with_all, variables_from, entered, result}
 use Rattle.plain_store.specs.declared.state.State.{State}
@@ -105,7 +106,7 @@ pub ruleset variables = (no_more, one_more)
 
 pub halts_too : (function : Bool) (s : Stop) (st : State) → result function (halted s st) ≡ stopped s st
 halts_too function (stop.Ended k) st = refl
-halts_too function stop.Running st = refl
+halts_too function stop.StillRunning st = refl
 
 pub ruleset results = (halts_too)
 

@@ -3,7 +3,7 @@ use Rattle.std.proofs.Common.{◌≡◌, ℕ, zero, suc, ◌+◌, ◌-◌, ◌<�
 use Rattle.std.specs.Prelude.{slice_get, nat_lt, if◌then◌else◌}
 use Rattle.typed_tree.specs.declared.typed_module.Routine.{Routine}
 use Rattle.typed_tree.specs.declared.typed_module.TypedModule.{TypedModule}
-use Rattle.def_meaning.specs.Around.{Entry, Body, Procedure, numbered_from, entries_from, entries_before}
+use Rattle.def_meaning.specs.Environment.{Entry, Body, Procedure, numbered_from, entries_from, entries_before}
 use Rattle.plain_steps.specs.declared.callees.Found.{Found}
 use Rattle.plain_steps.specs.Parts.{found_in, entries_at}
 

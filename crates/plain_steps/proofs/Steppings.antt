@@ -4,22 +4,21 @@ use Rattle.std.specs.Prelude.{◌+ℤ◌, if◌then◌else◌}
 use Rattle.typed_tree.specs.declared.types.TypeNo.{TypeNo}
 use Rattle.typed_tree.specs.declared.known_types.Types.{Types}
 use Rattle.def_meaning.specs.Store.{Location}
-use Rattle.def_meaning.specs.Answer.{State as Meant, Answer as Given}
-use Rattle.def_meaning.specs.Answer.{Gave, then_give}
+use Rattle.def_meaning.specs.Answer.{State as Meant, Answer as Given, Value, ◌▷◌}
 use Rattle.def_meaning.specs.Expressions.{as_type}
 use Rattle.def_meaning.specs.Statements.{stored, has_passed}
 use Rattle.plain_steps.specs.Parts.{stepped}
 
 abbrev later : Types → TypeNo → Location → Meant → ℤ → Given Bool
-later types t l st w = then_give (as_type types t w st) (λ v st. Gave false (stored l v st))
+later types t l st w = as_type types t w st ▷ λ v st. Value false (stored l v st)
 
-pub step_over : (types : Types) (t : TypeNo) (l : Location) (by last w : ℤ) (st : Meant) → w ≡ st.store l +ℤ by → has_passed by last w ≡ true → stepped types t l by last st ≡ Gave true st
+pub step_over : (types : Types) (t : TypeNo) (l : Location) (by last w : ℤ) (st : Meant) → w ≡ st.store l +ℤ by → has_passed by last w ≡ true → stepped types t l by last st ≡ Value true st
 unfolding stepped
-step_over types t l by last w st e h = ap (λ (k : ℤ). if has_passed by last k then Gave true st else later types t l st k) (sym e) ∙ ap (λ (b : Bool). if b then Gave true st else later types t l st w) h
+step_over types t l by last w st e h = ap (λ (k : ℤ). if has_passed by last k then Value true st else later types t l st k) (sym e) ∙ ap (λ (b : Bool). if b then Value true st else later types t l st w) h
 
-pub step_on : (types : Types) (t : TypeNo) (l : Location) (by last w : ℤ) (st : Meant) (r : Given Bool) → w ≡ st.store l +ℤ by → has_passed by last w ≡ false → r ≡ then_give (as_type types t w st) (λ v st. Gave false (stored l v st)) → r ≡ stepped types t l by last st
+pub step_on : (types : Types) (t : TypeNo) (l : Location) (by last w : ℤ) (st : Meant) (r : Given Bool) → w ≡ st.store l +ℤ by → has_passed by last w ≡ false → r ≡ (as_type types t w st ▷ (λ v st. Value false (stored l v st))) → r ≡ stepped types t l by last st
 unfolding stepped
 step_on types t l by last w st r e h g =
-    g ∙ sym (ap (λ (k : ℤ). if has_passed by last k then Gave true st else later types t l st k) (sym e) ∙ ap (λ (b : Bool). if b then Gave true st else later types t l st w) h)
+    g ∙ sym (ap (λ (k : ℤ). if has_passed by last k then Value true st else later types t l st k) (sym e) ∙ ap (λ (b : Bool). if b then Value true st else later types t l st w) h)
 
 pub ruleset steppings = (step_over, step_on)

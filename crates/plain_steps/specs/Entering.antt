@@ -1,7 +1,7 @@
 -- How calls begin, as the definition sees it.
 use Rattle.std.specs.Prelude.{◌≡◌, ℕ, List, [], ◌∷◌, ◌++◌, map, length}
 use Rattle.def_meaning.specs.Answer.{State as Meant}
-use Rattle.def_meaning.specs.Around.{Named as Name}
+use Rattle.def_meaning.specs.Environment.{Named as Name}
 use Rattle.def_meaning.specs.Calls.{Entered, variables_from}
 use Rattle.plain_values.specs.declared.program.Named.{Named}
 use Rattle.plain_values.specs.declared.program.Program.{Program}

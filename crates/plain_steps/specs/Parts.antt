@@ -10,11 +10,11 @@ use Rattle.typed_tree.specs.declared.computed.TypedExpr.{TypedExpr}
 use Rattle.typed_tree.specs.declared.statement.TypedStmt.{TypedStmt}
 use Rattle.typed_tree.specs.declared.statement.TypedArm.{TypedArm, out-TypedArm}
 use Rattle.def_meaning.specs.Store.{Location, placed}
-use Rattle.def_meaning.specs.Answer.{State as Meant, Answer as Given, Outcome as Course}
-use Rattle.def_meaning.specs.Answer.{Gave, Ended, Went, then_give, range_fault, empty_procedure}
+use Rattle.def_meaning.specs.Answer.{State as Meant, Answer as Given, Value, Ended, ◌▷◌, range_fault, empty_procedure}
+use Rattle.def_meaning.specs.Outcome.{Outcome as Course, Normal}
 use Rattle.def_meaning.specs.Operators.{truth, has}
-use Rattle.def_meaning.specs.Around.{Modules, Entry, Body, Procedure, module_callee}
-use Rattle.def_meaning.specs.Around.{Callee as Asked, Passed as Sent}
+use Rattle.def_meaning.specs.Environment.{Modules, Entry, Body, Procedure, module_callee}
+use Rattle.def_meaning.specs.Environment.{Callee as Asked, Passed as Sent}
 use Rattle.def_meaning.specs.Expressions.{within, as_type}
 use Rattle.def_meaning.specs.Statements.{in_turn, does, while_true, until_true, looped, for_turns, for_all, is_labelled, stored, has_passed, character}
 use Rattle.def_meaning.specs.Calls.{Entered as Begun}
@@ -34,40 +34,40 @@ use Rattle.plain_values.specs.Surroundings.{modules_of, asks_of, surroundings, s
 -- ---- arguments
 
 abbrev pub answered_sent : Answer Passed → State → Given Sent
-answered_sent (answer.Gave v) st = Gave (sent v) (seen st)
+answered_sent (answer.Value v) st = Value (sent v) (seen st)
 answered_sent (answer.Stopped s) st = stopped s st
 
 abbrev pub answered_all : Answer (List Passed) → State → Given (List Sent)
-answered_all (answer.Gave vs) st = Gave (map sent vs) (seen st)
+answered_all (answer.Value vs) st = Value (map sent vs) (seen st)
 answered_all (answer.Stopped s) st = stopped s st
 
 -- ---- two parts, one after the other
 
 unfoldable pub pair_in : Around → (first second : TypedExpr) → Meant → Given Operands
 pair_in a e e' st =
-    then_give (value_in a e st) (λ x st.
-    then_give (value_in a e' st) (λ y st. Gave (record { first = x; second = y }) st))
+    value_in a e st ▷ λ x st.
+    value_in a e' st ▷ λ y st. Value (record { first = x; second = y }) st
 
 unfoldable pub in_in : Around → (element set : TypedExpr) → Meant → Given ℤ
 in_in a e e' st =
-    then_give (value_in a e st) (λ x st.
-    then_give (within (pos 0) (pos 31) range_fault x st) (λ x st.
-    then_give (value_in a e' st) (λ s st. Gave (truth (has s x)) st)))
+    value_in a e st ▷ λ x st.
+    within (pos 0) (pos 31) range_fault x st ▷ λ x st.
+    value_in a e' st ▷ λ s st. Value (truth (has s x)) st
 
 unfoldable pub target_in : Around → Place → TypedExpr → Meant → Given Target
 target_in a d e st =
-    then_give (located_in a d st) (λ l st.
-    then_give (value_in a e st) (λ v st. Gave (record { l = l; v = v }) st))
+    located_in a d st ▷ λ l st.
+    value_in a e st ▷ λ v st. Value (record { l = l; v = v }) st
 
 unfoldable pub ends_in : Around → (to from : Place) → Meant → Given Ends
 ends_in a d d' st =
-    then_give (located_in a d st) (λ l st.
-    then_give (located_in a d' st) (λ l' st. Gave (record { to = l; from = l' }) st))
+    located_in a d st ▷ λ l st.
+    located_in a d' st ▷ λ l' st. Value (record { to = l; from = l' }) st
 
 unfoldable pub asked_in : Around → Option Asked → List Argument → Meant → Given ℤ
 asked_in a c xs st =
-    then_give (all_given_in a xs st) (λ vs st.
-    asks_of a c vs (surroundings a).next (surroundings a).left st)
+    all_given_in a xs st ▷ λ vs st.
+    asks_of a c vs (surroundings a).next (surroundings a).free st
 
 -- the empty procedure is a fault before the arguments
 abbrev pub asked_if_in : Around → Option Asked → List Argument → Meant → Given ℤ
@@ -88,10 +88,10 @@ loop_in a body n st = looped n (steps_in a body) st
 -- the control variable, its start, and the limit
 unfoldable pub turns_in : Around → Place → TypeNo → (start limit : TypedExpr) → Meant → Given Turns
 turns_in a d t start limit st =
-    then_give (located_in a d st) (λ l st.
-    then_give (value_in a start st) (λ v st.
-    then_give (as_type (surroundings a).types t v st) (λ v st.
-    then_give (value_in a limit st) (λ last st. Gave (record { l = l; v = v; last = last }) st))))
+    located_in a d st ▷ λ l st.
+    value_in a start st ▷ λ v st.
+    as_type (surroundings a).types t v st ▷ λ v st.
+    value_in a limit st ▷ λ last st. Value (record { l = l; v = v; last = last }) st
 
 unfoldable pub for_in : Around → TypeNo → (by : ℤ) → List TypedStmt → (l : Location) → (last : ℤ)
     → ℕ → Meant → Course
@@ -146,11 +146,11 @@ entries_at place (m ∷ ms) (suc j) =
 -- ---- pieces of statements
 
 unfoldable pub text_put : List ℕ → Location → Meant → Course
-text_put text l st = Went (record st { store = placed l (character text) st.store })
+text_put text l st = Value Normal (record st { store = placed l (character text) st.store })
 
 -- whether the turns of a FOR are over, after one of them
 unfoldable pub stepped : Types → TypeNo → Location → (by last : ℤ) → Meant → Given Bool
 stepped types t l by last st =
     if has_passed by last (st.store l +ℤ by)
-    then Gave true st
-    else then_give (as_type types t (st.store l +ℤ by) st) (λ v st. Gave false (stored l v st))
+    then Value true st
+    else (as_type types t (st.store l +ℤ by) st ▷ λ v st. Value false (stored l v st))

@@ -2,18 +2,18 @@
 
 ghost use Rattle.std.specs.Prelude.{◌≡◌, suc, pos, slice_get, IfOk, MatchOption};
 ghost use Rattle.std.specs.Option.{option_map};
-ghost use Rattle.def_meaning.specs.Around.{module_callee, nested_in, entries_before, entry_callee, entry_of, procedure_value};
+ghost use Rattle.def_meaning.specs.Environment.{module_callee, nested_in, entries_before, entry_callee, entry_of, procedure_value};
 ghost use Rattle.plain_values.specs.Surroundings.{modules_in, modules_of, surroundings, callee_of};
 ghost use Rattle.plain_steps.specs.Parts.{entries_at};
 ghost use Rattle.std.specs.Prelude.{drop};
 
-use m2_tree::Items;
 use plain_store::blanks::plus;
 use plain_store::prepared::Prepared;
 use plain_store::state::RunFault;
 use plain_values::places::{module_place, whole};
 use plain_values::program::{Around, Callee, Named, Program, copy_frames};
 use std::alloc::{AllocError, Global};
+use tree_parts::Items;
 
 /// The place of a module, and the number of a procedure among its own.
 #[derive(Clone, Copy)]

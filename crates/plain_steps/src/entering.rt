@@ -3,7 +3,7 @@
 ghost use Rattle.std.specs.Prelude.{◌≡◌, ◌∷◌, [], ◌++◌, suc, false, map, length, IfOk, OnOk, MatchOption};
 ghost use Rattle.layout_storage.specs.Frames.{formals_of};
 ghost use Rattle.layout_storage.specs.Texts.{passed};
-ghost use Rattle.def_meaning.specs.Around.{Elements, Number, Variable, Array, Text};
+ghost use Rattle.def_meaning.specs.Environment.{Elements, Number, Variable, Array, Text};
 ghost use Rattle.def_meaning.specs.Calls.{variable_at, with_passed, with_all, variables_from, entered, is_function, copies_size, copy_size, needed};
 ghost use Rattle.def_meaning.specs.Calls.{result as end_of};
 ghost use Rattle.plain_store.specs.Seen.{seen, answered, ended};
@@ -12,13 +12,13 @@ ghost use Rattle.plain_steps.specs.Entering.{begun_of, names_of, IsBodyOf};
 ghost use Rattle.plain_steps.specs.Asked.{need_of, IsTooSmall, HasRoom};
 
 use m2_rule::Fault;
-use m2_tree::Items;
 use plain_store::blanks::{formals_of, plus, times};
 use plain_store::prepared::Prepared;
 use plain_store::state::{Answer, Outcome, RunFault, State, Stop, copy_to, put_at, store, text_to};
 use plain_store::storage::{frame_held, frame_size, type_size};
 use plain_values::program::{Around, Callee, Named, Passed, Program};
 use std::alloc::{AllocError, Global};
+use tree_parts::Items;
 use typed_tree::{Formal, Routine, Shape, TypeNo, Types, made_of};
 
 /// How formals begin: their names, and the number of the next instance.
@@ -270,21 +270,21 @@ fn result_of(function: bool, o: Outcome) -> Answer<i64>
     ensures { (st : State) → answered result st ≡ end_of function (ended o st) }
 {
     match o {
-        Outcome::Went => {
+        Outcome::Normal => {
             if function {
                 Answer::Stopped(Stop::Ended(Fault::NoReturn.number()))
             } else {
-                Answer::Gave(0)
+                Answer::Value(0)
             }
         }
-        Outcome::Left => {
+        Outcome::Exited => {
             if function {
                 Answer::Stopped(Stop::Ended(Fault::NoReturn.number()))
             } else {
-                Answer::Gave(0)
+                Answer::Value(0)
             }
         }
-        Outcome::Came(v) => Answer::Gave(v),
+        Outcome::Returned(v) => Answer::Value(v),
         Outcome::Stopped(stop) => Answer::Stopped(stop),
     }
 }
@@ -456,7 +456,7 @@ fn innermost(
 
 /// What stands around the body of a call.
 #[tactic(auto, using(crate::proofs::Begins::frames_are))]
-pub fn around_body<'a>(
+pub fn body_environment<'a>(
     program: &'a Program<'a>,
     depth: usize,
     callee: Callee<'a>,

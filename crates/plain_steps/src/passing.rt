@@ -1,28 +1,28 @@
 //! Arguments that were evaluated.
 
 ghost use Rattle.std.specs.Prelude.{◌≡◌, ◌∷◌, map, IfOk};
-ghost use Rattle.def_meaning.specs.Answer.{Gave, then_give};
-ghost use Rattle.def_meaning.specs.Around.{Number, Variable, Array, Text, location_of, high_of, named};
+ghost use Rattle.def_meaning.specs.Answer.{Value, ◌▷◌};
+ghost use Rattle.def_meaning.specs.Environment.{Number, Variable, Array, Text, location_of, high_of, named};
 ghost use Rattle.def_meaning.specs.Expressions.{as_type, high_index};
 ghost use Rattle.plain_store.specs.Seen.{seen, answered};
 ghost use Rattle.plain_values.specs.Surroundings.{surroundings, sent};
 ghost use Rattle.plain_steps.specs.Parts.{answered_sent};
 
-use m2_tree::Items;
 use plain_store::state::{Answer, RunFault, State, load};
 use plain_values::checks::as_type;
 use plain_values::places::{high_index, slot_high, slot_location};
 use plain_values::program::{Around, Passed};
 use std::alloc::{AllocError, Global};
+use tree_parts::Items;
 use typed_tree::{Slot, TypeNo};
 
 /// The number at the location that is given.
 #[tactic(auto, using(plain_store::proofs::Threads::threads))]
 pub fn loaded(given: Answer<Items<usize>>, st: &State) -> Answer<i64>
-    ensures { answered result st.now ≡ then_give (answered given st.now) (λ l st. Gave (st.store l) st) }
+    ensures { answered result st.now ≡ (answered given st.now ▷ (λ l st. Value (st.store l) st)) }
 {
     match given {
-        Answer::Gave(l) => Answer::Gave(load(l.as_slice(), st)),
+        Answer::Value(l) => Answer::Value(load(l.as_slice(), st)),
         Answer::Stopped(stop) => Answer::Stopped(stop),
     }
 }
@@ -36,12 +36,11 @@ pub fn number_passed(
     st: &State,
 ) -> Answer<Passed>
     ensures { let types = (surroundings around.now).types in
-        answered_sent result st.now ≡ then_give (answered given st.now)
-        (λ v st. then_give (as_type types t v st) (λ v st. Gave (Number v) st)) }
+        answered_sent result st.now ≡ (answered given st.now ▷ (λ v st. as_type types t v st ▷ λ v st. Value (Number v) st)) }
 {
     match given {
-        Answer::Gave(v) => match as_type(around, t, v, st) {
-            Answer::Gave(v) => Answer::Gave(Passed::Number(v)),
+        Answer::Value(v) => match as_type(around, t, v, st) {
+            Answer::Value(v) => Answer::Value(Passed::Number(v)),
             Answer::Stopped(stop) => Answer::Stopped(stop),
         },
         Answer::Stopped(stop) => Answer::Stopped(stop),
@@ -52,10 +51,10 @@ pub fn number_passed(
 #[tactic(auto, using(plain_store::proofs::Threads::threads))]
 pub fn variable_passed(given: Answer<Items<usize>>, st: &State) -> Answer<Passed>
     ensures { answered_sent result st.now
-        ≡ then_give (answered given st.now) (λ l st. Gave (Variable l) st) }
+        ≡ (answered given st.now ▷ (λ l st. Value (Variable l) st)) }
 {
     match given {
-        Answer::Gave(l) => Answer::Gave(Passed::Variable(l)),
+        Answer::Value(l) => Answer::Value(Passed::Variable(l)),
         Answer::Stopped(stop) => Answer::Stopped(stop),
     }
 }
@@ -70,10 +69,10 @@ pub fn array_passed(
 ) -> Result<Answer<Passed>, RunFault>
     ensures { let high = high_index (surroundings around.now).types t in
         IfOk result (λ j. answered_sent j st.now
-        ≡ then_give (answered given st.now) (λ l st. Gave (Array l high) st)) }
+        ≡ (answered given st.now ▷ λ l st. Value (Array l high) st)) }
 {
     match given {
-        Answer::Gave(l) => Ok(Answer::Gave(Passed::Array(l, high_index(around, t)?))),
+        Answer::Value(l) => Ok(Answer::Value(Passed::Array(l, high_index(around, t)?))),
         Answer::Stopped(stop) => Ok(Answer::Stopped(stop)),
     }
 }

@@ -7,19 +7,20 @@ ghost use Rattle.typed_tree.specs.Types.{char};
 ghost use Rattle.typed_tree.specs.Known.{scalar_at};
 ghost use Rattle.typed_tree.specs.declared.statement.TypedArm.{out-TypedArm};
 ghost use Rattle.def_meaning.specs.Store.{copied};
-ghost use Rattle.def_meaning.specs.Answer.{Went, Came, Gave, then_give, with_answer, range_fault};
+ghost use Rattle.def_meaning.specs.Answer.{Value, ◌▷◌, range_fault};
+ghost use Rattle.def_meaning.specs.Outcome.{Normal, Returned};
 ghost use Rattle.def_meaning.specs.Expressions.{as_type, within};
 ghost use Rattle.def_meaning.specs.Statements.{stored, changed, rechecked, base_of, with_element, has_passed, is_labelled};
 ghost use Rattle.plain_store.specs.Seen.{seen, answered, ended, with_store, with_byte};
 ghost use Rattle.plain_values.specs.Surroundings.{surroundings};
 ghost use Rattle.plain_steps.specs.Parts.{first_arm, text_put, stepped};
 
-use m2_tree::Items;
 use plain_store::state::{Answer, Outcome, RunFault, State, copy_to, load, print, store, text_to};
 use plain_values::checks::{as_type, in_base, within};
 use plain_values::operators;
 use plain_values::operators::{difference, is_between, sum};
 use plain_values::program::Around;
+use tree_parts::Items;
 use typed_tree::{CHAR, Change, Label, Membership, Scalar, TypeNo, TypedArm, scalar_of};
 
 /// A location, and the value behind it.
@@ -53,14 +54,13 @@ pub fn assign(
     st: &mut State,
 ) -> Result<Outcome, RunFault>
     ensures { let types = (surroundings around.now).types in
-        IfOk result (λ o. ended o st.new ≡ with_answer (answered given st.old)
-        (λ x st. with_answer (as_type types t x.v st) (λ v st. Went (stored x.l v st)))) }
+        IfOk result (λ o. ended o st.new ≡ (answered given st.old ▷ λ x st. as_type types t x.v st ▷ λ v st. Value Normal (stored x.l v st))) }
 {
     match given {
-        Answer::Gave(x) => match as_type(around, t, x.v, st) {
-            Answer::Gave(v) => {
+        Answer::Value(x) => match as_type(around, t, x.v, st) {
+            Answer::Value(v) => {
                 store(around.program.alloc, x.l.as_slice(), v, st)?;
-                Ok(Outcome::Went)
+                Ok(Outcome::Normal)
             }
             Answer::Stopped(stop) => Ok(Outcome::Stopped(stop)),
         },
@@ -71,13 +71,12 @@ pub fn assign(
 /// Copies an array or a record.
 #[tactic(auto, using(plain_store::proofs::Threads::threads))]
 pub fn copy(around: &Around<'_>, given: Answer<Ends>, st: &mut State) -> Result<Outcome, RunFault>
-    ensures { IfOk result (λ o. ended o st.new ≡ with_answer (answered given st.old)
-        (λ x st. Went (with_store (copied x.to x.from st.store) st))) }
+    ensures { IfOk result (λ o. ended o st.new ≡ (answered given st.old ▷ λ x st. Value Normal (with_store (copied x.to x.from st.store) st))) }
 {
     match given {
-        Answer::Gave(x) => {
+        Answer::Value(x) => {
             copy_to(around.program.alloc, x.to.as_slice(), x.from.as_slice(), st)?;
-            Ok(Outcome::Went)
+            Ok(Outcome::Normal)
         }
         Answer::Stopped(stop) => Ok(Outcome::Stopped(stop)),
     }
@@ -91,13 +90,12 @@ pub fn copy_text(
     text: &[u8],
     st: &mut State,
 ) -> Result<Outcome, RunFault>
-    ensures { IfOk result (λ o. ended o st.new ≡ with_answer (answered given st.old)
-        (text_put text.now)) }
+    ensures { IfOk result (λ o. ended o st.new ≡ (answered given st.old ▷ (text_put text.now))) }
 {
     match given {
-        Answer::Gave(l) => {
+        Answer::Value(l) => {
             text_to(around.program.alloc, l.as_slice(), text, st)?;
-            Ok(Outcome::Went)
+            Ok(Outcome::Normal)
         }
         Answer::Stopped(stop) => Ok(Outcome::Stopped(stop)),
     }
@@ -106,10 +104,10 @@ pub fn copy_text(
 /// The end of a call as a statement.
 #[tactic(auto, using(plain_store::proofs::Threads::threads))]
 pub fn gone(given: Answer<i64>, st: &State) -> Outcome
-    ensures { ended result st.now ≡ with_answer (answered given st.now) (λ v st. Went st) }
+    ensures { ended result st.now ≡ (answered given st.now ▷ (λ v st. Value Normal st)) }
 {
     match given {
-        Answer::Gave(_) => Outcome::Went,
+        Answer::Value(_) => Outcome::Normal,
         Answer::Stopped(stop) => Outcome::Stopped(stop),
     }
 }
@@ -118,14 +116,13 @@ pub fn gone(given: Answer<i64>, st: &State) -> Outcome
 #[tactic(auto, using(plain_store::proofs::Threads::threads))]
 pub fn put(around: &Around<'_>, given: Answer<i64>, st: &mut State) -> Result<Outcome, RunFault>
     ensures { let types = (surroundings around.now).types in
-        IfOk result (λ o. ended o st.new ≡ with_answer (answered given st.old)
-        (λ v st. with_answer (as_type types char v st) (λ v st. Went (with_byte v st)))) }
+        IfOk result (λ o. ended o st.new ≡ (answered given st.old ▷ λ v st. as_type types char v st ▷ λ v st. Value Normal (with_byte v st))) }
 {
     match given {
-        Answer::Gave(v) => match as_type(around, CHAR, v, st) {
-            Answer::Gave(v) => {
+        Answer::Value(v) => match as_type(around, CHAR, v, st) {
+            Answer::Value(v) => {
                 print(v, st)?;
-                Ok(Outcome::Went)
+                Ok(Outcome::Normal)
             }
             Answer::Stopped(stop) => Ok(Outcome::Stopped(stop)),
         },
@@ -158,7 +155,7 @@ fn rechecked(around: &Around<'_>, t: TypeNo, v: i64, st: &State) -> Answer<i64>
 {
     let base = base_of(t, scalar_of(&around.home.body.types, t));
     match in_base(around, base, v, st) {
-        Answer::Gave(v) => as_type(around, t, v, st),
+        Answer::Value(v) => as_type(around, t, v, st),
         Answer::Stopped(stop) => Answer::Stopped(stop),
     }
 }
@@ -173,17 +170,15 @@ pub fn change(
     st: &mut State,
 ) -> Result<Outcome, RunFault>
     ensures { let types = (surroundings around.now).types in
-        IfOk result (λ o. ended o st.new ≡ with_answer (answered given st.old)
-        (λ x st. with_answer (rechecked types t (changed how (st.store x.l) x.v) st)
-        (λ v st. Went (stored x.l v st)))) }
+        IfOk result (λ o. ended o st.new ≡ (answered given st.old ▷ λ x st. rechecked types t (changed how (st.store x.l) x.v) st ▷ λ v st. Value Normal (stored x.l v st))) }
 {
     match given {
-        Answer::Gave(x) => {
+        Answer::Value(x) => {
             let v = changed(how, load(x.l.as_slice(), st), x.v)?;
             match rechecked(around, t, v, st) {
-                Answer::Gave(v) => {
+                Answer::Value(v) => {
                     store(around.program.alloc, x.l.as_slice(), v, st)?;
-                    Ok(Outcome::Went)
+                    Ok(Outcome::Normal)
                 }
                 Answer::Stopped(stop) => Ok(Outcome::Stopped(stop)),
             }
@@ -200,16 +195,14 @@ pub fn membership(
     given: Answer<Target>,
     st: &mut State,
 ) -> Result<Outcome, RunFault>
-    ensures { IfOk result (λ o. ended o st.new ≡ with_answer (answered given st.old)
-        (λ x st. with_answer (within (pos 0) (pos 31) range_fault x.v st)
-        (λ v st. Went (stored x.l (with_element how (st.store x.l) v) st)))) }
+    ensures { IfOk result (λ o. ended o st.new ≡ (answered given st.old ▷ λ x st. within (pos 0) (pos 31) range_fault x.v st ▷ λ v st. Value Normal (stored x.l (with_element how (st.store x.l) v) st))) }
 {
     match given {
-        Answer::Gave(x) => match within(0, 31, 1, x.v, st) {
-            Answer::Gave(v) => {
+        Answer::Value(x) => match within(0, 31, 1, x.v, st) {
+            Answer::Value(v) => {
                 let set = operators::with_element(how, load(x.l.as_slice(), st), v)?;
                 store(around.program.alloc, x.l.as_slice(), set, st)?;
-                Ok(Outcome::Went)
+                Ok(Outcome::Normal)
             }
             Answer::Stopped(stop) => Ok(Outcome::Stopped(stop)),
         },
@@ -221,12 +214,11 @@ pub fn membership(
 #[tactic(auto, using(plain_store::proofs::Threads::threads))]
 pub fn give(around: &Around<'_>, t: TypeNo, given: Answer<i64>, st: &State) -> Outcome
     ensures { let types = (surroundings around.now).types in
-        ended result st.now ≡ with_answer (answered given st.now)
-        (λ v st. with_answer (as_type types t v st) (λ v st. Came v st)) }
+        ended result st.now ≡ (answered given st.now ▷ (λ v st. as_type types t v st ▷ λ v st. Value (Returned v) st)) }
 {
     match given {
-        Answer::Gave(v) => match as_type(around, t, v, st) {
-            Answer::Gave(v) => Outcome::Came(v),
+        Answer::Value(v) => match as_type(around, t, v, st) {
+            Answer::Value(v) => Outcome::Returned(v),
             Answer::Stopped(stop) => Outcome::Stopped(stop),
         },
         Answer::Stopped(stop) => Outcome::Stopped(stop),
@@ -304,13 +296,12 @@ fn kept(
     st: &mut State,
 ) -> Result<Answer<bool>, RunFault>
     ensures { let types = (surroundings around.now).types in
-        IfOk result (λ j. answered j st.new ≡ then_give (as_type types t next.now (seen st.old))
-        (λ v st. Gave false (stored of.now.l v st))) }
+        IfOk result (λ j. answered j st.new ≡ (as_type types t next.now (seen st.old) ▷ λ v st. Value false (stored of.now.l v st))) }
 {
     match as_type(around, t, *next, st) {
-        Answer::Gave(v) => {
+        Answer::Value(v) => {
             keep(around, of, v, st)?;
-            Ok(Answer::Gave(false))
+            Ok(Answer::Value(false))
         }
         Answer::Stopped(stop) => Ok(Answer::Stopped(stop)),
     }
@@ -338,7 +329,7 @@ pub fn next_turn(
 {
     let next = stepped_on(of, by, st)?;
     if is_over(of, by, &next) {
-        return Ok(Answer::Gave(true));
+        return Ok(Answer::Value(true));
     }
     let over = kept(around, t, of, &next, st)?;
     Ok(over)

@@ -1,37 +1,37 @@
 -- What comes next, where a value is given and where there is none.
 use Rattle.std.proofs.Common.{◌≡◌, ℕ, refl, ap}
-use Rattle.def_meaning.specs.Answer.{State as Meant, Answer as Given, Outcome as Course}
-use Rattle.def_meaning.specs.Answer.{Gave, Ended, Running, then_give, Went, Left, Came, Stopped, Unfinished, then_go, with_answer}
+use Rattle.def_meaning.specs.Answer.{State as Meant, Answer as Given, Value, ◌▷◌, Ended, StillRunning}
+use Rattle.def_meaning.specs.Outcome.{Outcome as Course, Normal, Exited, Returned, then_go}
 use Rattle.plain_store.specs.declared.state.State.{State}
 use Rattle.plain_store.specs.declared.state.Stop.{Stop}
 use Rattle.plain_store.specs.declared.state.Stop.TheVariants as stop
 use Rattle.plain_store.specs.Seen.{seen, stopped, answered, halted, ended}
 
-pub gave : {A B : Type 0} (r : Given A) (v : A) (st : Meant) (next : A → Meant → Given B) → r ≡ Gave v st → then_give r next ≡ next v st
-gave r v st next h = ap (λ (x : Given _). then_give x next) h
+pub gave : {A B : Type 0} (r : Given A) (v : A) (st : Meant) (next : A → Meant → Given B) → r ≡ Value v st → (r ▷ next) ≡ next v st
+gave r v st next h = ap (λ (x : Given _). (x ▷ next)) h
 
-pub stays : {A B : Type 0} (r : Given A) (s : Stop) (st : State) (next : A → Meant → Given B) → r ≡ stopped s st → then_give r next ≡ stopped s st
-stays r (stop.Ended k) st next h = ap (λ (x : Given _). then_give x next) h
-stays r stop.Running st next h = ap (λ (x : Given _). then_give x next) h
+pub stays : {A B : Type 0} (r : Given A) (s : Stop) (st : State) (next : A → Meant → Given B) → r ≡ stopped s st → (r ▷ next) ≡ stopped s st
+stays r (stop.Ended k) st next h = ap (λ (x : Given _). (x ▷ next)) h
+stays r stop.StillRunning st next h = ap (λ (x : Given _). (x ▷ next)) h
 
-pub with_gave : {A : Type 0} (r : Given A) (v : A) (st : Meant) (next : A → Meant → Course) → r ≡ Gave v st → with_answer r next ≡ next v st
-with_gave r v st next h = ap (λ (x : Given _). with_answer x next) h
+pub with_gave : {A : Type 0} (r : Given A) (v : A) (st : Meant) (next : A → Meant → Course) → r ≡ Value v st → (r ▷ next) ≡ next v st
+with_gave r v st next h = ap (λ (x : Given _). (x ▷ next)) h
 
-pub with_stays : {A : Type 0} (r : Given A) (s : Stop) (st : State) (next : A → Meant → Course) → r ≡ stopped s st → with_answer r next ≡ halted s st
-with_stays r (stop.Ended k) st next h = ap (λ (x : Given _). with_answer x next) h
-with_stays r stop.Running st next h = ap (λ (x : Given _). with_answer x next) h
+pub with_stays : {A : Type 0} (r : Given A) (s : Stop) (st : State) (next : A → Meant → Course) → r ≡ stopped s st → (r ▷ next) ≡ halted s st
+with_stays r (stop.Ended k) st next h = ap (λ (x : Given _). (x ▷ next)) h
+with_stays r stop.StillRunning st next h = ap (λ (x : Given _). (x ▷ next)) h
 
-pub went : (r : Course) (st : Meant) (next : Meant → Course) → r ≡ Went st → then_go r next ≡ next st
+pub went : (r : Course) (st : Meant) (next : Meant → Course) → r ≡ Value Normal st → then_go r next ≡ next st
 went r st next h = ap (λ (x : Course). then_go x next) h
 
-pub left : (r : Course) (st : Meant) (next : Meant → Course) → r ≡ Left st → then_go r next ≡ Left st
+pub left : (r : Course) (st : Meant) (next : Meant → Course) → r ≡ Value Exited st → then_go r next ≡ Value Exited st
 left r st next h = ap (λ (x : Course). then_go x next) h
 
-pub came : (r : Course) (v : _) (st : Meant) (next : Meant → Course) → r ≡ Came v st → then_go r next ≡ Came v st
+pub came : (r : Course) (v : _) (st : Meant) (next : Meant → Course) → r ≡ Value (Returned v) st → then_go r next ≡ Value (Returned v) st
 came r v st next h = ap (λ (x : Course). then_go x next) h
 
 pub halts : (r : Course) (s : Stop) (st : State) (next : Meant → Course) → r ≡ halted s st → then_go r next ≡ halted s st
 halts r (stop.Ended k) st next h = ap (λ (x : Course). then_go x next) h
-halts r stop.Running st next h = ap (λ (x : Course). then_go x next) h
+halts r stop.StillRunning st next h = ap (λ (x : Course). then_go x next) h
 
 pub ruleset threads = (gave, stays, with_gave, with_stays, went, left, came, halts)

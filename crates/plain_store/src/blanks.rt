@@ -12,11 +12,11 @@ ghost use Rattle.plain_store.specs.Blanks.{cell, cell_blank, word_blank, hidden_
 use crate::copying::copy;
 use crate::held::Held;
 use crate::state::RunFault;
-use m2_tree::{Boxed, Items};
 use std::alloc::Global;
+use tree_parts::{Boxed, Items, Shared};
 use typed_tree::{
-    Dictionary, Formal, Home, Made, Routine, Scalar, Shape, Shared, TypeNo, Types, are_same,
-    is_integer, made_of, scalar_of,
+    Dictionary, Formal, Home, Made, Routine, Scalar, Shape, TypeNo, Types, are_same, is_integer,
+    made_of, scalar_of,
 };
 
 /// What a fresh variable of a type holds, and its size.

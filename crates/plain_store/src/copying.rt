@@ -4,8 +4,8 @@ ghost use Rattle.std.specs.Prelude.{◌≡◌, ◌++◌, ◌-◌, length, IfOk};
 ghost use Rattle.plain_store.specs.Contents.{repeated};
 
 use crate::held::Held;
-use m2_tree::{Boxed, Items};
 use std::alloc::{AllocError, Global};
+use tree_parts::{Boxed, Items};
 
 /// The same once more. The only error is that memory ran out.
 #[cycle(copy)]

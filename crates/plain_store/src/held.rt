@@ -5,7 +5,7 @@ ghost use Rattle.std.specs.Option.{option_copied};
 ghost use Rattle.def_meaning.specs.Store.{Location};
 ghost use Rattle.plain_store.specs.Contents.{contents, or_nought};
 
-use m2_tree::{Boxed, Items};
+use tree_parts::{Boxed, Items};
 
 /// What a variable holds, and each of its components.
 #[derive(Drop)]

@@ -6,9 +6,9 @@ ghost use Rattle.plain_store.specs.Contents.{contents, spread, with_component, o
 
 use crate::copying::{copy, filled};
 use crate::held::Held;
-use m2_tree::{Boxed, Items};
 use std::alloc::{AllocError, Global};
 use std::mem;
+use tree_parts::{Boxed, Items};
 
 /// The number of the whole, what its first components hold, and what each of the others holds.
 #[derive(Drop)]

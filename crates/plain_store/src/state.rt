@@ -9,10 +9,10 @@ ghost use Rattle.plain_store.specs.Seen.{seen, with_store, with_byte};
 
 use crate::held::{Held, read};
 use crate::variables;
-use m2_tree::Items;
 use std::alloc::{AllocError, Global};
 use std::mem;
 use thiserror::Error;
+use tree_parts::Items;
 
 /// Why a run has no answer.
 #[derive(Clone, Copy, Debug, PartialEq, Eq, Error)]
@@ -49,13 +49,13 @@ pub enum Stop {
     /// A fault with this number, or the end: 0, or 9 for HALT.
     Ended(u32),
     /// The bound was met.
-    Running,
+    StillRunning,
 }
 
 /// What an expression gives.
 #[derive(Drop)]
 pub enum Answer<T> {
-    Gave(T),
+    Value(T),
     Stopped(Stop),
 }
 
@@ -63,11 +63,11 @@ pub enum Answer<T> {
 #[derive(Clone, Copy, PartialEq, Eq)]
 pub enum Outcome {
     /// At their end.
-    Went,
+    Normal,
     /// By EXIT.
-    Left,
+    Exited,
     /// By RETURN with this value, or 0 without one.
-    Came(i64),
+    Returned(i64),
     Stopped(Stop),
 }
 

@@ -10,8 +10,8 @@ use crate::copying::copy;
 use crate::held::{Held, part_at};
 use crate::opened_tree::{closed, spread};
 use crate::replaced::replaced;
-use m2_tree::Items;
 use std::alloc::{AllocError, Global};
+use tree_parts::Items;
 
 /// The store after this was put at a location. The only error is that memory ran out.
 pub fn put(alloc: Global, store: Held, to: &[usize], new: Held) -> Result<Held, AllocError>

@@ -3,7 +3,7 @@ use Rattle.std.proofs.Common.{◌≡◌, ℕ, zero, suc, ◌+◌, ◌-◌, ◌<�
 use Rattle.std.specs.Prelude.{slice_get, cond, not, nat_lt}
 use Rattle.std.specs.Option.{option_map, unwrap_or}
 use Rattle.std.specs.List.{position, position_or_len}
-use Rattle.def_meaning.specs.Around.{Named as Name, or_empty}
+use Rattle.def_meaning.specs.Environment.{Named as Name, or_empty}
 use Rattle.plain_values.specs.declared.program.Named.{Named}
 use Rattle.plain_values.specs.Surroundings.{name_of, frames_of}
 

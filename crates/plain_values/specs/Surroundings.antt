@@ -9,9 +9,10 @@ use Rattle.typed_tree.specs.declared.computed.Place.{Place}
 use Rattle.typed_tree.specs.declared.computed.TypedExpr.{TypedExpr}
 use Rattle.typed_tree.specs.declared.statement.TypedStmt.{TypedStmt}
 use Rattle.def_meaning.specs.Store.{Location}
-use Rattle.def_meaning.specs.Answer.{State as Meant, Answer as Given, Outcome as Course}
-use Rattle.def_meaning.specs.Around.{Modules, Entry}
-use Rattle.def_meaning.specs.Around.{Around as Setting, Named as Name, Callee as Asked, Passed as Sent, At, Elements, Number, Variable, Array, Text}
+use Rattle.def_meaning.specs.Answer.{State as Meant, Answer as Given}
+use Rattle.def_meaning.specs.Outcome.{Outcome as Course}
+use Rattle.def_meaning.specs.Environment.{Modules, Entry}
+use Rattle.def_meaning.specs.Environment.{Environment as Setting, Named as Name, Callee as Asked, Passed as Sent, At, Elements, Number, Variable, Array, Text}
 use Rattle.def_meaning.specs.Expressions.{Asks, Gives, Reaches, Continues, one_by_one, all_given, argument_layer, call_layer, component_layer, link_layer, expr_layer, place_layer, value, locate, called}
 use Rattle.def_meaning.specs.Statements.{does, in_turn}
 use Rattle.def_meaning.specs.Calls.{calling}
@@ -46,7 +47,7 @@ surroundings a = record {
   frames = frames_of a.frames;
   withs = a.withs;
   next = a.next;
-  left = a.left;
+  free = a.left;
 }
 
 unfoldable pub asks_of : Around → Asks

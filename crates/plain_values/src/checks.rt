@@ -2,7 +2,7 @@
 
 ghost use Rattle.std.specs.Prelude.{◌≡◌, ◌-ℤ◌, pos, not, IfOk};
 ghost use Rattle.typed_tree.specs.Types.{integer};
-ghost use Rattle.def_meaning.specs.Answer.{Gave, then_give};
+ghost use Rattle.def_meaning.specs.Answer.{Value, ◌▷◌};
 ghost use Rattle.def_meaning.specs.Operators.{truth, is_true, absolute, capital, odd, compared, included, has, combined};
 ghost use Rattle.def_meaning.specs.Expressions.{within, within_range, as_type, in_base, operated, ordinal};
 ghost use Rattle.plain_store.specs.Seen.{seen, answered};
@@ -32,7 +32,7 @@ pub fn within(low: i64, high: i64, fault: u32, v: i64, st: &State) -> Answer<i64
     ensures { answered result st.now ≡ within low high fault v (seen st.now) }
 {
     if is_between(low, v, high) {
-        Answer::Gave(v)
+        Answer::Value(v)
     } else {
         Answer::Stopped(Stop::Ended(fault))
     }
@@ -42,7 +42,7 @@ fn within_range(range: Option<Scalar>, fault: u32, v: i64, st: &State) -> Answer
     ensures { answered result st.now ≡ within_range range fault v (seen st.now) }
 {
     match range {
-        None => Answer::Gave(v),
+        None => Answer::Value(v),
         Some(s) => within(s.low, s.high, fault, v, st),
     }
 }
@@ -81,14 +81,14 @@ pub fn operated(
         Arithmetic::Multiply => Ok(in_base(around, t, product(x, y)?, st)),
         Arithmetic::Divide => {
             if is_true(y) {
-                Ok(Answer::Gave(quotient(x, y)?))
+                Ok(Answer::Value(quotient(x, y)?))
             } else {
                 Ok(Answer::Stopped(Stop::Ended(Fault::Divisor.number())))
             }
         }
         Arithmetic::Remainder => {
             if is_true(y) {
-                Ok(Answer::Gave(remainder(x, y)?))
+                Ok(Answer::Value(remainder(x, y)?))
             } else {
                 Ok(Answer::Stopped(Stop::Ended(Fault::Divisor.number())))
             }
@@ -108,10 +108,10 @@ pub fn operated_with(
 ) -> Result<Answer<i64>, RunFault>
     ensures { let types = (surroundings around.now).types in
         IfOk result (λ j. answered j st.now
-        ≡ then_give (answered given st.now) (operated_on types o t x)) }
+        ≡ (answered given st.now ▷ (operated_on types o t x))) }
 {
     match given {
-        Answer::Gave(y) => operated(around, o, t, x, y, st),
+        Answer::Value(y) => operated(around, o, t, x, y, st),
         Answer::Stopped(stop) => Ok(Answer::Stopped(stop)),
     }
 }
@@ -125,10 +125,10 @@ pub fn combined_with(
     st: &State,
 ) -> Result<Answer<i64>, RunFault>
     ensures { IfOk result (λ j. answered j st.now
-        ≡ then_give (answered given st.now) (λ y st. Gave (combined o x y) st)) }
+        ≡ (answered given st.now ▷ λ y st. Value (combined o x y) st)) }
 {
     match given {
-        Answer::Gave(y) => Ok(Answer::Gave(operators::combined(o, x, y)?)),
+        Answer::Value(y) => Ok(Answer::Value(operators::combined(o, x, y)?)),
         Answer::Stopped(stop) => Ok(Answer::Stopped(stop)),
     }
 }
@@ -138,10 +138,10 @@ pub fn combined_with(
 pub fn negated(around: &Around<'_>, given: Answer<i64>, st: &State) -> Result<Answer<i64>, RunFault>
     ensures { let types = (surroundings around.now).types in
         IfOk result (λ j. answered j st.now
-        ≡ then_give (answered given st.now) (λ v st. in_base types integer (pos 0 -ℤ v) st)) }
+        ≡ (answered given st.now ▷ λ v st. in_base types integer (pos 0 -ℤ v) st)) }
 {
     match given {
-        Answer::Gave(v) => Ok(in_base(around, INTEGER, difference(0, v)?, st)),
+        Answer::Value(v) => Ok(in_base(around, INTEGER, difference(0, v)?, st)),
         Answer::Stopped(stop) => Ok(Answer::Stopped(stop)),
     }
 }
@@ -149,11 +149,10 @@ pub fn negated(around: &Around<'_>, given: Answer<i64>, st: &State) -> Result<An
 /// Whether a relation holds.
 #[tactic(auto, using(plain_store::proofs::Threads::threads))]
 pub fn compared(o: Comparison, given: Answer<Operands>, st: &State) -> Answer<i64>
-    ensures { answered result st.now ≡ then_give (answered given st.now)
-        (λ xy st. Gave (truth (compared o xy.first xy.second)) st) }
+    ensures { answered result st.now ≡ (answered given st.now ▷ (λ xy st. Value (truth (compared o xy.first xy.second)) st)) }
 {
     match given {
-        Answer::Gave(xy) => { Answer::Gave(truth(operators::compared(o, xy.first, xy.second))) }
+        Answer::Value(xy) => { Answer::Value(truth(operators::compared(o, xy.first, xy.second))) }
         Answer::Stopped(stop) => Answer::Stopped(stop),
     }
 }
@@ -161,11 +160,10 @@ pub fn compared(o: Comparison, given: Answer<Operands>, st: &State) -> Answer<i6
 /// Whether one set holds the other.
 #[tactic(auto, using(plain_store::proofs::Threads::threads))]
 pub fn included(o: Inclusion, given: Answer<Operands>, st: &State) -> Answer<i64>
-    ensures { answered result st.now ≡ then_give (answered given st.now)
-        (λ xy st. Gave (truth (included o xy.first xy.second)) st) }
+    ensures { answered result st.now ≡ (answered given st.now ▷ (λ xy st. Value (truth (included o xy.first xy.second)) st)) }
 {
     match given {
-        Answer::Gave(xy) => { Answer::Gave(truth(operators::included(o, xy.first, xy.second))) }
+        Answer::Value(xy) => { Answer::Value(truth(operators::included(o, xy.first, xy.second))) }
         Answer::Stopped(stop) => Answer::Stopped(stop),
     }
 }
@@ -174,10 +172,10 @@ pub fn included(o: Inclusion, given: Answer<Operands>, st: &State) -> Answer<i64
 #[tactic(auto, using(plain_store::proofs::Threads::threads))]
 pub fn denied(given: Answer<i64>, st: &State) -> Answer<i64>
     ensures { answered result st.now
-        ≡ then_give (answered given st.now) (λ v st. Gave (truth (not (is_true v))) st) }
+        ≡ (answered given st.now ▷ (λ v st. Value (truth (not (is_true v))) st)) }
 {
     match given {
-        Answer::Gave(v) => Answer::Gave(truth(!is_true(v))),
+        Answer::Value(v) => Answer::Value(truth(!is_true(v))),
         Answer::Stopped(stop) => Answer::Stopped(stop),
     }
 }
@@ -186,10 +184,10 @@ pub fn denied(given: Answer<i64>, st: &State) -> Answer<i64>
 #[tactic(auto, using(plain_store::proofs::Threads::threads))]
 pub fn is_in(x: i64, given: Answer<i64>, st: &State) -> Result<Answer<i64>, RunFault>
     ensures { IfOk result (λ j. answered j st.now
-        ≡ then_give (answered given st.now) (λ s st. Gave (truth (has s x)) st)) }
+        ≡ (answered given st.now ▷ λ s st. Value (truth (has s x)) st)) }
 {
     match given {
-        Answer::Gave(s) => Ok(Answer::Gave(truth(operators::has(s, x)?))),
+        Answer::Value(s) => Ok(Answer::Value(truth(operators::has(s, x)?))),
         Answer::Stopped(stop) => Ok(Answer::Stopped(stop)),
     }
 }
@@ -204,10 +202,10 @@ pub fn distance(
 ) -> Result<Answer<i64>, RunFault>
     ensures { let types = (surroundings around.now).types in
         IfOk result (λ j. answered j st.now
-        ≡ then_give (answered given st.now) (λ v st. in_base types t (absolute v) st)) }
+        ≡ (answered given st.now ▷ λ v st. in_base types t (absolute v) st)) }
 {
     match given {
-        Answer::Gave(v) => Ok(in_base(around, t, operators::absolute(v)?, st)),
+        Answer::Value(v) => Ok(in_base(around, t, operators::absolute(v)?, st)),
         Answer::Stopped(stop) => Ok(Answer::Stopped(stop)),
     }
 }
@@ -216,10 +214,10 @@ pub fn distance(
 #[tactic(auto, using(plain_store::proofs::Threads::threads))]
 pub fn capital(given: Answer<i64>, st: &State) -> Result<Answer<i64>, RunFault>
     ensures { IfOk result (λ j. answered j st.now
-        ≡ then_give (answered given st.now) (λ v st. Gave (capital v) st)) }
+        ≡ (answered given st.now ▷ λ v st. Value (capital v) st)) }
 {
     match given {
-        Answer::Gave(v) => Ok(Answer::Gave(operators::capital(v)?)),
+        Answer::Value(v) => Ok(Answer::Value(operators::capital(v)?)),
         Answer::Stopped(stop) => Ok(Answer::Stopped(stop)),
     }
 }
@@ -228,10 +226,10 @@ pub fn capital(given: Answer<i64>, st: &State) -> Result<Answer<i64>, RunFault>
 #[tactic(auto, using(plain_store::proofs::Threads::threads))]
 pub fn character(given: Answer<i64>, st: &State) -> Answer<i64>
     ensures { answered result st.now
-        ≡ then_give (answered given st.now) (λ v st. within (pos 0) (pos 255) 1 v st) }
+        ≡ (answered given st.now ▷ (λ v st. within (pos 0) (pos 255) 1 v st)) }
 {
     match given {
-        Answer::Gave(v) => within(0, 255, 1, v, st),
+        Answer::Value(v) => within(0, 255, 1, v, st),
         Answer::Stopped(stop) => Answer::Stopped(stop),
     }
 }
@@ -240,10 +238,10 @@ pub fn character(given: Answer<i64>, st: &State) -> Answer<i64>
 #[tactic(auto, using(plain_store::proofs::Threads::threads))]
 pub fn odd(given: Answer<i64>, st: &State) -> Answer<i64>
     ensures { answered result st.now
-        ≡ then_give (answered given st.now) (λ v st. Gave (truth (odd v)) st) }
+        ≡ (answered given st.now ▷ (λ v st. Value (truth (odd v)) st)) }
 {
     match given {
-        Answer::Gave(v) => Answer::Gave(truth(is_odd(v))),
+        Answer::Value(v) => Answer::Value(truth(is_odd(v))),
         Answer::Stopped(stop) => Answer::Stopped(stop),
     }
 }
@@ -251,14 +249,14 @@ pub fn odd(given: Answer<i64>, st: &State) -> Answer<i64>
 /// ORD.
 #[tactic(auto, using(plain_store::proofs::Threads::threads))]
 pub fn ordinal(given: Answer<i64>, st: &State) -> Answer<i64>
-    ensures { answered result st.now ≡ then_give (answered given st.now) ordinal }
+    ensures { answered result st.now ≡ (answered given st.now ▷ ordinal) }
 {
     match given {
-        Answer::Gave(v) => {
+        Answer::Value(v) => {
             if v < 0 {
                 Answer::Stopped(Stop::Ended(Fault::OutOfRange.number()))
             } else {
-                Answer::Gave(v)
+                Answer::Value(v)
             }
         }
         Answer::Stopped(stop) => Answer::Stopped(stop),
@@ -269,10 +267,10 @@ pub fn ordinal(given: Answer<i64>, st: &State) -> Answer<i64>
 #[tactic(auto, using(plain_store::proofs::Threads::threads))]
 pub fn taken(around: &Around<'_>, t: TypeNo, given: Answer<i64>, st: &State) -> Answer<i64>
     ensures { let types = (surroundings around.now).types in
-        answered result st.now ≡ then_give (answered given st.now) (as_type types t) }
+        answered result st.now ≡ (answered given st.now ▷ (as_type types t)) }
 {
     match given {
-        Answer::Gave(v) => as_type(around, t, v, st),
+        Answer::Value(v) => as_type(around, t, v, st),
         Answer::Stopped(stop) => Answer::Stopped(stop),
     }
 }

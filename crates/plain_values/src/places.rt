@@ -4,8 +4,8 @@ ghost use Rattle.std.specs.Prelude.{◌≡◌, ◌≤◌, ◌==◌, ◌∷◌, �
 ghost use Rattle.std.specs.List.{position_or_len};
 ghost use Rattle.std.specs.Option.{option_copied, option_map};
 ghost use Rattle.layout_storage.specs.Shapes.{elements_of};
-ghost use Rattle.def_meaning.specs.Answer.{then_give};
-ghost use Rattle.def_meaning.specs.Around.{named, location_of, high_of, or_root, module_place};
+ghost use Rattle.def_meaning.specs.Answer.{◌▷◌};
+ghost use Rattle.def_meaning.specs.Environment.{named, location_of, high_of, or_root, module_place};
 ghost use Rattle.def_meaning.specs.Expressions.{element, element_in, index_made, index_range, high_index, root_layer};
 ghost use Rattle.plain_store.specs.Seen.{seen, answered};
 ghost use Rattle.plain_values.specs.Surroundings.{surroundings, modules_in, modules_of, asks_of, name_of};
@@ -13,10 +13,10 @@ ghost use Rattle.plain_values.specs.Surroundings.{surroundings, modules_in, modu
 use crate::operators::{difference, is_between};
 use crate::program::{Around, Named};
 use m2_rule::Fault;
-use m2_tree::Items;
 use plain_store::prepared::Prepared;
 use plain_store::state::{Answer, RunFault, State, Stop};
 use std::alloc::{AllocError, Global};
+use tree_parts::Items;
 use typed_tree::{Made, Root, Scalar, Shape, Slot, TypeNo, Types, made_of, scalar_of};
 
 /// What a slot stands for.
@@ -165,7 +165,7 @@ fn element(
     ensures { IfOk result (λ j. answered j st.now ≡ element l low high i (seen st.now)) }
 {
     if is_between(low, i, high) {
-        Ok(Answer::Gave(component(l, distance(low, i)?)?))
+        Ok(Answer::Value(component(l, distance(low, i)?)?))
     } else {
         Ok(Answer::Stopped(Stop::Ended(Fault::Index.number())))
     }
@@ -238,10 +238,10 @@ pub fn element_at(
 ) -> Result<Answer<Items<usize>>, RunFault>
     ensures { let range = index_range (surroundings around.now).types t in
         IfOk result (λ j. answered j st.now
-        ≡ then_give (answered given st.now) (λ v st. element_in l range v st)) }
+        ≡ (answered given st.now ▷ λ v st. element_in l range v st)) }
 {
     match given {
-        Answer::Gave(i) => element_in(l, index_range(&around.home.body.types, t), i, st),
+        Answer::Value(i) => element_in(l, index_range(&around.home.body.types, t), i, st),
         Answer::Stopped(stop) => Ok(Answer::Stopped(stop)),
     }
 }
@@ -257,10 +257,10 @@ pub fn open_element_at(
 ) -> Result<Answer<Items<usize>>, RunFault>
     ensures { let high = high_of (named (surroundings around.now) slot) in
         IfOk result (λ j. answered j st.now
-        ≡ then_give (answered given st.now) (λ v st. element l (pos 0) (pos high) v st)) }
+        ≡ (answered given st.now ▷ λ v st. element l (pos 0) (pos high) v st)) }
 {
     match given {
-        Answer::Gave(i) => element(l, 0, whole(slot_high(around, slot))?, i, st),
+        Answer::Value(i) => element(l, 0, whole(slot_high(around, slot))?, i, st),
         Answer::Stopped(stop) => Ok(Answer::Stopped(stop)),
     }
 }

@@ -3,10 +3,10 @@
 ghost use Rattle.std.specs.Prelude.{◌≡◌, ◌++◌, ◌∷◌, [], IfOk};
 ghost use Rattle.plain_values.specs.Surroundings.{IsUnder};
 
-use m2_tree::Items;
 use plain_store::prepared::Prepared;
 use plain_store::state::RunFault;
 use std::alloc::{AllocError, Global};
+use tree_parts::Items;
 use typed_tree::Routine;
 
 /// A program, and its bound.

@@ -11,5 +11,5 @@ mod say;
 pub use dir::InDir;
 pub use report::Report;
 pub use runner::execute;
-pub use say::say_all;
+pub use say::{end_word, say_all};
 pub use wasm_engine::Sink;

@@ -8,8 +8,8 @@ use Rattle.wasm_engine.specs.declared.engine.End.{End}
 use Rattle.wasm_engine.specs.declared.engine.End.TheVariants.{Done, Trap, StillRunning}
 use Rattle.wasm_engine.specs.Instances.{IsEnd}
 use Rattle.wasm_engine.proofs.Runs as engine
-use Rattle.def_meaning.specs.Answer.{Stopped}
-use Rattle.def_meaning.specs.Around.{Modules}
+use Rattle.def_meaning.specs.Answer.{Ended}
+use Rattle.def_meaning.specs.Environment.{Modules}
 use Rattle.def_meaning.specs.Runs.{run}
 use Rattle.law_simulation.specs.Behaves.{Behaves}
 use Rattle.run_directory.specs.Reported.{HasRun}
@@ -56,7 +56,7 @@ module _ (p : Modules) (pages : ℕ) (c : Config) (is : linked (modules_of p pag
   ended_as k steps bytes d over path =
       let o = b.only steps d bytes (subst IsOver (sym over) tt) path in
       let same : o.1 ≡ k = ap (number_at 0) (sym o.2 ∙ over) in
-      record { bound = o.0; is = o.3 ∙ ap (λ (n : ℕ). Stopped n bytes) same }
+      record { bound = o.0; is = o.3 ∙ ap (λ (n : ℕ). Ended n bytes) same }
 
   right_by : (end : End) (steps : ℕ) (bytes : List ℕ) (d : Config) → IsEnd end d → reductions (modules_of p pages) steps c ≡ (d, bytes) → IsBeginning p pages bytes → IsRight p pages end bytes
   right_by (Done k) steps bytes d over path begun = record {

@@ -7,8 +7,8 @@ use Rattle.wasm_tree.specs.declared.module.WModule.{WModule}
 use Rattle.wasm_tree.specs.Machine.{Over}
 use Rattle.wasm_engine.specs.declared.engine.End.{End}
 use Rattle.wasm_engine.specs.declared.engine.End.TheVariants.{Done, Trap}
-use Rattle.def_meaning.specs.Answer.{Stopped}
-use Rattle.def_meaning.specs.Around.{Modules}
+use Rattle.def_meaning.specs.Answer.{Ended}
+use Rattle.def_meaning.specs.Environment.{Modules}
 use Rattle.def_meaning.specs.Runs.{run}
 use Rattle.def_scheme.specs.Modules.{typed_module, typed_link}
 use Rattle.law_simulation.specs.Behaves.{printed}
@@ -29,7 +29,7 @@ pub record IsBeginning (p : Modules) (pages : ℕ) (bytes : List ℕ) : Type 0 w
 -- the program's run ends with this number, and it prints these bytes
 pub record EndsWith (p : Modules) (pages number : ℕ) (bytes : List ℕ) : Type 0 where
   pub bound : ℕ
-  pub is : run p pages bound ≡ Stopped number bytes
+  pub is : run p pages bound ≡ Ended number bytes
 
 -- What a run did that has printed these bytes is right: they are a beginning of what the program
 -- prints, the run did not trap, and if it has ended, the program's run ends with the same number

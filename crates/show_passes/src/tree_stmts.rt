@@ -1,9 +1,10 @@
 //! The trees of statements.
 
 use crate::tree_exprs::{show_designator, show_expr, show_exprs, show_items};
-use m2_tree::{Arm, Designator, Expr, Ident, Items, Pos, Rest, Stmt};
+use m2_tree::{Arm, Designator, Expr, Ident, Pos, Rest, Stmt};
 use show_code::Page;
 use std::alloc::AllocError;
+use tree_parts::Items;
 
 /// An assignment, or a call with or without brackets.
 fn show_call(

@@ -1,7 +1,7 @@
-use sqlite_items::Items;
 use std::alloc::{AllocError, Global};
 use std::process::Abort;
 use std::test::*;
+use tree_parts::Items;
 use wasm_binary::{read_module, write_module};
 use wasm_code::Writer;
 use wasm_tree::{EncodeError, Export, ExportKind, WFault};

@@ -1,10 +1,10 @@
 //! Code with where the machine is after 60 reductions and what it printed by then, worked out by hand.
 
 use memory_streams::Screen;
-use sqlite_items::Items;
 use std::alloc::Global;
 use std::process::Abort;
 use std::test::*;
+use tree_parts::Items;
 use wasm_binary::read_module;
 use wasm_engine::{End, Instances};
 use wasm_tree::{

@@ -1,7 +1,7 @@
-use sqlite_items::Items;
 use std::alloc::Global;
 use std::process::Abort;
 use std::test::*;
+use tree_parts::Items;
 use wasm_tree::{Body, Code, FuncType, Function, Numeric, Op, ValueType, WFault, WModule};
 use wasm_valid::validate;
 

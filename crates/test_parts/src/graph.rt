@@ -1,9 +1,10 @@
 //! Worked rows.
 
 use m2_graph::{Graph, GraphError};
-use m2_tree::{Block, Contents, Ident, Import, Items, Module, Name, Pos, Refusal};
+use m2_tree::{Block, Contents, Ident, Import, Module, Name, Pos, Refusal};
 use std::alloc::{AllocError, Global};
 use std::test::Fail;
+use tree_parts::Items;
 
 /// A sort of modules.
 #[derive(Clone, Copy)]

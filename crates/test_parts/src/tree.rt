@@ -1,8 +1,9 @@
-use m2_tree::{Boxed, Expr, Item, Items, Name, Pos, Quoted, Refusal, Token, are_equal};
+use m2_tree::{Expr, Item, Name, Pos, Quoted, Refusal, Token, are_equal};
 use std::alloc::{AllocError, Global};
 use std::mem::size_of;
 use std::process::Abort;
 use std::test::Fail;
+use tree_parts::{Boxed, Items};
 
 #[test]
 fn prints_a_refusal(rt: HostRuntime) -> Result<(), Fail> {

@@ -5,11 +5,12 @@ use anyhow::{Context, Result, bail};
 use check_scope::Elaborated;
 use m2_parse::parse;
 use m2_scan::scan;
-use m2_tree::{Items, Module};
+use m2_tree::Module;
 use m2_types::compile_definition;
 use std::alloc::Global;
 use std::fs;
-use typed_tree::{Shared, Table};
+use tree_parts::{Items, Shared};
+use typed_tree::Table;
 
 fn tree_of(alloc: Global, text: &[u8]) -> Result<Module> {
     let Ok(tokens) = scan(alloc, text) else {

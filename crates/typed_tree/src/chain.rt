@@ -4,8 +4,8 @@ ghost use Rattle.std.specs.Prelude.{IfOk, ◌≡◌};
 ghost use Rattle.typed_tree.specs.Chains.{behind, linked, rooted};
 
 use crate::computed::{Component, Link, Place, Root, TypedExpr};
-use m2_tree::Items;
 use std::alloc::{AllocError, Global};
+use tree_parts::Items;
 
 /// An operator and its second operand behind a first one. Where that is a chain, it gets one operator more. The only error
 /// is that memory ran out.

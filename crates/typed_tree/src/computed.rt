@@ -5,10 +5,10 @@ ghost use Rattle.typed_tree.specs.declared.computed.TypedExpr.TheVariants.{Chain
 ghost use Rattle.typed_tree.specs.Chains.{linked};
 
 use crate::meaning::{Procedure, Variable};
-use crate::shared::Shared;
 use crate::types::TypeNo;
-use m2_tree::{Boxed, Items, Quoted};
+use m2_tree::Quoted;
 use std::alloc::{AllocError, Global};
+use tree_parts::{Boxed, Items, Shared};
 
 /// A formal or a variable of a procedure.
 #[derive(Clone, Copy, PartialEq, Eq)]

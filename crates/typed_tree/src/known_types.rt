@@ -7,7 +7,7 @@ ghost use Rattle.typed_tree.specs.Known.{made_in, made_at, scalar_made, scalar_a
 use crate::reached::Reached;
 use crate::shape::{Made, Scalar, Shape};
 use crate::types::{BOOLEAN, CARDINAL, CHAR, Home, INTEGER, TypeNo};
-use m2_tree::Items;
+use tree_parts::Items;
 
 /// The types that a module makes, and those that the modules make whose types can be met in it.
 #[derive(Drop)]

@@ -9,7 +9,6 @@ mod known_types;
 mod meaning;
 mod reached;
 mod shape;
-mod shared;
 mod statement;
 mod table;
 mod typed_module;
@@ -28,7 +27,6 @@ pub use meaning::{
 };
 pub use reached::Reached;
 pub use shape::{Formal, Made, Scalar, Shape, Signature};
-pub use shared::Shared;
 pub use statement::{Change, Label, Membership, TypedArm, TypedStmt};
 pub use table::{ModuleTypes, Table};
 pub use typed_module::{Imported, Routine, TypedModule, Which};

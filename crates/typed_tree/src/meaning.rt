@@ -2,10 +2,10 @@
 
 ghost use Rattle.std.specs.Prelude.{◌≡◌, IfOk};
 
-use crate::shared::Shared;
 use crate::types::TypeNo;
 use m2_tree::Quoted;
 use std::alloc::AllocError;
+use tree_parts::Shared;
 
 /// A constant of a scalar type.
 #[derive(Clone, Copy, PartialEq, Eq)]

@@ -6,11 +6,10 @@ ghost use Rattle.std.specs.Map.{lookup};
 ghost use Rattle.indexmap.specs.IndexMap.{insert_entry};
 
 use crate::shape::Made;
-use crate::shared::Shared;
 use indexmap::IndexMap;
-use m2_tree::Items;
 use std::alloc::{AllocError, Global};
 use std::marker::Model;
+use tree_parts::{Items, Shared};
 
 /// Numbers of modules, each once, in the order in which they were entered, with the types that each makes.
 #[derive(Drop)]

@@ -2,7 +2,7 @@
 
 use crate::dictionary::Dictionary;
 use crate::types::TypeNo;
-use m2_tree::Items;
+use tree_parts::Items;
 
 /// A scalar type: what it computes in, and its least and greatest value.
 #[derive(Clone, Copy, PartialEq, Eq)]

@@ -1,9 +1,9 @@
 //! Statements of bodies.
 
 use crate::computed::{Call, Place, TypedExpr};
-use crate::shared::Shared;
 use crate::types::TypeNo;
-use m2_tree::{Items, Quoted};
+use m2_tree::Quoted;
+use tree_parts::{Items, Shared};
 
 /// INC and DEC.
 #[derive(Clone, Copy, PartialEq, Eq)]

@@ -3,8 +3,8 @@
 use crate::dictionary::Dictionary;
 use crate::meaning::Meaning;
 use crate::shape::Made;
-use crate::shared::Shared;
-use m2_tree::{Items, Name};
+use m2_tree::Name;
+use tree_parts::{Items, Shared};
 
 /// The types that a module makes, by their numbers.
 #[derive(Drop)]

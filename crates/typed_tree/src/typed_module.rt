@@ -3,7 +3,8 @@
 use crate::known_types::Types;
 use crate::statement::TypedStmt;
 use crate::types::TypeNo;
-use m2_tree::{Items, Name, Pos};
+use m2_tree::{Name, Pos};
+use tree_parts::Items;
 
 /// A procedure with its body.
 #[derive(Drop)]

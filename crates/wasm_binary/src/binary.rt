@@ -10,8 +10,8 @@ mod kinds;
 mod sections;
 
 pub use body::body_over;
-use sqlite_items::Items;
 use std::alloc::Global;
+use tree_parts::Items;
 use wasm_code::{Writer, closed, front, unsigned_at};
 use wasm_tree::{EncodeError, WFault};
 

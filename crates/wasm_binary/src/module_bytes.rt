@@ -10,8 +10,8 @@ ghost use Rattle.wasm_tree.specs.declared.fault.WFault.TheVariants.{NoMemory};
 ghost use Rattle.wasm_tree.specs.declared.module.WModule.{WModule};
 
 use crate::binary::{Binary, body_over, section, write_section};
-use sqlite_items::Items;
 use std::alloc::{AllocError, Global};
+use tree_parts::Items;
 use wasm_code::{Writer, closed, front, skip, unsigned_at};
 use wasm_tree::{EncodeError, Function, WFault, WModule};
 

@@ -14,8 +14,8 @@ ghost use Rattle.wasm_code.specs.ScratchStack.{is_plain, one_sided_op, onto, ont
 use crate::fits::code_fits;
 use crate::opcode::{load_of, load_opcode, numeric_of, numeric_opcode, store_of, store_opcode};
 use crate::{Writer, byte_at, signed32_at, signed64_at, skip, unsigned_at};
-use sqlite_items::Items;
 use std::alloc::{AllocError, Global};
+use tree_parts::Items;
 use wasm_tree::{Code, EncodeError, Op, ValueType, WFault, behind, first_of, label_of, split_ops};
 
 /// How deep blocks may nest.

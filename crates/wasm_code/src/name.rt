@@ -8,8 +8,8 @@ ghost use Rattle.wasm_code.specs.Parts.{name};
 use crate::number::unsigned_at;
 use crate::parts::{closed, front};
 use crate::writer::Writer;
-use sqlite_items::Items;
 use std::alloc::Global;
+use tree_parts::Items;
 use wasm_tree::{EncodeError, WFault};
 
 fn is_utf8(text: &[u8]) -> bool

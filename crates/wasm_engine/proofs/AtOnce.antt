@@ -2,6 +2,7 @@
 use Rattle.std.proofs.Math.Logic.{∥∥₁_map, ∥∥₁_elim}
 use Rattle.std.proofs.Common.{◌≡◌, ℕ, ◌+◌, List, [], ◌∷◌, ◌++◌, append_assoc, map, length, Bool, true, false, Some, refl, sym, ap, ap₂, ◌∙◌, subst, arith, zero, suc}
 use Rattle.std.specs.Prelude.{slice_index_or, Result, Ok, Err, IfOk}
+use Rattle.std.proofs.lemmas.Grind.{merely}
 use Rattle.std.proofs.lemmas.List.{append-nil, map-set}
 use Rattle.std.proofs.lemmas.Option.{none-some, same_Some}
 use Rattle.std.proofs.Common.{⊎_elim, Option, None, ◌*◌, ◌<◌, ◌≤◌, ◌^◌}
@@ -28,7 +29,7 @@ use Rattle.wasm_tree.specs.declared.store.Store.{Store}
 use Rattle.wasm_tree.specs.declared.store.Memory.{Memory}
 use Rattle.wasm_machine.specs.declared.frame.Machine.{Machine}
 use Rattle.wasm_machine.specs.declared.frame.Reduced.{Reduced}
-use Rattle.wasm_machine.specs.Going.{progress, memory_from}
+use Rattle.wasm_machine.specs.Going.{activation, callers_of, going, progress, memory_from, store_of}
 use Rattle.wasm_machine.specs.declared.frame.Pages.{Pages}
 use Rattle.wasm_tree.specs.Linking.{type_of}
 use Rattle.wasm_tree.specs.declared.code.Op.{Op}
@@ -50,7 +51,7 @@ use Rattle.wasm_known.proofs.Computed.{computed}
 use Rattle.wasm_known.proofs.Check.{check_returns, bounds_return}
 use Rattle.wasm_known.proofs.Divide.{div_returns, mod_returns}
 use Rattle.wasm_machine.specs.Well.{IsWell}
-use Rattle.wasm_engine.specs.Quick.{Holds, Goes, IsBetween, HasFour, HasThree, Checked, IsQuotient, IsRemainder, Reaches, Replaced, Changed, memory_place}
+use Rattle.wasm_engine.specs.Quick.{Holds, Goes, IsBetween, HasArguments, HasFour, HasThree, Calculated, Checked, reductions, IsQuotient, IsRemainder, Calls, Reaches, Replaced, Changed, memory_place}
 use Rattle.wasm_engine.proofs.WellKept.{ran}
 use Rattle.wasm_engine.proofs.Runs.{run-plus, run-zero, followed}
 use Rattle.wasm_engine.proofs.Taken.{IsLast, last_or_none, top_is, popped}
@@ -140,13 +141,21 @@ squashed : {A : Type 0} → (x y : ∥ A ∥₁) → x ≡ y
 squashed x y = squash₁ x y
 
 -- what was not done
-pub check_left : (done : Bool) (old new : List Value) → done ≡ false → Checked done old new → new ≡ old
+check_left : (done : Bool) (old new : List Value) → done ≡ false → Checked done old new → new ≡ old
 check_left false old new is h = h
 check_left true old new is h = absurd (cc is)
 
-pub replaced_left : (Is : (x y n : ℕ) → Type 0) (done : Bool) (old new : List Value) → done ≡ false → Replaced Is done old new → new ≡ old
+replaced_left : (Is : (x y n : ℕ) → Type 0) (done : Bool) (old new : List Value) → done ≡ false → Replaced Is done old new → new ≡ old
 replaced_left Is false old new is h = h
 replaced_left Is true old new is h = absurd (cc is)
+
+pub calculated_left : (k : KnownFunction) (done : Bool) (old new : List Value) → done ≡ false → Calculated k done old new → new ≡ old
+calculated_left kind.Check done old new is h = check_left done old new is h
+calculated_left kind.Divide done old new is h = replaced_left IsQuotient done old new is h
+calculated_left kind.Modulo done old new is h = replaced_left IsRemainder done old new is h
+calculated_left kind.Fill done old new is h = h.1
+calculated_left kind.Copy done old new is h = h.1
+calculated_left kind.Other done old new is h = h.1
 
 -- the two on top, taken one by one, and the upper one given back
 pub two_taken : (s t u : List Value) (y x : ℕ) → top_i64 s ≡ Some (t, y) → top_i64 t ≡ Some (u, x) → s ≡ u ++ I64 x ∷ I64 y ∷ []
@@ -182,13 +191,13 @@ module _ (modules : List WModule) (st : Store) (now : Activation) (callers : Lis
       let f = two_of a.1 (a.3 ∙ wide h.type) in
       (a.0, f.0, f.1, a.2 ∙ ap (λ (l : List Value). a.0 ++ l) f.2)
 
-  pub has_four : (g : ℕ) (rest : List Instr) → now.rest ≡ instr.Call g ∷ rest → ∥ Means modules st now.instance g kind.Check ∥₁ → ∥ IsWell modules here ∥₁ → ∥ HasFour now.stack ∥₁
+  has_four : (g : ℕ) (rest : List Instr) → now.rest ≡ instr.Call g ∷ rest → ∥ Means modules st now.instance g kind.Check ∥₁ → ∥ IsWell modules here ∥₁ → ∥ HasFour now.stack ∥₁
   has_four g rest e m w = ∥∥₁_elim m squashed (λ h. ∥∥₁_map w (λ a. four_there g h.0 rest e h.1 a))
 
-  pub has_quotient : (g : ℕ) (rest : List Instr) → now.rest ≡ instr.Call g ∷ rest → ∥ Means modules st now.instance g kind.Divide ∥₁ → ∥ IsWell modules here ∥₁ → ∥ AreI64 now.stack ∥₁
+  has_quotient : (g : ℕ) (rest : List Instr) → now.rest ≡ instr.Call g ∷ rest → ∥ Means modules st now.instance g kind.Divide ∥₁ → ∥ IsWell modules here ∥₁ → ∥ AreI64 now.stack ∥₁
   has_quotient g rest e m w = ∥∥₁_elim m squashed (λ h. ∥∥₁_map w (λ a. two_there g h.0 rest div_typed (λ i. refl) e h.1 a))
 
-  pub has_remainder : (g : ℕ) (rest : List Instr) → now.rest ≡ instr.Call g ∷ rest → ∥ Means modules st now.instance g kind.Modulo ∥₁ → ∥ IsWell modules here ∥₁ → ∥ AreI64 now.stack ∥₁
+  has_remainder : (g : ℕ) (rest : List Instr) → now.rest ≡ instr.Call g ∷ rest → ∥ Means modules st now.instance g kind.Modulo ∥₁ → ∥ IsWell modules here ∥₁ → ∥ AreI64 now.stack ∥₁
   has_remainder g rest e m w = ∥∥₁_elim m squashed (λ h. ∥∥₁_map w (λ a. two_there g h.0 rest mod_typed (λ i. refl) e h.1 a))
 
   -- ---- where it leads
@@ -203,7 +212,7 @@ module _ (modules : List WModule) (st : Store) (now : Activation) (callers : Lis
   leads_to : (n : ℕ) (rest : List Instr) (new last : List Value) → last ≡ new → Goes modules n here (Going st (with now rest new) callers) → Goes modules n here (Going st (with now rest last) callers)
   leads_to n rest new last e g = ap (λ (s : List Value). (Going st (with now rest s) callers, [])) e ∙ g
 
-  pub did_check : (g : ℕ) (rest : List Instr) (new : List Value) (done : Bool) → now.rest ≡ instr.Call g ∷ rest → ∥ Means modules st now.instance g kind.Check ∥₁ → done ≡ true → Checked done now.stack new
+  did_check : (g : ℕ) (rest : List Instr) (new : List Value) (done : Bool) → now.rest ≡ instr.Call g ∷ rest → ∥ Means modules st now.instance g kind.Check ∥₁ → done ≡ true → Checked done now.stack new
       → Goes modules 14 here (Going st (with now rest new) callers)
   did_check g rest new false e m is h = absurd (cc is)
   did_check g rest new true e m is h =
@@ -212,7 +221,7 @@ module _ (modules : List WModule) (st : Store) (now : Activation) (callers : Lis
       (leads_from 14 (instr.Call g ∷ rest) rest (h.0 ++ I64 h.1 ∷ I64 h.2 ∷ I64 h.3 ∷ I64 h.4 ∷ []) (h.0 ++ I64 h.1 ∷ []) e h.5
       (check_returns modules st now callers g k.0 k.1.function k.1.type k.1.callee k.1.typed h.1 h.2 h.3 h.4 h.0 rest h.6.0 h.6.1))) m
 
-  pub did_divide : (g : ℕ) (rest : List Instr) (new : List Value) (done : Bool) → now.rest ≡ instr.Call g ∷ rest → ∥ Means modules st now.instance g kind.Divide ∥₁ → done ≡ true → Replaced IsQuotient done now.stack new
+  did_divide : (g : ℕ) (rest : List Instr) (new : List Value) (done : Bool) → now.rest ≡ instr.Call g ∷ rest → ∥ Means modules st now.instance g kind.Divide ∥₁ → done ≡ true → Replaced IsQuotient done now.stack new
       → Goes modules 31 here (Going st (with now rest new) callers)
   did_divide g rest new false e m is h = absurd (cc is)
   did_divide g rest new true e m is h =
@@ -223,7 +232,7 @@ module _ (modules : List WModule) (st : Store) (now : Activation) (callers : Lis
       (div_returns modules st now callers g k.0 k.1.function k.1.type k.1.callee k.1.typed h.1 h.2 q.1 q.2 h.0 rest
       (record { check = k.2.function; type = k.2.type; callee = k.2.callee; typed = k.2.typed; at_least = q.0.0; at_most = q.0.1 }) q.3 q.4))) m
 
-  pub did_modulo : (g : ℕ) (rest : List Instr) (new : List Value) (done : Bool) → now.rest ≡ instr.Call g ∷ rest → ∥ Means modules st now.instance g kind.Modulo ∥₁ → done ≡ true → Replaced IsRemainder done now.stack new
+  did_modulo : (g : ℕ) (rest : List Instr) (new : List Value) (done : Bool) → now.rest ≡ instr.Call g ∷ rest → ∥ Means modules st now.instance g kind.Modulo ∥₁ → done ≡ true → Replaced IsRemainder done now.stack new
       → Goes modules 32 here (Going st (with now rest new) callers)
   did_modulo g rest new false e m is h = absurd (cc is)
   did_modulo g rest new true e m is h =
@@ -233,6 +242,31 @@ module _ (modules : List WModule) (st : Store) (now : Activation) (callers : Lis
       (leads_from 32 (instr.Call g ∷ rest) rest (h.0 ++ I64 h.1 ∷ I64 h.2 ∷ []) _ e h.4
       (mod_returns modules st now callers g k.0 k.1.function k.1.type k.1.callee k.1.typed h.1 h.2 q.1 h.0 rest
       (record { check = k.2.function; type = k.2.type; callee = k.2.callee; typed = k.2.typed; at_least = q.0.0; at_most = q.0.1 }) q.2))) m
+
+  -- check, div or mod
+  pub has_arguments : (k : KnownFunction) (g : ℕ) (rest : List Instr) → now.rest ≡ instr.Call g ∷ rest → ∥ Means modules st now.instance g k ∥₁ → ∥ IsWell modules here ∥₁ → ∥ HasArguments k now.stack ∥₁
+  has_arguments kind.Check g rest e m w = has_four g rest e m w
+  has_arguments kind.Divide g rest e m w = has_quotient g rest e m w
+  has_arguments kind.Modulo g rest e m w = has_remainder g rest e m w
+  has_arguments kind.Fill g rest e m w = merely tt
+  has_arguments kind.Copy g rest e m w = merely tt
+  has_arguments kind.Other g rest e m w = merely tt
+
+  not_done : (done : Bool) → done ≡ true → done ≡ false → ⊥
+  not_done done is isnt = absurd (cc (is, isnt))
+
+  did_kind : (k : KnownFunction) (g : ℕ) (rest : List Instr) (new : List Value) (done : Bool) → now.rest ≡ instr.Call g ∷ rest → ∥ Means modules st now.instance g k ∥₁ → done ≡ true → Calculated k done now.stack new
+      → Goes modules (reductions k) here (Going st (with now rest new) callers)
+  did_kind kind.Check g rest new done e m is h = did_check g rest new done e m is h
+  did_kind kind.Divide g rest new done e m is h = did_divide g rest new done e m is h
+  did_kind kind.Modulo g rest new done e m is h = did_modulo g rest new done e m is h
+  did_kind kind.Fill g rest new done e m is h = absurd (not_done done is h.0)
+  did_kind kind.Copy g rest new done e m is h = absurd (not_done done is h.0)
+  did_kind kind.Other g rest new done e m is h = absurd (not_done done is h.0)
+
+  pub did_calculate : (k : KnownFunction) (n g : ℕ) (rest : List Instr) (new : List Value) (done : Bool) → n ≡ reductions k → now.rest ≡ instr.Call g ∷ rest → ∥ Means modules st now.instance g k ∥₁ → done ≡ true → Calculated k done now.stack new
+      → Goes modules n here (Going st (with now rest new) callers)
+  did_calculate k n g rest new done size e m is h = did_kind k g rest new done e m is h ∙ ap (λ (j : ℕ). run modules j here) (sym size)
 
   -- a call that is left as it was
   pub did_nothing : (n : ℕ) (new : List Value) → n ≡ 0 → new ≡ now.stack → Goes modules n here (Going st (record now { stack = new }) callers)
@@ -273,9 +307,18 @@ module _ (modules : List WModule) (st : Store) (now : Activation) (callers : Lis
         (bounds_return modules st now callers g m.0 m.1.function m.1.type m.1.callee m.1.typed v lo hi k t rest b.0 b.1))) w
 
 -- what the table says
-pub means_known : (modules : List WModule) (table : List (List KnownFunction)) (st : Store) (now : Activation) (callers : List Activation) (g : ℕ) (k found : KnownFunction)
+means_known : (modules : List WModule) (table : List (List KnownFunction)) (st : Store) (now : Activation) (callers : List Activation) (g : ℕ) (k found : KnownFunction)
     → ∥ Holds modules table (Going st now callers) ∥₁ → found ≡ known_in table now.instance g → found ≡ k → ∥ Means modules st now.instance g k ∥₁
 means_known modules table st now callers g k found h e is = ∥∥₁_map h (λ a. subst (Means modules st now.instance g) (sym e ∙ is) (a.right now.instance g))
+
+-- a call that is next, of which the table says so
+pub calls_known : (modules : List WModule) (table : List (List KnownFunction)) (m : Machine) (g : ℕ) (rest : List Instr) (k found : KnownFunction)
+    → ∥ Holds modules table (going m) ∥₁ → tree m.now.rest.now ≡ instr.Call g ∷ rest → found ≡ known_in table m.now.instance g → found ≡ k → Calls modules m k g rest
+calls_known modules table m g rest k found h next e is = record {
+  next = next;
+  known = means_known modules table (store_of m) (activation m.now) (callers_of m) g k found h e is;
+  sound = well_of modules table (going m) h;
+}
 
 -- one reduction, where none was made before
 pub once_made : {E : Type 0} (r : Result (ℕ × Reduced) E) (modules : List WModule) (old mid : Config) (m : Machine) (n : ℕ) → n ≡ 0 → Goes modules n old mid → IfOk r (λ p. (p.0 ≡ 1) × (progress p.1 m ≡ run modules 1 mid)) → IfOk r (λ p. progress p.1 m ≡ run modules p.0 old)

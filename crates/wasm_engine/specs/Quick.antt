@@ -3,7 +3,10 @@ use Rattle.std.specs.Prelude.{◌≡◌, ◌≤◌, ◌<◌, ◌^◌, ◌+◌, f
 use Rattle.std.specs.Option.{option_and_then}
 use Rattle.std.specs.Int.{w64}
 use Rattle.wasm_tree.specs.declared.module.WModule.{WModule}
+use Rattle.wasm_tree.specs.declared.instr.Instr.{Instr}
+use Rattle.wasm_tree.specs.declared.instr.Instr.TheVariants.{Call}
 use Rattle.wasm_tree.specs.declared.instr.Operation.TheVariants.{DivS, RemS}
+use Rattle.wasm_tree.specs.Code.{tree}
 use Rattle.wasm_tree.specs.declared.store.Value.{Value}
 use Rattle.wasm_tree.specs.declared.store.Value.TheVariants.{I32, I64}
 use Rattle.wasm_tree.specs.Numbers.{is_less, operated}
@@ -14,7 +17,11 @@ use Rattle.wasm_tree.specs.Machine.{Config, instance_of, run}
 use Rattle.law_effect.specs.Bytes.{byte}
 use Rattle.wasm_known.specs.declared.table.KnownFunction.{KnownFunction}
 use Rattle.wasm_known.specs.Known.{quotient_down, remainder_up}
-use Rattle.wasm_known.specs.Table.{StaysRight}
+use Rattle.wasm_known.specs.declared.table.KnownFunction.TheVariants as kind
+use Rattle.wasm_known.specs.Table.{Means, StaysRight}
+use Rattle.wasm_sound.specs.Ready.{AreI64}
+use Rattle.wasm_machine.specs.declared.frame.Machine.{Machine}
+use Rattle.wasm_machine.specs.Going.{going, store_of}
 use Rattle.wasm_machine.specs.Well.{IsWell}
 
 -- what the engine keeps: where the run is is well typed, and the table of known functions is right
@@ -68,6 +75,49 @@ Replaced Is false old new = new ≡ old
 Replaced Is true old new =
     (below : List Value) × (x y n : ℕ) × (old ≡ below ++ I64 x ∷ I64 y ∷ []) × Is x y n
     × (new ≡ below ++ I64 n ∷ [])
+
+-- what div or mod makes of two numbers
+abbrev pub IsDivision : KnownFunction → (x y n : ℕ) → Type 0
+IsDivision kind.Divide x y n = IsQuotient x y n
+IsDivision kind.Modulo x y n = IsRemainder x y n
+IsDivision kind.Check x y n = ⊥
+IsDivision kind.Fill x y n = ⊥
+IsDivision kind.Copy x y n = ⊥
+IsDivision kind.Other x y n = ⊥
+
+-- the operands of check, div or mod are on top
+abbrev pub HasArguments : KnownFunction → List Value → Type 0
+HasArguments kind.Check stack = HasFour stack
+HasArguments kind.Divide stack = AreI64 stack
+HasArguments kind.Modulo stack = AreI64 stack
+HasArguments kind.Fill stack = Unit {0}
+HasArguments kind.Copy stack = Unit {0}
+HasArguments kind.Other stack = Unit {0}
+
+-- what check, div or mod makes of its operands is left in their place, or they are as before
+abbrev pub Calculated : KnownFunction → Bool → (old new : List Value) → Type 0
+Calculated kind.Check done old new = Checked done old new
+Calculated kind.Divide done old new = Replaced IsQuotient done old new
+Calculated kind.Modulo done old new = Replaced IsRemainder done old new
+Calculated kind.Fill done old new = (done ≡ false) × (new ≡ old)
+Calculated kind.Copy done old new = (done ≡ false) × (new ≡ old)
+Calculated kind.Other done old new = (done ≡ false) × (new ≡ old)
+
+-- how many reductions a call of check, div or mod makes if it ends
+abbrev pub reductions : KnownFunction → ℕ
+reductions kind.Check = 14
+reductions kind.Divide = 31
+reductions kind.Modulo = 32
+reductions kind.Fill = 0
+reductions kind.Copy = 0
+reductions kind.Other = 0
+
+-- a call of a known function is next
+pub record Calls (modules : List WModule) (m : Machine) (k : KnownFunction) (g : ℕ)
+    (rest : List Instr) : Type 0 where
+  pub next : tree m.now.rest.now ≡ Call g ∷ rest
+  pub known : ∥ Means modules (store_of m) m.now.instance g k ∥₁
+  pub sound : ∥ IsWell modules (going m) ∥₁
 
 -- where the memory of a module stands
 abbrev pub memory_place : Store → (m : ℕ) → Option ℕ

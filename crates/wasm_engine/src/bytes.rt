@@ -5,7 +5,7 @@ ghost use Rattle.law_effect.specs.Bytes.{byte, cleared_bytes, copied_bytes};
 ghost use Rattle.wasm_machine.specs.Going.{memory_from};
 ghost use Rattle.wasm_engine.specs.Quick.{Changed, Reaches, memory_place};
 
-use sqlite_items::at;
+use tree_parts::at;
 use wasm_machine::Pages;
 use wasm_tree::Store;
 

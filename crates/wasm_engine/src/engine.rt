@@ -14,12 +14,12 @@ ghost use Rattle.wasm_engine.specs.Reported.{with_bytes};
 
 use crate::quick::several;
 use crate::sink::Sink;
-use sqlite_items::{Items, at};
 use std::alloc::{AllocError, Global};
 use thiserror::Error;
+use tree_parts::{Items, at};
 use wasm_known::{KnownFunction, known_functions};
 use wasm_link::{linked_all, own_function, run_of};
-use wasm_machine::{Machine, Pages, Reduced, entered};
+use wasm_machine::{Machine, Pages, Reduced, first_frame};
 use wasm_operands::Operands;
 use wasm_tree::{Callee, Memory, Store, WFault};
 use wasm_valid::ValidModule;
@@ -123,7 +123,7 @@ fn machine_at<'a>(
     let Some(first) = own_function(modules, number, function) else {
         return Err(WFault::Unlinked);
     };
-    let now = entered(alloc, number, first)?;
+    let now = first_frame(alloc, number, first)?;
     let mut store = store;
     let memories = take_memories(alloc, &mut store)?;
     let globals = take_globals(alloc, &mut store)?;
@@ -147,7 +147,7 @@ fn callee_found(store: &Store, instance: usize, index: u32) -> Option<Callee>
 }
 
 /// The machine at the beginning of what link's run names.
-fn started<'a>(
+fn start<'a>(
     alloc: Global,
     modules: &'a [ValidModule],
     store: Store,
@@ -175,7 +175,7 @@ impl<'a> Instances<'a> {
         ensures gives { Gives (λ i. config_of i) result (link modules.now) }
         ensures fresh { IfOk result (λ i. (modules_of i ≡ modules.now) × (has_failed i ≡ false)) }
     {
-        let machine = linked(alloc, modules)?;
+        let machine = link_machine(alloc, modules)?;
         let table = known_functions(alloc, modules, &machine.store)?;
         Ok(Instances {
             alloc,
@@ -310,15 +310,14 @@ fn go<'a>(
     ensures within { IfOk result (λ p. (0 < p.0) × (p.0 ≤ most)) }
     ensures made { IfOk result (λ p. progress p.1 machine.new ≡ run modules.now p.0 (going machine.old)) }
 {
-    let mut made = 0;
-    while made < most {
-        let (count, reduced) = several(alloc, modules, table, machine, most - made)?;
-        made += count;
-        if reduced != Reduced::On {
-            return Ok((made, reduced));
+    let mut left = most;
+    loop {
+        let (count, reduced) = several(alloc, modules, table, machine, left)?;
+        left -= count;
+        if reduced != Reduced::On || left == 0 {
+            return Ok((most - left, reduced));
         }
     }
-    Ok((made, Reduced::On))
 }
 
 /// Each module is valid.
@@ -331,12 +330,12 @@ fn see_valid(modules: &[ValidModule])
 }
 
 #[tactic(auto, unfolding(wasm_tree::specs::Linking::link))]
-fn linked<'a>(alloc: Global, modules: &'a [ValidModule]) -> Result<Machine<'a>, WFault>
+fn link_machine<'a>(alloc: Global, modules: &'a [ValidModule]) -> Result<Machine<'a>, WFault>
     ensures gives { Gives (λ m. going m) result (link modules.now) }
     ensures valid { All IsValid modules.now }
 {
     see_valid(modules);
     let function = run_of(alloc, modules)?;
     let store = linked_all(alloc, modules)?;
-    started(alloc, modules, store, function)
+    start(alloc, modules, store, function)
 }

@@ -11,11 +11,11 @@ ghost use Rattle.wasm_known.specs.Table.{Means, IsRight, known_in};
 ghost use Rattle.wasm_known.specs.declared.table.KnownFunction.TheVariants as kind;
 ghost use Rattle.wasm_machine.specs.Well.{IsWell};
 ghost use Rattle.wasm_machine.specs.Going.{store_of, going, progress};
-ghost use Rattle.wasm_engine.specs.Quick.{Checked, Goes, HasFour, Holds, IsBetween, IsQuotient, IsRemainder, Replaced};
+ghost use Rattle.wasm_engine.specs.Quick.{Calculated, Calls, Checked, Goes, HasArguments, HasFour, Holds, IsBetween, IsDivision, IsQuotient, IsRemainder, Replaced, reductions};
 
 use crate::bytes::{clear_bytes, copy_bytes};
-use sqlite_items::Items;
 use std::alloc::{AllocError, Global};
+use tree_parts::Items;
 use wasm_known::{KnownFunction, known_at};
 use wasm_machine::{Machine, Reduced, callee_at, reduce};
 use wasm_operands::{Operands, compares_64, operated, truth};
@@ -135,7 +135,7 @@ fn is_check(table: &[Items<KnownFunction>], instance: usize, index: u32) -> bool
 }
 
 /// Takes the operands of check and leaves the number, if it is between its bounds.
-fn checked(stack: &mut Operands) -> Result<bool, AllocError>
+fn check(stack: &mut Operands) -> Result<bool, AllocError>
     requires { ∥ HasFour stack.old.known.values ∥₁ }
     ensures { IfOk result (λ done. Checked done stack.old.known.values stack.new.known.values) }
 {
@@ -177,14 +177,27 @@ fn remainder(x: u64, y: u64) -> Option<u64>
     Some(remainder.wrapping_add(u64::from(truth(is_negative)).wrapping_mul(y)))
 }
 
-/// Puts a quotient in the place of the two numbers on top.
-fn divided(stack: &mut Operands) -> Result<bool, AllocError>
+/// What div or mod makes of two numbers, if the divisor is between its bounds and division is defined.
+fn division(function: KnownFunction, x: u64, y: u64) -> Option<u64>
+    ensures { IfSome result (IsDivision function x y) }
+{
+    match function {
+        KnownFunction::Divide => quotient(x, y),
+        KnownFunction::Modulo => remainder(x, y),
+        KnownFunction::Other | KnownFunction::Check | KnownFunction::Fill | KnownFunction::Copy =>
+            None,
+    }
+}
+
+/// Puts what div or mod makes of the two numbers on top in their place.
+fn divide(stack: &mut Operands, function: KnownFunction) -> Result<bool, AllocError>
     requires { ∥ AreI64 stack.old.known.values ∥₁ }
-    ensures { IfOk result (λ done. Replaced IsQuotient done stack.old.known.values stack.new.known.values) }
+    ensures { IfOk result (λ done.
+        Replaced (IsDivision function) done stack.old.known.values stack.new.known.values) }
 {
     let y = stack.pop_i64();
     let x = stack.top_i64();
-    match quotient(x, y) {
+    match division(function, x, y) {
         Some(number) => {
             stack.set_i64(number);
             Ok(true)
@@ -196,22 +209,28 @@ fn divided(stack: &mut Operands) -> Result<bool, AllocError>
     }
 }
 
-/// Puts a remainder in the place of the two numbers on top.
-fn reduced(stack: &mut Operands) -> Result<bool, AllocError>
-    requires { ∥ AreI64 stack.old.known.values ∥₁ }
-    ensures { IfOk result (λ done. Replaced IsRemainder done stack.old.known.values stack.new.known.values) }
+/// Puts what check, div or mod makes of the topmost operands in their place.
+fn calculate(stack: &mut Operands, function: KnownFunction) -> Result<bool, AllocError>
+    requires { ∥ HasArguments function stack.old.known.values ∥₁ }
+    ensures { IfOk result (λ done.
+        Calculated function done stack.old.known.values stack.new.known.values) }
 {
-    let y = stack.pop_i64();
-    let x = stack.top_i64();
-    match remainder(x, y) {
-        Some(number) => {
-            stack.set_i64(number);
-            Ok(true)
-        }
-        None => {
-            stack.push_i64(y)?;
-            Ok(false)
-        }
+    match function {
+        KnownFunction::Check => check(stack),
+        KnownFunction::Divide | KnownFunction::Modulo => divide(stack, function),
+        KnownFunction::Other | KnownFunction::Fill | KnownFunction::Copy => Ok(false),
+    }
+}
+
+/// How many reductions a call of check, div or mod makes if it ends.
+fn reductions_of(function: KnownFunction) -> u64
+    ensures { result ≡ reductions function }
+{
+    match function {
+        KnownFunction::Check => CHECK,
+        KnownFunction::Divide => DIVIDE,
+        KnownFunction::Modulo => MODULO,
+        KnownFunction::Other | KnownFunction::Fill | KnownFunction::Copy => 0,
     }
 }
 
@@ -244,77 +263,27 @@ fn bounds_at_once<'a>(
     BOUNDED
 }
 
-/// Executes the call of check that is next, if the number is between its bounds.
-fn check_at_once<'a>(
+/// Executes the call of check, div or mod that is next, if it ends.
+fn calculate_at_once<'a>(
     modules: &'a [ValidModule],
     machine: &mut Machine<'a>,
+    function: KnownFunction,
     index: u32,
     rest: &'a [Op],
     most: u64,
 ) -> Result<u64, AllocError>
-    requires next { tree machine.old.now.rest.now ≡ Call index ∷ tree rest.now }
-    requires known { ∥ Means modules.now (store_of machine.old) machine.old.now.instance index kind.Check ∥₁ }
-    requires sound { ∥ IsWell modules.now (going machine.old) ∥₁ }
+    requires { Calls modules.now machine.old function index (tree rest.now) }
     ensures within { IfOk result (λ n. n ≤ most) }
     ensures goes { IfOk result (λ n. Goes modules.now n (going machine.old) (going machine.new)) }
 {
-    if most < CHECK {
+    let reductions = reductions_of(function);
+    if most < reductions {
         return Ok(0);
     }
-    let done = checked(&mut machine.now.stack)?;
+    let done = calculate(&mut machine.now.stack, function)?;
     if done {
         machine.now.rest = rest;
-        return Ok(CHECK);
-    }
-    Ok(0)
-}
-
-/// Executes the call of div that is next, if the divisor is between its bounds and division is defined.
-fn divide_at_once<'a>(
-    modules: &'a [ValidModule],
-    machine: &mut Machine<'a>,
-    index: u32,
-    rest: &'a [Op],
-    most: u64,
-) -> Result<u64, AllocError>
-    requires next { tree machine.old.now.rest.now ≡ Call index ∷ tree rest.now }
-    requires known { ∥ Means modules.now (store_of machine.old) machine.old.now.instance index kind.Divide ∥₁ }
-    requires sound { ∥ IsWell modules.now (going machine.old) ∥₁ }
-    ensures within { IfOk result (λ n. n ≤ most) }
-    ensures goes { IfOk result (λ n. Goes modules.now n (going machine.old) (going machine.new)) }
-{
-    if most < DIVIDE {
-        return Ok(0);
-    }
-    let done = divided(&mut machine.now.stack)?;
-    if done {
-        machine.now.rest = rest;
-        return Ok(DIVIDE);
-    }
-    Ok(0)
-}
-
-/// Executes the call of mod that is next, if the divisor is between its bounds and division is defined.
-fn modulo_at_once<'a>(
-    modules: &'a [ValidModule],
-    machine: &mut Machine<'a>,
-    index: u32,
-    rest: &'a [Op],
-    most: u64,
-) -> Result<u64, AllocError>
-    requires next { tree machine.old.now.rest.now ≡ Call index ∷ tree rest.now }
-    requires known { ∥ Means modules.now (store_of machine.old) machine.old.now.instance index kind.Modulo ∥₁ }
-    requires sound { ∥ IsWell modules.now (going machine.old) ∥₁ }
-    ensures within { IfOk result (λ n. n ≤ most) }
-    ensures goes { IfOk result (λ n. Goes modules.now n (going machine.old) (going machine.new)) }
-{
-    if most < MODULO {
-        return Ok(0);
-    }
-    let done = reduced(&mut machine.now.stack)?;
-    if done {
-        machine.now.rest = rest;
-        return Ok(MODULO);
+        return Ok(reductions);
     }
     Ok(0)
 }
@@ -337,9 +306,7 @@ fn fill_at_once<'a>(
     rest: &'a [Op],
     most: u64,
 ) -> Result<u64, AllocError>
-    requires next { tree machine.old.now.rest.now ≡ Call index ∷ tree rest.now }
-    requires known { ∥ Means modules.now (store_of machine.old) machine.old.now.instance index kind.Fill ∥₁ }
-    requires sound { ∥ IsWell modules.now (going machine.old) ∥₁ }
+    requires { Calls modules.now machine.old kind.Fill index (tree rest.now) }
     ensures within { IfOk result (λ n. n ≤ most) }
     ensures goes { IfOk result (λ n. Goes modules.now n (going machine.old) (going machine.new)) }
 {
@@ -386,9 +353,7 @@ fn copy_at_once<'a>(
     rest: &'a [Op],
     most: u64,
 ) -> Result<u64, AllocError>
-    requires next { tree machine.old.now.rest.now ≡ Call index ∷ tree rest.now }
-    requires known { ∥ Means modules.now (store_of machine.old) machine.old.now.instance index kind.Copy ∥₁ }
-    requires sound { ∥ IsWell modules.now (going machine.old) ∥₁ }
+    requires { Calls modules.now machine.old kind.Copy index (tree rest.now) }
     ensures within { IfOk result (λ n. n ≤ most) }
     ensures goes { IfOk result (λ n. Goes modules.now n (going machine.old) (going machine.new)) }
 {
@@ -433,13 +398,14 @@ fn call_at_once<'a>(
     let Some((index, rest)) = next_call(machine.now.rest) else {
         return Ok(0);
     };
-    match known_at(table, machine.now.instance, index) {
-        KnownFunction::Check => check_at_once(modules, machine, index, rest, most),
-        KnownFunction::Divide => divide_at_once(modules, machine, index, rest, most),
-        KnownFunction::Modulo => modulo_at_once(modules, machine, index, rest, most),
+    let function = known_at(table, machine.now.instance, index);
+    match function {
+        KnownFunction::Other => Ok(0),
         KnownFunction::Fill => fill_at_once(modules, machine, index, rest, most),
         KnownFunction::Copy => copy_at_once(modules, machine, index, rest, most),
-        KnownFunction::Other => Ok(0),
+        KnownFunction::Check | KnownFunction::Divide | KnownFunction::Modulo => {
+            calculate_at_once(modules, machine, function, index, rest, most)
+        }
     }
 }
 

@@ -8,8 +8,8 @@ ghost use Rattle.wasm_known.specs.Codes.{check_typed};
 ghost use Rattle.wasm_known.specs.Table.{IsRight, Means, RowIsRight, Stands, known_in};
 
 use crate::codes::{is_check, is_copy, is_div, is_fill, is_mod};
-use sqlite_items::{Items, at};
 use std::alloc::{AllocError, Global};
+use tree_parts::{Items, at};
 use wasm_link::{TypedFunction, own_function};
 use wasm_tree::{Callee, Store};
 use wasm_valid::ValidModule;
@@ -87,7 +87,7 @@ fn has_check(modules: &[ValidModule], store: &Store, number: usize) -> bool
 }
 
 /// What the function of an index is.
-fn known(modules: &[ValidModule], store: &Store, instance: usize, index: usize) -> KnownFunction
+fn kind_of(modules: &[ValidModule], store: &Store, instance: usize, index: usize) -> KnownFunction
     ensures { Means modules.now store.now instance index result }
 {
     let Some((own, function)) = own_found(modules, store, instance, index) else {
@@ -130,7 +130,7 @@ fn row(
 {
     let mut row = Vec::new(alloc);
     for index in 0..count_functions(store, instance) {
-        row.push(known(modules, store, instance, index))?;
+        row.push(kind_of(modules, store, instance, index))?;
     }
     Ok(Items::from_vec(row))
 }

@@ -2,4 +2,3 @@ pub mod Fold
 pub mod Same
 pub mod Addressed
 pub mod Constants
-pub mod Pasting

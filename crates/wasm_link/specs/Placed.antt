@@ -1,11 +1,13 @@
 -- What the values of the linker stand for.
-use Rattle.std.specs.Prelude.{List, Option, Some, None}
+use Rattle.std.specs.Prelude.{ℕ, ◌+◌, nat_le, length, List, Option, Some, None, Result, Ok, Err, if◌then◌else◌}
 use Rattle.std.specs.Borrow.{Bor}
 use Rattle.std.specs.Global.{Vec}
 use Rattle.wasm_tree.specs.declared.kinds.FuncType.{FuncType}
 use Rattle.wasm_tree.specs.declared.store.Store.{Store}
 use Rattle.wasm_tree.specs.declared.store.Instance.{Instance}
-use Rattle.wasm_tree.specs.Machine.{Typed}
+use Rattle.wasm_tree.specs.declared.fault.WFault.{WFault}
+use Rattle.wasm_tree.specs.declared.fault.WFault.TheVariants.{SegmentOutside}
+use Rattle.wasm_tree.specs.Machine.{Typed, pasted}
 use Rattle.wasm_tree.specs.Linking.{Linked}
 use Rattle.wasm_link.specs.declared.types.TypedFunction.{TypedFunction}
 
@@ -26,3 +28,10 @@ linked st i = record { store = st; instance = i }
 abbrev pub items_of : {A : Type 0} → Option (Vec A) → Option (List A)
 items_of None = None
 items_of (Some v) = Some v.items
+
+-- a list with others from a place on, if it reaches so far
+abbrev pub written : {A : Type 0} → (place : ℕ) → (items others : List A) → Result (List A) WFault
+written place items others =
+    if nat_le (place + length others) (length items)
+    then Ok (pasted items place others)
+    else Err SegmentOutside

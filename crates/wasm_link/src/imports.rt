@@ -9,8 +9,8 @@ ghost use Rattle.wasm_tree.specs.Linking.{named, extern_of, host_answer, link_an
 ghost use Rattle.wasm_link.specs.Placed.{type_of_ref};
 
 use crate::types::{agrees, is_same_value_type};
-use sqlite_items::at;
 use std::alloc::AllocError;
+use tree_parts::at;
 use wasm_tree::{
     Export, ExportKind, Extern, Import, ImportKind, Instance, Limits, Store, Value, ValueType,
     WFault, WModule,
@@ -24,7 +24,7 @@ fn is_same_name(name: &[u8], other: &[u8]) -> bool
 }
 
 /// What is exported under a name.
-pub fn named(name: &[u8], exports: &[Export]) -> Option<ExportKind>
+pub fn export_of(name: &[u8], exports: &[Export]) -> Option<ExportKind>
     ensures { result ≡ named name.now exports.now }
 {
     for export in exports {
@@ -69,7 +69,7 @@ fn link_answer(modules: &[ValidModule], store: &Store, name: &[u8]) -> Option<Ex
 {
     let instance = at(store.instances.as_slice(), 0)?;
     let tree = at(modules, 0)?.module();
-    extern_of(instance, named(name, tree.exports.as_slice())?)
+    extern_of(instance, export_of(name, tree.exports.as_slice())?)
 }
 
 fn answer(modules: &[ValidModule], store: &Store, import: &Import) -> Option<Extern>
@@ -189,7 +189,8 @@ fn with_extern(instance: &mut Instance, found: Extern) -> Result<(), AllocError>
     }
 }
 
-fn answered(
+/// The answer to an import. `Unlinked` if there is none, or one of another type.
+fn suitable_answer(
     modules: &[ValidModule],
     store: &Store,
     tree: &WModule,
@@ -215,7 +216,7 @@ pub fn with_imports(
         (each (with_import modules.now store.now tree.now) imports.now instance.old) }
 {
     for import in imports {
-        let found = answered(modules, store, tree, import)?;
+        let found = suitable_answer(modules, store, tree, import)?;
         with_extern(instance, found)?;
     }
     Ok(())

@@ -7,12 +7,12 @@ ghost use Rattle.wasm_tree.specs.Validity.{context};
 ghost use Rattle.wasm_tree.specs.Linking.{linked_one, linked_from, host_store, no_instance, is_plain, run_index, run_of, run_name, named};
 ghost use Rattle.wasm_link.specs.Placed.{type_of_ref};
 
-use crate::imports::{named, with_imports};
+use crate::imports::{export_of, with_imports};
 use crate::segments::{with_elements, with_segments};
 use crate::store::{with_functions, with_globals, with_memories, with_tables};
 use crate::types::has_types;
-use sqlite_items::{Items, at};
 use std::alloc::{AllocError, Global};
+use tree_parts::{Items, at};
 use wasm_tree::{Callee, ExportKind, FuncType, Instance, Store, WFault, WModule};
 use wasm_valid::ValidModule;
 
@@ -111,6 +111,6 @@ pub fn run_of(alloc: Global, modules: &[ValidModule]) -> Result<u32, WFault>
 {
     match modules {
         [] => Err(WFault::Unlinked),
-        [first, ..] => run_index(alloc, first, named(b"run", first.exports())),
+        [first, ..] => run_index(alloc, first, export_of(b"run", first.exports())),
     }
 }

@@ -6,12 +6,13 @@ ghost use Rattle.std.specs.Option.{option_copied};
 ghost use Rattle.wasm_tree.specs.Format.{Gives};
 ghost use Rattle.wasm_tree.specs.Machine.{pasted};
 ghost use Rattle.wasm_tree.specs.Linking.{offset_of, addresses, with_slots, some_address, with_element, with_bytes, with_segment, each};
-ghost use Rattle.wasm_link.specs.Placed.{linked, items_of};
+ghost use Rattle.wasm_link.specs.Placed.{linked, items_of, written};
 
 use crate::store::value_of;
-use sqlite_items::{Items, at};
 use std::alloc::{AllocError, Global};
-use wasm_tree::{Data, Element, Instance, Memory, Store, Table, Value, WFault};
+use std::mem;
+use tree_parts::{Items, at};
+use wasm_tree::{Data, Element, Instance, Store, Value, WFault};
 
 fn offset_of(value: Option<Value>) -> Result<usize, WFault>
     ensures { Gives (λ n. n) result (offset_of value) }
@@ -32,23 +33,30 @@ fn some_address(places: &[usize], index: u32) -> Result<usize, WFault>
     }
 }
 
-/// The list with others from a place on.
-fn pasted<T: Copy>(
+/// Writes into a list from a place on.
+fn paste<T: Copy>(alloc: Global, items: &mut Items<T>, place: usize, others: &[T])
+    requires { place + length others.now ≤ length items.old }
+    ensures { items.new ≡ pasted items.old place others.now }
+{
+    let mut all = mem::replace(items, Items::new(alloc)).into_vec();
+    all[place..place + others.len()].copy_from_slice(others);
+    *items = Items::from_vec(all);
+}
+
+/// Writes into a list from a place on. `SegmentOutside` if it does not reach so far.
+fn write<T: Copy>(
     alloc: Global,
-    items: &[T],
+    items: &mut Items<T>,
     place: usize,
     others: &[T],
-) -> Result<Items<T>, AllocError>
-    requires { place + length others.now ≤ length items.now }
-    ensures { IfOk result (λ it. it ≡ pasted items.now place others.now) }
+) -> Result<(), WFault>
+    ensures { Gives (λ _. items.new) result (written place items.old others.now) }
 {
-    let (before, rest) = items.split_at(place);
-    let (_, after) = rest.split_at(others.len());
-    let mut all = Vec::with_capacity(alloc, items.len())?;
-    all.extend_from_slice(before)?;
-    all.extend_from_slice(others)?;
-    all.extend_from_slice(after)?;
-    Ok(Items::from_vec(all))
+    if items.len() < others.len() || items.len() - others.len() < place {
+        return Err(WFault::SegmentOutside);
+    }
+    paste(alloc, items, place, others);
+    Ok(())
 }
 
 /// The addresses of functions, or nothing where one is unknown.
@@ -69,6 +77,7 @@ fn addresses(
     Ok(Some(slots))
 }
 
+/// Fills slots of a table from a place on: they cost what they are, however large the table is.
 fn with_slots(
     alloc: Global,
     store: &mut Store,
@@ -81,15 +90,12 @@ fn with_slots(
         (with_slots (linked store.old i) table place (slice_get store.old.tables table)
         (Some slots.now)) }
 {
-    let Some(old) = at(store.tables.as_slice(), table) else {
-        return Err(WFault::SegmentOutside);
-    };
-    if old.slots.len() < slots.len() || old.slots.len() - slots.len() < place {
+    let mut tables = mem::replace(&mut store.tables, Items::new(alloc)).into_vec();
+    if tables.len() <= table {
         return Err(WFault::SegmentOutside);
     }
-    let slots = pasted(alloc, old.slots.as_slice(), place, slots)?;
-    let max = old.max;
-    store.tables.set(table, Table { slots, max });
+    write(alloc, &mut tables[table].slots, place, slots)?;
+    store.tables = Items::from_vec(tables);
     Ok(())
 }
 
@@ -126,70 +132,7 @@ pub fn with_elements(
     Ok(())
 }
 
-/// Writes bytes into others from a place on.
-fn write(bytes: &mut Items<u8>, place: usize, others: &[u8])
-    requires { place + length others.now ≤ length bytes.old }
-    ensures { bytes.new ≡ pasted bytes.old place others.now }
-{
-    let _size = bytes.len();
-    for done in 0..others.len() {
-        bytes.set(place + done, others[done]);
-    }
-}
-
-/// Writes bytes into a memory from a place on.
-fn write_memory(memory: Memory, place: usize, others: &[u8]) -> Memory
-    requires { place + length others.now ≤ length memory.bytes }
-    ensures { result ≡ record memory { bytes = pasted memory.bytes place others.now } }
-{
-    let Memory { mut bytes, max } = memory;
-    write(&mut bytes, place, others);
-    Memory { bytes, max }
-}
-
-/// The last memory is changed in its place: bytes cost what they are, however large it is.
-fn with_last(store: &mut Store, memory: usize, place: usize, bytes: &[u8]) -> Result<(), WFault>
-    requires { memory + 1 ≡ length store.old.memories }
-    ensures { (i : Instance)
-        → Gives (λ _. linked store.new i) result
-        (with_bytes (linked store.old i) memory place (slice_get store.old.memories memory)
-        bytes.now) }
-{
-    let Some(last) = store.memories.pop() else {
-        return Err(WFault::SegmentOutside);
-    };
-    if last.bytes.len() < bytes.len() || last.bytes.len() - bytes.len() < place {
-        return Err(WFault::SegmentOutside);
-    }
-    store.memories.push(write_memory(last, place, bytes))?;
-    Ok(())
-}
-
-/// A memory that is not the last is made anew.
-fn with_other(
-    alloc: Global,
-    store: &mut Store,
-    memory: usize,
-    place: usize,
-    bytes: &[u8],
-) -> Result<(), WFault>
-    ensures { (i : Instance)
-        → Gives (λ _. linked store.new i) result
-        (with_bytes (linked store.old i) memory place (slice_get store.old.memories memory)
-        bytes.now) }
-{
-    let Some(old) = at(store.memories.as_slice(), memory) else {
-        return Err(WFault::SegmentOutside);
-    };
-    if old.bytes.len() < bytes.len() || old.bytes.len() - bytes.len() < place {
-        return Err(WFault::SegmentOutside);
-    }
-    let bytes = pasted(alloc, old.bytes.as_slice(), place, bytes)?;
-    let max = old.max;
-    store.memories.set(memory, Memory { bytes, max });
-    Ok(())
-}
-
+/// Writes bytes of a memory from a place on: they cost what they are, however large the memory is.
 fn with_bytes(
     alloc: Global,
     store: &mut Store,
@@ -202,11 +145,13 @@ fn with_bytes(
         (with_bytes (linked store.old i) memory place (slice_get store.old.memories memory)
         bytes.now) }
 {
-    if memory < store.memories.len() && store.memories.len() - memory == 1 {
-        with_last(store, memory, place, bytes)
-    } else {
-        with_other(alloc, store, memory, place, bytes)
+    let mut memories = mem::replace(&mut store.memories, Items::new(alloc)).into_vec();
+    if memories.len() <= memory {
+        return Err(WFault::SegmentOutside);
     }
+    write(alloc, &mut memories[memory].bytes, place, bytes)?;
+    store.memories = Items::from_vec(memories);
+    Ok(())
 }
 
 fn with_segment(

@@ -7,8 +7,8 @@ ghost use Rattle.wasm_tree.specs.Format.{Gives};
 ghost use Rattle.wasm_tree.specs.Linking.{with_function, with_functions, fresh_table, with_table, fresh_memory, with_memory, constant, value_of, with_value, with_global, each};
 ghost use Rattle.wasm_link.specs.Placed.{linked};
 
-use sqlite_items::{Items, at};
 use std::alloc::{AllocError, Global};
+use tree_parts::{Items, at};
 use wasm_tree::{
     Callee, Function, Global as Constant, Instance, Memory, MemoryType, Op, Store, Table,
     TableType, Value, WFault,

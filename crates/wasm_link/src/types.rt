@@ -4,7 +4,7 @@ ghost use Rattle.std.specs.Prelude.{◌≡◌, ◌&&◌};
 ghost use Rattle.wasm_tree.specs.Machine.{is_same_value_type, are_same, is_same_type, callee_type, own_function, agree, Typed};
 ghost use Rattle.wasm_link.specs.Placed.{typed_of, type_of_ref};
 
-use sqlite_items::at;
+use tree_parts::at;
 use wasm_tree::{Callee, FuncType, Function, ValueType};
 use wasm_valid::ValidModule;
 

@@ -135,7 +135,7 @@ pub fn branch_if(machine: &mut Machine<'_>, label: u32) -> Result<Reduced, Alloc
 
 /// The label of this number among branches, or the default.
 #[inline(always)]
-fn chosen(branches: &[Op], number: u32, default: u32) -> u32
+fn choice(branches: &[Op], number: u32, default: u32) -> u32
     ensures { result ≡ slice_index_or (map code.label_of branches.now) number default }
 {
     let number = number as usize;
@@ -162,7 +162,7 @@ pub fn branch_table(
         (callers_of machine.old) (BrTable (map code.label_of branches.now) default)) }
 {
     let number = machine.now.stack.pop_i32();
-    branch(machine, chosen(branches, number, default))
+    branch(machine, choice(branches, number, default))
 }
 
 /// The same, where so many of the instructions ahead are the branches.

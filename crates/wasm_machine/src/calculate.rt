@@ -39,65 +39,9 @@ fn two_64(stack: &mut Operands) -> (u64, u64)
     (stack.top_i64(), m)
 }
 
-#[tactic(auto, using(wasm_operands::proofs::Cells::some_32))]
+/// Puts what is made of two numbers of 64 bits in their place. False if that is not defined.
 #[inline(always)]
-fn equals_zero_32(stack: &mut Operands) -> bool
-    requires { ∥ IsI32 stack.old.known.values ∥₁ }
-    ensures { if_kept stack.new.known.values result
-        ≡ replaced (calculated Numeric.I32Eqz stack.old.known.values) }
-{
-    let n = stack.top_i32();
-    stack.set_i32(truth(n == 0));
-    true
-}
-
-#[tactic(auto, using(wasm_operands::proofs::Cells::some_64))]
-#[inline(always)]
-fn equals_zero_64(stack: &mut Operands) -> bool
-    requires { ∥ IsI64 stack.old.known.values ∥₁ }
-    ensures { if_kept stack.new.known.values result
-        ≡ replaced (calculated Numeric.I64Eqz stack.old.known.values) }
-{
-    let n = stack.top_i64();
-    stack.set_i32(truth(n == 0));
-    true
-}
-
-#[inline(always)]
-fn relation_32(stack: &mut Operands, relation: Relation) -> bool
-    requires { ∥ AreI32 stack.old.known.values ∥₁ }
-    ensures { if_kept stack.new.known.values result
-        ≡ replaced (calculated (Numeric.I32Relation relation) stack.old.known.values) }
-{
-    let (n, m) = two_32(stack);
-    stack.set_i32(truth(compares_32(relation, n, m)));
-    true
-}
-
-#[inline(always)]
-fn relation_64(stack: &mut Operands, relation: Relation) -> bool
-    requires { ∥ AreI64 stack.old.known.values ∥₁ }
-    ensures { if_kept stack.new.known.values result
-        ≡ replaced (calculated (Numeric.I64Relation relation) stack.old.known.values) }
-{
-    let (n, m) = two_64(stack);
-    stack.set_i32(truth(compares_64(relation, n, m)));
-    true
-}
-
-#[inline(always)]
-fn sum_32(stack: &mut Operands) -> bool
-    requires { ∥ AreI32 stack.old.known.values ∥₁ }
-    ensures { if_kept stack.new.known.values result
-        ≡ replaced (calculated Numeric.I32Add stack.old.known.values) }
-{
-    let (n, m) = two_32(stack);
-    stack.set_i32(n.wrapping_add(m));
-    true
-}
-
-#[inline(always)]
-fn operation_64(stack: &mut Operands, operation: Operation) -> bool
+fn operate(stack: &mut Operands, operation: Operation) -> bool
     requires { ∥ AreI64 stack.old.known.values ∥₁ }
     ensures { if_kept stack.new.known.values result
         ≡ replaced (calculated (Numeric.I64Operation operation) stack.old.known.values) }
@@ -112,59 +56,49 @@ fn operation_64(stack: &mut Operands, operation: Operation) -> bool
     }
 }
 
-#[tactic(auto, using(wasm_operands::proofs::Cells::some_64))]
+/// Puts what this instruction makes of the topmost operands in their place. False if that is not defined.
+#[tactic(auto, using(wasm_operands::proofs::Cells::some_32, wasm_operands::proofs::Cells::some_64))]
 #[inline(always)]
-fn wrapped(stack: &mut Operands) -> bool
-    requires { ∥ IsI64 stack.old.known.values ∥₁ }
-    ensures { if_kept stack.new.known.values result
-        ≡ replaced (calculated Numeric.I32WrapI64 stack.old.known.values) }
-{
-    let n = stack.top_i64();
-    stack.set_i32((n % 4_294_967_296) as u32);
-    true
-}
-
-#[tactic(auto, using(wasm_operands::proofs::Cells::some_32))]
-#[inline(always)]
-fn extended_by_sign(stack: &mut Operands) -> bool
-    requires { ∥ IsI32 stack.old.known.values ∥₁ }
-    ensures { if_kept stack.new.known.values result
-        ≡ replaced (calculated Numeric.I64ExtendI32S stack.old.known.values) }
-{
-    let n = stack.top_i32();
-    stack.set_i64(extended(n));
-    true
-}
-
-#[tactic(auto, using(wasm_operands::proofs::Cells::some_32))]
-#[inline(always)]
-fn extended_by_zeros(stack: &mut Operands) -> bool
-    requires { ∥ IsI32 stack.old.known.values ∥₁ }
-    ensures { if_kept stack.new.known.values result
-        ≡ replaced (calculated Numeric.I64ExtendI32U stack.old.known.values) }
-{
-    let n = stack.top_i32();
-    stack.set_i64(u64::from(n));
-    true
-}
-
-/// Puts what this instruction makes of the topmost operands in their place. False where that is not defined.
-#[inline(always)]
-fn calculated(stack: &mut Operands, numeric: Numeric) -> bool
+fn replace_top(stack: &mut Operands, numeric: Numeric) -> bool
     requires { ∥ AreNumbers numeric stack.old.known.values ∥₁ }
     ensures { if_kept stack.new.known.values result ≡ replaced (calculated numeric stack.old.known.values) }
 {
     match numeric {
-        Numeric::I32Eqz => equals_zero_32(stack),
-        Numeric::I32Relation(relation) => relation_32(stack, relation),
-        Numeric::I64Eqz => equals_zero_64(stack),
-        Numeric::I64Relation(relation) => relation_64(stack, relation),
-        Numeric::I32Add => sum_32(stack),
-        Numeric::I64Operation(operation) => operation_64(stack, operation),
-        Numeric::I32WrapI64 => wrapped(stack),
-        Numeric::I64ExtendI32S => extended_by_sign(stack),
-        Numeric::I64ExtendI32U => extended_by_zeros(stack),
+        Numeric::I32Eqz => {
+            let n = stack.top_i32();
+            stack.set_i32(truth(n == 0));
+        }
+        Numeric::I32Relation(relation) => {
+            let (n, m) = two_32(stack);
+            stack.set_i32(truth(compares_32(relation, n, m)));
+        }
+        Numeric::I64Eqz => {
+            let n = stack.top_i64();
+            stack.set_i32(truth(n == 0));
+        }
+        Numeric::I64Relation(relation) => {
+            let (n, m) = two_64(stack);
+            stack.set_i32(truth(compares_64(relation, n, m)));
+        }
+        Numeric::I32Add => {
+            let (n, m) = two_32(stack);
+            stack.set_i32(n.wrapping_add(m));
+        }
+        Numeric::I64Operation(operation) => return operate(stack, operation),
+        Numeric::I32WrapI64 => {
+            let n = stack.top_i64();
+            stack.set_i32((n % 4_294_967_296) as u32);
+        }
+        Numeric::I64ExtendI32S => {
+            let n = stack.top_i32();
+            stack.set_i64(extended(n));
+        }
+        Numeric::I64ExtendI32U => {
+            let n = stack.top_i32();
+            stack.set_i64(u64::from(n));
+        }
     }
+    true
 }
 
 /// Puts what this instruction makes of the topmost operands in their place.
@@ -177,7 +111,7 @@ pub fn calculate(machine: &mut Machine<'_>, numeric: Numeric) -> Reduced
         ≡ begun modules (store_of machine.old) (activation machine.old.now)
         (callers_of machine.old) (instr.Numeric numeric) }
 {
-    if calculated(&mut machine.now.stack, numeric) {
+    if replace_top(&mut machine.now.stack, numeric) {
         Reduced::On
     } else {
         Reduced::Trapped

@@ -70,7 +70,7 @@ fn enter<'a>(
 }
 
 /// A function that begins without arguments.
-pub fn entered<'a>(
+pub fn first_frame<'a>(
     alloc: Global,
     instance: usize,
     function: TypedFunction<'a>,
@@ -82,35 +82,14 @@ pub fn entered<'a>(
     Ok(frame)
 }
 
-fn stopped(number: u64) -> Reduced
+/// The run ends with this number, or traps if it is none of 1 to 255.
+fn stop(number: u64) -> Reduced
     ensures { (m : Machine) → progress result m ≡ (stopped number, []) }
 {
     match u8::try_from(number) {
         Ok(number) if 1 <= number => Reduced::Over(number),
         _ => Reduced::Trapped,
     }
-}
-
-#[inline(always)]
-fn call_put(machine: &mut Machine<'_>) -> Reduced
-    requires { ∥ IsI64 machine.old.now.stack.known.values ∥₁ }
-    ensures { (modules : List WModule)
-        → progress result machine.new
-        ≡ called modules (store_of machine.old) (activation machine.old.now)
-        (callers_of machine.old) Put }
-{
-    Reduced::Printed((machine.now.stack.pop_i64() % 256) as u8)
-}
-
-#[inline(always)]
-fn call_stop(machine: &mut Machine<'_>) -> Reduced
-    requires { ∥ IsI64 machine.old.now.stack.known.values ∥₁ }
-    ensures { (modules : List WModule)
-        → progress result machine.new
-        ≡ called modules (store_of machine.old) (activation machine.old.now)
-        (callers_of machine.old) Stop }
-{
-    stopped(machine.now.stack.pop_i64())
 }
 
 /// A frame that was left, or a new one.
@@ -146,24 +125,7 @@ fn call_typed<'a>(
     Ok(Reduced::On)
 }
 
-#[inline(always)]
-fn call_own<'a>(
-    alloc: Global,
-    modules: &'a [ValidModule],
-    machine: &mut Machine<'a>,
-    number: usize,
-    function: usize,
-) -> Result<Reduced, AllocError>
-    requires { ∥ CanCall modules.now machine.old.now.stack.known.values (Own number function) ∥₁ }
-    ensures { IfOk result (λ r.
-        progress r machine.new
-        ≡ called modules.now (store_of machine.old) (activation machine.old.now)
-        (callers_of machine.old) (Own number function)) }
-{
-    let callee = function_at(modules, number, function);
-    call_typed(alloc, machine, number, callee)
-}
-
+/// The function is called: the host prints or stops, a module's own function begins.
 #[inline(always)]
 fn call<'a>(
     alloc: Global,
@@ -178,9 +140,16 @@ fn call<'a>(
         (callers_of machine.old) callee) }
 {
     match callee {
-        Callee::Put => Ok(call_put(machine)),
-        Callee::Stop => Ok(call_stop(machine)),
-        Callee::Own { module, function } => call_own(alloc, modules, machine, module, function),
+        Callee::Put => Ok(Reduced::Printed((machine.now.stack.pop_i64() % 256) as u8)),
+        Callee::Stop => Ok(stop(machine.now.stack.pop_i64())),
+        Callee::Own { module, function } => {
+            call_typed(
+                alloc,
+                machine,
+                module,
+                function_at(modules, module, function),
+            )
+        }
     }
 }
 

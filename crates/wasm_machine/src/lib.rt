@@ -12,7 +12,7 @@ mod places;
 mod reductions;
 mod variables;
 
-pub use call::entered;
+pub use call::first_frame;
 pub use frame::{Frame, Label, Machine, Pages, Reduced};
 pub use places::{callee_at, function_at, memory_of};
 pub use reductions::reduce;

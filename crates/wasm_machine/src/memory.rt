@@ -27,7 +27,8 @@ fn bytes_at(bytes: &[u8], place: usize, size: usize) -> Option<&[u8]>
     }
 }
 
-fn loaded_at(kind: Load, bytes: &[u8], place: u32) -> Option<u64>
+/// The number that the bytes from a place on are loaded as, if they are there.
+fn number_at(kind: Load, bytes: &[u8], place: u32) -> Option<u64>
     ensures { result ≡ option_map (loaded kind) (bytes_at (load_size kind) place bytes.now) }
 {
     let part = bytes_at(bytes, place as usize, load_size(kind))?;
@@ -48,7 +49,7 @@ pub fn load(machine: &mut Machine<'_>, kind: Load) -> Reduced
     let place = machine.now.stack.top_i32();
     let instance = machine.now.instance;
     let (_, memory) = memory_of(&machine.store, &machine.memories, instance);
-    match loaded_at(kind, memory.bytes.as_slice(), place) {
+    match number_at(kind, memory.bytes.as_slice(), place) {
         None => Reduced::Trapped,
         Some(number) => {
             machine.now.stack.set_i64(number);

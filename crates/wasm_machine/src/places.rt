@@ -7,7 +7,7 @@ ghost use Rattle.wasm_machine.specs.Going.{memory_from};
 ghost use Rattle.wasm_machine.specs.There.{IsThere, HasSlots};
 
 use crate::frame::Pages;
-use sqlite_items::at;
+use tree_parts::at;
 use wasm_link::TypedFunction;
 use wasm_operands::Operands;
 use wasm_tree::{Callee, FuncType, Store};

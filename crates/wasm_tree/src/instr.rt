@@ -1,7 +1,7 @@
 //! Instructions (Core 1.0, section 2.4), each block with its code inside it.
 
 use crate::kinds::ValueType;
-use sqlite_items::Items;
+use tree_parts::Items;
 
 /// How two numbers are compared (Core 1.0, section 2.4.1): as signed or as unsigned ones where that matters.
 #[derive(Clone, Copy, PartialEq, Eq)]

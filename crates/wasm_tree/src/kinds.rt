@@ -1,6 +1,6 @@
 //! The types of a module: of values, functions, tables and memories (Core 1.0, section 2.3).
 
-use sqlite_items::Items;
+use tree_parts::Items;
 
 /// The type of a value on the operand stack, of a local or a global.
 #[derive(Clone, Copy, PartialEq, Eq)]

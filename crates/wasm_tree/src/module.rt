@@ -2,7 +2,7 @@
 
 use crate::code::Code;
 use crate::kinds::{FuncType, Limits, MemoryType, TableType, ValueType};
-use sqlite_items::Items;
+use tree_parts::Items;
 
 /// What an import asks for.
 #[derive(Clone, Copy, PartialEq, Eq)]

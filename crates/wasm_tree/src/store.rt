@@ -1,6 +1,6 @@
 //! What modules are once they are linked (Core 1.0, section 4.2).
 
-use sqlite_items::Items;
+use tree_parts::Items;
 
 /// A value on the operand stack, in a local or a global: a number of 32 or of 64 bits, given by its bits.
 #[derive(Clone, Copy, PartialEq, Eq)]

@@ -10,8 +10,8 @@ use crate::frame::Frame;
 use crate::grouped::{Groups, count_ends};
 use crate::operands::Spares;
 use crate::typing::check_code;
-use sqlite_items::Items;
 use std::alloc::Global;
+use tree_parts::Items;
 use wasm_tree::{Body, FuncType, ValueType, WFault};
 
 /// What the function gives.

@@ -15,7 +15,7 @@ ghost use Rattle.wasm_valid.specs.Typing.{change, seen, called, called_slot, Exc
 use crate::code_scope::Scope;
 use crate::grouped::{Groups, in_groups};
 use crate::operands::Effect;
-use sqlite_items::at;
+use tree_parts::at;
 use wasm_tree::{Numeric, Op, ValueType, label_of};
 
 /// What the code of one function may name, but for the labels of its blocks.

@@ -5,8 +5,8 @@ ghost use Rattle.std.specs.Option.{option_map};
 ghost use Rattle.wasm_tree.specs.Validity.{declared};
 ghost use Rattle.wasm_valid.specs.Ends.{ends_from};
 
-use sqlite_items::at;
 use std::alloc::AllocError;
+use tree_parts::at;
 use wasm_tree::{Locals, ValueType};
 
 /// Declared locals. That of an index is found without a walk over the groups.

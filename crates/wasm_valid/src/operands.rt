@@ -4,8 +4,8 @@ ghost use Rattle.std.specs.Prelude.{◌≢◌, Err, ◌≡◌, ◌↔◌, ◌++�
 ghost use Rattle.wasm_tree.specs.Validity.{Are, result_types};
 ghost use Rattle.wasm_valid.specs.Typing.{Settles, Stands, TakesIf, Takes, Puts, Steps, Rule, seen, Leaves, Drops};
 
-use sqlite_items::Items;
 use std::alloc::Global;
+use tree_parts::Items;
 use wasm_tree::{FuncType, ValueType, WFault};
 
 /// The types of the operands that are known, the last on top, and whether any operands may stand below them: so it is

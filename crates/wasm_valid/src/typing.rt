@@ -13,8 +13,8 @@ use crate::code_scope::Scope;
 use crate::frame::{Frame, are_same_labels, effect_of};
 use crate::grouped::Groups;
 use crate::operands::{Operands, Spares, affect, may_be, no_operands, types_of};
-use sqlite_items::Items;
 use std::alloc::Global;
+use tree_parts::Items;
 use wasm_tree::{Op, ValueType, WFault, behind, first_of, split_ops};
 
 /// What the instruction does to the operands, whatever code stands inside it.

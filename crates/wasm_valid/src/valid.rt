@@ -10,10 +10,10 @@ ghost use Rattle.wasm_valid.specs.Single.{AreSingle};
 
 use crate::scope::{functions_of, initial_scope, names_of, whole_scope};
 use crate::{Scope, Spares, check_body, check_constant};
-use sqlite_items::at;
 use std::alloc::{AllocError, Global};
 use std::collections::HashSet;
 use std::marker::Model;
+use tree_parts::at;
 use wasm_tree::{
     Data, Element, Export, ExportKind, FuncType, Function, Global as Constant, Import, ImportKind,
     Limits, MemoryType, TableType, ValueType, WFault, WModule,

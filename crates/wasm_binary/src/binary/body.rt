@@ -5,8 +5,8 @@ ghost use Rattle.wasm_tree.specs.Format.{Format, Gives};
 ghost use Rattle.wasm_binary.specs.Binary.{declared, locals, locals_at, locals_encoding, body};
 
 use crate::binary::{Binary, MAX_ENTRIES};
-use sqlite_items::Items;
 use std::alloc::Global;
+use tree_parts::Items;
 use wasm_code::{Writer, closed, code_over, front, unsigned_at, write_code};
 use wasm_tree::{Body, EncodeError, Locals, Op, ValueType, WFault};
 

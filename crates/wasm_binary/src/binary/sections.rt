@@ -5,8 +5,8 @@ ghost use Rattle.wasm_tree.specs.Format.{Format, Gives};
 ghost use Rattle.wasm_binary.specs.Binary.{import_kind, import, global, export_kind, export, element, data_segment};
 
 use crate::binary::{Binary, vector, write_vector};
-use sqlite_items::Items;
 use std::alloc::Global;
+use tree_parts::Items;
 use wasm_code::{
     Writer, byte_at, closed, code_at, front, name_at, skip, unsigned_at, write_code, write_name,
 };

@@ -5,10 +5,10 @@ use Rattle.plain_run.proofs.Called.{none_asked, some_asked, no_room, ran}
 use Rattle.plain_run.proofs.runs.+runs.Goals as goal
 
 pub asked-returns-in-None-callee : goal.asked-returns-in-None-callee
-asked-returns-in-None-callee t c = ap (λ (n : ℕ). Ended n c.given_all.new.st.out) c.number.ensures ∙ none_asked c.args.around.now c.args.callee c.args.arguments.now c.in_ok-passed.field-0 c.in-Gave.passed c.in-Some.depth (seen c.args.st.now) c.given_all.new.st c.in_ok-passed.ensures c.in-Gave.is c.in-Some.ensures c.in-None-callee.is
+asked-returns-in-None-callee t c = ap (λ (n : ℕ). Ended n c.given_all.new.st.out) c.number.ensures ∙ none_asked c.args.around.now c.args.callee c.args.arguments.now c.in_ok-passed.field-0 c.in-Value.passed c.in-Some.depth (seen c.args.st.now) c.given_all.new.st c.in_ok-passed.ensures c.in-Value.is c.in-Some.ensures c.in-None-callee.is
 
 pub asked-returns-in-Some-callee : goal.asked-returns-in-Some-callee
-asked-returns-in-Some-callee t c = some_asked c.args.around.now c.args.callee c.in-Some-callee.callee c.args.arguments.now c.in_ok-passed.field-0 c.in-Gave.passed c.in-Some.depth (seen c.args.st.now) c.given_all.new.st c.body_run.new.st c.body_run.result c.in_ok-passed.ensures c.in-Gave.is c.in-Some.ensures c.in-Some-callee.is c.body_run.ensures
+asked-returns-in-Some-callee t c = some_asked c.args.around.now c.args.callee c.in-Some-callee.callee c.args.arguments.now c.in_ok-passed.field-0 c.in-Value.passed c.in-Some.depth (seen c.args.st.now) c.given_all.new.st c.body_run.new.st c.body_run.result c.in_ok-passed.ensures c.in-Value.is c.in-Some.ensures c.in-Some-callee.is c.body_run.ensures
 
 pub body_run-returns-in-None : goal.body_run-returns-in-None
 body_run-returns-in-None t c = ap (λ (n : ℕ). Ended n c.args.st.now.out) c.number.ensures ∙ no_room c.args.program.now c.args.depth c.args.request c.in_ok-rest_of.field-0 (seen c.args.st.now) c.in_ok-rest_of.ensures c.in-None.is

@@ -11,10 +11,10 @@ pop_i32-number-requires c =
 
 pub branch-machine-requires : goal.branch-machine-requires
 branch-machine-requires c =
-    under_choice (map label_of c.args.machine.now.now.labels.items) c.args.machine.now.now.arity c.args.default (map code.label_of c.args.branches.now) c.args.machine.now.now.stack.known.values c.pop_i32-number.new.self.known.values c.pop_i32-number.result c.chosen.result c.requires
-    c.pop_i32-number.ensures c.chosen.ensures
+    under_choice (map label_of c.args.machine.now.now.labels.items) c.args.machine.now.now.arity c.args.default (map code.label_of c.args.branches.now) c.args.machine.now.now.stack.known.values c.pop_i32-number.new.self.known.values c.pop_i32-number.result c.choice.result c.requires
+    c.pop_i32-number.ensures c.choice.ensures
 
 pub returns : goal.returns
 returns c =
-    tabled c.branch-machine.result c.branch-machine.new.machine (store_of c.args.machine.now) (activation c.args.machine.now.now) (callers_of c.args.machine.now) (map code.label_of c.args.branches.now) c.args.default c.pop_i32-number.result c.chosen.result
-    c.pop_i32-number.new.self.known.values c.pop_i32-number.ensures c.chosen.ensures c.branch-machine.ensures
+    tabled c.branch-machine.result c.branch-machine.new.machine (store_of c.args.machine.now) (activation c.args.machine.now.now) (callers_of c.args.machine.now) (map code.label_of c.args.branches.now) c.args.default c.pop_i32-number.result c.choice.result
+    c.pop_i32-number.new.self.known.values c.pop_i32-number.ensures c.choice.ensures c.branch-machine.ensures

@@ -1,0 +1,349 @@
+//! Typed expressions, and what they are made of.
+
+use crate::rows::{constant_row, numbered_row, procedure_row, slot_row, typed_row, variable_row};
+use show_code::Page;
+use std::alloc::AllocError;
+use tree_parts::Items;
+use typed_tree::{
+    Argument, Arithmetic, BITSET, BOOLEAN, CARDINAL, CHAR, Call, Comparison, Component, INTEGER,
+    Inclusion, Link, LocalProcedure, Place, Root, SetOperator, TypeNo, TypedExpr, TypedModule,
+};
+
+/// How an operator on two numbers is written.
+fn arithmetic_word(operator: Arithmetic) -> &'static str {
+    match operator {
+        Arithmetic::Add => "+",
+        Arithmetic::Subtract => "-",
+        Arithmetic::Multiply => "*",
+        Arithmetic::Divide => "DIV",
+        Arithmetic::Remainder => "MOD",
+    }
+}
+
+/// How a relation is written.
+fn comparison_word(relation: Comparison) -> &'static str {
+    match relation {
+        Comparison::Equal => "=",
+        Comparison::Unequal => "#",
+        Comparison::Less => "<",
+        Comparison::AtMost => "<=",
+        Comparison::Greater => ">",
+        Comparison::AtLeast => ">=",
+    }
+}
+
+/// How an operator on two sets is written.
+fn set_word(operator: SetOperator) -> &'static str {
+    match operator {
+        SetOperator::Union => "+",
+        SetOperator::Difference => "-",
+        SetOperator::Intersection => "*",
+        SetOperator::SymmetricDifference => "/",
+    }
+}
+
+/// How a relation between two sets is written.
+fn inclusion_word(relation: Inclusion) -> &'static str {
+    match relation {
+        Inclusion::Within => "<=",
+        Inclusion::Around => ">=",
+    }
+}
+
+/// A variable, or a formal, by what its name stands for.
+fn show_root(
+    page: &mut Page,
+    module: &TypedModule,
+    level: usize,
+    root: Root,
+) -> Result<(), AllocError> {
+    match root {
+        Root::Global(variable) => variable_row(page, module, level, variable),
+        Root::Local(slot) => slot_row(page, level, b"local", slot),
+        Root::Alias(slot) => slot_row(page, level, b"VAR formal", slot),
+        Root::Open(slot) => slot_row(page, level, b"open array", slot),
+        Root::With(number) => numbered_row(page, level, &[b"record of WITH"], number),
+    }
+}
+
+/// A procedure of a procedure.
+fn show_local_procedure(
+    page: &mut Page,
+    module: &TypedModule,
+    level: usize,
+    procedure: LocalProcedure,
+) -> Result<(), AllocError> {
+    numbered_row(page, level, &[b"call of local procedure"], procedure.number)?;
+    typed_row(
+        page,
+        module,
+        level.saturating_add(1),
+        &[b"heading"],
+        procedure.heading,
+    )
+}
+
+/// The word of an operator on one value, with the type of its result.
+fn show_word(
+    page: &mut Page,
+    module: &TypedModule,
+    level: usize,
+    word: &str,
+    t: TypeNo,
+) -> Result<(), AllocError> {
+    typed_row(page, module, level, &[word.as_bytes()], t)
+}
+
+/// A typed expression: its operator with the type of its result, and its operands below.
+#[cycle(computed)]
+pub fn show_value(
+    page: &mut Page,
+    module: &TypedModule,
+    level: usize,
+    e: &TypedExpr,
+) -> Result<(), AllocError> {
+    let inner = level.saturating_add(1);
+    match e {
+        TypedExpr::Constant(t, number) => constant_row(page, module, level, *number, *t),
+        TypedExpr::Load(t, place) => {
+            show_word(page, module, level, "value", *t)?;
+            show_place(page, module, inner, place)
+        }
+        TypedExpr::Procedure(procedure) => {
+            procedure_row(page, module, level, b"procedure", *procedure)
+        }
+        TypedExpr::Plus(t, e) => {
+            show_word(page, module, level, "+", *t)?;
+            show_value(page, module, inner, e.get())
+        }
+        TypedExpr::Negate(e) => {
+            show_word(page, module, level, "-", INTEGER)?;
+            show_value(page, module, inner, e.get())
+        }
+        TypedExpr::Chain(first, links) => {
+            show_value(page, module, level, first.get())?;
+            show_links(page, module, level, links.as_slice())
+        }
+        TypedExpr::Compare(relation, first, second) => {
+            show_word(page, module, level, comparison_word(*relation), BOOLEAN)?;
+            show_value(page, module, inner, first.get())?;
+            show_value(page, module, inner, second.get())
+        }
+        TypedExpr::Not(e) => {
+            show_word(page, module, level, "NOT", BOOLEAN)?;
+            show_value(page, module, inner, e.get())
+        }
+        TypedExpr::Include(relation, first, second) => {
+            show_word(page, module, level, inclusion_word(*relation), BOOLEAN)?;
+            show_value(page, module, inner, first.get())?;
+            show_value(page, module, inner, second.get())
+        }
+        TypedExpr::In(element, set) => {
+            show_word(page, module, level, "IN", BOOLEAN)?;
+            show_value(page, module, inner, element.get())?;
+            show_value(page, module, inner, set.get())
+        }
+        TypedExpr::Abs(_, _)
+        | TypedExpr::Cap(_)
+        | TypedExpr::Chr(_)
+        | TypedExpr::Odd(_)
+        | TypedExpr::Ord(_)
+        | TypedExpr::Val(_, _) => show_function(page, module, level, e),
+        TypedExpr::High(slot) => {
+            show_word(page, module, level, "HIGH", CARDINAL)?;
+            slot_row(page, inner, b"open array", *slot)
+        }
+        TypedExpr::Call(t, call) => {
+            show_word(page, module, level, "result", *t)?;
+            show_call(page, module, inner, call.get())
+        }
+    }
+}
+
+/// A standard function with its argument.
+#[cycle(computed)]
+fn show_function(
+    page: &mut Page,
+    module: &TypedModule,
+    level: usize,
+    e: &TypedExpr,
+) -> Result<(), AllocError> {
+    let inner = level.saturating_add(1);
+    match e {
+        TypedExpr::Abs(t, e) => {
+            show_word(page, module, level, "ABS", *t)?;
+            show_value(page, module, inner, e.get())
+        }
+        TypedExpr::Cap(e) => {
+            show_word(page, module, level, "CAP", CHAR)?;
+            show_value(page, module, inner, e.get())
+        }
+        TypedExpr::Chr(e) => {
+            show_word(page, module, level, "CHR", CHAR)?;
+            show_value(page, module, inner, e.get())
+        }
+        TypedExpr::Odd(e) => {
+            show_word(page, module, level, "ODD", BOOLEAN)?;
+            show_value(page, module, inner, e.get())
+        }
+        TypedExpr::Ord(e) => {
+            show_word(page, module, level, "ORD", CARDINAL)?;
+            show_value(page, module, inner, e.get())
+        }
+        TypedExpr::Val(t, e) => {
+            show_word(page, module, level, "VAL", *t)?;
+            show_value(page, module, inner, e.get())
+        }
+        _ => Ok(()),
+    }
+}
+
+/// Operators behind a first operand, each with its second operand below.
+#[cycle(computed)]
+fn show_links(
+    page: &mut Page,
+    module: &TypedModule,
+    level: usize,
+    links: &[Link],
+) -> Result<(), AllocError> {
+    for link in links {
+        show_link(page, module, level, link)?;
+    }
+    Ok(())
+}
+
+/// An operator with the type of its result, and its second operand below.
+#[cycle(computed)]
+fn show_link(
+    page: &mut Page,
+    module: &TypedModule,
+    level: usize,
+    link: &Link,
+) -> Result<(), AllocError> {
+    let inner = level.saturating_add(1);
+    match link {
+        Link::Arithmetic(operator, t, e) => {
+            show_word(page, module, level, arithmetic_word(*operator), *t)?;
+            show_value(page, module, inner, e)
+        }
+        Link::And(e) => {
+            show_word(page, module, level, "AND", BOOLEAN)?;
+            show_value(page, module, inner, e)
+        }
+        Link::Or(e) => {
+            show_word(page, module, level, "OR", BOOLEAN)?;
+            show_value(page, module, inner, e)
+        }
+        Link::Combine(operator, e) => {
+            show_word(page, module, level, set_word(*operator), BITSET)?;
+            show_value(page, module, inner, e)
+        }
+    }
+}
+
+/// A variable, and below it the components that lead to a part of it.
+#[cycle(computed)]
+pub fn show_place(
+    page: &mut Page,
+    module: &TypedModule,
+    level: usize,
+    place: &Place,
+) -> Result<(), AllocError> {
+    show_root(page, module, level, place.root)?;
+    for component in place.components.as_slice() {
+        show_component(page, module, level.saturating_add(1), component)?;
+    }
+    Ok(())
+}
+
+/// A field or an index, with the type that it is picked from.
+#[cycle(computed)]
+fn show_component(
+    page: &mut Page,
+    module: &TypedModule,
+    level: usize,
+    component: &Component,
+) -> Result<(), AllocError> {
+    match component {
+        Component::Field(t, number) => {
+            numbered_row(page, level, &[b"field"], *number)?;
+            show_word(page, module, level.saturating_add(1), "of", *t)
+        }
+        Component::Element(t, index) => {
+            show_word(page, module, level, "element of", *t)?;
+            show_value(page, module, level.saturating_add(1), index)
+        }
+        Component::OpenElement(_, t, index) => {
+            show_word(page, module, level, "element", *t)?;
+            show_value(page, module, level.saturating_add(1), index)
+        }
+    }
+}
+
+/// A call: what is called, and its arguments below.
+#[cycle(computed)]
+pub fn show_call(
+    page: &mut Page,
+    module: &TypedModule,
+    level: usize,
+    call: &Call,
+) -> Result<(), AllocError> {
+    match call {
+        Call::Module(procedure, arguments) => {
+            procedure_row(page, module, level, b"call of procedure", *procedure)?;
+            show_arguments(page, module, level.saturating_add(1), arguments)
+        }
+        Call::Nested(procedure, arguments) => {
+            show_local_procedure(page, module, level, *procedure)?;
+            show_arguments(page, module, level.saturating_add(1), arguments)
+        }
+        Call::Variable(t, place, arguments) => {
+            show_word(page, module, level, "call of the value of", *t)?;
+            show_place(page, module, level.saturating_add(1), place)?;
+            show_arguments(page, module, level.saturating_add(1), arguments)
+        }
+    }
+}
+
+/// Arguments, one behind another.
+#[cycle(computed)]
+fn show_arguments(
+    page: &mut Page,
+    module: &TypedModule,
+    level: usize,
+    arguments: &Items<Argument>,
+) -> Result<(), AllocError> {
+    for argument in arguments.as_slice() {
+        show_argument(page, module, level, argument)?;
+    }
+    Ok(())
+}
+
+/// What is given for a formal.
+#[cycle(computed)]
+fn show_argument(
+    page: &mut Page,
+    module: &TypedModule,
+    level: usize,
+    argument: &Argument,
+) -> Result<(), AllocError> {
+    let inner = level.saturating_add(1);
+    match argument {
+        Argument::Value(t, e) => {
+            show_word(page, module, level, "argument", *t)?;
+            show_value(page, module, inner, e)
+        }
+        Argument::Place(place) => {
+            page.row(level, &[b"argument"])?;
+            show_place(page, module, inner, place)
+        }
+        Argument::Array(t, place) => {
+            show_word(page, module, level, "open argument", *t)?;
+            show_place(page, module, inner, place)
+        }
+        Argument::Open(slot) => slot_row(page, level, b"open argument", *slot),
+        Argument::Text(text) => {
+            page.row(level, &[b"string argument '", text.get().as_bytes(), b"'"])
+        }
+    }
+}

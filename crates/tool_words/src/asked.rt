@@ -1,0 +1,76 @@
+//! What the command line asks for.
+
+use m2c::Options;
+
+/// How refusals are shown.
+#[derive(Clone, Copy, PartialEq, Eq)]
+pub enum Style {
+    /// For people.
+    Text,
+    /// For people, with a red mark under the token.
+    Coloured,
+    /// For programs, as JSON objects.
+    Json,
+}
+
+/// A pass of the compiler, of which it is shown what it makes.
+#[derive(Clone, Copy, PartialEq, Eq)]
+pub enum Pass {
+    /// The tokens of a text.
+    Tokens,
+    /// The tree of a text.
+    Tree,
+    /// The typed trees of all bodies of a program.
+    Types,
+    /// The code of all modules of a program.
+    Code,
+}
+
+/// How programs are found and built.
+#[derive(Drop)]
+pub struct Setting {
+    /// The workers and the pages of memory.
+    pub options: Options,
+    /// The folders in which modules are looked for behind that of the program, in this order.
+    pub libraries: Vec<String>,
+    /// Whether it is said what is found.
+    pub is_verbose: bool,
+    /// How refusals are shown.
+    pub style: Style,
+}
+
+/// What the command line asks for.
+#[derive(Drop)]
+pub enum Asked {
+    /// To run the program of this file, for at most this many reductions.
+    Run {
+        program: String,
+        setting: Setting,
+        steps: u64,
+    },
+    /// To write the modules of the program of this file into a folder.
+    Build {
+        program: String,
+        setting: Setting,
+        out: String,
+    },
+    /// To say what is refused of the programs of these files.
+    Check {
+        programs: Vec<String>,
+        setting: Setting,
+    },
+    /// To show what a pass makes of the program of this file.
+    Show {
+        pass: Pass,
+        program: String,
+        setting: Setting,
+    },
+    /// To print the page of a topic, or the list of all topics if this is empty.
+    Explain {
+        topic: String,
+    },
+    /// To write the files of a new program of this name.
+    New {
+        name: String,
+    },
+}

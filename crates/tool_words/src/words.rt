@@ -1,0 +1,394 @@
+//! The words of the command line.
+
+use crate::PROGRAM;
+use crate::asked::{Asked, Pass, Setting, Style};
+use crate::libraries::libraries_of;
+use anyhow::Result;
+use clap::{Arg, ArgAction, ArgMatches, Command};
+use command_words::{
+    COMMAND_LINE, Words, are_named, command_line, is_named, matches_of, number_option, strings_of,
+};
+use m2c::{MAX_PAGES, MAX_WORKERS, Options};
+use std::alloc::Global;
+use std::rt::{Env, Files};
+
+const VERSION: &str = "0.1.0";
+
+/// The most reductions that a run may be allowed.
+const MOST_STEPS: u64 = 1000000000000;
+
+/// The options that say how a program is found and built.
+fn with_setting<'a>(alloc: Global, command: Command<'a>) -> Result<Command<'a>> {
+    Ok(
+        command
+            .arg(
+                Arg::new(alloc, "lib")
+                    .long("lib")
+                    .value_name("DIR")
+                    .action(ArgAction::Append)
+                    .help("A folder in which modules are looked for; M2_LIB names more of them"),
+            )?
+            .arg(
+                Arg::new(alloc, "memory")
+                    .long("memory")
+                    .value_name("PAGES")
+                    .default_value("16")
+                    .help("The pages of 65536 bytes of the program's memory, from 1 to 1024"),
+            )?
+            .arg(
+                Arg::new(alloc, "workers")
+                    .long("workers")
+                    .value_name("N")
+                    .default_value("4")
+                    .help("How many threads compile, from 1 to 64"),
+            )?
+            .arg(
+                Arg::new(alloc, "format")
+                    .long("format")
+                    .value_name("FORMAT")
+                    .default_value("text")
+                    .help("How refusals are shown: text, or json for other programs"),
+            )?
+            .arg(
+                Arg::new(alloc, "color")
+                    .long("color")
+                    .value_name("WHEN")
+                    .default_value("never")
+                    .help("Whether the mark under a refusal is red: never or always"),
+            )?
+            .arg(
+                Arg::new(alloc, "verbose")
+                    .long("verbose")
+                    .action(ArgAction::SetTrue)
+                    .help("Says which files are found"),
+            )?,
+    )
+}
+
+/// The word for the program's file.
+fn program_word<'a>(alloc: Global) -> Arg<'a> {
+    Arg::new(alloc, "PROGRAM")
+        .required(true)
+        .help("The file of the program module; what it imports is found")
+}
+
+fn run_command<'a>(alloc: Global) -> Result<Command<'a>> {
+    let command = Command::new(alloc, "run")
+        .about("Compiles a program in memory and runs it")
+        .arg(program_word(alloc))?
+        .arg(
+            Arg::new(alloc, "steps")
+                .long("steps")
+                .value_name("N")
+                .default_value("1000000000")
+                .help("The most reductions that are made, from 1 to 1000000000000"),
+        )?;
+    with_setting(alloc, command)
+}
+
+fn build_command<'a>(alloc: Global) -> Result<Command<'a>> {
+    let command = Command::new(alloc, "build")
+        .about("Compiles a program to WebAssembly modules, link.wasm last")
+        .arg(program_word(alloc))?
+        .arg(
+            Arg::new(alloc, "out")
+                .long("out")
+                .value_name("DIR")
+                .required(true)
+                .help("The folder into which the modules are written"),
+        )?;
+    with_setting(alloc, command)
+}
+
+fn check_command<'a>(alloc: Global) -> Result<Command<'a>> {
+    let command = Command::new(alloc, "check")
+        .about("Says which rules a program breaks, and writes nothing")
+        .arg(program_word(alloc).action(ArgAction::Append).num_args(1..))?;
+    with_setting(alloc, command)
+}
+
+fn show_command<'a>(alloc: Global) -> Result<Command<'a>> {
+    let command = Command::new(alloc, "show")
+        .about("Shows what a pass makes of a program: tokens, tree, types or code")
+        .arg(
+            Arg::new(alloc, "PASS").required(true).help(
+                "tokens or tree of the file, or types or code of all modules of the program",
+            ),
+        )?
+        .arg(program_word(alloc))?;
+    with_setting(alloc, command)
+}
+
+fn explain_command<'a>(alloc: Global) -> Result<Command<'a>> {
+    Ok(
+        Command::new(alloc, "explain")
+            .about("Says what a refusal, a fault or a status means; without a topic, lists all")
+            .arg(
+                Arg::new(alloc, "TOPIC")
+                    .action(ArgAction::Append)
+                    .num_args(1..)
+                    .help("A number of a refusal, as 40; or fault 2, status 3, profile"),
+            )?,
+    )
+}
+
+fn new_command<'a>(alloc: Global) -> Result<Command<'a>> {
+    Ok(
+        Command::new(alloc, "new")
+            .about("Writes a program that runs, and a module for it")
+            .arg(
+                Arg::new(alloc, "NAME")
+                    .required(true)
+                    .help("The name of the program module"),
+            )?,
+    )
+}
+
+fn command<'a>(alloc: Global) -> Result<Command<'a>> {
+    Ok(
+        Command::new(alloc, PROGRAM)
+            .version(VERSION)
+            .about("Runs, builds, checks, shows and explains Modula-2 programs")
+            .subcommand_required(true)
+            .subcommand(run_command(alloc)?)?
+            .subcommand(build_command(alloc)?)?
+            .subcommand(check_command(alloc)?)?
+            .subcommand(show_command(alloc)?)?
+            .subcommand(explain_command(alloc)?)?
+            .subcommand(new_command(alloc)?)?,
+    )
+}
+
+/// The workers and the pages. A number that they cannot be is reported.
+fn options_of<R: Eprint>(rt: &R, matches: &ArgMatches) -> Option<Options> {
+    let text = matches.get_str("workers").unwrap_or("");
+    let workers = number_option(rt, PROGRAM, "workers", text, MAX_WORKERS as u64)?;
+    let text = matches.get_str("memory").unwrap_or("");
+    let pages = number_option(rt, PROGRAM, "memory", text, u64::from(MAX_PAGES))?;
+    Some(Options {
+        workers: workers as usize,
+        pages: pages as u32,
+    })
+}
+
+/// Whether the other of two words was chosen. Any other word is reported.
+fn choice_of<R: Eprint>(
+    rt: &R,
+    matches: &ArgMatches,
+    id: &str,
+    usual: &str,
+    other: &str,
+) -> Option<bool> {
+    let word = matches.get_str(id).unwrap_or(usual);
+    if word != usual && word != other {
+        let _ = eprintln!(rt; "{PROGRAM}: --{id} takes {usual} or {other}, not {word}");
+        return None;
+    }
+    Some(word == other)
+}
+
+/// How refusals are shown. What they cannot be is reported.
+fn style_of<R: Eprint>(rt: &R, matches: &ArgMatches) -> Option<Style> {
+    let is_json = choice_of(rt, matches, "format", "text", "json")?;
+    let is_coloured = choice_of(rt, matches, "color", "never", "always")?;
+    if is_json {
+        return Some(Style::Json);
+    }
+    Some(if is_coloured {
+        Style::Coloured
+    } else {
+        Style::Text
+    })
+}
+
+/// How programs are found and built. What cannot be had is reported.
+fn setting_of<R>(rt: &R, matches: &ArgMatches) -> Result<Words<Setting>>
+where
+    R: Files + Env + Eprint + AllocGlobal,
+{
+    let Some(options) = options_of(rt, matches) else {
+        return Ok(Words::Reported(COMMAND_LINE));
+    };
+    let Some(style) = style_of(rt, matches) else {
+        return Ok(Words::Reported(COMMAND_LINE));
+    };
+    let folders = matches.get_strs("lib").unwrap_or(&[]);
+    match libraries_of(rt, folders)? {
+        Words::Reported(status) => Ok(Words::Reported(status)),
+        Words::Read(libraries) => Ok(Words::Read(Setting {
+            options,
+            libraries,
+            is_verbose: matches.get_flag("verbose"),
+            style,
+        })),
+    }
+}
+
+/// The value of an option or a word that names a file or a folder. An empty name is reported.
+fn name_of<R>(rt: &R, matches: &ArgMatches, id: &str, said: &str) -> Result<Words<String>>
+where
+    R: Eprint + AllocGlobal,
+{
+    let name = matches.get_str(id).unwrap_or("");
+    if !is_named(rt, PROGRAM, said, name) {
+        return Ok(Words::Reported(COMMAND_LINE));
+    }
+    Ok(Words::Read(String::from_str(rt.alloc(), name)?))
+}
+
+/// The program's file, and how it is found and built.
+fn program_of<R>(rt: &R, matches: &ArgMatches) -> Result<Words<(String, Setting)>>
+where
+    R: Files + Env + Eprint + AllocGlobal,
+{
+    let program = match name_of(rt, matches, "PROGRAM", "PROGRAM")? {
+        Words::Read(program) => program,
+        Words::Reported(status) => return Ok(Words::Reported(status)),
+    };
+    match setting_of(rt, matches)? {
+        Words::Read(setting) => Ok(Words::Read((program, setting))),
+        Words::Reported(status) => Ok(Words::Reported(status)),
+    }
+}
+
+fn run_asked<R>(rt: &R, matches: &ArgMatches) -> Result<Words<Asked>>
+where
+    R: Files + Env + Eprint + AllocGlobal,
+{
+    let text = matches.get_str("steps").unwrap_or("");
+    let Some(steps) = number_option(rt, PROGRAM, "steps", text, MOST_STEPS) else {
+        return Ok(Words::Reported(COMMAND_LINE));
+    };
+    match program_of(rt, matches)? {
+        Words::Reported(status) => Ok(Words::Reported(status)),
+        Words::Read((program, setting)) => Ok(Words::Read(Asked::Run {
+            program,
+            setting,
+            steps,
+        })),
+    }
+}
+
+fn build_asked<R>(rt: &R, matches: &ArgMatches) -> Result<Words<Asked>>
+where
+    R: Files + Env + Eprint + AllocGlobal,
+{
+    let out = match name_of(rt, matches, "out", "--out")? {
+        Words::Read(out) => out,
+        Words::Reported(status) => return Ok(Words::Reported(status)),
+    };
+    match program_of(rt, matches)? {
+        Words::Reported(status) => Ok(Words::Reported(status)),
+        Words::Read((program, setting)) => Ok(Words::Read(Asked::Build {
+            program,
+            setting,
+            out,
+        })),
+    }
+}
+
+fn check_asked<R>(rt: &R, matches: &ArgMatches) -> Result<Words<Asked>>
+where
+    R: Files + Env + Eprint + AllocGlobal,
+{
+    let programs = matches.get_strs("PROGRAM").unwrap_or(&[]);
+    if !are_named(rt, PROGRAM, "PROGRAM", programs) {
+        return Ok(Words::Reported(COMMAND_LINE));
+    }
+    let programs = strings_of(rt.alloc(), programs)?;
+    match setting_of(rt, matches)? {
+        Words::Read(setting) => Ok(Words::Read(Asked::Check { programs, setting })),
+        Words::Reported(status) => Ok(Words::Reported(status)),
+    }
+}
+
+/// The pass of this name. Any other word is reported.
+fn pass_of<R: Eprint>(rt: &R, word: &str) -> Option<Pass> {
+    match word {
+        "tokens" => Some(Pass::Tokens),
+        "tree" => Some(Pass::Tree),
+        "types" => Some(Pass::Types),
+        "code" => Some(Pass::Code),
+        _ => {
+            let _ = eprintln!(rt; "{PROGRAM}: PASS is tokens, tree, types or code, not {word}");
+            None
+        }
+    }
+}
+
+fn show_asked<R>(rt: &R, matches: &ArgMatches) -> Result<Words<Asked>>
+where
+    R: Files + Env + Eprint + AllocGlobal,
+{
+    let Some(pass) = pass_of(rt, matches.get_str("PASS").unwrap_or("")) else {
+        return Ok(Words::Reported(COMMAND_LINE));
+    };
+    match program_of(rt, matches)? {
+        Words::Reported(status) => Ok(Words::Reported(status)),
+        Words::Read((program, setting)) => Ok(Words::Read(Asked::Show {
+            pass,
+            program,
+            setting,
+        })),
+    }
+}
+
+/// The words of a topic, with a blank between two.
+fn topic_of(alloc: Global, words: &[&str]) -> Result<String> {
+    let mut topic = String::new(alloc);
+    for word in words {
+        if !topic.is_empty() {
+            topic.push_str(" ")?;
+        }
+        topic.push_str(word)?;
+    }
+    Ok(topic)
+}
+
+fn explain_asked(alloc: Global, matches: &ArgMatches) -> Result<Words<Asked>> {
+    let words = matches.get_strs("TOPIC").unwrap_or(&[]);
+    Ok(Words::Read(Asked::Explain {
+        topic: topic_of(alloc, words)?,
+    }))
+}
+
+fn new_asked<R>(rt: &R, matches: &ArgMatches) -> Result<Words<Asked>>
+where
+    R: Eprint + AllocGlobal,
+{
+    match name_of(rt, matches, "NAME", "NAME")? {
+        Words::Read(name) => Ok(Words::Read(Asked::New { name })),
+        Words::Reported(status) => Ok(Words::Reported(status)),
+    }
+}
+
+/// What a subcommand asks for.
+fn requested<R>(rt: &R, matches: &ArgMatches) -> Result<Words<Asked>>
+where
+    R: Files + Env + Eprint + AllocGlobal,
+{
+    match matches.subcommand() {
+        Some(("run", inner)) => run_asked(rt, inner),
+        Some(("build", inner)) => build_asked(rt, inner),
+        Some(("check", inner)) => check_asked(rt, inner),
+        Some(("show", inner)) => show_asked(rt, inner),
+        Some(("explain", inner)) => explain_asked(rt.alloc(), inner),
+        Some(("new", inner)) => new_asked(rt, inner),
+        _ => Ok(Words::Reported(COMMAND_LINE)),
+    }
+}
+
+/// What the command line asks for.
+pub fn read_command_line<R>(rt: &R) -> Result<Words<Asked>>
+where
+    R: Files + Env + Print + Eprint + AllocGlobal,
+{
+    let words = match command_line(rt, PROGRAM)? {
+        Words::Read(words) => words,
+        Words::Reported(status) => return Ok(Words::Reported(status)),
+    };
+    match matches_of(rt, command(rt.alloc())?, &words)? {
+        Words::Read(matches) => requested(rt, &matches),
+        Words::Reported(status) => Ok(Words::Reported(status)),
+    }
+}
