@@ -34,5 +34,8 @@ module _ (g : Gathers) (j : Judges g) where
   exports_it (Some m) = has_exported m
 
   pub names_there : (s : Scope g.Reported) → (names : Ident → Standing) × (exports : ℕ → Ident → Standing) × Knows g j names exports s
-  names_there s = ((λ name. standing_by (looked_up g s name)), (λ k name. export_by (exported_by name.name (slice_get s.tables k))),
-      record { of_names = λ name. sees_it name.pos (looked_up g s name); of_modules = λ k name. exports_it (exported_by name.name (slice_get s.tables k)) })
+  names_there s = (
+    (λ name. standing_by (looked_up g s name)),
+    (λ k name. export_by (exported_by name.name (slice_get s.tables k))),
+    record { of_names = λ name. sees_it name.pos (looked_up g s name); of_modules = λ k name. exports_it (exported_by name.name (slice_get s.tables k)) },
+  )
