@@ -11,7 +11,7 @@ use Rattle.typed_tree.specs.declared.shape.Scalar.{Scalar as Range}
 use Rattle.typed_tree.specs.declared.shape.Shape.TheVariants as shape
 use Rattle.typed_tree.specs.declared.known_types.Types.{Types}
 use Rattle.typed_tree.specs.Types.{boolean, char}
-use Rattle.check_scope.specs.declared.fault.Fault.{Fault}
+use Rattle.m2_rule.specs.declared.breach.Breach.{Breach}
 use Rattle.def_typing.specs.Shapes.{IsMade}
 use Rattle.def_typing.specs.Operators.{◌!◌, Kind, Text, Whole, operand}
 use Rattle.def_typing.specs.Things.{Thing, AVariable, AnOpenArray, Standing, content, IsAssignable, Misassigned}
@@ -39,8 +39,8 @@ pub data IsTarget : Thing → Type 0 where
   an_open_array : {t : TypeNo} → IsTarget (AnOpenArray t)
 
 -- the refusals of a value that is assigned
-pub data Untaken (types : Types) (at : Pos) (k : Kind) : Thing → Fault → Type 0 where
-  of_type : {t : TypeNo} {f : Fault} → (content types t ≡ Whole t → ⊥)
+pub data Untaken (types : Types) (at : Pos) (k : Kind) : Thing → Breach → Type 0 where
+  of_type : {t : TypeNo} {f : Breach} → (content types t ≡ Whole t → ⊥)
       → Misassigned types t at rule.NotAssignable (operand k) f
       → Untaken types at k (AVariable t) f
   of_whole : {t : TypeNo} → content types t ≡ Whole t → (MayTake types t k → ⊥)
@@ -49,7 +49,7 @@ pub data Untaken (types : Types) (at : Pos) (k : Kind) : Thing → Fault → Typ
 
 module _ (types : Types) (names : Ident → Standing) (exports : ℕ → Ident → Standing) where
   -- what is broken in a designator
-  pub data BrokenDesignator (d : Designator) (f : Fault) : Type 0 where
+  pub data BrokenDesignator (d : Designator) (f : Breach) : Type 0 where
     at_designator : Fails types names exports (layer.Use d None) f → BrokenDesignator d f
     in_designator : {x : Expr} → IsPart x (layer.Use d None) → Broken types names exports x f
         → BrokenDesignator d f
@@ -59,12 +59,12 @@ module _ (types : Types) (names : Ident → Standing) (exports : ℕ → Ident �
     assigns : {t : TypeNo} {k : Kind} → Denotes types names exports d (AVariable t)
         → Has types names exports e k → MayTake types t k → Assigns d e
 
-  pub data BrokenAssignment (d : Designator) (e : Expr) : Fault → Type 0 where
-    on_the_left : {f : Fault} → BrokenDesignator d f → BrokenAssignment d e f
-    on_the_right : {f : Fault} → BrokenAsValue types names exports e f → BrokenAssignment d e f
+  pub data BrokenAssignment (d : Designator) (e : Expr) : Breach → Type 0 where
+    on_the_left : {f : Breach} → BrokenDesignator d f → BrokenAssignment d e f
+    on_the_right : {f : Breach} → BrokenAsValue types names exports e f → BrokenAssignment d e f
     no_target : {x : Thing} → Denotes types names exports d x → (IsTarget x → ⊥)
         → BrokenAssignment d e ((out-Designator d).name.pos ! rule.WrongType)
-    unassignable : {x : Thing} {k : Kind} {f : Fault} → Denotes types names exports d x
+    unassignable : {x : Thing} {k : Kind} {f : Breach} → Denotes types names exports d x
         → IsTarget x → Has types names exports e k → Untaken types (first e) k x f
         → BrokenAssignment d e f
 
@@ -73,7 +73,7 @@ module _ (types : Types) (names : Ident → Standing) (exports : ℕ → Ident �
     is_condition : {k : Kind} → Has types names exports e k → IsAssignable types boolean (operand k)
         → IsCondition e
 
-  pub data BrokenCondition (e : Expr) (f : Fault) : Type 0 where
+  pub data BrokenCondition (e : Expr) (f : Breach) : Type 0 where
     in_condition : BrokenAsValue types names exports e f → BrokenCondition e f
     no_boolean : {k : Kind} → Has types names exports e k
         → Misassigned types boolean (first e) rule.WrongType (operand k) f → BrokenCondition e f

@@ -16,7 +16,7 @@ use Rattle.m2_tree.specs.declared.expr.Item.{Item, Item-F, out-Item}
 use Rattle.typed_tree.specs.declared.types.TypeNo.{TypeNo}
 use Rattle.typed_tree.specs.declared.known_types.Types.{Types}
 use Rattle.typed_tree.specs.Types.{bitset, char}
-use Rattle.check_scope.specs.declared.fault.Fault.{Fault}
+use Rattle.m2_rule.specs.declared.breach.Breach.{Breach}
 use Rattle.check_const_ops.specs.declared.operator.BinaryOp.TheVariants as op
 use Rattle.check_const_ops.specs.Sets.{with_span}
 use Rattle.def_typing.specs.Amounts.{Constant, IsNumber, GoTogether, Within}
@@ -42,7 +42,7 @@ FixedAs Ahead y = y ≡ NoConstant
 FixedAs other y = ⊥
 
 -- the refusals at a name in a constant expression
-pub record FixedMisnamed (at : Pos) (s : Standing) (f : Fault) : Type 0 where
+pub record FixedMisnamed (at : Pos) (s : Standing) (f : Breach) : Type 0 where
   pub not_ahead : s ≡ Ahead → ⊥
   pub misnamed : Misnamed at s f
 
@@ -58,8 +58,8 @@ pub data FixedPicks (exports : ℕ → Ident → Standing)
   of_element : {at : Pos} {e : Expr} → FixedPicks exports NoConstant (layer.Index at e) NoConstant
 
 pub data FixedMispicks (exports : ℕ → Ident → Standing)
-    : Fixed → Selector-F Expr Selector Designator Item → Fault → Type 0 where
-  in_module : {k : ℕ} {at : Pos} {name : Ident} {f : Fault}
+    : Fixed → Selector-F Expr Selector Designator Item → Breach → Type 0 where
+  in_module : {k : ℕ} {at : Pos} {name : Ident} {f : Breach}
       → FixedMisnamed name.pos (exports k name) f
       → FixedMispicks exports (AScope k) (layer.Field at name) f
   -- Constants and modules have no components.
@@ -78,10 +78,10 @@ pub data FixedSelected (exports : ℕ → Ident → Standing)
       → FixedSelected exports x (s ∷ ss) z
 
 pub data FixedSelectionFails (exports : ℕ → Ident → Standing)
-    : Fixed → List Selector → Fault → Type 0 where
-  at_next : {x : Fixed} {s : Selector} {ss : List Selector} {f : Fault}
+    : Fixed → List Selector → Breach → Type 0 where
+  at_next : {x : Fixed} {s : Selector} {ss : List Selector} {f : Breach}
       → FixedMispicks exports x (out-Selector s) f → FixedSelectionFails exports x (s ∷ ss) f
-  behind : {x y : Fixed} {s : Selector} {ss : List Selector} {f : Fault}
+  behind : {x y : Fixed} {s : Selector} {ss : List Selector} {f : Breach}
       → FixedPicks exports x (out-Selector s) y → FixedSelectionFails exports y ss f
       → FixedSelectionFails exports x (s ∷ ss) f
 
@@ -110,8 +110,8 @@ pub data IsFixedPart : Expr → Expr-F Expr Selector Designator Item → Type 0 
       → Among i items → IsBound e (out-Item i) → IsFixedPart e (layer.Set name at items)
 
 -- the refusals at the name of a set's type
-pub data Misset (at : Pos) : Standing → Fault → Type 0 where
-  no_name : {s : Standing} {f : Fault} → FixedMisnamed at s f → Misset at s f
+pub data Misset (at : Pos) : Standing → Breach → Type 0 where
+  no_name : {s : Standing} {f : Breach} → FixedMisnamed at s f → Misset at s f
   no_set_type : {x : Thing} → (x ≡ AType bitset → ⊥) → Misset at (Known x) (at ! rule.NoType)
   no_type_yet : Misset at Ahead (at ! rule.NoType)
 
@@ -183,17 +183,17 @@ module _ (types : Types) (names : Ident → Standing) (exports : ℕ → Ident �
 
   -- ---- rules that are broken
 
-  pub data FixedChainFails (left : Pos) : Kind → List Operand → Fault → Type 0 where
-    fixed_at_once : {a b : Kind} {x : Operand} {xs : List Operand} {f : Fault}
+  pub data FixedChainFails (left : Pos) : Kind → List Operand → Breach → Type 0 where
+    fixed_at_once : {a b : Kind} {x : Operand} {xs : List Operand} {f : Breach}
         → Fixes x.of (AConstant b)
         → Misused types x.op x.spot left (first x.of) (operand a) (operand b) f
         → FixedChainFails left a (x ∷ xs) f
-    fixed_further : {a b c : Kind} {x : Operand} {xs : List Operand} {f : Fault}
+    fixed_further : {a b c : Kind} {x : Operand} {xs : List Operand} {f : Breach}
         → Fixes x.of (AConstant b) → Makes types x.op (operand a) (operand b) c
         → FixedChainFails left c xs f → FixedChainFails left a (x ∷ xs) f
 
   -- the refusals of an element in braces
-  pub data ItemFails (i : Item-F Expr Selector Designator Item) : Fault → Type 0 where
+  pub data ItemFails (i : Item-F Expr Selector Designator Item) : Breach → Type 0 where
     no_number : {e : Expr} {k : Kind} → IsBound e i → Fixes e (AConstant k)
         → ((sort : Option TypeNo) (n : ℤ) → HasNumber e sort n → ⊥)
         → ItemFails i (first e ! rule.WrongType)
@@ -207,11 +207,11 @@ module _ (types : Types) (names : Ident → Standing) (exports : ℕ → Ident �
         → HasNumber i.low s n → HasNumber high t m → GoTogether s t u → int_lt m n ≡ true
         → ItemFails i (first i.low ! rule.EmptyRange)
 
-  pub data FixedFails : Expr-F Expr Selector Designator Item → Fault → Type 0 where
-    fixed_at_name : {d : Designator} {f : Fault}
+  pub data FixedFails : Expr-F Expr Selector Designator Item → Breach → Type 0 where
+    fixed_at_name : {d : Designator} {f : Breach}
         → FixedMisnamed (out-Designator d).name.pos (names (out-Designator d).name) f
         → FixedFails (layer.Use d None) f
-    fixed_at_selector : {d : Designator} {x : Fixed} {f : Fault}
+    fixed_at_selector : {d : Designator} {x : Fixed} {f : Breach}
         → FixedAs (names (out-Designator d).name) x
         → FixedSelectionFails exports x (out-Designator d).selectors f
         → FixedFails (layer.Use d None) f
@@ -220,37 +220,37 @@ module _ (types : Types) (names : Ident → Standing) (exports : ℕ → Ident �
         → FixedFails y (first e ! rule.NoConstant)
     fixed_not_boolean : {at : Pos} {e : Expr} {a : Kind} → Fixes e (AConstant a)
         → ((k : Kind) → Negates a k → ⊥) → FixedFails (layer.Not at e) (at ! rule.WrongType)
-    fixed_in_term : {e : Expr} {rest : List (Operator MulOp × Expr)} {a : Kind} {f : Fault}
+    fixed_in_term : {e : Expr} {rest : List (Operator MulOp × Expr)} {a : Kind} {f : Breach}
         → Fixes e (AConstant a) → FixedChainFails (first e) a (factors rest) f
         → FixedFails (layer.Term e rest) f
-    fixed_in_sum : {e : Expr} {rest : List (Operator AddOp × Expr)} {a : Kind} {f : Fault}
+    fixed_in_sum : {e : Expr} {rest : List (Operator AddOp × Expr)} {a : Kind} {f : Breach}
         → Fixes e (AConstant a) → FixedChainFails (first e) a (addends rest) f
         → FixedFails (layer.Sum None e rest) f
     fixed_at_sign : {sign : Operator Sign} {e : Expr} {rest : List (Operator AddOp × Expr)}
-        {a : Kind} {f : Fault} → Fixes e (AConstant a)
+        {a : Kind} {f : Breach} → Fixes e (AConstant a)
         → Misapplied (MaySign sign.op (operand a)) (SignMakes sign.op (operand a)) sign.pos
         rule.WrongType f
         → FixedFails (layer.Sum (Some sign) e rest) f
     fixed_in_signed_sum : {sign : Operator Sign} {e : Expr} {rest : List (Operator AddOp × Expr)}
-        {a b : Kind} {f : Fault} → Fixes e (AConstant a) → SignMakes sign.op (operand a) b
+        {a b : Kind} {f : Breach} → Fixes e (AConstant a) → SignMakes sign.op (operand a) b
         → FixedChainFails sign.pos b (addends rest) f
         → FixedFails (layer.Sum (Some sign) e rest) f
-    fixed_at_relation : {a b : Expr} {o : Operator RelOp} {x y : Kind} {f : Fault}
+    fixed_at_relation : {a b : Expr} {o : Operator RelOp} {x y : Kind} {f : Breach}
         → Fixes a (AConstant x) → Fixes b (AConstant y)
         → Misused types (op.Relation o.op) o.pos (first a) (first b) (operand x) (operand y) f
         → FixedFails (layer.Relation a o b) f
-    at_set_type : {name : Ident} {at : Pos} {items : List Item} {f : Fault}
+    at_set_type : {name : Ident} {at : Pos} {items : List Item} {f : Breach}
         → Misset name.pos (names name) f → FixedFails (layer.Set (Some name) at items) f
-    at_item : {name : Option Ident} {at : Pos} {items : List Item} {i : Item} {f : Fault}
+    at_item : {name : Option Ident} {at : Pos} {items : List Item} {i : Item} {f : Breach}
         → Among i items → ItemFails (out-Item i) f → FixedFails (layer.Set name at items) f
 
-  pub data FixedBroken : Expr → Fault → Type 0 where
-    fixed_fails : {e : Expr} {f : Fault} → FixedFails (out-Expr e) f → FixedBroken e f
-    fixed_inside : {e x : Expr} {f : Fault} → IsFixedPart x (out-Expr e) → FixedBroken x f
+  pub data FixedBroken : Expr → Breach → Type 0 where
+    fixed_fails : {e : Expr} {f : Breach} → FixedFails (out-Expr e) f → FixedBroken e f
+    fixed_inside : {e x : Expr} {f : Breach} → IsFixedPart x (out-Expr e) → FixedBroken x f
         → FixedBroken e f
 
   -- the same of an expression that has to be constant
-  pub data BrokenAsConstant (e : Expr) : Fault → Type 0 where
-    broken_constant : {f : Fault} → FixedBroken e f → BrokenAsConstant e f
+  pub data BrokenAsConstant (e : Expr) : Breach → Type 0 where
+    broken_constant : {f : Breach} → FixedBroken e f → BrokenAsConstant e f
     not_constant : {x : Fixed} → Fixes e x → ((k : Kind) → x ≡ AConstant k → ⊥)
         → BrokenAsConstant e (first e ! rule.NoConstant)

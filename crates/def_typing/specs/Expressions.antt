@@ -21,7 +21,7 @@ use Rattle.typed_tree.specs.declared.shape.Scalar.{Scalar as Range}
 use Rattle.typed_tree.specs.declared.shape.Signature.{Signature}
 use Rattle.typed_tree.specs.declared.known_types.Types.{Types}
 use Rattle.typed_tree.specs.Types.{cardinal, char}
-use Rattle.check_scope.specs.declared.fault.Fault.{Fault}
+use Rattle.m2_rule.specs.declared.breach.Breach.{Breach}
 use Rattle.check_const_ops.specs.declared.operator.BinaryOp.TheVariants as op
 use Rattle.def_typing.specs.Parts.{first, Operand, factors, addends, Among}
 use Rattle.def_typing.specs.Constants.{AConstant, FixedReads, FixedFails, IsFixedPart, FixedBroken}
@@ -164,29 +164,29 @@ module _ (types : Types) (names : Ident → Standing) (exports : ℕ → Ident �
   -- ---- rules that are broken
 
   -- the refusals at a component
-  pub data Misselected : Thing → Selector-F Expr Selector Designator Item → Fault → Type 0 where
+  pub data Misselected : Thing → Selector-F Expr Selector Designator Item → Breach → Type 0 where
     no_components : {x : Thing} {at : Pos} {name : Ident}
         → ((s : Standing) → Picks types exports name x s → ⊥)
         → Misselected x (layer.Field at name) (at ! rule.WrongType)
-    at_field : {x : Thing} {at : Pos} {name : Ident} {s : Standing} {f : Fault}
+    at_field : {x : Thing} {at : Pos} {name : Ident} {s : Standing} {f : Breach}
         → Picks types exports name x s → Misnamed name.pos s f
         → Misselected x (layer.Field at name) f
     no_elements : {x : Thing} {at : Pos} {e : Expr} → ((i t : TypeNo) → Indexes types x i t → ⊥)
         → Misselected x (layer.Index at e) (at ! rule.WrongType)
-    at_index : {x : Thing} {i t : TypeNo} {at : Pos} {e : Expr} {k : Kind} {f : Fault}
+    at_index : {x : Thing} {i t : TypeNo} {at : Pos} {e : Expr} {k : Kind} {f : Breach}
         → Indexes types x i t → Has e k
         → Misassigned types i (first e) rule.NotAssignable (operand k) f
         → Misselected x (layer.Index at e) f
 
   -- as far as what stands before it stands for something
-  pub data SelectionFails : Thing → List Selector → Fault → Type 0 where
-    at_next : {x : Thing} {s : Selector} {ss : List Selector} {f : Fault}
+  pub data SelectionFails : Thing → List Selector → Breach → Type 0 where
+    at_next : {x : Thing} {s : Selector} {ss : List Selector} {f : Breach}
         → Misselected x (out-Selector s) f → SelectionFails x (s ∷ ss) f
-    behind : {x y : Thing} {s : Selector} {ss : List Selector} {f : Fault}
+    behind : {x y : Thing} {s : Selector} {ss : List Selector} {f : Breach}
         → Selects x (out-Selector s) y → SelectionFails y ss f → SelectionFails x (s ∷ ss) f
 
   -- the refusals at a call
-  pub data Miscalled (at : Pos) : Thing → List Expr → Fault → Type 0 where
+  pub data Miscalled (at : Pos) : Thing → List Expr → Breach → Type 0 where
     -- Only functions are called in expressions.
     no_function : {x : Thing} {args : List Expr} → (x ≡ Headless → ⊥)
         → ((n : ℕ) → IsFunctionOf types x n → ⊥) → Miscalled at x args (at ! rule.WrongType)
@@ -195,20 +195,20 @@ module _ (types : Types) (names : Ident → Standing) (exports : ℕ → Ident �
         → (n ≡ length args → ⊥) → Miscalled at x args (at ! rule.ArgumentCount)
     -- Each argument suits its formal.
     mispassed : {x y : Thing} {s : Signature} {t : TypeNo} {args : List Expr} {formal : Formal}
-        {e : Expr} {f : Fault} → HasHeading types x s → s.result ≡ Some t
+        {e : Expr} {f : Breach} → HasHeading types x s → s.result ≡ Some t
         → length s.formals ≡ length args → Beside formal e s.formals args → Stands e y
         → Mispassed types (first e) formal y f → Miscalled at x args f
-    no_value : {p : Standard} {args : List Expr} {e : Expr} {x : Thing} {f : Fault}
+    no_value : {p : Standard} {args : List Expr} {e : Expr} {x : Thing} {f : Breach}
         → TakesValue p args e → Stands e x → Mistaken (first e) x f
         → Miscalled at (AStandard p) args f
-    misapplied : {p : Standard} {e : Expr} {k : Kind} {f : Fault} → IsOfOne p → Has e k
+    misapplied : {p : Standard} {e : Expr} {k : Kind} {f : Breach} → IsOfOne p → Has e k
         → Misapplied (MayApply p (operand k)) (Applies p (operand k)) (first e) rule.WrongArgument f
         → Miscalled at (AStandard p) (e ∷ []) f
     no_type : {p : Standard} {args : List Expr} {e : Expr} {x : Thing} → TakesType p args e
         → Stands e x
         → ((r : Range) → NamesScalar types x r → ⊥)
         → Miscalled at (AStandard p) args (first e ! rule.NoType)
-    misconverted : {t e : Expr} {x : Thing} {r : Range} {k : Kind} {f : Fault}
+    misconverted : {t e : Expr} {x : Thing} {r : Range} {k : Kind} {f : Breach}
         → Stands t x
         → NamesScalar types x r
         → Has e k
@@ -216,61 +216,61 @@ module _ (types : Types) (names : Ident → Standing) (exports : ℕ → Ident �
         f
         → Miscalled at (AStandard Val) (t ∷ e ∷ []) f
     no_open_array : {e : Expr} {x : Thing} → Stands e x → ((t : TypeNo) → x ≡ AnOpenArray t → ⊥)
-        → ((f : Fault) → Mistaken (first e) x f → ⊥)
+        → ((f : Breach) → Mistaken (first e) x f → ⊥)
         → Miscalled at (AStandard High) (e ∷ []) (first e ! rule.WrongArgument)
 
   -- the refusals at operators of a chain, as far as what stands before them has a value
-  pub data ChainFails (left : Pos) : Kind → List Operand → Fault → Type 0 where
-    at_once : {a b : Kind} {x : Operand} {xs : List Operand} {f : Fault} → Has x.of b
+  pub data ChainFails (left : Pos) : Kind → List Operand → Breach → Type 0 where
+    at_once : {a b : Kind} {x : Operand} {xs : List Operand} {f : Breach} → Has x.of b
         → Misused types x.op x.spot left (first x.of) (operand a) (operand b) f
         → ChainFails left a (x ∷ xs) f
-    further : {a b c : Kind} {x : Operand} {xs : List Operand} {f : Fault} → Has x.of b
+    further : {a b c : Kind} {x : Operand} {xs : List Operand} {f : Breach} → Has x.of b
         → Makes types x.op (operand a) (operand b) c → ChainFails left c xs f
         → ChainFails left a (x ∷ xs) f
 
   -- A rule fails at a token of the construct itself. It speaks only if the parts that it looks at
   -- have a meaning.
-  pub data Fails : Expr-F Expr Selector Designator Item → Fault → Type 0 where
-    at_name : {d : Designator} {args : Option (List Expr)} {f : Fault}
+  pub data Fails : Expr-F Expr Selector Designator Item → Breach → Type 0 where
+    at_name : {d : Designator} {args : Option (List Expr)} {f : Breach}
         → Misnamed (out-Designator d).name.pos (names (out-Designator d).name) f
         → Fails (layer.Use d args) f
-    at_selector : {d : Designator} {args : Option (List Expr)} {x : Thing} {f : Fault}
+    at_selector : {d : Designator} {args : Option (List Expr)} {x : Thing} {f : Breach}
         → names (out-Designator d).name ≡ Known x
         → SelectionFails x (out-Designator d).selectors f → Fails (layer.Use d args) f
-    at_call : {d : Designator} {args : List Expr} {x : Thing} {f : Fault} → Denotes d x
+    at_call : {d : Designator} {args : List Expr} {x : Thing} {f : Breach} → Denotes d x
         → Miscalled (out-Designator d).name.pos x args f → Fails (layer.Use d (Some args)) f
-    no_operand : {y : Expr-F Expr Selector Designator Item} {e : Expr} {x : Thing} {f : Fault}
+    no_operand : {y : Expr-F Expr Selector Designator Item} {e : Expr} {x : Thing} {f : Breach}
         → IsOperand e y → Stands e x → Mistaken (first e) x f → Fails y f
-    at_set : {name : Option Ident} {at : Pos} {items : List Item} {f : Fault}
+    at_set : {name : Option Ident} {at : Pos} {items : List Item} {f : Breach}
         → FixedFails types names exports (layer.Set name at items) f
         → Fails (layer.Set name at items) f
-    in_set : {name : Option Ident} {at : Pos} {items : List Item} {e : Expr} {f : Fault}
+    in_set : {name : Option Ident} {at : Pos} {items : List Item} {e : Expr} {f : Breach}
         → IsFixedPart e (layer.Set name at items) → FixedBroken types names exports e f
         → Fails (layer.Set name at items) f
     not_boolean : {at : Pos} {e : Expr} {a : Kind} → Has e a → ((k : Kind) → Negates a k → ⊥)
         → Fails (layer.Not at e) (at ! rule.WrongType)
-    in_term : {e : Expr} {rest : List (Operator MulOp × Expr)} {a : Kind} {f : Fault} → Has e a
+    in_term : {e : Expr} {rest : List (Operator MulOp × Expr)} {a : Kind} {f : Breach} → Has e a
         → ChainFails (first e) a (factors rest) f → Fails (layer.Term e rest) f
-    in_sum : {e : Expr} {rest : List (Operator AddOp × Expr)} {a : Kind} {f : Fault} → Has e a
+    in_sum : {e : Expr} {rest : List (Operator AddOp × Expr)} {a : Kind} {f : Breach} → Has e a
         → ChainFails (first e) a (addends rest) f → Fails (layer.Sum None e rest) f
     at_sign : {sign : Operator Sign} {e : Expr} {rest : List (Operator AddOp × Expr)} {a : Kind}
-        {f : Fault} → Has e a
+        {f : Breach} → Has e a
         → Misapplied (MaySign sign.op (operand a)) (SignMakes sign.op (operand a)) sign.pos
         rule.WrongType f
         → Fails (layer.Sum (Some sign) e rest) f
     in_signed_sum : {sign : Operator Sign} {e : Expr} {rest : List (Operator AddOp × Expr)}
-        {a b : Kind} {f : Fault} → Has e a → SignMakes sign.op (operand a) b
+        {a b : Kind} {f : Breach} → Has e a → SignMakes sign.op (operand a) b
         → ChainFails sign.pos b (addends rest) f → Fails (layer.Sum (Some sign) e rest) f
-    at_relation : {a b : Expr} {o : Operator RelOp} {x y : Kind} {f : Fault} → Has a x → Has b y
+    at_relation : {a b : Expr} {o : Operator RelOp} {x y : Kind} {f : Breach} → Has a x → Has b y
         → Misused types (op.Relation o.op) o.pos (first a) (first b) (operand x) (operand y) f
         → Fails (layer.Relation a o b) f
 
   -- A rule is broken in an expression if it fails at a token of it, or of a part of it.
-  pub data Broken : Expr → Fault → Type 0 where
-    fails : {e : Expr} {f : Fault} → Fails (out-Expr e) f → Broken e f
-    inside : {e x : Expr} {f : Fault} → IsPart x (out-Expr e) → Broken x f → Broken e f
+  pub data Broken : Expr → Breach → Type 0 where
+    fails : {e : Expr} {f : Breach} → Fails (out-Expr e) f → Broken e f
+    inside : {e x : Expr} {f : Breach} → IsPart x (out-Expr e) → Broken x f → Broken e f
 
   -- the same of an expression that is taken as a value
-  pub data BrokenAsValue (e : Expr) (f : Fault) : Type 0 where
+  pub data BrokenAsValue (e : Expr) (f : Breach) : Type 0 where
     broken : Broken e f → BrokenAsValue e f
     mistaken : {x : Thing} → Stands e x → Mistaken (first e) x f → BrokenAsValue e f

@@ -13,7 +13,7 @@ use Rattle.typed_tree.specs.declared.shape.Shape.TheVariants as shape
 use Rattle.typed_tree.specs.declared.shape.Signature.{Signature}
 use Rattle.typed_tree.specs.declared.known_types.Types.{Types}
 use Rattle.typed_tree.specs.Types.{boolean, cardinal, char}
-use Rattle.check_scope.specs.declared.fault.Fault.{Fault}
+use Rattle.m2_rule.specs.declared.breach.Breach.{Breach}
 use Rattle.check_const_ops.specs.Standards.{upper}
 use Rattle.def_typing.specs.Shapes.{shape_at, IsMade}
 use Rattle.def_typing.specs.Amounts.{Amount, Constant, Value, sort_of, IsNumber, Within, InRange, truth}
@@ -172,12 +172,12 @@ pub data Accepts (types : Types) : Formal → Thing → Type 0 where
       → Compatible types t (operand k) → Accepts types (value_formal t) x
 
 -- the refusals of an argument
-pub data Mispassed (types : Types) (at : Pos) : Formal → Thing → Fault → Type 0 where
+pub data Mispassed (types : Types) (at : Pos) : Formal → Thing → Breach → Type 0 where
   no_variable : {is_open : Bool} {t : TypeNo} {x : Thing}
       → (Accepts types (record { is_var = true; is_open = is_open; of = t }) x → ⊥)
       → Mispassed types at (record { is_var = true; is_open = is_open; of = t }) x
       (at ! rule.NoVariable)
-  no_value : {is_open : Bool} {t : TypeNo} {x : Thing} {f : Fault} → Mistaken at x f
+  no_value : {is_open : Bool} {t : TypeNo} {x : Thing} {f : Breach} → Mistaken at x f
       → Mispassed types at (record { is_var = false; is_open = is_open; of = t }) x f
   wrong_argument : {is_open : Bool} {t : TypeNo} {x : Thing} (k : Kind) → Taken types x k
       → (Accepts types (record { is_var = false; is_open = is_open; of = t }) x → ⊥)
@@ -190,4 +190,4 @@ pub data Mispassed (types : Types) (at : Pos) : Formal → Thing → Fault → T
 -- a formal takes what it accepts, if nothing is to be refused
 pub record IsPassed (types : Types) (formal : Formal) (x : Thing) : Type 0 where
   pub accepted : Accepts types formal x
-  pub unrefused : (at : Pos) (f : Fault) → Mispassed types at formal x f → ⊥
+  pub unrefused : (at : Pos) (f : Breach) → Mispassed types at formal x f → ⊥

@@ -2,14 +2,14 @@
 use Rattle.std.specs.Prelude.{◌≡◌, ℕ, ◌==◌, ℤ, pos, Bool, not, int_lt, bit_and, bit_or, bit_xor, List, [], ◌∷◌, Option, Some, None}
 use Rattle.m2_rule.specs.declared.rule.Rule.{Rule}
 use Rattle.m2_rule.specs.declared.rule.Rule.TheVariants as rule
-use Rattle.m2_rule.specs.RuleNumber.{number_of}
+use Rattle.m2_rule.specs.Breaches.{breach}
 use Rattle.m2_tree.specs.declared.pos.Pos.{Pos}
 use Rattle.m2_tree.specs.declared.expr.RelOp.TheVariants.{Equal, Unequal, AtMost, AtLeast, In}
 use Rattle.m2_tree.specs.declared.expr.Sign.{Sign}
 use Rattle.typed_tree.specs.declared.types.TypeNo.{TypeNo}
 use Rattle.typed_tree.specs.declared.known_types.Types.{Types}
 use Rattle.typed_tree.specs.Types.{boolean, char}
-use Rattle.check_scope.specs.declared.fault.Fault.{Fault}
+use Rattle.m2_rule.specs.declared.breach.Breach.{Breach}
 use Rattle.check_const_ops.specs.declared.operator.BinaryOp.{BinaryOp}
 use Rattle.check_const_ops.specs.declared.operator.BinaryOp.TheVariants.{Plus, Minus, Times, Over, Relation}
 use Rattle.check_const_ops.specs.Sets.{without, has}
@@ -18,8 +18,8 @@ use Rattle.def_typing.specs.Amounts.{Amount, Constant, Value, sort_of, IsNumber,
 
 -- a refusal: its place and its rule
 infixl 50 ◌!◌
-abbrev pub ◌!◌ : Pos → Rule → Fault
-at ! broken = record { pos = at; number = number_of broken }
+abbrev pub ◌!◌ : Pos → Rule → Breach
+at ! broken = breach at broken
 
 -- ---- values
 
@@ -137,7 +137,7 @@ pub data Makes (types : Types) (op : BinaryOp) : Kind → Kind → Kind → Type
       → Makes types op a b (Scalar (Value boolean))
 
 -- the refusals at an operator between two scalars that fit it
-pub data Overreaches (op : BinaryOp) (spot left right : Pos) (a b : Amount) : Fault → Type 0 where
+pub data Overreaches (op : BinaryOp) (spot left right : Pos) (a b : Amount) : Breach → Type 0 where
   -- A divisor of 0 or less is refused if it is a constant.
   divisor : {sort : Option TypeNo} → Fits op a b sort → IsDivision op → BelowOne b
       → Overreaches op spot left right a b (spot ! rule.OutOfRange)
@@ -153,11 +153,11 @@ pub data Overreaches (op : BinaryOp) (spot left right : Pos) (a b : Amount) : Fa
 
 -- the refusals at an operator between two operands
 pub data Misused (types : Types) (op : BinaryOp) (spot left right : Pos)
-    : Kind → Kind → Fault → Type 0 where
+    : Kind → Kind → Breach → Type 0 where
   -- INTEGER and CARDINAL are not mixed in one operation, and each operator has its types.
   unfit : {a b : Kind} → (AreOperands types op a b → ⊥)
       → Misused types op spot left right a b (spot ! rule.WrongType)
-  overreaches : {a b : Amount} {f : Fault} → Overreaches op spot left right a b f
+  overreaches : {a b : Amount} {f : Breach} → Overreaches op spot left right a b f
       → Misused types op spot left right (Scalar a) (Scalar b) f
   no_element : {a : Amount} {m : Option ℕ} → IsMembership op → IsNumber (sort_of a)
       → (IsElement a → ⊥)
@@ -167,7 +167,7 @@ pub data Misused (types : Types) (op : BinaryOp) (spot left right : Pos)
 
 -- The refusals at an operand: it is of another sort, or it is a constant that leads out of range.
 pub data Misapplied (IsTaken : Type 0) (Makes : Kind → Type 0) (at : Pos) (broken : Rule)
-    : Fault → Type 0 where
+    : Breach → Type 0 where
   unsuited : (IsTaken → ⊥) → Misapplied IsTaken Makes at broken (at ! broken)
   makes_nothing : IsTaken → ((k : Kind) → Makes k → ⊥)
       → Misapplied IsTaken Makes at broken (at ! rule.OutOfRange)

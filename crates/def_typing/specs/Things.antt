@@ -13,7 +13,7 @@ use Rattle.typed_tree.specs.declared.shape.Signature.{Signature}
 use Rattle.typed_tree.specs.declared.known_types.Types.{Types}
 use Rattle.typed_tree.specs.Names.{found}
 use Rattle.typed_tree.specs.Types.{cardinal}
-use Rattle.check_scope.specs.declared.fault.Fault.{Fault}
+use Rattle.m2_rule.specs.declared.breach.Breach.{Breach}
 use Rattle.def_typing.specs.Shapes.{shape_at, IsMade, Agree}
 use Rattle.def_typing.specs.Amounts.{Amount, Constant, Value, sort_of, IsWhole, Within}
 use Rattle.def_typing.specs.Operators.{◌!◌, Kind, Scalar, Set, Routine, Procedure, Whole, Untaken}
@@ -49,7 +49,7 @@ pub data Standing : Type 0 where
   Unknown : Standing
 
 -- the refusals at a name
-pub data Misnamed (at : Pos) : Standing → Fault → Type 0 where
+pub data Misnamed (at : Pos) : Standing → Breach → Type 0 where
   -- Constants, types and variables are declared before use.
   undeclared : Misnamed at Undeclared (at ! rule.Undeclared)
   not_yet : Misnamed at Ahead (at ! rule.Undeclared)
@@ -78,7 +78,7 @@ Taken types other l = ⊥
 
 -- Types and modules are no values, and neither are standard procedures and procedures of
 -- procedures.
-abbrev pub Mistaken : Pos → Thing → Fault → Type 0
+abbrev pub Mistaken : Pos → Thing → Breach → Type 0
 Mistaken at (AType t) f = f ≡ at ! rule.WrongType
 Mistaken at (AModule k) f = f ≡ at ! rule.WrongType
 Mistaken at (AStandard p) f = f ≡ at ! rule.NoProcedureValue
@@ -114,7 +114,7 @@ pub record IsAssignable (types : Types) (t : TypeNo) (k : Kind) : Type 0 where
 
 -- the refusals of a value at a place of this type
 pub data Misassigned (types : Types) (t : TypeNo) (at : Pos) (broken : Rule) (k : Kind)
-    : Fault → Type 0 where
+    : Breach → Type 0 where
   incompatible : (Compatible types t k → ⊥) → Misassigned types t at broken k (at ! broken)
   out_of_range : Compatible types t k → OutOfType types t k
       → Misassigned types t at broken k (at ! rule.OutOfRange)

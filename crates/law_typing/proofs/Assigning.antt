@@ -18,7 +18,7 @@ use Rattle.typed_tree.specs.declared.shape.Shape.TheVariants as shape
 use Rattle.typed_tree.specs.declared.known_types.Types.{Types}
 use Rattle.typed_tree.specs.Known.{scalar_at}
 use Rattle.typed_tree.specs.Types.{are_same, boolean, char}
-use Rattle.check_scope.specs.declared.fault.Fault.{Fault}
+use Rattle.m2_rule.specs.declared.breach.Breach.{Breach}
 use Rattle.check_scope.specs.declared.meaningless.Meaningless.{Meaningless}
 use Rattle.check_scope.specs.declared.scope.Scope.{Scope}
 use Rattle.check_scope.specs.Elaborated.{Gathers, reported, reported_where, ◌▷◌}
@@ -117,7 +117,7 @@ room_whole types t (has_room m q w) = ap (content_of t) m
 
 -- ---- what a variable takes
 
-module _ (g : Gathers) (j : Judges g) (lawful : Lawful g j) (O : Fault → Type 0) (types : Types) (at : Pos) where
+module _ (g : Gathers) (j : Judges g) (lawful : Lawful g j) (O : Breach → Type 0) (types : Types) (at : Pos) where
   abbrev Taking : TypeNo → Kind → Result Accepted g.Reported → Type 0
   Taking t k r = Checks g j lawful O (MayTake types t k) (λ f. Untaken types at k (AVariable t) f) r
 
@@ -125,14 +125,14 @@ module _ (g : Gathers) (j : Judges g) (lawful : Lawful g j) (O : Fault → Type 
     take_stops : {k : Kind} → (MayTake types t k → ⊥) → Taking t k (reported g at rule.NotAssignable)
     take_stops {k = k} n = stopped g j lawful O at rule.NotAssignable n (of_whole structured n) (λ f m. one m)
       where
-        one : {f : Fault} → Untaken types at k (AVariable t) f → f ≡ at ! rule.NotAssignable
+        one : {f : Breach} → Untaken types at k (AVariable t) f → f ≡ at ! rule.NotAssignable
         one (of_type q m) = absurd (q structured)
         one (of_whole q m) = refl
 
     take_passes : {k : Kind} (a : Accepted) → MayTake types t k → Taking t k (Ok a)
     take_passes {k = k} a m = passes a m (λ f z. none z)
       where
-        none : {f : Fault} → Untaken types at k (AVariable t) f → ⊥
+        none : {f : Breach} → Untaken types at k (AVariable t) f → ⊥
         none (of_type q z) = q structured
         none (of_whole q z) = z m
 
@@ -183,7 +183,7 @@ module _ (g : Gathers) (j : Judges g) (lawful : Lawful g j) (O : Fault → Type 
       assigned_so (rules.whole e) = absurd (n e)
       assigned_so (rules.text r) = absurd (n (room_whole types t r))
 
-      misassigned : {f : Fault} → Untaken types at k (AVariable t) f → Misassigned types t at rule.NotAssignable (operand k) f
+      misassigned : {f : Breach} → Untaken types at k (AVariable t) f → Misassigned types t at rule.NotAssignable (operand k) f
       misassigned (of_type q m) = m
       misassigned (of_whole e m) = absurd (n e)
 
@@ -208,7 +208,7 @@ module _ (g : Gathers) (j : Judges g) (lawful : Lawful g j) (O : Fault → Type 
   abbrev pub Takes : Thing × Kind → Type 0
   Takes p = (t : TypeNo) × (p.0 ≡ AVariable t) × MayTake types t p.1
 
-  abbrev pub Refuses : Thing × Kind → Fault → Type 0
+  abbrev pub Refuses : Thing × Kind → Breach → Type 0
   Refuses p f = Untaken types at p.1 p.0 f
 
   stores : (a : Target) (x : Thing) (v : Computed) (k : Kind) → IsTargetOf a x → IsKind v k → Checks g j lawful O {A = TypedStmt} (Takes (x, k)) (Refuses (x, k)) (assigned_to g types a at v)
@@ -218,10 +218,10 @@ module _ (g : Gathers) (j : Judges g) (lawful : Lawful g j) (O : Fault → Type 
       same {t = t} e = ap (λ z. elim z [ AVariable y ↦ y | AValue k ↦ t | AType y ↦ t | AnOpenArray y ↦ t | AProcedure y ↦ t | ANested y ↦ t | AStandard f ↦ t | AModule k ↦ t | Headless ↦ t ]) e
   stores _ _ v k (target_open t) i = stopped g j lawful O at rule.NotAssignable (λ m. let e = m.1 in absurd cc) of_open_array (λ f m. one m)
     where
-      one : {f : Fault} → Untaken types at k (AnOpenArray t) f → f ≡ at ! rule.NotAssignable
+      one : {f : Breach} → Untaken types at k (AnOpenArray t) f → f ≡ at ! rule.NotAssignable
       one of_open_array = refl
 
-  abbrev NoTarget : Pos → Thing → Fault → Type 0
+  abbrev NoTarget : Pos → Thing → Breach → Type 0
   NoTarget spot x f = (IsTarget x → ⊥) × (f ≡ spot ! rule.WrongType)
 
   abbrev TargetSo : Pos → Thing → Result Target g.Reported → Type 0
@@ -241,7 +241,7 @@ module _ (g : Gathers) (j : Judges g) (lawful : Lawful g j) (O : Fault → Type 
   targets spot _ _ (thing_module k) = missed spot (λ m. elim m [ ])
 
   -- both sides
-  pub sides_check : {S : Thing → Type 0} {B C : Fault → Type 0} {M : Kind → Type 0} {d : Result Designated (Meaningless g.Reported)} {v : Result Computed g.Reported} (spot : Pos) → Finds g j lawful O S B d → Answers g j O IsKind M C v
+  pub sides_check : {S : Thing → Type 0} {B C : Breach → Type 0} {M : Kind → Type 0} {d : Result Designated (Meaningless g.Reported)} {v : Result Computed g.Reported} (spot : Pos) → Finds g j lawful O S B d → Answers g j O IsKind M C v
       → Checks g j lawful O ((p : Thing × Kind) × (((x : Thing) × S x × (IsTarget x × (p.0 ≡ x))) × M p.1) × Takes p) (λ f. ((B f ⊎ ((x : Thing) × S x × NoTarget spot x f)) ⊎ C f) ⊎ ((p : Thing × Kind) × (((x : Thing) × S x × (IsTarget x × (p.0 ≡ x))) × M p.1) × Refuses p f)) (assigned g types (target_at g spot d) at v)
   sides_check spot h a = then_check g j lawful O {P = Takes} {D = Refuses} (both_answer g j lawful O (sort_answers g j lawful O {N = λ x y. IsTarget x × (y ≡ x)} {D = NoTarget spot} spot rule.WrongType h (targets spot) (missed spot (λ m. elim m [ ]))) a)
       (λ v p i. stores v.0 p.0 v.1 p.1 i.0 i.1)
@@ -249,13 +249,13 @@ module _ (g : Gathers) (j : Judges g) (lawful : Lawful g j) (O : Fault → Type 
 -- ---- assignments and conditions
 
 module _ (g : Gathers) (j : Judges g) (lawful : Lawful g j) (names : Ident → Standing) (exports : ℕ → Ident → Standing) (s : Scope g.Reported) (knows : Knows g j names exports s) where
-  abbrev E : Fault → Type 0
+  abbrev E : Breach → Type 0
   E = Repeats g j names s
 
   abbrev H : Expr → Kind → Type 0
   H = Has s.types names exports
 
-  abbrev V : Expr → Fault → Type 0
+  abbrev V : Expr → Breach → Type 0
   V = BrokenAsValue s.types names exports
 
   pub condition_answers : (e : Expr) → IsPlain e → Answers g j E {A = TypedExpr} {K = Unit {0}} (λ v u. Unit {0}) (λ u. IsCondition s.types names exports e) (BrokenCondition s.types names exports e) (value_of g s (meant g e) ▷ value_suited g rule.WrongType s.types boolean (meant g e).fixed.at)
@@ -266,20 +266,20 @@ module _ (g : Gathers) (j : Judges g) (lawful : Lawful g j) (names : Ident → S
       parted : IsCondition s.types names exports e → (k : Kind) × H e k × IsAssignable s.types boolean (operand k)
       parted (is_condition {k = k} m a) = (k, m, a)
 
-      out : (f : Fault) → BrokenCondition s.types names exports e f → V e f ⊎ ((k : Kind) × H e k × Misassigned s.types boolean (first e) rule.WrongType (operand k) f)
+      out : (f : Breach) → BrokenCondition s.types names exports e f → V e f ⊎ ((k : Kind) × H e k × Misassigned s.types boolean (first e) rule.WrongType (operand k) f)
       out f (in_condition b) = inl b
       out f (no_boolean {k = k} m z) = inr (k, m, z)
 
   abbrev D : Designator → Thing → Type 0
   D = Denotes s.types names exports
 
-  abbrev BD : Designator → Fault → Type 0
+  abbrev BD : Designator → Breach → Type 0
   BD d = InLayer g j lawful names exports s (layer.Use d None)
 
   abbrev Sides : Designator → Expr → Type 0
   Sides d e = (p : Thing × Kind) × (((x : Thing) × D d x × (IsTarget x × (p.0 ≡ x))) × H e p.1) × ((t : TypeNo) × (p.0 ≡ AVariable t) × MayTake s.types t p.1)
 
-  abbrev SidesFail : Designator → Expr → Fault → Type 0
+  abbrev SidesFail : Designator → Expr → Breach → Type 0
   SidesFail d e f = ((BD d f ⊎ ((x : Thing) × D d x × ((IsTarget x → ⊥) × (f ≡ (out-Designator d).name.pos ! rule.WrongType)))) ⊎ V e f) ⊎ ((p : Thing × Kind) × (((x : Thing) × D d x × (IsTarget x × (p.0 ≡ x))) × H e p.1) × Untaken s.types (first e) p.1 p.0 f)
 
   pub assignment_answers : (d : Designator) (e : Expr) → ArePlainSelectors (out-Designator d).selectors → IsPlain e
@@ -295,18 +295,18 @@ module _ (g : Gathers) (j : Judges g) (lawful : Lawful g j) (names : Ident → S
       parted : Assigns s.types names exports d e → Sides d e
       parted (assigns {t = t} {k = k} m h z) = ((AVariable t, k), ((AVariable t, m, (a_variable, refl)), h), (t, refl, z))
 
-      into : (f : Fault) → SidesFail d e f → BrokenAssignment s.types names exports d e f
+      into : (f : Breach) → SidesFail d e f → BrokenAssignment s.types names exports d e f
       into f (inl (inl (inl (inl z)))) = on_the_left (at_designator z)
       into f (inl (inl (inl (inr (x, m, b))))) = on_the_left (in_designator m b)
       into f (inl (inl (inr (x, m, (n, q))))) = subst (BrokenAssignment s.types names exports d e) (sym q) (no_target m n)
       into f (inl (inr v)) = on_the_right v
       into f (inr (p, ((x, m, (t, q)), h), z)) = unassignable (subst (D d) (sym q) m) (subst IsTarget (sym q) t) h z
 
-      left : {f : Fault} → BrokenDesignator s.types names exports d f → BD d f
+      left : {f : Breach} → BrokenDesignator s.types names exports d f → BD d f
       left (at_designator z) = inl z
       left (in_designator {x = x} m b) = inr (x, m, b)
 
-      out : (f : Fault) → BrokenAssignment s.types names exports d e f → SidesFail d e f
+      out : (f : Breach) → BrokenAssignment s.types names exports d e f → SidesFail d e f
       out f (on_the_left b) = inl (inl (inl (left b)))
       out f (on_the_right v) = inl (inr v)
       out _ (no_target {x = x} m n) = inl (inl (inr (x, m, (n, refl))))

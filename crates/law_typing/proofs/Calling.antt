@@ -13,7 +13,7 @@ use Rattle.typed_tree.specs.declared.shape.Scalar.{Scalar as Range}
 use Rattle.typed_tree.specs.declared.shape.Shape.{Shape}
 use Rattle.typed_tree.specs.declared.shape.Shape.TheVariants as shape
 use Rattle.typed_tree.specs.Types.{cardinal}
-use Rattle.check_scope.specs.declared.fault.Fault.{Fault}
+use Rattle.m2_rule.specs.declared.breach.Breach.{Breach}
 use Rattle.check_scope.specs.declared.scope.Scope.{Scope}
 use Rattle.check_scope.specs.Elaborated.{Gathers, reported, reported_beside, of_sort, ◌▷◌}
 use Rattle.check_const.specs.Calls.{bound_by, scalar_type}
@@ -87,7 +87,7 @@ not_bound w greatest = elim w [ ]
 not_bound w smallest = elim w [ ]
 
 module _ (g : Gathers) (j : Judges g) (lawful : Lawful g j) (names : Ident → Standing) (exports : ℕ → Ident → Standing) (s : Scope g.Reported) where
-  abbrev E : Fault → Type 0
+  abbrev E : Breach → Type 0
   E = Elsewhere g j lawful names exports s
 
   abbrev S : Expr → Thing → Type 0
@@ -96,10 +96,10 @@ module _ (g : Gathers) (j : Judges g) (lawful : Lawful g j) (names : Ident → S
   abbrev H : Expr → Kind → Type 0
   H = HasKind g j lawful names exports s
 
-  abbrev B : Expr → Fault → Type 0
+  abbrev B : Expr → Breach → Type 0
   B = IsBroken g j lawful names exports s
 
-  abbrev V : Expr → Fault → Type 0
+  abbrev V : Expr → Breach → Type 0
   V = IsBrokenValue g j lawful names exports s
 
   abbrev Found : Expr → Type 0
@@ -108,13 +108,13 @@ module _ (g : Gathers) (j : Judges g) (lawful : Lawful g j) (names : Ident → S
   abbrev Valued : Expr → Type 0
   Valued = IsValued g j lawful names exports s
 
-  abbrev Any : List Expr → Fault → Type 0
+  abbrev Any : List Expr → Breach → Type 0
   Any = AnyBroken g j lawful names exports s
 
   abbrev C : Thing → List Expr → Kind → Type 0
   C = Calls s.types names exports
 
-  abbrev M : Pos → Thing → List Expr → Fault → Type 0
+  abbrev M : Pos → Thing → List Expr → Breach → Type 0
   M = Miscalled s.types names exports
 
   -- what a call answers, with what is broken in its arguments
@@ -135,12 +135,12 @@ module _ (g : Gathers) (j : Judges g) (lawful : Lawful g j) (names : Ident → S
   standard_function (standard e) = e
 
   -- a call that is refused, with what is broken in the arguments
-  pub refused_call : {x : Thing} {xs : List Expr} (at : Pos) (refused : Rule) → ((k : Kind) → C x xs k → ⊥) → M at x xs (at ! refused) → ((f : Fault) → M at x xs f → f ≡ at ! refused) → ((y : Expr) → Among y xs → Found y)
+  pub refused_call : {x : Thing} {xs : List Expr} (at : Pos) (refused : Rule) → ((k : Kind) → C x xs k → ⊥) → M at x xs (at ! refused) → ((f : Breach) → M at x xs f → f ≡ at ! refused) → ((y : Expr) → Among y xs → Found y)
       → CallsSo at x xs (reported_beside g at refused (looked_at g s (map (meant g) xs)))
   refused_call {x = x} {xs = xs} at refused n m only h = exact g j lawful E (λ k c. c) (λ k c. c) (λ f b. elim b [ inl e ↦ inl (subst (M at x xs) (sym e) m) | inr a ↦ inr a ]) (λ f b. elim b [ inl q ↦ inl (only f q) | inr a ↦ inr a ])
       (declined_beside g j lawful E at refused n (look_tells g j lawful names exports s xs h))
 
-  count_only : {p : Standard} {xs : List Expr} {n : ℕ} (at : Pos) (f : Fault) → arity p ≡ Some n → (n ≡ length xs → ⊥) → M at (AStandard p) xs f → f ≡ at ! rule.ArgumentCount
+  count_only : {p : Standard} {xs : List Expr} {n : ℕ} (at : Pos) (f : Breach) → arity p ≡ Some n → (n ≡ length xs → ⊥) → M at (AStandard p) xs f → f ≡ at ! rule.ArgumentCount
   count_only {n = n} at _ e q (rules.no_function h m) = absurd (m n (standard e))
   count_only at _ e q (rules.wrong_count i m) = refl
   count_only at f e q (rules.mispassed h r c b m z) = elim h [ ]
@@ -153,7 +153,7 @@ module _ (g : Gathers) (j : Judges g) (lawful : Lawful g j) (names : Ident → S
   miscounted_calls : {p : Standard} {xs : List Expr} {n : ℕ} (at : Pos) → arity p ≡ Some n → (n ≡ length xs → ⊥) → ((y : Expr) → Among y xs → Found y) → CallsSo at (AStandard p) xs (miscounted g s at (map (meant g) xs))
   miscounted_calls at e q h = refused_call at rule.ArgumentCount (λ k c. q (some_same _ _ (sym e ∙ standard_calls c))) (rules.wrong_count (standard e) q) (λ f m. count_only at f e q m) h
 
-  proper_only : {p : Standard} {xs : List Expr} (at : Pos) (f : Fault) → arity p ≡ None → M at (AStandard p) xs f → f ≡ at ! rule.WrongType
+  proper_only : {p : Standard} {xs : List Expr} (at : Pos) (f : Breach) → arity p ≡ None → M at (AStandard p) xs f → f ≡ at ! rule.WrongType
   proper_only at _ e (rules.no_function h m) = refl
   proper_only at _ e (rules.wrong_count i m) = let z = sym e ∙ standard_function i in absurd cc
   proper_only at f e (rules.mispassed h r c b m z) = elim h [ ]
@@ -174,14 +174,14 @@ module _ (g : Gathers) (j : Judges g) (lawful : Lawful g j) (names : Ident → S
   one_calls w (rules.of_type h n b) = absurd (not_bound w b)
   one_calls w (rules.greatest_index h) = elim w [ ]
 
-  abbrev OneFails : Standard → Expr → Fault → Type 0
+  abbrev OneFails : Standard → Expr → Breach → Type 0
   OneFails p x f = V x f ⊎ ((k : Kind) × H x k × Misapplied (MayApply p (operand k)) (Applies p (operand k)) (first x) rule.WrongArgument f)
 
   one_valued : {p : Standard} {u : Unary} {x e : Expr} → UnaryIs p u → TakesValue p (x ∷ []) e → e ≡ x
   one_valued w (rules.of_one i) = refl
   one_valued w rules.of_high = refl
 
-  one_fails : {p : Standard} {u : Unary} {x : Expr} (at : Pos) (f : Fault) → UnaryIs p u → M at (AStandard p) (x ∷ []) f → OneFails p x f
+  one_fails : {p : Standard} {u : Unary} {x : Expr} (at : Pos) (f : Breach) → UnaryIs p u → M at (AStandard p) (x ∷ []) f → OneFails p x f
   one_fails at _ w (rules.no_function h m) = absurd (m 1 (standard (of_one_arity (unary_one w))))
   one_fails at _ w (rules.wrong_count i m) = absurd (m (some_same _ _ (sym (standard_function i) ∙ of_one_arity (unary_one w))))
   one_fails at f w (rules.mispassed h r c b m z) = elim h [ ]
@@ -199,12 +199,12 @@ module _ (g : Gathers) (j : Judges g) (lawful : Lawful g j) (names : Ident → S
       no_type_of_one w rules.of_conversion = elim w [ ]
   one_fails at _ w (rules.no_open_array m z q) = elim w [ ]
 
-  fails_one : {p : Standard} {u : Unary} {x : Expr} (at : Pos) (f : Fault) → UnaryIs p u → OneFails p x f → M at (AStandard p) (x ∷ []) f ⊎ Any (x ∷ []) f
+  fails_one : {p : Standard} {u : Unary} {x : Expr} (at : Pos) (f : Breach) → UnaryIs p u → OneFails p x f → M at (AStandard p) (x ∷ []) f ⊎ Any (x ∷ []) f
   fails_one {x = x} at f w (inl (broken b)) = inr (x, here, b)
   fails_one at f w (inl (mistaken m z)) = inl (rules.no_value (rules.of_one (unary_one w)) m z)
   fails_one at f w (inr (k, m, z)) = inl (rules.misapplied (unary_one w) m z)
 
-  any_one : {x : Expr} (f : Fault) → Any (x ∷ []) f → B x f
+  any_one : {x : Expr} (f : Breach) → Any (x ∷ []) f → B x f
   any_one f (x, here, b) = b
   any_one f (x, later m, b) = elim m [ ]
 
@@ -221,7 +221,7 @@ module _ (g : Gathers) (j : Judges g) (lawful : Lawful g j) (names : Ident → S
 
   -- ---- functions of types
 
-  abbrev NoScalar : Pos → Thing → Fault → Type 0
+  abbrev NoScalar : Pos → Thing → Breach → Type 0
   NoScalar at y f = ((r : Range) → NamesScalar s.types y r → ⊥) × (f ≡ at ! rule.NoType)
 
   abbrev IsOfRange : TypeNo × Range → Range → Type 0
@@ -265,7 +265,7 @@ module _ (g : Gathers) (j : Judges g) (lawful : Lawful g j) (names : Ident → S
   abbrev NamesIt : Expr → Range → Type 0
   NamesIt x r = (y : Thing) × S x y × NamesScalar s.types y r
 
-  abbrev NameFails : Expr → Fault → Type 0
+  abbrev NameFails : Expr → Breach → Type 0
   NameFails x f = B x f ⊎ ((y : Thing) × S x y × NoScalar (first x) y f)
 
   scalar_answers : {x : Expr} → IsPlain x → Found x → Answers g j E IsOfRange (NamesIt x) (NameFails x) (scalar_named g s (meant g x))
@@ -313,7 +313,7 @@ module _ (g : Gathers) (j : Judges g) (lawful : Lawful g j) (names : Ident → S
   type_of_bound bound_max = rules.of_max
   type_of_bound bound_min = rules.of_min
 
-  bound_fails : {p : Standard} {x : Expr} (at : Pos) (f : Fault) → IsBound p → M at (AStandard p) (x ∷ []) f → NameFails x f
+  bound_fails : {p : Standard} {x : Expr} (at : Pos) (f : Breach) → IsBound p → M at (AStandard p) (x ∷ []) f → NameFails x f
   bound_fails at _ w (rules.no_function h m) = absurd (m 1 (standard (bound_one w)))
   bound_fails at _ w (rules.wrong_count i m) = absurd (m (some_same _ _ (sym (standard_function i) ∙ bound_one w)))
   bound_fails at f w (rules.mispassed h r c b m z) = elim h [ ]
@@ -334,7 +334,7 @@ module _ (g : Gathers) (j : Judges g) (lawful : Lawful g j) (names : Ident → S
       named w rules.of_min m z = inr (_, m, (z, refl))
   bound_fails at _ w (rules.no_open_array m z q) = elim w [ ]
 
-  fails_bound : {p : Standard} {x : Expr} (at : Pos) (f : Fault) → IsBound p → NameFails x f → M at (AStandard p) (x ∷ []) f ⊎ Any (x ∷ []) f
+  fails_bound : {p : Standard} {x : Expr} (at : Pos) (f : Breach) → IsBound p → NameFails x f → M at (AStandard p) (x ∷ []) f ⊎ Any (x ∷ []) f
   fails_bound {x = x} at f w (inl b) = inr (x, here, b)
   fails_bound {p = p} {x = x} at f w (inr (y, m, (z, e))) = inl (subst (M at (AStandard p) (x ∷ [])) (sym e) (rules.no_type (type_of_bound w) m z))
 
@@ -349,10 +349,10 @@ module _ (g : Gathers) (j : Judges g) (lawful : Lawful g j) (names : Ident → S
   bound_calls at (x ∷ y ∷ xs) w i h = miscounted_calls at (bound_one w) (λ e. omega (arith, e)) h
 
   -- VAL
-  abbrev ConvertFails : Expr → Range × Kind → Fault → Type 0
+  abbrev ConvertFails : Expr → Range × Kind → Breach → Type 0
   ConvertFails x p f = Misapplied (MayConvert (operand p.1)) (Converts p.0 (operand p.1)) (first x) rule.WrongArgument f
 
-  abbrev ValFails : Expr → Expr → Fault → Type 0
+  abbrev ValFails : Expr → Expr → Breach → Type 0
   ValFails t x f = (NameFails t f ⊎ V x f) ⊎ ((p : Range × Kind) × (NamesIt t p.0 × H x p.1) × ConvertFails x p f)
 
   abbrev ValOf : Expr → Expr → Kind → Type 0
@@ -365,7 +365,7 @@ module _ (g : Gathers) (j : Judges g) (lawful : Lawful g j) (names : Ident → S
   calls_val : {t x : Expr} (l : Kind) → ValOf t x l → C (AStandard Val) (t ∷ x ∷ []) l
   calls_val l (p, ((y, m, n), h), c) = rules.converted m n h c
 
-  val_fails : {t x : Expr} (at : Pos) (f : Fault) → M at (AStandard Val) (t ∷ x ∷ []) f → ValFails t x f
+  val_fails : {t x : Expr} (at : Pos) (f : Breach) → M at (AStandard Val) (t ∷ x ∷ []) f → ValFails t x f
   val_fails at _ (rules.no_function h m) = absurd (m 2 (standard refl))
   val_fails at _ (rules.wrong_count i m) = absurd (m (some_same _ _ (sym (standard_function i))))
   val_fails at f (rules.mispassed h r c b m z) = elim h [ ]
@@ -373,14 +373,14 @@ module _ (g : Gathers) (j : Judges g) (lawful : Lawful g j) (names : Ident → S
   val_fails at _ (rules.no_type rules.of_conversion m z) = inl (inl (inr (_, m, (z, refl))))
   val_fails at f (rules.misconverted {x = y} {r = r} {k = k} m n h z) = inr ((r, k), ((y, m, n), h), z)
 
-  fails_val : {t x : Expr} (at : Pos) (f : Fault) → ValFails t x f → M at (AStandard Val) (t ∷ x ∷ []) f ⊎ Any (t ∷ x ∷ []) f
+  fails_val : {t x : Expr} (at : Pos) (f : Breach) → ValFails t x f → M at (AStandard Val) (t ∷ x ∷ []) f ⊎ Any (t ∷ x ∷ []) f
   fails_val {t = t} at f (inl (inl (inl b))) = inr (t, here, b)
   fails_val {t = t} {x = x} at f (inl (inl (inr (y, m, (z, e))))) = inl (subst (M at (AStandard Val) (t ∷ x ∷ [])) (sym e) (rules.no_type rules.of_conversion m z))
   fails_val {x = x} at f (inl (inr (broken b))) = inr (x, later here, b)
   fails_val at f (inl (inr (mistaken m z))) = inl (rules.no_value rules.to_convert m z)
   fails_val at f (inr (p, ((y, m, n), h), z)) = inl (rules.misconverted m n h z)
 
-  any_val : {t x : Expr} (f : Fault) → Any (t ∷ x ∷ []) f → ValFails t x f
+  any_val : {t x : Expr} (f : Breach) → Any (t ∷ x ∷ []) f → ValFails t x f
   any_val f (t, here, b) = inl (inl (inl b))
   any_val f (x, later here, b) = inl (inr (broken b))
   any_val f (x, later (later m), b) = elim m [ ]
@@ -401,16 +401,16 @@ module _ (g : Gathers) (j : Judges g) (lawful : Lawful g j) (names : Ident → S
   abbrev HighOf : Thing → Kind → Type 0
   HighOf y l = (t : TypeNo) × (y ≡ AnOpenArray t) × (l ≡ Scalar (Value cardinal))
 
-  abbrev HighFails : Pos → Thing → Fault → Type 0
-  HighFails at y f = Mistaken at y f ⊎ (((t : TypeNo) → y ≡ AnOpenArray t → ⊥) × ((h : Fault) → Mistaken at y h → ⊥) × (f ≡ at ! rule.WrongArgument))
+  abbrev HighFails : Pos → Thing → Breach → Type 0
+  HighFails at y f = Mistaken at y f ⊎ (((t : TypeNo) → y ≡ AnOpenArray t → ⊥) × ((h : Breach) → Mistaken at y h → ⊥) × (f ≡ at ! rule.WrongArgument))
 
   abbrev HighSo : Pos → Thing → Result Computed g.Reported → Type 0
   HighSo at y r = Answers g j E IsKind (HighOf y) (HighFails at y) r
 
-  no_high : {y : Thing} (at : Pos) → ((t : TypeNo) → y ≡ AnOpenArray t → ⊥) → ((h : Fault) → Mistaken at y h → ⊥) → HighSo at y (reported g at rule.WrongArgument)
+  no_high : {y : Thing} (at : Pos) → ((t : TypeNo) → y ≡ AnOpenArray t → ⊥) → ((h : Breach) → Mistaken at y h → ⊥) → HighSo at y (reported g at rule.WrongArgument)
   no_high at n m = declined g j lawful E at rule.WrongArgument (λ l z. n z.0 z.1) (inr (n, m, refl)) (λ f z. elim z [ inl q ↦ absurd (m f q) | inr q ↦ q.2 ])
 
-  mistaken_high : {y : Thing} (at : Pos) (refused : Rule) → ((t : TypeNo) → y ≡ AnOpenArray t → ⊥) → Mistaken at y (at ! refused) → ((h : Fault) → Mistaken at y h → h ≡ at ! refused) → HighSo at y (reported g at refused)
+  mistaken_high : {y : Thing} (at : Pos) (refused : Rule) → ((t : TypeNo) → y ≡ AnOpenArray t → ⊥) → Mistaken at y (at ! refused) → ((h : Breach) → Mistaken at y h → h ≡ at ! refused) → HighSo at y (reported g at refused)
   mistaken_high at refused n m only = declined g j lawful E at refused (λ l z. n z.0 z.1) (inl m) (λ f z. elim z [ inl q ↦ only f q | inr q ↦ absurd (q.1 (at ! refused) m) ])
 
   high_answers : (at : Pos) (a : Designated) (y : Thing) → IsThing a y → HighSo at y (high_of g at a)
@@ -423,7 +423,7 @@ module _ (g : Gathers) (j : Judges g) (lawful : Lawful g j) (names : Ident → S
   high_answers at _ _ (thing_nested p) = mistaken_high at rule.NoProcedureValue (λ t e. absurd cc) refl (λ h m. m)
   high_answers at _ _ (thing_standard p) = mistaken_high at rule.NoProcedureValue (λ t e. absurd cc) refl (λ h m. m)
 
-  abbrev HighBreaks : Expr → Fault → Type 0
+  abbrev HighBreaks : Expr → Breach → Type 0
   HighBreaks x f = B x f ⊎ ((y : Thing) × S x y × HighFails (first x) y f)
 
   high_calls_by : {x : Expr} {l : Kind} → C (AStandard High) (x ∷ []) l → (y : Thing) × S x y × HighOf y l
@@ -435,7 +435,7 @@ module _ (g : Gathers) (j : Judges g) (lawful : Lawful g j) (names : Ident → S
   calls_high : {x : Expr} (l : Kind) → (y : Thing) × S x y × HighOf y l → C (AStandard High) (x ∷ []) l
   calls_high {x = x} l (y, m, (t, e, q)) = subst (C (AStandard High) (x ∷ [])) (sym q) (rules.greatest_index (subst (S x) e m))
 
-  high_fails : {x : Expr} (at : Pos) (f : Fault) → M at (AStandard High) (x ∷ []) f → HighBreaks x f
+  high_fails : {x : Expr} (at : Pos) (f : Breach) → M at (AStandard High) (x ∷ []) f → HighBreaks x f
   high_fails at _ (rules.no_function h m) = absurd (m 1 (standard refl))
   high_fails at _ (rules.wrong_count i m) = absurd (m (some_same _ _ (sym (standard_function i))))
   high_fails at f (rules.mispassed h r c b m z) = elim h [ ]
@@ -445,7 +445,7 @@ module _ (g : Gathers) (j : Judges g) (lawful : Lawful g j) (names : Ident → S
   high_fails at _ (rules.no_type t m z) = elim t [ ]
   high_fails at _ (rules.no_open_array m z q) = inr (_, m, inr (z, q, refl))
 
-  fails_high : {x : Expr} (at : Pos) (f : Fault) → HighBreaks x f → M at (AStandard High) (x ∷ []) f ⊎ Any (x ∷ []) f
+  fails_high : {x : Expr} (at : Pos) (f : Breach) → HighBreaks x f → M at (AStandard High) (x ∷ []) f ⊎ Any (x ∷ []) f
   fails_high {x = x} at f (inl b) = inr (x, here, b)
   fails_high at f (inr (y, m, inl z)) = inl (rules.no_value rules.of_high m z)
   fails_high {x = x} at f (inr (y, m, inr (z, q, e))) = inl (subst (M at (AStandard High) (x ∷ [])) (sym e) (rules.no_open_array m z q))

@@ -23,7 +23,7 @@ use Rattle.typed_tree.specs.declared.meaning.Meaning.TheVariants as meaning
 use Rattle.typed_tree.specs.declared.meaning.Value.{Value as ConstantValue}
 use Rattle.typed_tree.specs.declared.meaning.Value.TheVariants as value
 use Rattle.typed_tree.specs.Types.{are_same, bitset, char}
-use Rattle.check_scope.specs.declared.fault.Fault.{Fault}
+use Rattle.m2_rule.specs.declared.breach.Breach.{Breach}
 use Rattle.check_scope.specs.declared.meaningless.Meaningless.{Meaningless}
 use Rattle.check_scope.specs.declared.scope.Scope.{Scope}
 use Rattle.check_scope.specs.Elaborated.{Gathers, reported, of_sort, ◌▷◌}
@@ -53,26 +53,26 @@ use Rattle.law_typing.proofs.Fixing.{IsFixed, fixed_value, fixed_of, as_constant
 use Rattle.law_typing.proofs.Elements.{IsOrdinal, IsSame, is_same, NumberOf, NoNumber, number_answers, one_meaning, checks_answer, one_answers, range_answers}
 
 module _ (g : Gathers) (j : Judges g) (lawful : Lawful g j) (names : Ident → Standing) (exports : ℕ → Ident → Standing) (s : Scope g.Reported) (knows : Knows g j names exports s) where
-  abbrev O : Fault → Type 0
+  abbrev O : Breach → Type 0
   O = E g j lawful names exports s knows
 
   abbrev F : Expr → Fixed → Type 0
   F = Fixes s.types names exports
 
-  abbrev B : Expr → Fault → Type 0
+  abbrev B : Expr → Breach → Type 0
   B = FixedBroken s.types names exports
 
   abbrev R : Expr-F Expr Selector Designator Item → Fixed → Type 0
   R = FixedReads s.types names exports
 
-  abbrev Fails : Expr-F Expr Selector Designator Item → Fault → Type 0
+  abbrev Fails : Expr-F Expr Selector Designator Item → Breach → Type 0
   Fails = FixedFails s.types names exports
 
   abbrev pub FixedFound : Expr → Type 0
   FixedFound e = Answers g j O IsFixed (F e) (B e) ((meant g e).fixed.denotes s)
 
   -- what is broken in an expression that has to be constant
-  abbrev pub ConstBroken : Expr → Fault → Type 0
+  abbrev pub ConstBroken : Expr → Breach → Type 0
   ConstBroken e f = B e f ⊎ ((x : Fixed) × F e x × (((k : Kind) → x ≡ AConstant k → ⊥) × (f ≡ first e ! rule.NoConstant)))
 
   abbrev ConstValued : Expr → Type 0
@@ -85,14 +85,14 @@ module _ (g : Gathers) (j : Judges g) (lawful : Lawful g j) (names : Ident → S
 
   -- ---- layers
 
-  abbrev pub FixedIn : Expr-F Expr Selector Designator Item → Fault → Type 0
+  abbrev pub FixedIn : Expr-F Expr Selector Designator Item → Breach → Type 0
   FixedIn y f = Fails y f ⊎ ((x : Expr) × IsFixedPart x y × B x f)
 
-  broken_by : {e : Expr} {f : Fault} (y : Expr-F Expr Selector Designator Item) → out-Expr e ≡ y → B e f → FixedIn y f
+  broken_by : {e : Expr} {f : Breach} (y : Expr-F Expr Selector Designator Item) → out-Expr e ≡ y → B e f → FixedIn y f
   broken_by {f = f} y h (fixed_fails x) = inl (subst (λ (y : Expr-F Expr Selector Designator Item). Fails y f) h x)
   broken_by {f = f} y h (fixed_inside {x = x} p b) = inr (x, subst (IsFixedPart x) h p, b)
 
-  by_broken : {e : Expr} {f : Fault} (y : Expr-F Expr Selector Designator Item) → out-Expr e ≡ y → FixedIn y f → B e f
+  by_broken : {e : Expr} {f : Breach} (y : Expr-F Expr Selector Designator Item) → out-Expr e ≡ y → FixedIn y f → B e f
   by_broken {f = f} y h (inl x) = fixed_fails (subst (λ (y : Expr-F Expr Selector Designator Item). Fails y f) (sym h) x)
   by_broken y h (inr (x, p, b)) = fixed_inside (subst (IsFixedPart x) (sym h) p) b
 
@@ -103,15 +103,15 @@ module _ (g : Gathers) (j : Judges g) (lawful : Lawful g j) (names : Ident → S
   fixed_layer {e = e} y r h q a = subst (Answers g j O IsFixed (F e) (B e)) (sym (ap (λ (m : Meant g.Reported). m.fixed.denotes s) (meant_is g e y h) ∙ q))
       (exact g j lawful O {N = F e} {C = B e} (λ x r. as_fixed (subst (λ (y : Expr-F Expr Selector Designator Item). R y x) (sym h) r)) (λ x m. fixes_by y h m) (λ f b. by_broken y h b) (λ f b. broken_by y h b) a)
 
-  const_layer : {e : Expr} {M : Kind → Type 0} {Q : Fault → Type 0} (y : Expr-F Expr Selector Designator Item) (r : Result ConstantValue g.Reported) → out-Expr e ≡ y → (expr_layer g (opened g y)).fixed.denotes s ≡ of_value r
-      → ((k : Kind) → M k → R y (AConstant k)) → ((x : Fixed) → R y x → (k : Kind) × M k × (x ≡ AConstant k)) → ((f : Fault) → Q f → FixedIn y f) → ((f : Fault) → FixedIn y f → Q f) → Answers g j O IsConst M Q r → FixedFound e
+  const_layer : {e : Expr} {M : Kind → Type 0} {Q : Breach → Type 0} (y : Expr-F Expr Selector Designator Item) (r : Result ConstantValue g.Reported) → out-Expr e ≡ y → (expr_layer g (opened g y)).fixed.denotes s ≡ of_value r
+      → ((k : Kind) → M k → R y (AConstant k)) → ((x : Fixed) → R y x → (k : Kind) × M k × (x ≡ AConstant k)) → ((f : Breach) → Q f → FixedIn y f) → ((f : Breach) → FixedIn y f → Q f) → Answers g j O IsConst M Q r → FixedFound e
   const_layer y r h q mr rm bi ib a = fixed_layer y (of_value r) h q (exact g j lawful O {N = R y} {C = FixedIn y} (λ x m. subst (R y) (sym m.2) (mr m.0 m.1)) rm bi ib (fixed_of g j lawful O a))
 
-  part_broken : {x : Expr} {y : Expr-F Expr Selector Designator Item} {f : Fault} → IsFixedPart x y → ConstBroken x f → FixedIn y f
+  part_broken : {x : Expr} {y : Expr-F Expr Selector Designator Item} {f : Breach} → IsFixedPart x y → ConstBroken x f → FixedIn y f
   part_broken {x = x} i (inl b) = inr (x, i, b)
   part_broken {y = y} i (inr (z, m, (n, e))) = inl (subst (Fails y) (sym e) (no_constant i m n))
 
-  literal_fixed : {e : Expr} (y : Expr-F Expr Selector Designator Item) (v : ConstantValue) → out-Expr e ≡ y → (expr_layer g (opened g y)).fixed.denotes s ≡ Ok (denoted.Value v) → R y (AConstant (kind_of v)) → ((x : Fixed) → R y x → x ≡ AConstant (kind_of v)) → ((f : Fault) → FixedIn y f → ⊥) → FixedFound e
+  literal_fixed : {e : Expr} (y : Expr-F Expr Selector Designator Item) (v : ConstantValue) → out-Expr e ≡ y → (expr_layer g (opened g y)).fixed.denotes s ≡ Ok (denoted.Value v) → R y (AConstant (kind_of v)) → ((x : Fixed) → R y x → x ≡ AConstant (kind_of v)) → ((f : Breach) → FixedIn y f → ⊥) → FixedFound e
   literal_fixed y v h q r one none = fixed_layer y (Ok (denoted.Value v)) h q (means (denoted.Value v) (AConstant (kind_of v)) (fixed_value (is_const v)) r one none)
 
   number_fixed : {e : Expr} (at : Pos) (n : ℕ) → out-Expr e ≡ layer.Number at n → FixedFound e
@@ -120,7 +120,7 @@ module _ (g : Gathers) (j : Judges g) (lawful : Lawful g j) (names : Ident → S
       one : (x : Fixed) → R (layer.Number at n) x → x ≡ AConstant (Scalar (Constant None (pos n)))
       one _ rules.fixed_literal = refl
 
-      none : (f : Fault) → FixedIn (layer.Number at n) f → ⊥
+      none : (f : Breach) → FixedIn (layer.Number at n) f → ⊥
       none _ (inl (no_constant i m z)) = elim i [ ]
       none f (inr (x, i, b)) = elim i [ ]
 
@@ -130,7 +130,7 @@ module _ (g : Gathers) (j : Judges g) (lawful : Lawful g j) (names : Ident → S
       one : (x : Fixed) → R (layer.Char at c) x → x ≡ AConstant (Scalar (Constant (Some char) (pos c)))
       one _ rules.fixed_character = refl
 
-      none : (f : Fault) → FixedIn (layer.Char at c) f → ⊥
+      none : (f : Breach) → FixedIn (layer.Char at c) f → ⊥
       none _ (inl (no_constant i m z)) = elim i [ ]
       none f (inr (x, i, b)) = elim i [ ]
 
@@ -140,7 +140,7 @@ module _ (g : Gathers) (j : Judges g) (lawful : Lawful g j) (names : Ident → S
       one : (x : Fixed) → R (layer.Text at text) x → x ≡ AConstant (Text text)
       one _ rules.fixed_string = refl
 
-      none : (f : Fault) → FixedIn (layer.Text at text) f → ⊥
+      none : (f : Breach) → FixedIn (layer.Text at text) f → ⊥
       none _ (inl (no_constant i m z)) = elim i [ ]
       none f (inr (x, i, b)) = elim i [ ]
 
@@ -150,11 +150,11 @@ module _ (g : Gathers) (j : Judges g) (lawful : Lawful g j) (names : Ident → S
       parted : {y : Fixed} → R (layer.Use d None) y → DesignatesFixed g j lawful names exports s knows d y
       parted (rules.fixed_name {x = x} m r) = (x, m, r)
 
-      into : (f : Fault) → DesignatorFails g j lawful names exports s knows d f → FixedIn (layer.Use d None) f
+      into : (f : Breach) → DesignatorFails g j lawful names exports s knows d f → FixedIn (layer.Use d None) f
       into f (inl m) = inl (rules.fixed_at_name m)
       into f (inr (x, m, z)) = inl (rules.fixed_at_selector m z)
 
-      out : (f : Fault) → FixedIn (layer.Use d None) f → DesignatorFails g j lawful names exports s knows d f
+      out : (f : Breach) → FixedIn (layer.Use d None) f → DesignatorFails g j lawful names exports s knows d f
       out f (inl (rules.fixed_at_name m)) = inl m
       out f (inl (rules.fixed_at_selector {x = x} m z)) = inr (x, m, z)
       out _ (inl (no_constant i m z)) = elim i [ ]
@@ -167,11 +167,11 @@ module _ (g : Gathers) (j : Judges g) (lawful : Lawful g j) (names : Ident → S
       reads : (y : Fixed) → R (layer.Not at x) y → (k : Kind) × ((a : Kind) × F x (AConstant a) × Negates a k) × (y ≡ AConstant k)
       reads _ (rules.fixed_negated {a = a} {k = k} m n) = (k, (a, m, n), refl)
 
-      into : (f : Fault) → ConstBroken x f ⊎ ((a : Kind) × F x (AConstant a) × (((k : Kind) → Negates a k → ⊥) × (f ≡ at ! rule.WrongType))) → FixedIn (layer.Not at x) f
+      into : (f : Breach) → ConstBroken x f ⊎ ((a : Kind) × F x (AConstant a) × (((k : Kind) → Negates a k → ⊥) × (f ≡ at ! rule.WrongType))) → FixedIn (layer.Not at x) f
       into f (inl b) = part_broken rules.in_not b
       into f (inr (a, m, (n, e))) = inl (subst (Fails (layer.Not at x)) (sym e) (rules.fixed_not_boolean m n))
 
-      out : (f : Fault) → FixedIn (layer.Not at x) f → ConstBroken x f ⊎ ((a : Kind) × F x (AConstant a) × (((k : Kind) → Negates a k → ⊥) × (f ≡ at ! rule.WrongType)))
+      out : (f : Breach) → FixedIn (layer.Not at x) f → ConstBroken x f ⊎ ((a : Kind) × F x (AConstant a) × (((k : Kind) → Negates a k → ⊥) × (f ≡ at ! rule.WrongType)))
       out _ (inl (no_constant rules.in_not m z)) = inl (inr (_, m, (z, refl)))
       out _ (inl (rules.fixed_not_boolean {a = a} m n)) = inr (a, m, (n, refl))
       out f (inr (y, rules.in_not, b)) = inl (inl b)
@@ -182,7 +182,7 @@ module _ (g : Gathers) (j : Judges g) (lawful : Lawful g j) (names : Ident → S
       reads : (y : Fixed) → R (layer.Bracketed at x) y → (k : Kind) × F x (AConstant k) × (y ≡ AConstant k)
       reads _ (rules.fixed_brackets {k = k} m) = (k, m, refl)
 
-      out : (f : Fault) → FixedIn (layer.Bracketed at x) f → ConstBroken x f
+      out : (f : Breach) → FixedIn (layer.Bracketed at x) f → ConstBroken x f
       out _ (inl (no_constant rules.in_brackets m z)) = inr (_, m, (z, refl))
       out f (inr (y, rules.in_brackets, b)) = inl b
 
@@ -197,18 +197,18 @@ module _ (g : Gathers) (j : Judges g) (lawful : Lawful g j) (names : Ident → S
       Related : Kind → Type 0
       Related l = (c : Kind × Kind) × (F a (AConstant c.0) × F b (AConstant c.1)) × Makes s.types (op.Relation o.op) (operand c.0) (operand c.1) l
 
-      Breaks : Fault → Type 0
+      Breaks : Breach → Type 0
       Breaks f = (ConstBroken a f ⊎ ConstBroken b f) ⊎ ((c : Kind × Kind) × (F a (AConstant c.0) × F b (AConstant c.1)) × Misused s.types (op.Relation o.op) o.pos (first a) (first b) (operand c.0) (operand c.1) f)
 
       reads : (y : Fixed) → R (layer.Relation a o b) y → (l : Kind) × Related l × (y ≡ AConstant l)
       reads _ (rules.fixed_relation {x = x} {y = y} {k = l} m n r) = (l, ((x, y), (m, n), r), refl)
 
-      into : (f : Fault) → Breaks f → FixedIn (layer.Relation a o b) f
+      into : (f : Breach) → Breaks f → FixedIn (layer.Relation a o b) f
       into f (inl (inl z)) = part_broken rules.left_side z
       into f (inl (inr z)) = part_broken rules.right_side z
       into f (inr (c, (m, n), u)) = inl (rules.fixed_at_relation m n u)
 
-      out : (f : Fault) → FixedIn (layer.Relation a o b) f → Breaks f
+      out : (f : Breach) → FixedIn (layer.Relation a o b) f → Breaks f
       out _ (inl (no_constant rules.left_side m z)) = inl (inl (inr (_, m, (z, refl))))
       out _ (inl (no_constant rules.right_side m z)) = inl (inr (inr (_, m, (z, refl))))
       out f (inl (rules.fixed_at_relation {x = x} {y = y} m n u)) = inr ((x, y), (m, n), u)
@@ -233,46 +233,46 @@ module _ (g : Gathers) (j : Judges g) (lawful : Lawful g j) (names : Ident → S
   abbrev Chained : Kind → List Operand → Kind → Type 0
   Chained = FixedChain s.types names exports
 
-  abbrev ChainBreaks : Pos → Kind → List Operand → Fault → Type 0
+  abbrev ChainBreaks : Pos → Kind → List Operand → Breach → Type 0
   ChainBreaks = FixedChainFails s.types names exports
 
-  abbrev InChain : (Kind → Type 0) → (Fault → Type 0) → Pos → List Operand → Fault → Type 0
+  abbrev InChain : (Kind → Type 0) → (Breach → Type 0) → Pos → List Operand → Breach → Type 0
   InChain P Q left xs f = Q f ⊎ (((x : Operand) × Among x xs × ConstBroken x.of f) ⊎ ((a : Kind) × P a × ChainBreaks left a xs f))
 
   abbrev Stepped : (Kind → Type 0) → Operand → Kind → Type 0
   Stepped P x c = (k : Kind × Kind) × (P k.0 × F x.of (AConstant k.1)) × Makes s.types x.op (operand k.0) (operand k.1) c
 
-  abbrev StepFails : (Kind → Type 0) → (Fault → Type 0) → Pos → Operand → Fault → Type 0
+  abbrev StepFails : (Kind → Type 0) → (Breach → Type 0) → Pos → Operand → Breach → Type 0
   StepFails P Q left x f = (Q f ⊎ ConstBroken x.of f) ⊎ ((k : Kind × Kind) × (P k.0 × F x.of (AConstant k.1)) × Misused s.types x.op x.spot left (first x.of) (operand k.0) (operand k.1) f)
 
-  step_answers : {P : Kind → Type 0} {Q : Fault → Type 0} {v : Result ConstantValue g.Reported} (left : Pos) (x : Operand) → IsCallFree x.of → FixedFound x.of → Answers g j O IsConst P Q v → Answers g j O IsConst (Stepped P x) (StepFails P Q left x) (step left v x)
+  step_answers : {P : Kind → Type 0} {Q : Breach → Type 0} {v : Result ConstantValue g.Reported} (left : Pos) (x : Operand) → IsCallFree x.of → FixedFound x.of → Answers g j O IsConst P Q v → Answers g j O IsConst (Stepped P x) (StepFails P Q left x) (step left v x)
   step_answers {P = P} {Q = Q} {v = v} left x i h a = subst (λ (at : Pos). Answers g j O IsConst (Stepped P x) (StepFails P Q left x) (operate.combined g x.op x.spot left v at (constants.constant g s (meant g x.of).fixed))) (sym (free_at g i))
       (then_answer g j lawful O {N = λ k c. Makes s.types x.op (operand k.0) (operand k.1) c} {D = λ k f. Misused s.types x.op x.spot left (first x.of) (operand k.0) (operand k.1) f}
       (both_answer g j lawful O a (const_valued i h)) (λ p k i. const_operated g j lawful O s.types x.op x.spot left (first x.of) i.0 i.1))
 
-  module _ (P : Kind → Type 0) (Q : Fault → Type 0) where
+  module _ (P : Kind → Type 0) (Q : Breach → Type 0) where
     chain_of : (x : Operand) (xs : List Operand) (k : Kind) → (c : Kind) × Stepped P x c × Chained c xs k → (a : Kind) × P a × Chained a (x ∷ xs) k
     chain_of x xs k (c, (ab, (m, h), makes), r) = (ab.0, m, fixed_then h makes r)
 
     of_chain : {x : Operand} {xs : List Operand} {a k : Kind} → P a → Chained a (x ∷ xs) k → (c : Kind) × Stepped P x c × Chained c xs k
     of_chain {a = a} m (fixed_then {b = b} {c = c} h makes r) = (c, ((a, b), (m, h), makes), r)
 
-    fails_of : (left : Pos) (x : Operand) (xs : List Operand) (f : Fault) → InChain (Stepped P x) (StepFails P Q left x) left xs f → InChain P Q left (x ∷ xs) f
+    fails_of : (left : Pos) (x : Operand) (xs : List Operand) (f : Breach) → InChain (Stepped P x) (StepFails P Q left x) left xs f → InChain P Q left (x ∷ xs) f
     fails_of left x xs f (inl (inl (inl b))) = inl b
     fails_of left x xs f (inl (inl (inr b))) = inr (inl (x, here, b))
     fails_of left x xs f (inl (inr (k, (m, h), u))) = inr (inr (k.0, m, fixed_at_once h u))
     fails_of left x xs f (inr (inl (y, a, b))) = inr (inl (y, later a, b))
     fails_of left x xs f (inr (inr (c, (k, (m, h), makes), r))) = inr (inr (k.0, m, fixed_further h makes r))
 
-    among_of : {left : Pos} {x y : Operand} {xs : List Operand} {f : Fault} → Among y (x ∷ xs) → ConstBroken y.of f → InChain (Stepped P x) (StepFails P Q left x) left xs f
+    among_of : {left : Pos} {x y : Operand} {xs : List Operand} {f : Breach} → Among y (x ∷ xs) → ConstBroken y.of f → InChain (Stepped P x) (StepFails P Q left x) left xs f
     among_of here b = inl (inl (inr b))
     among_of {y = y} (later a) b = inr (inl (y, a, b))
 
-    chain_fails_of : {left : Pos} {x : Operand} {xs : List Operand} {a : Kind} {f : Fault} → P a → ChainBreaks left a (x ∷ xs) f → InChain (Stepped P x) (StepFails P Q left x) left xs f
+    chain_fails_of : {left : Pos} {x : Operand} {xs : List Operand} {a : Kind} {f : Breach} → P a → ChainBreaks left a (x ∷ xs) f → InChain (Stepped P x) (StepFails P Q left x) left xs f
     chain_fails_of {a = a} m (fixed_at_once {b = b} h u) = inl (inr ((a, b), (m, h), u))
     chain_fails_of {a = a} m (fixed_further {b = b} {c = c} h makes r) = inr (inr (c, ((a, b), (m, h), makes), r))
 
-    of_fails : (left : Pos) (x : Operand) (xs : List Operand) (f : Fault) → InChain P Q left (x ∷ xs) f → InChain (Stepped P x) (StepFails P Q left x) left xs f
+    of_fails : (left : Pos) (x : Operand) (xs : List Operand) (f : Breach) → InChain P Q left (x ∷ xs) f → InChain (Stepped P x) (StepFails P Q left x) left xs f
     of_fails left x xs f (inl b) = inl (inl (inl b))
     of_fails left x xs f (inr (inl (y, a, b))) = among_of a b
     of_fails left x xs f (inr (inr (a, m, r))) = chain_fails_of m r
@@ -280,7 +280,7 @@ module _ (g : Gathers) (j : Judges g) (lawful : Lawful g j) (names : Ident → S
     end_of : {a k : Kind} → P a → Chained a [] k → P k
     end_of m fixed_done = m
 
-  chain_answers : (xs : List Operand) {P : Kind → Type 0} {Q : Fault → Type 0} {v : Result ConstantValue g.Reported} (left : Pos) → ((x : Operand) → Among x xs → IsCallFree x.of) → ((x : Operand) → Among x xs → FixedFound x.of) → Answers g j O IsConst P Q v
+  chain_answers : (xs : List Operand) {P : Kind → Type 0} {Q : Breach → Type 0} {v : Result ConstantValue g.Reported} (left : Pos) → ((x : Operand) → Among x xs → IsCallFree x.of) → ((x : Operand) → Among x xs → FixedFound x.of) → Answers g j O IsConst P Q v
       → Answers g j O IsConst (λ k. (a : Kind) × P a × Chained a xs k) (InChain P Q left xs) (fold (step left) v xs)
   chain_answers [] {P = P} {Q = Q} left i h a = exact g j lawful O {N = λ k. (a : Kind) × P a × Chained a [] k} {C = InChain P Q left []} (λ k m. (k, m, fixed_done)) (λ k m. end_of P Q m.1 m.2) (λ f b. inl b)
       (λ f b. elim b [ inl c ↦ c | inr c ↦ elim c [ inl d ↦ elim d.1 [ ] | inr d ↦ elim d.2 [ ] ] ]) a
@@ -295,12 +295,12 @@ module _ (g : Gathers) (j : Judges g) (lawful : Lawful g j) (names : Ident → S
       reads : (y : Fixed) → R (layer.Term x rest) y → (k : Kind) × ((a : Kind) × F x (AConstant a) × Chained a (factors rest) k) × (y ≡ AConstant k)
       reads _ (rules.fixed_term {a = a} {k = k} m c) = (k, (a, m, c), refl)
 
-      into : (f : Fault) → InChain (λ k. F x (AConstant k)) (ConstBroken x) (first x) (factors rest) f → FixedIn (layer.Term x rest) f
+      into : (f : Breach) → InChain (λ k. F x (AConstant k)) (ConstBroken x) (first x) (factors rest) f → FixedIn (layer.Term x rest) f
       into f (inl b) = part_broken rules.first_factor b
       into f (inr (inl (y, m, b))) = part_broken (rules.other_factor m) b
       into f (inr (inr (a, m, c))) = inl (rules.fixed_in_term m c)
 
-      out : (f : Fault) → FixedIn (layer.Term x rest) f → InChain (λ k. F x (AConstant k)) (ConstBroken x) (first x) (factors rest) f
+      out : (f : Breach) → FixedIn (layer.Term x rest) f → InChain (λ k. F x (AConstant k)) (ConstBroken x) (first x) (factors rest) f
       out _ (inl (no_constant rules.first_factor m z)) = inl (inr (_, m, (z, refl)))
       out _ (inl (no_constant (rules.other_factor {x = y} a) m z)) = inr (inl (y, a, inr (_, m, (z, refl))))
       out f (inl (rules.fixed_in_term {a = a} m c)) = inr (inr (a, m, c))
@@ -315,12 +315,12 @@ module _ (g : Gathers) (j : Judges g) (lawful : Lawful g j) (names : Ident → S
       reads : (y : Fixed) → R (layer.Sum None x rest) y → (k : Kind) × ((a : Kind) × F x (AConstant a) × Chained a (addends rest) k) × (y ≡ AConstant k)
       reads _ (rules.fixed_sum {a = a} {k = k} m c) = (k, (a, m, c), refl)
 
-      into : (f : Fault) → InChain (λ k. F x (AConstant k)) (ConstBroken x) (first x) (addends rest) f → FixedIn (layer.Sum None x rest) f
+      into : (f : Breach) → InChain (λ k. F x (AConstant k)) (ConstBroken x) (first x) (addends rest) f → FixedIn (layer.Sum None x rest) f
       into f (inl b) = part_broken rules.first_addend b
       into f (inr (inl (y, m, b))) = part_broken (rules.other_addend m) b
       into f (inr (inr (a, m, c))) = inl (rules.fixed_in_sum m c)
 
-      out : (f : Fault) → FixedIn (layer.Sum None x rest) f → InChain (λ k. F x (AConstant k)) (ConstBroken x) (first x) (addends rest) f
+      out : (f : Breach) → FixedIn (layer.Sum None x rest) f → InChain (λ k. F x (AConstant k)) (ConstBroken x) (first x) (addends rest) f
       out _ (inl (no_constant rules.first_addend m z)) = inl (inr (_, m, (z, refl)))
       out _ (inl (no_constant (rules.other_addend {x = y} a) m z)) = inr (inl (y, a, inr (_, m, (z, refl))))
       out f (inl (rules.fixed_in_sum {a = a} m c)) = inr (inr (a, m, c))
@@ -330,7 +330,7 @@ module _ (g : Gathers) (j : Judges g) (lawful : Lawful g j) (names : Ident → S
   abbrev HasSigned : Operator Sign → Expr → Kind → Type 0
   HasSigned sign x b = (a : Kind) × F x (AConstant a) × SignMakes sign.op (operand a) b
 
-  abbrev SignFails : Operator Sign → Expr → Fault → Type 0
+  abbrev SignFails : Operator Sign → Expr → Breach → Type 0
   SignFails sign x f = ConstBroken x f ⊎ ((a : Kind) × F x (AConstant a) × Misapplied (MaySign sign.op (operand a)) (SignMakes sign.op (operand a)) sign.pos rule.WrongType f)
 
   signed_fixed : {e : Expr} (sign : Operator Sign) (x : Expr) (rest : List (Operator AddOp × Expr)) → out-Expr e ≡ layer.Sum (Some sign) x rest → IsCallFree x → FixedFound x → ((y : Operand) → Among y (addends rest) → IsCallFree y.of) → ((y : Operand) → Among y (addends rest) → FixedFound y.of) → FixedFound e
@@ -343,13 +343,13 @@ module _ (g : Gathers) (j : Judges g) (lawful : Lawful g j) (names : Ident → S
       reads : (y : Fixed) → R (layer.Sum (Some sign) x rest) y → (k : Kind) × ((b : Kind) × HasSigned sign x b × Chained b (addends rest) k) × (y ≡ AConstant k)
       reads _ (rules.fixed_signed_sum {a = a} {b = b} {k = k} m t c) = (k, (b, (a, m, t), c), refl)
 
-      into : (f : Fault) → InChain (HasSigned sign x) (SignFails sign x) sign.pos (addends rest) f → FixedIn (layer.Sum (Some sign) x rest) f
+      into : (f : Breach) → InChain (HasSigned sign x) (SignFails sign x) sign.pos (addends rest) f → FixedIn (layer.Sum (Some sign) x rest) f
       into f (inl (inl b)) = part_broken rules.first_addend b
       into f (inl (inr (a, m, z))) = inl (rules.fixed_at_sign m z)
       into f (inr (inl (y, m, b))) = part_broken (rules.other_addend m) b
       into f (inr (inr (b, (a, m, t), c))) = inl (rules.fixed_in_signed_sum m t c)
 
-      out : (f : Fault) → FixedIn (layer.Sum (Some sign) x rest) f → InChain (HasSigned sign x) (SignFails sign x) sign.pos (addends rest) f
+      out : (f : Breach) → FixedIn (layer.Sum (Some sign) x rest) f → InChain (HasSigned sign x) (SignFails sign x) sign.pos (addends rest) f
       out _ (inl (no_constant rules.first_addend m z)) = inl (inl (inr (_, m, (z, refl))))
       out _ (inl (no_constant (rules.other_addend {x = y} a) m z)) = inr (inl (y, a, inr (_, m, (z, refl))))
       out f (inl (rules.fixed_at_sign {a = a} m z)) = inl (inr (a, m, z))
@@ -365,7 +365,7 @@ module _ (g : Gathers) (j : Judges g) (lawful : Lawful g j) (names : Ident → S
   abbrev Number : Expr → Option TypeNo × ℤ → Type 0
   Number x p = (k : Kind) × F x (AConstant k) × NumberOf k p
 
-  abbrev NumberFails : Expr → Fault → Type 0
+  abbrev NumberFails : Expr → Breach → Type 0
   NumberFails x f = ConstBroken x f ⊎ ((k : Kind) × F x (AConstant k) × NoNumber g j lawful O (first x) k f)
 
   number_at : {x : Expr} → IsCallFree x → FixedFound x → Answers g j O IsOrdinal (Number x) (NumberFails x) (constants.element_of g (meant g x).fixed.at (constants.constant g s (meant g x).fixed))
@@ -378,11 +378,11 @@ module _ (g : Gathers) (j : Judges g) (lawful : Lawful g j) (names : Ident → S
   it_has : {x : Expr} {sort : Option TypeNo} {n : ℤ} → HasNumber s.types names exports x sort n → Number x (sort, n)
   it_has (has_number {k = k} m e n) = (k, m, (e, n))
 
-  abbrev ItemBreaks : L → Fault → Type 0
+  abbrev ItemBreaks : L → Breach → Type 0
   ItemBreaks l f = ItemFails s.types names exports l f ⊎ ((x : Expr) × IsBound x l × ConstBroken x f)
 
   -- what is refused of a bound alone
-  bound_fails : {l : L} {x : Expr} (f : Fault) → IsCallFree x → FixedFound x → IsBound x l → NumberFails x f → ItemBreaks l f
+  bound_fails : {l : L} {x : Expr} (f : Breach) → IsCallFree x → FixedFound x → IsBound x l → NumberFails x f → ItemBreaks l f
   bound_fails {x = x} f i h b (inl c) = inr (x, b, c)
   bound_fails {l = l} {x = x} f i h b (inr (k, m, (n, e))) = inl (subst (ItemFails s.types names exports l) (sym e) (rules.no_number b m (λ sort z y. none sort z (it_has y))))
     where
@@ -414,7 +414,7 @@ module _ (g : Gathers) (j : Judges g) (lawful : Lawful g j) (names : Ident → S
       out _ (rules.single {sort = sort} {n = n} q m w) = ((sort, n), it_has m, (w, refl))
       out _ (rules.range q m n w v t u) = absurd (not_both e q)
 
-      fails_in : (f : Fault) → NumberFails l.low f ⊎ ((p : Option TypeNo × ℤ) × Number l.low p × ((Within (pos 0) p.1 (pos 31) → ⊥) × (f ≡ first l.low ! rule.OutOfRange))) → ItemBreaks l f
+      fails_in : (f : Breach) → NumberFails l.low f ⊎ ((p : Option TypeNo × ℤ) × Number l.low p × ((Within (pos 0) p.1 (pos 31) → ⊥) × (f ≡ first l.low ! rule.OutOfRange))) → ItemBreaks l f
       fails_in f (inl b) = bound_fails f i h (low_bound refl) b
       fails_in f (inr (p, m, (n, q))) = inl (subst (ItemFails s.types names exports l) (sym q) (rules.no_element (low_bound refl) (has_it p m) n))
 
@@ -422,10 +422,10 @@ module _ (g : Gathers) (j : Judges g) (lawful : Lawful g j) (names : Ident → S
       low_only (low_bound q) = q
       low_only (high_bound q) = absurd (not_both e q)
 
-      fails_by : (x : Expr) (f : Fault) → l.low ≡ x → NumberFails x f ⊎ ((p : Option TypeNo × ℤ) × Number x p × ((Within (pos 0) p.1 (pos 31) → ⊥) × (f ≡ first x ! rule.OutOfRange))) → NumberFails l.low f ⊎ ((p : Option TypeNo × ℤ) × Number l.low p × ((Within (pos 0) p.1 (pos 31) → ⊥) × (f ≡ first l.low ! rule.OutOfRange)))
+      fails_by : (x : Expr) (f : Breach) → l.low ≡ x → NumberFails x f ⊎ ((p : Option TypeNo × ℤ) × Number x p × ((Within (pos 0) p.1 (pos 31) → ⊥) × (f ≡ first x ! rule.OutOfRange))) → NumberFails l.low f ⊎ ((p : Option TypeNo × ℤ) × Number l.low p × ((Within (pos 0) p.1 (pos 31) → ⊥) × (f ≡ first l.low ! rule.OutOfRange)))
       fails_by x f q b = subst (λ (x : Expr). NumberFails x f ⊎ ((p : Option TypeNo × ℤ) × Number x p × ((Within (pos 0) p.1 (pos 31) → ⊥) × (f ≡ first x ! rule.OutOfRange)))) (sym q) b
 
-      fails_out : (f : Fault) → ItemBreaks l f → NumberFails l.low f ⊎ ((p : Option TypeNo × ℤ) × Number l.low p × ((Within (pos 0) p.1 (pos 31) → ⊥) × (f ≡ first l.low ! rule.OutOfRange)))
+      fails_out : (f : Breach) → ItemBreaks l f → NumberFails l.low f ⊎ ((p : Option TypeNo × ℤ) × Number l.low p × ((Within (pos 0) p.1 (pos 31) → ⊥) × (f ≡ first l.low ! rule.OutOfRange)))
       fails_out f (inr (x, b, c)) = fails_by x f (low_only b) (inl (inl c))
       fails_out _ (inl (rules.no_number {e = x} {k = k} b m n)) = fails_by x _ (low_only b) (inl (inr (k, m, ((λ p t. n p.0 p.1 (has_number m t.0 t.1)), refl))))
       fails_out _ (inl (rules.no_element {e = x} {sort = sort} {n = n} b m w)) = fails_by x _ (low_only b) (inr ((sort, n), it_has m, (w, refl)))
@@ -438,13 +438,13 @@ module _ (g : Gathers) (j : Judges g) (lawful : Lawful g j) (names : Ident → S
   abbrev RangeSo : L → Expr → ℕ → Type 0
   RangeSo l high bits = (q : (Option TypeNo × ℤ) × (Option TypeNo × ℤ)) × Numbers l high q × ((Within (pos 0) q.0.1 (pos 31) × Within (pos 0) q.1.1 (pos 31)) × ((((u : Option TypeNo) × GoTogether q.0.0 q.1.0 u) × (int_lt q.1.1 q.0.1 ≡ true → ⊥)) × (bits ≡ with_span 0 q.0.1 q.1.1)))
 
-  abbrev OutOfSet : Expr → Fault → Type 0
+  abbrev OutOfSet : Expr → Breach → Type 0
   OutOfSet x f = (p : Option TypeNo × ℤ) × Number x p × ((Within (pos 0) p.1 (pos 31) → ⊥) × (f ≡ first x ! rule.OutOfRange))
 
-  abbrev Disordered : L → Expr → Fault → Type 0
+  abbrev Disordered : L → Expr → Breach → Type 0
   Disordered l high f = (q : (Option TypeNo × ℤ) × (Option TypeNo × ℤ)) × Numbers l high q × ((((u : Option TypeNo) → GoTogether q.0.0 q.1.0 u → ⊥) × (f ≡ first high ! rule.WrongType)) ⊎ (((u : Option TypeNo) × GoTogether q.0.0 q.1.0 u) × ((int_lt q.1.1 q.0.1 ≡ true) × (f ≡ first l.low ! rule.EmptyRange))))
 
-  abbrev RangeBreaks : L → Expr → Fault → Type 0
+  abbrev RangeBreaks : L → Expr → Breach → Type 0
   RangeBreaks l high f = (NumberFails l.low f ⊎ NumberFails high f) ⊎ ((OutOfSet l.low f ⊎ OutOfSet high f) ⊎ Disordered l high f)
 
   abbrev spanned_at : L → Expr → Pos → Pos → Result ℕ g.Reported
@@ -465,10 +465,10 @@ module _ (g : Gathers) (j : Judges g) (lawful : Lawful g j) (names : Ident → S
       out (rules.single c m w) = absurd (not_both c e)
       out (rules.range c m n w v t o) = out_of (same_some c e) m n w v t o
 
-      out_of_set : {x : Expr} (f : Fault) → IsBound x l → OutOfSet x f → ItemBreaks l f
+      out_of_set : {x : Expr} (f : Breach) → IsBound x l → OutOfSet x f → ItemBreaks l f
       out_of_set f b (p, m, (n, c)) = inl (subst (ItemFails s.types names exports l) (sym c) (rules.no_element b (has_it p m) n))
 
-      fails_in : (f : Fault) → RangeBreaks l high f → ItemBreaks l f
+      fails_in : (f : Breach) → RangeBreaks l high f → ItemBreaks l f
       fails_in f (inl (inl b)) = bound_fails f i h (low_bound refl) b
       fails_in f (inl (inr b)) = bound_fails f k q (high_bound e) b
       fails_in f (inr (inl (inl b))) = out_of_set f (low_bound refl) b
@@ -477,11 +477,11 @@ module _ (g : Gathers) (j : Judges g) (lawful : Lawful g j) (names : Ident → S
       fails_in f (inr (inr (p, (m, n), inr (t, (o, c))))) = inl (subst (ItemFails s.types names exports l) (sym c) (rules.empty e (has_it p.0 m) (has_it p.1 n) t.1 o))
 
       -- which of both bounds it is
-      number_of_bound : {x : Expr} (f : Fault) → IsBound x l → NumberFails x f → RangeBreaks l high f
+      number_of_bound : {x : Expr} (f : Breach) → IsBound x l → NumberFails x f → RangeBreaks l high f
       number_of_bound f (low_bound c) b = inl (inl (subst (λ (x : Expr). NumberFails x f) (sym c) b))
       number_of_bound f (high_bound c) b = inl (inr (subst (λ (x : Expr). NumberFails x f) (same_some c e) b))
 
-      set_of_bound : {x : Expr} (f : Fault) → IsBound x l → OutOfSet x f → RangeBreaks l high f
+      set_of_bound : {x : Expr} (f : Breach) → IsBound x l → OutOfSet x f → RangeBreaks l high f
       set_of_bound f (low_bound c) b = inr (inl (inl (subst (λ (x : Expr). OutOfSet x f) (sym c) b)))
       set_of_bound f (high_bound c) b = inr (inl (inr (subst (λ (x : Expr). OutOfSet x f) (same_some c e) b)))
 
@@ -491,7 +491,7 @@ module _ (g : Gathers) (j : Judges g) (lawful : Lawful g j) (names : Ident → S
       empty_by : {x : Expr} {sort sort' u : Option TypeNo} {n m : ℤ} → x ≡ high → HasNumber s.types names exports l.low sort n → HasNumber s.types names exports x sort' m → GoTogether sort sort' u → int_lt m n ≡ true → RangeBreaks l high (first l.low ! rule.EmptyRange)
       empty_by {sort = sort} {sort' = sort'} {u = u} {n = n} {m = m} c a b t o = inr (inr (((sort, n), (sort', m)), (it_has a, subst (λ (x : Expr). Number x (sort', m)) c (it_has b)), inr ((u, t), (o, refl))))
 
-      fails_out : {f : Fault} → ItemBreaks l f → RangeBreaks l high f
+      fails_out : {f : Breach} → ItemBreaks l f → RangeBreaks l high f
       fails_out {f = f} (inr (x, b, c)) = number_of_bound f b (inl c)
       fails_out (inl (rules.no_number {k = k} b m n)) = number_of_bound _ b (inr (k, m, ((λ p t. n p.0 p.1 (has_number m t.0 t.1)), refl)))
       fails_out (inl (rules.no_element {sort = sort} {n = n} b m w)) = set_of_bound _ b ((sort, n), it_has m, (w, refl))
@@ -510,20 +510,20 @@ module _ (g : Gathers) (j : Judges g) (lawful : Lawful g j) (names : Ident → S
   abbrev ItemSo : Item → Type 0
   ItemSo i = Answers g j O IsSame (Adds s.types names exports (out-Item i)) (ItemBreaks (out-Item i)) (item g i s)
 
-  abbrev SetBreaks : List Item → Fault → Type 0
+  abbrev SetBreaks : List Item → Breach → Type 0
   SetBreaks is f = (i : Item) × Among i is × ItemBreaks (out-Item i) f
 
-  abbrev SetSo : (ℕ → Type 0) → (Fault → Type 0) → List Item → Result ℕ g.Reported → Type 0
+  abbrev SetSo : (ℕ → Type 0) → (Breach → Type 0) → List Item → Result ℕ g.Reported → Type 0
   SetSo P Q is r = Answers g j O IsSame (λ b. (a : ℕ) × P a × AddUp s.types names exports a is b) (λ f. Q f ⊎ SetBreaks is f) r
 
   bits_of : {v b : ℕ} → IsSame v b → v ≡ b
   bits_of (is_same n) = refl
 
-  joined_answers : {P M : ℕ → Type 0} {Q C : Fault → Type 0} {r q : Result ℕ g.Reported} → Answers g j O IsSame P Q r → Answers g j O IsSame M C q
+  joined_answers : {P M : ℕ → Type 0} {Q C : Breach → Type 0} {r q : Result ℕ g.Reported} → Answers g j O IsSame P Q r → Answers g j O IsSame M C q
       → Answers g j O IsSame (λ b. (p : ℕ × ℕ) × (P p.0 × M p.1) × (b ≡ bit_or p.0 p.1)) (λ f. (Q f ⊎ C f) ⊎ ((p : ℕ × ℕ) × (P p.0 × M p.1) × ⊥)) (constants.joined_bits g r q)
   joined_answers a b = then_answer g j lawful O {N = λ p b. b ≡ bit_or p.0 p.1} {D = λ p f. ⊥} (both_answer g j lawful O a b) (λ v p i. subst (λ (n : ℕ). Answers g j O IsSame (λ b. b ≡ n) (λ f. ⊥) (Ok (bit_or v.0 v.1))) (ap (λ (n : ℕ). bit_or n v.1) (bits_of i.0) ∙ ap (λ (n : ℕ). bit_or p.0 n) (bits_of i.1)) (fine g j lawful O (bit_or v.0 v.1) (bit_or v.0 v.1) (is_same (bit_or v.0 v.1))))
 
-  items_answer : (is : List Item) {P : ℕ → Type 0} {Q : Fault → Type 0} {r : Result ℕ g.Reported} → ((i : Item) → Among i is → ItemSo i) → Answers g j O IsSame P Q r → SetSo P Q is (fold (constants.with_item g s) r (map (λ (e : ItemAdds g.Reported). e) (map (item g) is)))
+  items_answer : (is : List Item) {P : ℕ → Type 0} {Q : Breach → Type 0} {r : Result ℕ g.Reported} → ((i : Item) → Among i is → ItemSo i) → Answers g j O IsSame P Q r → SetSo P Q is (fold (constants.with_item g s) r (map (λ (e : ItemAdds g.Reported). e) (map (item g) is)))
   items_answer [] {P = P} {Q = Q} h a = exact g j lawful O (λ b m. (b, m, no_item)) (λ b m. parted m.1 m.2) (λ f b. inl b) (λ f b. elim b [ inl c ↦ c | inr c ↦ elim c.1 [ ] ]) a
     where
       parted : {x b : ℕ} → P x → AddUp s.types names exports x [] b → P b
@@ -537,17 +537,17 @@ module _ (g : Gathers) (j : Judges g) (lawful : Lawful g j) (names : Ident → S
       parted : {x b : ℕ} → P x → AddUp s.types names exports x (i ∷ is) b → (a : ℕ) × ((p : ℕ × ℕ) × (P p.0 × Adds s.types names exports (out-Item i) p.1) × (a ≡ bit_or p.0 p.1)) × AddUp s.types names exports a is b
       parted {x = x} m (one_item {b = c} n r) = (bit_or x c, ((x, c), (m, n), refl), r)
 
-      fails_in : (f : Fault) → ((Q f ⊎ ItemBreaks (out-Item i) f) ⊎ ((p : ℕ × ℕ) × (P p.0 × Adds s.types names exports (out-Item i) p.1) × ⊥)) ⊎ SetBreaks is f → Q f ⊎ SetBreaks (i ∷ is) f
+      fails_in : (f : Breach) → ((Q f ⊎ ItemBreaks (out-Item i) f) ⊎ ((p : ℕ × ℕ) × (P p.0 × Adds s.types names exports (out-Item i) p.1) × ⊥)) ⊎ SetBreaks is f → Q f ⊎ SetBreaks (i ∷ is) f
       fails_in f (inl (inl (inl b))) = inl b
       fails_in f (inl (inl (inr b))) = inr (i, here, b)
       fails_in f (inl (inr z)) = absurd z.2
       fails_in f (inr (y, m, b)) = inr (y, later m, b)
 
-      among_of : {y : Item} (f : Fault) → Among y (i ∷ is) → ItemBreaks (out-Item y) f → ((Q f ⊎ ItemBreaks (out-Item i) f) ⊎ ((p : ℕ × ℕ) × (P p.0 × Adds s.types names exports (out-Item i) p.1) × ⊥)) ⊎ SetBreaks is f
+      among_of : {y : Item} (f : Breach) → Among y (i ∷ is) → ItemBreaks (out-Item y) f → ((Q f ⊎ ItemBreaks (out-Item i) f) ⊎ ((p : ℕ × ℕ) × (P p.0 × Adds s.types names exports (out-Item i) p.1) × ⊥)) ⊎ SetBreaks is f
       among_of f here b = inl (inl (inr b))
       among_of {y = y} f (later m) b = inr (y, m, b)
 
-      fails_out : (f : Fault) → Q f ⊎ SetBreaks (i ∷ is) f → ((Q f ⊎ ItemBreaks (out-Item i) f) ⊎ ((p : ℕ × ℕ) × (P p.0 × Adds s.types names exports (out-Item i) p.1) × ⊥)) ⊎ SetBreaks is f
+      fails_out : (f : Breach) → Q f ⊎ SetBreaks (i ∷ is) f → ((Q f ⊎ ItemBreaks (out-Item i) f) ⊎ ((p : ℕ × ℕ) × (P p.0 × Adds s.types names exports (out-Item i) p.1) × ⊥)) ⊎ SetBreaks is f
       fails_out f (inl b) = inl (inl (inl b))
       fails_out f (inr (y, m, b)) = among_of f m b
 
@@ -562,7 +562,7 @@ module _ (g : Gathers) (j : Judges g) (lawful : Lawful g j) (names : Ident → S
       known_same : {x y : Thing} → Known x ≡ Known y → x ≡ y
       known_same {x = x} e = ap (λ z. elim z [ Known y ↦ y | Ahead ↦ x | Undeclared ↦ x | NotExported ↦ x | Unknown ↦ x ]) e
 
-      one : {f : Fault} → Misset at (Known x) f → f ≡ at ! rule.NoType
+      one : {f : Breach} → Misset at (Known x) f → f ≡ at ! rule.NoType
       one (rules.no_name m) = elim m.misnamed [ ]
       one (rules.no_set_type n) = refl
 
@@ -578,7 +578,7 @@ module _ (g : Gathers) (j : Judges g) (lawful : Lawful g j) (names : Ident → S
   set_type_by : {at : Pos} (t : TypeNo) (b : Bool) → Decided (t ≡ bitset) b → SetType at (Known (AType t)) (cond (not b) (reported g at rule.NoType) (Ok tt))
   set_type_by {at = at} t _ (holds e) = passes tt (ap (λ (t : TypeNo). Known (AType t)) e) (λ f m. none m)
     where
-      none : {f : Fault} → Misset at (Known (AType t)) f → ⊥
+      none : {f : Breach} → Misset at (Known (AType t)) f → ⊥
       none (rules.no_name m) = elim m.misnamed [ ]
       none (rules.no_set_type n) = n (ap AType e)
   set_type_by t _ (fails_it n) = no_set (AType t) (λ e. n (type_same e))
@@ -593,7 +593,7 @@ module _ (g : Gathers) (j : Judges g) (lawful : Lawful g j) (names : Ident → S
   bitset_checks (meaning.LocalProcedure p) = no_set (ANested p.heading) (λ e. absurd cc)
   bitset_checks {at = at} meaning.Ahead = stopped g j lawful O at rule.NoType (λ e. absurd cc) rules.no_type_yet (λ f m. one m)
     where
-      one : {f : Fault} → Misset at Ahead f → f ≡ at ! rule.NoType
+      one : {f : Breach} → Misset at Ahead f → f ≡ at ! rule.NoType
       one (rules.no_name m) = absurd (m.not_ahead refl)
       one rules.no_type_yet = refl
   bitset_checks (meaning.Standard f) = no_set (AStandard f) (λ e. absurd cc)
@@ -603,15 +603,15 @@ module _ (g : Gathers) (j : Judges g) (lawful : Lawful g j) (names : Ident → S
   seen_set name _ _ e q (sees m) = bitset_checks m
   seen_set name _ _ e q sees_nothing = stopped g j lawful O name.pos rule.Undeclared (λ z. absurd cc) (rules.no_name (record { not_ahead = λ z. absurd cc; misnamed = undeclared })) (λ f m. one m)
     where
-      misnamed_one : {f : Fault} → Misnamed name.pos Undeclared f → f ≡ name.pos ! rule.Undeclared
+      misnamed_one : {f : Breach} → Misnamed name.pos Undeclared f → f ≡ name.pos ! rule.Undeclared
       misnamed_one undeclared = refl
 
-      one : {f : Fault} → Misset name.pos Undeclared f → f ≡ name.pos ! rule.Undeclared
+      one : {f : Breach} → Misset name.pos Undeclared f → f ≡ name.pos ! rule.Undeclared
       one (rules.no_name m) = misnamed_one m.misnamed
   seen_set name _ _ e q (sees_headless r) = no_set Headless (λ z. absurd cc)
   seen_set name _ _ e q (sees_unknown r) = stops r (record { only = λ f m. inr (of_declaration e q m); each = λ f m. none m }) (λ z. absurd cc)
     where
-      none : {f : Fault} → Misset name.pos Unknown f → j.Covers r f
+      none : {f : Breach} → Misset name.pos Unknown f → j.Covers r f
       none (rules.no_name m) = elim m.misnamed [ ]
 
   -- ---- sets
@@ -619,7 +619,7 @@ module _ (g : Gathers) (j : Judges g) (lawful : Lawful g j) (names : Ident → S
   abbrev SetOf : List Item → Type 0 → Fixed → Type 0
   SetOf items P x = (b : ℕ) × (P × AddUp s.types names exports 0 items b) × (x ≡ AConstant (Set (Some b)))
 
-  set_answers : {P : Type 0} {Q : Fault → Type 0} (t : Result (Unit {0}) g.Reported) (items : List Item) → Checks g j lawful O P Q t → ((i : Item) → Among i items → ItemSo i)
+  set_answers : {P : Type 0} {Q : Breach → Type 0} (t : Result (Unit {0}) g.Reported) (items : List Item) → Checks g j lawful O P Q t → ((i : Item) → Among i items → ItemSo i)
       → Answers g j O IsFixed (SetOf items P) (λ f. Q f ⊎ SetBreaks items f) (constants.set_of g t (fold (constants.with_item g s) (Ok 0) (map (λ (e : ItemAdds g.Reported). e) (map (item g) items))))
   set_answers {P = P} {Q = Q} t items c h = exact g j lawful O {M = λ x. (k : Unit {0} × ℕ) × (P × ((a : ℕ) × (a ≡ 0) × AddUp s.types names exports a items k.1)) × (x ≡ AConstant (Set (Some k.1)))} {B = λ f. (Q f ⊎ (⊥ ⊎ SetBreaks items f)) ⊎ ((k : Unit {0} × ℕ) × (P × ((a : ℕ) × (a ≡ 0) × AddUp s.types names exports a items k.1)) × ⊥)}
       (λ x m. (m.0.1, (m.1.0, subst (λ (a : ℕ). AddUp s.types names exports a items m.0.1) m.1.1.1 m.1.1.2), m.2)) (λ x m. ((tt, m.0), (m.1.0, (0, refl, m.1.1)), m.2))
@@ -628,7 +628,7 @@ module _ (g : Gathers) (j : Judges g) (lawful : Lawful g j) (names : Ident → S
       (both_answer g j lawful O (checks_answer g j lawful O c) (items_answer items {P = λ a. a ≡ 0} {Q = λ f. ⊥} h (fine g j lawful O 0 0 (is_same 0))))
       (λ v k i. means (denoted.Value (value.Set v.1)) (AConstant (Set (Some k.1))) (fixed_value (subst (λ (n : ℕ). IsConst (value.Set v.1) (Set (Some n))) (bits_of i.1) (is_const (value.Set v.1)))) refl (λ x e. e) (λ f b. b)))
 
-  item_broken : {name : Option Ident} {at : Pos} {items : List Item} (f : Fault) → SetBreaks items f → FixedIn (layer.Set name at items) f
+  item_broken : {name : Option Ident} {at : Pos} {items : List Item} (f : Breach) → SetBreaks items f → FixedIn (layer.Set name at items) f
   item_broken f (i, a, inl z) = inl (rules.at_item a z)
   item_broken f (i, a, inr (x, b, c)) = part_broken (rules.in_element a b) c
 
@@ -643,7 +643,7 @@ module _ (g : Gathers) (j : Judges g) (lawful : Lawful g j) (names : Ident → S
       parted : {x : Fixed} → R (layer.Set None at items) x → SetOf items (Unit {0}) x
       parted (rules.fixed_set {bits = b} a) = (b, (tt, a), refl)
 
-      out : (f : Fault) → FixedIn (layer.Set None at items) f → ⊥ ⊎ SetBreaks items f
+      out : (f : Breach) → FixedIn (layer.Set None at items) f → ⊥ ⊎ SetBreaks items f
       out _ (inl (no_constant (rules.in_element {i = i} a b) m z)) = inr (i, a, inr (_, b, inr (_, m, (z, refl))))
       out f (inl (rules.at_item {i = i} a z)) = inr (i, a, inl z)
       out f (inr (x, rules.in_element {i = i} a b, c)) = inr (i, a, inr (x, b, inl c))
@@ -656,7 +656,7 @@ module _ (g : Gathers) (j : Judges g) (lawful : Lawful g j) (names : Ident → S
       parted : {x : Fixed} → R (layer.Set (Some name) at items) x → SetOf items (names name ≡ Known (AType bitset)) x
       parted (rules.fixed_named_set {bits = b} e a) = (b, (e, a), refl)
 
-      out : (f : Fault) → FixedIn (layer.Set (Some name) at items) f → Misset name.pos (names name) f ⊎ SetBreaks items f
+      out : (f : Breach) → FixedIn (layer.Set (Some name) at items) f → Misset name.pos (names name) f ⊎ SetBreaks items f
       out _ (inl (no_constant (rules.in_element {i = i} a b) m z)) = inr (i, a, inr (_, b, inr (_, m, (z, refl))))
       out f (inl (rules.at_set_type m)) = inl m
       out f (inl (rules.at_item {i = i} a z)) = inr (i, a, inl z)
@@ -702,11 +702,11 @@ module _ (g : Gathers) (j : Judges g) (lawful : Lawful g j) (names : Ident → S
   pub exactly_fixed : (e : Expr) → IsCallFree e → Answers g j O IsConst (λ k. F e (AConstant k)) (BrokenAsConstant s.types names exports e) (constants.constant g s (meant g e).fixed)
   exactly_fixed e i = exact g j lawful O (λ k m. m) (λ k m. m) into out (const_valued i (fixed i))
     where
-      into : (f : Fault) → ConstBroken e f → BrokenAsConstant s.types names exports e f
+      into : (f : Breach) → ConstBroken e f → BrokenAsConstant s.types names exports e f
       into f (inl b) = broken_constant b
       into f (inr (x, m, (n, q))) = subst (BrokenAsConstant s.types names exports e) (sym q) (not_constant m n)
 
-      out : (f : Fault) → BrokenAsConstant s.types names exports e f → ConstBroken e f
+      out : (f : Breach) → BrokenAsConstant s.types names exports e f → ConstBroken e f
       out f (broken_constant b) = inl b
       out _ (not_constant {x = x} m n) = inr (x, m, (n, refl))
 

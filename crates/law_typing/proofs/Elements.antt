@@ -5,7 +5,7 @@ use Rattle.m2_rule.specs.declared.rule.Rule.TheVariants as rule
 use Rattle.m2_tree.specs.declared.pos.Pos.{Pos}
 use Rattle.typed_tree.specs.declared.types.TypeNo.{TypeNo}
 use Rattle.typed_tree.specs.declared.meaning.Value.{Value as ConstantValue}
-use Rattle.check_scope.specs.declared.fault.Fault.{Fault}
+use Rattle.m2_rule.specs.declared.breach.Breach.{Breach}
 use Rattle.check_scope.specs.Elaborated.{Gathers, reported_where, beside, ◌▷◌}
 use Rattle.check_const_ops.specs.declared.operand.Operand.{Operand as Side}
 use Rattle.check_const_ops.specs.declared.operand.Ordinal.{Ordinal}
@@ -37,8 +37,8 @@ amount_in p other = p
 abbrev pub NumberOf : Kind → Option TypeNo × ℤ → Type 0
 NumberOf k p = (operand k ≡ Scalar (Constant p.0 p.1)) × IsNumber p.0
 
-module _ (g : Gathers) (j : Judges g) (lawful : Lawful g j) (O : Fault → Type 0) where
-  abbrev pub NoNumber : Pos → Kind → Fault → Type 0
+module _ (g : Gathers) (j : Judges g) (lawful : Lawful g j) (O : Breach → Type 0) where
+  abbrev pub NoNumber : Pos → Kind → Breach → Type 0
   NoNumber at k f = ((p : Option TypeNo × ℤ) → NumberOf k p → ⊥) × (f ≡ at ! rule.WrongType)
 
   -- in a kind whose operand is known
@@ -58,12 +58,12 @@ module _ (g : Gathers) (j : Judges g) (lawful : Lawful g j) (O : Fault → Type 
   number_answers at _ _ (is_const v) = numbers_known at (constant_is v)
 
   -- one meaning at most
-  pub one_meaning : {A K : Type 0} {Is : A → K → Type 0} {M : K → Type 0} {B : Fault → Type 0} {r : Result A g.Reported} → Answers g j O Is M B r → (k l : K) → M k → M l → k ≡ l
+  pub one_meaning : {A K : Type 0} {Is : A → K → Type 0} {M : K → Type 0} {B : Breach → Type 0} {r : Result A g.Reported} → Answers g j O Is M B r → (k l : K) → M k → M l → k ≡ l
   one_meaning (means a m i h u n) k l p q = u k p ∙ sym (u l q)
   one_meaning (refuses r a n) k l p q = absurd (n k p)
 
   -- a condition beside an answer
-  pub checks_answer : {A P : Type 0} {B : Fault → Type 0} {r : Result A g.Reported} → Checks g j lawful O P B r → Answers g j O {A = A} {K = Unit {0}} (λ a u. Unit {0}) (λ u. P) B r
+  pub checks_answer : {A P : Type 0} {B : Breach → Type 0} {r : Result A g.Reported} → Checks g j lawful O P B r → Answers g j O {A = A} {K = Unit {0}} (λ a u. Unit {0}) (λ u. P) B r
   checks_answer (passes a p n) = means a tt tt p (λ u q. refl) n
   checks_answer (stops r a n) = refuses r a (λ u p. n p)
 
@@ -72,7 +72,7 @@ module _ (g : Gathers) (j : Judges g) (lawful : Lawful g j) (O : Fault → Type 
   abbrev InSet : Option TypeNo × ℤ → Type 0
   InSet p = Within (pos 0) p.1 (pos 31)
 
-  abbrev NotInSet : Pos → Option TypeNo × ℤ → Fault → Type 0
+  abbrev NotInSet : Pos → Option TypeNo × ℤ → Breach → Type 0
   NotInSet at p f = (InSet p → ⊥) × (f ≡ at ! rule.OutOfRange)
 
   in_set_checks : (at : Pos) (a : Ordinal) (p : Option TypeNo × ℤ) → IsOrdinal a p → Checks g j lawful O (InSet p) (NotInSet at p) (is_element g at a)
@@ -82,7 +82,7 @@ module _ (g : Gathers) (j : Judges g) (lawful : Lawful g j) (O : Fault → Type 
   abbrev Ordered : (Option TypeNo × ℤ) × (Option TypeNo × ℤ) → Type 0
   Ordered q = ((u : Option TypeNo) × GoTogether q.0.0 q.1.0 u) × (int_lt q.1.1 q.0.1 ≡ true → ⊥)
 
-  abbrev NotOrdered : Pos → Pos → (Option TypeNo × ℤ) × (Option TypeNo × ℤ) → Fault → Type 0
+  abbrev NotOrdered : Pos → Pos → (Option TypeNo × ℤ) × (Option TypeNo × ℤ) → Breach → Type 0
   NotOrdered at at' q f = (((u : Option TypeNo) → GoTogether q.0.0 q.1.0 u → ⊥) × (f ≡ at' ! rule.WrongType)) ⊎ (((u : Option TypeNo) × GoTogether q.0.0 q.1.0 u) × ((int_lt q.1.1 q.0.1 ≡ true) × (f ≡ at ! rule.EmptyRange)))
 
   ordered_by : (at at' : Pos) (a b : Ordinal) (m : Option (Option TypeNo)) (less : Bool) → int_lt b.number a.number ≡ less → TogetherIs a.sort b.sort m
@@ -94,19 +94,19 @@ module _ (g : Gathers) (j : Judges g) (lawful : Lawful g j) (O : Fault → Type 
   ordered_checks : (at at' : Pos) (a b : Ordinal) (p q : Option TypeNo × ℤ) → IsOrdinal a p → IsOrdinal b q → Checks g j lawful O (Ordered (p, q)) (NotOrdered at at' (p, q)) (related g at at' a b)
   ordered_checks at at' _ _ _ _ (is_ordinal a) (is_ordinal b) = ordered_by at at' a b (common a.sort b.sort) (int_lt b.number a.number) refl (common_is a.sort b.sort)
 
-  module _ {M N : Option TypeNo × ℤ → Type 0} {B C : Fault → Type 0} {a b : Result Ordinal g.Reported} (at at' : Pos) (low : Answers g j O IsOrdinal M B a) (high : Answers g j O IsOrdinal N C b) where
+  module _ {M N : Option TypeNo × ℤ → Type 0} {B C : Breach → Type 0} {a b : Result Ordinal g.Reported} (at at' : Pos) (low : Answers g j O IsOrdinal M B a) (high : Answers g j O IsOrdinal N C b) where
     -- the bits of one element
     abbrev pub OneElement : ℕ → Type 0
     OneElement bits = (p : Option TypeNo × ℤ) × M p × (InSet p × (bits ≡ with_span 0 p.1 p.1))
 
-    abbrev pub OneFails : Fault → Type 0
+    abbrev pub OneFails : Breach → Type 0
     OneFails f = B f ⊎ ((p : Option TypeNo × ℤ) × M p × NotInSet at p f)
 
     -- the bits of a range
     abbrev pub RangeOf : ℕ → Type 0
     RangeOf bits = (q : (Option TypeNo × ℤ) × (Option TypeNo × ℤ)) × (M q.0 × N q.1) × ((InSet q.0 × InSet q.1) × (Ordered q × (bits ≡ with_span 0 q.0.1 q.1.1)))
 
-    abbrev pub RangeFails : Fault → Type 0
+    abbrev pub RangeFails : Breach → Type 0
     RangeFails f = (B f ⊎ C f) ⊎ ((((p : Option TypeNo × ℤ) × M p × NotInSet at p f) ⊎ ((p : Option TypeNo × ℤ) × N p × NotInSet at' p f)) ⊎ ((q : (Option TypeNo × ℤ) × (Option TypeNo × ℤ)) × (M q.0 × N q.1) × NotOrdered at at' q f))
 
     pub one_answers : Answers g j O IsSame OneElement OneFails (a ▷ λ x. is_element g at x ▷ λ fine. Ok (with_span 0 x.number x.number))
@@ -120,7 +120,7 @@ module _ (g : Gathers) (j : Judges g) (lawful : Lawful g j) (O : Fault → Type 
     abbrev Bounded : Type 0
     Bounded = (((p : Option TypeNo × ℤ) × M p × InSet p) × ((p : Option TypeNo × ℤ) × N p × InSet p)) × ((q : (Option TypeNo × ℤ) × (Option TypeNo × ℤ)) × (M q.0 × N q.1) × Ordered q)
 
-    abbrev Unbounded : Fault → Type 0
+    abbrev Unbounded : Breach → Type 0
     Unbounded f = ((B f ⊎ ((p : Option TypeNo × ℤ) × M p × NotInSet at p f)) ⊎ (C f ⊎ ((p : Option TypeNo × ℤ) × N p × NotInSet at' p f))) ⊎ ((B f ⊎ C f) ⊎ ((q : (Option TypeNo × ℤ) × (Option TypeNo × ℤ)) × (M q.0 × N q.1) × NotOrdered at at' q f))
 
     bounds_check : Checks g j lawful O Bounded Unbounded (beside g (beside g (in_set g at a) (in_set g at' b)) (related_bounds g at at' a b))
@@ -150,7 +150,7 @@ module _ (g : Gathers) (j : Judges g) (lawful : Lawful g j) (O : Fault → Type 
         out : (bits : ℕ) → RangeOf bits → (k : Both) × ((M k.0.0 × N k.0.1) × Bounded) × (bits ≡ with_span 0 k.0.0.1 k.0.1.1)
         out bits (q, (m, n), ((i, k), (o, e))) = ((q, tt), ((m, n), (((q.0, m, i), (q.1, n, k)), (q, (m, n), o))), e)
 
-        unbounded : (f : Fault) → Unbounded f → RangeFails f
+        unbounded : (f : Breach) → Unbounded f → RangeFails f
         unbounded f (inl (inl (inl b))) = inl (inl b)
         unbounded f (inl (inl (inr y))) = inr (inl (inl y))
         unbounded f (inl (inr (inl c))) = inl (inr c)
@@ -158,12 +158,12 @@ module _ (g : Gathers) (j : Judges g) (lawful : Lawful g j) (O : Fault → Type 
         unbounded f (inr (inl b)) = inl b
         unbounded f (inr (inr y)) = inr (inr y)
 
-        fails_in : (f : Fault) → ((B f ⊎ C f) ⊎ Unbounded f) ⊎ ((k : Both) × ((M k.0.0 × N k.0.1) × Bounded) × ⊥) → RangeFails f
+        fails_in : (f : Breach) → ((B f ⊎ C f) ⊎ Unbounded f) ⊎ ((k : Both) × ((M k.0.0 × N k.0.1) × Bounded) × ⊥) → RangeFails f
         fails_in f (inl (inl b)) = inl b
         fails_in f (inl (inr u)) = unbounded f u
         fails_in f (inr y) = absurd y.2
 
-        fails_out : (f : Fault) → RangeFails f → ((B f ⊎ C f) ⊎ Unbounded f) ⊎ ((k : Both) × ((M k.0.0 × N k.0.1) × Bounded) × ⊥)
+        fails_out : (f : Breach) → RangeFails f → ((B f ⊎ C f) ⊎ Unbounded f) ⊎ ((k : Both) × ((M k.0.0 × N k.0.1) × Bounded) × ⊥)
         fails_out f (inl b) = inl (inl b)
         fails_out f (inr (inl (inl y))) = inl (inr (inl (inl (inr y))))
         fails_out f (inr (inl (inr y))) = inl (inr (inl (inr (inr y))))

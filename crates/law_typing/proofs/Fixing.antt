@@ -19,7 +19,7 @@ use Rattle.typed_tree.specs.declared.meaning.Meaning.TheVariants as meaning
 use Rattle.typed_tree.specs.declared.meaning.Standard.{Standard}
 use Rattle.typed_tree.specs.declared.meaning.Value.{Value as ConstantValue}
 use Rattle.typed_tree.specs.declared.known_types.Types.{Types}
-use Rattle.check_scope.specs.declared.fault.Fault.{Fault}
+use Rattle.m2_rule.specs.declared.breach.Breach.{Breach}
 use Rattle.check_scope.specs.declared.meaningless.Meaningless.{Meaningless}
 use Rattle.check_scope.specs.declared.scope.Scope.{Scope}
 use Rattle.check_scope.specs.Elaborated.{Gathers, ◌▷◌}
@@ -64,14 +64,14 @@ constant_in k other = k
 pub constant_one : {k l : Kind} → AConstant k ≡ AConstant l → k ≡ l
 constant_one {k = k} e = ap (constant_in k) e
 
-module _ (g : Gathers) (j : Judges g) (lawful : Lawful g j) (O : Fault → Type 0) where
+module _ (g : Gathers) (j : Judges g) (lawful : Lawful g j) (O : Breach → Type 0) where
   -- what is answered of constants, from what is answered of values
-  pub const_of : {M : Kind → Type 0} {B : Fault → Type 0} (r : Result ConstantValue g.Reported) → Answers g j O IsKind M B (computed_of r) → Answers g j O IsConst M B r
+  pub const_of : {M : Kind → Type 0} {B : Breach → Type 0} (r : Result ConstantValue g.Reported) → Answers g j O IsKind M B (computed_of r) → Answers g j O IsConst M B r
   const_of (Ok v) (means _ _ (kind_constant _) m u n) = means v (kind_of v) (is_const v) m u n
   const_of (Err e) (refuses _ a n) = refuses e a n
 
   -- what stands for itself
-  pub fixed_of : {M : Kind → Type 0} {B : Fault → Type 0} {r : Result ConstantValue g.Reported} → Answers g j O IsConst M B r → Answers g j O IsFixed (λ x. (k : Kind) × M k × (x ≡ AConstant k)) B (of_value r)
+  pub fixed_of : {M : Kind → Type 0} {B : Breach → Type 0} {r : Result ConstantValue g.Reported} → Answers g j O IsConst M B r → Answers g j O IsFixed (λ x. (k : Kind) × M k × (x ≡ AConstant k)) B (of_value r)
   fixed_of (means v k i m u n) = means (denoted.Value v) (AConstant k) (fixed_value i) (k, m, refl) (λ x t. t.2 ∙ ap AConstant (u t.0 t.1)) n
   fixed_of (refuses r a n) = refuses r a (λ x t. n t.0 t.1)
 
@@ -107,13 +107,13 @@ module _ (g : Gathers) (j : Judges g) (lawful : Lawful g j) (O : Fault → Type 
 -- ---- names
 
 module _ (g : Gathers) (j : Judges g) (lawful : Lawful g j) (names : Ident → Standing) (exports : ℕ → Ident → Standing) (s : Scope g.Reported) (knows : Knows g j names exports s) where
-  abbrev pub E : Fault → Type 0
+  abbrev pub E : Breach → Type 0
   E = Repeats g j names s
 
   abbrev NamedSo : Pos → Standing → Result Denoted g.Reported → Type 0
   NamedSo at st r = Answers g j E IsFixed (FixedAs st) (FixedMisnamed at st) r
 
-  no_fault : {at : Pos} {x : Thing} (f : Fault) → FixedMisnamed at (Known x) f → ⊥
+  no_fault : {at : Pos} {x : Thing} (f : Breach) → FixedMisnamed at (Known x) f → ⊥
   no_fault f m = elim m.misnamed [ ]
 
   fixes_name : {x : Thing} {d : Denoted} {at : Pos} → IsFixed d (fixed_thing x) → NamedSo at (Known x) (Ok d)
@@ -137,16 +137,16 @@ module _ (g : Gathers) (j : Judges g) (lawful : Lawful g j) (names : Ident → S
   fixes_meaning (meaning.Standard f) = fixes_name (fixed_standard f)
   fixes_meaning (meaning.Module k) = fixes_name (fixed_module k)
 
-  only_undeclared : {at : Pos} (f : Fault) → FixedMisnamed at Undeclared f → f ≡ at ! rule.Undeclared
+  only_undeclared : {at : Pos} (f : Breach) → FixedMisnamed at Undeclared f → f ≡ at ! rule.Undeclared
   only_undeclared f m = by m.misnamed
     where
-      by : {at : Pos} {f : Fault} → Misnamed at Undeclared f → f ≡ at ! rule.Undeclared
+      by : {at : Pos} {f : Breach} → Misnamed at Undeclared f → f ≡ at ! rule.Undeclared
       by undeclared = refl
 
-  only_not_exported : {at : Pos} (f : Fault) → FixedMisnamed at NotExported f → f ≡ at ! rule.NotExported
+  only_not_exported : {at : Pos} (f : Breach) → FixedMisnamed at NotExported f → f ≡ at ! rule.NotExported
   only_not_exported f m = by m.misnamed
     where
-      by : {at : Pos} {f : Fault} → Misnamed at NotExported f → f ≡ at ! rule.NotExported
+      by : {at : Pos} {f : Breach} → Misnamed at NotExported f → f ≡ at ! rule.NotExported
       by not_exported = refl
 
   seen_fixes : (name : Ident) (st : Standing) (r : Result Meaning (Meaningless g.Reported)) → names name ≡ st → looked_up g s name ≡ r → Sees g j name.pos st r → NamedSo name.pos st (denoted_of r)
@@ -167,13 +167,13 @@ module _ (g : Gathers) (j : Judges g) (lawful : Lawful g j) (names : Ident → S
   abbrev PicksSo : Fixed → Selector-F Expr Selector Designator Item → Result Denoted g.Reported → Type 0
   PicksSo x l r = Answers g j E IsFixed (FixedPicks exports x l) (FixedMispicks exports x l) r
 
-  no_more : {x : Fixed} (l : Selector-F Expr Selector Designator Item) → FixedPicks exports x l NoConstant → ((y : Fixed) → FixedPicks exports x l y → y ≡ NoConstant) → ((f : Fault) → FixedMispicks exports x l f → ⊥) → PicksSo x l (Ok denoted.Variable)
+  no_more : {x : Fixed} (l : Selector-F Expr Selector Designator Item) → FixedPicks exports x l NoConstant → ((y : Fixed) → FixedPicks exports x l y → y ≡ NoConstant) → ((f : Breach) → FixedMispicks exports x l f → ⊥) → PicksSo x l (Ok denoted.Variable)
   no_more l p one none = means denoted.Variable NoConstant fixed_variable p one none
 
   field_fixes : (at : Pos) (name : Ident) (a : Denoted) (x : Fixed) → IsFixed a x → PicksSo x (layer.Field at name) (constants.field_of g s at name a)
   field_fixes at name _ _ (fixed_value {k = k} i) = declined g j lawful E at rule.WrongType (λ y p. elim p [ ]) rules.constant_field (λ f m. one m)
     where
-      one : {f : Fault} → FixedMispicks exports (AConstant k) (layer.Field at name) f → f ≡ at ! rule.WrongType
+      one : {f : Breach} → FixedMispicks exports (AConstant k) (layer.Field at name) f → f ≡ at ! rule.WrongType
       one rules.constant_field = refl
   field_fixes at name _ _ (fixed_module k) = exact g j lawful E {M = FixedAs (exports k name)} {B = FixedMisnamed name.pos (exports k name)} (λ y p. rules.of_module p) (λ y p. picked p) (λ f m. rules.in_module m) (λ f m. misnamed m)
       (export_fixes name.pos (exports k name) (exported_by name.name (slice_get s.tables k)) (knows.of_modules k name))
@@ -181,7 +181,7 @@ module _ (g : Gathers) (j : Judges g) (lawful : Lawful g j) (names : Ident → S
       picked : {y : Fixed} → FixedPicks exports (AScope k) (layer.Field at name) y → FixedAs (exports k name) y
       picked (rules.of_module p) = p
 
-      misnamed : {f : Fault} → FixedMispicks exports (AScope k) (layer.Field at name) f → FixedMisnamed name.pos (exports k name) f
+      misnamed : {f : Breach} → FixedMispicks exports (AScope k) (layer.Field at name) f → FixedMisnamed name.pos (exports k name) f
       misnamed (rules.in_module m) = m
   field_fixes at name _ _ (fixed_type t) = no_more (layer.Field at name) rules.of_field (λ y p. no_field p) (λ f m. elim m [ ])
     where
@@ -206,11 +206,11 @@ module _ (g : Gathers) (j : Judges g) (lawful : Lawful g j) (names : Ident → S
   element_fixes : (at : Pos) (e : Expr) (a : Denoted) (x : Fixed) → IsFixed a x → PicksSo x (layer.Index at e) (component g at a)
   element_fixes at e _ _ (fixed_value {k = k} i) = declined g j lawful E at rule.WrongType (λ y p. elim p [ ]) rules.constant_element (λ f m. one m)
     where
-      one : {f : Fault} → FixedMispicks exports (AConstant k) (layer.Index at e) f → f ≡ at ! rule.WrongType
+      one : {f : Breach} → FixedMispicks exports (AConstant k) (layer.Index at e) f → f ≡ at ! rule.WrongType
       one rules.constant_element = refl
   element_fixes at e _ _ (fixed_module k) = declined g j lawful E at rule.WrongType (λ y p. elim p [ ]) rules.module_element (λ f m. one m)
     where
-      one : {f : Fault} → FixedMispicks exports (AScope k) (layer.Index at e) f → f ≡ at ! rule.WrongType
+      one : {f : Breach} → FixedMispicks exports (AScope k) (layer.Index at e) f → f ≡ at ! rule.WrongType
       one rules.module_element = refl
   element_fixes at e _ _ (fixed_type t) = no_more (layer.Index at e) rules.of_element (λ y p. no_element p) (λ f m. elim m [ ])
   element_fixes at e _ _ fixed_variable = no_more (layer.Index at e) rules.of_element (λ y p. no_element p) (λ f m. elim m [ ])
@@ -225,7 +225,7 @@ module _ (g : Gathers) (j : Judges g) (lawful : Lawful g j) (names : Ident → S
   abbrev PickedOf : (Fixed → Type 0) → Selector → Fixed → Type 0
   PickedOf P y z = (x : Fixed) × P x × FixedPicks exports x (out-Selector y) z
 
-  abbrev MispickedOf : (Fixed → Type 0) → (Fault → Type 0) → Selector → Fault → Type 0
+  abbrev MispickedOf : (Fixed → Type 0) → (Breach → Type 0) → Selector → Breach → Type 0
   MispickedOf P Q y f = Q f ⊎ ((x : Fixed) × P x × FixedMispicks exports x (out-Selector y) f)
 
   passes_on : (l : Selector-F Expr Selector Designator Item) (d : Result Denoted g.Reported) → (d ▷ λ a. (selector_layer g (opened_selector g l)).fixed s (Ok a)) ≡ (selector_layer g (opened_selector g l)).fixed s d
@@ -234,39 +234,39 @@ module _ (g : Gathers) (j : Judges g) (lawful : Lawful g j) (names : Ident → S
   passes_on (layer.Index at x) (Ok a) = refl
   passes_on (layer.Index at x) (Err e) = refl
 
-  one_pick : {P : Fixed → Type 0} {Q : Fault → Type 0} {d : Result Denoted g.Reported} (y : Selector) → Answers g j E IsFixed P Q d → Answers g j E IsFixed (PickedOf P y) (MispickedOf P Q y) ((picks g y).fixed s d)
+  one_pick : {P : Fixed → Type 0} {Q : Breach → Type 0} {d : Result Denoted g.Reported} (y : Selector) → Answers g j E IsFixed P Q d → Answers g j E IsFixed (PickedOf P y) (MispickedOf P Q y) ((picks g y).fixed s d)
   one_pick {P = P} {Q = Q} {d = d} y a = subst (Answers g j E IsFixed (PickedOf P y) (MispickedOf P Q y)) (passes_on (out-Selector y) d ∙ sym (ap (λ (m : Picks g.Reported). m.fixed s d) (picks_is g y (out-Selector y) refl)))
       (then_answer g j lawful E {N = λ x z. FixedPicks exports x (out-Selector y) z} {D = λ x f. FixedMispicks exports x (out-Selector y) f} a (step_fixes (out-Selector y)))
 
-  abbrev SelectsSo : (Fixed → Type 0) → (Fault → Type 0) → List Selector → Result Denoted g.Reported → Type 0
+  abbrev SelectsSo : (Fixed → Type 0) → (Breach → Type 0) → List Selector → Result Denoted g.Reported → Type 0
   SelectsSo P Q ss d = Answers g j E IsFixed (λ z. (x : Fixed) × P x × FixedSelected exports x ss z) (λ f. Q f ⊎ ((x : Fixed) × P x × FixedSelectionFails exports x ss f)) d
 
-  more_selected : {P : Fixed → Type 0} {Q : Fault → Type 0} {d : Result Denoted g.Reported} (y : Selector) (ss : List Selector) → SelectsSo (PickedOf P y) (MispickedOf P Q y) ss d → SelectsSo P Q (y ∷ ss) d
+  more_selected : {P : Fixed → Type 0} {Q : Breach → Type 0} {d : Result Denoted g.Reported} (y : Selector) (ss : List Selector) → SelectsSo (PickedOf P y) (MispickedOf P Q y) ss d → SelectsSo P Q (y ∷ ss) d
   more_selected {P = P} {Q = Q} y ss a = exact g j lawful E (λ z m. (m.1.0, m.1.1, rules.component m.1.2 m.2)) (λ z m. parted m.1 m.2) into out a
     where
       parted : {x z : Fixed} → P x → FixedSelected exports x (y ∷ ss) z → (w : Fixed) × PickedOf P y w × FixedSelected exports w ss z
       parted {x = x} m (rules.component {y = w} q r) = (w, (x, m, q), r)
 
-      into : (f : Fault) → MispickedOf P Q y f ⊎ ((w : Fixed) × PickedOf P y w × FixedSelectionFails exports w ss f) → Q f ⊎ ((x : Fixed) × P x × FixedSelectionFails exports x (y ∷ ss) f)
+      into : (f : Breach) → MispickedOf P Q y f ⊎ ((w : Fixed) × PickedOf P y w × FixedSelectionFails exports w ss f) → Q f ⊎ ((x : Fixed) × P x × FixedSelectionFails exports x (y ∷ ss) f)
       into f (inl (inl b)) = inl b
       into f (inl (inr (x, m, z))) = inr (x, m, rules.at_next z)
       into f (inr (w, (x, m, q), z)) = inr (x, m, rules.behind q z)
 
-      failing : {x : Fixed} {f : Fault} → P x → FixedSelectionFails exports x (y ∷ ss) f → MispickedOf P Q y f ⊎ ((w : Fixed) × PickedOf P y w × FixedSelectionFails exports w ss f)
+      failing : {x : Fixed} {f : Breach} → P x → FixedSelectionFails exports x (y ∷ ss) f → MispickedOf P Q y f ⊎ ((w : Fixed) × PickedOf P y w × FixedSelectionFails exports w ss f)
       failing {x = x} m (rules.at_next z) = inl (inr (x, m, z))
       failing {x = x} m (rules.behind {y = w} q z) = inr (w, (x, m, q), z)
 
-      out : (f : Fault) → Q f ⊎ ((x : Fixed) × P x × FixedSelectionFails exports x (y ∷ ss) f) → MispickedOf P Q y f ⊎ ((w : Fixed) × PickedOf P y w × FixedSelectionFails exports w ss f)
+      out : (f : Breach) → Q f ⊎ ((x : Fixed) × P x × FixedSelectionFails exports x (y ∷ ss) f) → MispickedOf P Q y f ⊎ ((w : Fixed) × PickedOf P y w × FixedSelectionFails exports w ss f)
       out f (inl b) = inl (inl b)
       out f (inr (x, m, z)) = failing m z
 
-  all_selected : (ss : List Selector) {P : Fixed → Type 0} {Q : Fault → Type 0} {d : Result Denoted g.Reported} → Answers g j E IsFixed P Q d → SelectsSo P Q ss (fold (λ x p. p s x) d (map (λ (p : Picks g.Reported). p.fixed) (map (picks g) ss)))
+  all_selected : (ss : List Selector) {P : Fixed → Type 0} {Q : Breach → Type 0} {d : Result Denoted g.Reported} → Answers g j E IsFixed P Q d → SelectsSo P Q ss (fold (λ x p. p s x) d (map (λ (p : Picks g.Reported). p.fixed) (map (picks g) ss)))
   all_selected [] {P = P} {Q = Q} a = exact g j lawful E (λ z m. (z, m, rules.whole)) (λ z m. parted m.1 m.2) (λ f b. inl b) (λ f b. out f b) a
     where
       parted : {x z : Fixed} → P x → FixedSelected exports x [] z → P z
       parted m rules.whole = m
 
-      out : (f : Fault) → Q f ⊎ ((x : Fixed) × P x × FixedSelectionFails exports x [] f) → Q f
+      out : (f : Breach) → Q f ⊎ ((x : Fixed) × P x × FixedSelectionFails exports x [] f) → Q f
       out f (inl b) = b
       out f (inr (x, m, z)) = elim z [ ]
   all_selected (y ∷ ss) {P = P} {Q = Q} a = more_selected y ss (all_selected ss {P = PickedOf P y} {Q = MispickedOf P Q y} (one_pick y a))
@@ -275,7 +275,7 @@ module _ (g : Gathers) (j : Judges g) (lawful : Lawful g j) (names : Ident → S
   abbrev pub DesignatesFixed : Designator → Fixed → Type 0
   DesignatesFixed d y = (x : Fixed) × FixedAs (names (out-Designator d).name) x × FixedSelected exports x (out-Designator d).selectors y
 
-  abbrev pub DesignatorFails : Designator → Fault → Type 0
+  abbrev pub DesignatorFails : Designator → Breach → Type 0
   DesignatorFails d f = FixedMisnamed (out-Designator d).name.pos (names (out-Designator d).name) f ⊎ ((x : Fixed) × FixedAs (names (out-Designator d).name) x × FixedSelectionFails exports x (out-Designator d).selectors f)
 
   pub designator_fixes : (d : Designator) → Answers g j E IsFixed (DesignatesFixed d) (DesignatorFails d) ((head g d).fixed.denotes s)

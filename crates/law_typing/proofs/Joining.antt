@@ -14,7 +14,7 @@ use Rattle.typed_tree.specs.declared.meaning.Procedure.{Procedure as ModuleProce
 use Rattle.typed_tree.specs.declared.meaning.Value.{Value as ConstantValue}
 use Rattle.typed_tree.specs.declared.meaning.Value.TheVariants as value
 use Rattle.typed_tree.specs.Types.{are_same, boolean}
-use Rattle.check_scope.specs.declared.fault.Fault.{Fault}
+use Rattle.m2_rule.specs.declared.breach.Breach.{Breach}
 use Rattle.check_scope.specs.Elaborated.{Gathers, reported, reported_where, ◌▷◌}
 use Rattle.check_const_ops.specs.declared.operand.Ordinal.{Ordinal}
 use Rattle.check_const_ops.specs.declared.operand.Operand.{Operand}
@@ -280,7 +280,7 @@ module _ (types : Types) (op : BinaryOp) where
   operands_of (rules.member i n e c) = rules.member i n
   operands_of (rules.routines e r) = rules.routines e r
 
-  overreaching : {spot left right : Pos} {a b : Amount} {f : Fault} → Overreaches op spot left right a b f → AreOperands types op (Scalar a) (Scalar b)
+  overreaching : {spot left right : Pos} {a b : Amount} {f : Breach} → Overreaches op spot left right a b f → AreOperands types op (Scalar a) (Scalar b)
   overreaching (rules.divisor h d e) = rules.scalars h
   overreaching (rules.left_number h e) = rules.scalars h
   overreaching (rules.right_number h e) = rules.scalars h
@@ -321,33 +321,33 @@ module _ (types : Types) (op : BinaryOp) where
   procedures_make procedural (rules.routines e r) = refl
 
   module _ (spot left right : Pos) where
-    scalars_misused : {a b : Amount} (f : Fault) → Misused types op spot left right (Scalar a) (Scalar b) f → Wrongly op spot left right a b f
+    scalars_misused : {a b : Amount} (f : Breach) → Misused types op spot left right (Scalar a) (Scalar b) f → Wrongly op spot left right a b f
     scalars_misused _ (rules.unfit n) = unfit (λ s h. n (rules.scalars h))
     scalars_misused f (rules.overreaches o) = overreaches o
 
-    wrongly_used : {a b : Amount} (f : Fault) → Wrongly op spot left right a b f → Misused types op spot left right (Scalar a) (Scalar b) f
+    wrongly_used : {a b : Amount} (f : Breach) → Wrongly op spot left right a b f → Misused types op spot left right (Scalar a) (Scalar b) f
     wrongly_used _ (unfit n) = rules.unfit (λ o. let x = scalars_only o in n x.0 x.1)
     wrongly_used f (overreaches o) = rules.overreaches o
 
-    only_unfit : {a b : Kind} (f : Fault) → (AreOperands types op a b → ⊥) → Misused types op spot left right a b f → f ≡ spot ! rule.WrongType
+    only_unfit : {a b : Kind} (f : Breach) → (AreOperands types op a b → ⊥) → Misused types op spot left right a b f → f ≡ spot ! rule.WrongType
     only_unfit _ n (rules.unfit m) = refl
     only_unfit f n (rules.overreaches o) = absurd (n (overreaching o))
     only_unfit _ n (rules.no_element i q e) = absurd (n (rules.member i q))
 
-    sets_misused : {m n : Option ℕ} {f : Fault} → Misused types op spot left right (Set m) (Set n) f → AreOperands types op (Set m) (Set n) → ⊥
+    sets_misused : {m n : Option ℕ} {f : Breach} → Misused types op spot left right (Set m) (Set n) f → AreOperands types op (Set m) (Set n) → ⊥
     sets_misused (rules.unfit n) o = n o
 
-    procedures_misused : {a b : Kind} {f : Fault} → IsProcedural a → Misused types op spot left right a b f → AreOperands types op a b → ⊥
+    procedures_misused : {a b : Kind} {f : Breach} → IsProcedural a → Misused types op spot left right a b f → AreOperands types op a b → ⊥
     procedures_misused procedural_value (rules.unfit n) o = n o
     procedures_misused procedural (rules.unfit n) o = n o
 
-    member_misused : {a : Amount} {m : Option ℕ} (f : Fault) → IsMembership op → IsNumber (k.sort_of a) → Misused types op spot left right (Scalar a) (Set m) f → (IsElement a → ⊥) × (f ≡ left ! rule.OutOfRange)
+    member_misused : {a : Amount} {m : Option ℕ} (f : Breach) → IsMembership op → IsNumber (k.sort_of a) → Misused types op spot left right (Scalar a) (Set m) f → (IsElement a → ⊥) × (f ≡ left ! rule.OutOfRange)
     member_misused _ i n (rules.unfit q) = absurd (q (rules.member i n))
     member_misused _ i n (rules.no_element j q e) = (e, refl)
 
 -- ---- answers
 
-module _ (g : Gathers) (j : Judges g) (lawful : Lawful g j) (O : Fault → Type 0) (types : Types) (op : BinaryOp) (spot left right : Pos) where
+module _ (g : Gathers) (j : Judges g) (lawful : Lawful g j) (O : Breach → Type 0) (types : Types) (op : BinaryOp) (spot left right : Pos) where
   abbrev pub Joins : Kind → Kind → Result Computed g.Reported → Type 0
   Joins a b r = Answers g j O IsKind (Makes types op a b) (Misused types op spot left right a b) r
 
@@ -389,7 +389,7 @@ module _ (g : Gathers) (j : Judges g) (lawful : Lawful g j) (O : Fault → Type 
   element_tests (Known a) = where_checks g j lawful O tt (is_between (pos 0) a.number (pos 31)) left rule.OutOfRange (element_decided a.sort a.number)
   element_tests (Run b e) = no_check g j lawful O tt some_element (λ f x. x.0 some_element)
 
-  element_misused : {a : Amount} {m : Option ℕ} {f : Fault} → IsMembership op × IsNumber (k.sort_of a) → (IsElement a → ⊥) × (f ≡ left ! rule.OutOfRange) → Misused types op spot left right (Scalar a) (Set m) f
+  element_misused : {a : Amount} {m : Option ℕ} {f : Breach} → IsMembership op × IsNumber (k.sort_of a) → (IsElement a → ⊥) × (f ≡ left ! rule.OutOfRange) → Misused types op spot left right (Scalar a) (Set m) f
   element_misused {a = a} {m = m} w x = subst (Misused types op spot left right (Scalar a) (Set m)) (sym x.1) (rules.no_element w.0 w.1 x.0)
 
   -- from the two tests, and what is made then

@@ -7,7 +7,7 @@ use Rattle.typed_tree.specs.declared.types.TypeNo.{TypeNo}
 use Rattle.typed_tree.specs.declared.computed.TypedExpr.{TypedExpr}
 use Rattle.typed_tree.specs.declared.meaning.Value.{Value as ConstantValue}
 use Rattle.typed_tree.specs.Types.{boolean}
-use Rattle.check_scope.specs.declared.fault.Fault.{Fault}
+use Rattle.m2_rule.specs.declared.breach.Breach.{Breach}
 use Rattle.check_scope.specs.Elaborated.{Gathers, reported, reported_where, ◌▷◌}
 use Rattle.check_const_ops.specs.declared.operand.Ordinal.{Ordinal}
 use Rattle.check_const_ops.specs.declared.operator.BinaryOp.{BinaryOp}
@@ -52,9 +52,9 @@ valued_is None n = of_literals n
 valued_is (Some t) n = of_scalar (record { of = t; base = t; number = n })
 
 -- the refusals at an operator between two scalars
-pub data Wrongly (op : BinaryOp) (spot left right : Pos) (a b : Amount) : Fault → Type 0 where
+pub data Wrongly (op : BinaryOp) (spot left right : Pos) (a b : Amount) : Breach → Type 0 where
   unfit : ((sort : Option TypeNo) → Fits op a b sort → ⊥) → Wrongly op spot left right a b (spot ! rule.WrongType)
-  overreaches : {f : Fault} → Overreaches op spot left right a b f → Wrongly op spot left right a b f
+  overreaches : {f : Breach} → Overreaches op spot left right a b f → Wrongly op spot left right a b f
 
 -- ---- numbers in their places
 
@@ -86,7 +86,7 @@ whole_right (k.number_right w) t e f = subst IsWhole (ap (λ s. elim s [ None �
 in_its_range : {t : TypeNo} {n : ℤ} → Suits (Some t) (Constant None n) → InRange (Some t) n
 in_its_range (k.takes_type r) = r
 
-module _ (g : Gathers) (j : Judges g) (lawful : Lawful g j) (O : Fault → Type 0) where
+module _ (g : Gathers) (j : Judges g) (lawful : Lawful g j) (O : Breach → Type 0) where
   suits_always : {sort : Option TypeNo} {a : Amount} (at : Pos) → Suits sort a → Tests g j lawful O (Suits sort a) (λ f. (Suits sort a → ⊥) × (f ≡ at ! rule.OutOfRange)) (Ok tt)
   suits_always at s = no_check g j lawful O tt s (λ f x. x.0 s)
 
@@ -132,14 +132,14 @@ module _ (g : Gathers) (j : Judges g) (lawful : Lawful g j) (O : Fault → Type 
   -- ---- whether the operands are right
 
   module _ (op : BinaryOp) (spot left right : Pos) (a b : Amount) (sort : Option TypeNo) where
-    abbrev Wrong : Fault → Type 0
+    abbrev Wrong : Breach → Type 0
     Wrong f = ((Takes op sort → ⊥) × (f ≡ spot ! rule.WrongType)) ⊎ (Takes op sort × ((IsDivision op × BelowOne b × (f ≡ spot ! rule.OutOfRange)) ⊎ (((Suits sort a → ⊥) × (f ≡ left ! rule.OutOfRange)) ⊎ ((Suits sort b → ⊥) × (f ≡ right ! rule.OutOfRange)))))
 
     module _ (go : GoTogether (k.sort_of a) (k.sort_of b) sort) (only : (s : Option TypeNo) → GoTogether (k.sort_of a) (k.sort_of b) s → s ≡ sort) where
       the_sort : {s : Option TypeNo} → Fits op a b s → s ≡ sort
       the_sort {s = s} h = only s h.together
 
-      wrong_misused : (f : Fault) → Wrong f → Wrongly op spot left right a b f
+      wrong_misused : (f : Breach) → Wrong f → Wrongly op spot left right a b f
       wrong_misused f (inl x) = subst (Wrongly op spot left right a b) (sym x.1) (unfit (λ s h. x.0 (subst (Takes op) (the_sort h) h.takes)))
       wrong_misused f (inr (t, inl x)) = subst (Wrongly op spot left right a b) (sym x.2) (overreaches (rules.divisor (record { together = go; takes = t }) x.0 x.1))
       wrong_misused f (inr (t, inr (inl x))) = subst (Wrongly op spot left right a b) (sym x.1) (overreaches (rules.left_number (record { together = go; takes = t }) x.0))
@@ -196,15 +196,15 @@ number_of (Constant s n) = n
 number_of (Value t) = pos 0
 
 -- the result of two constants is out of range
-abbrev Over_all : BinaryOp → Pos → Amount → Amount → Option TypeNo → Fault → Type 0
+abbrev Over_all : BinaryOp → Pos → Amount → Amount → Option TypeNo → Breach → Type 0
 Over_all op spot a b sort f = (s : Option TypeNo) × (s' : Option TypeNo) × (x : ℤ) × (y : ℤ) × (z : ℤ) × (a ≡ Constant s x) × (b ≡ Constant s' y) × IsArithmetic op × Evaluates op x y z × (InRange sort z → ⊥) × (f ≡ spot ! rule.OutOfRange)
 
 where_then : (g : Gathers) {A : Type 0} (b : Bool) (at : Pos) (n : Rule) (r : Result (Unit {0}) g.Reported) (h : Unit {0} → Result A g.Reported) → (reported_where g b at n r ▷ h) ≡ reported_where g b at n (r ▷ h)
 where_then g true at n r h = refl
 where_then g false at n r h = refl
 
-module _ (g : Gathers) (j : Judges g) (lawful : Lawful g j) (O : Fault → Type 0) where
-  abbrev Overflow : BinaryOp → Pos → Option TypeNo → ℤ → ℤ → Fault → Type 0
+module _ (g : Gathers) (j : Judges g) (lawful : Lawful g j) (O : Breach → Type 0) where
+  abbrev Overflow : BinaryOp → Pos → Option TypeNo → ℤ → ℤ → Breach → Type 0
   Overflow op spot sort x y f = (z : ℤ) × IsArithmetic op × Evaluates op x y z × (InRange sort z → ⊥) × (f ≡ spot ! rule.OutOfRange)
 
   arithmetic_answers : {op : BinaryOp} (spot : Pos) {sort : Option TypeNo} {x y z : ℤ} → IsArithmetic op → IsNumber sort → Evaluates op x y z
@@ -274,7 +274,7 @@ module _ (g : Gathers) (j : Judges g) (lawful : Lawful g j) (O : Fault → Type 
         right_not : {s : Option TypeNo} → AreRight op a b s → ⊥
         right_not {s = s} h = n s h.fits.together
 
-        wrongly_so : (f : Fault) → Wrongly op spot left right a b f → f ≡ spot ! rule.WrongType
+        wrongly_so : (f : Breach) → Wrongly op spot left right a b f → f ≡ spot ! rule.WrongType
         wrongly_so _ (unfit h) = refl
         wrongly_so _ (overreaches (rules.divisor {sort = s} h d e)) = absurd (n s h.together)
         wrongly_so _ (overreaches (rules.left_number {sort = s} h e)) = absurd (n s h.together)
@@ -283,7 +283,7 @@ module _ (g : Gathers) (j : Judges g) (lawful : Lawful g j) (O : Fault → Type 
 
     -- where the operands go together, from the checks of both and what is made of them
     module _ (a b : Amount) (sort : Option TypeNo) (go : GoTogether (k.sort_of a) (k.sort_of b) sort) (only : (s : Option TypeNo) → GoTogether (k.sort_of a) (k.sort_of b) s → s ≡ sort) where
-      misused_right : (f : Fault) → Wrongly op spot left right a b f → Wrong g j lawful O op spot left right a b sort f ⊎ (AreRight op a b sort × Over_all op spot a b sort f)
+      misused_right : (f : Breach) → Wrongly op spot left right a b f → Wrong g j lawful O op spot left right a b sort f ⊎ (AreRight op a b sort × Over_all op spot a b sort f)
       misused_right _ (unfit h) = inl (inl ((λ t. h sort (record { together = go; takes = t })), refl))
       misused_right _ (overreaches (rules.divisor {sort = s} h d e)) = inl (inr (subst (Takes op) (only s h.together) h.takes, inl (d, e, refl)))
       misused_right _ (overreaches (rules.left_number {sort = s} h e)) = inl (inr (subst (Takes op) (only s h.together) h.takes, inr (inl (subst (λ (s : Option TypeNo). Suits s a → ⊥) (only s h.together) e, refl))))
@@ -291,7 +291,7 @@ module _ (g : Gathers) (j : Judges g) (lawful : Lawful g j) (O : Fault → Type 
       misused_right _ (overreaches (rules.out_of_range {s = s} {s' = s'} {sort = t} {x = x} {y = y} {z = z} p q r i e n)) =
           let same = only t r.fits.together in inr (subst (AreRight op a b) same r, (s, s', x, y, z, p, q, i, e, subst (λ (s : Option TypeNo). InRange s z → ⊥) same n, refl))
 
-      right_misused : (f : Fault) → Wrong g j lawful O op spot left right a b sort f ⊎ (AreRight op a b sort × Over_all op spot a b sort f) → Wrongly op spot left right a b f
+      right_misused : (f : Breach) → Wrong g j lawful O op spot left right a b sort f ⊎ (AreRight op a b sort × Over_all op spot a b sort f) → Wrongly op spot left right a b f
       right_misused f (inl w) = wrong_misused g j lawful O op spot left right a b sort go only f w
       right_misused f (inr (r, o)) = subst (Wrongly op spot left right a b) (sym o.10) (overreaches (rules.out_of_range o.5 o.6 r o.7 o.8 o.9))
 
@@ -308,13 +308,13 @@ module _ (g : Gathers) (j : Judges g) (lawful : Lawful g j) (O : Fault → Type 
   constant_gives {op = op} {a = a} {b = b} _ (k.decided {sort = s} {x = x} {y = y} r says) only = (subst (AreRight op (Constant a x) (Constant b y)) (only s r) r, a_truth says)
   constant_gives _ (k.computed r c y) only = elim c [ ]
 
-  overflow_over : {op : BinaryOp} (spot : Pos) {a b sort : Option TypeNo} {x y : ℤ} (f : Fault) → Overflow op spot sort x y f → Over_all op spot (Constant a x) (Constant b y) sort f
+  overflow_over : {op : BinaryOp} (spot : Pos) {a b sort : Option TypeNo} {x y : ℤ} (f : Breach) → Overflow op spot sort x y f → Over_all op spot (Constant a x) (Constant b y) sort f
   overflow_over spot {a = a} {b = b} {x = x} {y = y} f o = (a, b, x, y, o.0, refl, refl, o.1, o.2, o.3, o.4)
 
-  over_overflow : {op : BinaryOp} (spot : Pos) {a b sort : Option TypeNo} {x y : ℤ} (f : Fault) → Over_all op spot (Constant a x) (Constant b y) sort f → Overflow op spot sort x y f
+  over_overflow : {op : BinaryOp} (spot : Pos) {a b sort : Option TypeNo} {x y : ℤ} (f : Breach) → Over_all op spot (Constant a x) (Constant b y) sort f → Overflow op spot sort x y f
   over_overflow {op = op} spot {x = x} {y = y} f o = (o.4, o.7, subst (λ (n : ℤ). Evaluates op n y o.4) (ap number_of (sym o.5)) (subst (λ (n : ℤ). Evaluates op o.2 n o.4) (ap number_of (sym o.6)) o.8), o.9, o.10)
 
-  pub value_answers : {M : Amount → Type 0} {B : Fault → Type 0} {v : Result ConstantValue g.Reported} → Answers g j O IsAmount M B v → Answers g j O IsScalar M B (of_value v)
+  pub value_answers : {M : Amount → Type 0} {B : Breach → Type 0} {v : Result ConstantValue g.Reported} → Answers g j O IsAmount M B v → Answers g j O IsScalar M B (of_value v)
   value_answers (means _ _ (of_literals n) m u b) = means (computed.Constant (value.Number n)) (Constant None n) (kind_constant (value.Number n)) m u b
   value_answers (means _ _ (of_scalar c) m u b) = means (computed.Constant (value.Scalar c)) (Constant (Some c.base) c.number) (kind_constant (value.Scalar c)) m u b
   value_answers (refuses r a n) = refuses r a n

@@ -2,8 +2,8 @@
 use Rattle.std.proofs.Common.{◌≡◌, ℕ, Bool, true, false, refl, arith}
 use Rattle.std.specs.Prelude.{◌&&◌, ◌||◌, ◌==◌, nat_lt}
 use Rattle.std.proofs.lemmas.Bool.Decides.{nat_tests}
-use Rattle.check_scope.specs.declared.fault.Fault.{Fault}
-use Rattle.check_scope.specs.Elaborated.{is_less}
+use Rattle.m2_rule.specs.declared.breach.Breach.{Breach}
+use Rattle.m2_rule.specs.Breaches.{is_less}
 
 -- one number of the order, where `later` compares what stands behind it
 abbrev pub ahead : ℕ → ℕ → Bool → Bool
@@ -25,11 +25,11 @@ pub ahead_itself : (a : ℕ) (p : Bool) → p ≡ false → ahead a a p ≡ fals
 ahead_itself a p h = grind (arith, nat_tests)
 
 -- what is not less than b is not less than what is less than b
-pub below : (a b c : Fault) → is_less a b ≡ false → is_less c b ≡ true → is_less a c ≡ false
+pub below : (a b c : Breach) → is_less a b ≡ false → is_less c b ≡ true → is_less a c ≡ false
 below a b c = ahead_below a.pos.line b.pos.line c.pos.line _ _ _ (ahead_below a.pos.col b.pos.col c.pos.col _ _ _ (λ h k. grind (arith, nat_tests)))
 
-pub above : (a b c : Fault) → is_less a b ≡ false → is_less b c ≡ false → is_less a c ≡ false
+pub above : (a b c : Breach) → is_less a b ≡ false → is_less b c ≡ false → is_less a c ≡ false
 above a b c = ahead_above a.pos.line b.pos.line c.pos.line _ _ _ (ahead_above a.pos.col b.pos.col c.pos.col _ _ _ (λ h k. grind (arith, nat_tests)))
 
-pub itself : (a : Fault) → is_less a a ≡ false
+pub itself : (a : Breach) → is_less a a ≡ false
 itself a = ahead_itself a.pos.line _ (ahead_itself a.pos.col _ (grind (arith, nat_tests)))

@@ -14,7 +14,7 @@ use Rattle.typed_tree.specs.declared.shape.Shape.TheVariants as shape
 use Rattle.typed_tree.specs.declared.known_types.Types.{Types}
 use Rattle.typed_tree.specs.Known.{scalar_at}
 use Rattle.typed_tree.specs.Types.{are_same, char}
-use Rattle.check_scope.specs.declared.fault.Fault.{Fault}
+use Rattle.m2_rule.specs.declared.breach.Breach.{Breach}
 use Rattle.check_scope.specs.declared.meaningless.Meaningless.{Meaningless}
 use Rattle.check_scope.specs.Elaborated.{Gathers, reported, reported_where}
 use Rattle.check_operator.specs.declared.class.Class.{Class}
@@ -48,7 +48,7 @@ taken_one types (AStandard f) p q = absurd p
 taken_one types (AModule k) p q = absurd p
 taken_one types Headless p q = absurd p
 
-pub not_mistaken : (types : Types) (at : Pos) (x : Thing) (k : Kind) (f : Fault) → Taken types x k → Mistaken at x f → ⊥
+pub not_mistaken : (types : Types) (at : Pos) (x : Thing) (k : Kind) (f : Breach) → Taken types x k → Mistaken at x f → ⊥
 not_mistaken types at (AValue k) l f p m = m
 not_mistaken types at (AVariable t) l f p m = m
 not_mistaken types at (AnOpenArray t) l f p m = m
@@ -118,7 +118,7 @@ module _ (types : Types) where
 
 -- ---- the answers
 
-module _ (g : Gathers) (j : Judges g) (lawful : Lawful g j) (O : Fault → Type 0) (types : Types) (at : Pos) where
+module _ (g : Gathers) (j : Judges g) (lawful : Lawful g j) (O : Breach → Type 0) (types : Types) (at : Pos) where
   abbrev pub Passes : Formal → Thing → Result Argument g.Reported → Type 0
   Passes f x r = Checks g j lawful O (IsPassed types f x) (Mispassed types at f x) r
 
@@ -126,7 +126,7 @@ module _ (g : Gathers) (j : Judges g) (lawful : Lawful g j) (O : Fault → Type 
   abbrev var : Bool → TypeNo → Formal
   var o t = record { is_var = true; is_open = o; of = t }
 
-  var_unrefused : {o : Bool} {t : TypeNo} {x : Thing} → Accepts types (var o t) x → (at : Pos) (f : Fault) → Mispassed types at (var o t) x f → ⊥
+  var_unrefused : {o : Bool} {t : TypeNo} {x : Thing} → Accepts types (var o t) x → (at : Pos) (f : Breach) → Mispassed types at (var o t) x f → ⊥
   var_unrefused a at _ (no_variable n) = n a
 
   var_passes : {o : Bool} {t : TypeNo} {x : Thing} (e : Argument) → Accepts types (var o t) x → Passes (var o t) x (Ok e)
@@ -135,7 +135,7 @@ module _ (g : Gathers) (j : Judges g) (lawful : Lawful g j) (O : Fault → Type 
   var_stops : {o : Bool} {t : TypeNo} {x : Thing} → (Accepts types (var o t) x → ⊥) → Passes (var o t) x (reported g at rule.NoVariable)
   var_stops {o = o} {t = t} {x = x} n = stopped g j lawful O at rule.NoVariable (λ p. n p.accepted) (no_variable n) (λ f m. one m)
     where
-      one : {f : Fault} → Mispassed types at (var o t) x f → f ≡ at ! rule.NoVariable
+      one : {f : Breach} → Mispassed types at (var o t) x f → f ≡ at ! rule.NoVariable
       one (no_variable m) = refl
 
   var_where : {P : Type 0} {o : Bool} {t : TypeNo} {x : Thing} (e : Argument) (b : Bool) → Decided P b → (P → Accepts types (var o t) x) → (Accepts types (var o t) x → P) → Passes (var o t) x (reported_where g (not b) at rule.NoVariable (Ok e))
@@ -175,7 +175,7 @@ module _ (g : Gathers) (j : Judges g) (lawful : Lawful g j) (O : Fault → Type 
   abbrev IsValue : Thing → Type 0
   IsValue x = (k : Kind) × Taken types x k
 
-  value_unrefused : {t : TypeNo} {x : Thing} → IsValue x → Accepts types (open_value_formal t) x → (at : Pos) (f : Fault) → Mispassed types at (open_value_formal t) x f → ⊥
+  value_unrefused : {t : TypeNo} {x : Thing} → IsValue x → Accepts types (open_value_formal t) x → (at : Pos) (f : Breach) → Mispassed types at (open_value_formal t) x f → ⊥
   value_unrefused {x = x} p a at f (no_value m) = not_mistaken types at x p.0 f p.1 m
   value_unrefused p a at _ (wrong_argument k q n) = n a
 
@@ -185,7 +185,7 @@ module _ (g : Gathers) (j : Judges g) (lawful : Lawful g j) (O : Fault → Type 
   value_stops : {t : TypeNo} {x : Thing} → IsValue x → (Accepts types (open_value_formal t) x → ⊥) → Passes (open_value_formal t) x (reported g at rule.WrongArgument)
   value_stops {t = t} {x = x} p n = stopped g j lawful O at rule.WrongArgument (λ a. n a.accepted) (wrong_argument p.0 p.1 n) (λ f m. one m)
     where
-      one : {f : Fault} → Mispassed types at (open_value_formal t) x f → f ≡ at ! rule.WrongArgument
+      one : {f : Breach} → Mispassed types at (open_value_formal t) x f → f ≡ at ! rule.WrongArgument
       one {f = f} (no_value m) = absurd (not_mistaken types at x p.0 f p.1 m)
       one (wrong_argument k q m) = refl
 
@@ -218,12 +218,12 @@ module _ (g : Gathers) (j : Judges g) (lawful : Lawful g j) (O : Fault → Type 
   text_passes t kind_untaken = value_stops (_, refl) (no_text t _ (λ s q. absurd cc))
 
   -- what is no value is refused as such
-  unvalued_one : (o : Bool) (t : TypeNo) (x : Thing) (f : Fault) (broken : Rule) → ((k : Kind) → Taken types x k → ⊥) → ((f : Fault) → Mistaken at x f → f ≡ at ! broken) → Mispassed types at (record { is_var = false; is_open = o; of = t }) x f → f ≡ at ! broken
+  unvalued_one : (o : Bool) (t : TypeNo) (x : Thing) (f : Breach) (broken : Rule) → ((k : Kind) → Taken types x k → ⊥) → ((f : Breach) → Mistaken at x f → f ≡ at ! broken) → Mispassed types at (record { is_var = false; is_open = o; of = t }) x f → f ≡ at ! broken
   unvalued_one o t x f broken n only (no_value m) = only f m
   unvalued_one o t x _ broken n only (wrong_argument k p q) = absurd (n k p)
   unvalued_one _ t x _ broken n only (out_of_range k p c q) = absurd (n k p)
 
-  unvalued : {o : Bool} {t : TypeNo} {x : Thing} (broken : Rule) → ((k : Kind) → Taken types x k → ⊥) → (Accepts types (record { is_var = false; is_open = o; of = t }) x → ⊥) → Mistaken at x (at ! broken) → ((f : Fault) → Mistaken at x f → f ≡ at ! broken)
+  unvalued : {o : Bool} {t : TypeNo} {x : Thing} (broken : Rule) → ((k : Kind) → Taken types x k → ⊥) → (Accepts types (record { is_var = false; is_open = o; of = t }) x → ⊥) → Mistaken at x (at ! broken) → ((f : Breach) → Mistaken at x f → f ≡ at ! broken)
       → Passes (record { is_var = false; is_open = o; of = t }) x (reported g at broken)
   unvalued {o = o} {t = t} {x = x} broken n a m only = stopped g j lawful O at broken (λ p. a p.accepted) (no_value m) (λ f m. unvalued_one o t x f broken n only m)
 
@@ -248,7 +248,7 @@ module _ (g : Gathers) (j : Judges g) (lawful : Lawful g j) (O : Fault → Type 
     whole_accepts (whole e) = refl
     whole_accepts (compatible k p c) = absurd (unmade (operand k) c)
 
-    whole_unrefused : {x : Thing} → IsValue x → Accepts types (value_formal t) x → (at : Pos) (f : Fault) → Mispassed types at (value_formal t) x f → ⊥
+    whole_unrefused : {x : Thing} → IsValue x → Accepts types (value_formal t) x → (at : Pos) (f : Breach) → Mispassed types at (value_formal t) x f → ⊥
     whole_unrefused {x = x} p a at f (no_value m) = not_mistaken types at x p.0 f p.1 m
     whole_unrefused p a at _ (wrong_argument k q n) = n a
     whole_unrefused p a at _ (out_of_range k q c o) = unmade (operand k) c
@@ -256,7 +256,7 @@ module _ (g : Gathers) (j : Judges g) (lawful : Lawful g j) (O : Fault → Type 
     whole_stops : {x : Thing} → IsValue x → (x ≡ AVariable t → ⊥) → Passes (value_formal t) x (reported g at rule.WrongArgument)
     whole_stops {x = x} p n = stopped g j lawful O at rule.WrongArgument (λ a. n (whole_accepts a.accepted)) (wrong_argument p.0 p.1 (λ a. n (whole_accepts a))) (λ f m. one m)
       where
-        one : {f : Fault} → Mispassed types at (value_formal t) x f → f ≡ at ! rule.WrongArgument
+        one : {f : Breach} → Mispassed types at (value_formal t) x f → f ≡ at ! rule.WrongArgument
         one {f = f} (no_value m) = absurd (not_mistaken types at x p.0 f p.1 m)
         one (wrong_argument k q m) = refl
         one (out_of_range k q c o) = absurd (unmade (operand k) c)
@@ -281,7 +281,7 @@ module _ (g : Gathers) (j : Judges g) (lawful : Lawful g j) (O : Fault → Type 
 
   -- other types
   module _ (t : TypeNo) (simple : content types t ≡ Whole t → ⊥) where
-    abbrev SimpleFails : Thing → Fault → Type 0
+    abbrev SimpleFails : Thing → Breach → Type 0
     SimpleFails x f = Mistaken at x f ⊎ ((k : Kind) × Taken types x k × Misassigned types t at rule.WrongArgument (operand k) f)
 
     simple_accepts : {x : Thing} → Accepts types (value_formal t) x → (k : Kind) × Taken types x k × Compatible types t (operand k)
@@ -291,7 +291,7 @@ module _ (g : Gathers) (j : Judges g) (lawful : Lawful g j) (O : Fault → Type 
     simple_passed_by : {x : Thing} → (k : Kind) × Taken types x k × IsAssignable types t (operand k) → IsPassed types (value_formal t) x
     simple_passed_by {x = x} (k, p, a) = record { accepted = compatible k p a.compatible; unrefused = λ at f m. none at f m }
       where
-        none : (at : Pos) (f : Fault) → Mispassed types at (value_formal t) x f → ⊥
+        none : (at : Pos) (f : Breach) → Mispassed types at (value_formal t) x f → ⊥
         none at f (no_value m) = not_mistaken types at x k f p m
         none at _ (wrong_argument l q n) = n (compatible k p a.compatible)
         none at _ (out_of_range l q c o) = a.in_type (subst (λ (c : Kind). OutOfType types t (operand c)) (taken_one types x p q) o)
@@ -299,12 +299,12 @@ module _ (g : Gathers) (j : Judges g) (lawful : Lawful g j) (O : Fault → Type 
     by_simple_passed : {x : Thing} → IsPassed types (value_formal t) x → (k : Kind) × Taken types x k × IsAssignable types t (operand k)
     by_simple_passed p = let a = simple_accepts p.accepted in (a.0, a.1, record { compatible = a.2; in_type = λ o. p.unrefused at (at ! rule.OutOfRange) (out_of_range a.0 a.1 a.2 o) })
 
-    simple_refused : {x : Thing} (f : Fault) → SimpleFails x f → Mispassed types at (value_formal t) x f
+    simple_refused : {x : Thing} (f : Breach) → SimpleFails x f → Mispassed types at (value_formal t) x f
     simple_refused f (inl m) = no_value m
     simple_refused {x = x} _ (inr (k, p, things.incompatible n)) = wrong_argument k p (λ a. let b = simple_accepts a in n (subst (λ (c : Kind). Compatible types t (operand c)) (taken_one types x p b.1) b.2))
     simple_refused _ (inr (k, p, things.out_of_range c o)) = out_of_range k p c o
 
-    by_simple_refused : {x : Thing} (f : Fault) → Mispassed types at (value_formal t) x f → SimpleFails x f
+    by_simple_refused : {x : Thing} (f : Breach) → Mispassed types at (value_formal t) x f → SimpleFails x f
     by_simple_refused f (no_value m) = inl m
     by_simple_refused _ (wrong_argument k p n) = inr (k, p, things.incompatible (λ c. n (compatible k p c)))
     by_simple_refused _ (out_of_range k p c o) = inr (k, p, things.out_of_range c o)
@@ -332,13 +332,13 @@ module _ (g : Gathers) (j : Judges g) (lawful : Lawful g j) (O : Fault → Type 
   actual_passes false false t a x i = subst (λ (c : Class). Passes (value_formal t) x (passed_as g types t at a c)) (sym (class_is types t)) (passes_by t (shape_at types t) refl a x i)
 
   -- an argument, whatever it stands for
-  abbrev pub PassesSo : (Thing → Type 0) → (Fault → Type 0) → Formal → Result Argument g.Reported → Type 0
+  abbrev pub PassesSo : (Thing → Type 0) → (Breach → Type 0) → Formal → Result Argument g.Reported → Type 0
   PassesSo S B f r = Checks g j lawful O ((x : Thing) × S x × IsPassed types f x) (λ h. B h ⊎ ((x : Thing) × S x × Mispassed types at f x h)) r
 
   headless_value : (o : Bool) (t : TypeNo) → Accepts types (record { is_var = false; is_open = o; of = t }) Headless → ⊥
   headless_value _ t (compatible k p c) = p
 
-  headless_unsaid : (o : Bool) (t : TypeNo) (f : Fault) → Mispassed types at (record { is_var = false; is_open = o; of = t }) Headless f → ⊥
+  headless_unsaid : (o : Bool) (t : TypeNo) (f : Breach) → Mispassed types at (record { is_var = false; is_open = o; of = t }) Headless f → ⊥
   headless_unsaid o t f (no_value m) = m
   headless_unsaid o t _ (wrong_argument k p n) = p
   headless_unsaid _ t _ (out_of_range k p c q) = p
@@ -346,9 +346,9 @@ module _ (g : Gathers) (j : Judges g) (lawful : Lawful g j) (O : Fault → Type 
   headless_variable : (o : Bool) (t : TypeNo) → Accepts types (record { is_var = true; is_open = o; of = t }) Headless → ⊥
   headless_variable o t a = elim a [ ]
 
-  argument_by_mode : {S : Thing → Type 0} {B : Fault → Type 0} {d : Result Designated (Meaningless g.Reported)} (v o : Bool) (t : TypeNo) → Finds g j lawful O S B d → let f : Formal = record { is_var = v; is_open = o; of = t } in PassesSo S B f (argument_by g types (Some f) at d)
+  argument_by_mode : {S : Thing → Type 0} {B : Breach → Type 0} {d : Result Designated (Meaningless g.Reported)} (v o : Bool) (t : TypeNo) → Finds g j lawful O S B d → let f : Formal = record { is_var = v; is_open = o; of = t } in PassesSo S B f (argument_by g types (Some f) at d)
   argument_by_mode true o t h = sort_checks g j lawful O at rule.NoVariable h (actual_passes true o t) (var_stops (headless_variable o t))
   argument_by_mode false o t h = heading_checks g j lawful O h (actual_passes false o t) (λ p. headless_value o t p.accepted) (headless_unsaid o t)
 
-  pub argument_passes : {S : Thing → Type 0} {B : Fault → Type 0} {d : Result Designated (Meaningless g.Reported)} (f : Formal) → Finds g j lawful O S B d → PassesSo S B f (argument_by g types (Some f) at d)
+  pub argument_passes : {S : Thing → Type 0} {B : Breach → Type 0} {d : Result Designated (Meaningless g.Reported)} (f : Formal) → Finds g j lawful O S B d → PassesSo S B f (argument_by g types (Some f) at d)
   argument_passes f h = argument_by_mode f.is_var f.is_open f.of h

@@ -13,7 +13,7 @@ use Rattle.typed_tree.specs.declared.shape.Shape.TheVariants as shape
 use Rattle.typed_tree.specs.declared.shape.Signature.{Signature}
 use Rattle.typed_tree.specs.declared.known_types.Types.{Types}
 use Rattle.typed_tree.specs.Types.{are_same}
-use Rattle.check_scope.specs.declared.fault.Fault.{Fault}
+use Rattle.m2_rule.specs.declared.breach.Breach.{Breach}
 use Rattle.check_scope.specs.declared.meaningless.Meaningless.{Meaningless}
 use Rattle.check_scope.specs.Elaborated.{Gathers, reported, reported_where}
 use Rattle.check_const_ops.specs.Numbers.{is_between}
@@ -101,28 +101,28 @@ module _ (types : Types) (t : TypeNo) where
 
   -- ---- the answers
 
-  module _ (g : Gathers) (j : Judges g) (lawful : Lawful g j) (O : Fault → Type 0) (broken : Rule) (at : Pos) where
+  module _ (g : Gathers) (j : Judges g) (lawful : Lawful g j) (O : Breach → Type 0) (broken : Rule) (at : Pos) where
     abbrev pub Suited : Kind → Result TypedExpr g.Reported → Type 0
     Suited c r = Checks g j lawful O (IsAssignable types t c) (Misassigned types t at broken c) r
 
     suits_not : {c : Kind} → (Compatible types t c → ⊥) → Suited c (reported g at broken)
     suits_not {c = c} n = stopped g j lawful O at broken (λ a. n a.compatible) (incompatible n) (λ f m. one m)
       where
-        one : {f : Fault} → Misassigned types t at broken c f → f ≡ at ! broken
+        one : {f : Breach} → Misassigned types t at broken c f → f ≡ at ! broken
         one (incompatible m) = refl
         one (out_of_range m o) = absurd (n m)
 
     suits_well : {c : Kind} (e : TypedExpr) → Compatible types t c → (OutOfType types t c → ⊥) → Suited c (Ok e)
     suits_well {c = c} e m n = passes e (record { compatible = m; in_type = n }) (λ f x. none x)
       where
-        none : {f : Fault} → Misassigned types t at broken c f → ⊥
+        none : {f : Breach} → Misassigned types t at broken c f → ⊥
         none (incompatible i) = i m
         none (out_of_range i o) = n o
 
     suits_beyond : {c : Kind} → Compatible types t c → OutOfType types t c → Suited c (reported g at rule.OutOfRange)
     suits_beyond {c = c} m o = stopped g j lawful O at rule.OutOfRange (λ a. a.in_type o) (out_of_range m o) (λ f x. one x)
       where
-        one : {f : Fault} → Misassigned types t at broken c f → f ≡ at ! rule.OutOfRange
+        one : {f : Breach} → Misassigned types t at broken c f → f ≡ at ! rule.OutOfRange
         one (incompatible i) = absurd (i m)
         one (out_of_range i q) = refl
 
@@ -213,7 +213,7 @@ given_by t e (Some (shape.Open u)) = kind_untaken
 pub given_is : (types : Types) (t : TypeNo) (e : TypedExpr) → IsKind (elaborated_given types t e) (result_kind types t)
 given_is types t e = subst (λ (s : Class). IsKind (given_as t e s) (result_kind types t)) (sym (class_is types t)) (given_by t e (shape_at types t))
 
-module _ (g : Gathers) (j : Judges g) (lawful : Lawful g j) (O : Fault → Type 0) (types : Types) (at : Pos) where
+module _ (g : Gathers) (j : Judges g) (lawful : Lawful g j) (O : Breach → Type 0) (types : Types) (at : Pos) where
   pub taken_answers : (a : Designated) (x : Thing) → IsThing a x → Answers g j O IsKind (Taken types x) (Mistaken at x) (taken g types at a)
   taken_answers _ _ (thing_value {v = v} {k = k} i) = means v k i refl (λ l e. e) (λ f m. m)
   taken_answers _ _ (thing_variable t d) = means (loaded_as t d (class_at types t)) (content types t) (loaded_is types t d) refl (λ l e. e) (λ f m. m)
@@ -224,6 +224,6 @@ module _ (g : Gathers) (j : Judges g) (lawful : Lawful g j) (O : Fault → Type 
   taken_answers _ _ (thing_standard p) = declined g j lawful O at rule.NoProcedureValue (λ k m. m) refl (λ f m. m)
   taken_answers _ _ (thing_module k) = declined g j lawful O at rule.WrongType (λ k m. m) refl (λ f m. m)
 
-  pub value_answers : {S : Thing → Type 0} {B : Fault → Type 0} {d : Result Designated (Meaningless g.Reported)} → Finds g j lawful O S B d
+  pub value_answers : {S : Thing → Type 0} {B : Breach → Type 0} {d : Result Designated (Meaningless g.Reported)} → Finds g j lawful O S B d
       → Answers g j O IsKind (λ k. (x : Thing) × S x × Taken types x k) (λ f. B f ⊎ ((x : Thing) × S x × Mistaken at x f)) (taken_at g types at d)
   value_answers h = heading_answers g j lawful O h taken_answers (λ k m. m) (λ f m. m)

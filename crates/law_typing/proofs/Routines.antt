@@ -18,7 +18,7 @@ use Rattle.typed_tree.specs.declared.shape.Shape.{Shape}
 use Rattle.typed_tree.specs.declared.shape.Shape.TheVariants as shape
 use Rattle.typed_tree.specs.declared.shape.Signature.{Signature}
 use Rattle.typed_tree.specs.declared.known_types.Types.{Types}
-use Rattle.check_scope.specs.declared.fault.Fault.{Fault}
+use Rattle.m2_rule.specs.declared.breach.Breach.{Breach}
 use Rattle.check_scope.specs.declared.meaningless.Meaningless.{Meaningless}
 use Rattle.check_scope.specs.declared.scope.Scope.{Scope}
 use Rattle.check_scope.specs.Elaborated.{Gathers, reported, reported_where, ahead, ◌▷◌}
@@ -75,7 +75,7 @@ module _ (types : Types) where
   not_headless (heads_variable t m) e = absurd cc
 
 module _ (g : Gathers) (j : Judges g) (lawful : Lawful g j) (names : Ident → Standing) (exports : ℕ → Ident → Standing) (s : Scope g.Reported) where
-  abbrev E : Fault → Type 0
+  abbrev E : Breach → Type 0
   E = Elsewhere g j lawful names exports s
 
   abbrev S : Expr → Thing → Type 0
@@ -84,13 +84,13 @@ module _ (g : Gathers) (j : Judges g) (lawful : Lawful g j) (names : Ident → S
   abbrev Found : Expr → Type 0
   Found = IsFound g j lawful names exports s
 
-  abbrev Any : List Expr → Fault → Type 0
+  abbrev Any : List Expr → Breach → Type 0
   Any = AnyBroken g j lawful names exports s
 
   abbrev C : Thing → List Expr → Kind → Type 0
   C = Calls s.types names exports
 
-  abbrev M : Pos → Thing → List Expr → Fault → Type 0
+  abbrev M : Pos → Thing → List Expr → Breach → Type 0
   M = Miscalled s.types names exports
 
   abbrev So : Pos → Thing → List Expr → Result Computed g.Reported → Type 0
@@ -101,26 +101,26 @@ module _ (g : Gathers) (j : Judges g) (lawful : Lawful g j) (names : Ident → S
   abbrev Passed : List Formal → List Expr → Type 0
   Passed = ArePassed s.types names exports
 
-  abbrev Wrong : List Formal → List Expr → Fault → Type 0
+  abbrev Wrong : List Formal → List Expr → Breach → Type 0
   Wrong fs xs f = (formal : Formal) × (e : Expr) × (y : Thing) × Beside formal e fs xs × S e y × Mispassed s.types (first e) formal y f
 
-  abbrev PassesAll : Type 0 → (Fault → Type 0) → List Formal → List Expr → Result (List Argument) g.Reported → Type 0
+  abbrev PassesAll : Type 0 → (Breach → Type 0) → List Formal → List Expr → Result (List Argument) g.Reported → Type 0
   PassesAll P B fs xs r = Checks g j lawful E (P × Passed fs xs) (λ f. B f ⊎ (Any xs f ⊎ Wrong fs xs f)) r
 
   abbrev FirstPassed : Formal → Expr → Type 0
   FirstPassed f x = (y : Thing) × S x y × IsPassed s.types f y
 
-  abbrev FirstWrong : Formal → Expr → Fault → Type 0
+  abbrev FirstWrong : Formal → Expr → Breach → Type 0
   FirstWrong f x h = IsBroken g j lawful names exports s x h ⊎ ((y : Thing) × S x y × Mispassed s.types (first x) f y h)
 
-  wrong_first : {f : Formal} {fs : List Formal} {x : Expr} {xs : List Expr} (B : Fault → Type 0) (h : Fault) → B h ⊎ (Any (x ∷ xs) h ⊎ Wrong (f ∷ fs) (x ∷ xs) h) → (B h ⊎ FirstWrong f x h) ⊎ (Any xs h ⊎ Wrong fs xs h)
+  wrong_first : {f : Formal} {fs : List Formal} {x : Expr} {xs : List Expr} (B : Breach → Type 0) (h : Breach) → B h ⊎ (Any (x ∷ xs) h ⊎ Wrong (f ∷ fs) (x ∷ xs) h) → (B h ⊎ FirstWrong f x h) ⊎ (Any xs h ⊎ Wrong fs xs h)
   wrong_first B h (inl b) = inl (inl b)
   wrong_first B h (inr (inl (x, here, b))) = inl (inr (inl b))
   wrong_first B h (inr (inl (x, later m, b))) = inr (inl (x, m, b))
   wrong_first B h (inr (inr (f, e, y, beside, m, z))) = inl (inr (inr (y, m, z)))
   wrong_first B h (inr (inr (f, e, y, behind b, m, z))) = inr (inr (f, e, y, b, m, z))
 
-  first_wrong : {f : Formal} {fs : List Formal} {x : Expr} {xs : List Expr} (B : Fault → Type 0) (h : Fault) → (B h ⊎ FirstWrong f x h) ⊎ (Any xs h ⊎ Wrong fs xs h) → B h ⊎ (Any (x ∷ xs) h ⊎ Wrong (f ∷ fs) (x ∷ xs) h)
+  first_wrong : {f : Formal} {fs : List Formal} {x : Expr} {xs : List Expr} (B : Breach → Type 0) (h : Breach) → (B h ⊎ FirstWrong f x h) ⊎ (Any xs h ⊎ Wrong fs xs h) → B h ⊎ (Any (x ∷ xs) h ⊎ Wrong (f ∷ fs) (x ∷ xs) h)
   first_wrong B h (inl (inl b)) = inl b
   first_wrong {x = x} B h (inl (inr (inl b))) = inr (inl (x, here, b))
   first_wrong {f = f} {x = x} B h (inl (inr (inr (y, m, z)))) = inr (inr (f, x, y, beside, m, z))
@@ -133,7 +133,7 @@ module _ (g : Gathers) (j : Judges g) (lawful : Lawful g j) (names : Ident → S
   one_passes : (f : Formal) (x : Expr) → IsPlain x → Found x → Checks g j lawful E (FirstPassed f x) (FirstWrong f x) (argument_by g s.types (Some f) (meant g x).fixed.at ((meant g x).means s))
   one_passes f x i h = subst (λ (p : Pos). Checks g j lawful E (FirstPassed f x) (FirstWrong f x) (argument_by g s.types (Some f) p ((meant g x).means s))) (sym (at_is g i)) (argument_passes g j lawful E s.types (first x) f h)
 
-  all_pass : (fs : List Formal) (xs : List Expr) {P : Type 0} {B : Fault → Type 0} (so : Result (List Argument) g.Reported) → length fs ≡ length xs → ((y : Expr) → Among y xs → IsPlain y) → ((y : Expr) → Among y xs → Found y) → Checks g j lawful E P B so
+  all_pass : (fs : List Formal) (xs : List Expr) {P : Type 0} {B : Breach → Type 0} (so : Result (List Argument) g.Reported) → length fs ≡ length xs → ((y : Expr) → Among y xs → IsPlain y) → ((y : Expr) → Among y xs → Found y) → Checks g j lawful E P B so
       → PassesAll P B fs xs ((fold (with_actual g s) (fs, so) (map (meant g) xs)).1)
   all_pass [] [] so e i h c = checks_as g j lawful E (λ p. (p, no_more)) (λ p. p.0) (λ f b. inl b) (λ f b. elim b [ inl z ↦ z | inr z ↦ elim z [ inl a ↦ elim a.1 [ ] | inr w ↦ elim w.3 [ ] ] ]) c
   all_pass [] (x ∷ xs) so e i h c = absurd cc
@@ -144,7 +144,7 @@ module _ (g : Gathers) (j : Judges g) (lawful : Lawful g j) (names : Ident → S
 
   -- ---- functions
 
-  no_function_only : {x : Thing} {h : TypeNo} {xs : List Expr} (at : Pos) (f : Fault) → Heads s.types x h → ((n : ℕ) → IsFunctionOf s.types x n → ⊥) → M at x xs f → f ≡ at ! rule.WrongType
+  no_function_only : {x : Thing} {h : TypeNo} {xs : List Expr} (at : Pos) (f : Breach) → Heads s.types x h → ((n : ℕ) → IsFunctionOf s.types x n → ⊥) → M at x xs f → f ≡ at ! rule.WrongType
   no_function_only at _ w n (rules.no_function q m) = refl
   no_function_only at _ w n (rules.wrong_count i m) = absurd (n _ i)
   no_function_only at f w n (rules.mispassed h e c b m z) = absurd (n _ (declared h e))
@@ -170,7 +170,7 @@ module _ (g : Gathers) (j : Judges g) (lawful : Lawful g j) (names : Ident → S
   no_signature_calls w n (declared {s = q} d e) = n q (made_of s.types w d)
   no_signature_calls w n (standard e) = no_standard s.types w
 
-  count_wrong : {x : Thing} {h t : TypeNo} {p : Signature} {xs : List Expr} (at : Pos) (f : Fault) → Heads s.types x h → IsMade s.types h (shape.Procedure p) → p.result ≡ Some t → (length p.formals ≡ length xs → ⊥) → M at x xs f → f ≡ at ! rule.ArgumentCount
+  count_wrong : {x : Thing} {h t : TypeNo} {p : Signature} {xs : List Expr} (at : Pos) (f : Breach) → Heads s.types x h → IsMade s.types h (shape.Procedure p) → p.result ≡ Some t → (length p.formals ≡ length xs → ⊥) → M at x xs f → f ≡ at ! rule.ArgumentCount
   count_wrong {p = p} at _ w m r n (rules.no_function q z) = absurd (z (length p.formals) (declared (heading_of s.types w m) r))
   count_wrong at _ w m r n (rules.wrong_count i z) = refl
   count_wrong {h = h} {xs = xs} at f w m r n (rules.mispassed {s = q} d e c b z y) = absurd (n (subst (λ (p : Signature). length p.formals ≡ length xs) (one_signature s.types h (made_of s.types w d) m) c))
@@ -180,7 +180,7 @@ module _ (g : Gathers) (j : Judges g) (lawful : Lawful g j) (names : Ident → S
   count_wrong at f w m r n (rules.misconverted z y q c) = absurd (no_standard s.types w)
   count_wrong at _ w m r n (rules.no_open_array z y q) = absurd (no_standard s.types w)
 
-  count_right : {x : Thing} {h t : TypeNo} {p : Signature} {xs : List Expr} (at : Pos) (f : Fault) → Heads s.types x h → IsMade s.types h (shape.Procedure p) → p.result ≡ Some t → length p.formals ≡ length xs → M at x xs f → Wrong p.formals xs f
+  count_right : {x : Thing} {h t : TypeNo} {p : Signature} {xs : List Expr} (at : Pos) (f : Breach) → Heads s.types x h → IsMade s.types h (shape.Procedure p) → p.result ≡ Some t → length p.formals ≡ length xs → M at x xs f → Wrong p.formals xs f
   count_right {p = p} at _ w m r e (rules.no_function q z) = absurd (z (length p.formals) (declared (heading_of s.types w m) r))
   count_right at _ w m r e (rules.wrong_count i z) = absurd (z ((function_count w m i).0 ∙ e))
   count_right {h = h} {xs = xs} at f w m r e (rules.mispassed {y = y} {s = q} {formal = formal} {e = a} d v c b z u) =
@@ -191,7 +191,7 @@ module _ (g : Gathers) (j : Judges g) (lawful : Lawful g j) (names : Ident → S
   count_right at f w m r e (rules.misconverted z y q c) = absurd (no_standard s.types w)
   count_right at _ w m r e (rules.no_open_array z y q) = absurd (no_standard s.types w)
 
-  wrong_right : {x : Thing} {h t : TypeNo} {p : Signature} {xs : List Expr} (at : Pos) (f : Fault) → Heads s.types x h → IsMade s.types h (shape.Procedure p) → p.result ≡ Some t → length p.formals ≡ length xs → Wrong p.formals xs f → M at x xs f
+  wrong_right : {x : Thing} {h t : TypeNo} {p : Signature} {xs : List Expr} (at : Pos) (f : Breach) → Heads s.types x h → IsMade s.types h (shape.Procedure p) → p.result ≡ Some t → length p.formals ≡ length xs → Wrong p.formals xs f → M at x xs f
   wrong_right at f w m r e (formal, a, y, b, z, u) = rules.mispassed (heading_of s.types w m) r e b z u
 
   function_calls : {x : Thing} {h t : TypeNo} {p : Signature} {xs : List Expr} {k : Kind} → Heads s.types x h → IsMade s.types h (shape.Procedure p) → p.result ≡ Some t → C x xs k → Passed p.formals xs × (k ≡ result_kind s.types t)
@@ -265,7 +265,7 @@ module _ (g : Gathers) (j : Judges g) (lawful : Lawful g j) (names : Ident → S
     may_routine : {x : Thing} {h : TypeNo} → Heads s.types x h → MayCall x
     may_standard : (p : Standard) → MayCall (AStandard p)
 
-  abbrev NoCall : Pos → Thing → Fault → Type 0
+  abbrev NoCall : Pos → Thing → Breach → Type 0
   NoCall at x f = (MayCall x → ⊥) × ((x ≡ Headless → ⊥) × (f ≡ at ! rule.WrongType))
 
   abbrev CalleeSo : Pos → Thing → Result Called g.Reported → Type 0
@@ -339,7 +339,7 @@ module _ (g : Gathers) (j : Judges g) (lawful : Lawful g j) (names : Ident → S
   calls_may (rules.converted h n m c) = may_standard _
   calls_may (rules.greatest_index h) = may_standard _
 
-  uncalled : {x : Thing} {xs : List Expr} (at : Pos) (f : Fault) → (MayCall x → ⊥) → M at x xs f → NoCall at x f
+  uncalled : {x : Thing} {xs : List Expr} (at : Pos) (f : Breach) → (MayCall x → ⊥) → M at x xs f → NoCall at x f
   uncalled at _ n (rules.no_function q m) = (n, (q, refl))
   uncalled at _ n (rules.wrong_count i m) = absurd (n (function_may i))
   uncalled at f n (rules.mispassed h e c b m z) = absurd (n (headed_may h))
@@ -354,7 +354,7 @@ module _ (g : Gathers) (j : Judges g) (lawful : Lawful g j) (names : Ident → S
   called_answer at xs _ _ (callee_standard p) i h = standard_answers g j lawful names exports s p at xs i h
 
   -- a call of what a designator stands for
-  pub calls_answer : {D : Thing → Type 0} {F : Fault → Type 0} {d : Result Designated (Meaningless g.Reported)} (at : Pos) (xs : List Expr) → Finds g j lawful E D F d → ((y : Expr) → Among y xs → IsPlain y) → ((y : Expr) → Among y xs → Found y)
+  pub calls_answer : {D : Thing → Type 0} {F : Breach → Type 0} {d : Result Designated (Meaningless g.Reported)} (at : Pos) (xs : List Expr) → Finds g j lawful E D F d → ((y : Expr) → Among y xs → IsPlain y) → ((y : Expr) → Among y xs → Found y)
       → Answers g j E IsKind (λ k. (x : Thing) × D x × C x xs k) (λ f. (F f ⊎ ((x : Thing) × D x × M at x xs f)) ⊎ Any xs f) (called_by g s at d (map (meant g) xs))
   calls_answer {D = D} {F = F} at xs h i q = exact g j lawful E
       {M = λ k. (y : Thing) × ((x : Thing) × D x × (MayCall x × (y ≡ x))) × C y xs k}
@@ -365,17 +365,17 @@ module _ (g : Gathers) (j : Judges g) (lawful : Lawful g j) (names : Ident → S
       (ahead_answers g j lawful E {N = λ y k. C y xs k} {D = λ y f. M at y xs f} (heading_answers g j lawful E {N = λ x y. MayCall x × (y ≡ x)} {D = λ x f. NoCall at x f} h (callee_answers at) (λ y m. no_call_of (λ h w. elim w [ ]) (λ p q. absurd cc) m.0) (λ f z. z.1.0 refl))
       (look_tells g j lawful names exports s xs q) (λ c y e. called_answer at xs c y e i q))
     where
-      out : (f : Fault) → ((F f ⊎ ((x : Thing) × D x × NoCall at x f)) ⊎ ((y : Thing) × ((x : Thing) × D x × (MayCall x × (y ≡ x))) × M at y xs f)) ⊎ Any xs f → (F f ⊎ ((x : Thing) × D x × M at x xs f)) ⊎ Any xs f
+      out : (f : Breach) → ((F f ⊎ ((x : Thing) × D x × NoCall at x f)) ⊎ ((y : Thing) × ((x : Thing) × D x × (MayCall x × (y ≡ x))) × M at y xs f)) ⊎ Any xs f → (F f ⊎ ((x : Thing) × D x × M at x xs f)) ⊎ Any xs f
       out f (inl (inl (inl b))) = inl (inl b)
       out f (inl (inl (inr (x, m, (n, (z, e)))))) = inl (inr (x, m, subst (M at x xs) (sym e) (rules.no_function z (λ k w. n (function_may w)))))
       out f (inl (inr (y, (x, m, (c, e)), z))) = inl (inr (y, subst D (sym e) m, z))
       out f (inr a) = inr a
 
-      by : (f : Fault) (x : Thing) → D x → M at x xs f → MayCall x ⊎ (MayCall x → ⊥) → ((F f ⊎ ((x : Thing) × D x × NoCall at x f)) ⊎ ((y : Thing) × ((x : Thing) × D x × (MayCall x × (y ≡ x))) × M at y xs f)) ⊎ Any xs f
+      by : (f : Breach) (x : Thing) → D x → M at x xs f → MayCall x ⊎ (MayCall x → ⊥) → ((F f ⊎ ((x : Thing) × D x × NoCall at x f)) ⊎ ((y : Thing) × ((x : Thing) × D x × (MayCall x × (y ≡ x))) × M at y xs f)) ⊎ Any xs f
       by f x m z (inl c) = inl (inr (x, (x, m, (c, refl)), z))
       by f x m z (inr n) = inl (inl (inr (x, m, uncalled at f n z)))
 
-      into : (f : Fault) → (F f ⊎ ((x : Thing) × D x × M at x xs f)) ⊎ Any xs f → ((F f ⊎ ((x : Thing) × D x × NoCall at x f)) ⊎ ((y : Thing) × ((x : Thing) × D x × (MayCall x × (y ≡ x))) × M at y xs f)) ⊎ Any xs f
+      into : (f : Breach) → (F f ⊎ ((x : Thing) × D x × M at x xs f)) ⊎ Any xs f → ((F f ⊎ ((x : Thing) × D x × NoCall at x f)) ⊎ ((y : Thing) × ((x : Thing) × D x × (MayCall x × (y ≡ x))) × M at y xs f)) ⊎ Any xs f
       into f (inl (inl b)) = inl (inl (inl b))
       into f (inl (inr (x, m, z))) = by f x m z (may_or_not x)
       into f (inr a) = inr a

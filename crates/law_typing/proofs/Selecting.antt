@@ -19,7 +19,7 @@ use Rattle.typed_tree.specs.declared.shape.Shape.TheVariants as shape
 use Rattle.typed_tree.specs.Chains.{behind}
 use Rattle.typed_tree.specs.Names.{found}
 use Rattle.typed_tree.specs.Types.{cardinal}
-use Rattle.check_scope.specs.declared.fault.Fault.{Fault}
+use Rattle.m2_rule.specs.declared.breach.Breach.{Breach}
 use Rattle.check_scope.specs.declared.meaningless.Meaningless.{Meaningless}
 use Rattle.check_scope.specs.declared.scope.Scope.{Scope}
 use Rattle.check_scope.specs.Elaborated.{Gathers, reported, plain, ◌▷◌}
@@ -53,7 +53,7 @@ known_one {x = x} e = ap (thing_in x) e
 
 -- ---- names
 
-module _ (g : Gathers) (j : Judges g) (lawful : Lawful g j) (O : Fault → Type 0) (level : ℕ) (at : Pos) where
+module _ (g : Gathers) (j : Judges g) (lawful : Lawful g j) (O : Breach → Type 0) (level : ℕ) (at : Pos) where
   abbrev pub Named : Standing → Result Designated g.Reported → Type 0
   Named s r = Answers g j O IsThing (λ x. s ≡ Known x) (Misnamed at s) r
 
@@ -66,13 +66,13 @@ module _ (g : Gathers) (j : Judges g) (lawful : Lawful g j) (O : Fault → Type 
   local_answers v local.Alias = names_it (thing_variable v.of _)
   local_answers v local.Open = names_it (thing_open v.of _)
 
-  only_undeclared : (f : Fault) → Misnamed at Undeclared f → f ≡ at ! rule.Undeclared
+  only_undeclared : (f : Breach) → Misnamed at Undeclared f → f ≡ at ! rule.Undeclared
   only_undeclared _ undeclared = refl
 
-  only_ahead : (f : Fault) → Misnamed at Ahead f → f ≡ at ! rule.Undeclared
+  only_ahead : (f : Breach) → Misnamed at Ahead f → f ≡ at ! rule.Undeclared
   only_ahead _ not_yet = refl
 
-  only_not_exported : (f : Fault) → Misnamed at NotExported f → f ≡ at ! rule.NotExported
+  only_not_exported : (f : Breach) → Misnamed at NotExported f → f ≡ at ! rule.NotExported
   only_not_exported _ not_exported = refl
 
   pub designated_answers : (m : Meaning) → Named (standing m) (designated_by g level at m)
@@ -92,7 +92,7 @@ module _ (g : Gathers) (j : Judges g) (lawful : Lawful g j) (O : Fault → Type 
   exported_answers _ _ has_nothing = declined g j lawful O at rule.NotExported (λ x e. absurd cc) not_exported only_not_exported
 
 module _ (g : Gathers) (j : Judges g) (lawful : Lawful g j) (names : Ident → Standing) (exports : ℕ → Ident → Standing) (s : Scope g.Reported) (knows : Knows g j names exports s) where
-  abbrev R : Fault → Type 0
+  abbrev R : Breach → Type 0
   R = Repeats g j names s
 
   abbrev FindsIt : Standing → Pos → Result Designated (Meaningless g.Reported) → Type 0
@@ -114,7 +114,7 @@ module _ (g : Gathers) (j : Judges g) (lawful : Lawful g j) (names : Ident → S
     abbrev PicksIt : Thing → Thing → Type 0
     PicksIt x y = Picks s.types exports name x (Known y)
 
-    abbrev pub FieldFails : Thing → Fault → Type 0
+    abbrev pub FieldFails : Thing → Breach → Type 0
     FieldFails x f = (((st : Standing) → Picks s.types exports name x st → ⊥) × (f ≡ at ! rule.WrongType)) ⊎ ((st : Standing) × Picks s.types exports name x st × Misnamed name.pos st f)
 
     abbrev PicksSo : Thing → Result Designated g.Reported → Type 0
@@ -170,7 +170,7 @@ module _ (g : Gathers) (j : Judges g) (lawful : Lawful g j) (names : Ident → S
     field_answers _ _ (thing_standard p) = no_field (λ st p. elim p [ ])
     field_answers _ _ (thing_module k) = picks_one (exports k name) of_module module_one (exported_answers g j lawful R s.level name.pos (exports k name) (exported_by name.name (slice_get s.tables k)) (knows.of_modules k name))
 
-    pub field_finds : {S : Thing → Type 0} {B : Fault → Type 0} {d : Result Designated (Meaningless g.Reported)} → Finds g j lawful R S B d
+    pub field_finds : {S : Thing → Type 0} {B : Breach → Type 0} {d : Result Designated (Meaningless g.Reported)} → Finds g j lawful R S B d
         → Finds g j lawful R (λ y. (x : Thing) × S x × Picks s.types exports name x (Known y)) (λ f. B f ⊎ ((x : Thing) × S x × FieldFails x f)) (field_at g s at name d)
     field_finds h = plain_finds g j lawful R (sort_answers g j lawful R at rule.WrongType h field_answers (no_field (λ st p. elim p [ ])))
 
@@ -182,7 +182,7 @@ module _ (g : Gathers) (j : Judges g) (lawful : Lawful g j) (names : Ident → S
     indexed_open : (e : TypeNo) (u : Slot) → IsIndexed (indexes.Open e u) (cardinal, e)
 
   module _ (at : Pos) where
-    abbrev pub NoElements : Thing → Fault → Type 0
+    abbrev pub NoElements : Thing → Breach → Type 0
     NoElements x f = ((i t : TypeNo) → Indexes s.types x i t → ⊥) × (f ≡ at ! rule.WrongType)
 
     abbrev IndexesSo : Thing → Result Subscripted g.Reported → Type 0
@@ -235,7 +235,7 @@ module _ (g : Gathers) (j : Judges g) (lawful : Lawful g j) (names : Ident → S
     abbrev pub ElementOf : (TypeNo × TypeNo) × Kind → Thing → Type 0
     ElementOf p y = IsAssignable s.types p.0.0 (operand p.1) × (y ≡ AVariable p.0.1)
 
-    abbrev pub IndexFails : Pos → (TypeNo × TypeNo) × Kind → Fault → Type 0
+    abbrev pub IndexFails : Pos → (TypeNo × TypeNo) × Kind → Breach → Type 0
     IndexFails spot p f = Misassigned s.types p.0.0 spot rule.NotAssignable (operand p.1) f
 
     index_answers : (spot : Pos) (a : Subscripted) (p : TypeNo × TypeNo) (x : Computed) (c : Kind) → IsIndexed a p → IsKind x c → Answers g j R IsThing (ElementOf (p, c)) (IndexFails spot (p, c)) (with_index g s.types spot a x)
@@ -245,7 +245,7 @@ module _ (g : Gathers) (j : Judges g) (lawful : Lawful g j) (names : Ident → S
         (λ f w. inl (subst (λ (t : TypeNo). Misassigned s.types t spot rule.NotAssignable (operand c) f) (asked_is i) w))
         (then_checked g j lawful R (value_suits s.types (asked a) g j lawful R rule.NotAssignable spot k) (λ e m. means (picked e a) (AVariable p.1) (picked_is e i) refl (λ y q. q) (λ f b. b)))
 
-    pub index_finds : {S : Thing → Type 0} {B : Fault → Type 0} {M : Kind → Type 0} {C : Fault → Type 0} {d : Result Designated (Meaningless g.Reported)} {x : Result Computed g.Reported} (spot : Pos) → Finds g j lawful R S B d → Answers g j R IsKind M C x
+    pub index_finds : {S : Thing → Type 0} {B : Breach → Type 0} {M : Kind → Type 0} {C : Breach → Type 0} {d : Result Designated (Meaningless g.Reported)} {x : Result Computed g.Reported} (spot : Pos) → Finds g j lawful R S B d → Answers g j R IsKind M C x
         → Finds g j lawful R (λ y. (p : (TypeNo × TypeNo) × Kind) × (((z : Thing) × S z × Indexes s.types z p.0.0 p.0.1) × M p.1) × ElementOf p y)
         (λ f. ((B f ⊎ ((z : Thing) × S z × NoElements z f)) ⊎ C f) ⊎ ((p : (TypeNo × TypeNo) × Kind) × (((z : Thing) × S z × Indexes s.types z p.0.0 p.0.1) × M p.1) × IndexFails spot p f)) (index_at g s.types at d spot x)
     index_finds spot h a = plain_finds g j lawful R (then_answer g j lawful R {N = λ p y. ElementOf p y} {D = λ p f. IndexFails spot p f}

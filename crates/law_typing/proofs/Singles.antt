@@ -15,7 +15,7 @@ use Rattle.typed_tree.specs.declared.meaning.Value.{Value as ConstantValue}
 use Rattle.typed_tree.specs.declared.meaning.Value.TheVariants as value
 use Rattle.typed_tree.specs.declared.shape.Scalar.{Scalar as Range}
 use Rattle.typed_tree.specs.Types.{are_same, is_numeric, integer, cardinal, boolean, char}
-use Rattle.check_scope.specs.declared.fault.Fault.{Fault}
+use Rattle.m2_rule.specs.declared.breach.Breach.{Breach}
 use Rattle.check_scope.specs.Elaborated.{Gathers, reported, reported_where}
 use Rattle.check_const_ops.specs.declared.operand.Ordinal.{Ordinal}
 use Rattle.check_const_ops.specs.declared.operand.Operand.{Operand}
@@ -71,7 +71,7 @@ of_where g false at broken r = refl
 
 -- ---- an operand that suits, and what is made of it
 
-module _ (g : Gathers) (j : Judges g) (lawful : Lawful g j) (O : Fault → Type 0) (at : Pos) (broken : Rule) where
+module _ (g : Gathers) (j : Judges g) (lawful : Lawful g j) (O : Breach → Type 0) (at : Pos) (broken : Rule) where
   module _ (May : Type 0) (M : Kind → Type 0) where
     abbrev pub Applied : Result Computed g.Reported → Type 0
     Applied r = Answers g j O IsKind M (Misapplied May M at broken) r
@@ -79,21 +79,21 @@ module _ (g : Gathers) (j : Judges g) (lawful : Lawful g j) (O : Fault → Type 
     pub makes : May → (v : Computed) (c : Kind) → IsKind v c → M c → ((l : Kind) → M l → l ≡ c) → Applied (Ok v)
     makes t v c i m only = means v c i m only (λ f x. none x)
       where
-        none : {f : Fault} → Misapplied May M at broken f → ⊥
+        none : {f : Breach} → Misapplied May M at broken f → ⊥
         none (unsuited n) = n t
         none (makes_nothing s n) = n c m
 
     pub suits_not : (May → ⊥) → ((l : Kind) → M l → May) → Applied (reported g at broken)
     suits_not n may = declined g j lawful O at broken (λ l m. n (may l m)) (unsuited n) (λ f x. one x)
       where
-        one : {f : Fault} → Misapplied May M at broken f → f ≡ at ! broken
+        one : {f : Breach} → Misapplied May M at broken f → f ≡ at ! broken
         one (unsuited m) = refl
         one (makes_nothing t m) = absurd (n t)
 
     pub reaches_out : May → ((l : Kind) → M l → ⊥) → Applied (reported g at rule.OutOfRange)
     reaches_out t n = declined g j lawful O at rule.OutOfRange n (makes_nothing t n) (λ f x. one x)
       where
-        one : {f : Fault} → Misapplied May M at broken f → f ≡ at ! rule.OutOfRange
+        one : {f : Breach} → Misapplied May M at broken f → f ≡ at ! rule.OutOfRange
         one (unsuited m) = absurd (m t)
         one (makes_nothing s m) = refl
 
@@ -141,7 +141,7 @@ minus_makes_value (rules.signed t k.minus_value) = refl
 minus_makes : {sort : Option TypeNo} {n : ℤ} {l : Kind} → SignMakes sign.Minus (Scalar (Constant sort n)) l → InRange sort (pos 0 -ℤ n) × (l ≡ Scalar (Constant sort (pos 0 -ℤ n)))
 minus_makes (rules.signed t (k.minus_constant r)) = (r, refl)
 
-module _ (g : Gathers) (j : Judges g) (lawful : Lawful g j) (O : Fault → Type 0) where
+module _ (g : Gathers) (j : Judges g) (lawful : Lawful g j) (O : Breach → Type 0) where
   abbrev pub Signed : Sign → Pos → Kind → Result Computed g.Reported → Type 0
   Signed o spot c r = Applied g j lawful O spot rule.WrongType (MaySign o c) (SignMakes o c) r
 
@@ -186,7 +186,7 @@ negates_scalar rules.not_constant = (refl, refl)
 negates_value : {t : TypeNo} {l : Kind} → Negates (Scalar (Value t)) l → (t ≡ boolean) × (l ≡ Scalar (Value boolean))
 negates_value rules.not_value = (refl, refl)
 
-module _ (g : Gathers) (j : Judges g) (lawful : Lawful g j) (O : Fault → Type 0) (at : Pos) where
+module _ (g : Gathers) (j : Judges g) (lawful : Lawful g j) (O : Breach → Type 0) (at : Pos) where
   abbrev pub Negated : Kind → Result Computed g.Reported → Type 0
   Negated c r = Answers g j O IsKind (Negates c) (λ f. ((l : Kind) → Negates c l → ⊥) × (f ≡ at ! rule.WrongType)) r
 
@@ -286,7 +286,7 @@ ord_makes (functions.applied t (functions.ord_constant r)) = (r, refl)
 ord_makes_value : {t : TypeNo} {l : Kind} → Applies Ord (Scalar (Value t)) l → l ≡ Scalar (Value cardinal)
 ord_makes_value (functions.applied t functions.ord_value) = refl
 
-module _ (g : Gathers) (j : Judges g) (lawful : Lawful g j) (O : Fault → Type 0) (at : Pos) where
+module _ (g : Gathers) (j : Judges g) (lawful : Lawful g j) (O : Breach → Type 0) (at : Pos) where
   module _ (f : Standard) where
     abbrev pub OfOne : Kind → Result Computed g.Reported → Type 0
     OfOne c r = Applied g j lawful O at rule.WrongArgument (MayApply f c) (Applies f c) r
@@ -382,7 +382,7 @@ constant_converts (functions.converted_constant q w) = (w, refl)
 value_converts : {r : Range} {t : TypeNo} {l : Kind} → Converts r (Scalar (Value t)) l → l ≡ Scalar (Value r.base)
 value_converts (functions.converted_value n) = refl
 
-module _ (g : Gathers) (j : Judges g) (lawful : Lawful g j) (O : Fault → Type 0) (at : Pos) (t : TypeNo) (r : Range) where
+module _ (g : Gathers) (j : Judges g) (lawful : Lawful g j) (O : Breach → Type 0) (at : Pos) (t : TypeNo) (r : Range) where
   abbrev pub Converted : Kind → Result Computed g.Reported → Type 0
   Converted c v = Applied g j lawful O at rule.WrongArgument (MayConvert c) (Converts r c) v
 

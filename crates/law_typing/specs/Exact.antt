@@ -26,7 +26,7 @@ use Rattle.typed_tree.specs.declared.meaning.Meaning.{Meaning}
 use Rattle.typed_tree.specs.declared.meaning.Meaning.TheVariants as meaning
 use Rattle.typed_tree.specs.declared.meaning.Procedure.{Procedure as ModuleProcedure}
 use Rattle.typed_tree.specs.declared.meaning.Standard.{Standard}
-use Rattle.check_scope.specs.declared.fault.Fault.{Fault}
+use Rattle.m2_rule.specs.declared.breach.Breach.{Breach}
 use Rattle.check_scope.specs.declared.meaningless.Meaningless.{Meaningless}
 use Rattle.check_scope.specs.declared.meaningless.Meaningless.TheVariants as meaningless
 use Rattle.check_scope.specs.declared.scope.Scope.{Scope}
@@ -125,7 +125,7 @@ module _ (g : Gathers) (j : Judges g) where
         → Exports (exports k name) (exported_by name.name (slice_get s.tables k))
 
   -- what the use of a name repeats of its declaration
-  pub data Repeats (names : Ident → Standing) (s : Scope g.Reported) (f : Fault) : Type 0 where
+  pub data Repeats (names : Ident → Standing) (s : Scope g.Reported) (f : Breach) : Type 0 where
     of_heading : {name : Ident} {r : g.Reported} → names name ≡ Known Headless
         → looked_up g s name ≡ Err (meaningless.Headless r) → j.Among r f → Repeats names s f
     of_declaration : {name : Ident} {r : g.Reported} → names name ≡ Unknown
