@@ -31,7 +31,7 @@ use Rattle.law_encoding.proofs.FunctionsFit.{within_levels, ended_short, module_
 -- ---- the types of the functions
 
 -- each function takes eleven bytes at least
-eleven : (fs : List Function) → 11 * length fs ≤ sum_of function_bytes fs
+pub eleven : (fs : List Function) → 11 * length fs ≤ sum_of function_bytes fs
 eleven [] = none where
   none : 11 * 0 ≤ 0
   none = omega arith
@@ -62,7 +62,7 @@ numbers_section n ns k s c e h l =
       as_many : (a b t : ℕ) → a ≡ b → 11 * b ≤ t → 11 * a ≤ t
       as_many a b t c h = omega (arith, c, h)
 
-uses_fit : (fs : List Function) → list_all unsigned.fits (types_of fs) ≡ true → 5 + sum_of function_bytes fs < max_bytes → (section 3 unsigned).fits (types_of fs) ≡ true
+pub uses_fit : (fs : List Function) → list_all unsigned.fits (types_of fs) ≡ true → 5 + sum_of function_bytes fs < max_bytes → (section 3 unsigned).fits (types_of fs) ≡ true
 uses_fit [] e h = refl
 uses_fit (f ∷ fs) e h = numbers_section f.type_index (types_of fs) (length (f ∷ fs)) (sum_of function_bytes (f ∷ fs)) (same_many (f ∷ fs)) e (eleven (f ∷ fs)) h
 

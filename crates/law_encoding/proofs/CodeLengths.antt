@@ -14,7 +14,7 @@ use Rattle.law_encoding.proofs.Sums.{total_map, sum_append}
 
 -- ---- instructions
 
-at : (i : Instr) (x : Instr-F Instr) → out-Instr i ≡ x → bytes_in i ≡ instr_layer (map-Instr Instr ℕ bytes_in x)
+pub at : (i : Instr) (x : Instr-F Instr) → out-Instr i ≡ x → bytes_in i ≡ instr_layer (map-Instr Instr ℕ bytes_in x)
 unfolding bytes_in
 at i x q = fold_out-Instr ℕ instr_layer i ∙ ap (λ (y : Instr-F Instr). instr_layer (map-Instr Instr ℕ bytes_in y)) q
 

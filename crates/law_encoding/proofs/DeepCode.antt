@@ -173,54 +173,54 @@ abs_by false n f h p = nests_more n (1 ⊔ n) (one_more n) p
 -- ---- trees
 
 module _ (numbered : Numbered) where
-  abbrev of_argument : Argument → Coded
+  abbrev pub of_argument : Argument → Coded
   of_argument = fold-Argument Coded Coded Coded Linked Part Coded argument_layer (call_layer numbered) component_layer link_layer expr_layer place_layer
 
-  abbrev of_component : Component → Coded
+  abbrev pub of_component : Component → Coded
   of_component = fold-Component Coded Coded Coded Linked Part Coded argument_layer (call_layer numbered) component_layer link_layer expr_layer place_layer
 
-  abbrev of_link : Link → Linked
+  abbrev pub of_link : Link → Linked
   of_link = fold-Link Coded Coded Coded Linked Part Coded argument_layer (call_layer numbered) component_layer link_layer expr_layer place_layer
 
-  abbrev opened_argument : Argument-F Argument Call Component Link TypedExpr Place → Argument-F Coded Coded Coded Linked Part Coded
+  abbrev pub opened_argument : Argument-F Argument Call Component Link TypedExpr Place → Argument-F Coded Coded Coded Linked Part Coded
   opened_argument x = map-Argument Argument Call Component Link TypedExpr Place Coded Coded Coded Linked Part Coded of_argument (call_code numbered) of_component of_link (expr_part numbered) (place_code numbered) x
 
-  at_argument : (e : Argument) (x : Argument-F Argument Call Component Link TypedExpr Place) → out-Argument e ≡ x → of_argument e ≡ argument_layer (opened_argument x)
+  pub at_argument : (e : Argument) (x : Argument-F Argument Call Component Link TypedExpr Place) → out-Argument e ≡ x → of_argument e ≡ argument_layer (opened_argument x)
   unfolding expr_part place_code call_code
   at_argument e x h = fold_out-Argument Coded Coded Coded Linked Part Coded argument_layer (call_layer numbered) component_layer link_layer expr_layer place_layer e ∙ ap (λ (y : Argument-F Argument Call Component Link TypedExpr Place). argument_layer (opened_argument y)) h
 
-  abbrev opened_call : Call-F Argument Call Component Link TypedExpr Place → Call-F Coded Coded Coded Linked Part Coded
+  abbrev pub opened_call : Call-F Argument Call Component Link TypedExpr Place → Call-F Coded Coded Coded Linked Part Coded
   opened_call x = map-Call Argument Call Component Link TypedExpr Place Coded Coded Coded Linked Part Coded of_argument (call_code numbered) of_component of_link (expr_part numbered) (place_code numbered) x
 
-  at_call : (e : Call) (x : Call-F Argument Call Component Link TypedExpr Place) → out-Call e ≡ x → call_code numbered e ≡ call_layer numbered (opened_call x)
+  pub at_call : (e : Call) (x : Call-F Argument Call Component Link TypedExpr Place) → out-Call e ≡ x → call_code numbered e ≡ call_layer numbered (opened_call x)
   unfolding expr_part place_code call_code
   at_call e x h = fold_out-Call Coded Coded Coded Linked Part Coded argument_layer (call_layer numbered) component_layer link_layer expr_layer place_layer e ∙ ap (λ (y : Call-F Argument Call Component Link TypedExpr Place). call_layer numbered (opened_call y)) h
 
-  abbrev opened_component : Component-F Argument Call Component Link TypedExpr Place → Component-F Coded Coded Coded Linked Part Coded
+  abbrev pub opened_component : Component-F Argument Call Component Link TypedExpr Place → Component-F Coded Coded Coded Linked Part Coded
   opened_component x = map-Component Argument Call Component Link TypedExpr Place Coded Coded Coded Linked Part Coded of_argument (call_code numbered) of_component of_link (expr_part numbered) (place_code numbered) x
 
-  at_component : (e : Component) (x : Component-F Argument Call Component Link TypedExpr Place) → out-Component e ≡ x → of_component e ≡ component_layer (opened_component x)
+  pub at_component : (e : Component) (x : Component-F Argument Call Component Link TypedExpr Place) → out-Component e ≡ x → of_component e ≡ component_layer (opened_component x)
   unfolding expr_part place_code call_code
   at_component e x h = fold_out-Component Coded Coded Coded Linked Part Coded argument_layer (call_layer numbered) component_layer link_layer expr_layer place_layer e ∙ ap (λ (y : Component-F Argument Call Component Link TypedExpr Place). component_layer (opened_component y)) h
 
-  abbrev opened_link : Link-F Argument Call Component Link TypedExpr Place → Link-F Coded Coded Coded Linked Part Coded
+  abbrev pub opened_link : Link-F Argument Call Component Link TypedExpr Place → Link-F Coded Coded Coded Linked Part Coded
   opened_link x = map-Link Argument Call Component Link TypedExpr Place Coded Coded Coded Linked Part Coded of_argument (call_code numbered) of_component of_link (expr_part numbered) (place_code numbered) x
 
-  at_link : (e : Link) (x : Link-F Argument Call Component Link TypedExpr Place) → out-Link e ≡ x → of_link e ≡ link_layer (opened_link x)
+  pub at_link : (e : Link) (x : Link-F Argument Call Component Link TypedExpr Place) → out-Link e ≡ x → of_link e ≡ link_layer (opened_link x)
   unfolding expr_part place_code call_code
   at_link e x h = fold_out-Link Coded Coded Coded Linked Part Coded argument_layer (call_layer numbered) component_layer link_layer expr_layer place_layer e ∙ ap (λ (y : Link-F Argument Call Component Link TypedExpr Place). link_layer (opened_link y)) h
 
-  abbrev opened_expr : TypedExpr-F Argument Call Component Link TypedExpr Place → TypedExpr-F Coded Coded Coded Linked Part Coded
+  abbrev pub opened_expr : TypedExpr-F Argument Call Component Link TypedExpr Place → TypedExpr-F Coded Coded Coded Linked Part Coded
   opened_expr x = map-TypedExpr Argument Call Component Link TypedExpr Place Coded Coded Coded Linked Part Coded of_argument (call_code numbered) of_component of_link (expr_part numbered) (place_code numbered) x
 
-  at_expr : (e : TypedExpr) (x : TypedExpr-F Argument Call Component Link TypedExpr Place) → out-TypedExpr e ≡ x → expr_part numbered e ≡ expr_layer (opened_expr x)
+  pub at_expr : (e : TypedExpr) (x : TypedExpr-F Argument Call Component Link TypedExpr Place) → out-TypedExpr e ≡ x → expr_part numbered e ≡ expr_layer (opened_expr x)
   unfolding expr_part place_code call_code
   at_expr e x h = fold_out-TypedExpr Coded Coded Coded Linked Part Coded argument_layer (call_layer numbered) component_layer link_layer expr_layer place_layer e ∙ ap (λ (y : TypedExpr-F Argument Call Component Link TypedExpr Place). expr_layer (opened_expr y)) h
 
-  abbrev opened_place : Place-F Argument Call Component Link TypedExpr Place → Place-F Coded Coded Coded Linked Part Coded
+  abbrev pub opened_place : Place-F Argument Call Component Link TypedExpr Place → Place-F Coded Coded Coded Linked Part Coded
   opened_place x = map-Place Argument Call Component Link TypedExpr Place Coded Coded Coded Linked Part Coded of_argument (call_code numbered) of_component of_link (expr_part numbered) (place_code numbered) x
 
-  at_place : (e : Place) (x : Place-F Argument Call Component Link TypedExpr Place) → out-Place e ≡ x → place_code numbered e ≡ place_layer (opened_place x)
+  pub at_place : (e : Place) (x : Place-F Argument Call Component Link TypedExpr Place) → out-Place e ≡ x → place_code numbered e ≡ place_layer (opened_place x)
   unfolding expr_part place_code call_code
   at_place e x h = fold_out-Place Coded Coded Coded Linked Part Coded argument_layer (call_layer numbered) component_layer link_layer expr_layer place_layer e ∙ ap (λ (y : Place-F Argument Call Component Link TypedExpr Place). place_layer (opened_place y)) h
 

@@ -221,20 +221,20 @@ copied_nests d t text p =
 -- ---- statements
 
 module _ (numbered : Numbered) where
-  abbrev of_arm : TypedArm → Arm
+  abbrev pub of_arm : TypedArm → Arm
   of_arm = fold-TypedArm Coded Arm (step_layer numbered) (arm_layer numbered)
 
-  abbrev opened_step : TypedStmt-F TypedStmt TypedArm → TypedStmt-F Coded Arm
+  abbrev pub opened_step : TypedStmt-F TypedStmt TypedArm → TypedStmt-F Coded Arm
   opened_step x = map-TypedStmt TypedStmt TypedArm Coded Arm (step_code numbered) of_arm x
 
-  abbrev opened_arm : TypedArm-F TypedStmt TypedArm → TypedArm-F Coded Arm
+  abbrev pub opened_arm : TypedArm-F TypedStmt TypedArm → TypedArm-F Coded Arm
   opened_arm x = map-TypedArm TypedStmt TypedArm Coded Arm (step_code numbered) of_arm x
 
-  at_step : (e : TypedStmt) (x : TypedStmt-F TypedStmt TypedArm) → out-TypedStmt e ≡ x → step_code numbered e ≡ step_layer numbered (opened_step x)
+  pub at_step : (e : TypedStmt) (x : TypedStmt-F TypedStmt TypedArm) → out-TypedStmt e ≡ x → step_code numbered e ≡ step_layer numbered (opened_step x)
   unfolding step_code
   at_step e x h = fold_out-TypedStmt Coded Arm (step_layer numbered) (arm_layer numbered) e ∙ ap (λ (y : TypedStmt-F TypedStmt TypedArm). step_layer numbered (opened_step y)) h
 
-  at_arm : (e : TypedArm) (x : TypedArm-F TypedStmt TypedArm) → out-TypedArm e ≡ x → of_arm e ≡ arm_layer numbered (opened_arm x)
+  pub at_arm : (e : TypedArm) (x : TypedArm-F TypedStmt TypedArm) → out-TypedArm e ≡ x → of_arm e ≡ arm_layer numbered (opened_arm x)
   unfolding step_code
   at_arm e x h = fold_out-TypedArm Coded Arm (step_layer numbered) (arm_layer numbered) e ∙ ap (λ (y : TypedArm-F TypedStmt TypedArm). arm_layer numbered (opened_arm y)) h
 

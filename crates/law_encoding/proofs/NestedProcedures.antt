@@ -34,17 +34,17 @@ use Rattle.law_encoding.proofs.Deepest.{deepest_map}
 
 -- ---- declarations, by their variants
 
-abbrev all_decl : Decl-F Decl Block → Decl-F ℕ ℕ
+abbrev pub all_decl : Decl-F Decl Block → Decl-F ℕ ℕ
 all_decl x = map-Decl Decl Block ℕ ℕ procedures_decl procedures_block x
 
-abbrev all_block : Block-F Decl Block → Block-F ℕ ℕ
+abbrev pub all_block : Block-F Decl Block → Block-F ℕ ℕ
 all_block x = map-Block Decl Block ℕ ℕ procedures_decl procedures_block x
 
-at_decl : (d : Decl) (x : Decl-F Decl Block) → out-Decl d ≡ x → procedures_decl d ≡ decl_layer (all_decl x)
+pub at_decl : (d : Decl) (x : Decl-F Decl Block) → out-Decl d ≡ x → procedures_decl d ≡ decl_layer (all_decl x)
 unfolding procedures_decl procedures_block
 at_decl d x q = fold_out-Decl ℕ ℕ decl_layer block_layer d ∙ ap (λ (y : Decl-F Decl Block). decl_layer (all_decl y)) q
 
-at_block : (b : Block) (x : Block-F Decl Block) → out-Block b ≡ x → procedures_block b ≡ block_layer (all_block x)
+pub at_block : (b : Block) (x : Block-F Decl Block) → out-Block b ≡ x → procedures_block b ≡ block_layer (all_block x)
 unfolding procedures_decl procedures_block
 at_block b x q = fold_out-Block ℕ ℕ decl_layer block_layer b ∙ ap (λ (y : Block-F Decl Block). block_layer (all_block y)) q
 

@@ -1,6 +1,6 @@
 -- The bodies of procedures go outwards no further than the procedures stand deep, by induction over blocks.
-use Rattle.std.proofs.Common.{map, ◌≡◌, ℕ, zero, suc, ◌≤◌, Bool, true, false, List, [], ◌∷◌, ◌++◌, length, Option, Some, None, Result, sym, ap, subst, ◌∙◌, arith}
-use Rattle.std.specs.Prelude.{cond, slice_set, ◌==◌, ◌-◌}
+use Rattle.std.proofs.Common.{map, ◌≡◌, ℕ, ◌≤◌, Bool, true, false, List, [], ◌∷◌, ◌++◌, length, Option, Some, None, Result, sym, ap, subst, ◌∙◌, arith}
+use Rattle.std.specs.Prelude.{cond, ◌==◌, ◌-◌}
 use Rattle.std.specs.List.{fold}
 use Rattle.m2_tree.specs.declared.name.Ident.{Ident}
 use Rattle.m2_tree.specs.declared.stmt.Stmt.{Stmt}
@@ -34,7 +34,7 @@ use Rattle.law_encoding.specs.Nesting.{◌⊔◌, deepest_of}
 use Rattle.law_encoding.specs.Counted.{AtMost, fine, broken}
 use Rattle.law_encoding.specs.Outward.{outward_body}
 use Rattle.law_encoding.specs.Short.{beyond_routine, beyond_routines}
-use Rattle.law_encoding.proofs.Deepest.{deepest_append}
+use Rattle.law_encoding.proofs.Deepest.{deepest_append, deepest_set}
 use Rattle.law_encoding.proofs.Results.{then_most, any_most}
 use Rattle.law_encoding.proofs.DeepResults.{both_most}
 
@@ -44,23 +44,8 @@ abbrev pub beyond_so_far : Bodies → ℕ
 beyond_so_far rs = deepest_of beyond_routine rs.procedures ⊔ deepest_of beyond_routine rs.locals
 
 -- none goes further
-abbrev AreNear : Bodies → Type 0
+abbrev pub AreNear : Bodies → Type 0
 AreNear rs = beyond_so_far rs ≤ 0
-
-set_none : (n : ℕ) → 0 ≤ 0 ⊔ n
-set_none n = omega arith
-
-set_here : (a b m : ℕ) → a ⊔ b ≤ m ⊔ b ⊔ a
-set_here a b m = omega arith
-
-set_step : (a b c n : ℕ) → b ≤ c ⊔ n → a ⊔ b ≤ a ⊔ c ⊔ n
-set_step a b c n l = omega (arith, l)
-
--- one that is put in place of another
-set_most : (rs : List Routine) (n : ℕ) (r : Routine) → deepest_of beyond_routine (slice_set rs n r) ≤ deepest_of beyond_routine rs ⊔ beyond_routine r
-set_most [] n r = set_none (beyond_routine r)
-set_most (x ∷ rs) zero r = set_here (beyond_routine r) (deepest_of beyond_routine rs) (beyond_routine x)
-set_most (x ∷ rs) (suc n) r = set_step (beyond_routine x) _ _ (beyond_routine r) (set_most rs n r)
 
 first_filled : (a b c d : ℕ) → a ≤ b ⊔ c → b ⊔ d ≤ 0 → c ≤ 0 → a ⊔ d ≤ 0
 first_filled a b c d h k l = omega (arith, h, k, l)
@@ -69,8 +54,8 @@ second_filled : (a b c d : ℕ) → a ≤ b ⊔ c → d ⊔ b ≤ 0 → c ≤ 0 
 second_filled a b c d h k l = omega (arith, h, k, l)
 
 filled_near : (rs : Bodies) (w : Which) (r : Routine) → AreNear rs → beyond_routine r ≤ 0 → AreNear (filled rs w r)
-filled_near rs (which.Module k) r p q = first_filled _ _ _ _ (set_most rs.procedures k r) p q
-filled_near rs (which.Local k) r p q = second_filled _ _ _ _ (set_most rs.locals k r) p q
+filled_near rs (which.Module k) r p q = first_filled _ _ _ _ (deepest_set beyond_routine rs.procedures k r) p q
+filled_near rs (which.Local k) r p q = second_filled _ _ _ _ (deepest_set beyond_routine rs.locals k r) p q
 
 begun_sum : (a b c : ℕ) → b ≡ c ⊔ (0 ⊔ 0) → a ⊔ c ≤ 0 → a ⊔ b ≤ 0
 begun_sum a b c e l = omega (arith, e, l)
@@ -94,7 +79,7 @@ module _ (g : Gathers) (elaborates : Elaborates g.Reported) (near : (s : Scope g
   with_routine_near s name around formals (Some k) rs p (fine xs q) = filled_near rs k.which (routine s name k around formals xs) p (not_beyond (outward_body xs) s.level q)
   with_routine_near s name around formals (Some k) rs p (broken e) = p
 
-  statements_near : (s : Scope g.Reported) (returns : Option (Result TypeNo g.Reported)) (body : Option (List Stmt)) → AtMost outward_body s.level (statements_of elaborates s returns body)
+  pub statements_near : (s : Scope g.Reported) (returns : Option (Result TypeNo g.Reported)) (body : Option (List Stmt)) → AtMost outward_body s.level (statements_of elaborates s returns body)
   statements_near s returns None = fine [] (omega arith)
   statements_near s returns (Some xs) = near s returns xs
 
@@ -211,7 +196,7 @@ module _ (g : Gathers) (elaborates : Elaborates g.Reported) (near : (s : Scope g
     abbrev begins : (modules : List (List ℕ × ℕ)) (s : Scope g.Reported) (m : Module) (ds : List Decl) → Walk g.Reported × List ℕ
     begins modules s m ds = begun_module g modules ends s m ds
 
-    walked_near : (modules : List (List ℕ × ℕ)) (s : Scope g.Reported) (m : Module) (ds : List Decl)
+    pub walked_near : (modules : List (List ℕ × ℕ)) (s : Scope g.Reported) (m : Module) (ds : List Decl)
         → AreNear (bodies_checked g elaborates ends None (begins modules s m ds).1 (begins modules s m ds).0 ds).bodies
     walked_near modules s m ds = written_near None (begins modules s m ds).1 ds ((begins modules s m ds).0, 0) (none_begun _ (none_yet _))
 

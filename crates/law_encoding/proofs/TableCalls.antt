@@ -62,54 +62,54 @@ call_sum a d n l = omega (arith, l)
 -- ---- trees
 
 module _ (m : TypedModule) where
-  abbrev of_argument : Argument → Signatures
+  abbrev pub of_argument : Argument → Signatures
   of_argument = fold-Argument Signatures Signatures Signatures Signatures Signatures Signatures (sign.argument_layer m) (sign.call_layer m) (sign.component_layer m) (sign.link_layer m) (sign.expr_layer m) (sign.place_layer m)
 
-  abbrev of_component : Component → Signatures
+  abbrev pub of_component : Component → Signatures
   of_component = fold-Component Signatures Signatures Signatures Signatures Signatures Signatures (sign.argument_layer m) (sign.call_layer m) (sign.component_layer m) (sign.link_layer m) (sign.expr_layer m) (sign.place_layer m)
 
-  abbrev of_link : Link → Signatures
+  abbrev pub of_link : Link → Signatures
   of_link = fold-Link Signatures Signatures Signatures Signatures Signatures Signatures (sign.argument_layer m) (sign.call_layer m) (sign.component_layer m) (sign.link_layer m) (sign.expr_layer m) (sign.place_layer m)
 
-  abbrev opened_argument : Argument-F Argument Call Component Link TypedExpr Place → Argument-F Signatures Signatures Signatures Signatures Signatures Signatures
+  abbrev pub opened_argument : Argument-F Argument Call Component Link TypedExpr Place → Argument-F Signatures Signatures Signatures Signatures Signatures Signatures
   opened_argument x = map-Argument Argument Call Component Link TypedExpr Place Signatures Signatures Signatures Signatures Signatures Signatures of_argument (of_call m) of_component of_link (of_expr m) (of_place m) x
 
-  at_argument : (e : Argument) (x : Argument-F Argument Call Component Link TypedExpr Place) → out-Argument e ≡ x → of_argument e ≡ sign.argument_layer m (opened_argument x)
+  pub at_argument : (e : Argument) (x : Argument-F Argument Call Component Link TypedExpr Place) → out-Argument e ≡ x → of_argument e ≡ sign.argument_layer m (opened_argument x)
   unfolding of_expr of_place of_call
   at_argument e x h = fold_out-Argument Signatures Signatures Signatures Signatures Signatures Signatures (sign.argument_layer m) (sign.call_layer m) (sign.component_layer m) (sign.link_layer m) (sign.expr_layer m) (sign.place_layer m) e ∙ ap (λ (y : Argument-F Argument Call Component Link TypedExpr Place). sign.argument_layer m (opened_argument y)) h
 
-  abbrev opened_call : Call-F Argument Call Component Link TypedExpr Place → Call-F Signatures Signatures Signatures Signatures Signatures Signatures
+  abbrev pub opened_call : Call-F Argument Call Component Link TypedExpr Place → Call-F Signatures Signatures Signatures Signatures Signatures Signatures
   opened_call x = map-Call Argument Call Component Link TypedExpr Place Signatures Signatures Signatures Signatures Signatures Signatures of_argument (of_call m) of_component of_link (of_expr m) (of_place m) x
 
-  at_call : (e : Call) (x : Call-F Argument Call Component Link TypedExpr Place) → out-Call e ≡ x → of_call m e ≡ sign.call_layer m (opened_call x)
+  pub at_call : (e : Call) (x : Call-F Argument Call Component Link TypedExpr Place) → out-Call e ≡ x → of_call m e ≡ sign.call_layer m (opened_call x)
   unfolding of_expr of_place of_call
   at_call e x h = fold_out-Call Signatures Signatures Signatures Signatures Signatures Signatures (sign.argument_layer m) (sign.call_layer m) (sign.component_layer m) (sign.link_layer m) (sign.expr_layer m) (sign.place_layer m) e ∙ ap (λ (y : Call-F Argument Call Component Link TypedExpr Place). sign.call_layer m (opened_call y)) h
 
-  abbrev opened_component : Component-F Argument Call Component Link TypedExpr Place → Component-F Signatures Signatures Signatures Signatures Signatures Signatures
+  abbrev pub opened_component : Component-F Argument Call Component Link TypedExpr Place → Component-F Signatures Signatures Signatures Signatures Signatures Signatures
   opened_component x = map-Component Argument Call Component Link TypedExpr Place Signatures Signatures Signatures Signatures Signatures Signatures of_argument (of_call m) of_component of_link (of_expr m) (of_place m) x
 
-  at_component : (e : Component) (x : Component-F Argument Call Component Link TypedExpr Place) → out-Component e ≡ x → of_component e ≡ sign.component_layer m (opened_component x)
+  pub at_component : (e : Component) (x : Component-F Argument Call Component Link TypedExpr Place) → out-Component e ≡ x → of_component e ≡ sign.component_layer m (opened_component x)
   unfolding of_expr of_place of_call
   at_component e x h = fold_out-Component Signatures Signatures Signatures Signatures Signatures Signatures (sign.argument_layer m) (sign.call_layer m) (sign.component_layer m) (sign.link_layer m) (sign.expr_layer m) (sign.place_layer m) e ∙ ap (λ (y : Component-F Argument Call Component Link TypedExpr Place). sign.component_layer m (opened_component y)) h
 
-  abbrev opened_link : Link-F Argument Call Component Link TypedExpr Place → Link-F Signatures Signatures Signatures Signatures Signatures Signatures
+  abbrev pub opened_link : Link-F Argument Call Component Link TypedExpr Place → Link-F Signatures Signatures Signatures Signatures Signatures Signatures
   opened_link x = map-Link Argument Call Component Link TypedExpr Place Signatures Signatures Signatures Signatures Signatures Signatures of_argument (of_call m) of_component of_link (of_expr m) (of_place m) x
 
-  at_link : (e : Link) (x : Link-F Argument Call Component Link TypedExpr Place) → out-Link e ≡ x → of_link e ≡ sign.link_layer m (opened_link x)
+  pub at_link : (e : Link) (x : Link-F Argument Call Component Link TypedExpr Place) → out-Link e ≡ x → of_link e ≡ sign.link_layer m (opened_link x)
   unfolding of_expr of_place of_call
   at_link e x h = fold_out-Link Signatures Signatures Signatures Signatures Signatures Signatures (sign.argument_layer m) (sign.call_layer m) (sign.component_layer m) (sign.link_layer m) (sign.expr_layer m) (sign.place_layer m) e ∙ ap (λ (y : Link-F Argument Call Component Link TypedExpr Place). sign.link_layer m (opened_link y)) h
 
-  abbrev opened_expr : TypedExpr-F Argument Call Component Link TypedExpr Place → TypedExpr-F Signatures Signatures Signatures Signatures Signatures Signatures
+  abbrev pub opened_expr : TypedExpr-F Argument Call Component Link TypedExpr Place → TypedExpr-F Signatures Signatures Signatures Signatures Signatures Signatures
   opened_expr x = map-TypedExpr Argument Call Component Link TypedExpr Place Signatures Signatures Signatures Signatures Signatures Signatures of_argument (of_call m) of_component of_link (of_expr m) (of_place m) x
 
-  at_expr : (e : TypedExpr) (x : TypedExpr-F Argument Call Component Link TypedExpr Place) → out-TypedExpr e ≡ x → of_expr m e ≡ sign.expr_layer m (opened_expr x)
+  pub at_expr : (e : TypedExpr) (x : TypedExpr-F Argument Call Component Link TypedExpr Place) → out-TypedExpr e ≡ x → of_expr m e ≡ sign.expr_layer m (opened_expr x)
   unfolding of_expr of_place of_call
   at_expr e x h = fold_out-TypedExpr Signatures Signatures Signatures Signatures Signatures Signatures (sign.argument_layer m) (sign.call_layer m) (sign.component_layer m) (sign.link_layer m) (sign.expr_layer m) (sign.place_layer m) e ∙ ap (λ (y : TypedExpr-F Argument Call Component Link TypedExpr Place). sign.expr_layer m (opened_expr y)) h
 
-  abbrev opened_place : Place-F Argument Call Component Link TypedExpr Place → Place-F Signatures Signatures Signatures Signatures Signatures Signatures
+  abbrev pub opened_place : Place-F Argument Call Component Link TypedExpr Place → Place-F Signatures Signatures Signatures Signatures Signatures Signatures
   opened_place x = map-Place Argument Call Component Link TypedExpr Place Signatures Signatures Signatures Signatures Signatures Signatures of_argument (of_call m) of_component of_link (of_expr m) (of_place m) x
 
-  at_place : (e : Place) (x : Place-F Argument Call Component Link TypedExpr Place) → out-Place e ≡ x → of_place m e ≡ sign.place_layer m (opened_place x)
+  pub at_place : (e : Place) (x : Place-F Argument Call Component Link TypedExpr Place) → out-Place e ≡ x → of_place m e ≡ sign.place_layer m (opened_place x)
   unfolding of_expr of_place of_call
   at_place e x h = fold_out-Place Signatures Signatures Signatures Signatures Signatures Signatures (sign.argument_layer m) (sign.call_layer m) (sign.component_layer m) (sign.link_layer m) (sign.expr_layer m) (sign.place_layer m) e ∙ ap (λ (y : Place-F Argument Call Component Link TypedExpr Place). sign.place_layer m (opened_place y)) h
 

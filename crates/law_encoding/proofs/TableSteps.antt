@@ -34,20 +34,20 @@ none_of : (n : ℕ) → 0 ≤ n
 none_of n = omega arith
 
 module _ (m : TypedModule) where
-  abbrev of_arm : TypedArm → Signatures
+  abbrev pub of_arm : TypedArm → Signatures
   of_arm = fold-TypedArm Signatures Signatures (sign.step_layer m) (sign.arm_layer m)
 
-  abbrev opened_step : TypedStmt-F TypedStmt TypedArm → TypedStmt-F Signatures Signatures
+  abbrev pub opened_step : TypedStmt-F TypedStmt TypedArm → TypedStmt-F Signatures Signatures
   opened_step x = map-TypedStmt TypedStmt TypedArm Signatures Signatures (of_step m) of_arm x
 
-  abbrev opened_arm : TypedArm-F TypedStmt TypedArm → TypedArm-F Signatures Signatures
+  abbrev pub opened_arm : TypedArm-F TypedStmt TypedArm → TypedArm-F Signatures Signatures
   opened_arm x = map-TypedArm TypedStmt TypedArm Signatures Signatures (of_step m) of_arm x
 
-  at_step : (e : TypedStmt) (x : TypedStmt-F TypedStmt TypedArm) → out-TypedStmt e ≡ x → of_step m e ≡ sign.step_layer m (opened_step x)
+  pub at_step : (e : TypedStmt) (x : TypedStmt-F TypedStmt TypedArm) → out-TypedStmt e ≡ x → of_step m e ≡ sign.step_layer m (opened_step x)
   unfolding of_step
   at_step e x h = fold_out-TypedStmt Signatures Signatures (sign.step_layer m) (sign.arm_layer m) e ∙ ap (λ (y : TypedStmt-F TypedStmt TypedArm). sign.step_layer m (opened_step y)) h
 
-  at_arm : (e : TypedArm) (x : TypedArm-F TypedStmt TypedArm) → out-TypedArm e ≡ x → of_arm e ≡ sign.arm_layer m (opened_arm x)
+  pub at_arm : (e : TypedArm) (x : TypedArm-F TypedStmt TypedArm) → out-TypedArm e ≡ x → of_arm e ≡ sign.arm_layer m (opened_arm x)
   unfolding of_step
   at_arm e x h = fold_out-TypedArm Signatures Signatures (sign.step_layer m) (sign.arm_layer m) e ∙ ap (λ (y : TypedArm-F TypedStmt TypedArm). sign.arm_layer m (opened_arm y)) h
 

@@ -14,3 +14,13 @@ pub mod CodeNumbers
 pub mod Fits
 pub mod OutwardMeant
 pub mod ProcedureNesting
+pub mod ProcedureLevels
+pub mod ValidNumbers
+pub mod FunctionTypes
+pub mod ModuleNumbers
+pub mod LinkRoom
+pub mod ImportsRoom
+pub mod AcceptedRoom
+pub mod SmallParts
+pub mod ProgramsRoom
+pub mod NamesRoom

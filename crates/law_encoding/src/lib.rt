@@ -18,6 +18,16 @@
 //!   so that it has an encoding, and how much of it holds. `CodeFits`, `EncodedBytes`, `FunctionsFit` and `BodyModules` have the
 //!   conditions, `ShortCode` to `FunctionBytes` the bytes of code, `OutwardTyped` to `OutwardBlocks` follow the checker.
 //! - `specs/ProcedureNesting` says how deep procedures nest, with the induction over the grammar in `proofs/NestedProcedures`.
+//!   `specs/ProcedureLevels` says how deep they stand in a module. `proofs/ProcedureLevels` has the induction over blocks, and
+//!   `proofs/KeptImports` what imports keep.
+//! - `specs/ValidNumbers` says that in valid code only constants can be too large, and `specs/ModuleNumbers` says it of modules.
+//!   `specs/FunctionTypes` counts the types of functions: `proofs/ListedTypes` has those that are listed, `proofs/TypesOfCalls` and
+//!   `proofs/NeededTypes` those that are needed, and `proofs/FewTypes` their bytes.
+//! - `specs/SmallParts` says when the constants in code fit. `proofs/Constants` and `proofs/ConstantPieces` have instructions and
+//!   pieces, `proofs/ConstantCode` and `proofs/ConstantSteps` the inductions over typed trees, `proofs/ConstantFunctions` functions.
+//! - `specs/ImportsRoom` and `specs/LinkRoom` have the imports of a body and the module link, with `proofs/Sections` and
+//!   `proofs/Names`. `specs/NamesRoom` says that the names of texts are short, with the induction over the grammar in its proof.
+//!   `specs/AcceptedRoom` puts together what is proved of the module of a body, and `specs/ProgramsRoom` of programs.
 //! - `proofs/Blocks` has the bodies of procedures, with the induction over blocks, and whole modules, and `proofs/Bounded` the
 //!   bound of all texts.
 #![tactic(auto)]
@@ -25,7 +35,17 @@
 ghost use Rattle.law_encoding.specs.Small.{TreesAreSmall, TextsAreSmall, ExpressionsAreSmall, DesignatorsAreSmall, StatementsAreSmall, ModulesAreSmall, BodiesAreSmall, LocalsAreFew, TableCallsAreFew};
 ghost use Rattle.law_encoding.specs.Short.{CodeIsShort, FunctionsAreShort, ExpressionsAreNear, StatementsAreNear, RoutinesAreNear};
 ghost use Rattle.law_encoding.specs.Fits.{CodeFits, EncodingsAreShort, BodiesFit, ModulesFit, BodyModulesFit, FunctionsHaveFewLocals, LocalsFit, SizesFit};
+ghost use Rattle.law_encoding.specs.ValidNumbers.{ValidNumbersFit};
+ghost use Rattle.law_encoding.specs.LinkRoom.{LinkFits};
+ghost use Rattle.law_encoding.specs.AcceptedRoom.{AcceptedFit, TypedModulesFit};
+ghost use Rattle.law_encoding.specs.ImportsRoom.{ImportsFit};
+ghost use Rattle.law_encoding.specs.NamesRoom.{TextNamesAreShort, ShortNamesFit};
+ghost use Rattle.law_encoding.specs.ProgramsRoom.{StoredAreSmall, ProgramsFit, AcceptedProgramsFit};
+ghost use Rattle.law_encoding.specs.ModuleNumbers.{IndexesFit};
+ghost use Rattle.law_encoding.specs.SmallParts.{ConstantsFit, ModuleConstantsFit};
+ghost use Rattle.law_encoding.specs.FunctionTypes.{ListedAreFew, FewTypesFit, TypesAreFew};
 ghost use Rattle.law_encoding.specs.ProcedureNesting.{ProceduresAreShallow};
+ghost use Rattle.law_encoding.specs.ProcedureLevels.{LevelsAreLow, AcceptedAreNear};
 ghost use Rattle.law_encoding.specs.Nested.{TreesAreShallow, ModulesAreShallow, CodeIsShallow, FunctionsAreShallow, LinkIsFlat, AcceptedAreShallow};
 ghost use Rattle.check_scope.specs.Elaborated.{least, every};
 
@@ -76,6 +96,17 @@ pub fn procedure_nesting_laws()
     ensures { ProceduresAreShallow }
 {}
 
+/// Procedures stand no deeper in a module that the checker accepts than they nest in its tree.
+pub fn procedure_level_laws()
+    // That holds if the least broken rule is kept,
+    ensures least { LevelsAreLow least }
+    // and if all of them are.
+    ensures every { LevelsAreLow every }
+    // So the bodies of what is parsed and accepted go at most 200 procedures outwards.
+    ensures least_near { AcceptedAreNear least }
+    ensures every_near { AcceptedAreNear every }
+{}
+
 /// The bodies of a module that the checker accepts nest no deeper than its tree.
 pub fn module_nesting_laws()
     // That holds if the least broken rule is kept,
@@ -123,6 +154,68 @@ pub fn code_fit_laws()
     // fewer than there may be, in each module of a text that is parsed and accepted.
     ensures least_locals { LocalsFit least }
     ensures every_locals { LocalsFit every }
+{}
+
+/// The numbers of code fit.
+pub fn code_number_laws()
+    // In valid code only constants can be too large.
+    ensures valid { ValidNumbersFit }
+    // So the indexes in a module with few parts fit.
+    ensures indexes { IndexesFit }
+    // The constants of typed statements fit, if types, frames and texts are small.
+    ensures constants { ConstantsFit }
+    // So do those of the functions of a typed module.
+    ensures modules { ModuleConstantsFit }
+{}
+
+/// The module link has an encoding, if the program is small.
+pub fn link_laws()
+    ensures { LinkFits }
+{}
+
+/// The imports of the module of a body have an encoding, if there are few names and short ones.
+pub fn import_laws()
+    ensures { ImportsFit }
+{}
+
+/// The types of functions fit.
+pub fn function_type_laws()
+    // Each type is listed once,
+    ensures listed { ListedAreFew }
+    // and few types have an encoding.
+    ensures fit { FewTypesFit }
+    // A well formed module needs few types.
+    ensures few { TypesAreFew }
+{}
+
+/// The module of a body that is parsed and accepted has an encoding, if it is small.
+pub fn accepted_laws()
+    // That holds if the least broken rule is kept,
+    ensures least { AcceptedFit least }
+    // and if all of them are.
+    ensures every { AcceptedFit every }
+    // So has the module of a body of a typed program.
+    ensures typed { TypedModulesFit }
+{}
+
+/// Names are short.
+pub fn name_laws()
+    // The name of the module of a text is,
+    ensures texts { TextNamesAreShort }
+    // and there is room for few short names.
+    ensures room { ShortNamesFit }
+{}
+
+/// The modules of a typed program have encodings, if its types and storage have room.
+pub fn program_laws()
+    // Then each module is small,
+    ensures small { StoredAreSmall }
+    // and has an encoding, if it is short too.
+    ensures fit { ProgramsFit }
+    // It is short if it is accepted: if the least broken rule is kept,
+    ensures least { AcceptedProgramsFit least }
+    // and if all of them are.
+    ensures every { AcceptedProgramsFit every }
 {}
 
 /// What the checker makes goes outwards no further than its procedure stands deep.

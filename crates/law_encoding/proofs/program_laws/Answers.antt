@@ -1,0 +1,32 @@
+use Rattle.std.proofs.Common.{arith}
+use Rattle.check_scope.specs.Elaborated.{least, every}
+use Rattle.check_body.specs.Checks.{elaborated}
+use Rattle.def_grammar.specs.Refusal.{max_nesting}
+use Rattle.law_well_formed.proofs.Induction.{elaborated_formed}
+use Rattle.law_encoding.proofs.OutwardStatements.{statements_most as near}
+use Rattle.law_encoding.proofs.DeepStatements.{statements_most}
+use Rattle.law_encoding.proofs.DeepBlocks.{module_most}
+use Rattle.law_encoding.proofs.DeepTexts.{tree_below}
+use Rattle.law_encoding.proofs.DeepFunctions.{accepted_low}
+use Rattle.law_encoding.proofs.NestedProcedures.{tree_below as procedures_below}
+use Rattle.law_encoding.proofs.ProcedureLevels.{bodies_near}
+use Rattle.law_encoding.proofs.ProgramsRoom.{modules_small, programs_fit, accepted_programs}
+use Rattle.law_encoding.proofs.program_laws.Goals as goal
+
+pub returns-clause-small : goal.returns-clause-small
+returns-clause-small c = λ p place m coherent stored. modules_small p place m coherent stored
+
+pub returns-clause-fit : goal.returns-clause-fit
+returns-clause-fit c = λ p pages are typed short small. programs_fit p pages are typed short small
+
+pub returns-clause-least : goal.returns-clause-least
+returns-clause-least c = λ p pages are typed accepted stored small.
+    accepted_programs least (λ ts m d number own tables. accepted_low _ (tree_below ts m d) (module_most least (elaborated least) (λ s r xs. statements_most least s _ xs) number m own tables))
+    (λ ts m d number own tables. bodies_near max_nesting least (elaborated least) (elaborated_formed least) (λ s r xs. near least s _ xs) number m own tables (omega arith) (procedures_below ts m d))
+    p accepted pages are typed stored small
+
+pub returns-clause-every : goal.returns-clause-every
+returns-clause-every c = λ p pages are typed accepted stored small.
+    accepted_programs every (λ ts m d number own tables. accepted_low _ (tree_below ts m d) (module_most every (elaborated every) (λ s r xs. statements_most every s _ xs) number m own tables))
+    (λ ts m d number own tables. bodies_near max_nesting every (elaborated every) (elaborated_formed every) (λ s r xs. near every s _ xs) number m own tables (omega arith) (procedures_below ts m d))
+    p accepted pages are typed stored small
