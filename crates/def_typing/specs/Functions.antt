@@ -128,7 +128,7 @@ pub data HasHeading (types : Types) : Thing → Signature → Type 0 where
   of_variable : {t : TypeNo} {s : Signature} → IsMade types t (shape.Procedure s)
       → HasHeading types (AVariable t) s
 
--- what is called in an expression with so many arguments
+-- what is called in an expression, by the number of its arguments
 pub data IsFunctionOf (types : Types) : Thing → ℕ → Type 0 where
   declared : {x : Thing} {s : Signature} {t : TypeNo} → HasHeading types x s → s.result ≡ Some t
       → IsFunctionOf types x (length s.formals)
@@ -148,7 +148,7 @@ value_formal t = record { is_var = false; is_open = false; of = t }
 abbrev pub open_value_formal : TypeNo → Formal
 open_value_formal t = record { is_var = false; is_open = true; of = t }
 
--- an array of such elements whose least index has number 0
+-- an array of these elements whose least index has number 0
 pub data HasElements (types : Types) (t u : TypeNo) : Type 0 where
   has_elements : {i : TypeNo} {r : Range} → IsMade types u (shape.Array i t)
       → IsMade types i (shape.Scalar r) → Within (pos 0) r.low (pos 0) → HasElements types t u
@@ -161,7 +161,7 @@ pub data Accepts (types : Types) : Formal → Thing → Type 0 where
   array_variable : {t u : TypeNo} → HasElements types t u
       → Accepts types (open_variable_formal t) (AVariable u)
   open_variable : {t : TypeNo} → Accepts types (open_variable_formal t) (AnOpenArray t)
-  -- ARRAY OF: the same, and a string where the elements are CHAR
+  -- ARRAY OF: the same, and a string if the elements are CHAR
   array : {t u : TypeNo} → HasElements types t u → Accepts types (open_value_formal t) (AVariable u)
   open_array : {t : TypeNo} → Accepts types (open_value_formal t) (AnOpenArray t)
   text : {s : List ℕ} → Accepts types (open_value_formal char) (AValue (Text s))

@@ -26,7 +26,7 @@ at ! broken = breach at broken
 -- what an expression has as a value
 pub data Kind : Type 0 where
   Scalar : Amount → Kind
-  -- a set, a constant one by its elements: element k is there where bit k is 1
+  -- a set, a constant one by its elements: element k is there if bit k is 1
   Set : Option ℕ → Kind
   Text : List ℕ → Kind
   -- a value of a procedure type
@@ -42,7 +42,7 @@ abbrev pub letter_or : List ℕ → Kind
 letter_or (c ∷ []) = Scalar (Constant (Some char) (pos c))
 letter_or text = Text text
 
--- A string of length 1 is a character where no array is asked for.
+-- A string of length 1 is a character if no array is asked for.
 abbrev pub operand : Kind → Kind
 operand (Text text) = letter_or text
 operand k = k

@@ -133,7 +133,7 @@ pub data Picks (types : Types) (exports : ℕ → Ident → Standing) (name : Id
       → IsMade types t (shape.Record fields)
       → Picks types exports name (AVariable t) (field_of (found name.name fields))
 
--- what has elements, with the type of the index and that of the elements
+-- what has elements, with the types of its index and its elements
 pub data Indexes (types : Types) : Thing → TypeNo → TypeNo → Type 0 where
   of_array : {t i e : TypeNo} → IsMade types t (shape.Array i e) → Indexes types (AVariable t) i e
   -- open arrays have subscripts from 0

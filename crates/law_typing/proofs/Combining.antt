@@ -142,7 +142,7 @@ module _ (g : Gathers) (j : Judges g) (l : Lawful g j) (O : Breach → Type 0) w
   then_check {P = P} {D = D} (means a k i m u n) next = checks_as (λ x. (k, m, x)) (λ x. subst P (u x.0 x.1) x.2) (λ f x. inr (k, m, x)) (λ f x. elim x [ inl c ↦ absurd (n f c) | inr d ↦ subst (λ k. D k f) (u d.0 d.1) d.2 ]) (next a k i)
   then_check (refuses r c n) next = stops r (accounts_as (λ f b. inl b) (λ f x. elim x [ inl b ↦ b | inr d ↦ absurd (n d.0 d.1) ]) c) (λ x. n x.0 x.1)
 
-  -- ---- where only what is reported counts
+  -- ---- if only what is reported counts
 
   pub data Tells (Breaks : Breach → Type 0) : Result (Unit {0}) g.Reported → Type 0 where
     silent : ((f : Breach) → Breaks f → ⊥) → Tells Breaks (Ok tt)

@@ -47,7 +47,7 @@ use Rattle.law_typing.proofs.Deciding.{common_is}
 use Rattle.law_typing.proofs.Singles.{IsConstantOperand, constant_scalar, constant_set, constant_text, constant_is, signed_answers, negated_answers}
 use Rattle.law_typing.proofs.Places.{opened_selector, picks_is, head_is}
 
--- ---- constants as such
+-- ---- constants
 
 pub data IsFixed : Denoted → Fixed → Type 0 where
   fixed_value : {v : ConstantValue} {k : Kind} → IsConst v k → IsFixed (denoted.Value v) (AConstant k)

@@ -58,7 +58,7 @@ pub data Wrongly (op : BinaryOp) (spot left right : Pos) (a b : Amount) : Breach
 
 -- ---- numbers in their places
 
--- a type is asked of a number only where it is INTEGER or CARDINAL
+-- a type is asked of a number only if it is INTEGER or CARDINAL
 abbrev AskedOf : Option TypeNo → Amount → Type 0
 AskedOf (Some t) (Constant None n) = IsWhole t
 AskedOf (Some t) (Constant (Some u) n) = Unit {0}
@@ -281,7 +281,7 @@ module _ (g : Gathers) (j : Judges g) (lawful : Lawful g j) (O : Breach → Type
         wrongly_so _ (overreaches (rules.right_number {sort = s} h e)) = absurd (n s h.together)
         wrongly_so _ (overreaches (rules.out_of_range p q r x e i)) = absurd (right_not r)
 
-    -- where the operands go together, from the checks of both and what is made of them
+    -- if the operands go together, from the checks of both and what is made of them
     module _ (a b : Amount) (sort : Option TypeNo) (go : GoTogether (k.sort_of a) (k.sort_of b) sort) (only : (s : Option TypeNo) → GoTogether (k.sort_of a) (k.sort_of b) s → s ≡ sort) where
       misused_right : (f : Breach) → Wrongly op spot left right a b f → Wrong g j lawful O op spot left right a b sort f ⊎ (AreRight op a b sort × Over_all op spot a b sort f)
       misused_right _ (unfit h) = inl (inl ((λ t. h sort (record { together = go; takes = t })), refl))

@@ -5,7 +5,7 @@ use Rattle.std.proofs.lemmas.Bool.Decides.{nat_tests}
 use Rattle.m2_rule.specs.declared.breach.Breach.{Breach}
 use Rattle.m2_rule.specs.Breaches.{is_less}
 
--- one number of the order, where `later` compares what stands behind it
+-- one number of the order; `later` compares what stands behind it
 abbrev pub ahead : ℕ → ℕ → Bool → Bool
 ahead x y later = nat_lt x y || (x == y && later)
 

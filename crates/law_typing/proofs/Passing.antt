@@ -217,7 +217,7 @@ module _ (g : Gathers) (j : Judges g) (lawful : Lawful g j) (O : Breach → Type
   text_passes t (kind_whole u d) = value_stops (_, refl) (no_text t _ (λ s q. absurd cc))
   text_passes t kind_untaken = value_stops (_, refl) (no_text t _ (λ s q. absurd cc))
 
-  -- what is no value is refused as such
+  -- what is no value is refused for that
   unvalued_one : (o : Bool) (t : TypeNo) (x : Thing) (f : Breach) (broken : Rule) → ((k : Kind) → Taken types x k → ⊥) → ((f : Breach) → Mistaken at x f → f ≡ at ! broken) → Mispassed types at (record { is_var = false; is_open = o; of = t }) x f → f ≡ at ! broken
   unvalued_one o t x f broken n only (no_value m) = only f m
   unvalued_one o t x _ broken n only (wrong_argument k p q) = absurd (n k p)

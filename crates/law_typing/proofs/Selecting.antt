@@ -123,7 +123,7 @@ module _ (g : Gathers) (j : Judges g) (lawful : Lawful g j) (names : Ident → S
     no_field : {x : Thing} → ((st : Standing) → Picks s.types exports name x st → ⊥) → PicksSo x (reported g at rule.WrongType)
     no_field n = declined g j lawful R at rule.WrongType (λ y p. n (Known y) p) (inl (n, refl)) (λ f z. elim z [ inl w ↦ w.1 | inr w ↦ absurd (n w.0 w.1) ])
 
-    -- where one standing is picked
+    -- if one standing is picked
     picks_one : {x : Thing} {r : Result Designated g.Reported} (st : Standing) → Picks s.types exports name x st → ((u : Standing) → Picks s.types exports name x u → u ≡ st) → Answers g j R IsThing (λ y. st ≡ Known y) (Misnamed name.pos st) r → PicksSo x r
     picks_one {x = x} st p one h = exact g j lawful R (λ y e. subst (Picks s.types exports name x) e p) (λ y q. sym (one (Known y) q)) (λ f m. inr (st, p, m))
         (λ f z. elim z [ inl w ↦ absurd (w.0 st p) | inr w ↦ subst (λ (u : Standing). Misnamed name.pos u f) (one w.0 w.1) w.2 ]) h

@@ -219,7 +219,7 @@ mutual
         → out-Selector s ≡ layer.Index at x → IsPlain x → ArePlainSelectors ss
         → ArePlainSelectors (s ∷ ss)
 
--- Such expressions are answered exactly, whatever their names stand for.
+-- These expressions are answered exactly, whatever their names stand for.
 abbrev pub ExpressionsAreExact : (g : Gathers) → Judges g → Type 0
 ExpressionsAreExact g j =
     (names : Ident → Standing) (exports : ℕ → Ident → Standing) (s : Scope g.Reported)
