@@ -7,3 +7,4 @@ pub mod Parts
 pub mod Constants
 pub mod Expressions
 pub mod Assignments
+pub mod Actions

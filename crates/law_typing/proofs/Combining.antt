@@ -169,10 +169,10 @@ module _ (g : Gathers) (j : Judges g) (l : Lawful g j) (O : Breach → Type 0) w
 
   -- what stands behind is looked at in any case
   pub ahead_answers : {A K B L : Type 0} {Is : A → K → Type 0} {Is' : B → L → Type 0} {M : K → Type 0} {N : K → L → Type 0} {C E : Breach → Type 0} {D : K → Breach → Type 0} {r : Result A g.Reported} {q : Result (Unit {0}) g.Reported} {h : A → Result B g.Reported}
-      → Answers g j O Is M C r → Tells E q → ((a : A) (k : K) → Is a k → Answers g j O Is' (N k) (λ f. D k f ⊎ E f) (h a))
+      → Answers g j O Is M C r → Tells E q → ((a : A) (k : K) → Is a k → M k → Answers g j O Is' (N k) (λ f. D k f ⊎ E f) (h a))
       → Answers g j O Is' (λ l. (k : K) × M k × N k l) (λ f. (C f ⊎ ((k : K) × M k × D k f)) ⊎ E f) (ahead g r q h)
   ahead_answers {N = N} {D = D} (means a k i m u n) t next = exact (λ l x. (k, m, x)) (λ l x. subst (λ k. N k l) (u x.0 x.1) x.2) (λ f x. elim x [ inl d ↦ inl (inr (k, m, d)) | inr e ↦ inr e ])
-      (λ f x. elim x [ inl y ↦ elim y [ inl c ↦ absurd (n f c) | inr d ↦ inl (subst (λ k. D k f) (u d.0 d.1) d.2) ] | inr e ↦ inr e ]) (next a k i)
+      (λ f x. elim x [ inl y ↦ elim y [ inl c ↦ absurd (n f c) | inr d ↦ inl (subst (λ k. D k f) (u d.0 d.1) d.2) ] | inr e ↦ inr e ]) (next a k i m)
   ahead_answers (refuses r a n) t next = exact (λ l m. m) (λ l m. m) (λ f x. elim x [ inl c ↦ inl (inl c) | inr e ↦ inr e ]) (λ f x. elim x [ inl y ↦ elim y [ inl c ↦ inl c | inr d ↦ absurd (n d.0 d.1) ] | inr e ↦ inr e ])
       (refusal_tells a (λ l x. n x.0 x.1) t)
 

@@ -570,7 +570,7 @@ module _ (g : Gathers) (j : Judges g) (lawful : Lawful g j) (names : Ident → S
 
   -- ---- all expressions
 
-  plain_all : {xs : List Expr} → ArePlain xs → (x : Expr) → Among x xs → IsPlain x
+  pub plain_all : {xs : List Expr} → ArePlain xs → (x : Expr) → Among x xs → IsPlain x
   plain_all no_expression x m = elim m [ ]
   plain_all (one_expression i r) _ here = i
   plain_all (one_expression i r) x (later m) = plain_all r x m
@@ -598,7 +598,7 @@ module _ (g : Gathers) (j : Judges g) (lawful : Lawful g j) (names : Ident → S
     found (plain_sum {sign = Some sign} {x = x} {rest = rest} h i o) = signed_found sign x rest h i (found i) (plain_operands o) (λ y m. found_operands o y m)
     found (plain_relation {a = a} {b = b} {o = o} h i k) = relation_found a o b h i k (found i) (found k)
 
-    found_all : {xs : List Expr} → ArePlain xs → (x : Expr) → Among x xs → Found x
+    pub found_all : {xs : List Expr} → ArePlain xs → (x : Expr) → Among x xs → Found x
     found_all no_expression x m = elim m [ ]
     found_all (one_expression i r) _ here = found i
     found_all (one_expression i r) x (later m) = found_all r x m

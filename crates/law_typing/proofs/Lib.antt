@@ -20,3 +20,4 @@ pub mod Elements
 pub mod Constants
 pub mod Assigning
 pub mod Knowing
+pub mod Acting

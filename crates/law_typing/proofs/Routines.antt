@@ -56,20 +56,20 @@ pub data Heads (types : Types) : Thing → TypeNo → Type 0 where
   heads_variable : (t : TypeNo) {p : Signature} → IsMade types t (shape.Procedure p) → Heads types (AVariable t) t
 
 module _ (types : Types) where
-  heading_of : {x : Thing} {h : TypeNo} {p : Signature} → Heads types x h → IsMade types h (shape.Procedure p) → HasHeading types x p
+  pub heading_of : {x : Thing} {h : TypeNo} {p : Signature} → Heads types x h → IsMade types h (shape.Procedure p) → HasHeading types x p
   heading_of (heads_procedure h) m = of_procedure m
   heading_of (heads_nested h) m = of_nested m
   heading_of (heads_variable t n) m = of_variable m
 
-  made_of : {x : Thing} {h : TypeNo} {p : Signature} → Heads types x h → HasHeading types x p → IsMade types h (shape.Procedure p)
+  pub made_of : {x : Thing} {h : TypeNo} {p : Signature} → Heads types x h → HasHeading types x p → IsMade types h (shape.Procedure p)
   made_of (heads_procedure h) (of_procedure m) = m
   made_of (heads_nested h) (of_nested m) = m
   made_of (heads_variable t n) (of_variable m) = m
 
-  no_standard : {p : Standard} {h : TypeNo} → Heads types (AStandard p) h → ⊥
+  pub no_standard : {p : Standard} {h : TypeNo} → Heads types (AStandard p) h → ⊥
   no_standard h = elim h [ ]
 
-  not_headless : {x : Thing} {h : TypeNo} → Heads types x h → x ≡ Headless → ⊥
+  pub not_headless : {x : Thing} {h : TypeNo} → Heads types x h → x ≡ Headless → ⊥
   not_headless (heads_procedure h) e = absurd cc
   not_headless (heads_nested h) e = absurd cc
   not_headless (heads_variable t m) e = absurd cc
@@ -98,10 +98,10 @@ module _ (g : Gathers) (j : Judges g) (lawful : Lawful g j) (names : Ident → S
 
   -- ---- arguments one after the other
 
-  abbrev Passed : List Formal → List Expr → Type 0
+  abbrev pub Passed : List Formal → List Expr → Type 0
   Passed = ArePassed s.types names exports
 
-  abbrev Wrong : List Formal → List Expr → Breach → Type 0
+  abbrev pub Wrong : List Formal → List Expr → Breach → Type 0
   Wrong fs xs f = (formal : Formal) × (e : Expr) × (y : Thing) × Beside formal e fs xs × S e y × Mispassed s.types (first e) formal y f
 
   abbrev PassesAll : Type 0 → (Breach → Type 0) → List Formal → List Expr → Result (List Argument) g.Reported → Type 0
@@ -133,7 +133,7 @@ module _ (g : Gathers) (j : Judges g) (lawful : Lawful g j) (names : Ident → S
   one_passes : (f : Formal) (x : Expr) → IsPlain x → Found x → Checks g j lawful E (FirstPassed f x) (FirstWrong f x) (argument_by g s.types (Some f) (meant g x).fixed.at ((meant g x).means s))
   one_passes f x i h = subst (λ (p : Pos). Checks g j lawful E (FirstPassed f x) (FirstWrong f x) (argument_by g s.types (Some f) p ((meant g x).means s))) (sym (at_is g i)) (argument_passes g j lawful E s.types (first x) f h)
 
-  all_pass : (fs : List Formal) (xs : List Expr) {P : Type 0} {B : Breach → Type 0} (so : Result (List Argument) g.Reported) → length fs ≡ length xs → ((y : Expr) → Among y xs → IsPlain y) → ((y : Expr) → Among y xs → Found y) → Checks g j lawful E P B so
+  pub all_pass : (fs : List Formal) (xs : List Expr) {P : Type 0} {B : Breach → Type 0} (so : Result (List Argument) g.Reported) → length fs ≡ length xs → ((y : Expr) → Among y xs → IsPlain y) → ((y : Expr) → Among y xs → Found y) → Checks g j lawful E P B so
       → PassesAll P B fs xs ((fold (with_actual g s) (fs, so) (map (meant g) xs)).1)
   all_pass [] [] so e i h c = checks_as g j lawful E (λ p. (p, no_more)) (λ p. p.0) (λ f b. inl b) (λ f b. elim b [ inl z ↦ z | inr z ↦ elim z [ inl a ↦ elim a.1 [ ] | inr w ↦ elim w.3 [ ] ] ]) c
   all_pass [] (x ∷ xs) so e i h c = absurd cc
@@ -202,7 +202,7 @@ module _ (g : Gathers) (j : Judges g) (lawful : Lawful g j) (names : Ident → S
   function_calls w m r (rules.converted z n y c) = absurd (no_standard s.types w)
   function_calls w m r (rules.greatest_index z) = absurd (no_standard s.types w)
 
-  none_is_some : {t : TypeNo} {r : Option TypeNo} → r ≡ None → r ≡ Some t → ⊥
+  pub none_is_some : {t : TypeNo} {r : Option TypeNo} → r ≡ None → r ≡ Some t → ⊥
   none_is_some e q = let z = sym e ∙ q in absurd cc
 
   counted_by : {x : Thing} {h t : TypeNo} {p : Signature} (at : Pos) (xs : List Expr) (c : Callee) (b : Bool) → (length p.formals == length (map (meant g) xs)) ≡ b → Heads s.types x h → IsMade s.types h (shape.Procedure p) → p.result ≡ Some t
@@ -257,15 +257,15 @@ module _ (g : Gathers) (j : Judges g) (lawful : Lawful g j) (names : Ident → S
 
   -- ---- what is called
 
-  data IsCallee : Called → Thing → Type 0 where
+  pub data IsCallee : Called → Thing → Type 0 where
     callee_routine : {x : Thing} {h : TypeNo} (c : Callee) → Heads s.types x h → IsCallee (called.Routine h c) x
     callee_standard : (p : Standard) → IsCallee (called.Standard p) (AStandard p)
 
-  data MayCall : Thing → Type 0 where
+  pub data MayCall : Thing → Type 0 where
     may_routine : {x : Thing} {h : TypeNo} → Heads s.types x h → MayCall x
     may_standard : (p : Standard) → MayCall (AStandard p)
 
-  abbrev NoCall : Pos → Thing → Breach → Type 0
+  abbrev pub NoCall : Pos → Thing → Breach → Type 0
   NoCall at x f = (MayCall x → ⊥) × ((x ≡ Headless → ⊥) × (f ≡ at ! rule.WrongType))
 
   abbrev CalleeSo : Pos → Thing → Result Called g.Reported → Type 0
@@ -280,7 +280,7 @@ module _ (g : Gathers) (j : Judges g) (lawful : Lawful g j) (names : Ident → S
   not_made : {t : TypeNo} (z : Option Shape) → shape_at s.types t ≡ z → ((p : Signature) → z ≡ Some (shape.Procedure p) → ⊥) → MayCall (AVariable t) → ⊥
   not_made z e n (may_routine (heads_variable t {p = p} m)) = n p (sym e ∙ m)
 
-  no_call_of : {x : Thing} → ((h : TypeNo) → Heads s.types x h → ⊥) → ((p : Standard) → x ≡ AStandard p → ⊥) → MayCall x → ⊥
+  pub no_call_of : {x : Thing} → ((h : TypeNo) → Heads s.types x h → ⊥) → ((p : Standard) → x ≡ AStandard p → ⊥) → MayCall x → ⊥
   no_call_of n q (may_routine {h = h} w) = n h w
   no_call_of n q (may_standard p) = q p refl
 
@@ -293,7 +293,7 @@ module _ (g : Gathers) (j : Judges g) (lawful : Lawful g j) (names : Ident → S
   held_callee at t d (Some (shape.Record fs)) e = no_callee at (not_made _ e (λ p q. absurd cc)) (λ q. absurd cc)
   held_callee at t d (Some (shape.Open u)) e = no_callee at (not_made _ e (λ p q. absurd cc)) (λ q. absurd cc)
 
-  callee_answers : (at : Pos) (a : Designated) (x : Thing) → IsThing a x → CalleeSo at x (callee_of g s.types at a)
+  pub callee_answers : (at : Pos) (a : Designated) (x : Thing) → IsThing a x → CalleeSo at x (callee_of g s.types at a)
   callee_answers at _ _ (thing_procedure p) = a_callee at (callee_routine _ (heads_procedure p.heading)) (may_routine (heads_procedure p.heading))
   callee_answers at _ _ (thing_nested p) = a_callee at (callee_routine _ (heads_nested p.heading)) (may_routine (heads_nested p.heading))
   callee_answers at _ _ (thing_standard p) = a_callee at (callee_standard p) (may_standard p)
@@ -312,7 +312,7 @@ module _ (g : Gathers) (j : Judges g) (lawful : Lawful g j) (names : Ident → S
   may_variable t (Some (shape.Record fs)) e = inr (not_made _ e (λ p q. absurd cc))
   may_variable t (Some (shape.Open u)) e = inr (not_made _ e (λ p q. absurd cc))
 
-  may_or_not : (x : Thing) → MayCall x ⊎ (MayCall x → ⊥)
+  pub may_or_not : (x : Thing) → MayCall x ⊎ (MayCall x → ⊥)
   may_or_not (AVariable t) = may_variable t (shape_at s.types t) refl
   may_or_not (AProcedure h) = inl (may_routine (heads_procedure h))
   may_or_not (ANested h) = inl (may_routine (heads_nested h))
@@ -323,7 +323,7 @@ module _ (g : Gathers) (j : Judges g) (lawful : Lawful g j) (names : Ident → S
   may_or_not (AModule k) = inr (no_call_of (λ h w. elim w [ ]) (λ p q. absurd cc))
   may_or_not Headless = inr (no_call_of (λ h w. elim w [ ]) (λ p q. absurd cc))
 
-  headed_may : {x : Thing} {p : Signature} → HasHeading s.types x p → MayCall x
+  pub headed_may : {x : Thing} {p : Signature} → HasHeading s.types x p → MayCall x
   headed_may (of_procedure {h = h} m) = may_routine (heads_procedure h)
   headed_may (of_nested {h = h} m) = may_routine (heads_nested h)
   headed_may (of_variable {t = t} m) = may_routine (heads_variable t m)
@@ -363,7 +363,7 @@ module _ (g : Gathers) (j : Judges g) (lawful : Lawful g j) (names : Ident → S
       {C = λ f. (F f ⊎ ((x : Thing) × D x × M at x xs f)) ⊎ Any xs f}
       (λ k z. (z.0, subst D (sym z.1.2.1) z.1.1, z.2)) (λ k z. (z.0, (z.0, z.1, (calls_may z.2, refl)), z.2)) (λ f z. out f z) (λ f z. into f z)
       (ahead_answers g j lawful E {N = λ y k. C y xs k} {D = λ y f. M at y xs f} (heading_answers g j lawful E {N = λ x y. MayCall x × (y ≡ x)} {D = λ x f. NoCall at x f} h (callee_answers at) (λ y m. no_call_of (λ h w. elim w [ ]) (λ p q. absurd cc) m.0) (λ f z. z.1.0 refl))
-      (look_tells g j lawful names exports s xs q) (λ c y e. called_answer at xs c y e i q))
+      (look_tells g j lawful names exports s xs q) (λ c y e m. called_answer at xs c y e i q))
     where
       out : (f : Breach) → ((F f ⊎ ((x : Thing) × D x × NoCall at x f)) ⊎ ((y : Thing) × ((x : Thing) × D x × (MayCall x × (y ≡ x))) × M at y xs f)) ⊎ Any xs f → (F f ⊎ ((x : Thing) × D x × M at x xs f)) ⊎ Any xs f
       out f (inl (inl (inl b))) = inl (inl b)

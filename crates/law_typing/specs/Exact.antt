@@ -1,5 +1,5 @@
 -- What is elaborated, and what it stands for.
-use Rattle.std.specs.Prelude.{◌≡◌, ℕ, List, [], ◌∷◌, Option, Some, None, Result, Ok, Err, slice_get}
+use Rattle.std.specs.Prelude.{◌≡◌, ℕ, List, [], ◌∷◌, Option, Some, None, Result, Ok, Err, slice_get, map}
 use Rattle.m2_rule.specs.declared.rule.Rule.TheVariants as rule
 use Rattle.m2_tree.specs.declared.pos.Pos.{Pos}
 use Rattle.m2_tree.specs.declared.name.Ident.{Ident}
@@ -43,13 +43,15 @@ use Rattle.check_call.specs.Effects.{target_at, assigned}
 use Rattle.typed_tree.specs.declared.statement.TypedStmt.{TypedStmt}
 use Rattle.typed_tree.specs.Types.{boolean}
 use Rattle.def_typing.specs.Constants.{AConstant, Fixes, BrokenAsConstant}
+use Rattle.check_expr.specs.Effects.{done_by}
+use Rattle.def_typing.specs.Actions.{IsAction, BrokenAction}
 use Rattle.def_typing.specs.Assignments.{Assigns, BrokenAssignment, IsCondition, BrokenCondition}
 use Rattle.check_expr.specs.Meanings.{meant, head, part, value_of}
 use Rattle.def_typing.specs.Amounts.{Constant, Value}
 use Rattle.def_typing.specs.Operators.{◌!◌, Kind, Scalar, Set, Text, Routine, Procedure, Whole, Untaken}
 use Rattle.def_typing.specs.Things.{Thing, AValue, AVariable, AnOpenArray, AType, AProcedure, ANested, AStandard, AModule, Headless, Standing, Known, Ahead, Undeclared, NotExported, Unknown}
 use Rattle.def_typing.specs.Parts.{Operand, factors, addends}
-use Rattle.def_typing.specs.Expressions.{Has, BrokenAsValue}
+use Rattle.def_typing.specs.Expressions.{Denotes, Has, BrokenAsValue}
 use Rattle.law_typing.specs.Judging.{Judges, Answers}
 
 -- ---- what is elaborated
@@ -254,6 +256,17 @@ AssignmentsAreExact g j =
     (λ u. Assigns s.types names exports d e) (BrokenAssignment s.types names exports d e)
     (assigned g s.types (target_at g (head g d).fixed.at ((head g d).means s))
     (meant g e).fixed.at (value_of g s (meant g e)))
+
+-- Calls as statements are answered exactly, if no standard procedure is called.
+abbrev pub ActionsAreExact : (g : Gathers) → Judges g → Type 0
+ActionsAreExact g j =
+    (names : Ident → Standing) (exports : ℕ → Ident → Standing) (s : Scope g.Reported)
+    → Knows g j names exports s → (d : Designator) (args : List Expr)
+    → ArePlainSelectors (out-Designator d).selectors → ArePlain args
+    → ((p : Standard) → Denotes s.types names exports d (AStandard p) → ⊥)
+    → Answers g j (Repeats g j names s) {A = TypedStmt} {K = Unit {0}} (λ v u. Unit {0})
+      (λ u. IsAction s.types names exports d args) (BrokenAction s.types names exports d args)
+      (done_by g s (head g d) (map (meant g) args))
 
 -- For each scope there are standings that it knows.
 abbrev pub ScopesAreKnown : (g : Gathers) → Judges g → Type 0

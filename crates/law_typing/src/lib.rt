@@ -13,12 +13,13 @@
 //! - `proofs/Placing`, `proofs/Selecting` and `proofs/Passing` have values at places, names with components, and arguments.
 //! - `proofs/Fixing`, `proofs/Elements` and `proofs/Constants` have constant expressions.
 //! - `proofs/Calling` and `proofs/Routines` have calls, `proofs/Places` and `proofs/Finding` the layers of the tree,
-//!   `proofs/Expressing` the induction, `proofs/Assigning` conditions and assignments, and `proofs/Knowing` the names of scopes.
+//!   `proofs/Expressing` the induction, `proofs/Assigning` conditions and assignments, `proofs/Acting` calls
+//!   that are statements, and `proofs/Knowing` the names of scopes.
 #![tactic(auto)]
 
 ghost use Rattle.check_scope.specs.Elaborated.{every, least};
 ghost use Rattle.law_typing.specs.Judging.{all_of_them, the_least};
-ghost use Rattle.law_typing.specs.Exact.{ExpressionsAreExact, ConstantsAreExact, ConditionsAreExact, AssignmentsAreExact, ScopesAreKnown};
+ghost use Rattle.law_typing.specs.Exact.{ExpressionsAreExact, ConstantsAreExact, ConditionsAreExact, AssignmentsAreExact, ActionsAreExact, ScopesAreKnown};
 
 /// An expression in whose braces nothing is called has a value exactly if no rule is broken in it, and the value stands for
 /// what the rules say that it has. Else all that is gathered are broken rules, here or in a declaration, and each that is
@@ -44,6 +45,12 @@ pub fn condition_laws()
 pub fn assignment_laws()
     ensures every_rule { AssignmentsAreExact every all_of_them }
     ensures least_rule { AssignmentsAreExact least the_least }
+{}
+
+/// The same of a call that is a statement, if no standard procedure is called.
+pub fn action_laws()
+    ensures every_rule { ActionsAreExact every all_of_them }
+    ensures least_rule { ActionsAreExact least the_least }
 {}
 
 /// No scope lacks names that stand for what it knows of them, so the laws above speak of each.
