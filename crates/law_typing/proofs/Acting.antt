@@ -1,5 +1,5 @@
 -- Calls of declared procedures as statements answer exactly.
-use Rattle.std.proofs.Common.{◌≡◌, ℕ, suc, Bool, true, false, not, List, [], ◌∷◌, length, Option, Some, None, Result, Ok, Err, ◌⊎◌, inl, inr, refl, sym, ap, subst, ◌∙◌, arith}
+use Rattle.std.proofs.Common.{◌≡◌, ℕ, suc, Bool, true, false, not, List, [], length, Option, Some, None, Result, Ok, ◌⊎◌, inl, inr, refl, sym, ap, subst, ◌∙◌, arith}
 use Rattle.std.specs.Prelude.{map, ◌==◌}
 use Rattle.std.proofs.lemmas.List.{length-map}
 use Rattle.std.proofs.lemmas.Bool.Decides.{nat_tests}
@@ -18,33 +18,30 @@ use Rattle.typed_tree.specs.declared.meaning.Standard.{Standard}
 use Rattle.typed_tree.specs.declared.shape.Formal.{Formal}
 use Rattle.typed_tree.specs.declared.shape.Shape.TheVariants as shape
 use Rattle.typed_tree.specs.declared.shape.Signature.{Signature}
-use Rattle.typed_tree.specs.declared.known_types.Types.{Types}
 use Rattle.check_scope.specs.declared.scope.Scope.{Scope}
-use Rattle.check_scope.specs.Elaborated.{Gathers, reported, reported_where, reported_beside, of_heading, ahead, ◌▷◌}
+use Rattle.check_scope.specs.Elaborated.{Gathers, reported_where, reported_beside, of_heading, ahead, ◌▷◌}
 use Rattle.check_operator.specs.Classes.{signature_at}
 use Rattle.check_call.specs.declared.callee.Callee.{Callee}
 use Rattle.check_call.specs.declared.callee.Called.{Called}
-use Rattle.check_call.specs.declared.callee.Called.TheVariants as called
 use Rattle.check_call.specs.Callees.{callee_of, proper_with, proper_of, call_by}
 use Rattle.check_expr.specs.Meanings.{meant, head, looked_at, actuals, formals_of}
 use Rattle.check_expr.specs.Effects.{call_done, done_as, done_by}
 use Rattle.def_typing.specs.Shapes.{IsMade}
 use Rattle.def_typing.specs.Operators.{◌!◌}
-use Rattle.def_typing.specs.Things.{Thing, AStandard, Headless, Standing}
-use Rattle.def_typing.specs.Functions.{HasHeading}
+use Rattle.def_typing.specs.Things.{Thing, AStandard, Standing}
 use Rattle.def_typing.specs.Parts.{Among}
 use Rattle.def_typing.specs.Expressions.{Beside, Denotes, ArePassed, no_more, one_more}
 use Rattle.def_typing.specs.Assignments.{at_designator, in_designator, BrokenDesignator}
 use Rattle.def_typing.specs.Actions as rules
 use Rattle.def_typing.specs.Actions.{IsProper, proper, Acts, acts, Misacts, IsAction, is_action, BrokenAction, in_procedure, in_argument, at_action}
-use Rattle.law_typing.specs.Judging.{Judges, Answers, means}
+use Rattle.law_typing.specs.Judging.{Judges, Answers}
 use Rattle.law_typing.specs.Exact.{Knows, IsPlain, ArePlain, ArePlainSelectors}
-use Rattle.law_typing.proofs.Combining.{Lawful, exact, passes, map_checks, then_checked, declined_beside, ahead_answers, heading_answers}
+use Rattle.law_typing.proofs.Combining.{Lawful, exact, passes, map_checks, declined_beside, ahead_answers, heading_answers}
 use Rattle.law_typing.proofs.Elements.{checks_answer}
 use Rattle.law_typing.proofs.Shaping.{signature_there, SignatureIs, has_signature, no_signature, one_signature}
 use Rattle.law_typing.proofs.Finding.{Elsewhere, IsFound, AnyBroken, InLayer, look_tells}
 use Rattle.law_typing.proofs.Places.{head_at}
-use Rattle.law_typing.proofs.Routines.{Heads, heading_of, made_of, not_headless, no_standard, Passed, Wrong, all_pass, IsCallee, callee_routine, callee_standard, MayCall, may_routine, may_standard, NoCall, callee_answers, may_or_not, no_call_of, headed_may, none_is_some}
+use Rattle.law_typing.proofs.Routines.{Heads, heading_of, made_of, not_headless, no_standard, Wrong, all_pass, IsCallee, callee_routine, callee_standard, MayCall, NoCall, callee_answers, may_or_not, no_call_of, headed_may, none_is_some}
 use Rattle.law_typing.proofs.Expressing.{found_all, plain_all, designator_found}
 
 module _ (g : Gathers) (j : Judges g) (lawful : Lawful g j) (names : Ident → Standing) (exports : ℕ → Ident → Standing) (s : Scope g.Reported) where
@@ -213,4 +210,3 @@ module _ (g : Gathers) (j : Judges g) (lawful : Lawful g j) (names : Ident → S
         out f (in_procedure b) = inl (inl (inl (left b)))
         out f (in_argument {e = x} m b) = inr (x, m, b)
         out f (at_action {x = x} m z) = by f x m z (may_or_not g j lawful names exports s x)
-

@@ -265,8 +265,8 @@ ActionsAreExact g j =
     → ArePlainSelectors (out-Designator d).selectors → ArePlain args
     → ((p : Standard) → Denotes s.types names exports d (AStandard p) → ⊥)
     → Answers g j (Repeats g j names s) {A = TypedStmt} {K = Unit {0}} (λ v u. Unit {0})
-      (λ u. IsAction s.types names exports d args) (BrokenAction s.types names exports d args)
-      (done_by g s (head g d) (map (meant g) args))
+    (λ u. IsAction s.types names exports d args) (BrokenAction s.types names exports d args)
+    (done_by g s (head g d) (map (meant g) args))
 
 -- For each scope there are standings that it knows.
 abbrev pub ScopesAreKnown : (g : Gathers) → Judges g → Type 0
