@@ -1,5 +1,5 @@
 //! Laws alone: the checker answers expressions of bodies exactly as the rules of the language say, and so it does constant
-//! expressions, conditions and assignments.
+//! expressions, conditions, assignments, and calls of declared procedures that are statements.
 //!
 //! `def_typing` has the rules: what an expression has, and which rules are broken in it. These laws hold of the elaboration in
 //! `check_expr` and below, of all that it gathers and of the least refusal alike. They are not proved of all: what stands in
