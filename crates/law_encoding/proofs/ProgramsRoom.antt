@@ -146,7 +146,7 @@ ok_most (broken y) e = absurd cc
 own_short : (g : Gathers) (t : TypedModule) → IsAccepted g t → is_short_name t.name ≡ true
 own_short g t is =
     let stands : StandsOnImports is.tree is.own t =
-        subst (λ r. IfOk r (StandsOnImports is.tree is.own)) is.accepted (modules_stand g (elaborated g) is.number is.tree is.own is.tables) in
+    subst (λ r. IfOk r (StandsOnImports is.tree is.own)) is.accepted (modules_stand g (elaborated g) is.number is.tree is.own is.tables) in
     subst (λ (n : List ℕ). is_short_name n ≡ true) (sym stands.name) (text_named is.text is.tokens is.tree is.scanned is.parsed.0)
 
 module _ (g : Gathers) (levels : AcceptedAreShallow g) (outward : AcceptedAreNear g) (p : Program) (accepted : All (IsAccepted g) p) where
