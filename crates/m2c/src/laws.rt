@@ -4,5 +4,5 @@ ghost use Rattle.m2c.specs.Build.{OneOutcome};
 
 /// Files have at most one outcome in a number of pages. It does not matter who asks for it, or with which workers.
 pub fn outcome_laws()
-    ensures one { OneOutcome }
+    ensures { OneOutcome }
 {}

@@ -1,0 +1,14 @@
+//! The rules of the language as rules: what expressions have, and which rules are broken in them, in conditions, in
+//! assignments and in calls. There is no code here, only definitions. Other statements, calls of standard procedures that are
+//! statements, declarations, and calls in constant expressions are not there yet.
+//!
+//! - `specs/Shapes` says how types are made, and which headings agree.
+//! - `specs/Amounts` has operators on scalars, and `specs/Operators` operators on all values.
+//! - `specs/Things` says what names stand for, what is taken as a value, what suits a type, and what a component is.
+//! - `specs/Functions` has the standard functions, and which arguments formals take.
+//! - `specs/Parts` has the parts of expressions, and where they begin.
+//! - `specs/Constants` has constant expressions (`Fixes`), and which rules are broken in them (`BrokenAsConstant`).
+//! - `specs/Expressions` has what expressions of bodies stand for (`Stands`, `Has`), and which rules are broken in them
+//!   (`Broken`, `BrokenAsValue`).
+//! - `specs/Assignments` has assignments and conditions, and `specs/Actions` calls of declared procedures as statements.
+#![tactic(auto)]

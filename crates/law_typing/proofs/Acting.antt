@@ -1,0 +1,212 @@
+-- Calls of declared procedures as statements answer exactly.
+use Rattle.std.proofs.Common.{◌≡◌, ℕ, suc, Bool, true, false, not, List, [], length, Option, Some, None, Result, Ok, ◌⊎◌, inl, inr, refl, sym, ap, subst, ◌∙◌, arith}
+use Rattle.std.specs.Prelude.{map, ◌==◌}
+use Rattle.std.proofs.lemmas.List.{length-map}
+use Rattle.std.proofs.lemmas.Bool.Decides.{nat_tests}
+use Rattle.m2_rule.specs.declared.breach.Breach.{Breach}
+use Rattle.m2_rule.specs.declared.rule.Rule.{Rule}
+use Rattle.m2_rule.specs.declared.rule.Rule.TheVariants as rule
+use Rattle.m2_tree.specs.declared.pos.Pos.{Pos}
+use Rattle.m2_tree.specs.declared.name.Ident.{Ident}
+use Rattle.m2_tree.specs.declared.expr.Expr.{Expr}
+use Rattle.m2_tree.specs.declared.expr.Expr.TheOpen as layer
+use Rattle.m2_tree.specs.declared.expr.Designator.{Designator, out-Designator}
+use Rattle.typed_tree.specs.declared.types.TypeNo.{TypeNo}
+use Rattle.typed_tree.specs.declared.statement.TypedStmt.{TypedStmt}
+use Rattle.typed_tree.specs.declared.statement.TypedStmt.TheVariants as statement
+use Rattle.typed_tree.specs.declared.meaning.Standard.{Standard}
+use Rattle.typed_tree.specs.declared.shape.Formal.{Formal}
+use Rattle.typed_tree.specs.declared.shape.Shape.TheVariants as shape
+use Rattle.typed_tree.specs.declared.shape.Signature.{Signature}
+use Rattle.check_scope.specs.declared.scope.Scope.{Scope}
+use Rattle.check_scope.specs.Elaborated.{Gathers, reported_where, reported_beside, of_heading, ahead, ◌▷◌}
+use Rattle.check_operator.specs.Classes.{signature_at}
+use Rattle.check_call.specs.declared.callee.Callee.{Callee}
+use Rattle.check_call.specs.declared.callee.Called.{Called}
+use Rattle.check_call.specs.Callees.{callee_of, proper_with, proper_of, call_by}
+use Rattle.check_expr.specs.Meanings.{meant, head, looked_at, actuals, formals_of}
+use Rattle.check_expr.specs.Effects.{call_done, done_as, done_by}
+use Rattle.def_typing.specs.Shapes.{IsMade}
+use Rattle.def_typing.specs.Operators.{◌!◌}
+use Rattle.def_typing.specs.Things.{Thing, AStandard, Standing}
+use Rattle.def_typing.specs.Parts.{Among}
+use Rattle.def_typing.specs.Expressions.{Beside, Denotes, ArePassed, no_more, one_more}
+use Rattle.def_typing.specs.Assignments.{at_designator, in_designator, BrokenDesignator}
+use Rattle.def_typing.specs.Actions as rules
+use Rattle.def_typing.specs.Actions.{IsProper, proper, Acts, acts, Misacts, IsAction, is_action, BrokenAction, in_procedure, in_argument, at_action}
+use Rattle.law_typing.specs.Judging.{Judges, Answers}
+use Rattle.law_typing.specs.Exact.{Knows, IsPlain, ArePlain, ArePlainSelectors}
+use Rattle.law_typing.proofs.Combining.{Lawful, exact, passes, map_checks, declined_beside, ahead_answers, heading_answers}
+use Rattle.law_typing.proofs.Elements.{checks_answer}
+use Rattle.law_typing.proofs.Shaping.{signature_there, SignatureIs, has_signature, no_signature, one_signature}
+use Rattle.law_typing.proofs.Finding.{Elsewhere, IsFound, AnyBroken, InLayer, look_tells}
+use Rattle.law_typing.proofs.Places.{head_at}
+use Rattle.law_typing.proofs.Routines.{Heads, heading_of, made_of, not_headless, no_standard, Wrong, all_pass, IsCallee, callee_routine, callee_standard, MayCall, NoCall, callee_answers, may_or_not, no_call_of, headed_may, none_is_some}
+use Rattle.law_typing.proofs.Expressing.{found_all, plain_all, designator_found}
+
+module _ (g : Gathers) (j : Judges g) (lawful : Lawful g j) (names : Ident → Standing) (exports : ℕ → Ident → Standing) (s : Scope g.Reported) where
+  abbrev E : Breach → Type 0
+  E = Elsewhere g j lawful names exports s
+
+  abbrev Found : Expr → Type 0
+  Found = IsFound g j lawful names exports s
+
+  abbrev Any : List Expr → Breach → Type 0
+  Any = AnyBroken g j lawful names exports s
+
+  abbrev A : Thing → List Expr → Type 0
+  A = Acts s.types names exports
+
+  abbrev M : Pos → Thing → List Expr → Breach → Type 0
+  M = Misacts s.types names exports
+
+  abbrev W : List Formal → List Expr → Breach → Type 0
+  W = Wrong g j lawful names exports s
+
+  abbrev So : Pos → Thing → List Expr → Result TypedStmt g.Reported → Type 0
+  So at x xs r = Answers g j E {A = TypedStmt} {K = Unit {0}} (λ a u. Unit {0}) (λ u. A x xs) (λ f. M at x xs f ⊎ Any xs f) r
+
+  refused_action : {x : Thing} {xs : List Expr} (at : Pos) (refused : Rule) → (A x xs → ⊥) → M at x xs (at ! refused) → ((f : Breach) → M at x xs f → f ≡ at ! refused) → ((y : Expr) → Among y xs → Found y)
+      → So at x xs (reported_beside g at refused (looked_at g s (map (meant g) xs)))
+  refused_action {x = x} {xs = xs} at refused n m only h = exact g j lawful E {M = λ u. ⊥} (λ k c. absurd c) (λ k c. n c) (λ f b. elim b [ inl e ↦ inl (subst (M at x xs) (sym e) m) | inr a ↦ inr a ]) (λ f b. elim b [ inl q ↦ inl (only f q) | inr a ↦ inr a ])
+      (declined_beside g j lawful E at refused (λ u c. c) (look_tells g j lawful names exports s xs h))
+
+  proper_count : {x : Thing} {h : TypeNo} {n : ℕ} {p : Signature} → Heads s.types x h → IsMade s.types h (shape.Procedure p) → IsProper s.types x n → (n ≡ length p.formals) × (p.result ≡ None)
+  proper_count {h = h} w m (proper {s = q} d e) = let same = one_signature s.types h (made_of s.types w d) m in
+      (ap (λ (p : Signature). length p.formals) same, ap (λ (p : Signature). p.result) (sym same) ∙ e)
+
+  unproper : {x : Thing} {h : TypeNo} {n : ℕ} → Heads s.types x h → ((p : Signature) → IsMade s.types h (shape.Procedure p) → ⊥) → IsProper s.types x n → ⊥
+  unproper w n (proper {s = q} d e) = n q (made_of s.types w d)
+
+  not_standard : {x : Thing} {h : TypeNo} → Heads s.types x h → (p : Standard) → x ≡ AStandard p → ⊥
+  not_standard {h = h} w p e = no_standard s.types (subst (λ (x : Thing). Heads s.types x h) e w)
+
+  acts_proper : {x : Thing} {xs : List Expr} → A x xs → (n : ℕ) × IsProper s.types x n
+  acts_proper (acts d e a) = (_, proper d e)
+
+  none_only : {x : Thing} {xs : List Expr} (at : Pos) (f : Breach) → ((n : ℕ) → IsProper s.types x n → ⊥) → M at x xs f → f ≡ at ! rule.WrongType
+  none_only at _ n (rules.no_procedure q c z) = refl
+  none_only at _ n (rules.wrong_count i z) = absurd (n _ i)
+  none_only at f n (rules.mispassed d e c b z y) = absurd (n _ (proper d e))
+
+  no_action : {x : Thing} {h : TypeNo} {xs : List Expr} (at : Pos) → Heads s.types x h → ((n : ℕ) → IsProper s.types x n → ⊥) → ((y : Expr) → Among y xs → Found y) → So at x xs (reported_beside g at rule.WrongType (looked_at g s (map (meant g) xs)))
+  no_action at w n h = refused_action at rule.WrongType (λ a. let q = acts_proper a in n q.0 q.1) (rules.no_procedure (not_headless s.types w) (not_standard w) n) (λ f m. none_only at f n m) h
+
+  count_wrong : {x : Thing} {h : TypeNo} {p : Signature} {xs : List Expr} (at : Pos) (f : Breach) → Heads s.types x h → IsMade s.types h (shape.Procedure p) → p.result ≡ None → (length p.formals ≡ length xs → ⊥) → M at x xs f → f ≡ at ! rule.ArgumentCount
+  count_wrong {p = p} at _ w m r n (rules.no_procedure q c z) = absurd (z (length p.formals) (proper (heading_of s.types w m) r))
+  count_wrong at _ w m r n (rules.wrong_count i z) = refl
+  count_wrong {h = h} {xs = xs} at f w m r n (rules.mispassed d e c b z y) = absurd (n (subst (λ (p : Signature). length p.formals ≡ length xs) (one_signature s.types h (made_of s.types w d) m) c))
+
+  count_right : {x : Thing} {h : TypeNo} {p : Signature} {xs : List Expr} (at : Pos) (f : Breach) → Heads s.types x h → IsMade s.types h (shape.Procedure p) → p.result ≡ None → length p.formals ≡ length xs → M at x xs f → W p.formals xs f
+  count_right {p = p} at _ w m r e (rules.no_procedure q c z) = absurd (z (length p.formals) (proper (heading_of s.types w m) r))
+  count_right at _ w m r e (rules.wrong_count i z) = absurd (z ((proper_count w m i).0 ∙ e))
+  count_right {h = h} {xs = xs} at f w m r e (rules.mispassed {y = y} {formal = formal} {e = a} d v c b z u) = (formal, a, y, subst (λ (p : Signature). Beside formal a p.formals xs) (one_signature s.types h (made_of s.types w d) m) b, z, u)
+
+  wrong_right : {x : Thing} {h : TypeNo} {p : Signature} {xs : List Expr} (at : Pos) (f : Breach) → Heads s.types x h → IsMade s.types h (shape.Procedure p) → p.result ≡ None → length p.formals ≡ length xs → W p.formals xs f → M at x xs f
+  wrong_right at f w m r e (formal, a, y, b, z, u) = rules.mispassed (heading_of s.types w m) r e b z u
+
+  passed_by : {x : Thing} {h : TypeNo} {p : Signature} {xs : List Expr} → Heads s.types x h → IsMade s.types h (shape.Procedure p) → A x xs → ArePassed s.types names exports p.formals xs
+  passed_by {h = h} {xs = xs} w m (acts d e a) = subst (λ (p : Signature). ArePassed s.types names exports p.formals xs) (one_signature s.types h (made_of s.types w d) m) a
+
+  passed_length : {fs : List Formal} {xs : List Expr} → ArePassed s.types names exports fs xs → length fs ≡ length xs
+  passed_length no_more = refl
+  passed_length (one_more m p r) = ap suc (passed_length r)
+
+  counted_by : {x : Thing} {h : TypeNo} {p : Signature} (at : Pos) (xs : List Expr) (c : Callee) (b : Bool) → (length p.formals == length (map (meant g) xs)) ≡ b → Heads s.types x h → IsMade s.types h (shape.Procedure p) → p.result ≡ None
+      → ((y : Expr) → Among y xs → IsPlain y) → ((y : Expr) → Among y xs → Found y)
+      → So at x xs (ahead g (reported_where g (not b) at rule.ArgumentCount (Ok tt)) (looked_at g s (map (meant g) xs)) (λ (u : Unit {0}). call_done c (actuals g s p.formals (map (meant g) xs))))
+  counted_by {x = x} {p = p} at xs c false e w m r i h = refused_action at rule.ArgumentCount (λ a. not_equal (passed_length (passed_by w m a))) (rules.wrong_count (proper (heading_of s.types w m) r) not_equal) (λ f z. count_wrong at f w m r not_equal z) h
+    where
+      differ : (a b : ℕ) → (a == b) ≡ false → a ≡ b → ⊥
+      differ a b e q = absurd (grind (arith, nat_tests))
+
+      not_equal : length p.formals ≡ length xs → ⊥
+      not_equal q = differ (length p.formals) (length (map (meant g) xs)) e (q ∙ sym (length-map xs (meant g)))
+  counted_by {x = x} {p = p} at xs c true e w m r i h = exact g j lawful E {M = λ u. Unit {0} × ArePassed s.types names exports p.formals xs} {B = λ f. ⊥ ⊎ (Any xs f ⊎ W p.formals xs f)}
+      (λ u z. acts (heading_of s.types w m) r z.1) (λ u z. (tt, passed_by w m z)) (λ f z. elim z [ inl b ↦ absurd b | inr v ↦ elim v [ inl a ↦ inr a | inr q ↦ inl (wrong_right at f w m r equal q) ] ])
+      (λ f z. elim z [ inl q ↦ inr (inr (count_right at f w m r equal q)) | inr a ↦ inr (inl a) ])
+      (checks_answer g j lawful E (map_checks g j lawful E (λ v. statement.Call (call_by v c)) (all_pass g j lawful names exports s p.formals xs {P = Unit {0}} {B = λ f. ⊥} (Ok []) equal i h (passes [] tt (λ f b. b)))))
+    where
+      same : (a b : ℕ) → (a == b) ≡ true → a ≡ b
+      same a b e = grind (arith, nat_tests)
+
+      equal : length p.formals ≡ length xs
+      equal = same (length p.formals) (length (map (meant g) xs)) e ∙ length-map xs (meant g)
+
+  result_by : {x : Thing} {h : TypeNo} {p : Signature} (at : Pos) (xs : List Expr) (c : Callee) (r : Option TypeNo) → p.result ≡ r → Heads s.types x h → IsMade s.types h (shape.Procedure p)
+      → ((y : Expr) → Among y xs → IsPlain y) → ((y : Expr) → Among y xs → Found y)
+      → So at x xs (ahead g (proper_with g at (length p.formals) (length (map (meant g) xs)) r) (looked_at g s (map (meant g) xs)) (λ (u : Unit {0}). call_done c (actuals g s p.formals (map (meant g) xs))))
+  result_by at xs c None e w m i h = counted_by at xs c _ refl w m e i h
+  result_by at xs c (Some t) e w m i h = no_action at w (λ n q. none_is_some g j lawful names exports s (proper_count w m q).1 e) h
+
+  routine_by : {x : Thing} {h : TypeNo} (at : Pos) (xs : List Expr) (c : Callee) (o : Option Signature) → SignatureIs s.types h o → Heads s.types x h → ((y : Expr) → Among y xs → IsPlain y) → ((y : Expr) → Among y xs → Found y)
+      → So at x xs (ahead g (proper_of g at o (length (map (meant g) xs))) (looked_at g s (map (meant g) xs)) (λ (u : Unit {0}). call_done c (actuals g s (formals_of o) (map (meant g) xs))))
+  routine_by at xs c _ (no_signature n) w i h = no_action at w (λ k q. unproper w n q) h
+  routine_by at xs c _ (has_signature p m) w i h = result_by at xs c p.result refl w m i h
+
+  -- ---- all of them
+
+  abbrev May : Thing → Type 0
+  May = MayCall g j lawful names exports s
+
+  acts_may : {x : Thing} {xs : List Expr} → A x xs → May x
+  acts_may (acts d e a) = headed_may g j lawful names exports s d
+
+  proper_may : {x : Thing} {n : ℕ} → IsProper s.types x n → May x
+  proper_may (proper d e) = headed_may g j lawful names exports s d
+
+  inactive : {x : Thing} {xs : List Expr} (at : Pos) (f : Breach) → (May x → ⊥) → M at x xs f → NoCall g j lawful names exports s at x f
+  inactive at _ n (rules.no_procedure q c z) = (n, (q, refl))
+  inactive at _ n (rules.wrong_count i z) = absurd (n (proper_may i))
+  inactive at f n (rules.mispassed d e c b z y) = absurd (n (headed_may g j lawful names exports s d))
+
+  act : (at : Pos) (xs : List Expr) (c : Called) (x : Thing) → IsCallee g j lawful names exports s c x → ((p : Standard) → x ≡ AStandard p → ⊥) → ((y : Expr) → Among y xs → IsPlain y) → ((y : Expr) → Among y xs → Found y) → So at x xs (done_as g s at (map (meant g) xs) c)
+  act at xs _ x (callee_routine {h = h} c w) n i q = routine_by at xs c (signature_at s.types h) (signature_there s.types h) w i q
+  act at xs _ _ (callee_standard p) n i q = absurd (n p refl)
+
+  -- ---- calls of designators
+
+  module _ (knows : Knows g j names exports s) where
+    abbrev D : Designator → Thing → Type 0
+    D = Denotes s.types names exports
+
+    abbrev BD : Designator → Breach → Type 0
+    BD d = InLayer g j lawful names exports s (layer.Use d None)
+
+    abbrev IsCalled : Designator → Thing → Type 0
+    IsCalled d y = (x : Thing) × D d x × (May x × (y ≡ x))
+
+    abbrev Fails : Designator → List Expr → Breach → Type 0
+    Fails d xs f = ((BD d f ⊎ ((x : Thing) × D d x × NoCall g j lawful names exports s (out-Designator d).name.pos x f)) ⊎ ((y : Thing) × IsCalled d y × M (out-Designator d).name.pos y xs f)) ⊎ Any xs f
+
+    pub action_answers : (d : Designator) (xs : List Expr) → ArePlainSelectors (out-Designator d).selectors → ArePlain xs → ((p : Standard) → D d (AStandard p) → ⊥)
+        → Answers g j E {A = TypedStmt} {K = Unit {0}} (λ v u. Unit {0}) (λ u. IsAction s.types names exports d xs) (BrokenAction s.types names exports d xs) (done_by g s (head g d) (map (meant g) xs))
+    action_answers d xs i a n = subst (λ (t : Pos). Answers g j E {A = TypedStmt} {K = Unit {0}} (λ v u. Unit {0}) (λ u. IsAction s.types names exports d xs) (BrokenAction s.types names exports d xs) (ahead g (of_heading ((head g d).means s) ▷ callee_of g s.types t) (looked_at g s (map (meant g) xs)) (done_as g s t (map (meant g) xs)))) (sym (head_at g d))
+        (exact g j lawful E {M = λ u. (y : Thing) × IsCalled d y × A y xs} {B = Fails d xs} (λ u z. is_action (subst (D d) (sym z.1.2.1) z.1.1) z.2) (λ u z. parted z) (λ f z. into f z) (λ f z. out f z)
+        (ahead_answers g j lawful E {N = λ y u. A y xs} {D = λ y f. M (out-Designator d).name.pos y xs f}
+        (heading_answers g j lawful E {N = λ x y. May x × (y ≡ x)} {D = λ x f. NoCall g j lawful names exports s (out-Designator d).name.pos x f} (designator_found g j lawful names exports s knows d i) (callee_answers g j lawful names exports s (out-Designator d).name.pos) (λ y m. no_call_of g j lawful names exports s (λ h w. elim w [ ]) (λ p q. absurd cc) m.0) (λ f z. z.1.0 refl))
+        (look_tells g j lawful names exports s xs (λ x m. found_all g j lawful names exports s knows a x m))
+        (λ c y e m. act (out-Designator d).name.pos xs c y e (λ p q. n p (subst (D d) (sym m.2.1 ∙ q) m.1)) (plain_all g j lawful names exports s knows a) (λ x m. found_all g j lawful names exports s knows a x m))))
+      where
+        parted : IsAction s.types names exports d xs → (y : Thing) × IsCalled d y × A y xs
+        parted (is_action {x = x} m z) = (x, (x, m, (acts_may z, refl)), z)
+
+        into : (f : Breach) → Fails d xs f → BrokenAction s.types names exports d xs f
+        into f (inl (inl (inl (inl z)))) = in_procedure (at_designator z)
+        into f (inl (inl (inl (inr (x, m, b))))) = in_procedure (in_designator m b)
+        into f (inl (inl (inr (x, m, (c, (q, e)))))) = at_action m (subst (M (out-Designator d).name.pos x xs) (sym e) (rules.no_procedure q (λ p r. n p (subst (D d) r m)) (λ k z. c (proper_may z))))
+        into f (inl (inr (y, (x, m, (c, e)), z))) = at_action (subst (D d) (sym e) m) z
+        into f (inr (x, m, b)) = in_argument m b
+
+        left : {f : Breach} → BrokenDesignator s.types names exports d f → BD d f
+        left (at_designator z) = inl z
+        left (in_designator {x = x} m b) = inr (x, m, b)
+
+        by : (f : Breach) (x : Thing) → D d x → M (out-Designator d).name.pos x xs f → May x ⊎ (May x → ⊥) → Fails d xs f
+        by f x m z (inl c) = inl (inr (x, (x, m, (c, refl)), z))
+        by f x m z (inr c) = inl (inl (inr (x, m, inactive (out-Designator d).name.pos f c z)))
+
+        out : (f : Breach) → BrokenAction s.types names exports d xs f → Fails d xs f
+        out f (in_procedure b) = inl (inl (inl (left b)))
+        out f (in_argument {e = x} m b) = inr (x, m, b)
+        out f (at_action {x = x} m z) = by f x m z (may_or_not g j lawful names exports s x)

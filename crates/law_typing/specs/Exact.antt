@@ -1,0 +1,275 @@
+-- What is elaborated, and what it stands for.
+use Rattle.std.specs.Prelude.{◌≡◌, ℕ, List, [], ◌∷◌, Option, Some, None, Result, Ok, Err, slice_get, map}
+use Rattle.m2_rule.specs.declared.rule.Rule.TheVariants as rule
+use Rattle.m2_tree.specs.declared.pos.Pos.{Pos}
+use Rattle.m2_tree.specs.declared.name.Ident.{Ident}
+use Rattle.m2_tree.specs.declared.expr.MulOp.{MulOp}
+use Rattle.m2_tree.specs.declared.expr.AddOp.{AddOp}
+use Rattle.m2_tree.specs.declared.expr.RelOp.{RelOp}
+use Rattle.m2_tree.specs.declared.expr.Sign.{Sign}
+use Rattle.m2_tree.specs.declared.expr.Operator.{Operator}
+use Rattle.m2_tree.specs.declared.expr.Expr.{Expr, out-Expr}
+use Rattle.m2_tree.specs.declared.expr.Expr.TheOpen as layer
+use Rattle.m2_tree.specs.declared.expr.Selector.{Selector, out-Selector}
+use Rattle.m2_tree.specs.declared.expr.Designator.{Designator, out-Designator}
+use Rattle.m2_tree.specs.declared.expr.Item.{Item, out-Item}
+use Rattle.typed_tree.specs.declared.types.TypeNo.{TypeNo}
+use Rattle.typed_tree.specs.declared.computed.TypedExpr.{TypedExpr}
+use Rattle.typed_tree.specs.declared.computed.LocalProcedure.{LocalProcedure}
+use Rattle.typed_tree.specs.declared.computed.Place.{Place}
+use Rattle.typed_tree.specs.declared.computed.Slot.{Slot}
+use Rattle.typed_tree.specs.declared.meaning.LocalKind.{LocalKind}
+use Rattle.typed_tree.specs.declared.meaning.LocalKind.TheVariants as local
+use Rattle.typed_tree.specs.declared.meaning.Value.{Value as ConstantValue}
+use Rattle.typed_tree.specs.declared.meaning.Value.TheVariants as value
+use Rattle.typed_tree.specs.declared.meaning.Meaning.{Meaning}
+use Rattle.typed_tree.specs.declared.meaning.Meaning.TheVariants as meaning
+use Rattle.typed_tree.specs.declared.meaning.Procedure.{Procedure as ModuleProcedure}
+use Rattle.typed_tree.specs.declared.meaning.Standard.{Standard}
+use Rattle.m2_rule.specs.declared.breach.Breach.{Breach}
+use Rattle.check_scope.specs.declared.meaningless.Meaningless.{Meaningless}
+use Rattle.check_scope.specs.declared.meaningless.Meaningless.TheVariants as meaningless
+use Rattle.check_scope.specs.declared.scope.Scope.{Scope}
+use Rattle.check_scope.specs.Elaborated.{Gathers, ◌▷◌}
+use Rattle.check_scope.specs.Scopes.{looked_up}
+use Rattle.check_const.specs.Denote.{exported_by}
+use Rattle.check_operator.specs.declared.computed.Computed.{Computed}
+use Rattle.check_operator.specs.declared.computed.Computed.TheVariants as computed
+use Rattle.check_operator.specs.declared.computed.Designated.{Designated}
+use Rattle.check_operator.specs.declared.computed.Designated.TheVariants as designated
+use Rattle.check_const.specs.Parts.{constant}
+use Rattle.check_operator.specs.Suits.{value_suited}
+use Rattle.check_call.specs.Effects.{target_at, assigned}
+use Rattle.typed_tree.specs.declared.statement.TypedStmt.{TypedStmt}
+use Rattle.typed_tree.specs.Types.{boolean}
+use Rattle.def_typing.specs.Constants.{AConstant, Fixes, BrokenAsConstant}
+use Rattle.check_expr.specs.Effects.{done_by}
+use Rattle.def_typing.specs.Actions.{IsAction, BrokenAction}
+use Rattle.def_typing.specs.Assignments.{Assigns, BrokenAssignment, IsCondition, BrokenCondition}
+use Rattle.check_expr.specs.Meanings.{meant, head, part, value_of}
+use Rattle.def_typing.specs.Amounts.{Constant, Value}
+use Rattle.def_typing.specs.Operators.{◌!◌, Kind, Scalar, Set, Text, Routine, Procedure, Whole, Untaken}
+use Rattle.def_typing.specs.Things.{Thing, AValue, AVariable, AnOpenArray, AType, AProcedure, ANested, AStandard, AModule, Headless, Standing, Known, Ahead, Undeclared, NotExported, Unknown}
+use Rattle.def_typing.specs.Parts.{Operand, factors, addends}
+use Rattle.def_typing.specs.Expressions.{Denotes, Has, BrokenAsValue}
+use Rattle.law_typing.specs.Judging.{Judges, Answers}
+
+-- ---- what is elaborated
+
+abbrev pub kind_of : ConstantValue → Kind
+kind_of (value.Number n) = Scalar (Constant None n)
+kind_of (value.Scalar s) = Scalar (Constant (Some s.base) s.number)
+kind_of (value.Set bits) = Set (Some bits)
+kind_of (value.Text text) = Text text
+
+-- the code that is made of an expression has no part in what it has
+pub data IsKind : Computed → Kind → Type 0 where
+  kind_constant : (v : ConstantValue) → IsKind (computed.Constant v) (kind_of v)
+  kind_scalar : (t base : TypeNo) (e : TypedExpr)
+      → IsKind (computed.Scalar t base e) (Scalar (Value base))
+  kind_set : (e : TypedExpr) → IsKind (computed.Set e) (Set None)
+  kind_routine : (t : TypeNo) (e : TypedExpr) → IsKind (computed.Routine t e) (Routine t)
+  kind_procedure : (p : ModuleProcedure) → IsKind (computed.Procedure p) (Procedure p.heading)
+  kind_whole : (t : TypeNo) (d : Place) → IsKind (computed.Whole t d) (Whole t)
+  kind_untaken : IsKind computed.Untaken Untaken
+
+-- a constant
+pub data IsConst : ConstantValue → Kind → Type 0 where
+  is_const : (v : ConstantValue) → IsConst v (kind_of v)
+
+pub data IsThing : Designated → Thing → Type 0 where
+  thing_value : {v : Computed} {k : Kind} → IsKind v k → IsThing (designated.Value v) (AValue k)
+  thing_variable : (t : TypeNo) (d : Place) → IsThing (designated.Variable t d) (AVariable t)
+  thing_open : (t : TypeNo) (s : Slot) → IsThing (designated.Open t s) (AnOpenArray t)
+  thing_type : (t : TypeNo) → IsThing (designated.Type t) (AType t)
+  thing_procedure : (p : ModuleProcedure) → IsThing (designated.Procedure p) (AProcedure p.heading)
+  thing_nested : (p : LocalProcedure) → IsThing (designated.Nested p) (ANested p.heading)
+  thing_standard : (f : Standard) → IsThing (designated.Standard f) (AStandard f)
+  thing_module : (k : ℕ) → IsThing (designated.Module k) (AModule k)
+
+-- ---- what is known of names
+
+abbrev pub of_local : TypeNo → LocalKind → Standing
+of_local t local.Open = Known (AnOpenArray t)
+of_local t other = Known (AVariable t)
+
+-- what a name of this meaning stands for
+abbrev pub standing : Meaning → Standing
+standing (meaning.Constant v) = Known (AValue (kind_of v))
+standing (meaning.Type t n) = Known (AType t)
+standing (meaning.Variable v) = Known (AVariable v.of)
+standing (meaning.Local v) = of_local v.of v.kind
+standing (meaning.Field f) = Known (AVariable f.of)
+standing (meaning.Procedure p) = Known (AProcedure p.heading)
+standing (meaning.LocalProcedure p) = Known (ANested p.heading)
+standing meaning.Ahead = Ahead
+standing (meaning.Standard f) = Known (AStandard f)
+standing (meaning.Module k) = Known (AModule k)
+
+module _ (g : Gathers) (j : Judges g) where
+  -- what a name stands for, and what is looked up of it at a place
+  pub data Sees (at : Pos) : Standing → Result Meaning (Meaningless g.Reported) → Type 0 where
+    sees : (m : Meaning) → Sees at (standing m) (Ok m)
+    sees_nothing : Sees at Undeclared (Err (meaningless.Broken (g.one (at ! rule.Undeclared))))
+    sees_headless : (r : g.Reported) → Sees at (Known Headless) (Err (meaningless.Headless r))
+    sees_unknown : (r : g.Reported) → Sees at Unknown (Err (meaningless.Broken r))
+
+  -- what a module exports by a name
+  pub data Exports : Standing → Option Meaning → Type 0 where
+    has_exported : (m : Meaning) → Exports (standing m) (Some m)
+    has_nothing : Exports NotExported None
+
+  -- Names stand for what the scope knows of them, and names of modules for what the tables have.
+  pub record Knows (names : Ident → Standing) (exports : ℕ → Ident → Standing)
+      (s : Scope g.Reported) : Type 0 where
+    pub of_names : (name : Ident) → Sees name.pos (names name) (looked_up g s name)
+    pub of_modules : (k : ℕ) (name : Ident)
+        → Exports (exports k name) (exported_by name.name (slice_get s.tables k))
+
+  -- what the use of a name repeats of its declaration
+  pub data Repeats (names : Ident → Standing) (s : Scope g.Reported) (f : Breach) : Type 0 where
+    of_heading : {name : Ident} {r : g.Reported} → names name ≡ Known Headless
+        → looked_up g s name ≡ Err (meaningless.Headless r) → j.Among r f → Repeats names s f
+    of_declaration : {name : Ident} {r : g.Reported} → names name ≡ Unknown
+        → looked_up g s name ≡ Err (meaningless.Broken r) → j.Among r f → Repeats names s f
+
+  -- An expression of a body that is taken as a value is answered exactly.
+  abbrev pub IsExact : (names : Ident → Standing) → (exports : ℕ → Ident → Standing)
+      → Scope g.Reported → Expr → Type 0
+  IsExact names exports s e =
+      Answers g j (Repeats names s) IsKind (Has s.types names exports e)
+      (BrokenAsValue s.types names exports e) (value_of g s (meant g e))
+
+-- ---- expressions in whose braces nothing is called
+
+mutual
+  pub data IsCallFree : Expr → Type 0 where
+    free_number : {e : Expr} {at : Pos} {n : ℕ} → out-Expr e ≡ layer.Number at n → IsCallFree e
+    free_character : {e : Expr} {at : Pos} {c : ℕ} → out-Expr e ≡ layer.Char at c → IsCallFree e
+    free_string : {e : Expr} {at : Pos} {text : List ℕ} → out-Expr e ≡ layer.Text at text
+        → IsCallFree e
+    free_set : {e : Expr} {name : Option Ident} {at : Pos} {items : List Item}
+        → out-Expr e ≡ layer.Set name at items → AreCallFree items → IsCallFree e
+    free_name : {e : Expr} {d : Designator} → out-Expr e ≡ layer.Use d None → IsCallFree e
+    free_not : {e : Expr} {at : Pos} {x : Expr} → out-Expr e ≡ layer.Not at x → IsCallFree x
+        → IsCallFree e
+    free_brackets : {e : Expr} {at : Pos} {x : Expr} → out-Expr e ≡ layer.Bracketed at x
+        → IsCallFree x → IsCallFree e
+    free_term : {e : Expr} {x : Expr} {rest : List (Operator MulOp × Expr)}
+        → out-Expr e ≡ layer.Term x rest → IsCallFree x → AreCallFreeOperands (factors rest)
+        → IsCallFree e
+    free_sum : {e : Expr} {sign : Option (Operator Sign)} {x : Expr}
+        {rest : List (Operator AddOp × Expr)} → out-Expr e ≡ layer.Sum sign x rest → IsCallFree x
+        → AreCallFreeOperands (addends rest) → IsCallFree e
+    free_relation : {e : Expr} {a b : Expr} {o : Operator RelOp}
+        → out-Expr e ≡ layer.Relation a o b → IsCallFree a → IsCallFree b → IsCallFree e
+
+  pub data AreCallFreeOperands : List Operand → Type 0 where
+    no_free_operand : AreCallFreeOperands []
+    one_free_operand : {x : Operand} {xs : List Operand} → IsCallFree x.of
+        → AreCallFreeOperands xs → AreCallFreeOperands (x ∷ xs)
+
+  pub data AreCallFree : List Item → Type 0 where
+    no_free_item : AreCallFree []
+    one_free_item : {i : Item} {is : List Item} → IsCallFree (out-Item i).low
+        → (out-Item i).high ≡ None → AreCallFree is → AreCallFree (i ∷ is)
+    one_free_range : {i : Item} {is : List Item} {high : Expr} → IsCallFree (out-Item i).low
+        → (out-Item i).high ≡ Some high → IsCallFree high → AreCallFree is → AreCallFree (i ∷ is)
+
+mutual
+  pub data IsPlain : Expr → Type 0 where
+    plain_number : {e : Expr} {at : Pos} {n : ℕ} → out-Expr e ≡ layer.Number at n → IsPlain e
+    plain_character : {e : Expr} {at : Pos} {c : ℕ} → out-Expr e ≡ layer.Char at c → IsPlain e
+    plain_string : {e : Expr} {at : Pos} {text : List ℕ} → out-Expr e ≡ layer.Text at text
+        → IsPlain e
+    plain_set : {e : Expr} {name : Option Ident} {at : Pos} {items : List Item}
+        → out-Expr e ≡ layer.Set name at items → AreCallFree items → IsPlain e
+    plain_name : {e : Expr} {d : Designator} → out-Expr e ≡ layer.Use d None
+        → ArePlainSelectors (out-Designator d).selectors → IsPlain e
+    plain_call :
+        {e : Expr} {d : Designator} {args : List Expr} → out-Expr e ≡ layer.Use d (Some args)
+        → ArePlainSelectors (out-Designator d).selectors → ArePlain args → IsPlain e
+    plain_not : {e : Expr} {at : Pos} {x : Expr} → out-Expr e ≡ layer.Not at x → IsPlain x
+        → IsPlain e
+    plain_brackets : {e : Expr} {at : Pos} {x : Expr} → out-Expr e ≡ layer.Bracketed at x
+        → IsPlain x → IsPlain e
+    plain_term : {e : Expr} {x : Expr} {rest : List (Operator MulOp × Expr)}
+        → out-Expr e ≡ layer.Term x rest → IsPlain x → ArePlainOperands (factors rest) → IsPlain e
+    plain_sum : {e : Expr} {sign : Option (Operator Sign)} {x : Expr}
+        {rest : List (Operator AddOp × Expr)}
+        → out-Expr e ≡ layer.Sum sign x rest
+        → IsPlain x
+        → ArePlainOperands (addends rest)
+        → IsPlain e
+    plain_relation : {e : Expr} {a b : Expr} {o : Operator RelOp}
+        → out-Expr e ≡ layer.Relation a o b → IsPlain a → IsPlain b → IsPlain e
+
+  pub data ArePlain : List Expr → Type 0 where
+    no_expression : ArePlain []
+    one_expression : {x : Expr} {xs : List Expr} → IsPlain x → ArePlain xs → ArePlain (x ∷ xs)
+
+  pub data ArePlainOperands : List Operand → Type 0 where
+    no_operand : ArePlainOperands []
+    one_operand : {x : Operand} {xs : List Operand} → IsPlain x.of → ArePlainOperands xs
+        → ArePlainOperands (x ∷ xs)
+
+  pub data ArePlainSelectors : List Selector → Type 0 where
+    no_selector : ArePlainSelectors []
+    a_field : {s : Selector} {ss : List Selector} {at : Pos} {name : Ident}
+        → out-Selector s ≡ layer.Field at name → ArePlainSelectors ss → ArePlainSelectors (s ∷ ss)
+    an_index : {s : Selector} {ss : List Selector} {at : Pos} {x : Expr}
+        → out-Selector s ≡ layer.Index at x → IsPlain x → ArePlainSelectors ss
+        → ArePlainSelectors (s ∷ ss)
+
+-- These expressions are answered exactly, whatever their names stand for.
+abbrev pub ExpressionsAreExact : (g : Gathers) → Judges g → Type 0
+ExpressionsAreExact g j =
+    (names : Ident → Standing) (exports : ℕ → Ident → Standing) (s : Scope g.Reported)
+    → Knows g j names exports s → (e : Expr) → IsPlain e → IsExact g j names exports s e
+
+-- Constant expressions without calls are answered exactly.
+abbrev pub ConstantsAreExact : (g : Gathers) → Judges g → Type 0
+ConstantsAreExact g j =
+    (names : Ident → Standing) (exports : ℕ → Ident → Standing) (s : Scope g.Reported)
+    → Knows g j names exports s → (e : Expr) → IsCallFree e
+    → Answers g j (Repeats g j names s) IsConst
+    (λ k. Fixes s.types names exports e (AConstant k)) (BrokenAsConstant s.types names exports e)
+    (constant g s (part g e))
+
+-- Conditions are answered exactly: what is answered is a value of BOOLEAN.
+abbrev pub ConditionsAreExact : (g : Gathers) → Judges g → Type 0
+ConditionsAreExact g j =
+    (names : Ident → Standing) (exports : ℕ → Ident → Standing) (s : Scope g.Reported)
+    → Knows g j names exports s → (e : Expr) → IsPlain e
+    → Answers g j (Repeats g j names s) {A = TypedExpr} {K = Unit {0}} (λ v u. Unit {0})
+    (λ u. IsCondition s.types names exports e) (BrokenCondition s.types names exports e)
+    (value_of g s (meant g e)
+    ▷ value_suited g rule.WrongType s.types boolean (meant g e).fixed.at)
+
+-- Assignments are answered exactly.
+abbrev pub AssignmentsAreExact : (g : Gathers) → Judges g → Type 0
+AssignmentsAreExact g j =
+    (names : Ident → Standing) (exports : ℕ → Ident → Standing) (s : Scope g.Reported)
+    → Knows g j names exports s → (d : Designator) (e : Expr)
+    → ArePlainSelectors (out-Designator d).selectors → IsPlain e
+    → Answers g j (Repeats g j names s) {A = TypedStmt} {K = Unit {0}} (λ v u. Unit {0})
+    (λ u. Assigns s.types names exports d e) (BrokenAssignment s.types names exports d e)
+    (assigned g s.types (target_at g (head g d).fixed.at ((head g d).means s))
+    (meant g e).fixed.at (value_of g s (meant g e)))
+
+-- Calls as statements are answered exactly, if no standard procedure is called.
+abbrev pub ActionsAreExact : (g : Gathers) → Judges g → Type 0
+ActionsAreExact g j =
+    (names : Ident → Standing) (exports : ℕ → Ident → Standing) (s : Scope g.Reported)
+    → Knows g j names exports s → (d : Designator) (args : List Expr)
+    → ArePlainSelectors (out-Designator d).selectors → ArePlain args
+    → ((p : Standard) → Denotes s.types names exports d (AStandard p) → ⊥)
+    → Answers g j (Repeats g j names s) {A = TypedStmt} {K = Unit {0}} (λ v u. Unit {0})
+    (λ u. IsAction s.types names exports d args) (BrokenAction s.types names exports d args)
+    (done_by g s (head g d) (map (meant g) args))
+
+-- For each scope there are standings that it knows.
+abbrev pub ScopesAreKnown : (g : Gathers) → Judges g → Type 0
+ScopesAreKnown g j =
+    (s : Scope g.Reported)
+    → (names : Ident → Standing) × (exports : ℕ → Ident → Standing) × Knows g j names exports s

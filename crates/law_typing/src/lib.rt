@@ -1,0 +1,60 @@
+//! Laws alone: the checker answers expressions of bodies exactly as the rules of the language say, and so it does constant
+//! expressions, conditions, assignments, and calls of declared procedures that are statements.
+//!
+//! `def_typing` has the rules: what an expression has, and which rules are broken in it. These laws hold of the elaboration in
+//! `check_expr` and below, of all that it gathers and of the least refusal alike. They are not proved of all: what stands in
+//! braces calls nothing (`IsPlain`), and constant expressions call nothing (`IsCallFree`).
+//!
+//! - `specs/Judging` says what it is to answer exactly, and `specs/Exact` what is elaborated, when names stand for what a
+//!   scope knows of them, and what is proved.
+//! - `proofs/Combining` has a lemma for each form that elaborations are made of, and `proofs/Gathering` the two ways to gather.
+//! - `proofs/Deciding` and `proofs/Shaping` say what tests decide, and what is seen of types.
+//! - `proofs/Operating` and `proofs/Joining` have operators, `proofs/Singles` signs, NOT and functions of one value.
+//! - `proofs/Placing`, `proofs/Selecting` and `proofs/Passing` have values at places, names with components, and arguments.
+//! - `proofs/Fixing`, `proofs/Elements` and `proofs/Constants` have constant expressions.
+//! - `proofs/Calling` and `proofs/Routines` have calls, `proofs/Places` and `proofs/Finding` the layers of the tree,
+//!   `proofs/Expressing` the induction, `proofs/Assigning` conditions and assignments, `proofs/Acting` calls
+//!   that are statements, and `proofs/Knowing` the names of scopes.
+#![tactic(auto)]
+
+ghost use Rattle.check_scope.specs.Elaborated.{every, least};
+ghost use Rattle.law_typing.specs.Judging.{all_of_them, the_least};
+ghost use Rattle.law_typing.specs.Exact.{ExpressionsAreExact, ConstantsAreExact, ConditionsAreExact, AssignmentsAreExact, ActionsAreExact, ScopesAreKnown};
+
+/// An expression in whose braces nothing is called has a value exactly if no rule is broken in it, and the value stands for
+/// what the rules say that it has. Else all that is gathered are broken rules, here or in a declaration, and each that is
+/// broken is gathered; and the least refusal is a broken rule, and no broken rule is less, by place and then by number.
+pub fn expression_laws()
+    ensures every_rule { ExpressionsAreExact every all_of_them }
+    ensures least_rule { ExpressionsAreExact least the_least }
+{}
+
+/// The same of an expression that calls nothing and has to be constant.
+pub fn constant_laws()
+    ensures every_rule { ConstantsAreExact every all_of_them }
+    ensures least_rule { ConstantsAreExact least the_least }
+{}
+
+/// The same of an expression that has to be a condition.
+pub fn condition_laws()
+    ensures every_rule { ConditionsAreExact every all_of_them }
+    ensures least_rule { ConditionsAreExact least the_least }
+{}
+
+/// The same of an assignment.
+pub fn assignment_laws()
+    ensures every_rule { AssignmentsAreExact every all_of_them }
+    ensures least_rule { AssignmentsAreExact least the_least }
+{}
+
+/// The same of a call that is a statement, if no standard procedure is called.
+pub fn action_laws()
+    ensures every_rule { ActionsAreExact every all_of_them }
+    ensures least_rule { ActionsAreExact least the_least }
+{}
+
+/// No scope lacks names that stand for what it knows of them, so the laws above speak of each.
+pub fn scope_laws()
+    ensures every_rule { ScopesAreKnown every all_of_them }
+    ensures least_rule { ScopesAreKnown least the_least }
+{}
