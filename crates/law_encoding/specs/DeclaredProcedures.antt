@@ -14,6 +14,7 @@ use Rattle.check_body.specs.Checks.{checked}
 use Rattle.law_encoding.specs.Sizes.{sum_of}
 use Rattle.law_encoding.specs.Counted.{AtMost}
 
+-- one for a procedure
 abbrev pub headings_of : {A B : Type 0} → Decl-F A B → ℕ
 headings_of (layer.Constants cs) = 0
 headings_of (layer.Types ts) = 0
@@ -34,6 +35,7 @@ abbrev pub ExportsOnce : Option Table → Type 0
 ExportsOnce None = Unit {0}
 ExportsOnce (Some t) = AreDistinct (map (λ e. e.0) t.exported)
 
+-- the procedures of a typed module, without those in them
 abbrev pub procedures_of : TypedModule → ℕ
 procedures_of t = length t.procedures
 
