@@ -160,25 +160,25 @@ module _ (x : Context) (ws : List Ty) (h : TypesTyped x.home.types) (g : Gathers
   open_typed v t at (designated.Module k) p = reported_holds g at rule.NoVariable
 
   module _ (room : length x.characters ≤ 2 ^ 32) where
-    text_argument_typed : (t : TypeNo) (at : Pos) (v : Value) → For (ByArray false (tree types t)) (text_argument g t at v)
-    text_argument_typed t at (constant.Text text) = where_not g (are_same t char) at rule.WrongArgument (λ k. fine (argument.Text text) (subst (λ (z : TypeNo). ArgumentTyped x ws (argument.Text text) (ByArray false (tree types z))) (sym (same_types t char k)) (made.text_typed x ws text room)))
-    text_argument_typed t at (constant.Number n) = reported_holds g at rule.WrongArgument
-    text_argument_typed t at (constant.Scalar s) = reported_holds g at rule.WrongArgument
-    text_argument_typed t at (constant.Set bits) = reported_holds g at rule.WrongArgument
+    text_argument_typed : (t : TypeNo) (at : Pos) (v : Value) → IsConstant types v → For (ByArray false (tree types t)) (text_argument g t at v)
+    text_argument_typed t at (constant.Text text) p = where_not g (are_same t char) at rule.WrongArgument (λ k. fine (argument.Text text) (subst (λ (z : TypeNo). ArgumentTyped x ws (argument.Text text) (ByArray false (tree types z))) (sym (same_types t char k)) (made.text_typed x ws text p.0 room)))
+    text_argument_typed t at (constant.Number n) p = reported_holds g at rule.WrongArgument
+    text_argument_typed t at (constant.Scalar s) p = reported_holds g at rule.WrongArgument
+    text_argument_typed t at (constant.Set bits) p = reported_holds g at rule.WrongArgument
 
-    text_typed : (t : TypeNo) (at : Pos) (v : Computed) → For (ByArray false (tree types t)) (text_passed g t at v)
-    text_typed t at (value.Constant v) = text_argument_typed t at v
-    text_typed t at (value.Scalar u b e) = reported_holds g at rule.WrongArgument
-    text_typed t at (value.Set e) = reported_holds g at rule.WrongArgument
-    text_typed t at (value.Routine u e) = reported_holds g at rule.WrongArgument
-    text_typed t at (value.Procedure f) = reported_holds g at rule.WrongArgument
-    text_typed t at (value.Whole u d) = reported_holds g at rule.WrongArgument
-    text_typed t at value.Untaken = reported_holds g at rule.WrongArgument
+    text_typed : (t : TypeNo) (at : Pos) (v : Computed) → ValueTyped x ws v → For (ByArray false (tree types t)) (text_passed g t at v)
+    text_typed t at (value.Constant v) p = text_argument_typed t at v p
+    text_typed t at (value.Scalar u b e) p = reported_holds g at rule.WrongArgument
+    text_typed t at (value.Set e) p = reported_holds g at rule.WrongArgument
+    text_typed t at (value.Routine u e) p = reported_holds g at rule.WrongArgument
+    text_typed t at (value.Procedure f) p = reported_holds g at rule.WrongArgument
+    text_typed t at (value.Whole u d) p = reported_holds g at rule.WrongArgument
+    text_typed t at value.Untaken p = reported_holds g at rule.WrongArgument
 
     open_value_typed : (t : TypeNo) (at : Pos) (d : Designated) → DesignatedTyped x ws opens d → For (ByArray false (tree types t)) (open_value g scope t at d)
     open_value_typed t at (designated.Variable u d) p = where_not g (elements_suit scope t u) at rule.WrongArgument (λ k. fine (argument.Array u d) (array_by false t u d (array_at scope u) refl k p))
     open_value_typed t at (designated.Open u slot) p = where_not g (are_same u t) at rule.WrongArgument (λ k. fine (argument.Open slot) (open_slot false t u slot k p))
-    open_value_typed t at (designated.Value v) p = text_typed t at v
+    open_value_typed t at (designated.Value v) p = text_typed t at v p
     open_value_typed t at (designated.Type u) p = reported_holds g at rule.WrongType
     open_value_typed t at (designated.Procedure f) p = reported_holds g at rule.WrongArgument
     open_value_typed t at (designated.Nested f) p = reported_holds g at rule.NoProcedureValue

@@ -1,6 +1,7 @@
 -- Constructs whose parts are typed are typed, wherever what they ask for is there.
 use Rattle.std.proofs.Common.{◌≡◌, ℕ, ◌+◌, ℤ, pos, Bool, true, false, List, [], ◌∷◌, ◌++◌, length, Some, None, refl, sym, ap, subst, ◌∙◌, arith}
 use Rattle.std.specs.Prelude.{◌≤◌, ◌^◌, ◌≤ℤ◌, ◌-ℤ◌, if◌then◌else◌}
+use Rattle.std.specs.List.{list_all}
 use Rattle.typed_tree.specs.declared.computed.Argument.{Argument}
 use Rattle.typed_tree.specs.declared.computed.Argument.TheOpen as layer
 use Rattle.typed_tree.specs.declared.computed.Argument.TheVariants as argument
@@ -45,6 +46,8 @@ use Rattle.law_simulation.specs.TreesTyped as typed
 use Rattle.law_simulation.proofs.Opened.{expr_opened, expr_at}
 use Rattle.law_programs.specs.Wanted.{Wanted, wanted_of, wanted_at, wanted_called, wanted_linked, wanted_behind, wanted_passed, AreNeeded, Has}
 use Rattle.law_programs.specs.Typing.{ExprTyped, ProcedureTyped, PlaceTyped, CallTyped, ArgumentTyped}
+use Rattle.law_well_formed.specs.FormedRanges.{fits_character}
+use Rattle.law_programs.proofs.TextBytes.{has_text, passed_bytes}
 use Rattle.law_programs.proofs.Wants.{nothing, beside, made, seam, has_first, has_second, all_passed, passed_last, wants_constant, wants_load, wants_procedure, wants_plus, wants_negate, wants_compare, wants_not, wants_include, wants_in, wants_abs, wants_cap, wants_chr, wants_odd, wants_ord, wants_val, wants_high, wants_call, wants_linked, wants_arithmetic, wants_and, wants_or, wants_combine, wants_rooted, wants_behind, wants_field, wants_element, wants_open_element, through_table, wants_module, wants_nested, by_heading, wants_variable, wants_value, wants_actual, wants_array, wants_open, wants_text}
 
 -- ---- what is no constant
@@ -371,9 +374,9 @@ module _ (x : Context) (ws : List Ty) where
   pub open_typed : (slot : Slot) (is_var : Bool) (u : Ty) → kind_at x.kinds slot ≡ Some (Open u) → ArgumentTyped x ws (argument.Open slot) (ByArray is_var u)
   open_typed slot is_var u h = argument_by (argument.Open slot) nothing (ByArray is_var u) (wants_open m slot) (λ a k. subst (λ (b : ℕ). IsArgument x ws a b (argument.Open slot) (ByArray is_var u)) (same_end a) (typed.ActualOpen a slot is_var u h))
 
-  pub text_typed : (text : List ℕ) → length x.characters ≤ 2 ^ 32 → ArgumentTyped x ws (argument.Text text) (ByArray false (Cell (Natural 255)))
-  text_typed text room = argument_by (argument.Text text) (made (passed text ∷ []) []) (ByArray false (Cell (Natural 255))) (wants_text m text) (λ a k.
-      let there : HasText x a (passed text) = k.texts.0 in
+  pub text_typed : (text : List ℕ) → list_all fits_character text ≡ true → length x.characters ≤ 2 ^ 32 → ArgumentTyped x ws (argument.Text text) (ByArray false (Cell (Natural 255)))
+  text_typed text bytes room = argument_by (argument.Text text) (made (passed text ∷ []) []) (ByArray false (Cell (Natural 255))) (wants_text m text) (λ a k.
+      let there : HasText x a (passed text) = has_text x a (passed text) k.texts.0 (passed_bytes text bytes) in
       let fits = there.fits in
       let end : a + length (passed text) ≡ a + (length (passed text) + 0) = omega arith in
       subst (λ (b : ℕ). IsArgument x ws a b (argument.Text text) (ByArray false (Cell (Natural 255)))) end (typed.ActualText a text there (omega (arith, fits, room))))

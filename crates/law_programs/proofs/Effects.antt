@@ -1,6 +1,7 @@
 -- Assignments, and calls as statements.
 use Rattle.std.proofs.Common.{◌≡◌, ℕ, ◌+◌, ◌-◌, ℤ, pos, ◌==◌, Bool, true, false, cond, List, [], ◌∷◌, length, Option, Some, None, Result, Ok, refl, sym, ap, subst, ◌∙◌, arith}
 use Rattle.std.specs.Prelude.{◌≤◌, ◌-ℤ◌, not, nat_lt, unsigned_abs}
+use Rattle.std.specs.List.{list_all}
 use Rattle.std.specs.Option.{option_map}
 use Rattle.std.proofs.lemmas.Bool.{eqb-true}
 use Rattle.std.proofs.lemmas.Int.{ints}
@@ -58,6 +59,7 @@ use Rattle.layout_storage.specs.Shapes.{tree, elements_of}
 use Rattle.def_scheme.specs.Cells.{base_of}
 use Rattle.law_simulation.specs.Scene.{IsCell}
 use Rattle.law_simulation.specs.Passing.{Result as Gives}
+use Rattle.law_well_formed.specs.FormedRanges.{fits_character}
 use Rattle.law_simulation.specs.TreesTyped.{Context}
 use Rattle.law_simulation.proofs.Plain.{tree_plain}
 use Rattle.law_simulation.proofs.Cells.{set_tree_is, set_is}
@@ -65,7 +67,7 @@ use Rattle.law_well_formed.specs.Formed.{Holds, fine}
 use Rattle.law_well_formed.proofs.Basics.{then_holds, reported_holds, both_holds, refused_holds, reported_beside_holds, ahead_holds, sort_holds, of_heading_holds}
 use Rattle.law_well_formed.proofs.RangesTypes.{same_types, both_left, both_right}
 use Rattle.law_well_formed.proofs.Subranges.{SortRanged, OperandRanged, operand_ranged}
-use Rattle.law_programs.specs.Typing.{HasBase, PlaceTyped, CallTyped, GivenTyped, ValueTyped, DesignatedTyped, IsTyped}
+use Rattle.law_programs.specs.Typing.{IsConstant, HasBase, PlaceTyped, CallTyped, GivenTyped, ValueTyped, DesignatedTyped, IsTyped}
 use Rattle.law_programs.proofs.Known.{ClassIs, class_is, scalar_known, array_known, ranged_cell, routine_tree, has_base, base_is, has_range, IsArray, array_is}
 use Rattle.law_programs.proofs.Constructs as made
 use Rattle.law_programs.proofs.Operators.{where_not, SomeTyped, suited_typed, IsSuited, SuitsCell, SuitsProcedure, place_suited_typed}
@@ -121,6 +123,7 @@ module _ (g : Gathers) (x : Context) (ws : List Ty) (opens : ℕ → Bool) (s : 
     count : ℕ
     is : tree types t ≡ Array count (Cell (Natural 255))
     room : length text ≤ count
+    bytes : list_all fits_character text ≡ true
 
   abbrev AcceptedTyped : TypeNo → Accepted → Type 0
   AcceptedTyped t (accepted.Value e) = IsSuited x ws h.all t e
@@ -134,9 +137,9 @@ module _ (g : Gathers) (x : Context) (ws : List Ty) (opens : ℕ → Bool) (s : 
   one_range : (a b : Range) → Some a ≡ Some b → a ≡ b
   one_range a b e = cc
 
-  place_by : (t : TypeNo) (text : List ℕ) (o : Option (TypeNo × TypeNo)) → array_at s.types t ≡ o → text_fits_in s.types (length text) o ≡ true → HasPlace t text
-  place_by t text None e k = absurd cc
-  place_by t text (Some a) e k =
+  place_by : (t : TypeNo) (text : List ℕ) → list_all fits_character text ≡ true → (o : Option (TypeNo × TypeNo)) → array_at s.types t ≡ o → text_fits_in s.types (length text) o ≡ true → HasPlace t text
+  place_by t text bytes None e k = absurd cc
+  place_by t text bytes (Some a) e k =
       let of_char : a.1 ≡ char = same_types a.1 char (both_left (are_same a.1 char) (text_within (length text) (scalar_at s.types a.0)) k) in
       let i : IsArray types h.all t a.0 a.1 = array_is types h.all t a (array_known s.types types h.types t a e) in
       record {
@@ -144,16 +147,17 @@ module _ (g : Gathers) (x : Context) (ws : List Ty) (opens : ℕ → Bool) (s : 
         is = i.elements ∙ ap (λ (u : TypeNo). Array (elements_of (Some i.range)) (tree types u)) of_char;
         room = within_by (length text) (scalar_at s.types a.0) i.range (λ q z. one_range q i.range (sym (scalar_known s.types types h.types a.0 q z) ∙ i.at))
             (both_right (are_same a.1 char) (text_within (length text) (scalar_at s.types a.0)) k);
+        bytes = bytes;
       }
 
-  text_accepted : (broken : Rule) (t : TypeNo) (at : Pos) (v : Value) → Holds (AcceptedTyped t) (text_suited g broken s.types t at v)
-  text_accepted number t at (constant.Number n) = reported_holds g at number
-  text_accepted number t at (constant.Scalar n) = reported_holds g at number
-  text_accepted number t at (constant.Set bits) = reported_holds g at number
-  text_accepted number t at (constant.Text text) = where_not g (text_fits s.types t (length text)) at number (λ k. fine (accepted.Text text) (place_by t text (array_at s.types t) refl k))
+  text_accepted : (broken : Rule) (t : TypeNo) (at : Pos) (v : Value) → IsConstant types v → Holds (AcceptedTyped t) (text_suited g broken s.types t at v)
+  text_accepted number t at (constant.Number n) p = reported_holds g at number
+  text_accepted number t at (constant.Scalar n) p = reported_holds g at number
+  text_accepted number t at (constant.Set bits) p = reported_holds g at number
+  text_accepted number t at (constant.Text text) p = where_not g (text_fits s.types t (length text)) at number (λ k. fine (accepted.Text text) (place_by t text p.0 (array_at s.types t) refl k))
 
   whole_accepted : (broken : Rule) (t : TypeNo) (at : Pos) (v : Computed) → ValueTyped x ws v → Holds (AcceptedTyped t) (whole_suited g broken s.types t at v)
-  whole_accepted number t at (value.Constant v) p = text_accepted number t at v
+  whole_accepted number t at (value.Constant v) p = text_accepted number t at v p
   whole_accepted number t at (value.Whole u d) p = where_not g (are_same u t) at number (λ k. fine (accepted.Whole d) (subst (λ (z : TypeNo). PlaceTyped x ws d (tree types z)) (same_types u t k) p))
   whole_accepted number t at (value.Scalar u b e) p = reported_holds g at number
   whole_accepted number t at (value.Set e) p = reported_holds g at number
@@ -178,7 +182,7 @@ module _ (g : Gathers) (x : Context) (ws : List Ty) (opens : ℕ → Bool) (s : 
   stored_typed t d (accepted.Value e) p (SuitsProcedure i q) =
       let tr : tree types t ≡ Cell (Callable i.heading) = routine_tree types h.all t i in assign_procedure_typed x result ws looped d t i.heading e tr i.none (subst (λ (u : Ty). PlaceTyped x ws d u) tr p) q
   stored_typed t d (accepted.Whole from) p q = copy_typed x result ws looped d from t (tree_plain types h.all.ranged t) p q
-  stored_typed t d (accepted.Text text) p q = copy_text_typed x result ws looped d t q.count text q.is q.room p
+  stored_typed t d (accepted.Text text) p q = copy_text_typed x result ws looped d t q.count text q.is q.room q.bytes p
 
   assigned_to_typed : (a : Target) (at : Pos) (v : Computed) → TargetTyped a → ValueTyped x ws v → Stmt_ (assigned_to g s.types a at v)
   assigned_to_typed target.Open at v p q = reported_holds g at rule.NotAssignable

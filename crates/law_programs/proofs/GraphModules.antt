@@ -1,6 +1,6 @@
 -- What is known of the modules of a graph, put together.
 use Rattle.std.proofs.Common.{◌≡◌, ℕ, zero, suc, true, List, [], ◌∷◌, Some, Result, Ok, subst}
-use Rattle.std.specs.Prelude.{slice_get}
+use Rattle.std.specs.Prelude.{◌+◌, ◌*◌, ◌≤◌, slice_get}
 use Rattle.std.specs.List.{AllByRecursion, list_all}
 use Rattle.m2_tree.specs.declared.decl.Module.{Module}
 use Rattle.m2_graph.specs.Files.{numbered}
@@ -9,13 +9,12 @@ use Rattle.typed_tree.specs.declared.table.Table.{Table}
 use Rattle.typed_tree.specs.declared.typed_module.Routine.{Routine}
 use Rattle.typed_tree.specs.declared.typed_module.TypedModule.{TypedModule}
 use Rattle.check_scope.specs.Elaborated.{least}
-use Rattle.law_modules.specs.Linked.{Program}
+use Rattle.law_modules.specs.Linked.{Program, bytes_in}
 use Rattle.law_modules.specs.WellFormed.{IsWellFormed}
 use Rattle.law_well_formed.specs.Formed.{Holds, fine, broken}
 use Rattle.law_well_formed.specs.FormedKnown.{fits_module}
 use Rattle.law_well_formed.specs.FormedFrames.{IsNested, AreNested}
 use Rattle.law_well_formed.proofs.Rooms.{frames_have_room}
-use Rattle.law_well_formed.proofs.Bytes.{texts_are_bytes}
 use Rattle.law_well_formed.proofs.FramesModules.{modules_nested}
 use Rattle.build_jobs.specs.Own.{own_table, tables_behind}
 use Rattle.build_jobs.specs.Compiling.{tables_of, typed_body}
@@ -23,8 +22,10 @@ use Rattle.build_jobs.specs.Encoded.{needed_of}
 use Rattle.law_programs.proofs.ValidPrograms.{tables_for, programs_formed}
 use Rattle.law_programs.specs.FormedCoherent.{trees_of, IsBodyIn, AreBodiesIn}
 use Rattle.law_programs.proofs.Graphs.{graphs_coherent}
+use Rattle.law_programs.proofs.TypedModules.{texts_bytes}
 use Rattle.law_simulation.specs.Modules.{IsInside, AreModules}
 use Rattle.law_programs.specs.FormedGraphs.{IsFit}
+use Rattle.law_programs.specs.FormedTrees.{fits_contents}
 
 held : {A T : Type 0} (P : A → Type 0) (r : Result A T) (x : A) → Holds P r → r ≡ Ok x → P x
 held P _ x (fine y p) e = let same : y ≡ x = cc in subst P same p
@@ -59,18 +60,19 @@ module _ (fs : List (List ℕ × Module)) (files : List ℕ) (jobs : List (List 
   all_there (s ∷ ss) (t ∷ ts) b w zero m e = let same : t ≡ m = cc in subst IsThere same (one_there s t b.0 w.0)
   all_there (s ∷ ss) (t ∷ ts) b w (suc place) m e = all_there ss ts b.1 w.1 place m e
 
-  pub are_modules : (p : Program) → AreBodiesIn (trees_of fs) files jobs starts p → AllByRecursion IsFit p → AreModules p
-  are_modules p b w place m e =
-      let there : IsThere m = all_there starts p b w place m e in
-      let known = graphs_coherent fs files jobs starts graph each fit p b place m e in
-      let room = frames_have_room m there.fits.small in
-      record {
-        coherent = known.0;
-        well = there.well;
-        ranged = known.1.0;
-        room = room.procedures;
-        room_locals = room.locals;
-        outermost = there.nested.outermost;
-        inside = λ k d l. inside_of m _ (there.nested.inside k d l);
-        texts = texts_are_bytes m there.fits.encoded;
-      }
+  module _ (whole : list_all (λ m. fits_contents m.contents) (trees_of fs) ≡ true) (p : Program) (b : AreBodiesIn (trees_of fs) files jobs starts p) (w : AllByRecursion IsFit p) (pages : ℕ) (room : bytes_in p + 4096 ≤ 65536 * pages) (most : pages ≤ 1024) where
+    pub are_modules : AreModules p
+    are_modules place m e =
+       let there : IsThere m = all_there starts p b w place m e in
+       let known = graphs_coherent fs files jobs starts graph each fit p b place m e in
+       let frames = frames_have_room m there.fits.small in
+       record {
+         coherent = known.0;
+         well = there.well;
+         ranged = known.1.0;
+         room = frames.procedures;
+         room_locals = frames.locals;
+         outermost = there.nested.outermost;
+         inside = λ k d l. inside_of m _ (there.nested.inside k d l);
+         texts = texts_bytes fs files jobs starts graph each fit whole p b pages room most place m e;
+       }

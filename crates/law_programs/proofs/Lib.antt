@@ -1,5 +1,6 @@
 pub mod Wants
 pub mod Known
+pub mod TextBytes
 pub mod Constructs
 pub mod Words
 pub mod Operators
@@ -45,7 +46,6 @@ pub mod Imports
 pub mod GraphsPrograms
 pub mod EachOnce
 pub mod Graphs
-pub mod GraphModules
 pub mod Fits
 pub mod Exprs
 pub mod Stmts
@@ -73,4 +73,7 @@ pub mod Whole
 pub mod Exports
 pub mod NamesThere
 pub mod BlockNames
+pub mod TypedTexts
+pub mod ModuleTexts
 pub mod TypedModules
+pub mod GraphModules

@@ -70,7 +70,7 @@ use Rattle.law_simulation.specs.Passing.{Forms, form_of}
 use Rattle.law_simulation.specs.TreesTyped.{Context, GlobalRoot, LocalRoot, AliasRoot, WithRoot}
 use Rattle.law_well_formed.specs.Formed.{Holds, fine}
 use Rattle.law_well_formed.proofs.Basics.{then_holds, reported_holds, both_holds, refused_holds, reported_beside_holds, ahead_holds, sort_holds, of_heading_holds, plain_holds, any_holds, heading_kept}
-use Rattle.law_well_formed.specs.FormedRanges.{itself, fits_letter, fits_layer, LetterRanged}
+use Rattle.law_well_formed.specs.FormedRanges.{itself, fits_layer}
 use Rattle.law_well_formed.proofs.RangesTypes.{both_left, both_right}
 use Rattle.law_well_formed.proofs.Subranges.{from_le}
 use Rattle.law_well_formed.proofs.Values.{char_ranged}
@@ -405,17 +405,13 @@ module _ (g : Gathers) (x : Context) (ws : List Ty) (opens : ℕ → Bool) (s : 
   all_items [] = tt
   all_items (y ∷ ys) = (y.1, all_items ys)
 
-  letter_typed : (o : Option ℕ) → fits_letter o ≡ true → LetterRanged types o
-  letter_typed None e = tt
-  letter_typed (Some c) e = from_le (pos c) (pos 255) e
-
   first_of : (y : SE) (rest : Bool) → (fits_whole y.0 && rest) ≡ true → Value_ (value_of g s (meant g y.0))
   first_of y rest e = value_typed (meant g y.0) (y.1 (both_left (fits_whole y.0) rest e))
 
   expr_typed : (y : Expr-F SE SS SD SI) → fits_layer (fitting (bare y)) ≡ true → FM (expr_layer g (opened (bare y)))
   expr_typed (layer.Number p n) e = constant_meant (expr_layer g (opened (bare (layer.Number p n)))).fixed (fine (denoted.Value (constant_value.Number (pos n))) ((omega (arith, ints), from_le (pos n) (pos 4294967295) e), tt))
   expr_typed (layer.Char p c) e = constant_meant (expr_layer g (opened (bare (layer.Char p c)))).fixed (fine (denoted.Value (valued (Some char) (pos c))) (char_ranged g types (pos c) (omega (arith, ints)) (from_le (pos c) (pos 255) e), tt))
-  expr_typed (layer.Text p t) e = constant_meant (expr_layer g (opened (bare (layer.Text p t)))).fixed (fine (denoted.Value (constant_value.Text t)) (letter_typed (letter t) e, tt))
+  expr_typed (layer.Text p t) e = constant_meant (expr_layer g (opened (bare (layer.Text p t)))).fixed (fine (denoted.Value (constant_value.Text t)) (e, tt))
   expr_typed (layer.Set q p items) e =
       constant_meant (expr_layer g (opened (bare (layer.Set q p items)))).fixed
       (then_holds (both_holds g (any_holds (set_type g s q)) (items_small g s (map (λ (i : Adds g.Reported). i) (map (item g) (map (λ (e : SI). e.0) items))) (Ok 0) (fine 0 (omega arith)) (all_items items)))

@@ -19,67 +19,47 @@ use Rattle.def_scheme.specs.Signatures.{Signature, Signatures, needed, same_resu
 use Rattle.law_modules.specs.Linked.{Program, text}
 use Rattle.law_modules.proofs.Stores.{text_length}
 use Rattle.law_simulation.specs.Frames.{Kinds, kinds_of}
-use Rattle.law_simulation.specs.TreesTyped.{Context, HasText}
+use Rattle.law_simulation.specs.TreesTyped.{Context}
 use Rattle.law_simulation.specs.Linked.{text_of, environment_of}
 use Rattle.law_simulation.specs.Modules.{IsTypedModule}
-use Rattle.law_programs.specs.Wanted.{TextsStand, AreNeeded, Has}
+use Rattle.law_programs.specs.Wanted.{TextStands, TextsStand, AreNeeded, Has}
 use Rattle.law_programs.specs.Asked.{wanted_by}
 use Rattle.law_programs.specs.TypingBodies.{Stage, stands, AreBodiesTyped}
 use Rattle.law_programs.specs.TypingWants.{AreOrdered, IsProvided, AreProvided, placed}
 
 -- ---- texts
 
-abbrev AreBytes : List ℕ → Type 0
-AreBytes cs = AllByRecursion (λ b. b < 256) cs
-
-bytes_first : (cs ds : List ℕ) → AreBytes (cs ++ ds) → AreBytes cs
-bytes_first [] ds h = tt
-bytes_first (c ∷ cs) ds h = (h.0, bytes_first cs ds h.1)
-
-bytes_second : (cs ds : List ℕ) → AreBytes (cs ++ ds) → AreBytes ds
-bytes_second [] ds h = h
-bytes_second (c ∷ cs) ds h = bytes_second cs ds h.1
-
--- past the end stands 0
-byte_at : (cs : List ℕ) → AreBytes cs → (j : ℕ) → get_or cs j 0 < 256
-byte_at [] h j = omega arith
-byte_at (c ∷ cs) h zero = h.0
-byte_at (c ∷ cs) h (suc j) = byte_at cs h.1 j
-
-characters_append : (ts us : Texts) → all_characters (ts ++ us) ≡ all_characters ts ++ all_characters us
+pub characters_append : (ts us : Texts) → all_characters (ts ++ us) ≡ all_characters ts ++ all_characters us
 characters_append [] us = refl
 characters_append (t ∷ ts) us = ap (λ (cs : List ℕ). t ++ cs) (characters_append ts us) ∙ sym (append_assoc t (all_characters ts) (all_characters us))
 
 module _ (x : Context) where
-  has_text : (before t rest : List ℕ) → x.characters ≡ before ++ (t ++ rest) → AreBytes t → HasText x (length before) t
-  has_text before t rest q bytes = record {
+  text_stands : (before t rest : List ℕ) → x.characters ≡ before ++ (t ++ rest) → TextStands x (length before) t
+  text_stands before t rest q = record {
     fits =
         let e : length x.characters ≡ length (before ++ (t ++ rest)) = ap (λ (cs : List ℕ). length cs) q in
         let f : length (before ++ (t ++ rest)) ≡ length before + length (t ++ rest) = length-append before (t ++ rest) in
         let k : length (t ++ rest) ≡ length t + length rest = length-append t rest in
         omega (arith, e, f, k);
     same = λ j l. ap (λ (cs : List ℕ). get_or cs (length before + j) 0) q ∙ get_or-append-add before (t ++ rest) j 0 ∙ get_or_append_left t rest 0 j l;
-    small = byte_at t bytes;
   }
 
-  texts_stand : (before : List ℕ) (ts : Texts) (rest : List ℕ) → x.characters ≡ before ++ (all_characters ts ++ rest) → AreBytes (all_characters ts) → TextsStand x (length before) ts
-  texts_stand before [] rest q bytes = tt
-  texts_stand before (t ∷ ts) rest q bytes =
+  texts_stand : (before : List ℕ) (ts : Texts) (rest : List ℕ) → x.characters ≡ before ++ (all_characters ts ++ rest) → TextsStand x (length before) ts
+  texts_stand before [] rest q = tt
+  texts_stand before (t ∷ ts) rest q =
       let e : x.characters ≡ before ++ (t ++ (all_characters ts ++ rest)) = q ∙ ap (λ (cs : List ℕ). before ++ cs) (append_assoc t (all_characters ts) rest) in (
-        has_text before t (all_characters ts ++ rest) e (bytes_first t (all_characters ts) bytes),
+        text_stands before t (all_characters ts ++ rest) e,
         subst (λ (n : ℕ). TextsStand x n ts) (length-append before t)
-            (texts_stand (before ++ t) ts rest (e ∙ sym (append_assoc before t (all_characters ts ++ rest))) (bytes_second t (all_characters ts) bytes)),
+            (texts_stand (before ++ t) ts rest (e ∙ sym (append_assoc before t (all_characters ts ++ rest)))),
       )
 
 -- texts among those of a module stand behind those before them
-module _ (z : Stage) (kinds : List Kinds) (bytes : AreBytes (text z.home)) where
+module _ (z : Stage) (kinds : List Kinds) where
   part_stands : (before ts behind : Texts) → module_texts z.home ≡ before ++ (ts ++ behind) → TextsStand (stands z kinds) (characters before) ts
   part_stands before ts behind q =
       let e : text z.home ≡ all_characters before ++ (all_characters ts ++ all_characters behind)
       = ap all_characters q ∙ characters_append before (ts ++ behind) ∙ ap (λ (cs : List ℕ). all_characters before ++ cs) (characters_append ts behind) in
-      let own : AreBytes (all_characters ts)
-      = bytes_first (all_characters ts) (all_characters behind) (bytes_second (all_characters before) (all_characters ts ++ all_characters behind) (subst AreBytes e bytes)) in
-      subst (λ (n : ℕ). TextsStand (stands z kinds) n ts) (text_length before) (texts_stand (stands z kinds) (all_characters before) ts (all_characters behind) e own)
+      subst (λ (n : ℕ). TextsStand (stands z kinds) n ts) (text_length before) (texts_stand (stands z kinds) (all_characters before) ts (all_characters behind) e)
 
 which_is : (w v : Which) → is_which w v ≡ true → w ≡ v
 which_is (which.Module m) (which.Module n) e = ap which.Module (eqb-true m n e)
@@ -100,7 +80,7 @@ module _ (m : TypedModule) (w : Which) where
         let rest = further k in
         (rest.0, ap (λ (ts : Texts). which_texts m v ++ ts) rest.1 ∙ sym (append_assoc (which_texts m v) (texts_before m w vs) (which_texts m w ++ rest.0)))
 
-which_texts_are : (m : TypedModule) (w : Which) (r : Routine) → routine_of m w ≡ Some r → which_texts m w ≡ body_texts r.body
+pub which_texts_are : (m : TypedModule) (w : Which) (r : Routine) → routine_of m w ≡ Some r → which_texts m w ≡ body_texts r.body
 which_texts_are m (which.Module n) r e = ap routine_texts e
 which_texts_are m (which.Local n) r e = ap routine_texts e
 
@@ -155,16 +135,13 @@ module _ (m : TypedModule) where
 
 -- ---- bodies
 
-module _ (z : Stage) (ordered : AreOrdered z.home) (bytes : All (λ b. b < 256) (text z.home)) where
-  all_bytes : AreBytes (text z.home)
-  all_bytes = recursion_from_All (λ b. b < 256) (text z.home) bytes
-
+module _ (z : Stage) (ordered : AreOrdered z.home) where
   module _ (w : Which) (r : Routine) (is : routine_of z.home w ≡ Some r) (kinds : List Kinds) where
     routine_texts_stand : (list_any (is_which w) z.home.order ≡ true) ⊎ (r.body ≡ []) → TextsStand (stands z kinds) (text_of z.home w) (body_texts r.body)
     routine_texts_stand (inl e) =
         let at = ordered_texts z.home w z.home.order e in
         subst (λ (ts : Texts). TextsStand (stands z kinds) (text_of z.home w) ts) (which_texts_are z.home w r is)
-        (part_stands z kinds all_bytes (texts_before z.home w z.home.order) (which_texts z.home w) (at.0 ++ body_texts z.home.body)
+        (part_stands z kinds (texts_before z.home w z.home.order) (which_texts z.home w) (at.0 ++ body_texts z.home.body)
         (ap (λ (ts : Texts). ts ++ body_texts z.home.body) at.1
         ∙ append_assoc (texts_before z.home w z.home.order) (which_texts z.home w ++ at.0) (body_texts z.home.body)
         ∙ ap (λ (ts : Texts). texts_before z.home w z.home.order ++ ts) (append_assoc (which_texts z.home w) at.0 (body_texts z.home.body))))
@@ -178,7 +155,7 @@ module _ (z : Stage) (ordered : AreOrdered z.home) (bytes : All (λ b. b < 256) 
 
   body_provided : IsProvided z (characters (routines_texts z.home)) z.home.body
   body_provided kinds = record {
-    texts = part_stands z kinds all_bytes (routines_texts z.home) (body_texts z.home.body) []
+    texts = part_stands z kinds (routines_texts z.home) (body_texts z.home.body) []
         (ap (λ (ts : Texts). routines_texts z.home ++ ts) (sym (append-nil (body_texts z.home.body))));
     signatures = are_needed (stands z kinds) (flat_map (of_step z.home) z.home.body) (body_among z.home);
   }

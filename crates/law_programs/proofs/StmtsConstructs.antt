@@ -1,7 +1,7 @@
 -- Statements whose parts are typed are typed, wherever what they ask for is there.
 use Rattle.std.proofs.Common.{◌≡◌, ℕ, ◌+◌, ℤ, pos, negsuc, Bool, true, List, [], ◌∷◌, ◌++◌, length, Some, None, refl, sym, ap, subst, ◌∙◌, arith}
 use Rattle.std.specs.Prelude.{◌≤◌, ◌≤ℤ◌}
-use Rattle.std.specs.List.{AllByRecursion}
+use Rattle.std.specs.List.{AllByRecursion, list_all}
 use Rattle.typed_tree.specs.declared.computed.Call.{Call}
 use Rattle.typed_tree.specs.declared.computed.Place.{Place}
 use Rattle.typed_tree.specs.declared.computed.Root.{Root}
@@ -28,6 +28,8 @@ use Rattle.law_simulation.specs.StmtsTyped.{IsControl, IsGiven, IsTest, IsStmt, 
 use Rattle.law_simulation.specs.StmtsTyped as typed
 use Rattle.law_programs.specs.Wanted.{Wanted, wanted_of, wanted_at, wanted_called, Has}
 use Rattle.law_programs.specs.Typing.{ExprTyped, ProcedureTyped, PlaceTyped, CallTyped, GivenTyped}
+use Rattle.law_well_formed.specs.FormedRanges.{fits_character}
+use Rattle.law_programs.proofs.TextBytes.{has_text}
 use Rattle.law_programs.proofs.Wants.{nothing, beside, made, seam, has_first, has_second, wants_rooted}
 use Rattle.law_programs.specs.Asked.{wanted_in, wanted_armed, wanted_by}
 use Rattle.law_programs.specs.TypingStmts.{StmtTyped, StmtsTyped}
@@ -152,10 +154,10 @@ module _ (x : Context) (result : Gives) where
     copy_typed d e t is p q =
         stmt_of (stmt.Copy d e t) (wanted_at m d) (wanted_at m e) (wants_copy m d e t) (λ a b z i j h k. typed.Copy ws l a b z d e t is (place_to ws d (tree types t) p a b i h) (place_to ws e (tree types t) q b z j k))
 
-    pub copy_text_typed : (d : Place) (t : TypeNo) (n : ℕ) (text : List ℕ) → tree types t ≡ Array n (Cell (Natural 255)) → length text ≤ n → PlaceTyped x ws d (tree types t) → StmtTyped x result ws l (stmt.CopyText d t text)
-    copy_text_typed d t n text is less p =
+    pub copy_text_typed : (d : Place) (t : TypeNo) (n : ℕ) (text : List ℕ) → tree types t ≡ Array n (Cell (Natural 255)) → length text ≤ n → list_all fits_character text ≡ true → PlaceTyped x ws d (tree types t) → StmtTyped x result ws l (stmt.CopyText d t text)
+    copy_text_typed d t n text is less bytes p =
         stmt_of (stmt.CopyText d t text) (wanted_at m d) (made (text ∷ []) []) (wants_copy_text m d t text) (λ a b z i j h k.
-        let there : HasText x b text = k.texts.0 in
+        let there : HasText x b text = has_text x b text k.texts.0 bytes in
         let end : b + length text ≡ z = (let e : b + length text ≡ b + (length text + 0) = omega arith in e) ∙ j in
         subst (λ (c : ℕ). IsStmt x result ws l a c (stmt.CopyText d t text)) end (typed.CopyText ws l a b n d t text is less there (place_to ws d (tree types t) p a b i h)))
 

@@ -1,6 +1,6 @@
 -- What is known of the modules of a graph, put together.
 use Rattle.std.proofs.Common.{◌≡◌, ℕ, zero, suc, ◌+◌, ◌≤◌, Bool, true, false, ◌&&◌, List, [], ◌∷◌, length, Some, Result, Ok, refl, sym, ap, subst, ◌∙◌, arith}
-use Rattle.std.specs.Prelude.{◌*◌, ◌^◌, slice_get, slice_index_or}
+use Rattle.std.specs.Prelude.{◌*◌, ◌^◌, ◌<◌, All, slice_get, slice_index_or}
 use Rattle.std.specs.List.{AllByRecursion, list_all}
 use Rattle.m2_tree.specs.declared.decl.Block.{Block}
 use Rattle.m2_tree.specs.declared.decl.Module.{Module}
@@ -12,20 +12,18 @@ use Rattle.check_scope.specs.declared.scope.Scope.{Scope}
 use Rattle.check_scope.specs.Elaborated.{least}
 use Rattle.layout_storage.specs.Texts.{characters, module_texts}
 use Rattle.def_scheme.specs.Modules.{all_characters}
-use Rattle.law_modules.specs.Linked.{Program, bytes_in}
+use Rattle.law_modules.specs.Linked.{Program, bytes_in, text}
 use Rattle.law_modules.proofs.Stores.{text_length}
 use Rattle.law_well_formed.specs.Formed.{Holds, fine, broken}
 use Rattle.law_well_formed.specs.FormedKnown.{fits_module}
-use Rattle.law_well_formed.proofs.Bytes.{texts_are_bytes}
 use Rattle.law_programs.specs.FormedTrees.{fits_contents}
 use Rattle.law_programs.specs.FormedCoherent.{trees_of, IsBodyOf, AreBodiesIn}
 use Rattle.law_programs.proofs.Graphs.{graphs_whole}
-use Rattle.law_programs.specs.FormedGraphs.{IsFit}
 use Rattle.build_jobs.specs.Own.{own_table, tables_behind}
 use Rattle.build_jobs.specs.Compiling.{tables_of, typed_body}
 use Rattle.build_jobs.specs.Encoded.{needed_of}
 use Rattle.law_simulation.specs.TreesTyped.{Context}
-use Rattle.law_simulation.specs.Modules.{AreTypedModules}
+use Rattle.law_simulation.specs.Modules.{IsTypedModule, AreTypedModules}
 use Rattle.law_programs.specs.Carried.{NamesPlaced, NamesSlots}
 use Rattle.law_programs.specs.Names.{HasInstance}
 use Rattle.law_programs.specs.TypingBodies.{fits_whole_block, Stage, HasModule, NamesThere, AreBodiesTyped}
@@ -33,6 +31,7 @@ use Rattle.law_programs.proofs.Modules.{modules_typed}
 use Rattle.law_programs.specs.TypingWants.{AreOrdered, placed}
 use Rattle.law_programs.proofs.Orders.{bodies_ordered}
 use Rattle.law_programs.proofs.Provided.{bodies_provided, module_typed}
+use Rattle.law_programs.proofs.ModuleTexts.{module_bytes}
 use Rattle.law_programs.specs.TypingTables.{BeginsIn, program, implementation, tables_by, modules_in, declared_in, walked_in, BodyStands}
 use Rattle.law_programs.proofs.Bodies.{bodies_stand}
 use Rattle.law_programs.specs.TypingNames.{is_open, NamesStand, BodyNamed, placed_at}
@@ -128,7 +127,7 @@ module _ (p : Program) (pages place : ℕ) (m : TypedModule) (there : slice_get 
 -- ---- the modules of a graph
 
 module _ (fs : List (List ℕ × Module)) (files : List ℕ) (jobs : List (List ℕ)) (starts : List ℕ) (graph : IsGraph (numbered 0 fs) files jobs starts) (each : CompileEach (numbered 0 fs) files) (fit : list_all fits_module (trees_of fs) ≡ true) (whole : list_all (λ m. fits_contents m.contents) (trees_of fs) ≡ true) where
-  module _ (p : Program) (b : AreBodiesIn (trees_of fs) files jobs starts p) (fits : AllByRecursion IsFit p) (pages : ℕ) (room : bytes_in p + 4096 ≤ 65536 * pages) (most : pages ≤ 1024) where
+  module _ (p : Program) (b : AreBodiesIn (trees_of fs) files jobs starts p) (pages : ℕ) (room : bytes_in p + 4096 ≤ 65536 * pages) (most : pages ≤ 1024) where
     abbrev Body : TypedModule → Type 0
     Body m = IsBodyOf (trees_of fs) files jobs m
 
@@ -147,13 +146,27 @@ module _ (fs : List (List ℕ × Module)) (files : List ℕ) (jobs : List (List 
     names_begun m o named _ _ (program b e) = named.program b e
     names_begun m o named _ _ (implementation own b k e) = named.implementation own b k e
 
-    pub are_typed : AreTypedModules p pages
-    are_typed place m e =
+    -- the module is typed, and its texts are bytes
+    record IsPlaced (place : ℕ) (m : TypedModule) : Type 0 where
+      typed : IsTypedModule p pages place m
+      bytes : All (λ b. b < 256) (text m)
+
+    one_there : (place : ℕ) (m : TypedModule) → slice_get p place ≡ Some m → IsPlaced place m
+    one_there place m e =
         let o : Body m = body_of place m e in
         let named : BodyNamed (trees_of fs) files jobs o (placed_at p pages place m) = body_named fs files jobs starts graph each fit p b pages place m e o in
         let st : BodyStands o.tree o.job (tables o) m = bodies_stand fs files jobs starts graph fit o.tree o.job m o.is_tree o.typed in
         let stand : NamesStand (placed_at p pages place m) (is_open (tables_by o.tree (tables o)) m.imports) st.scope o.tree st.block = names_begun m o named st.scope st.block st.begun in
         let typed = bodies_typed p pages place m e o.tree o.job (tables o) st named.own stand (passes_at (λ (t : Module). fits_contents t.contents) (trees_of fs) whole (slice_index_or files o.job 0) o.tree o.is_tree) (texts_room p pages place m e room most) in
-        let bytes = texts_are_bytes m (each_at IsFit p fits place m e).encoded in
-        module_typed p pages place m (opens p pages place m e o.tree o.job (tables o) st) typed
-        (bodies_provided (placed p pages place m (opens p pages place m e o.tree o.job (tables o) st)) (ordered m o) bytes)
+        let z : Stage = placed p pages place m (opens p pages place m e o.tree o.job (tables o) st) in
+        let provided = bodies_provided z (ordered m o) in
+        record {
+          typed = module_typed p pages place m (opens p pages place m e o.tree o.job (tables o) st) typed provided;
+          bytes = module_bytes z typed provided;
+        }
+
+    pub are_typed : AreTypedModules p pages
+    are_typed place m e = (one_there place m e).typed
+
+    pub texts_bytes : (place : ℕ) (m : TypedModule) → slice_get p place ≡ Some m → All (λ b. b < 256) (text m)
+    texts_bytes place m e = (one_there place m e).bytes

@@ -1,18 +1,17 @@
 -- The modules of a graph are typed.
 use Rattle.std.specs.Prelude.{◌≡◌, ℕ, ◌+◌, ◌*◌, ◌≤◌, true, List}
-use Rattle.std.specs.List.{AllByRecursion, list_all}
+use Rattle.std.specs.List.{list_all}
 use Rattle.m2_tree.specs.declared.decl.Module.{Module}
 use Rattle.m2_graph.specs.Files.{numbered}
 use Rattle.m2_graph.specs.Graph.{IsGraph, CompileEach}
 use Rattle.law_modules.specs.Linked.{Program, bytes_in}
 use Rattle.law_well_formed.specs.FormedKnown.{fits_module}
 use Rattle.law_programs.specs.FormedCoherent.{trees_of, AreBodiesIn}
-use Rattle.law_programs.specs.FormedGraphs.{IsFit}
 use Rattle.law_programs.specs.FormedTrees.{fits_contents}
 use Rattle.law_simulation.specs.Modules.{AreTypedModules}
 
--- The files have this graph, and their trees fit, with the statements in them. The bodies that
--- start fit, and there is room for them in the pages.
+-- The files have this graph, and their trees fit, with the statements in them. There is room for
+-- the bodies that start in the pages.
 abbrev pub GraphsAreTyped : Type 0
 GraphsAreTyped =
     (fs : List (List ℕ × Module)) (files : List ℕ) (jobs : List (List ℕ)) (starts : List ℕ)
@@ -22,7 +21,6 @@ GraphsAreTyped =
     → list_all (λ m. fits_contents m.contents) (trees_of fs) ≡ true
     → (p : Program)
     → AreBodiesIn (trees_of fs) files jobs starts p
-    → AllByRecursion IsFit p
     → (pages : ℕ)
     → bytes_in p + 4096 ≤ 65536 * pages
     → pages ≤ 1024

@@ -49,10 +49,10 @@ pub record AreProvided (z : Stage) : Type 0 where
       → IsProvided z (text_of z.home w) r.body
   pub body : IsProvided z (characters (routines_texts z.home)) z.home.body
 
--- It is there in each module whose texts are bytes.
+-- It is there in each module.
 abbrev pub BodiesAreProvided : Type 0
 BodiesAreProvided =
-    (z : Stage) → AreOrdered z.home → All (λ b. b < 256) (text z.home) → AreProvided z
+    (z : Stage) → AreOrdered z.home → AreProvided z
 
 -- ---- modules
 
@@ -68,11 +68,11 @@ placed p pages place m opens = record {
   opens = opens;
 }
 
--- So a module is typed where its bodies are typed wherever what they ask for is there.
+-- So a module is typed, and its texts are bytes, if its bodies are typed wherever what they ask for
+-- is there.
 abbrev pub BodiesMakeModules : Type 0
 BodiesMakeModules =
     (p : Program) (pages place : ℕ) (m : TypedModule) (opens : ℕ → Bool)
     → AreBodiesTyped (placed p pages place m opens) m.body
     → AreOrdered m
-    → All (λ b. b < 256) (text m)
-    → IsTypedModule p pages place m
+    → IsTypedModule p pages place m × All (λ b. b < 256) (text m)

@@ -1,5 +1,5 @@
 -- What a tree asks for where it stands: its texts, and the types of its calls through the table.
-use Rattle.std.specs.Prelude.{◌≡◌, ℕ, ◌+◌, true, [], ◌∷◌, length}
+use Rattle.std.specs.Prelude.{◌≡◌, ℕ, ◌+◌, ◌<◌, ◌≤◌, true, List, [], ◌∷◌, length, get_or}
 use Rattle.typed_tree.specs.declared.computed.Argument.{Argument, fold-Argument}
 use Rattle.typed_tree.specs.declared.computed.Call.{Call}
 use Rattle.typed_tree.specs.declared.computed.Component.{Component, fold-Component}
@@ -9,7 +9,7 @@ use Rattle.typed_tree.specs.declared.computed.TypedExpr.{TypedExpr}
 use Rattle.typed_tree.specs.declared.typed_module.TypedModule.{TypedModule}
 use Rattle.layout_storage.specs.Texts.{Texts, texts_of, texts_at, texts_called, texts_linked, texts_behind, texts_passed}
 use Rattle.def_scheme.specs.Signatures.{Signatures, needed, is_among, of_expr, of_place, of_call, argument_layer, call_layer, component_layer, link_layer, expr_layer, place_layer}
-use Rattle.law_simulation.specs.TreesTyped.{Context, HasText}
+use Rattle.law_simulation.specs.TreesTyped.{Context}
 
 -- ---- the types of calls through the table, in the parts that have no name in the scheme
 
@@ -56,10 +56,15 @@ module _ (m : TypedModule) where
   abbrev pub wanted_passed : Argument → Wanted
   wanted_passed a = record { texts = texts_passed a; signatures = of_argument m a }
 
--- the texts stand behind one another from there on among the characters of the module
+-- the text stands there among the characters of the module
+pub record TextStands (x : Context) (at : ℕ) (text : List ℕ) : Type 0 where
+  pub fits : at + length text ≤ length x.characters
+  pub same : (j : ℕ) → j < length text → get_or x.characters (at + j) 0 ≡ get_or text j 0
+
+-- the texts stand behind one another from there on
 abbrev pub TextsStand : Context → (at : ℕ) → Texts → Type 0
 TextsStand x at [] = Unit {0}
-TextsStand x at (t ∷ ts) = HasText x at t × TextsStand x (at + length t) ts
+TextsStand x at (t ∷ ts) = TextStands x at t × TextsStand x (at + length t) ts
 
 -- the module has the types of all these calls
 abbrev pub AreNeeded : Context → Signatures → Type 0

@@ -40,7 +40,7 @@ use Rattle.check_scope.specs.Elaborated.{Gathers, reported, both}
 use Rattle.check_scope.specs.Scopes.{or_outside, Sight, seen_at, in_block, nearer, known_outside, or_around, known, means_seen, means_as, opened, means_or, looked_up}
 use Rattle.check_const_ops.specs.Operators.{mul_op, add_op}
 use Rattle.check_const_ops.specs.declared.operator.BinaryOp.TheVariants as op
-use Rattle.check_const_ops.specs.Operands.{letter, valued}
+use Rattle.check_const_ops.specs.Operands.{valued}
 use Rattle.check_const.specs.declared.denoted.Denoted.{Denoted}
 use Rattle.check_const.specs.declared.denoted.Denoted.TheVariants as denoted
 use Rattle.check_const.specs.declared.call.Sort.{Sort}
@@ -51,7 +51,7 @@ use Rattle.check_const.specs.Parts.{Part, Pick, Adds, sign_place, signed_first, 
 use Rattle.check_expr.specs.Meanings.{Meant, Picks, expr_layer, selector_layer, designator_layer, item_layer, meant, picks, head, item, part}
 use Rattle.law_well_formed.specs.Formed.{Holds, fine, broken}
 use Rattle.law_well_formed.proofs.Basics.{then_holds, reported_holds, plain_holds, heading_means_holds, any_holds}
-use Rattle.law_well_formed.specs.FormedRanges.{itself, fits_letter, fits_layer, fits_selector, fits_designator, fits_item, fits, LetterRanged, ValueRanged, MeaningRanged, KnownRanged, NamesRanged, BlocksRanged, ExportsRanged, TablesRanged, ScopeRanged}
+use Rattle.law_well_formed.specs.FormedRanges.{itself, fits_layer, fits_selector, fits_designator, fits_item, fits, ValueRanged, MeaningRanged, KnownRanged, NamesRanged, BlocksRanged, ExportsRanged, TablesRanged, ScopeRanged}
 use Rattle.law_well_formed.proofs.RangesTypes.{both_left, both_right}
 use Rattle.law_well_formed.proofs.Subranges.{from_le}
 use Rattle.law_well_formed.proofs.Values.{char_ranged, combined_ranged, signed_ranged, negated_ranged, unary_ranged, TypeIs, bound_ranged, converted_ranged}
@@ -375,17 +375,13 @@ module _ (g : Gathers) (s : Scope g.Reported) (h : ScopeRanged s) where
   all_picks [] = tt
   all_picks (x ∷ xs) = (x.1, all_picks xs)
 
-  letter_ranged : (o : Option ℕ) → fits_letter o ≡ true → LetterRanged s.types o
-  letter_ranged None e = tt
-  letter_ranged (Some c) e = from_le (pos c) (pos 255) e
-
   first_of : (x : SE) (rest : Bool) → (fits x.0 && rest) ≡ true → V_ (constant g s (part g x.0))
   first_of x rest e = constant_ranged (part g x.0) (x.1 (both_left (fits x.0) rest e))
 
   expr_ranged : (y : Expr-F SE SS SD SI) → fits_layer (elaborated (bare y)) ≡ true → FM (expr_layer g (parts (bare y))).fixed
   expr_ranged (layer.Number p n) e = fine (denoted.Value (value.Number (pos n))) (omega (arith, ints), from_le (pos n) (pos 4294967295) e)
   expr_ranged (layer.Char p c) e = fine (denoted.Value (valued (Some char) (pos c))) (char_ranged g s.types (pos c) (omega (arith, ints)) (from_le (pos c) (pos 255) e))
-  expr_ranged (layer.Text p t) e = fine (denoted.Value (value.Text t)) (letter_ranged (letter t) e)
+  expr_ranged (layer.Text p t) e = fine (denoted.Value (value.Text t)) e
   expr_ranged (layer.Set q p items) e = then_holds (any_holds (both g _ _)) (λ x k. fine (denoted.Value (value.Set x.1)) tt)
   expr_ranged (layer.Not p x) e = value_ranged (negated_ranged g s.types p (constant g s (part g x.0)))
   expr_ranged (layer.Bracketed p x) e = value_ranged (constant_ranged (part g x.0) (x.1 e))

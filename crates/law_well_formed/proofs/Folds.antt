@@ -35,9 +35,8 @@ use Rattle.m2_tree.specs.declared.decl.Decl.TheVariants as decl
 use Rattle.m2_tree.specs.declared.decl.Decl.TheVariants.{outs-Constants, outs-Types, outs-Variables}
 use Rattle.m2_tree.specs.declared.decl.Decl.TheVariants.{outs-Procedure as outs-Body}
 use Rattle.m2_tree.specs.declared.decl.Block.{Block, Block-F, out-Block, roll-Block, out-roll-Block, map-Block, fold_out-Block}
-use Rattle.law_well_formed.specs.FormedRanges.{both_fit, itself, fits_layer, fits_selector, fits_designator, fits_item, fits, fits_letter, fits_simple, fits_type_layer, fits_field, fits_type, fits_constant, fits_type_decl, fits_variables}
+use Rattle.law_well_formed.specs.FormedRanges.{both_fit, itself, fits_layer, fits_selector, fits_designator, fits_item, fits, fits_character, fits_simple, fits_type_layer, fits_field, fits_type, fits_constant, fits_type_decl, fits_variables}
 use Rattle.law_well_formed.specs.FormedKnown.{fits_within_layer, fits_block_layer, fits_within, fits_block}
-use Rattle.check_const_ops.specs.Operands.{letter}
 
 pub and_both : (a b : Bool) → a ≡ true → b ≡ true → (a && b) ≡ true
 and_both true b h k = k
@@ -78,7 +77,7 @@ number_fits p n h = at (e.Number p n) (layer.Number p n) (outs-Number p n) ∙ h
 pub char_fits : (p : Pos) (n : ℕ) → int_le (pos n) (pos 255) ≡ true → fits (e.Char p n) ≡ true
 char_fits p n h = at (e.Char p n) (layer.Char p n) (outs-Char p n) ∙ h
 
-pub text_fits : (p : Pos) (t : List ℕ) → fits_letter (letter t) ≡ true → fits (e.Text p t) ≡ true
+pub text_fits : (p : Pos) (t : List ℕ) → list_all fits_character t ≡ true → fits (e.Text p t) ≡ true
 text_fits p t h = at (e.Text p t) (layer.Text p t) (outs-Text p t) ∙ h
 
 pub set_fits : (name : Option Ident) (p : Pos) (items : List Item) → fits (e.Set name p items) ≡ true

@@ -68,7 +68,6 @@ pub mod ModulesSteps
 pub mod ModulesBegins
 pub mod WholeModules
 pub mod Rooms
-pub mod Bytes
 pub mod Nested
 pub mod FramesBlocks
 pub mod FramesProcedures

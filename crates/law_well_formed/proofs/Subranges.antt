@@ -2,6 +2,7 @@
 use Rattle.std.proofs.Common.{◌≡◌, ℕ, zero, suc, ◌≤ℤ◌, ◌==◌, ℤ, pos, negsuc, Bool, true, false, List, [], ◌∷◌, Option, Some, None, Result, Ok, Err, if◌then◌else◌, refl, sym, ap, subst, ◌∙◌, arith}
 use Rattle.std.proofs.lemmas.Int.{ints}
 use Rattle.std.specs.Prelude.{slice_get, nat_eq, cond, ◌&&◌, ◌||◌, not, int_le, int_lt}
+use Rattle.std.specs.List.{list_all}
 use Rattle.std.specs.Map.{lookup}
 use Rattle.m2_rule.specs.declared.rule.Rule.{Rule}
 use Rattle.m2_rule.specs.declared.rule.Rule.TheVariants as rule
@@ -36,7 +37,7 @@ use Rattle.law_well_formed.specs.Formed.{Holds, fine, broken}
 use Rattle.law_well_formed.proofs.Basics.{then_holds, holds_weaker, reported_holds, both_holds, any_holds}
 use Rattle.law_well_formed.proofs.ScopesDeclarations.{same_home}
 use Rattle.law_modules.proofs.Known.{none_there}
-use Rattle.law_well_formed.specs.FormedRanges.{fits, IsNumber, LetterRanged, ValueRanged, IsBased, ShapeBased, AllBased, OthersBased, ScopeRanged, ConstantsAreRanged}
+use Rattle.law_well_formed.specs.FormedRanges.{fits_character, fits, IsNumber, ValueRanged, IsBased, ShapeBased, AllBased, OthersBased, ScopeRanged, ConstantsAreRanged}
 use Rattle.law_well_formed.proofs.RangesTypes.{same_types, both_left, both_right}
 
 -- ---- tests of numbers
@@ -162,15 +163,16 @@ module _ (types : Types) where
   OperandRanged (Some (operands.Set bits)) = Unit {0}
   OperandRanged (Some (operands.Scalar a)) = SortRanged a.sort a.number
 
-  letter_ranged : (o : Option ℕ) → LetterRanged types o → OperandRanged (letter_operand o)
-  letter_ranged None p = tt
-  letter_ranged (Some c) p = record { range = range char (pos 0) (pos 255); at = refl; own = refl; low = omega (arith, ints); high = p }
+  text_ranged : (text : List ℕ) → list_all fits_character text ≡ true → OperandRanged (letter_operand (letter text))
+  text_ranged [] p = tt
+  text_ranged (c ∷ []) p = record { range = range char (pos 0) (pos 255); at = refl; own = refl; low = omega (arith, ints); high = from_le (pos c) (pos 255) (both_left (fits_character c) true p) }
+  text_ranged (c ∷ d ∷ text) p = tt
 
   pub operand_ranged : (v : Value) → ValueRanged types v → OperandRanged (operand_of v)
   operand_ranged (value.Number n) p = p
   operand_ranged (value.Scalar s) p = p.1
   operand_ranged (value.Set bits) p = tt
-  operand_ranged (value.Text text) p = letter_ranged (letter text) p
+  operand_ranged (value.Text text) p = text_ranged text p
 
   -- INTEGER and CARDINAL have what fits
   integer_number : (t : TypeNo) (n : ℤ) → t ≡ integer → is_between (negsuc 2147483647) n (pos 2147483647) ≡ true → IsNumber types t t n

@@ -6,11 +6,10 @@ use Rattle.std.proofs.lemmas.Bool.{le-leb, leb-true}
 use Rattle.m2_tree.specs.declared.token.Lexeme.{Lexeme}
 use Rattle.m2_tree.specs.declared.token.Lexeme.TheVariants as lexeme
 use Rattle.m2_tree.specs.declared.token.Token.{Token}
-use Rattle.check_const_ops.specs.Operands.{letter}
 use Rattle.scan_tokens.specs.Bytes.{Text, is_printable}
 use Rattle.scan_tokens.specs.Forms.{Spells, Member}
 use Rattle.scan_tokens.specs.Division.{place, Divides, tokens_at, tokens_behind, HasTokens}
-use Rattle.law_well_formed.specs.FormedRanges.{fits_letter}
+use Rattle.law_well_formed.specs.FormedRanges.{fits_character}
 use Rattle.law_well_formed.proofs.RangesTypes.{both_left, both_right}
 use Rattle.law_well_formed.specs.FormedFits.{lexeme_fits, token_fits}
 use Rattle.law_well_formed.proofs.Folds.{and_both}
@@ -22,10 +21,11 @@ printable_small : (c : ℕ) → is_printable c ≡ true → c ≤ 126
 unfolding is_printable
 printable_small c e = leb-true c 126 (both_right (nat_le 32 c) (nat_le c 126) e)
 
-text_fits : (text : List ℕ) → list_all is_printable text ≡ true → fits_letter (letter text) ≡ true
+text_fits : (text : List ℕ) → list_all is_printable text ≡ true → list_all fits_character text ≡ true
 text_fits [] e = refl
-text_fits (c ∷ []) e = let l : c ≤ 126 = printable_small c (both_left (is_printable c) true e) in to_le c 255 (omega (arith, l))
-text_fits (c ∷ d ∷ text) e = refl
+text_fits (c ∷ text) e =
+    let l : c ≤ 126 = printable_small c (both_left (is_printable c) (list_all is_printable text) e) in
+    and_both (fits_character c) (list_all fits_character text) (to_le c 255 (omega (arith, l))) (text_fits text (both_right (is_printable c) (list_all is_printable text) e))
 
 lexeme_from : (w : Text) (l : Lexeme) → Spells w l → lexeme_fits l ≡ true
 lexeme_from w (lexeme.Number n) h = let l : n < 4294967296 = h.2 in to_le n 4294967295 (omega (arith, l))

@@ -5,17 +5,16 @@ use Rattle.m2_tree.specs.declared.token.Lexeme.{Lexeme}
 use Rattle.m2_tree.specs.declared.token.Lexeme.TheVariants as lexeme
 use Rattle.m2_tree.specs.declared.token.Token.{Token}
 use Rattle.m2_tree.specs.declared.decl.Module.{Module}
-use Rattle.check_const_ops.specs.Operands.{letter}
 use Rattle.scan_tokens.specs.Division.{HasTokens}
 use Rattle.def_grammar.specs.Refusal.{IsModule}
-use Rattle.law_well_formed.specs.FormedRanges.{fits_letter}
+use Rattle.law_well_formed.specs.FormedRanges.{fits_character}
 use Rattle.law_well_formed.specs.FormedKnown.{fits_module}
 
 -- a number has 32 bits, and a character has 8
 abbrev pub lexeme_fits : Lexeme → Bool
 lexeme_fits (lexeme.Number n) = int_le (pos n) (pos 4294967295)
-lexeme_fits (lexeme.Char c) = int_le (pos c) (pos 255)
-lexeme_fits (lexeme.Text text) = fits_letter (letter text)
+lexeme_fits (lexeme.Char c) = fits_character c
+lexeme_fits (lexeme.Text text) = list_all fits_character text
 lexeme_fits (lexeme.Name name) = true
 lexeme_fits (lexeme.Symbol s) = true
 lexeme_fits lexeme.End = true

@@ -1,6 +1,5 @@
--- Where procedures stand, when their frames have room, and what the characters of texts are.
-use Rattle.std.specs.Prelude.{◌≡◌, ℕ, suc, ◌<◌, ◌^◌, true, All, List, Option, Some, None}
-use Rattle.wasm_binary.specs.Binary.{module_fits}
+-- Where procedures stand, and when their frames have room.
+use Rattle.std.specs.Prelude.{◌≡◌, ℕ, suc, ◌<◌, ◌^◌, All, List, Option, Some, None}
 use Rattle.m2_tree.specs.declared.decl.Module.{Module}
 use Rattle.typed_tree.specs.declared.table.Table.{Table}
 use Rattle.typed_tree.specs.declared.typed_module.Routine.{Routine}
@@ -10,9 +9,7 @@ use Rattle.check_scope.specs.Elaborated.{Gathers}
 use Rattle.layout_storage.specs.Sizes.{size}
 use Rattle.layout_storage.specs.Frames.{frame}
 use Rattle.layout_storage.specs.Layouts.{too_large}
-use Rattle.layout_storage.specs.Texts.{module_texts}
 use Rattle.def_scheme.specs.Functions.{routine_of}
-use Rattle.def_scheme.specs.Modules.{all_characters, typed_module}
 use Rattle.check_body.specs.Checks.{checked}
 use Rattle.law_well_formed.specs.Formed.{Holds}
 use Rattle.law_well_formed.specs.FormedModules.{AreFor}
@@ -30,15 +27,6 @@ pub record HaveRoom (m : TypedModule) : Type 0 where
 -- the build refuses what has none
 abbrev pub FramesHaveRoom : Type 0
 FramesHaveRoom = (m : TypedModule) → too_large m ≡ None → HaveRoom m
-
--- ---- texts
-
--- Where the module has an encoding, as each has that the build makes, the characters of its texts
--- are bytes.
-abbrev pub TextsAreBytes : Type 0
-TextsAreBytes =
-    (m : TypedModule) → module_fits (typed_module m) ≡ true
-    → All (λ b. b < 256) (all_characters (module_texts m))
 
 -- ---- procedures
 

@@ -40,7 +40,6 @@ use Rattle.check_scope.specs.declared.known.Known.TheVariants.{Later, Ahead, Beg
 use Rattle.check_scope.specs.declared.scope.Block.{Block}
 use Rattle.check_scope.specs.declared.scope.Scope.{Scope}
 use Rattle.check_scope.specs.Elaborated.{Gathers}
-use Rattle.check_const_ops.specs.Operands.{letter}
 use Rattle.check_const.specs.Parts.{constant}
 use Rattle.check_expr.specs.Meanings.{part}
 use Rattle.check_type_expr.specs.Made.{type_of}
@@ -58,9 +57,8 @@ use Rattle.law_modules.specs.Ranges.{AreRangedFrom, OthersRanged, AreRanged}
 -- ---- trees: numbers and characters are as the scanner gives them, and an enumeration has a
 -- constant
 
-abbrev pub fits_letter : Option ℕ → Bool
-fits_letter None = true
-fits_letter (Some c) = int_le (pos c) (pos 255)
+abbrev pub fits_character : ℕ → Bool
+fits_character c = int_le (pos c) (pos 255)
 
 abbrev pub both_fit : {O : Type 0} → O × Bool → Bool
 both_fit x = x.1
@@ -74,8 +72,8 @@ fit_if (Some bs) = list_all itself bs
 
 abbrev pub fits_layer : Expr-F Bool Bool Bool Bool → Bool
 fits_layer (layer.Number at n) = int_le (pos n) (pos 4294967295)
-fits_layer (layer.Char at c) = int_le (pos c) (pos 255)
-fits_layer (layer.Text at t) = fits_letter (letter t)
+fits_layer (layer.Char at c) = fits_character c
+fits_layer (layer.Text at t) = list_all fits_character t
 fits_layer (layer.Set name at items) = true
 fits_layer (layer.Not at e) = e
 fits_layer (layer.Bracketed at e) = e
@@ -153,15 +151,11 @@ module _ (types : Types) where
     pub low : range.low ≤ℤ n
     pub high : n ≤ℤ range.high
 
-  abbrev pub LetterRanged : Option ℕ → Type 0
-  LetterRanged None = Unit {0}
-  LetterRanged (Some c) = pos c ≤ℤ pos 255
-
   abbrev pub ValueRanged : Value → Type 0
   ValueRanged (value.Number n) = (negsuc 2147483647 ≤ℤ n) × (n ≤ℤ pos 4294967295)
   ValueRanged (value.Scalar s) = IsNumber s.of s.base s.number × IsNumber s.base s.base s.number
   ValueRanged (value.Set bits) = Unit {0}
-  ValueRanged (value.Text text) = LetterRanged (letter text)
+  ValueRanged (value.Text text) = list_all fits_character text ≡ true
 
   -- what a scalar type computes in is known, computes in itself, and has all its numbers
   pub record IsBased (r : Range) : Type 0 where

@@ -100,7 +100,7 @@
 //! Where the procedures stand that the checker accepts, why their frames have room, and why their texts are bytes.
 //!
 //! - `specs/FormedFrames` says where procedures stand, when frames have room, and what the characters of texts are.
-//! - `proofs/Rooms` has the frames, `proofs/Bytes` the texts, `proofs/Nested` one procedure in a procedure, `proofs/FramesBlocks`
+//! - `proofs/Rooms` has the frames, `proofs/Nested` one procedure in a procedure, `proofs/FramesBlocks`
 //!   the procedures of a block and blocks in blocks, `proofs/FramesProcedures` those of a module, and `proofs/FramesModules` whole
 //!   modules.
 #![tactic(auto)]
@@ -109,7 +109,7 @@ ghost use Rattle.check_body.specs.Checks.{elaborated};
 ghost use Rattle.law_well_formed.specs.Formed.{ExpressionsAreFormed};
 ghost use Rattle.law_well_formed.specs.FormedBodies.{FormsStatements, BlocksAreFormed};
 ghost use Rattle.law_well_formed.specs.FormedFits.{TextsFit, TokensFit, TreesFit};
-ghost use Rattle.law_well_formed.specs.FormedFrames.{FramesHaveRoom, TextsAreBytes, ModulesAreNested};
+ghost use Rattle.law_well_formed.specs.FormedFrames.{FramesHaveRoom, ModulesAreNested};
 ghost use Rattle.law_well_formed.specs.FormedHeadings.{HeadingsStay, NamesStay};
 ghost use Rattle.law_well_formed.specs.FormedImports.{TablesNameImports, ModulesNameImports};
 ghost use Rattle.law_well_formed.specs.FormedKnown.{BodiesAreFormed, TablesAreFormed};
@@ -318,8 +318,6 @@ pub fn formed_module_laws()
 pub fn frame_laws()
     // What the build accepts has frames of less than two gigabytes.
     ensures room { FramesHaveRoom }
-    // What has an encoding has texts of bytes.
-    ensures texts { TextsAreBytes }
     // Procedures stand where they are to stand, where the least broken rule is kept,
     ensures least { ModulesAreNested least }
     // and where all of them are.

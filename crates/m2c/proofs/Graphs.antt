@@ -174,10 +174,10 @@ module _ (files : List SourceFile) (fs : List (List ℕ × Module)) (numbers : L
       }
       in
       let modules_are : AreModules p =
-      are_modules fs numbers jobs starts have.is_graph have.each (trees_fit files fs have.are_trees) p (bodies_in fs numbers jobs starts p whole.typed) whole.small
+      are_modules fs numbers jobs starts have.is_graph have.each (trees_fit files fs have.are_trees) (trees_whole files fs have.are_trees) p (bodies_in fs numbers jobs starts p whole.typed) whole.small pages fits_all most
       in
       let typed_are : AreTypedModules p pages =
-      are_typed fs numbers jobs starts have.is_graph have.each (trees_fit files fs have.are_trees) (trees_whole files fs have.are_trees) p (bodies_in fs numbers jobs starts p whole.typed) whole.small pages fits_all most
+      are_typed fs numbers jobs starts have.is_graph have.each (trees_fit files fs have.are_trees) (trees_whole files fs have.are_trees) p (bodies_in fs numbers jobs starts p whole.typed) pages fits_all most
       in
       let codes : map (λ m. m.1) built ≡ map module_bytes (map typed_module p) = ap (λ (ms : List (List ℕ × List ℕ)). map (λ m. m.1) ms) built_whole ∙ seconds p in
       let bodies_encoded : BytesEncode (map (λ m. m.1) built) (map typed_module p) = subst (λ (bs : List (List ℕ)). BytesEncode bs (map typed_module p)) (sym codes) (all_encoded p whole.fit) in record {

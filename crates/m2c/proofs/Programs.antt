@@ -174,7 +174,7 @@ module _ (fs : List (List ℕ × Module)) (numbers : List ℕ) (jobs : List (Lis
         program = b.typed ∷ rest.program;
         typed = (b.is, rest.typed);
         fit = (b.fits, rest.fit);
-        small = (record { small = b.small; encoded = b.fits }, rest.small);
+        small = (record { small = b.small }, rest.small);
         names = ap (λ (n : List ℕ). n ∷ linked.names rest.program) b.name ∙ ap (λ (ns : List (List ℕ)). m.name.name ∷ ns) rest.names ∙ sym (ap (λ (ms : List Module). names_of ms) here);
         are = ap (λ (o : Option Compiled). module_in o ++ modules_at result ss) b.becomes ∙ ap (λ (ms : List ModuleBytes). emitted b.typed ∷ ms) rest.are;
       }

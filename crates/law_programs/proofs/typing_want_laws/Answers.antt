@@ -2,6 +2,7 @@ use Rattle.check_scope.specs.Elaborated.{least, every}
 use Rattle.law_programs.specs.TypingWants.{placed}
 use Rattle.law_programs.proofs.Orders.{bodies_ordered}
 use Rattle.law_programs.proofs.Provided.{bodies_provided, module_typed}
+use Rattle.law_programs.proofs.ModuleTexts.{module_bytes}
 use Rattle.law_programs.proofs.typing_want_laws.Goals as goal
 
 pub returns-clause-least : goal.returns-clause-least
@@ -11,7 +12,9 @@ pub returns-clause-every : goal.returns-clause-every
 returns-clause-every c = bodies_ordered every
 
 pub returns-clause-provided : goal.returns-clause-provided
-returns-clause-provided c = λ z ordered bytes. bodies_provided z ordered bytes
+returns-clause-provided c = λ z ordered. bodies_provided z ordered
 
 pub returns-clause-modules : goal.returns-clause-modules
-returns-clause-modules c = λ p pages place m opens typed ordered bytes. module_typed p pages place m opens typed (bodies_provided (placed p pages place m opens) ordered bytes)
+returns-clause-modules c = λ p pages place m opens typed ordered.
+    let provided = bodies_provided (placed p pages place m opens) ordered in
+    (module_typed p pages place m opens typed provided, module_bytes (placed p pages place m opens) typed provided)
