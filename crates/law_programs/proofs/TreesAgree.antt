@@ -25,21 +25,10 @@ use Rattle.check_body.specs.Own.{with_variable_of, with_exported_variable, expor
 use Rattle.law_well_formed.specs.Ordered.{result_named, named_by, is_known_from, is_known, AreKnown, AreOrderedFrom, OthersOrdered, AreOrdered}
 use Rattle.law_well_formed.proofs.Trees.{at, at_more, at_behind, at_placed, append_more, some_of, made_by, is_among_from, is_among, known_among}
 use Rattle.law_well_formed.proofs.Shaped.{tree_shaped}
+use Rattle.law_well_formed.proofs.Prefixes.{get_here, type_no, Steps, all_others}
 use Rattle.law_well_formed.specs.FormedOrder.{ExportsOrdered}
 use Rattle.law_well_formed.specs.FormedKnown.{HasReached, entries_of, TableFormed}
 use Rattle.law_well_formed.proofs.Gathered.{each_more}
-
--- ---- places in lists
-
-get_here : {X : Type 0} (xs : List X) (x : X) (ys : List X) → slice_get (xs ++ x ∷ ys) (length xs) ≡ Some x
-get_here [] x ys = refl
-get_here (y ∷ xs) x ys = get_here xs x ys
-
-last_place : {X : Type 0} (xs : List X) (x : X) (n : ℕ) → is_some (slice_get (xs ++ x ∷ []) n) ≡ true → slice_get xs n ≡ None → n ≡ length xs
-last_place [] x zero e f = refl
-last_place [] x (suc n) e f = absurd cc
-last_place (y ∷ xs) x zero e f = absurd cc
-last_place (y ∷ xs) x (suc n) e f = let k : n ≡ length xs = last_place xs x n e f in omega (arith, k)
 
 -- ---- two modules
 
@@ -82,97 +71,26 @@ module _ (a b : Types) (p : AreOrdered a) (q : AreOrdered b) (es : List (ℕ × 
   shapes_agree c same scalar t (shape.Procedure s) h = ap (λ (x : Heading). Cell (Callable x)) (headings_agree c same s.formals s.result h)
   shapes_agree c same scalar t (shape.Open e) h = refl
 
-  -- ---- the types of one module
+  -- ---- all types
 
-  abbrev AgreeIn : List (ℕ × List Made) → ℕ → List Made → Type 0
-  AgreeIn before k own = (u : TypeNo) → is_known (made_by k own before) u ≡ true → tree a u ≡ tree b u
+  abbrev Agrees : TypeNo → Type 0
+  Agrees u = tree a u ≡ tree b u
 
-  module _ (before rest : List (ℕ × List Made)) (k : ℕ) (all : List Made) (is : before ++ (k, all) ∷ rest ≡ es) (free : at k before ≡ None) where
-    there : at k es ≡ Some all
-    there = ap (λ (xs : List (ℕ × List Made)). at k xs) (sym is) ∙ at_placed k before all rest free
-
-    one_agrees : (own : List Made) (x : Made) (ms : List Made) → own ++ x ∷ ms ≡ all → AreKnown (made_by k own before) (named_by x.shape) → AgreeIn before k own → tree a (record { home = Module k; number = length own }) ≡ tree b (record { home = Module k; number = length own })
-    one_agrees own x ms e names same =
-        let t : TypeNo = record { home = Module k; number = length own } in
-        let made = has k all there (length own) x (ap (λ (xs : List Made). slice_get xs (length own)) (sym e) ∙ get_here own x ms) in
-        let scalar : (u : TypeNo) → is_known (made_by k own before) u ≡ true → scalar_at a u ≡ scalar_at b u = λ u g.
-        same_scalar u (subst (λ (xs : List (ℕ × List Made)). is_among xs u ≡ true) is (subst (λ (xs : List Made). is_among (before ++ (k, xs) ∷ rest) u ≡ true) e (known_among before rest k own (x ∷ ms) free u g))) in
-        tree_shaped a p t x made.0 ∙ (shapes_agree (is_known (made_by k own before)) same scalar t x.shape names ∙ sym (tree_shaped b q t x made.1))
-
-    one_more : (own : List Made) (x : Made) → AgreeIn before k own → tree a (record { home = Module k; number = length own }) ≡ tree b (record { home = Module k; number = length own }) → AgreeIn before k (own ++ x ∷ [])
-    one_more own x same new u e = from u.home u.number e where
-      old : (j n : ℕ) → is_some (cond (j == k) (slice_get own n) (in_list n (at j before))) ≡ true → tree a (record { home = Module j; number = n }) ≡ tree b (record { home = Module j; number = n })
-      old j n g = same (record { home = Module j; number = n }) g
-
-      here : (j n : ℕ) → j ≡ k → (o : Option Made) → slice_get own n ≡ o → is_some (slice_get (own ++ x ∷ []) n) ≡ true → (is_some (slice_get own n) ≡ true → tree a (record { home = Module j; number = n }) ≡ tree b (record { home = Module j; number = n }))
-          → tree a (record { home = Module j; number = n }) ≡ tree b (record { home = Module j; number = n })
-      here j n i None f g on =
-          let place : n ≡ length own = last_place own x n g f in
-          subst (λ (m : ℕ). tree a (record { home = Module j; number = m }) ≡ tree b (record { home = Module j; number = m })) (sym place)
-          (subst (λ (h : ℕ). tree a (record { home = Module h; number = length own }) ≡ tree b (record { home = Module h; number = length own })) (sym i) new)
-      here j n i (Some y) f g on = on (ap is_some f)
-
-      by : (j n : ℕ) (c : Bool) → (j == k) ≡ c → (is_some (cond c (slice_get own n) (in_list n (at j before))) ≡ true → tree a (record { home = Module j; number = n }) ≡ tree b (record { home = Module j; number = n }))
-          → is_some (cond c (slice_get (own ++ x ∷ []) n) (in_list n (at j before))) ≡ true → tree a (record { home = Module j; number = n }) ≡ tree b (record { home = Module j; number = n })
-      by j n true i on g = here j n (eqb-true j k i) (slice_get own n) refl g on
-      by j n false i on g = on g
-
-      from : (h : Home) (n : ℕ) → is_known_from (made_by k (own ++ x ∷ []) before) h n ≡ true → tree a (record { home = h; number = n }) ≡ tree b (record { home = h; number = n })
-      from Predeclared n g = same (record { home = Predeclared; number = n }) refl
-      from (Module j) n g = by j n (j == k) refl (old j n) g
-
-    all_agree : (ms own : List Made) → own ++ ms ≡ all → AreOrderedFrom before k own ms → AgreeIn before k own → AgreeIn before k all
-    all_agree [] own e o same = subst (λ (xs : List Made). AgreeIn before k xs) (sym (append-nil own) ∙ e) same
-    all_agree (x ∷ ms) own e o same = all_agree ms (own ++ x ∷ []) (append_more own x ms ∙ e) o.1 (one_more own x same (one_agrees own x ms e o.0 same))
-
-  -- ---- the types of all modules
-
-  abbrev Agree : List (ℕ × List Made) → Type 0
-  Agree before = (u : TypeNo) → is_among before u ≡ true → tree a u ≡ tree b u
-
-  none_own : (before : List (ℕ × List Made)) (k : ℕ) → Agree before → AgreeIn before k []
-  none_own before k same u e = same u (from u.home u.number e) where
-    by : (j n : ℕ) (c : Bool) → is_some (cond c (slice_get [] n) (in_list n (at j before))) ≡ true → is_some (in_list n (at j before)) ≡ true
-    by j n true g = absurd cc
-    by j n false g = g
-
-    from : (h : Home) (n : ℕ) → is_known_from (made_by k [] before) h n ≡ true → is_among_from before h n ≡ true
-    from Predeclared n g = refl
-    from (Module j) n g = by j n (j == k) g
-
-  with_own : (before : List (ℕ × List Made)) (k : ℕ) (all : List Made) → at k before ≡ None → AgreeIn before k all → Agree (before ++ (k, all) ∷ [])
-  with_own before k all free same u e = same u (from u.home u.number e) where
-    here : (j n : ℕ) → j ≡ k → is_some (in_list n (at j (before ++ (k, all) ∷ []))) ≡ true → is_some (slice_get all n) ≡ true
-    here j n i g = sym (ap (λ (h : ℕ). is_some (in_list n (at h (before ++ (k, all) ∷ [])))) i ∙ ap (λ (o : Option (List Made)). is_some (in_list n o)) (at_placed k before all [] free)) ∙ g
-
-    other : (j n : ℕ) → nat_eq j k ≡ false → (o : Option (List Made)) → at j before ≡ o → is_some (in_list n (at j (before ++ (k, all) ∷ []))) ≡ true → is_some (in_list n (at j before)) ≡ true
-    other j n i None f g =
-        let none : at j (before ++ (k, all) ∷ []) ≡ None = at_behind j before ((k, all) ∷ []) f ∙ ap (λ (c : Bool). cond c (Some all) None) i in
-        let clash : false ≡ true = sym (ap (λ (o : Option (List Made)). is_some (in_list n o)) none) ∙ g in absurd cc
-    other j n i (Some l) f g = ap (λ (o : Option (List Made)). is_some (in_list n o)) (f ∙ sym (at_more j before ((k, all) ∷ []) l f)) ∙ g
-
-    by : (j n : ℕ) (c : Bool) → (j == k) ≡ c → is_some (in_list n (at j (before ++ (k, all) ∷ []))) ≡ true → is_some (cond c (slice_get all n) (in_list n (at j before))) ≡ true
-    by j n true i g = here j n (eqb-true j k i) g
-    by j n false i g = other j n i (at j before) refl g
-
-    from : (h : Home) (n : ℕ) → is_among_from (before ++ (k, all) ∷ []) h n ≡ true → is_known_from (made_by k all before) h n ≡ true
-    from Predeclared n g = refl
-    from (Module j) n g = by j n (j == k) refl g
-
-  agree_from : (rest before : List (ℕ × List Made)) → before ++ rest ≡ es → OthersOrdered before rest → Agree before → Agree es
-  agree_from [] before e o same = subst (λ (xs : List (ℕ × List Made)). Agree xs) (sym (append-nil before) ∙ e) same
-  agree_from (x ∷ rest) before e o same =
-      agree_from rest (before ++ x ∷ []) (append_more before x rest ∙ e) o.1.1 (with_own before x.0 x.1 o.0 (all_agree before rest x.0 x.1 e o.0 x.1 [] refl o.1.0 (none_own before x.0 same)))
-
-  nothing_agrees : Agree []
+  plain_agree : (n : ℕ) → Agrees (type_no Predeclared n)
   unfolding known_trees
-  nothing_agrees u e = from u.home u.number e where
-    from : (h : Home) (n : ℕ) → is_among_from [] h n ≡ true → tree a (record { home = h; number = n }) ≡ tree b (record { home = h; number = n })
-    from Predeclared n g = refl
-    from (Module k) n g = absurd cc
+  plain_agree n = refl
+
+  one_agrees : (before rest : List (ℕ × List Made)) (k : ℕ) (all : List Made) → before ++ (k, all) ∷ rest ≡ es → at k before ≡ None → Steps Agrees plain_agree before k all
+  one_agrees before rest k all is free own x ms e follows same =
+      let t : TypeNo = type_no (Module k) (length own) in
+      let there : at k es ≡ Some all = ap (λ (xs : List (ℕ × List Made)). at k xs) (sym is) ∙ at_placed k before all rest free in
+      let made = has k all there (length own) x (ap (λ (xs : List Made). slice_get xs (length own)) (sym e) ∙ get_here own x ms) in
+      let scalar : (u : TypeNo) → is_known (made_by k own before) u ≡ true → scalar_at a u ≡ scalar_at b u = λ u g.
+      same_scalar u (subst (λ (xs : List (ℕ × List Made)). is_among xs u ≡ true) is (subst (λ (xs : List Made). is_among (before ++ (k, xs) ∷ rest) u ≡ true) e (known_among before rest k own (x ∷ ms) free u g))) in
+      tree_shaped a p t x made.0 ∙ (shapes_agree (is_known (made_by k own before)) same scalar t x.shape follows.known ∙ sym (tree_shaped b q t x made.1))
 
   pub trees_agree : OthersOrdered [] es → (u : TypeNo) → is_among es u ≡ true → tree a u ≡ tree b u
-  trees_agree o = agree_from es [] refl o nothing_agrees
+  trees_agree o = all_others Agrees plain_agree es one_agrees o
 
 -- ---- what a table exports
 

@@ -41,6 +41,11 @@ module _ (g : Gathers) where
   where_holds true at n h = broken _
   where_holds false at n h = h
 
+  -- if nothing is reported, the test has failed
+  pub unless_holds : {A : Type 0} {P : A → Type 0} (q : Bool) (at : Pos) (n : Rule) {r : Result A g.Reported} → (q ≡ false → Holds P r) → Holds P (reported_where g q at n r)
+  unless_holds true at n k = broken _
+  unless_holds false at n k = k refl
+
   pub both_holds : {A B : Type 0} {P : A → Type 0} {Q : B → Type 0} {a : Result A g.Reported} {b : Result B g.Reported} → Holds P a → Holds Q b → Holds (λ (x : A × B). P x.0 × Q x.1) (both g a b)
   both_holds (fine x p) (fine y q) = fine (x, y) (p, q)
   both_holds (fine x p) (broken e) = broken e

@@ -19,6 +19,7 @@ use Rattle.check_body.specs.Own.{types_made_in}
 use Rattle.law_well_formed.specs.FormedRanges.{AllBased, OthersBased}
 use Rattle.law_well_formed.specs.Ordered.{named_by, is_known_from, is_known, AreKnown, AreOrderedFrom, OthersOrdered}
 use Rattle.law_well_formed.proofs.Trees.{at, at_more, at_behind, at_first, append_more, made_by, Placed, placed_from, some_of, in_some}
+use Rattle.law_well_formed.proofs.Cells.{made_within, follows_stays}
 use Rattle.law_well_formed.specs.FormedOrder.{AllOnce}
 use Rattle.law_well_formed.specs.FormedKnown.{HasReached, entries_of, TablesFormed}
 
@@ -60,13 +61,9 @@ known_within before so w h own u e = from u.home u.number e where
   from Predeclared n g = refl
   from (Module k) n g = by k n (k == h) g
 
-all_within : (before so : List (ℕ × List Made)) → Within before so → (h : ℕ) (own : List Made) (us : List TypeNo) → AreKnown (made_by h own before) us → AreKnown (made_by h own so) us
-all_within before so w h own [] p = tt
-all_within before so w h own (u ∷ us) p = (known_within before so w h own u p.0, all_within before so w h own us p.1)
-
 pub ordered_within : (before so : List (ℕ × List Made)) → Within before so → (h : ℕ) (ms own : List Made) → AreOrderedFrom before h own ms → AreOrderedFrom so h own ms
 ordered_within before so w h [] own o = tt
-ordered_within before so w h (m ∷ ms) own o = (all_within before so w h own (named_by m.shape) o.0, ordered_within before so w h ms (own ++ m ∷ []) o.1)
+ordered_within before so w h (m ∷ ms) own o = (follows_stays (made_by h own before) (made_by h own so) (made_within before so w h own) (known_within before so w h own) m o.0, ordered_within before so w h ms (own ++ m ∷ []) o.1)
 
 -- a further module behind those that are in order
 pub others_more : (so before : List (ℕ × List Made)) (k : ℕ) (ms : List Made) → OthersOrdered before so → at k (before ++ so) ≡ None → AreOrderedFrom (before ++ so) k [] ms → OthersOrdered before (so ++ (k, ms) ∷ [])

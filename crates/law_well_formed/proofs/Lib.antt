@@ -43,6 +43,8 @@ pub mod RangesTables
 pub mod Trees
 pub mod Shaped
 pub mod OrderTypes
+pub mod Cells
+pub mod Prefixes
 pub mod Named
 pub mod OrderMade
 pub mod OrderDeclarations
@@ -67,6 +69,7 @@ pub mod Opens
 pub mod ModulesSteps
 pub mod ModulesBegins
 pub mod WholeModules
+pub mod Sizes
 pub mod Rooms
 pub mod Nested
 pub mod FramesBlocks

@@ -1,6 +1,6 @@
 -- Type expressions lead from scopes with types in order to such scopes.
-use Rattle.std.proofs.Common.{◌≡◌, ℕ, pos, Bool, true, false, cond, List, [], ◌∷◌, ◌++◌, Option, Some, None, Result, Ok, Err, refl, sym, ap, subst, ◌∙◌}
-use Rattle.std.specs.Prelude.{map, nat_lt}
+use Rattle.std.proofs.Common.{◌≡◌, ℕ, pos, Bool, true, false, cond, List, [], ◌∷◌, ◌++◌, Option, Some, None, Result, Ok, Err, refl, sym, ap, subst, ◌∙◌, arith}
+use Rattle.std.specs.Prelude.{◌+◌, ◌*◌, ◌≤◌, map, nat_lt}
 use Rattle.std.specs.List.{fold, AllByRecursion}
 use Rattle.std.specs.Option.{is_some}
 use Rattle.m2_rule.specs.declared.rule.Rule.TheVariants as rule
@@ -31,17 +31,18 @@ use Rattle.check_scope.specs.Scopes.{State, declared}
 use Rattle.check_scope.specs.Elaborated.{Gathers, reported, both, beside}
 use Rattle.check_expr.specs.Meanings.{part}
 use Rattle.check_type_expr.specs.declared.field.Fields.{Fields}
-use Rattle.check_type_expr.specs.Cells.{array_cells, count_at}
+use Rattle.check_type_expr.specs.Cells.{array_cells, count_at, plus}
 use Rattle.check_type_expr.specs.Fields.{no_fields, with_field, with_name}
 use Rattle.check_type_expr.specs.Named.{first_of}
 use Rattle.check_type_expr.specs.Headings.{formal_of, result_of, procedure_made, joined_formal, with_parameter, procedure_type, repeated, joined_formals, with_section, heading_of}
 use Rattle.check_type_expr.specs.Made.{next_type, with_shape, with_made, too_many, enumeration_constant, enumeration_scalar, listed, enumeration, subrange, simple_type, simple_place, array_in, index_type, field_type, nothing_of, Makes, MakesFields, then_fields, array_type, record_type, fields_named, type_layer, field_layer, type_of, field_list}
 use Rattle.law_well_formed.specs.Formed.{Holds, fine, broken}
-use Rattle.law_well_formed.proofs.Basics.{then_holds, holds_weaker, where_holds, both_holds, any_holds}
+use Rattle.law_well_formed.proofs.Basics.{then_holds, holds_weaker, where_holds, unless_holds, both_holds, any_holds}
 use Rattle.law_well_formed.proofs.Order.{has, keys, other_way, still_apart, keys_entered}
 use Rattle.law_well_formed.proofs.RangesMade.{beside_then, const_holds}
-use Rattle.law_well_formed.specs.Ordered.{result_named, is_known, AreKnown}
-use Rattle.law_well_formed.specs.FormedOrder.{StandOnce, ScopeOrdered, MadeOrdered}
+use Rattle.law_well_formed.specs.Ordered.{result_named, is_known, AreKnown, max_cells, cells_of_fields, Follows}
+use Rattle.law_well_formed.proofs.Cells.{made_kept, fields_stay}
+use Rattle.law_well_formed.specs.FormedOrder.{StandOnce, StartedFrom, ScopeOrdered, MadeOrdered}
 use Rattle.law_well_formed.proofs.OrderTypes.{known_kept, all_kept, ShapeOrdered, scope_more, next_known, based_on, based_here}
 use Rattle.law_well_formed.proofs.Named.{named_ordered, known_ordered, unless_as}
 
@@ -95,6 +96,26 @@ once_entered : {V : Type 0} (name : List ℕ) (k : V) (es : List (List ℕ × V)
 once_entered name k [] d = (refl, tt)
 once_entered name k (e ∷ es) d = once_by name k e es (same_name name e.0) refl d (once_entered name k es d.1)
 
+-- ---- cells
+
+few_by : (n : ℕ) → nat_lt 131072 n ≡ false → n ≤ max_cells
+few_by n e = grind (arith, e)
+
+plus_few : (a b : ℕ) → plus a b ≤ max_cells → plus a b ≡ a + b
+plus_few a b = by (nat_lt 131072 (a + b)) where
+  by : (q : Bool) → cond q 131073 (a + b) ≤ max_cells → cond q 131073 (a + b) ≡ a + b
+  by true l = absurd (omega (arith, l))
+  by false l = refl
+
+module _ (types : Types) where
+  entered_cells : (name : List ℕ) (t : TypeNo) (es : List (List ℕ × TypeNo)) → is_some (found name es) ≡ false → cells_of_fields types (entered name t es) ≡ cells_of_fields types es + cells_at types t
+  entered_cells name t [] e = omega arith
+  entered_cells name t (x ∷ es) e = by (same_name name x.0) e (entered_cells name t es) where
+    by : (q : Bool) → is_some (cond q (Some x.1) (found name es)) ≡ false → (is_some (found name es) ≡ false → cells_of_fields types (entered name t es) ≡ cells_of_fields types es + cells_at types t)
+        → cells_of_fields types (cond q ((x.0, t) ∷ es) (x ∷ entered name t es)) ≡ cells_at types x.1 + cells_of_fields types es + cells_at types t
+    by true f on = absurd (let clash : true ≡ false = f in cc)
+    by false f on = let k = on f in omega (arith, k)
+
 -- ---- one type more
 
 pub made_ordered : {T : Type 0} (base : Types) (s : Scope T) {r : Result Made T} → Holds (λ m. ScopeOrdered base s × ShapeOrdered s m) r → MadeOrdered base (with_made s r)
@@ -120,7 +141,7 @@ module _ (g : Gathers) (base : Types) where
   enumeration_ordered : (s : Scope g.Reported) (names : List Ident) → ScopeOrdered base s → MadeOrdered base (enumeration g s names)
   enumeration_ordered s names h =
       let x : Made = enumeration_scalar (next_type s) names in
-      then_holds (listed_all (next_type s) names (with_shape s x, 0, too_many g names) (const_holds (scope_more base s x h (tt, tt), next_known s x) (too_many g names))) (λ u k. fine (next_type s) k)
+      then_holds (listed_all (next_type s) names (with_shape s x, 0, too_many g names) (const_holds (scope_more base s x h (record { known = tt; counted = refl; few = omega arith }, tt), next_known s x) (too_many g names))) (λ u k. fine (next_type s) k)
 
   -- ---- procedure types
 
@@ -137,7 +158,8 @@ module _ (g : Gathers) (base : Types) where
 
     procedure_ordered : (formals : Result (List Formal) g.Reported) (of : Option Qualified) → FormalsOrdered formals → Holds (λ m. ScopeOrdered base s × ShapeOrdered s m) (procedure_made g formals (result_of g s of))
     procedure_ordered formals of p =
-        then_holds (both_holds g p (result_ordered of)) (λ x k. fine _ (h, (each_append (λ t. is_known s.types t ≡ true) (of_formals x.0) (result_named x.1) k.0 k.1, tt)))
+        then_holds (both_holds g p (result_ordered of)) (λ x k.
+        fine _ (h, (record { known = each_append (λ t. is_known s.types t ≡ true) (of_formals x.0) (result_named x.1) k.0 k.1; counted = refl; few = omega arith }, tt)))
 
     joined_ordered : (so : Result (List Formal) g.Reported) (f : Result Formal g.Reported) → FormalsOrdered so → Holds (λ x. is_known s.types x.of ≡ true) f → FormalsOrdered (joined_formal g so f)
     joined_ordered so f p q = then_holds (both_holds g p q) (λ x k. fine _ (formals_more s.types x.0 (x.1 ∷ []) k.0 (k.1, tt)))
@@ -166,15 +188,19 @@ module _ (g : Gathers) (base : Types) where
   simple_ordered : (s : Scope g.Reported) → ScopeOrdered base s → (t : Simple) → MadeOrdered base (simple_type g s t)
   simple_ordered s h (simple.Named q) = holds_weaker (λ t p. (h, p)) (named_ordered g base s h q)
   simple_ordered s h (simple.Enumeration at names) = enumeration_ordered s names h
-  simple_ordered s h (simple.Subrange of at low high) = made_ordered base s (then_holds (any_holds (subrange g s of (part g low) (part g high))) (λ r k. fine _ (h, (tt, tt))))
+  simple_ordered s h (simple.Subrange of at low high) = made_ordered base s (then_holds (any_holds (subrange g s of (part g low) (part g high))) (λ r k. fine _ (h, (record { known = tt; counted = refl; few = omega arith }, tt))))
 
   index_ordered : (s : Scope g.Reported) → ScopeOrdered base s → (t : Simple) → MadeOrdered base (index_type g s t)
   index_ordered s h t = then_holds (simple_ordered s h t) (λ x k. where_holds g _ (simple_place t) rule.NoIndex (fine x k))
 
   -- ---- arrays
 
+  array_few : (at : Pos) (count cells : ℕ) → Holds (λ n. (n ≡ count * cells) × (n ≤ max_cells)) (array_cells g at count cells)
+  array_few at count cells = unless_holds g (nat_lt 131072 (count * cells)) at rule.LargeType (λ e. fine (count * cells) (refl, few_by (count * cells) e))
+
   array_plain : (s : Scope g.Reported) (at : Pos) (i e : TypeNo) → ScopeOrdered base s → is_known s.types i ≡ true → is_known s.types e ≡ true → Holds (λ m. ScopeOrdered base s × ShapeOrdered s m) (array_in g s.types at i e)
-  array_plain s at i e h p q = then_holds (any_holds (array_cells g at (count_at s.types i) (cells_at s.types e))) (λ n k. fine _ (h, ((p, (q, tt)), tt)))
+  array_plain s at i e h p q =
+      then_holds (array_few at (count_at s.types i) (cells_at s.types e)) (λ n k. fine _ (h, (record { known = (p, (q, tt)); counted = k.0; few = k.1 }, tt)))
 
   array_ordered : (at : Pos) (i : State TypeNo g.Reported) (f : Makes g) → MadeOrdered base i → (ScopeOrdered i.0.types i.0 → MadeOrdered i.0.types (f i.0)) → MadeOrdered base (array_type g at i f)
   array_ordered at i f p k =
@@ -183,28 +209,47 @@ module _ (g : Gathers) (base : Types) where
 
   -- ---- records
 
-  abbrev FieldsKnown : Types → Fields → Type 0
-  FieldsKnown types fs = AreKnown types (map (λ f. f.1) fs.names) × StandOnce fs.names
+  record FieldsKnown (types : Types) (fs : Fields) : Type 0 where
+    known : AreKnown types (map (λ f. f.1) fs.names)
+    once : StandOnce fs.names
+    counted : fs.cells ≤ max_cells → cells_of_fields types fs.names ≡ fs.cells
 
   -- the fields so far
   abbrev FieldsOrdered : Scope g.Reported × Fields × Result (Unit {0}) g.Reported → Type 0
   FieldsOrdered st = Holds (λ x. ScopeOrdered base st.0 × FieldsKnown st.0.types st.1) st.2
 
   record_ordered : (at : Pos) (st : Scope g.Reported × Fields × Result (Unit {0}) g.Reported) → FieldsOrdered st → MadeOrdered base (record_type g at st)
-  record_ordered at st p = made_ordered base st.0 (then_holds p (λ x h. where_holds g (nat_lt 131072 st.1.cells) at rule.LargeType (fine _ h)))
+  record_ordered at st p = made_ordered base st.0 (then_holds p (λ x h. unless_holds g (nat_lt 131072 st.1.cells) at rule.LargeType (λ e.
+      let few : st.1.cells ≤ max_cells = few_by st.1.cells e in
+      fine _ (h.0, (record { known = h.1.known; counted = sym (h.1.counted few); few = few }, h.1.once)))))
 
-  field_by : (types : Types) (b : Bool) (fs more : Fields) (name : Ident) → FieldsKnown types fs → FieldsKnown types more → FieldsKnown types (cond {A = Fields × Result (Unit {0}) g.Reported} b (fs, reported g name.pos rule.DeclaredTwice) (more, Ok tt)).0
+  field_by : (types : Types) (b : Bool) (fs more : Fields) (name : Ident) → FieldsKnown types fs → (b ≡ false → FieldsKnown types more) → FieldsKnown types (cond {A = Fields × Result (Unit {0}) g.Reported} b (fs, reported g name.pos rule.DeclaredTwice) (more, Ok tt)).0
   field_by types true fs more name p q = p
-  field_by types false fs more name p q = q
+  field_by types false fs more name p q = q refl
 
-  field_ordered : (types : Types) (t : TypeNo) (cells : ℕ) (fs : Fields) (name : Ident) → is_known types t ≡ true → FieldsKnown types fs → FieldsKnown types (with_field g t cells fs name).0
-  field_ordered types t cells fs name e p = field_by types (is_some (found name.name fs.names)) fs _ name p (entered_known types name.name t fs.names e p.0, once_entered name.name t fs.names p.1)
+  field_ordered : (types : Types) (t : TypeNo) (cells : ℕ) (fs : Fields) (name : Ident) → cells ≡ cells_at types t → is_known types t ≡ true → FieldsKnown types fs → FieldsKnown types (with_field g t cells fs name).0
+  field_ordered types t cells fs name same e p = field_by types (is_some (found name.name fs.names)) fs _ name p (λ new. record {
+    known = entered_known types name.name t fs.names e p.known;
+    once = once_entered name.name t fs.names p.once;
+    counted = λ few.
+        let both = plus_few fs.cells cells few in
+        let before = p.counted (omega (arith, both, few)) in
+        let one = entered_cells types name.name t fs.names new in
+        omega (arith, both, before, one, same);
+  })
 
-  names_ordered : (P : Type 0) (types : Types) (t : TypeNo) (cells : ℕ) (names : List Ident) (st : Fields × Result (Unit {0}) g.Reported) → Holds (λ x. (P × (is_known types t ≡ true)) × FieldsKnown types st.0) st.1
+  names_ordered : (P : Type 0) (types : Types) (t : TypeNo) (cells : ℕ) → cells ≡ cells_at types t → (names : List Ident) (st : Fields × Result (Unit {0}) g.Reported) → Holds (λ x. (P × (is_known types t ≡ true)) × FieldsKnown types st.0) st.1
       → Holds (λ x. (P × (is_known types t ≡ true)) × FieldsKnown types (fold (with_name g t cells) st names).0) (fold (with_name g t cells) st names).1
-  names_ordered P types t cells [] st p = p
-  names_ordered P types t cells (x ∷ xs) st p =
-      names_ordered P types t cells xs (with_name g t cells st x) (beside_then g (with_field g t cells st.0 x).1 p (λ q. const_holds (q.0, field_ordered types t cells st.0 x q.0.1 q.1) (with_field g t cells st.0 x).1))
+  names_ordered P types t cells same [] st p = p
+  names_ordered P types t cells same (x ∷ xs) st p =
+      names_ordered P types t cells same xs (with_name g t cells st x) (beside_then g (with_field g t cells st.0 x).1 p (λ q. const_holds (q.0, field_ordered types t cells st.0 x same q.0.1 q.1) (with_field g t cells st.0 x).1))
+
+  fields_kept : (a b : Types) (fs : Fields) → StartedFrom a b → FieldsKnown a fs → FieldsKnown b fs
+  fields_kept a b fs p h = record {
+    known = all_kept a b (known_kept a b p) (map (λ f. f.1) fs.names) h.known;
+    once = h.once;
+    counted = λ few. fields_stay a b (made_kept a b p) fs.names h.known ∙ h.counted few;
+  }
 
   type_given : {P : TypeNo → Type 0} {t : Result TypeNo g.Reported} → Holds P t → Holds (λ x. P (field_type t)) (nothing_of t)
   type_given (fine x p) = fine tt p
@@ -213,8 +258,8 @@ module _ (g : Gathers) (base : Types) where
   list_ordered : (s : Scope g.Reported) (m : State TypeNo g.Reported) (names : List Ident) (fs : Fields) (before : Result (Unit {0}) g.Reported) → FieldsOrdered (s, fs, before) → (ScopeOrdered s.types s → MadeOrdered s.types m) → FieldsOrdered (fields_named g m names fs before)
   list_ordered s m names fs before p k =
       let of : TypeNo = field_type m.1 in
-      holds_weaker (λ x q. (q.0.0, q.1)) (names_ordered (ScopeOrdered base m.0) m.0.types of (cells_at m.0.types of) names (fs, beside g before (nothing_of m.1)) (beside_then g (nothing_of m.1) p (λ q.
-      holds_weaker (λ u x. ((based_on base s.types m.0 q.0.started x.0, x.1), (all_kept s.types m.0.types (known_kept s.types m.0.types x.0.started) (map (λ f. f.1) fs.names) q.1.0, q.1.1))) (type_given (k (based_here base s q.0))))))
+      holds_weaker (λ x q. (q.0.0, q.1)) (names_ordered (ScopeOrdered base m.0) m.0.types of (cells_at m.0.types of) refl names (fs, beside g before (nothing_of m.1)) (beside_then g (nothing_of m.1) p (λ q.
+      holds_weaker (λ u x. ((based_on base s.types m.0 q.0.started x.0, x.1), (fields_kept s.types m.0.types fs x.0.started q.1))) (type_given (k (based_here base s q.0))))))
 
 -- ---- the induction
 
@@ -264,7 +309,7 @@ module _ (g : Gathers) where
   type_ordered : (y : TypeExpr-F ST SF) → OrderedMakes (type_layer g (opened (bare y)))
   type_ordered (layer.Simple t) = λ base s h. simple_ordered g base s h t
   type_ordered (layer.Array at index t) = λ base s h. array_ordered g base at (index_type g s index) (type_of g t.0) (index_ordered g base s h index) (λ k. t.1 (index_type g s index).0.types (index_type g s index).0 k)
-  type_ordered (layer.Record at fields) = λ base s h. record_ordered g base at _ (fields_all base fields (s, no_fields, Ok tt) (fine tt (h, (tt, tt))))
+  type_ordered (layer.Record at fields) = λ base s h. record_ordered g base at _ (fields_all base fields (s, no_fields, Ok tt) (fine tt (h, record { known = tt; once = tt; counted = λ few. refl })))
   type_ordered (layer.Procedure at formals t) = λ base s h. made_ordered base s (procedure_type_ordered g base s h formals t)
 
   step_type : (x : TypeExpr-F TypeExpr Field) (y : TypeExpr-F ST SF) → bare y ≡ x → PT (roll-TypeExpr x)

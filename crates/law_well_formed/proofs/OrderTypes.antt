@@ -18,7 +18,7 @@ use Rattle.check_scope.specs.declared.scope.Block.{Block}
 use Rattle.check_scope.specs.declared.scope.Scope.{Scope}
 use Rattle.check_type_expr.specs.Made.{next_type, with_shape}
 use Rattle.law_well_formed.proofs.Basics.{holds_weaker}
-use Rattle.law_well_formed.specs.Ordered.{named_by, is_known_from, is_known, AreKnown, AreOrderedFrom, BeginsWith}
+use Rattle.law_well_formed.specs.Ordered.{is_known_from, is_known, AreKnown, Follows, AreOrderedFrom, BeginsWith}
 use Rattle.law_well_formed.proofs.Trees.{at, itself, get_more, append_more}
 use Rattle.law_well_formed.specs.FormedOrder.{FieldsOnce, AllOnce, StartedFrom, MeaningOrdered, KnownOrdered, NamesOrdered, BlocksOrdered, ExportsOrdered, TablesOrdered, ScopeOrdered}
 
@@ -101,11 +101,11 @@ module _ (a b : Types) (p : StayKnown a b) where
 pub more_started : {T : Type 0} (s : Scope T) (m : Made) → StartedFrom s.types (with_shape s m).types
 more_started s m = record { home = refl; others = refl; more = m ∷ []; own = refl }
 
-ordered_more : (others : List (ℕ × List Made)) (home : ℕ) (ms before : List Made) (m : Made) → AreOrderedFrom others home before ms → AreKnown (record { home = home; own = before ++ ms; others = others }) (named_by m.shape)
+ordered_more : (others : List (ℕ × List Made)) (home : ℕ) (ms before : List Made) (m : Made) → AreOrderedFrom others home before ms → Follows (record { home = home; own = before ++ ms; others = others }) m
     → AreOrderedFrom others home before (ms ++ m ∷ [])
-ordered_more others home [] before m h p = (subst (λ (own : List Made). AreKnown (record { home = home; own = own; others = others }) (named_by m.shape)) (append-nil before) p, tt)
+ordered_more others home [] before m h p = (subst (λ (own : List Made). Follows (record { home = home; own = own; others = others }) m) (append-nil before) p, tt)
 ordered_more others home (x ∷ ms) before m h p =
-    (h.0, ordered_more others home ms (before ++ x ∷ []) m h.1 (subst (λ (own : List Made). AreKnown (record { home = home; own = own; others = others }) (named_by m.shape)) (sym (append_more before x ms)) p))
+    (h.0, ordered_more others home ms (before ++ x ∷ []) m h.1 (subst (λ (own : List Made). Follows (record { home = home; own = own; others = others }) m) (sym (append_more before x ms)) p))
 
 begins_more : (own : List Made) (o : Option (List Made)) (m : Made) → BeginsWith own o → BeginsWith (own ++ m ∷ []) o
 begins_more own None m h = tt
@@ -117,7 +117,7 @@ once_more (x ∷ ms) m h p = (h.0, once_more ms m h.1 p)
 
 -- what is to be known of a type that is made
 abbrev pub ShapeOrdered : {T : Type 0} → Scope T → Made → Type 0
-ShapeOrdered s m = AreKnown s.types (named_by m.shape) × FieldsOnce m.shape
+ShapeOrdered s m = Follows s.types m × FieldsOnce m.shape
 
 pub scope_more : {T : Type 0} (base : Types) (s : Scope T) (m : Made) → ScopeOrdered base s → ShapeOrdered s m → ScopeOrdered base (with_shape s m)
 scope_more base s m h p =

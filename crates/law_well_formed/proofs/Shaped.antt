@@ -32,7 +32,7 @@ record Names (before : List (ℕ × List Made)) (h : ℕ) (all : List Made) (m :
 
 names_at : (before : List (ℕ × List Made)) (h : ℕ) (ms own : List Made) → AreOrderedFrom before h own ms → (n : ℕ) (m : Made) → slice_get ms n ≡ Some m → Names before h (own ++ ms) m
 names_at before h [] own o n m e = absurd cc
-names_at before h (x ∷ ms) own o zero m e = let same : x ≡ m = cc in record { own = own; more = x ∷ ms; is = refl; known = subst (λ (y : Made). AreKnown (made_by h own before) (named_by y.shape)) same o.0 }
+names_at before h (x ∷ ms) own o zero m e = let same : x ≡ m = cc in record { own = own; more = x ∷ ms; is = refl; known = subst (λ (y : Made). AreKnown (made_by h own before) (named_by y.shape)) same o.0.known }
 names_at before h (x ∷ ms) own o (suc n) m e = subst (λ (all : List Made). Names before h all m) (append_more own x ms) (names_at before h ms (own ++ x ∷ []) o.1 n m e)
 
 module _ (types : Types) where

@@ -231,7 +231,7 @@ module _ (types : Types) where
       let one : is_some (slice_get ts n) ≡ true = there_by own ts e n g in
       let two : slice_get us n ≡ slice_get ts n = get_more ts _ n one in sym (kept_made bs h ms us n (ap is_some two ∙ one) ∙ two) in
       let shaped : shape_tree types ((h, ts) ∷ bs) (record { home = Module h; number = length ts }) x.shape ≡ shape_tree types ((h, all) ∷ bs) (record { home = Module h; number = length ts }) x.shape
-      = shape_same (is_known (made_by h own before)) ((h, ts) ∷ bs) ((h, all) ∷ bs) (tree_agree h own before ts all bs bs agree (λ k g. refl)) (record { home = Module h; number = length ts }) x.shape o.0 in
+      = shape_same (is_known (made_by h own before)) ((h, ts) ∷ bs) ((h, all) ∷ bs) (tree_agree h own before ts all bs bs agree (λ k g. refl)) (record { home = Module h; number = length ts }) x.shape o.0.known in
       let found : slice_get all (length ts) ≡ Some (shape_tree types ((h, all) ∷ bs) (record { home = Module h; number = length ts }) x.shape) = kept ∙ last ∙ ap Some shaped in
       subst (λ (y : Made). slice_get all (length own + 0) ≡ Some (shape_tree types ((h, all) ∷ bs) (record { home = Module h; number = length own + 0 }) y.shape)) same
       (subst (λ (i : ℕ). slice_get all i ≡ Some (shape_tree types ((h, all) ∷ bs) (record { home = Module h; number = i }) x.shape)) (sym place) found)
@@ -247,7 +247,7 @@ module _ (types : Types) where
   made_same bs cs h before same [] own ts o = refl
   made_same bs cs h before same (x ∷ ms) own ts o =
       let shaped : shape_tree types ((h, ts) ∷ bs) (record { home = Module h; number = length ts }) x.shape ≡ shape_tree types ((h, ts) ∷ cs) (record { home = Module h; number = length ts }) x.shape
-      = shape_same (is_known (made_by h own before)) ((h, ts) ∷ bs) ((h, ts) ∷ cs) (tree_agree h own before ts ts bs cs (λ n g. refl) same) (record { home = Module h; number = length ts }) x.shape o.0 in
+      = shape_same (is_known (made_by h own before)) ((h, ts) ∷ bs) ((h, ts) ∷ cs) (tree_agree h own before ts ts bs cs (λ n g. refl) same) (record { home = Module h; number = length ts }) x.shape o.0.known in
       ap (λ (t : Ty). from_made bs h (ts ++ t ∷ []) ms) shaped ∙ made_same bs cs h before same ms (own ++ x ∷ []) (with_made types cs h ts x) o.1
 
   -- ---- the trees of the others

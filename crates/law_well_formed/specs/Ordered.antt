@@ -1,5 +1,6 @@
--- Types stand in order: a type names only types that stand before it.
-use Rattle.std.specs.Prelude.{◌≡◌, ℕ, Bool, true, List, [], ◌∷◌, ◌++◌, map, Option, Some, None, nat_eq}
+-- Types stand in order: a type names only types that stand before it, and its cells are counted
+-- from theirs.
+use Rattle.std.specs.Prelude.{◌≡◌, ℕ, ◌+◌, ◌*◌, ◌≤◌, Bool, true, List, [], ◌∷◌, ◌++◌, map, Option, Some, None, nat_eq}
 use Rattle.std.specs.List.{AllByRecursion}
 use Rattle.std.specs.Map.{lookup}
 use Rattle.std.specs.Option.{is_some}
@@ -10,7 +11,8 @@ use Rattle.typed_tree.specs.declared.shape.Shape.{Shape}
 use Rattle.typed_tree.specs.declared.shape.Shape.TheVariants as shape
 use Rattle.typed_tree.specs.declared.shape.Made.{Made}
 use Rattle.typed_tree.specs.declared.known_types.Types.{Types}
-use Rattle.typed_tree.specs.Known.{made_in, made_at}
+use Rattle.typed_tree.specs.Known.{made_in, made_at, cells_at}
+use Rattle.check_type_expr.specs.Cells.{count_at}
 use Rattle.layout_storage.specs.Shapes.{shape_tree, known_trees, tree}
 
 -- ---- the types that a type names
@@ -41,15 +43,40 @@ is_known types t = is_known_from types t.home t.number
 abbrev pub AreKnown : Types → List TypeNo → Type 0
 AreKnown types ts = AllByRecursion (λ t. is_known types t ≡ true) ts
 
+-- ---- cells
+
+-- so many cells a type has at most
+abbrev pub max_cells : ℕ
+max_cells = 131072
+
+abbrev pub cells_of_fields : Types → List (List ℕ × TypeNo) → ℕ
+cells_of_fields types [] = 0
+cells_of_fields types (f ∷ fs) = cells_at types f.1 + cells_of_fields types fs
+
+-- those of an array's elements, those of a record's fields in all, and else one
+abbrev pub cells_of : Types → Shape → ℕ
+cells_of types (shape.Scalar s) = 1
+cells_of types shape.Set = 1
+cells_of types (shape.Array i e) = count_at types i * cells_at types e
+cells_of types (shape.Record fs) = cells_of_fields types fs
+cells_of types (shape.Procedure p) = 1
+cells_of types (shape.Open e) = 1
+
 -- ---- types in order
 
--- Behind these types of a module, each further one names only types that stand before it: in the
+-- A type that is made names only these types, and its cells are counted from theirs.
+pub record Follows (types : Types) (m : Made) : Type 0 where
+  pub known : AreKnown types (named_by m.shape)
+  pub counted : m.cells ≡ cells_of types m.shape
+  pub few : m.cells ≤ max_cells
+
+-- Behind these types of a module, each further one follows those that stand before it: in the
 -- module, or in the others.
 abbrev pub AreOrderedFrom : (others : List (ℕ × List Made)) → (home : ℕ) → (before : List Made)
     → List Made → Type 0
 AreOrderedFrom others home before [] = Unit {0}
 AreOrderedFrom others home before (m ∷ ms) =
-    AreKnown (record { home = home; own = before; others = others }) (named_by m.shape)
+    Follows (record { home = home; own = before; others = others }) m
     × AreOrderedFrom others home (before ++ m ∷ []) ms
 
 -- Behind these modules each further one has a number of its own, and its types name those that
