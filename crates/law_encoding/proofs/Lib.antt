@@ -75,5 +75,8 @@ pub mod Awaited
 pub mod AwaitedTypes
 pub mod AwaitedDeclarations
 pub mod DeclaredProcedures
+pub mod HeadingCounts
+pub mod RoutineCounts
+pub mod ModuleCounts
 pub mod ProgramsRoom
 pub mod NamesRoom
