@@ -71,6 +71,7 @@ pub mod ConstantCode
 pub mod ConstantSteps
 pub mod ConstantFunctions
 pub mod DistinctImports
+pub mod DistinctExports
 pub mod Awaited
 pub mod AwaitedTypes
 pub mod AwaitedDeclarations

@@ -47,7 +47,7 @@ ghost use Rattle.law_encoding.specs.ProgramsRoom.{StoredAreSmall, ProgramsFit, A
 ghost use Rattle.law_encoding.specs.ModuleNumbers.{IndexesFit};
 ghost use Rattle.law_encoding.specs.SmallParts.{ConstantsFit, ModuleConstantsFit};
 ghost use Rattle.law_encoding.specs.FunctionTypes.{ListedAreFew, FewTypesFit, TypesAreFew};
-ghost use Rattle.law_encoding.specs.DeclaredProcedures.{ProceduresAreDeclared};
+ghost use Rattle.law_encoding.specs.DeclaredProcedures.{ProceduresAreDeclared, TablesExportOnce, CountsAreSmall};
 ghost use Rattle.law_encoding.specs.ProcedureNesting.{ProceduresAreShallow};
 ghost use Rattle.law_encoding.specs.ProcedureLevels.{LevelsAreLow, AcceptedAreNear};
 ghost use Rattle.law_encoding.specs.Nested.{TreesAreShallow, ModulesAreShallow, CodeIsShallow, FunctionsAreShallow, LinkIsFlat, AcceptedAreShallow};
@@ -106,6 +106,12 @@ pub fn declared_procedure_laws()
     ensures least { ProceduresAreDeclared least }
     // and if all of them are.
     ensures every { ProceduresAreDeclared every }
+    // Definitions do so: each table of one exports each name once.
+    ensures least_tables { TablesExportOnce least }
+    ensures every_tables { TablesExportOnce every }
+    // So procedures, formals and bodies count no more than the module's tree.
+    ensures least_counts { CountsAreSmall least }
+    ensures every_counts { CountsAreSmall every }
 {}
 
 /// Procedures stand no deeper in a module that the checker accepts than they nest in its tree.
