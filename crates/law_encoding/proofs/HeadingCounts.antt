@@ -8,7 +8,6 @@ use Rattle.m2_tree.specs.declared.decl.Decl.TheOpen as layer
 use Rattle.m2_tree.specs.declared.decl.Heading.{Heading}
 use Rattle.m2_tree.specs.declared.decl.Section.{Section}
 use Rattle.typed_tree.specs.declared.known_types.Types.{Types}
-use Rattle.typed_tree.specs.declared.meaning.Meaning.{Meaning}
 use Rattle.typed_tree.specs.declared.shape.Formal.{Formal}
 use Rattle.typed_tree.specs.declared.shape.Made.{Made}
 use Rattle.typed_tree.specs.declared.shape.Shape.{Shape}
@@ -43,13 +42,13 @@ names_in h = sum_of (λ (x : Section). length x.names) h.formals
 abbrev pub heading_names : Heading → ℕ
 heading_names h = 1 + names_in h
 
-one_sum : (a b n : ℕ) → b ≡ a + 1 → b ≤ a + 1
-one_sum a b n e = omega (arith, e)
+one_sum : (a b : ℕ) → b ≡ a + 1 → b ≤ a + 1
+one_sum a b e = omega (arith, e)
 
 no_sum : (a : ℕ) → a ≤ a + 1
 no_sum a = omega arith
 
-more_names : (a b c n : ℕ) → a ≤ b + n → b ≤ c + 1 → a ≤ c + (1 + n)
+more_names : (a b c n : ℕ) → a ≤ b + n → b ≤ c + 1 → a ≤ c + suc n
 more_names a b c n h i = omega (arith, h, i)
 
 more_sections : (a b c n k : ℕ) → a ≤ b + n → b ≤ c + k → a ≤ c + (k + n)
@@ -60,14 +59,12 @@ same_sum a = omega arith
 
 module _ {T : Type 0} where
   one_few : (fs : List Formal) (r : Result Formal T) → length (with_one fs r) ≤ length fs + 1
-  one_few fs (Ok f) = one_sum (length fs) _ 0 (length-append fs (f ∷ []))
+  one_few fs (Ok f) = one_sum (length fs) _ (length-append fs (f ∷ []))
   one_few fs (Err e) = no_sum (length fs)
 
   names_few : (r : Result Formal T) (xs : List Ident) (fs : List Formal) → length (with_names r fs xs) ≤ length fs + length xs
   names_few r [] fs = same_sum (length fs)
-  names_few r (x ∷ xs) fs = more_by (length (with_names r (with_one fs r) xs)) (length (with_one fs r)) (length fs) (length xs) (names_few r xs (with_one fs r)) (one_few fs r) where
-    more_by : (a b c n : ℕ) → a ≤ b + n → b ≤ c + 1 → a ≤ c + suc n
-    more_by a b c n h i = omega (arith, h, i)
+  names_few r (x ∷ xs) fs = more_names (length (with_names r (with_one fs r) xs)) (length (with_one fs r)) (length fs) (length xs) (names_few r xs (with_one fs r)) (one_few fs r)
 
 module _ (g : Gathers) where
   sections_few : (s : Scope g.Reported) (xs : List Section) (fs : List Formal) → length (fold (with_formals_of g s) fs xs) ≤ length fs + sum_of (λ (x : Section). length x.names) xs

@@ -1,10 +1,8 @@
 -- A module that the checker accepts counts no more than its tree.
-use Rattle.std.proofs.Common.{map, ◌≡◌, ℕ, ◌+◌, ◌*◌, ◌≤◌, Bool, true, List, [], ◌∷◌, ◌++◌, length, Option, Some, None, Result, Ok, Err, refl, sym, ap, subst, ◌∙◌, arith}
+use Rattle.std.proofs.Common.{map, ◌≡◌, ℕ, ◌+◌, ◌*◌, ◌≤◌, true, List, [], ◌∷◌, ◌++◌, Option, Some, None, Result, Ok, Err, refl, ap, ◌∙◌, arith}
 use Rattle.std.specs.Prelude.{◌==◌}
 use Rattle.std.specs.List.{fold}
 use Rattle.m2_tree.specs.declared.stmt.Stmt.{Stmt}
-use Rattle.m2_tree.specs.declared.decl.Heading.{Heading}
-use Rattle.m2_tree.specs.declared.decl.Section.{Section}
 use Rattle.m2_tree.specs.declared.decl.Decl.{Decl, Decl-F, out-Decl}
 use Rattle.m2_tree.specs.declared.decl.Decl.TheOpen as layer
 use Rattle.m2_tree.specs.declared.decl.Block.{Block, out-Block}
@@ -22,7 +20,6 @@ use Rattle.check_scope.specs.declared.scope.Scope.{Scope}
 use Rattle.check_definition.specs.Importing.{with_import}
 use Rattle.check_definition.specs.Predeclared.{console, first_scope}
 use Rattle.check_block.specs.Declarations.{reported_of_lack, declared_block}
-use Rattle.check_block.specs.Naming.{marked_decl, with_marks}
 use Rattle.check_block.specs.Nesting.{procedure_ends}
 use Rattle.check_body.specs.Own.{implementation_scope}
 use Rattle.check_body.specs.Routines.{unfilled, typed_module}

@@ -1,47 +1,45 @@
 -- The procedures of a module with their formals and bodies count no more than the declarations that they stand in, by induction over blocks.
 use Rattle.std.proofs.Common.{map, ◌≡◌, ℕ, zero, suc, ◌+◌, ◌*◌, ◌≤◌, Bool, true, false, List, [], ◌∷◌, ◌++◌, length, Option, Some, None, Result, Ok, Err, refl, sym, ap, subst, ◌∙◌, arith}
 use Rattle.std.specs.Prelude.{cond, slice_get, slice_set, ◌==◌}
-use Rattle.std.specs.List.{fold, AllByRecursion}
+use Rattle.std.specs.List.{fold}
 use Rattle.std.specs.Option.{unwrap_or}
 use Rattle.m2_tree.specs.declared.name.Ident.{Ident}
 use Rattle.m2_tree.specs.declared.stmt.Stmt.{Stmt}
 use Rattle.m2_tree.specs.declared.decl.Heading.{Heading}
 use Rattle.m2_tree.specs.declared.decl.Section.{Section}
-use Rattle.m2_tree.specs.declared.decl.Decl.{Decl, Decl-F, out-Decl, roll-Decl, out-roll-Decl, map-Decl, fold_out-Decl, ind-Decl}
+use Rattle.m2_tree.specs.declared.decl.Decl.{Decl, Decl-F, out-Decl, roll-Decl, out-roll-Decl, map-Decl, fold_out-Decl}
 use Rattle.m2_tree.specs.declared.decl.Decl.TheOpen as layer
 use Rattle.m2_tree.specs.declared.decl.Block.{Block, Block-F, out-Block, roll-Block, out-roll-Block, map-Block, fold_out-Block, ind-Block}
 use Rattle.typed_tree.specs.declared.known_types.Types.{Types}
 use Rattle.typed_tree.specs.declared.meaning.Meaning.{Meaning}
 use Rattle.typed_tree.specs.declared.meaning.Meaning.TheVariants as meaning
-use Rattle.typed_tree.specs.declared.shape.Made.{Made}
 use Rattle.typed_tree.specs.declared.statement.TypedStmt.{TypedStmt}
 use Rattle.typed_tree.specs.declared.types.TypeNo.{TypeNo}
 use Rattle.typed_tree.specs.declared.typed_module.Routine.{Routine}
 use Rattle.typed_tree.specs.declared.typed_module.TypedModule.{TypedModule}
 use Rattle.typed_tree.specs.declared.typed_module.Which.{Which}
 use Rattle.typed_tree.specs.declared.typed_module.Which.TheVariants as which
-use Rattle.typed_tree.specs.Known.{made_at}
 use Rattle.typed_tree.specs.Names.{found}
 use Rattle.typed_tree.specs.Types.{integer}
 use Rattle.check_scope.specs.declared.known.Known.{Known}
 use Rattle.check_scope.specs.declared.known.Known.TheVariants.{Later, Ahead, Begun, Headed, Declared}
 use Rattle.check_scope.specs.declared.scope.Scope.{Scope}
 use Rattle.check_scope.specs.Elaborated.{Gathers}
-use Rattle.check_block.specs.Naming.{with_marks, marked_decl}
+use Rattle.check_block.specs.Naming.{with_marks}
 use Rattle.check_block.specs.Nesting.{within}
-use Rattle.check_block.specs.Declarations.{Declared as Behind, with_decl, all_declared, declared_block}
+use Rattle.check_block.specs.Declarations.{Declared as Behind, all_declared, declared_block}
 use Rattle.check_body.specs.declared.routine.Bodies.{Bodies}
 use Rattle.check_body.specs.declared.routine.Numbered.{Numbered}
-use Rattle.check_body.specs.Routines.{numbered_by, numbered_elaborated, numbered_known, procedure_named, unfilled, filled, routine}
+use Rattle.check_body.specs.Routines.{numbered_by, numbered_elaborated, numbered_known, unfilled, filled, routine}
 use Rattle.check_body.specs.declared.procedure.Walk.{Walk}
 use Rattle.check_body.specs.Elaborating.{Elaborates, statements_of}
-use Rattle.check_body.specs.Inside.{which_of, begun_procedure, with_routine}
+use Rattle.check_body.specs.Inside.{which_of, with_routine}
 use Rattle.check_body.specs.Bodies.{Steps, Checks, ChecksBlock, marked_by, declared_by, checked_by, begun_from, with_body, procedure_checked, steps_layer, block_layer, steps, checks_block, checks_decl}
 use Rattle.law_well_formed.specs.FormedBodies.{FormsStatements, Keeps, FormedBlock}
 use Rattle.law_well_formed.specs.FormedHeadings.{heading_in}
 use Rattle.law_well_formed.specs.FormedScopes.{Leads}
 use Rattle.law_well_formed.proofs.Parts.{nothing_at, no_home, nothing_open, all_marks, all_lead}
-use Rattle.law_well_formed.proofs.Checks.{keeps_refl, keeps_then, entry, inner, inner_ok, procedure_keeps}
+use Rattle.law_well_formed.proofs.Checks.{entry, inner, inner_ok}
 use Rattle.law_well_formed.proofs.BodiesBlocks.{step_own, step_keeps, step_reported}
 use Rattle.law_well_formed.proofs.Induction.{decls_formed, blocks_formed}
 use Rattle.law_well_formed.proofs.ModulesSteps.{are_steps, declared_is}
