@@ -29,10 +29,11 @@
 //!   `proofs/Names`. `specs/NamesRoom` says that the names of texts are short, with the induction over the grammar in its proof.
 //!   `specs/AcceptedRoom` puts together what is proved of the module of a body, and `specs/ProgramsRoom` of programs.
 //!   `proofs/DistinctImports` shows that a module imports each module once.
-//! - `specs/DeclaredProcedures` says that the procedures of a module are declared in its text, and that a module counts no more than
-//!   its tree. `proofs/Awaited` has what awaited procedures count, with `proofs/AwaitedTypes` and `proofs/AwaitedDeclarations` for the
-//!   steps, and `proofs/DeclaredProcedures` whole modules. `proofs/DistinctExports` has the exports of definitions. `proofs/HeadingCounts`
-//!   has the formals of headings, `proofs/RoutineCounts` the induction over blocks, and `proofs/ModuleCounts` whole modules.
+//! - `specs/DeclaredProcedures` says that the procedures of a module are declared in its text, and that a module counts no more
+//!   than its tree. `proofs/Awaited` has what awaited procedures count, with `proofs/AwaitedTypes` and `AwaitedDeclarations` for
+//!   the steps, and `proofs/DeclaredProcedures` whole modules. `proofs/DistinctExports` has the exports of definitions,
+//!   `proofs/HeadingCounts` the formals of headings, and `proofs/RoutineCounts` the induction over blocks. `proofs/ModuleCounts`
+//!   has whole modules.
 //! - `proofs/Blocks` has the bodies of procedures, with the induction over blocks, and whole modules, and `proofs/Bounded` the
 //!   bound of all texts.
 #![tactic(auto)]
