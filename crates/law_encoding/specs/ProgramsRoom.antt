@@ -54,8 +54,8 @@ ProgramsFit = (p : Program) (pages : ℕ) → AreModules p → AreTypedModules p
 
 -- ---- what is accepted
 
--- The checker makes the module of a text that is not too long, is scanned and is parsed. If it has
--- a definition of its own, that exports each name once.
+-- The checker makes the module of a text that is not too long and is scanned and parsed. If the
+-- module has a definition of its own, the definition exports each name once.
 pub record IsAccepted (g : Gathers) (t : TypedModule) : Type 0 where
   pub text : List ℕ
   pub tokens : List Token
