@@ -1,5 +1,5 @@
 -- A small module that is well formed, nests few levels and goes few procedures outwards has an encoding.
-use Rattle.std.proofs.Common.{◌≡◌, inl, inr, ℕ, suc, ◌+◌, ◌*◌, ◌≤◌, ◌<◌, true, nat_lt, List, [], ◌∷◌, length, Result, Ok, Err, refl, arith}
+use Rattle.std.proofs.Common.{◌≡◌, ℕ, suc, ◌+◌, ◌*◌, ◌≤◌, ◌<◌, true, nat_lt, List, [], ◌∷◌, length, Result, Ok, Err, refl, arith}
 use Rattle.std.specs.Prelude.{All}
 use Rattle.std.specs.List.{list_all}
 use Rattle.std.proofs.lemmas.Bool.{lt-ltb}
@@ -23,8 +23,8 @@ use Rattle.law_encoding.specs.Counted.{AtMost, fine}
 use Rattle.law_encoding.specs.Nested.{max_levels, most_levels}
 use Rattle.law_encoding.specs.Outward.{outward_bodies}
 use Rattle.law_encoding.specs.Small.{most}
-use Rattle.law_encoding.specs.Short.{routine_counts, counts_in, heading_counts, headings_in}
-use Rattle.law_encoding.specs.Fits.{few_entries, max_bytes, few_headings, CountsFew, most_locals}
+use Rattle.law_encoding.specs.Short.{routine_counts, counts_in}
+use Rattle.law_encoding.specs.Fits.{few_entries, max_bytes, CountsFew, most_locals}
 use Rattle.law_encoding.specs.FunctionTypes.{types_count}
 use Rattle.law_encoding.specs.ModuleNumbers.{HasFewParts}
 use Rattle.law_encoding.specs.AcceptedRoom.{IsSmallBody}
@@ -34,7 +34,7 @@ use Rattle.law_encoding.proofs.CodeFits.{both_true}
 use Rattle.law_encoding.proofs.ConstantFunctions.{functions_const}
 use Rattle.law_encoding.proofs.Sums.{sum_below, length_below}
 use Rattle.law_encoding.proofs.FewLocals.{functions_few}
-use Rattle.law_encoding.proofs.FunctionBytes.{module_counts, sizes_fit}
+use Rattle.law_encoding.proofs.FunctionBytes.{sizes_fit}
 use Rattle.law_encoding.proofs.FewTypes.{types_fit}
 use Rattle.law_encoding.proofs.NeededTypes.{needed_few}
 use Rattle.law_encoding.proofs.ImportsRoom.{imports_fit}
@@ -62,21 +62,11 @@ bodies_count m =
 length_counts : (m : TypedModule) → length m.procedures ≤ sum_of (routine_counts m.types) m.procedures
 length_counts m = length_below (routine_counts m.types) (λ r. one_or_more (length (formals_of m.types r.heading)) (size_body r.body)) m.procedures
 
-one_heading : (n : ℕ) → 1 ≤ 1 + n
-one_heading n = omega arith
-
-length_headings : (m : TypedModule) → length m.procedures ≤ sum_of (heading_counts m.types) m.procedures
-length_headings m = length_below (heading_counts m.types) (λ r. one_heading (length (formals_of m.types r.heading))) m.procedures
-
 whole_slots : (n a b c : ℕ) → n ≤ a → a + b + c ≤ most → suc n ≤ 1 + most
 whole_slots n a b c h l = omega (arith, h, l)
 
-heading_slots : (n a b : ℕ) → n ≤ a → a + b ≤ few_headings → suc n ≤ 1 + most
-heading_slots n a b h l = omega (arith, h, l)
-
-pub slots_most : (m : TypedModule) → CountsFew m → slots m ≤ 1 + most
-slots_most m (inl h) = whole_slots (length m.procedures) _ (sum_of (routine_counts m.types) m.locals) (size_body m.body) (length_counts m) h
-slots_most m (inr p) = heading_slots (length m.procedures) _ (sum_of (heading_counts m.types) m.locals) (length_headings m) p.1
+slots_most : (m : TypedModule) → CountsFew m → slots m ≤ 1 + most
+slots_most m h = whole_slots (length m.procedures) _ (sum_of (routine_counts m.types) m.locals) (size_body m.body) (length_counts m) h
 
 few_slots : (n : ℕ) → n ≤ 1 + most → n ≤ few_entries
 few_slots n h = omega (arith, h)
@@ -84,26 +74,16 @@ few_slots n h = omega (arith, h)
 slots_few : (m : TypedModule) → CountsFew m → slots m ≤ few_entries
 slots_few m h = few_slots (slots m) (slots_most m h)
 
-whole_counts : (c : ℕ) → c ≤ most → c ≤ most + few_headings
-whole_counts c h = omega (arith, h)
-
-parts_counts : (c b h : ℕ) → c ≡ b + h → b ≤ most → h ≤ few_headings → c ≤ most + few_headings
-parts_counts c b h e k l = omega (arith, e, k, l)
-
-counts_most : (m : TypedModule) → CountsFew m → counts_in m ≤ most + few_headings
-counts_most m (inl h) = whole_counts (counts_in m) h
-counts_most m (inr p) = parts_counts (counts_in m) (size_bodies m) (headings_in m) (module_counts m) p.0 p.1
-
 one_less : (n : ℕ) → suc n ≤ few_entries → n ≤ few_entries
 one_less n h = omega (arith, h)
 
 pub procedures_few : (m : TypedModule) → CountsFew m → length m.procedures ≤ few_entries
 procedures_few m h = one_less (length m.procedures) (slots_few m h)
 
-types_sum : (t c : ℕ) → t ≤ 2 * c → c ≤ most + few_headings → t ≤ few_entries
+types_sum : (t c : ℕ) → t ≤ 2 * c → c ≤ most → t ≤ few_entries
 types_sum t c h l = omega (arith, h, l)
 
-locals_sum : (l b c : ℕ) → l ≤ 2 + 2 * b → b ≤ c → c ≤ most + few_headings → l ≤ few_entries
+locals_sum : (l b c : ℕ) → l ≤ 2 + 2 * b → b ≤ c → c ≤ most → l ≤ few_entries
 locals_sum l b c h k i = omega (arith, h, k, i)
 
 fewer_locals : (l : ℕ) → l ≤ few_entries → l < max_bytes
@@ -114,9 +94,9 @@ fewer_locals l h = omega (arith, h)
 module _ (m : TypedModule) (levels : most_levels m ≤ max_levels) (near : outward_bodies m ≤ max_nesting) (well : IsWellFormed m) (small : IsSmallBody m) where
   few : HasFewParts m
   few = record {
-    types = types_sum (types_count (needed m)) (counts_in m) (needed_few m well) (counts_most m small.counts);
+    types = types_sum (types_count (needed m)) (counts_in m) (needed_few m well) small.counts;
     imported = small.names.count;
-    locals = locals_sum (most_locals m) (size_bodies m) (counts_in m) (functions_few m) (bodies_count m) (counts_most m small.counts);
+    locals = locals_sum (most_locals m) (size_bodies m) (counts_in m) (functions_few m) (bodies_count m) small.counts;
     size = sizes_fit m near small.counts;
   }
 

@@ -1,10 +1,11 @@
--- How many procedures a scope has, and how many it awaits.
-use Rattle.std.proofs.Common.{◌≡◌, ℕ, ◌+◌, ◌≤◌, Bool, true, false, cond, List, [], ◌∷◌, length, Option, Some, None, Result, Ok, Err, refl, ap, arith}
+-- What the procedures of a scope count, and those that it awaits.
+use Rattle.std.proofs.Common.{◌≡◌, ℕ, ◌+◌, ◌≤◌, Bool, true, false, cond, List, [], ◌∷◌, Option, Some, None, Result, Ok, Err, refl, ap, arith}
 use Rattle.m2_rule.specs.declared.rule.Rule.TheVariants as rule
 use Rattle.m2_tree.specs.declared.name.Ident.{Ident}
 use Rattle.m2_tree.specs.Names.{same_name}
 use Rattle.typed_tree.specs.declared.meaning.Meaning.{Meaning}
 use Rattle.typed_tree.specs.declared.shape.Made.{Made}
+use Rattle.typed_tree.specs.declared.types.TypeNo.{TypeNo}
 use Rattle.typed_tree.specs.Names.{found, entered}
 use Rattle.check_scope.specs.Elaborated.{Gathers, reported}
 use Rattle.check_scope.specs.Scopes.{State, is_free, with_known, unless_declared, begun, is_begun, finished, unless_marked, marked}
@@ -13,94 +14,104 @@ use Rattle.check_scope.specs.declared.known.Known.TheVariants.{Later, Ahead, Beg
 use Rattle.check_scope.specs.declared.known.Origin.TheVariants.{Here}
 use Rattle.check_scope.specs.declared.scope.Scope.{Scope}
 use Rattle.check_type_expr.specs.Made.{with_shape, with_made}
+use Rattle.check_block.specs.declared.heading.Standing.{Standing}
+use Rattle.check_block.specs.declared.heading.Standing.TheVariants.{Free, Awaited, Taken}
+use Rattle.check_block.specs.Headings.{standing_known, name_standing}
+use Rattle.check_block.specs.Declarations.{is_awaited}
+use Rattle.law_encoding.specs.Sizes.{sum_of}
+use Rattle.law_well_formed.specs.FormedHeadings.{heading_in}
 use Rattle.law_well_formed.specs.FormedScopes.{picked, is_awaiting}
 
 abbrev pub Names : Type 0 → Type 0
 Names T = List (List ℕ × Known T)
 
-abbrev pub one_if : Bool → ℕ
-one_if true = 1
-one_if false = 0
+-- ---- what procedures count, by their headings
 
-abbrev pub awaiting : {T : Type 0} → Names T → ℕ
-awaiting [] = 0
-awaiting (e ∷ es) = one_if (is_awaiting e.1) + awaiting es
+module _ (weight : TypeNo → ℕ) where
+  -- a procedure that is awaited counts, and no other
+  abbrev pub standing_weight : Standing → ℕ
+  standing_weight Free = 0
+  standing_weight (Awaited p) = weight p.heading
+  standing_weight Taken = 0
 
--- ---- one name more
+  abbrev pub awaiting : {T : Type 0} → Names T → ℕ
+  awaiting [] = 0
+  awaiting (e ∷ es) = standing_weight (standing_known e.1) + awaiting es
+
+  abbrev pub awaiting_of : {T : Type 0} → Option (Known T) → ℕ
+  awaiting_of o = standing_weight (name_standing o)
+
+  -- the heading that stands under a name counts at most so many
+  abbrev pub HeadFits : {T : Type 0} → ℕ → Names T → List ℕ → Type 0
+  HeadFits n es name = (m : Meaning) (t : TypeNo) → found name es ≡ Some (Headed (Ok m)) → heading_in m ≡ Some t → weight t ≤ n
+
+  -- What procedures that come count, or those that are awaited no more, is at most so many.
+  pub record Fills {T : Type 0} (n : ℕ) (s s' : Scope T) : Type 0 where
+    pub most : sum_of weight s'.procedures + awaiting s.own ≤ n + sum_of weight s.procedures + awaiting s'.own
+
+  abbrev pub Stays : {T : Type 0} → Scope T → Scope T → Type 0
+  Stays s s' = Fills 0 s s'
 
 none_in : (n : ℕ) → 0 ≤ n
 none_in n = omega arith
 
-at_head : (a b n : ℕ) → a ≡ 0 → a + n ≤ b + n
-at_head a b n e = omega (arith, e)
+at_head : (a b n m : ℕ) → a ≤ n → a + m ≤ n + (b + m)
+at_head a b n m h = omega (arith, h)
 
-behind_head : (a n k : ℕ) → n ≤ k → a + n ≤ a + k
-behind_head a n k h = omega (arith, h)
-
-entered_by : {T : Type 0} (b : Bool) (k : Known T) (e : List ℕ × Known T) (es more : Names T) (o : Option (Known T)) → picked is_awaiting (cond b (Some e.1) o) ≡ false → (picked is_awaiting o ≡ false → awaiting es ≤ awaiting more)
-    → awaiting (e ∷ es) ≤ awaiting (cond b ((e.0, k) ∷ es) (e ∷ more))
-entered_by true k e es more o h i = at_head (one_if (is_awaiting e.1)) (one_if (is_awaiting k)) (awaiting es) (ap one_if h)
-entered_by false k e es more o h i = behind_head (one_if (is_awaiting e.1)) (awaiting es) (awaiting more) (i h)
-
-pub entered_awaits : {T : Type 0} (name : List ℕ) (k : Known T) (es : Names T) → picked is_awaiting (found name es) ≡ false → awaiting es ≤ awaiting (entered name k es)
-entered_awaits name k [] h = none_in _
-entered_awaits name k (e ∷ es) h = entered_by (same_name name e.0) k e es (entered name k es) (found name es) h (entered_awaits name k es)
-
-one_at_most : (b : Bool) → one_if b ≤ 1
-one_at_most true = omega arith
-one_at_most false = omega arith
-
-one_head : (a b n : ℕ) → a ≤ 1 → a + n ≤ 1 + (b + n)
-one_head a b n h = omega (arith, h)
-
-one_behind : (a n k : ℕ) → n ≤ 1 + k → a + n ≤ 1 + (a + k)
-one_behind a n k h = omega (arith, h)
-
-one_by : {T : Type 0} (b : Bool) (k : Known T) (e : List ℕ × Known T) (es more : Names T) → awaiting es ≤ 1 + awaiting more → awaiting (e ∷ es) ≤ 1 + awaiting (cond b ((e.0, k) ∷ es) (e ∷ more))
-one_by true k e es more i = one_head (one_if (is_awaiting e.1)) (one_if (is_awaiting k)) (awaiting es) (one_at_most (is_awaiting e.1))
-one_by false k e es more i = one_behind (one_if (is_awaiting e.1)) (awaiting es) (awaiting more) i
-
--- at most one is awaited no more
-pub entered_one : {T : Type 0} (name : List ℕ) (k : Known T) (es : Names T) → awaiting es ≤ 1 + awaiting (entered name k es)
-entered_one name k [] = none_in _
-entered_one name k (e ∷ es) = one_by (same_name name e.0) k e es (entered name k es) (entered_one name k es)
-
--- ---- steps
-
--- There come at most so many procedures, or so many that are awaited no more.
-pub record Fills {T : Type 0} (n : ℕ) (s s' : Scope T) : Type 0 where
-  pub most : length s'.procedures + awaiting s.own ≤ n + length s.procedures + awaiting s'.own
-
-abbrev pub Stays : {T : Type 0} → Scope T → Scope T → Type 0
-Stays s s' = Fills 0 s s'
+behind_head : (a n k m : ℕ) → m ≤ n + k → a + m ≤ n + (a + k)
+behind_head a n k m h = omega (arith, h)
 
 refl_sum : (a b : ℕ) → a + b ≤ 0 + a + b
 refl_sum a b = omega arith
 
-pub stays_refl : {T : Type 0} (s : Scope T) → Stays s s
-stays_refl s = record { most = refl_sum (length s.procedures) (awaiting s.own) }
-
 then_sum : (a b c d e f n k : ℕ) → c + b ≤ n + a + d → e + d ≤ k + c + f → e + b ≤ n + k + a + f
 then_sum a b c d e f n k h i = omega (arith, h, i)
 
-pub fills_then : {T : Type 0} {n k : ℕ} {a b c : Scope T} → Fills n a b → Fills k b c → Fills (n + k) a c
-fills_then {n = n} {k = k} {a = a} {b = b} {c = c} p q =
-    record { most = then_sum (length a.procedures) (awaiting a.own) (length b.procedures) (awaiting b.own) (length c.procedures) (awaiting c.own) n k p.most q.most }
+known_sum : (a n m k : ℕ) → m ≤ n + k → a + m ≤ n + a + k
+known_sum a n m k h = omega (arith, h)
 
-pub stays_then : {T : Type 0} {a b c : Scope T} → Stays a b → Stays b c → Stays a c
-stays_then p q = fills_then p q
+module _ (weight : TypeNo → ℕ) where
+  -- ---- one name more
 
-known_sum : (a n k : ℕ) → n ≤ k → a + n ≤ 0 + a + k
-known_sum a n k h = omega (arith, h)
+  entered_by : {T : Type 0} (n : ℕ) (b : Bool) (k : Known T) (e : List ℕ × Known T) (es more : Names T) (o : Option (Known T)) → awaiting_of weight (cond b (Some e.1) o) ≤ n
+      → (awaiting_of weight o ≤ n → awaiting weight es ≤ n + awaiting weight more) → awaiting weight (e ∷ es) ≤ n + awaiting weight (cond b ((e.0, k) ∷ es) (e ∷ more))
+  entered_by n true k e es more o h i = at_head (standing_weight weight (standing_known e.1)) (standing_weight weight (standing_known k)) n (awaiting weight es) h
+  entered_by n false k e es more o h i = behind_head (standing_weight weight (standing_known e.1)) n (awaiting weight more) (awaiting weight es) (i h)
 
-pub known_stays : {T : Type 0} (s : Scope T) (name : List ℕ) (k : Known T) → picked is_awaiting (found name s.own) ≡ false → Stays s (with_known name k s)
-known_stays s name k h = record { most = known_sum (length s.procedures) _ _ (entered_awaits name k s.own h) }
+  entered_awaits : {T : Type 0} (n : ℕ) (name : List ℕ) (k : Known T) (es : Names T) → awaiting_of weight (found name es) ≤ n → awaiting weight es ≤ n + awaiting weight (entered name k es)
+  entered_awaits n name k [] h = none_in _
+  entered_awaits n name k (e ∷ es) h = entered_by n (same_name name e.0) k e es (entered name k es) (found name es) h (entered_awaits n name k es)
 
-one_sum : (a n k : ℕ) → n ≤ 1 + k → a + n ≤ 1 + a + k
-one_sum a n k h = omega (arith, h)
+  pub no_weight : (s : Standing) → is_awaited s ≡ false → standing_weight weight s ≤ 0
+  no_weight Free e = none_in 0
+  no_weight (Awaited p) e = absurd cc
+  no_weight Taken e = none_in 0
 
-pub known_fills : {T : Type 0} (s : Scope T) (name : List ℕ) (k : Known T) → Fills 1 s (with_known name k s)
-known_fills s name k = record { most = one_sum (length s.procedures) _ _ (entered_one name k s.own) }
+  pub none_awaited : {T : Type 0} (o : Option (Known T)) → picked is_awaiting o ≡ false → awaiting_of weight o ≤ 0
+  none_awaited None e = none_in 0
+  none_awaited (Some k) e = no_weight (standing_known k) e
+
+module _ {weight : TypeNo → ℕ} where
+  -- ---- steps
+
+  pub stays_refl : {T : Type 0} (s : Scope T) → Stays weight s s
+  stays_refl s = record { most = refl_sum (sum_of weight s.procedures) (awaiting weight s.own) }
+
+  pub fills_then : {T : Type 0} {n k : ℕ} {a b c : Scope T} → Fills weight n a b → Fills weight k b c → Fills weight (n + k) a c
+  fills_then {n = n} {k = k} {a = a} {b = b} {c = c} p q = record {
+    most =
+        then_sum (sum_of weight a.procedures) (awaiting weight a.own) (sum_of weight b.procedures) (awaiting weight b.own) (sum_of weight c.procedures) (awaiting weight c.own) n k
+        p.most q.most;
+  }
+
+  pub stays_then : {T : Type 0} {a b c : Scope T} → Stays weight a b → Stays weight b c → Stays weight a c
+  stays_then p q = fills_then p q
+
+  pub known_fills : {T : Type 0} (n : ℕ) (s : Scope T) (name : List ℕ) (k : Known T) → awaiting_of weight (found name s.own) ≤ n → Fills weight n s (with_known name k s)
+  known_fills n s name k h = record { most = known_sum (sum_of weight s.procedures) n _ _ (entered_awaits weight n name k s.own h) }
+
+  pub known_stays : {T : Type 0} (s : Scope T) (name : List ℕ) (k : Known T) → picked is_awaiting (found name s.own) ≡ false → Stays weight s (with_known name k s)
+  known_stays s name k h = known_fills 0 s name k (none_awaited weight (found name s.own) h)
 
 pub free_unawaited : {T : Type 0} (o : Option (Known T)) → is_free o ≡ true → picked is_awaiting o ≡ false
 free_unawaited None e = refl
@@ -118,36 +129,36 @@ begun_unawaited (Some Begun) e = refl
 begun_unawaited (Some (Headed m)) e = refl
 begun_unawaited (Some (Declared o m)) e = absurd cc
 
-module _ (g : Gathers) (s : Scope g.Reported) (name : Ident) where
-  unless_by : (b : Bool) (k : Known g.Reported) → (b ≡ true → Stays s (with_known name.name k s)) → Stays s (cond {A = State (Unit {0}) g.Reported} b (with_known name.name k s, Ok tt) (s, reported g name.pos rule.DeclaredTwice)).0
+module _ {weight : TypeNo → ℕ} (g : Gathers) (s : Scope g.Reported) (name : Ident) where
+  unless_by : (b : Bool) (k : Known g.Reported) → (b ≡ true → Stays weight s (with_known name.name k s)) → Stays weight s (cond {A = State (Unit {0}) g.Reported} b (with_known name.name k s, Ok tt) (s, reported g name.pos rule.DeclaredTwice)).0
   unless_by true k p = p refl
   unless_by false k p = stays_refl s
 
-  pub unless_stays : (k : Known g.Reported) → Stays s (unless_declared g s name k).0
+  pub unless_stays : (k : Known g.Reported) → Stays weight s (unless_declared g s name k).0
   unless_stays k = unless_by (is_free (found name.name s.own)) k (λ e. known_stays s name.name k (free_unawaited (found name.name s.own) e))
 
-  pub begun_stays : Stays s (begun g s name).0
+  pub begun_stays : Stays weight s (begun g s name).0
   begun_stays = unless_stays Begun
 
-finished_by : {T : Type 0} (s : Scope T) (name : List ℕ) (k : Known T) (b : Bool) → (b ≡ true → Stays s (with_known name k s)) → Stays s (cond b (with_known name k s) s)
+finished_by : {weight : TypeNo → ℕ} {T : Type 0} (s : Scope T) (name : List ℕ) (k : Known T) (b : Bool) → (b ≡ true → Stays weight s (with_known name k s)) → Stays weight s (cond b (with_known name k s) s)
 finished_by s name k true p = p refl
 finished_by s name k false p = stays_refl s
 
-pub finished_stays : {T : Type 0} (s : Scope T) (name : Ident) (r : Result Meaning T) → Stays s (finished s name r)
+pub finished_stays : {weight : TypeNo → ℕ} {T : Type 0} (s : Scope T) (name : Ident) (r : Result Meaning T) → Stays weight s (finished s name r)
 finished_stays s name r = finished_by s name.name (Declared Here r) (is_begun (found name.name s.own)) (λ e. known_stays s name.name (Declared Here r) (begun_unawaited (found name.name s.own) e))
 
-marked_by : {T : Type 0} (s : Scope T) (name : List ℕ) (k : Known T) (o : Option (Known T)) → found name s.own ≡ o → Stays s (unless_marked name k s o)
+marked_by : {weight : TypeNo → ℕ} {T : Type 0} (s : Scope T) (name : List ℕ) (k : Known T) (o : Option (Known T)) → found name s.own ≡ o → Stays weight s (unless_marked name k s o)
 marked_by s name k (Some x) e = stays_refl s
 marked_by s name k None e = known_stays s name k (ap (λ (o : Option (Known _)). picked is_awaiting o) e)
 
-pub marked_stays : {T : Type 0} (s : Scope T) (name : Ident) (k : Known T) → Stays s (marked name k s)
+pub marked_stays : {weight : TypeNo → ℕ} {T : Type 0} (s : Scope T) (name : Ident) (k : Known T) → Stays weight s (marked name k s)
 marked_stays s name k = marked_by s name.name k (found name.name s.own) refl
 
 -- ---- types
 
-pub shape_stays : {T : Type 0} (s : Scope T) (x : Made) → Stays s (with_shape s x)
-shape_stays s x = record { most = refl_sum (length s.procedures) (awaiting s.own) }
+pub shape_stays : {weight : TypeNo → ℕ} {T : Type 0} (s : Scope T) (x : Made) → Stays weight s (with_shape s x)
+shape_stays {weight = weight} s x = record { most = refl_sum (sum_of weight s.procedures) (awaiting weight s.own) }
 
-pub made_stays : {T : Type 0} (s : Scope T) (x : Result Made T) → Stays s (with_made s x).0
+pub made_stays : {weight : TypeNo → ℕ} {T : Type 0} (s : Scope T) (x : Result Made T) → Stays weight s (with_made s x).0
 made_stays s (Ok x) = shape_stays s x
 made_stays s (Err e) = stays_refl s

@@ -22,18 +22,18 @@ use Rattle.law_encoding.proofs.Awaited.{Stays, stays_refl, stays_then, unless_st
 
 -- ---- marks
 
-pub later_all : {T : Type 0} (names : List Ident) (s : Scope T) → Stays s (fold marked_later s names)
+pub later_all : {weight : TypeNo → ℕ} {T : Type 0} (names : List Ident) (s : Scope T) → Stays weight s (fold marked_later s names)
 later_all [] s = stays_refl s
 later_all (x ∷ xs) s = stays_then (marked_stays s x Later) (later_all xs (marked_later s x))
 
-simple_marks : {T : Type 0} (t : Simple) (s : Scope T) → Stays s (marked_simple t s)
+simple_marks : {weight : TypeNo → ℕ} {T : Type 0} (t : Simple) (s : Scope T) → Stays weight s (marked_simple t s)
 simple_marks (simple.Named q) s = stays_refl s
 simple_marks (simple.Enumeration at names) s = later_all names s
 simple_marks (simple.Subrange o at low high) s = stays_refl s
 
-module _ (T : Type 0) where
+module _ (weight : TypeNo → ℕ) (T : Type 0) where
   abbrev MarksStay : Marks T → Type 0
-  MarksStay f = (s : Scope T) → Stays s (f s)
+  MarksStay f = (s : Scope T) → Stays weight s (f s)
 
   abbrev PM : TypeExpr → Type 0
   PM t = MarksStay (marked_in {T = T} t)
@@ -67,7 +67,7 @@ module _ (T : Type 0) where
   abbrev marks_bare_field : Field-F SM SMF → Field-F TypeExpr Field
   marks_bare_field x = map-Field SM SMF TypeExpr Field (λ t. t.0) (λ f. f.0) x
 
-  field_marks : (fs : List SMF) (s : Scope T) → Stays s (fold then_marks s (map (marked_field {T = T}) (map (λ (f : SMF). f.0) fs)))
+  field_marks : (fs : List SMF) (s : Scope T) → Stays weight s (fold then_marks s (map (marked_field {T = T}) (map (λ (f : SMF). f.0) fs)))
   field_marks [] s = stays_refl s
   field_marks (f ∷ fs) s = stays_then (f.1 s) (field_marks fs (marked_field f.0 s))
 
@@ -88,22 +88,22 @@ module _ (T : Type 0) where
 
 -- ---- types that are made
 
-module _ (g : Gathers) where
-  listed_all : (t : TypeNo) (names : List Ident) (l : Scope g.Reported × ℕ × Result (Unit {0}) g.Reported) → Stays l.0 (fold (listed g t) l names).0
+module _ (weight : TypeNo → ℕ) (g : Gathers) where
+  listed_all : (t : TypeNo) (names : List Ident) (l : Scope g.Reported × ℕ × Result (Unit {0}) g.Reported) → Stays weight l.0 (fold (listed g t) l names).0
   listed_all t [] l = stays_refl l.0
   listed_all t (x ∷ xs) l = stays_then (unless_stays g l.0 x (Declared Here (Ok (enumeration_constant t (pos l.1))))) (listed_all t xs (listed g t l x))
 
-  simple_stays : (s : Scope g.Reported) (t : Simple) → Stays s (simple_type g s t).0
+  simple_stays : (s : Scope g.Reported) (t : Simple) → Stays weight s (simple_type g s t).0
   simple_stays s (simple.Named q) = stays_refl s
   simple_stays s (simple.Enumeration at names) =
       stays_then (shape_stays s (enumeration_scalar (next_type s) names)) (listed_all (next_type s) names (with_shape s (enumeration_scalar (next_type s) names), 0, too_many g names))
   simple_stays s (simple.Subrange o at low high) = made_stays s _
 
   abbrev MakesStay : Makes g → Type 0
-  MakesStay f = (s : Scope g.Reported) → Stays s (f s).0
+  MakesStay f = (s : Scope g.Reported) → Stays weight s (f s).0
 
   abbrev FieldsStay : MakesFields g → Type 0
-  FieldsStay f = (st : Scope g.Reported × Fields × Result (Unit {0}) g.Reported) → Stays st.0 (f st).0
+  FieldsStay f = (st : Scope g.Reported × Fields × Result (Unit {0}) g.Reported) → Stays weight st.0 (f st).0
 
   abbrev PT : TypeExpr → Type 0
   PT t = MakesStay (type_of g t)
@@ -137,7 +137,7 @@ module _ (g : Gathers) where
   abbrev bare_field : Field-F ST SF → Field-F TypeExpr Field
   bare_field x = map-Field ST SF TypeExpr Field (λ t. t.0) (λ f. f.0) x
 
-  fields_all : (fs : List SF) (st : Scope g.Reported × Fields × Result (Unit {0}) g.Reported) → Stays st.0 (fold (then_fields g) st (map (field_list g) (map (λ (f : SF). f.0) fs))).0
+  fields_all : (fs : List SF) (st : Scope g.Reported × Fields × Result (Unit {0}) g.Reported) → Stays weight st.0 (fold (then_fields g) st (map (field_list g) (map (λ (f : SF). f.0) fs))).0
   fields_all [] st = stays_refl st.0
   fields_all (f ∷ fs) st = stays_then (f.1 st) (fields_all fs (field_list g f.0 st))
 

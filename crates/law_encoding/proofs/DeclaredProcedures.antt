@@ -1,5 +1,5 @@
 -- Each procedure of a module is declared in its text.
-use Rattle.std.proofs.Common.{◌≡◌, ℕ, zero, suc, ◌+◌, ◌≤◌, ◌==◌, Bool, true, false, ◌||◌, cond, List, [], ◌∷◌, ◌++◌, map, length, Option, Some, None, Result, Ok, Err, refl, sym, ap, subst, ◌∙◌, length-append, arith}
+use Rattle.std.proofs.Common.{◌≡◌, ℕ, zero, suc, ◌+◌, ◌≤◌, ◌==◌, Bool, true, false, ◌||◌, cond, List, [], ◌∷◌, ◌++◌, map, length, Option, Some, None, Result, Ok, Err, refl, sym, ap, subst, ◌∙◌, arith}
 use Rattle.std.specs.Prelude.{All, slice_get, slice_set}
 use Rattle.std.specs.List.{fold, AllByRecursion}
 use Rattle.std.specs.Option.{unwrap_or}
@@ -34,8 +34,9 @@ use Rattle.check_scope.specs.declared.known.Origin.TheVariants.{Here}
 use Rattle.check_scope.specs.declared.scope.Scope.{Scope}
 use Rattle.check_definition.specs.Importing.{with_import}
 use Rattle.check_definition.specs.Predeclared.{console, first_scope}
-use Rattle.check_block.specs.Declarations.{Declared as Behind, is_awaited, or_awaited, lacks, reported_of_lack, declared_block, declared_module, all_declared}
-use Rattle.check_block.specs.Headings.{standing_of}
+use Rattle.check_block.specs.Declarations.{Course, Declared as Behind, or_awaited, lacks, reported_of_lack, with_decl, declared_block, declared_module, all_declared}
+use Rattle.check_block.specs.declared.heading.Standing.{Standing}
+use Rattle.check_block.specs.Headings.{standing_of, standing_known}
 use Rattle.check_block.specs.Naming.{marked_decl, with_marks}
 use Rattle.check_block.specs.Nesting.{procedure_ends}
 use Rattle.check_body.specs.Own.{with_own_name, with_heading_of, with_exported_heading, implementation_scope}
@@ -55,11 +56,13 @@ use Rattle.law_well_formed.proofs.ScopesDeclarations.{beside_right}
 use Rattle.law_well_formed.proofs.BodiesBlocks.{step_reported}
 use Rattle.law_well_formed.proofs.Induction.{decls_formed}
 use Rattle.law_encoding.specs.Counted.{AtMost, fine, broken}
-use Rattle.law_encoding.specs.DeclaredProcedures.{declared_headings, outermost_in, ExportsOnce, procedures_of}
+use Rattle.law_encoding.specs.Sizes.{sum_of}
+use Rattle.law_encoding.specs.DeclaredProcedures.{headings_of, declared_headings, outermost_in, ExportsOnce, procedures_of}
+use Rattle.law_encoding.proofs.Sums.{sum_append}
 use Rattle.law_encoding.proofs.DistinctImports.{Differ}
 use Rattle.law_encoding.proofs.KeptImports.{imports_keep}
-use Rattle.law_encoding.proofs.Awaited.{Names, one_if, awaiting, Fills, Stays, stays_refl, stays_then, fills_then, known_stays, free_unawaited}
-use Rattle.law_encoding.proofs.AwaitedDeclarations.{decls_fill, marks_stay}
+use Rattle.law_encoding.proofs.Awaited.{Names, standing_weight, awaiting, Fills, Stays, no_weight, stays_refl, stays_then, fills_then, known_stays, free_unawaited}
+use Rattle.law_encoding.proofs.AwaitedDeclarations.{count_of, DeclFits, all_counts, AllFit, decls_fill, marks_stay}
 
 -- ---- a module keeps its procedures while their bodies are checked
 
@@ -181,38 +184,31 @@ or_none : (a b : Bool) → (a || b) ≡ false → (a ≡ false) × (b ≡ false)
 or_none true b e = absurd cc
 or_none false b e = (refl, e)
 
-none_sum : (a b : ℕ) → a ≡ 0 → b ≡ 0 → a + b ≡ 0
-none_sum a b e f = omega (arith, e, f)
-
-none_awaited : {T : Type 0} (so : Bool) (es : Names T) → fold or_awaited so es ≡ false → (so ≡ false) × (awaiting es ≡ 0)
-none_awaited so [] e = (e, refl)
-none_awaited so (x ∷ es) e =
-    let r = none_awaited (so || is_awaiting x.1) es e in
-    let o = or_none so (is_awaiting x.1) r.0 in
-    (o.0, none_sum (one_if (is_awaiting x.1)) (awaiting es) (ap one_if o.1) r.1)
-
 lack_by : (g : Gathers) (b : Bool) (at : Pos) → reported_where g {A = Unit {0}} b at rule.MissingProcedure (Ok tt) ≡ Ok tt → b ≡ false
 lack_by g true at e = absurd cc
 lack_by g false at e = refl
 
+none_sum : (a b : ℕ) → a ≤ 0 → b ≤ 0 → a + b ≤ 0
+none_sum a b e f = omega (arith, e, f)
+
+nothing_in : (n : ℕ) → 0 ≤ n
+nothing_in n = omega arith
+
+module _ (weight : TypeNo → ℕ) where
+  none_left : {T : Type 0} (so : Bool) (es : Names T) → fold or_awaited so es ≡ false → (so ≡ false) × (awaiting weight es ≤ 0)
+  none_left so [] e = (e, nothing_in 0)
+  none_left so (x ∷ es) e =
+      let r = none_left (so || is_awaiting x.1) es e in
+      let o = or_none so (is_awaiting x.1) r.0 in
+      (o.0, none_sum (standing_weight weight (standing_known x.1)) (awaiting weight es) (no_weight weight (standing_known x.1) o.1) r.1)
+
 -- ---- the procedures of a definition are awaited
 
-new_here : (b : Bool) → 0 + one_if b ≤ one_if b + 0
-new_here b = both_sum (one_if b) where
-  both_sum : (n : ℕ) → 0 + n ≤ n + 0
-  both_sum n = omega arith
+new_here : (n : ℕ) → 0 + n ≤ n + 0
+new_here n = omega arith
 
 new_behind : (a n k m : ℕ) → n + m ≤ k → a + n + m ≤ a + k
 new_behind a n k m h = omega (arith, h)
-
-new_by : {T : Type 0} (b : Bool) (k : Known T) (e : List ℕ × Known T) (es more : Names T) (o : Option (Known T)) → cond b (Some e.1) o ≡ None → (o ≡ None → awaiting es + one_if (is_awaiting k) ≤ awaiting more)
-    → awaiting (e ∷ es) + one_if (is_awaiting k) ≤ awaiting (cond b ((e.0, k) ∷ es) (e ∷ more))
-new_by true k e es more o h i = absurd cc
-new_by false k e es more o h i = new_behind (one_if (is_awaiting e.1)) (awaiting es) (awaiting more) (one_if (is_awaiting k)) (i h)
-
-new_awaits : {T : Type 0} (name : List ℕ) (k : Known T) (es : Names T) → found name es ≡ None → awaiting es + one_if (is_awaiting k) ≤ awaiting (entered name k es)
-new_awaits name k [] h = new_here (is_awaiting k)
-new_awaits name k (e ∷ es) h = new_by (same_name name e.0) k e es (entered name k es) (found name es) h (new_awaits name k es)
 
 other_by : (a b : List ℕ) (c : Bool) → same_name a b ≡ c → (b ≡ a → ⊥) → c ≡ false
 other_by a b true e d = absurd (d (sym (same_is a b e)))
@@ -224,20 +220,8 @@ other_name a b d = other_by a b (same_name a b) refl d
 no_more : (n : ℕ) → n ≤ n + 0
 no_more n = omega arith
 
-one_more : (a b : ℕ) → b ≡ a + 1 → b ≤ a + 1
-one_more a b e = omega (arith, e)
-
-heading_awaits : (ts : List TypeNo) (m : Meaning) → length (with_heading_of ts m) ≤ length ts + one_if (is_awaited (standing_of m))
-heading_awaits ts (meaning.Procedure p) = one_more (length ts) _ (length-append ts (p.heading ∷ []))
-heading_awaits ts (meaning.Constant v) = no_more (length ts)
-heading_awaits ts (meaning.Type t n) = no_more (length ts)
-heading_awaits ts (meaning.Variable v) = no_more (length ts)
-heading_awaits ts (meaning.Local v) = no_more (length ts)
-heading_awaits ts (meaning.Field f) = no_more (length ts)
-heading_awaits ts (meaning.LocalProcedure p) = no_more (length ts)
-heading_awaits ts meaning.Ahead = no_more (length ts)
-heading_awaits ts (meaning.Standard f) = no_more (length ts)
-heading_awaits ts (meaning.Module k) = no_more (length ts)
+one_more : (a b n : ℕ) → b ≡ a + (n + 0) → b ≤ a + n
+one_more a b n e = omega (arith, e)
 
 abbrev AreNew : {T : Type 0} → Names T → List (List ℕ × Meaning) → Type 0
 AreNew ns es = AllByRecursion (λ e. found e.0 ns ≡ None) es
@@ -249,12 +233,40 @@ still_new ns name k (e ∷ es) d n = (found_other name k ns e.0 (other_name e.0 
 awaits_sum : (a b c d e : ℕ) → a ≤ b → c ≤ a + d → b + d ≤ e → c ≤ e
 awaits_sum a b c d e h i j = omega (arith, h, i, j)
 
-exports_await : {T : Type 0} (es : List (List ℕ × Meaning)) (ts : List TypeNo) (ns : Names T) → Differ (map (λ (e : List ℕ × Meaning). e.0) es) → AreNew ns es → length ts ≤ awaiting ns
-    → length (fold with_exported_heading ts es) ≤ awaiting (fold with_own_name ns es)
-exports_await [] ts ns d n h = h
-exports_await (e ∷ es) ts ns d n h =
-    exports_await es (with_exported_heading ts e) (with_own_name ns e) d.1 (still_new ns e.0 (Declared Here (Ok e.1)) es d.0 n.1)
-    (awaits_sum (length ts) (awaiting ns) _ (one_if (is_awaited (standing_of e.1))) _ h (heading_awaits ts e.1) (new_awaits e.0 (Declared Here (Ok e.1)) ns n.0))
+module _ (weight : TypeNo → ℕ) where
+  abbrev of_standing : Standing → ℕ
+  of_standing o = standing_weight weight o
+
+  abbrev of_known : {T : Type 0} → Known T → ℕ
+  of_known k = of_standing (standing_known k)
+
+  new_by : {T : Type 0} (b : Bool) (k : Known T) (e : List ℕ × Known T) (es more : Names T) (o : Option (Known T)) → cond b (Some e.1) o ≡ None → (o ≡ None → awaiting weight es + of_known k ≤ awaiting weight more)
+      → awaiting weight (e ∷ es) + of_known k ≤ awaiting weight (cond b ((e.0, k) ∷ es) (e ∷ more))
+  new_by true k e es more o h i = absurd cc
+  new_by false k e es more o h i = new_behind (of_known e.1) (awaiting weight es) (awaiting weight more) (of_known k) (i h)
+
+  new_awaits : {T : Type 0} (name : List ℕ) (k : Known T) (es : Names T) → found name es ≡ None → awaiting weight es + of_known k ≤ awaiting weight (entered name k es)
+  new_awaits name k [] h = new_here (of_known k)
+  new_awaits name k (e ∷ es) h = new_by (same_name name e.0) k e es (entered name k es) (found name es) h (new_awaits name k es)
+
+  heading_awaits : (ts : List TypeNo) (m : Meaning) → sum_of weight (with_heading_of ts m) ≤ sum_of weight ts + of_standing (standing_of m)
+  heading_awaits ts (meaning.Procedure p) = one_more (sum_of weight ts) _ (weight p.heading) (sum_append weight ts (p.heading ∷ []))
+  heading_awaits ts (meaning.Constant v) = no_more (sum_of weight ts)
+  heading_awaits ts (meaning.Type t n) = no_more (sum_of weight ts)
+  heading_awaits ts (meaning.Variable v) = no_more (sum_of weight ts)
+  heading_awaits ts (meaning.Local v) = no_more (sum_of weight ts)
+  heading_awaits ts (meaning.Field f) = no_more (sum_of weight ts)
+  heading_awaits ts (meaning.LocalProcedure p) = no_more (sum_of weight ts)
+  heading_awaits ts meaning.Ahead = no_more (sum_of weight ts)
+  heading_awaits ts (meaning.Standard f) = no_more (sum_of weight ts)
+  heading_awaits ts (meaning.Module k) = no_more (sum_of weight ts)
+
+  exports_await : {T : Type 0} (es : List (List ℕ × Meaning)) (ts : List TypeNo) (ns : Names T) → Differ (map (λ (e : List ℕ × Meaning). e.0) es) → AreNew ns es → sum_of weight ts ≤ awaiting weight ns
+      → sum_of weight (fold with_exported_heading ts es) ≤ awaiting weight (fold with_own_name ns es)
+  exports_await [] ts ns d n h = h
+  exports_await (e ∷ es) ts ns d n h =
+      exports_await es (with_exported_heading ts e) (with_own_name ns e) d.1 (still_new ns e.0 (Declared Here (Ok e.1)) es d.0 n.1)
+      (awaits_sum (sum_of weight ts) (awaiting weight ns) _ (of_standing (standing_of e.1)) _ h (heading_awaits ts e.1) (new_awaits e.0 (Declared Here (Ok e.1)) ns n.0))
 
 all_new : (T : Type 0) (es : List (List ℕ × Meaning)) → AreNew {T = T} [] es
 all_new T [] = tt
@@ -268,14 +280,104 @@ distinct_differ : (xs : List (List ℕ)) → AreDistinct xs → Differ xs
 distinct_differ [] d = tt
 distinct_differ (x ∷ xs) d = (by_recursion (λ y. x ≡ y → ⊥) xs d.0, distinct_differ xs d.1)
 
+-- an implementation awaits the procedures of its definition
+module _ (weight : TypeNo → ℕ) where
+  abbrev pub AwaitsAll : {T : Type 0} → Scope T → Type 0
+  AwaitsAll s = sum_of weight s.procedures ≤ awaiting weight s.own
+
+  pub own_awaits : (T : Type 0) (own : Table) (tables : List Table) → ExportsOnce (Some own) → AwaitsAll {T = T} (implementation_scope own tables)
+  own_awaits T own tables once = exports_await weight {T = T} own.exported [] [] (distinct_differ (map (λ (e : List ℕ × Meaning). e.0) own.exported) once) (all_new T own.exported) (omega arith)
+
+-- ---- the block of a module
+
+end_sum : (d a n p w : ℕ) → d + a ≤ 0 + (0 + n) + p + w → p ≤ a → w ≤ 0 → d ≤ n
+end_sum d a n p w h i e = omega (arith, h, i, e)
+
+module _ (weight : TypeNo → ℕ) (count : Heading → ℕ) (g : Gathers) (modules : List (List ℕ × ℕ)) (s : Scope g.Reported) (m : Module) (ds : List Decl) where
+  abbrev ends : List ℕ
+  ends = procedure_ends ds
+
+  abbrev imported : State (Unit {0}) g.Reported
+  imported = fold (with_import g modules) (s, Ok tt) m.imports
+
+  imports_stay : Stays weight s imported.0
+  imports_stay = imports_keep g (λ z. Stays weight s z) (λ z name k e h. stays_then h (known_stays z name k (free_unawaited (found name z.own) e))) modules m.imports (s, Ok tt) (stays_refl s)
+
+  abbrev marks : Scope g.Reported × List ℕ
+  marks = fold (with_marks marked_decl) (imported.0, []) ds
+
+  abbrev pub HeadingsFit : Type 0
+  HeadingsFit = AllFit weight g count ends (marks.0, imported.1, 0) ds
+
+  block_fills : HeadingsFit → Fills weight (0 + (0 + all_counts count ds)) s (declared_module g modules ends s m ds).0
+  block_fills fits = fills_then imports_stay (fills_then (marks_stay weight g ds (imported.0, [])) (decls_fill weight g count ends ds (marks.0, imported.1, 0) fits))
+
+  abbrev block : Behind g.Reported
+  block = declared_block g ends imported 0 ds
+
+  abbrev begun : Walk g.Reported × List ℕ
+  begun = begun_module g modules ends s m ds
+
+  none_awaited_yet : begun.0.so_far ≡ Ok tt → awaiting weight begun.0.scope.own ≤ 0
+  none_awaited_yet e =
+      (none_left weight false begun.0.scope.own
+      (lack_by g (lacks block.0.own) m.name.pos (beside_right g block.1 (reported_of_lack g m.name.pos block.0) e))).1
+
+  -- all its procedures are declared in it
+  pub headings_few : HeadingsFit → AwaitsAll weight s → begun.0.so_far ≡ Ok tt → sum_of weight begun.0.scope.procedures ≤ all_counts count ds
+  headings_few fits start e =
+      end_sum (sum_of weight begun.0.scope.procedures) (awaiting weight s.own) (all_counts count ds) (sum_of weight s.procedures) (awaiting weight begun.0.scope.own)
+      (block_fills fits).most start (none_awaited_yet e)
+
 -- ---- whole modules
+
+-- each procedure counts one
+abbrev one : TypeNo → ℕ
+one t = 1
+
+abbrev one_heading : Heading → ℕ
+one_heading h = 1
+
+next_count : (a b : ℕ) → a ≡ b → 1 + a ≡ suc b
+next_count a b e = omega (arith, e)
+
+count_one : (hs : List TypeNo) → sum_of one hs ≡ length hs
+count_one [] = refl
+count_one (h ∷ hs) = next_count (sum_of one hs) (length hs) (count_one hs)
 
 count_map : (hs : List TypeNo) → length (map unfilled hs) ≡ length hs
 count_map [] = refl
 count_map (h ∷ hs) = ap suc (count_map hs)
 
-end_sum : (d a n p w r : ℕ) → d + a ≤ 0 + (0 + n) + p + w → p ≤ a → w ≡ 0 → r ≡ d → r ≤ n
-end_sum d a n p w r h i e f = omega (arith, h, i, e, f)
+one_fits : (n : ℕ) → n ≡ 1 → n ≤ 1
+one_fits n e = omega (arith, e)
+
+few_sum : (n d r a b : ℕ) → a ≤ b → a ≡ d → r ≡ d → b ≡ n → r ≤ n
+few_sum n d r a b h e f k = omega (arith, h, e, f, k)
+
+one_count : {A B : Type 0} (y : Decl-F A B) → count_of one_heading y ≡ headings_of y
+one_count (layer.Constants cs) = refl
+one_count (layer.Types ts) = refl
+one_count (layer.Variables vs) = refl
+one_count (layer.Procedure h b) = refl
+
+pair_sum : {a b c e : ℕ} → a ≡ b → c ≡ e → a + c ≡ b + e
+pair_sum h k = omega (arith, h, k)
+
+all_one : (ds : List Decl) → all_counts one_heading ds ≡ declared_headings ds
+all_one [] = refl
+all_one (d ∷ ds) = pair_sum (one_count (out-Decl d)) (all_one ds)
+
+module _ (g : Gathers) where
+  decl_fits : {A B : Type 0} (ns : Names g.Reported) (y : Decl-F A B) → DeclFits one g one_heading ns y
+  decl_fits ns (layer.Constants cs) = tt
+  decl_fits ns (layer.Types ts) = tt
+  decl_fits ns (layer.Variables vs) = tt
+  decl_fits ns (layer.Procedure h b) = λ m t e k. one_fits 1 refl
+
+  all_fit : (es : List ℕ) (ds : List Decl) (c : Course g.Reported) → AllFit one g one_heading es c ds
+  all_fit es [] c = tt
+  all_fit es (d ∷ ds) c = (decl_fits (with_decl g es c d).0.own (out-Decl d), all_fit es ds (with_decl g es c d))
 
 module _ (g : Gathers) (elaborates : Elaborates g.Reported) (forms : FormsStatements g elaborates) where
   both_few : (n : ℕ) (a : Result (Unit {0}) g.Reported) (r : Result (List TypedStmt) g.Reported) (f : List TypedStmt → TypedModule) → ((ys : List TypedStmt) → a ≡ Ok tt → procedures_of (f ys) ≤ n) → AtMost procedures_of n (both g a r ▷ λ p. Ok (f p.1))
@@ -284,56 +386,32 @@ module _ (g : Gathers) (elaborates : Elaborates g.Reported) (forms : FormsStatem
   both_few n (Err e) (Ok ys) f k = broken e
   both_few n (Err e) (Err x) f k = broken (g.join e x)
 
-  module _ (modules : List (List ℕ × ℕ)) (s : Scope g.Reported) (m : Module) (ds : List Decl) (start : length s.procedures ≤ awaiting s.own) where
-    abbrev ends : List ℕ
-    ends = procedure_ends ds
+  module _ (modules : List (List ℕ × ℕ)) (s : Scope g.Reported) (m : Module) (ds : List Decl) (start : AwaitsAll one s) where
+    abbrev begins : Walk g.Reported × List ℕ
+    begins = begun_module g modules (procedure_ends ds) s m ds
 
-    abbrev imported : State (Unit {0}) g.Reported
-    imported = fold (with_import g modules) (s, Ok tt) m.imports
+    abbrev behind : Walk g.Reported
+    behind = bodies_checked g elaborates (procedure_ends ds) None begins.1 begins.0 ds
 
-    imports_stay : Stays s imported.0
-    imports_stay = imports_keep g (λ z. Stays s z) (λ z name k e h. stays_then h (known_stays z name k (free_unawaited (found name z.own) e))) modules m.imports (s, Ok tt) (stays_refl s)
-
-    abbrev marks : Scope g.Reported × List ℕ
-    marks = fold (with_marks marked_decl) (imported.0, []) ds
-
-    block_fills : Fills (0 + (0 + declared_headings ds)) s (declared_module g modules ends s m ds).0
-    block_fills = fills_then imports_stay (fills_then (marks_stay g ds (imported.0, [])) (decls_fill g ends ds (marks.0, imported.1, 0)))
-
-    abbrev block : Behind g.Reported
-    block = declared_block g ends imported 0 ds
-
-    abbrev begun : Walk g.Reported × List ℕ
-    begun = begun_module g modules ends s m ds
-
-    none_left : begun.0.so_far ≡ Ok tt → awaiting begun.0.scope.own ≡ 0
-    none_left e =
-        (none_awaited false begun.0.scope.own
-        (lack_by g (lacks block.0.own) m.name.pos (beside_right g block.1 (reported_of_lack g m.name.pos block.0) e))).1
-
-    bodies_few : (bodies_checked g elaborates ends None begun.1 begun.0 ds).so_far ≡ Ok tt → length (bodies_checked g elaborates ends None begun.1 begun.0 ds).bodies.procedures ≤ declared_headings ds
+    bodies_few : behind.so_far ≡ Ok tt → length behind.bodies.procedures ≤ declared_headings ds
     bodies_few e =
-        end_sum (length begun.0.scope.procedures) (awaiting s.own) (declared_headings ds) (length s.procedures) (awaiting begun.0.scope.own) _
-        block_fills.most start (none_left (written_reported g elaborates ends forms begun.1 ds (begun.0, 0) e))
-        (written_same g elaborates ends begun.1 ds (begun.0, 0) ∙ count_map begun.0.scope.procedures)
+        few_sum (declared_headings ds) (length begins.0.scope.procedures) _ _ _
+        (headings_few one one_heading g modules s m ds (all_fit g (procedure_ends ds) ds _) start (written_reported g elaborates (procedure_ends ds) forms begins.1 ds (begins.0, 0) e))
+        (count_one begins.0.scope.procedures) (written_same g elaborates (procedure_ends ds) begins.1 ds (begins.0, 0) ∙ count_map begins.0.scope.procedures) (all_one ds)
 
-  walk_few : (modules : List (List ℕ × ℕ)) (s : Scope g.Reported) (own : Option Table) (m : Module) (b : Block) → length s.procedures ≤ awaiting s.own → AtMost procedures_of (declared_headings (out-Block b).decls) (of_walk g elaborates modules s own m b)
+  walk_few : (modules : List (List ℕ × ℕ)) (s : Scope g.Reported) (own : Option Table) (m : Module) (b : Block) → AwaitsAll one s → AtMost procedures_of (declared_headings (out-Block b).decls) (of_walk g elaborates modules s own m b)
   walk_few modules s own m b start =
       let c = walked g elaborates modules (procedure_ends (out-Block b).decls) s m b in
       both_few (declared_headings (out-Block b).decls) c.0.so_far c.1 (λ ys. typed_module c.0.scope modules own m c.0.bodies ys) (λ ys e. bodies_few modules s m (out-Block b).decls start e)
 
   implementation_few : (m : Module) (o : Option Table) (tables : List Table) (b : Block) → ExportsOnce o → AtMost procedures_of (declared_headings (out-Block b).decls) (of_implementation g elaborates m o tables b)
   implementation_few m None tables b once = broken _
-  implementation_few m (Some own) tables b once =
-      walk_few _ (implementation_scope own tables) (Some own) m b (exports_await {T = g.Reported} own.exported [] [] (distinct_differ (map (λ (e : List ℕ × Meaning). e.0) own.exported) once) (all_new g.Reported own.exported) (omega arith))
-
-  no_procedures : (n : ℕ) → 0 ≤ n
-  no_procedures n = omega arith
+  implementation_few m (Some own) tables b once = walk_few _ (implementation_scope own tables) (Some own) m b (own_awaits one g.Reported own tables once)
 
   contents_few : (number : ℕ) (m : Module) (own : Option Table) (tables : List Table) (c : Contents) → ExportsOnce own → AtMost procedures_of (outermost_in c) (of_contents g elaborates number m own tables c)
   contents_few number m own tables (contents.Definition defs) once = broken _
   contents_few number m own tables (contents.Implementation b) once = implementation_few m own tables b once
-  contents_few number m own tables (contents.Program b) once = walk_few _ (first_scope number tables) None m b (no_procedures _)
+  contents_few number m own tables (contents.Program b) once = walk_few _ (first_scope number tables) None m b (nothing_in _)
 
   pub procedures_declared : (number : ℕ) (m : Module) (own : Option Table) (tables : List Table) → ExportsOnce own → AtMost procedures_of (outermost_in m.contents) (checked g elaborates number m own tables)
   procedures_declared number m own tables once = contents_few number m own (tables ++ console ∷ []) m.contents once

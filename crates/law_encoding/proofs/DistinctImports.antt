@@ -92,7 +92,7 @@ differ_few (y ∷ ys) xs d all =
 
 -- ---- names that are entered
 
-abbrev KeysDiffer : List (List ℕ × ℕ) → Type 0
+abbrev pub KeysDiffer : {V : Type 0} → List (List ℕ × V) → Type 0
 KeysDiffer [] = Unit {0}
 KeysDiffer (e ∷ es) = AllByRecursion (λ x. e.0 ≡ x.0 → ⊥) es × KeysDiffer es
 
@@ -102,13 +102,14 @@ apart name other key n s e =
     let t : same_name name key ≡ true = subst (λ k. same_name name k ≡ true) same (same_refl name) in
     absurd cc
 
-differ_by : (name : List ℕ) (v : ℕ) (e : List ℕ × ℕ) (es : List (List ℕ × ℕ)) (b : Bool) → same_name name e.0 ≡ b → KeysDiffer (e ∷ es) → KeysDiffer (entered name v es) → KeysDiffer (cond b ((e.0, v) ∷ es) (e ∷ entered name v es))
-differ_by name v e es true h d more = d
-differ_by name v e es false h d more = (each_entered (λ (x : List ℕ × ℕ). e.0 ≡ x.0 → ⊥) name v es (λ other s. apart name other e.0 h s) d.0, more)
+module _ {V : Type 0} where
+  differ_by : (name : List ℕ) (v : V) (e : List ℕ × V) (es : List (List ℕ × V)) (b : Bool) → same_name name e.0 ≡ b → KeysDiffer (e ∷ es) → KeysDiffer (entered name v es) → KeysDiffer (cond b ((e.0, v) ∷ es) (e ∷ entered name v es))
+  differ_by name v e es true h d more = d
+  differ_by name v e es false h d more = (each_entered (λ (x : List ℕ × V). e.0 ≡ x.0 → ⊥) name v es (λ other s. apart name other e.0 h s) d.0, more)
 
-entered_differ : (name : List ℕ) (v : ℕ) (es : List (List ℕ × ℕ)) → KeysDiffer es → KeysDiffer (entered name v es)
-entered_differ name v [] d = (tt, tt)
-entered_differ name v (e ∷ es) d = differ_by name v e es (same_name name e.0) refl d (entered_differ name v es d.1)
+  pub entered_differ : (name : List ℕ) (v : V) (es : List (List ℕ × V)) → KeysDiffer es → KeysDiffer (entered name v es)
+  entered_differ name v [] d = (tt, tt)
+  entered_differ name v (e ∷ es) d = differ_by name v e es (same_name name e.0) refl d (entered_differ name v es d.1)
 
 copies_differ : (es so : List (List ℕ × ℕ)) → KeysDiffer so → KeysDiffer (fold with_import_copy so es)
 copies_differ [] so d = d
@@ -147,17 +148,17 @@ module _ (modules : List (List ℕ × ℕ)) (tables : List Table) where
 
 -- ---- the imports of a typed module
 
-abbrev keys : List (List ℕ × ℕ) → List (List ℕ)
+abbrev pub keys : {V : Type 0} → List (List ℕ × V) → List (List ℕ)
 keys es = map (λ e. e.0) es
 
 abbrev pub imported_by_name : List Imported → List (List ℕ)
 imported_by_name is = map (λ i. i.name) is
 
-keys_apart : (name : List ℕ) (es : List (List ℕ × ℕ)) → AllByRecursion (λ x. name ≡ x.0 → ⊥) es → AllByRecursion (λ y. name ≡ y → ⊥) (keys es)
+keys_apart : {V : Type 0} (name : List ℕ) (es : List (List ℕ × V)) → AllByRecursion (λ x. name ≡ x.0 → ⊥) es → AllByRecursion (λ y. name ≡ y → ⊥) (keys es)
 keys_apart name [] d = tt
 keys_apart name (e ∷ es) d = (d.0, keys_apart name es d.1)
 
-keys_differ : (es : List (List ℕ × ℕ)) → KeysDiffer es → Differ (keys es)
+pub keys_differ : {V : Type 0} (es : List (List ℕ × V)) → KeysDiffer es → Differ (keys es)
 keys_differ [] d = tt
 keys_differ (e ∷ es) d = (keys_apart e.0 es d.0, keys_differ es d.1)
 

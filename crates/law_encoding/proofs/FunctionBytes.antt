@@ -1,5 +1,5 @@
 -- How many bytes the functions of a module take.
-use Rattle.std.proofs.Common.{◌≡◌, inl, inr, refl, ℕ, suc, ◌+◌, ◌*◌, ◌≤◌, ◌<◌, Bool, true, false, List, [], ◌∷◌, ◌++◌, length, None, arith}
+use Rattle.std.proofs.Common.{◌≡◌, refl, ℕ, suc, ◌+◌, ◌*◌, ◌≤◌, ◌<◌, Bool, true, false, List, [], ◌∷◌, ◌++◌, length, None, arith}
 use Rattle.std.specs.Prelude.{nat_lt}
 use Rattle.wasm_tree.specs.declared.instr.Instr.{Instr}
 use Rattle.wasm_tree.specs.declared.instr.Instr.TheVariants.{Block, Loop, If, Call, LocalGet, I32Const}
@@ -27,7 +27,7 @@ use Rattle.law_encoding.specs.CodeBytes.{bytes, function_bytes}
 use Rattle.law_encoding.specs.Outward.{outward_body, outward_routine, outward_bodies}
 use Rattle.law_encoding.specs.Short.{unit_bytes, routine_counts, counts_in, heading_counts, headings_in, heading_bytes}
 use Rattle.law_encoding.specs.Small.{most}
-use Rattle.law_encoding.specs.Fits.{max_bytes, few_headings, CountsFew}
+use Rattle.law_encoding.specs.Fits.{max_bytes, CountsFew}
 use Rattle.law_encoding.proofs.Sums.{sum_append}
 use Rattle.law_encoding.proofs.CodeLengths.{bytes_cons, bytes_append, block_bytes, loop_bytes, if_bytes, stops, jumps, jumps_if, calls, gets, sets, tees, globals, loads, stores, address, amount, computes, Short, short_end, short_none, ◌▹◌, short_both, short_more, short_either}
 use Rattle.law_encoding.proofs.ShortCode.{IsNear, short_raised, short_fault, short_store}
@@ -223,9 +223,5 @@ module_counts m =
 whole_in : (a c b h : ℕ) → a ≤ unit_bytes * (1 + b) + heading_bytes * h → c ≡ b + h → c ≤ most → 5 + a < max_bytes
 whole_in a c b h p e l = omega (arith, p, e, l)
 
-parts_in : (a b h : ℕ) → a ≤ unit_bytes * (1 + b) + heading_bytes * h → b ≤ most → h ≤ few_headings → 5 + a < max_bytes
-parts_in a b h p l k = omega (arith, p, l, k)
-
 pub sizes_fit : (m : TypedModule) → IsNear (outward_bodies m) → CountsFew m → 5 + sum_of function_bytes (functions m) < max_bytes
-sizes_fit m h (inl l) = whole_in _ (counts_in m) (size_bodies m) (headings_in m) (functions_short m h) (module_counts m) l
-sizes_fit m h (inr p) = parts_in _ (size_bodies m) (headings_in m) (functions_short m h) p.0 p.1
+sizes_fit m h l = whole_in _ (counts_in m) (size_bodies m) (headings_in m) (functions_short m h) (module_counts m) l

@@ -71,9 +71,13 @@ pub mod ConstantCode
 pub mod ConstantSteps
 pub mod ConstantFunctions
 pub mod DistinctImports
+pub mod DistinctExports
 pub mod Awaited
 pub mod AwaitedTypes
 pub mod AwaitedDeclarations
 pub mod DeclaredProcedures
+pub mod HeadingCounts
+pub mod RoutineCounts
+pub mod ModuleCounts
 pub mod ProgramsRoom
 pub mod NamesRoom

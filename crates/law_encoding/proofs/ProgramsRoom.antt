@@ -1,10 +1,13 @@
 -- The modules of a program are small, if their types and storage have room, and so they have encodings.
-use Rattle.std.proofs.Common.{◌≡◌, ◌⊎◌, inl, inr, ℕ, zero, suc, ◌+◌, ◌*◌, ◌≤◌, ◌<◌, Bool, true, false, List, [], ◌∷◌, ◌++◌, map, length, Option, Some, None, Result, Ok, refl, sym, subst, arith, lit≤}
-use Rattle.std.specs.Prelude.{All, IfOk, nat_le, slice_get, if◌then◌else◌}
+use Rattle.std.proofs.Common.{◌≡◌, ℕ, zero, suc, ◌+◌, ◌*◌, ◌≤◌, ◌<◌, Bool, true, false, List, [], ◌∷◌, ◌++◌, map, length, Option, Some, None, Result, Ok, refl, sym, subst, arith, lit≤}
+use Rattle.std.specs.Prelude.{All, IfOk, slice_get, if◌then◌else◌}
 use Rattle.std.specs.List.{list_all}
-use Rattle.std.proofs.lemmas.Bool.{leb-true, leb-false}
 use Rattle.std.proofs.lemmas.List.Elements.{All-nil, All-cons, All-head, All-tail}
-use Rattle.scan_tokens.specs.Division.{max_text}
+use Rattle.m2_tree.specs.declared.decl.Decl.{Decl, Decl-F, out-Decl}
+use Rattle.m2_tree.specs.declared.decl.Decl.TheOpen as layer
+use Rattle.m2_tree.specs.declared.decl.Block.{Block, out-Block}
+use Rattle.m2_tree.specs.declared.decl.Contents.{Contents}
+use Rattle.m2_tree.specs.declared.decl.Contents.TheVariants as contents
 use Rattle.typed_tree.specs.declared.known_types.Types.{Types}
 use Rattle.typed_tree.specs.declared.typed_module.Imported.{Imported}
 use Rattle.typed_tree.specs.declared.typed_module.Routine.{Routine}
@@ -28,19 +31,23 @@ use Rattle.law_simulation.specs.Modules.{AreModules, AreTypedModules}
 use Rattle.law_simulation.proofs.Globals.{each_at}
 use Rattle.law_well_formed.specs.FormedImports.{StandsOnImports}
 use Rattle.law_well_formed.proofs.NamedImports.{modules_stand}
-use Rattle.law_encoding.specs.Sizes.{sum_of}
-use Rattle.law_encoding.specs.Fits.{few_entries, max_bytes, few_headings, CountsFew}
-use Rattle.law_encoding.specs.Short.{counts_in, headings_in}
-use Rattle.law_encoding.specs.Small.{most, BodiesAreSmall}
+use Rattle.law_encoding.specs.Sizes.{sum_of, decl_layer, size_decl, size_block, size_stmts_if, size_import, size_contents, size_module}
+use Rattle.law_encoding.specs.Fits.{few_entries, CountsFew}
+use Rattle.law_encoding.specs.Short.{counts_in}
+use Rattle.law_encoding.specs.Small.{most}
+use Rattle.law_encoding.specs.DeclaredProcedures.{headings_of, declared_headings, outermost_in, ProceduresAreDeclared, CountsAreSmall}
 use Rattle.law_encoding.specs.LinkRoom.{LinkIsSmall, name_length}
 use Rattle.law_encoding.specs.NamesRoom.{is_short_name, few_names}
 use Rattle.law_encoding.specs.Counted.{AtMost, fine, broken}
 use Rattle.law_encoding.specs.Nested.{AcceptedAreShallow}
 use Rattle.law_encoding.specs.ProcedureLevels.{AcceptedAreNear}
-use Rattle.law_encoding.specs.ProgramsRoom.{HasStorage, IsStored, IsShortModule, IsAccepted, IsSmallProgram, most_modules}
+use Rattle.law_encoding.specs.ProgramsRoom.{HasStorage, IsStored, IsShortModule, IsAccepted, IsSmallProgram}
 use Rattle.law_encoding.specs.SmallParts.{IsSmallModule}
-use Rattle.law_encoding.proofs.AcceptedRoom.{procedures_few, slots_most, typed_room}
+use Rattle.law_encoding.proofs.AcceptedRoom.{procedures_few, typed_room}
 use Rattle.law_encoding.proofs.CodeFits.{both_true}
+use Rattle.law_encoding.proofs.Bounded.{tree_bounded}
+use Rattle.law_encoding.proofs.Sums.{total_map}
+use Rattle.law_encoding.proofs.Variants.{sizes_decl, at_decl, at_block}
 use Rattle.law_encoding.proofs.NamesRoom.{all_fit, all_sum, sum_few, count_few, names_room, text_named}
 use Rattle.law_encoding.proofs.LinkRoom.{link_has_room}
 use Rattle.law_encoding.proofs.DistinctImports.{ImportsDiffer, module_differs, imports_few}
@@ -127,34 +134,79 @@ module _ (p : Program) (pages : ℕ) (are : AreModules p) (typed : AreTypedModul
 
 -- ---- slots
 
-slots_more : (a b c : ℕ) → a ≤ 1 + 4194308 → b ≤ 4194309 * c → a + b ≤ 4194309 * suc c
+-- each procedure of the module itself takes three of what its tree counts
+module _ (d : Decl) where
+  procedure_three : (h b n : ℕ) → n ≡ 1 + (1 + h) + b → 1 ≤ b → 3 * 1 ≤ n
+  procedure_three h b n e l = omega (arith, e, l)
+
+  no_procedure : (n : ℕ) → 3 * 0 ≤ n
+  no_procedure n = omega arith
+
+  block_one : (b : Block) → 1 ≤ size_block b
+  block_one b = one_more _ _ _ (at_block b (out-Block b) refl) where
+    one_more : (n d s : ℕ) → n ≡ 1 + d + s → 1 ≤ n
+    one_more n d s e = omega (arith, e)
+
+  decl_three : (x : Decl-F Decl Block) → size_decl d ≡ decl_layer (sizes_decl x) → 3 * headings_of x ≤ size_decl d
+  decl_three (layer.Constants cs) e = no_procedure _
+  decl_three (layer.Types ts) e = no_procedure _
+  decl_three (layer.Variables vs) e = no_procedure _
+  decl_three (layer.Procedure h b) e = procedure_three _ (size_block b) (size_decl d) e (block_one b)
+
+three_sum : (a b c d : ℕ) → 3 * a ≤ b → 3 * c ≤ d → 3 * (a + c) ≤ b + d
+three_sum a b c d h l = omega (arith, h, l)
+
+decls_three : (ds : List Decl) → 3 * declared_headings ds ≤ sum_of size_decl ds
+decls_three [] = no_three 0 where
+  no_three : (n : ℕ) → 3 * 0 ≤ n
+  no_three n = omega arith
+decls_three (d ∷ ds) = three_sum (headings_of (out-Decl d)) (size_decl d) _ _ (decl_three d (out-Decl d) (at_decl d (out-Decl d) refl)) (decls_three ds)
+
+block_sum : (a d s n t : ℕ) → 3 * a ≤ d → n ≡ 1 + t + s → t ≡ d → 3 * a ≤ n
+block_sum a d s n t h e f = omega (arith, h, e, f)
+
+block_three : (b : Block) → 3 * declared_headings (out-Block b).decls ≤ size_block b
+block_three b = block_sum _ _ (size_stmts_if (out-Block b).body) (size_block b) _ (decls_three (out-Block b).decls) (at_block b (out-Block b) refl) (total_map size_decl (out-Block b).decls)
+
+contents_three : (c : Contents) → 3 * outermost_in c ≤ size_contents c
+contents_three (contents.Definition defs) = no_three _ where
+  no_three : (n : ℕ) → 3 * 0 ≤ n
+  no_three n = omega arith
+contents_three (contents.Implementation b) = block_three b
+contents_three (contents.Program b) = block_three b
+
+-- a third of what the tree of the longest text counts, and one
+abbrev most_slots : ℕ
+most_slots = 1398103
+
+procedures_sum : (p o c i n : ℕ) → p ≤ o → 3 * o ≤ c → 1 + i + c ≤ n → n ≤ most → suc p ≤ most_slots
+procedures_sum p o c i n h l k q = omega (arith, h, l, k, q)
+
+slots_more : (a b c : ℕ) → a ≤ most_slots → b ≤ most_slots * c → a + b ≤ most_slots * suc c
 slots_more a b c h l = omega (arith, h, l)
 
-all_slots_most : (ms : List TypedModule) → All IsStored ms → slots_in ms ≤ 4194309 * length ms
-all_slots_most [] stored = omega arith
-all_slots_most (m ∷ ms) stored = slots_more (slots m) (slots_in ms) (length ms) (slots_most m (All-head IsStored m ms stored).counts) (all_slots_most ms (All-tail IsStored m ms stored))
-
-slots_below : (s n : ℕ) → s ≤ 4194309 * n → n ≤ 1023 → 1 + s < 4294967296
+slots_below : (s n : ℕ) → s ≤ most_slots * n → n ≤ 1024 → 1 + s < 4294967296
 slots_below s n h l = omega (arith, h, l)
 
-slots_by : (p : Program) (few : Bool) → nat_le (length p) most_modules ≡ few → All IsStored p → (most_modules < length p → 1 + slots_in p < max_bytes) → 1 + slots_in p < max_bytes
-slots_by p true e stored h = slots_below (slots_in p) (length p) (all_slots_most p stored) (leb-true (length p) most_modules e)
-slots_by p false e stored h = h (leb-false (length p) most_modules e)
+few_modules : (n : ℕ) → n ≤ 1024 → n ≤ few_names
+few_modules n h = less n 1024 few_names h (lit≤ tt)
 
 -- ---- what is accepted
 
 few_bytes : (n pages : ℕ) → n ≤ 65536 * pages → pages ≤ 1024 → n < 4294967296
 few_bytes n pages h l = omega (arith, h, l)
 
-link_small : (p : Program) (pages : ℕ) → All IsStored p → IsSmallProgram p pages → list_all (λ m. is_short_name m.name) p ≡ true → LinkIsSmall p pages
-link_small p pages stored small short = record {
-  memory = small.memory;
-  modules = count_few (length p) small.modules;
-  storage = few_bytes (bytes_in p) pages small.linkable.room small.memory;
-  slots = slots_by p (nat_le (length p) most_modules) refl stored small.slots;
-  names = all_fit (λ m. m.name) p short;
-  lengths = sum_few (sum_of name_length p) (length p) (all_sum (λ m. m.name) p short) small.modules;
-}
+link_small : (p : Program) (pages : ℕ) → slots_in p ≤ most_slots * length p → IsSmallProgram p pages → list_all (λ m. is_short_name m.name) p ≡ true → LinkIsSmall p pages
+link_small p pages slots small short =
+    let few = few_modules (length p) small.modules in
+    record {
+      memory = small.memory;
+      modules = count_few (length p) few;
+      storage = few_bytes (bytes_in p) pages small.linkable.room small.memory;
+      slots = slots_below (slots_in p) (length p) slots small.modules;
+      names = all_fit (λ m. m.name) p short;
+      lengths = sum_few (sum_of name_length p) (length p) (all_sum (λ m. m.name) p short) few;
+    }
 
 all_from : (P : TypedModule → Type 0) (ms : List TypedModule) → ((k : ℕ) (m : TypedModule) → slice_get ms k ≡ Some m → P m) → All P ms
 all_from P [] h = All-nil P
@@ -173,12 +225,25 @@ own_short g t is =
     subst (λ r. IfOk r (StandsOnImports is.tree is.own)) is.accepted (modules_stand g (elaborated g) is.number is.tree is.own is.tables) in
     subst (λ (n : List ℕ). is_short_name n ≡ true) (sym stands.name) (text_named is.text is.tokens is.tree is.scanned is.parsed.0)
 
-counts_few : (g : Gathers) (t : TypedModule) → BodiesAreSmall g → (is : IsAccepted g t)
-    → (counts_in t ≤ most) ⊎ ((length is.text ≤ max_text) × (headings_in t ≤ few_headings)) → CountsFew t
-counts_few g t small is (inl h) = inl h
-counts_few g t small is (inr p) = inr (ok_most (small is.text is.tokens is.tree p.0 is.scanned is.parsed.0 is.number is.own is.tables) is.accepted, p.1)
+tree_few : (g : Gathers) (t : TypedModule) (is : IsAccepted g t) → size_module is.tree ≤ most
+tree_few g t is = tree_bounded is.text is.tokens is.tree is.short is.scanned is.parsed.0
 
-module _ (g : Gathers) (small_bodies : BodiesAreSmall g) (levels : AcceptedAreShallow g) (outward : AcceptedAreNear g) (p : Program) (accepted : All (IsAccepted g) p) where
+counts_few : (g : Gathers) (t : TypedModule) → CountsAreSmall g → IsAccepted g t → CountsFew t
+counts_few g t counts is = less (counts_in t) (size_module is.tree) most (ok_most (counts is.number is.tree is.own is.tables is.own_once) is.accepted) (tree_few g t is)
+
+slots_few : (g : Gathers) (t : TypedModule) → ProceduresAreDeclared g → IsAccepted g t → slots t ≤ most_slots
+slots_few g t declared is =
+    procedures_sum (length t.procedures) (outermost_in is.tree.contents) (size_contents is.tree.contents) (sum_of size_import is.tree.imports) (size_module is.tree)
+    (ok_most (declared is.number is.tree is.own is.tables is.own_once) is.accepted) (contents_three is.tree.contents) (same_few (size_module is.tree)) (tree_few g t is)
+  where
+    same_few : (n : ℕ) → n ≤ n
+    same_few n = omega arith
+
+all_slots_few : (g : Gathers) → ProceduresAreDeclared g → (ms : List TypedModule) → All (IsAccepted g) ms → slots_in ms ≤ most_slots * length ms
+all_slots_few g declared [] h = omega arith
+all_slots_few g declared (m ∷ ms) h = slots_more (slots m) (slots_in ms) (length ms) (slots_few g m declared (All-head (IsAccepted g) m ms h)) (all_slots_few g declared ms (All-tail (IsAccepted g) m ms h))
+
+module _ (g : Gathers) (counts : CountsAreSmall g) (declared : ProceduresAreDeclared g) (levels : AcceptedAreShallow g) (outward : AcceptedAreNear g) (p : Program) (accepted : All (IsAccepted g) p) where
   all_own : (ms : List TypedModule) → All (IsAccepted g) ms → list_all (λ m. is_short_name m.name) ms ≡ true
   all_own [] h = refl
   all_own (m ∷ ms) h = both_true _ _ (own_short g m (All-head (IsAccepted g) m ms h)) (all_own ms (All-tail (IsAccepted g) m ms h))
@@ -200,7 +265,7 @@ module _ (g : Gathers) (small_bodies : BodiesAreSmall g) (levels : AcceptedAreSh
   }
 
   stored_at : (t : TypedModule) → IsAccepted g t → HasStorage t → IsStored t
-  stored_at t is has = record { parts = has; counts = counts_few g t small_bodies is is.counts }
+  stored_at t is has = record { parts = has; counts = counts_few g t counts is }
 
   pub accepted_programs : (pages : ℕ) → AreModules p → AreTypedModules p pages → All HasStorage p → IsSmallProgram p pages → list_all module_fits (all p pages) ≡ true
   accepted_programs pages are typed storage small =
@@ -210,5 +275,5 @@ module _ (g : Gathers) (small_bodies : BodiesAreSmall g) (levels : AcceptedAreSh
       (λ k m there.
       let is = each_at (IsAccepted g) p k m there accepted in
       let known = (are k m there).coherent.imports in
-      short_at m is (each_at IsStored p k m there stored) known (less _ _ few_names (imports_few p m (imports_differ g m is) known) small.modules)))
-      (link_small p pages stored small (all_own p accepted))
+      short_at m is (each_at IsStored p k m there stored) known (less _ _ few_names (imports_few p m (imports_differ g m is) known) (few_modules (length p) small.modules))))
+      (link_small p pages (all_slots_few g declared p accepted) small (all_own p accepted))

@@ -37,7 +37,7 @@ use Rattle.law_encoding.proofs.Variants.{number_size, char_size, text_size, set_
 abbrev pub tree_size : (r : Rule) → Ast r → ℕ
 tree_size module_rule x = size_module x
 tree_size import_rule x = size_import x
-tree_size idents_rule xs = length xs
+tree_size idents_rule xs = 2 * length xs
 tree_size def_rule x = size_def x
 tree_size block_rule x = size_block x
 tree_size decl_rule x = size_decl x
@@ -83,7 +83,7 @@ weight (named g) p = 4 + (weight g p.1 + 4)
 
 -- ---- lists
 
-idents_below : (ts : List Token) → length (map ident_of ts) ≤ sum_of (λ (t : Token). 4 + 4) ts
+idents_below : (ts : List Token) → 2 * length (map ident_of ts) ≤ sum_of (λ (t : Token). 4 + 4) ts
 idents_below [] = omega arith
 idents_below (t ∷ ts) = let h = idents_below ts in omega (arith, h)
 
@@ -328,7 +328,7 @@ named_sized : (q : Qualified) (o : Option (Token × (Expr × Expr))) → Sized s
 named_sized q None = omega arith
 named_sized q (Some p) = let h = range_sum (size_expr p.1.0) (size_expr p.1.1) in omega (arith, h)
 
-names_sum : (n : ℕ) → 1 + n ≤ 4 + (n + 4)
+names_sum : (n : ℕ) → 1 + n ≤ 4 + (2 * n + 4)
 names_sum n = omega arith
 
 simple_sized : (x : El (grammar simple_rule).shape) → Sized simple_rule x
@@ -381,7 +381,7 @@ dims_sized : (s : Simple) (x : (Simple × TypeExpr) ⊎ TypeExpr) → Sized dims
 dims_sized s (inl p) = dims_sum (size_simple s) _ _ _ (array_size _ p.0 p.1)
 dims_sized s (inr t) = omega arith
 
-field_sum : (n a t : ℕ) → n ≡ a + t → n ≤ a + (4 + t)
+field_sum : (n a t : ℕ) → n ≡ a + t → n ≤ 2 * a + (4 + t)
 field_sum n a t q = omega (arith, q)
 
 -- ---- declarations and modules
@@ -399,13 +399,13 @@ formals_sized (Some p) = by p.0 p.1 where
   by None of = omega arith
   by (Some q) of = sections_sum (size_section q.0) _ _ _ (sections_below q.1)
 
-idents_sum : (a b : ℕ) → a ≤ b → suc a ≤ 4 + b
+idents_sum : (a b : ℕ) → 2 * a ≤ b → 2 * suc a ≤ 4 + b
 idents_sum a b h = omega (arith, h)
 
 idents_sized : (t : Token) (ts : List Token) → Sized idents_rule (t, ts)
 idents_sized t ts = idents_sum _ _ (idents_below ts)
 
-import_sum : (a n : ℕ) → 1 + n ≤ a + (4 + (n + 4))
+import_sum : (a n : ℕ) → 1 + n ≤ a + (4 + (2 * n + 4))
 import_sum a n = omega arith
 
 def_sized : (x : El (grammar def_rule).shape) → Sized def_rule x

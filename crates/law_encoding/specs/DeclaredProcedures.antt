@@ -1,5 +1,6 @@
--- The procedures of a module are those that its text declares outermost.
-use Rattle.std.specs.Prelude.{ℕ, List, map, length, Option, Some, None}
+-- The procedures of a module are those that its text declares outermost, so the module counts no
+-- more than its tree.
+use Rattle.std.specs.Prelude.{ℕ, List, map, length, Option, Some, None, IfOk}
 use Rattle.m2_tree.specs.declared.decl.Decl.{Decl, Decl-F, out-Decl}
 use Rattle.m2_tree.specs.declared.decl.Decl.TheOpen as layer
 use Rattle.m2_tree.specs.declared.decl.Block.{out-Block}
@@ -10,9 +11,11 @@ use Rattle.wasm_tree.specs.Validity.{AreDistinct}
 use Rattle.typed_tree.specs.declared.table.Table.{Table}
 use Rattle.typed_tree.specs.declared.typed_module.TypedModule.{TypedModule}
 use Rattle.check_scope.specs.Elaborated.{Gathers}
+use Rattle.check_definition.specs.Compiled.{compiled}
 use Rattle.check_body.specs.Checks.{checked}
-use Rattle.law_encoding.specs.Sizes.{sum_of}
+use Rattle.law_encoding.specs.Sizes.{sum_of, size_module}
 use Rattle.law_encoding.specs.Counted.{AtMost}
+use Rattle.law_encoding.specs.Short.{counts_in}
 
 -- one for a procedure
 abbrev pub headings_of : {A B : Type 0} → Decl-F A B → ℕ
@@ -35,6 +38,11 @@ abbrev pub ExportsOnce : Option Table → Type 0
 ExportsOnce None = Unit {0}
 ExportsOnce (Some t) = AreDistinct (map (λ e. e.0) t.exported)
 
+-- So does the table that the checker makes of a definition.
+abbrev pub TablesExportOnce : Gathers → Type 0
+TablesExportOnce g = (number : ℕ) (m : Module) (tables : List Table)
+    → IfOk (compiled g number m tables) (λ t. ExportsOnce (Some t))
+
 -- the procedures of a typed module, without those in them
 abbrev pub procedures_of : TypedModule → ℕ
 procedures_of t = length t.procedures
@@ -45,3 +53,9 @@ abbrev pub ProceduresAreDeclared : Gathers → Type 0
 ProceduresAreDeclared g =
     (number : ℕ) (m : Module) (own : Option Table) (tables : List Table) → ExportsOnce own
     → AtMost procedures_of (outermost_in m.contents) (checked g number m own tables)
+
+-- Procedures, formals and bodies count no more than the module's tree.
+abbrev pub CountsAreSmall : Gathers → Type 0
+CountsAreSmall g =
+    (number : ℕ) (m : Module) (own : Option Table) (tables : List Table) → ExportsOnce own
+    → AtMost counts_in (size_module m) (checked g number m own tables)

@@ -1,5 +1,5 @@
 -- What has to hold of code and of modules so that they have an encoding.
-use Rattle.std.specs.Prelude.{◌≡◌, ◌⊎◌, ◌≤◌, ◌<◌, ◌+◌, ◌*◌, ◌^◌, ℕ, nat_lt, true, List, ◌++◌, map, length, Option}
+use Rattle.std.specs.Prelude.{◌≡◌, ◌≤◌, ◌<◌, ◌+◌, ◌*◌, ◌^◌, ℕ, nat_lt, true, List, ◌++◌, map, length, Option}
 use Rattle.std.specs.List.{flat_map, list_all}
 use Rattle.m2_tree.specs.declared.token.Token.{Token}
 use Rattle.m2_tree.specs.declared.decl.Module.{Module}
@@ -29,7 +29,7 @@ use Rattle.law_encoding.specs.Nested.{max_levels}
 use Rattle.law_encoding.specs.TypedSizes.{size_bodies}
 use Rattle.law_encoding.specs.Counted.{AtMost}
 use Rattle.law_encoding.specs.Outward.{outward_bodies}
-use Rattle.law_encoding.specs.Short.{counts_in, headings_in}
+use Rattle.law_encoding.specs.Short.{counts_in}
 use Rattle.law_encoding.specs.Small.{most}
 
 -- Code fits if its blocks nest few levels and its numbers fit their widths.
@@ -122,14 +122,9 @@ LocalsFit g = (text : List ℕ) (ts : List Token) (m : Module) → length text �
     → (number : ℕ) (own : Option Table) (tables : List Table)
     → AtMost most_locals max_locals (checked g number m own tables)
 
--- procedures and formals that take little room
-abbrev pub few_headings : ℕ
-few_headings = 20000
-
--- A module counts no more than the tree of the longest text. If it has at most 20000 procedures and
--- formals, its bodies alone do.
+-- A module counts no more than the tree of the longest text.
 abbrev pub CountsFew : TypedModule → Type 0
-CountsFew m = (counts_in m ≤ most) ⊎ ((size_bodies m ≤ most) × (headings_in m ≤ few_headings))
+CountsFew m = counts_in m ≤ most
 
 -- The functions of a module that goes at most 200 procedures outwards, and counts few, take less
 -- than 2 ^ 32 bytes.

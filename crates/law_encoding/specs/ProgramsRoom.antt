@@ -1,5 +1,5 @@
 -- The modules of a typed program have encodings, if its types and its storage have room.
-use Rattle.std.specs.Prelude.{◌≡◌, ◌⊎◌, ◌≤◌, ◌<◌, ◌+◌, ℕ, true, List, length, All, Option, Ok}
+use Rattle.std.specs.Prelude.{◌≡◌, ◌≤◌, ℕ, true, List, length, All, Option, Ok}
 use Rattle.std.specs.List.{list_all}
 use Rattle.m2_tree.specs.declared.token.Token.{Token}
 use Rattle.m2_tree.specs.declared.decl.Module.{Module}
@@ -13,15 +13,13 @@ use Rattle.def_scheme.specs.Modules.{max_pages}
 use Rattle.layout_storage.specs.Fitting.{types_fit}
 use Rattle.layout_storage.specs.Layouts.{AllFits}
 use Rattle.wasm_binary.specs.Binary.{module_fits}
-use Rattle.law_modules.specs.Linked.{Program, slots_in, all, IsLinkable}
+use Rattle.law_modules.specs.Linked.{Program, all, IsLinkable}
 use Rattle.law_simulation.specs.Knows.{IsCoherent}
 use Rattle.law_simulation.specs.Modules.{AreModules, AreTypedModules}
-use Rattle.law_encoding.specs.Short.{counts_in, headings_in}
-use Rattle.law_encoding.specs.Small.{most}
-use Rattle.law_encoding.specs.Fits.{max_bytes, few_headings, CountsFew}
+use Rattle.law_encoding.specs.DeclaredProcedures.{ExportsOnce}
+use Rattle.law_encoding.specs.Fits.{CountsFew}
 use Rattle.law_encoding.specs.ImportsRoom.{NamesAreShort}
 use Rattle.law_encoding.specs.LinkRoom.{LinkIsSmall}
-use Rattle.law_encoding.specs.NamesRoom.{few_names}
 use Rattle.law_encoding.specs.Nested.{max_levels, most_levels}
 use Rattle.law_encoding.specs.Outward.{outward_bodies}
 use Rattle.law_encoding.specs.SmallParts.{IsSmallModule}
@@ -56,32 +54,31 @@ ProgramsFit = (p : Program) (pages : ℕ) → AreModules p → AreTypedModules p
 
 -- ---- what is accepted
 
--- The checker makes the module of a text that is scanned and parsed. If the text has more than 2 ^
--- 20 bytes, or the module more than 20000 procedures and formals, the module counts no more than
--- the tree of the longest text.
+-- The checker makes the module of a text that is not too long and is scanned and parsed. If the
+-- module has a definition of its own, the definition exports each name once.
 pub record IsAccepted (g : Gathers) (t : TypedModule) : Type 0 where
   pub text : List ℕ
   pub tokens : List Token
+  pub short : length text ≤ max_text
   pub scanned : HasTokens text tokens
   pub tree : Module
   pub parsed : IsTree tokens tree
   pub number : ℕ
   pub own : Option Table
+  pub own_once : ExportsOnce own
   pub tables : List Table
   pub accepted : checked g number tree own tables ≡ Ok t
-  pub counts : (counts_in t ≤ most) ⊎ ((length text ≤ max_text) × (headings_in t ≤ few_headings))
 
--- the slots of this number of modules that count few always have room in the table
+-- a program has no more modules than there may be files
 abbrev pub most_modules : ℕ
-most_modules = 1023
+most_modules = 1024
 
--- A program has at most 1024 pages, in which its variables and texts have room. It has few modules.
--- If it has more than 1023, it has less than 2 ^ 32 slots of the table.
+-- A program has at most 1024 pages, in which its variables and texts have room, and at most 1024
+-- modules.
 pub record IsSmallProgram (p : Program) (pages : ℕ) : Type 0 where
   pub linkable : IsLinkable p pages
   pub memory : pages ≤ max_pages
-  pub modules : length p ≤ few_names
-  pub slots : most_modules < length p → 1 + slots_in p < max_bytes
+  pub modules : length p ≤ most_modules
 
 -- If the modules are accepted, their functions nest few levels, their bodies go few procedures
 -- outwards, and their names are short.

@@ -1,7 +1,7 @@
 -- How large trees are. Each part counts its nodes, and some nodes more than once: no part counts
 -- more than four for each of
 -- its tokens, and what the checker makes of it counts no more than the part.
-use Rattle.std.specs.Prelude.{ℕ, ◌+◌, List, [], ◌∷◌, length, Option, Some, None}
+use Rattle.std.specs.Prelude.{ℕ, ◌+◌, ◌*◌, List, [], ◌∷◌, length, Option, Some, None}
 use Rattle.m2_tree.specs.declared.expr.Expr.{Expr, Expr-F, fold-Expr}
 use Rattle.m2_tree.specs.declared.expr.Expr.TheOpen as layer
 use Rattle.m2_tree.specs.declared.expr.Selector.{Selector, Selector-F, fold-Selector}
@@ -173,8 +173,9 @@ size_type = fold-TypeExpr ℕ ℕ type_layer field_layer
 unfoldable pub size_field : Field → ℕ
 size_field = fold-Field ℕ ℕ type_layer field_layer
 
+-- a formal counts twice, in the type of the heading and in the procedure
 abbrev pub size_section : Section → ℕ
-size_section s = length s.names
+size_section s = 2 * length s.names
 
 abbrev pub size_heading : Heading → ℕ
 size_heading h = 1 + sum_of size_section h.formals

@@ -29,8 +29,11 @@
 //!   `proofs/Names`. `specs/NamesRoom` says that the names of texts are short, with the induction over the grammar in its proof.
 //!   `specs/AcceptedRoom` puts together what is proved of the module of a body, and `specs/ProgramsRoom` of programs.
 //!   `proofs/DistinctImports` shows that a module imports each module once.
-//! - `specs/DeclaredProcedures` says that the procedures of a module are declared in its text. `proofs/Awaited` counts those that are
-//!   awaited, with `proofs/AwaitedTypes` and `proofs/AwaitedDeclarations` for the steps, and `proofs/DeclaredProcedures` whole modules.
+//! - `specs/DeclaredProcedures` says that the procedures of a module are declared in its text, and that a module counts no more
+//!   than its tree. `proofs/Awaited` has what awaited procedures count, with `proofs/AwaitedTypes` and `AwaitedDeclarations` for
+//!   the steps, and `proofs/DeclaredProcedures` whole modules. `proofs/DistinctExports` has the exports of definitions,
+//!   `proofs/HeadingCounts` the formals of headings, and `proofs/RoutineCounts` the induction over blocks. `proofs/ModuleCounts`
+//!   has whole modules.
 //! - `proofs/Blocks` has the bodies of procedures, with the induction over blocks, and whole modules, and `proofs/Bounded` the
 //!   bound of all texts.
 #![tactic(auto)]
@@ -47,7 +50,7 @@ ghost use Rattle.law_encoding.specs.ProgramsRoom.{StoredAreSmall, ProgramsFit, A
 ghost use Rattle.law_encoding.specs.ModuleNumbers.{IndexesFit};
 ghost use Rattle.law_encoding.specs.SmallParts.{ConstantsFit, ModuleConstantsFit};
 ghost use Rattle.law_encoding.specs.FunctionTypes.{ListedAreFew, FewTypesFit, TypesAreFew};
-ghost use Rattle.law_encoding.specs.DeclaredProcedures.{ProceduresAreDeclared};
+ghost use Rattle.law_encoding.specs.DeclaredProcedures.{ProceduresAreDeclared, TablesExportOnce, CountsAreSmall};
 ghost use Rattle.law_encoding.specs.ProcedureNesting.{ProceduresAreShallow};
 ghost use Rattle.law_encoding.specs.ProcedureLevels.{LevelsAreLow, AcceptedAreNear};
 ghost use Rattle.law_encoding.specs.Nested.{TreesAreShallow, ModulesAreShallow, CodeIsShallow, FunctionsAreShallow, LinkIsFlat, AcceptedAreShallow};
@@ -106,6 +109,12 @@ pub fn declared_procedure_laws()
     ensures least { ProceduresAreDeclared least }
     // and if all of them are.
     ensures every { ProceduresAreDeclared every }
+    // The table of a definition does so.
+    ensures least_tables { TablesExportOnce least }
+    ensures every_tables { TablesExportOnce every }
+    // So procedures, formals and bodies count no more than the module's tree.
+    ensures least_counts { CountsAreSmall least }
+    ensures every_counts { CountsAreSmall every }
 {}
 
 /// Procedures stand no deeper in a module that the checker accepts than they nest in its tree.

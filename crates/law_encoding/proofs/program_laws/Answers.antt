@@ -4,8 +4,8 @@ use Rattle.check_body.specs.Checks.{elaborated}
 use Rattle.def_grammar.specs.Refusal.{max_nesting}
 use Rattle.law_well_formed.proofs.Induction.{elaborated_formed}
 use Rattle.law_encoding.proofs.Statements.{statements_most as sized}
-use Rattle.law_encoding.proofs.Blocks.{module_most as sizes}
-use Rattle.law_encoding.proofs.Bounded.{bounded}
+use Rattle.law_encoding.proofs.DeclaredProcedures.{procedures_declared}
+use Rattle.law_encoding.proofs.ModuleCounts.{module_few}
 use Rattle.law_encoding.proofs.OutwardStatements.{statements_most as near}
 use Rattle.law_encoding.proofs.DeepStatements.{statements_most}
 use Rattle.law_encoding.proofs.DeepBlocks.{module_most}
@@ -24,14 +24,16 @@ returns-clause-fit c = λ p pages are typed short small. programs_fit p pages ar
 
 pub returns-clause-least : goal.returns-clause-least
 returns-clause-least c = λ p pages are typed accepted storage small.
-    accepted_programs least (λ text ts m l h d number own tables. bounded least text ts m l h d (sizes least (elaborated least) (λ s r xs. sized least s _ xs) number m own tables))
+    accepted_programs least (λ number m own tables once. module_few least (elaborated least) (elaborated_formed least) (λ s r xs. sized least s _ xs) number m own tables once)
+    (λ number m own tables once. procedures_declared least (elaborated least) (elaborated_formed least) number m own tables once)
     (λ ts m d number own tables. accepted_low _ (tree_below ts m d) (module_most least (elaborated least) (λ s r xs. statements_most least s _ xs) number m own tables))
     (λ ts m d number own tables. bodies_near max_nesting least (elaborated least) (elaborated_formed least) (λ s r xs. near least s _ xs) number m own tables (omega arith) (procedures_below ts m d))
     p accepted pages are typed storage small
 
 pub returns-clause-every : goal.returns-clause-every
 returns-clause-every c = λ p pages are typed accepted storage small.
-    accepted_programs every (λ text ts m l h d number own tables. bounded every text ts m l h d (sizes every (elaborated every) (λ s r xs. sized every s _ xs) number m own tables))
+    accepted_programs every (λ number m own tables once. module_few every (elaborated every) (elaborated_formed every) (λ s r xs. sized every s _ xs) number m own tables once)
+    (λ number m own tables once. procedures_declared every (elaborated every) (elaborated_formed every) number m own tables once)
     (λ ts m d number own tables. accepted_low _ (tree_below ts m d) (module_most every (elaborated every) (λ s r xs. statements_most every s _ xs) number m own tables))
     (λ ts m d number own tables. bodies_near max_nesting every (elaborated every) (elaborated_formed every) (λ s r xs. near every s _ xs) number m own tables (omega arith) (procedures_below ts m d))
     p accepted pages are typed storage small
