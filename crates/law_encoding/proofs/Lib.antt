@@ -81,3 +81,4 @@ pub mod RoutineCounts
 pub mod ModuleCounts
 pub mod ProgramsRoom
 pub mod NamesRoom
+pub mod AcceptedPrograms

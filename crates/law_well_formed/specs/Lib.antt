@@ -13,3 +13,4 @@ pub mod FormedFits
 pub mod FormedBodies
 pub mod FormedModules
 pub mod FormedFrames
+pub mod FormedSizes

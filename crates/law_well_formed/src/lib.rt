@@ -73,6 +73,8 @@
 //!
 //! Why what modules know of the types of others is in order.
 //!
+//! - `specs/FormedSizes` says that types fit: `proofs/Cells` has the cells of types that stay known, `proofs/Prefixes` the induction
+//!   over types in order, and `proofs/Sizes` their bytes.
 //! - `specs/FormedKnown` says what the tables of definitions reach.
 //! - `proofs/Gathered` has all that tables reach, `proofs/KnownBegins` where modules begin, and `proofs/KnownDefinitions` the table of
 //!   a definition.
@@ -120,6 +122,7 @@ ghost use Rattle.law_well_formed.specs.FormedRanges.{BlocksAreRanged, ConstantsA
 ghost use Rattle.law_well_formed.specs.FormedScopes.{DeclarationsLead};
 ghost use Rattle.law_well_formed.specs.FormedStmts.{StatementsAreFormed};
 ghost use Rattle.law_well_formed.specs.FormedTables.{TablesExportOwn, TablesNumberProcedures};
+ghost use Rattle.law_well_formed.specs.FormedSizes.{TypesFit, BodiesHaveSizes};
 ghost use Rattle.law_well_formed.specs.Ordered.{NamedAreKnown, TreesAreByShape};
 ghost use Rattle.check_scope.specs.Elaborated.{least, every};
 
@@ -285,6 +288,16 @@ pub fn formed_known_laws()
     // and the modules of bodies know such types.
     ensures least_bodies { BodiesAreFormed least }
     ensures every_bodies { BodiesAreFormed every }
+{}
+
+/// All types that the module of a body knows have few bytes, so that none of their sizes and offsets is cut.
+pub fn formed_size_laws()
+    // That holds for all types in order with ranges of the language,
+    ensures types { TypesFit }
+    // and so for bodies, if the least broken rule is kept,
+    ensures least { BodiesHaveSizes least }
+    // and if all of them are.
+    ensures every { BodiesHaveSizes every }
 {}
 
 /// The trees of texts fit.

@@ -1,16 +1,13 @@
 -- Graphs, as the build goes on with them.
 use Rattle.std.proofs.Common.{◌≡◌, ℕ, ◌≤◌, ◌<◌, ◌+◌, ◌*◌, true, List, [], ◌∷◌, ◌++◌, length, map, Option, refl, ap, sym, subst, ◌∙◌, arith}
 use Rattle.std.specs.Prelude.{All, slice_get}
-use Rattle.std.specs.List.{list_any}
-use Rattle.std.specs.Str.{bytes_eq}
+use Rattle.std.specs.List.{list_all}
 use Rattle.std.specs.Option.{option_and_then}
 use Rattle.std.specs.Borrow.{Bor}
 use Rattle.m2_tree.specs.declared.decl.Module.{Module}
-use Rattle.wasm_binary.specs.Binary.{module_encoding, Encodes}
+use Rattle.wasm_binary.specs.Binary.{module_encoding, module_fits, Encodes}
 use Rattle.wasm_binary.proofs.LawsModule.{one_module}
 use Rattle.m2_graph.specs.Jobs.{ArePlaces, place_of}
-use Rattle.law_graph.specs.Started.{AreStarted, at_places}
-use Rattle.law_graph.proofs.Started.{are_started}
 use Rattle.std.proofs.lemmas.List.{length-map}
 use Rattle.std.proofs.lemmas.List.Elements.{All-cons}
 use Rattle.m2_rule.specs.RuleNumber.{number_of}
@@ -19,36 +16,28 @@ use Rattle.wasm_tree.specs.declared.module.WModule.{WModule}
 use Rattle.wasm_tree.specs.Validity.{IsValid}
 use Rattle.m2_tree.specs.declared.refusal.Refusal.{Refusal}
 use Rattle.typed_tree.specs.declared.typed_module.TypedModule.{TypedModule}
-use Rattle.layout_storage.specs.Sizes.{size}
-use Rattle.layout_storage.specs.Frames.{module_row}
-use Rattle.layout_storage.specs.Texts.{characters, module_texts}
 use Rattle.def_meaning.specs.Environment.{Modules}
-use Rattle.def_meaning.specs.Runs.{data_size}
 use Rattle.def_scheme.specs.Modules.{Part, typed_module, typed_link, part_of, link_of, stack_begin}
 use Rattle.m2_emit.specs.declared.emitted.ModuleBytes.{ModuleBytes}
 use Rattle.m2_emit.specs.Emitted.{emitted, parts}
 use Rattle.build_jobs.specs.declared.file.SourceFile.{SourceFile}
 use Rattle.build_jobs.specs.declared.outcome.Compiled.{Compiled}
 use Rattle.build_jobs.specs.Jobs.{all_compiled}
-use Rattle.build_jobs.proofs.Rounds.{jobs_count}
 use Rattle.build_jobs.specs.Borrowed.{borrowed, modules_borrowed}
 use Rattle.m2c.specs.Modules.{result_of, module_in, modules_at}
 use Rattle.m2c.specs.Build.{AreEncoded as BytesEncode}
 use Rattle.m2c.specs.Build.{Reported, AreReported, reported_at, built_of, named_bytes, modules, refusal_in, refused_from, refused_by, started, program_file, HaveGraph, IsTooLarge, IsProgram}
-use Rattle.build_jobs.specs.Encoded.{AreEncoded}
-use Rattle.law_modules.specs.Linked.{IsLinkable, imported_names}
+use Rattle.law_modules.specs.Linked.{IsLinkable, all}
+use Rattle.law_well_formed.proofs.RangesTypes.{both_left, both_right}
 use Rattle.law_simulation.specs.Modules.{AreModules, AreTypedModules}
 use Rattle.law_simulation.proofs.LinkedPrograms.{typed_behave}
 use Rattle.law_nothing_missing.proofs.Programs.{strict_runs, nothing_lacks}
 use Rattle.law_modules.proofs.Placed.{modules_link}
 use Rattle.law_programs.proofs.Links.{slots_few, link_valid}
-use Rattle.law_programs.proofs.GraphModules.{are_modules}
 use Rattle.m2c.proofs.Least.{all_least}
-use Rattle.m2c.proofs.Linked.{all_modules}
-use Rattle.law_programs.proofs.TypedModules.{are_typed}
-use Rattle.m2c.proofs.Fitting.{trees_fit, trees_whole, bodies_in}
 use Rattle.m2c.proofs.Valid.{all_valid}
-use Rattle.m2c.proofs.Programs.{AreFit, AreBuilt, all_built, distinct_all, count_all}
+use Rattle.m2c.proofs.Programs.{AreBuilt}
+use Rattle.m2c.proofs.Encodings.{as_many, whole, bodies_few, begin_is, linkable, modules_are, typed_are, encodings}
 
 abbrev module_bytes : WModule → List ℕ
 module_bytes t = module_encoding t
@@ -62,6 +51,16 @@ one_encoded [] (m ∷ ms) ns h k = absurd h
 one_encoded (b ∷ bs) [] ns h k = absurd h
 one_encoded (b ∷ bs) (m ∷ ms) [] h k = absurd k
 
+-- their modules have encodings
+abbrev AreFit : Modules → Type 0
+AreFit [] = Unit {0}
+AreFit (t ∷ ts) = (module_fits (typed_module t) ≡ true) × AreFit ts
+
+bodies_fit : (p : Modules) → list_all module_fits (map typed_module p) ≡ true → AreFit p
+bodies_fit [] e = tt
+bodies_fit (m ∷ ms) e =
+    (both_left (module_fits (typed_module m)) (list_all module_fits (map typed_module ms)) e, bodies_fit ms (both_right (module_fits (typed_module m)) (list_all module_fits (map typed_module ms)) e))
+
 -- the bytes of modules that have encodings encode them
 pub all_encoded : (p : Modules) → AreFit p → BytesEncode (map module_bytes (map typed_module p)) (map typed_module p)
 all_encoded [] f = tt
@@ -70,9 +69,6 @@ all_encoded (m ∷ ms) f = (record { fits = f.0; encoding = refl }, all_encoded 
 pub same_modules : (trees : List (Bor (List ℕ) × Bor Module)) → modules_borrowed trees ≡ modules (borrowed trees)
 same_modules [] = refl
 same_modules (t ∷ ts) = ap (λ (ms : List Module). t.1.now ∷ ms) (same_modules ts)
-
-pub encoded_borrowed : (trees : List (Bor (List ℕ) × Bor Module)) (numbers : List ℕ) (jobs : List (List ℕ)) → AreEncoded (modules_borrowed trees) numbers jobs → AreEncoded (modules (borrowed trees)) numbers jobs
-encoded_borrowed trees numbers jobs h = subst (λ (ms : List Module). AreEncoded ms numbers jobs) (same_modules trees) h
 
 abbrev bytes_of : TypedModule → List ℕ
 bytes_of m = module_encoding (typed_module m)
@@ -131,56 +127,36 @@ module _ (trees : List (Bor (List ℕ) × Bor Module)) (numbers : List ℕ) (job
 
 -- ---- the program
 
--- the code and the meaning begin the stack at one place
-begin_is : (p : Modules) → stack_begin (map part_of p) ≡ data_size p
-begin_is [] = refl
-begin_is (m ∷ ms) = ap (λ (n : ℕ). size (module_row m) + characters (module_texts m) + n) (begin_is ms)
-
-module _ (files : List SourceFile) (fs : List (List ℕ × Module)) (numbers : List ℕ) (jobs : List (List ℕ)) (starts : List ℕ) (have : HaveGraph files fs numbers jobs starts) (none : refused_by fs numbers jobs ≡ []) (encoded : AreEncoded (modules fs) numbers jobs) where
-  pub as_many : length numbers ≡ length jobs
-  as_many = jobs_count _ numbers jobs starts have.is_graph
-
-  pub are : AreStarted (modules fs) starts
-  are = are_started fs numbers jobs starts have.is_graph
-
+module _ (files : List SourceFile) (fs : List (List ℕ × Module)) (numbers : List ℕ) (jobs : List (List ℕ)) (starts : List ℕ) (have : HaveGraph files fs numbers jobs starts) (none : refused_by fs numbers jobs ≡ []) where
   abbrev those : List ModuleBytes
   those = started fs numbers jobs starts
 
-  abbrev pub whole : AreBuilt fs numbers jobs have.each as_many none encoded starts
-  whole = all_built fs numbers jobs have.each as_many none encoded starts are
+  abbrev its : AreBuilt fs numbers jobs have.each (as_many files fs numbers jobs starts have none) none starts
+  its = whole files fs numbers jobs starts have none
 
   pub program_count : length those ≤ 1024
-  program_count = omega (arith, count_all fs numbers jobs have.each as_many none encoded starts are, ap length whole.are, length-map whole.program emitted)
+  program_count = omega (arith, bodies_few files fs numbers jobs starts have none, ap length its.are, length-map its.program emitted)
 
-  pub data_is : stack_begin (parts those) + 4096 ≡ stack_begin (map part_of whole.program) + 4096
-  data_is = ap (λ (ms : List ModuleBytes). stack_begin (parts ms) + 4096) whole.are ∙ ap (λ (ps : List Part). stack_begin ps + 4096) (parts_emitted whole.program)
+  pub data_is : stack_begin (parts those) + 4096 ≡ stack_begin (map part_of its.program) + 4096
+  data_is = ap (λ (ms : List ModuleBytes). stack_begin (parts ms) + 4096) its.are ∙ ap (λ (ps : List Part). stack_begin ps + 4096) (parts_emitted its.program)
 
   -- what is built is the program
   pub is_program : (pages : ℕ) → 1 ≤ pages → pages ≤ 1024 → stack_begin (parts those) + 4096 ≤ 65536 * pages → (link : List ℕ) (built : List (List ℕ × List ℕ))
       → Encodes link (link_of (parts those) pages) → built ≡ map named_bytes those → IsProgram files pages link built
   is_program pages least most fits link built link_is built_are =
-      let p : Modules = whole.program in
+      let p : Modules = its.program in
       let link_encoded : Encodes link (typed_link p pages) =
-      subst (λ (ps : List Part). Encodes link (link_of ps pages)) (parts_emitted p) (subst (λ (ms : List ModuleBytes). Encodes link (link_of (parts ms) pages)) whole.are link_is)
+      subst (λ (ps : List Part). Encodes link (link_of ps pages)) (parts_emitted p) (subst (λ (ms : List ModuleBytes). Encodes link (link_of (parts ms) pages)) its.are link_is)
       in
-      let built_whole : built ≡ map built_of p = built_are ∙ ap (map named_bytes) whole.are ∙ named_emitted p in
+      let built_whole : built ≡ map built_of p = built_are ∙ ap (map named_bytes) its.are ∙ named_emitted p in
       let fits_all : stack_begin (map part_of p) + 4096 ≤ 65536 * pages = subst (λ (n : ℕ). n ≤ 65536 * pages) data_is fits in
-      let linkable : IsLinkable p pages = record {
-        distinct = distinct_all fs numbers jobs have.each as_many none encoded starts are;
-        imports = subst (λ (ns : List (List ℕ)). All (λ m. All (λ n. list_any (λ other. bytes_eq other n) ns ≡ true) (imported_names m)) p) (sym whole.names)
-            (all_modules fs numbers jobs starts have.is_graph (at_places (modules fs) starts) starts p whole.typed are.closed);
-        memory = least;
-        room = omega (arith, fits_all);
-      }
-      in
-      let modules_are : AreModules p =
-      are_modules fs numbers jobs starts have.is_graph have.each (trees_fit files fs have.are_trees) (trees_whole files fs have.are_trees) p (bodies_in fs numbers jobs starts p whole.typed) whole.small pages fits_all most
-      in
-      let typed_are : AreTypedModules p pages =
-      are_typed fs numbers jobs starts have.is_graph have.each (trees_fit files fs have.are_trees) (trees_whole files fs have.are_trees) p (bodies_in fs numbers jobs starts p whole.typed) pages fits_all most
-      in
+      let linkable : IsLinkable p pages = linkable files fs numbers jobs starts have none pages least most fits_all in
+      let modules_are : AreModules p = modules_are files fs numbers jobs starts have none pages least most fits_all in
+      let typed_are : AreTypedModules p pages = typed_are files fs numbers jobs starts have none pages least most fits_all in
+      let encoded : list_all module_fits (all p pages) ≡ true = encodings files fs numbers jobs starts have none pages least most fits_all in
+      let bodies : AreFit p = bodies_fit p (both_right (module_fits (typed_link p pages)) (list_all module_fits (map typed_module p)) encoded) in
       let codes : map (λ m. m.1) built ≡ map module_bytes (map typed_module p) = ap (λ (ms : List (List ℕ × List ℕ)). map (λ m. m.1) ms) built_whole ∙ seconds p in
-      let bodies_encoded : BytesEncode (map (λ m. m.1) built) (map typed_module p) = subst (λ (bs : List (List ℕ)). BytesEncode bs (map typed_module p)) (sym codes) (all_encoded p whole.fit) in record {
+      let bodies_encoded : BytesEncode (map (λ m. m.1) built) (map typed_module p) = subst (λ (bs : List (List ℕ)). BytesEncode bs (map typed_module p)) (sym codes) (all_encoded p bodies) in record {
         trees = fs;
         numbers = numbers;
         all_jobs = jobs;
@@ -189,7 +165,7 @@ module _ (files : List SourceFile) (fs : List (List ℕ × Module)) (numbers : L
         least = all_least fs;
         none = none;
         program = p;
-        typed = whole.typed;
+        typed = its.typed;
         fits = subst (λ (n : ℕ). n + 4096 ≤ 65536 * pages) (begin_is p) fits_all;
         code = record {
           link_encoded = link_encoded;
@@ -202,8 +178,8 @@ module _ (files : List SourceFile) (fs : List (List ℕ × Module)) (numbers : L
         strict = λ lacking n. strict_runs p pages modules_are typed_are lacking n;
         whole = λ lacking n above out e. nothing_lacks p pages modules_are typed_are lacking n above out e;
         valid = All-cons IsValid (typed_link p pages) (map typed_module p)
-            (link_valid p pages (omega (arith, most)) link_encoded.fits (distinct_all fs numbers jobs have.each as_many none encoded starts are))
-            (all_valid fs numbers jobs starts have.is_graph starts p whole.typed);
+            (link_valid p pages (omega (arith, most)) link_encoded.fits linkable.distinct)
+            (all_valid fs numbers jobs starts have.is_graph starts p its.typed);
       }
 
   pub is_too_large : (pages : ℕ) → 65536 * pages < stack_begin (parts those) + 4096 → (refusals : List Refusal) → AreReported (reported_at (program_file fs) 1 1 (number_of rule.LargeProgram) ∷ []) refusals → IsTooLarge files pages refusals
@@ -215,8 +191,8 @@ module _ (files : List SourceFile) (fs : List (List ℕ × Module)) (numbers : L
     graph = have;
     least = all_least fs;
     none = none;
-    program = whole.program;
-    typed = whole.typed;
-    too_large = subst (λ (n : ℕ). 65536 * pages < n + 4096) (begin_is whole.program) (subst (λ (n : ℕ). 65536 * pages < n) data_is more);
+    program = its.program;
+    typed = its.typed;
+    too_large = subst (λ (n : ℕ). 65536 * pages < n + 4096) (begin_is its.program) (subst (λ (n : ℕ). 65536 * pages < n) data_is more);
     reported = reported;
   }

@@ -7,12 +7,13 @@ pub mod Programs
 pub mod Linked
 pub mod Valid
 pub mod Fitting
-pub mod Graphs
-pub mod Named
-pub mod Borrowed
 pub mod Same
 pub mod Ranks
 pub mod Alike
+pub mod Encodings
+pub mod Graphs
+pub mod Named
+pub mod Borrowed
 pub mod Sums
 mod Readable
 mod Building

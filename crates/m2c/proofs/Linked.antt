@@ -36,6 +36,8 @@ use Rattle.build_jobs.specs.Own.{own_table, tables_behind}
 use Rattle.build_jobs.specs.Compiling.{is_sound, table_in, tables_of, of_definition, of_fit, of_checked, of_contents, typed_body, compiled}
 use Rattle.build_jobs.specs.Jobs.{compiled_in, compiled_at}
 use Rattle.build_jobs.specs.Encoded.{needed_of}
+use Rattle.law_encoding.specs.DeclaredProcedures.{ExportsOnce}
+use Rattle.law_encoding.proofs.DistinctExports.{tables_once}
 use Rattle.m2c.specs.Modules.{IsTyped, AreTyped}
 use Rattle.m2c.specs.Build.{modules}
 use Rattle.m2c.proofs.Unrefused.{is_below}
@@ -76,6 +78,7 @@ module _ (fs : List (List ℕ × Module)) (numbers : List ℕ) (jobs : List (Lis
     definition : is_definition tree ≡ true
     home : ℕ
     known : NamesImports tree home t
+    once : ExportsOnce (Some t)
 
   defined_result : (m : Module) (job : ℕ) (tables : List Table) (t : Table) (r : Result Table Breach) → types.compiled least job m tables ≡ r → of_definition r ≡ Defined t → NamesImports m job t
   defined_result m job tables t (Ok x) e is = subst (NamesImports m job) (same_table is) (subst (λ (r : Result Table Breach). IfOk r (NamesImports m job)) e (tables_named least job m tables))
@@ -83,6 +86,10 @@ module _ (fs : List (List ℕ × Module)) (numbers : List ℕ) (jobs : List (Lis
       same_table : Defined x ≡ Defined t → x ≡ t
       same_table e = cc e
   defined_result m job tables t (Err f) e is = absurd (cc is)
+
+  defined_once : (m : Module) (job : ℕ) (tables : List Table) (t : Table) (r : Result Table Breach) → types.compiled least job m tables ≡ r → of_definition r ≡ Defined t → ExportsOnce (Some t)
+  defined_once m job tables t (Ok x) e is = let same : x ≡ t = cc in subst (λ (y : Table). ExportsOnce (Some y)) same (subst (λ (r : Result Table Breach). IfOk r (λ y. ExportsOnce (Some y))) e (tables_once least job m tables))
+  defined_once m job tables t (Err f) e is = absurd (cc is)
 
   no_fit : (t : Table) (b : TypedModule) (o : Option Pos) → of_fit b o ≡ Defined t → ⊥
   no_fit t b None e = absurd (cc e)
@@ -100,6 +107,7 @@ module _ (fs : List (List ℕ × Module)) (numbers : List ℕ) (jobs : List (Lis
     definition = ap is_definition_part is;
     home = job;
     known = defined_result m job tables t (types.compiled least job m tables) refl e;
+    once = defined_once m job tables t (types.compiled least job m tables) refl e;
   }
   from_contents m place job tables t there (contents.Implementation b) is e = absurd (no_body t (typed_body m job tables) e)
   from_contents m place job tables t there (contents.Program b) is e = absurd (no_body t (typed_body m job tables) e)

@@ -16,10 +16,9 @@ use Rattle.build_jobs.specs.declared.reading.Read.{Read}
 use Rattle.build_jobs.specs.declared.reading.Read.TheVariants as read
 use Rattle.build_jobs.specs.Reading.{AreRead}
 use Rattle.build_jobs.proofs.Named.{name_read}
-use Rattle.build_jobs.specs.Encoded.{AreEncoded}
 use Rattle.m2c.specs.Names.{IsName}
 use Rattle.m2c.specs.Build.{modules, trees_of, refused_by, started, AreTrees, HaveGraph}
-use Rattle.m2c.proofs.Graphs.{whole}
+use Rattle.m2c.proofs.Encodings.{whole}
 
 abbrev Named : Module → Type 0
 Named m = IsName m.name.name
@@ -55,10 +54,10 @@ unfolding emitted
 emitted_named [] h = tt
 emitted_named (t ∷ ts) h = (h.0, emitted_named ts h.1)
 
-pub started_named : (files : List SourceFile) (fs : List (List ℕ × Module)) (numbers : List ℕ) (jobs : List (List ℕ)) (starts : List ℕ) → HaveGraph files fs numbers jobs starts → refused_by fs numbers jobs ≡ [] → AreEncoded (modules fs) numbers jobs
+pub started_named : (files : List SourceFile) (fs : List (List ℕ × Module)) (numbers : List ℕ) (jobs : List (List ℕ)) (starts : List ℕ) → HaveGraph files fs numbers jobs starts → refused_by fs numbers jobs ≡ []
     → All (λ (x : ModuleBytes). IsName x.name) (started fs numbers jobs starts)
-started_named files fs numbers jobs starts have none encoded =
-    let w = whole files fs numbers jobs starts have none encoded in
+started_named files fs numbers jobs starts have none =
+    let w = whole files fs numbers jobs starts have none in
     let those = places_named (modules fs) (trees_named files fs have.are_trees) starts in
     let names = subst (AllByRecursion IsName) (sym w.names) those in
     subst (All (λ (x : ModuleBytes). IsName x.name)) (sym w.are) (All-from_recursion (λ (x : ModuleBytes). IsName x.name) (map emitted w.program) (emitted_named w.program names))

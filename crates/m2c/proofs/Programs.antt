@@ -12,7 +12,6 @@ use Rattle.m2_tree.specs.declared.decl.Contents.{Contents}
 use Rattle.m2_tree.specs.declared.decl.Contents.TheVariants as contents
 use Rattle.m2_tree.specs.declared.decl.Module.{Module}
 use Rattle.wasm_tree.specs.Validity.{AreDistinct}
-use Rattle.wasm_binary.specs.Binary.{module_fits}
 use Rattle.m2_graph.specs.Files.{numbered}
 use Rattle.m2_graph.specs.Graph.{CompileEach}
 use Rattle.m2_graph.specs.Imports.{is_definition, is_definition_part}
@@ -28,7 +27,6 @@ use Rattle.layout_storage.specs.Layouts.{too_large}
 use Rattle.m2_emit.specs.declared.emitted.ModuleBytes.{ModuleBytes}
 use Rattle.m2_emit.specs.Emitted.{emitted}
 use Rattle.def_meaning.specs.Environment.{Modules}
-use Rattle.def_scheme.specs.Modules.{typed_module}
 use Rattle.law_modules.specs.Linked as linked
 use Rattle.check_definition.specs.Importing.{numbered_modules}
 use Rattle.check_definition.specs.Predeclared.{first_scope}
@@ -42,9 +40,7 @@ use Rattle.build_jobs.specs.declared.outcome.Compiled.{Compiled}
 use Rattle.build_jobs.specs.declared.outcome.Compiled.TheVariants.{Built}
 use Rattle.build_jobs.specs.Own.{own_table}
 use Rattle.build_jobs.specs.Compiling.{is_sound, tables_of, of_fit, of_checked, of_contents, typed_body, compiled}
-use Rattle.build_jobs.specs.ModuleEncoded.{IsEncoded, fit_encoded, checked_encoded, contents_encoded}
 use Rattle.build_jobs.specs.Jobs.{compiled_in}
-use Rattle.build_jobs.specs.Encoded.{encoded_in, AreEncoded}
 use Rattle.law_programs.specs.FormedGraphs.{IsFit}
 use Rattle.m2c.specs.Modules.{module_in, modules_at, IsTyped, AreTyped}
 use Rattle.m2c.specs.Build.{modules, refused_by, result_at}
@@ -83,35 +79,29 @@ record IsBody (m : Module) (n : ℕ) (ts : List Table) (c : Compiled) : Type 0 w
   typed : TypedModule
   is : typed_body m n ts ≡ Ok typed
   small : too_large typed ≡ None
-  fits : module_fits (typed_module typed) ≡ true
   becomes : c ≡ Built (emitted typed)
 
-from_fit : (m : Module) (n : ℕ) (ts : List Table) (t : TypedModule) → typed_body m n ts ≡ Ok t → (o : Option Pos) → too_large t ≡ o → fit_encoded t o → IsUnrefused (of_fit t o) → IsBody m n ts (of_fit t o)
-from_fit m n ts t e None small s h = record { typed = t; is = e; small = small; fits = s; becomes = refl }
-from_fit m n ts t e (Some at) small s h = absurd (h _ refl)
+from_fit : (m : Module) (n : ℕ) (ts : List Table) (t : TypedModule) → typed_body m n ts ≡ Ok t → (o : Option Pos) → too_large t ≡ o → IsUnrefused (of_fit t o) → IsBody m n ts (of_fit t o)
+from_fit m n ts t e None small h = record { typed = t; is = e; small = small; becomes = refl }
+from_fit m n ts t e (Some at) small h = absurd (h _ refl)
 
-from_checked : (m : Module) (n : ℕ) (ts : List Table) (r : Result TypedModule Breach) → typed_body m n ts ≡ r → checked_encoded r → IsUnrefused (of_checked r) → IsBody m n ts (of_checked r)
-from_checked m n ts (Ok t) e s h = from_fit m n ts t e (too_large t) refl s h
-from_checked m n ts (Err f) e s h = absurd (h f refl)
+from_checked : (m : Module) (n : ℕ) (ts : List Table) (r : Result TypedModule Breach) → typed_body m n ts ≡ r → IsUnrefused (of_checked r) → IsBody m n ts (of_checked r)
+from_checked m n ts (Ok t) e h = from_fit m n ts t e (too_large t) refl h
+from_checked m n ts (Err f) e h = absurd (h f refl)
 
-from_contents : (m : Module) (n : ℕ) (ts : List Table) (c : Contents) → is_definition_part c ≡ false → contents_encoded m n ts c → IsUnrefused (of_contents m n ts c) → IsBody m n ts (of_contents m n ts c)
-from_contents m n ts (contents.Definition ds) is s h = absurd (false≢true (sym is))
-from_contents m n ts (contents.Implementation b) is s h = from_checked m n ts (typed_body m n ts) refl s h
-from_contents m n ts (contents.Program b) is s h = from_checked m n ts (typed_body m n ts) refl s h
+from_contents : (m : Module) (n : ℕ) (ts : List Table) (c : Contents) → is_definition_part c ≡ false → IsUnrefused (of_contents m n ts c) → IsBody m n ts (of_contents m n ts c)
+from_contents m n ts (contents.Definition ds) is h = absurd (false≢true (sym is))
+from_contents m n ts (contents.Implementation b) is h = from_checked m n ts (typed_body m n ts) refl h
+from_contents m n ts (contents.Program b) is h = from_checked m n ts (typed_body m n ts) refl h
 
-body_of : (m : Module) (n : ℕ) (others : List Compiled) → is_definition m ≡ false → list_all is_sound others ≡ true → IsEncoded m n others → IsUnrefused (compiled m n others) → IsBody m n (tables_of others) (compiled m n others)
-body_of m n others is sound s h =
+body_of : (m : Module) (n : ℕ) (others : List Compiled) → is_definition m ≡ false → list_all is_sound others ≡ true → IsUnrefused (compiled m n others) → IsBody m n (tables_of others) (compiled m n others)
+body_of m n others is sound h =
     let e = compiled_is m n others sound in
-    subst (IsBody m n (tables_of others)) (sym e) (from_contents m n (tables_of others) m.contents is (s.encoded sound) (subst IsUnrefused e h))
+    subst (IsBody m n (tables_of others)) (sym e) (from_contents m n (tables_of others) m.contents is (subst IsUnrefused e h))
 
 -- ---- all that start
 
--- their modules have encodings
-abbrev pub AreFit : Modules → Type 0
-AreFit [] = Unit {0}
-AreFit (t ∷ ts) = (module_fits (typed_module t) ≡ true) × AreFit ts
-
-module _ (fs : List (List ℕ × Module)) (numbers : List ℕ) (jobs : List (List ℕ)) (each : CompileEach (numbered 0 fs) numbers) (same : length numbers ≡ length jobs) (none : refused_by fs numbers jobs ≡ []) (encoded : AreEncoded (modules fs) numbers jobs) where
+module _ (fs : List (List ℕ × Module)) (numbers : List ℕ) (jobs : List (List ℕ)) (each : CompileEach (numbered 0 fs) numbers) (same : length numbers ≡ length jobs) (none : refused_by fs numbers jobs ≡ []) where
   within : (j k : ℕ) → slice_get numbers j ≡ Some k → k < length fs
   within j k e = subst (λ (n : ℕ). n < length fs) (get_or_from_slice_get numbers j k 0 e) (all_within fs numbers each j 0 (slice_get_within numbers j k e))
 
@@ -127,7 +117,6 @@ module _ (fs : List (List ℕ × Module)) (numbers : List ℕ) (jobs : List (Lis
     is : IsTyped (modules fs) numbers jobs s typed
     name : typed.name ≡ m.name.name
     small : too_large typed ≡ None
-    fits : module_fits (typed_module typed) ≡ true
     becomes : result s ≡ Some (Built (emitted typed))
 
   start : (s : ℕ) (m : Module) → slice_get (modules fs) s ≡ Some m → is_definition m ≡ false → Starts m s
@@ -139,14 +128,12 @@ module _ (fs : List (List ℕ × Module)) (numbers : List ℕ) (jobs : List (Lis
       let its : one fs numbers jobs j.0 ≡ compiled m j.0 (needed fs numbers jobs j.0) = ap (λ (k : ℕ). compiled_in (slice_get (modules fs) k) j.0 (needed fs numbers jobs j.0)) place ∙ ap (λ (o : Option Module). compiled_in o j.0 (needed fs numbers jobs j.0)) is in
       let sound : list_all is_sound (needed fs numbers jobs j.0) ≡ true = all_sound fs numbers jobs each same none within there j.0 l in
       let fine : IsUnrefused (compiled m j.0 (needed fs numbers jobs j.0)) = subst IsUnrefused its (none_refused fs numbers jobs each same none within there j.0 l) in
-      let s' : IsEncoded m j.0 (needed fs numbers jobs j.0) = subst (λ (o : Option Module). encoded_in o j.0 (needed fs numbers jobs j.0)) (ap (slice_get (modules fs)) place ∙ is) (encoded.each j.0 l) in
-      let b = body_of m j.0 (needed fs numbers jobs j.0) body sound s' fine in
+      let b = body_of m j.0 (needed fs numbers jobs j.0) body sound fine in
       record {
         typed = b.typed;
         is = record { tree = m; is_tree = is; job = j.0; is_job = job_of fs numbers each j.0 s j.1; typed = b.is };
         name = typed_name j.0 m (tables_of (needed fs numbers jobs j.0)) b.typed b.is;
         small = b.small;
-        fits = b.fits;
         becomes = result_is fs numbers jobs each same j.0 s j.1 ∙ ap (λ (c : Compiled). Some c) (its ∙ b.becomes);
       }
 
@@ -157,12 +144,11 @@ module _ (fs : List (List ℕ × Module)) (numbers : List ℕ) (jobs : List (Lis
     pub program : Modules
     pub typed : AreTyped (modules fs) numbers jobs starts program
     pub names : linked.names program ≡ names_of (at_places (modules fs) starts)
-    pub fit : AreFit program
     pub small : AllByRecursion IsFit program
     pub are : modules_at result starts ≡ map emitted program
 
   pub built_all : (starts : List ℕ) → All Within starts → All (λ m. is_definition m ≡ false) (at_places (modules fs) starts) → AreBuilt starts
-  built_all [] lt bodies = record { program = []; typed = tt; names = refl; fit = tt; small = tt; are = refl }
+  built_all [] lt bodies = record { program = []; typed = tt; names = refl; small = tt; are = refl }
   built_all (s ∷ ss) lt bodies =
       let t = some_at (modules fs) s (All-head Within s ss lt) in
       let m : Module = t.0 in
@@ -173,7 +159,6 @@ module _ (fs : List (List ℕ × Module)) (numbers : List ℕ) (jobs : List (Lis
       record {
         program = b.typed ∷ rest.program;
         typed = (b.is, rest.typed);
-        fit = (b.fits, rest.fit);
         small = (record { small = b.small }, rest.small);
         names = ap (λ (n : List ℕ). n ∷ linked.names rest.program) b.name ∙ ap (λ (ns : List (List ℕ)). m.name.name ∷ ns) rest.names ∙ sym (ap (λ (ms : List Module). names_of ms) here);
         are = ap (λ (o : Option Compiled). module_in o ++ modules_at result ss) b.becomes ∙ ap (λ (ms : List ModuleBytes). emitted b.typed ∷ ms) rest.are;
@@ -191,9 +176,9 @@ places_count trees (s ∷ ss) = by (slice_get trees s) refl (places_count trees 
     by None e le = rw e (omega (arith, le))
     by (Some m) e le = rw e (omega (arith, le))
 
-module _ (fs : List (List ℕ × Module)) (numbers : List ℕ) (jobs : List (List ℕ)) (each : CompileEach (numbered 0 fs) numbers) (same : length numbers ≡ length jobs) (none : refused_by fs numbers jobs ≡ []) (encoded : AreEncoded (modules fs) numbers jobs) (starts : List ℕ) (started : AreStarted (modules fs) starts) where
-  pub all_built : AreBuilt fs numbers jobs each same none encoded starts
-  all_built = built_all fs numbers jobs each same none encoded starts started.within started.bodies
+module _ (fs : List (List ℕ × Module)) (numbers : List ℕ) (jobs : List (List ℕ)) (each : CompileEach (numbered 0 fs) numbers) (same : length numbers ≡ length jobs) (none : refused_by fs numbers jobs ≡ []) (starts : List ℕ) (started : AreStarted (modules fs) starts) where
+  pub all_built : AreBuilt fs numbers jobs each same none starts
+  all_built = built_all fs numbers jobs each same none starts started.within started.bodies
 
   pub distinct_all : AreDistinct (linked.names all_built.program)
   distinct_all = subst AreDistinct (sym all_built.names) (apart_distinct (names_of (at_places (modules fs) starts)) started.distinct)

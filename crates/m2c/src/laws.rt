@@ -1,8 +1,14 @@
 //! Laws of builds. There is no code here but what names them.
 
 ghost use Rattle.m2c.specs.Build.{OneOutcome};
+ghost use Rattle.m2c.specs.Encodings.{ProgramsFit};
 
 /// Files have at most one outcome in a number of pages. It does not matter who asks for it, or with which workers.
 pub fn outcome_laws()
     ensures { OneOutcome }
+{}
+
+/// Every program of which nothing is reported has an encoding: the numbers of its code, types, locals and blocks fit.
+pub fn encoding_laws()
+    ensures { ProgramsFit }
 {}

@@ -9,7 +9,6 @@ ghost use Rattle.m2_graph.specs.Jobs.{ArePlaces};
 ghost use Rattle.m2_graph.specs.Refused.{max_files};
 ghost use Rattle.build_jobs.specs.Jobs.{all_compiled};
 ghost use Rattle.build_jobs.specs.Borrowed.{borrowed, modules_borrowed};
-ghost use Rattle.build_jobs.specs.Encoded.{AreEncoded};
 ghost use Rattle.build_jobs.specs.Reading.{AreRead};
 ghost use Rattle.m2c.specs.Build.{is_program_part, program_file, refused_by, started, reported, reported_at, AreTrees, HaveGraph, IsBuilt};
 ghost use Rattle.m2_rule.specs.declared.rule.Rule.TheVariants as rule;
@@ -104,8 +103,6 @@ fn built(
         (map (λ j. j.items) graph.now.jobs.items) graph.now.starts.items }
     requires none { refused_by (borrowed trees.now) graph.now.files.items
         (map (λ j. j.items) graph.now.jobs.items) ≡ [] }
-    requires encoded { AreEncoded (modules_borrowed trees.now) graph.now.files.items
-        (map (λ j. j.items) graph.now.jobs.items) }
     requires modules { map (λ m. m.now) modules.now
         ≡ started (borrowed trees.now) graph.now.files.items
         (map (λ j. j.items) graph.now.jobs.items) graph.now.starts.items }
@@ -132,8 +129,6 @@ fn program(
         (map (λ j. j.items) graph.now.jobs.items) graph.now.starts.items }
     requires none { refused_by (borrowed trees.now) graph.now.files.items
         (map (λ j. j.items) graph.now.jobs.items) ≡ [] }
-    requires encoded { AreEncoded (modules_borrowed trees.now) graph.now.files.items
-        (map (λ j. j.items) graph.now.jobs.items) }
     requires modules { map (λ m. m.now) modules.now
         ≡ started (borrowed trees.now) graph.now.files.items
         (map (λ j. j.items) graph.now.jobs.items) graph.now.starts.items }
@@ -171,8 +166,6 @@ fn of_results(
     requires most { pages ≤ max_pages }
     requires graph { HaveGraph files.now (borrowed trees.now) graph.now.files.items
         (map (λ j. j.items) graph.now.jobs.items) graph.now.starts.items }
-    requires encoded { AreEncoded (modules_borrowed trees.now) graph.now.files.items
-        (map (λ j. j.items) graph.now.jobs.items) }
     requires results { results.now ≡ all_compiled (modules_borrowed trees.now) graph.now.files.items
         (map (λ j. j.items) graph.now.jobs.items) }
     ensures { IfOk result (IsBuilt files.now pages) }

@@ -1,19 +1,5 @@
-use Rattle.std.proofs.Common.{arith}
-use Rattle.check_scope.specs.Elaborated.{least, every}
-use Rattle.check_body.specs.Checks.{elaborated}
-use Rattle.def_grammar.specs.Refusal.{max_nesting}
-use Rattle.law_well_formed.proofs.Induction.{elaborated_formed}
-use Rattle.law_encoding.proofs.Statements.{statements_most as sized}
-use Rattle.law_encoding.proofs.DeclaredProcedures.{procedures_declared}
-use Rattle.law_encoding.proofs.ModuleCounts.{module_few}
-use Rattle.law_encoding.proofs.OutwardStatements.{statements_most as near}
-use Rattle.law_encoding.proofs.DeepStatements.{statements_most}
-use Rattle.law_encoding.proofs.DeepBlocks.{module_most}
-use Rattle.law_encoding.proofs.DeepTexts.{tree_below}
-use Rattle.law_encoding.proofs.DeepFunctions.{accepted_low}
-use Rattle.law_encoding.proofs.NestedProcedures.{tree_below as procedures_below}
-use Rattle.law_encoding.proofs.ProcedureLevels.{bodies_near}
-use Rattle.law_encoding.proofs.ProgramsRoom.{modules_small, programs_fit, accepted_programs}
+use Rattle.law_encoding.proofs.ProgramsRoom.{modules_small, programs_fit}
+use Rattle.law_encoding.proofs.AcceptedPrograms.{least_fit, every_fit}
 use Rattle.law_encoding.proofs.program_laws.Goals as goal
 
 pub returns-clause-small : goal.returns-clause-small
@@ -23,17 +9,7 @@ pub returns-clause-fit : goal.returns-clause-fit
 returns-clause-fit c = λ p pages are typed short small. programs_fit p pages are typed short small
 
 pub returns-clause-least : goal.returns-clause-least
-returns-clause-least c = λ p pages are typed accepted storage small.
-    accepted_programs least (λ number m own tables once. module_few least (elaborated least) (elaborated_formed least) (λ s r xs. sized least s _ xs) number m own tables once)
-    (λ number m own tables once. procedures_declared least (elaborated least) (elaborated_formed least) number m own tables once)
-    (λ ts m d number own tables. accepted_low _ (tree_below ts m d) (module_most least (elaborated least) (λ s r xs. statements_most least s _ xs) number m own tables))
-    (λ ts m d number own tables. bodies_near max_nesting least (elaborated least) (elaborated_formed least) (λ s r xs. near least s _ xs) number m own tables (omega arith) (procedures_below ts m d))
-    p accepted pages are typed storage small
+returns-clause-least c = least_fit
 
 pub returns-clause-every : goal.returns-clause-every
-returns-clause-every c = λ p pages are typed accepted storage small.
-    accepted_programs every (λ number m own tables once. module_few every (elaborated every) (elaborated_formed every) (λ s r xs. sized every s _ xs) number m own tables once)
-    (λ number m own tables once. procedures_declared every (elaborated every) (elaborated_formed every) number m own tables once)
-    (λ ts m d number own tables. accepted_low _ (tree_below ts m d) (module_most every (elaborated every) (λ s r xs. statements_most every s _ xs) number m own tables))
-    (λ ts m d number own tables. bodies_near max_nesting every (elaborated every) (elaborated_formed every) (λ s r xs. near every s _ xs) number m own tables (omega arith) (procedures_below ts m d))
-    p accepted pages are typed storage small
+returns-clause-every c = every_fit

@@ -7,7 +7,7 @@ use Rattle.m2_emit.specs.declared.emitted.ModuleBytes.{ModuleBytes}
 use Rattle.m2_emit.specs.Emitted.{parts}
 use Rattle.build_jobs.specs.Borrowed.{borrowed}
 use Rattle.m2c.specs.Build.{named, named_bytes, started}
-use Rattle.m2c.proofs.Graphs.{is_program, encoded_borrowed}
+use Rattle.m2c.proofs.Graphs.{is_program}
 use Rattle.m2c.proofs.Borrowed.{copies_borrowed}
 use Rattle.m2c.proofs.Named.{borrowed_named, started_named}
 use Rattle.m2c.specs.Names.{IsName}
@@ -21,9 +21,8 @@ copies_of-requires c =
     let g = c.args.graph.now in
     let fs = borrowed c.args.trees.now in
     let jobs = map items_of g.jobs.items in
-    let encoded = encoded_borrowed c.args.trees.now g.files.items jobs c.requires.encoded in
     borrowed_named c.args.modules.now
-    (subst (All (λ (x : ModuleBytes). IsName x.name)) (sym c.requires.modules) (started_named c.args.files.now fs g.files.items jobs g.starts.items c.requires.graph c.requires.none encoded))
+    (subst (All (λ (x : ModuleBytes). IsName x.name)) (sym c.requires.modules) (started_named c.args.files.now fs g.files.items jobs g.starts.items c.requires.graph c.requires.none))
 
 pub returns : goal.returns
 returns c =
@@ -35,6 +34,5 @@ returns c =
     in
     let built_are : map named c.in_ok-modules.modules.items ≡ map named_bytes whole = c.in_ok-modules.ensures ∙ copies_borrowed c.args.modules.now ∙ ap (map named_bytes) c.requires.modules in
     let fits : stack_begin (parts whole) + 4096 ≤ 65536 * c.args.pages = subst (λ (ms : List ModuleBytes). stack_begin (parts ms) + 4096 ≤ 65536 * c.args.pages) c.requires.modules c.requires.fits in
-    let encoded = encoded_borrowed c.args.trees.now g.files.items (map items_of g.jobs.items) c.requires.encoded in
-    is_program c.args.files.now fs g.files.items (map items_of g.jobs.items) g.starts.items c.requires.graph c.requires.none encoded c.args.pages c.requires.least c.requires.most fits
+    is_program c.args.files.now fs g.files.items (map items_of g.jobs.items) g.starts.items c.requires.graph c.requires.none c.args.pages c.requires.least c.requires.most fits
     c.in_ok-link.link.items (map named c.in_ok-modules.modules.items) link_is built_are
