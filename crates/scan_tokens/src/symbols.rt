@@ -2,6 +2,7 @@
 
 ghost use Rattle.std.specs.Prelude.{◌≡◌, [], ◌∷◌, map};
 ghost use Rattle.std.specs.List.{list_all};
+ghost use Rattle.std.specs.Str.{bytes_eq};
 ghost use Rattle.scan_tokens.specs.Bytes.{is_capital};
 ghost use Rattle.scan_tokens.specs.Symbols.{lookup, word_of, sign_of};
 
@@ -50,11 +51,23 @@ const WORDS: [(&[u8], Symbol); 40] = [
     (b"WITH", Symbol::With),
 ];
 
+/// Whether these are the same bytes. Most words differ in the first byte or in length, which is seen at once.
+fn are_same(first: &[u8], second: &[u8]) -> bool
+    ensures { result ≡ bytes_eq first.now second.now }
+{
+    match (first, second) {
+        ([byte, ..], [other, ..]) => {
+            byte == other && first.len() == second.len() && first == second
+        }
+        _ => first.len() == second.len(),
+    }
+}
+
 fn lookup(mut table: &[(&[u8], Symbol)], word: &[u8]) -> Option<Symbol>
     ensures { result ≡ lookup (map (λ e. (e.0.now, e.1)) table.entry.now) word.now }
 {
     while let [entry, rest @ ..] = table {
-        if entry.0 == word {
+        if are_same(entry.0, word) {
             return Some(entry.1);
         }
         table = rest;
