@@ -36,10 +36,32 @@ use std::alloc::{AllocError, Global};
 use tree_parts::Items;
 use typed_tree::{Argument, CHAR, Formal, Scalar, Standard, TypeNo, Value};
 
-/// What an expression stands for.
+/// What an expression stands for. Most are a name or a constant, and a function pays at entry for all that it may hold: so
+/// what the others need stands apart.
 #[cycle(body)]
 #[tactic(auto, using(crate::proofs::Variants::variants))]
 pub fn stands_for(
+    alloc: Global,
+    scope: &Scope<Breach>,
+    e: &Expr,
+) -> Result<Sought<Designated>, AllocError>
+    ensures { IfOk result (λ d. d ≡ (meant least e.now).means scope.now) }
+{
+    match e {
+        Expr::Number(_, _) | Expr::Char(_, _) | Expr::Text(_, _) => itself(alloc, scope, e),
+        Expr::Use(designator, args) => match args {
+            None => designated(alloc, scope, designator),
+            Some(_) => composed(alloc, scope, e),
+        },
+        _ => composed(alloc, scope, e),
+    }
+}
+
+/// The same, for an expression of any form.
+#[cycle(body)]
+#[inline(never)]
+#[tactic(auto, using(crate::proofs::Variants::variants))]
+fn composed(
     alloc: Global,
     scope: &Scope<Breach>,
     e: &Expr,
@@ -112,12 +134,16 @@ pub fn designated(
 ) -> Result<Sought<Designated>, AllocError>
     ensures { IfOk result (λ d. d ≡ (head least designator.now).means scope.now) }
 {
+    if designator.selectors.is_empty() {
+        return named(alloc, scope, &designator.name);
+    }
     let first = named(alloc, scope, &designator.name)?;
     picked(alloc, scope, first, designator.selectors.as_slice())
 }
 
 /// What selectors pick, one after another.
 #[cycle(body)]
+#[inline(never)]
 fn picked(
     alloc: Global,
     scope: &Scope<Breach>,

@@ -9,7 +9,7 @@ use Rattle.m2_tree.specs.declared.token.Symbol.{Symbol}
 use Rattle.m2_tree.specs.Limits.{max_name}
 use Rattle.scan_tokens.specs.declared.class.Class.{Class}
 use Rattle.scan_tokens.specs.declared.class.Class.TheVariants.{Space, Letter, Digit, Quote, Other}
-use Rattle.scan_tokens.specs.Bytes.{Text, class, in_run, is_run_byte, is_inside, is_line_end, is_capital}
+use Rattle.scan_tokens.specs.Bytes.{Text, class, in_run, is_run_byte, is_inside, is_line_end}
 use Rattle.scan_tokens.specs.Symbols.{Spellings, words, signs, lookup, word_of, sign_of}
 use Rattle.scan_tokens.specs.Forms.{IsRun, IsQuoted, IsClosed, IsForm, space, name, number, quoted, sign, comment, opened, IsLongest, opening}
 use Rattle.scan_tokens.proofs.Lists.{and_true, same_head, passes_within, passes_to}
@@ -104,18 +104,6 @@ word_parts (b ∷ bs) h =
 pub word_is : (w : Text) (s : Symbol) → word_of w ≡ Some s → (b : ℕ) × (bs : Text) × (w ≡ b ∷ bs) × (class b ≡ Letter) × (length w ≤ max_name)
 unfolding word_of
 word_is w s e = word_parts w (lookup_passes word_test words w s words_pass e)
-
-capitals_pass : list_all (λ e. list_all is_capital e.0) words ≡ true
-capitals_pass = refl
-
-none_unless : (o : Option Symbol) → ((s : Symbol) → o ≡ Some s → ⊥) → o ≡ None
-none_unless None h = refl
-none_unless (Some s) h = absurd (h s refl)
-
--- What isn't of capital letters alone is no reserved word.
-pub no_word : (w : Text) → list_all is_capital w ≡ false → word_of w ≡ None
-unfolding word_of
-no_word w h = none_unless (word_of w) (λ s e. let k : list_all is_capital w ≡ true = lookup_passes (list_all is_capital) words w s capitals_pass e in cc)
 
 pub class_open : class 40 ≡ Other
 unfolding class

@@ -28,7 +28,8 @@ pub struct Cut<'a> {
 pub fn put(tokens: &mut Vec<Token>, lexeme: Lexeme, pos: Pos) -> Result<(), AllocError>
     ensures { OnOk result (tokens.new.items ≡ tokens.old.items ++ tokens_at pos (Some lexeme)) }
 {
-    tokens.push(Token { lexeme, pos })?;
+    tokens.reserve(1)?;
+    tokens.push_reserved(Token { lexeme, pos });
     Ok(())
 }
 

@@ -4,12 +4,11 @@ ghost use Rattle.std.specs.Prelude.{◌≡◌, ◌≤◌, length};
 ghost use Rattle.std.specs.List.{prefix_len};
 ghost use Rattle.scan_tokens.specs.Bytes.{is_run_byte, is_inside, is_printable};
 
-use crate::class::{Class, class_of};
-
+#[tactic(auto, unfolding(crate::specs::Bytes::class))]
 fn is_run_byte(byte: u8) -> bool
     ensures { result ≡ is_run_byte byte }
 {
-    matches!(class_of(byte), Class::Letter | Class::Digit)
+    matches!(byte, b'a'..=b'z' | b'A'..=b'Z' | b'0'..=b'9')
 }
 
 /// How many letters and digits there are before anything else.

@@ -1,60 +1,24 @@
 //! Reserved words, operators and delimiters.
 
 ghost use Rattle.std.specs.Prelude.{◌≡◌, [], ◌∷◌, map};
-ghost use Rattle.std.specs.List.{list_all};
-ghost use Rattle.scan_tokens.specs.Bytes.{is_capital};
+ghost use Rattle.std.specs.Str.{bytes_eq};
+ghost use Rattle.scan_tokens.specs.Bytes.{Text};
 ghost use Rattle.scan_tokens.specs.Symbols.{lookup, word_of, sign_of};
 
 use m2_tree::Symbol;
 
-const WORDS: [(&[u8], Symbol); 40] = [
-    (b"AND", Symbol::And),
-    (b"ARRAY", Symbol::Array),
-    (b"BEGIN", Symbol::Begin),
-    (b"BY", Symbol::By),
-    (b"CASE", Symbol::Case),
-    (b"CONST", Symbol::Const),
-    (b"DEFINITION", Symbol::Definition),
-    (b"DIV", Symbol::Div),
-    (b"DO", Symbol::Do),
-    (b"ELSE", Symbol::Else),
-    (b"ELSIF", Symbol::Elsif),
-    (b"END", Symbol::End),
-    (b"EXIT", Symbol::Exit),
-    (b"EXPORT", Symbol::Export),
-    (b"FOR", Symbol::For),
-    (b"FROM", Symbol::From),
-    (b"IF", Symbol::If),
-    (b"IMPLEMENTATION", Symbol::Implementation),
-    (b"IMPORT", Symbol::Import),
-    (b"IN", Symbol::In),
-    (b"LOOP", Symbol::Loop),
-    (b"MOD", Symbol::Mod),
-    (b"MODULE", Symbol::Module),
-    (b"NOT", Symbol::Not),
-    (b"OF", Symbol::Of),
-    (b"OR", Symbol::Or),
-    (b"POINTER", Symbol::Pointer),
-    (b"PROCEDURE", Symbol::Procedure),
-    (b"QUALIFIED", Symbol::Qualified),
-    (b"RECORD", Symbol::Record),
-    (b"REPEAT", Symbol::Repeat),
-    (b"RETURN", Symbol::Return),
-    (b"SET", Symbol::Set),
-    (b"THEN", Symbol::Then),
-    (b"TO", Symbol::To),
-    (b"TYPE", Symbol::Type),
-    (b"UNTIL", Symbol::Until),
-    (b"VAR", Symbol::Var),
-    (b"WHILE", Symbol::While),
-    (b"WITH", Symbol::With),
-];
+/// Whether these are the same bytes. Most words differ in length, which is seen at once.
+fn are_same(first: &[u8], second: &[u8]) -> bool
+    ensures { result ≡ bytes_eq first.now second.now }
+{
+    first.len() == second.len() && first == second
+}
 
 fn lookup(mut table: &[(&[u8], Symbol)], word: &[u8]) -> Option<Symbol>
     ensures { result ≡ lookup (map (λ e. (e.0.now, e.1)) table.entry.now) word.now }
 {
     while let [entry, rest @ ..] = table {
-        if entry.0 == word {
+        if are_same(entry.0, word) {
             return Some(entry.1);
         }
         table = rest;
@@ -62,11 +26,60 @@ fn lookup(mut table: &[(&[u8], Symbol)], word: &[u8]) -> Option<Symbol>
     None
 }
 
-/// Whether these are capital letters alone, as in each reserved word.
-fn are_capitals(run: &[u8]) -> bool
-    ensures { result ≡ list_all is_capital run.now }
+/// The reserved words that begin with a byte, so that a name is compared with few of them.
+#[tactic(auto, unfolding(crate::specs::Symbols::word_of))]
+fn words_with(first: u8) -> &'static [(&'static [u8], Symbol)]
+    ensures { (rest : Text)
+        → lookup (map (λ e. (e.0.now, e.1)) result.now) (first ∷ rest) ≡ word_of (first ∷ rest) }
 {
-    run.iter().all(|byte| b'A' <= *byte && *byte <= b'Z')
+    match first {
+        b'A' => &[(b"AND", Symbol::And), (b"ARRAY", Symbol::Array)],
+        b'B' => &[(b"BEGIN", Symbol::Begin), (b"BY", Symbol::By)],
+        b'C' => &[(b"CASE", Symbol::Case), (b"CONST", Symbol::Const)],
+        b'D' => &[
+            (b"DEFINITION", Symbol::Definition),
+            (b"DIV", Symbol::Div),
+            (b"DO", Symbol::Do),
+        ],
+        b'E' => &[
+            (b"ELSE", Symbol::Else),
+            (b"ELSIF", Symbol::Elsif),
+            (b"END", Symbol::End),
+            (b"EXIT", Symbol::Exit),
+            (b"EXPORT", Symbol::Export),
+        ],
+        b'F' => &[(b"FOR", Symbol::For), (b"FROM", Symbol::From)],
+        b'I' => &[
+            (b"IF", Symbol::If),
+            (b"IMPLEMENTATION", Symbol::Implementation),
+            (b"IMPORT", Symbol::Import),
+            (b"IN", Symbol::In),
+        ],
+        b'L' => &[(b"LOOP", Symbol::Loop)],
+        b'M' => &[(b"MOD", Symbol::Mod), (b"MODULE", Symbol::Module)],
+        b'N' => &[(b"NOT", Symbol::Not)],
+        b'O' => &[(b"OF", Symbol::Of), (b"OR", Symbol::Or)],
+        b'P' => &[
+            (b"POINTER", Symbol::Pointer),
+            (b"PROCEDURE", Symbol::Procedure),
+        ],
+        b'Q' => &[(b"QUALIFIED", Symbol::Qualified)],
+        b'R' => &[
+            (b"RECORD", Symbol::Record),
+            (b"REPEAT", Symbol::Repeat),
+            (b"RETURN", Symbol::Return),
+        ],
+        b'S' => &[(b"SET", Symbol::Set)],
+        b'T' => &[
+            (b"THEN", Symbol::Then),
+            (b"TO", Symbol::To),
+            (b"TYPE", Symbol::Type),
+        ],
+        b'U' => &[(b"UNTIL", Symbol::Until)],
+        b'V' => &[(b"VAR", Symbol::Var)],
+        b'W' => &[(b"WHILE", Symbol::While), (b"WITH", Symbol::With)],
+        _ => &[],
+    }
 }
 
 /// The reserved word that these bytes are.
@@ -74,11 +87,10 @@ fn are_capitals(run: &[u8]) -> bool
 pub fn word_of(run: &[u8]) -> Option<Symbol>
     ensures { result ≡ word_of run.now }
 {
-    // Most names have a small letter, so that they need no search.
-    if !are_capitals(run) {
-        return None;
+    match run {
+        [] => None,
+        [first, ..] => lookup(words_with(*first), run),
     }
-    lookup(&WORDS, run)
 }
 
 /// The operator or delimiter of two bytes that these are.

@@ -18,6 +18,9 @@ use std::alloc::{AllocError, Global};
 use tree_parts::Items;
 use wasm_tree::{Code, EncodeError, Op, ValueType, WFault, behind, first_of, label_of, split_ops};
 
+/// How many bytes an operation takes about, for which there is room before code is written.
+const BYTES_OF_AN_OP: usize = 2;
+
 /// How deep blocks may nest.
 const DEEPEST: u16 = 4096;
 
@@ -442,16 +445,14 @@ pub fn code_at(alloc: Global, bytes: &[u8]) -> Result<(Code, &[u8]), WFault>
 fn write_indexed(out: &mut Writer, opcode: u8, index: u32) -> Result<(), AllocError>
     ensures { OnOk result (out.new ≡ out.old ++ (opcode ∷ unsigned.encoding index)) }
 {
-    out.byte(opcode)?;
-    out.unsigned(u64::from(index))
+    out.indexed(opcode, u64::from(index))
 }
 
 /// Appends an opcode and the two bytes of zero behind it.
 fn write_no_offset(out: &mut Writer, opcode: u8) -> Result<(), AllocError>
     ensures { OnOk result (out.new ≡ out.old ++ (opcode ∷ 0x00 ∷ 0x00 ∷ [])) }
 {
-    out.byte(opcode)?;
-    out.bytes(&[0x00, 0x00])
+    out.bytes(&[opcode, 0x00, 0x00])
 }
 
 #[tactic(auto, unfolding(crate::specs::Instructions::block_type))]
@@ -614,6 +615,7 @@ pub fn write_code(out: &mut Writer, ops: &[Op]) -> Result<(), EncodeError>
     if !code_fits(ops) {
         return Err(EncodeError::NoEncoding);
     }
+    out.reserve(ops.len().saturating_mul(BYTES_OF_AN_OP))?;
     write_ops(out, ops)?;
     out.byte(0x0B)?;
     Ok(())

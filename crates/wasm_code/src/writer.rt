@@ -78,12 +78,35 @@ impl Writer {
         self.bytes.extend_from_slice(bytes)
     }
 
+    /// Makes room for so many bytes more, so that they ask for memory once.
+    pub(crate) fn reserve(&mut self, count: usize) -> Result<(), AllocError>
+        ensures { self.new ≡ self.old }
+    {
+        self.bytes.reserve(count)
+    }
+
     /// Appends an index, a count or a size (Core 1.0, section 5.2.2).
     pub fn unsigned(&mut self, number: u64) -> Result<(), AllocError>
         ensures ok { OnOk result (self.new ≡ self.old ++ unsigned.encoding number) }
         ensures err { OnErr result (self.new ≡ self.old) }
     {
         self.bytes.reserve(usize::from(LONGEST))?;
+        push_groups(&mut self.bytes, LONGEST, number);
+        Ok(())
+    }
+
+    /// Appends a byte, and behind it an index, a count or a size. Most of these take one byte, too.
+    #[tactic(auto, unfolding(crate::specs::Number::groups))]
+    pub(crate) fn indexed(&mut self, byte: u8, number: u64) -> Result<(), AllocError>
+        ensures ok { OnOk result (self.new ≡ self.old ++ byte ∷ unsigned.encoding number) }
+        ensures err { OnErr result (self.new ≡ self.old) }
+    {
+        self.bytes.reserve(1 + usize::from(LONGEST))?;
+        self.bytes.push_reserved(byte);
+        if number < 128 {
+            self.bytes.push_reserved(number as u8);
+            return Ok(());
+        }
         push_groups(&mut self.bytes, LONGEST, number);
         Ok(())
     }
