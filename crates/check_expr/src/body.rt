@@ -476,6 +476,7 @@ fn high(
 
 /// A constant expression that stands for itself.
 #[cycle(body)]
+#[inline(never)]
 fn itself(alloc: Global, scope: &Scope<Breach>, e: &Expr) -> Result<Sought<Designated>, AllocError>
     ensures { IfOk result (λ d. d ≡ as_constant least scope.now (part least e.now)) }
 {
