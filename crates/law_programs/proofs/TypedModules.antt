@@ -43,7 +43,7 @@ use Rattle.law_programs.proofs.BlockNames.{module_names}
 same_there : {X : Type 0} (x y : X) → Some x ≡ Some y → x ≡ y
 same_there x y e = cc e
 
-each_at : {X : Type 0} (P : X → Type 0) (xs : List X) → AllByRecursion P xs → (n : ℕ) (x : X) → slice_get xs n ≡ Some x → P x
+pub each_at : {X : Type 0} (P : X → Type 0) (xs : List X) → AllByRecursion P xs → (n : ℕ) (x : X) → slice_get xs n ≡ Some x → P x
 each_at P [] h n x e = absurd cc
 each_at P (y ∷ xs) h zero x e = subst P (same_there y x e) h.0
 each_at P (y ∷ xs) h (suc n) x e = each_at P xs h.1 n x e

@@ -82,7 +82,7 @@ module _ (files : List SourceFile) (fs : List (List ℕ × Module)) (numbers : L
   pub as_many : length numbers ≡ length jobs
   as_many = jobs_count _ numbers jobs starts have.is_graph
 
-  are : AreStarted (modules fs) starts
+  pub are : AreStarted (modules fs) starts
   are = are_started fs numbers jobs starts have.is_graph
 
   abbrev pub whole : AreBuilt fs numbers jobs have.each as_many none starts

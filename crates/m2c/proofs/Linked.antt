@@ -71,14 +71,14 @@ module _ (fs : List (List ℕ × Module)) (numbers : List ℕ) (jobs : List (Lis
   abbrev trees : List Module
   trees = modules fs
 
-  record IsTableOf (t : Table) : Type 0 where
-    tree : Module
-    place : ℕ
-    there : slice_get trees place ≡ Some tree
-    definition : is_definition tree ≡ true
-    home : ℕ
-    known : NamesImports tree home t
-    once : ExportsOnce (Some t)
+  pub record IsTableOf (t : Table) : Type 0 where
+    pub tree : Module
+    pub place : ℕ
+    pub there : slice_get trees place ≡ Some tree
+    pub definition : is_definition tree ≡ true
+    pub home : ℕ
+    pub known : NamesImports tree home t
+    pub once : ExportsOnce (Some t)
 
   defined_result : (m : Module) (job : ℕ) (tables : List Table) (t : Table) (r : Result Table Breach) → types.compiled least job m tables ≡ r → of_definition r ≡ Defined t → NamesImports m job t
   defined_result m job tables t (Ok x) e is = subst (NamesImports m job) (same_table is) (subst (λ (r : Result Table Breach). IfOk r (NamesImports m job)) e (tables_named least job m tables))
@@ -141,12 +141,12 @@ module _ (fs : List (List ℕ × Module)) (numbers : List ℕ) (jobs : List (Lis
       by None e rest = rest
       by (Some x) e rest = with_one x (h p x e) rest
 
-  needed_tables : (job : ℕ) → All IsTableOf (tables_of (needed_of trees numbers jobs job))
+  pub needed_tables : (job : ℕ) → All IsTableOf (tables_of (needed_of trees numbers jobs job))
   needed_tables job =
       picked_tables (results_below jobs (compiled_at trees numbers) job) (prerequisites_of jobs job)
       (λ p x e t is. job_table p (needed_of trees numbers jobs p) t (is_below fs numbers jobs job p x e ∙ is))
 
-  own_known : (m : Module) (tables : List Table) (o : Table) → All IsTableOf tables → own_table m tables ≡ Some o → IsTableOf o × (o.name ≡ m.name.name)
+  pub own_known : (m : Module) (tables : List Table) (o : Table) → All IsTableOf tables → own_table m tables ≡ Some o → IsTableOf o × (o.name ≡ m.name.name)
   own_known m [] o all e = absurd (cc e)
   own_known m (t ∷ ts) o all e = by (same_name t.name m.name.name) refl e
     where
