@@ -91,7 +91,7 @@ enum Callee<'a> {
 }
 
 /// The procedure of the language that has this name.
-fn standard(name: &[u8]) -> Callee<'static> {
+fn built_in(name: &[u8]) -> Callee<'static> {
     match STANDARD.iter().find(|it| it.name.as_bytes() == name) {
         Some(it) => Callee::BuiltIn(it),
         None => Callee::Unknown,
@@ -132,13 +132,13 @@ fn named<'a>(texts: &'a Texts<'_>, scene: &'a Scene<'_>, name: &[u8]) -> Callee<
         }
         None => match module_of(tokens, name) {
             Some(module) => exported(texts, module, name),
-            None => standard(name),
+            None => built_in(name),
         },
     }
 }
 
 /// What a call calls.
-fn callee<'a>(texts: &'a Texts<'_>, scene: &'a Scene<'_>, call: Call) -> Callee<'a> {
+fn what_is_called<'a>(texts: &'a Texts<'_>, scene: &'a Scene<'_>, call: Call) -> Callee<'a> {
     let tokens = scene.text.tokens;
     let Some(name) = name_at(tokens, call.name) else {
         return Callee::Unknown;
@@ -165,7 +165,7 @@ pub fn formal_words(
     scene: &Scene<'_>,
     argument: Argument,
 ) -> Result<Option<String>, AllocError> {
-    match callee(texts, scene, argument.call) {
+    match what_is_called(texts, scene, argument.call) {
         Callee::Unknown => Ok(None),
         Callee::BuiltIn(standard) => takes(alloc, standard),
         Callee::Headed(heading) => match heading.formal_words(alloc, argument.number)? {
@@ -182,7 +182,7 @@ pub fn all_words(
     scene: &Scene<'_>,
     call: Call,
 ) -> Result<Option<String>, AllocError> {
-    match callee(texts, scene, call) {
+    match what_is_called(texts, scene, call) {
         Callee::Unknown => Ok(None),
         Callee::BuiltIn(standard) => takes(alloc, standard),
         Callee::Headed(heading) => match heading.all_words(alloc)? {
