@@ -1,12 +1,11 @@
-//! The types of what stands beside a refused place. The checker says where a rule is broken, and not which types met there. So
-//! each side of an operator or of an assignment is tried by itself: a statement that compares it with a value of a type is put in
-//! front, and the compiler says whether that comparison stands.
+//! What meets at a refused place: the types on both sides of an operator or an assignment, what a formal takes and what is given.
+//! The checker says where a rule is broken, and not what it found there. So what stands there is tried by itself: a statement
+//! that only some types pass is put in front, and the compiler says whether it stands.
 #![tactic(auto)]
 
-mod operands;
-mod places;
-mod sides;
+mod given;
 mod trial;
+mod wanted;
 mod words;
 
-pub use words::side_words;
+pub use words::type_words;

@@ -1,11 +1,31 @@
-//! The sides of a refused place, each tried by itself.
+//! What stands at a refused place, tried: a statement that only some types pass is put in front.
 
-use crate::places::{offset_of, part, rest};
-use crate::sides::Sides;
 use m2_tree::Refusal;
 use m2c::{BuildFault, Gate, Options, Outcome, SourceFile, build};
 use std::alloc::{AllocError, Global};
 use std::thread::Threads;
+use text_places::{Spots, offset_of, part, rest};
+
+/// The name of the procedure that is declared for a trial. A program that has it is not tried with procedures.
+pub const TAKER: &str = "TakesWhatIsTried";
+
+/// The name of the variable that is declared beside it.
+const INDEX: &str = "IndexOfWhatIsTried";
+
+/// A test that what is tried passes or not.
+#[derive(Clone, Copy)]
+pub enum Test<'a> {
+    /// Its value is compared so.
+    Compared(&'a str),
+    /// A formal of this type takes it by value.
+    Taken(&'a str),
+    /// A VAR formal of this type takes it.
+    Changed(&'a str),
+    /// A VAR formal of this type takes what stands behind it at an index.
+    Elements(&'a str),
+    /// It is assigned to itself.
+    Assigned,
+}
 
 /// Lets every worker in.
 #[derive(Drop)]
@@ -25,8 +45,8 @@ struct Changed {
     end: usize,
 }
 
-/// A refused place whose sides are tried.
-#[derive(Drop)]
+/// A refused place at which something is tried.
+#[derive(Clone, Copy)]
 pub struct Trial<'a> {
     /// The files of the program.
     pub files: &'a [SourceFile],
@@ -35,28 +55,64 @@ pub struct Trial<'a> {
     /// The name of the file of the place, and its text.
     pub name: &'a str,
     pub text: &'a [u8],
-    /// What stands there.
-    pub sides: Sides<'a>,
+    /// Where the text may be changed.
+    pub spots: Spots,
+}
+
+/// What has to be declared for a test.
+fn declared(alloc: Global, test: Test<'_>) -> Result<String, AllocError> {
+    match test {
+        Test::Compared(_) | Test::Assigned => Ok(String::new(alloc)),
+        Test::Taken(of) => format!(in alloc; "PROCEDURE {TAKER}(t: {of}); BEGIN END {TAKER}; "),
+        Test::Changed(of) => {
+            format!(in alloc; "PROCEDURE {TAKER}(VAR t: {of}); BEGIN END {TAKER}; ")
+        }
+        Test::Elements(of) => format!(in alloc;
+            "VAR {INDEX}: CARDINAL; PROCEDURE {TAKER}(VAR t: {of}); BEGIN END {TAKER}; "
+        ),
+    }
+}
+
+/// Puts texts at the end, one behind another.
+fn put_all(text: &mut Vec<u8>, parts: &[&[u8]]) -> Result<(), AllocError> {
+    for part in parts {
+        text.extend_from_slice(part)?;
+    }
+    Ok(())
+}
+
+/// Puts the statement of a test at the end.
+fn put_statement(text: &mut Vec<u8>, side: &[u8], test: Test<'_>) -> Result<(), AllocError> {
+    match test {
+        Test::Compared(so) => put_all(text, &[b"IF (", side, b") ", so.as_bytes(), b" THEN END "]),
+        Test::Taken(_) | Test::Changed(_) => {
+            put_all(text, &[TAKER.as_bytes(), b"(", side, b") "])
+        }
+        Test::Elements(_) => put_all(
+            text,
+            &[TAKER.as_bytes(), b"(", side, b"[", INDEX.as_bytes(), b"]) "],
+        ),
+        Test::Assigned => put_all(text, &[side, b" := ", side, b" "]),
+    }
 }
 
 impl Trial<'_> {
-    /// The text, with a statement in front that compares a side as this test says.
-    fn changed(&self, alloc: Global, side: &[u8], test: &str) -> Result<Changed, AllocError> {
+    /// The text, with what a test of a side needs.
+    fn changed(&self, alloc: Global, side: &[u8], test: Test<'_>) -> Result<Changed, AllocError> {
+        let Spots {
+            body,
+            front,
+            is_condition,
+        } = self.spots;
         let mut text = Vec::new(alloc);
-        text.extend_from_slice(part(self.text, 0, self.sides.front))?;
-        if self.sides.is_condition {
-            text.extend_from_slice(b"; ")?;
-        }
-        text.extend_from_slice(b"IF (")?;
-        text.extend_from_slice(side)?;
-        text.extend_from_slice(b") ")?;
-        text.extend_from_slice(test.as_bytes())?;
-        text.extend_from_slice(b" THEN END ")?;
+        text.extend_from_slice(part(self.text, 0, body))?;
+        text.extend_from_slice(declared(alloc, test)?.as_bytes())?;
+        text.extend_from_slice(part(self.text, body, front))?;
+        text.extend_from_slice(if is_condition { b"; " } else { b"" })?;
+        put_statement(&mut text, side, test)?;
         let end = text.len();
-        if !self.sides.is_condition {
-            text.extend_from_slice(b"; ")?;
-        }
-        text.extend_from_slice(rest(self.text, self.sides.front))?;
+        text.extend_from_slice(if is_condition { b"" } else { b"; " })?;
+        text.extend_from_slice(rest(self.text, front))?;
         Ok(Changed { text, end })
     }
 
@@ -80,7 +136,7 @@ impl Trial<'_> {
         &self,
         rt: &R,
         side: &[u8],
-        test: &str,
+        test: Test<'_>,
     ) -> Result<bool, BuildFault> {
         let changed = self.changed(rt.alloc(), side, test)?;
         let files = self.files_with(rt.alloc(), &changed.text)?;

@@ -1,48 +1,29 @@
-//! What is said of the types of a refused place.
+//! What is said of a refused place.
 
-use crate::sides::sides_at;
-use crate::trial::Trial;
+use crate::given::{CARDINAL, INTEGER, Scene};
+use crate::trial::{TAKER, Trial};
+use crate::wanted::{all_words, formal_words};
+use m2_rule::Rule;
 use m2_tree::Refusal;
 use m2c::{BuildFault, Options, SourceFile};
-use scan_tokens::{ScanError, scan};
+use std::alloc::{AllocError, Global};
 use std::thread::Threads;
+use text_places::{
+    Sides, Text, Texts, argument_at, argument_count, argument_side, call_at, declared_around,
+    is_named, sides_at, spots_at, type_names,
+};
 
-/// A type of the language, and a comparison that only a value of this type passes.
-struct Sort {
-    name: &'static str,
-    test: &'static str,
-}
-
-const INTEGER: &str = "INTEGER";
-
-const CARDINAL: &str = "CARDINAL";
-
-/// The types that are tried, in this order.
-const SORTS: [Sort; 5] = [
-    Sort {
-        name: INTEGER,
-        test: "= MIN(INTEGER)",
-    },
-    Sort {
-        name: CARDINAL,
-        test: "= MIN(CARDINAL)",
-    },
-    Sort {
-        name: "BOOLEAN",
-        test: "= MIN(BOOLEAN)",
-    },
-    Sort {
-        name: "CHAR",
-        test: "= MIN(CHAR)",
-    },
-    Sort {
-        name: "BITSET",
-        test: "= {}",
-    },
-];
-
-/// The most bytes of a program of which sides are tried. Each trial compiles the program once.
+/// The most bytes of a program of which something is tried. Each trial compiles the program once.
 const MOST_BYTES: usize = 262144;
+
+/// How many bytes the trials of one place compile at most, all together.
+const MOST_COMPILED: usize = 4194304;
+
+/// How many trials a side needs beside those of the types that the program declares.
+const OTHER_TRIALS: usize = 8;
+
+/// The most types of a program that are tried.
+const MOST_TYPES: usize = 16;
 
 /// How many bytes the files have.
 fn bytes_of(files: &[SourceFile]) -> usize {
@@ -53,30 +34,10 @@ fn bytes_of(files: &[SourceFile]) -> usize {
     sum
 }
 
-/// What a side is called that is made of number literals alone. It fits both INTEGER and CARDINAL.
-const NUMBER: &str = "a number";
-
-/// The name of a side's type, if it is one of those that are tried.
-fn type_name<R: AllocGlobal + Threads + Sync>(
-    rt: &R,
-    trial: &Trial<'_>,
-    side: &[u8],
-) -> Result<Option<&'static str>, BuildFault> {
-    let mut found = None;
-    for sort in &SORTS {
-        if trial.passes(rt, side, sort.test)? {
-            found = Some(if found.is_some() { NUMBER } else { sort.name });
-        }
-    }
-    Ok(found)
-}
-
-/// The bytes of the file of this name.
-fn text_of<'a>(files: &'a [SourceFile], name: &str) -> Option<&'a [u8]> {
-    files
-        .iter()
-        .find(|it| it.name.as_str() == name)
-        .map(|it| it.bytes.as_slice())
+/// How many types of a program with so many bytes are tried, if two sides are.
+fn types_tried(bytes: usize) -> usize {
+    let trials = MOST_COMPILED / bytes.max(1);
+    (trials / 2).saturating_sub(OTHER_TRIALS).min(MOST_TYPES)
 }
 
 /// What to do if these types meet, if that is known.
@@ -85,60 +46,197 @@ fn advice(left: &str, right: &str) -> &'static str {
         "; VAL(INTEGER, x) takes x as an INTEGER"
     } else if left == CARDINAL && right == INTEGER {
         "; VAL(CARDINAL, x) takes x as a CARDINAL"
+    } else if left == right {
+        "; a type that is written out twice is two types"
     } else {
         ""
     }
 }
 
 /// Which types stand on both sides, if both are known.
-fn words_of<R: AllocGlobal + Threads + Sync>(
+fn words_of_sides<R: AllocGlobal + Threads + Sync>(
     rt: &R,
-    trial: &Trial<'_>,
+    scene: &Scene<'_>,
+    sides: Sides,
 ) -> Result<Option<String>, BuildFault> {
-    let Some(left) = type_name(rt, trial, trial.sides.left)? else {
+    let Some(left) = scene.operand(rt, sides.left)? else {
         return Ok(None);
     };
-    let Some(right) = type_name(rt, trial, trial.sides.right)? else {
+    let Some(right) = scene.operand(rt, sides.right)? else {
         return Ok(None);
     };
-    let advice = advice(left, right);
+    let advice = advice(left.as_str(), right.as_str());
     let words = format!(in rt.alloc();
         "the left side is {left}, and the right side {right}{advice}"
     )?;
     Ok(Some(words))
 }
 
-/// Which types stand on both sides of an operator or an assignment that is refused. Nothing if it is no such place, if a side has
-/// a type that the program declares, or if the program has more than 262144 bytes. An error if memory ran out.
-pub fn side_words<R: AllocGlobal + Threads + Sync>(
+/// What is wanted, and what is given, as far as both are known.
+fn joined(
+    alloc: Global,
+    wanted: Option<String>,
+    given: Option<String>,
+) -> Result<Option<String>, AllocError> {
+    match (wanted, given) {
+        (Some(wanted), Some(given)) => {
+            Ok(Some(format!(in alloc; "{wanted}, and {given} is given")?))
+        }
+        (None, Some(given)) => Ok(Some(format!(in alloc; "{given} is given")?)),
+        (wanted, None) => Ok(wanted),
+    }
+}
+
+/// What an argument is to be, and what it is.
+fn words_of_argument<R: AllocGlobal + Threads + Sync>(
+    rt: &R,
+    texts: &Texts<'_>,
+    scene: &Scene<'_>,
+    at: usize,
+    is_variable: bool,
+) -> Result<Option<String>, BuildFault> {
+    let alloc = rt.alloc();
+    let wanted = match argument_at(alloc, scene.text.tokens, at)? {
+        Some(argument) => formal_words(alloc, texts, scene, argument)?,
+        None => None,
+    };
+    let side = argument_side(scene.text.tokens, at);
+    let given = if is_variable {
+        scene.changed(rt, side)?
+    } else {
+        scene.value(rt, side)?
+    };
+    Ok(joined(alloc, wanted, given)?)
+}
+
+/// How many arguments a call is to have, and how many it has.
+fn words_of_call(
+    alloc: Global,
+    texts: &Texts<'_>,
+    scene: &Scene<'_>,
+    at: usize,
+) -> Result<Option<String>, AllocError> {
+    let call = call_at(scene.text.tokens, at);
+    let count = argument_count(scene.text.tokens, call);
+    let noun = if count == 1 { "argument" } else { "arguments" };
+    match all_words(alloc, texts, scene, call)? {
+        Some(wanted) => {
+            let words = format!(in alloc; "{wanted}; the call has {count} {noun}")?;
+            Ok(Some(words))
+        }
+        None => Ok(None),
+    }
+}
+
+/// What is said of the token of this number, at which this rule is broken.
+fn words_at<R: AllocGlobal + Threads + Sync>(
+    rt: &R,
+    texts: &Texts<'_>,
+    scene: &Scene<'_>,
+    number: u32,
+    at: usize,
+) -> Result<Option<String>, BuildFault> {
+    if number == Rule::ArgumentCount.number() {
+        return Ok(words_of_call(rt.alloc(), texts, scene, at)?);
+    }
+    if number == Rule::WrongArgument.number() {
+        return words_of_argument(rt, texts, scene, at, false);
+    }
+    if number == Rule::NoVariable.number() {
+        return words_of_argument(rt, texts, scene, at, true);
+    }
+    match sides_at(rt.alloc(), scene.text.tokens, number, at)? {
+        Some(sides) => words_of_sides(rt, scene, sides),
+        None => Ok(None),
+    }
+}
+
+/// Whether a text has the name that trials declare.
+fn has_taker(text: Text<'_>) -> bool {
+    for number in 0..text.tokens.len() {
+        if is_named(text.tokens, number, TAKER.as_bytes()) {
+            return true;
+        }
+    }
+    false
+}
+
+/// The place of the token of this number in the file of this name, if something can be tried there.
+fn scene_at<'a>(
+    alloc: Global,
+    texts: &'a Texts<'_>,
+    options: Options,
+    name: &'a str,
+    text: Text<'a>,
+    at: usize,
+) -> Result<Option<Scene<'a>>, AllocError> {
+    let Some(spots) = spots_at(text, at) else {
+        return Ok(None);
+    };
+    if has_taker(text) {
+        return Ok(None);
+    }
+    let declared = declared_around(alloc, text.tokens, at)?;
+    let most = types_tried(bytes_of(texts.files));
+    let types = type_names(alloc, texts, text, &declared, most)?;
+    Ok(Some(Scene {
+        trial: Trial {
+            files: texts.files,
+            options,
+            name,
+            text: text.bytes,
+            spots,
+        },
+        text,
+        declared,
+        types,
+    }))
+}
+
+/// Whether something is said of a place at which this rule is broken.
+fn is_explained(number: u32) -> bool {
+    let rules = [
+        Rule::WrongType,
+        Rule::NotAssignable,
+        Rule::ArgumentCount,
+        Rule::WrongArgument,
+        Rule::NoVariable,
+    ];
+    rules.iter().any(|it| it.number() == number)
+}
+
+/// What is said of a refusal in one of these texts.
+fn words_in<R: AllocGlobal + Threads + Sync>(
+    rt: &R,
+    texts: &Texts<'_>,
+    options: Options,
+    refusal: &Refusal,
+) -> Result<Option<String>, BuildFault> {
+    let name = refusal.file.as_str();
+    let Some(text) = texts.text_of(name) else {
+        return Ok(None);
+    };
+    let Some(at) = text.tokens.iter().position(|it| it.pos == refusal.pos) else {
+        return Ok(None);
+    };
+    match scene_at(rt.alloc(), texts, options, name, text, at)? {
+        Some(scene) => words_at(rt, texts, &scene, refusal.number, at),
+        None => Ok(None),
+    }
+}
+
+/// Which types meet at a refused operator or assignment, what a refused argument is to be and what it is, or how many arguments
+/// a call is to have. Nothing if it is no such place, if what stands there is not known, or if the program has more than 262144
+/// bytes. An error if memory ran out.
+pub fn type_words<R: AllocGlobal + Threads + Sync>(
     rt: &R,
     files: &[SourceFile],
     options: Options,
     refusal: &Refusal,
 ) -> Result<Option<String>, BuildFault> {
-    let name = refusal.file.as_str();
-    let Some(text) = text_of(files, name) else {
-        return Ok(None);
-    };
-    if bytes_of(files) > MOST_BYTES {
+    if bytes_of(files) > MOST_BYTES || !is_explained(refusal.number) {
         return Ok(None);
     }
-    let tokens = match scan(rt.alloc(), text) {
-        Ok(tokens) => tokens,
-        Err(ScanError::Refused(_)) => return Ok(None),
-        Err(ScanError::NoMemory) => return Err(BuildFault::NoMemory),
-    };
-    match sides_at(rt.alloc(), text, &tokens, refusal.number, refusal.pos)? {
-        None => Ok(None),
-        Some(sides) => words_of(
-            rt,
-            &Trial {
-                files,
-                options,
-                name,
-                text,
-                sides,
-            },
-        ),
-    }
+    let texts = Texts::of(rt.alloc(), files)?;
+    words_in(rt, &texts, options, refusal)
 }

@@ -5,7 +5,7 @@ use crate::pages::say_pages;
 use crate::showing::show;
 use anyhow::Result;
 use command_words::{FAILED, Words};
-use explain_types::side_words;
+use explain_types::type_words;
 use m2_tree::Refusal;
 use m2c::{Gate, Options, Outcome, SourceFile, build};
 use run_program::ProgramFault;
@@ -47,17 +47,17 @@ pub fn say_fault<R: Eprint>(rt: &R, path: &str, fault: ProgramFault) {
 }
 
 /// The most refusals of which it is said which types met there. For each the program is compiled several times.
-const MOST_SIDES: usize = 8;
+const MOST_EXPLAINED: usize = 8;
 
-/// Says which types stand on both sides of refused operators and assignments.
-fn say_sides<R: Eprint + AllocGlobal + Threads + Sync>(
+/// Says which types meet at refused places.
+fn say_types<R: Eprint + AllocGlobal + Threads + Sync>(
     rt: &R,
     files: &[SourceFile],
     options: Options,
     refusals: &[Refusal],
 ) -> Result<()> {
-    for refusal in refusals.iter().take(MOST_SIDES) {
-        if let Some(words) = side_words(rt, files, options, refusal)? {
+    for refusal in refusals.iter().take(MOST_EXPLAINED) {
+        if let Some(words) = type_words(rt, files, options, refusal)? {
             let file = &refusal.file;
             let (line, col) = (refusal.pos.line, refusal.pos.col);
             let _ = eprintln!(rt; "{PROGRAM}: {file}:{line}:{col}: {words}");
@@ -77,8 +77,8 @@ where
     R: Print + Eprint + AllocGlobal + Threads + Sync,
 {
     let status = show(rt, setting.style, program, refusals)?;
-    say_sides(rt, &program.files, setting.options, refusals)?;
-    say_pages(rt, &program.files, setting.options, refusals);
+    say_types(rt, &program.files, setting.options, refusals)?;
+    say_pages(rt, &program.files, setting.options, refusals)?;
     Ok(status)
 }
 

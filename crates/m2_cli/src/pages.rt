@@ -10,13 +10,6 @@ use tool_words::PROGRAM;
 /// How often the pages from 1 to 1024 are halved until one number is left.
 const HALVINGS: usize = 10;
 
-/// Whether a program is refused since it does not fit into its pages.
-fn are_too_few(refusals: &[Refusal]) -> bool {
-    refusals
-        .iter()
-        .any(|it| it.number == Rule::LargeProgram.number())
-}
-
 /// Whether a program that breaks no other rule fits into so many pages.
 fn fits<R: AllocGlobal + Threads + Sync>(
     rt: &R,
@@ -54,19 +47,20 @@ fn least_pages<R: AllocGlobal + Threads + Sync>(
     Ok(Some(enough))
 }
 
-/// Says how many pages a program needs that is refused for want of them.
+/// Says how many pages a program needs that is refused for want of them. An error if memory ran out.
 pub fn say_pages<R: Eprint + AllocGlobal + Threads + Sync>(
     rt: &R,
     files: &[SourceFile],
     options: Options,
     refusals: &[Refusal],
-) {
-    if !are_too_few(refusals) {
-        return;
+) -> Result<(), BuildFault> {
+    for refusal in refusals {
+        if refusal.number == Rule::LargeProgram.number() {
+            let _ = match least_pages(rt, files, options)? {
+                Some(pages) => eprintln!(rt; "{PROGRAM}: needs {pages} pages; --memory {pages}"),
+                None => eprintln!(rt; "{PROGRAM}: needs more than {MAX_PAGES} pages"),
+            };
+        }
     }
-    let _ = match least_pages(rt, files, options) {
-        Ok(Some(pages)) => eprintln!(rt; "{PROGRAM}: needs {pages} pages; --memory {pages}"),
-        Ok(None) => eprintln!(rt; "{PROGRAM}: needs more than {MAX_PAGES} pages"),
-        Err(_) => Ok(()),
-    };
+    Ok(())
 }

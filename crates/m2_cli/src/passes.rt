@@ -1,13 +1,14 @@
 //! `m2 show`: what a pass makes of a program.
 
-use crate::building::{Modules, build_program};
+use crate::building::{Modules, Open, build_program};
 use crate::finding::Program;
 use crate::output::say_output_fault;
 use crate::showing::show;
 use anyhow::Result;
 use command_words::{FAILED, Words};
 use m2_tree::{Pos, Refusal};
-use m2c::SourceFile;
+use m2c::{Options, Outcome, SourceFile, build};
+use mark_statements::marked_text;
 use show_passes::{File, Shown, show_program, show_text_tokens, show_text_tree};
 use show_types::show_types;
 use std::alloc::{AllocError, Global};
@@ -97,10 +98,42 @@ fn named(alloc: Global, files: &[SourceFile]) -> Result<Vec<File<'_>>, AllocErro
     Ok(all)
 }
 
+/// The files with their statements marked.
+fn marked_files(alloc: Global, files: &[SourceFile]) -> Result<Vec<SourceFile>, AllocError> {
+    let mut all = Vec::new(alloc);
+    for file in files {
+        let name = String::from_str(alloc, file.name.as_str())?;
+        let bytes = marked_text(alloc, &file.bytes)?;
+        all.push(SourceFile { name, bytes })?;
+    }
+    Ok(all)
+}
+
+/// The modules of a program whose statements are marked. None if they are not built, as a text may be too long with its marks.
+fn marked_modules<R>(
+    rt: &R,
+    options: Options,
+    files: &[SourceFile],
+) -> Result<Vec<(String, Vec<u8>)>>
+where
+    R: AllocGlobal + Threads + Sync,
+{
+    let files = marked_files(rt.alloc(), files)?;
+    match build(rt, rt.alloc(), &files, options, &Open) {
+        Ok(Outcome::Built { modules, .. }) => Ok(modules),
+        Ok(Outcome::Refused(_)) | Err(_) => Ok(Vec::new(rt.alloc())),
+    }
+}
+
 /// The code of a program that was built.
-fn code_of(alloc: Global, built: &Modules) -> Result<Vec<u8>> {
+fn code_of<R>(rt: &R, options: Options, built: &Modules) -> Result<Vec<u8>>
+where
+    R: AllocGlobal + Threads + Sync,
+{
+    let alloc = rt.alloc();
     let files = named(alloc, &built.files)?;
-    Ok(show_program(alloc, &files, &built.link, &built.others)?)
+    let marked = marked_modules(rt, options, &built.files)?;
+    Ok(show_program(alloc, &files, &built.link, &built.others, &marked)?)
 }
 
 /// The typed trees of a program that was built, in start order.
@@ -124,7 +157,7 @@ where
     let page = if pass == Pass::Types {
         types_of(rt.alloc(), &built)?
     } else {
-        code_of(rt.alloc(), &built)?
+        code_of(rt, setting.options, &built)?
     };
     Ok(write_page(rt, &page))
 }

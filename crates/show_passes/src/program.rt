@@ -3,6 +3,7 @@
 use crate::texts::{Shown, tree_of};
 use crate::titles::{Titles, titles_of};
 use m2_tree::{Contents, Module};
+use mark_statements::{Statements, statements_of, with_statements};
 use show_code::{Page, put_module};
 use std::alloc::{AllocError, Global};
 use typed_tree::Dictionary;
@@ -12,10 +13,20 @@ use wasm_tree::WFault;
 /// A file of a program: its name, and its text.
 pub type File<'a> = (&'a str, &'a [u8]);
 
+/// A module that was built: its name, and its bytes.
+pub type Built = (String, Vec<u8>);
+
+/// The tree of a text, and its statements.
+#[derive(Drop)]
+struct Parsed {
+    tree: Module,
+    statements: Statements,
+}
+
 /// The trees of a program, by the names of their modules.
 #[derive(Drop)]
 struct Trees {
-    trees: Vec<Module>,
+    all: Vec<Parsed>,
     /// The numbers of the definitions' trees.
     definitions: Dictionary<usize>,
     /// The numbers of the bodies' trees.
@@ -25,15 +36,20 @@ struct Trees {
 impl Trees {
     fn new(alloc: Global) -> Trees {
         Trees {
-            trees: Vec::new(alloc),
+            all: Vec::new(alloc),
             definitions: Dictionary::new(alloc),
             bodies: Dictionary::new(alloc),
         }
     }
 
     /// One more tree.
-    fn add(&mut self, alloc: Global, tree: Module) -> Result<(), AllocError> {
-        let number = self.trees.len();
+    fn add(
+        &mut self,
+        alloc: Global,
+        tree: Module,
+        statements: Statements,
+    ) -> Result<(), AllocError> {
+        let number = self.all.len();
         let name = tree.name.name.as_bytes();
         match &tree.contents {
             Contents::Definition(_) => self.definitions.enter(alloc, name, number)?,
@@ -41,29 +57,33 @@ impl Trees {
                 self.bodies.enter(alloc, name, number)?;
             }
         }
-        self.trees.push(tree)?;
+        self.all.push(Parsed { tree, statements })?;
         Ok(())
     }
 
     /// One more text. One without a tree is left out.
     fn add_text(&mut self, alloc: Global, text: &[u8]) -> Result<(), AllocError> {
+        let statements = statements_of(alloc, text)?;
         match tree_of(alloc, text)? {
-            Shown::Made(tree) => self.add(alloc, tree),
+            Shown::Made(tree) => self.add(alloc, tree, statements),
             Shown::Refused(_, _) => Ok(()),
         }
     }
 
     /// The tree of this number.
-    fn tree(&self, number: Option<&usize>) -> Option<&Module> {
-        self.trees.get(*number?)
+    fn parsed(&self, number: Option<&usize>) -> Option<&Parsed> {
+        self.all.get(*number?)
     }
 
-    /// What the functions of the module of this name are. Nothing of a module without a body.
-    fn titles(&self, alloc: Global, name: &[u8]) -> Result<Vec<Vec<u8>>, AllocError> {
-        match self.tree(self.bodies.find(name)) {
-            None => Ok(Vec::new(alloc)),
-            Some(tree) => titles_of(alloc, tree, self.tree(self.definitions.find(name))),
-        }
+    /// The body of the module of this name.
+    fn body(&self, name: &[u8]) -> Option<&Parsed> {
+        self.parsed(self.bodies.find(name))
+    }
+
+    /// What the functions of a module are.
+    fn titles(&self, alloc: Global, body: &Parsed, name: &[u8]) -> Result<Titles, AllocError> {
+        let definition = self.parsed(self.definitions.find(name));
+        titles_of(alloc, &body.tree, definition.map(|it| &it.tree))
     }
 }
 
@@ -76,30 +96,69 @@ fn trees_of(alloc: Global, files: &[File<'_>]) -> Result<Trees, AllocError> {
     Ok(trees)
 }
 
-/// The code of a module: a comment with its name, and then its text.
-fn show_one(
-    alloc: Global,
-    page: &mut Page,
-    name: &[u8],
-    titles: &[Vec<u8>],
-    bytes: &[u8],
-) -> Result<(), WFault> {
+/// The code of a module.
+fn code_of(alloc: Global, titles: &[Vec<u8>], bytes: &[u8]) -> Result<Vec<u8>, WFault> {
     let tree = read_module(alloc, bytes)?;
-    page.put_all(&[b";; ", name, b".wasm\n"])?;
-    put_module(page, titles, &tree)?;
+    let mut page = Page::new(alloc);
+    put_module(&mut page, titles, &tree)?;
+    Ok(page.into_bytes())
+}
+
+/// The code of a module with its statements beside it, if it is the marked code but for its marks.
+fn explained(
+    alloc: Global,
+    titles: &Titles,
+    statements: &Statements,
+    code: Vec<u8>,
+    marked: &[u8],
+) -> Result<Vec<u8>, WFault> {
+    let marked = code_of(alloc, &titles.titles, marked)?;
+    match with_statements(alloc, &code, &marked, statements, &titles.places)? {
+        Some(text) => Ok(text),
+        None => Ok(code),
+    }
+}
+
+/// Puts a comment with the name of a module's file, and then its code.
+fn put_named(page: &mut Page, name: &[u8], code: &[u8]) -> Result<(), AllocError> {
+    page.put_all(&[b";; ", name, b".wasm\n", code])
+}
+
+/// Puts the module link, whose only function calls the bodies.
+fn put_link(alloc: Global, page: &mut Page, link: &[u8]) -> Result<(), WFault> {
+    let mut titles = Titles::new(alloc);
+    titles.add_word("calls the bodies of all modules")?;
+    put_named(page, b"link", &code_of(alloc, &titles.titles, link)?)?;
     Ok(())
 }
 
-/// What the only function of the module link is.
-fn link_titles(alloc: Global) -> Result<Vec<Vec<u8>>, AllocError> {
-    let mut titles = Titles::new(alloc);
-    titles.add_word("calls the bodies of all modules")?;
-    Ok(titles.into_titles())
+/// Puts a module, with its marked code if there is one.
+fn put_one(
+    alloc: Global,
+    page: &mut Page,
+    trees: &Trees,
+    module: &Built,
+    marked: Option<&Built>,
+) -> Result<(), WFault> {
+    let name = module.0.as_bytes();
+    let Some(body) = trees.body(name) else {
+        put_named(page, name, &code_of(alloc, &[], &module.1)?)?;
+        return Ok(());
+    };
+    let titles = trees.titles(alloc, body, name)?;
+    let code = code_of(alloc, &titles.titles, &module.1)?;
+    let code = match marked {
+        Some(marked) => explained(alloc, &titles, &body.statements, code, &marked.1)?,
+        None => code,
+    };
+    put_named(page, name, &code)?;
+    Ok(())
 }
 
 /// The code of modules that were built of files, link first and the others with their names: each behind a comment with the
 /// name of its file, in the text format that `wat2wasm` reads. Beside each function stands which procedure it is, with its
-/// place in the text.
+/// place in the text. If the modules are there that come of the files with marks, a comment with each statement stands in front of
+/// its code.
 ///
 /// `NoMemory` (90) if a request for memory was refused. Bytes that are no module have the fault with which `read_module`
 /// refuses them.
@@ -107,20 +166,14 @@ pub fn show_program(
     alloc: Global,
     files: &[File<'_>],
     link: &[u8],
-    modules: &[(String, Vec<u8>)],
+    modules: &[Built],
+    marked: &[Built],
 ) -> Result<Vec<u8>, WFault> {
     let trees = trees_of(alloc, files)?;
     let mut page = Page::new(alloc);
-    show_one(alloc, &mut page, b"link", &link_titles(alloc)?, link)?;
-    for module in modules {
-        let name = module.0.as_bytes();
-        show_one(
-            alloc,
-            &mut page,
-            name,
-            &trees.titles(alloc, name)?,
-            &module.1,
-        )?;
+    put_link(alloc, &mut page, link)?;
+    for (number, module) in modules.iter().enumerate() {
+        put_one(alloc, &mut page, &trees, module, marked.get(number))?;
     }
     Ok(page.into_bytes())
 }

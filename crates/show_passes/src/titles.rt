@@ -15,11 +15,12 @@ const HELPERS: [&str; 5] = [
     "MOD",
 ];
 
-/// What functions are, one after another.
+/// What functions are, one after another, and the places of the names of the module and its procedures among them.
 #[derive(Drop)]
 pub struct Titles {
     alloc: Global,
-    titles: Vec<Vec<u8>>,
+    pub titles: Vec<Vec<u8>>,
+    pub places: Vec<Pos>,
 }
 
 impl Titles {
@@ -28,13 +29,8 @@ impl Titles {
         Titles {
             alloc,
             titles: Vec::new(alloc),
+            places: Vec::new(alloc),
         }
-    }
-
-    /// What the functions are.
-    pub fn into_titles(self) -> Vec<Vec<u8>> {
-        let Titles { titles, .. } = self;
-        titles
     }
 
     /// A function that is told by a word.
@@ -50,6 +46,7 @@ impl Titles {
         page.put_all(&[word.as_bytes(), b" ", name, b" "])?;
         page.put_place(pos)?;
         self.titles.push(page.into_bytes())?;
+        self.places.push(pos)?;
         Ok(())
     }
 
@@ -175,7 +172,7 @@ pub fn titles_of(
     alloc: Global,
     tree: &Module,
     definition: Option<&Module>,
-) -> Result<Vec<Vec<u8>>, AllocError> {
+) -> Result<Titles, AllocError> {
     let defs = defs_of(definition);
     let decls = decls_of(tree);
     let mut titles = Titles::new(alloc);
@@ -184,5 +181,5 @@ pub fn titles_of(
     titles.add_defined(defs, &places_in(alloc, decls)?)?;
     titles.add_all_own(decls, &places_of(alloc, defs)?)?;
     titles.add_nested(decls)?;
-    Ok(titles.into_titles())
+    Ok(titles)
 }

@@ -40,14 +40,16 @@ pub fn strength_of(symbol: Symbol) -> Option<Strength> {
     }
 }
 
-fn opens(symbol: Symbol) -> bool {
+/// Whether a symbol opens a bracket.
+pub fn opens(symbol: Symbol) -> bool {
     matches!(
         symbol,
         Symbol::LeftParen | Symbol::LeftBracket | Symbol::LeftBrace
     )
 }
 
-fn closes(symbol: Symbol) -> bool {
+/// Whether a symbol closes a bracket.
+pub fn closes(symbol: Symbol) -> bool {
     matches!(
         symbol,
         Symbol::RightParen | Symbol::RightBracket | Symbol::RightBrace

@@ -1,0 +1,237 @@
+//! What stands at a refused place.
+
+use crate::trial::{Test, Trial};
+use m2c::BuildFault;
+use std::alloc::{AllocError, Global};
+use std::thread::Threads;
+use text_places::{Declared, Kind, Side, Text, declaration_of, name_at, written_type};
+
+/// A refused place: what is tried there, and what is declared around it.
+#[derive(Drop)]
+pub struct Scene<'a> {
+    pub trial: Trial<'a>,
+    pub text: Text<'a>,
+    pub declared: Vec<Declared>,
+    /// The types that the program declares, and that are tried.
+    pub types: Vec<String>,
+}
+
+/// A type of the language, and a comparison that only a value of this type passes.
+struct Sort {
+    name: &'static str,
+    test: &'static str,
+}
+
+pub const INTEGER: &str = "INTEGER";
+
+pub const CARDINAL: &str = "CARDINAL";
+
+/// The types that are tried, in this order.
+const SORTS: [Sort; 5] = [
+    Sort {
+        name: INTEGER,
+        test: "= MIN(INTEGER)",
+    },
+    Sort {
+        name: CARDINAL,
+        test: "= MIN(CARDINAL)",
+    },
+    Sort {
+        name: "BOOLEAN",
+        test: "= MIN(BOOLEAN)",
+    },
+    Sort {
+        name: "CHAR",
+        test: "= MIN(CHAR)",
+    },
+    Sort {
+        name: "BITSET",
+        test: "= {}",
+    },
+];
+
+/// What a side is called that is made of number literals alone. It fits both INTEGER and CARDINAL.
+const NUMBER: &str = "a number";
+
+/// What is said of an argument that no procedure may change.
+const NO_VARIABLE: &str = "no variable";
+
+/// How an open array of characters is written.
+const CHARACTERS: &str = "ARRAY OF CHAR";
+
+/// What is taken by value where characters are.
+const STRING: &str = "a string";
+
+/// What has characters and is not taken for an open array.
+const SHIFTED: &str = "an array of CHAR that does not begin at 0";
+
+impl Scene<'_> {
+    /// The variable or formal that a side is, if it is one that is declared in the text.
+    fn variable(&self, side: Side) -> Option<Declared> {
+        if !side.is_single() {
+            return None;
+        }
+        let name = name_at(self.text.tokens, side.from)?;
+        let found = declaration_of(self.text.tokens, &self.declared, name)?;
+        if found.kind == Kind::Variable {
+            Some(found)
+        } else {
+            None
+        }
+    }
+
+    /// The type of a side as the text has it, if the side is a variable that is declared there.
+    fn written_type(&self, alloc: Global, side: Side) -> Result<Option<String>, AllocError> {
+        let Some(variable) = self.variable(side) else {
+            return Ok(None);
+        };
+        Ok(Some(written_type(alloc, self.text, variable)?))
+    }
+
+    /// Whether a side passes a test.
+    fn passes<R: AllocGlobal + Threads + Sync>(
+        &self,
+        rt: &R,
+        side: Side,
+        test: Test<'_>,
+    ) -> Result<bool, BuildFault> {
+        self.trial.passes(rt, side.bytes(self.text), test)
+    }
+
+    /// The type of the language that a side's values have.
+    fn sort<R: AllocGlobal + Threads + Sync>(
+        &self,
+        rt: &R,
+        side: Side,
+    ) -> Result<Option<&'static str>, BuildFault> {
+        let mut found = None;
+        for sort in &SORTS {
+            if self.passes(rt, side, Test::Compared(sort.test))? {
+                found = Some(if found.is_some() { NUMBER } else { sort.name });
+            }
+        }
+        Ok(found)
+    }
+
+    /// The type of the language that a variable has.
+    fn exact_sort<R: AllocGlobal + Threads + Sync>(
+        &self,
+        rt: &R,
+        side: Side,
+    ) -> Result<Option<&'static str>, BuildFault> {
+        for sort in &SORTS {
+            if self.passes(rt, side, Test::Changed(sort.name))? {
+                return Ok(Some(sort.name));
+            }
+        }
+        Ok(None)
+    }
+
+    /// The first of the program's types that a side has.
+    fn named_type<R: AllocGlobal + Threads + Sync>(
+        &self,
+        rt: &R,
+        side: Side,
+        is_exact: bool,
+    ) -> Result<Option<&str>, BuildFault> {
+        for name in &self.types {
+            let of = name.as_str();
+            let test = if is_exact {
+                Test::Changed(of)
+            } else {
+                Test::Taken(of)
+            };
+            if self.passes(rt, side, test)? {
+                return Ok(Some(of));
+            }
+        }
+        Ok(None)
+    }
+
+    /// What a side is if it is made of characters.
+    fn characters<R: AllocGlobal + Threads + Sync>(
+        &self,
+        rt: &R,
+        side: Side,
+    ) -> Result<Option<&'static str>, BuildFault> {
+        if self.passes(rt, side, Test::Changed(CHARACTERS))? {
+            return Ok(Some(CHARACTERS));
+        }
+        if self.passes(rt, side, Test::Taken(CHARACTERS))? {
+            return Ok(Some(STRING));
+        }
+        if self.passes(rt, side, Test::Elements("CHAR"))? {
+            return Ok(Some(SHIFTED));
+        }
+        Ok(None)
+    }
+
+    /// What a side is that has no type of the language.
+    fn other<R: AllocGlobal + Threads + Sync>(
+        &self,
+        rt: &R,
+        side: Side,
+        is_exact: bool,
+    ) -> Result<Option<String>, BuildFault> {
+        if let Some(name) = self.named_type(rt, side, is_exact)? {
+            return Ok(Some(String::from_str(rt.alloc(), name)?));
+        }
+        owned(rt.alloc(), self.characters(rt, side)?)
+    }
+
+    /// What an operand or a side of an assignment is.
+    pub fn operand<R: AllocGlobal + Threads + Sync>(
+        &self,
+        rt: &R,
+        side: Side,
+    ) -> Result<Option<String>, BuildFault> {
+        if let Some(name) = self.sort(rt, side)? {
+            return owned(rt.alloc(), Some(name));
+        }
+        if let Some(words) = self.written_type(rt.alloc(), side)? {
+            return Ok(Some(words));
+        }
+        self.other(rt, side, false)
+    }
+
+    /// What an argument is that is passed by value.
+    pub fn value<R: AllocGlobal + Threads + Sync>(
+        &self,
+        rt: &R,
+        side: Side,
+    ) -> Result<Option<String>, BuildFault> {
+        if let Some(words) = self.written_type(rt.alloc(), side)? {
+            return Ok(Some(words));
+        }
+        if let Some(name) = self.sort(rt, side)? {
+            return owned(rt.alloc(), Some(name));
+        }
+        self.other(rt, side, false)
+    }
+
+    /// What an argument is if a variable is needed.
+    pub fn changed<R: AllocGlobal + Threads + Sync>(
+        &self,
+        rt: &R,
+        side: Side,
+    ) -> Result<Option<String>, BuildFault> {
+        if let Some(words) = self.written_type(rt.alloc(), side)? {
+            return Ok(Some(words));
+        }
+        if !self.passes(rt, side, Test::Assigned)? {
+            return owned(rt.alloc(), Some(NO_VARIABLE));
+        }
+        if let Some(name) = self.exact_sort(rt, side)? {
+            return owned(rt.alloc(), Some(name));
+        }
+        self.other(rt, side, true)
+    }
+}
+
+/// Words in memory of their own.
+fn owned(alloc: Global, words: Option<&str>) -> Result<Option<String>, BuildFault> {
+    match words {
+        Some(words) => Ok(Some(String::from_str(alloc, words)?)),
+        None => Ok(None),
+    }
+}

@@ -1,0 +1,27 @@
+//! Texts in which each statement is marked.
+
+use crate::lines::part;
+use crate::statements::{Statement, statements_of};
+use std::alloc::{AllocError, Global};
+
+/// A statement that does nothing. Its code is told in `merge`.
+const MARK: &[u8] = b"IF 1 = 2 THEN IF 2 = 1 THEN END END; ";
+
+/// A text with a mark in front of each of these statements.
+fn with_marks(alloc: Global, text: &[u8], statements: &[Statement]) -> Result<Vec<u8>, AllocError> {
+    let mut marked = Vec::new(alloc);
+    let mut done = 0;
+    for statement in statements {
+        marked.extend_from_slice(part(text, done, statement.offset))?;
+        marked.extend_from_slice(MARK)?;
+        done = statement.offset;
+    }
+    marked.extend_from_slice(part(text, done, text.len()))?;
+    Ok(marked)
+}
+
+/// A text with a mark in front of each of its statements. The only error is that memory ran out.
+pub fn marked_text(alloc: Global, text: &[u8]) -> Result<Vec<u8>, AllocError> {
+    let statements = statements_of(alloc, text)?;
+    with_marks(alloc, text, &statements.all)
+}

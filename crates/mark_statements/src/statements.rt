@@ -1,0 +1,271 @@
+//! The statements of a text, found by its tokens.
+
+use crate::lines::{Lines, part};
+use indexmap::IndexMap;
+use m2_tree::{Lexeme, Pos, Symbol, Token};
+use scan_tokens::{ScanError, scan};
+use std::alloc::{AllocError, Global};
+
+/// The most bytes of a statement that are shown.
+const MOST_SHOWN: usize = 60;
+
+/// What stands behind a statement that is shown in part.
+const AND_MORE: &[u8] = b" ..";
+
+/// A statement, as it is shown.
+#[derive(Drop)]
+pub struct Statement {
+    /// The place of its first token, and the byte in front of which it stands.
+    pub pos: Pos,
+    pub offset: usize,
+    /// Its words up to the first statement inside of it.
+    pub words: Vec<u8>,
+}
+
+/// The statements of a procedure: the number of the first, and of the one behind the last.
+#[derive(Clone, Copy)]
+struct Range {
+    from: usize,
+    to: usize,
+}
+
+/// The statements of a text in their order.
+#[derive(Drop)]
+pub struct Statements {
+    pub all: Vec<Statement>,
+    /// Those of each procedure, and of the module, by the place of the name.
+    ranges: IndexMap<u64, Range>,
+}
+
+/// A place as one number.
+fn key_of(pos: Pos) -> u64 {
+    (u64::from(pos.line) << 32) | u64::from(pos.col)
+}
+
+impl Statements {
+    /// The statements of the procedure or the module whose name stands at a place.
+    pub fn of_name(&self, pos: Pos) -> &[Statement] {
+        let Some(range) = self.ranges.get(&key_of(pos)) else {
+            return &[];
+        };
+        let front = &self.all[..range.to.min(self.all.len())];
+        &front[range.from.min(front.len())..]
+    }
+}
+
+/// A walk over the tokens of a text.
+#[derive(Drop)]
+struct Walk<'a> {
+    alloc: Global,
+    text: &'a [u8],
+    lines: Lines<'a>,
+    statements: Statements,
+    /// The places of the names of the module and of the procedures that are open.
+    names: Vec<Pos>,
+    /// Whether statements stand here, and the number of the first of the innermost procedure.
+    is_body: bool,
+    first: usize,
+    /// The place of the statement that has begun.
+    begun: Option<Pos>,
+}
+
+/// Whether a statement may begin behind this.
+fn may_begin(before: Option<Symbol>) -> bool {
+    matches!(
+        before,
+        Some(
+            Symbol::Begin
+                | Symbol::Semicolon
+                | Symbol::Then
+                | Symbol::Else
+                | Symbol::Do
+                | Symbol::Loop
+                | Symbol::Repeat
+                | Symbol::Colon
+        )
+    )
+}
+
+/// Whether a statement begins with this.
+fn begins_statement(lexeme: &Lexeme) -> bool {
+    match lexeme {
+        Lexeme::Name(_) => true,
+        Lexeme::Symbol(symbol) => matches!(
+            symbol,
+            Symbol::If
+                | Symbol::Case
+                | Symbol::While
+                | Symbol::Repeat
+                | Symbol::Loop
+                | Symbol::Exit
+                | Symbol::Return
+                | Symbol::For
+                | Symbol::With
+        ),
+        Lexeme::Number(_) | Lexeme::Char(_) | Lexeme::Text(_) | Lexeme::End => false,
+    }
+}
+
+/// Whether the words of a statement end in front of this symbol.
+fn ends_before(symbol: Symbol) -> bool {
+    matches!(
+        symbol,
+        Symbol::Semicolon | Symbol::End | Symbol::Else | Symbol::Elsif | Symbol::Until | Symbol::Bar
+    )
+}
+
+/// How many bytes of this symbol belong to the words of the statement that ends with it, if it ends with it.
+fn bytes_at_end(symbol: Symbol) -> Option<usize> {
+    match symbol {
+        Symbol::Do | Symbol::Of => Some(2),
+        Symbol::Then | Symbol::Loop => Some(4),
+        Symbol::Repeat => Some(6),
+        _ => None,
+    }
+}
+
+/// Whether a byte is a space of the language.
+fn is_space(byte: u8) -> bool {
+    matches!(byte, b' ' | b'\t' | b'\n' | b'\r')
+}
+
+/// A byte as it is shown.
+fn shown(byte: u8) -> u8 {
+    match byte {
+        b'!'..=b'~' => byte,
+        _ => b'?',
+    }
+}
+
+/// Bytes as they are shown: with one blank for the spaces between two others, and at most 60 of them.
+fn shortened(alloc: Global, bytes: &[u8]) -> Result<Vec<u8>, AllocError> {
+    let mut all = Vec::new(alloc);
+    let mut is_blank = false;
+    for byte in bytes {
+        if is_space(*byte) {
+            is_blank = !all.is_empty();
+        } else {
+            if all.len() >= MOST_SHOWN {
+                all.extend_from_slice(AND_MORE)?;
+                return Ok(all);
+            }
+            if is_blank {
+                all.push(b' ')?;
+                is_blank = false;
+            }
+            all.push(shown(*byte))?;
+        }
+    }
+    Ok(all)
+}
+
+impl Walk<'_> {
+    /// The statement that has begun ends in front of a byte.
+    fn end_statement(&mut self, to: usize) -> Result<(), AllocError> {
+        if let Some(pos) = self.begun {
+            let offset = self.lines.offset(pos);
+            let words = shortened(self.alloc, part(self.text, offset, to))?;
+            self.statements.all.push(Statement { pos, offset, words })?;
+            self.begun = None;
+        }
+        Ok(())
+    }
+
+    /// The end of a procedure or of the module.
+    fn close(&mut self) -> Result<(), AllocError> {
+        self.is_body = false;
+        if let Some(pos) = self.names.pop() {
+            let range = Range {
+                from: self.first,
+                to: self.statements.all.len(),
+            };
+            self.statements.ranges.insert(key_of(pos), range)?;
+        }
+        self.first = self.statements.all.len();
+        Ok(())
+    }
+
+    /// A name behind this symbol.
+    fn pass_name(&mut self, pos: Pos, before: Option<Symbol>) -> Result<(), AllocError> {
+        match before {
+            Some(Symbol::Procedure | Symbol::Module) => {
+                self.names.push(pos)?;
+                Ok(())
+            }
+            Some(Symbol::End) => self.close(),
+            _ => Ok(()),
+        }
+    }
+
+    /// A symbol at this place.
+    fn pass_symbol(&mut self, symbol: Symbol, pos: Pos) -> Result<(), AllocError> {
+        if symbol == Symbol::Begin {
+            self.is_body = true;
+            self.first = self.statements.all.len();
+        }
+        let offset = self.lines.offset(pos);
+        match bytes_at_end(symbol) {
+            Some(more) => self.end_statement(offset.saturating_add(more)),
+            None => {
+                if ends_before(symbol) {
+                    self.end_statement(offset)
+                } else {
+                    Ok(())
+                }
+            }
+        }
+    }
+
+    /// A token behind this symbol.
+    fn pass(&mut self, token: &Token, before: Option<Symbol>) -> Result<(), AllocError> {
+        if self.is_body && may_begin(before) && begins_statement(&token.lexeme) {
+            self.begun = Some(token.pos);
+        }
+        match &token.lexeme {
+            Lexeme::Name(_) => self.pass_name(token.pos, before),
+            Lexeme::Symbol(symbol) => self.pass_symbol(*symbol, token.pos),
+            Lexeme::Number(_) | Lexeme::Char(_) | Lexeme::Text(_) | Lexeme::End => Ok(()),
+        }
+    }
+}
+
+/// The symbol of a token.
+fn symbol_of(token: &Token) -> Option<Symbol> {
+    match &token.lexeme {
+        Lexeme::Symbol(symbol) => Some(*symbol),
+        _ => None,
+    }
+}
+
+/// The statements of a text with these tokens.
+fn statements_in(alloc: Global, text: &[u8], tokens: &[Token]) -> Result<Statements, AllocError> {
+    let mut walk = Walk {
+        alloc,
+        text,
+        lines: Lines::of(alloc, text)?,
+        statements: Statements {
+            all: Vec::new(alloc),
+            ranges: IndexMap::new(alloc),
+        },
+        names: Vec::new(alloc),
+        is_body: false,
+        first: 0,
+        begun: None,
+    };
+    let mut before = None;
+    for token in tokens {
+        walk.pass(token, before)?;
+        before = symbol_of(token);
+    }
+    let Walk { statements, .. } = walk;
+    Ok(statements)
+}
+
+/// The statements of a text that is a module, and none of one that has no tokens. The only error is that memory ran out.
+pub fn statements_of(alloc: Global, text: &[u8]) -> Result<Statements, AllocError> {
+    match scan(alloc, text) {
+        Ok(tokens) => statements_in(alloc, text, &tokens),
+        Err(ScanError::Refused(_)) => statements_in(alloc, text, &[]),
+        Err(ScanError::NoMemory) => Err(AllocError),
+    }
+}
