@@ -176,7 +176,7 @@ impl Scene<'_> {
         if let Some(name) = self.named_type(rt, side, is_exact)? {
             return Ok(Some(String::from_str(rt.alloc(), name)?));
         }
-        owned(rt.alloc(), self.characters(rt, side)?)
+        copy_words(rt.alloc(), self.characters(rt, side)?)
     }
 
     /// What an operand or a side of an assignment is.
@@ -186,7 +186,7 @@ impl Scene<'_> {
         side: Side,
     ) -> Result<Option<String>, BuildFault> {
         if let Some(name) = self.sort(rt, side)? {
-            return owned(rt.alloc(), Some(name));
+            return copy_words(rt.alloc(), Some(name));
         }
         if let Some(words) = self.written_type(rt.alloc(), side)? {
             return Ok(Some(words));
@@ -204,7 +204,7 @@ impl Scene<'_> {
             return Ok(Some(words));
         }
         if let Some(name) = self.sort(rt, side)? {
-            return owned(rt.alloc(), Some(name));
+            return copy_words(rt.alloc(), Some(name));
         }
         self.other(rt, side, false)
     }
@@ -219,17 +219,17 @@ impl Scene<'_> {
             return Ok(Some(words));
         }
         if !self.passes(rt, side, Test::Assigned)? {
-            return owned(rt.alloc(), Some(NO_VARIABLE));
+            return copy_words(rt.alloc(), Some(NO_VARIABLE));
         }
         if let Some(name) = self.exact_sort(rt, side)? {
-            return owned(rt.alloc(), Some(name));
+            return copy_words(rt.alloc(), Some(name));
         }
         self.other(rt, side, true)
     }
 }
 
 /// Words in memory of their own.
-fn owned(alloc: Global, words: Option<&str>) -> Result<Option<String>, BuildFault> {
+fn copy_words(alloc: Global, words: Option<&str>) -> Result<Option<String>, BuildFault> {
     match words {
         Some(words) => Ok(Some(String::from_str(alloc, words)?)),
         None => Ok(None),

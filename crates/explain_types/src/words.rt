@@ -73,7 +73,7 @@ fn words_of_sides<R: AllocGlobal + Threads + Sync>(
 }
 
 /// What is wanted, and what is given, as far as both are known.
-fn joined(
+fn join_words(
     alloc: Global,
     wanted: Option<String>,
     given: Option<String>,
@@ -106,7 +106,7 @@ fn words_of_argument<R: AllocGlobal + Threads + Sync>(
     } else {
         scene.value(rt, side)?
     };
-    Ok(joined(alloc, wanted, given)?)
+    Ok(join_words(alloc, wanted, given)?)
 }
 
 /// How many arguments a call is to have, and how many it has.

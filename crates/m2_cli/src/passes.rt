@@ -90,7 +90,7 @@ fn text_of<R: Files + Eprint + AllocGlobal>(rt: &R, path: &str) -> Words<Vec<u8>
 }
 
 /// The names of files with their texts.
-fn named(alloc: Global, files: &[SourceFile]) -> Result<Vec<File<'_>>, AllocError> {
+fn named_files(alloc: Global, files: &[SourceFile]) -> Result<Vec<File<'_>>, AllocError> {
     let mut all = Vec::new(alloc);
     for file in files {
         all.push((file.name.as_str(), file.bytes.as_slice()))?;
@@ -131,7 +131,7 @@ where
     R: AllocGlobal + Threads + Sync,
 {
     let alloc = rt.alloc();
-    let files = named(alloc, &built.files)?;
+    let files = named_files(alloc, &built.files)?;
     let marked = marked_modules(rt, options, &built.files)?;
     Ok(show_program(alloc, &files, &built.link, &built.others, &marked)?)
 }

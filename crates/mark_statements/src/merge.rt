@@ -119,7 +119,7 @@ fn in_order<'a>(
 }
 
 /// Both codes put together, if they are alike.
-fn merged(
+fn merge_codes(
     alloc: Global,
     code: &Lines<'_>,
     marked: &Lines<'_>,
@@ -158,7 +158,7 @@ pub fn with_statements(
     places: &[Pos],
 ) -> Result<Option<Vec<u8>>, AllocError> {
     let ordered = in_order(alloc, statements, places)?;
-    merged(
+    merge_codes(
         alloc,
         &Lines::of(alloc, code)?,
         &Lines::of(alloc, marked)?,

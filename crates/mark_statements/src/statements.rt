@@ -138,7 +138,7 @@ fn shown(byte: u8) -> u8 {
 }
 
 /// Bytes as they are shown: with one blank for the spaces between two others, and at most 60 of them.
-fn shortened(alloc: Global, bytes: &[u8]) -> Result<Vec<u8>, AllocError> {
+fn shorten(alloc: Global, bytes: &[u8]) -> Result<Vec<u8>, AllocError> {
     let mut all = Vec::new(alloc);
     let mut is_blank = false;
     for byte in bytes {
@@ -164,7 +164,7 @@ impl Walk<'_> {
     fn end_statement(&mut self, to: usize) -> Result<(), AllocError> {
         if let Some(pos) = self.begun {
             let offset = self.lines.offset(pos);
-            let words = shortened(self.alloc, part(self.text, offset, to))?;
+            let words = shorten(self.alloc, part(self.text, offset, to))?;
             self.statements.all.push(Statement { pos, offset, words })?;
             self.begun = None;
         }

@@ -105,7 +105,7 @@ fn code_of(alloc: Global, titles: &[Vec<u8>], bytes: &[u8]) -> Result<Vec<u8>, W
 }
 
 /// The code of a module with its statements beside it, if it is the marked code but for its marks.
-fn explained(
+fn explain_code(
     alloc: Global,
     titles: &Titles,
     statements: &Statements,
@@ -148,7 +148,7 @@ fn put_one(
     let titles = trees.titles(alloc, body, name)?;
     let code = code_of(alloc, &titles.titles, &module.1)?;
     let code = match marked {
-        Some(marked) => explained(alloc, &titles, &body.statements, code, &marked.1)?,
+        Some(marked) => explain_code(alloc, &titles, &body.statements, code, &marked.1)?,
         None => code,
     };
     put_named(page, name, &code)?;

@@ -42,7 +42,7 @@ fn is_space(byte: u8) -> bool {
 }
 
 /// Bytes as they are shown: with one blank for the spaces between two others, and at most 60 of them.
-fn shortened(alloc: Global, bytes: &[u8]) -> Result<Vec<u8>, AllocError> {
+fn shorten(alloc: Global, bytes: &[u8]) -> Result<Vec<u8>, AllocError> {
     let mut all = Vec::new(alloc);
     let mut is_blank = false;
     for byte in bytes {
@@ -71,6 +71,6 @@ pub fn excerpt(
     from: usize,
     to: usize,
 ) -> Result<String, AllocError> {
-    let bytes = shortened(alloc, bytes_between(text, tokens, from, to))?;
+    let bytes = shorten(alloc, bytes_between(text, tokens, from, to))?;
     String::from_utf8_lossy(alloc, &bytes)
 }
