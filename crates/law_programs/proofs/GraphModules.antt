@@ -63,16 +63,16 @@ module _ (fs : List (List ℕ × Module)) (files : List ℕ) (jobs : List (List 
   module _ (whole : list_all (λ m. fits_contents m.contents) (trees_of fs) ≡ true) (p : Program) (b : AreBodiesIn (trees_of fs) files jobs starts p) (w : AllByRecursion IsFit p) (pages : ℕ) (room : bytes_in p + 4096 ≤ 65536 * pages) (most : pages ≤ 1024) where
     pub are_modules : AreModules p
     are_modules place m e =
-       let there : IsThere m = all_there starts p b w place m e in
-       let known = graphs_coherent fs files jobs starts graph each fit p b place m e in
-       let frames = frames_have_room m there.fits.small in
-       record {
-         coherent = known.0;
-         well = there.well;
-         ranged = known.1.0;
-         room = frames.procedures;
-         room_locals = frames.locals;
-         outermost = there.nested.outermost;
-         inside = λ k d l. inside_of m _ (there.nested.inside k d l);
-         texts = texts_bytes fs files jobs starts graph each fit whole p b pages room most place m e;
-       }
+        let there : IsThere m = all_there starts p b w place m e in
+        let known = graphs_coherent fs files jobs starts graph each fit p b place m e in
+        let frames = frames_have_room m there.fits.small in
+        record {
+          coherent = known.0;
+          well = there.well;
+          ranged = known.1.0;
+          room = frames.procedures;
+          room_locals = frames.locals;
+          outermost = there.nested.outermost;
+          inside = λ k d l. inside_of m _ (there.nested.inside k d l);
+          texts = texts_bytes fs files jobs starts graph each fit whole p b pages room most place m e;
+        }
