@@ -20,4 +20,5 @@ pub mod Elements
 pub mod Constants
 pub mod Assigning
 pub mod Knowing
+pub mod Changing
 pub mod Acting

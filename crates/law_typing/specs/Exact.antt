@@ -51,7 +51,7 @@ use Rattle.def_typing.specs.Amounts.{Constant, Value}
 use Rattle.def_typing.specs.Operators.{◌!◌, Kind, Scalar, Set, Text, Routine, Procedure, Whole, Untaken}
 use Rattle.def_typing.specs.Things.{Thing, AValue, AVariable, AnOpenArray, AType, AProcedure, ANested, AStandard, AModule, Headless, Standing, Known, Ahead, Undeclared, NotExported, Unknown}
 use Rattle.def_typing.specs.Parts.{Operand, factors, addends}
-use Rattle.def_typing.specs.Expressions.{Denotes, Has, BrokenAsValue}
+use Rattle.def_typing.specs.Expressions.{Has, BrokenAsValue}
 use Rattle.law_typing.specs.Judging.{Judges, Answers}
 
 -- ---- what is elaborated
@@ -257,13 +257,12 @@ AssignmentsAreExact g j =
     (assigned g s.types (target_at g (head g d).fixed.at ((head g d).means s))
     (meant g e).fixed.at (value_of g s (meant g e)))
 
--- Calls as statements are answered exactly, if no standard procedure is called.
+-- Calls as statements are answered exactly.
 abbrev pub ActionsAreExact : (g : Gathers) → Judges g → Type 0
 ActionsAreExact g j =
     (names : Ident → Standing) (exports : ℕ → Ident → Standing) (s : Scope g.Reported)
     → Knows g j names exports s → (d : Designator) (args : List Expr)
     → ArePlainSelectors (out-Designator d).selectors → ArePlain args
-    → ((p : Standard) → Denotes s.types names exports d (AStandard p) → ⊥)
     → Answers g j (Repeats g j names s) {A = TypedStmt} {K = Unit {0}} (λ v u. Unit {0})
     (λ u. IsAction s.types names exports d args) (BrokenAction s.types names exports d args)
     (done_by g s (head g d) (map (meant g) args))

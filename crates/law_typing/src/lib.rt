@@ -1,5 +1,5 @@
 //! Laws alone: the checker answers expressions of bodies exactly as the rules of the language say, and so it does constant
-//! expressions, conditions, assignments, and calls of declared procedures that are statements.
+//! expressions, conditions, assignments, and calls that are statements.
 //!
 //! `def_typing` has the rules: what an expression has, and which rules are broken in it. These laws hold of the elaboration in
 //! `check_expr` and below, of all that it gathers and of the least refusal alike. They are not proved of all: what stands in
@@ -13,8 +13,8 @@
 //! - `proofs/Placing`, `proofs/Selecting` and `proofs/Passing` have values at places, names with components, and arguments.
 //! - `proofs/Fixing`, `proofs/Elements` and `proofs/Constants` have constant expressions.
 //! - `proofs/Calling` and `proofs/Routines` have calls, `proofs/Places` and `proofs/Finding` the layers of the tree,
-//!   `proofs/Expressing` the induction, `proofs/Assigning` conditions and assignments, `proofs/Acting` calls
-//!   that are statements, and `proofs/Knowing` the names of scopes.
+//!   `proofs/Expressing` the induction, `proofs/Assigning` conditions and assignments, `proofs/Changing` standard procedures
+//!   that are statements, `proofs/Acting` all calls that are, and `proofs/Knowing` the names of scopes.
 #![tactic(auto)]
 
 ghost use Rattle.check_scope.specs.Elaborated.{every, least};
@@ -47,7 +47,7 @@ pub fn assignment_laws()
     ensures least_rule { AssignmentsAreExact least the_least }
 {}
 
-/// The same of a call that is a statement, if no standard procedure is called.
+/// The same of a call that is a statement: of a declared procedure, or of INC, DEC, INCL, EXCL, HALT and Put.
 pub fn action_laws()
     ensures every_rule { ActionsAreExact every all_of_them }
     ensures least_rule { ActionsAreExact least the_least }
