@@ -8,3 +8,4 @@ pub mod Constants
 pub mod Expressions
 pub mod Assignments
 pub mod Actions
+pub mod Returns

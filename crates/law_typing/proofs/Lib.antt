@@ -22,3 +22,4 @@ pub mod Assigning
 pub mod Knowing
 pub mod Changing
 pub mod Acting
+pub mod Returning

@@ -1,5 +1,5 @@
 -- What is elaborated, and what it stands for.
-use Rattle.std.specs.Prelude.{◌≡◌, ℕ, List, [], ◌∷◌, Option, Some, None, Result, Ok, Err, slice_get, map}
+use Rattle.std.specs.Prelude.{◌≡◌, ◌⊎◌, ℕ, List, [], ◌∷◌, Option, Some, None, Result, Ok, Err, slice_get, map}
 use Rattle.m2_rule.specs.declared.rule.Rule.TheVariants as rule
 use Rattle.m2_tree.specs.declared.pos.Pos.{Pos}
 use Rattle.m2_tree.specs.declared.name.Ident.{Ident}
@@ -46,6 +46,9 @@ use Rattle.def_typing.specs.Constants.{AConstant, Fixes, BrokenAsConstant}
 use Rattle.check_expr.specs.Effects.{done_by}
 use Rattle.def_typing.specs.Actions.{IsAction, BrokenAction}
 use Rattle.def_typing.specs.Assignments.{Assigns, BrokenAssignment, IsCondition, BrokenCondition}
+use Rattle.check_stmt_parts.specs.declared.around.Around.{Around}
+use Rattle.check_stmt_parts.specs.Simple.{meant_if, exited, returned}
+use Rattle.def_typing.specs.Returns.{Giving, Nothing, AResult, AnyResult, Returns, BrokenReturn, IsExit, BrokenExit}
 use Rattle.check_expr.specs.Meanings.{meant, head, part, value_of}
 use Rattle.def_typing.specs.Amounts.{Constant, Value}
 use Rattle.def_typing.specs.Operators.{◌!◌, Kind, Scalar, Set, Text, Routine, Procedure, Whole, Untaken}
@@ -132,6 +135,20 @@ module _ (g : Gathers) (j : Judges g) where
         → looked_up g s name ≡ Err (meaningless.Headless r) → j.Among r f → Repeats names s f
     of_declaration : {name : Ident} {r : g.Reported} → names name ≡ Unknown
         → looked_up g s name ≡ Err (meaningless.Broken r) → j.Among r f → Repeats names s f
+
+  -- what is known of the result of the body that a statement stands in
+  pub data KnowsResult : Giving → Option (Result TypeNo g.Reported) → Type 0 where
+    knows_nothing : KnowsResult Nothing None
+    knows_type : (t : TypeNo) → KnowsResult (AResult t) (Some (Ok t))
+    knows_broken : (r : g.Reported) → KnowsResult AnyResult (Some (Err r))
+
+  -- what RETURN repeats of the heading
+  pub data InResult (f : Breach) : Option (Result TypeNo g.Reported) → Type 0 where
+    in_result : {r : g.Reported} → j.Among r f → InResult f (Some (Err r))
+
+  abbrev pub RepeatsResult : (names : Ident → Standing) → Scope g.Reported
+      → Option (Result TypeNo g.Reported) → Breach → Type 0
+  RepeatsResult names s result f = Repeats names s f ⊎ InResult f result
 
   -- An expression of a body that is taken as a value is answered exactly.
   abbrev pub IsExact : (names : Ident → Standing) → (exports : ℕ → Ident → Standing)
@@ -266,6 +283,24 @@ ActionsAreExact g j =
     → Answers g j (Repeats g j names s) {A = TypedStmt} {K = Unit {0}} (λ v u. Unit {0})
     (λ u. IsAction s.types names exports d args) (BrokenAction s.types names exports d args)
     (done_by g s (head g d) (map (meant g) args))
+
+-- RETURN is answered exactly.
+abbrev pub ReturnsAreExact : (g : Gathers) → Judges g → Type 0
+ReturnsAreExact g j =
+    (names : Ident → Standing) (exports : ℕ → Ident → Standing) (s : Scope g.Reported)
+    → Knows g j names exports s → (at : Pos) (w : Giving)
+    (result : Option (Result TypeNo g.Reported)) (e : Option Expr)
+    → KnowsResult g j w result → ((x : Expr) → e ≡ Some x → IsPlain x)
+    → Answers g j (RepeatsResult g j names s result) {A = TypedStmt} {K = Unit {0}} (λ v u. Unit {0})
+    (λ u. Returns s.types names exports w e) (BrokenReturn s.types names exports at w e)
+    (returned g s at result (meant_if g e))
+
+-- EXIT is answered exactly.
+abbrev pub ExitsAreExact : (g : Gathers) → Judges g → Type 0
+ExitsAreExact g j =
+    (at : Pos) (w : Around g.Reported)
+    → Answers g j (λ f. ⊥) {A = TypedStmt} {K = Unit {0}} (λ v u. Unit {0})
+    (λ u. IsExit w.in_loop) (BrokenExit at w.in_loop) (exited g at w)
 
 -- For each scope there are standings that it knows.
 abbrev pub ScopesAreKnown : (g : Gathers) → Judges g → Type 0
