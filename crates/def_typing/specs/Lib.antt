@@ -9,3 +9,4 @@ pub mod Expressions
 pub mod Assignments
 pub mod Actions
 pub mod Returns
+pub mod Loops

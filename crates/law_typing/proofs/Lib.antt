@@ -23,3 +23,4 @@ pub mod Knowing
 pub mod Changing
 pub mod Acting
 pub mod Returning
+pub mod Looping

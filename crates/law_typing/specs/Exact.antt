@@ -1,5 +1,5 @@
 -- What is elaborated, and what it stands for.
-use Rattle.std.specs.Prelude.{◌≡◌, ◌⊎◌, ℕ, List, [], ◌∷◌, Option, Some, None, Result, Ok, Err, slice_get, map}
+use Rattle.std.specs.Prelude.{◌≡◌, ◌⊎◌, ◌&&◌, ◌==◌, Bool, false, ℕ, List, [], ◌∷◌, Option, Some, None, Result, Ok, Err, slice_get, map}
 use Rattle.m2_rule.specs.declared.rule.Rule.TheVariants as rule
 use Rattle.m2_tree.specs.declared.pos.Pos.{Pos}
 use Rattle.m2_tree.specs.declared.name.Ident.{Ident}
@@ -49,6 +49,9 @@ use Rattle.def_typing.specs.Assignments.{Assigns, BrokenAssignment, IsCondition,
 use Rattle.check_stmt_parts.specs.declared.around.Around.{Around}
 use Rattle.check_stmt_parts.specs.Simple.{meant_if, exited, returned}
 use Rattle.def_typing.specs.Returns.{Giving, Nothing, AResult, AnyResult, Returns, BrokenReturn, IsExit, BrokenExit}
+use Rattle.check_stmt_parts.specs.declared.control.Course.{Course}
+use Rattle.check_stmt_parts.specs.Control.{is_own, course_of}
+use Rattle.def_typing.specs.Loops.{Runs, BrokenRun}
 use Rattle.check_expr.specs.Meanings.{meant, head, part, value_of}
 use Rattle.def_typing.specs.Amounts.{Constant, Value}
 use Rattle.def_typing.specs.Operators.{◌!◌, Kind, Scalar, Set, Text, Routine, Procedure, Whole, Untaken}
@@ -109,6 +112,12 @@ standing meaning.Ahead = Ahead
 standing (meaning.Standard f) = Known (AStandard f)
 standing (meaning.Module k) = Known (AModule k)
 
+-- the variables that the module declares, or the procedure itself
+abbrev pub is_own_variable : {T : Type 0} → Scope T → Meaning → Bool
+is_own_variable s (meaning.Variable v) = v.home == s.types.home
+is_own_variable s (meaning.Local v) = is_own v.kind && (v.level == s.level)
+is_own_variable s other = false
+
 module _ (g : Gathers) (j : Judges g) where
   -- what a name stands for, and what is looked up of it at a place
   pub data Sees (at : Pos) : Standing → Result Meaning (Meaningless g.Reported) → Type 0 where
@@ -149,6 +158,10 @@ module _ (g : Gathers) (j : Judges g) where
   abbrev pub RepeatsResult : (names : Ident → Standing) → Scope g.Reported
       → Option (Result TypeNo g.Reported) → Breach → Type 0
   RepeatsResult names s result f = Repeats names s f ⊎ InResult f result
+
+  abbrev pub KnowsOwn : (Ident → Bool) → Scope g.Reported → Type 0
+  KnowsOwn own s =
+      (name : Ident) (m : Meaning) → looked_up g s name ≡ Ok m → own name ≡ is_own_variable s m
 
   -- An expression of a body that is taken as a value is answered exactly.
   abbrev pub IsExact : (names : Ident → Standing) → (exports : ℕ → Ident → Standing)
@@ -301,6 +314,19 @@ ExitsAreExact g j =
     (at : Pos) (w : Around g.Reported)
     → Answers g j (λ f. ⊥) {A = TypedStmt} {K = Unit {0}} (λ v u. Unit {0})
     (λ u. IsExit w.in_loop) (BrokenExit at w.in_loop) (exited g at w)
+
+-- What stands before the statements of a FOR is answered exactly.
+abbrev pub RunsAreExact : (g : Gathers) → Judges g → Type 0
+RunsAreExact g j =
+    (names : Ident → Standing) (exports : ℕ → Ident → Standing) (own : Ident → Bool)
+    (s : Scope g.Reported)
+    → Knows g j names exports s → KnowsOwn g j own s
+    → (name : Ident) (start limit : Expr) (step : Option Expr)
+    → IsPlain start → IsPlain limit → ((e : Expr) → step ≡ Some e → IsCallFree e)
+    → Answers g j (Repeats g j names s) {A = Course} {K = Unit {0}} (λ v u. Unit {0})
+    (λ u. Runs s.types names exports own name start limit step)
+    (BrokenRun s.types names exports own name start limit step)
+    (course_of g s name (meant g start) (meant g limit) (meant_if g step))
 
 -- For each scope there are standings that it knows.
 abbrev pub ScopesAreKnown : (g : Gathers) → Judges g → Type 0
