@@ -10,3 +10,4 @@ pub mod Assignments
 pub mod Actions
 pub mod Returns
 pub mod Loops
+pub mod Statements

@@ -24,3 +24,4 @@ pub mod Changing
 pub mod Acting
 pub mod Returning
 pub mod Looping
+pub mod Obeying

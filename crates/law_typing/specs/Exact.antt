@@ -13,6 +13,9 @@ use Rattle.m2_tree.specs.declared.expr.Expr.TheOpen as layer
 use Rattle.m2_tree.specs.declared.expr.Selector.{Selector, out-Selector}
 use Rattle.m2_tree.specs.declared.expr.Designator.{Designator, out-Designator}
 use Rattle.m2_tree.specs.declared.expr.Item.{Item, out-Item}
+use Rattle.m2_tree.specs.declared.stmt.Stmt.{Stmt, out-Stmt}
+use Rattle.m2_tree.specs.declared.stmt.Rest.{Rest, out-Rest}
+use Rattle.m2_tree.specs.declared.stmt.Rest.TheOpen as step
 use Rattle.typed_tree.specs.declared.types.TypeNo.{TypeNo}
 use Rattle.typed_tree.specs.declared.computed.TypedExpr.{TypedExpr}
 use Rattle.typed_tree.specs.declared.computed.LocalProcedure.{LocalProcedure}
@@ -52,6 +55,8 @@ use Rattle.def_typing.specs.Returns.{Giving, Nothing, AResult, AnyResult, Return
 use Rattle.check_stmt_parts.specs.declared.control.Course.{Course}
 use Rattle.check_stmt_parts.specs.Control.{is_own, course_of}
 use Rattle.def_typing.specs.Loops.{Runs, BrokenRun}
+use Rattle.check_stmt.specs.Statements.{stmt}
+use Rattle.def_typing.specs.Statements.{arguments, Spot, Obeys, Broken}
 use Rattle.check_expr.specs.Meanings.{meant, head, part, value_of}
 use Rattle.def_typing.specs.Amounts.{Constant, Value}
 use Rattle.def_typing.specs.Operators.{◌!◌, Kind, Scalar, Set, Text, Routine, Procedure, Whole, Untaken}
@@ -251,6 +256,53 @@ mutual
         → out-Selector s ≡ layer.Index at x → IsPlain x → ArePlainSelectors ss
         → ArePlainSelectors (s ∷ ss)
 
+-- ---- statements of which this is known
+
+mutual
+  pub data IsPlainStmt : Stmt → Type 0 where
+    plain_assignment : {x : Stmt} {d : Designator} {e : Expr} → out-Stmt x ≡ step.Assign d e
+        → ArePlainSelectors (out-Designator d).selectors → IsPlain e → IsPlainStmt x
+    plain_action : {x : Stmt} {d : Designator} {args : Option (List Expr)}
+        → out-Stmt x ≡ step.Call d args → ArePlainSelectors (out-Designator d).selectors
+        → ArePlain (arguments args) → IsPlainStmt x
+    plain_if : {x : Stmt} {c : Expr} {body : List Stmt} {rest : Rest}
+        → out-Stmt x ≡ step.If c body rest → IsPlain c → ArePlainStmts body → IsPlainRest rest
+        → IsPlainStmt x
+    plain_while : {x : Stmt} {c : Expr} {body : List Stmt} → out-Stmt x ≡ step.While c body
+        → IsPlain c → ArePlainStmts body → IsPlainStmt x
+    plain_repeat : {x : Stmt} {body : List Stmt} {c : Expr} → out-Stmt x ≡ step.Repeat body c
+        → ArePlainStmts body → IsPlain c → IsPlainStmt x
+    plain_loop : {x : Stmt} {body : List Stmt} → out-Stmt x ≡ step.Loop body → ArePlainStmts body
+        → IsPlainStmt x
+    plain_exit : {x : Stmt} {at : Pos} → out-Stmt x ≡ step.Exit at → IsPlainStmt x
+    plain_return : {x : Stmt} {at : Pos} {e : Option Expr} → out-Stmt x ≡ step.Return at e
+        → ((v : Expr) → e ≡ Some v → IsPlain v) → IsPlainStmt x
+    plain_for : {x : Stmt} {name : Ident} {start limit : Expr} {by : Option Expr}
+        {body : List Stmt} → out-Stmt x ≡ step.For name start limit by body → IsPlain start
+        → IsPlain limit → ((v : Expr) → by ≡ Some v → IsCallFree v) → ArePlainStmts body
+        → IsPlainStmt x
+
+  pub data ArePlainStmts : List Stmt → Type 0 where
+    no_statement : ArePlainStmts []
+    one_statement : {x : Stmt} {xs : List Stmt} → IsPlainStmt x → ArePlainStmts xs
+        → ArePlainStmts (x ∷ xs)
+
+  pub data IsPlainRest : Rest → Type 0 where
+    plain_elsif : {r : Rest} {c : Expr} {body : List Stmt} {rest : Rest}
+        → out-Rest r ≡ step.Elsif c body rest → IsPlain c → ArePlainStmts body → IsPlainRest rest
+        → IsPlainRest r
+    plain_end : {r : Rest} → out-Rest r ≡ step.Else None → IsPlainRest r
+    plain_else : {r : Rest} {body : List Stmt} → out-Rest r ≡ step.Else (Some body)
+        → ArePlainStmts body → IsPlainRest r
+
+-- what is known of the spot at which a statement stands
+pub record KnowsSpot (g : Gathers) (j : Judges g) (exports : ℕ → Ident → Standing) (w : Spot)
+    (s : Scope g.Reported) (a : Around g.Reported) : Type 0 where
+  pub of_names : Knows g j w.names exports s
+  pub of_own : KnowsOwn g j w.own s
+  pub of_result : KnowsResult g j w.gives a.gives
+  pub of_loop : w.in_loop ≡ a.in_loop
+
 -- These expressions are answered exactly, whatever their names stand for.
 abbrev pub ExpressionsAreExact : (g : Gathers) → Judges g → Type 0
 ExpressionsAreExact g j =
@@ -328,8 +380,17 @@ RunsAreExact g j =
     (BrokenRun s.types names exports own name start limit step)
     (course_of g s name (meant g start) (meant g limit) (meant_if g step))
 
--- For each scope there are standings that it knows.
+-- Statements in which neither WITH nor CASE stands are answered exactly.
+abbrev pub StatementsAreExact : (g : Gathers) → Judges g → Type 0
+StatementsAreExact g j =
+    (exports : ℕ → Ident → Standing) (w : Spot) (s : Scope g.Reported) (a : Around g.Reported)
+    → KnowsSpot g j exports w s a → (x : Stmt) → IsPlainStmt x
+    → Answers g j (RepeatsResult g j w.names s a.gives) {A = TypedStmt} {K = Unit {0}} (λ v u. Unit {0})
+    (λ u. Obeys s.types exports w x) (Broken s.types exports w x) (stmt g x s a)
+
+-- For each scope there are standings that it knows, and variables that are own ones.
 abbrev pub ScopesAreKnown : (g : Gathers) → Judges g → Type 0
 ScopesAreKnown g j =
     (s : Scope g.Reported)
-    → (names : Ident → Standing) × (exports : ℕ → Ident → Standing) × Knows g j names exports s
+    → ((names : Ident → Standing) × (exports : ℕ → Ident → Standing) × Knows g j names exports s)
+    × ((own : Ident → Bool) × KnowsOwn g j own s)

@@ -19,7 +19,7 @@
 
 ghost use Rattle.check_scope.specs.Elaborated.{every, least};
 ghost use Rattle.law_typing.specs.Judging.{all_of_them, the_least};
-ghost use Rattle.law_typing.specs.Exact.{ExpressionsAreExact, ConstantsAreExact, ConditionsAreExact, AssignmentsAreExact, ActionsAreExact, ReturnsAreExact, ExitsAreExact, RunsAreExact, ScopesAreKnown};
+ghost use Rattle.law_typing.specs.Exact.{ExpressionsAreExact, ConstantsAreExact, ConditionsAreExact, AssignmentsAreExact, ActionsAreExact, ReturnsAreExact, ExitsAreExact, RunsAreExact, StatementsAreExact, ScopesAreKnown};
 
 /// An expression in whose braces nothing is called has a value exactly if no rule is broken in it, and the value stands for
 /// what the rules say that it has. Else all that is gathered are broken rules, here or in a declaration, and each that is
@@ -69,6 +69,12 @@ pub fn exit_laws()
 pub fn run_laws()
     ensures every_rule { RunsAreExact every all_of_them }
     ensures least_rule { RunsAreExact least the_least }
+{}
+
+/// The same of a statement, if neither WITH nor CASE stands in it.
+pub fn statement_laws()
+    ensures every_rule { StatementsAreExact every all_of_them }
+    ensures least_rule { StatementsAreExact least the_least }
 {}
 
 /// No scope lacks names that stand for what it knows of them, so the laws above speak of each.
