@@ -10,4 +10,5 @@ pub mod Assignments
 pub mod Actions
 pub mod Returns
 pub mod Loops
+pub mod Fields
 pub mod Statements

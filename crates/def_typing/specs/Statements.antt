@@ -1,18 +1,26 @@
--- Statements, and which rules are broken in them. WITH and CASE are not there yet.
-use Rattle.std.specs.Prelude.{ℕ, Bool, true, List, [], ◌∷◌, Option, Some, None}
+-- Statements, and which rules are broken in them. CASE is not there yet.
+use Rattle.std.specs.Prelude.{◌≡◌, ℕ, Bool, true, List, [], ◌∷◌, Option, Some, None}
 use Rattle.m2_rule.specs.declared.breach.Breach.{Breach}
 use Rattle.m2_tree.specs.declared.pos.Pos.{Pos}
 use Rattle.m2_tree.specs.declared.name.Ident.{Ident}
 use Rattle.m2_tree.specs.declared.expr.Expr.{Expr}
-use Rattle.m2_tree.specs.declared.expr.Designator.{Designator}
+use Rattle.m2_rule.specs.declared.rule.Rule.TheVariants as rule
+use Rattle.m2_tree.specs.declared.expr.Designator.{Designator, out-Designator}
 use Rattle.m2_tree.specs.declared.stmt.Stmt.{Stmt, Stmt-F, out-Stmt}
 use Rattle.m2_tree.specs.declared.stmt.Rest.{Rest, Rest-F, out-Rest}
 use Rattle.m2_tree.specs.declared.stmt.Rest.TheOpen as layer
 use Rattle.m2_tree.specs.declared.stmt.Arm.{Arm}
 use Rattle.typed_tree.specs.declared.known_types.Types.{Types}
-use Rattle.def_typing.specs.Things.{Standing}
+use Rattle.typed_tree.specs.declared.types.TypeNo.{TypeNo}
+use Rattle.typed_tree.specs.declared.shape.Shape.TheVariants as shape
+use Rattle.typed_tree.specs.Names.{found}
+use Rattle.def_typing.specs.Shapes.{IsMade}
+use Rattle.def_typing.specs.Operators.{◌!◌}
+use Rattle.def_typing.specs.Things.{Thing, AVariable, Standing}
 use Rattle.def_typing.specs.Parts.{Among}
-use Rattle.def_typing.specs.Assignments.{Assigns, BrokenAssignment, IsCondition, BrokenCondition}
+use Rattle.def_typing.specs.Assignments.{BrokenDesignator, Assigns, BrokenAssignment, IsCondition, BrokenCondition}
+use Rattle.def_typing.specs.Expressions.{Denotes}
+use Rattle.def_typing.specs.Fields.{field_or, own_or, LeadsToRecord}
 use Rattle.def_typing.specs.Actions.{IsAction, BrokenAction}
 use Rattle.def_typing.specs.Returns.{Giving, IsExit, BrokenExit, Returns, BrokenReturn}
 use Rattle.def_typing.specs.Loops.{Runs, BrokenRun}
@@ -35,6 +43,14 @@ pub record Spot : Type 0 where
 
 abbrev pub inside_loop : Spot → Spot
 inside_loop w = record w { in_loop = true }
+
+-- inside a WITH on a record with these fields
+abbrev pub inside_with : List (List ℕ × TypeNo) → Spot → Spot
+inside_with fields w =
+    record w {
+      names = λ name. field_or (found name.name fields) (w.names name);
+      own = λ name. own_or (found name.name fields) (w.own name);
+    }
 
 -- the types that are known, and what modules export
 module _ (types : Types) (exports : ℕ → Ident → Standing) where
@@ -60,6 +76,11 @@ module _ (types : Types) (exports : ℕ → Ident → Standing) where
       for_loop : {w : Spot} {name : Ident} {start limit : Expr} {step : Option Expr} {body : List Stmt}
           → Runs types w.names exports w.own name start limit step → AllObey w body
           → IsRight w (layer.For name start limit step body)
+      -- The fields of a record stand for themselves.
+      with_record : {w : Spot} {d : Designator} {body : List Stmt} {t : TypeNo}
+          {fields : List (List ℕ × TypeNo)} → Denotes types w.names exports d (AVariable t)
+          → IsMade types t (shape.Record fields) → AllObey (inside_with fields w) body
+          → IsRight w (layer.With d body)
 
     pub data AllObey : Spot → List Stmt → Type 0 where
       no_more : {w : Spot} → AllObey w []
@@ -115,6 +136,22 @@ module _ (types : Types) (exports : ℕ → Ident → Standing) where
       in_for : {w : Spot} {name : Ident} {start limit : Expr} {step : Option Expr} {body : List Stmt}
           {x : Stmt} {f : Breach} → Among x body → Broken w x f
           → Breaks w (layer.For name start limit step body) f
+      in_record : {w : Spot} {d : Designator} {body : List Stmt} {f : Breach}
+          → BrokenDesignator types w.names exports d f → Breaks w (layer.With d body) f
+      no_record : {w : Spot} {d : Designator} {body : List Stmt} {x : Thing}
+          → Denotes types w.names exports d x
+          → ((t : TypeNo) (fields : List (List ℕ × TypeNo)) → x ≡ AVariable t
+          → IsMade types t (shape.Record fields) → ⊥)
+          → Breaks w (layer.With d body) ((out-Designator d).name.pos ! rule.WrongType)
+      -- The statements are looked at, also if rules are broken in the designator.
+      in_with : {w : Spot} {d : Designator} {body : List Stmt} {t : TypeNo}
+          {fields : List (List ℕ × TypeNo)} {x : Stmt} {f : Breach}
+          → LeadsToRecord types exports w.names d t fields → Among x body
+          → Broken (inside_with fields w) x f → Breaks w (layer.With d body) f
+      behind_with : {w : Spot} {d : Designator} {body : List Stmt} {x : Stmt} {f : Breach}
+          → ((t : TypeNo) (fields : List (List ℕ × TypeNo))
+          → LeadsToRecord types exports w.names d t fields → ⊥)
+          → Among x body → Broken w x f → Breaks w (layer.With d body) f
 
     pub data RestBroken : Spot → Rest → Breach → Type 0 where
       rest_broken : {w : Spot} {r : Rest} {f : Breach} → RestBreaks w (out-Rest r) f

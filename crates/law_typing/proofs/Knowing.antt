@@ -23,7 +23,7 @@ abbrev export_by : Option Meaning → Standing
 export_by None = NotExported
 export_by (Some m) = standing m
 
-abbrev own_by : {R : Type 0} → Scope R → Result Meaning (Meaningless R) → Bool
+abbrev pub own_by : {R : Type 0} → Scope R → Result Meaning (Meaningless R) → Bool
 own_by s (Ok m) = is_own_variable s m
 own_by s (Err r) = false
 

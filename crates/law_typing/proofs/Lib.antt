@@ -24,4 +24,6 @@ pub mod Changing
 pub mod Acting
 pub mod Returning
 pub mod Looping
+pub mod Opening
+pub mod Inside
 pub mod Obeying

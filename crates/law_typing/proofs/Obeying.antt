@@ -6,6 +6,7 @@ use Rattle.m2_rule.specs.declared.breach.Breach.{Breach}
 use Rattle.m2_tree.specs.declared.pos.Pos.{Pos}
 use Rattle.m2_tree.specs.declared.name.Ident.{Ident}
 use Rattle.m2_tree.specs.declared.expr.Expr.{Expr}
+use Rattle.m2_tree.specs.declared.expr.Expr.TheOpen as expr_layer
 use Rattle.m2_tree.specs.declared.expr.Designator.{Designator, out-Designator}
 use Rattle.m2_tree.specs.declared.stmt.Stmt.{Stmt, Stmt-F, out-Stmt, map-Stmt, fold_out-Stmt}
 use Rattle.m2_tree.specs.declared.stmt.Rest.{Rest, Rest-F, out-Rest, map-Rest, fold_out-Rest}
@@ -16,28 +17,47 @@ use Rattle.typed_tree.specs.declared.computed.TypedExpr.{TypedExpr}
 use Rattle.typed_tree.specs.declared.statement.TypedStmt.{TypedStmt}
 use Rattle.typed_tree.specs.declared.statement.TypedStmt.TheVariants as typed
 use Rattle.check_scope.specs.declared.scope.Scope.{Scope}
-use Rattle.check_scope.specs.Elaborated.{Gathers, ◌▷◌}
+use Rattle.check_scope.specs.Elaborated.{Gathers, reported, reported_where, of_sort, ahead, ◌▷◌}
 use Rattle.check_expr.specs.Meanings.{meant, head}
 use Rattle.check_stmt_parts.specs.declared.around.Around.{Around}
 use Rattle.check_stmt_parts.specs.declared.control.Course.{Course}
-use Rattle.check_stmt_parts.specs.Simple.{in_loop, exited, condition}
+use Rattle.check_stmt_parts.specs.Lists.{within, reported_in}
+use Rattle.check_stmt_parts.specs.Simple.{in_loop, exited, condition, record_by, record_of, opened_type, opened, opened_if}
 use Rattle.check_stmt.specs.Statements.{Elaborates, ElaboratesRest, ElaboratesArm, with_stmt, all_of, stmt_layer, rest_layer, arm_layer, stmt, rest, arm}
 use Rattle.typed_tree.specs.declared.known_types.Types.{Types}
-use Rattle.def_typing.specs.Things.{Standing}
+use Rattle.typed_tree.specs.declared.computed.Place.{Place}
+use Rattle.typed_tree.specs.declared.shape.Shape.{Shape}
+use Rattle.typed_tree.specs.declared.shape.Shape.TheVariants as shape
+use Rattle.std.specs.Option.{is_some}
+use Rattle.std.specs.Prelude.{not}
+use Rattle.m2_rule.specs.declared.rule.Rule.TheVariants as rule
+use Rattle.check_scope.specs.declared.meaningless.Meaningless.{Meaningless}
+use Rattle.check_operator.specs.declared.computed.Designated.{Designated}
+use Rattle.def_typing.specs.Shapes.{shape_at, IsMade}
+use Rattle.def_typing.specs.Operators.{◌!◌}
+use Rattle.def_typing.specs.Expressions.{Denotes}
+use Rattle.def_typing.specs.Fields.{LeadsToRecord, leads}
+use Rattle.def_typing.specs.Things.{Thing, AVariable, Standing}
 use Rattle.def_typing.specs.Parts.{Among, here, later}
-use Rattle.def_typing.specs.Assignments.{Assigns, BrokenAssignment, IsCondition, BrokenCondition}
+use Rattle.def_typing.specs.Assignments.{BrokenDesignator, at_designator, in_designator, Assigns, BrokenAssignment, IsCondition, BrokenCondition}
 use Rattle.def_typing.specs.Actions.{IsAction, BrokenAction}
 use Rattle.def_typing.specs.Returns.{IsExit, BrokenExit, Returns, BrokenReturn}
 use Rattle.def_typing.specs.Loops.{Runs, BrokenRun}
 use Rattle.def_typing.specs.Statements as rules
-use Rattle.def_typing.specs.Statements.{arguments, Spot, inside_loop, Obeys, as_written, IsRight, assignment, call, choice, while_loop, repeat_loop, bare_loop, exit, return, for_loop, AllObey, no_more, one_more, RestObeys, rest_as_written, RestIsRight, elsif, no_else, an_else, Broken, broken_as_written, Breaks, RestBroken, rest_broken, RestBreaks}
+use Rattle.def_typing.specs.Statements.{arguments, Spot, inside_loop, Obeys, as_written, IsRight, assignment, call, choice, while_loop, repeat_loop, bare_loop, exit, return, for_loop, with_record, inside_with, AllObey, no_more, one_more, RestObeys, rest_as_written, RestIsRight, elsif, no_else, an_else, Broken, broken_as_written, Breaks, RestBroken, rest_broken, RestBreaks}
 use Rattle.law_typing.specs.Judging.{Judges, Answers, means, refuses}
-use Rattle.law_typing.specs.Exact.{RepeatsResult, KnowsSpot, IsPlain, ArePlain, ArePlainSelectors, IsPlainStmt, plain_assignment, plain_action, plain_if, plain_while, plain_repeat, plain_loop, plain_exit, plain_return, plain_for, ArePlainStmts, no_statement, one_statement, IsPlainRest, plain_elsif, plain_end, plain_else}
-use Rattle.law_typing.proofs.Combining.{Lawful, Checks, passes, stops, checks_as, both_checks, map_checks}
+use Rattle.law_typing.specs.Exact.{RepeatsResult, KnowsSpot, IsPlain, ArePlain, ArePlainSelectors, IsThing, thing_value, thing_variable, thing_open, thing_type, thing_procedure, thing_nested, thing_standard, thing_module, IsPlainStmt, plain_with, plain_assignment, plain_action, plain_if, plain_while, plain_repeat, plain_loop, plain_exit, plain_return, plain_for, ArePlainStmts, no_statement, one_statement, IsPlainRest, plain_elsif, plain_end, plain_else}
+use Rattle.law_typing.proofs.Combining.{Lawful, declined, Checks, passes, stops, checks_as, both_checks, map_checks, Tells, silent, tells, tells_as, refusal_tells, Finds, finds, finds_headless, finds_nothing, finds_as, sort_answers}
 use Rattle.law_typing.proofs.Elements.{checks_answer}
 use Rattle.law_typing.proofs.Assigning.{condition_answers, assignment_answers}
 use Rattle.law_typing.proofs.Acting.{action_answers}
 use Rattle.law_typing.proofs.Returning.{repeats_more, exit_answers, return_answers}
+use Rattle.law_typing.proofs.Places.{head_at}
+use Rattle.law_typing.proofs.Shaping.{fields_of, fields_is}
+use Rattle.law_typing.proofs.Finding.{InLayer}
+use Rattle.law_typing.proofs.Expressing.{designator_found}
+use Rattle.law_typing.proofs.Opening.{Opens, opens, opens_nothing, opened_is, denotes_record, one_record}
+use Rattle.law_typing.proofs.Inside.{repeats_inside, spot_inside}
 use Rattle.law_typing.proofs.Looping.{run_answers}
 
 -- ---- by layers
@@ -188,6 +208,37 @@ module _ (types : Types) (exports : ℕ → Ident → Standing) where
   no_else_out : {w : Spot} (f : Breach) → RestBreaks types exports w (layer.Else None) f → ⊥
   no_else_out f z = elim z [ ]
 
+  abbrev Inside : Spot → Designator → List Stmt → Breach → Type 0
+  Inside w d body f = ((t : TypeNo) × (fields : List (List ℕ × TypeNo)) × LeadsToRecord types exports w.names d t fields × AnyBroken (inside_with fields w) body f)
+      ⊎ (((t : TypeNo) (fields : List (List ℕ × TypeNo)) → LeadsToRecord types exports w.names d t fields → ⊥) × AnyBroken w body f)
+
+  abbrev RecordIs : Thing → TypeNo → Type 0
+  RecordIs x t = (fields : List (List ℕ × TypeNo)) × (x ≡ AVariable t) × IsMade types t (shape.Record fields)
+
+  abbrev NoRecord : Pos → Thing → Breach → Type 0
+  NoRecord at x f = ((t : TypeNo) (fields : List (List ℕ × TypeNo)) → x ≡ AVariable t → IsMade types t (shape.Record fields) → ⊥) × (f ≡ at ! rule.WrongType)
+
+  abbrev D : Spot → Designator → Thing → Type 0
+  D w = Denotes types w.names exports
+
+  abbrev WithFails : Spot → Designator → List Stmt → Breach → Type 0
+  WithFails w d body f = (BrokenDesignator types w.names exports d f ⊎ ((x : Thing) × D w d x × NoRecord (out-Designator d).name.pos x f)) ⊎ Inside w d body f
+
+  with_of_parts : {w : Spot} {d : Designator} {body : List Stmt} → Right w (layer.With d body) → (t : TypeNo) × (fields : List (List ℕ × TypeNo)) × D w d (AVariable t) × IsMade types t (shape.Record fields) × All (inside_with fields w) body
+  with_of_parts (with_record {t = t} {fields = fields} m q b) = (t, fields, m, q, b)
+
+  with_in : {w : Spot} {d : Designator} {body : List Stmt} (f : Breach) → WithFails w d body f → Wrong w (layer.With d body) f
+  with_in f (inl (inl b)) = rules.in_record b
+  with_in {w = w} {d = d} {body = body} f (inl (inr (x, m, (n, e)))) = subst (Wrong w (layer.With d body)) (sym e) (rules.no_record m n)
+  with_in f (inr (inl (t, fields, l, (x, m, b)))) = rules.in_with l m b
+  with_in f (inr (inr (n, (x, m, b)))) = rules.behind_with n m b
+
+  with_out : {w : Spot} {d : Designator} {body : List Stmt} (f : Breach) → Wrong w (layer.With d body) f → WithFails w d body f
+  with_out f (rules.in_record b) = inl (inl b)
+  with_out _ (rules.no_record {x = x} m n) = inl (inr (x, m, (n, refl)))
+  with_out f (rules.in_with {t = t} {fields = fields} {x = x} l m b) = inr (inl (t, fields, l, (x, m, b)))
+  with_out f (rules.behind_with {x = x} n m b) = inr (inr (n, (x, m, b)))
+
   -- by the layer
   obeys_out : {w : Spot} {x : Stmt} (y : Stmt-F Rest Stmt Arm) → out-Stmt x ≡ y → Obeys types exports w x → Right w y
   obeys_out {w = w} y h (as_written r) = subst (Right w) h r
@@ -268,6 +319,132 @@ module _ (g : Gathers) (j : Judges g) (lawful : Lawful g j) (exports : ℕ → I
     exit_layer k at = checks_as g j lawful (O w s a) (λ m. exit (subst IsExit (sym k.of_loop) m)) (λ m. subst IsExit k.of_loop (exit_of s.types exports m)) (λ f b. rules.at_exit (subst (λ (l : Bool). BrokenExit at l f) (sym k.of_loop) b)) (λ f b. subst (λ (l : Bool). BrokenExit at l f) k.of_loop (exit_out s.types exports f b))
         (unit_checks {M = λ u. IsExit a.in_loop} (λ f o. o) (exit_answers g j lawful (O w s a) at a))
 
+  -- what is repeated inside is repeated outside
+  more_checks : {A P : Type 0} {B Q U : Breach → Type 0} {r : Result A g.Reported} → ((f : Breach) → Q f → U f) → Checks g j lawful Q {A = A} P B r → Checks g j lawful U {A = A} P B r
+  more_checks h (passes a p n) = passes a p n
+  more_checks h (stops r c n) = stops r (record { only = λ f m. elim (c.only f m) [ inl b ↦ inl b | inr o ↦ inr (h f o) ]; each = c.each }) n
+
+  check_tells : {U : Breach → Type 0} {P : Type 0} {B : Breach → Type 0} {r : Result (List TypedStmt) g.Reported} → Checks g j lawful U {A = List TypedStmt} P B r → Tells g j lawful U B (reported_in r)
+  check_tells (passes a p n) = silent n
+  check_tells (stops r c n) = tells r c
+
+  module _ (w : Spot) (s : Scope g.Reported) (a : Around g.Reported) (k : Known w s a) (d : Designator) (body : List Stmt) where
+    abbrev U : Breach → Type 0
+    U = O w s a
+
+    abbrev Bodies : Type 0
+    Bodies = (v : Spot) (q : Scope g.Reported) → Known v q a → ListSo v q a body (all_of g q a (map (stmt g) body))
+
+    abbrev RecordSo : Thing → Result (TypeNo × Place) g.Reported → Type 0
+    RecordSo x r = Answers g j U (λ v t. v.0 ≡ t) (RecordIs s.types exports x) (NoRecord s.types exports (out-Designator d).name.pos x) r
+
+    no_record_there : {x : Thing} → ((t : TypeNo) (fields : List (List ℕ × TypeNo)) → x ≡ AVariable t → IsMade s.types t (shape.Record fields) → ⊥) → RecordSo x (reported g (out-Designator d).name.pos rule.WrongType)
+    no_record_there n = declined g j lawful U (out-Designator d).name.pos rule.WrongType (λ t m. n t m.0 m.1 m.2) (n, refl) (λ f z. z.1)
+
+    abbrev type_in : TypeNo → Thing → TypeNo
+    type_in t (AVariable u) = u
+    type_in t other = t
+
+    same_type : {t u : TypeNo} → AVariable t ≡ AVariable u → u ≡ t
+    same_type {t = t} e = sym (ap (type_in t) e)
+
+    not_record : (t : TypeNo) (z : Option Shape) → shape_at s.types t ≡ z → ((fs : List (List ℕ × TypeNo)) → z ≡ Some (shape.Record fs) → ⊥) → (u : TypeNo) (fields : List (List ℕ × TypeNo)) → AVariable t ≡ AVariable u → IsMade s.types u (shape.Record fields) → ⊥
+    not_record t z h n u fields e m = n fields (sym h ∙ subst (λ (v : TypeNo). IsMade s.types v (shape.Record fields)) (same_type e) m)
+
+    variable_record : (t : TypeNo) (p : Place) (z : Option Shape) → shape_at s.types t ≡ z → RecordSo (AVariable t) (reported_where g (not (is_some (fields_of z))) (out-Designator d).name.pos rule.WrongType (Ok (t, p)))
+    variable_record t p None h = no_record_there (not_record t None h (λ fs q. absurd cc))
+    variable_record t p (Some (shape.Record fs)) h = means (t, p) t refl (fs, refl, h) (λ u m. same_type m.1) (λ f z. z.0 t fs refl h)
+    variable_record t p (Some (shape.Scalar r)) h = no_record_there (not_record t _ h (λ fs q. absurd cc))
+    variable_record t p (Some shape.Set) h = no_record_there (not_record t _ h (λ fs q. absurd cc))
+    variable_record t p (Some (shape.Array i e)) h = no_record_there (not_record t _ h (λ fs q. absurd cc))
+    variable_record t p (Some (shape.Procedure q)) h = no_record_there (not_record t _ h (λ fs q. absurd cc))
+    variable_record t p (Some (shape.Open e)) h = no_record_there (not_record t _ h (λ fs q. absurd cc))
+
+    records : (c : Designated) (x : Thing) → IsThing c x → RecordSo x (record_by g s.types (out-Designator d).name.pos c)
+    records _ _ (thing_variable t p) = subst (λ (o : Option (List (List ℕ × TypeNo))). RecordSo (AVariable t) (reported_where g (not (is_some o)) (out-Designator d).name.pos rule.WrongType (Ok (t, p)))) (sym (fields_is s.types t)) (variable_record t p (shape_at s.types t) refl)
+    records _ _ (thing_value i) = no_record_there (λ t fs e m. absurd cc)
+    records _ _ (thing_open t p) = no_record_there (λ t fs e m. absurd cc)
+    records _ _ (thing_type t) = no_record_there (λ t fs e m. absurd cc)
+    records _ _ (thing_procedure p) = no_record_there (λ t fs e m. absurd cc)
+    records _ _ (thing_nested p) = no_record_there (λ t fs e m. absurd cc)
+    records _ _ (thing_standard p) = no_record_there (λ t fs e m. absurd cc)
+    records _ _ (thing_module n) = no_record_there (λ t fs e m. absurd cc)
+
+    abbrev RecordMeans : TypeNo → Type 0
+    RecordMeans t = (x : Thing) × D s.types exports w d x × RecordIs s.types exports x t
+
+    abbrev RecordFails : Breach → Type 0
+    RecordFails f = BrokenDesignator s.types w.names exports d f ⊎ ((x : Thing) × D s.types exports w d x × NoRecord s.types exports (out-Designator d).name.pos x f)
+
+    abbrev RecordAnswers : Result (TypeNo × Place) g.Reported → Type 0
+    RecordAnswers r = Answers g j U (λ v t. v.0 ≡ t) RecordMeans RecordFails r
+
+    designator_in : (f : Breach) → InLayer g j lawful w.names exports s (expr_layer.Use d None) f → BrokenDesignator s.types w.names exports d f
+    designator_in f (inl z) = at_designator z
+    designator_in f (inr (x, m, b)) = in_designator m b
+
+    designator_out : (f : Breach) → BrokenDesignator s.types w.names exports d f → InLayer g j lawful w.names exports s (expr_layer.Use d None) f
+    designator_out f (at_designator z) = inl z
+    designator_out f (in_designator {x = x} m b) = inr (x, m, b)
+
+    finds_more : {S : Thing → Type 0} {B Q : Breach → Type 0} {r : Result Designated (Meaningless g.Reported)} → ((f : Breach) → Q f → U f) → Finds g j lawful Q S B r → Finds g j lawful U S B r
+    finds_more h (finds v x i m u n) = finds v x i m u n
+    finds_more h (finds_headless r o m u n) = finds_headless r (λ f z. h f (o f z)) m u n
+    finds_more h (finds_nothing r c n) = finds_nothing r (record { only = λ f m. elim (c.only f m) [ inl b ↦ inl b | inr o ↦ inr (h f o) ]; each = c.each }) n
+
+    record_answers : ArePlainSelectors (out-Designator d).selectors → RecordAnswers (record_of g s (head g d))
+    record_answers i = subst (λ (at : Pos). RecordAnswers (of_sort g at rule.WrongType ((head g d).means s) ▷ record_by g s.types at)) (sym (head_at g d))
+        (sort_answers g j lawful U {N = RecordIs s.types exports} {D = NoRecord s.types exports (out-Designator d).name.pos} (out-Designator d).name.pos rule.WrongType
+        (finds_as g j lawful U (λ x m. m) (λ x m. m) designator_in designator_out (finds_more (λ f o. inl o) (designator_found g j lawful w.names exports s k.of_names d i))) records (no_record_there (λ t fs e m. absurd cc)))
+
+    -- the statements inside
+    abbrev Tell : Result (List TypedStmt) g.Reported → Type 0
+    Tell r = Tells g j lawful U (Inside s.types exports w d body) (reported_in r)
+
+    inside_checks : Bodies → (t : TypeNo) (fields : List (List ℕ × TypeNo)) → IsMade s.types t (shape.Record fields) → Checks g j lawful U {A = List TypedStmt} (AllObey s.types exports (inside_with fields w) body) (AnyBroken s.types exports (inside_with fields w) body) (all_of g (opened s t) a (map (stmt g) body))
+    inside_checks h t fields m = more_checks (λ f o. elim o [ inl z ↦ inl (repeats_inside g j s t fields m w.names exports w.own f z) | inr z ↦ inr z ]) (h (inside_with fields w) (opened s t) (spot_inside g j s t fields m k))
+
+    made_by : {t : TypeNo} {fields : List (List ℕ × TypeNo)} → LeadsToRecord s.types exports w.names d t fields → IsMade s.types t (shape.Record fields)
+    made_by (leads e l m) = m
+
+    same_record : {t u : TypeNo} {fs hs : List (List ℕ × TypeNo)} → LeadsToRecord s.types exports w.names d t fs → LeadsToRecord s.types exports w.names d u hs → hs ≡ fs
+    same_record {t = t} {u = u} l m = one_record g j lawful w.names exports s k.of_names t u l m
+
+    into_one : {t : TypeNo} {fields : List (List ℕ × TypeNo)} (f : Breach) → LeadsToRecord s.types exports w.names d t fields → Inside s.types exports w d body f → AnyBroken s.types exports (inside_with fields w) body f
+    into_one f l (inl (u, hs, m, b)) = subst (λ (fs : List (List ℕ × TypeNo)). AnyBroken s.types exports (inside_with fs w) body f) (same_record l m) b
+    into_one {t = t} {fields = fields} f l (inr (n, b)) = absurd (n t fields l)
+
+    into_none : (f : Breach) → ((t : TypeNo) (fields : List (List ℕ × TypeNo)) → LeadsToRecord s.types exports w.names d t fields → ⊥) → Inside s.types exports w d body f → AnyBroken s.types exports w body f
+    into_none f n (inl (u, hs, m, b)) = absurd (n u hs m)
+    into_none f n (inr (z, b)) = b
+
+    behind_tells : Bodies → {o : Option TypeNo} → Opens g j lawful w.names exports s k.of_names d o → Tell (all_of g (opened_if s o) a (map (stmt g) body))
+    behind_tells h (opens t fields l u) = tells_as g j lawful U (λ f b. inl (t, fields, l, b)) (λ f b. into_one f l b) (check_tells (inside_checks h t fields (made_by l)))
+    behind_tells h (opens_nothing n) = tells_as g j lawful U (λ f b. inr (n, b)) (λ f b. into_none f n b) (check_tells (h w s k))
+
+    none_right : ((t : TypeNo) → RecordMeans t → ⊥) → IsRight s.types exports w (layer.With d body) → ⊥
+    none_right n m = let q = with_of_parts s.types exports m in n q.0 (AVariable q.0, q.2, (q.1, refl, q.3))
+
+    right_body : {t : TypeNo} {fields : List (List ℕ × TypeNo)} → LeadsToRecord s.types exports w.names d t fields → IsRight s.types exports w (layer.With d body) → AllObey s.types exports (inside_with fields w) body
+    right_body l m = let q = with_of_parts s.types exports m in subst (λ (fs : List (List ℕ × TypeNo)). AllObey s.types exports (inside_with fs w) body) (same_record l (denotes_record g j lawful w.names exports s k.of_names q.2 q.3)) q.4
+
+    record_fits : {x : Thing} {t : TypeNo} → D s.types exports w d x → x ≡ AVariable t → D s.types exports w d (AVariable t)
+    record_fits {x = x} m e = subst (D s.types exports w d) e m
+
+    body_fails : {t : TypeNo} {fields : List (List ℕ × TypeNo)} (f : Breach) → LeadsToRecord s.types exports w.names d t fields → ((f : Breach) → RecordFails f → ⊥) → Breaks s.types exports w (layer.With d body) f → AnyBroken s.types exports (inside_with fields w) body f
+    body_fails f l n b = elim (with_out s.types exports f b) [ inl z ↦ absurd (n f z) | inr z ↦ into_one f l z ]
+
+    with_layer : Bodies → {r : Result (TypeNo × Place) g.Reported} → RecordAnswers r
+        → LayerSo w s a (layer.With d body) (ahead g r (reported_in (all_of g (opened_if s (opened_type g s d)) a (map (stmt g) body))) (λ v. within v.1 (all_of g (opened s v.0) a (map (stmt g) body))))
+    with_layer h (means v t i (x, m, (fields, e, q)) u n) = let there = record_fits m e in let l = denotes_record g j lawful w.names exports s k.of_names there q in
+        checks_as g j lawful U (λ b. with_record there q b) (right_body l) (λ f b. with_in s.types exports f (inr (inl (t, fields, l, b)))) (λ f b. body_fails f l n b)
+        (map_checks g j lawful U (λ (b : List TypedStmt). typed.With v.1 b) (subst (λ (z : TypeNo). Checks g j lawful U {A = List TypedStmt} (AllObey s.types exports (inside_with fields w) body) (AnyBroken s.types exports (inside_with fields w) body) (all_of g (opened s z) a (map (stmt g) body))) (sym i) (inside_checks h t fields q)))
+    with_layer h (refuses r c n) = checks_as g j lawful U {P = ⊥} (λ z. absurd z) (none_right n) (λ f b. with_in s.types exports f b) (λ f b. with_out s.types exports f b)
+        (unit_checks {M = λ u. ⊥} (λ f o. o) (refusal_tells g j lawful U {A = TypedStmt} {K = Unit {0}} {Is = λ v u. Unit {0}} c (λ u z. z) (behind_tells h (opened_is g j lawful w.names exports s k.of_names d))))
+
+    with_checks : ArePlainSelectors (out-Designator d).selectors → Bodies → LayerSo w s a (layer.With d body) (stmt_layer g (opened_stmt g (layer.With d body)) s a)
+    with_checks i h = with_layer h (record_answers i)
+
   looping : {w : Spot} {s : Scope g.Reported} {a : Around g.Reported} → Known w s a → Known (inside_loop w) s (in_loop a)
   looping k = record { of_names = k.of_names; of_own = k.of_own; of_result = k.of_result; of_loop = refl }
 
@@ -295,6 +472,8 @@ module _ (g : Gathers) (j : Judges g) (lawful : Lawful g j) (exports : ℕ → I
         (checks_as g j lawful (O w s a) (λ z. for_loop z.0 z.1) (for_of s.types exports) (for_in s.types exports) (for_out s.types exports)
         (map_checks g j lawful (O w s a) (λ (p : Course × List TypedStmt). typed.For p.0.control.place p.0.control.of p.0.start p.0.limit p.0.by p.1)
         (both_checks g j lawful (O w s a) (unit_checks {M = λ u. Runs s.types w.names exports w.own name start limit by} (λ f o. inl o) (run_answers g j lawful w.names exports w.own s k.of_names k.of_own name start limit by i q c)) (list_checks w s a _ (each_checks b w s a k)))))
+
+    stmt_checks (plain_with {d = d} {body = body} h i b) w s a k = by_layer w s a (layer.With d body) h (with_checks w s a k d body i (λ v q z. list_checks v q a _ (each_checks b v q a z)))
 
     each_checks : {xs : List Stmt} → ArePlainStmts xs → (w : Spot) (s : Scope g.Reported) (a : Around g.Reported) → Known w s a → (x : Stmt) → Among x xs → StmtSo w s a x (stmt g x s a)
     each_checks no_statement w s a k x m = elim m [ ]

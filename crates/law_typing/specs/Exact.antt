@@ -281,6 +281,8 @@ mutual
         {body : List Stmt} → out-Stmt x ≡ step.For name start limit by body → IsPlain start
         → IsPlain limit → ((v : Expr) → by ≡ Some v → IsCallFree v) → ArePlainStmts body
         → IsPlainStmt x
+    plain_with : {x : Stmt} {d : Designator} {body : List Stmt} → out-Stmt x ≡ step.With d body
+        → ArePlainSelectors (out-Designator d).selectors → ArePlainStmts body → IsPlainStmt x
 
   pub data ArePlainStmts : List Stmt → Type 0 where
     no_statement : ArePlainStmts []
@@ -380,7 +382,7 @@ RunsAreExact g j =
     (BrokenRun s.types names exports own name start limit step)
     (course_of g s name (meant g start) (meant g limit) (meant_if g step))
 
--- Statements in which neither WITH nor CASE stands are answered exactly.
+-- Statements in which no CASE stands are answered exactly.
 abbrev pub StatementsAreExact : (g : Gathers) → Judges g → Type 0
 StatementsAreExact g j =
     (exports : ℕ → Ident → Standing) (w : Spot) (s : Scope g.Reported) (a : Around g.Reported)

@@ -1,9 +1,10 @@
 //! Laws alone: the checker answers expressions of bodies exactly as the rules of the language say, and so it does constant
-//! expressions, conditions, assignments, and calls that are statements.
+//! expressions, conditions, and all statements but CASE.
 //!
 //! `def_typing` has the rules: what an expression has, and which rules are broken in it. These laws hold of the elaboration in
-//! `check_expr` and below, of all that it gathers and of the least refusal alike. They are not proved of all: what stands in
-//! braces calls nothing (`IsPlain`), and constant expressions call nothing (`IsCallFree`).
+//! `check_stmt` and below, of all that it gathers and of the least refusal alike. They are not proved of all: what stands in
+//! braces calls nothing (`IsPlain`), constant expressions call nothing (`IsCallFree`), and in statements no CASE stands
+//! (`IsPlainStmt`).
 //!
 //! - `specs/Judging` says what it is to answer exactly, and `specs/Exact` what is elaborated, when names stand for what a
 //!   scope knows of them, and what is proved.
@@ -15,6 +16,8 @@
 //! - `proofs/Calling` and `proofs/Routines` have calls, `proofs/Places` and `proofs/Finding` the layers of the tree,
 //!   `proofs/Expressing` the induction, `proofs/Assigning` conditions and assignments, `proofs/Changing` standard procedures
 //!   that are statements, `proofs/Acting` all calls that are, and `proofs/Knowing` the names of scopes.
+//! - `proofs/Returning` has RETURN and EXIT, `proofs/Looping` what stands before the statements of a FOR, `proofs/Opening` what
+//!   a WITH opens, `proofs/Inside` what is known inside, and `proofs/Obeying` the induction over statements.
 #![tactic(auto)]
 
 ghost use Rattle.check_scope.specs.Elaborated.{every, least};
@@ -71,7 +74,7 @@ pub fn run_laws()
     ensures least_rule { RunsAreExact least the_least }
 {}
 
-/// The same of a statement, if neither WITH nor CASE stands in it.
+/// The same of a statement, if no CASE stands in it.
 pub fn statement_laws()
     ensures every_rule { StatementsAreExact every all_of_them }
     ensures least_rule { StatementsAreExact least the_least }
