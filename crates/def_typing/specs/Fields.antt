@@ -9,7 +9,6 @@ use Rattle.m2_tree.specs.declared.expr.Designator.{Designator, out-Designator}
 use Rattle.typed_tree.specs.declared.types.TypeNo.{TypeNo}
 use Rattle.typed_tree.specs.declared.shape.Shape.TheVariants as shape
 use Rattle.typed_tree.specs.declared.known_types.Types.{Types}
-use Rattle.typed_tree.specs.Names.{found}
 use Rattle.def_typing.specs.Shapes.{IsMade}
 use Rattle.def_typing.specs.Things.{Thing, AVariable, Standing, Known, Picks, Indexes}
 

@@ -66,8 +66,9 @@ module _ (types : Types) (names : Ident → Standing) (exports : ℕ → Ident �
 
   pub data BrokenControl (name : Ident) : Breach → Type 0 where
     no_name : {f : Breach} → Misnamed name.pos (names name) f → BrokenControl name f
-    no_control : {x : Thing} → names name ≡ Known x
-        → ((t : TypeNo) (r : Range) → IsControl name t r → ⊥) → BrokenControl name (name.pos ! rule.WrongControl)
+    no_control :
+        {x : Thing} → names name ≡ Known x → ((t : TypeNo) (r : Range) → IsControl name t r → ⊥)
+        → BrokenControl name (name.pos ! rule.WrongControl)
 
   -- The step is 1 if it is left out.
   pub data HasStep : Option Expr → Type 0 where

@@ -63,18 +63,24 @@ module _ (types : Types) (exports : ℕ → Ident → Standing) where
           → IsRight w (layer.Assign d e)
       call : {w : Spot} {d : Designator} {args : Option (List Expr)}
           → IsAction types w.names exports d (arguments args) → IsRight w (layer.Call d args)
-      choice : {w : Spot} {c : Expr} {body : List Stmt} {rest : Rest} → IsCondition types w.names exports c
-          → AllObey w body → RestObeys w rest → IsRight w (layer.If c body rest)
+      choice : {w : Spot} {c : Expr} {body : List Stmt} {rest : Rest}
+          → IsCondition types w.names exports c
+          → AllObey w body
+          → RestObeys w rest
+          → IsRight w (layer.If c body rest)
       while_loop : {w : Spot} {c : Expr} {body : List Stmt} → IsCondition types w.names exports c
           → AllObey w body → IsRight w (layer.While c body)
       repeat_loop : {w : Spot} {body : List Stmt} {c : Expr} → AllObey w body
           → IsCondition types w.names exports c → IsRight w (layer.Repeat body c)
-      bare_loop : {w : Spot} {body : List Stmt} → AllObey (inside_loop w) body → IsRight w (layer.Loop body)
+      bare_loop : {w : Spot} {body : List Stmt} → AllObey (inside_loop w) body
+          → IsRight w (layer.Loop body)
       exit : {w : Spot} {at : Pos} → IsExit w.in_loop → IsRight w (layer.Exit at)
       return : {w : Spot} {at : Pos} {e : Option Expr} → Returns types w.names exports w.gives e
           → IsRight w (layer.Return at e)
-      for_loop : {w : Spot} {name : Ident} {start limit : Expr} {step : Option Expr} {body : List Stmt}
-          → Runs types w.names exports w.own name start limit step → AllObey w body
+      for_loop : {w : Spot} {name : Ident} {start limit : Expr} {step : Option Expr}
+          {body : List Stmt}
+          → Runs types w.names exports w.own name start limit step
+          → AllObey w body
           → IsRight w (layer.For name start limit step body)
       -- The fields of a record stand for themselves.
       with_record : {w : Spot} {d : Designator} {body : List Stmt} {t : TypeNo}
@@ -92,8 +98,10 @@ module _ (types : Types) (exports : ℕ → Ident → Standing) where
       rest_as_written : {w : Spot} {r : Rest} → RestIsRight w (out-Rest r) → RestObeys w r
 
     pub data RestIsRight : Spot → Rest-F Rest Stmt Arm → Type 0 where
-      elsif : {w : Spot} {c : Expr} {body : List Stmt} {rest : Rest} → IsCondition types w.names exports c
-          → AllObey w body → RestObeys w rest
+      elsif : {w : Spot} {c : Expr} {body : List Stmt} {rest : Rest}
+          → IsCondition types w.names exports c
+          → AllObey w body
+          → RestObeys w rest
           → RestIsRight w (layer.Elsif c body rest)
       no_else : {w : Spot} → RestIsRight w (layer.Else None)
       an_else : {w : Spot} {body : List Stmt} → AllObey w body
@@ -130,11 +138,14 @@ module _ (types : Types) (exports : ℕ → Ident → Standing) where
           → Breaks w (layer.Exit at) f
       in_return : {w : Spot} {at : Pos} {e : Option Expr} {f : Breach}
           → BrokenReturn types w.names exports at w.gives e f → Breaks w (layer.Return at e) f
-      at_for : {w : Spot} {name : Ident} {start limit : Expr} {step : Option Expr} {body : List Stmt}
-          {f : Breach} → BrokenRun types w.names exports w.own name start limit step f
+      at_for : {w : Spot} {name : Ident} {start limit : Expr} {step : Option Expr}
+          {body : List Stmt} {f : Breach}
+          → BrokenRun types w.names exports w.own name start limit step f
           → Breaks w (layer.For name start limit step body) f
-      in_for : {w : Spot} {name : Ident} {start limit : Expr} {step : Option Expr} {body : List Stmt}
-          {x : Stmt} {f : Breach} → Among x body → Broken w x f
+      in_for : {w : Spot} {name : Ident} {start limit : Expr} {step : Option Expr}
+          {body : List Stmt} {x : Stmt} {f : Breach}
+          → Among x body
+          → Broken w x f
           → Breaks w (layer.For name start limit step body) f
       in_record : {w : Spot} {d : Designator} {body : List Stmt} {f : Breach}
           → BrokenDesignator types w.names exports d f → Breaks w (layer.With d body) f

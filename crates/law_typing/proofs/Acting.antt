@@ -4,7 +4,6 @@ use Rattle.std.specs.Prelude.{map, ◌==◌}
 use Rattle.std.proofs.lemmas.List.{length-map}
 use Rattle.std.proofs.lemmas.Bool.Decides.{nat_tests}
 use Rattle.m2_rule.specs.declared.breach.Breach.{Breach}
-use Rattle.m2_rule.specs.declared.rule.Rule.{Rule}
 use Rattle.m2_rule.specs.declared.rule.Rule.TheVariants as rule
 use Rattle.m2_tree.specs.declared.pos.Pos.{Pos}
 use Rattle.m2_tree.specs.declared.name.Ident.{Ident}
@@ -14,7 +13,6 @@ use Rattle.m2_tree.specs.declared.expr.Designator.{Designator, out-Designator}
 use Rattle.typed_tree.specs.declared.types.TypeNo.{TypeNo}
 use Rattle.typed_tree.specs.declared.statement.TypedStmt.{TypedStmt}
 use Rattle.typed_tree.specs.declared.statement.TypedStmt.TheVariants as statement
-use Rattle.typed_tree.specs.declared.meaning.Standard.{Standard}
 use Rattle.typed_tree.specs.declared.shape.Formal.{Formal}
 use Rattle.typed_tree.specs.declared.shape.Shape.TheVariants as shape
 use Rattle.typed_tree.specs.declared.shape.Signature.{Signature}
@@ -28,7 +26,7 @@ use Rattle.check_expr.specs.Meanings.{meant, head, looked_at, actuals, formals_o
 use Rattle.check_expr.specs.Effects.{call_done, done_as, done_by}
 use Rattle.def_typing.specs.Shapes.{IsMade}
 use Rattle.def_typing.specs.Operators.{◌!◌}
-use Rattle.def_typing.specs.Things.{Thing, AStandard, Standing}
+use Rattle.def_typing.specs.Things.{Thing, Standing}
 use Rattle.def_typing.specs.Parts.{Among}
 use Rattle.def_typing.specs.Expressions.{Beside, Denotes, ArePassed, no_more, one_more}
 use Rattle.def_typing.specs.Assignments.{at_designator, in_designator, BrokenDesignator}
@@ -36,7 +34,7 @@ use Rattle.def_typing.specs.Actions as rules
 use Rattle.def_typing.specs.Actions.{IsProper, proper, standard, Acts, acts, counts, changes, halts, puts, Misacts, IsAction, is_action, BrokenAction, in_procedure, in_argument, at_action}
 use Rattle.law_typing.specs.Judging.{Judges, Answers}
 use Rattle.law_typing.specs.Exact.{Knows, IsPlain, ArePlain, ArePlainSelectors}
-use Rattle.law_typing.proofs.Combining.{Lawful, exact, passes, map_checks, declined_beside, ahead_answers, heading_answers}
+use Rattle.law_typing.proofs.Combining.{Lawful, exact, passes, map_checks, ahead_answers, heading_answers}
 use Rattle.law_typing.proofs.Elements.{checks_answer}
 use Rattle.law_typing.proofs.Shaping.{signature_there, SignatureIs, has_signature, no_signature, one_signature}
 use Rattle.law_typing.proofs.Finding.{Elsewhere, IsFound, AnyBroken, InLayer, look_tells}

@@ -1,5 +1,5 @@
 -- Calls of standard procedures as statements answer exactly.
-use Rattle.std.proofs.Common.{◌≡◌, ℕ, suc, ℤ, pos, Bool, not, cond, List, [], ◌∷◌, length, Option, Some, None, Result, Ok, ◌⊎◌, inl, inr, refl, sym, ap, subst, ◌∙◌}
+use Rattle.std.proofs.Common.{◌≡◌, ℕ, suc, ℤ, pos, Bool, not, cond, List, [], ◌∷◌, length, Option, Some, None, Result, Ok, ◌⊎◌, inl, inr, refl, sym, subst, ◌∙◌}
 use Rattle.std.specs.Prelude.{map}
 use Rattle.m2_rule.specs.declared.breach.Breach.{Breach}
 use Rattle.m2_rule.specs.declared.rule.Rule.{Rule}
@@ -34,21 +34,21 @@ use Rattle.check_const_ops.specs.Standards.{scalar_part, if_number}
 use Rattle.check_operator.specs.declared.class.Class.{Class}
 use Rattle.check_operator.specs.declared.computed.Computed.{Computed}
 use Rattle.check_operator.specs.declared.computed.Designated.{Designated}
-use Rattle.check_call.specs.Effects.{changed_as, changed, known_amount, amount, change_by, set_as, set_variable, element_known, element, membership_of, put}
+use Rattle.check_call.specs.Effects.{changed_as, changed, known_amount, amount, change_by, set_as, set_variable, element_known, element, put}
 use Rattle.check_expr.specs.Meanings.{meant, value_of, looked_at, miscounted}
 use Rattle.check_expr.specs.Effects.{changed_in, changed_by, set_in, member_by, halted, put_by, function_done, standard_done}
 use Rattle.def_typing.specs.Shapes.{shape_at, IsMade}
 use Rattle.def_typing.specs.Amounts.{Constant, Value, IsNumber, Within}
 use Rattle.def_typing.specs.Operators.{◌!◌, Kind, Scalar, IsElement, constant_element, some_element, operand}
-use Rattle.def_typing.specs.Things.{Thing, AVariable, AStandard, Headless, Standing, Mistaken, IsAssignable, Misassigned}
-use Rattle.def_typing.specs.Functions.{MayConvert, HasHeading}
+use Rattle.def_typing.specs.Things.{Thing, AVariable, AStandard, Standing, IsAssignable, Misassigned}
+use Rattle.def_typing.specs.Functions.{MayConvert}
 use Rattle.def_typing.specs.Parts.{first, Among, here, later}
-use Rattle.def_typing.specs.Expressions.{BrokenAsValue, broken, mistaken}
+use Rattle.def_typing.specs.Expressions.{broken, mistaken}
 use Rattle.def_typing.specs.Actions as rules
 use Rattle.def_typing.specs.Actions.{IsCounting, by_inc, by_dec, IsSetting, by_incl, by_excl, HasCount, inc_by_one, inc_by, dec_by_one, dec_by, to_include, to_exclude, to_halt, to_put, MayChange, a_scalar, a_set, InSet, IsAmount, a_number, an_element, Misamounts, no_number, no_element, TakesVariable, by_one, by_number, of_set, TakesAmount, of_counting, of_setting, TakesValue, an_amount, of_put, IsProper, proper, standard, Acts, acts, counts, changes, halts, puts, Misacts}
 use Rattle.law_typing.specs.Judging.{Judges, Answers}
 use Rattle.law_typing.specs.Exact.{IsKind, kind_constant, kind_scalar, kind_set, kind_routine, kind_procedure, kind_whole, kind_untaken, IsThing, thing_value, thing_variable, thing_open, thing_type, thing_procedure, thing_nested, thing_standard, thing_module, IsPlain}
-use Rattle.law_typing.proofs.Combining.{Lawful, Decided, holds, fails_it, exact, declined_beside, Checks, passes, stopped, checks_as, where_checks, where_also, map_checks, both_checks, then_check, sort_checks}
+use Rattle.law_typing.proofs.Combining.{Lawful, Decided, holds, fails_it, exact, declined_beside, Checks, passes, stopped, map_checks, both_checks, then_check, sort_checks}
 use Rattle.law_typing.proofs.Deciding.{number_decided, within_decided}
 use Rattle.law_typing.proofs.Placing.{value_suits}
 use Rattle.law_typing.proofs.Places.{at_is}

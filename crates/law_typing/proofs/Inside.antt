@@ -1,6 +1,5 @@
 -- What is known inside a WITH.
-use Rattle.std.proofs.Common.{◌≡◌, ℕ, Bool, false, List, [], ◌∷◌, ◌++◌, length, Option, Some, None, Result, Ok, Err, ◌⊎◌, inl, inr, refl, sym, ap, subst, ◌∙◌}
-use Rattle.std.specs.Prelude.{slice_get}
+use Rattle.std.proofs.Common.{◌≡◌, ℕ, Bool, List, [], ◌∷◌, ◌++◌, length, Option, Some, None, Result, Ok, Err, refl, sym, ap, subst, ◌∙◌}
 use Rattle.std.specs.Option.{option_map}
 use Rattle.m2_rule.specs.declared.breach.Breach.{Breach}
 use Rattle.m2_tree.specs.declared.name.Ident.{Ident}
@@ -20,7 +19,7 @@ use Rattle.check_scope.specs.Scopes.{opened as opened_field}
 use Rattle.check_scope.specs.Elaborated.{Gathers}
 use Rattle.check_stmt_parts.specs.declared.around.Around.{Around}
 use Rattle.check_stmt_parts.specs.Simple.{opened}
-use Rattle.def_typing.specs.Shapes.{shape_at, IsMade}
+use Rattle.def_typing.specs.Shapes.{IsMade}
 use Rattle.def_typing.specs.Things.{AVariable, Headless, Standing, Known, Unknown}
 use Rattle.def_typing.specs.Fields.{field_or, own_or}
 use Rattle.def_typing.specs.Statements.{Spot, inside_with}

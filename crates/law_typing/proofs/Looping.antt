@@ -1,5 +1,5 @@
 -- What stands before the statements of a FOR is answered exactly.
-use Rattle.std.proofs.Common.{◌≡◌, ℕ, zero, suc, ℤ, pos, negsuc, Bool, true, false, not, Option, Some, None, Result, Ok, Err, ◌⊎◌, inl, inr, refl, sym, ap, subst, ◌∙◌, arith}
+use Rattle.std.proofs.Common.{◌≡◌, ℕ, zero, suc, ℤ, pos, negsuc, Bool, true, false, not, Option, Some, None, Result, Ok, ◌⊎◌, inl, inr, refl, sym, ap, subst, ◌∙◌, arith}
 use Rattle.std.specs.Prelude.{◌&&◌, ◌||◌, ◌==◌, nat_lt}
 use Rattle.std.proofs.lemmas.Bool.Decides.{nat_tests}
 use Rattle.m2_rule.specs.declared.breach.Breach.{Breach}
@@ -9,9 +9,7 @@ use Rattle.m2_tree.specs.declared.name.Ident.{Ident}
 use Rattle.m2_tree.specs.declared.expr.Expr.{Expr}
 use Rattle.typed_tree.specs.declared.types.TypeNo.{TypeNo}
 use Rattle.typed_tree.specs.declared.computed.Place.{Place}
-use Rattle.typed_tree.specs.declared.computed.Root.TheVariants as root
 use Rattle.typed_tree.specs.declared.computed.TypedExpr.{TypedExpr}
-use Rattle.typed_tree.specs.declared.computed.TypedExpr.TheVariants as expr
 use Rattle.typed_tree.specs.declared.meaning.LocalKind.{LocalKind}
 use Rattle.typed_tree.specs.declared.meaning.LocalKind.TheVariants as local
 use Rattle.typed_tree.specs.declared.meaning.Meaning.{Meaning}
@@ -20,13 +18,10 @@ use Rattle.typed_tree.specs.declared.meaning.Value.{Value as ConstantValue}
 use Rattle.typed_tree.specs.declared.shape.Scalar.{Scalar as Range}
 use Rattle.typed_tree.specs.declared.shape.Shape.{Shape}
 use Rattle.typed_tree.specs.declared.shape.Shape.TheVariants as shape
-use Rattle.typed_tree.specs.declared.known_types.Types.{Types}
-use Rattle.typed_tree.specs.Chains.{rooted}
 use Rattle.check_scope.specs.declared.meaningless.Meaningless.{Meaningless}
-use Rattle.check_scope.specs.declared.meaningless.Meaningless.TheVariants as meaningless
 use Rattle.check_scope.specs.declared.scope.Scope.{Scope}
 use Rattle.check_scope.specs.Scopes.{looked_up}
-use Rattle.check_scope.specs.Elaborated.{Gathers, reported, reported_where, both, of_sort, ◌▷◌}
+use Rattle.check_scope.specs.Elaborated.{Gathers, reported, reported_where, of_sort, ◌▷◌}
 use Rattle.check_const_ops.specs.declared.operand.Ordinal.{Ordinal}
 use Rattle.check_const_ops.specs.Numbers.{fits}
 use Rattle.check_const_ops.specs.Sets.{numbered}
@@ -37,27 +32,26 @@ use Rattle.check_operator.specs.declared.computed.Computed.{Computed}
 use Rattle.check_operator.specs.declared.side.Amount.TheVariants.{Known as KnownSide, Run}
 use Rattle.check_operator.specs.declared.side.Side.{Side}
 use Rattle.check_operator.specs.Sides.{side_of}
-use Rattle.check_operator.specs.Values.{slot_of}
 use Rattle.check_operator.specs.Suits.{sort_suits, bases_suit, value_suited}
 use Rattle.check_expr.specs.Meanings.{meant, value_of}
 use Rattle.check_stmt_parts.specs.declared.control.Control.{Control}
 use Rattle.check_stmt_parts.specs.declared.control.Course.{Course}
 use Rattle.check_stmt_parts.specs.Simple.{meant_if}
-use Rattle.check_stmt_parts.specs.Control.{controlled_as, controlled, is_own, control_by, control_of, start_at, limit_number, limit_by, limit_at, is_zero, step_number, step_by, step_of, type_of, base_of, course, course_of}
+use Rattle.check_stmt_parts.specs.Control.{controlled_as, controlled, is_own, control_by, control_of, start_at, limit_number, limit_by, limit_at, is_zero, step_number, step_by, step_of, type_of, base_of, course_of}
 use Rattle.def_typing.specs.Shapes.{shape_at, IsMade}
 use Rattle.def_typing.specs.Amounts.{Constant, Value, IsNumber, InRange, Suits, has_type, is_value, takes_type}
 use Rattle.def_typing.specs.Amounts as amounts
 use Rattle.def_typing.specs.Operators.{◌!◌, Kind, Scalar, operand}
-use Rattle.def_typing.specs.Things.{Thing, AValue, AVariable, AnOpenArray, AType, AProcedure, ANested, AStandard, AModule, Headless, Standing, Known, Ahead, Undeclared, Unknown, Misnamed, undeclared, not_yet, SuitsBase, IsAssignable, Misassigned}
+use Rattle.def_typing.specs.Things.{Thing, AVariable, Standing, Known, Ahead, Undeclared, Unknown, Misnamed, undeclared, not_yet, SuitsBase, IsAssignable, Misassigned}
 use Rattle.def_typing.specs.Parts.{first}
 use Rattle.def_typing.specs.Constants.{AConstant, Fixes, BrokenAsConstant}
 use Rattle.def_typing.specs.Expressions.{Has, BrokenAsValue}
 use Rattle.def_typing.specs.Loops as rules
 use Rattle.def_typing.specs.Loops.{SuitsLimit, IsOfBase, IsLimit, Mislimits, no_limit, not_in_base, IsWholeConstant, whole_constant, IsStep, is_step, Missteps, no_step, step_zero, IsControl, is_control, BrokenControl, no_name, no_control, HasStep, by_one, by_constant, Runs, runs, BrokenRun}
 use Rattle.law_typing.specs.Judging.{Judges, Answers, means, refuses}
-use Rattle.law_typing.specs.Exact.{IsKind, IsConst, of_local, standing, Sees, sees, sees_nothing, sees_headless, sees_unknown, Knows, Repeats, of_heading, of_declaration, IsPlain, IsCallFree, is_own_variable, KnowsOwn}
-use Rattle.law_typing.proofs.Combining.{Lawful, Decided, holds, fails_it, accounts_as, accounts_one, declined, exact, both_answer, then_answer, Checks, passes, stops, stopped, checks_as, where_checks, both_checks, map_checks, then_check}
-use Rattle.law_typing.proofs.Deciding.{range_decided, some_same}
+use Rattle.law_typing.specs.Exact.{IsKind, IsConst, of_local, standing, Sees, sees, sees_nothing, sees_headless, sees_unknown, Knows, Repeats, of_declaration, IsPlain, IsCallFree, is_own_variable, KnowsOwn}
+use Rattle.law_typing.proofs.Combining.{Lawful, Decided, holds, fails_it, accounts_as, accounts_one, declined, both_answer, Checks, passes, stops, stopped, checks_as, both_checks, map_checks, then_check}
+use Rattle.law_typing.proofs.Deciding.{range_decided}
 use Rattle.law_typing.proofs.Joining.{IsSide, side_scalar, side_set, side_routine, side_procedure, side_text, side_whole, side_untaken, side_is}
 use Rattle.law_typing.proofs.Placing.{value_suits, base_decided, bases_decided, whole_base}
 use Rattle.law_typing.proofs.Places.{at_is, free_at}

@@ -1,5 +1,5 @@
 -- Statements answer exactly.
-use Rattle.std.proofs.Common.{◌≡◌, ℕ, Bool, true, List, [], ◌∷◌, ◌++◌, Option, Some, None, Result, Ok, Err, ◌⊎◌, inl, inr, refl, sym, ap, subst, ◌∙◌}
+use Rattle.std.proofs.Common.{◌≡◌, ℕ, Bool, List, [], ◌∷◌, ◌++◌, Option, Some, None, Result, Ok, ◌⊎◌, inl, inr, refl, sym, ap, subst, ◌∙◌}
 use Rattle.std.specs.Prelude.{map}
 use Rattle.std.specs.List.{fold}
 use Rattle.m2_rule.specs.declared.breach.Breach.{Breach}
@@ -51,7 +51,7 @@ use Rattle.law_typing.proofs.Combining.{Lawful, declined, Checks, passes, stops,
 use Rattle.law_typing.proofs.Elements.{checks_answer}
 use Rattle.law_typing.proofs.Assigning.{condition_answers, assignment_answers}
 use Rattle.law_typing.proofs.Acting.{action_answers}
-use Rattle.law_typing.proofs.Returning.{repeats_more, exit_answers, return_answers}
+use Rattle.law_typing.proofs.Returning.{exit_answers, return_answers}
 use Rattle.law_typing.proofs.Places.{head_at}
 use Rattle.law_typing.proofs.Shaping.{fields_of, fields_is}
 use Rattle.law_typing.proofs.Finding.{InLayer}
@@ -472,7 +472,6 @@ module _ (g : Gathers) (j : Judges g) (lawful : Lawful g j) (exports : ℕ → I
         (checks_as g j lawful (O w s a) (λ z. for_loop z.0 z.1) (for_of s.types exports) (for_in s.types exports) (for_out s.types exports)
         (map_checks g j lawful (O w s a) (λ (p : Course × List TypedStmt). typed.For p.0.control.place p.0.control.of p.0.start p.0.limit p.0.by p.1)
         (both_checks g j lawful (O w s a) (unit_checks {M = λ u. Runs s.types w.names exports w.own name start limit by} (λ f o. inl o) (run_answers g j lawful w.names exports w.own s k.of_names k.of_own name start limit by i q c)) (list_checks w s a _ (each_checks b w s a k)))))
-
     stmt_checks (plain_with {d = d} {body = body} h i b) w s a k = by_layer w s a (layer.With d body) h (with_checks w s a k d body i (λ v q z. list_checks v q a _ (each_checks b v q a z)))
 
     each_checks : {xs : List Stmt} → ArePlainStmts xs → (w : Spot) (s : Scope g.Reported) (a : Around g.Reported) → Known w s a → (x : Stmt) → Among x xs → StmtSo w s a x (stmt g x s a)

@@ -1,11 +1,9 @@
 -- What a WITH opens, and what is known inside.
-use Rattle.std.proofs.Common.{◌≡◌, ℕ, Bool, true, false, List, [], ◌∷◌, ◌++◌, Option, Some, None, Result, Ok, Err, ◌⊎◌, inl, inr, refl, sym, ap, subst, ◌∙◌}
-use Rattle.std.specs.Prelude.{cond, slice_get, length}
+use Rattle.std.proofs.Common.{◌≡◌, ℕ, List, [], ◌∷◌, Option, Some, None, Result, refl, sym, ap, subst, ◌∙◌}
+use Rattle.std.specs.Prelude.{cond}
 use Rattle.std.specs.List.{fold}
-use Rattle.std.specs.Option.{option_map, is_some}
+use Rattle.std.specs.Option.{is_some}
 use Rattle.m2_rule.specs.declared.breach.Breach.{Breach}
-use Rattle.m2_rule.specs.declared.rule.Rule.TheVariants as rule
-use Rattle.m2_tree.specs.declared.pos.Pos.{Pos}
 use Rattle.m2_tree.specs.declared.name.Ident.{Ident}
 use Rattle.m2_tree.specs.declared.expr.Expr.{Expr}
 use Rattle.m2_tree.specs.declared.expr.Expr.TheOpen as layer
@@ -16,16 +14,12 @@ use Rattle.typed_tree.specs.declared.types.TypeNo.{TypeNo}
 use Rattle.typed_tree.specs.declared.computed.Place.{Place}
 use Rattle.typed_tree.specs.declared.shape.Shape.{Shape}
 use Rattle.typed_tree.specs.declared.shape.Shape.TheVariants as shape
-use Rattle.typed_tree.specs.declared.known_types.Types.{Types}
 use Rattle.check_scope.specs.declared.meaningless.Meaningless.{Meaningless}
 use Rattle.check_scope.specs.declared.scope.Scope.{Scope}
-use Rattle.check_scope.specs.Scopes.{fields_at}
 use Rattle.check_scope.specs.Elaborated.{Gathers}
 use Rattle.check_operator.specs.declared.computed.Designated.{Designated}
 use Rattle.check_operator.specs.declared.computed.Designated.TheVariants as designated
-use Rattle.check_operator.specs.Classes.{array_at}
-use Rattle.check_expr.specs.Meanings.{named, field_of}
-use Rattle.check_stmt_parts.specs.Simple.{known_of, element_in, element_of, led_by, led, type_led_to, record_led_to, opened_type}
+use Rattle.check_stmt_parts.specs.Simple.{known_of, element_in, element_of, led_by, led, record_led_to, opened_type}
 use Rattle.def_typing.specs.Shapes.{shape_at, IsMade}
 use Rattle.def_typing.specs.Things.{Thing, AVariable, AnOpenArray, Headless, Standing, Known, Picks, Indexes, of_array, of_open}
 use Rattle.typed_tree.specs.Types.{cardinal}
@@ -35,7 +29,7 @@ use Rattle.law_typing.specs.Judging.{Judges, Answers, means, refuses}
 use Rattle.law_typing.specs.Exact.{IsThing, thing_value, thing_variable, thing_open, thing_type, thing_procedure, thing_nested, thing_standard, thing_module, Knows}
 use Rattle.law_typing.proofs.Combining.{Lawful, Finds, finds, finds_headless, finds_nothing}
 use Rattle.law_typing.proofs.Shaping.{array_of, array_is, fields_of, fields_is, one_made}
-use Rattle.law_typing.proofs.Selecting.{known_one, named_finds, field_answers}
+use Rattle.law_typing.proofs.Selecting.{named_finds, field_answers}
 
 abbrev element_type : TypeNo → Shape → TypeNo
 element_type t (shape.Array i e) = e

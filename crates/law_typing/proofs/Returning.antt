@@ -1,5 +1,5 @@
 -- RETURN and EXIT answer exactly.
-use Rattle.std.proofs.Common.{◌≡◌, ℕ, Bool, true, false, Option, Some, None, Result, Ok, Err, ◌⊎◌, inl, inr, refl, sym, ap, subst, ◌∙◌}
+use Rattle.std.proofs.Common.{◌≡◌, ℕ, Bool, true, false, Option, Some, None, Result, Ok, Err, ◌⊎◌, inl, inr, refl, sym, ap, subst}
 use Rattle.m2_rule.specs.declared.breach.Breach.{Breach}
 use Rattle.m2_rule.specs.declared.rule.Rule.TheVariants as rule
 use Rattle.m2_tree.specs.declared.pos.Pos.{Pos}
@@ -20,9 +20,9 @@ use Rattle.def_typing.specs.Parts.{first}
 use Rattle.def_typing.specs.Expressions.{Has, BrokenAsValue}
 use Rattle.def_typing.specs.Returns as rules
 use Rattle.def_typing.specs.Returns.{Giving, Nothing, AResult, AnyResult, IsFunction, with_type, without_type, IsExit, is_exit, BrokenExit, no_loop, Returns, ends, gives, BrokenReturn, in_value, wrong_value}
-use Rattle.law_typing.specs.Judging.{Judges, Accounts, Answers, means, refuses}
-use Rattle.law_typing.specs.Exact.{IsKind, Knows, Repeats, IsPlain, KnowsResult, knows_nothing, knows_type, knows_broken, RepeatsResult, in_result}
-use Rattle.law_typing.proofs.Combining.{Lawful, declined, fine, exact, both_answer, declined_beside, Checks, passes, stopped, then_check, map_checks, checks_as, Tells, silent, tells}
+use Rattle.law_typing.specs.Judging.{Judges, Answers, means, refuses}
+use Rattle.law_typing.specs.Exact.{IsKind, Knows, IsPlain, KnowsResult, knows_nothing, knows_type, knows_broken, RepeatsResult, in_result}
+use Rattle.law_typing.proofs.Combining.{Lawful, declined, exact, both_answer, declined_beside, Checks, passes, stopped, then_check, map_checks, Tells, silent, tells}
 use Rattle.law_typing.proofs.Placing.{value_suits}
 use Rattle.law_typing.proofs.Places.{at_is}
 use Rattle.law_typing.proofs.Elements.{checks_answer}

@@ -355,12 +355,13 @@ ActionsAreExact g j =
 abbrev pub ReturnsAreExact : (g : Gathers) → Judges g → Type 0
 ReturnsAreExact g j =
     (names : Ident → Standing) (exports : ℕ → Ident → Standing) (s : Scope g.Reported)
-    → Knows g j names exports s → (at : Pos) (w : Giving)
-    (result : Option (Result TypeNo g.Reported)) (e : Option Expr)
-    → KnowsResult g j w result → ((x : Expr) → e ≡ Some x → IsPlain x)
-    → Answers g j (RepeatsResult g j names s result) {A = TypedStmt} {K = Unit {0}} (λ v u. Unit {0})
-    (λ u. Returns s.types names exports w e) (BrokenReturn s.types names exports at w e)
-    (returned g s at result (meant_if g e))
+    → Knows g j names exports s
+    → (at : Pos) (w : Giving) (result : Option (Result TypeNo g.Reported)) (e : Option Expr)
+    → KnowsResult g j w result
+    → ((x : Expr) → e ≡ Some x → IsPlain x)
+    → Answers g j (RepeatsResult g j names s result) {A = TypedStmt} {K = Unit {0}}
+    (λ v u. Unit {0}) (λ u. Returns s.types names exports w e)
+    (BrokenReturn s.types names exports at w e) (returned g s at result (meant_if g e))
 
 -- EXIT is answered exactly.
 abbrev pub ExitsAreExact : (g : Gathers) → Judges g → Type 0
@@ -386,9 +387,11 @@ RunsAreExact g j =
 abbrev pub StatementsAreExact : (g : Gathers) → Judges g → Type 0
 StatementsAreExact g j =
     (exports : ℕ → Ident → Standing) (w : Spot) (s : Scope g.Reported) (a : Around g.Reported)
-    → KnowsSpot g j exports w s a → (x : Stmt) → IsPlainStmt x
-    → Answers g j (RepeatsResult g j w.names s a.gives) {A = TypedStmt} {K = Unit {0}} (λ v u. Unit {0})
-    (λ u. Obeys s.types exports w x) (Broken s.types exports w x) (stmt g x s a)
+    → KnowsSpot g j exports w s a
+    → (x : Stmt)
+    → IsPlainStmt x
+    → Answers g j (RepeatsResult g j w.names s a.gives) {A = TypedStmt} {K = Unit {0}}
+    (λ v u. Unit {0}) (λ u. Obeys s.types exports w x) (Broken s.types exports w x) (stmt g x s a)
 
 -- For each scope there are standings that it knows, and variables that are own ones.
 abbrev pub ScopesAreKnown : (g : Gathers) → Judges g → Type 0
