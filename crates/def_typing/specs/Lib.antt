@@ -11,4 +11,5 @@ pub mod Actions
 pub mod Returns
 pub mod Loops
 pub mod Fields
+pub mod Cases
 pub mod Statements

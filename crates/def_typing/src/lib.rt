@@ -11,5 +11,5 @@
 //!   (`Broken`, `BrokenAsValue`).
 //! - `specs/Assignments` has assignments and conditions, and `specs/Actions` calls as statements.
 //! - `specs/Returns` has RETURN and EXIT, `specs/Loops` what stands before the statements of a FOR, `specs/Fields` what a WITH
-//!   opens, and `specs/Statements` all statements but CASE (`Obeys`, `Broken`).
+//!   opens, `specs/Cases` the selector of a CASE, and `specs/Statements` all statements but CASE (`Obeys`, `Broken`).
 #![tactic(auto)]

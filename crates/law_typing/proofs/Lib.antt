@@ -24,6 +24,7 @@ pub mod Changing
 pub mod Acting
 pub mod Returning
 pub mod Looping
+pub mod Selectors
 pub mod Opening
 pub mod Inside
 pub mod Obeying

@@ -50,10 +50,11 @@ use Rattle.check_expr.specs.Effects.{done_by}
 use Rattle.def_typing.specs.Actions.{IsAction, BrokenAction}
 use Rattle.def_typing.specs.Assignments.{Assigns, BrokenAssignment, IsCondition, BrokenCondition}
 use Rattle.check_stmt_parts.specs.declared.around.Around.{Around}
-use Rattle.check_stmt_parts.specs.Simple.{meant_if, exited, returned}
+use Rattle.check_stmt_parts.specs.Simple.{meant_if, exited, returned, selected}
 use Rattle.def_typing.specs.Returns.{Giving, Nothing, AResult, AnyResult, Returns, BrokenReturn, IsExit, BrokenExit}
 use Rattle.check_stmt_parts.specs.declared.control.Course.{Course}
 use Rattle.check_stmt_parts.specs.Control.{is_own, course_of}
+use Rattle.def_typing.specs.Cases.{IsSelector, BrokenSelector}
 use Rattle.def_typing.specs.Loops.{Runs, BrokenRun}
 use Rattle.check_stmt.specs.Statements.{stmt}
 use Rattle.def_typing.specs.Statements.{arguments, Spot, Obeys, Broken}
@@ -382,6 +383,15 @@ RunsAreExact g j =
     (λ u. Runs s.types names exports own name start limit step)
     (BrokenRun s.types names exports own name start limit step)
     (course_of g s name (meant g start) (meant g limit) (meant_if g step))
+
+-- The selector of a CASE is answered exactly, with its base type.
+abbrev pub SelectorsAreExact : (g : Gathers) → Judges g → Type 0
+SelectorsAreExact g j =
+    (names : Ident → Standing) (exports : ℕ → Ident → Standing) (s : Scope g.Reported)
+    → Knows g j names exports s → (e : Expr) → IsPlain e
+    → Answers g j (Repeats g j names s) (λ (v : TypeNo × TypedExpr) (t : TypeNo). v.0 ≡ t)
+    (IsSelector s.types names exports e) (BrokenSelector s.types names exports e)
+    (selected g s (meant g e))
 
 -- Statements in which no CASE stands are answered exactly.
 abbrev pub StatementsAreExact : (g : Gathers) → Judges g → Type 0
