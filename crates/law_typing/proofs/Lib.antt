@@ -25,6 +25,7 @@ pub mod Acting
 pub mod Returning
 pub mod Looping
 pub mod Selectors
+pub mod Bounds
 pub mod Opening
 pub mod Inside
 pub mod Obeying

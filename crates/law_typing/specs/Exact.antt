@@ -1,5 +1,5 @@
 -- What is elaborated, and what it stands for.
-use Rattle.std.specs.Prelude.{◌≡◌, ◌⊎◌, ◌&&◌, ◌==◌, Bool, false, ℕ, List, [], ◌∷◌, Option, Some, None, Result, Ok, Err, slice_get, map}
+use Rattle.std.specs.Prelude.{◌≡◌, ◌⊎◌, ◌&&◌, ◌==◌, Bool, false, ℕ, ℤ, List, [], ◌∷◌, Option, Some, None, Result, Ok, Err, slice_get, map}
 use Rattle.m2_rule.specs.declared.rule.Rule.TheVariants as rule
 use Rattle.m2_tree.specs.declared.pos.Pos.{Pos}
 use Rattle.m2_tree.specs.declared.name.Ident.{Ident}
@@ -54,7 +54,9 @@ use Rattle.check_stmt_parts.specs.Simple.{meant_if, exited, returned, selected}
 use Rattle.def_typing.specs.Returns.{Giving, Nothing, AResult, AnyResult, Returns, BrokenReturn, IsExit, BrokenExit}
 use Rattle.check_stmt_parts.specs.declared.control.Course.{Course}
 use Rattle.check_stmt_parts.specs.Control.{is_own, course_of}
-use Rattle.def_typing.specs.Cases.{IsSelector, BrokenSelector}
+use Rattle.def_typing.specs.Cases.{IsSelector, BrokenSelector, IsLabelBound, BrokenLabelBound}
+use Rattle.check_stmt_parts.specs.Labels.{bound_of}
+use Rattle.check_const_ops.specs.declared.operand.Ordinal.{Ordinal}
 use Rattle.def_typing.specs.Loops.{Runs, BrokenRun}
 use Rattle.check_stmt.specs.Statements.{stmt}
 use Rattle.def_typing.specs.Statements.{arguments, Spot, Obeys, Broken}
@@ -392,6 +394,16 @@ SelectorsAreExact g j =
     → Answers g j (Repeats g j names s) (λ (v : TypeNo × TypedExpr) (t : TypeNo). v.0 ≡ t)
     (IsSelector s.types names exports e) (BrokenSelector s.types names exports e)
     (selected g s (meant g e))
+
+-- Each bound of a label is answered exactly, whether the base type of the selector is known or not.
+abbrev pub BoundsAreExact : (g : Gathers) → Judges g → Type 0
+BoundsAreExact g j =
+    (names : Ident → Standing) (exports : ℕ → Ident → Standing) (s : Scope g.Reported)
+    → Knows g j names exports s → (base : Option TypeNo) (label : Pos) (e : Expr) → IsPlain e
+    → Answers g j (Repeats g j names s)
+    (λ (a : Ordinal) (p : Option TypeNo × ℤ). (a.sort ≡ p.0) × (a.number ≡ p.1))
+    (λ p. IsLabelBound s.types names exports e p.0 p.1)
+    (BrokenLabelBound s.types names exports base label e) (bound_of g s base label (meant g e))
 
 -- Statements in which no CASE stands are answered exactly.
 abbrev pub StatementsAreExact : (g : Gathers) → Judges g → Type 0

@@ -17,13 +17,13 @@
 //!   `proofs/Expressing` the induction, `proofs/Assigning` conditions and assignments, `proofs/Changing` standard procedures
 //!   that are statements, `proofs/Acting` all calls that are, and `proofs/Knowing` the names of scopes.
 //! - `proofs/Returning` has RETURN and EXIT, `proofs/Looping` what stands before the statements of a FOR, `proofs/Selectors`
-//!   the selector of a CASE, `proofs/Opening` what a WITH opens, `proofs/Inside` what is known inside, and `proofs/Obeying` the
+//!   the selector of a CASE, `proofs/Bounds` the bounds of its labels, `proofs/Opening` what a WITH opens, `proofs/Inside` what is known inside, and `proofs/Obeying` the
 //!   induction over statements.
 #![tactic(auto)]
 
 ghost use Rattle.check_scope.specs.Elaborated.{every, least};
 ghost use Rattle.law_typing.specs.Judging.{all_of_them, the_least};
-ghost use Rattle.law_typing.specs.Exact.{ExpressionsAreExact, ConstantsAreExact, ConditionsAreExact, AssignmentsAreExact, ActionsAreExact, ReturnsAreExact, ExitsAreExact, RunsAreExact, SelectorsAreExact, StatementsAreExact, ScopesAreKnown};
+ghost use Rattle.law_typing.specs.Exact.{ExpressionsAreExact, ConstantsAreExact, ConditionsAreExact, AssignmentsAreExact, ActionsAreExact, ReturnsAreExact, ExitsAreExact, RunsAreExact, SelectorsAreExact, BoundsAreExact, StatementsAreExact, ScopesAreKnown};
 
 /// An expression in whose braces nothing is called has a value exactly if no rule is broken in it, and the value stands for
 /// what the rules say that it has. Else all that is gathered are broken rules, here or in a declaration, and each that is
@@ -79,6 +79,12 @@ pub fn run_laws()
 pub fn selector_laws()
     ensures every_rule { SelectorsAreExact every all_of_them }
     ensures least_rule { SelectorsAreExact least the_least }
+{}
+
+/// The same of each bound of a label of a CASE, with its number.
+pub fn bound_laws()
+    ensures every_rule { BoundsAreExact every all_of_them }
+    ensures least_rule { BoundsAreExact least the_least }
 {}
 
 /// The same of a statement, if no CASE stands in it.
