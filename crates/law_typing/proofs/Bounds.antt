@@ -1,33 +1,30 @@
 -- A bound of a label of a CASE is answered exactly.
-use Rattle.std.proofs.Common.{◌≡◌, ℕ, ℤ, Bool, true, false, List, Option, Some, None, Result, Ok, Err, ◌⊎◌, inl, inr, refl, sym, ap, subst, ◌∙◌}
+use Rattle.std.proofs.Common.{◌≡◌, ℕ, ℤ, Bool, false, Option, Some, None, Result, Ok, ◌⊎◌, inl, inr, refl, sym, ap, subst, ◌∙◌}
 use Rattle.m2_rule.specs.declared.breach.Breach.{Breach}
 use Rattle.m2_rule.specs.declared.rule.Rule.TheVariants as rule
 use Rattle.m2_tree.specs.declared.pos.Pos.{Pos}
 use Rattle.m2_tree.specs.declared.name.Ident.{Ident}
 use Rattle.m2_tree.specs.declared.expr.Expr.{Expr}
 use Rattle.typed_tree.specs.declared.types.TypeNo.{TypeNo}
-use Rattle.typed_tree.specs.declared.computed.Place.{Place}
 use Rattle.typed_tree.specs.declared.meaning.Value.{Value as ConstantValue}
 use Rattle.typed_tree.specs.declared.meaning.Value.TheVariants as value
 use Rattle.typed_tree.specs.declared.shape.Shape.{Shape}
 use Rattle.typed_tree.specs.declared.shape.Shape.TheVariants as shape
 use Rattle.typed_tree.specs.declared.known_types.Types.{Types}
-use Rattle.typed_tree.specs.Types.{are_same}
 use Rattle.check_scope.specs.declared.meaningless.Meaningless.{Meaningless}
 use Rattle.check_scope.specs.declared.scope.Scope.{Scope}
 use Rattle.check_scope.specs.Elaborated.{Gathers, reported}
 use Rattle.check_const_ops.specs.declared.operand.Operand.{Operand}
 use Rattle.check_const_ops.specs.declared.operand.Ordinal.{Ordinal}
-use Rattle.check_const_ops.specs.Operands.{operand_of}
 use Rattle.check_operator.specs.declared.class.Class.{Class}
 use Rattle.check_operator.specs.declared.computed.Computed.{Computed}
 use Rattle.check_operator.specs.declared.computed.Designated.{Designated}
 use Rattle.check_expr.specs.Meanings.{meant}
 use Rattle.check_stmt_parts.specs.Labels.{suits_selector, ordinal_in, no_constant, value_bound, variable_bound, bound_by, bound_in, bound_of}
 use Rattle.def_typing.specs.Shapes.{shape_at}
-use Rattle.def_typing.specs.Amounts.{Amount, Constant, Value}
+use Rattle.def_typing.specs.Amounts.{Constant, Value}
 use Rattle.def_typing.specs.Operators.{◌!◌, Kind, Scalar, operand}
-use Rattle.def_typing.specs.Things.{Thing, AValue, AVariable, AnOpenArray, AType, AProcedure, ANested, AStandard, AModule, Headless, Standing, content_of, content}
+use Rattle.def_typing.specs.Things.{Thing, AValue, AVariable, Headless, Standing, content_of, content}
 use Rattle.def_typing.specs.Parts.{first}
 use Rattle.def_typing.specs.Expressions.{Stands, Broken}
 use Rattle.def_typing.specs.Cases as rules

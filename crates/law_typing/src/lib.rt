@@ -17,8 +17,8 @@
 //!   `proofs/Expressing` the induction, `proofs/Assigning` conditions and assignments, `proofs/Changing` standard procedures
 //!   that are statements, `proofs/Acting` all calls that are, and `proofs/Knowing` the names of scopes.
 //! - `proofs/Returning` has RETURN and EXIT, `proofs/Looping` what stands before the statements of a FOR, `proofs/Selectors`
-//!   the selector of a CASE, `proofs/Bounds` the bounds of its labels, `proofs/Opening` what a WITH opens, `proofs/Inside` what is known inside, and `proofs/Obeying` the
-//!   induction over statements.
+//!   the selector of a CASE, `proofs/Bounds` the bounds of its labels, `proofs/Opening` what a WITH opens, `proofs/Inside` what
+//!   is known inside, and `proofs/Obeying` the induction over statements.
 #![tactic(auto)]
 
 ghost use Rattle.check_scope.specs.Elaborated.{every, least};
