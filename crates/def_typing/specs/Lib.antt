@@ -8,3 +8,8 @@ pub mod Constants
 pub mod Expressions
 pub mod Assignments
 pub mod Actions
+pub mod Returns
+pub mod Loops
+pub mod Fields
+pub mod Cases
+pub mod Statements

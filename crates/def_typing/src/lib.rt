@@ -1,6 +1,5 @@
-//! The rules of the language as rules: what expressions have, and which rules are broken in them, in conditions, in
-//! assignments and in calls. There is no code here, only definitions. Other statements, calls of standard procedures that are
-//! statements, declarations, and calls in constant expressions are not there yet.
+//! The rules of the language as rules: what expressions have, and which rules are broken in them and in statements. There is
+//! no code here, only definitions. Labels and arms of CASE, declarations, and calls in constant expressions are not there yet.
 //!
 //! - `specs/Shapes` says how types are made, and which headings agree.
 //! - `specs/Amounts` has operators on scalars, and `specs/Operators` operators on all values.
@@ -10,5 +9,8 @@
 //! - `specs/Constants` has constant expressions (`Fixes`), and which rules are broken in them (`BrokenAsConstant`).
 //! - `specs/Expressions` has what expressions of bodies stand for (`Stands`, `Has`), and which rules are broken in them
 //!   (`Broken`, `BrokenAsValue`).
-//! - `specs/Assignments` has assignments and conditions, and `specs/Actions` calls of declared procedures as statements.
+//! - `specs/Assignments` has assignments and conditions, and `specs/Actions` calls as statements.
+//! - `specs/Returns` has RETURN and EXIT, `specs/Loops` what stands before the statements of a FOR, `specs/Fields` what a WITH
+//!   opens, `specs/Cases` the selector of a CASE and the bounds of its labels, and `specs/Statements` all statements but CASE
+//!   (`Obeys`, `Broken`).
 #![tactic(auto)]

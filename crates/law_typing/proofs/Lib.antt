@@ -20,4 +20,12 @@ pub mod Elements
 pub mod Constants
 pub mod Assigning
 pub mod Knowing
+pub mod Changing
 pub mod Acting
+pub mod Returning
+pub mod Looping
+pub mod Selectors
+pub mod Bounds
+pub mod Opening
+pub mod Inside
+pub mod Obeying

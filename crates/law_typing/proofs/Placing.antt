@@ -57,13 +57,13 @@ of_base : {t u : TypeNo} → (t ≡ u) ⊎ (IsWhole t × IsWhole u) → SuitsBas
 of_base {t = t} (inl e) = subst (λ (u : TypeNo). SuitsBase t (Some u)) e same_base
 of_base (inr (p, q)) = both_whole p q
 
-whole_base : {t : TypeNo} → SuitsBase t None → IsWhole t
+pub whole_base : {t : TypeNo} → SuitsBase t None → IsWhole t
 whole_base (a_number w) = w
 
-bases_decided : (t u : TypeNo) → Decided (SuitsBase t (Some u)) (bases_suit t u)
+pub bases_decided : (t u : TypeNo) → Decided (SuitsBase t (Some u)) (bases_suit t u)
 bases_decided t u = decided_as of_base base_of (either_decided (same_decided t u) (both_decided (whole_decided t) (whole_decided u)))
 
-base_decided : (t : TypeNo) (sort : Option TypeNo) → Decided (SuitsBase t sort) (sort_suits t sort)
+pub base_decided : (t : TypeNo) (sort : Option TypeNo) → Decided (SuitsBase t sort) (sort_suits t sort)
 base_decided t None = decided_as a_number whole_base (whole_decided t)
 base_decided t (Some u) = bases_decided t u
 

@@ -160,7 +160,7 @@ module _ (g : Gathers) (j : Judges g) (lawful : Lawful g j) (names : Ident → S
     component_answers : (t : TypeNo) (d : Place) → PicksSo (AVariable t) (component g s.types at name t d)
     component_answers t d = subst (λ (fs : Option (List (List ℕ × TypeNo))). PicksSo (AVariable t) (record_field g at name fs ▷ λ f. Ok (designated.Variable f.1 (behind d (part.Field t f.0))))) (sym (fields_is s.types t)) (component_by t d (shape_at s.types t) refl)
 
-    field_answers : (a : Designated) (x : Thing) → IsThing a x → PicksSo x (field_of g s at name a)
+    pub field_answers : (a : Designated) (x : Thing) → IsThing a x → PicksSo x (field_of g s at name a)
     field_answers _ _ (thing_value i) = no_field (λ st p. elim p [ ])
     field_answers _ _ (thing_variable t d) = component_answers t d
     field_answers _ _ (thing_open t u) = no_field (λ st p. elim p [ ])

@@ -1,5 +1,5 @@
 -- What is elaborated, and what it stands for.
-use Rattle.std.specs.Prelude.{◌≡◌, ℕ, List, [], ◌∷◌, Option, Some, None, Result, Ok, Err, slice_get, map}
+use Rattle.std.specs.Prelude.{◌≡◌, ◌⊎◌, ◌&&◌, ◌==◌, Bool, false, ℕ, ℤ, List, [], ◌∷◌, Option, Some, None, Result, Ok, Err, slice_get, map}
 use Rattle.m2_rule.specs.declared.rule.Rule.TheVariants as rule
 use Rattle.m2_tree.specs.declared.pos.Pos.{Pos}
 use Rattle.m2_tree.specs.declared.name.Ident.{Ident}
@@ -13,6 +13,9 @@ use Rattle.m2_tree.specs.declared.expr.Expr.TheOpen as layer
 use Rattle.m2_tree.specs.declared.expr.Selector.{Selector, out-Selector}
 use Rattle.m2_tree.specs.declared.expr.Designator.{Designator, out-Designator}
 use Rattle.m2_tree.specs.declared.expr.Item.{Item, out-Item}
+use Rattle.m2_tree.specs.declared.stmt.Stmt.{Stmt, out-Stmt}
+use Rattle.m2_tree.specs.declared.stmt.Rest.{Rest, out-Rest}
+use Rattle.m2_tree.specs.declared.stmt.Rest.TheOpen as step
 use Rattle.typed_tree.specs.declared.types.TypeNo.{TypeNo}
 use Rattle.typed_tree.specs.declared.computed.TypedExpr.{TypedExpr}
 use Rattle.typed_tree.specs.declared.computed.LocalProcedure.{LocalProcedure}
@@ -46,12 +49,23 @@ use Rattle.def_typing.specs.Constants.{AConstant, Fixes, BrokenAsConstant}
 use Rattle.check_expr.specs.Effects.{done_by}
 use Rattle.def_typing.specs.Actions.{IsAction, BrokenAction}
 use Rattle.def_typing.specs.Assignments.{Assigns, BrokenAssignment, IsCondition, BrokenCondition}
+use Rattle.check_stmt_parts.specs.declared.around.Around.{Around}
+use Rattle.check_stmt_parts.specs.Simple.{meant_if, exited, returned, selected}
+use Rattle.def_typing.specs.Returns.{Giving, Nothing, AResult, AnyResult, Returns, BrokenReturn, IsExit, BrokenExit}
+use Rattle.check_stmt_parts.specs.declared.control.Course.{Course}
+use Rattle.check_stmt_parts.specs.Control.{is_own, course_of}
+use Rattle.def_typing.specs.Cases.{IsSelector, BrokenSelector, IsLabelBound, BrokenLabelBound}
+use Rattle.check_stmt_parts.specs.Labels.{bound_of}
+use Rattle.check_const_ops.specs.declared.operand.Ordinal.{Ordinal}
+use Rattle.def_typing.specs.Loops.{Runs, BrokenRun}
+use Rattle.check_stmt.specs.Statements.{stmt}
+use Rattle.def_typing.specs.Statements.{arguments, Spot, Obeys, Broken}
 use Rattle.check_expr.specs.Meanings.{meant, head, part, value_of}
 use Rattle.def_typing.specs.Amounts.{Constant, Value}
 use Rattle.def_typing.specs.Operators.{◌!◌, Kind, Scalar, Set, Text, Routine, Procedure, Whole, Untaken}
 use Rattle.def_typing.specs.Things.{Thing, AValue, AVariable, AnOpenArray, AType, AProcedure, ANested, AStandard, AModule, Headless, Standing, Known, Ahead, Undeclared, NotExported, Unknown}
 use Rattle.def_typing.specs.Parts.{Operand, factors, addends}
-use Rattle.def_typing.specs.Expressions.{Denotes, Has, BrokenAsValue}
+use Rattle.def_typing.specs.Expressions.{Has, BrokenAsValue}
 use Rattle.law_typing.specs.Judging.{Judges, Answers}
 
 -- ---- what is elaborated
@@ -106,6 +120,12 @@ standing meaning.Ahead = Ahead
 standing (meaning.Standard f) = Known (AStandard f)
 standing (meaning.Module k) = Known (AModule k)
 
+-- the variables that the module declares, or the procedure itself
+abbrev pub is_own_variable : {T : Type 0} → Scope T → Meaning → Bool
+is_own_variable s (meaning.Variable v) = v.home == s.types.home
+is_own_variable s (meaning.Local v) = is_own v.kind && (v.level == s.level)
+is_own_variable s other = false
+
 module _ (g : Gathers) (j : Judges g) where
   -- what a name stands for, and what is looked up of it at a place
   pub data Sees (at : Pos) : Standing → Result Meaning (Meaningless g.Reported) → Type 0 where
@@ -132,6 +152,24 @@ module _ (g : Gathers) (j : Judges g) where
         → looked_up g s name ≡ Err (meaningless.Headless r) → j.Among r f → Repeats names s f
     of_declaration : {name : Ident} {r : g.Reported} → names name ≡ Unknown
         → looked_up g s name ≡ Err (meaningless.Broken r) → j.Among r f → Repeats names s f
+
+  -- what is known of the result of the body that a statement stands in
+  pub data KnowsResult : Giving → Option (Result TypeNo g.Reported) → Type 0 where
+    knows_nothing : KnowsResult Nothing None
+    knows_type : (t : TypeNo) → KnowsResult (AResult t) (Some (Ok t))
+    knows_broken : (r : g.Reported) → KnowsResult AnyResult (Some (Err r))
+
+  -- what RETURN repeats of the heading
+  pub data InResult (f : Breach) : Option (Result TypeNo g.Reported) → Type 0 where
+    in_result : {r : g.Reported} → j.Among r f → InResult f (Some (Err r))
+
+  abbrev pub RepeatsResult : (names : Ident → Standing) → Scope g.Reported
+      → Option (Result TypeNo g.Reported) → Breach → Type 0
+  RepeatsResult names s result f = Repeats names s f ⊎ InResult f result
+
+  abbrev pub KnowsOwn : (Ident → Bool) → Scope g.Reported → Type 0
+  KnowsOwn own s =
+      (name : Ident) (m : Meaning) → looked_up g s name ≡ Ok m → own name ≡ is_own_variable s m
 
   -- An expression of a body that is taken as a value is answered exactly.
   abbrev pub IsExact : (names : Ident → Standing) → (exports : ℕ → Ident → Standing)
@@ -221,6 +259,55 @@ mutual
         → out-Selector s ≡ layer.Index at x → IsPlain x → ArePlainSelectors ss
         → ArePlainSelectors (s ∷ ss)
 
+-- ---- statements of which this is known
+
+mutual
+  pub data IsPlainStmt : Stmt → Type 0 where
+    plain_assignment : {x : Stmt} {d : Designator} {e : Expr} → out-Stmt x ≡ step.Assign d e
+        → ArePlainSelectors (out-Designator d).selectors → IsPlain e → IsPlainStmt x
+    plain_action : {x : Stmt} {d : Designator} {args : Option (List Expr)}
+        → out-Stmt x ≡ step.Call d args → ArePlainSelectors (out-Designator d).selectors
+        → ArePlain (arguments args) → IsPlainStmt x
+    plain_if : {x : Stmt} {c : Expr} {body : List Stmt} {rest : Rest}
+        → out-Stmt x ≡ step.If c body rest → IsPlain c → ArePlainStmts body → IsPlainRest rest
+        → IsPlainStmt x
+    plain_while : {x : Stmt} {c : Expr} {body : List Stmt} → out-Stmt x ≡ step.While c body
+        → IsPlain c → ArePlainStmts body → IsPlainStmt x
+    plain_repeat : {x : Stmt} {body : List Stmt} {c : Expr} → out-Stmt x ≡ step.Repeat body c
+        → ArePlainStmts body → IsPlain c → IsPlainStmt x
+    plain_loop : {x : Stmt} {body : List Stmt} → out-Stmt x ≡ step.Loop body → ArePlainStmts body
+        → IsPlainStmt x
+    plain_exit : {x : Stmt} {at : Pos} → out-Stmt x ≡ step.Exit at → IsPlainStmt x
+    plain_return : {x : Stmt} {at : Pos} {e : Option Expr} → out-Stmt x ≡ step.Return at e
+        → ((v : Expr) → e ≡ Some v → IsPlain v) → IsPlainStmt x
+    plain_for : {x : Stmt} {name : Ident} {start limit : Expr} {by : Option Expr}
+        {body : List Stmt} → out-Stmt x ≡ step.For name start limit by body → IsPlain start
+        → IsPlain limit → ((v : Expr) → by ≡ Some v → IsCallFree v) → ArePlainStmts body
+        → IsPlainStmt x
+    plain_with : {x : Stmt} {d : Designator} {body : List Stmt} → out-Stmt x ≡ step.With d body
+        → ArePlainSelectors (out-Designator d).selectors → ArePlainStmts body → IsPlainStmt x
+
+  pub data ArePlainStmts : List Stmt → Type 0 where
+    no_statement : ArePlainStmts []
+    one_statement : {x : Stmt} {xs : List Stmt} → IsPlainStmt x → ArePlainStmts xs
+        → ArePlainStmts (x ∷ xs)
+
+  pub data IsPlainRest : Rest → Type 0 where
+    plain_elsif : {r : Rest} {c : Expr} {body : List Stmt} {rest : Rest}
+        → out-Rest r ≡ step.Elsif c body rest → IsPlain c → ArePlainStmts body → IsPlainRest rest
+        → IsPlainRest r
+    plain_end : {r : Rest} → out-Rest r ≡ step.Else None → IsPlainRest r
+    plain_else : {r : Rest} {body : List Stmt} → out-Rest r ≡ step.Else (Some body)
+        → ArePlainStmts body → IsPlainRest r
+
+-- what is known of the spot at which a statement stands
+pub record KnowsSpot (g : Gathers) (j : Judges g) (exports : ℕ → Ident → Standing) (w : Spot)
+    (s : Scope g.Reported) (a : Around g.Reported) : Type 0 where
+  pub of_names : Knows g j w.names exports s
+  pub of_own : KnowsOwn g j w.own s
+  pub of_result : KnowsResult g j w.gives a.gives
+  pub of_loop : w.in_loop ≡ a.in_loop
+
 -- These expressions are answered exactly, whatever their names stand for.
 abbrev pub ExpressionsAreExact : (g : Gathers) → Judges g → Type 0
 ExpressionsAreExact g j =
@@ -257,19 +344,80 @@ AssignmentsAreExact g j =
     (assigned g s.types (target_at g (head g d).fixed.at ((head g d).means s))
     (meant g e).fixed.at (value_of g s (meant g e)))
 
--- Calls as statements are answered exactly, if no standard procedure is called.
+-- Calls as statements are answered exactly.
 abbrev pub ActionsAreExact : (g : Gathers) → Judges g → Type 0
 ActionsAreExact g j =
     (names : Ident → Standing) (exports : ℕ → Ident → Standing) (s : Scope g.Reported)
     → Knows g j names exports s → (d : Designator) (args : List Expr)
     → ArePlainSelectors (out-Designator d).selectors → ArePlain args
-    → ((p : Standard) → Denotes s.types names exports d (AStandard p) → ⊥)
     → Answers g j (Repeats g j names s) {A = TypedStmt} {K = Unit {0}} (λ v u. Unit {0})
     (λ u. IsAction s.types names exports d args) (BrokenAction s.types names exports d args)
     (done_by g s (head g d) (map (meant g) args))
 
--- For each scope there are standings that it knows.
+-- RETURN is answered exactly.
+abbrev pub ReturnsAreExact : (g : Gathers) → Judges g → Type 0
+ReturnsAreExact g j =
+    (names : Ident → Standing) (exports : ℕ → Ident → Standing) (s : Scope g.Reported)
+    → Knows g j names exports s
+    → (at : Pos) (w : Giving) (result : Option (Result TypeNo g.Reported)) (e : Option Expr)
+    → KnowsResult g j w result
+    → ((x : Expr) → e ≡ Some x → IsPlain x)
+    → Answers g j (RepeatsResult g j names s result) {A = TypedStmt} {K = Unit {0}}
+    (λ v u. Unit {0}) (λ u. Returns s.types names exports w e)
+    (BrokenReturn s.types names exports at w e) (returned g s at result (meant_if g e))
+
+-- EXIT is answered exactly.
+abbrev pub ExitsAreExact : (g : Gathers) → Judges g → Type 0
+ExitsAreExact g j =
+    (at : Pos) (w : Around g.Reported)
+    → Answers g j (λ f. ⊥) {A = TypedStmt} {K = Unit {0}} (λ v u. Unit {0})
+    (λ u. IsExit w.in_loop) (BrokenExit at w.in_loop) (exited g at w)
+
+-- What stands before the statements of a FOR is answered exactly.
+abbrev pub RunsAreExact : (g : Gathers) → Judges g → Type 0
+RunsAreExact g j =
+    (names : Ident → Standing) (exports : ℕ → Ident → Standing) (own : Ident → Bool)
+    (s : Scope g.Reported)
+    → Knows g j names exports s → KnowsOwn g j own s
+    → (name : Ident) (start limit : Expr) (step : Option Expr)
+    → IsPlain start → IsPlain limit → ((e : Expr) → step ≡ Some e → IsCallFree e)
+    → Answers g j (Repeats g j names s) {A = Course} {K = Unit {0}} (λ v u. Unit {0})
+    (λ u. Runs s.types names exports own name start limit step)
+    (BrokenRun s.types names exports own name start limit step)
+    (course_of g s name (meant g start) (meant g limit) (meant_if g step))
+
+-- The selector of a CASE is answered exactly, with its base type.
+abbrev pub SelectorsAreExact : (g : Gathers) → Judges g → Type 0
+SelectorsAreExact g j =
+    (names : Ident → Standing) (exports : ℕ → Ident → Standing) (s : Scope g.Reported)
+    → Knows g j names exports s → (e : Expr) → IsPlain e
+    → Answers g j (Repeats g j names s) (λ (v : TypeNo × TypedExpr) (t : TypeNo). v.0 ≡ t)
+    (IsSelector s.types names exports e) (BrokenSelector s.types names exports e)
+    (selected g s (meant g e))
+
+-- Each bound of a label is answered exactly, whether the base type of the selector is known or not.
+abbrev pub BoundsAreExact : (g : Gathers) → Judges g → Type 0
+BoundsAreExact g j =
+    (names : Ident → Standing) (exports : ℕ → Ident → Standing) (s : Scope g.Reported)
+    → Knows g j names exports s → (base : Option TypeNo) (label : Pos) (e : Expr) → IsPlain e
+    → Answers g j (Repeats g j names s)
+    (λ (a : Ordinal) (p : Option TypeNo × ℤ). (a.sort ≡ p.0) × (a.number ≡ p.1))
+    (λ p. IsLabelBound s.types names exports e p.0 p.1)
+    (BrokenLabelBound s.types names exports base label e) (bound_of g s base label (meant g e))
+
+-- Statements in which no CASE stands are answered exactly.
+abbrev pub StatementsAreExact : (g : Gathers) → Judges g → Type 0
+StatementsAreExact g j =
+    (exports : ℕ → Ident → Standing) (w : Spot) (s : Scope g.Reported) (a : Around g.Reported)
+    → KnowsSpot g j exports w s a
+    → (x : Stmt)
+    → IsPlainStmt x
+    → Answers g j (RepeatsResult g j w.names s a.gives) {A = TypedStmt} {K = Unit {0}}
+    (λ v u. Unit {0}) (λ u. Obeys s.types exports w x) (Broken s.types exports w x) (stmt g x s a)
+
+-- For each scope there are standings that it knows, and variables that are own ones.
 abbrev pub ScopesAreKnown : (g : Gathers) → Judges g → Type 0
 ScopesAreKnown g j =
     (s : Scope g.Reported)
-    → (names : Ident → Standing) × (exports : ℕ → Ident → Standing) × Knows g j names exports s
+    → ((names : Ident → Standing) × (exports : ℕ → Ident → Standing) × Knows g j names exports s)
+    × ((own : Ident → Bool) × KnowsOwn g j own s)

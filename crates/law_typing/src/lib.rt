@@ -1,9 +1,10 @@
 //! Laws alone: the checker answers expressions of bodies exactly as the rules of the language say, and so it does constant
-//! expressions, conditions, assignments, and calls of declared procedures that are statements.
+//! expressions, conditions, and all statements but CASE.
 //!
 //! `def_typing` has the rules: what an expression has, and which rules are broken in it. These laws hold of the elaboration in
-//! `check_expr` and below, of all that it gathers and of the least refusal alike. They are not proved of all: what stands in
-//! braces calls nothing (`IsPlain`), and constant expressions call nothing (`IsCallFree`).
+//! `check_stmt` and below, of all that it gathers and of the least refusal alike. They are not proved of all: what stands in
+//! braces calls nothing (`IsPlain`), constant expressions call nothing (`IsCallFree`), and in statements no CASE stands
+//! (`IsPlainStmt`).
 //!
 //! - `specs/Judging` says what it is to answer exactly, and `specs/Exact` what is elaborated, when names stand for what a
 //!   scope knows of them, and what is proved.
@@ -13,13 +14,16 @@
 //! - `proofs/Placing`, `proofs/Selecting` and `proofs/Passing` have values at places, names with components, and arguments.
 //! - `proofs/Fixing`, `proofs/Elements` and `proofs/Constants` have constant expressions.
 //! - `proofs/Calling` and `proofs/Routines` have calls, `proofs/Places` and `proofs/Finding` the layers of the tree,
-//!   `proofs/Expressing` the induction, `proofs/Assigning` conditions and assignments, `proofs/Acting` calls
-//!   that are statements, and `proofs/Knowing` the names of scopes.
+//!   `proofs/Expressing` the induction, `proofs/Assigning` conditions and assignments, `proofs/Changing` standard procedures
+//!   that are statements, `proofs/Acting` all calls that are, and `proofs/Knowing` the names of scopes.
+//! - `proofs/Returning` has RETURN and EXIT, `proofs/Looping` what stands before the statements of a FOR, `proofs/Selectors`
+//!   the selector of a CASE, `proofs/Bounds` the bounds of its labels, `proofs/Opening` what a WITH opens, `proofs/Inside` what
+//!   is known inside, and `proofs/Obeying` the induction over statements.
 #![tactic(auto)]
 
 ghost use Rattle.check_scope.specs.Elaborated.{every, least};
 ghost use Rattle.law_typing.specs.Judging.{all_of_them, the_least};
-ghost use Rattle.law_typing.specs.Exact.{ExpressionsAreExact, ConstantsAreExact, ConditionsAreExact, AssignmentsAreExact, ActionsAreExact, ScopesAreKnown};
+ghost use Rattle.law_typing.specs.Exact.{ExpressionsAreExact, ConstantsAreExact, ConditionsAreExact, AssignmentsAreExact, ActionsAreExact, ReturnsAreExact, ExitsAreExact, RunsAreExact, SelectorsAreExact, BoundsAreExact, StatementsAreExact, ScopesAreKnown};
 
 /// An expression in whose braces nothing is called has a value exactly if no rule is broken in it, and the value stands for
 /// what the rules say that it has. Else all that is gathered are broken rules, here or in a declaration, and each that is
@@ -47,10 +51,46 @@ pub fn assignment_laws()
     ensures least_rule { AssignmentsAreExact least the_least }
 {}
 
-/// The same of a call that is a statement, if no standard procedure is called.
+/// The same of a call that is a statement: of a declared procedure, or of INC, DEC, INCL, EXCL, HALT and Put.
 pub fn action_laws()
     ensures every_rule { ActionsAreExact every all_of_them }
     ensures least_rule { ActionsAreExact least the_least }
+{}
+
+/// The same of RETURN, with a value and without one.
+pub fn return_laws()
+    ensures every_rule { ReturnsAreExact every all_of_them }
+    ensures least_rule { ReturnsAreExact least the_least }
+{}
+
+/// The same of EXIT.
+pub fn exit_laws()
+    ensures every_rule { ExitsAreExact every all_of_them }
+    ensures least_rule { ExitsAreExact least the_least }
+{}
+
+/// The same of what stands before the statements of a FOR, if the step calls nothing.
+pub fn run_laws()
+    ensures every_rule { RunsAreExact every all_of_them }
+    ensures least_rule { RunsAreExact least the_least }
+{}
+
+/// The same of the selector of a CASE, with its base type.
+pub fn selector_laws()
+    ensures every_rule { SelectorsAreExact every all_of_them }
+    ensures least_rule { SelectorsAreExact least the_least }
+{}
+
+/// The same of each bound of a label of a CASE, with its number.
+pub fn bound_laws()
+    ensures every_rule { BoundsAreExact every all_of_them }
+    ensures least_rule { BoundsAreExact least the_least }
+{}
+
+/// The same of a statement, if no CASE stands in it.
+pub fn statement_laws()
+    ensures every_rule { StatementsAreExact every all_of_them }
+    ensures least_rule { StatementsAreExact least the_least }
 {}
 
 /// No scope lacks names that stand for what it knows of them, so the laws above speak of each.
