@@ -4,7 +4,8 @@ use crate::trial::{Test, Trial};
 use m2c::BuildFault;
 use std::alloc::{AllocError, Global};
 use std::thread::Threads;
-use text_places::{Declared, Kind, Side, Text, declaration_of, name_at, written_type};
+use text_places::{Declared, Kind, Side, Text, declaration_of, spelled_type, written_type};
+use text_tokens::{excerpt, name_at};
 
 /// A refused place: what is tried there, and what is declared around it.
 #[derive(Drop)]
@@ -78,6 +79,37 @@ impl Scene<'_> {
         } else {
             None
         }
+    }
+
+    /// What a variable is called, and its type, if the side is one that is declared in the text.
+    pub fn declaration_words(
+        &self,
+        alloc: Global,
+        side: Side,
+    ) -> Result<Option<String>, AllocError> {
+        match self.variable(side) {
+            Some(variable) => Ok(Some(self.words_of(alloc, variable)?)),
+            None => Ok(None),
+        }
+    }
+
+    /// What a variable is called, and its type.
+    pub fn words_of(&self, alloc: Global, variable: Declared) -> Result<String, AllocError> {
+        let token = variable.token;
+        let name = self.excerpt(
+            alloc,
+            Side {
+                from: token,
+                to: token.saturating_add(1),
+            },
+        )?;
+        let of = spelled_type(alloc, self.text, &self.declared, variable)?;
+        format!(in alloc; "{name} is {of}")
+    }
+
+    /// The words of a side.
+    pub fn excerpt(&self, alloc: Global, side: Side) -> Result<String, AllocError> {
+        excerpt(alloc, self.text.bytes, self.text.tokens, side.from, side.to)
     }
 
     /// The type of a side as the text has it, if the side is a variable that is declared there.
@@ -180,7 +212,7 @@ impl Scene<'_> {
     }
 
     /// What an operand or a side of an assignment is.
-    pub fn operand<R: AllocGlobal + Threads + Sync>(
+    pub fn operand_words<R: AllocGlobal + Threads + Sync>(
         &self,
         rt: &R,
         side: Side,
@@ -195,7 +227,7 @@ impl Scene<'_> {
     }
 
     /// What an argument is that is passed by value.
-    pub fn value<R: AllocGlobal + Threads + Sync>(
+    pub fn value_words<R: AllocGlobal + Threads + Sync>(
         &self,
         rt: &R,
         side: Side,
@@ -210,7 +242,7 @@ impl Scene<'_> {
     }
 
     /// What an argument is if a variable is needed.
-    pub fn changed<R: AllocGlobal + Threads + Sync>(
+    pub fn variable_words<R: AllocGlobal + Threads + Sync>(
         &self,
         rt: &R,
         side: Side,

@@ -4,7 +4,8 @@ use m2_tree::Refusal;
 use m2c::{BuildFault, Gate, Options, Outcome, SourceFile, build};
 use std::alloc::{AllocError, Global};
 use std::thread::Threads;
-use text_places::{Spots, offset_of, part, rest};
+use text_places::Spots;
+use text_tokens::{offset_of, part, rest};
 
 /// The name of the procedure that is declared for a trial. A program that has it is not tried with procedures.
 pub const TAKER: &str = "TakesWhatIsTried";
@@ -60,7 +61,7 @@ pub struct Trial<'a> {
 }
 
 /// What has to be declared for a test.
-fn declared(alloc: Global, test: Test<'_>) -> Result<String, AllocError> {
+fn declarations(alloc: Global, test: Test<'_>) -> Result<String, AllocError> {
     match test {
         Test::Compared(_) | Test::Assigned => Ok(String::new(alloc)),
         Test::Taken(of) => format!(in alloc; "PROCEDURE {TAKER}(t: {of}); BEGIN END {TAKER}; "),
@@ -98,7 +99,7 @@ fn put_statement(text: &mut Vec<u8>, side: &[u8], test: Test<'_>) -> Result<(), 
 
 impl Trial<'_> {
     /// The text, with what a test of a side needs.
-    fn changed(&self, alloc: Global, side: &[u8], test: Test<'_>) -> Result<Changed, AllocError> {
+    fn text_with(&self, alloc: Global, side: &[u8], test: Test<'_>) -> Result<Changed, AllocError> {
         let Spots {
             body,
             front,
@@ -106,7 +107,7 @@ impl Trial<'_> {
         } = self.spots;
         let mut text = Vec::new(alloc);
         text.extend_from_slice(part(self.text, 0, body))?;
-        text.extend_from_slice(declared(alloc, test)?.as_bytes())?;
+        text.extend_from_slice(declarations(alloc, test)?.as_bytes())?;
         text.extend_from_slice(part(self.text, body, front))?;
         text.extend_from_slice(if is_condition { b"; " } else { b"" })?;
         put_statement(&mut text, side, test)?;
@@ -138,7 +139,7 @@ impl Trial<'_> {
         side: &[u8],
         test: Test<'_>,
     ) -> Result<bool, BuildFault> {
-        let changed = self.changed(rt.alloc(), side, test)?;
+        let changed = self.text_with(rt.alloc(), side, test)?;
         let files = self.files_with(rt.alloc(), &changed.text)?;
         match build(rt, rt.alloc(), &files, self.options, &Open)? {
             Outcome::Built { .. } => Ok(true),

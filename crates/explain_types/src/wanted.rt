@@ -3,8 +3,9 @@
 use crate::given::Scene;
 use std::alloc::{AllocError, Global};
 use text_places::{
-    Argument, Call, Heading, Kind, Texts, declaration_of, module_of, name_at, procedure_in,
+    Declared, Heading, Kind, Texts, declaration_of, module_of, procedure_around, procedure_in,
 };
+use text_tokens::{Argument, Call, name_at};
 
 /// A procedure of the language, and what it takes.
 struct Standard {
@@ -86,7 +87,9 @@ enum Callee<'a> {
     Headed(Heading<'a>),
     /// One that is built in.
     BuiltIn(&'static Standard),
-    /// A procedure variable, or what has no heading among the files.
+    /// A procedure variable that is declared in the text.
+    Variable(Declared),
+    /// What has no heading among the files.
     Unknown,
 }
 
@@ -99,7 +102,7 @@ fn built_in(name: &[u8]) -> Callee<'static> {
 }
 
 /// What a module exports under a name.
-fn exported<'a>(texts: &'a Texts<'_>, module: &[u8], name: &[u8]) -> Callee<'a> {
+fn export_of<'a>(texts: &'a Texts<'_>, module: &[u8], name: &[u8]) -> Callee<'a> {
     if module == CONSOLE {
         return Callee::BuiltIn(&PUT);
     }
@@ -117,21 +120,20 @@ fn exported<'a>(texts: &'a Texts<'_>, module: &[u8], name: &[u8]) -> Callee<'a> 
 }
 
 /// What a name that stands alone means as a procedure.
-fn named<'a>(texts: &'a Texts<'_>, scene: &'a Scene<'_>, name: &[u8]) -> Callee<'a> {
+fn callee_of<'a>(texts: &'a Texts<'_>, scene: &'a Scene<'_>, name: &[u8]) -> Callee<'a> {
     let tokens = scene.text.tokens;
     match declaration_of(tokens, &scene.declared, name) {
-        Some(found) => {
-            if found.kind != Kind::Procedure {
-                return Callee::Unknown;
-            }
-            Callee::Headed(Heading {
+        Some(declared) => match declared.kind {
+            Kind::Procedure => Callee::Headed(Heading {
                 text: scene.text.bytes,
                 tokens,
-                name: found.token,
-            })
-        }
+                name: declared.token,
+            }),
+            Kind::Variable => Callee::Variable(declared),
+            Kind::Type => Callee::Unknown,
+        },
         None => match module_of(tokens, name) {
-            Some(module) => exported(texts, module, name),
+            Some(module) => export_of(texts, module, name),
             None => built_in(name),
         },
     }
@@ -144,11 +146,11 @@ fn what_is_called<'a>(texts: &'a Texts<'_>, scene: &'a Scene<'_>, call: Call) ->
         return Callee::Unknown;
     };
     let Some(module) = call.module.and_then(|it| name_at(tokens, it)) else {
-        return named(texts, scene, name);
+        return callee_of(texts, scene, name);
     };
     match declaration_of(tokens, &scene.declared, module) {
         Some(_) => Callee::Unknown,
-        None => exported(texts, module, name),
+        None => export_of(texts, module, name),
     }
 }
 
@@ -168,10 +170,31 @@ pub fn formal_words(
     match what_is_called(texts, scene, argument.call) {
         Callee::Unknown => Ok(None),
         Callee::BuiltIn(standard) => takes(alloc, standard),
+        Callee::Variable(declared) => Ok(Some(scene.words_of(alloc, declared)?)),
         Callee::Headed(heading) => match heading.formal_words(alloc, argument.number)? {
             Some(words) => Ok(Some(format!(in alloc; "the parameter is {words}")?)),
             None => Ok(None),
         },
+    }
+}
+
+/// What the result is of the procedure around a token, as its heading has it.
+pub fn result_words(
+    alloc: Global,
+    scene: &Scene<'_>,
+    at: usize,
+) -> Result<Option<String>, AllocError> {
+    let Some(name) = procedure_around(alloc, scene.text.tokens, at)? else {
+        return Ok(None);
+    };
+    let heading = Heading {
+        text: scene.text.bytes,
+        tokens: scene.text.tokens,
+        name,
+    };
+    match heading.result_words(alloc)? {
+        Some(words) => Ok(Some(format!(in alloc; "the result is {words}")?)),
+        None => Ok(None),
     }
 }
 
@@ -185,6 +208,7 @@ pub fn all_words(
     match what_is_called(texts, scene, call) {
         Callee::Unknown => Ok(None),
         Callee::BuiltIn(standard) => takes(alloc, standard),
+        Callee::Variable(declared) => Ok(Some(scene.words_of(alloc, declared)?)),
         Callee::Headed(heading) => match heading.all_words(alloc)? {
             Some(words) => Ok(Some(format!(in alloc; "the parameters are {words}")?)),
             None => Ok(Some(String::from_str(alloc, "there are no parameters")?)),

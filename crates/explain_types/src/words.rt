@@ -2,16 +2,17 @@
 
 use crate::given::{CARDINAL, INTEGER, Scene};
 use crate::trial::{TAKER, Trial};
-use crate::wanted::{all_words, formal_words};
+use crate::wanted::{all_words, formal_words, result_words};
 use m2_rule::Rule;
 use m2_tree::Refusal;
 use m2c::{BuildFault, Options, SourceFile};
 use std::alloc::{AllocError, Global};
 use std::thread::Threads;
 use text_places::{
-    Sides, Text, Texts, argument_at, argument_count, argument_side, call_at, declared_around,
-    is_named, sides_at, spots_at, type_names,
+    Index, Side, Sides, Text, Texts, ValuePlace, declared_around, operator_sides, spots_at,
+    type_names, value_place, value_side,
 };
+use text_tokens::{argument_at, argument_count, call_at, is_named};
 
 /// The most bytes of a program of which something is tried. Each trial compiles the program once.
 const MOST_BYTES: usize = 262144;
@@ -53,21 +54,42 @@ fn advice(left: &str, right: &str) -> &'static str {
     }
 }
 
+/// What two sides are called.
+#[derive(Clone, Copy)]
+struct SideNames {
+    left: &'static str,
+    right: &'static str,
+}
+
+/// What the sides of an operator and of an assignment are called.
+const SIDES: SideNames = SideNames {
+    left: "left side",
+    right: "right side",
+};
+
+/// What the variable of a FOR and its limit are called.
+const CONTROL: SideNames = SideNames {
+    left: "control variable",
+    right: "limit",
+};
+
 /// Which types stand on both sides, if both are known.
 fn words_of_sides<R: AllocGlobal + Threads + Sync>(
     rt: &R,
     scene: &Scene<'_>,
     sides: Sides,
+    names: SideNames,
 ) -> Result<Option<String>, BuildFault> {
-    let Some(left) = scene.operand(rt, sides.left)? else {
+    let Some(left) = scene.operand_words(rt, sides.left)? else {
         return Ok(None);
     };
-    let Some(right) = scene.operand(rt, sides.right)? else {
+    let Some(right) = scene.operand_words(rt, sides.right)? else {
         return Ok(None);
     };
     let advice = advice(left.as_str(), right.as_str());
     let words = format!(in rt.alloc();
-        "the left side is {left}, and the right side {right}{advice}"
+        "the {} is {left}, and the {} {right}{advice}",
+        names.left, names.right
     )?;
     Ok(Some(words))
 }
@@ -100,13 +122,72 @@ fn words_of_argument<R: AllocGlobal + Threads + Sync>(
         Some(argument) => formal_words(alloc, texts, scene, argument)?,
         None => None,
     };
-    let side = argument_side(scene.text.tokens, at);
+    let side = value_side(scene.text.tokens, at);
     let given = if is_variable {
-        scene.changed(rt, side)?
+        scene.variable_words(rt, side)?
     } else {
-        scene.value(rt, side)?
+        scene.value_words(rt, side)?
     };
     Ok(join_words(alloc, wanted, given)?)
+}
+
+/// What the result of a function is to be, and what it is.
+fn words_of_result<R: AllocGlobal + Threads + Sync>(
+    rt: &R,
+    scene: &Scene<'_>,
+    value: Side,
+) -> Result<Option<String>, BuildFault> {
+    let wanted = result_words(rt.alloc(), scene, value.from)?;
+    let given = scene.value_words(rt, value)?;
+    Ok(join_words(rt.alloc(), wanted, given)?)
+}
+
+/// What an array is, and what is given as its index.
+fn words_of_index<R: AllocGlobal + Threads + Sync>(
+    rt: &R,
+    scene: &Scene<'_>,
+    index: Index,
+) -> Result<Option<String>, BuildFault> {
+    let alloc = rt.alloc();
+    let Some(given) = scene.value_words(rt, index.value)? else {
+        return Ok(None);
+    };
+    let number = index.number.saturating_add(1);
+    let words = match scene.declaration_words(alloc, index.array)? {
+        Some(array) => format!(in alloc; "{array}, and index {number} is {given}")?,
+        None => {
+            let array = scene.excerpt(alloc, index.array)?;
+            format!(in alloc; "index {number} of {array} is {given}")?
+        }
+    };
+    Ok(Some(words))
+}
+
+/// What a value is given to, and what it is.
+fn words_of_value<R: AllocGlobal + Threads + Sync>(
+    rt: &R,
+    scene: &Scene<'_>,
+    at: usize,
+) -> Result<Option<String>, BuildFault> {
+    match value_place(rt.alloc(), scene.text.tokens, at)? {
+        Some(ValuePlace::Assigned(sides)) => words_of_sides(rt, scene, sides, SIDES),
+        Some(ValuePlace::Limit(sides)) => words_of_sides(rt, scene, sides, CONTROL),
+        Some(ValuePlace::Result(value)) => words_of_result(rt, scene, value),
+        Some(ValuePlace::Index(index)) => words_of_index(rt, scene, index),
+        None => Ok(None),
+    }
+}
+
+/// Which types an operator meets.
+fn words_of_operator<R: AllocGlobal + Threads + Sync>(
+    rt: &R,
+    scene: &Scene<'_>,
+    at: usize,
+) -> Result<Option<String>, BuildFault> {
+    match operator_sides(rt.alloc(), scene.text.tokens, at)? {
+        Some(sides) => words_of_sides(rt, scene, sides, SIDES),
+        None => Ok(None),
+    }
 }
 
 /// How many arguments a call is to have, and how many it has.
@@ -145,10 +226,10 @@ fn words_at<R: AllocGlobal + Threads + Sync>(
     if number == Rule::NoVariable.number() {
         return words_of_argument(rt, texts, scene, at, true);
     }
-    match sides_at(rt.alloc(), scene.text.tokens, number, at)? {
-        Some(sides) => words_of_sides(rt, scene, sides),
-        None => Ok(None),
+    if number == Rule::NotAssignable.number() {
+        return words_of_value(rt, scene, at);
     }
+    words_of_operator(rt, scene, at)
 }
 
 /// Whether a text has the name that trials declare.

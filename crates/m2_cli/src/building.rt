@@ -11,7 +11,7 @@ use m2c::{Gate, Options, Outcome, SourceFile, build};
 use run_program::ProgramFault;
 use std::rt::Files;
 use std::thread::Threads;
-use tool_words::{PROGRAM, Setting};
+use tool_words::{PROGRAM, Setting, Style};
 
 /// The modules of a program.
 #[derive(Drop)]
@@ -46,24 +46,56 @@ pub fn say_fault<R: Eprint>(rt: &R, path: &str, fault: ProgramFault) {
     let _ = eprintln!(rt; "{PROGRAM}: {path}: {words}");
 }
 
-/// The most refusals of which it is said which types met there. For each the program is compiled several times.
+/// The most refusals of which it is said what stood there. For each the program is compiled several times.
 const MOST_EXPLAINED: usize = 8;
 
-/// Says which types meet at refused places.
-fn say_types<R: Eprint + AllocGlobal + Threads + Sync>(
+/// What stood at each of the first refused places, as far as it is known: which types met, or what a parameter is.
+fn details_of<R: AllocGlobal + Threads + Sync>(
     rt: &R,
     files: &[SourceFile],
     options: Options,
     refusals: &[Refusal],
-) -> Result<()> {
+) -> Result<Vec<String>> {
+    let mut details = Vec::new(rt.alloc());
     for refusal in refusals.iter().take(MOST_EXPLAINED) {
-        if let Some(words) = type_words(rt, files, options, refusal)? {
+        let detail = match type_words(rt, files, options, refusal)? {
+            Some(words) => words,
+            None => String::new(rt.alloc()),
+        };
+        details.push(detail)?;
+    }
+    Ok(details)
+}
+
+/// Says what stood at refused places.
+fn say_details<R: Eprint>(rt: &R, refusals: &[Refusal], details: &[String]) {
+    for (refusal, words) in refusals.iter().zip(details) {
+        if !words.is_empty() {
             let file = &refusal.file;
             let (line, col) = (refusal.pos.line, refusal.pos.col);
             let _ = eprintln!(rt; "{PROGRAM}: {file}:{line}:{col}: {words}");
         }
     }
-    Ok(())
+}
+
+/// Shows refusals, and what stood at their places: in their objects, or below all lines. The status.
+fn show_detailed<R>(
+    rt: &R,
+    setting: &Setting,
+    program: &Program,
+    refusals: &[Refusal],
+) -> Result<u8>
+where
+    R: Print + Eprint + AllocGlobal + Threads + Sync,
+{
+    if setting.style == Style::Json {
+        let details = details_of(rt, &program.files, setting.options, refusals)?;
+        return show(rt, setting.style, program, refusals, &details);
+    }
+    let status = show(rt, setting.style, program, refusals, &[])?;
+    let details = details_of(rt, &program.files, setting.options, refusals)?;
+    say_details(rt, refusals, &details);
+    Ok(status)
 }
 
 /// Shows the refusals of a program, and says what stands there and what it lacks: types, modules, or pages. The status.
@@ -76,8 +108,7 @@ pub fn show_refused<R>(
 where
     R: Print + Eprint + AllocGlobal + Threads + Sync,
 {
-    let status = show(rt, setting.style, program, refusals)?;
-    say_types(rt, &program.files, setting.options, refusals)?;
+    let status = show_detailed(rt, setting, program, refusals)?;
     say_pages(rt, &program.files, setting.options, refusals)?;
     Ok(status)
 }

@@ -61,6 +61,7 @@ fn refuse<R: Print + Eprint + AllocGlobal>(
         setting.style,
         &alone(rt.alloc(), path, text)?,
         &refusals,
+        &[],
     )
 }
 

@@ -31,14 +31,15 @@ fn print_lines<R: Print + Eprint + AllocGlobal>(
     Ok(Ok(()))
 }
 
-/// Prints refusals as JSON objects, each in a line. Why printing failed, if it did.
+/// Prints refusals as JSON objects, each in a line with its detail. Why printing failed, if it did.
 fn print_objects<R: Print + AllocGlobal>(
     rt: &R,
     files: &[SourceFile],
     refusals: &[Refusal],
+    details: &[String],
 ) -> Result<io::Result<()>> {
     let mut out = Screen::new(rt.alloc(), rt)?;
-    show_json(rt.alloc(), files, refusals, &mut out)?;
+    show_json(rt.alloc(), files, refusals, details, &mut out)?;
     Ok(out.close())
 }
 
@@ -48,11 +49,12 @@ fn print_all<R: Print + Eprint + AllocGlobal>(
     style: Style,
     files: &[SourceFile],
     refusals: &[Refusal],
+    details: &[String],
 ) -> Result<io::Result<()>> {
     match style {
         Style::Text => print_lines(rt, files, refusals, false),
         Style::Coloured => print_lines(rt, files, refusals, true),
-        Style::Json => print_objects(rt, files, refusals),
+        Style::Json => print_objects(rt, files, refusals, details),
     }
 }
 
@@ -73,14 +75,16 @@ fn say_lacking<R: Eprint>(rt: &R, program: &Program) {
     }
 }
 
-/// Shows the refusals of a program, and says which modules it lacks. The status. The error is want of memory.
+/// Shows the refusals of a program, as objects with their details, and says which modules it lacks. The status. The error is
+/// want of memory.
 pub fn show<R: Print + Eprint + AllocGlobal>(
     rt: &R,
     style: Style,
     program: &Program,
     refusals: &[Refusal],
+    details: &[String],
 ) -> Result<u8> {
-    match print_all(rt, style, &program.files, refusals)? {
+    match print_all(rt, style, &program.files, refusals, details)? {
         Ok(()) => {
             say_lacking(rt, program);
             Ok(REFUSED)

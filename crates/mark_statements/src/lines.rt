@@ -2,6 +2,7 @@
 
 use m2_tree::Pos;
 use std::alloc::{AllocError, Global};
+use text_tokens::part;
 
 /// The lines of a text, by the bytes in front of which they begin.
 #[derive(Drop)]
@@ -51,10 +52,4 @@ impl<'a> Lines<'a> {
         let column = pos.col.saturating_sub(1) as usize;
         self.begin(line).saturating_add(column)
     }
-}
-
-/// The bytes from one place to another, as far as the text has them.
-pub fn part(text: &[u8], from: usize, to: usize) -> &[u8] {
-    let front = &text[..to.min(text.len())];
-    &front[from.min(front.len())..]
 }

@@ -1,8 +1,8 @@
 //! Texts in which each statement is marked.
 
-use crate::lines::part;
 use crate::statements::{Statement, statements_of};
 use std::alloc::{AllocError, Global};
+use text_tokens::part;
 
 /// A statement that does nothing. Its code is told in `merge`.
 const MARK: &[u8] = b"IF 1 = 2 THEN IF 2 = 1 THEN END END; ";

@@ -1,16 +1,11 @@
 //! The statements of a text, found by its tokens.
 
-use crate::lines::{Lines, part};
+use crate::lines::Lines;
 use indexmap::IndexMap;
 use m2_tree::{Lexeme, Pos, Symbol, Token};
 use scan_tokens::{ScanError, scan};
 use std::alloc::{AllocError, Global};
-
-/// The most bytes of a statement that are shown.
-const MOST_SHOWN: usize = 60;
-
-/// What stands behind a statement that is shown in part.
-const AND_MORE: &[u8] = b" ..";
+use text_tokens::{begins_statement, part, shorten, stands_before_statement, symbol_of};
 
 /// A statement, as it is shown.
 #[derive(Drop)]
@@ -65,43 +60,15 @@ struct Walk<'a> {
     /// Whether statements stand here, and the number of the first of the innermost procedure.
     is_body: bool,
     first: usize,
-    /// The place of the statement that has begun.
-    begun: Option<Pos>,
-}
-
-/// Whether a statement may begin behind this.
-fn may_begin(before: Option<Symbol>) -> bool {
-    matches!(
-        before,
-        Some(
-            Symbol::Begin
-                | Symbol::Semicolon
-                | Symbol::Then
-                | Symbol::Else
-                | Symbol::Do
-                | Symbol::Loop
-                | Symbol::Repeat
-                | Symbol::Colon
-        )
-    )
+    /// The place of the statement that is open.
+    open: Option<Pos>,
 }
 
 /// Whether a statement begins with this.
-fn begins_statement(lexeme: &Lexeme) -> bool {
+fn is_first(lexeme: &Lexeme) -> bool {
     match lexeme {
         Lexeme::Name(_) => true,
-        Lexeme::Symbol(symbol) => matches!(
-            symbol,
-            Symbol::If
-                | Symbol::Case
-                | Symbol::While
-                | Symbol::Repeat
-                | Symbol::Loop
-                | Symbol::Exit
-                | Symbol::Return
-                | Symbol::For
-                | Symbol::With
-        ),
+        Lexeme::Symbol(symbol) => begins_statement(*symbol),
         Lexeme::Number(_) | Lexeme::Char(_) | Lexeme::Text(_) | Lexeme::End => false,
     }
 }
@@ -124,49 +91,14 @@ fn bytes_at_end(symbol: Symbol) -> Option<usize> {
     }
 }
 
-/// Whether a byte is a space of the language.
-fn is_space(byte: u8) -> bool {
-    matches!(byte, b' ' | b'\t' | b'\n' | b'\r')
-}
-
-/// A byte as it is shown.
-fn shown(byte: u8) -> u8 {
-    match byte {
-        b'!'..=b'~' => byte,
-        _ => b'?',
-    }
-}
-
-/// Bytes as they are shown: with one blank for the spaces between two others, and at most 60 of them.
-fn shorten(alloc: Global, bytes: &[u8]) -> Result<Vec<u8>, AllocError> {
-    let mut all = Vec::new(alloc);
-    let mut is_blank = false;
-    for byte in bytes {
-        if is_space(*byte) {
-            is_blank = !all.is_empty();
-        } else {
-            if all.len() >= MOST_SHOWN {
-                all.extend_from_slice(AND_MORE)?;
-                return Ok(all);
-            }
-            if is_blank {
-                all.push(b' ')?;
-                is_blank = false;
-            }
-            all.push(shown(*byte))?;
-        }
-    }
-    Ok(all)
-}
-
 impl Walk<'_> {
-    /// The statement that has begun ends in front of a byte.
+    /// The statement that is open ends in front of a byte.
     fn end_statement(&mut self, to: usize) -> Result<(), AllocError> {
-        if let Some(pos) = self.begun {
+        if let Some(pos) = self.open {
             let offset = self.lines.offset(pos);
             let words = shorten(self.alloc, part(self.text, offset, to))?;
             self.statements.all.push(Statement { pos, offset, words })?;
-            self.begun = None;
+            self.open = None;
         }
         Ok(())
     }
@@ -218,22 +150,15 @@ impl Walk<'_> {
 
     /// A token behind this symbol.
     fn pass(&mut self, token: &Token, before: Option<Symbol>) -> Result<(), AllocError> {
-        if self.is_body && may_begin(before) && begins_statement(&token.lexeme) {
-            self.begun = Some(token.pos);
+        let may_begin = before.is_some_and(stands_before_statement);
+        if self.is_body && may_begin && is_first(&token.lexeme) {
+            self.open = Some(token.pos);
         }
         match &token.lexeme {
             Lexeme::Name(_) => self.pass_name(token.pos, before),
             Lexeme::Symbol(symbol) => self.pass_symbol(*symbol, token.pos),
             Lexeme::Number(_) | Lexeme::Char(_) | Lexeme::Text(_) | Lexeme::End => Ok(()),
         }
-    }
-}
-
-/// The symbol of a token.
-fn symbol_of(token: &Token) -> Option<Symbol> {
-    match &token.lexeme {
-        Lexeme::Symbol(symbol) => Some(*symbol),
-        _ => None,
     }
 }
 
@@ -250,7 +175,7 @@ fn statements_in(alloc: Global, text: &[u8], tokens: &[Token]) -> Result<Stateme
         names: Vec::new(alloc),
         is_body: false,
         first: 0,
-        begun: None,
+        open: None,
     };
     let mut before = None;
     for token in tokens {

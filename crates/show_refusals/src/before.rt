@@ -3,6 +3,7 @@
 use m2_tree::{Lexeme, Pos, Symbol, Token};
 use scan_tokens::{ScanError, scan};
 use std::alloc::{AllocError, Global};
+use text_tokens::begins_statement;
 
 /// The rule of a token with which no module goes on.
 const UNFIT: u32 = 10;
@@ -26,22 +27,11 @@ fn may_end(lexeme: &Lexeme) -> bool {
 
 /// Whether only a statement or a declaration begins with this.
 fn begins_one(symbol: Symbol) -> bool {
-    matches!(
-        symbol,
-        Symbol::If
-            | Symbol::Case
-            | Symbol::While
-            | Symbol::Repeat
-            | Symbol::Loop
-            | Symbol::For
-            | Symbol::With
-            | Symbol::Exit
-            | Symbol::Return
-            | Symbol::Const
-            | Symbol::Type
-            | Symbol::Var
-            | Symbol::Procedure
-    )
+    begins_statement(symbol)
+        || matches!(
+            symbol,
+            Symbol::Const | Symbol::Type | Symbol::Var | Symbol::Procedure
+        )
 }
 
 /// What may be wrong if a symbol does not fit behind a token.

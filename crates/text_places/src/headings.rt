@@ -1,11 +1,8 @@
 //! The headings of procedures, by their tokens.
 
-use crate::calls::symbol_at;
-use crate::excerpts::excerpt;
-use crate::operands::symbol_of;
-use crate::scopes::{is_named, name_at};
 use m2_tree::{Lexeme, Symbol, Token};
 use std::alloc::{AllocError, Global};
+use text_tokens::{excerpt, is_named, name_at, symbol_at, symbol_of};
 
 /// A heading: the text that it stands in, the tokens of this, and the number of the procedure's name among them.
 #[derive(Clone, Copy)]
@@ -26,7 +23,7 @@ struct Formal {
 /// What was seen of the formals of a heading.
 #[derive(Clone, Copy)]
 struct Seen {
-    /// How many formals are left before the one that is looked for.
+    /// How many formals stand before the one that is looked for.
     left: usize,
     name: Option<usize>,
     is_var: bool,
@@ -58,7 +55,7 @@ impl Seen {
     }
 
     /// The formal that was looked for, if the token of this number is the colon behind its name.
-    fn found(self, number: usize) -> Option<Formal> {
+    fn formal(self, number: usize) -> Option<Formal> {
         let name = self.name?;
         if !self.is_type {
             return None;
@@ -85,7 +82,7 @@ fn formal_behind(tokens: &[Token], open: usize, wanted: usize) -> Option<Formal>
                 return None;
             }
             seen = seen.behind(token, number);
-            if let Some(formal) = seen.found(number) {
+            if let Some(formal) = seen.formal(number) {
                 return Some(formal);
             }
         }
@@ -153,6 +150,27 @@ impl Heading<'_> {
         Ok(Some(words))
     }
 
+    /// The number of the token behind the name and the formals.
+    fn formals_end(&self) -> usize {
+        let open = self.name.saturating_add(1);
+        if symbol_at(self.tokens, open) == Some(Symbol::LeftParen) {
+            closing(self.tokens, open).saturating_add(1)
+        } else {
+            open
+        }
+    }
+
+    /// The words of the type of the result, or none if there is no result.
+    pub fn result_words(&self, alloc: Global) -> Result<Option<String>, AllocError> {
+        let colon = self.formals_end();
+        if symbol_at(self.tokens, colon) != Some(Symbol::Colon) {
+            return Ok(None);
+        }
+        let begin = colon.saturating_add(1);
+        let end = end_of_formal(self.tokens, begin);
+        Ok(Some(excerpt(alloc, self.text, self.tokens, begin, end)?))
+    }
+
     /// The words of all formals, or none if there are none.
     pub fn all_words(&self, alloc: Global) -> Result<Option<String>, AllocError> {
         let Some(open) = self.open() else {
@@ -162,6 +180,27 @@ impl Heading<'_> {
         let end = closing(self.tokens, begin);
         Ok(Some(excerpt(alloc, self.text, self.tokens, begin, end)?))
     }
+}
+
+/// The name of the innermost procedure around the token of this number, by the number of its token.
+pub fn procedure_around(
+    alloc: Global,
+    tokens: &[Token],
+    at: usize,
+) -> Result<Option<usize>, AllocError> {
+    let mut open = Vec::new(alloc);
+    let mut before = None;
+    for (number, token) in tokens.iter().enumerate() {
+        if number < at && name_at(tokens, number).is_some() {
+            if before == Some(Symbol::Procedure) {
+                open.push(number)?;
+            } else if before == Some(Symbol::End) {
+                let _ = open.pop();
+            }
+        }
+        before = symbol_of(token);
+    }
+    Ok(open.pop())
 }
 
 /// The name of a procedure of a definition, by the number of its token.

@@ -1,8 +1,7 @@
 //! What a text imports, by its tokens.
 
-use crate::operands::symbol_of;
-use crate::scopes::{is_named, name_at};
 use m2_tree::{Lexeme, Symbol, Token};
+use text_tokens::{is_named, name_at, symbol_of};
 
 /// What the names are behind a word of an import.
 #[derive(Clone, Copy, PartialEq, Eq)]
@@ -53,7 +52,7 @@ impl Imports {
     }
 
     /// What a name is that stands here.
-    pub fn imported(self) -> Option<Imported> {
+    pub fn meaning(self) -> Option<Imported> {
         if !self.is_list {
             return None;
         }
@@ -84,7 +83,7 @@ pub fn module_of<'a>(tokens: &'a [Token], name: &[u8]) -> Option<&'a [u8]> {
             return None;
         }
         imports = imports.behind(token, number, before);
-        if let Some(Imported::From(module)) = imports.imported() {
+        if let Some(Imported::From(module)) = imports.meaning() {
             if is_named(tokens, number, name) {
                 return name_at(tokens, module);
             }

@@ -1,8 +1,8 @@
 //! The names that are declared around a place of a text, found by its tokens.
 
-use crate::operands::symbol_of;
 use m2_tree::{Lexeme, Symbol, Token};
 use std::alloc::{AllocError, Global};
+use text_tokens::{is_named, symbol_of};
 
 /// What a name is declared as.
 #[derive(Clone, Copy, PartialEq, Eq)]
@@ -218,22 +218,6 @@ pub fn declared_around(
     }
     let Walk { visible, .. } = walk;
     Ok(visible)
-}
-
-/// The bytes of the name of this number, or none if no name stands there.
-pub fn name_at(tokens: &[Token], number: usize) -> Option<&[u8]> {
-    match &tokens.get(number)?.lexeme {
-        Lexeme::Name(name) => Some(name.as_bytes()),
-        _ => None,
-    }
-}
-
-/// Whether this name stands at the token of this number.
-pub fn is_named(tokens: &[Token], number: usize, name: &[u8]) -> bool {
-    match name_at(tokens, number) {
-        Some(it) => it == name,
-        None => false,
-    }
 }
 
 /// Whether a declaration stands in more procedures than the one that was found.

@@ -1,14 +1,12 @@
 //! The sides of a refused place, and where its text may be changed.
 
-use crate::excerpts::bytes_between;
-use crate::operands::{
-    ASSIGNMENT, Front, front_of, operand_begin, operand_end, strength_of, symbol_of,
-};
-use crate::places::offset_of;
 use crate::texts::Text;
-use m2_rule::Rule;
 use m2_tree::{Symbol, Token};
 use std::alloc::{AllocError, Global};
+use text_tokens::{
+    ASSIGNMENT, Front, bytes_between, front_of, offset_of, operand_begin, operand_end, strength_of,
+    symbol_of,
+};
 
 /// Where a text may be changed.
 #[derive(Clone, Copy)]
@@ -62,7 +60,11 @@ fn around(begin: usize, at: usize, end: usize) -> Sides {
 }
 
 /// The sides of an operator.
-fn operator_sides(alloc: Global, tokens: &[Token], at: usize) -> Result<Option<Sides>, AllocError> {
+pub fn operator_sides(
+    alloc: Global,
+    tokens: &[Token],
+    at: usize,
+) -> Result<Option<Sides>, AllocError> {
     let Some(token) = tokens.get(at) else {
         return Ok(None);
     };
@@ -74,41 +76,8 @@ fn operator_sides(alloc: Global, tokens: &[Token], at: usize) -> Result<Option<S
     Ok(Some(around(begin, at, end)))
 }
 
-/// The sides of an assignment whose value begins at the token of this number.
-fn assignment_sides(
-    alloc: Global,
-    tokens: &[Token],
-    value: usize,
-) -> Result<Option<Sides>, AllocError> {
-    let at = value.saturating_sub(1);
-    match tokens.get(at).and_then(symbol_of) {
-        Some(Symbol::Assign) => {
-            let end = operand_end(tokens, value, ASSIGNMENT);
-            let begin = operand_begin(alloc, tokens, at, ASSIGNMENT)?;
-            Ok(Some(around(begin, at, end)))
-        }
-        _ => Ok(None),
-    }
-}
-
-/// The sides of what breaks this rule at the token of this number, if it has sides.
-pub fn sides_at(
-    alloc: Global,
-    tokens: &[Token],
-    number: u32,
-    at: usize,
-) -> Result<Option<Sides>, AllocError> {
-    if number == Rule::WrongType.number() {
-        operator_sides(alloc, tokens, at)
-    } else if number == Rule::NotAssignable.number() {
-        assignment_sides(alloc, tokens, at)
-    } else {
-        Ok(None)
-    }
-}
-
-/// The argument that begins at the token of this number.
-pub fn argument_side(tokens: &[Token], at: usize) -> Side {
+/// The value that begins at the token of this number.
+pub fn value_side(tokens: &[Token], at: usize) -> Side {
     Side {
         from: at,
         to: operand_end(tokens, at, ASSIGNMENT),

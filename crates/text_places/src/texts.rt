@@ -1,11 +1,10 @@
 //! The files of a program, with their tokens.
 
-use crate::calls::symbol_at;
-use crate::scopes::is_named;
 use build_jobs::SourceFile;
 use m2_tree::{Symbol, Token};
 use scan_tokens::{ScanError, scan};
 use std::alloc::{AllocError, Global};
+use text_tokens::{is_named, symbol_at};
 
 /// The files of a program, and the tokens of each.
 #[derive(Drop)]
@@ -31,14 +30,14 @@ fn tokens_of(alloc: Global, text: &[u8]) -> Result<Vec<Token>, AllocError> {
 }
 
 /// The number of the token that is the name of a module, if the text of these tokens is a definition.
-fn defined_in(tokens: &[Token]) -> Option<usize> {
+fn definition_name(tokens: &[Token]) -> Option<usize> {
     let is_definition = symbol_at(tokens, 0) == Some(Symbol::Definition);
     if is_definition { Some(2) } else { None }
 }
 
 /// Whether these are the tokens of the definition of the module of this name.
 fn defines(tokens: &[Token], module: &[u8]) -> bool {
-    match defined_in(tokens) {
+    match definition_name(tokens) {
         Some(number) => is_named(tokens, number, module),
         None => false,
     }

@@ -1,12 +1,11 @@
 //! The types that a program declares and that can be named at a place of one of its texts.
 
-use crate::calls::symbol_at;
 use crate::imports::{Imported, Imports, ends_imports};
-use crate::operands::symbol_of;
-use crate::scopes::{Declared, Kind, is_named, name_at};
+use crate::scopes::{Declared, Kind};
 use crate::texts::{Text, Texts};
 use m2_tree::{Symbol, Token};
 use std::alloc::{AllocError, Global};
+use text_tokens::{is_named, name_at, symbol_at, symbol_of};
 
 /// The most names of a text's imports that are looked up in definitions.
 const MOST_IMPORTS: usize = 64;
@@ -169,7 +168,7 @@ impl Names {
                 return Ok(());
             }
             imports = imports.behind(token, number, before);
-            if let Some(imported) = imports.imported() {
+            if let Some(imported) = imports.meaning() {
                 self.push_import(texts, tokens, number, imported)?;
             }
             before = symbol_of(token);

@@ -42,7 +42,7 @@ fn is_space(byte: u8) -> bool {
 }
 
 /// Bytes as they are shown: with one blank for the spaces between two others, and at most 60 of them.
-fn shorten(alloc: Global, bytes: &[u8]) -> Result<Vec<u8>, AllocError> {
+pub fn shorten(alloc: Global, bytes: &[u8]) -> Result<Vec<u8>, AllocError> {
     let mut all = Vec::new(alloc);
     let mut is_blank = false;
     for byte in bytes {

@@ -1,7 +1,6 @@
 //! Calls, by their tokens.
 
-use crate::operands::{closes, opens, symbol_of};
-use crate::scopes::name_at;
+use crate::symbols::{closes, depth_behind, name_at, opens, symbol_at, symbol_of};
 use m2_tree::{Symbol, Token};
 use std::alloc::{AllocError, Global};
 
@@ -24,9 +23,9 @@ pub struct Argument {
 
 /// A bracket that is open, and how many commas stand behind it.
 #[derive(Clone, Copy)]
-struct Bracket {
-    token: usize,
-    commas: usize,
+pub struct Bracket {
+    pub token: usize,
+    pub commas: usize,
 }
 
 /// Takes the token of this number into account.
@@ -53,7 +52,7 @@ fn pass(open: &mut Vec<Bracket>, token: &Token, number: usize) -> Result<(), All
 }
 
 /// The innermost bracket that is open in front of the token of this number.
-fn bracket_around(
+pub fn bracket_around(
     alloc: Global,
     tokens: &[Token],
     at: usize,
@@ -65,11 +64,6 @@ fn bracket_around(
         }
     }
     Ok(open.pop())
-}
-
-/// The symbol of the token of this number.
-pub fn symbol_at(tokens: &[Token], number: usize) -> Option<Symbol> {
-    symbol_of(tokens.get(number)?)
 }
 
 /// The call whose arguments stand behind this bracket, if a name, or a name of a module's, stands before it.
@@ -93,20 +87,25 @@ fn call_before(tokens: &[Token], open: usize) -> Option<Call> {
     })
 }
 
+/// The argument of a call that begins behind this many commas in a bracket.
+fn argument_in(tokens: &[Token], bracket: Bracket) -> Option<Argument> {
+    if symbol_at(tokens, bracket.token) != Some(Symbol::LeftParen) {
+        return None;
+    }
+    let number = bracket.commas;
+    call_before(tokens, bracket.token).map(|call| Argument { call, number })
+}
+
 /// The argument that begins at the token of this number.
 pub fn argument_at(
     alloc: Global,
     tokens: &[Token],
     at: usize,
 ) -> Result<Option<Argument>, AllocError> {
-    let Some(bracket) = bracket_around(alloc, tokens, at)? else {
-        return Ok(None);
-    };
-    if symbol_at(tokens, bracket.token) != Some(Symbol::LeftParen) {
-        return Ok(None);
+    match bracket_around(alloc, tokens, at)? {
+        Some(bracket) => Ok(argument_in(tokens, bracket)),
+        None => Ok(None),
     }
-    let number = bracket.commas;
-    Ok(call_before(tokens, bracket.token).map(|call| Argument { call, number }))
 }
 
 /// The call whose name, or whose module's name, is the token of this number.
@@ -122,34 +121,17 @@ pub fn call_at(tokens: &[Token], at: usize) -> Call {
     }
 }
 
-/// How many brackets are open behind a symbol, if so many are open before it.
-fn depth_behind(symbol: Option<Symbol>, depth: usize) -> usize {
-    match symbol {
-        None => depth,
-        Some(symbol) => {
-            if opens(symbol) {
-                depth.saturating_add(1)
-            } else if closes(symbol) {
-                depth.saturating_sub(1)
-            } else {
-                depth
-            }
-        }
-    }
-}
-
 /// How many arguments stand behind the bracket of this number, if at least one does.
 fn count_behind(tokens: &[Token], open: usize) -> usize {
     let mut depth: usize = 0;
     let mut count: usize = 1;
     for (number, token) in tokens.iter().enumerate() {
         if number >= open {
-            let symbol = symbol_of(token);
-            depth = depth_behind(symbol, depth);
+            depth = depth_behind(token, depth).unwrap_or(0);
             if depth == 0 {
                 return count;
             }
-            if depth == 1 && symbol == Some(Symbol::Comma) {
+            if depth == 1 && symbol_of(token) == Some(Symbol::Comma) {
                 count = count.saturating_add(1);
             }
         }

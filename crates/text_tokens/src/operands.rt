@@ -1,5 +1,6 @@
-//! The operands of an operator, and the statement around it, by their tokens.
+//! The operands of an operator, by their tokens.
 
+use crate::symbols::{closes, depth_behind, opens, symbol_of};
 use m2_tree::{Lexeme, Symbol, Token};
 use std::alloc::{AllocError, Global};
 
@@ -16,13 +17,8 @@ const TERM: Strength = Strength(2);
 
 const FACTOR: Strength = Strength(3);
 
-/// The symbol of a token.
-pub fn symbol_of(token: &Token) -> Option<Symbol> {
-    match &token.lexeme {
-        Lexeme::Symbol(symbol) => Some(*symbol),
-        _ => None,
-    }
-}
+/// A variable with its selectors binds more than any operator.
+pub const DESIGNATOR: Strength = Strength(4);
 
 /// How strongly a symbol binds, if it is an operator between two operands.
 pub fn strength_of(symbol: Symbol) -> Option<Strength> {
@@ -40,22 +36,6 @@ pub fn strength_of(symbol: Symbol) -> Option<Strength> {
     }
 }
 
-/// Whether a symbol opens a bracket.
-pub fn opens(symbol: Symbol) -> bool {
-    matches!(
-        symbol,
-        Symbol::LeftParen | Symbol::LeftBracket | Symbol::LeftBrace
-    )
-}
-
-/// Whether a symbol closes a bracket.
-pub fn closes(symbol: Symbol) -> bool {
-    matches!(
-        symbol,
-        Symbol::RightParen | Symbol::RightBracket | Symbol::RightBrace
-    )
-}
-
 /// Whether an operand of this strength ends in front of a symbol that stands outside of its brackets.
 fn ends_before(symbol: Symbol, strength: Strength) -> bool {
     match strength_of(symbol) {
@@ -68,23 +48,11 @@ fn ends_before(symbol: Symbol, strength: Strength) -> bool {
 fn begins_behind(symbol: Symbol, strength: Strength) -> bool {
     match strength_of(symbol) {
         Some(other) => other.0 < strength.0,
-        None => !matches!(symbol, Symbol::Dot | Symbol::Not),
-    }
-}
-
-/// How many brackets are open behind a token, if so many are open before it. Nothing if it closes one more than are open.
-fn depth_behind(token: &Token, depth: usize) -> Option<usize> {
-    match symbol_of(token) {
-        Some(symbol) => {
-            if opens(symbol) {
-                Some(depth.saturating_add(1))
-            } else if closes(symbol) {
-                depth.checked_sub(1)
-            } else {
-                Some(depth)
-            }
-        }
-        None => Some(depth),
+        None => match symbol {
+            Symbol::Dot => false,
+            Symbol::Not => strength == DESIGNATOR,
+            _ => true,
+        },
     }
 }
 
@@ -158,51 +126,4 @@ pub fn operand_begin(
         }
     }
     Ok(begins.last)
-}
-
-/// Where a statement may be put in front of the one that has a token.
-#[derive(Clone, Copy, PartialEq, Eq)]
-pub struct Front {
-    /// The number of the token in front of which it may be put.
-    pub token: usize,
-    /// Whether a condition begins there, so that a semicolon has to stand before the statement.
-    pub is_condition: bool,
-}
-
-/// Whether a statement begins behind a symbol.
-fn begins_statement(symbol: Symbol) -> bool {
-    matches!(
-        symbol,
-        Symbol::Semicolon
-            | Symbol::Begin
-            | Symbol::Then
-            | Symbol::Else
-            | Symbol::Do
-            | Symbol::Loop
-            | Symbol::Repeat
-            | Symbol::Colon
-    )
-}
-
-/// The place in front of the statement that has the token of this number.
-pub fn front_of(tokens: &[Token], at: usize) -> Option<Front> {
-    let mut front = None;
-    for (number, token) in tokens.iter().enumerate() {
-        if number < at {
-            if let Some(symbol) = symbol_of(token) {
-                if begins_statement(symbol) {
-                    front = Some(Front {
-                        token: number.saturating_add(1),
-                        is_condition: false,
-                    });
-                } else if matches!(symbol, Symbol::Elsif | Symbol::Until) {
-                    front = Some(Front {
-                        token: number,
-                        is_condition: true,
-                    });
-                }
-            }
-        }
-    }
-    front
 }
