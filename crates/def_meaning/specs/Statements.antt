@@ -61,9 +61,10 @@ abbrev pub looped : ℕ → (State → Outcome) → State → Outcome
 looped zero body st = StillRunning st.out
 looped (suc n) body st = loop_left (body st) (looped n body)
 
--- WHILE: the condition is evaluated before each turn
+-- WHILE: the condition is evaluated before each turn, and behind the last one
 abbrev pub while_true : ℕ → (State → Answer ℤ) → (State → Outcome) → State → Outcome
-while_true zero test body st = StillRunning st.out
+while_true zero test body st =
+    test st ▷ λ v st. if is_true v then StillRunning st.out else Value Normal st
 while_true (suc n) test body st =
     test st ▷ λ v st.
     if is_true v then then_go (body st) (while_true n test body) else Value Normal st

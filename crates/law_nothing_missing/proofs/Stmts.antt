@@ -37,7 +37,7 @@ use Rattle.law_simulation.specs.Passing.{Result}
 use Rattle.law_simulation.specs.TreesTyped as trees
 use Rattle.law_simulation.specs.TreesTyped.{Context}
 use Rattle.law_simulation.specs.StmtsTyped as typed
-use Rattle.law_simulation.proofs.StmtsMeant.{arm_does, step_meant, step_means, arm_means}
+use Rattle.law_nothing_missing.proofs.StmtsMeant.{arm_does, step_meant, step_means, arm_means}
 use Rattle.law_nothing_missing.specs.Worlds.{World, type_at, is_like, has_room}
 use Rattle.law_nothing_missing.specs.Expressions as places
 use Rattle.law_nothing_missing.specs.Expressions.{is_ranged, is_taken, provided, at_cell}
@@ -256,7 +256,7 @@ module _ (x : Context) (lacking : ℕ) (world : World) (sask ask : Asks) (knows 
   looped_same l (suc k) f g h st fine = loop_goes l (h st fine) (looped_same l k f g h)
 
   while_turns : (l : Bool) (k : ℕ) (t u : State → Answer ℤ) (f g : State → Outcome) → ((st : State) → IsFine P world st.store → Same P world Any (t st) (u st)) → Turn l f g → Turn l (while_true k t f) (while_true k u g)
-  while_turns l zero t u f g q h st fine = unfinished st.out
+  while_turns l zero t u f g q h st fine = end_with P world (q st fine) (λ v st fine good. end_if P world (is_true v) (unfinished st.out) (goes st fine))
   while_turns l (suc k) t u f g q h st fine =
       end_with P world (q st fine) (λ v st fine good. end_if P world (is_true v) (end_then P world (h st fine) (λ st fine. while_turns l k t u f g q h st fine)) (goes st fine))
 

@@ -256,9 +256,22 @@ less n i h = omega (arith, h)
 none_left : (n i : ℕ) → n ≤ i → n - i ≡ 0
 none_left n i h = omega (arith, h)
 
-pub while_over : (a : Around) (e : TypedExpr) (xs : List TypedStmt) (n i : ℕ) (st : Meant) → n ≤ i → while_in a e xs (n - i) st ≡ StillRunning st.out
+pub spent_stays : (a : Around) (e : TypedExpr) (xs : List TypedStmt) (n i : ℕ) (s : Stop) (st : Meant) (st' : State) → n ≤ i → value_in a e st ≡ stopped s st' → while_in a e xs (n - i) st ≡ halts s st'
 unfolding while_in
-while_over a e xs n i st h = ap (λ (k : ℕ). while_in a e xs k st) (none_left n i h)
+spent_stays a e xs n i s st st' h g = ap (λ (k : ℕ). while_in a e xs k st) (none_left n i h)
+    ∙ with_stays (value_in a e st) s st' (λ v st. if is_true v then StillRunning st.out else Value Normal st) g
+
+pub spent_ends : (a : Around) (e : TypedExpr) (xs : List TypedStmt) (n i : ℕ) (v : ℤ) (st st' : Meant) → n ≤ i → value_in a e st ≡ Value v st' → is_true v ≡ false → while_in a e xs (n - i) st ≡ Value Normal st'
+unfolding while_in
+spent_ends a e xs n i v st st' h g b = ap (λ (k : ℕ). while_in a e xs k st) (none_left n i h)
+    ∙ ap (λ (r : Given ℤ). (r ▷ λ v st. if is_true v then StillRunning st.out else Value Normal st)) g
+    ∙ ap (λ (b : Bool). if b then StillRunning st'.out else Value Normal st') b
+
+pub spent_on : (a : Around) (e : TypedExpr) (xs : List TypedStmt) (n i : ℕ) (v : ℤ) (st st' : Meant) → n ≤ i → value_in a e st ≡ Value v st' → is_true v ≡ true → while_in a e xs (n - i) st ≡ StillRunning st'.out
+unfolding while_in
+spent_on a e xs n i v st st' h g b = ap (λ (k : ℕ). while_in a e xs k st) (none_left n i h)
+    ∙ ap (λ (r : Given ℤ). (r ▷ λ v st. if is_true v then StillRunning st.out else Value Normal st)) g
+    ∙ ap (λ (b : Bool). if b then StillRunning st'.out else Value Normal st') b
 
 pub while_stays : (a : Around) (e : TypedExpr) (xs : List TypedStmt) (n i : ℕ) (s : Stop) (st : Meant) (st' : State) → i < n → value_in a e st ≡ stopped s st' → while_in a e xs (n - i) st ≡ halts s st'
 unfolding while_in
@@ -299,7 +312,7 @@ while_goes a e xs n i v st st' st2 h g b q = ap (λ (k : ℕ). while_in a e xs k
     ∙ ap (λ (b : Bool). if b then then_go (steps_in a xs st') (while_true (n - (i + 1)) (value_in a e) (steps_in a xs)) else Value Normal st') b
     ∙ ap (λ (r : Course). then_go r (while_true (n - (i + 1)) (value_in a e) (steps_in a xs))) q
 
-pub ruleset whiles = (while_over, while_stays, while_ends, while_left, while_came, while_halts, while_goes)
+pub ruleset whiles = (spent_stays, spent_ends, spent_on, while_stays, while_ends, while_left, while_came, while_halts, while_goes)
 
 pub repeat_over : (a : Around) (xs : List TypedStmt) (e : TypedExpr) (n i : ℕ) (st : Meant) → n ≤ i → repeat_in a xs e (n - i) st ≡ StillRunning st.out
 unfolding repeat_in
