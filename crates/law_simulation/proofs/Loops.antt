@@ -11,7 +11,7 @@ use Rattle.law_effect.specs.Effect.{State as Target, Effect, FellThrough, Branch
 use Rattle.law_effect.proofs.Steps.{block_runs, loop_runs, br_runs, br_if_runs, to_label_keeps}
 use Rattle.typed_tree.specs.Types.{boolean}
 use Rattle.def_meaning.specs.Answer.{State as Source, Answer, Ended, ◌▷◌}
-use Rattle.def_meaning.specs.Outcome.{Outcome, Normal, Exited, Returned, then_go}
+use Rattle.def_meaning.specs.Outcome.{Outcome, Normal, Exited, Returned, sequence}
 use Rattle.def_meaning.specs.Answer as answer
 use Rattle.def_meaning.specs.Operators.{is_true}
 use Rattle.def_meaning.specs.Expressions.{Gives}
@@ -49,7 +49,7 @@ module _ (k : Scene) (function : Bool) (has : HasHelpers k) (small : AreSmall k.
 
     -- the body of a turn, and the turns behind it
     body_turned : (j : ℕ) (r : Effect) (o : Outcome) (next : Source → Outcome) → Ends k function (suc (suc exit)) stack (leaves 0 stack) r o
-        → ((s : Source) (st : Target) → Stands k s st → Ends k function (suc exit) stack (leaves 0 stack) (turns j (runs k code) st stack) (next s)) → Ends k function (suc exit) stack (leaves 0 stack) (turned j r) (then_go o next)
+        → ((s : Source) (st : Target) → Stands k s st → Ends k function (suc exit) stack (leaves 0 stack) (turns j (runs k code) st stack) (next s)) → Ends k function (suc exit) stack (leaves 0 stack) (turned j r) (sequence o next)
     body_turned j r (answer.Value Normal s) next p h =
         subst (λ (e : Effect). Ends k function (suc exit) stack (leaves 0 stack) e (next s)) (sym (ap (turned j) p.run ∙ label_here p.st stack (turns j (runs k code)))) (h s p.st p.stands)
     body_turned j r (answer.Value Exited s) next p h = record { st = p.st; stands = p.stands; run = ap (turned j) p.run }
@@ -115,16 +115,16 @@ module _ (k : Scene) (function : Bool) (has : HasHelpers k) (small : AreSmall k.
       while_turns zero s st h = ap StillRunning h.out
       while_turns (suc j) s st h =
           test_turned label code stack j (is_zero ∷ instr.BrIf 1 ∷ (body ++ instr.Br 0 ∷ [])) (runs k code st stack) (test k.around s)
-          (λ v s. if is_true v then then_go (step k.around s) (while_begun j (test k.around) (step k.around)) else answer.Value Normal s)
+          (λ v s. if is_true v then sequence (step k.around s) (while_begun j (test k.around) (step k.around)) else answer.Value Normal s)
           (hx.gives (e + 2) c free (has_before k (hy.grows (e + 2) middle) full) s st h (is_zero ∷ instr.BrIf 1 ∷ (body ++ instr.Br 0 ∷ [])) stack)
           (λ v is s' st' h'.
-          subst (λ (r : Effect). Ends k function (suc label) stack (leaves 0 stack) (turned label code stack j r) (if is_true v then then_go (step k.around s') (while_begun j (test k.around) (step k.around)) else answer.Value Normal s'))
+          subst (λ (r : Effect). Ends k function (suc label) stack (leaves 0 stack) (turned label code stack j r) (if is_true v then sequence (step k.around s') (while_begun j (test k.around) (step k.around)) else answer.Value Normal s'))
           (sym (tested v is 1 (body ++ instr.Br 0 ∷ []) st' stack)) (by (λ s'' st'' h''. while_turns j s'' st'' h'') s' st' h' (is_true v)))
         where
           by : ((s : Source) (st : Target) → Stands k s st → Ends k function (suc label) stack (leaves 0 stack) (turns j (runs k code) st stack) (while_begun j (test k.around) (step k.around) s))
               → (s : Source) (st : Target) → Stands k s st → (b : Bool)
               → Ends k function (suc label) stack (leaves 0 stack) (turned label code stack j (then_run (if truth (not b) == 0 then FellThrough st stack else Branched 1 st stack) (runs k (body ++ instr.Br 0 ∷ []))))
-              (if b then then_go (step k.around s) (while_begun j (test k.around) (step k.around)) else answer.Value Normal s)
+              (if b then sequence (step k.around s) (while_begun j (test k.around) (step k.around)) else answer.Value Normal s)
           by next s st h true =
               body_turned label code stack j (runs k (body ++ instr.Br 0 ∷ []) st stack) (step k.around s) (while_begun j (test k.around) (step k.around)) (body_goes s st h) next
           by next s st h false = record { st = st; stands = h; run = refl }
@@ -153,7 +153,7 @@ module _ (k : Scene) (function : Bool) (has : HasHelpers k) (small : AreSmall k.
 
     -- the body, and the condition behind it
     body_again : (j : ℕ) (after : List Instr) (r : Effect) (o : Outcome) (next : Source → Outcome) → Ends k function (suc exit) stack (λ st. runs k after st stack) r o
-        → ((s : Source) (st : Target) → Stands k s st → Ends k function exit stack falls (again j (runs k after st stack)) (next s)) → Ends k function exit stack falls (again j r) (then_go o next)
+        → ((s : Source) (st : Target) → Stands k s st → Ends k function exit stack falls (again j (runs k after st stack)) (next s)) → Ends k function exit stack falls (again j r) (sequence o next)
     body_again j after r (answer.Value Normal s) next p h = subst (λ (e : Effect). Ends k function exit stack falls (again j e) (next s)) (sym p.run) (h s p.st p.stands)
     body_again j after r (answer.Value Exited s) next p h = record { st = p.st; stands = p.stands; run = ap (again j) p.run }
     body_again j after r (answer.Value (Returned v) s) next p h = record { below = p.below; st = p.st; stands = p.stands; run = ap (again j) p.run }

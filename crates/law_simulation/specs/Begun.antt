@@ -4,7 +4,7 @@
 use Rattle.std.specs.Prelude.{ℕ, zero, suc, ℤ, List, if◌then◌else◌}
 use Rattle.typed_tree.specs.declared.statement.TypedStmt.{TypedStmt, TypedStmt-F}
 use Rattle.def_meaning.specs.Answer.{State, Answer, Value, ◌▷◌, StillRunning}
-use Rattle.def_meaning.specs.Outcome.{Outcome, Normal, then_go}
+use Rattle.def_meaning.specs.Outcome.{Outcome, Normal, sequence}
 use Rattle.def_meaning.specs.Operators.{is_true}
 use Rattle.def_meaning.specs.Environment.{Modules, Environment, Callee, Passed}
 use Rattle.def_meaning.specs.Expressions.{Asks}
@@ -15,7 +15,7 @@ abbrev pub while_begun : ℕ → (State → Answer ℤ) → (State → Outcome) 
 while_begun zero test body st = StillRunning st.out
 while_begun (suc n) test body st =
     test st ▷ λ v st.
-    if is_true v then then_go (body st) (while_begun n test body) else Value Normal st
+    if is_true v then sequence (body st) (while_begun n test body) else Value Normal st
 
 abbrev pub step_layer : Modules → Asks → (n : ℕ) → TypedStmt-F Does Arm → Does
 step_layer = step_with while_begun

@@ -20,7 +20,7 @@ use Rattle.layout_storage.specs.Types.{Ty, Scalar, Cell, Array, row, component}
 use Rattle.layout_storage.specs.Shapes.{tree, elements_of}
 use Rattle.def_meaning.specs.Store.{Location}
 use Rattle.def_meaning.specs.Answer.{range_fault, halted, Ended, ◌▷◌}
-use Rattle.def_meaning.specs.Outcome.{Normal, Exited, Returned, then_go}
+use Rattle.def_meaning.specs.Outcome.{Normal, Exited, Returned, sequence}
 use Rattle.def_meaning.specs.Answer as answer
 use Rattle.def_meaning.specs.Environment.{Modules, module_place}
 use Rattle.def_meaning.specs.Operators.{is_true}
@@ -431,7 +431,7 @@ Returns =
 abbrev pub Rows : Type 0
 Rows =
     (k : Scene) (function : Bool) (x y : Coded) (step next : Does) → Executes k function x step
-    → Executes k function y next → Executes k function (x ⨾ y) (λ a s. then_go (step a s) (next a))
+    → Executes k function y next → Executes k function (x ⨾ y) (λ a s. sequence (step a s) (next a))
 
 abbrev pub Ifs : Type 0
 Ifs =
