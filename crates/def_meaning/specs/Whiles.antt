@@ -1,5 +1,5 @@
--- The meaning with a WHILE that is bounded in another way. Laws on code count how often the condition
--- is evaluated, since that is how often the code of the loop begins.
+-- The meaning with a WHILE that is bounded in another way. Laws on code count how often the
+-- condition is evaluated, since that is how often the code of the loop begins.
 use Rattle.std.specs.Prelude.{ℕ, zero, suc, ◌-◌, ℤ, nat_lt, List, [], ◌∷◌, map, Some, None, if◌then◌else◌}
 use Rattle.typed_tree.specs.declared.statement.TypedStmt.{TypedStmt, TypedStmt-F, fold-TypedStmt}
 use Rattle.typed_tree.specs.declared.statement.TypedStmt.TheOpen as step

@@ -642,7 +642,7 @@ module _ (x : Context) (ask : Asks) (result : Result) (n : ℕ) where
     stmt_made _ _ _ _ _ (typed.Exit ws a) = exit_made ws a
     stmt_made _ _ _ _ _ (typed.Return ws l a none) = return_made ws l a none
     stmt_made _ _ _ _ _ (typed.Give ws l a b t r e is cell g) = give_made ws l a b t r e is cell (given_made ws a b e t g)
-    stmt_made _ _ _ _ _ (typed.GiveProcedure ws l a b t h e is none g) = give_procedure_made ws l a b t h e is none (held_made x ask ws a b e h g)
+    stmt_made _ _ _ _ _ (typed.GiveProcedure ws l a b t h e is none g type) = give_procedure_made ws l a b t h e is none (held_made x ask ws a b e h g)
     stmt_made _ _ _ _ _ (typed.For ws l a b c z d t u r start limit by body cell ranged control low high g h hs) =
         for_made ws l a b c z d t u r start limit by body cell ranged control low high (given_made ws a b start t g) (expr_made x ask ws b c limit u h) (rows_made ws l c z body hs)
     stmt_made _ _ _ _ _ (typed.With ws l a b c t d body h hs) = with_made ws l a b c t d body (place_made x ask ws a b d t h) (rows_made (ws ++ t ∷ []) l b c body hs)
