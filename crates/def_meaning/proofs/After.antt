@@ -3,7 +3,7 @@ use Rattle.std.proofs.Common.{ℕ, Bool, true, false, List, [], ◌++◌, refl, 
 use Rattle.std.specs.Prelude.{if◌then◌else◌}
 use Rattle.std.proofs.lemmas.List.{append-nil}
 use Rattle.def_meaning.specs.Answer.{State, Answer, Value, ◌▷◌, Ended, StillRunning}
-use Rattle.def_meaning.specs.Outcome.{Outcome, Normal, Exited, Returned, then_go}
+use Rattle.def_meaning.specs.Outcome.{Outcome, Normal, Exited, Returned, sequence}
 use Rattle.def_meaning.specs.Statements.{loop_left}
 use Rattle.def_meaning.specs.Calls.{at_end, result}
 use Rattle.def_meaning.specs.Runs.{then_body}
@@ -80,20 +80,20 @@ module _ {A : Type 0} {f g : A → State → Outcome} (k : (v : A) (st : State) 
   with_later (going more x b c) = open_yet more (x ▷ g) b (answered_on x c)
 
 module _ {f g : State → Outcome} (k : (st : State) → After st.out (f st) (g st)) where
-  go_on : {more : List ℕ} (x : Outcome) → Begins more (printed x) → Begins more (printed (then_go x g))
+  go_on : {more : List ℕ} (x : Outcome) → Begins more (printed x) → Begins more (printed (sequence x g))
   go_on (Value Normal st) b = joined b (printed_later (k st))
   go_on (Value Exited st) b = b
   go_on (Value (Returned v) st) b = b
   go_on (Ended n out) b = b
   go_on (StillRunning out) b = b
 
-  pub go_later : {out : List ℕ} {x y : Outcome} → After out x y → After out (then_go x f) (then_go y g)
+  pub go_later : {out : List ℕ} {x y : Outcome} → After out x y → After out (sequence x f) (sequence y g)
   go_later (same (Value Normal st) b) = before b (k st)
   go_later (same (Value Exited st) b) = same (Value Exited st) b
   go_later (same (Value (Returned v) st) b) = same (Value (Returned v) st) b
   go_later (same (Ended n out) b) = same (Ended n out) b
   go_later (same (StillRunning out) b) = same (StillRunning out) b
-  go_later (open_yet more x b c) = open_yet more (then_go x g) b (go_on x c)
+  go_later (open_yet more x b c) = open_yet more (sequence x g) b (go_on x c)
 
   left_on : {more : List ℕ} (x : Outcome) → Begins more (printed x) → Begins more (printed (loop_left x g))
   left_on (Value Normal st) b = joined b (printed_later (k st))

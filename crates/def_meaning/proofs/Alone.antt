@@ -1,5 +1,5 @@
 -- Expressions without calls change nothing, and print nothing.
-use Rattle.std.proofs.Common.{◌≡◌, ℕ, ℤ, Bool, true, false, List, [], ◌∷◌, ◌++◌, map, Option, Some, None, refl, sym, ap, subst, ◌∙◌}
+use Rattle.std.proofs.Common.{◌≡◌, ℕ, ℤ, Bool, true, false, List, [], ◌∷◌, map, Option, Some, None, refl, sym, ap, subst, ◌∙◌}
 use Rattle.std.specs.Prelude.{◌||◌, pos, ◌-ℤ◌, int_lt, if◌then◌else◌}
 use Rattle.typed_tree.specs.declared.computed.Argument.{Argument, Argument-F, roll-Argument, map-Argument, fold-Argument}
 use Rattle.typed_tree.specs.declared.computed.Argument.TheOpen as layer
@@ -18,7 +18,7 @@ use Rattle.typed_tree.specs.Known.{scalar_at}
 use Rattle.def_meaning.specs.Store.{Location}
 use Rattle.def_meaning.specs.Answer.{State, Answer, Value, ◌▷◌, range_fault, overflow, divisor_fault, index_fault}
 use Rattle.def_meaning.specs.Operators.{is_between, truth, is_true, compared, combined, included, has, absolute, capital, odd, quotient, remainder}
-use Rattle.def_meaning.specs.Environment.{Modules, Environment, location_of, high_of, named}
+use Rattle.def_meaning.specs.Environment.{Modules, Environment, high_of, named}
 use Rattle.def_meaning.specs.Expressions.{Asks, Gives, one_by_one, within, within_range, as_type, in_base, index_range, element, element_in, divided, operated, ordinal, root_layer, component_layer, link_layer, place_layer, expr_layer, value, locate}
 use Rattle.def_meaning.specs.Calm.{argument_calls, call_calls, component_calls, any_calls, link_calls, place_calls, expr_calls, calls, calls_at, Leaves, gives, ends, ChangesNothing, FindsAlone}
 use Rattle.def_meaning.proofs.Evaluated.{opened, opened_place, opened_component, opened_link, reached, continued, at_place, at_expr, at_component, at_link}

@@ -17,10 +17,11 @@ use Rattle.def_meaning.specs.Outcome.{Exited, Returned}
 use Rattle.def_meaning.specs.Operators.{is_true}
 use Rattle.def_meaning.specs.Environment.{Modules, Environment}
 use Rattle.def_meaning.specs.Expressions.{Asks, as_type, value, locate}
-use Rattle.def_meaning.specs.Statements.{Does, in_turn, stored, is_labelled, or_else, Arm, chosen, base_of, changed, rechecked, step_layer, arm_layer, does}
+use Rattle.def_meaning.specs.Statements.{Does, in_turn, stored, is_labelled, or_else, Arm, chosen, base_of, changed, rechecked, arm_layer}
+use Rattle.def_meaning.specs.Whiles.{Whiles, step_with, does_with}
 use Rattle.def_meaning.proofs.After.{begins, begins_more, Later, then_later, After, same, with_later, go_later, if_after, went}
 use Rattle.def_meaning.proofs.Evaluated.{AsksLater, Pairwise, none, more, pairwise_maps, carry, within_later, type_later, base_later, value_later, locate_later, called_later}
-use Rattle.def_meaning.proofs.Turns.{looped_later, while_later, until_later, for_later}
+use Rattle.def_meaning.proofs.Turns.{looped_later, until_later, for_later, WhilesLater}
 
 pub record DoesLater (d d' : Does) : Type 0 where
   pub at : (a : Environment) (st : State) → After st.out (d a st) (d' a st)
@@ -51,25 +52,25 @@ rechecked_later types t v st = then_later (type_later types t) (base_later types
 
 -- ---- one layer at a time
 
-module _ (p : Modules) (ask : Asks) (n : ℕ) where
+module _ (w : Whiles) (p : Modules) (ask : Asks) (n : ℕ) where
   unfoldable armed : TypedArm → Arm
-  armed = fold-TypedArm Does Arm (step_layer p ask n) (arm_layer p ask n)
+  armed = fold-TypedArm Does Arm (step_with w p ask n) (arm_layer p ask n)
 
   abbrev opened : TypedStmt-F TypedStmt TypedArm → TypedStmt-F Does Arm
-  opened x = map-TypedStmt TypedStmt TypedArm Does Arm (does p ask n) armed x
+  opened x = map-TypedStmt TypedStmt TypedArm Does Arm (does_with w p ask n) armed x
 
   abbrev opened_arm : TypedArm-F TypedStmt TypedArm → TypedArm-F Does Arm
-  opened_arm x = map-TypedArm TypedStmt TypedArm Does Arm (does p ask n) armed x
+  opened_arm x = map-TypedArm TypedStmt TypedArm Does Arm (does_with w p ask n) armed x
 
-  at_stmt : (e : TypedStmt) (x : TypedStmt-F TypedStmt TypedArm) → out-TypedStmt e ≡ x → does p ask n e ≡ step_layer p ask n (opened x)
-  unfolding does armed
-  at_stmt e x h = fold_out-TypedStmt Does Arm (step_layer p ask n) (arm_layer p ask n) e ∙ ap (λ (y : TypedStmt-F TypedStmt TypedArm). step_layer p ask n (opened y)) h
+  at_stmt : (e : TypedStmt) (x : TypedStmt-F TypedStmt TypedArm) → out-TypedStmt e ≡ x → does_with w p ask n e ≡ step_with w p ask n (opened x)
+  unfolding does_with armed
+  at_stmt e x h = fold_out-TypedStmt Does Arm (step_with w p ask n) (arm_layer p ask n) e ∙ ap (λ (y : TypedStmt-F TypedStmt TypedArm). step_with w p ask n (opened y)) h
 
   at_arm : (e : TypedArm) (x : TypedArm-F TypedStmt TypedArm) → out-TypedArm e ≡ x → armed e ≡ arm_layer p ask n (opened_arm x)
-  unfolding does armed
-  at_arm e x h = fold_out-TypedArm Does Arm (step_layer p ask n) (arm_layer p ask n) e ∙ ap (λ (y : TypedArm-F TypedStmt TypedArm). arm_layer p ask n (opened_arm y)) h
+  unfolding does_with armed
+  at_arm e x h = fold_out-TypedArm Does Arm (step_with w p ask n) (arm_layer p ask n) e ∙ ap (λ (y : TypedArm-F TypedStmt TypedArm). arm_layer p ask n (opened_arm y)) h
 
-module _ (p : Modules) (ask ask' : Asks) (k : AsksLater ask ask') (n m : ℕ) (q : n ≤ m) where
+module _ (w w' : Whiles) (p : Modules) (ask ask' : Asks) (k : AsksLater ask ask') (n m : ℕ) (q : n ≤ m) (whiles : WhilesLater w w' n m) where
   value_at : (e : TypedExpr) (a : Environment) (st : State) → Later st.out (value p ask e a st) (value p ask' e a st)
   value_at e a st = (value_later p ask ask' k e).at a st
 
@@ -77,10 +78,10 @@ module _ (p : Modules) (ask ask' : Asks) (k : AsksLater ask ask') (n m : ℕ) (q
   place_at d a st = (locate_later p ask ask' k d).at a st
 
   abbrev DS : TypedStmt → Type 0
-  DS s = DoesLater (does p ask n s) (does p ask' m s)
+  DS s = DoesLater (does_with w p ask n s) (does_with w' p ask' m s)
 
   abbrev DA : TypedArm → Type 0
-  DA x = ArmLater (armed p ask n x) (armed p ask' m x)
+  DA x = ArmLater (armed w p ask n x) (armed w' p ask' m x)
 
   abbrev SS : Type 0
   SS = (s : TypedStmt) × DS s
@@ -94,16 +95,16 @@ module _ (p : Modules) (ask ask' : Asks) (k : AsksLater ask ask') (n m : ℕ) (q
   abbrev bare_arm : TypedArm-F SS SA → TypedArm-F TypedStmt TypedArm
   bare_arm x = map-TypedArm SS SA TypedStmt TypedArm (λ s. s.0) (λ s. s.0) x
 
-  all : (xs : List SS) → Pairwise DoesLater (map (does p ask n) (map (λ s. s.0) xs)) (map (does p ask' m) (map (λ s. s.0) xs))
-  all xs = pairwise_maps {X = SS} {Y = TypedStmt} DoesLater (λ s. s.0) (does p ask n) (does p ask' m) (λ s. s.1) xs
+  all : (xs : List SS) → Pairwise DoesLater (map (does_with w p ask n) (map (λ s. s.0) xs)) (map (does_with w' p ask' m) (map (λ s. s.0) xs))
+  all xs = pairwise_maps {X = SS} {Y = TypedStmt} DoesLater (λ s. s.0) (does_with w p ask n) (does_with w' p ask' m) (λ s. s.1) xs
 
-  body : (xs : List SS) (a : Environment) (st : State) → After st.out (in_turn (map (does p ask n) (map (λ s. s.0) xs)) a st) (in_turn (map (does p ask' m) (map (λ s. s.0) xs)) a st)
+  body : (xs : List SS) (a : Environment) (st : State) → After st.out (in_turn (map (does_with w p ask n) (map (λ s. s.0) xs)) a st) (in_turn (map (does_with w' p ask' m) (map (λ s. s.0) xs)) a st)
   body xs = turn_later (all xs)
 
-  arms : (xs : List SA) → Pairwise ArmLater (map (armed p ask n) (map (λ s. s.0) xs)) (map (armed p ask' m) (map (λ s. s.0) xs))
-  arms xs = pairwise_maps {X = SA} {Y = TypedArm} ArmLater (λ s. s.0) (armed p ask n) (armed p ask' m) (λ s. s.1) xs
+  arms : (xs : List SA) → Pairwise ArmLater (map (armed w p ask n) (map (λ s. s.0) xs)) (map (armed w' p ask' m) (map (λ s. s.0) xs))
+  arms xs = pairwise_maps {X = SA} {Y = TypedArm} ArmLater (λ s. s.0) (armed w p ask n) (armed w' p ask' m) (λ s. s.1) xs
 
-  stmt_later : (y : TypedStmt-F SS SA) → DoesLater (step_layer p ask n (opened p ask n (bare y))) (step_layer p ask' m (opened p ask' m (bare y)))
+  stmt_later : (y : TypedStmt-F SS SA) → DoesLater (step_with w p ask n (opened w p ask n (bare y))) (step_with w' p ask' m (opened w' p ask' m (bare y)))
   stmt_later (step.Assign d t e) = record { at = λ a st. with_later (λ l st. with_later (λ v st. with_later (λ v st. went (stored l v st)) (type_later a.types t v st)) (value_at e a st)) (place_at d a st) }
   stmt_later (step.Copy to from t) = record { at = λ a st. with_later (λ l st. with_later (λ l' st. went _) (place_at from a st)) (place_at to a st) }
   stmt_later (step.CopyText d t text) = record { at = λ a st. with_later (λ l st. went _) (place_at d a st) }
@@ -116,7 +117,7 @@ module _ (p : Modules) (ask ask' : Asks) (k : AsksLater ask ask') (n m : ℕ) (q
   stmt_later (step.If e xs (Some ys)) = record { at = λ a st. with_later (λ v st. if_after (is_true v) (body xs a st) (body ys a st)) (value_at e a st) }
   stmt_later (step.Case e xs None) = record { at = λ a st. with_later (λ v st. (chosen_later v (arms xs) nothing_else).at a st) (value_at e a st) }
   stmt_later (step.Case e xs (Some ys)) = record { at = λ a st. with_later (λ v st. (chosen_later v (arms xs) (turns_later (all ys))).at a st) (value_at e a st) }
-  stmt_later (step.While e xs) = record { at = λ a st. while_later (value_at e a) (body xs a) n m q st }
+  stmt_later (step.While e xs) = record { at = λ a st. whiles.at (value_at e a) (body xs a) st }
   stmt_later (step.Repeat xs e) = record { at = λ a st. until_later (value_at e a) (body xs a) n m q st }
   stmt_later (step.Loop xs) = record { at = λ a st. looped_later (body xs a) n m q st }
   stmt_later step.Exit = record { at = λ a st. same (Value Exited st) (begins st.out) }
@@ -129,14 +130,14 @@ module _ (p : Modules) (ask ask' : Asks) (k : AsksLater ask ask') (n m : ℕ) (q
   }
   stmt_later (step.With d xs) = record { at = λ a st. with_later (λ l st. body xs (record a { withs = a.withs ++ l ∷ [] }) st) (place_at d a st) }
 
-  arm_later : (y : TypedArm-F SS SA) → ArmLater (arm_layer p ask n (opened_arm p ask n (bare_arm y))) (arm_layer p ask' m (opened_arm p ask' m (bare_arm y)))
+  arm_later : (y : TypedArm-F SS SA) → ArmLater (arm_layer p ask n (opened_arm w p ask n (bare_arm y))) (arm_layer p ask' m (opened_arm w' p ask' m (bare_arm y)))
   arm_later y = arm y.labels (turns_later (all y.body))
 
   step_stmt : (x : TypedStmt-F TypedStmt TypedArm) (y : TypedStmt-F SS SA) → bare y ≡ x → DS (roll-TypedStmt x)
-  step_stmt x y r = carry DoesLater (at_stmt p ask n (roll-TypedStmt x) (bare y) (out-roll-TypedStmt x ∙ sym r)) (at_stmt p ask' m (roll-TypedStmt x) (bare y) (out-roll-TypedStmt x ∙ sym r)) (stmt_later y)
+  step_stmt x y r = carry DoesLater (at_stmt w p ask n (roll-TypedStmt x) (bare y) (out-roll-TypedStmt x ∙ sym r)) (at_stmt w' p ask' m (roll-TypedStmt x) (bare y) (out-roll-TypedStmt x ∙ sym r)) (stmt_later y)
 
   step_arm : (x : TypedArm-F TypedStmt TypedArm) (y : TypedArm-F SS SA) → bare_arm y ≡ x → DA (roll-TypedArm x)
-  step_arm x y r = carry ArmLater (at_arm p ask n (roll-TypedArm x) (bare_arm y) (out-roll-TypedArm x ∙ sym r)) (at_arm p ask' m (roll-TypedArm x) (bare_arm y) (out-roll-TypedArm x ∙ sym r)) (arm_later y)
+  step_arm x y r = carry ArmLater (at_arm w p ask n (roll-TypedArm x) (bare_arm y) (out-roll-TypedArm x ∙ sym r)) (at_arm w' p ask' m (roll-TypedArm x) (bare_arm y) (out-roll-TypedArm x ∙ sym r)) (arm_later y)
 
-  pub does_later : (s : TypedStmt) → DoesLater (does p ask n s) (does p ask' m s)
+  pub does_later : (s : TypedStmt) → DoesLater (does_with w p ask n s) (does_with w' p ask' m s)
   does_later = ind-TypedStmt DS DA step_stmt step_arm

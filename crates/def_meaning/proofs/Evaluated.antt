@@ -18,7 +18,7 @@ use Rattle.typed_tree.specs.Known.{scalar_at}
 use Rattle.def_meaning.specs.Store.{Location}
 use Rattle.def_meaning.specs.Answer.{State, Answer, ◌▷◌, range_fault, overflow, divisor_fault, index_fault, empty_procedure}
 use Rattle.def_meaning.specs.Operators.{is_between, truth, is_true, compared, combined, included, has, absolute, capital, odd, quotient, remainder}
-use Rattle.def_meaning.specs.Environment.{Modules, Environment, Callee, Passed, Number, Variable, Array, module_place, entry_of, entry_callee, module_callee, nested_in, named, location_of, high_of}
+use Rattle.def_meaning.specs.Environment.{Modules, Environment, Callee, Passed, Number, Variable, Array, module_place, entry_of, entry_callee, module_callee, nested_in, named, high_of}
 use Rattle.def_meaning.specs.Expressions.{Asks, Gives, Reaches, Continues, one_by_one, within, within_range, as_type, in_base, index_range, high_index, element, element_in, divided, operated, ordinal, all_given, asked, asked_if, argument_layer, call_layer, root_layer, component_layer, link_layer, expr_layer, place_layer, value, locate, called}
 use Rattle.def_meaning.proofs.After.{Later, then_later, if_later, gave, ended}
 

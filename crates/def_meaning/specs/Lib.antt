@@ -9,3 +9,4 @@ pub mod Statements
 pub mod Runs
 pub mod Later
 pub mod Calm
+pub mod Whiles

@@ -12,10 +12,10 @@ pub data Completion : Type 0 where
 abbrev pub Outcome : Type 0
 Outcome = Answer Completion
 
--- one after the other
-abbrev pub then_go : Outcome → (State → Outcome) → Outcome
-then_go (Value Normal st) next = next st
-then_go (Value Exited st) next = Value Exited st
-then_go (Value (Returned v) st) next = Value (Returned v) st
-then_go (Ended k out) next = Ended k out
-then_go (StillRunning out) next = StillRunning out
+-- one after the other: the second runs if the first is completed normally
+abbrev pub sequence : Outcome → (State → Outcome) → Outcome
+sequence (Value Normal st) next = next st
+sequence (Value Exited st) next = Value Exited st
+sequence (Value (Returned v) st) next = Value (Returned v) st
+sequence (Ended k out) next = Ended k out
+sequence (StillRunning out) next = StillRunning out

@@ -1,4 +1,6 @@
 -- What statements do, where each loop makes at most n turns.
+-- A fold over a tree has one clause for each construct, in which the parts already stand for what
+-- they do, and a function on a list has one for the empty list and one for its first and the rest.
 use Rattle.std.specs.Prelude.{ℕ, zero, suc, ℤ, pos, ◌+ℤ◌, ◌-ℤ◌, Bool, int_lt, bit_or, unsigned_abs, List, [], ◌∷◌, ◌++◌, Option, Some, None, slice_get, if◌then◌else◌}
 use Rattle.std.specs.List.{list_any}
 use Rattle.typed_tree.specs.declared.statement.Change.{Change}
@@ -16,7 +18,7 @@ use Rattle.typed_tree.specs.Types.{char}
 use Rattle.typed_tree.specs.Known.{scalar_at}
 use Rattle.def_meaning.specs.Store.{Location, assigned, copied, placed}
 use Rattle.def_meaning.specs.Answer.{State, Answer, ◌▷◌, range_fault, case_fault, halted, Ended, StillRunning, Value}
-use Rattle.def_meaning.specs.Outcome.{Outcome, Normal, Exited, Returned, then_go}
+use Rattle.def_meaning.specs.Outcome.{Outcome, Normal, Exited, Returned, sequence}
 use Rattle.def_meaning.specs.Operators.{is_between, is_true, bits, without, single}
 use Rattle.def_meaning.specs.Environment.{Modules, Environment}
 use Rattle.def_meaning.specs.Expressions.{Asks, within, as_type, in_base, value, locate, called}
@@ -27,7 +29,7 @@ Does = Environment → State → Outcome
 -- one after the other
 abbrev pub in_turn : List Does → Does
 in_turn [] a st = Value Normal st
-in_turn (d ∷ ds) a st = then_go (d a st) (in_turn ds a)
+in_turn (d ∷ ds) a st = sequence (d a st) (in_turn ds a)
 
 abbrev pub if_there : Option (List Does) → Does
 if_there None a st = Value Normal st
@@ -61,18 +63,19 @@ abbrev pub looped : ℕ → (State → Outcome) → State → Outcome
 looped zero body st = StillRunning st.out
 looped (suc n) body st = loop_left (body st) (looped n body)
 
--- WHILE: the condition is evaluated before each turn
+-- WHILE: the condition is evaluated before each turn, and behind the last one
 abbrev pub while_true : ℕ → (State → Answer ℤ) → (State → Outcome) → State → Outcome
-while_true zero test body st = StillRunning st.out
+while_true zero test body st =
+    test st ▷ λ v st. if is_true v then StillRunning st.out else Value Normal st
 while_true (suc n) test body st =
     test st ▷ λ v st.
-    if is_true v then then_go (body st) (while_true n test body) else Value Normal st
+    if is_true v then sequence (body st) (while_true n test body) else Value Normal st
 
 -- REPEAT: and behind each turn
 abbrev pub until_true : ℕ → (State → Outcome) → (State → Answer ℤ) → State → Outcome
 until_true zero body test st = StillRunning st.out
 until_true (suc n) body test st =
-    then_go (body st) (λ st.
+    sequence (body st) (λ st.
     test st ▷ λ v st. if is_true v then Value Normal st else until_true n body test st)
 
 -- FOR: whether a number has passed the limit
@@ -84,7 +87,7 @@ abbrev pub for_turns : ℕ → (check : ℤ → State → Answer ℤ) → Locati
     → (State → Outcome) → State → Outcome
 for_turns zero check l by limit body st = StillRunning st.out
 for_turns (suc n) check l by limit body st =
-    then_go (body st) (λ st.
+    sequence (body st) (λ st.
     if has_passed by limit (st.store l +ℤ by)
     then Value Normal st
     else (check (st.store l +ℤ by) st ▷ λ v st.

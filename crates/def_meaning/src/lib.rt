@@ -2,8 +2,9 @@
 //!
 //! - `specs/Runs` has the run of a program: the bodies of its modules in start order, on fresh variables. `specs/Statements`,
 //!   `specs/Expressions` and `specs/Calls` have what their parts do, each loop and the depth of calls within a bound.
-//! - `specs/Store` has what variables hold, `specs/Around` what stands around a part while it runs, `specs/Answer` how a
+//! - `specs/Store` has what variables hold, `specs/Environment` what stands around a part while it runs, `specs/Answer` how a
 //!   part ends, and `specs/Operators` what operators make of numbers.
+//! - `specs/Whiles` has the same with a WHILE that is bounded in another way, for laws on code.
 //! - `specs/Later` says what more time makes of a run, and `specs/Calm` what expressions without calls leave alone.
 #![tactic(auto)]
 

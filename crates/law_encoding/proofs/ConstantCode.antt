@@ -290,7 +290,7 @@ module _ (x : Context) (fs : List Ty) (small : HasSmallParts x fs) where
       expr_fine ws _ _ _ _ (typed.Not a b u e h g) = expr_by (expr.Not e) (layer.Not e) (expr.outs-Not e) (fine_then m fs (expr_fine ws a b e u h) (fine_plain m fs b const_empty))
       expr_fine ws _ _ _ _ (typed.Include a b c u v o e f h i g j) = expr_by (expr.Include o e f) (layer.Include o e f) (expr.outs-Include o e f) (include_fine o (expr_fine ws a b e u h) (expr_fine ws b c f v g))
       expr_fine ws _ _ _ _ (typed.In a b c u v e f h g j) = expr_by (expr.In e f) (layer.In e f) (expr.outs-In e f) (in_fine (expr_fine ws a b e u h) (expr_fine ws b c f v g))
-      expr_fine ws _ _ _ _ (typed.Abs a b t u e h i j) = expr_by (expr.Abs t e) (layer.Abs t e) (expr.outs-Abs t e) (abs_fine (are_same t integer) absolute_code const_absolute (expr_fine ws a b e u h))
+      expr_fine ws _ _ _ _ (typed.Abs a b t u e h i j ranged) = expr_by (expr.Abs t e) (layer.Abs t e) (expr.outs-Abs t e) (abs_fine (are_same t integer) absolute_code const_absolute (expr_fine ws a b e u h))
       expr_fine ws _ _ _ _ (typed.Cap a b u e h i) = expr_by (expr.Cap e) (layer.Cap e) (expr.outs-Cap e) (fine_then m fs (expr_fine ws a b e u h) (fine_number m fs (λ t. fine_plain m fs b (const_capital t))))
       expr_fine ws _ _ _ _ (typed.Chr a b u e h) = expr_by (expr.Chr e) (layer.Chr e) (expr.outs-Chr e) (fine_then m fs (expr_fine ws a b e u h) (fine_plain m fs b (const_checked (pos 0) (pos 255) range_fault (omega (arith, ints)) (omega (arith, ints)) (omega arith))))
       expr_fine ws _ _ _ _ (typed.Odd a b u e h) = expr_by (expr.Odd e) (layer.Odd e) (expr.outs-Odd e) (fine_then m fs (expr_fine ws a b e u h) (fine_plain m fs b (amount 1 (omega arith) ▹ computes _ ▹ const_end)))
@@ -360,7 +360,7 @@ module _ (x : Context) (fs : List Ty) (small : HasSmallParts x fs) where
       argument_fine : (ws : List Ty) (a b : ℕ) (y : Argument) (f : Form) → typed.IsArgument x ws a b y f → Good a b (of_argument numbered y)
       argument_fine ws _ _ _ _ (typed.Value a b t u c e h cell taken) =
           argument_by (argument.Value t e) (layer.Value t e) (argument.outs-Value t e) (fine_types m fs (λ types. check_taken types t (expr_part numbered e).constant (expr_part numbered e).of) (expr_fine ws a b e u h) (const_taken T t (expr_part numbered e).constant (expr_part numbered e).of small.ranges))
-      argument_fine ws _ _ _ _ (typed.ProcedureActual a b t h e is none) =
+      argument_fine ws _ _ _ _ (typed.ProcedureActual a b t h e is none type) =
           argument_by (argument.Value t e) (layer.Value t e) (argument.outs-Value t e) (fine_types m fs (λ types. check_taken types t (expr_part numbered e).constant (expr_part numbered e).of) (held_fine ws a b e h is) (const_taken T t (expr_part numbered e).constant (expr_part numbered e).of small.ranges))
       argument_fine ws _ _ _ _ (typed.ActualName a b d t h) = argument_by (argument.Place d) (layer.Place d) (argument.outs-Place d) (fine_then m fs (place_fine ws a b d t h) (fine_plain m fs b (computes _ ▹ const_end)))
       argument_fine ws _ _ _ _ (typed.ActualCopy a b d t h) = argument_by (argument.Place d) (layer.Place d) (argument.outs-Place d) (fine_then m fs (place_fine ws a b d t h) (fine_plain m fs b (computes _ ▹ const_end)))

@@ -276,7 +276,7 @@ module _ (x : Context) (fs : List Ty) (small : HasSmallParts x fs) (numbered : N
       step_fine _ _ _ _ _ (steps.Exit ws a) = step_by stmt.Exit layer.Exit stmt.outs-Exit (fine_setting m fs a (λ s h g. jumps _ ▹ const_end))
       step_fine _ _ _ _ _ (steps.Return ws l a q) = step_by stmt.Return layer.Return stmt.outs-Return (fine_plain m fs a (goes_back ▹ const_end))
       step_fine _ _ _ _ _ (steps.Give ws l a b t r e is cell p) = step_by (stmt.Give t e) (layer.Give t e) (stmt.outs-Give t e) (fine_then m fs (given_fine p) (fine_plain m fs b (goes_back ▹ const_end)))
-      step_fine _ _ _ _ _ (steps.GiveProcedure ws l a b t h e is none p) =
+      step_fine _ _ _ _ _ (steps.GiveProcedure ws l a b t h e is none p type) =
           step_by (stmt.Give t e) (layer.Give t e) (stmt.outs-Give t e) (fine_then m fs (held_given ws a b e t h p) (fine_plain m fs b (goes_back ▹ const_end)))
       step_fine _ _ _ _ _ (steps.For ws l a b c z d t u r start limit by body cell ranged control least most p q w) =
           step_by (stmt.For d t start limit by body) (layer.For d t start limit by body) (stmt.outs-For d t start limit by body)

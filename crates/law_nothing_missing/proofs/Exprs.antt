@@ -1,6 +1,6 @@
 -- Expressions, designators and calls of typed trees: the strict meaning is the meaning.
 use Rattle.std.proofs.Common.{◌≡◌, ℕ, suc, ◌+◌, ◌-◌, ◌<◌, ℤ, pos, ◌-ℤ◌, ◌≤ℤ◌, Bool, true, false, List, [], ◌∷◌, ◌++◌, map, length, Option, Some, None, if◌then◌else◌, refl, sym, ap, subst, ◌∙◌, arith}
-use Rattle.std.specs.Prelude.{drop, slice_get, nat_lt, int_lt, unsigned_abs, not, ◌||◌}
+use Rattle.std.specs.Prelude.{drop, slice_get, nat_lt, int_lt, unsigned_abs, not, ◌&&◌, ◌||◌}
 use Rattle.std.proofs.lemmas.Int.{ints}
 use Rattle.std.proofs.lemmas.Bool.{lt-ltb}
 use Rattle.typed_tree.specs.declared.computed.Argument.{Argument, Argument-F, out-Argument}
@@ -26,14 +26,17 @@ use Rattle.typed_tree.specs.declared.computed.TypedExpr.{TypedExpr, TypedExpr-F,
 use Rattle.typed_tree.specs.declared.computed.TypedExpr.TheVariants as expr
 use Rattle.typed_tree.specs.declared.meaning.Procedure.{Procedure}
 use Rattle.typed_tree.specs.declared.meaning.Variable.{Variable}
+use Rattle.typed_tree.specs.declared.shape.Made.{Made}
 use Rattle.typed_tree.specs.declared.shape.Scalar.{Scalar as Range}
+use Rattle.typed_tree.specs.declared.shape.Shape.{Shape}
+use Rattle.typed_tree.specs.declared.shape.Shape.TheVariants as shape
 use Rattle.typed_tree.specs.declared.typed_module.Routine.{Routine}
 use Rattle.typed_tree.specs.declared.typed_module.TypedModule.{TypedModule}
 use Rattle.typed_tree.specs.declared.typed_module.Which.TheVariants as which
 use Rattle.typed_tree.specs.declared.types.TypeNo.{TypeNo}
 use Rattle.typed_tree.specs.declared.known_types.Types.{Types}
 use Rattle.typed_tree.specs.Types.{integer}
-use Rattle.typed_tree.specs.Known.{scalar_at}
+use Rattle.typed_tree.specs.Known.{made_at, scalar_at}
 use Rattle.layout_storage.specs.Types.{Ty, Scalar, Natural, Callable, Cell, Array, Heading, component}
 use Rattle.layout_storage.specs.Shapes.{tree, elements_of}
 use Rattle.def_meaning.specs.Store.{Location}
@@ -43,7 +46,7 @@ use Rattle.def_meaning.specs.Operators.{is_between, is_true, absolute, quotient,
 use Rattle.def_meaning.specs.Calls.{is_there}
 use Rattle.def_meaning.specs.Expressions as meaning
 use Rattle.def_meaning.specs.Expressions.{Asks, Gives, Reaches, Continues, value, locate, called, one_by_one, element, element_in, index_range, operated, as_type}
-use Rattle.law_memory.specs.Relation.{IsProcedureValue, Empty, Full, NamesProcedure, IsNumber, heading_at, value_number}
+use Rattle.law_memory.specs.Relation.{IsProcedureValue, Empty, Full, NamesProcedure, IsNumber, heading_in, heading_made, heading_at, value_number}
 use Rattle.law_memory.proofs.Procedures.{entry_there}
 use Rattle.def_scheme.specs.Exprs.{index_of}
 use Rattle.law_simulation.specs.Scene.{IsCell}
@@ -59,7 +62,7 @@ use Rattle.law_simulation.proofs.TreesMeant.{argument_value, component_value, li
 use Rattle.law_simulation.specs.Linked.{Spot, environment_of}
 use Rattle.law_nothing_missing.specs.Worlds.{World, type_at, is_cell}
 use Rattle.law_nothing_missing.specs.Expressions as strict
-use Rattle.law_nothing_missing.specs.Expressions.{Calls, is_module, is_ranged, is_procedure, is_taken, has_range, variable_of, elements_named, first_of, provided, needs, at_there, at_cell, suits_call}
+use Rattle.law_nothing_missing.specs.Expressions.{Calls, is_module, is_ranged, is_procedure_shape, is_procedure_made, is_procedure_type, is_number_type, has_range, variable_of, elements_named, first_of, provided, needs, at_there, at_cell, suits_call}
 use Rattle.law_nothing_missing.proofs.Meant as strictly
 use Rattle.law_nothing_missing.proofs.Worlds.{there_behind, IsFine}
 use Rattle.law_nothing_missing.proofs.Same.{Any, Same, gives, ends, still, same_weak, same_then, same_if, same_provided, same_needs, same_within, same_range}
@@ -68,6 +71,18 @@ use Rattle.law_nothing_missing.proofs.Frames.{Pairs, no_pairs, more_pairs, pair_
 pub ranged : (o : Option Range) → (o ≡ None → ⊥) → is_there o ≡ true
 ranged None some = absurd (some refl)
 ranged (Some r) some = refl
+
+-- what has a heading is a procedure type
+headed_type : (types : Types) (o : Option Made) (h : Heading) → heading_made types o ≡ Some h → is_procedure_made o ≡ true
+headed_type types None h e = absurd cc
+headed_type types (Some m) h e = by m.shape e where
+  by : (s : Shape) → heading_in types s ≡ Some h → is_procedure_shape s ≡ true
+  by (shape.Procedure p) e = refl
+  by (shape.Scalar s) e = absurd cc
+  by shape.Set e = absurd cc
+  by (shape.Array i e') e = absurd cc
+  by (shape.Record fs) e = absurd cc
+  by (shape.Open e') e = absurd cc
 
 callable_same : (g h : Heading) → Callable g ≡ Callable h → g ≡ h
 callable_same g h e = cc e
@@ -178,33 +193,21 @@ module _ (x : Context) (lacking : ℕ) (world : World) (sask ask : Asks) (knows 
   open_at ws a fit slot t e = let n = named_at world x.kinds a fit.frames slot (Open t) e in open_named world (named a slot) (Open t) n.0 t n.1 n.2 refl
 
   -- a value that is taken as one of a type
-  pub type_checked : (G : ℤ → Type 0) (ws : List Ty) (t : TypeNo) (v : ℤ) (a : Environment) → Fits x world ws a → (st : State) → IsFine P world st.store → is_taken lacking P sask world types t v ≡ true → G v
+  pub type_checked : (G : ℤ → Type 0) (ws : List Ty) (t : TypeNo) (v : ℤ) (a : Environment) → Fits x world ws a → (st : State) → IsFine P world st.store → is_number_type types t ≡ true → G v
       → Same P world G (strict.as_type lacking P sask world a.types t v st) (as_type a.types t v st)
   type_checked G ws t v a fit st fine ok good =
-      same_provided P world lacking (is_taken lacking P sask world a.types t v) (as_type a.types t v) st (ap (λ (ts : Types). is_taken lacking P sask world ts t v) fit.types ∙ ok)
+      same_provided P world lacking (is_number_type a.types t) (as_type a.types t v) st (ap (λ (ts : Types). is_number_type ts t) fit.types ∙ ok)
       (same_range P world (scalar_at a.types t) range_fault v st refl fine good)
 
   -- of a scalar type
-  pub cell_taken : (t : TypeNo) (c : Scalar) (v : ℤ) → tree types t ≡ Cell c → is_taken lacking P sask world types t v ≡ true
-  cell_taken t c v e = ap (λ (u : Ty). is_cell (Some u) || is_procedure lacking P sask world v) e
+  pub cell_taken : (t : TypeNo) (c : Scalar) → tree types t ≡ Cell c → is_number_type types t ≡ true
+  cell_taken t c e = ap (λ (u : Ty). is_cell (Some u)) e
 
   found_at : (h : Heading) (n : ℕ) (names : NamesProcedure P h n) → entry_callee P (entry_of P (pos (value_number P names.place names.number))) ≡ Some (callee_of names.place names.home names.routine [])
   found_at h n names =
       ap (entry_callee P) (entry_there P names.place names.number names.home names.routine names.there names.is)
       ∙ ap (λ (q : Option TypedModule). procedure_in names.place q names.number) names.there
       ∙ ap (λ (q : Option Routine). callee_with names.place names.home.types [] q) names.is
-
-  procedure_there : (h : Heading) (v : ℤ) → IsProcedureValue P h v → is_procedure lacking P sask world v ≡ true
-  procedure_there h _ Empty = refl
-  procedure_there h _ (Full n names) = subst (λ (n : ℕ). is_procedure lacking P sask world (pos n) ≡ true) (sym names.value) (ap (λ (o : Option Callee). is_there o) (found_at h n names))
-
-  -- of a procedure type
-  pub procedure_taken : (t : TypeNo) (h : Heading) (v : ℤ) → IsProcedureValue P h v → is_taken lacking P sask world types t v ≡ true
-  procedure_taken t h v is = either (is_cell (Some (tree types t))) (is_procedure lacking P sask world v) (procedure_there h v is)
-    where
-      either : (b c : Bool) → c ≡ true → (b || c) ≡ true
-      either true c e = refl
-      either false c e = e
 
   -- ---- one layer
 
@@ -285,9 +288,10 @@ module _ (x : Context) (lacking : ℕ) (world : World) (sask ask : Asks) (knows 
         (λ a fit st fine. same_then P world (m a fit st fine) (λ v st fine good. same_then P world (same_within P world {G = Any} (pos 0) (pos 31) range_fault v st refl fine tt)
         (λ v st fine good. same_then P world (m' a fit st fine) (λ w st fine good. gives _ st fine tt))))
 
-    abs_same : (t : TypeNo) (e : TypedExpr) → E e → E (expr.Abs t e)
-    abs_same t e m = from_expr ws Any (expr.Abs t e) (layer.Abs t e) (expr.outs-Abs t e)
-        (unary_same Any e (λ a v st. meaning.in_base a.types t (absolute v) st) m (λ a v st fine. same_range P world (scalar_at a.types t) overflow (absolute v) st refl fine tt))
+    abs_same : (t : TypeNo) (e : TypedExpr) → is_ranged types t ≡ true → E e → E (expr.Abs t e)
+    abs_same t e ok m = from_expr ws Any (expr.Abs t e) (layer.Abs t e) (expr.outs-Abs t e)
+        (λ a fit st fine. same_then P world (m a fit st fine) (λ v st fine good.
+        same_provided P world lacking (is_ranged a.types t) (meaning.in_base a.types t (absolute v)) st (ap (λ (ts : Types). is_ranged ts t) fit.types ∙ ok) (same_range P world (scalar_at a.types t) overflow (absolute v) st refl fine tt)))
 
     cap_same : (e : TypedExpr) → E e → E (expr.Cap e)
     cap_same e m = from_expr ws Any (expr.Cap e) (layer.Cap e) (expr.outs-Cap e) (unary_same Any e _ m (λ a v st fine. gives _ st fine tt))
@@ -481,12 +485,12 @@ module _ (x : Context) (lacking : ℕ) (world : World) (sask ask : Asks) (knows 
 
     value_same : (t : TypeNo) (c : Scalar) (e : TypedExpr) → E e → IsCell types t c → A (argument.Value t e) (ByNumber c)
     value_same t c e m cell = from_argument (ByNumber c) (argument.Value t e) (layer.Value t e) (argument.outs-Value t e)
-        (λ a fit st fine. same_then P world (m a fit st fine) (λ v st fine good. same_then P world (type_checked Any ws t v a fit st fine (cell_taken t c v cell.is) tt)
+        (λ a fit st fine. same_then P world (m a fit st fine) (λ v st fine good. same_then P world (type_checked Any ws t v a fit st fine (cell_taken t c cell.is) tt)
         (λ v st fine good. gives (Number v) st fine (given_number c v (no_procedure P c v cell.number)))))
 
-    actual_same : (t : TypeNo) (h : Heading) (e : TypedExpr) → H e h → A (argument.Value t e) (ByNumber (Callable h))
-    actual_same t h e m = from_argument (ByNumber (Callable h)) (argument.Value t e) (layer.Value t e) (argument.outs-Value t e)
-        (λ a fit st fine. same_then P world (m a fit st fine) (λ v st fine good. same_then P world (type_checked (IsProcedureValue P h) ws t v a fit st fine (procedure_taken t h v good) good)
+    actual_same : (t : TypeNo) (h : Heading) (e : TypedExpr) → H e h → tree types t ≡ Cell (Callable h) → A (argument.Value t e) (ByNumber (Callable h))
+    actual_same t h e m type = from_argument (ByNumber (Callable h)) (argument.Value t e) (layer.Value t e) (argument.outs-Value t e)
+        (λ a fit st fine. same_then P world (m a fit st fine) (λ v st fine good. same_then P world (type_checked (IsProcedureValue P h) ws t v a fit st fine (cell_taken t (Callable h) type) good)
         (λ v st fine good. gives (Number v) st fine (given_number (Callable h) v (λ g e. subst (λ (g : Heading). IsProcedureValue P g v) (callable_same h g e) good)))))
 
     name_same : (d : Place) (t : Ty) → D d t → A (argument.Place d) (ByName t)
@@ -526,34 +530,34 @@ module _ (x : Context) (lacking : ℕ) (world : World) (sask ask : Asks) (knows 
         subst (λ (q : Calls). (wanted : Bool) → (wanted ≡ true → is_there r ≡ true) → Both ws (IsGood P r) (q wanted) (called P ask c)) (sym (strictly.call_means lacking P sask world c y h))
         (subst (λ (q : Gives ℤ). (wanted : Bool) → (wanted ≡ true → is_there r ≡ true) → Both ws (IsGood P r) (strict.call_layer lacking P sask world (strictly.call_meant lacking P sask world y) wanted) q) (sym (call_means P ask c y h)) m)
 
-    suits_same : (wanted function : Bool) → (wanted ≡ true → function ≡ true) → (not wanted || function) ≡ true
-    suits_same true function h = h refl
-    suits_same false function h = refl
+    suits_same : (headed wanted function : Bool) → headed ≡ true → (wanted ≡ true → function ≡ true) → headed && (not wanted || function) ≡ true
+    suits_same headed true function e h = ap (λ (b : Bool). b && function) e ∙ h refl
+    suits_same headed false function e h = ap (λ (b : Bool). b && true) e
 
     -- of a procedure that is known
     asked_same : (o : Spot P) (frames : Frames) → AreFrames world (environment_of o.home o.routine) frames → (fs : Forms) (r : Result) → forms_of o.home.types o.routine.heading ≡ fs → result_of o.home.types o.routine.heading ≡ r
-        → (gs : List Argument) → As gs fs → (wanted : Bool) → (wanted ≡ true → is_there r ≡ true) → (a : Environment) → Fits x world ws a → (st : State) → IsFine P world st.store
+        → (gs : List Argument) → As gs fs → (h : Heading) → heading_at o.home.types o.routine.heading ≡ Some h → (wanted : Bool) → (wanted ≡ true → is_there r ≡ true) → (a : Environment) → Fits x world ws a → (st : State) → IsFine P world st.store
         → Same P world (IsGood P r) (strict.asked lacking P sask world wanted (Some (callee_of o.place o.home o.routine frames)) (map sg gs) a st) (meaning.asked P ask (Some (callee_of o.place o.home o.routine frames)) (map (argument_value P ask) gs) a st)
-    asked_same o frames is fs r forms result gs ms wanted ok a fit st fine =
+    asked_same o frames is fs r forms result gs ms h headed wanted ok a fit st fine =
         let c : Callee = callee_of o.place o.home o.routine frames in
-        let suits : suits_call lacking P sask world wanted c ≡ true = suits_same wanted _ (λ e. means_it o.home.types o.routine.heading ∙ ap (λ (r : Result). is_there r) result ∙ ok e) in
+        let suits : suits_call lacking P sask world wanted c ≡ true = suits_same (is_procedure_type o.home.types o.routine.heading) wanted _ (headed_type o.home.types (made_at o.home.types o.routine.heading) h headed) (λ e. means_it o.home.types o.routine.heading ∙ ap (λ (r : Result). is_there r) result ∙ ok e) in
         let all' : CalleeSame P world sask ask c fs r =
         subst (λ (fs : Forms). CalleeSame P world sask ask c fs r) forms (subst (λ (r : Result). CalleeSame P world sask ask c (forms_of o.home.types o.routine.heading) r) result (all o frames is)) in
         same_provided P world lacking (suits_call lacking P sask world wanted c) (meaning.asked P sask (Some c) (map sg gs) a) st suits
         (same_then P world (ms a fit st fine) (λ vs st fine given.
         subst (λ (n : ℕ). Same P world (IsGood P r) (sask (Some c) vs n a.free st) (ask (Some c) vs n a.free st)) (sym fit.next) (all' vs given a.free st fine)))
 
-    module_same : (f : Procedure) (args : List Argument) → IsNamed x f → As args (forms_of types f.heading) → C (call.Module f args) (result_of types f.heading)
-    module_same f args h ms = from_call (result_of types f.heading) (call.Module f args) (layer.Module f args) (call.outs-Module f args)
+    module_same : (f : Procedure) (args : List Argument) → IsNamed x f → (k : Heading) → heading_at types f.heading ≡ Some k → As args (forms_of types f.heading) → C (call.Module f args) (result_of types f.heading)
+    module_same f args h k headed ms = from_call (result_of types f.heading) (call.Module f args) (layer.Module f args) (call.outs-Module f args)
         (λ wanted ok a fit st fine.
         let o : Spot P = spot_of f h in
         let none : AreFrames world (environment_of h.home h.routine) [] = subst (λ (kss : List Kinds). AreFrames world kss []) (sym h.outermost) no_pairs in
         same_provided P world lacking (is_module P f.home) _ st (knows.modules f.home h.known)
         (subst (λ (q : Option Callee). Same P world (IsGood P (result_of types f.heading)) (strict.asked lacking P sask world wanted q (map sg args) a st) (meaning.asked P ask q (map (argument_value P ask) args) a st)) (sym (named_callee f h))
-        (asked_same o [] none (forms_of types f.heading) (result_of types f.heading) h.forms h.result args ms wanted ok a fit st fine)))
+        (asked_same o [] none (forms_of types f.heading) (result_of types f.heading) h.forms h.result args ms k (h.heading ∙ headed) wanted ok a fit st fine)))
 
-    nested_same : (f : LocalProcedure) (args : List Argument) → IsInner x f → As args (forms_of types f.heading) → C (call.Nested f args) (result_of types f.heading)
-    nested_same f args h ms = from_call (result_of types f.heading) (call.Nested f args) (layer.Nested f args) (call.outs-Nested f args)
+    nested_same : (f : LocalProcedure) (args : List Argument) → IsInner x f → (k : Heading) → heading_at types f.heading ≡ Some k → As args (forms_of types f.heading) → C (call.Nested f args) (result_of types f.heading)
+    nested_same f args h k headed ms = from_call (result_of types f.heading) (call.Nested f args) (layer.Nested f args) (call.outs-Nested f args)
         (λ wanted ok a fit st fine.
         let frames : Frames = drop f.up a.frames in
         let o : Spot P = record { place = x.place; home = x.home; there = h.there; at = which.Local f.number; routine = h.routine; is = h.is } in
@@ -563,7 +567,7 @@ module _ (x : Context) (lacking : ℕ) (world : World) (sask ask : Asks) (knows 
         ap (λ (n : ℕ). nested_in n (slice_get P n) frames f.number) fit.place ∙ ap (λ (q : Option TypedModule). nested_in x.place q frames f.number) h.there ∙ ap (λ (q : Option Routine). callee_with x.place types frames q) h.is in
         same_provided P world lacking (nat_lt f.up (length a.frames)) _ st (lt-ltb f.up (length a.frames) less)
         (subst (λ (q : Option Callee). Same P world (IsGood P (result_of types f.heading)) (strict.asked lacking P sask world wanted q (map sg args) a st) (meaning.asked P ask q (map (argument_value P ask) args) a st)) (sym found)
-        (asked_same o frames is (forms_of types f.heading) (result_of types f.heading) h.forms h.result args ms wanted ok a fit st fine)))
+        (asked_same o frames is (forms_of types f.heading) (result_of types f.heading) h.forms h.result args ms k (h.heading ∙ headed) wanted ok a fit st fine)))
 
     -- of the procedure that a variable holds
     held_same : (t : TypeNo) (h : Heading) → heading_at types t ≡ Some h → (args : List Argument) → As args (forms_of types t) → (wanted : Bool) → (wanted ≡ true → is_there (result_of types t) ≡ true) → (v : ℤ) → IsProcedureValue P h v
@@ -577,7 +581,7 @@ module _ (x : Context) (lacking : ℕ) (world : World) (sask ask : Asks) (knows 
         let result : result_of names.home.types names.routine.heading ≡ result_of types t = result_same names.home.types names.routine.heading h names.heading ∙ sym (result_same types t h e) in
         subst (λ (n : ℕ). Same P world (IsGood P (result_of types t)) (strict.asked_value lacking P sask world wanted (pos n) (map sg args) a st) (meaning.asked_if P ask (entry_callee P (entry_of P (pos n))) (map (argument_value P ask) args) a st)) (sym names.value)
         (subst (λ (q : Option Callee). Same P world (IsGood P (result_of types t)) (strict.asked lacking P sask world wanted q (map sg args) a st) (meaning.asked_if P ask q (map (argument_value P ask) args) a st)) (sym (found_at h n names))
-        (asked_same o [] none (forms_of types t) (result_of types t) forms result args ms wanted ok a fit st fine))
+        (asked_same o [] none (forms_of types t) (result_of types t) forms result args ms h names.heading wanted ok a fit st fine))
 
     variable_same : (t : TypeNo) (h : Heading) (d : Place) (args : List Argument) → heading_at types t ≡ Some h → D d (Cell (Callable h)) → As args (forms_of types t) → C (call.Variable t d args) (result_of types t)
     variable_same t h d args e m ms = from_call (result_of types t) (call.Variable t d args) (layer.Variable t d args) (call.outs-Variable t d args)
@@ -597,7 +601,7 @@ module _ (x : Context) (lacking : ℕ) (world : World) (sask ask : Asks) (knows 
     expr_same ws _ _ _ _ (typed.Not a b u e h g) = not_same ws e (expr_same ws a b e u h)
     expr_same ws _ _ _ _ (typed.Include a b c u v o e f h i g j) = include_same ws o e f (expr_same ws a b e u h) (expr_same ws b c f v g)
     expr_same ws _ _ _ _ (typed.In a b c u v e f h g j) = in_same ws e f (expr_same ws a b e u h) (expr_same ws b c f v g)
-    expr_same ws _ _ _ _ (typed.Abs a b t u e h i j) = abs_same ws t e (expr_same ws a b e u h)
+    expr_same ws _ _ _ _ (typed.Abs a b t u e h i j ranged') = abs_same ws t e (ranged (scalar_at types t) ranged') (expr_same ws a b e u h)
     expr_same ws _ _ _ _ (typed.Cap a b u e h i) = cap_same ws e (expr_same ws a b e u h)
     expr_same ws _ _ _ _ (typed.Chr a b u e h) = chr_same ws e (expr_same ws a b e u h)
     expr_same ws _ _ _ _ (typed.Odd a b u e h) = odd_same ws e (expr_same ws a b e u h)
@@ -638,8 +642,8 @@ module _ (x : Context) (lacking : ℕ) (world : World) (sask ask : Asks) (knows 
     component_same ws _ _ _ _ _ (typed.ElementOf a b t w r u i range array h) = element_same ws t r u i range array (expr_same ws a b i w h)
 
     pub calls_same : (ws : List Ty) (a b : ℕ) (c : Call) (r : Result) → typed.IsCall x ws a b c r → C ws c r
-    calls_same ws _ _ _ _ (typed.OfModule a b f args known hs) = module_same ws f args known.named (arguments_same ws a b args (forms_of types f.heading) hs)
-    calls_same ws _ _ _ _ (typed.OfProcedure a b f args inner hs) = nested_same ws f args inner (arguments_same ws a b args (forms_of types f.heading) hs)
+    calls_same ws _ _ _ _ (typed.OfModule a b f args known hs) = module_same ws f args known.named known.shape known.headed (arguments_same ws a b args (forms_of types f.heading) hs)
+    calls_same ws _ _ _ _ (typed.OfProcedure a b f args known hs) = nested_same ws f args known.inner known.shape known.headed (arguments_same ws a b args (forms_of types f.heading) hs)
     calls_same ws _ _ _ _ (typed.OfVariable a b c t h d args is type g signed hs) = variable_same ws t h d args is (place_same ws a b d (Cell (Callable h)) g) (arguments_same ws b c args (forms_of types t) hs)
 
     arguments_same : (ws : List Ty) (a b : ℕ) (args : List Argument) (fs : Forms) → typed.AreArguments x ws a b args fs → As ws args fs
@@ -648,7 +652,7 @@ module _ (x : Context) (lacking : ℕ) (world : World) (sask ask : Asks) (knows 
 
     argument_same : (ws : List Ty) (a b : ℕ) (g : Argument) (f : Form) → typed.IsArgument x ws a b g f → A ws g f
     argument_same ws _ _ _ _ (typed.Value a b t u c e h cell is) = value_same ws t c e (expr_same ws a b e u h) cell
-    argument_same ws _ _ _ _ (typed.ProcedureActual a b t h e g none) = actual_same ws t h e (procedure_expr_same ws a b e h g)
+    argument_same ws _ _ _ _ (typed.ProcedureActual a b t h e g none type) = actual_same ws t h e (procedure_expr_same ws a b e h g) type
     argument_same ws _ _ _ _ (typed.ActualName a b d t h) = name_same ws d t (place_same ws a b d t h)
     argument_same ws _ _ _ _ (typed.ActualCopy a b d t h) = copy_same ws d t (place_same ws a b d t h)
     argument_same ws _ _ _ _ (typed.ActualArray a b t r u is_var d range narrow array h) = array_same ws t r u is_var d range array (place_same ws a b d (tree types t) h)

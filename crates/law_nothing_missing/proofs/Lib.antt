@@ -4,6 +4,7 @@ pub mod Frames
 pub mod Meant
 pub mod Exprs
 pub mod Does
+pub mod StmtsMeant
 pub mod Stmts
 pub mod Formals
 pub mod Procedures

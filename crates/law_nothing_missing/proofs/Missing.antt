@@ -13,7 +13,7 @@ use Rattle.typed_tree.specs.declared.statement.TypedStmt.TheVariants as stmt
 use Rattle.typed_tree.specs.Types.{char}
 use Rattle.def_meaning.specs.Store.{Location}
 use Rattle.def_meaning.specs.Answer.{State, Answer, Value, ◌▷◌, Ended}
-use Rattle.def_meaning.specs.Outcome.{Outcome, Normal, then_go}
+use Rattle.def_meaning.specs.Outcome.{Outcome, Normal, sequence}
 use Rattle.def_meaning.specs.Environment.{Modules, Environment, module_place}
 use Rattle.def_meaning.specs.Expressions.{Asks, Gives, as_type, one_by_one}
 use Rattle.def_meaning.specs.Runs.{storage, body_frame, first_state, body_environment}
@@ -56,4 +56,4 @@ missing_lacks m d v body is missing lacking pages n =
     let a : Environment = body_environment p 0 m left in
     let st : State = first_state p in
     ap (λ (ss : List TypedStmt). then_body lacking (in_turn (map (statements.does lacking p ask w n false) ss) a st) (bodies lacking p n left 1 [])) body
-    ∙ ap (λ (o : Outcome). then_body lacking (then_go o (in_turn [] a)) (bodies lacking p n left 1 [])) (put_lacks lacking p ask w n d v is missing a st false)
+    ∙ ap (λ (o : Outcome). then_body lacking (sequence o (in_turn [] a)) (bodies lacking p n left 1 [])) (put_lacks lacking p ask w n d v is missing a st false)

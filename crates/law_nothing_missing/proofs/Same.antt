@@ -2,7 +2,7 @@
 use Rattle.std.proofs.Common.{◌≡◌, ℕ, ℤ, nat_lt, Bool, true, false, List, Option, Some, None, if◌then◌else◌, refl, sym, subst}
 use Rattle.typed_tree.specs.declared.shape.Scalar.{Scalar as Range}
 use Rattle.def_meaning.specs.Answer.{State, Answer, Value, ◌▷◌, Ended, StillRunning}
-use Rattle.def_meaning.specs.Outcome.{Outcome, Normal, Exited, Returned, then_go}
+use Rattle.def_meaning.specs.Outcome.{Outcome, Normal, Exited, Returned, sequence}
 use Rattle.def_meaning.specs.Environment.{Modules}
 use Rattle.def_meaning.specs.Operators.{is_between}
 use Rattle.def_meaning.specs.Expressions.{within, within_range}
@@ -55,7 +55,7 @@ module _ (p : Modules) (world : World) where
   end_with (still out) next = unfinished out
 
   pub end_then : {l : Bool} {H : ℤ → Type 0} {x y : Outcome} {f g : State → Outcome} → SameEnd p world l H x y
-      → ((st : State) → IsFine p world st.store → SameEnd p world l H (f st) (g st)) → SameEnd p world l H (then_go x f) (then_go y g)
+      → ((st : State) → IsFine p world st.store → SameEnd p world l H (f st) (g st)) → SameEnd p world l H (sequence x f) (sequence y g)
   end_then (goes st fine) next = next st fine
   end_then (leaves st fine e) next = leaves st fine e
   end_then (returns v st fine good) next = returns v st fine good

@@ -37,10 +37,10 @@ use Rattle.law_simulation.specs.Passing.{Result}
 use Rattle.law_simulation.specs.TreesTyped as trees
 use Rattle.law_simulation.specs.TreesTyped.{Context}
 use Rattle.law_simulation.specs.StmtsTyped as typed
-use Rattle.law_simulation.proofs.StmtsMeant.{arm_does, step_meant, step_means, arm_means}
+use Rattle.law_nothing_missing.proofs.StmtsMeant.{arm_does, step_meant, step_means, arm_means}
 use Rattle.law_nothing_missing.specs.Worlds.{World, type_at, is_like, has_room}
 use Rattle.law_nothing_missing.specs.Expressions as places
-use Rattle.law_nothing_missing.specs.Expressions.{is_ranged, is_taken, provided, at_cell}
+use Rattle.law_nothing_missing.specs.Expressions.{is_ranged, is_number_type, provided, at_cell}
 use Rattle.law_nothing_missing.specs.Statements as strict
 use Rattle.law_nothing_missing.specs.Statements.{are_ranged}
 use Rattle.def_scheme.specs.Cells.{base_in}
@@ -49,7 +49,7 @@ use Rattle.law_nothing_missing.proofs.Does as strictly
 use Rattle.law_nothing_missing.proofs.Worlds.{none_some, there_behind, alike_itself, HoldsProcedures, IsFine, fine_placed}
 use Rattle.law_nothing_missing.proofs.Same.{Any, Same, gives, ends, still, SameEnd, goes, leaves, returns, stops, unfinished, same_then, end_with, end_then, end_if, same_provided, same_within, same_range}
 use Rattle.law_nothing_missing.proofs.Frames.{no_pairs, more_pairs, pairs_append, IsGood}
-use Rattle.law_nothing_missing.proofs.Exprs.{ranged, AllSame, Knows, Fits, Both, E, H, D, C, no_procedure, cell_there, type_checked, cell_taken, procedure_taken, expr_same, procedure_expr_same, place_same, calls_same}
+use Rattle.law_nothing_missing.proofs.Exprs.{ranged, AllSame, Knows, Fits, Both, E, H, D, C, no_procedure, cell_there, type_checked, cell_taken, expr_same, procedure_expr_same, place_same, calls_same}
 
 -- ---- what variables hold
 
@@ -140,13 +140,13 @@ module _ (x : Context) (lacking : ℕ) (world : World) (sask ask : Asks) (knows 
   assign_same : (ws : List Ty) (l : Bool) (d : Place) (t : TypeNo) (c : Scalar) (e : TypedExpr) → IsCell types t c → Dx ws d (Cell c) → Ex ws e → S ws l (stmt.Assign d t e)
   assign_same ws l d t c e cell m q = from_stmt ws l (stmt.Assign d t e) (step.Assign d t e) (stmt.outs-Assign d t e)
       (λ a fit st fine. end_with P world (cells (m a fit st fine)) (λ at st fine is. end_with P world (q a fit st fine) (λ v st fine good.
-      end_with P world (type_checked x lacking world sask ask knows all Any ws t v a fit st fine (cell_taken x lacking world sask ask knows all t c v cell.is) tt)
+      end_with P world (type_checked x lacking world sask ask knows all Any ws t v a fit st fine (cell_taken x lacking world sask ask knows all t c cell.is) tt)
       (λ v st fine good. store_goes l c at v st fine is (no_procedure P c v cell.number)))))
 
   assign_procedure_same : (ws : List Ty) (l : Bool) (d : Place) (t : TypeNo) (h : Heading) (e : TypedExpr) → tree types t ≡ Cell (Callable h) → Dx ws d (Cell (Callable h)) → Hx ws e h → S ws l (stmt.Assign d t e)
   assign_procedure_same ws l d t h e type m q = from_stmt ws l (stmt.Assign d t e) (step.Assign d t e) (stmt.outs-Assign d t e)
       (λ a fit st fine. end_with P world (cells (m a fit st fine)) (λ at st fine is. end_with P world (q a fit st fine) (λ v st fine good.
-      end_with P world (type_checked x lacking world sask ask knows all (IsProcedureValue P h) ws t v a fit st fine (cell_taken x lacking world sask ask knows all t (Callable h) v type) good)
+      end_with P world (type_checked x lacking world sask ask knows all (IsProcedureValue P h) ws t v a fit st fine (cell_taken x lacking world sask ask knows all t (Callable h) type) good)
       (λ v st fine good. store_goes l (Callable h) at v st fine is (λ g e. subst (λ (g : Heading). IsProcedureValue P g v) (callable_in h g e) good)))))
 
   like_there : (t : Ty) (l : Location) {y z : Answer Location} → IsAt t l → Same P world (IsAt t) y z → Same P world (IsAt t) (y ▷ (strict.copied_from lacking P sask world n function (type_at world l))) z
@@ -219,11 +219,11 @@ module _ (x : Context) (lacking : ℕ) (world : World) (sask ask : Asks) (knows 
       (λ a fit st fine. subst (λ (b : Bool). End l (if b then Ended lacking st.out else Value (Returned (pos 0)) st) (Value (Returned (pos 0)) st)) (sym (kind ∙ ap (λ (r : Result). is_there r) none)) (returns (pos 0) st fine (good_none (pos 0) none)))
 
   give_same : (ws : List Ty) (l : Bool) (t : TypeNo) (e : TypedExpr) (G : ℤ → Type 0) (r : Ty) → result ≡ Some r
-      → Both x lacking world sask ask knows all ws G (places.value lacking P sask world e) (value P ask e) → ((v : ℤ) → G v → is_taken lacking P sask world types t v ≡ true) → ((v : ℤ) → G v → IsGood P (Some r) v) → S ws l (stmt.Give t e)
+      → Both x lacking world sask ask knows all ws G (places.value lacking P sask world e) (value P ask e) → is_number_type types t ≡ true → ((v : ℤ) → G v → IsGood P (Some r) v) → S ws l (stmt.Give t e)
   give_same ws l t e G r some m ok good = from_stmt ws l (stmt.Give t e) (step.Give t e) (stmt.outs-Give t e)
       (λ a fit st fine. subst (λ (b : Bool). End l (if b then (places.value lacking P sask world e a st ▷ (λ v st. places.as_type lacking P sask world a.types t v st ▷ λ v st. Value (Returned v) st)) else Ended lacking st.out)
       (value P ask e a st ▷ λ v st. as_type a.types t v st ▷ λ v st. Value (Returned v) st)) (sym (kind ∙ ap (λ (r : Result). is_there r) some))
-      (end_with P world (m a fit st fine) (λ v st fine is. end_with P world (type_checked x lacking world sask ask knows all G ws t v a fit st fine (ok v is) is)
+      (end_with P world (m a fit st fine) (λ v st fine is. end_with P world (type_checked x lacking world sask ask knows all G ws t v a fit st fine ok is)
       (λ v st fine is. returns v st fine (subst (λ (r : Result). IsGood P r v) (sym some) (good v is))))))
 
   -- ---- rows of statements
@@ -256,7 +256,7 @@ module _ (x : Context) (lacking : ℕ) (world : World) (sask ask : Asks) (knows 
   looped_same l (suc k) f g h st fine = loop_goes l (h st fine) (looped_same l k f g h)
 
   while_turns : (l : Bool) (k : ℕ) (t u : State → Answer ℤ) (f g : State → Outcome) → ((st : State) → IsFine P world st.store → Same P world Any (t st) (u st)) → Turn l f g → Turn l (while_true k t f) (while_true k u g)
-  while_turns l zero t u f g q h st fine = unfinished st.out
+  while_turns l zero t u f g q h st fine = end_with P world (q st fine) (λ v st fine good. end_if P world (is_true v) (unfinished st.out) (goes st fine))
   while_turns l (suc k) t u f g q h st fine =
       end_with P world (q st fine) (λ v st fine good. end_if P world (is_true v) (end_then P world (h st fine) (λ st fine. while_turns l k t u f g q h st fine)) (goes st fine))
 
@@ -359,9 +359,9 @@ module _ (x : Context) (lacking : ℕ) (world : World) (sask ask : Asks) (knows 
     stmt_same _ _ _ _ _ (typed.Exit ws a) = exit_same ws
     stmt_same _ _ _ _ _ (typed.Return ws l a none) = return_same ws l none
     stmt_same _ _ _ _ _ (typed.Give ws l a b t r e some cell g) =
-        give_same ws l t e Any (tree types t) some (ex ws a b e g.of g.is) (λ v any. cell_taken x lacking world sask ask knows all t r v cell.is) (λ v any h e. no_procedure P r v cell.number h (cell_in (tree types t) r (Callable h) cell.is e))
-    stmt_same _ _ _ _ _ (typed.GiveProcedure ws l a b t h e some none is) =
-        give_same ws l t e (IsProcedureValue P h) (Cell (Callable h)) some (hx ws a b e h is) (λ v good. procedure_taken x lacking world sask ask knows all t h v good) (λ v good g e. subst (λ (g : Heading). IsProcedureValue P g v) (callable_in h g (same_cell (Callable h) (Callable g) (ap Some e))) good)
+        give_same ws l t e Any (tree types t) some (ex ws a b e g.of g.is) (cell_taken x lacking world sask ask knows all t r cell.is) (λ v any h e. no_procedure P r v cell.number h (cell_in (tree types t) r (Callable h) cell.is e))
+    stmt_same _ _ _ _ _ (typed.GiveProcedure ws l a b t h e some none is type) =
+        give_same ws l t e (IsProcedureValue P h) (Cell (Callable h)) some (hx ws a b e h is) (cell_taken x lacking world sask ask knows all t (Callable h) type) (λ v good g e. subst (λ (g : Heading). IsProcedureValue P g v) (callable_in h g (same_cell (Callable h) (Callable g) (ap Some e))) good)
     stmt_same _ _ _ _ _ (typed.For ws l a b c z d t u r start limit by body cell ranged' control low high g h hs) =
         for_same ws l d t r start limit by body cell (ranged (scalar_at types t) ranged') (control_same ws d (Cell r) control) (ex ws a b start g.of g.is) (ex ws b c limit u h) (stmts_same ws l c z body hs)
     stmt_same _ _ _ _ _ (typed.With ws l a b c t d body h hs) = with_same ws l t d body (dx ws a b d t h) (stmts_same (ws ++ t ∷ []) l b c body hs)

@@ -1,7 +1,7 @@
 -- What expressions, designators, calls and arguments give, where nothing that they ask for may be
 -- missing: the definition of def_meaning once more, with an end of its own in place of each
 -- default.
-use Rattle.std.specs.Prelude.{ℕ, zero, suc, ◌==◌, ◌-◌, ℤ, pos, negsuc, Bool, true, false, not, ◌||◌, nat_lt, List, [], ◌∷◌, ◌++◌, drop, length, Option, Some, None, slice_get, if◌then◌else◌}
+use Rattle.std.specs.Prelude.{ℕ, zero, suc, ◌==◌, ◌-◌, ℤ, pos, negsuc, Bool, true, false, not, ◌&&◌, ◌||◌, nat_lt, List, [], ◌∷◌, ◌++◌, drop, length, Option, Some, None, slice_get, if◌then◌else◌}
 use Rattle.std.specs.List.{list_any}
 use Rattle.typed_tree.specs.declared.computed.Argument.{Argument-F}
 use Rattle.typed_tree.specs.declared.computed.Argument.TheOpen as layer
@@ -15,12 +15,16 @@ use Rattle.typed_tree.specs.declared.computed.TypedExpr.{TypedExpr, TypedExpr-F,
 use Rattle.typed_tree.specs.declared.computed.Arithmetic.{Arithmetic}
 use Rattle.typed_tree.specs.declared.computed.Arithmetic.TheVariants as op
 use Rattle.typed_tree.specs.declared.types.TypeNo.{TypeNo}
+use Rattle.typed_tree.specs.declared.shape.Shape.{Shape}
+use Rattle.typed_tree.specs.declared.shape.Shape.TheVariants as shape
+use Rattle.typed_tree.specs.declared.shape.Made.{Made}
 use Rattle.typed_tree.specs.declared.known_types.Types.{Types}
-use Rattle.typed_tree.specs.Known.{scalar_at}
+use Rattle.typed_tree.specs.Known.{made_at, scalar_at}
 use Rattle.layout_storage.specs.Shapes.{tree, elements_of}
 use Rattle.def_meaning.specs.Store.{Location}
 use Rattle.def_meaning.specs.Answer.{State, Answer, Value, Ended, ◌▷◌, empty_procedure}
 use Rattle.def_meaning.specs.Environment.{Modules, Environment, Named, At, Elements, Callee, Passed, Number, Variable, Array, Text, module_place, procedure_value, entry_of, entry_callee, module_callee, nested_in, named}
+use Rattle.def_meaning.specs.Operators.{absolute}
 use Rattle.def_meaning.specs.Calls.{is_there, is_function}
 use Rattle.def_meaning.specs.Expressions as meaning
 use Rattle.def_meaning.specs.Expressions.{Asks, Gives, Reaches, Continues, index_range, element, operated, one_by_one}
@@ -37,6 +41,26 @@ is_module p home = list_any (λ m. m.types.home == home) p
 -- a type with a range
 abbrev pub is_ranged : Types → TypeNo → Bool
 is_ranged types t = is_there (scalar_at types t)
+
+-- a procedure type
+abbrev pub is_procedure_shape : Shape → Bool
+is_procedure_shape (shape.Procedure p) = true
+is_procedure_shape (shape.Scalar s) = false
+is_procedure_shape shape.Set = false
+is_procedure_shape (shape.Array i e) = false
+is_procedure_shape (shape.Record fs) = false
+is_procedure_shape (shape.Open e) = false
+
+abbrev pub is_procedure_made : Option Made → Bool
+is_procedure_made None = false
+is_procedure_made (Some m) = is_procedure_shape m.shape
+
+abbrev pub is_procedure_type : Types → TypeNo → Bool
+is_procedure_type types t = is_procedure_made (made_at types t)
+
+-- a type of which a value is one number
+abbrev pub is_number_type : Types → TypeNo → Bool
+is_number_type types t = is_cell (Some (tree types t))
 
 -- what a name stands for, where it is a variable, and where it is an open array
 abbrev pub variable_of : Option Named → Option Location
@@ -74,9 +98,11 @@ module _ (lacking : ℕ) where
     abbrev pub at_cell : Location → State → Answer Location
     at_cell l st = provided (is_cell (type_at world l)) (Value l) st
 
-    -- where a value is wanted, a function is called
+    -- what is called has a heading, and where a value is wanted, it is a function
     abbrev pub suits_call : (wanted : Bool) → Callee → Bool
-    suits_call wanted c = not wanted || is_function c.types c.routine
+    suits_call wanted c =
+        is_procedure_type c.types c.routine.heading
+        && (not wanted || is_function c.types c.routine)
 
     abbrev pub asked : (wanted : Bool) → Option Callee → List (Gives Passed) → Environment → State
         → Answer ℤ
@@ -92,18 +118,9 @@ module _ (lacking : ℕ) where
         asked wanted (entry_callee p (entry_of p (pos (suc k)))) args a st
     asked_value wanted (negsuc k) args a st = lacks st
 
-    abbrev pub is_procedure : ℤ → Bool
-    is_procedure (pos zero) = true
-    is_procedure (pos (suc k)) = is_there (entry_callee p (entry_of p (pos (suc k))))
-    is_procedure (negsuc k) = false
-
-    -- the type as one of which a value is taken is a scalar type that is there, or the value is
-    -- that of a procedure
-    abbrev pub is_taken : Types → TypeNo → ℤ → Bool
-    is_taken types t v = is_cell (Some (tree types t)) || is_procedure v
-
+    -- a value is taken as one of a type that is there
     abbrev pub as_type : Types → TypeNo → ℤ → State → Answer ℤ
-    as_type types t v st = provided (is_taken types t v) (meaning.as_type types t v) st
+    as_type types t v st = provided (is_number_type types t) (meaning.as_type types t v) st
 
     abbrev pub argument_layer :
         Argument-F (Gives Passed) Calls Reaches Continues (Gives ℤ) (Gives Location) → Gives Passed
@@ -189,7 +206,7 @@ module _ (lacking : ℕ) where
         (λ r. r) (λ f. f) (λ e. e) (λ d. d) x
 
     -- a number is loaded, a procedure that is a value is there, an open array of which HIGH is
-    -- asked, and the range of VAL
+    -- asked, and the ranges of ABS and VAL
     abbrev pub expr_layer :
         TypedExpr-F (Gives Passed) Calls Reaches Continues (Gives ℤ) (Gives Location) → Gives ℤ
     expr_layer (layer.Load t d) a st =
@@ -202,6 +219,9 @@ module _ (lacking : ℕ) where
         st
     expr_layer (layer.High slot) a st =
         needs (elements_named (named a slot)) (λ e st. Value (pos e.1) st) st
+    expr_layer (layer.Abs t e) a st =
+        e a st ▷ λ v st.
+        provided (is_ranged a.types t) (meaning.in_base a.types t (absolute v)) st
     expr_layer (layer.Val t e) a st =
         e a st ▷ λ v st. provided (is_ranged a.types t) (meaning.as_type a.types t v) st
     expr_layer other a st = meaning.expr_layer p ask (wanting other) a st

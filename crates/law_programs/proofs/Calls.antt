@@ -45,8 +45,9 @@ use Rattle.check_call.specs.declared.callee.Called.TheVariants as called
 use Rattle.check_call.specs.declared.standard.Unary.{Unary}
 use Rattle.check_call.specs.declared.standard.Unary.TheVariants as unary
 use Rattle.layout_storage.specs.Shapes.{elements_of, tree}
-use Rattle.layout_storage.specs.Types.{Ty, Callable, Cell, Array}
+use Rattle.layout_storage.specs.Types.{Ty, Callable, Cell, Array, Heading}
 use Rattle.def_scheme.specs.Cells.{base_of}
+use Rattle.law_memory.specs.Relation.{heading_at}
 use Rattle.law_simulation.specs.Scene.{AreAmong}
 use Rattle.law_simulation.specs.Passing.{Form, ByCopy, ByName, ByArray, value_form, form_of, forms_of, result_of}
 use Rattle.law_simulation.specs.TreesTyped.{Context, IsNamed, IsInner}
@@ -59,7 +60,7 @@ use Rattle.law_well_formed.proofs.RangesTypes.{same_types, both_left}
 use Rattle.law_well_formed.proofs.Subranges.{between_in, at_itself, number_between, based_at}
 use Rattle.law_well_formed.proofs.Values.{unary_ranged}
 use Rattle.law_programs.specs.Typing.{IsConstant, is_known, TypesTyped, ExprTyped, PlaceTyped, CallTyped, ArgumentTyped, ScalarTyped, ValueTyped, DesignatedTyped}
-use Rattle.law_programs.proofs.Known.{IsRoutine, ClassIs, class_is, scalar_known, array_known, among_base, base_is, among_natural, HasCell, ranged_cell, bits_cell, routine_tree, has_base, IsArray, array_is, whole_copied}
+use Rattle.law_programs.proofs.Known.{IsRoutine, ClassIs, class_is, scalar_known, array_known, among_base, base_is, among_natural, HasCell, ranged_cell, bits_cell, routine_tree, has_base, has_range, IsArray, array_is, whole_copied}
 use Rattle.law_programs.proofs.Words.{holds_both, unary_words, bound_word}
 use Rattle.law_programs.proofs.Operators.{where_not, numeric_is, boolean_base, char_base, of_value_typed, scalar_typed, suited_typed, procedure_suited_typed}
 use Rattle.law_programs.proofs.Constructs as made
@@ -205,7 +206,7 @@ module _ (x : Context) (ws : List Ty) (h : TypesTyped x.home.types) (g : Gathers
     routine_typed t at d i q p =
         then_holds (taken_typed at d p) (λ v k.
         then_holds (procedure_suited_typed x ws h g scope grows rule.WrongArgument t at v i q k) (λ e j.
-        fine (argument.Value t e) (subst (λ (f : Form). ArgumentTyped x ws (argument.Value t e) f) (sym (ap value_form (routine_tree types h t i))) (made.procedure_actual_typed x ws t i.heading e j i.none))))
+        fine (argument.Value t e) (subst (λ (f : Form). ArgumentTyped x ws (argument.Value t e) f) (sym (ap value_form (routine_tree types h t i))) (made.procedure_actual_typed x ws t i.heading e j i.none (routine_tree types h t i)))))
 
     passed_typed : (t : TypeNo) (at : Pos) (d : Designated) (c : Class) → is_known scope t ≡ true → class_at scope t ≡ c → ClassIs types t c → DesignatedTyped x ws opens d → For (value_form (tree types t)) (passed_as g scope t at d c)
     passed_typed t at d (class.Scalar s) k q e p = simple_typed t at d (ranged_cell types h t s e) p
@@ -251,10 +252,10 @@ module _ (x : Context) (ws : List Ty) (h : TypesTyped x.home.types) (g : Gathers
   callee_typed at (designated.Type t) p = reported_holds g at rule.WrongType
   callee_typed at (designated.Module k) p = reported_holds g at rule.WrongType
 
-  pub call_typed : (c : Callee) (t : TypeNo) (gs : List Argument) → CalleeTyped t c → made.ArgumentsTyped x ws gs (forms_of types t) → CallTyped x ws (call_by gs c) (result_of types t)
-  call_typed (callee.Module f) t gs k p = subst (λ (u : TypeNo). CallTyped x ws (call.Module f gs) (result_of types u)) k.1 (made.module_call_typed x ws f gs k.0 (subst (λ (u : TypeNo). made.ArgumentsTyped x ws gs (forms_of types u)) (sym k.1) p))
-  call_typed (callee.Nested f) t gs k p = subst (λ (u : TypeNo). CallTyped x ws (call.Nested f gs) (result_of types u)) k.1 (made.nested_call_typed x ws f gs k.0 (subst (λ (u : TypeNo). made.ArgumentsTyped x ws gs (forms_of types u)) (sym k.1) p))
-  call_typed (callee.Variable u d) t gs k p =
+  pub call_typed : (c : Callee) (t : TypeNo) (gs : List Argument) → CalleeTyped t c → (s : Heading) → heading_at types t ≡ Some s → made.ArgumentsTyped x ws gs (forms_of types t) → CallTyped x ws (call_by gs c) (result_of types t)
+  call_typed (callee.Module f) t gs k s i p = subst (λ (u : TypeNo). CallTyped x ws (call.Module f gs) (result_of types u)) k.1 (made.module_call_typed x ws f gs k.0 s (ap (heading_at types) k.1 ∙ i) (subst (λ (u : TypeNo). made.ArgumentsTyped x ws gs (forms_of types u)) (sym k.1) p))
+  call_typed (callee.Nested f) t gs k s i p = subst (λ (u : TypeNo). CallTyped x ws (call.Nested f gs) (result_of types u)) k.1 (made.nested_call_typed x ws f gs k.0 s (ap (heading_at types) k.1 ∙ i) (subst (λ (u : TypeNo). made.ArgumentsTyped x ws gs (forms_of types u)) (sym k.1) p))
+  call_typed (callee.Variable u d) t gs k s i p =
       let tr : tree types u ≡ Cell (Callable k.1.heading) = routine_tree types h u k.1 in
       subst (λ (w : TypeNo). CallTyped x ws (call.Variable u d gs) (result_of types w)) k.2
       (made.variable_call_typed x ws u k.1.heading d gs k.1.is tr (subst (λ (w : Ty). PlaceTyped x ws d w) tr k.0) (subst (λ (w : TypeNo). made.ArgumentsTyped x ws gs (forms_of types w)) (sym k.2) p))
@@ -264,7 +265,7 @@ module _ (x : Context) (ws : List Ty) (h : TypesTyped x.home.types) (g : Gathers
   unary_made : (u : Unary) (t b : TypeNo) (e : TypedExpr) → unary_takes u b ≡ true → ScalarTyped x ws t b e → ValueTyped x ws (unary_built u b e)
   unary_made unary.Abs t b e k p =
       let n = numeric_is x ws h b k in
-      scalar_typed x ws h g b b (expr.Abs b e) (made.abs_typed x ws b t e p.typed (among_base types t b p.based) (λ q. among_natural types h.ranged b b n.base q)) n.base (made.run_abs m b e)
+      scalar_typed x ws h g b b (expr.Abs b e) (made.abs_typed x ws b t e p.typed (among_base types t b p.based) (λ q. among_natural types h.ranged b b n.base q) (has_range types b b n.base)) n.base (made.run_abs m b e)
   unary_made unary.Cap t b e k p = scalar_typed x ws h g char char (expr.Cap e) (made.cap_typed x ws t e p.typed (subst (λ (z : TypeNo). AreAmong types t z) (same_types b char k) (among_base types t b p.based))) (char_base x ws h) (made.run_cap m e)
   unary_made unary.Chr t b e k p = scalar_typed x ws h g char char (expr.Chr e) (made.chr_typed x ws t e p.typed) (char_base x ws h) (made.run_chr m e)
   unary_made unary.Odd t b e k p = scalar_typed x ws h g boolean boolean (expr.Odd e) (made.odd_typed x ws t e p.typed) (boolean_base x ws h) (made.run_odd m e)

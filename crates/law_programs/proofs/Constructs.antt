@@ -182,7 +182,7 @@ module _ (x : Context) (ws : List Ty) where
   linked_is _ _ z _ w _ l (typed.Not a b u e h g) k = subst (λ (y : TypedExpr-F Argument Call Component Link TypedExpr Place). IsExpr x ws a z (linked_to y (expr.Not e) l) w) (sym (expr.outs-Not e)) (typed.Chain a b z boolean w (expr.Not e) (l ∷ []) (typed.Not a b u e h g) (one_link b z boolean w l k))
   linked_is _ _ z _ w _ l (typed.Include a b c u v o e f h i g j) k = subst (λ (y : TypedExpr-F Argument Call Component Link TypedExpr Place). IsExpr x ws a z (linked_to y (expr.Include o e f) l) w) (sym (expr.outs-Include o e f)) (typed.Chain a c z boolean w (expr.Include o e f) (l ∷ []) (typed.Include a b c u v o e f h i g j) (one_link c z boolean w l k))
   linked_is _ _ z _ w _ l (typed.In a b c u v e f h g j) k = subst (λ (y : TypedExpr-F Argument Call Component Link TypedExpr Place). IsExpr x ws a z (linked_to y (expr.In e f) l) w) (sym (expr.outs-In e f)) (typed.Chain a c z boolean w (expr.In e f) (l ∷ []) (typed.In a b c u v e f h g j) (one_link c z boolean w l k))
-  linked_is _ _ z _ w _ l (typed.Abs a b t u e h i j) k = subst (λ (y : TypedExpr-F Argument Call Component Link TypedExpr Place). IsExpr x ws a z (linked_to y (expr.Abs t e) l) w) (sym (expr.outs-Abs t e)) (typed.Chain a b z t w (expr.Abs t e) (l ∷ []) (typed.Abs a b t u e h i j) (one_link b z t w l k))
+  linked_is _ _ z _ w _ l (typed.Abs a b t u e h i j ranged) k = subst (λ (y : TypedExpr-F Argument Call Component Link TypedExpr Place). IsExpr x ws a z (linked_to y (expr.Abs t e) l) w) (sym (expr.outs-Abs t e)) (typed.Chain a b z t w (expr.Abs t e) (l ∷ []) (typed.Abs a b t u e h i j ranged) (one_link b z t w l k))
   linked_is _ _ z _ w _ l (typed.Cap a b u e h i) k = subst (λ (y : TypedExpr-F Argument Call Component Link TypedExpr Place). IsExpr x ws a z (linked_to y (expr.Cap e) l) w) (sym (expr.outs-Cap e)) (typed.Chain a b z char w (expr.Cap e) (l ∷ []) (typed.Cap a b u e h i) (one_link b z char w l k))
   linked_is _ _ z _ w _ l (typed.Chr a b u e h) k = subst (λ (y : TypedExpr-F Argument Call Component Link TypedExpr Place). IsExpr x ws a z (linked_to y (expr.Chr e) l) w) (sym (expr.outs-Chr e)) (typed.Chain a b z char w (expr.Chr e) (l ∷ []) (typed.Chr a b u e h) (one_link b z char w l k))
   linked_is _ _ z _ w _ l (typed.Odd a b u e h) k = subst (λ (y : TypedExpr-F Argument Call Component Link TypedExpr Place). IsExpr x ws a z (linked_to y (expr.Odd e) l) w) (sym (expr.outs-Odd e)) (typed.Chain a b z boolean w (expr.Odd e) (l ∷ []) (typed.Odd a b u e h) (one_link b z boolean w l k))
@@ -294,8 +294,8 @@ module _ (x : Context) (ws : List Ty) where
   pub in_typed : (u v : TypeNo) (e f : TypedExpr) → ExprTyped x ws e u → ExprTyped x ws f v → AreAmong types v bitset → ExprTyped x ws (expr.In e f) boolean
   in_typed u v e f p q j = both_by e f (expr.In e f) boolean u v (wants_in m e f) p q (λ a b c h g. typed.In a b c u v e f h g j)
 
-  pub abs_typed : (t u : TypeNo) (e : TypedExpr) → ExprTyped x ws e u → AreAmong types u t → (are_same t integer ≡ false → AreNatural types t) → ExprTyped x ws (expr.Abs t e) t
-  abs_typed t u e p h g = expr_by (expr.Abs t e) (wanted_of m e) t (wants_abs m t e) (λ a k. typed.Abs a _ t u e (p a k) h g)
+  pub abs_typed : (t u : TypeNo) (e : TypedExpr) → ExprTyped x ws e u → AreAmong types u t → (are_same t integer ≡ false → AreNatural types t) → (scalar_at types t ≡ None → ⊥) → ExprTyped x ws (expr.Abs t e) t
+  abs_typed t u e p h g r = expr_by (expr.Abs t e) (wanted_of m e) t (wants_abs m t e) (λ a k. typed.Abs a _ t u e (p a k) h g r)
 
   pub cap_typed : (u : TypeNo) (e : TypedExpr) → ExprTyped x ws e u → AreAmong types u char → ExprTyped x ws (expr.Cap e) char
   cap_typed u e p h = expr_by (expr.Cap e) (wanted_of m e) char (wants_cap m e) (λ a k. typed.Cap a _ u e (p a k) h)
@@ -358,8 +358,8 @@ module _ (x : Context) (ws : List Ty) where
   pub value_typed : (t u : TypeNo) (c : Scalar) (e : TypedExpr) → ExprTyped x ws e u → IsCell types t c → IsTaken m t e u → ArgumentTyped x ws (argument.Value t e) (ByNumber c)
   value_typed t u c e p h g = argument_by (argument.Value t e) (wanted_of m e) (ByNumber c) (wants_value m t e) (λ a k. typed.Value a _ t u c e (p a k) h g)
 
-  pub procedure_actual_typed : (t : TypeNo) (h : Heading) (e : TypedExpr) → ProcedureTyped x ws e h → scalar_at types t ≡ None → ArgumentTyped x ws (argument.Value t e) (ByNumber (Callable h))
-  procedure_actual_typed t h e p n = argument_by (argument.Value t e) (wanted_of m e) (ByNumber (Callable h)) (wants_value m t e) (λ a k. typed.ProcedureActual a _ t h e (p a k) n)
+  pub procedure_actual_typed : (t : TypeNo) (h : Heading) (e : TypedExpr) → ProcedureTyped x ws e h → scalar_at types t ≡ None → tree types t ≡ Cell (Callable h) → ArgumentTyped x ws (argument.Value t e) (ByNumber (Callable h))
+  procedure_actual_typed t h e p n i = argument_by (argument.Value t e) (wanted_of m e) (ByNumber (Callable h)) (wants_value m t e) (λ a k. typed.ProcedureActual a _ t h e (p a k) n i)
 
   pub name_typed : (d : Place) (t : Ty) → PlaceTyped x ws d t → ArgumentTyped x ws (argument.Place d) (ByName t)
   name_typed d t p = argument_by (argument.Place d) (wanted_at m d) (ByName t) (wants_actual m d) (λ a k. typed.ActualName a _ d t (p a k))
@@ -403,16 +403,16 @@ module _ (x : Context) (ws : List Ty) where
   signed_if f true e h = absurd cc
   signed_if f false e h = h
 
-  pub module_call_typed : (f : Procedure) (gs : List Argument) → IsNamed x f → ArgumentsTyped gs (forms_of types f.heading) → CallTyped x ws (call.Module f gs) (result_of types f.heading)
-  module_call_typed f gs h p = call_by (call.Module f gs) (beside (all_passed m gs) (through_table m f)) (result_of types f.heading) (wants_module m f gs) (λ a k.
+  pub module_call_typed : (f : Procedure) (gs : List Argument) → IsNamed x f → (k : Heading) → heading_at types f.heading ≡ Some k → ArgumentsTyped gs (forms_of types f.heading) → CallTyped x ws (call.Module f gs) (result_of types f.heading)
+  module_call_typed f gs h shape i p = call_by (call.Module f gs) (beside (all_passed m gs) (through_table m f)) (result_of types f.heading) (wants_module m f gs) (λ a k.
       let rest = has_second x a (all_passed m gs) (through_table m f) k in
-      let here : IsCallable x f = record { named = h; signed = λ e. (signed_if f (is_own m f.home) e rest.signatures).0 } in
+      let here : IsCallable x f = record { named = h; signed = λ e. (signed_if f (is_own m f.home) e rest.signatures).0; shape = shape; headed = i } in
       let e = seam a (all_passed m gs).texts [] in
       let end : a + characters (all_passed m gs).texts ≡ a + characters ((all_passed m gs).texts ++ []) = same_end (a + characters (all_passed m gs).texts) ∙ e in
       subst (λ (b : ℕ). IsCall x ws a b (call.Module f gs) (result_of types f.heading)) end (typed.OfModule a _ f gs here (p a (has_first x a (all_passed m gs) (through_table m f) k))))
 
-  pub nested_call_typed : (f : LocalProcedure) (gs : List Argument) → IsInner x f → ArgumentsTyped gs (forms_of types f.heading) → CallTyped x ws (call.Nested f gs) (result_of types f.heading)
-  nested_call_typed f gs h p = call_by (call.Nested f gs) (all_passed m gs) (result_of types f.heading) (wants_nested m f gs) (λ a k. typed.OfProcedure a _ f gs h (p a k))
+  pub nested_call_typed : (f : LocalProcedure) (gs : List Argument) → IsInner x f → (k : Heading) → heading_at types f.heading ≡ Some k → ArgumentsTyped gs (forms_of types f.heading) → CallTyped x ws (call.Nested f gs) (result_of types f.heading)
+  nested_call_typed f gs h shape i p = call_by (call.Nested f gs) (all_passed m gs) (result_of types f.heading) (wants_nested m f gs) (λ a k. typed.OfProcedure a _ f gs (record { inner = h; shape = shape; headed = i }) (p a k))
 
   -- of a procedure variable
   pub variable_call_typed : (t : TypeNo) (h : Heading) (d : Place) (gs : List Argument) → heading_at types t ≡ Some h → tree types t ≡ Cell (Callable h) → PlaceTyped x ws d (Cell (Callable h)) → ArgumentsTyped gs (forms_of types t)

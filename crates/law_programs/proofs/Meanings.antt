@@ -75,7 +75,7 @@ use Rattle.law_well_formed.proofs.RangesTypes.{both_left, both_right}
 use Rattle.law_well_formed.proofs.Subranges.{from_le}
 use Rattle.law_well_formed.proofs.Values.{char_ranged}
 use Rattle.law_programs.specs.Typing.{fits_selector, fits_designator, fits_item, fits_whole, fits_picked, fits_head, IsConstant, FormalsKnown, kind_of, CallTyped, ValueTyped, DesignatedTyped, MeaningTyped, IsTyped}
-use Rattle.law_programs.proofs.Known.{signature_known, result_is}
+use Rattle.law_programs.proofs.Known.{signature_known, result_is, heading_by_signature}
 use Rattle.law_programs.proofs.Words.{B_, added_small, AllSmall, items_small}
 use Rattle.law_programs.proofs.Constructs as made
 use Rattle.law_programs.proofs.Operators.{signed_typed, negated_typed, combined_typed, field_typed, indexed_typed}
@@ -205,7 +205,7 @@ module _ (g : Gathers) (x : Context) (ws : List Ty) (opens : ℕ → Bool) (s : 
     call_made k e gs p =
         let heading = heading_kept s.types types h.types t k e in
         subst (CallTyped x ws (call_by gs c)) (result_is types t k (signature_known s.types types h.types t k e))
-        (call_typed x ws h.all g opens s.types h.types c t gs there (subst (λ (fs : List Formal). made.ArgumentsTyped x ws gs (map (form_of types) fs)) (sym heading.formals) p))
+        (call_typed x ws h.all g opens s.types h.types c t gs there _ (heading_by_signature types t k (signature_known s.types types h.types t k e)) (subst (λ (fs : List Formal). made.ArgumentsTyped x ws gs (map (form_of types) fs)) (sym heading.formals) p))
 
     given_call : (k : Signature) (r : TypeNo) → signature_at s.types t ≡ Some k → k.result ≡ Some r → length k.formals ≡ length args → Value_ (call_given g s.types r c (actuals g s k.formals args))
     given_call k r e q count =

@@ -21,6 +21,7 @@ use Rattle.check_scope.specs.declared.known.Origin.TheVariants as origin
 use Rattle.layout_storage.specs.Shapes.{tree}
 use Rattle.check_operator.specs.Values.{slot_of, nested_by}
 use Rattle.check_block.specs.Inner as inner
+use Rattle.law_memory.specs.Relation.{heading_at}
 use Rattle.law_simulation.specs.Frames.{Kind, Kept, Alias, Open, Kinds, formal_kind, kind_at}
 use Rattle.law_simulation.specs.Passing.{forms_of, result_of}
 use Rattle.law_simulation.specs.TreesTyped.{Context, IsInner, kinds_around}
@@ -108,6 +109,7 @@ module _ (z : Stage) (level home : ℕ) (around : Option Which) (fs : List Forma
     kinds = ap (λ (l : ℕ). kinds_around z.home l s.0.around) s.1.1.1.1 ∙ ap (λ (w : Option Which). kinds_around z.home (suc level) w) s.1.1.1.0;
     forms = ap (λ (h : TypeNo). forms_of types h) s.1.1.0;
     result = ap (λ (h : TypeNo). result_of types h) s.1.1.0;
+    heading = ap (λ (h : TypeNo). heading_at types h) s.1.1.0;
   }
 
   inner_there : (p : NestedProcedure) → p.level ≡ level → NestedStands z.home level around p.number p.heading → IsInner x (nested_by level p)

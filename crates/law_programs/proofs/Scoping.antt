@@ -135,6 +135,7 @@ module _ (x : Context) (opens : ℕ → Bool) (level : ℕ) (long : length x.kin
     kinds = p.2.kinds;
     forms = p.2.forms;
     result = p.2.result;
+    heading = p.2.heading;
   })
 
   meaning_typed : (j : ℕ) → j ≤ level → (m : Meaning) → MeaningIn x opens j (drop (level - j) x.kinds) m → MeaningTyped x [] opens level m
@@ -195,7 +196,7 @@ module _ (x : Context) (opens : ℕ → Bool) (ks : Kinds) where
   meaning_within level kss (meaning.Local v) p = p
   meaning_within level kss (meaning.Field f) p = p
   meaning_within level kss (meaning.Procedure f) p = record { known = p.known; home = p.home; there = p.there; routine = p.routine; is = p.is; outermost = p.outermost; forms = p.forms; result = p.result; heading = p.heading }
-  meaning_within level kss (meaning.LocalProcedure f) p = (p.0, p.1, record { there = p.2.there; routine = p.2.routine; is = p.2.is; kinds = p.2.kinds; forms = p.2.forms; result = p.2.result })
+  meaning_within level kss (meaning.LocalProcedure f) p = (p.0, p.1, record { there = p.2.there; routine = p.2.routine; is = p.2.is; kinds = p.2.kinds; forms = p.2.forms; result = p.2.result; heading = p.2.heading })
   meaning_within level kss meaning.Ahead p = tt
   meaning_within level kss (meaning.Standard f) p = tt
   meaning_within level kss (meaning.Module k) p = p

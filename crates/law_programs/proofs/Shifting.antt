@@ -41,6 +41,7 @@ module _ (z : Stage) (k : Kinds) (kss : List Kinds) where
     kinds = h.kinds;
     forms = h.forms;
     result = h.result;
+    heading = h.heading;
   }
 
   module _ (opens : ℕ → Bool) (level : ℕ) where

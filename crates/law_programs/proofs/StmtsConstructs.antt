@@ -214,8 +214,8 @@ module _ (x : Context) (result : Gives) where
     pub give_typed : (t : TypeNo) (r : Scalar) (e : TypedExpr) → result ≡ Some (tree types t) → IsCell types t r → GivenTyped x ws e t → StmtTyped x result ws l (stmt.Give t e)
     give_typed t r e i c p = stmt_by (stmt.Give t e) (wanted_of m e) (wants_give m t e) (λ a h. typed.Give ws l a _ t r e i c (given_to ws e t p a _ refl h))
 
-    pub give_procedure_typed : (t : TypeNo) (k : Heading) (e : TypedExpr) → result ≡ Some (Cell (Callable k)) → scalar_at types t ≡ None → ProcedureTyped x ws e k → StmtTyped x result ws l (stmt.Give t e)
-    give_procedure_typed t k e i none p = stmt_by (stmt.Give t e) (wanted_of m e) (wants_give m t e) (λ a h. typed.GiveProcedure ws l a _ t k e i none (procedure_to ws e k p a _ refl h))
+    pub give_procedure_typed : (t : TypeNo) (k : Heading) (e : TypedExpr) → result ≡ Some (Cell (Callable k)) → scalar_at types t ≡ None → tree types t ≡ Cell (Callable k) → ProcedureTyped x ws e k → StmtTyped x result ws l (stmt.Give t e)
+    give_procedure_typed t k e i none type p = stmt_by (stmt.Give t e) (wanted_of m e) (wants_give m t e) (λ a h. typed.GiveProcedure ws l a _ t k e i none (procedure_to ws e k p a _ refl h) type)
 
   pub loop_typed : (ws : List Ty) (l : Bool) (body : List TypedStmt) → EachTyped ws true body → StmtTyped x result ws l (stmt.Loop body)
   loop_typed ws l body p = stmt_by ws l (stmt.Loop body) (all_in m body) (wants_loop m body) (λ a h. typed.Loop ws l a _ body (row_typed ws true body p a h))

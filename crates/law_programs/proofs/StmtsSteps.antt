@@ -170,7 +170,7 @@ module _ (g : Gathers) (x : Context) (ws : List Ty) (opens : ℕ → Bool) (s : 
 
     given_as : (looped : Bool) (t : TypeNo) (y : TypedExpr) → result ≡ Some (tree types t) → IsSuited x ws h.all t y → StmtTyped x result ws looped (step.Give t y)
     given_as looped t y e (SuitsCell c q) = give_typed x result ws looped t c.cell y e c.is q
-    given_as looped t y e (SuitsProcedure i q) = give_procedure_typed x result ws looped t i.heading y (e ∙ ap (λ (u : Ty). Some u) (routine_tree types h.all t i)) i.none q
+    given_as looped t y e (SuitsProcedure i q) = give_procedure_typed x result ws looped t i.heading y (e ∙ ap (λ (u : Ty). Some u) (routine_tree types h.all t i)) i.none (routine_tree types h.all t i) q
 
     given_back_typed : (t : Result TypeNo g.Reported) (at : Pos) (looped : Bool) {v : Result Computed g.Reported} → AreReturned types (Some t) result → Value_ v → Holds (StmtTyped x result ws looped) (given_back g s.types t at v)
     given_back_typed (Ok t) at looped e (fine v k) = then_holds (place_suited_typed x ws h.all g s.types h.types rule.NotAssignable t at v k) (λ y q. fine (step.Give t y) (given_as looped t y e q))

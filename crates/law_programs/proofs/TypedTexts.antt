@@ -62,7 +62,7 @@ module _ (x : Context) where
     expr_small ws _ _ _ _ (typed.Not a b u e h g) = expr_small ws a b e u h
     expr_small ws _ _ _ _ (typed.Include a b c u v o e f h i g j) = both_small a b c (expr_small ws a b e u h) (expr_small ws b c f v g)
     expr_small ws _ _ _ _ (typed.In a b c u v e f h g j) = both_small a b c (expr_small ws a b e u h) (expr_small ws b c f v g)
-    expr_small ws _ _ _ _ (typed.Abs a b t u e h i j) = expr_small ws a b e u h
+    expr_small ws _ _ _ _ (typed.Abs a b t u e h i j ranged) = expr_small ws a b e u h
     expr_small ws _ _ _ _ (typed.Cap a b u e h i) = expr_small ws a b e u h
     expr_small ws _ _ _ _ (typed.Chr a b u e h) = expr_small ws a b e u h
     expr_small ws _ _ _ _ (typed.Odd a b u e h) = expr_small ws a b e u h
@@ -114,7 +114,7 @@ module _ (x : Context) where
 
     argument_small : (ws : List Ty) (a b : ℕ) (g : Argument) (f : Form) → typed.IsArgument x ws a b g f → AreSmall a b
     argument_small ws _ _ _ _ (typed.Value a b t u c e h cell is) = expr_small ws a b e u h
-    argument_small ws _ _ _ _ (typed.ProcedureActual a b t h e g none) = routine_small ws a b e h g
+    argument_small ws _ _ _ _ (typed.ProcedureActual a b t h e g none type) = routine_small ws a b e h g
     argument_small ws _ _ _ _ (typed.ActualName a b d t h) = place_small ws a b d t h
     argument_small ws _ _ _ _ (typed.ActualCopy a b d t h) = place_small ws a b d t h
     argument_small ws _ _ _ _ (typed.ActualArray a b t r u is_var d range narrow array h) = place_small ws a b d (tree x.home.types t) h
@@ -153,7 +153,7 @@ module _ (x : Context) where
       stmt_small _ _ _ _ _ (stmts.Exit ws a) = nothing_there a
       stmt_small _ _ _ _ _ (stmts.Return ws l a none) = nothing_there a
       stmt_small _ _ _ _ _ (stmts.Give ws l a b t r e is cell g) = given_small ws a b e t g
-      stmt_small _ _ _ _ _ (stmts.GiveProcedure ws l a b t h e is none g) = routine_small ws a b e h g
+      stmt_small _ _ _ _ _ (stmts.GiveProcedure ws l a b t h e is none g type) = routine_small ws a b e h g
       stmt_small _ _ _ _ _ (stmts.For ws l a b c z d t u r start limit by body cell ranged control low high g h hs) =
           both_small a c z (both_small a b c (given_small ws a b start t g) (expr_small ws b c limit u h)) (stmts_small ws l c z body hs)
       stmt_small _ _ _ _ _ (stmts.With ws l a b c t d body p hs) = both_small a b c (place_small ws a b d t p) (stmts_small _ l b c body hs)

@@ -22,6 +22,7 @@ use Rattle.check_const.specs.Denote.{member}
 use Rattle.check_operator.specs.Classes.{signature_at}
 use Rattle.layout_storage.specs.Frames.{formals_of}
 use Rattle.layout_storage.specs.Shapes.{tree}
+use Rattle.law_memory.specs.Relation.{heading_at}
 use Rattle.law_simulation.specs.Frames.{Kinds, kind_at, kinds_of}
 use Rattle.law_simulation.specs.Passing.{forms_of, result_of}
 use Rattle.law_simulation.specs.TreesTyped.{Context, IsVariable, kinds_around, IsNamed}
@@ -40,6 +41,7 @@ pub record IsNested (x : Context) (kss : List Kinds) (f : NestedProcedure) : Typ
   pub kinds : kinds_around x.home routine.level routine.around ≡ kss
   pub forms : forms_of x.home.types routine.heading ≡ forms_of x.home.types f.heading
   pub result : result_of x.home.types routine.heading ≡ result_of x.home.types f.heading
+  pub heading : heading_at x.home.types routine.heading ≡ heading_at x.home.types f.heading
 
 module _ (x : Context) (opens : ℕ → Bool) where
   abbrev pub MeaningIn : (level : ℕ) → List Kinds → Meaning → Type 0

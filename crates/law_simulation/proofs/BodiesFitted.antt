@@ -19,7 +19,7 @@ use Rattle.layout_storage.specs.Sizes.{offset}
 use Rattle.layout_storage.specs.Frames.{formals_of}
 use Rattle.def_meaning.specs.Store.{Location}
 use Rattle.def_meaning.specs.Environment.{Modules, Environment, Frames, Callee, entry_of, entry_callee, callee_with, module_place, procedure_in, module_callee, nested_in}
-use Rattle.def_meaning.specs.Calls.{is_there, calling}
+use Rattle.def_meaning.specs.Calls.{is_there}
 use Rattle.law_memory.specs.Relation.{NamesProcedure}
 use Rattle.law_memory.proofs.Procedures.{entry_there}
 use Rattle.law_memory.proofs.Worlds.{component_old, offset_old, in_world}
@@ -28,6 +28,7 @@ use Rattle.def_scheme.specs.Exprs.{is_own, all_arguments, has_result, slots_glob
 use Rattle.def_scheme.specs.Functions.{numbers_of, setting}
 use Rattle.def_scheme.specs.Modules.{numbered}
 use Rattle.def_scheme.specs.Signatures.{Signature, signature, of_heading, type_of}
+use Rattle.law_simulation.specs.Begun.{calling}
 use Rattle.law_simulation.specs.Scene.{Scene, IsSet, IsGlobal}
 use Rattle.law_simulation.specs.Frames.{Kinds, HasFrames}
 use Rattle.law_simulation.specs.Held.{HasCallee}

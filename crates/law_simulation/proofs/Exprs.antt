@@ -799,7 +799,7 @@ module _ (x : Context) (ask : Asks) where
     expr_made ws _ _ _ _ (typed.Not a b u e h g) = not_made ws a b u e (expr_made ws a b e u h) g
     expr_made ws _ _ _ _ (typed.Include a b c u v o e f h i g j) = include_made ws a b c u v o e f (expr_made ws a b e u h) i (expr_made ws b c f v g) j
     expr_made ws _ _ _ _ (typed.In a b c u v e f h g j) = in_made ws a b c u v e f (expr_made ws a b e u h) (expr_made ws b c f v g) j
-    expr_made ws _ _ _ _ (typed.Abs a b t u e h i j) = abs_made ws a b t u e (expr_made ws a b e u h) i j
+    expr_made ws _ _ _ _ (typed.Abs a b t u e h i j ranged) = abs_made ws a b t u e (expr_made ws a b e u h) i j
     expr_made ws _ _ _ _ (typed.Cap a b u e h i) = cap_made ws a b u e (expr_made ws a b e u h) i
     expr_made ws _ _ _ _ (typed.Chr a b u e h) = chr_made ws a b u e (expr_made ws a b e u h)
     expr_made ws _ _ _ _ (typed.Odd a b u e h) = odd_made ws a b u e (expr_made ws a b e u h)
@@ -842,7 +842,7 @@ module _ (x : Context) (ask : Asks) where
 
     pub call_made : (ws : List Ty) (a b : ℕ) (c : Call) (r : Result) → typed.IsCall x ws a b c r → MadeCall ws a b r (call_code N c) (called P ask c)
     call_made ws _ _ _ _ (typed.OfModule a b f args known hs) = module_made ws a b f args known (arguments_made ws a b args (forms_of x.home.types f.heading) hs)
-    call_made ws _ _ _ _ (typed.OfProcedure a b f args less hs) = nested_made ws a b f args less (arguments_made ws a b args (forms_of x.home.types f.heading) hs)
+    call_made ws _ _ _ _ (typed.OfProcedure a b f args known hs) = nested_made ws a b f args known.inner (arguments_made ws a b args (forms_of x.home.types f.heading) hs)
     call_made ws _ _ _ _ (typed.OfVariable a b c t h d args is type g signed hs) = variable_made ws a b c t h d args is type (place_made ws a b d (Cell (Callable h)) g) signed (arguments_made ws b c args (forms_of x.home.types t) hs)
 
     arguments_made : (ws : List Ty) (a b : ℕ) (args : List Argument) (fs : Forms) → typed.AreArguments x ws a b args fs → ArgumentsOf ws a b args fs
@@ -852,7 +852,7 @@ module _ (x : Context) (ask : Asks) where
 
     argument_made : (ws : List Ty) (a b : ℕ) (g : Argument) (f : Form) → typed.IsArgument x ws a b g f → MadeArgument ws a b f (argument_code N g) (argument_value P ask g)
     argument_made ws _ _ _ _ (typed.Value a b t u c e h cell is) = value_made ws a b t u c e (expr_made ws a b e u h) cell is
-    argument_made ws _ _ _ _ (typed.ProcedureActual a b t h e g none) = actual_made ws a b t h e (held_made ws a b e h g) none
+    argument_made ws _ _ _ _ (typed.ProcedureActual a b t h e g none type) = actual_made ws a b t h e (held_made ws a b e h g) none
     argument_made ws _ _ _ _ (typed.ActualName a b d t h) = name_made ws a b d t (place_made ws a b d t h)
     argument_made ws _ _ _ _ (typed.ActualCopy a b d t h) = copy_made ws a b d t (place_made ws a b d t h)
     argument_made ws _ _ _ _ (typed.ActualArray a b t r u is_var d range narrow array h) = array_made ws a b t r u is_var d range narrow array (place_made ws a b d (tree x.home.types t) h)

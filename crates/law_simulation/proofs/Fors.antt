@@ -18,7 +18,7 @@ use Rattle.typed_tree.specs.Known.{scalar_at}
 use Rattle.layout_storage.specs.Types.{Scalar, Cell, row, component}
 use Rattle.def_meaning.specs.Store.{Location}
 use Rattle.def_meaning.specs.Answer.{State as Source, Answer, Ended, ◌▷◌}
-use Rattle.def_meaning.specs.Outcome.{Outcome, Normal, Exited, Returned, then_go}
+use Rattle.def_meaning.specs.Outcome.{Outcome, Normal, Exited, Returned, sequence}
 use Rattle.def_meaning.specs.Answer as answer
 use Rattle.def_meaning.specs.Expressions.{Gives, as_type}
 use Rattle.def_meaning.specs.Statements.{Does, has_passed, for_turns, for_all, stored as stores}
@@ -127,7 +127,7 @@ module _ (k : Scene) (has : HasHelpers k) (small : AreSmall k.setting.home.types
     after_body j s = if has_passed by limit (s.store l +ℤ by) then answer.Value Normal s else (as_type k.setting.home.types t (s.store l +ℤ by) s ▷ λ v s. all_turns j (stores l v s))
 
     body_for : (j : ℕ) (r : Effect) (o : Outcome) (next : Source → Outcome) → Ends k function (suc (suc label)) stack (λ st. runs k (turn_code list) st stack) r o
-        → ((s : Source) (st : Target) → Stands k s st → Turns (turned j (runs k (turn_code list) st stack)) (next s)) → Turns (turned j r) (then_go o next)
+        → ((s : Source) (st : Target) → Stands k s st → Turns (turned j (runs k (turn_code list) st stack)) (next s)) → Turns (turned j r) (sequence o next)
     body_for j r (answer.Value Normal s) next p h = subst (λ (e : Effect). Turns (turned j e) (next s)) (sym p.run) (h s p.st p.stands)
     body_for j r (answer.Value Exited s) next p h = record { st = p.st; stands = p.stands; run = ap (turned j) p.run }
     body_for j r (answer.Value (Returned v) s) next p h = record { below = p.below; st = p.st; stands = p.stands; run = ap (turned j) p.run }

@@ -1,5 +1,5 @@
 -- CASE by a table: the value is kept, tested against the span of the labels, and leads to its arm.
-use Rattle.std.proofs.Common.{◌≡◌, ℕ, suc, ◌+◌, ◌-◌, ◌*◌, ◌%◌, ◌<◌, ◌≤◌, ◌^◌, ℤ, pos, negsuc, ◌-ℤ◌, ◌+ℤ◌, ◌≤ℤ◌, ◌<ℤ◌, ◌⊎◌, inl, inr, Bool, true, false, List, [], ◌∷◌, ◌++◌, length, Some, None, if◌then◌else◌, refl, sym, ap, subst, ◌∙◌, arith}
+use Rattle.std.proofs.Common.{◌≡◌, ℕ, suc, ◌+◌, ◌-◌, ◌*◌, ◌%◌, ◌<◌, ◌≤◌, ◌^◌, ℤ, pos, ◌-ℤ◌, ◌+ℤ◌, ◌≤ℤ◌, ◌<ℤ◌, ◌⊎◌, inl, inr, Bool, true, false, List, [], ◌∷◌, ◌++◌, length, Some, None, if◌then◌else◌, refl, sym, ap, subst, ◌∙◌, arith}
 use Rattle.std.specs.Prelude.{◌==◌, ◌&&◌, nat_le, nat_lt, slice_set, slice_index_or, unsigned_abs}
 use Rattle.std.proofs.lemmas.Int.{ints}
 use Rattle.std.proofs.lemmas.Bool.{lt-ltb, le-ltb, leb-true}
@@ -8,7 +8,7 @@ use Rattle.wasm_tree.specs.declared.instr.Instr.TheVariants as instr
 use Rattle.wasm_tree.specs.declared.instr.Operation.TheVariants.{Sub}
 use Rattle.wasm_tree.specs.declared.instr.Relation.TheVariants.{GtU}
 use Rattle.wasm_tree.specs.declared.store.Value.{Value}
-use Rattle.wasm_tree.specs.declared.store.Value.TheVariants.{I32, I64}
+use Rattle.wasm_tree.specs.declared.store.Value.TheVariants.{I64}
 use Rattle.wasm_tree.specs.Numbers.{truth}
 use Rattle.law_effect.specs.Effect.{State as Target, Effect, FellThrough, Branched, then_run}
 use Rattle.law_effect.proofs.Steps.{get_runs, i64_runs, br_if_runs, br_table_runs}
@@ -22,7 +22,7 @@ use Rattle.def_meaning.specs.Statements.{Does, chosen}
 use Rattle.def_scheme.specs.Coded.{Coded, Counts, plain, ◌⨾◌, with_number, number_local, number, operation, relation, wrapped}
 use Rattle.def_scheme.specs.Steps as code
 use Rattle.def_scheme.specs.Steps.{all_labels, least_of, greatest_of, span_of, is_dense, target, targets, from_least, dispatch, table_code, chain_code, all_values}
-use Rattle.law_simulation.specs.Scene.{Scene, calls, runs, HasHelpers, AreSmall, AreLabels, word, Stands, keeping, IsGrowing, IsFree, HasLocals, inside, Agrees, Ends, Executes}
+use Rattle.law_simulation.specs.Scene.{Scene, calls, runs, HasHelpers, AreSmall, AreLabels, word, Stands, keeping, IsGrowing, inside, Agrees, Ends, Executes}
 use Rattle.law_simulation.specs.Laws.{AreArms, no_arms, more_arms}
 use Rattle.law_simulation.proofs.Operators.{IsNarrow, narrow, between_in, operation_runs}
 use Rattle.law_simulation.proofs.Relations.{relation_runs, wrapped_runs}

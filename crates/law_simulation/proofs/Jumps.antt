@@ -6,7 +6,6 @@ use Rattle.wasm_tree.specs.declared.instr.Instr.TheVariants as instr
 use Rattle.wasm_tree.specs.declared.store.Value.{Value}
 use Rattle.law_effect.specs.Effect.{State as Target, Effect, FellThrough, Branched, then_run, out_of}
 use Rattle.law_effect.proofs.Steps.{block_runs, br_runs}
-use Rattle.typed_tree.specs.declared.statement.Label.{Label}
 use Rattle.def_meaning.specs.Answer.{State as Source, Ended, StillRunning}
 use Rattle.def_meaning.specs.Outcome.{Outcome, Normal, Exited, Returned}
 use Rattle.def_meaning.specs.Answer as answer

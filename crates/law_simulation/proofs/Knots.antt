@@ -8,8 +8,9 @@ use Rattle.law_effect.specs.Effect.{Fixed, StillRunning, State as Target, back, 
 use Rattle.layout_storage.specs.Types.{Ty}
 use Rattle.def_meaning.specs.Store.{Location}
 use Rattle.def_meaning.specs.Environment.{Modules}
-use Rattle.def_meaning.specs.Calls.{calling}
 use Rattle.def_scheme.specs.Modules.{numbered}
+use Rattle.def_meaning.specs.Whiles.{calling_with}
+use Rattle.law_simulation.specs.Begun.{calling}
 use Rattle.law_simulation.proofs.Routines.{routine_does}
 use Rattle.law_simulation.specs.Knot.{Part, core, Knot}
 
@@ -30,7 +31,7 @@ module _ (modules : List WModule) (fx : Fixed) (serves : (k f : ℕ) → Bool) (
 
   module _ (Index : Type 0) (part : Index → Part) where
     pub knot : Knot modules fx serves extra n limit p base texts Index part
-    unfolding calling
+    unfolding calling_with
     knot are zero i nss = λ world x based roots chain s bytes holds long vs values passed left whole locals below.
         ap (back (length (part i).typed.type.results) locals below) (none_left (part i).own (part i).function (part i).typed _ bytes s.out (are i).ours)
     knot are (suc d) i nss =

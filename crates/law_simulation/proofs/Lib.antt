@@ -66,6 +66,8 @@ pub mod Helped
 pub mod Globals
 pub mod LinkedSlots
 pub mod Functions
+pub mod Printing
+pub mod Sandwich
 pub mod LinkedTables
 pub mod Linked
 pub mod LinkedParts

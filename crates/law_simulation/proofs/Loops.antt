@@ -11,13 +11,14 @@ use Rattle.law_effect.specs.Effect.{State as Target, Effect, FellThrough, Branch
 use Rattle.law_effect.proofs.Steps.{block_runs, loop_runs, br_runs, br_if_runs, to_label_keeps}
 use Rattle.typed_tree.specs.Types.{boolean}
 use Rattle.def_meaning.specs.Answer.{State as Source, Answer, Ended, ◌▷◌}
-use Rattle.def_meaning.specs.Outcome.{Outcome, Normal, Exited, Returned, then_go}
+use Rattle.def_meaning.specs.Outcome.{Outcome, Normal, Exited, Returned, sequence}
 use Rattle.def_meaning.specs.Answer as answer
 use Rattle.def_meaning.specs.Operators.{is_true}
 use Rattle.def_meaning.specs.Expressions.{Gives}
-use Rattle.def_meaning.specs.Statements.{Does, while_true, until_true, looped, loop_left}
+use Rattle.def_meaning.specs.Statements.{Does, until_true, looped, loop_left}
 use Rattle.def_scheme.specs.Coded.{Coded, Counts, plain, ◌⨾◌, within, is_zero}
 use Rattle.def_scheme.specs.Steps.{block_loop, loop, leaving}
+use Rattle.law_simulation.specs.Begun.{while_begun}
 use Rattle.law_simulation.specs.Scene.{Scene, calls, runs, HasHelpers, IsValue, AreSmall, word, Stands, Into, GivesNumber, IsFree, HasLocals, inside, Agrees, Ends, Executes}
 use Rattle.law_simulation.proofs.Parts.{grows_more, has_before, free_after}
 use Rattle.law_simulation.proofs.Operators.{wide, narrow}
@@ -48,7 +49,7 @@ module _ (k : Scene) (function : Bool) (has : HasHelpers k) (small : AreSmall k.
 
     -- the body of a turn, and the turns behind it
     body_turned : (j : ℕ) (r : Effect) (o : Outcome) (next : Source → Outcome) → Ends k function (suc (suc exit)) stack (leaves 0 stack) r o
-        → ((s : Source) (st : Target) → Stands k s st → Ends k function (suc exit) stack (leaves 0 stack) (turns j (runs k code) st stack) (next s)) → Ends k function (suc exit) stack (leaves 0 stack) (turned j r) (then_go o next)
+        → ((s : Source) (st : Target) → Stands k s st → Ends k function (suc exit) stack (leaves 0 stack) (turns j (runs k code) st stack) (next s)) → Ends k function (suc exit) stack (leaves 0 stack) (turned j r) (sequence o next)
     body_turned j r (answer.Value Normal s) next p h =
         subst (λ (e : Effect). Ends k function (suc exit) stack (leaves 0 stack) e (next s)) (sym (ap (turned j) p.run ∙ label_here p.st stack (turns j (runs k code)))) (h s p.st p.stands)
     body_turned j r (answer.Value Exited s) next p h = record { st = p.st; stands = p.stands; run = ap (turned j) p.run }
@@ -110,25 +111,25 @@ module _ (k : Scene) (function : Bool) (has : HasHelpers k) (small : AreSmall k.
           branches (Ended j out) p = p
           branches (answer.StillRunning out) p = p
 
-      while_turns : (j : ℕ) (s : Source) (st : Target) → Stands k s st → Ends k function (suc label) stack (leaves 0 stack) (turns j (runs k code) st stack) (while_true j (test k.around) (step k.around) s)
+      while_turns : (j : ℕ) (s : Source) (st : Target) → Stands k s st → Ends k function (suc label) stack (leaves 0 stack) (turns j (runs k code) st stack) (while_begun j (test k.around) (step k.around) s)
       while_turns zero s st h = ap StillRunning h.out
       while_turns (suc j) s st h =
           test_turned label code stack j (is_zero ∷ instr.BrIf 1 ∷ (body ++ instr.Br 0 ∷ [])) (runs k code st stack) (test k.around s)
-          (λ v s. if is_true v then then_go (step k.around s) (while_true j (test k.around) (step k.around)) else answer.Value Normal s)
+          (λ v s. if is_true v then sequence (step k.around s) (while_begun j (test k.around) (step k.around)) else answer.Value Normal s)
           (hx.gives (e + 2) c free (has_before k (hy.grows (e + 2) middle) full) s st h (is_zero ∷ instr.BrIf 1 ∷ (body ++ instr.Br 0 ∷ [])) stack)
           (λ v is s' st' h'.
-          subst (λ (r : Effect). Ends k function (suc label) stack (leaves 0 stack) (turned label code stack j r) (if is_true v then then_go (step k.around s') (while_true j (test k.around) (step k.around)) else answer.Value Normal s'))
+          subst (λ (r : Effect). Ends k function (suc label) stack (leaves 0 stack) (turned label code stack j r) (if is_true v then sequence (step k.around s') (while_begun j (test k.around) (step k.around)) else answer.Value Normal s'))
           (sym (tested v is 1 (body ++ instr.Br 0 ∷ []) st' stack)) (by (λ s'' st'' h''. while_turns j s'' st'' h'') s' st' h' (is_true v)))
         where
-          by : ((s : Source) (st : Target) → Stands k s st → Ends k function (suc label) stack (leaves 0 stack) (turns j (runs k code) st stack) (while_true j (test k.around) (step k.around) s))
+          by : ((s : Source) (st : Target) → Stands k s st → Ends k function (suc label) stack (leaves 0 stack) (turns j (runs k code) st stack) (while_begun j (test k.around) (step k.around) s))
               → (s : Source) (st : Target) → Stands k s st → (b : Bool)
               → Ends k function (suc label) stack (leaves 0 stack) (turned label code stack j (then_run (if truth (not b) == 0 then FellThrough st stack else Branched 1 st stack) (runs k (body ++ instr.Br 0 ∷ []))))
-              (if b then then_go (step k.around s) (while_true j (test k.around) (step k.around)) else answer.Value Normal s)
+              (if b then sequence (step k.around s) (while_begun j (test k.around) (step k.around)) else answer.Value Normal s)
           by next s st h true =
-              body_turned label code stack j (runs k (body ++ instr.Br 0 ∷ []) st stack) (step k.around s) (while_true j (test k.around) (step k.around)) (body_goes s st h) next
+              body_turned label code stack j (runs k (body ++ instr.Br 0 ∷ []) st stack) (step k.around s) (while_begun j (test k.around) (step k.around)) (body_goes s st h) next
           by next s st h false = record { st = st; stands = h; run = refl }
 
-    pub while_executes : Executes k function (within 2 block_loop while_coded) (λ a s. while_true k.turns (test a) (step a) s)
+    pub while_executes : Executes k function (within 2 block_loop while_coded) (λ a s. while_begun k.turns (test a) (step a) s)
     while_executes = record {
       grows = λ e c. grows_more (hx.grows (e + 2) c) (hy.grows (e + 2) (x (inside k (e + 2)) c).1);
       goes = λ e c free full s st h rest stack.
@@ -137,8 +138,8 @@ module _ (k : Scene) (function : Bool) (has : HasHelpers k) (small : AreSmall k.
           block_runs k.modules k.fixed k.turns (calls k) k.own rest st None (instr.Loop None body_code ∷ []) stack
           ∙ ap (λ (r : Effect). then_run (out_of 0 (length stack) r) (runs k rest)) (loop_runs k.modules k.fixed k.turns (calls k) k.own [] st None body_code stack)
           in
-          subst (λ (r : Effect). Ends k function e stack (λ st. runs k rest st stack) r (while_true k.turns (test k.around) (step k.around) s)) (sym path)
-          (after_loop e rest stack (turns k.turns (runs k body_code) st stack) (while_true k.turns (test k.around) (step k.around) s) (while_turns e e (omega arith) c free full stack k.turns s st h));
+          subst (λ (r : Effect). Ends k function e stack (λ st. runs k rest st stack) r (while_begun k.turns (test k.around) (step k.around) s)) (sym path)
+          (after_loop e rest stack (turns k.turns (runs k body_code) st stack) (while_begun k.turns (test k.around) (step k.around) s) (while_turns e e (omega arith) c free full stack k.turns s st h));
     }
 
   -- ---- REPEAT
@@ -152,7 +153,7 @@ module _ (k : Scene) (function : Bool) (has : HasHelpers k) (small : AreSmall k.
 
     -- the body, and the condition behind it
     body_again : (j : ℕ) (after : List Instr) (r : Effect) (o : Outcome) (next : Source → Outcome) → Ends k function (suc exit) stack (λ st. runs k after st stack) r o
-        → ((s : Source) (st : Target) → Stands k s st → Ends k function exit stack falls (again j (runs k after st stack)) (next s)) → Ends k function exit stack falls (again j r) (then_go o next)
+        → ((s : Source) (st : Target) → Stands k s st → Ends k function exit stack falls (again j (runs k after st stack)) (next s)) → Ends k function exit stack falls (again j r) (sequence o next)
     body_again j after r (answer.Value Normal s) next p h = subst (λ (e : Effect). Ends k function exit stack falls (again j e) (next s)) (sym p.run) (h s p.st p.stands)
     body_again j after r (answer.Value Exited s) next p h = record { st = p.st; stands = p.stands; run = ap (again j) p.run }
     body_again j after r (answer.Value (Returned v) s) next p h = record { below = p.below; st = p.st; stands = p.stands; run = ap (again j) p.run }

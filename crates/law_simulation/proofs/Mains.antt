@@ -17,13 +17,13 @@ use Rattle.def_meaning.specs.Answer.{State as Source, StillRunning}
 use Rattle.def_meaning.specs.Outcome.{Outcome, Normal, Exited, Returned}
 use Rattle.def_meaning.specs.Answer as answer
 use Rattle.def_meaning.specs.Environment.{Modules, Environment}
-use Rattle.def_meaning.specs.Calls.{body_does, calling}
 use Rattle.def_meaning.specs.Expressions.{Asks}
 use Rattle.def_meaning.specs.Runs.{body_environment, body_frame, storage}
 use Rattle.law_memory.specs.Relation.{Says, Holds}
 use Rattle.law_memory.proofs.Worlds.{row_size, call_ends, Where, Old, New, All, where_is, other_behind, placed_else}
 use Rattle.def_scheme.specs.Coded.{Counts}
 use Rattle.def_scheme.specs.Functions.{enter_code, from_text, locals_of}
+use Rattle.law_simulation.specs.Begun.{body_does, calling}
 use Rattle.law_simulation.specs.Scene.{Scene, HasHelpers, IsSet, runs, Stands, IsFree, HasLocals, Ends}
 use Rattle.law_simulation.specs.Frames.{chain_end, HasFrames}
 use Rattle.law_simulation.specs.Passing.{HasTop}

@@ -26,13 +26,14 @@ use Rattle.def_meaning.specs.Answer.{State as Source, Answer, StillRunning}
 use Rattle.def_meaning.specs.Outcome.{Outcome, Normal, Exited}
 use Rattle.def_meaning.specs.Outcome as outcome
 use Rattle.def_meaning.specs.Environment.{Modules, Environment, Named, Frames, Passed}
-use Rattle.def_meaning.specs.Calls.{Entered, with_all, is_function, is_there as there_meaning, result, entered, environment_of, variables_from, needed, body_does}
+use Rattle.def_meaning.specs.Calls.{Entered, with_all, is_function, is_there as there_meaning, result, entered, environment_of, variables_from, needed}
 use Rattle.def_meaning.specs.Expressions.{Asks}
 use Rattle.law_memory.specs.Relation.{Holds}
 use Rattle.law_memory.proofs.Worlds.{row_size, call_ends, offset_old}
 use Rattle.def_scheme.specs.Coded.{Counts, fault}
 use Rattle.def_scheme.specs.Exprs.{Numbered}
 use Rattle.def_scheme.specs.Functions.{link_arguments, enter_code, link_kept, formals_kept, prologue, from_text, locals_of, end_code}
+use Rattle.law_simulation.specs.Begun.{body_does}
 use Rattle.law_simulation.specs.Scene.{Scene, HasHelpers, IsSet, IsResult, calls, runs, word, Stands, Into, IsFree, HasLocals, Ends}
 use Rattle.law_simulation.specs.Frames.{Kind, Kept, Kinds, kind_tree, frame_kinds, formal_kind, kinds_of, AreNamed, IsLink, IsChain, chain_end, chain_more, HasFrames}
 use Rattle.law_simulation.proofs.Headings.{has_it, means_it}

@@ -1,5 +1,5 @@
 -- The whole run, body by body, and what follows from it for the machine.
-use Rattle.std.proofs.Common.{◌≡◌, ℕ, zero, suc, ◌+◌, ◌-◌, Bool, List, [], ◌∷◌, Option, Some, None, if◌then◌else◌, refl, sym, ap, subst, ◌∙◌, arith}
+use Rattle.std.proofs.Common.{◌≡◌, ℕ, zero, suc, ◌+◌, ◌-◌, Bool, List, [], ◌∷◌, ◌++◌, Option, Some, None, if◌then◌else◌, refl, sym, ap, subst, ◌∙◌, append_assoc, arith}
 use Rattle.wasm_tree.specs.declared.module.WModule.{WModule}
 use Rattle.wasm_tree.specs.declared.store.Value.{Value}
 use Rattle.wasm_tree.specs.declared.store.Value.TheVariants.{I32}
@@ -16,11 +16,17 @@ use Rattle.def_meaning.specs.Outcome.{Outcome, Normal, Exited}
 use Rattle.def_meaning.specs.Outcome as outcome
 use Rattle.def_meaning.specs.Answer as answer
 use Rattle.def_meaning.specs.Environment.{Modules}
-use Rattle.def_meaning.specs.Runs.{storage, body_frame, bodies, first_state, then_body}
-use Rattle.def_meaning.specs.Runs as runs
+use Rattle.def_meaning.specs.Runs.{storage, body_frame, first_state, then_body}
+use Rattle.def_meaning.specs.Later.{Begins, printed}
+use Rattle.def_meaning.specs.Whiles.{run_with}
+use Rattle.def_meaning.proofs.After.{After, open_yet}
+use Rattle.def_meaning.proofs.After as further
+use Rattle.def_meaning.proofs.Ran.{still, goes_on}
 use Rattle.law_memory.specs.Bodies.{BodyAt, bodies_do, run_typed}
 use Rattle.law_memory.proofs.Bodies.{bodies_called}
-use Rattle.law_simulation.specs.Behaves.{printed}
+use Rattle.law_simulation.specs.Begun.{bodies, run}
+use Rattle.law_simulation.proofs.Printing.{printed_between}
+use Rattle.law_simulation.proofs.Sandwich.{run_before, run_behind}
 use Rattle.law_simulation.specs.Bodies.{Ground, IsHeld, BodyEnds, statements_do, AllDo, BodiesBehave}
 
 -- ---- the run of the bodies is that of the program
@@ -135,14 +141,44 @@ stopped_is e o k out h is = subst (RunSame e) is h
 goes_still : (modules : List WModule) (least : ℕ) (c : Config) (e : Effect) (out : List ℕ) → RunLeads modules least 0 c e → e ≡ StillRunning out → GoesOn modules least c [] out
 goes_still modules least c e out r is = subst (RunLeads modules least 0 c) is r
 
+-- a run that goes on goes on with a lesser bound
+goes_yet : {out : List ℕ} {x y : Outcome} (last : List ℕ) → After out x y → y ≡ answer.StillRunning last → (first : List ℕ) × (x ≡ answer.StillRunning first)
+goes_yet last (further.same x b) is = (last, is)
+goes_yet last (open_yet first x b c) is = (first, refl)
+
+-- the machine prints what the program does
+prints_there : (modules : List WModule) (least : ℕ) (c : Config) (e : Effect) (o : Outcome) → RunSame e o → RunLeads modules least 0 c e → (m : ℕ) × ((machine.run modules m c).1 ≡ printed o)
+prints_there modules least c e (answer.Value Normal s) h leads = absurd h
+prints_there modules least c e (answer.Value Exited s) h leads = absurd h
+prints_there modules least c e (answer.Value (outcome.Returned v) s) h leads = absurd h
+prints_there modules least c e (answer.Ended k out) h leads = let w = comes_there modules least c k out e leads h in (w.0, ap (λ (x : Progress). x.1) w.1)
+prints_there modules least c e (answer.StillRunning out) h leads = let w = goes_still modules least c e out leads h in (w.count, ap (λ (x : Progress). x.1) w.path)
+
 pub bodies_behave : BodiesBehave
-unfolding runs.run nested
+unfolding run_with nested
 bodies_behave p pages g modules fx serves extra m f index type bs none there all bytes held = record {
-  ends = λ n k out is. comes_there modules n c k out (does n) (leads n) (stopped_is (does n) (runs.run p pages n) k out (same n) is);
-  goes_on = λ still j over. let s = still j in running_comes (does j) s.0 _ (unfinished_is (does j) (runs.run p pages j) s.0 (same j) s.1) (only j (machine.run modules j c).0 (machine.run modules j c).1 over refl);
-  only = λ j d out over is. let e = ended_is (does j) (runs.run p pages j) (same j) d out (only j d out over is) in (j, e.0, e.1, e.2);
-  prints = λ j. let b = nested_prints modules fx serves extra (suc j) m f none t bytes j (omega arith) in (j, b.0, sym (same_shown (does j) (runs.run p pages j) (same j)) ∙ b.1);
-  prints_also = λ n out is. let w = goes_still modules n c (does n) out (leads n) (unfinished_is (does n) (runs.run p pages n) out (same n) is) in (w.count, w.enough, ap (λ (x : Progress). x.1) w.path);
+  ends = λ n k out is. comes_there modules (suc n) c k out (does (suc n)) (leads (suc n)) (stopped_is (does (suc n)) (run p (suc n) pages) k out (same (suc n)) (still k out (run_behind p pages n) is));
+  goes_on = λ on j over.
+      let s = on j in
+      let first = goes_yet s.0 (run_before p pages j) s.1 in
+      running_comes (does j) first.0 _ (unfinished_is (does j) (run p j pages) first.0 (same j) first.1) (only j (machine.run modules j c).0 (machine.run modules j c).1 over refl);
+  only = λ j d out over is. let e = ended_is (does j) (run p j pages) (same j) d out (only j d out over is) in (j, e.0, e.1, still e.0 out (run_before p pages j) e.2);
+  prints = λ j.
+      let b = nested_prints modules fx serves extra (suc j) m f none t bytes j (omega arith) in
+      let more = goes_on (run_before p pages j) in
+      (j, b.0 ++ more.more, sym more.rest ∙ ap (λ (xs : List ℕ). xs ++ more.more) (sym (same_shown (does j) (run p j pages) (same j)) ∙ b.1) ∙ append_assoc (machine.run modules j c).1 b.0 more.more);
+  prints_also = λ n out is.
+      let first = goes_yet out (run_before p pages n) is in
+      let w = goes_still modules n c (does n) first.0 (leads n) (unfinished_is (does n) (run p n pages) first.0 (same n) first.1) in
+      let last = prints_there modules (suc n) c (does (suc n)) (run p (suc n) pages) (same (suc n)) (leads (suc n)) in
+      let printed_first : (machine.run modules w.count c).1 ≡ first.0 = ap (λ (x : Progress). x.1) w.path in
+      let before : Begins (machine.run modules w.count c).1 out = subst (λ (xs : List ℕ). Begins xs out) (sym printed_first)
+      (subst (λ (o : Outcome). Begins (printed o) out) first.1 (subst (λ (o : Outcome). Begins (printed (run p n pages)) (printed o)) is (goes_on (run_before p pages n)))) in
+      let later : Begins out (machine.run modules last.0 c).1 = subst (Begins out) (sym last.1) (subst (λ (o : Outcome). Begins (printed o) (printed (run p (suc n) pages))) is (goes_on (run_behind p pages n))) in
+      let m = printed_between modules c w.count last.0 out before later in
+      let enough = w.enough in
+      let after_first = m.1 in
+      (m.0, omega (arith, enough, after_first), m.2);
 }
   where
     t : Typed
@@ -162,8 +198,8 @@ bodies_behave p pages g modules fx serves extra m f index type bs none there all
         ap (λ (b : Bool). if b then calling modules fx extra n (suc (suc n)) m f t [] bytes [] else effect modules fx (n + extra m f) (nested modules fx serves extra n (suc n)) m t.function.body.code begin []) none
         ∙ bodies_called modules fx (n + extra m f) (nested modules fx serves extra n (suc n)) m (size (row g.base)) type bs there begin []
 
-    same : (n : ℕ) → RunSame (does n) (runs.run p pages n)
-    same n = subst (λ (e : Effect). RunSame e (runs.run p pages n)) (sym (does_is n)) (bodies_same p pages n g (nested modules fx serves extra n (suc n)) 0 p bs (all n) (first_state p) begin held refl)
+    same : (n : ℕ) → RunSame (does n) (run p n pages)
+    same n = subst (λ (e : Effect). RunSame e (run p n pages)) (sym (does_is n)) (bodies_same p pages n g (nested modules fx serves extra n (suc n)) 0 p bs (all n) (first_state p) begin held refl)
 
     leads : (n : ℕ) → RunLeads modules n 0 c (does n)
     leads n = nested_runs modules fx serves extra n (suc n) m f (omega arith) none t bytes

@@ -13,7 +13,7 @@ use Rattle.law_effect.proofs.Steps.{i64_runs, if_runs, if_one_runs, br_runs, ret
 use Rattle.typed_tree.specs.declared.types.TypeNo.{TypeNo}
 use Rattle.typed_tree.specs.Types.{boolean, char}
 use Rattle.def_meaning.specs.Answer.{State as Source, Answer, Ended, ◌▷◌}
-use Rattle.def_meaning.specs.Outcome.{Outcome, Normal, Exited, then_go}
+use Rattle.def_meaning.specs.Outcome.{Outcome, Normal, Exited, sequence}
 use Rattle.def_meaning.specs.Outcome as outcome
 use Rattle.def_meaning.specs.Answer as answer
 use Rattle.def_meaning.specs.Operators.{is_true}
@@ -33,7 +33,7 @@ module _ (k : Scene) (function : Bool) where
 
   -- what follows where a statement goes on
   pub ends_then : (exit : ℕ) (stack : List Value) (middle on : On) (r : Effect) (o : Outcome) (next : Source → Outcome) → Ends k function exit stack middle r o
-      → ((s : Source) (st : Target) → Stands k s st → Ends k function exit stack on (middle st) (next s)) → Ends k function exit stack on r (then_go o next)
+      → ((s : Source) (st : Target) → Stands k s st → Ends k function exit stack on (middle st) (next s)) → Ends k function exit stack on r (sequence o next)
   ends_then exit stack middle on r (answer.Value Normal s) next p h = subst (λ (e : Effect). Ends k function exit stack on e (next s)) (sym p.run) (h s p.st p.stands)
   ends_then exit stack middle on r (answer.Value Exited s) next p h = p
   ends_then exit stack middle on r (answer.Value (outcome.Returned v) s) next p h = p
@@ -51,13 +51,13 @@ module _ (k : Scene) (function : Bool) where
   behind rest stack st = runs k rest st stack
 
   -- the code of one statement behind that of another
-  pub then_executes : (x y : Coded) (step : Does) (next : Does) → Executes k function x step → Executes k function y next → Executes k function (x ⨾ y) (λ a s. then_go (step a s) (next a))
+  pub then_executes : (x y : Coded) (step : Does) (next : Does) → Executes k function x step → Executes k function y next → Executes k function (x ⨾ y) (λ a s. sequence (step a s) (next a))
   then_executes x y step next hx hy = record {
     grows = λ e c. grows_more (hx.grows e c) (hy.grows e (x (inside k e) c).1);
     goes = λ e c free full s st h rest stack.
         let first = x (inside k e) c in
         let second = y (inside k e) first.1 in
-        subst (λ (code : List Instr). Ends k function e stack (behind rest stack) (runs k code st stack) (then_go (step k.around s) (next k.around))) (sym (append_assoc first.0 second.0 rest))
+        subst (λ (code : List Instr). Ends k function e stack (behind rest stack) (runs k code st stack) (sequence (step k.around s) (next k.around))) (sym (append_assoc first.0 second.0 rest))
         (ends_then e stack (behind (second.0 ++ rest) stack) (behind rest stack) (runs k (first.0 ++ (second.0 ++ rest)) st stack) (step k.around s) (next k.around)
         (hx.goes e c free (has_before k (hy.grows e first.1) full) s st h (second.0 ++ rest) stack)
         (λ s' st' h'. hy.goes e first.1 (free_after k (hx.grows e c) free) full s' st' h' rest stack));

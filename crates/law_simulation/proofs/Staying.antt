@@ -2,10 +2,11 @@
 use Rattle.std.proofs.Common.{◌≡◌, ℕ, zero, suc, ◌+ℤ◌, ℤ, Bool, true, false, if◌then◌else◌, refl}
 use Rattle.def_meaning.specs.Store.{Location}
 use Rattle.def_meaning.specs.Answer.{State, Answer, Value, Ended, StillRunning, ◌▷◌}
-use Rattle.def_meaning.specs.Outcome.{Outcome, Normal, Exited, Returned, then_go}
+use Rattle.def_meaning.specs.Outcome.{Outcome, Normal, Exited, Returned, sequence}
 use Rattle.def_meaning.specs.Environment.{Environment}
 use Rattle.def_meaning.specs.Operators.{is_true}
-use Rattle.def_meaning.specs.Statements.{Does, stored, loop_left, looped, while_true, until_true, has_passed, for_turns, for_all}
+use Rattle.def_meaning.specs.Statements.{Does, stored, loop_left, looped, until_true, has_passed, for_turns, for_all}
+use Rattle.law_simulation.specs.Begun.{while_begun}
 
 abbrev pub is_left : Outcome → Bool
 is_left (Value Normal s) = false
@@ -21,7 +22,7 @@ Stay f = (s : State) → is_left (f s) ≡ false
 abbrev pub Stays : Does → Type 0
 Stays d = (a : Environment) → Stay (d a)
 
-pub then_stays : (o : Outcome) (next : State → Outcome) → is_left o ≡ false → Stay next → is_left (then_go o next) ≡ false
+pub then_stays : (o : Outcome) (next : State → Outcome) → is_left o ≡ false → Stay next → is_left (sequence o next) ≡ false
 then_stays (Value Normal s) next h g = g s
 then_stays (Value Exited s) next h g = h
 then_stays (Value (Returned v) s) next h g = refl
@@ -49,11 +50,11 @@ pub looped_stays : (n : ℕ) (body : State → Outcome) → Stay (looped n body)
 looped_stays zero body s = refl
 looped_stays (suc n) body s = loop_stays (body s) (looped n body) (looped_stays n body)
 
-pub while_stays : (n : ℕ) (test : State → Answer ℤ) (body : State → Outcome) → Stay body → Stay (while_true n test body)
+pub while_stays : (n : ℕ) (test : State → Answer ℤ) (body : State → Outcome) → Stay body → Stay (while_begun n test body)
 while_stays zero test body h s = refl
 while_stays (suc n) test body h s =
-    with_stays (test s) (λ v s. if is_true v then then_go (body s) (while_true n test body) else Value Normal s)
-    (λ v s. if_stays (is_true v) (then_go (body s) (while_true n test body)) (Value Normal s) (then_stays (body s) (while_true n test body) (h s) (while_stays n test body h)) refl)
+    with_stays (test s) (λ v s. if is_true v then sequence (body s) (while_begun n test body) else Value Normal s)
+    (λ v s. if_stays (is_true v) (sequence (body s) (while_begun n test body)) (Value Normal s) (then_stays (body s) (while_begun n test body) (h s) (while_stays n test body h)) refl)
 
 pub until_stays : (n : ℕ) (body : State → Outcome) (test : State → Answer ℤ) → Stay body → Stay (until_true n body test)
 until_stays zero body test h s = refl

@@ -35,7 +35,7 @@ use Rattle.def_meaning.specs.Operators.{is_true}
 use Rattle.def_meaning.specs.Expressions as meaning
 use Rattle.def_meaning.specs.Expressions.{Asks, Gives, as_type, value, locate, called}
 use Rattle.def_meaning.specs.Statements as statements
-use Rattle.def_meaning.specs.Statements.{Does, in_turn, or_else, character, stored, for_all, while_true, until_true, looped, is_labelled, chosen, does}
+use Rattle.def_meaning.specs.Statements.{Does, in_turn, or_else, character, stored, for_all, until_true, looped, is_labelled, chosen}
 use Rattle.wasm_tree.specs.declared.instr.Relation.TheVariants.{GtU}
 use Rattle.def_scheme.specs.Coded.{Coded, Setting, plain, relation, ◌⨾◌, nothing, all_coded, within, with_setting, with_address, wrapped, is_zero, put, copy, fault, checked}
 use Rattle.def_scheme.specs.Cells as cells
@@ -45,6 +45,7 @@ use Rattle.def_scheme.specs.Exprs.{Part, Numbered, behind, expr_part, place_code
 use Rattle.def_scheme.specs.Modules.{numbered}
 use Rattle.def_scheme.specs.Steps as steps
 use Rattle.def_scheme.specs.Steps.{block_loop, loop, leaving, under, if_only, if_else, block, tests_code, arm_code, chain_code, all_labels, least_of, span_of, is_dense, has_label, target, targets, dispatch, boxed, jump_arms, table_code, case_code, else_code, change_code, changed, member_code, with_member, text_copied, copy_text_code, for_code, step_code}
+use Rattle.law_simulation.specs.Begun.{while_begun, step_layer, does}
 use Rattle.law_simulation.specs.Scene.{Scene, IsCell, AreLabels, place as scene_place, runs, inside, keeping, opening, Ends, Agrees, Locates, Executes, IsThere}
 use Rattle.law_simulation.specs.Laws.{AreArms, no_arms, more_arms}
 use Rattle.law_simulation.proofs.Laws as laws
@@ -179,7 +180,7 @@ module _ (x : Context) (ask : Asks) (result : Result) (n : ℕ) where
   -- ---- one layer
 
   from_stmt : (ws : List Ty) (l : Bool) (a b : ℕ) (s : TypedStmt) (y : TypedStmt-F TypedStmt TypedArm) → out-TypedStmt s ≡ y
-      → MadeStmt ws l a b (steps.step_layer N (step_opened N y)) (statements.step_layer P ask n (step_meant P ask n y)) → Stmt ws l a b s
+      → MadeStmt ws l a b (steps.step_layer N (step_opened N y)) (step_layer P ask n (step_meant P ask n y)) → Stmt ws l a b s
   from_stmt ws l a b s y h m =
       subst (λ (c : Coded). MadeStmt ws l a b c (does P ask n s)) (sym (step_at N s y h))
       (subst (λ (d : Does). MadeStmt ws l a b (steps.step_layer N (step_opened N y)) d) (sym (step_means P ask n s y h)) m)
@@ -372,7 +373,7 @@ module _ (x : Context) (ask : Asks) (result : Result) (n : ℕ) where
       pins = pins_within 2 block_loop (pins_then q.pins (pins_then (pins_plain b (is_zero ∷ instr.BrIf 1 ∷ [])) (pins_then m.pins (pins_plain c (instr.Br 0 ∷ [])))));
       executes = λ k fit.
           let list : Coded = within 2 block_loop (q.placed ⨾ plain (is_zero ∷ instr.BrIf 1 ∷ []) ⨾ m.placed ⨾ plain (instr.Br 0 ∷ [])) in
-          subst (λ (i : ℕ). Executes k F list (λ a s. while_true i (value P ask e a) (rows_do body a) s)) fit.turns (laws.whiles k fit.fits.set F q.placed (value P ask e) m.placed (rows_do body) (q.agrees k fit.fits) (m.executes k fit));
+          subst (λ (i : ℕ). Executes k F list (λ a s. while_begun i (value P ask e a) (rows_do body a) s)) fit.turns (laws.whiles k fit.fits.set F q.placed (value P ask e) m.placed (rows_do body) (q.agrees k fit.fits) (m.executes k fit));
       stays = λ e' a. while_stays n (value P ask e a) (rows_do body a) (m.stays e' a);
     })
 
@@ -641,7 +642,7 @@ module _ (x : Context) (ask : Asks) (result : Result) (n : ℕ) where
     stmt_made _ _ _ _ _ (typed.Exit ws a) = exit_made ws a
     stmt_made _ _ _ _ _ (typed.Return ws l a none) = return_made ws l a none
     stmt_made _ _ _ _ _ (typed.Give ws l a b t r e is cell g) = give_made ws l a b t r e is cell (given_made ws a b e t g)
-    stmt_made _ _ _ _ _ (typed.GiveProcedure ws l a b t h e is none g) = give_procedure_made ws l a b t h e is none (held_made x ask ws a b e h g)
+    stmt_made _ _ _ _ _ (typed.GiveProcedure ws l a b t h e is none g type) = give_procedure_made ws l a b t h e is none (held_made x ask ws a b e h g)
     stmt_made _ _ _ _ _ (typed.For ws l a b c z d t u r start limit by body cell ranged control low high g h hs) =
         for_made ws l a b c z d t u r start limit by body cell ranged control low high (given_made ws a b start t g) (expr_made x ask ws b c limit u h) (rows_made ws l c z body hs)
     stmt_made _ _ _ _ _ (typed.With ws l a b c t d body h hs) = with_made ws l a b c t d body (place_made x ask ws a b d t h) (rows_made (ws ++ t ∷ []) l b c body hs)

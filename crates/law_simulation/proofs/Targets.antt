@@ -1,7 +1,7 @@
 -- Which arm a value leads to: no label is below the least or above the greatest, and the table has one arm for each value.
-use Rattle.std.proofs.Common.{◌≡◌, ℕ, zero, suc, ◌+◌, ◌<◌, ◌≤◌, ℤ, pos, negsuc, ◌-ℤ◌, ◌+ℤ◌, ◌≤ℤ◌, ◌<ℤ◌, Bool, true, false, List, [], ◌∷◌, ◌++◌, length, map, if◌then◌else◌, refl, sym, ap, subst, ◌∙◌, arith}
-use Rattle.std.specs.Prelude.{◌||◌, int_le, unsigned_abs, slice_index_or, get_or}
-use Rattle.std.specs.List.{fold, list_any, range_with_len}
+use Rattle.std.proofs.Common.{◌≡◌, ℕ, suc, ◌<◌, ℤ, pos, negsuc, ◌+ℤ◌, ◌≤ℤ◌, ◌<ℤ◌, Bool, true, false, List, [], ◌∷◌, ◌++◌, length, if◌then◌else◌, refl, ap, ◌∙◌, arith}
+use Rattle.std.specs.Prelude.{◌||◌, int_le, slice_index_or}
+use Rattle.std.specs.List.{fold, list_any}
 use Rattle.std.proofs.lemmas.Int.{ints}
 use Rattle.std.proofs.lemmas.List.FromFn.{get_or-map-range_with_len}
 use Rattle.typed_tree.specs.declared.statement.Label.{Label}
@@ -9,7 +9,7 @@ use Rattle.def_meaning.specs.Operators.{is_between}
 use Rattle.def_meaning.specs.Statements.{is_labelled}
 use Rattle.def_scheme.specs.Steps as code
 use Rattle.def_scheme.specs.Steps.{lesser, greater, all_labels, least_of, greatest_of, span_of, has_label, target, targets}
-use Rattle.law_simulation.specs.Scene.{IsLabel, AreLabels}
+use Rattle.law_simulation.specs.Scene.{AreLabels}
 
 abbrev least_from : ℤ → List Label → ℤ
 least_from so ys = fold (λ (so : ℤ) (y : Label). lesser so y.low) so ys

@@ -11,7 +11,7 @@ use Rattle.layout_storage.specs.Frames.{frame}
 use Rattle.layout_storage.specs.Texts.{characters, routines_texts}
 use Rattle.def_meaning.specs.Store.{Location}
 use Rattle.def_meaning.specs.Environment.{Modules, Environment}
-use Rattle.def_meaning.specs.Calls.{is_there, body_does, calling}
+use Rattle.def_meaning.specs.Calls.{is_there}
 use Rattle.def_meaning.specs.Runs.{body_environment, storage, body_frame}
 use Rattle.def_meaning.specs.Statements.{Does}
 use Rattle.def_scheme.specs.Coded.{Coded, Setting}
@@ -20,6 +20,7 @@ use Rattle.def_scheme.specs.Exprs.{has_result}
 use Rattle.def_scheme.specs.Functions.{frames_around, numbers_of, setting, from_text}
 use Rattle.def_scheme.specs.Modules.{numbered}
 use Rattle.def_scheme.specs.Steps.{body_code}
+use Rattle.law_simulation.specs.Begun.{body_does, calling}
 use Rattle.law_simulation.specs.Scene.{Scene, Executes}
 use Rattle.law_simulation.specs.Frames.{Kinds, kinds_of}
 use Rattle.law_simulation.specs.Passing.{Result, result_of}

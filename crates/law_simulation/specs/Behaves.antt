@@ -3,16 +3,9 @@ use Rattle.std.specs.Prelude.{◌≡◌, ℕ, ◌≤◌, List, ◌++◌}
 use Rattle.wasm_tree.specs.declared.module.WModule.{WModule}
 use Rattle.wasm_tree.specs.Machine.{Config, Over, run}
 use Rattle.law_effect.specs.Laws.{IsOver}
-use Rattle.def_meaning.specs.Answer.{Ended, StillRunning, Value}
-use Rattle.def_meaning.specs.Outcome.{Outcome, Normal, Exited, Returned}
-
--- what has been printed
-abbrev pub printed : Outcome → List ℕ
-printed (Value Normal s) = s.out
-printed (Value Exited s) = s.out
-printed (Value (Returned v) s) = s.out
-printed (Ended k out) = out
-printed (StillRunning out) = out
+use Rattle.def_meaning.specs.Answer.{Ended, StillRunning}
+use Rattle.def_meaning.specs.Outcome.{Outcome}
+use Rattle.def_meaning.specs.Later.{printed}
 
 -- The program's run with each bound, and the machine's run from a configuration.
 pub record Behaves (modules : List WModule) (c : Config) (program : ℕ → Outcome) : Type 0 where

@@ -15,10 +15,10 @@ use Rattle.def_meaning.specs.Answer.{State as Source, Ended}
 use Rattle.def_meaning.specs.Outcome.{Outcome, Normal, Exited, Returned}
 use Rattle.def_meaning.specs.Answer as answer
 use Rattle.def_meaning.specs.Environment.{Modules}
-use Rattle.def_meaning.specs.Calls.{body_does, calling}
 use Rattle.def_meaning.specs.Runs.{storage, body_frame, body_environment, first_state, run}
 use Rattle.law_memory.specs.Relation.{Holds}
 use Rattle.law_memory.specs.Bodies.{BodyAt, AreThere, run_typed}
+use Rattle.law_simulation.specs.Begun.{body_does, calling}
 use Rattle.law_simulation.specs.Behaves.{Behaves}
 
 -- ---- one body

@@ -10,11 +10,11 @@ use Rattle.layout_storage.specs.Sizes.{size}
 use Rattle.layout_storage.specs.Texts.{characters, routines_texts}
 use Rattle.def_meaning.specs.Store.{Location}
 use Rattle.def_meaning.specs.Environment.{Modules}
-use Rattle.def_meaning.specs.Calls.{calling}
 use Rattle.def_meaning.specs.Runs.{storage, body_frame}
 use Rattle.def_scheme.specs.Addresses.{addresses_in}
 use Rattle.def_scheme.specs.Functions.{frames_around}
 use Rattle.def_scheme.specs.Modules.{numbered}
+use Rattle.law_simulation.specs.Begun.{calling}
 use Rattle.law_simulation.specs.Scene.{HasHelpers, AreSmall}
 use Rattle.law_simulation.specs.Frames.{kinds_of}
 use Rattle.law_simulation.specs.Passing.{result_of}

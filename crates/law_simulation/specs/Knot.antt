@@ -8,9 +8,9 @@ use Rattle.typed_tree.specs.declared.typed_module.TypedModule.{TypedModule}
 use Rattle.layout_storage.specs.Types.{Ty}
 use Rattle.def_meaning.specs.Store.{Location}
 use Rattle.def_meaning.specs.Environment.{Modules, Environment, Frames}
-use Rattle.def_meaning.specs.Calls.{calling}
 use Rattle.def_scheme.specs.Functions.{setting}
 use Rattle.def_scheme.specs.Modules.{numbered}
+use Rattle.law_simulation.specs.Begun.{calling}
 use Rattle.law_simulation.specs.Scene.{Scene}
 use Rattle.law_simulation.specs.Frames.{Kinds}
 use Rattle.law_simulation.specs.Passing.{forms_of, result_of, DoesAsked}

@@ -20,14 +20,14 @@ use Rattle.layout_storage.specs.Types.{Ty, Scalar, Cell, Array, row, component}
 use Rattle.layout_storage.specs.Shapes.{tree, elements_of}
 use Rattle.def_meaning.specs.Store.{Location}
 use Rattle.def_meaning.specs.Answer.{range_fault, halted, Ended, ◌▷◌}
-use Rattle.def_meaning.specs.Outcome.{Normal, Exited, Returned, then_go}
+use Rattle.def_meaning.specs.Outcome.{Normal, Exited, Returned, sequence}
 use Rattle.def_meaning.specs.Answer as answer
 use Rattle.def_meaning.specs.Environment.{Modules, module_place}
 use Rattle.def_meaning.specs.Operators.{is_true}
 use Rattle.def_meaning.specs.Expressions as meaning
 use Rattle.def_meaning.specs.Expressions.{within as bounded, as_type, Asks, Gives, Continues, one_by_one}
 use Rattle.def_meaning.specs.Statements as statements
-use Rattle.def_meaning.specs.Statements.{Does, changed, rechecked, with_element, for_all, stored, while_true, until_true, looped}
+use Rattle.def_meaning.specs.Statements.{Does, changed, rechecked, with_element, for_all, stored, until_true, looped}
 use Rattle.wasm_tree.specs.declared.instr.Instr.{Instr}
 use Rattle.wasm_tree.specs.declared.instr.Instr.TheVariants as instr
 use Rattle.wasm_tree.specs.declared.store.Value.{Value}
@@ -38,6 +38,7 @@ use Rattle.def_scheme.specs.Exprs as code
 use Rattle.def_scheme.specs.Exprs.{Part, Linked, behind, chain_type, chain_code}
 use Rattle.def_scheme.specs.Steps as steps
 use Rattle.def_scheme.specs.Steps.{change_code, member_code, under, for_code, block_loop, loop, leaving, if_only, if_else}
+use Rattle.law_simulation.specs.Begun.{while_begun}
 use Rattle.law_simulation.specs.Scene.{Scene, IsSet, IsValue, AreAmong, AreNatural, IsCell, IsGlobal, IsWith, IsThere, IsOwn, keeping, AreLabels, opening, IsGrowing, Agrees, AgreesBeside, GoesOn, Reaches, Locates, Executes}
 
 -- ---- expressions
@@ -430,7 +431,7 @@ Returns =
 abbrev pub Rows : Type 0
 Rows =
     (k : Scene) (function : Bool) (x y : Coded) (step next : Does) → Executes k function x step
-    → Executes k function y next → Executes k function (x ⨾ y) (λ a s. then_go (step a s) (next a))
+    → Executes k function y next → Executes k function (x ⨾ y) (λ a s. sequence (step a s) (next a))
 
 abbrev pub Ifs : Type 0
 Ifs =
@@ -473,7 +474,7 @@ Whiles =
     → Executes k function x step
     → Executes k function
     (within 2 block_loop (e ⨾ plain (is_zero ∷ instr.BrIf 1 ∷ []) ⨾ x ⨾ plain (instr.Br 0 ∷ [])))
-    (λ a s. while_true k.turns (value a) (step a) s)
+    (λ a s. while_begun k.turns (value a) (step a) s)
 
 -- the arms of a CASE
 pub data AreArms (k : Scene) (function : Bool) : List steps.Arm → List statements.Arm → Type 0 where

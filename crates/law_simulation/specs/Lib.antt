@@ -1,3 +1,4 @@
+pub mod Begun
 pub mod Scene
 pub mod Laws
 pub mod TablesLaws

@@ -9,13 +9,13 @@ use Rattle.layout_storage.specs.Types.{Ty, row, frame_of}
 use Rattle.layout_storage.specs.Sizes.{size, offset}
 use Rattle.def_meaning.specs.Store.{Location, placed}
 use Rattle.def_meaning.specs.Environment.{Modules, Environment}
-use Rattle.def_meaning.specs.Calls.{body_does, calling}
 use Rattle.def_meaning.specs.Expressions.{Asks}
 use Rattle.def_meaning.specs.Runs.{body_environment, body_frame, storage}
 use Rattle.def_scheme.specs.Coded.{Coded, Counts}
 use Rattle.def_scheme.specs.Addresses.{addresses_in}
 use Rattle.def_scheme.specs.Functions.{setting, from_text, locals_of, enter_code, coded}
 use Rattle.def_scheme.specs.Modules.{numbered}
+use Rattle.law_simulation.specs.Begun.{body_does, calling}
 use Rattle.law_simulation.specs.Bodies.{BodyDoes, statements_do}
 use Rattle.law_simulation.specs.Scene.{Scene, HasHelpers, AreSmall, IsSet, Executes}
 use Rattle.law_simulation.specs.Frames.{HasFrames}

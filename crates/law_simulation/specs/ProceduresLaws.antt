@@ -16,12 +16,13 @@ use Rattle.def_meaning.specs.Answer.{State as Source}
 use Rattle.def_meaning.specs.Outcome.{Exited}
 use Rattle.def_meaning.specs.Answer as answer
 use Rattle.def_meaning.specs.Environment.{Modules, Environment, Frames, Callee, Passed}
-use Rattle.def_meaning.specs.Calls.{body_does, is_function, runs as asked_runs}
+use Rattle.def_meaning.specs.Calls.{is_function}
 use Rattle.def_meaning.specs.Expressions.{Asks}
 use Rattle.def_scheme.specs.Coded.{Coded, Counts}
 use Rattle.def_scheme.specs.Exprs.{Numbered, has_result}
 use Rattle.def_scheme.specs.Addresses.{addresses_in}
 use Rattle.def_scheme.specs.Functions.{numbers_of, prologue, setting, from_text, locals_of, coded, end_code}
+use Rattle.law_simulation.specs.Begun.{body_does, runs as asked_runs}
 use Rattle.law_simulation.specs.Scene.{Scene, HasHelpers, AreSmall, IsSet, Executes, runs}
 use Rattle.law_simulation.specs.Frames.{Kinds, kinds_of, AreFrames, HasFrames}
 use Rattle.law_simulation.specs.Passing.{forms_of, result_of, HasTop, DoesAsked}

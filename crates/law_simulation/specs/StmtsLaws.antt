@@ -5,11 +5,12 @@ use Rattle.layout_storage.specs.Types.{Ty}
 use Rattle.def_meaning.specs.Answer.{State, Value}
 use Rattle.def_meaning.specs.Outcome.{Exited}
 use Rattle.def_meaning.specs.Environment.{Environment}
-use Rattle.def_meaning.specs.Calls.{is_there, body_does}
+use Rattle.def_meaning.specs.Calls.{is_there}
 use Rattle.def_meaning.specs.Expressions.{Asks}
 use Rattle.def_scheme.specs.Coded.{Coded}
 use Rattle.def_scheme.specs.Steps.{body_code}
 use Rattle.def_scheme.specs.Modules.{numbered}
+use Rattle.law_simulation.specs.Begun.{body_does}
 use Rattle.law_simulation.specs.Scene.{Scene, Executes}
 use Rattle.law_simulation.specs.Passing.{Result}
 use Rattle.law_simulation.specs.Placed.{Pins}

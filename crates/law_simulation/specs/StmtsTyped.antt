@@ -137,6 +137,7 @@ module _ (x : Context) (result : Result) where
           → result ≡ Some (Cell (Callable h))
           → scalar_at types t ≡ None
           → IsProcedureExpr x ws a b e h
+          → tree types t ≡ Cell (Callable h)
           → IsStmt ws l a b (stmt.Give t e)
       -- the step is a constant of 32 bits
       For : (ws : List Ty) (l : Bool) (a b c z : ℕ) (d : Place) (t u : TypeNo) (r : Scalar)

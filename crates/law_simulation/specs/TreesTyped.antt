@@ -88,12 +88,14 @@ pub record IsNamed (x : Context) (f : Procedure) : Type 0 where
   pub result : result_of home.types routine.heading ≡ result_of x.home.types f.heading
   pub heading : heading_at home.types routine.heading ≡ heading_at x.home.types f.heading
 
--- one that the module calls: through the table where it is another module's, and then the module
--- has the type of its function
+-- one that the module calls: its heading is a procedure type, and where it is another module's, it
+-- is called through the table, and the module has the type of its function
 pub record IsCallable (x : Context) (f : Procedure) : Type 0 where
   pub named : IsNamed x f
   pub signed : is_own x.home f.home ≡ false
       → is_among (needed x.home) (of_heading x.home.types f.heading) ≡ true
+  pub shape : Heading
+  pub headed : heading_at x.home.types f.heading ≡ Some shape
 
 -- a procedure of one of the procedures around
 pub record IsInner (x : Context) (f : LocalProcedure) : Type 0 where
@@ -104,6 +106,13 @@ pub record IsInner (x : Context) (f : LocalProcedure) : Type 0 where
   pub kinds : kinds_around x.home routine.level routine.around ≡ drop f.up x.kinds
   pub forms : forms_of x.home.types routine.heading ≡ forms_of x.home.types f.heading
   pub result : result_of x.home.types routine.heading ≡ result_of x.home.types f.heading
+  pub heading : heading_at x.home.types routine.heading ≡ heading_at x.home.types f.heading
+
+-- one that is called: its heading is a procedure type
+pub record IsInnerCallable (x : Context) (f : LocalProcedure) : Type 0 where
+  pub inner : IsInner x f
+  pub shape : Heading
+  pub headed : heading_at x.home.types f.heading ≡ Some shape
 
 -- a text stands there among the characters of the module
 pub record HasText (x : Context) (at : ℕ) (text : List ℕ) : Type 0 where
@@ -160,8 +169,12 @@ module _ (x : Context) where
           → IsExpr ws a c (expr.Include o e f) boolean
       In : (a b c : ℕ) (u v : TypeNo) (e f : TypedExpr) → IsExpr ws a b e u → IsExpr ws b c f v
           → AreAmong types v bitset → IsExpr ws a c (expr.In e f) boolean
-      Abs : (a b : ℕ) (t u : TypeNo) (e : TypedExpr) → IsExpr ws a b e u → AreAmong types u t
-          → (are_same t integer ≡ false → AreNatural types t) → IsExpr ws a b (expr.Abs t e) t
+      Abs : (a b : ℕ) (t u : TypeNo) (e : TypedExpr)
+          → IsExpr ws a b e u
+          → AreAmong types u t
+          → (are_same t integer ≡ false → AreNatural types t)
+          → (scalar_at types t ≡ None → ⊥)
+          → IsExpr ws a b (expr.Abs t e) t
       Cap : (a b : ℕ) (u : TypeNo) (e : TypedExpr) → IsExpr ws a b e u → AreAmong types u char
           → IsExpr ws a b (expr.Cap e) char
       Chr : (a b : ℕ) (u : TypeNo) (e : TypedExpr) → IsExpr ws a b e u
@@ -256,7 +269,7 @@ module _ (x : Context) where
           → AreArguments ws a b args (forms_of types f.heading)
           → IsCall ws a b (call.Module f args) (result_of types f.heading)
       OfProcedure : (a b : ℕ) (f : LocalProcedure) (args : List Argument)
-          → IsInner x f
+          → IsInnerCallable x f
           → AreArguments ws a b args (forms_of types f.heading)
           → IsCall ws a b (call.Nested f args) (result_of types f.heading)
       -- of a procedure variable: the module has the type of the functions with its heading
@@ -284,6 +297,7 @@ module _ (x : Context) where
       ProcedureActual : (a b : ℕ) (t : TypeNo) (h : Heading) (e : TypedExpr)
           → IsProcedureExpr ws a b e h
           → scalar_at types t ≡ None
+          → tree types t ≡ Cell (Callable h)
           → IsArgument ws a b (argument.Value t e) (ByNumber (Callable h))
       ActualName : (a b : ℕ) (d : Place) (t : Ty) → IsPlace ws a b d t
           → IsArgument ws a b (argument.Place d) (ByName t)

@@ -6,6 +6,8 @@
 //! - `specs/Scene` says where the code of a body runs, what stands there on both sides, and when code agrees with the
 //!   definition of a run.
 //! - `specs/Laws` has the laws, one for each construct.
+//! - `specs/Begun` has the run with a WHILE that is bounded as its code is, by how often it begins; `specs/Bodies` and all above it
+//!   speak of the language's run again.
 //!
 //! Why the code of a CASE that jumps by a table does what the CASE does, where its parts do.
 //!

@@ -17,7 +17,7 @@ use Rattle.typed_tree.specs.declared.statement.TypedArm.{TypedArm, out-TypedArm,
 use Rattle.typed_tree.specs.Types.{char}
 use Rattle.def_meaning.specs.Store.{Location, copied}
 use Rattle.def_meaning.specs.Answer.{State as Meant, Answer as Given, Value, ◌▷◌, range_fault, case_fault, halted, Ended, StillRunning}
-use Rattle.def_meaning.specs.Outcome.{Outcome as Course, Normal, Exited, Returned, then_go}
+use Rattle.def_meaning.specs.Outcome.{Outcome as Course, Normal, Exited, Returned, sequence}
 use Rattle.def_meaning.specs.Operators.{is_true}
 use Rattle.def_meaning.specs.Environment.{Modules, Environment as Setting}
 use Rattle.def_meaning.specs.Expressions.{Asks, within, as_type}
@@ -242,7 +242,7 @@ pub steps_nil : (a : Around) (st : Meant) → steps_in a [] st ≡ Value Normal 
 unfolding steps_in
 steps_nil a st = refl
 
-pub steps_cons : (a : Around) (s : TypedStmt) (ss : List TypedStmt) (st : Meant) → steps_in a (s ∷ ss) st ≡ then_go (does_in a s st) (steps_in a ss)
+pub steps_cons : (a : Around) (s : TypedStmt) (ss : List TypedStmt) (st : Meant) → steps_in a (s ∷ ss) st ≡ sequence (does_in a s st) (steps_in a ss)
 unfolding steps_in does_in
 steps_cons a s ss st = refl
 
@@ -256,50 +256,63 @@ less n i h = omega (arith, h)
 none_left : (n i : ℕ) → n ≤ i → n - i ≡ 0
 none_left n i h = omega (arith, h)
 
-pub while_over : (a : Around) (e : TypedExpr) (xs : List TypedStmt) (n i : ℕ) (st : Meant) → n ≤ i → while_in a e xs (n - i) st ≡ StillRunning st.out
+pub spent_stays : (a : Around) (e : TypedExpr) (xs : List TypedStmt) (n i : ℕ) (s : Stop) (st : Meant) (st' : State) → n ≤ i → value_in a e st ≡ stopped s st' → while_in a e xs (n - i) st ≡ halts s st'
 unfolding while_in
-while_over a e xs n i st h = ap (λ (k : ℕ). while_in a e xs k st) (none_left n i h)
+spent_stays a e xs n i s st st' h g = ap (λ (k : ℕ). while_in a e xs k st) (none_left n i h)
+    ∙ with_stays (value_in a e st) s st' (λ v st. if is_true v then StillRunning st.out else Value Normal st) g
+
+pub spent_ends : (a : Around) (e : TypedExpr) (xs : List TypedStmt) (n i : ℕ) (v : ℤ) (st st' : Meant) → n ≤ i → value_in a e st ≡ Value v st' → is_true v ≡ false → while_in a e xs (n - i) st ≡ Value Normal st'
+unfolding while_in
+spent_ends a e xs n i v st st' h g b = ap (λ (k : ℕ). while_in a e xs k st) (none_left n i h)
+    ∙ ap (λ (r : Given ℤ). (r ▷ λ v st. if is_true v then StillRunning st.out else Value Normal st)) g
+    ∙ ap (λ (b : Bool). if b then StillRunning st'.out else Value Normal st') b
+
+pub spent_on : (a : Around) (e : TypedExpr) (xs : List TypedStmt) (n i : ℕ) (v : ℤ) (st st' : Meant) → n ≤ i → value_in a e st ≡ Value v st' → is_true v ≡ true → while_in a e xs (n - i) st ≡ StillRunning st'.out
+unfolding while_in
+spent_on a e xs n i v st st' h g b = ap (λ (k : ℕ). while_in a e xs k st) (none_left n i h)
+    ∙ ap (λ (r : Given ℤ). (r ▷ λ v st. if is_true v then StillRunning st.out else Value Normal st)) g
+    ∙ ap (λ (b : Bool). if b then StillRunning st'.out else Value Normal st') b
 
 pub while_stays : (a : Around) (e : TypedExpr) (xs : List TypedStmt) (n i : ℕ) (s : Stop) (st : Meant) (st' : State) → i < n → value_in a e st ≡ stopped s st' → while_in a e xs (n - i) st ≡ halts s st'
 unfolding while_in
 while_stays a e xs n i s st st' h g = ap (λ (k : ℕ). while_in a e xs k st) (less n i h)
-    ∙ with_stays (value_in a e st) s st' (λ v st. if is_true v then then_go (steps_in a xs st) (while_true (n - (i + 1)) (value_in a e) (steps_in a xs)) else Value Normal st) g
+    ∙ with_stays (value_in a e st) s st' (λ v st. if is_true v then sequence (steps_in a xs st) (while_true (n - (i + 1)) (value_in a e) (steps_in a xs)) else Value Normal st) g
 
 pub while_ends : (a : Around) (e : TypedExpr) (xs : List TypedStmt) (n i : ℕ) (v : ℤ) (st st' : Meant) → i < n → value_in a e st ≡ Value v st' → is_true v ≡ false → while_in a e xs (n - i) st ≡ Value Normal st'
 unfolding while_in
 while_ends a e xs n i v st st' h g b = ap (λ (k : ℕ). while_in a e xs k st) (less n i h)
-    ∙ ap (λ (r : Given ℤ). (r ▷ λ v st. if is_true v then then_go (steps_in a xs st) (while_true (n - (i + 1)) (value_in a e) (steps_in a xs)) else Value Normal st)) g
-    ∙ ap (λ (b : Bool). if b then then_go (steps_in a xs st') (while_true (n - (i + 1)) (value_in a e) (steps_in a xs)) else Value Normal st') b
+    ∙ ap (λ (r : Given ℤ). (r ▷ λ v st. if is_true v then sequence (steps_in a xs st) (while_true (n - (i + 1)) (value_in a e) (steps_in a xs)) else Value Normal st)) g
+    ∙ ap (λ (b : Bool). if b then sequence (steps_in a xs st') (while_true (n - (i + 1)) (value_in a e) (steps_in a xs)) else Value Normal st') b
 
 pub while_left : (a : Around) (e : TypedExpr) (xs : List TypedStmt) (n i : ℕ) (v : ℤ) (st st' : Meant) (st2 : Meant) → i < n → value_in a e st ≡ Value v st' → is_true v ≡ true → steps_in a xs st' ≡ Value Exited st2 → while_in a e xs (n - i) st ≡ Value Exited st2
 unfolding while_in
 while_left a e xs n i v st st' st2 h g b q = ap (λ (k : ℕ). while_in a e xs k st) (less n i h)
-    ∙ ap (λ (r : Given ℤ). (r ▷ λ v st. if is_true v then then_go (steps_in a xs st) (while_true (n - (i + 1)) (value_in a e) (steps_in a xs)) else Value Normal st)) g
-    ∙ ap (λ (b : Bool). if b then then_go (steps_in a xs st') (while_true (n - (i + 1)) (value_in a e) (steps_in a xs)) else Value Normal st') b
-    ∙ ap (λ (r : Course). then_go r (while_true (n - (i + 1)) (value_in a e) (steps_in a xs))) q
+    ∙ ap (λ (r : Given ℤ). (r ▷ λ v st. if is_true v then sequence (steps_in a xs st) (while_true (n - (i + 1)) (value_in a e) (steps_in a xs)) else Value Normal st)) g
+    ∙ ap (λ (b : Bool). if b then sequence (steps_in a xs st') (while_true (n - (i + 1)) (value_in a e) (steps_in a xs)) else Value Normal st') b
+    ∙ ap (λ (r : Course). sequence r (while_true (n - (i + 1)) (value_in a e) (steps_in a xs))) q
 
 pub while_came : (a : Around) (e : TypedExpr) (xs : List TypedStmt) (n i : ℕ) (v : ℤ) (st st' : Meant) (w : ℤ) (st2 : Meant) → i < n → value_in a e st ≡ Value v st' → is_true v ≡ true → steps_in a xs st' ≡ Value (Returned w) st2 → while_in a e xs (n - i) st ≡ Value (Returned w) st2
 unfolding while_in
 while_came a e xs n i v st st' w st2 h g b q = ap (λ (k : ℕ). while_in a e xs k st) (less n i h)
-    ∙ ap (λ (r : Given ℤ). (r ▷ λ v st. if is_true v then then_go (steps_in a xs st) (while_true (n - (i + 1)) (value_in a e) (steps_in a xs)) else Value Normal st)) g
-    ∙ ap (λ (b : Bool). if b then then_go (steps_in a xs st') (while_true (n - (i + 1)) (value_in a e) (steps_in a xs)) else Value Normal st') b
-    ∙ ap (λ (r : Course). then_go r (while_true (n - (i + 1)) (value_in a e) (steps_in a xs))) q
+    ∙ ap (λ (r : Given ℤ). (r ▷ λ v st. if is_true v then sequence (steps_in a xs st) (while_true (n - (i + 1)) (value_in a e) (steps_in a xs)) else Value Normal st)) g
+    ∙ ap (λ (b : Bool). if b then sequence (steps_in a xs st') (while_true (n - (i + 1)) (value_in a e) (steps_in a xs)) else Value Normal st') b
+    ∙ ap (λ (r : Course). sequence r (while_true (n - (i + 1)) (value_in a e) (steps_in a xs))) q
 
 pub while_halts : (a : Around) (e : TypedExpr) (xs : List TypedStmt) (n i : ℕ) (v : ℤ) (st st' : Meant) (s : Stop) (st2 : State) → i < n → value_in a e st ≡ Value v st' → is_true v ≡ true → steps_in a xs st' ≡ halts s st2 → while_in a e xs (n - i) st ≡ halts s st2
 unfolding while_in
 while_halts a e xs n i v st st' s st2 h g b q = ap (λ (k : ℕ). while_in a e xs k st) (less n i h)
-    ∙ ap (λ (r : Given ℤ). (r ▷ λ v st. if is_true v then then_go (steps_in a xs st) (while_true (n - (i + 1)) (value_in a e) (steps_in a xs)) else Value Normal st)) g
-    ∙ ap (λ (b : Bool). if b then then_go (steps_in a xs st') (while_true (n - (i + 1)) (value_in a e) (steps_in a xs)) else Value Normal st') b
+    ∙ ap (λ (r : Given ℤ). (r ▷ λ v st. if is_true v then sequence (steps_in a xs st) (while_true (n - (i + 1)) (value_in a e) (steps_in a xs)) else Value Normal st)) g
+    ∙ ap (λ (b : Bool). if b then sequence (steps_in a xs st') (while_true (n - (i + 1)) (value_in a e) (steps_in a xs)) else Value Normal st') b
     ∙ halts_on (steps_in a xs st') s st2 (while_true (n - (i + 1)) (value_in a e) (steps_in a xs)) q
 
 pub while_goes : (a : Around) (e : TypedExpr) (xs : List TypedStmt) (n i : ℕ) (v : ℤ) (st st' st2 : Meant) → i < n → value_in a e st ≡ Value v st' → is_true v ≡ true → steps_in a xs st' ≡ Value Normal st2 → while_in a e xs (n - i) st ≡ while_in a e xs (n - (i + 1)) st2
 unfolding while_in
 while_goes a e xs n i v st st' st2 h g b q = ap (λ (k : ℕ). while_in a e xs k st) (less n i h)
-    ∙ ap (λ (r : Given ℤ). (r ▷ λ v st. if is_true v then then_go (steps_in a xs st) (while_true (n - (i + 1)) (value_in a e) (steps_in a xs)) else Value Normal st)) g
-    ∙ ap (λ (b : Bool). if b then then_go (steps_in a xs st') (while_true (n - (i + 1)) (value_in a e) (steps_in a xs)) else Value Normal st') b
-    ∙ ap (λ (r : Course). then_go r (while_true (n - (i + 1)) (value_in a e) (steps_in a xs))) q
+    ∙ ap (λ (r : Given ℤ). (r ▷ λ v st. if is_true v then sequence (steps_in a xs st) (while_true (n - (i + 1)) (value_in a e) (steps_in a xs)) else Value Normal st)) g
+    ∙ ap (λ (b : Bool). if b then sequence (steps_in a xs st') (while_true (n - (i + 1)) (value_in a e) (steps_in a xs)) else Value Normal st') b
+    ∙ ap (λ (r : Course). sequence r (while_true (n - (i + 1)) (value_in a e) (steps_in a xs))) q
 
-pub ruleset whiles = (while_over, while_stays, while_ends, while_left, while_came, while_halts, while_goes)
+pub ruleset whiles = (spent_stays, spent_ends, spent_on, while_stays, while_ends, while_left, while_came, while_halts, while_goes)
 
 pub repeat_over : (a : Around) (xs : List TypedStmt) (e : TypedExpr) (n i : ℕ) (st : Meant) → n ≤ i → repeat_in a xs e (n - i) st ≡ StillRunning st.out
 unfolding repeat_in
@@ -308,12 +321,12 @@ repeat_over a xs e n i st h = ap (λ (k : ℕ). repeat_in a xs e k st) (none_lef
 pub repeat_left : (a : Around) (xs : List TypedStmt) (e : TypedExpr) (n i : ℕ) (st st' : Meant) → i < n → steps_in a xs st ≡ Value Exited st' → repeat_in a xs e (n - i) st ≡ Value Exited st'
 unfolding repeat_in
 repeat_left a xs e n i st st' h q = ap (λ (k : ℕ). repeat_in a xs e k st) (less n i h)
-    ∙ ap (λ (r : Course). then_go r (λ st. value_in a e st ▷ λ v st. if is_true v then Value Normal st else until_true (n - (i + 1)) (steps_in a xs) (value_in a e) st)) q
+    ∙ ap (λ (r : Course). sequence r (λ st. value_in a e st ▷ λ v st. if is_true v then Value Normal st else until_true (n - (i + 1)) (steps_in a xs) (value_in a e) st)) q
 
 pub repeat_came : (a : Around) (xs : List TypedStmt) (e : TypedExpr) (n i : ℕ) (w : ℤ) (st st' : Meant) → i < n → steps_in a xs st ≡ Value (Returned w) st' → repeat_in a xs e (n - i) st ≡ Value (Returned w) st'
 unfolding repeat_in
 repeat_came a xs e n i w st st' h q = ap (λ (k : ℕ). repeat_in a xs e k st) (less n i h)
-    ∙ ap (λ (r : Course). then_go r (λ st. value_in a e st ▷ λ v st. if is_true v then Value Normal st else until_true (n - (i + 1)) (steps_in a xs) (value_in a e) st)) q
+    ∙ ap (λ (r : Course). sequence r (λ st. value_in a e st ▷ λ v st. if is_true v then Value Normal st else until_true (n - (i + 1)) (steps_in a xs) (value_in a e) st)) q
 
 pub repeat_halts : (a : Around) (xs : List TypedStmt) (e : TypedExpr) (n i : ℕ) (s : Stop) (st : Meant) (st' : State) → i < n → steps_in a xs st ≡ halts s st' → repeat_in a xs e (n - i) st ≡ halts s st'
 unfolding repeat_in
@@ -323,20 +336,20 @@ repeat_halts a xs e n i s st st' h q = ap (λ (k : ℕ). repeat_in a xs e k st) 
 pub repeat_stays : (a : Around) (xs : List TypedStmt) (e : TypedExpr) (n i : ℕ) (s : Stop) (st st' : Meant) (st2 : State) → i < n → steps_in a xs st ≡ Value Normal st' → value_in a e st' ≡ stopped s st2 → repeat_in a xs e (n - i) st ≡ halts s st2
 unfolding repeat_in
 repeat_stays a xs e n i s st st' st2 h q g = ap (λ (k : ℕ). repeat_in a xs e k st) (less n i h)
-    ∙ ap (λ (r : Course). then_go r (λ st. value_in a e st ▷ λ v st. if is_true v then Value Normal st else until_true (n - (i + 1)) (steps_in a xs) (value_in a e) st)) q
+    ∙ ap (λ (r : Course). sequence r (λ st. value_in a e st ▷ λ v st. if is_true v then Value Normal st else until_true (n - (i + 1)) (steps_in a xs) (value_in a e) st)) q
     ∙ with_stays (value_in a e st') s st2 (λ v st. if is_true v then Value Normal st else until_true (n - (i + 1)) (steps_in a xs) (value_in a e) st) g
 
 pub repeat_ends : (a : Around) (xs : List TypedStmt) (e : TypedExpr) (n i : ℕ) (v : ℤ) (st st' st2 : Meant) → i < n → steps_in a xs st ≡ Value Normal st' → value_in a e st' ≡ Value v st2 → is_true v ≡ true → repeat_in a xs e (n - i) st ≡ Value Normal st2
 unfolding repeat_in
 repeat_ends a xs e n i v st st' st2 h q g b = ap (λ (k : ℕ). repeat_in a xs e k st) (less n i h)
-    ∙ ap (λ (r : Course). then_go r (λ st. value_in a e st ▷ λ v st. if is_true v then Value Normal st else until_true (n - (i + 1)) (steps_in a xs) (value_in a e) st)) q
+    ∙ ap (λ (r : Course). sequence r (λ st. value_in a e st ▷ λ v st. if is_true v then Value Normal st else until_true (n - (i + 1)) (steps_in a xs) (value_in a e) st)) q
     ∙ ap (λ (r : Given ℤ). (r ▷ λ v st. if is_true v then Value Normal st else until_true (n - (i + 1)) (steps_in a xs) (value_in a e) st)) g
     ∙ ap (λ (b : Bool). if b then Value Normal st2 else until_true (n - (i + 1)) (steps_in a xs) (value_in a e) st2) b
 
 pub repeat_goes : (a : Around) (xs : List TypedStmt) (e : TypedExpr) (n i : ℕ) (v : ℤ) (st st' st2 : Meant) → i < n → steps_in a xs st ≡ Value Normal st' → value_in a e st' ≡ Value v st2 → is_true v ≡ false → repeat_in a xs e (n - i) st ≡ repeat_in a xs e (n - (i + 1)) st2
 unfolding repeat_in
 repeat_goes a xs e n i v st st' st2 h q g b = ap (λ (k : ℕ). repeat_in a xs e k st) (less n i h)
-    ∙ ap (λ (r : Course). then_go r (λ st. value_in a e st ▷ λ v st. if is_true v then Value Normal st else until_true (n - (i + 1)) (steps_in a xs) (value_in a e) st)) q
+    ∙ ap (λ (r : Course). sequence r (λ st. value_in a e st ▷ λ v st. if is_true v then Value Normal st else until_true (n - (i + 1)) (steps_in a xs) (value_in a e) st)) q
     ∙ ap (λ (r : Given ℤ). (r ▷ λ v st. if is_true v then Value Normal st else until_true (n - (i + 1)) (steps_in a xs) (value_in a e) st)) g
     ∙ ap (λ (b : Bool). if b then Value Normal st2 else until_true (n - (i + 1)) (steps_in a xs) (value_in a e) st2) b
 
@@ -379,12 +392,12 @@ for_over_turns a t by xs l last n i st h = ap (λ (k : ℕ). for_in a t by xs l 
 pub for_left : (a : Around) (t : TypeNo) (by : ℤ) (xs : List TypedStmt) (l : Location) (last : ℤ) (n i : ℕ) (st st' : Meant) → i < n → steps_in a xs st ≡ Value Exited st' → for_in a t by xs l last (n - i) st ≡ Value Exited st'
 unfolding for_in
 for_left a t by xs l last n i st st' h q = ap (λ (k : ℕ). for_in a t by xs l last k st) (less n i h)
-    ∙ ap (λ (r : Course). then_go r (λ st. if has_passed by last (st.store l +ℤ by) then Value Normal st else (as_type (surroundings a).types t (st.store l +ℤ by) st ▷ λ v st. for_turns (n - (i + 1)) (as_type (surroundings a).types t) l by last (steps_in a xs) (stored l v st)))) q
+    ∙ ap (λ (r : Course). sequence r (λ st. if has_passed by last (st.store l +ℤ by) then Value Normal st else (as_type (surroundings a).types t (st.store l +ℤ by) st ▷ λ v st. for_turns (n - (i + 1)) (as_type (surroundings a).types t) l by last (steps_in a xs) (stored l v st)))) q
 
 pub for_came : (a : Around) (t : TypeNo) (by : ℤ) (xs : List TypedStmt) (l : Location) (last : ℤ) (n i : ℕ) (w : ℤ) (st st' : Meant) → i < n → steps_in a xs st ≡ Value (Returned w) st' → for_in a t by xs l last (n - i) st ≡ Value (Returned w) st'
 unfolding for_in
 for_came a t by xs l last n i w st st' h q = ap (λ (k : ℕ). for_in a t by xs l last k st) (less n i h)
-    ∙ ap (λ (r : Course). then_go r (λ st. if has_passed by last (st.store l +ℤ by) then Value Normal st else (as_type (surroundings a).types t (st.store l +ℤ by) st ▷ λ v st. for_turns (n - (i + 1)) (as_type (surroundings a).types t) l by last (steps_in a xs) (stored l v st)))) q
+    ∙ ap (λ (r : Course). sequence r (λ st. if has_passed by last (st.store l +ℤ by) then Value Normal st else (as_type (surroundings a).types t (st.store l +ℤ by) st ▷ λ v st. for_turns (n - (i + 1)) (as_type (surroundings a).types t) l by last (steps_in a xs) (stored l v st)))) q
 
 pub for_halts : (a : Around) (t : TypeNo) (by : ℤ) (xs : List TypedStmt) (l : Location) (last : ℤ) (n i : ℕ) (s : Stop) (st : Meant) (st' : State) → i < n → steps_in a xs st ≡ halts s st' → for_in a t by xs l last (n - i) st ≡ halts s st'
 unfolding for_in
@@ -414,21 +427,21 @@ turn_is types t by l last m body st = turn_if (has_passed by last (st.store l +�
 pub for_ends : (a : Around) (t : TypeNo) (by : ℤ) (xs : List TypedStmt) (l : Location) (last : ℤ) (n i : ℕ) (st st' st2 : Meant) → i < n → steps_in a xs st ≡ Value Normal st' → stepped (surroundings a).types t l by last st' ≡ Value true st2 → for_in a t by xs l last (n - i) st ≡ Value Normal st2
 unfolding for_in
 for_ends a t by xs l last n i st st' st2 h q g = ap (λ (k : ℕ). for_in a t by xs l last k st) (less n i h)
-    ∙ ap (λ (r : Course). then_go r (λ st. if has_passed by last (st.store l +ℤ by) then Value Normal st else (as_type (surroundings a).types t (st.store l +ℤ by) st ▷ λ v st. for_turns (n - (i + 1)) (as_type (surroundings a).types t) l by last (steps_in a xs) (stored l v st)))) q
+    ∙ ap (λ (r : Course). sequence r (λ st. if has_passed by last (st.store l +ℤ by) then Value Normal st else (as_type (surroundings a).types t (st.store l +ℤ by) st ▷ λ v st. for_turns (n - (i + 1)) (as_type (surroundings a).types t) l by last (steps_in a xs) (stored l v st)))) q
     ∙ turn_is (surroundings a).types t by l last (n - (i + 1)) (steps_in a xs) st'
     ∙ ap (λ (r : Given Bool). (r ▷ (turn (surroundings a).types t by l last (n - (i + 1)) (steps_in a xs)))) g
 
 pub for_stays : (a : Around) (t : TypeNo) (by : ℤ) (xs : List TypedStmt) (l : Location) (last : ℤ) (n i : ℕ) (s : Stop) (st st' : Meant) (st2 : State) → i < n → steps_in a xs st ≡ Value Normal st' → stepped (surroundings a).types t l by last st' ≡ stopped s st2 → for_in a t by xs l last (n - i) st ≡ halts s st2
 unfolding for_in
 for_stays a t by xs l last n i s st st' st2 h q g = ap (λ (k : ℕ). for_in a t by xs l last k st) (less n i h)
-    ∙ ap (λ (r : Course). then_go r (λ st. if has_passed by last (st.store l +ℤ by) then Value Normal st else (as_type (surroundings a).types t (st.store l +ℤ by) st ▷ λ v st. for_turns (n - (i + 1)) (as_type (surroundings a).types t) l by last (steps_in a xs) (stored l v st)))) q
+    ∙ ap (λ (r : Course). sequence r (λ st. if has_passed by last (st.store l +ℤ by) then Value Normal st else (as_type (surroundings a).types t (st.store l +ℤ by) st ▷ λ v st. for_turns (n - (i + 1)) (as_type (surroundings a).types t) l by last (steps_in a xs) (stored l v st)))) q
     ∙ turn_is (surroundings a).types t by l last (n - (i + 1)) (steps_in a xs) st'
     ∙ with_stays (stepped (surroundings a).types t l by last st') s st2 (turn (surroundings a).types t by l last (n - (i + 1)) (steps_in a xs)) g
 
 pub for_goes : (a : Around) (t : TypeNo) (by : ℤ) (xs : List TypedStmt) (l : Location) (last : ℤ) (n i : ℕ) (st st' st2 : Meant) → i < n → steps_in a xs st ≡ Value Normal st' → stepped (surroundings a).types t l by last st' ≡ Value false st2 → for_in a t by xs l last (n - i) st ≡ for_in a t by xs l last (n - (i + 1)) st2
 unfolding for_in
 for_goes a t by xs l last n i st st' st2 h q g = ap (λ (k : ℕ). for_in a t by xs l last k st) (less n i h)
-    ∙ ap (λ (r : Course). then_go r (λ st. if has_passed by last (st.store l +ℤ by) then Value Normal st else (as_type (surroundings a).types t (st.store l +ℤ by) st ▷ λ v st. for_turns (n - (i + 1)) (as_type (surroundings a).types t) l by last (steps_in a xs) (stored l v st)))) q
+    ∙ ap (λ (r : Course). sequence r (λ st. if has_passed by last (st.store l +ℤ by) then Value Normal st else (as_type (surroundings a).types t (st.store l +ℤ by) st ▷ λ v st. for_turns (n - (i + 1)) (as_type (surroundings a).types t) l by last (steps_in a xs) (stored l v st)))) q
     ∙ turn_is (surroundings a).types t by l last (n - (i + 1)) (steps_in a xs) st'
     ∙ ap (λ (r : Given Bool). (r ▷ (turn (surroundings a).types t by l last (n - (i + 1)) (steps_in a xs)))) g
 

@@ -13,7 +13,7 @@ use Rattle.layout_storage.specs.Texts.{characters, module_texts}
 use Rattle.layout_storage.specs.Capped.{capped}
 use Rattle.layout_storage.specs.Layouts.{IsAnswer}
 use Rattle.def_meaning.specs.Store.{Store, fresh}
-use Rattle.def_meaning.specs.Answer.{State as Meant, Ended, StillRunning, Value}
+use Rattle.def_meaning.specs.Answer.{State as Meant, Ended, StillRunning}
 use Rattle.def_meaning.specs.Outcome.{Outcome as Course}
 use Rattle.def_meaning.specs.Environment.{Modules, Environment as Setting, Named as Name}
 use Rattle.def_meaning.specs.Statements.{does, in_turn}

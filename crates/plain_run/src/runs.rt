@@ -628,7 +628,7 @@ fn ends<'a>(
     }
 }
 
-/// WHILE: the condition is evaluated before each turn.
+/// WHILE: the condition is evaluated before each turn, and behind the last one.
 #[cycle(runs)]
 #[tactic(auto, using(crate::proofs::Stepped::whiles))]
 fn while_turns<'a>(
@@ -658,7 +658,15 @@ fn while_turns<'a>(
             Outcome::Stopped(stop) => return Ok(Outcome::Stopped(stop)),
         }
     }
-    Ok(Outcome::Stopped(Stop::StillRunning))
+    match value(around, room, e, st)? {
+        Answer::Value(v) => {
+            if is_true(v) {
+                return Ok(Outcome::Stopped(Stop::StillRunning));
+            }
+            Ok(Outcome::Normal)
+        }
+        Answer::Stopped(stop) => Ok(Outcome::Stopped(stop)),
+    }
 }
 
 /// REPEAT: the condition is evaluated behind each turn.

@@ -1,7 +1,7 @@
 -- What comes next, where a value is given and where there is none.
 use Rattle.std.proofs.Common.{◌≡◌, ℕ, refl, ap}
 use Rattle.def_meaning.specs.Answer.{State as Meant, Answer as Given, Value, ◌▷◌, Ended, StillRunning}
-use Rattle.def_meaning.specs.Outcome.{Outcome as Course, Normal, Exited, Returned, then_go}
+use Rattle.def_meaning.specs.Outcome.{Outcome as Course, Normal, Exited, Returned, sequence}
 use Rattle.plain_store.specs.declared.state.State.{State}
 use Rattle.plain_store.specs.declared.state.Stop.{Stop}
 use Rattle.plain_store.specs.declared.state.Stop.TheVariants as stop
@@ -21,17 +21,17 @@ pub with_stays : {A : Type 0} (r : Given A) (s : Stop) (st : State) (next : A �
 with_stays r (stop.Ended k) st next h = ap (λ (x : Given _). (x ▷ next)) h
 with_stays r stop.StillRunning st next h = ap (λ (x : Given _). (x ▷ next)) h
 
-pub went : (r : Course) (st : Meant) (next : Meant → Course) → r ≡ Value Normal st → then_go r next ≡ next st
-went r st next h = ap (λ (x : Course). then_go x next) h
+pub went : (r : Course) (st : Meant) (next : Meant → Course) → r ≡ Value Normal st → sequence r next ≡ next st
+went r st next h = ap (λ (x : Course). sequence x next) h
 
-pub left : (r : Course) (st : Meant) (next : Meant → Course) → r ≡ Value Exited st → then_go r next ≡ Value Exited st
-left r st next h = ap (λ (x : Course). then_go x next) h
+pub left : (r : Course) (st : Meant) (next : Meant → Course) → r ≡ Value Exited st → sequence r next ≡ Value Exited st
+left r st next h = ap (λ (x : Course). sequence x next) h
 
-pub came : (r : Course) (v : _) (st : Meant) (next : Meant → Course) → r ≡ Value (Returned v) st → then_go r next ≡ Value (Returned v) st
-came r v st next h = ap (λ (x : Course). then_go x next) h
+pub came : (r : Course) (v : _) (st : Meant) (next : Meant → Course) → r ≡ Value (Returned v) st → sequence r next ≡ Value (Returned v) st
+came r v st next h = ap (λ (x : Course). sequence x next) h
 
-pub halts : (r : Course) (s : Stop) (st : State) (next : Meant → Course) → r ≡ halted s st → then_go r next ≡ halted s st
-halts r (stop.Ended k) st next h = ap (λ (x : Course). then_go x next) h
-halts r stop.StillRunning st next h = ap (λ (x : Course). then_go x next) h
+pub halts : (r : Course) (s : Stop) (st : State) (next : Meant → Course) → r ≡ halted s st → sequence r next ≡ halted s st
+halts r (stop.Ended k) st next h = ap (λ (x : Course). sequence x next) h
+halts r stop.StillRunning st next h = ap (λ (x : Course). sequence x next) h
 
 pub ruleset threads = (gave, stays, with_gave, with_stays, went, left, came, halts)

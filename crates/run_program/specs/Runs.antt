@@ -9,9 +9,9 @@ use Rattle.wasm_engine.specs.declared.engine.End.{End}
 use Rattle.wasm_engine.specs.declared.engine.End.TheVariants.{Done, Trap}
 use Rattle.def_meaning.specs.Answer.{Ended}
 use Rattle.def_meaning.specs.Environment.{Modules}
+use Rattle.def_meaning.specs.Later.{printed}
 use Rattle.def_meaning.specs.Runs.{run}
 use Rattle.def_scheme.specs.Modules.{typed_module, typed_link}
-use Rattle.law_simulation.specs.Behaves.{printed}
 use Rattle.run_directory.specs.Reported.{HasRun}
 use Rattle.build_jobs.specs.declared.file.SourceFile.{SourceFile}
 use Rattle.m2c.specs.declared.files.Outcome.{Outcome}
