@@ -20,12 +20,12 @@ use Rattle.wasm_tree.specs.Code.{tree}
 use Rattle.wasm_tree.proofs.Flat.{tree_front}
 use Rattle.wasm_tree.specs.Machine.{Activation, Config, Going, Progress, calculated, or_trap, pushed, run, top_i32, top_i64, two_i64}
 use Rattle.wasm_tree.specs.Numbers.{compares, operated, truth}
-use Rattle.wasm_sound.specs.Ready.{AreI32, AreI64, AreNumbers, IsI32, IsI64, IsReady}
+use Rattle.wasm_sound.specs.Ready.{AreNumbers, IsI32, IsI64, IsReady}
 use Rattle.wasm_sound.proofs.Soundness.{is_ready_to_begin}
 use Rattle.law_effect.proofs.Steps.{top_32, top_64}
 use Rattle.wasm_known.specs.Known.{with}
 use Rattle.wasm_known.specs.declared.table.KnownFunction.{KnownFunction}
-use Rattle.wasm_known.proofs.Computed.{computed, one, reduced}
+use Rattle.wasm_known.proofs.Computed.{computed, one}
 use Rattle.wasm_machine.specs.Well.{IsWell}
 use Rattle.wasm_machine.proofs.Ready.{lower_i32, lower_i64}
 use Rattle.wasm_engine.specs.Quick.{Combined, Goes, Holds, pushing}

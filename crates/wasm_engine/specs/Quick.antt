@@ -1,5 +1,5 @@
 -- Several reductions at once.
-use Rattle.std.specs.Prelude.{◌≡◌, ◌≤◌, ◌<◌, ◌^◌, ◌+◌, false, true, ℕ, Bool, List, [], ◌∷◌, ◌++◌, length, slice_get, slice_set, Option, Some}
+use Rattle.std.specs.Prelude.{◌≡◌, ◌≤◌, ◌<◌, ◌^◌, false, true, ℕ, Bool, List, [], ◌∷◌, ◌++◌, length, slice_get, slice_set, Option, Some}
 use Rattle.std.specs.Option.{option_and_then}
 use Rattle.std.specs.Int.{w64}
 use Rattle.wasm_tree.specs.declared.module.WModule.{WModule}
