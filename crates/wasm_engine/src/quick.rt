@@ -412,7 +412,8 @@ fn call_at_once<'a>(
     }
 }
 
-/// Pushes a constant of 64 bits, and does what takes it, if both are made at once: so many reductions, or none.
+/// Pushes a constant of 64 bits and executes what takes it, if this is made at once. The answer is how many reductions it
+/// made, or 0.
 #[inline(always)]
 fn constant_at_once<'a>(
     modules: &'a [ValidModule],

@@ -136,8 +136,8 @@ fn push_i64(machine: &mut Machine<'_>, number: u64) -> Result<Reduced, AllocErro
     Ok(Reduced::On)
 }
 
-/// Puts what stands ahead into the machine, and then does this. Each arm of a match does it and not the code before: so
-/// nothing is written between two matches on an instruction, and the compiler makes one jump of both.
+/// Puts what stands ahead into the machine, and then does this. Each arm of the match does it, and not the code before:
+/// so nothing is written between two matches on an instruction, and the compiler need not read it again.
 macro_rules! ahead {
     ($machine:ident, $rest:ident, $reduced:expr) => {{
         $machine.now.rest = $rest;
