@@ -63,7 +63,9 @@ fn no_offset(bytes: &[u8]) -> Result<&[u8], WFault>
 fn put_op(scratch: &mut Vec<Op>, op: Op) -> Result<(), AllocError>
     ensures { OnOk result (scratch.new.items ≡ scratch.old.items ++ op ∷ []) }
 {
-    scratch.reserve(1)?;
+    if scratch.capacity() <= scratch.len() {
+        scratch.reserve(1)?;
+    }
     scratch.push_reserved(op);
     Ok(())
 }
@@ -325,6 +327,7 @@ fn sides_onto<'a>(
 }
 
 /// Reads the instruction that this opcode begins and that holds others, where so many levels of nesting are left.
+#[inline(never)]
 #[cycle(code)]
 #[tactic(auto, unfolding(crate::specs::Instructions::opened))]
 fn opened_onto<'a>(
@@ -346,6 +349,7 @@ fn opened_onto<'a>(
 }
 
 /// Reads the instruction that this opcode begins, and puts it on the scratch.
+#[inline(always)]
 #[cycle(code)]
 fn instr_onto<'a>(
     alloc: Global,

@@ -91,6 +91,7 @@ fn calculation_of(opcode: u8) -> Option<Numeric>
 }
 
 /// The numeric instruction of this opcode.
+#[inline(always)]
 #[tactic(auto, unfolding(crate::specs::Opcode::numeric_of))]
 pub fn numeric_of(opcode: u8) -> Option<Numeric>
     ensures { result ≡ numeric_of opcode }

@@ -203,7 +203,7 @@ module _ (modules : List WModule) (st : Store) (now : Activation) (callers : Lis
   -- ---- where it leads
 
   -- the same function, with its code and operands written out
-  written : (code : List Instr) (stack : List Value) → now.rest ≡ code → now.stack ≡ stack → with now code stack ≡ now
+  pub written : (code : List Instr) (stack : List Value) → now.rest ≡ code → now.stack ≡ stack → with now code stack ≡ now
   written code stack e f = ap₂ (λ (c : List Instr) (s : List Value). with now c s) (sym e) (sym f)
 
   leads_from : (n : ℕ) (code rest : List Instr) (stack new : List Value) → now.rest ≡ code → now.stack ≡ stack → Leads modules n (Going st (with now code stack) callers) (Going st (with now rest new) callers) → Goes modules n here (Going st (with now rest new) callers)

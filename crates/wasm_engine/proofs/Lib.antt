@@ -6,3 +6,4 @@ pub mod AtOnce
 pub mod Held
 pub mod Clearing
 pub mod Copying
+pub mod Combining

@@ -1,10 +1,11 @@
 -- Several reductions at once.
-use Rattle.std.specs.Prelude.{◌≡◌, ◌≤◌, ◌<◌, ◌^◌, ◌+◌, false, true, ℕ, Bool, List, [], ◌∷◌, ◌++◌, length, slice_get, slice_set, Option, Some}
+use Rattle.std.specs.Prelude.{◌≡◌, ◌≤◌, ◌<◌, ◌^◌, false, true, ℕ, Bool, List, [], ◌∷◌, ◌++◌, length, slice_get, slice_set, Option, Some}
 use Rattle.std.specs.Option.{option_and_then}
 use Rattle.std.specs.Int.{w64}
 use Rattle.wasm_tree.specs.declared.module.WModule.{WModule}
 use Rattle.wasm_tree.specs.declared.instr.Instr.{Instr}
-use Rattle.wasm_tree.specs.declared.instr.Instr.TheVariants.{Call}
+use Rattle.wasm_tree.specs.declared.instr.Instr.TheVariants.{Call, I32Const, I64Const}
+use Rattle.wasm_tree.specs.declared.instr.Numeric.{Numeric}
 use Rattle.wasm_tree.specs.declared.instr.Operation.TheVariants.{DivS, RemS}
 use Rattle.wasm_tree.specs.Code.{tree}
 use Rattle.wasm_tree.specs.declared.store.Value.{Value}
@@ -13,7 +14,7 @@ use Rattle.wasm_tree.specs.Numbers.{is_less, operated}
 use Rattle.wasm_tree.specs.declared.store.Instance.{Instance}
 use Rattle.wasm_tree.specs.declared.store.Memory.{Memory}
 use Rattle.wasm_tree.specs.declared.store.Store.{Store}
-use Rattle.wasm_tree.specs.Machine.{Config, instance_of, run}
+use Rattle.wasm_tree.specs.Machine.{Config, calculated, instance_of, run}
 use Rattle.law_effect.specs.Bytes.{byte}
 use Rattle.wasm_known.specs.declared.table.KnownFunction.{KnownFunction}
 use Rattle.wasm_known.specs.Known.{quotient_down, remainder_up}
@@ -144,3 +145,16 @@ Changed false st own reach change old new = new ≡ old
 Changed true st own reach change old new =
     (place : ℕ) × (found : Reaches st own reach old place)
     × (new ≡ slice_set old place (record found.memory { bytes = change found.memory.bytes }))
+
+-- the instruction that pushes this number
+abbrev pub pushing : Value → Instr
+pushing (I32 n) = I32Const n
+pushing (I64 n) = I64Const n
+
+-- what this instruction makes of the operands, with this number above them, was put in their place,
+-- or they are as before
+abbrev pub Combined : Bool → Numeric → Value → (old new : List Value) → Type 0
+Combined false o v old new = new ≡ old
+Combined true o v old new =
+    (below : List Value) × (w : Value) × (calculated o (old ++ v ∷ []) ≡ Some (below, w))
+    × (new ≡ below ++ w ∷ [])

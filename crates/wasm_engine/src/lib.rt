@@ -2,6 +2,7 @@
 #![tactic(auto)]
 
 mod bytes;
+mod combined;
 mod engine;
 mod quick;
 mod sink;

@@ -14,6 +14,7 @@ ghost use Rattle.wasm_machine.specs.Going.{store_of, going, progress};
 ghost use Rattle.wasm_engine.specs.Quick.{Calculated, Calls, Checked, Goes, HasArguments, HasFour, Holds, IsBetween, IsDivision, IsQuotient, IsRemainder, Replaced, reductions};
 
 use crate::bytes::{clear_bytes, copy_bytes};
+use crate::combined::combine_at_once;
 use std::alloc::{AllocError, Global};
 use tree_parts::Items;
 use wasm_known::{KnownFunction, known_at};
@@ -51,6 +52,7 @@ const GREATEST_DIVISOR: u64 = 4_294_967_295;
 /// What code begins with, as far as several reductions may be made at once.
 #[derive(Clone, Copy)]
 enum Front {
+    Narrow,
     Constant,
     Call,
     Other,
@@ -68,6 +70,7 @@ struct Bounds {
 #[inline(always)]
 fn begins_with(code: &[Op]) -> Front {
     match code {
+        [Op::I32Const(_), ..] => Front::Narrow,
         [Op::I64Const(_), ..] => Front::Constant,
         [Op::Call(_), ..] => Front::Call,
         _ => Front::Other,
@@ -409,6 +412,25 @@ fn call_at_once<'a>(
     }
 }
 
+/// Pushes a constant of 64 bits and executes what takes it, if this is made at once. The answer is how many reductions it
+/// made, or 0.
+#[inline(always)]
+fn constant_at_once<'a>(
+    modules: &'a [ValidModule],
+    table: &[Items<KnownFunction>],
+    machine: &mut Machine<'a>,
+    most: u64,
+) -> u64
+    requires { ∥ Holds modules.now table.now (going machine.old) ∥₁ }
+    ensures within { result ≤ most }
+    ensures goes { Goes modules.now result (going machine.old) (going machine.new) }
+{
+    match machine.now.rest {
+        [_, Op::I64Const(_), ..] => bounds_at_once(modules, table, machine, most),
+        _ => combine_at_once(modules, table, machine, most),
+    }
+}
+
 /// Makes several reductions at once, if what is next is known: so many, or none.
 #[inline(always)]
 fn at_once<'a>(
@@ -422,7 +444,8 @@ fn at_once<'a>(
     ensures goes { IfOk result (λ n. Goes modules.now n (going machine.old) (going machine.new)) }
 {
     match begins_with(machine.now.rest) {
-        Front::Constant => Ok(bounds_at_once(modules, table, machine, most)),
+        Front::Narrow => Ok(combine_at_once(modules, table, machine, most)),
+        Front::Constant => Ok(constant_at_once(modules, table, machine, most)),
         Front::Call => call_at_once(modules, table, machine, most),
         Front::Other => Ok(0),
     }

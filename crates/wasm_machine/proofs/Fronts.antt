@@ -1,10 +1,8 @@
 -- The first instruction of code: what it needs is there, and what it does is a reduction.
 use Rattle.std.proofs.Math.Logic.{∥∥₁_map}
-use Rattle.std.proofs.Common.{◌-◌, ◌∷◌, [], take, drop, ◌≡◌, ℕ, ◌<◌, ◌≤◌, ◌+◌, length, get_or, List, Bool, Option, ap, subst, sym, ◌∙◌, arith, inl, inr}
-use Rattle.std.proofs.Math.Nat.{eq-or-lt_of_le}
-use Rattle.std.proofs.lemmas.List.{get_or_default, nil_from_length, take_all}
-use Rattle.std.proofs.lemmas.Grind.{merely}
-use Rattle.std.specs.Prelude.{All, Ok, false, ◌⊎◌, slice_index_or}
+use Rattle.std.proofs.Common.{◌-◌, ◌∷◌, [], take, drop, ◌≡◌, ◌<◌, ◌≤◌, length, List, ap, sym, ◌∙◌, arith}
+use Rattle.std.proofs.lemmas.List.{nil_from_length, take_all}
+use Rattle.std.specs.Prelude.{Ok, slice_index_or}
 use Rattle.wasm_tree.specs.declared.module.WModule.{WModule}
 use Rattle.wasm_tree.specs.declared.instr.Instr.{out-Instr}
 use Rattle.wasm_tree.specs.declared.code.Op.{Op}
@@ -12,13 +10,11 @@ use Rattle.wasm_tree.specs.declared.code.Op.TheVariants as op
 use Rattle.wasm_tree.specs.Code.{tree, head, behind}
 use Rattle.wasm_tree.proofs.Flat.{tree_front, tree_none}
 use Rattle.wasm_tree.specs.declared.store.Store.{Store}
-use Rattle.wasm_tree.specs.Machine.{Activation, Going, Over, Trapped, split_last}
+use Rattle.wasm_tree.specs.Machine.{Activation, Going, split_last}
 use Rattle.wasm_sound.specs.Ready.{IsReady, IsReadyToEnd}
-use Rattle.wasm_tree.specs.Machine.{Config, run, reduce, next, begun, ended}
-use Rattle.wasm_tree.specs.Validity.{IsValid}
-use Rattle.wasm_sound.proofs.Soundness.{run_is_sound, is_ready, is_ready_to_begin, is_ready_to_end}
-use Rattle.wasm_sound.proofs.Traps.{traps_by_rule, no_trap_at_end}
-use Rattle.std.specs.Prelude.{Result, IfOk, Err, is_err}
+use Rattle.wasm_tree.specs.Machine.{reduce, next, begun, ended}
+use Rattle.wasm_sound.proofs.Soundness.{is_ready_to_begin, is_ready_to_end}
+use Rattle.std.specs.Prelude.{Result, IfOk, Err}
 use Rattle.wasm_machine.specs.Well.{IsWell}
 use Rattle.wasm_machine.specs.declared.frame.Machine.{Machine}
 use Rattle.wasm_machine.specs.declared.frame.Reduced.{Reduced}

@@ -136,6 +136,15 @@ fn push_i64(machine: &mut Machine<'_>, number: u64) -> Result<Reduced, AllocErro
     Ok(Reduced::On)
 }
 
+/// Puts what stands ahead into the machine, and then does this. Each arm of the match does it, and not the code before:
+/// so nothing is written between two matches on an instruction, and the compiler need not read it again.
+macro_rules! ahead {
+    ($machine:ident, $rest:ident, $reduced:expr) => {{
+        $machine.now.rest = $rest;
+        $reduced
+    }};
+}
+
 /// The instruction at the front of the code begins; `rest` is the code without it.
 #[tactic(auto, using(crate::proofs::Opened::out_unreachable, crate::proofs::Opened::out_block, crate::proofs::Opened::out_loop, crate::proofs::Opened::out_if_one, crate::proofs::Opened::out_if_two, crate::proofs::Opened::out_br, crate::proofs::Opened::out_br_if, crate::proofs::Opened::out_return, crate::proofs::Opened::out_call, crate::proofs::Opened::out_call_indirect, crate::proofs::Opened::out_store, crate::proofs::Opened::out_i32_const, crate::proofs::Opened::out_i64_const, crate::proofs::Opened::out_numeric))]
 #[inline(always)]
@@ -156,29 +165,36 @@ fn begin<'a>(
         (record (activation machine.old.now) { rest = tree (behind op.now rest.now) })
         (callers_of machine.old) (head tree op.now rest.now)) }
 {
-    machine.now.rest = rest;
     match op {
         Op::Unreachable => Ok(Reduced::Trapped),
         Op::Block(given, count) => block(machine, results_of(*given), rest, *count),
         Op::Loop(_, count) => again(machine, code, rest, *count),
         Op::If(given, count) => choose_one(machine, *given, rest, *count),
         Op::IfElse(given, count, others) => choose_two(machine, *given, rest, *count, *others),
-        Op::Br(label) => branch(machine, *label),
-        Op::BrIf(label) => branch_if(machine, *label),
+        Op::Br(label) => ahead!(machine, rest, branch(machine, *label)),
+        Op::BrIf(label) => ahead!(machine, rest, branch_if(machine, *label)),
         Op::BrTable(count, default) => table(machine, rest, *count, *default),
-        Op::Return => leave(machine),
-        Op::Call(function) => call_index(alloc, modules, machine, *function),
-        Op::CallIndirect(type_index) => call_indirect(alloc, modules, machine, *type_index),
-        Op::Drop => Ok(drop_operand(machine)),
-        Op::LocalGet(local) => local_get(machine, *local),
-        Op::LocalSet(local) => Ok(local_set(machine, *local)),
-        Op::LocalTee(local) => Ok(local_tee(machine, *local)),
-        Op::GlobalGet(global) => global_get(machine, *global),
-        Op::Load(kind) => Ok(load(machine, *kind)),
-        Op::Store(width) => Ok(store(machine, *width)),
-        Op::I32Const(number) => push_i32(machine, *number),
-        Op::I64Const(number) => push_i64(machine, *number),
-        Op::Numeric(numeric) => Ok(calculate(machine, *numeric)),
+        Op::Return => ahead!(machine, rest, leave(machine)),
+        Op::Call(function) => ahead!(
+            machine,
+            rest,
+            call_index(alloc, modules, machine, *function)
+        ),
+        Op::CallIndirect(type_index) => ahead!(
+            machine,
+            rest,
+            call_indirect(alloc, modules, machine, *type_index)
+        ),
+        Op::Drop => ahead!(machine, rest, Ok(drop_operand(machine))),
+        Op::LocalGet(local) => ahead!(machine, rest, local_get(machine, *local)),
+        Op::LocalSet(local) => ahead!(machine, rest, Ok(local_set(machine, *local))),
+        Op::LocalTee(local) => ahead!(machine, rest, Ok(local_tee(machine, *local))),
+        Op::GlobalGet(global) => ahead!(machine, rest, global_get(machine, *global)),
+        Op::Load(kind) => ahead!(machine, rest, Ok(load(machine, *kind))),
+        Op::Store(width) => ahead!(machine, rest, Ok(store(machine, *width))),
+        Op::I32Const(number) => ahead!(machine, rest, push_i32(machine, *number)),
+        Op::I64Const(number) => ahead!(machine, rest, push_i64(machine, *number)),
+        Op::Numeric(numeric) => ahead!(machine, rest, Ok(calculate(machine, *numeric))),
     }
 }
 

@@ -63,6 +63,18 @@ fn append(cells: &mut Vec<u64>, more: &[u64]) -> Result<(), AllocError>
     Ok(())
 }
 
+/// Appends a cell.
+#[inline(always)]
+fn push_cell(cells: &mut Vec<u64>, cell: u64) -> Result<(), AllocError>
+    ensures { cells.new.items ≡ (if is_ok result then cells.old.items ++ cell ∷ [] else cells.old.items) }
+{
+    if cells.capacity() <= cells.len() {
+        cells.reserve(1)?;
+    }
+    cells.push_reserved(cell);
+    Ok(())
+}
+
 impl Operands {
     /// No values.
     pub fn new(alloc: Global) -> Operands
@@ -98,7 +110,7 @@ impl Operands {
     pub fn push_i32(&mut self, number: u32) -> Result<(), AllocError>
         ensures { OnOk result (self.new.known.values ≡ self.old.known.values ++ I32 number ∷ []) }
     {
-        self.cells.push(u64::from(number))?;
+        push_cell(&mut self.cells, u64::from(number))?;
         self.known = known_as(&self.known, &self.known, &Value::I32(number), &0, &0);
         Ok(())
     }
@@ -108,7 +120,7 @@ impl Operands {
     pub fn push_i64(&mut self, number: u64) -> Result<(), AllocError>
         ensures { OnOk result (self.new.known.values ≡ self.old.known.values ++ I64 number ∷ []) }
     {
-        self.cells.push(number)?;
+        push_cell(&mut self.cells, number)?;
         self.known = known_as(&self.known, &self.known, &Value::I64(number), &0, &0);
         Ok(())
     }
@@ -131,7 +143,7 @@ impl Operands {
             (self.new.known.values
             ≡ self.old.known.values ++ value_at from.now.known.values place ∷ []) }
     {
-        self.cells.push(from.cells[place])?;
+        push_cell(&mut self.cells, from.cells[place])?;
         self.known = known_as(&self.known, &from.known, &NONE, &place, &0);
         Ok(())
     }

@@ -55,5 +55,5 @@ pub fn check_body<'a>(
     };
     let mut blocks = Items::new(alloc);
     blocks.push(returns)?;
-    check_code(spares, frame, &mut blocks, body.code.ops(), returns)
+    check_code(spares, &frame, &mut blocks, body.code.ops(), returns)
 }

@@ -30,8 +30,8 @@ pub struct Frame<'a> {
 }
 
 #[tactic(auto, using(crate::proofs::Located::local_front, crate::proofs::Located::local_behind))]
-fn local(frame: Frame<'_>, index: u32) -> Option<ValueType>
-    ensures { result ≡ slice_get (locals_of frame.entry) index }
+fn local(frame: &Frame<'_>, index: u32) -> Option<ValueType>
+    ensures { result ≡ slice_get (locals_of frame.now) index }
 {
     let index = index as usize;
     let count = frame.params.len();
@@ -146,10 +146,10 @@ fn branch_table(blocks: &[Option<ValueType>], index: u32) -> Option<Effect<'stat
 }
 
 /// The effect of `call`.
-fn call(scope: Scope<'_>, function: u32) -> Option<Effect<'_>>
+fn call<'a>(scope: &Scope<'a>, function: u32) -> Option<Effect<'a>>
     ensures { option_map seen result
-        ≡ option_and_then (λ i. option_map called (slice_get (scope_of scope.entry).types i))
-        (slice_get (scope_of scope.entry).functions function) }
+        ≡ option_and_then (λ i. option_map called (slice_get (scope_of scope.now).types i))
+        (slice_get (scope_of scope.now).functions function) }
 {
     match at(scope.functions, function as usize) {
         None => None,
@@ -161,10 +161,10 @@ fn call(scope: Scope<'_>, function: u32) -> Option<Effect<'_>>
 }
 
 /// The effect of `call_indirect`.
-fn call_slot(scope: Scope<'_>, type_index: u32) -> Option<Effect<'_>>
+fn call_slot<'a>(scope: &Scope<'a>, type_index: u32) -> Option<Effect<'a>>
     ensures { option_map seen result ≡ option_and_then
-        (λ _. option_map called_slot (slice_get (scope_of scope.entry).types type_index))
-        (slice_get (scope_of scope.entry).tables 0) }
+        (λ _. option_map called_slot (slice_get (scope_of scope.now).types type_index))
+        (slice_get (scope_of scope.now).tables 0) }
 {
     match at(scope.tables, 0) {
         None => None,
@@ -175,8 +175,8 @@ fn call_slot(scope: Scope<'_>, type_index: u32) -> Option<Effect<'_>>
     }
 }
 
-fn global(scope: Scope<'_>, index: u32) -> Option<ValueType>
-    ensures { result ≡ slice_get (scope_of scope.entry).globals index }
+fn global(scope: &Scope<'_>, index: u32) -> Option<ValueType>
+    ensures { result ≡ slice_get (scope_of scope.now).globals index }
 {
     match at(scope.globals, index as usize) {
         None => None,
@@ -212,9 +212,9 @@ fn keeps(value_type: Option<ValueType>) -> Option<Effect<'static>>
 }
 
 /// The effect, where there is a memory.
-fn with_memory<'a>(scope: Scope<'_>, effect: Effect<'a>) -> Option<Effect<'a>>
+fn with_memory<'a>(scope: &Scope<'_>, effect: Effect<'a>) -> Option<Effect<'a>>
     ensures { option_map seen result
-        ≡ option_map (λ _. seen effect.entry) (slice_get (scope_of scope.entry).memories 0) }
+        ≡ option_map (λ _. seen effect.entry) (slice_get (scope_of scope.now).memories 0) }
 {
     match at(scope.memories, 0) {
         None => None,
@@ -223,9 +223,9 @@ fn with_memory<'a>(scope: Scope<'_>, effect: Effect<'a>) -> Option<Effect<'a>>
 }
 
 /// What the instruction does to the operands, whatever code stands inside it. Nothing where it names what is not there.
-pub fn effect_of<'a>(frame: Frame<'a>, blocks: &[Option<ValueType>], op: Op) -> Option<Effect<'a>>
+pub fn effect_of<'a>(frame: &Frame<'a>, blocks: &[Option<ValueType>], op: Op) -> Option<Effect<'a>>
     ensures { (rest : List Op)
-        → option_map seen result ≡ change (frame_context frame.entry blocks.now) (opened op rest) }
+        → option_map seen result ≡ change (frame_context frame.now blocks.now) (opened op rest) }
 {
     let narrow = Some(ValueType::I32);
     let wide = Some(ValueType::I64);
@@ -239,15 +239,15 @@ pub fn effect_of<'a>(frame: Frame<'a>, blocks: &[Option<ValueType>], op: Op) -> 
         Op::BrIf(l) => branch_if(blocks, l),
         Op::BrTable(_, last) => branch_table(blocks, last),
         Op::Return => Some(Effect::Leaves(None, frame.returns)),
-        Op::Call(function) => call(frame.scope, function),
-        Op::CallIndirect(type_index) => call_slot(frame.scope, type_index),
+        Op::Call(function) => call(&frame.scope, function),
+        Op::CallIndirect(type_index) => call_slot(&frame.scope, type_index),
         Op::Drop => Some(Effect::Drops),
         Op::LocalGet(x) => gives(local(frame, x)),
         Op::LocalSet(x) => takes(local(frame, x)),
         Op::LocalTee(x) => keeps(local(frame, x)),
-        Op::GlobalGet(g) => gives(global(frame.scope, g)),
-        Op::Load(_) => with_memory(frame.scope, Effect::Takes(None, narrow, wide)),
-        Op::Store(_) => with_memory(frame.scope, Effect::Takes(narrow, wide, None)),
+        Op::GlobalGet(g) => gives(global(&frame.scope, g)),
+        Op::Load(_) => with_memory(&frame.scope, Effect::Takes(None, narrow, wide)),
+        Op::Store(_) => with_memory(&frame.scope, Effect::Takes(narrow, wide, None)),
         Op::I32Const(_) => Some(Effect::Takes(None, None, narrow)),
         Op::I64Const(_) => Some(Effect::Takes(None, None, wide)),
         Op::Numeric(numeric) => Some(numeric_effect(numeric)),

@@ -19,13 +19,13 @@ use wasm_tree::{Op, ValueType, WFault, behind, first_of, split_ops};
 
 /// What the instruction does to the operands, whatever code stands inside it.
 fn step(
-    frame: Frame<'_>,
+    frame: &Frame<'_>,
     blocks: &[Option<ValueType>],
     op: Op,
     operands: &mut Operands,
 ) -> Result<(), WFault>
     ensures { (rest : List Op)
-        → Steps result (MayRule (change (frame_context frame.entry blocks.now) (opened op rest)))
+        → Steps result (MayRule (change (frame_context frame.now blocks.now) (opened op rest)))
         operands.old operands.new }
 {
     match effect_of(frame, blocks, op) {
@@ -63,12 +63,12 @@ fn check_last(operands: &mut Operands, wanted: Option<ValueType>) -> Result<(), 
 #[cycle(code)]
 fn check_inside(
     spares: &mut Spares,
-    frame: Frame<'_>,
+    frame: &Frame<'_>,
     blocks: &mut Items<Option<ValueType>>,
     op: Op,
     rest: &[Op],
 ) -> Result<(), WFault>
-    ensures fits { Decides result (CodeFits (frame_context frame.entry blocks.old) (opened op rest.now)) }
+    ensures fits { Decides result (CodeFits (frame_context frame.now blocks.old) (opened op rest.now)) }
     ensures blocks { OnOk result (blocks.new ≡ blocks.old) }
 {
     match op {
@@ -107,14 +107,14 @@ fn check_inside(
 #[cycle(code)]
 fn check_block(
     spares: &mut Spares,
-    frame: Frame<'_>,
+    frame: &Frame<'_>,
     blocks: &mut Items<Option<ValueType>>,
     code: &[Op],
     taken: Option<ValueType>,
     given: Option<ValueType>,
 ) -> Result<(), WFault>
     ensures fits { Decides result
-        (Leads (within (result_types taken) (frame_context frame.entry blocks.old))
+        (Leads (within (result_types taken) (frame_context frame.now blocks.old))
         (tree code.now) [] (result_types given)) }
     ensures blocks { OnOk result (blocks.new ≡ blocks.old) }
 {
@@ -128,13 +128,13 @@ fn check_block(
 #[cycle(code)]
 pub fn check_code(
     spares: &mut Spares,
-    frame: Frame<'_>,
+    frame: &Frame<'_>,
     blocks: &mut Items<Option<ValueType>>,
     code: &[Op],
     given: Option<ValueType>,
 ) -> Result<(), WFault>
     ensures fits { Decides result
-        (Leads (frame_context frame.entry blocks.old) (tree code.now) [] (result_types given)) }
+        (Leads (frame_context frame.now blocks.old) (tree code.now) [] (result_types given)) }
     ensures blocks { OnOk result (blocks.new ≡ blocks.old) }
 {
     let mut operands = no_operands(spares);
@@ -211,5 +211,5 @@ pub fn check_constant(
     };
     let mut spares = Spares::new(alloc);
     let mut blocks = Items::new(alloc);
-    check_code(&mut spares, frame, &mut blocks, code, Some(value_type))
+    check_code(&mut spares, &frame, &mut blocks, code, Some(value_type))
 }

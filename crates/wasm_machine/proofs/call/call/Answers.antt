@@ -1,7 +1,6 @@
 use Rattle.std.proofs.Common.{subst}
 use Rattle.wasm_sound.specs.Ready.{CanCall}
 use Rattle.wasm_tree.specs.declared.store.Callee.{Callee}
-use Rattle.wasm_tree.specs.declared.store.Callee.TheVariants.{Own}
 use Rattle.wasm_machine.proofs.Ready.{function_there, params_there}
 use Rattle.wasm_machine.proofs.call.call.Goals as goal
 
