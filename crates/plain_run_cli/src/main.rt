@@ -9,7 +9,7 @@ mod words;
 
 use crate::words::{Asked, read_command_line};
 use anyhow::{Context, Result};
-use command_words::Words;
+use command_words::{FAILED, Words};
 use m2c::{Open, Options, Outcome, SourceFile, build};
 use plain_run::{Report, Stop, run as run_program};
 use run_directory::end_word;
@@ -25,9 +25,6 @@ const ENDED: u8 = 0;
 
 /// The status of a fault, and of refused files.
 const OTHERWISE: u8 = 1;
-
-/// The status where a file, memory or standard output failed.
-const FAILED: u8 = 3;
 
 /// The status of a program that still runs at the bound.
 const RUNNING: u8 = 4;
