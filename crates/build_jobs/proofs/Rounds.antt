@@ -13,8 +13,8 @@ use Rattle.law_graph.proofs.Given.{few_files}
 use Rattle.std.proofs.lemmas.List.Sorted.{length_permutation}
 use Rattle.m2_graph.specs.Graph.{IsGraph, CompileEach}
 use Rattle.m2_graph.specs.Jobs.{AreJobs}
-use Rattle.pool_board.specs.Results.{AreResults, all_jobs}
-use Rattle.pool_board.proofs.Resulting.{as_defined, without_prerequisites, job_at, all_long}
+use Rattle.pool_board.specs.Results.{AreResults}
+use Rattle.pool_board.proofs.Resulting.{as_defined}
 use Rattle.build_jobs.specs.declared.file.SourceFile.{SourceFile}
 use Rattle.build_jobs.specs.declared.reading.Read.{Read}
 use Rattle.build_jobs.specs.Reading.{AreRead, IsReadAt}
@@ -83,18 +83,8 @@ few_jobs fs numbers jobs starts g each =
 -- ---- results
 
 -- where the results of all jobs are there, each file is read
-pub all_read : (files : List SourceFile) (reads : List Read) → AreResults (map (λ f. []) files) (λ job outs r. IsReadAt files job r) (all_jobs (length (map {B = List ℕ} (λ f. []) files))) reads → AreRead files reads
-all_read files reads are =
-    let jobs : List ℕ = all_jobs (length (map {B = List ℕ} (λ f. []) files)) in
-    let each = without_prerequisites (map (λ f. []) files) (λ job outs r. IsReadAt files job r) (no_rows files) jobs reads are in
-    let many : length (map {B = List ℕ} (λ f. []) files) ≡ length files = length-map files (λ (f : SourceFile). []) in
-    let long : length reads ≡ length files = each.0 ∙ all_long (length (map {B = List ℕ} (λ f. []) files)) ∙ many in
-    are_read files reads long (λ k r is. each.1 k k r (job_at (length (map {B = List ℕ} (λ f. []) files)) k (omega (arith, inside reads k r is, long, many))) is)
-  where
-    inside : (rs : List Read) (k : ℕ) (r : Read) → slice_get rs k ≡ Some r → k < length rs
-    inside [] k r e = absurd cc
-    inside (q ∷ qs) zero r e = omega arith
-    inside (q ∷ qs) (suc k) r e = omega (arith, inside qs k r e)
+pub all_read : (files : List SourceFile) (reads : List Read) → AreResults (map (λ f. []) files) (λ job outs r. IsReadAt files job r) reads → AreRead files reads
+all_read files reads are = are_read files reads (are.count_is ∙ length-map files (λ (f : SourceFile). [])) (λ k r is. are.coherent k r is)
 
 pub read_count : (files : List SourceFile) (reads : List Read) → AreRead files reads → length files ≡ length reads
 read_count [] [] h = refl
@@ -103,6 +93,6 @@ read_count [] (r ∷ rs) h = absurd h
 read_count (f ∷ fs) [] h = absurd h
 
 -- where the results of all jobs are there, they are what becomes of the modules
-pub each_compiled : (trees : List Module) (files : List ℕ) (jobs : List (List ℕ)) (all : List Compiled) → IsJobGraph jobs → AreResults jobs (Defines trees files) (all_jobs (length jobs)) all → all ≡ all_compiled trees files jobs
+pub each_compiled : (trees : List Module) (files : List ℕ) (jobs : List (List ℕ)) (all : List Compiled) → IsJobGraph jobs → AreResults jobs (Defines trees files) all → all ≡ all_compiled trees files jobs
 each_compiled trees files jobs all graph are =
     sym (map-id all) ∙ as_defined jobs (Defines trees files) (λ c. c) (compiled_at trees files) graph (gives trees files jobs) all are

@@ -11,7 +11,7 @@ ghost use Rattle.build_jobs.specs.Borrowed.{borrowed, modules_borrowed};
 ghost use Rattle.m2_graph.specs.Files.{numbered};
 ghost use Rattle.m2_graph.specs.Graph.{IsGraph, CompileEach};
 ghost use Rattle.build_jobs.specs.Reading.{AreRead};
-ghost use Rattle.pool_board.specs.Results.{AreResults, all_jobs};
+ghost use Rattle.pool_board.specs.Results.{AreResults};
 
 use crate::made::{Made, all_modules};
 use crate::modules::Modules;
@@ -105,9 +105,7 @@ impl<R: Threads + Sync, G: Gate> Runner<'_, R, G> {
     /// The results of the jobs of a graph.
     fn run<W: Work>(&self, graph: &JobGraph, work: &W) -> Result<Vec<W::Out>, AllocError>
         requires { graph.now ≡ W.graph work.now }
-        ensures { IfOk result (λ outs.
-            AreResults (W.graph work.now) (W.defines work.now)
-            (all_jobs (length (W.graph work.now))) outs.items) }
+        ensures { IfOk result (λ outs. AreResults (W.graph work.now) (W.defines work.now) outs.items) }
     {
         results_of(run_jobs(self.rt, self.alloc, graph, self.workers, self.gate, work))
     }
@@ -130,8 +128,7 @@ impl<R: Threads + Sync, G: Gate> Runner<'_, R, G> {
         requires each { CompileEach (numbered 0 (borrowed trees.now)) graph.now.files.items }
         ensures made { let jobs = map (λ job. job.items) graph.now.jobs.items in
             let defines = Defines (modules_borrowed trees.now) graph.now.files.items in
-            IfOk result (λ made.
-            AreResults jobs (MayMake defines) (all_jobs (length jobs)) made.items) }
+            IfOk result (λ made. AreResults jobs (MayMake defines) made.items) }
         ensures sound { IsJobGraph (map (λ job. job.items) graph.now.jobs.items) }
     {
         let jobs = pooled(self.alloc, graph)?;

@@ -9,10 +9,15 @@ ghost use Rattle.std.specs.Prelude.{◌≡◌, ◌≤◌};
 ghost use Rattle.std.specs.Char.{is_ascii_digit};
 ghost use Rattle.std.specs.List.{list_all};
 
-pub use options::{are_named, is_named, matches_of, number_option, strings_of};
+pub use options::{
+    are_named, is_named, matches_of, number_option, steps_of, steps_option, strings_of,
+};
 use std::env::FillError;
 use std::rt::Env;
 use std::{env, io, str};
+
+/// The version of all programs.
+pub const VERSION: &str = "0.1.0";
 
 /// The status of a command line that asks for nothing that can be done.
 pub const COMMAND_LINE: u8 = 2;

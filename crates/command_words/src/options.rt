@@ -8,7 +8,7 @@ ghost use Rattle.std.specs.Prelude.{◌≡◌, ◌≤◌, map, IfOk, string_byte
 use crate::{COMMAND_LINE, FAILED, Words, number};
 use anyhow::Result;
 use clap::error::ErrorKind;
-use clap::{ArgMatches, Command, Error};
+use clap::{Arg, ArgMatches, Command, Error};
 use std::alloc::{AllocError, Global};
 
 /// The status for words of which nothing can be read: 0 for help and the version, 3 if memory ran out, and 2 for a mistake.
@@ -90,4 +90,30 @@ pub fn strings_of(alloc: Global, texts: &[&str]) -> Result<Vec<String>, AllocErr
         strings.push(String::from_str(alloc, text)?)?;
     }
     Ok(strings)
+}
+
+/// The name of the option of the reductions of a run.
+const STEPS: &str = "steps";
+
+/// The most reductions that a run may be allowed.
+const MOST_STEPS: u64 = 1000000000000;
+
+/// The option `--steps`.
+pub fn steps_option<'a>(alloc: Global) -> Arg<'a> {
+    Arg::new(alloc, STEPS)
+        .long(STEPS)
+        .value_name("N")
+        .default_value("1000000000")
+        .help("The most reductions that are made, from 1 to 1000000000000")
+}
+
+/// The most reductions that are asked for. A number that they cannot be is reported.
+pub fn steps_of<R: Eprint>(rt: &R, program: &str, matches: &ArgMatches) -> Option<u64> {
+    number_option(
+        rt,
+        program,
+        STEPS,
+        matches.get_str(STEPS).unwrap_or(""),
+        MOST_STEPS,
+    )
 }

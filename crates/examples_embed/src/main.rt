@@ -10,7 +10,7 @@ mod screen;
 use crate::folder::Folder;
 use crate::screen::Screen;
 use anyhow::{Context, Result};
-use m2c::{Gate, Options, Outcome, SourceFile, build, execute, save};
+use m2c::{Open, Options, Outcome, SourceFile, build, execute, save};
 use std::alloc::Global;
 use std::process::ExitCode;
 use std::rt::{Env, Files};
@@ -49,16 +49,6 @@ const OPTIONS: Options = Options {
 
 /// The most reductions that a program makes.
 const STEPS: u64 = 100_000_000;
-
-/// Lets every worker in.
-#[derive(Drop)]
-struct Open;
-
-impl Gate for Open {
-    fn enter(&self, _job: usize) -> bool {
-        true
-    }
-}
 
 fn source(alloc: Global, text: (&str, &str)) -> Result<SourceFile> {
     Ok(SourceFile {

@@ -1,7 +1,7 @@
 //! What stands at a refused place, tried: a statement that only some types pass is put in front.
 
 use m2_tree::Refusal;
-use m2c::{BuildFault, Gate, Options, Outcome, SourceFile, build};
+use m2c::{BuildFault, Open, Options, Outcome, SourceFile, build};
 use std::alloc::{AllocError, Global};
 use std::thread::Threads;
 use text_places::Spots;
@@ -26,16 +26,6 @@ pub enum Test<'a> {
     Elements(&'a str),
     /// It is assigned to itself.
     Assigned,
-}
-
-/// Lets every worker in.
-#[derive(Drop)]
-struct Open;
-
-impl Gate for Open {
-    fn enter(&self, _job: usize) -> bool {
-        true
-    }
 }
 
 /// A text with a statement put into it.

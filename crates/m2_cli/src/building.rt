@@ -7,7 +7,7 @@ use anyhow::Result;
 use command_words::{FAILED, Words};
 use explain_types::type_words;
 use m2_tree::Refusal;
-use m2c::{Gate, Options, Outcome, SourceFile, build};
+use m2c::{Open, Options, Outcome, SourceFile, build};
 use run_program::ProgramFault;
 use std::rt::Files;
 use std::thread::Threads;
@@ -22,16 +22,6 @@ pub struct Modules {
     pub link: Vec<u8>,
     /// The others under their names, in the order in which they start.
     pub others: Vec<(String, Vec<u8>)>,
-}
-
-/// Lets every worker in.
-#[derive(Drop)]
-pub struct Open;
-
-impl Gate for Open {
-    fn enter(&self, _job: usize) -> bool {
-        true
-    }
 }
 
 /// Says why the program of the file of this name was not built or not run.

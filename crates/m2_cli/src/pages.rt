@@ -1,9 +1,8 @@
 //! How many pages of memory a program needs.
 
-use crate::building::Open;
 use m2_rule::Rule;
 use m2_tree::Refusal;
-use m2c::{BuildFault, MAX_PAGES, Options, Outcome, SourceFile, build};
+use m2c::{BuildFault, MAX_PAGES, Open, Options, Outcome, SourceFile, build};
 use std::thread::Threads;
 use tool_words::PROGRAM;
 

@@ -1,13 +1,13 @@
 //! `m2 show`: what a pass makes of a program.
 
-use crate::building::{Modules, Open, build_program};
+use crate::building::{Modules, build_program};
 use crate::finding::Program;
 use crate::output::say_output_fault;
 use crate::showing::show;
 use anyhow::Result;
 use command_words::{FAILED, Words};
 use m2_tree::{Pos, Refusal};
-use m2c::{Options, Outcome, SourceFile, build};
+use m2c::{Open, Options, Outcome, SourceFile, build};
 use mark_statements::marked_text;
 use show_passes::{File, Shown, show_program, show_text_tokens, show_text_tree};
 use show_types::show_types;

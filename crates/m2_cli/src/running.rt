@@ -2,12 +2,13 @@
 
 ghost use Rattle.std.specs.Prelude.{◌≡◌, ◌<◌, ◌^◌, ◌+◌};
 
-use crate::building::{Open, say_fault, show_refused};
+use crate::building::{say_fault, show_refused};
 use crate::finding::{Program as FoundProgram, find_program};
 use crate::output::say_output_fault;
 use crate::screen::Screen;
 use anyhow::Result;
 use command_words::{FAILED, Words};
+use m2c::Open;
 use run_directory::end_word;
 use run_program::{End, Instances, Loaded, Program, load_program};
 use std::rt::Files;

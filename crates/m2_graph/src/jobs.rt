@@ -12,8 +12,8 @@ use graph_walk::each_once;
 use std::alloc::{AllocError, Global};
 use tree_parts::Items;
 
-/// The place of a node.
-fn place_of(places: &[Option<usize>], node: usize) -> Option<usize>
+/// The place of a node, if it has one.
+pub fn place_of(places: &[Option<usize>], node: usize) -> Option<usize>
     ensures { result ≡ place_of places.now node }
 {
     if node < places.len() {
@@ -43,7 +43,7 @@ fn put_place(places: &mut [Option<usize>], node: usize, number: usize)
     }
 }
 
-/// For each of `count` nodes its place in the order of the jobs, if it has one.
+/// For each of `count` nodes its place in an order, the first if it has more. The only error is that memory ran out.
 pub fn places_of(
     alloc: Global,
     count: usize,

@@ -20,3 +20,4 @@ mod sources;
 
 pub use error::GraphError;
 pub use graph::Graph;
+pub use jobs::{place_of, places_of};

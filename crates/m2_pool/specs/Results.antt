@@ -1,2 +1,2 @@
 -- The results of a graph's jobs: the words of `pool_board`, passed on.
-pub use Rattle.pool_board.specs.Results.{with_item, picked, results_below, results, all_jobs, AreResults, NoJobs, OneMore, IsResult}
+pub use Rattle.pool_board.specs.Results.{with_item, picked, results_below, results, AreCoherent, AreResults, IsCopy}

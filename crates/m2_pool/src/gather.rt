@@ -3,8 +3,8 @@ ghost use Rattle.std.specs.Prelude.{◌≡◌, ℕ, List, ◌<◌, length, map, 
 ghost use Rattle.once_cell.specs.Once.{cell_name, Agrees};
 ghost use Rattle.pool_board.specs.Lists.{times};
 ghost use Rattle.pool_board.specs.Graph.{prerequisites_of};
-ghost use Rattle.pool_board.specs.Results.{picked, all_jobs, AreResults, IsResult, IsRan, IsMade};
-ghost use Rattle.m2_pool.specs.Settled.{IsSettled, all_settled};
+ghost use Rattle.pool_board.specs.Results.{picked, AreCoherent, AreResults, IsCopy, IsRan, IsMade};
+ghost use Rattle.m2_pool.specs.Settled.{IsFounded, IsSettled, all_settled, known_at};
 
 use once_cell::race::Note;
 use pool_board::{Gate, Pool, Ran, Work};
@@ -72,9 +72,9 @@ fn no_places<W: Work>(alloc: Global, jobs: usize) -> Result<Vec<Option<Ran<W>>>,
 
 /// All results in job order: a copy of what the cell holds for each job that is settled. The others are run here.
 ///
-/// A job is settled where a worker set its cell and all its prerequisites are settled: what the worker used of them are
-/// then their results. A result that was handed back, since its cell was set before, is taken where its prerequisites
-/// are settled.
+/// A job is settled if a worker set its cell and all its prerequisites are settled: what the worker used of them are then
+/// what their cells hold, and their results are copies of it. A result that was handed back, since its cell was set before,
+/// is taken if its prerequisites are settled.
 pub fn gathered<W: Work, G: Gate>(
     alloc: Global,
     pool: &Pool<'_, W, G>,
@@ -94,9 +94,7 @@ pub fn gathered<W: Work, G: Gate>(
         (W.defines pool.now.work.now) r.job b.value
         (map (λ u. u.cell) r.used.items)
         (map (λ u. u.known) r.used.items))) }
-    ensures { IfOk result (λ v.
-        AreResults pool.now.graph.now (W.defines pool.now.work.now)
-        (all_jobs (length pool.now.graph.now)) v.items) }
+    ensures { IfOk result (λ v. AreResults pool.now.graph.now (W.defines pool.now.work.now) v.items) }
 {
     let mut outs = Vec::with_capacity(alloc, pool.graph.jobs())?;
     let mut settled = Vec::with_capacity(alloc, pool.graph.jobs())?;
@@ -128,15 +126,15 @@ fn settle<W: Work, G: Gate>(
         (W.defines pool.now.work.now) r.job b.value
         (map (λ u. u.cell) r.used.items) (map (λ u. u.known) r.used.items))) }
     requires settled { (p : ℕ)
-        → IfSome (slice_index_or settled.old.items p None) (λ n.
-        IsSettled (map cell_name pool.now.cells.now) pool.now.graph.now
-        (W.defines pool.now.work.now) p n.cell n.known) }
+        → IfSome (slice_index_or settled.old.items p None)
+        (λ n. IsSettled (map cell_name pool.now.cells.now) p n.cell n.known) }
     ensures same { settled.new.items ≡ settled.old.items }
-    ensures kept { IfSome result (λ k.
+    ensures kept { let founded = IsFounded (λ n. n.known) settled.old.items (W.defines pool.now.work.now)
+        (prerequisites_of pool.now.graph.now job) job in
+        IfSome result (λ k.
         MatchResult k (λ n.
-        IsSettled (map cell_name pool.now.cells.now) pool.now.graph.now
-        (W.defines pool.now.work.now) job n.cell n.known)
-        (λ b. IsResult pool.now.graph.now (W.defines pool.now.work.now) job b.value)) }
+        (s : IsSettled (map cell_name pool.now.cells.now) job n.cell n.known) × founded s.out)
+        (λ b. founded b.value)) }
     ensures all { IfSome place (λ r.
         IsTrue (all_settled settled.old.items (prerequisites_of pool.now.graph.now job))
         → result ≡ Some r.kept) }
@@ -160,7 +158,7 @@ fn settle<W: Work, G: Gate>(
     }
 }
 
-// Whether all prerequisites of a job are settled. Where they are, what was used of them are their results.
+// Whether all prerequisites of a job are settled. If they are, what was used of them is what their notes know.
 fn agree<W: Work, G: Gate>(
     pool: &Pool<'_, W, G>,
     job: usize,
@@ -171,15 +169,14 @@ fn agree<W: Work, G: Gate>(
     requires used { map (λ u. u.cell) used.items
         ≡ picked (map cell_name pool.now.cells.now) (prerequisites_of pool.now.graph.now job) }
     requires settled { (p : ℕ)
-        → IfSome (slice_index_or settled.old.items p None) (λ n.
-        IsSettled (map cell_name pool.now.cells.now) pool.now.graph.now
-        (W.defines pool.now.work.now) p n.cell n.known) }
+        → IfSome (slice_index_or settled.old.items p None)
+        (λ n. IsSettled (map cell_name pool.now.cells.now) p n.cell n.known) }
     ensures same { settled.new.items ≡ settled.old.items }
     ensures agree { IsTrue result
         → (outs : List W.Out)
         → map (λ u. u.known) used.items ≡ map Some outs
-        → AreResults pool.now.graph.now (W.defines pool.now.work.now)
-        (prerequisites_of pool.now.graph.now job) outs }
+        → map (known_at (λ n. n.known) settled.old.items) (prerequisites_of pool.now.graph.now job)
+        ≡ map Some outs }
     ensures all { IsTrue (all_settled settled.old.items (prerequisites_of pool.now.graph.now job))
         → IsTrue result }
 {
@@ -235,17 +232,20 @@ fn one<W: Work, G: Gate>(
     before: &[W::Out],
 ) -> Result<(W::Out, Option<Note<W::Out>>), AllocError>
     requires job { job < length pool.now.graph.now }
-    requires kept { IfSome kept (λ k.
+    requires kept { let defined = W.defines pool.now.work.now job
+        (picked before.now (prerequisites_of pool.now.graph.now job)) in
+        IfSome kept (λ k.
         MatchResult k (λ n.
-        IsSettled (map cell_name pool.now.cells.now) pool.now.graph.now
-        (W.defines pool.now.work.now) job n.cell n.known)
-        (λ b. IsResult pool.now.graph.now (W.defines pool.now.work.now) job b.value)) }
-    requires before { AreResults pool.now.graph.now (W.defines pool.now.work.now) (all_jobs job) before.now }
-    ensures out { IfOk result (λ r. IsResult pool.now.graph.now (W.defines pool.now.work.now) job r.0) }
+        (s : IsSettled (map cell_name pool.now.cells.now) job n.cell n.known) × defined s.out)
+        (λ b. defined b.value)) }
+    requires before { length before.now ≡ job }
+    ensures out { IfOk result (λ r.
+        W.defines pool.now.work.now job
+        (picked before.now (prerequisites_of pool.now.graph.now job)) r.0) }
     ensures note { IfOk result (λ r.
         IfSome r.1 (λ n.
-        IsSettled (map cell_name pool.now.cells.now) pool.now.graph.now
-        (W.defines pool.now.work.now) job n.cell n.known)) }
+        (s : IsSettled (map cell_name pool.now.cells.now) job n.cell n.known)
+        × IsCopy (W.defines pool.now.work.now) s.out r.0)) }
 {
     match kept {
         Some(Ok(mut note)) => {
@@ -264,10 +264,12 @@ fn copied<W: Work, G: Gate>(
     note: &mut Note<W::Out>,
 ) -> Result<W::Out, AllocError>
     requires job { job < length pool.now.graph.now }
-    requires note { IsSettled (map cell_name pool.now.cells.now) pool.now.graph.now
-        (W.defines pool.now.work.now) job note.old.cell note.old.known }
+    requires note { IsSettled (map cell_name pool.now.cells.now) job note.old.cell note.old.known }
     ensures same { note.new ≡ note.old }
-    ensures out { IfOk result (λ x. IsResult pool.now.graph.now (W.defines pool.now.work.now) job x) }
+    ensures out { IfOk result (λ x.
+        (out : W.Out)
+        → note.old.known ≡ Some out
+        → IsCopy (W.defines pool.now.work.now) out x) }
 {
     let mut second = note.again();
     match pool.cells[job].get_as(&mut second) {
@@ -284,8 +286,9 @@ fn run_here<W: Work, G: Gate>(
     before: &[W::Out],
 ) -> Result<W::Out, AllocError>
     requires job { job < length pool.now.graph.now }
-    requires before { AreResults pool.now.graph.now (W.defines pool.now.work.now) (all_jobs job) before.now }
-    ensures { IfOk result (λ x. IsResult pool.now.graph.now (W.defines pool.now.work.now) job x) }
+    requires before { length before.now ≡ job }
+    ensures { IfOk result
+        (W.defines pool.now.work.now job (picked before.now (prerequisites_of pool.now.graph.now job))) }
 {
     let _jobs = pool.graph.jobs();
     let outs = picks(alloc, before, pool.graph.prerequisites(job))?;

@@ -2,7 +2,7 @@
 ghost use Rattle.std.specs.Prelude.{◌≡◌, ◌≢◌, ◌++◌, [], ℕ, ◌<◌, ◌≤◌, ◌↔◌, length, map, All, IfOk, MatchResult, Err};
 ghost use Rattle.once_cell.specs.Once.{cell_name};
 ghost use Rattle.pool_board.specs.Seats.{IsAllSeats, IsWorked, all_had, max_workers};
-ghost use Rattle.pool_board.specs.Results.{all_jobs, AreResults, IsRan, IsMade};
+ghost use Rattle.pool_board.specs.Results.{AreResults, IsRan, IsMade};
 ghost use Rattle.m2_pool.specs.Tallied.{IsTally};
 
 use crate::gather::{gathered, placed};
@@ -18,11 +18,11 @@ use std::thread::Threads;
 
 /// Results of the work's own graph, in job order, and a tally.
 ///
-/// Each result is one that the work's definition gives for its job, from results of its prerequisites. The tally has a list
-/// for each worker, and one of the jobs that none had: together each job exactly once, and nothing else. The lists are
-/// what seats had that kept the board's rule; no clause says which worker's seat has which. So it is for every number of
-/// workers, every gate and every schedule. The refusal is `Workers` exactly if there are not 1 to 64 workers, and else
-/// `NoMemory`.
+/// Each result is one that the work's definition gives for its job, from the results that are answered for its
+/// prerequisites: all together are one answer. The tally has a list for each worker, of jobs to which the gate let it in, and
+/// one of the jobs that none had: together each job exactly once, and nothing else. The lists are what seats had that kept
+/// the board's rule; no clause says which worker's seat has which. So it is for every number of workers, every gate and
+/// every schedule. The refusal is `Workers` exactly if there are not 1 to 64 workers, and else `NoMemory`.
 ///
 /// The j-th job without prerequisites is dealt to worker j modulo the number of workers. A worker takes jobs from its
 /// own deque, first in first out, and else steals; if it sees the results of a job's prerequisites, the gate lets it
@@ -43,10 +43,10 @@ pub fn run_jobs<R: Threads + Sync, W: Work, G: Gate>(
     ensures workers { (result ≡ Err PoolRefusal.Workers)
         ↔ ¬ ((1 ≤ workers) × (workers ≤ max_workers)) }
     ensures graph { result ≢ Err PoolRefusal.Prerequisite }
-    ensures results { IfOk result (λ r.
-        AreResults (W.graph work.now) (W.defines work.now)
-        (all_jobs (length (W.graph work.now))) r.0.items) }
+    ensures results { IfOk result (λ r. AreResults (W.graph work.now) (W.defines work.now) r.0.items) }
     ensures seats { IfOk result (λ r. length r.1.seats.items ≡ workers) }
+    ensures admitted { IfOk result
+        (λ r. All (λ l. All (G.admits gate.now) l) (map (λ l. l.items) r.1.seats.items)) }
     // The lists are what seats had that kept the board's rule; all together are the jobs, each once.
     ensures tally { IfOk result
         (λ r. IsTally graph.now workers (map (λ l. l.items) r.1.seats.items) r.1.gatherer.items) }
@@ -72,10 +72,10 @@ pub fn run_on<R: Threads + Sync, W: Work, G: Gate>(
     requires cells { length cells.now ≡ length graph.now }
     requires seats { IsAllSeats board seats.items × (0 < board.workers) }
     requires new { All (λ s. s.had ≡ []) seats.items }
-    ensures results { IfOk result (λ r.
-        AreResults (W.graph work.now) (W.defines work.now)
-        (all_jobs (length (W.graph work.now))) r.0.items) }
+    ensures results { IfOk result (λ r. AreResults (W.graph work.now) (W.defines work.now) r.0.items) }
     ensures seats { IfOk result (λ r. length r.1.seats.items ≡ board.workers) }
+    ensures admitted { IfOk result
+        (λ r. All (λ l. All (G.admits gate.now) l) (map (λ l. l.items) r.1.seats.items)) }
     ensures tally { IfOk result (λ r.
         IsTally graph.now board.workers (map (λ l. l.items) r.1.seats.items) r.1.gatherer.items) }
 {
@@ -178,6 +178,7 @@ fn all_work<R: Threads + Sync, W: Work, G: Gate>(
         All (λ e.
         IfOk e (λ m.
         IsWorked pool.now.board.now.id pool.now.graph.now m.seat
+        × All (G.admits pool.now.gate.now) m.seat.had
         × (map (λ r. r.job) m.ran.items ≡ m.seat.had)
         × All (λ r.
         MatchResult r.kept (λ n.
@@ -199,6 +200,7 @@ fn all_work<R: Threads + Sync, W: Work, G: Gate>(
                 × (member.ran.items ≡ []) }
             ensures { IfOk result (λ m.
                 IsWorked pool.entry.now.board.now.id pool.entry.now.graph.now m.seat
+                × All (G.admits pool.entry.now.gate.now) m.seat.had
                 × (map (λ r. r.job) m.ran.items ≡ m.seat.had)
                 × All (λ r.
                 MatchResult r.kept (λ n.
@@ -223,6 +225,7 @@ fn returned<W: Work, G: Gate>(
     requires { All (λ e.
         IfOk e (λ m.
         IsWorked pool.now.board.now.id pool.now.graph.now m.seat
+        × All (G.admits pool.now.gate.now) m.seat.had
         × (map (λ r. r.job) m.ran.items ≡ m.seat.had)
         × All (λ r.
         MatchResult r.kept (λ n.
@@ -237,6 +240,7 @@ fn returned<W: Work, G: Gate>(
     ensures count { IfOk result (λ r. length r.0.items ≡ length ended.items) }
     ensures seats { IfOk result (λ r.
         All (λ s. IsWorked pool.now.board.now.id pool.now.graph.now s) r.0.items) }
+    ensures admitted { IfOk result (λ r. All (λ s. All (G.admits pool.now.gate.now) s.had) r.0.items) }
     ensures ran { IfOk result (λ r. map (λ a. a.job) r.1.items ≡ all_had r.0.items) }
     ensures stands { IfOk result (λ o.
         All (λ r.

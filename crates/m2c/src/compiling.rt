@@ -11,21 +11,11 @@ use crate::files::{BuildFault, MAX_PAGES, Options, Outcome, build};
 use crate::say::{print_refusals, write_ending};
 use crate::sources::read_files;
 use build_jobs::SourceFile;
-use pool_board::{Gate, MAX_WORKERS};
+use pool_board::{MAX_WORKERS, Open};
 use run_directory::{InDir, Sink};
 use std::alloc::Global;
 use std::thread::Threads;
 use write_directory::{OutDir, save};
-
-/// Lets every worker in.
-#[derive(Drop)]
-struct Open;
-
-impl Gate for Open {
-    fn enter(&self, _job: usize) -> bool {
-        true
-    }
-}
 
 /// Whether these options can be had. Else the fault of the number of workers, or else that of pages.
 fn check_options(options: Options) -> Result<(), BuildFault>

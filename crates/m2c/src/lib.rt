@@ -19,6 +19,6 @@ pub use compiling::compile;
 pub use files::{BuildFault, MAX_PAGES, Options, Outcome, build};
 pub use laws::{encoding_laws, outcome_laws};
 pub use m2_tree::Refusal;
-pub use pool_board::{Gate, MAX_WORKERS};
+pub use pool_board::{Gate, MAX_WORKERS, Open};
 pub use run_directory::{InDir, Sink, execute};
 pub use write_directory::{OutDir, SaveFault, save};

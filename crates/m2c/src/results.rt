@@ -1,9 +1,8 @@
 //! What the jobs of a build came to, file by file.
 
-ghost use Rattle.std.specs.Prelude.{◌≡◌, ◌<◌, ◌++◌, ℕ, ◌==◌, Some, None, All, cond, length, map, replicate, slice_get, IfOk, OnOk};
+ghost use Rattle.std.specs.Prelude.{◌≡◌, ◌++◌, map, slice_get, IfOk, OnOk};
 ghost use Rattle.std.specs.Option.{option_and_then, option_copied};
-ghost use Rattle.m2_graph.specs.Jobs.{place_of, ArePlaces};
-ghost use Rattle.m2_graph.specs.Parts.{or_first};
+ghost use Rattle.m2_graph.specs.Jobs.{place_of};
 ghost use Rattle.build_jobs.specs.Borrowed.{borrowed};
 ghost use Rattle.m2c.specs.Build.{refusal_in, refused_from, reported};
 ghost use Rattle.m2c.specs.Modules.{module_in, modules_at};
@@ -11,55 +10,9 @@ ghost use Rattle.m2c.specs.Modules.{module_in, modules_at};
 use crate::refusals::refusal;
 use build_jobs::Compiled;
 use m2_emit::ModuleBytes;
+use m2_graph::place_of;
 use m2_tree::{Module, Refusal};
 use std::alloc::{AllocError, Global};
-
-/// No job for each of this many files.
-fn no_places(alloc: Global, count: usize) -> Result<Vec<Option<usize>>, AllocError>
-    ensures { IfOk result (λ places. places.items ≡ replicate count None) }
-{
-    vec![in alloc; None; count]
-}
-
-/// Gives a file its job, unless it has one.
-fn put_place(places: &mut [Option<usize>], file: usize, job: usize)
-    requires { file < length places.old }
-    ensures len { length places.new ≡ length places.old }
-    ensures places { (k : ℕ)
-        → place_of places.new k
-        ≡ or_first (place_of places.old k) (cond (file == k) (Some job) None) }
-{
-    if places[file].is_none() {
-        places[file] = Some(job);
-    }
-}
-
-/// For each of `count` files its job, where the file of each job is given.
-pub fn places_of(
-    alloc: Global,
-    count: usize,
-    files: &[usize],
-) -> Result<Vec<Option<usize>>, AllocError>
-    requires { All (λ file. file < count) files.now }
-    ensures { IfOk result (λ places. ArePlaces files.now places.items) }
-{
-    let mut places = no_places(alloc, count)?;
-    for (job, file) in files.iter().enumerate() {
-        put_place(&mut places, *file, job);
-    }
-    Ok(places)
-}
-
-/// The place of a file's job.
-fn place_of(places: &[Option<usize>], file: usize) -> Option<usize>
-    ensures { result ≡ place_of places.now file }
-{
-    if file < places.len() {
-        places[file]
-    } else {
-        None
-    }
-}
 
 /// What became of the module of a file.
 fn result_of<'a>(

@@ -9,8 +9,8 @@ mod words;
 
 use crate::words::{Asked, read_command_line};
 use anyhow::{Context, Result};
-use command_words::Words;
-use m2c::{Gate, Options, Outcome, SourceFile, build};
+use command_words::{FAILED, Words};
+use m2c::{Open, Options, Outcome, SourceFile, build};
 use plain_run::{Report, Stop, run as run_program};
 use run_directory::end_word;
 use std::fmt::Display;
@@ -26,9 +26,6 @@ const ENDED: u8 = 0;
 /// The status of a fault, and of refused files.
 const OTHERWISE: u8 = 1;
 
-/// The status where a file, memory or standard output failed.
-const FAILED: u8 = 3;
-
 /// The status of a program that still runs at the bound.
 const RUNNING: u8 = 4;
 
@@ -37,16 +34,6 @@ const HALTED: u32 = 9;
 
 /// How deep evaluations nest at the most. Each takes up to 760 bytes of native stack, as far as was measured, so 8 MiB hold them.
 const MAX_NESTING: usize = 8000;
-
-/// Lets every worker in.
-#[derive(Drop)]
-struct Open;
-
-impl Gate for Open {
-    fn enter(&self, _job: usize) -> bool {
-        true
-    }
-}
 
 /// The bytes of files, with their names as given.
 fn read_all<R: Files + AllocGlobal>(rt: &R, names: &[String]) -> Result<Vec<SourceFile>> {

@@ -1,19 +1,14 @@
 //! The words of the command line.
 
 use anyhow::Result;
-use clap::{Arg, ArgAction, ArgMatches, Command};
-use command_words::{
-    COMMAND_LINE, Words, are_named, command_line, matches_of, number_option, strings_of,
-};
-use m2c::MAX_PAGES;
+use build_words::{files_of, files_word, memory_option, pages_of};
+use clap::{Arg, ArgMatches, Command};
+use command_words::{COMMAND_LINE, VERSION, Words, command_line, matches_of, number_option};
 use std::alloc::Global;
 use std::rt::Env;
 
 /// The name of the program.
 const PROGRAM: &str = "plain_run";
-
-/// What --version prints.
-const VERSION: &str = "0.1.0";
 
 /// The greatest bound on turns and calls.
 const MAX_BOUND: u64 = 1000000000;
@@ -35,13 +30,7 @@ fn command<'a>(alloc: Global) -> Result<Command<'a>> {
         Command::new(alloc, PROGRAM)
             .version(VERSION)
             .about("Runs Modula-2 slowly, by the definition of what programs do")
-            .arg(
-                Arg::new(alloc, "memory")
-                    .long("memory")
-                    .value_name("PAGES")
-                    .default_value("16")
-                    .help("The pages of 65536 bytes of the program's memory, from 1 to 1024"),
-            )?
+            .arg(memory_option(alloc))?
             .arg(
                 Arg::new(alloc, "bound")
                     .long("bound")
@@ -51,37 +40,27 @@ fn command<'a>(alloc: Global) -> Result<Command<'a>> {
                         "The most turns of each loop, and how deep calls nest, from 1 to 1000000000",
                     ),
             )?
-            .arg(
-                Arg::new(alloc, "FILE")
-                    .required(true)
-                    .action(ArgAction::Append)
-                    .num_args(1..)
-                    .help("The files of the program's modules"),
-            )?,
+            .arg(files_word(alloc))?,
     )
 }
 
 /// What the options and names ask for. Numbers that they cannot take are reported.
-fn requested<R: Eprint + AllocGlobal>(rt: &R, matches: &ArgMatches) -> Result<Words<Asked>> {
-    let alloc = rt.alloc();
-    let text = matches.get_str("memory").unwrap_or("");
-    let Some(pages) = number_option(rt, PROGRAM, "memory", text, u64::from(MAX_PAGES)) else {
+fn request<R: Eprint + AllocGlobal>(rt: &R, matches: &ArgMatches) -> Result<Words<Asked>> {
+    let Some(pages) = pages_of(rt, PROGRAM, matches) else {
         return Ok(Words::Reported(COMMAND_LINE));
     };
     let text = matches.get_str("bound").unwrap_or("");
     let Some(bound) = number_option(rt, PROGRAM, "bound", text, MAX_BOUND) else {
         return Ok(Words::Reported(COMMAND_LINE));
     };
-    let files = matches.get_strs("FILE").unwrap_or(&[]);
-    if !are_named(rt, PROGRAM, "FILE", files) {
-        return Ok(Words::Reported(COMMAND_LINE));
+    match files_of(rt, PROGRAM, matches)? {
+        Words::Reported(status) => Ok(Words::Reported(status)),
+        Words::Read(files) => Ok(Words::Read(Asked {
+            pages,
+            bound: bound as usize,
+            files,
+        })),
     }
-    let files = strings_of(alloc, files)?;
-    Ok(Words::Read(Asked {
-        pages: pages as u32,
-        bound: bound as usize,
-        files,
-    }))
 }
 
 /// What the command line asks for.
@@ -91,7 +70,7 @@ pub fn read_command_line<R: Env + Print + Eprint + AllocGlobal>(rt: &R) -> Resul
         Words::Reported(status) => return Ok(Words::Reported(status)),
     };
     match matches_of(rt, command(rt.alloc())?, &words)? {
-        Words::Read(matches) => requested(rt, &matches),
+        Words::Read(matches) => request(rt, &matches),
         Words::Reported(status) => Ok(Words::Reported(status)),
     }
 }

@@ -1,7 +1,6 @@
--- The results of a graph's jobs: what may come of each, and the case where one definition gives
--- them.
+-- The results of a graph's jobs: one answer, of which each part comes of the parts before it, and
+-- the case where one definition gives them.
 use Rattle.std.specs.Prelude.{◌≡◌, ℕ, zero, suc, List, [], ◌∷◌, ◌++◌, length, map, slice_get, Option, Some, None}
-use Rattle.std.specs.List.{range_with_len}
 use Rattle.pool_board.specs.Graph.{prerequisites_of}
 
 -- an item, put before others if it is there
@@ -25,27 +24,24 @@ results_below graph defined (suc n) =
 abbrev pub results : {X : Type 0} → List (List ℕ) → (ℕ → List X → X) → List X
 results graph defined = results_below graph defined (length graph)
 
--- the numbers below n, in order
-abbrev pub all_jobs : ℕ → List ℕ
-all_jobs n = range_with_len 0 n
+-- each of the results of the first jobs comes of the results answered for its prerequisites
+abbrev pub AreCoherent : {X : Type 0} → List (List ℕ) → (defines : ℕ → List X → X → Type 0) → List X
+    → Type 0
+AreCoherent {X} graph defines xs = (job : ℕ) (x : X) → slice_get xs job ≡ Some x
+    → defines job (picked xs (prerequisites_of graph job)) x
 
--- The results of jobs, one for each of a list of jobs, where `defines job outs x` says that x may
--- come of a job from these results of its prerequisites.
-pub data AreResults {X : Type 0} (graph : List (List ℕ)) (defines : ℕ → List X → X → Type 0)
-    : List ℕ → List X → Type 0 where
-  NoJobs : AreResults graph defines [] []
-  OneMore : (job : ℕ) (outs : List X) (x : X) (jobs : List ℕ) (xs : List X)
-      → AreResults graph defines (prerequisites_of graph job) outs
-      → defines job outs x
-      → AreResults graph defines jobs xs
-      → AreResults graph defines (job ∷ jobs) (x ∷ xs)
+-- The results of all jobs are one answer, where `defines job outs x` says that x may come of a job
+-- from these results of its prerequisites.
+pub record AreResults {X : Type 0} (graph : List (List ℕ)) (defines : ℕ → List X → X → Type 0)
+    (xs : List X) : Type 0 where
+  pub count_is : length xs ≡ length graph
+  pub coherent : AreCoherent graph defines xs
 
--- x is a result of the job
-pub record IsResult {X : Type 0} (graph : List (List ℕ)) (defines : ℕ → List X → X → Type 0)
-    (job : ℕ) (x : X) : Type 0 where
-  pub outs : List X
-  pub are : AreResults graph defines (prerequisites_of graph job) outs
-  pub defined : defines job outs x
+-- x may stand in the place of a result: it comes of the same jobs, and the same comes of it
+pub record IsCopy {X : Type 0} (defines : ℕ → List X → X → Type 0) (out x : X) : Type 0 where
+  pub comes : (job : ℕ) (outs : List X) → defines job outs out → defines job outs x
+  pub serves : (job : ℕ) (before after : List X) (y : X)
+      → defines job (before ++ out ∷ after) y → defines job (before ++ x ∷ after) y
 
 -- The cell of this name is that of the job, and what is known of it may come of the job from what
 -- is known of the prerequisites' cells. The names are those of the cells of all jobs.

@@ -105,7 +105,8 @@ impl Board {
     }
 
     /// Claims a job for a seat, by one atomic exchange. True exactly for the one call that gets the job: the seat's list
-    /// then ends with it. After false some seat has it.
+    /// then ends with it. After false the seat has met the job, and the board's rule says that some seat has what was met:
+    /// `close`, which sees all seats, hands this on.
     ///
     /// It takes no memory, never waits and always answers. Each worker calls it from its own thread.
     pub fn claim(&self, seat: &mut BoardSeat, job: usize) -> bool

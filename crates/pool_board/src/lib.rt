@@ -25,5 +25,5 @@ pub use cells::empty_cells;
 pub use graph::JobGraph;
 pub use ran::Ran;
 pub use refusal::PoolRefusal;
-pub use work::{Gate, Work};
+pub use work::{Gate, Open, Work};
 pub use worker::{Member, Pool, work_on};

@@ -43,8 +43,8 @@ pub struct Pool<'a, W: Work, G: Gate> {
 
 /// Works, as a worker that ran nothing yet, until nothing is found, or as many jobs were taken as the graph has.
 ///
-/// What the worker ran is what its seat had, each with what it stands on. It counted each edge of these jobs. It fails only
-/// for want of memory.
+/// What the worker ran is what its seat had, each with what it stands on. The gate let it in to each of these jobs, and it
+/// counted each of their edges. It fails only for want of memory.
 pub fn work_on<W: Work, G: Gate>(
     alloc: Global,
     pool: &Pool<'_, W, G>,
@@ -53,6 +53,7 @@ pub fn work_on<W: Work, G: Gate>(
     requires seat { member.seat.board ≡ pool.now.board.now.id }
     requires new { (member.seat.had ≡ []) × (member.ran.items ≡ []) }
     ensures seat { IfOk result (λ m. IsWorked pool.now.board.now.id pool.now.graph.now m.seat) }
+    ensures admitted { IfOk result (λ m. All (G.admits pool.now.gate.now) m.seat.had) }
     ensures ran { IfOk result (λ m. map (λ r. r.job) m.ran.items ≡ m.seat.had) }
     ensures stands { IfOk result (λ m.
         All (λ r.
@@ -106,6 +107,7 @@ fn attempt<W: Work, G: Gate>(
     job: usize,
 ) -> Result<(), AllocError>
     requires seat { IsWorked pool.now.board.now.id pool.now.graph.now member.old.seat }
+    requires admitted { All (G.admits pool.now.gate.now) member.old.seat.had }
     requires ran { map (λ r. r.job) member.old.ran.items ≡ member.old.seat.had }
     requires stands { All (λ r.
         MatchResult r.kept (λ n.
@@ -117,6 +119,7 @@ fn attempt<W: Work, G: Gate>(
         (map (λ u. u.known) r.used.items))) member.old.ran.items }
     ensures seat { member.new.seat.board ≡ pool.now.board.now.id }
     ensures counts { OnOk result (IsWorked pool.now.board.now.id pool.now.graph.now member.new.seat) }
+    ensures admitted { OnOk result (All (G.admits pool.now.gate.now) member.new.seat.had) }
     ensures ran { OnOk result (map (λ r. r.job) member.new.ran.items ≡ member.new.seat.had) }
     ensures stands { All (λ r.
         MatchResult r.kept (λ n.

@@ -3,7 +3,7 @@
 ghost use Rattle.std.specs.Prelude.{◌+◌, ◌<◌, ◌^◌};
 
 use crate::{End, ProgramEnd, ProgramFault, run_program};
-use m2c::{Gate, Options, SourceFile};
+use m2c::{Open, Options, SourceFile};
 use memory_streams::Screen;
 use std::alloc::{AllocError, Global};
 use std::thread::Threads;
@@ -46,16 +46,6 @@ const OPTIONS: Options = Options {
     workers: 2,
     pages: 1,
 };
-
-/// Lets every worker in.
-#[derive(Drop)]
-struct Open;
-
-impl Gate for Open {
-    fn enter(&self, _job: usize) -> bool {
-        true
-    }
-}
 
 fn files_of(alloc: Global, text: &str) -> Result<Vec<SourceFile>, AllocError> {
     let mut files = Vec::new(alloc);

@@ -95,7 +95,7 @@ fn show_word(
 }
 
 /// A typed expression: its operator with the type of its result, and its operands below.
-#[cycle(computed)]
+#[cycle(expression)]
 pub fn show_value(
     page: &mut Page,
     module: &TypedModule,
@@ -112,37 +112,37 @@ pub fn show_value(
         TypedExpr::Procedure(procedure) => {
             procedure_row(page, module, level, b"procedure", *procedure)
         }
-        TypedExpr::Plus(t, e) => {
-            show_word(page, module, level, "+", *t)?;
-            show_value(page, module, inner, e.get())
-        }
-        TypedExpr::Negate(e) => {
-            show_word(page, module, level, "-", INTEGER)?;
-            show_value(page, module, inner, e.get())
-        }
+        TypedExpr::Plus(t, e) => show_operand(page, module, level, "+", *t, e.get()),
+        TypedExpr::Negate(e) => show_operand(page, module, level, "-", INTEGER, e.get()),
         TypedExpr::Chain(first, links) => {
             show_value(page, module, level, first.get())?;
             show_links(page, module, level, links.as_slice())
         }
-        TypedExpr::Compare(relation, first, second) => {
-            show_word(page, module, level, comparison_word(*relation), BOOLEAN)?;
-            show_value(page, module, inner, first.get())?;
-            show_value(page, module, inner, second.get())
-        }
-        TypedExpr::Not(e) => {
-            show_word(page, module, level, "NOT", BOOLEAN)?;
-            show_value(page, module, inner, e.get())
-        }
-        TypedExpr::Include(relation, first, second) => {
-            show_word(page, module, level, inclusion_word(*relation), BOOLEAN)?;
-            show_value(page, module, inner, first.get())?;
-            show_value(page, module, inner, second.get())
-        }
-        TypedExpr::In(element, set) => {
-            show_word(page, module, level, "IN", BOOLEAN)?;
-            show_value(page, module, inner, element.get())?;
-            show_value(page, module, inner, set.get())
-        }
+        TypedExpr::Compare(relation, first, second) => show_operands(
+            page,
+            module,
+            level,
+            comparison_word(*relation),
+            first.get(),
+            second.get(),
+        ),
+        TypedExpr::Not(e) => show_operand(page, module, level, "NOT", BOOLEAN, e.get()),
+        TypedExpr::Include(relation, first, second) => show_operands(
+            page,
+            module,
+            level,
+            inclusion_word(*relation),
+            first.get(),
+            second.get(),
+        ),
+        TypedExpr::In(element, set) => show_operands(
+            page,
+            module,
+            level,
+            "IN",
+            element.get(),
+            set.get(),
+        ),
         TypedExpr::Abs(_, _)
         | TypedExpr::Cap(_)
         | TypedExpr::Chr(_)
@@ -160,46 +160,55 @@ pub fn show_value(
     }
 }
 
+/// The word of an operator with the type of its result, and its operand below.
+#[cycle(expression)]
+fn show_operand(
+    page: &mut Page,
+    module: &TypedModule,
+    level: usize,
+    word: &str,
+    t: TypeNo,
+    e: &TypedExpr,
+) -> Result<(), AllocError> {
+    show_word(page, module, level, word, t)?;
+    show_value(page, module, level.saturating_add(1), e)
+}
+
+/// The word of a relation, and its two operands below.
+#[cycle(expression)]
+fn show_operands(
+    page: &mut Page,
+    module: &TypedModule,
+    level: usize,
+    word: &str,
+    first: &TypedExpr,
+    second: &TypedExpr,
+) -> Result<(), AllocError> {
+    show_operand(page, module, level, word, BOOLEAN, first)?;
+    show_value(page, module, level.saturating_add(1), second)
+}
+
 /// A standard function with its argument.
-#[cycle(computed)]
+#[cycle(expression)]
 fn show_function(
     page: &mut Page,
     module: &TypedModule,
     level: usize,
     e: &TypedExpr,
 ) -> Result<(), AllocError> {
-    let inner = level.saturating_add(1);
     match e {
-        TypedExpr::Abs(t, e) => {
-            show_word(page, module, level, "ABS", *t)?;
-            show_value(page, module, inner, e.get())
-        }
-        TypedExpr::Cap(e) => {
-            show_word(page, module, level, "CAP", CHAR)?;
-            show_value(page, module, inner, e.get())
-        }
-        TypedExpr::Chr(e) => {
-            show_word(page, module, level, "CHR", CHAR)?;
-            show_value(page, module, inner, e.get())
-        }
-        TypedExpr::Odd(e) => {
-            show_word(page, module, level, "ODD", BOOLEAN)?;
-            show_value(page, module, inner, e.get())
-        }
-        TypedExpr::Ord(e) => {
-            show_word(page, module, level, "ORD", CARDINAL)?;
-            show_value(page, module, inner, e.get())
-        }
-        TypedExpr::Val(t, e) => {
-            show_word(page, module, level, "VAL", *t)?;
-            show_value(page, module, inner, e.get())
-        }
+        TypedExpr::Abs(t, e) => show_operand(page, module, level, "ABS", *t, e.get()),
+        TypedExpr::Cap(e) => show_operand(page, module, level, "CAP", CHAR, e.get()),
+        TypedExpr::Chr(e) => show_operand(page, module, level, "CHR", CHAR, e.get()),
+        TypedExpr::Odd(e) => show_operand(page, module, level, "ODD", BOOLEAN, e.get()),
+        TypedExpr::Ord(e) => show_operand(page, module, level, "ORD", CARDINAL, e.get()),
+        TypedExpr::Val(t, e) => show_operand(page, module, level, "VAL", *t, e.get()),
         _ => Ok(()),
     }
 }
 
 /// Operators behind a first operand, each with its second operand below.
-#[cycle(computed)]
+#[cycle(expression)]
 fn show_links(
     page: &mut Page,
     module: &TypedModule,
@@ -213,36 +222,37 @@ fn show_links(
 }
 
 /// An operator with the type of its result, and its second operand below.
-#[cycle(computed)]
+#[cycle(expression)]
 fn show_link(
     page: &mut Page,
     module: &TypedModule,
     level: usize,
     link: &Link,
 ) -> Result<(), AllocError> {
-    let inner = level.saturating_add(1);
     match link {
-        Link::Arithmetic(operator, t, e) => {
-            show_word(page, module, level, arithmetic_word(*operator), *t)?;
-            show_value(page, module, inner, e)
-        }
-        Link::And(e) => {
-            show_word(page, module, level, "AND", BOOLEAN)?;
-            show_value(page, module, inner, e)
-        }
-        Link::Or(e) => {
-            show_word(page, module, level, "OR", BOOLEAN)?;
-            show_value(page, module, inner, e)
-        }
-        Link::Combine(operator, e) => {
-            show_word(page, module, level, set_word(*operator), BITSET)?;
-            show_value(page, module, inner, e)
-        }
+        Link::Arithmetic(operator, t, e) => show_operand(
+            page,
+            module,
+            level,
+            arithmetic_word(*operator),
+            *t,
+            e,
+        ),
+        Link::And(e) => show_operand(page, module, level, "AND", BOOLEAN, e),
+        Link::Or(e) => show_operand(page, module, level, "OR", BOOLEAN, e),
+        Link::Combine(operator, e) => show_operand(
+            page,
+            module,
+            level,
+            set_word(*operator),
+            BITSET,
+            e,
+        ),
     }
 }
 
 /// A variable, and below it the components that lead to a part of it.
-#[cycle(computed)]
+#[cycle(expression)]
 pub fn show_place(
     page: &mut Page,
     module: &TypedModule,
@@ -257,7 +267,7 @@ pub fn show_place(
 }
 
 /// A field or an index, with the type that it is picked from.
-#[cycle(computed)]
+#[cycle(expression)]
 fn show_component(
     page: &mut Page,
     module: &TypedModule,
@@ -269,19 +279,15 @@ fn show_component(
             numbered_row(page, level, &[b"field"], *number)?;
             show_word(page, module, level.saturating_add(1), "of", *t)
         }
-        Component::Element(t, index) => {
-            show_word(page, module, level, "element of", *t)?;
-            show_value(page, module, level.saturating_add(1), index)
-        }
-        Component::OpenElement(_, t, index) => {
-            show_word(page, module, level, "element", *t)?;
-            show_value(page, module, level.saturating_add(1), index)
-        }
+        Component::Element(t, index) => show_operand(page, module, level, "element of", *t, index),
+        Component::OpenElement(_, t, index) => show_operand(
+            page, module, level, "element", *t, index,
+        ),
     }
 }
 
 /// A call: what is called, and its arguments below.
-#[cycle(computed)]
+#[cycle(expression)]
 pub fn show_call(
     page: &mut Page,
     module: &TypedModule,
@@ -306,7 +312,7 @@ pub fn show_call(
 }
 
 /// Arguments, one behind another.
-#[cycle(computed)]
+#[cycle(expression)]
 fn show_arguments(
     page: &mut Page,
     module: &TypedModule,
@@ -320,7 +326,7 @@ fn show_arguments(
 }
 
 /// What is given for a formal.
-#[cycle(computed)]
+#[cycle(expression)]
 fn show_argument(
     page: &mut Page,
     module: &TypedModule,
@@ -329,10 +335,7 @@ fn show_argument(
 ) -> Result<(), AllocError> {
     let inner = level.saturating_add(1);
     match argument {
-        Argument::Value(t, e) => {
-            show_word(page, module, level, "argument", *t)?;
-            show_value(page, module, inner, e)
-        }
+        Argument::Value(t, e) => show_operand(page, module, level, "argument", *t, e),
         Argument::Place(place) => {
             page.row(level, &[b"argument"])?;
             show_place(page, module, inner, place)

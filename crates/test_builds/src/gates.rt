@@ -12,6 +12,10 @@ const TURNS: u64 = 200_000_000;
 pub struct Always(pub bool);
 
 impl Gate for Always {
+    ghost use Rattle.std.specs.Prelude.{◌≡◌, true};
+
+    ghost admits = { λ g _. g.0 ≡ true };
+
     fn enter(&self, _job: usize) -> bool {
         self.0
     }
@@ -38,6 +42,8 @@ impl Counting {
 }
 
 impl Gate for Counting {
+    ghost admits = { λ _ _. Unit {0} };
+
     fn enter(&self, _job: usize) -> bool {
         self.asked.fetch_add(1, SeqCst);
         true
@@ -74,6 +80,8 @@ impl Meeting {
 }
 
 impl Gate for Meeting {
+    ghost admits = { λ _ _. Unit {0} };
+
     fn enter(&self, _job: usize) -> bool {
         if self.came.fetch_add(1, SeqCst) < self.first {
             return true;

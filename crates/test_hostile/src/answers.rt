@@ -2,7 +2,7 @@
 
 use crate::paper::Paper;
 use anyhow::Result;
-use m2c::{BuildFault, Gate, Options, Outcome, SourceFile, build};
+use m2c::{BuildFault, Open, Options, Outcome, SourceFile, build};
 use memory_streams::Folder;
 use run_directory::execute;
 use std::fmt::Display;
@@ -23,16 +23,6 @@ const FEW: usize = 2;
 
 /// The status if a file, a module, memory or a stream failed.
 const FAILED: u8 = 3;
-
-/// Lets each worker in.
-#[derive(Drop)]
-struct Open;
-
-impl Gate for Open {
-    fn enter(&self, _job: usize) -> bool {
-        true
-    }
-}
 
 /// Builds the files with so many workers, asks the other calls of what is built, and answers whether memory sufficed.
 pub fn ask<R: Print + AllocGlobal + Threads + Sync>(

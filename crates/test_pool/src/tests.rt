@@ -46,6 +46,10 @@ impl Work for Halving<'_> {
 struct Always(bool);
 
 impl Gate for Always {
+    ghost use Rattle.std.specs.Prelude.{◌≡◌, true};
+
+    ghost admits = { λ g _. g.0 ≡ true };
+
     fn enter(&self, _job: usize) -> bool {
         self.0
     }
@@ -56,6 +60,10 @@ impl Gate for Always {
 struct Bars(usize);
 
 impl Gate for Bars {
+    ghost use Rattle.std.specs.Prelude.{◌≢◌};
+
+    ghost admits = { λ g job. job ≢ g.0 };
+
     fn enter(&self, job: usize) -> bool {
         job != self.0
     }
@@ -93,6 +101,8 @@ impl Arrivals {
 struct Meeting(Arrivals);
 
 impl Gate for Meeting {
+    ghost admits = { λ _ _. Unit {0} };
+
     fn enter(&self, _job: usize) -> bool {
         self.0.came.fetch_add(1, SeqCst);
         self.0.wait(2);
@@ -105,6 +115,8 @@ impl Gate for Meeting {
 struct MeetingBehind(Arrivals);
 
 impl Gate for MeetingBehind {
+    ghost admits = { λ _ _. Unit {0} };
+
     fn enter(&self, job: usize) -> bool {
         match job {
             0 => {}

@@ -1,7 +1,7 @@
 //! Tests of `save`.
 
 use crate::memory::Notes;
-use m2c::{Gate, Options, Outcome, SaveFault, SourceFile, build, execute, save};
+use m2c::{Open, Options, Outcome, SaveFault, SourceFile, build, execute, save};
 use memory_streams::{Folder, Screen};
 use std::alloc::{AllocError, Global};
 use std::process::Abort;
@@ -28,16 +28,6 @@ pub const CYCLE: [(&str, &str); 5] = [
 
 /// More reductions than the program makes.
 const STEPS: u64 = 1_000_000;
-
-/// Lets every worker in.
-#[derive(Drop)]
-struct Open;
-
-impl Gate for Open {
-    fn enter(&self, _job: usize) -> bool {
-        true
-    }
-}
 
 fn files_of(alloc: Global, texts: &[(&str, &str)]) -> Result<Vec<SourceFile>, AllocError> {
     let mut files = Vec::new(alloc);

@@ -4,18 +4,14 @@ use crate::PROGRAM;
 use crate::asked::{Asked, Pass, Setting, Style};
 use crate::libraries::libraries_of;
 use anyhow::Result;
+use build_words::{memory_option, options_of, out_option, workers_option};
 use clap::{Arg, ArgAction, ArgMatches, Command};
 use command_words::{
-    COMMAND_LINE, Words, are_named, command_line, is_named, matches_of, number_option, strings_of,
+    COMMAND_LINE, VERSION, Words, are_named, command_line, is_named, matches_of, steps_of,
+    steps_option, strings_of,
 };
-use m2c::{MAX_PAGES, MAX_WORKERS, Options};
 use std::alloc::Global;
 use std::rt::{Env, Files};
-
-const VERSION: &str = "0.1.0";
-
-/// The most reductions that a run may be allowed.
-const MOST_STEPS: u64 = 1000000000000;
 
 /// The options that say how a program is found and built.
 fn with_setting<'a>(alloc: Global, command: Command<'a>) -> Result<Command<'a>> {
@@ -28,20 +24,8 @@ fn with_setting<'a>(alloc: Global, command: Command<'a>) -> Result<Command<'a>> 
                     .action(ArgAction::Append)
                     .help("A folder in which modules are looked for; M2_LIB names more of them"),
             )?
-            .arg(
-                Arg::new(alloc, "memory")
-                    .long("memory")
-                    .value_name("PAGES")
-                    .default_value("16")
-                    .help("The pages of 65536 bytes of the program's memory, from 1 to 1024"),
-            )?
-            .arg(
-                Arg::new(alloc, "workers")
-                    .long("workers")
-                    .value_name("N")
-                    .default_value("4")
-                    .help("How many threads compile, from 1 to 64"),
-            )?
+            .arg(memory_option(alloc))?
+            .arg(workers_option(alloc))?
             .arg(
                 Arg::new(alloc, "format")
                     .long("format")
@@ -76,13 +60,7 @@ fn run_command<'a>(alloc: Global) -> Result<Command<'a>> {
     let command = Command::new(alloc, "run")
         .about("Compiles a program in memory and runs it")
         .arg(program_word(alloc))?
-        .arg(
-            Arg::new(alloc, "steps")
-                .long("steps")
-                .value_name("N")
-                .default_value("1000000000")
-                .help("The most reductions that are made, from 1 to 1000000000000"),
-        )?;
+        .arg(steps_option(alloc))?;
     with_setting(alloc, command)
 }
 
@@ -90,13 +68,7 @@ fn build_command<'a>(alloc: Global) -> Result<Command<'a>> {
     let command = Command::new(alloc, "build")
         .about("Compiles a program to WebAssembly modules, link.wasm last")
         .arg(program_word(alloc))?
-        .arg(
-            Arg::new(alloc, "out")
-                .long("out")
-                .value_name("DIR")
-                .required(true)
-                .help("The folder into which the modules are written"),
-        )?;
+        .arg(out_option(alloc))?;
     with_setting(alloc, command)
 }
 
@@ -159,18 +131,6 @@ fn command<'a>(alloc: Global) -> Result<Command<'a>> {
     )
 }
 
-/// The workers and the pages. A number that they cannot be is reported.
-fn options_of<R: Eprint>(rt: &R, matches: &ArgMatches) -> Option<Options> {
-    let text = matches.get_str("workers").unwrap_or("");
-    let workers = number_option(rt, PROGRAM, "workers", text, MAX_WORKERS as u64)?;
-    let text = matches.get_str("memory").unwrap_or("");
-    let pages = number_option(rt, PROGRAM, "memory", text, u64::from(MAX_PAGES))?;
-    Some(Options {
-        workers: workers as usize,
-        pages: pages as u32,
-    })
-}
-
 /// Whether the other of two words was chosen. Any other word is reported.
 fn choice_of<R: Eprint>(
     rt: &R,
@@ -206,7 +166,7 @@ fn setting_of<R>(rt: &R, matches: &ArgMatches) -> Result<Words<Setting>>
 where
     R: Files + Env + Eprint + AllocGlobal,
 {
-    let Some(options) = options_of(rt, matches) else {
+    let Some(options) = options_of(rt, PROGRAM, matches) else {
         return Ok(Words::Reported(COMMAND_LINE));
     };
     let Some(style) = style_of(rt, matches) else {
@@ -255,8 +215,7 @@ fn run_asked<R>(rt: &R, matches: &ArgMatches) -> Result<Words<Asked>>
 where
     R: Files + Env + Eprint + AllocGlobal,
 {
-    let text = matches.get_str("steps").unwrap_or("");
-    let Some(steps) = number_option(rt, PROGRAM, "steps", text, MOST_STEPS) else {
+    let Some(steps) = steps_of(rt, PROGRAM, matches) else {
         return Ok(Words::Reported(COMMAND_LINE));
     };
     match program_of(rt, matches)? {
@@ -363,7 +322,7 @@ where
 }
 
 /// What a subcommand asks for.
-fn requested<R>(rt: &R, matches: &ArgMatches) -> Result<Words<Asked>>
+fn request<R>(rt: &R, matches: &ArgMatches) -> Result<Words<Asked>>
 where
     R: Files + Env + Eprint + AllocGlobal,
 {
@@ -388,7 +347,7 @@ where
         Words::Reported(status) => return Ok(Words::Reported(status)),
     };
     match matches_of(rt, command(rt.alloc())?, &words)? {
-        Words::Read(matches) => requested(rt, &matches),
+        Words::Read(matches) => request(rt, &matches),
         Words::Reported(status) => Ok(Words::Reported(status)),
     }
 }

@@ -28,7 +28,7 @@ agrees-requires g c =
     let jobs : List ℕ = prerequisites_of pool.graph.now c.args.job in
     let low = have_cells cell_name pool.graph.now pool.cells.now c.args.job c.jobs-jobs.ensures.graph c.requires.job pool.cell_each in
     let at = next_cell (λ u. u.cell) (map cell_name pool.cells.now) jobs c.args.used.items c.loop-note.yielded _ _ c.in-Some.note c.loop-note.place c.loop-note.invariant.rest_is c.in-Some.ensures.steps.0 c.loop-note.invariant.place_is c.requires.used low in
-    next_compared (λ u. u.cell) (λ u. u.known) (map cell_name pool.cells.now) pool.graph.now (g.W.Work.defines pool.work.now)
+    next_compared (λ u. u.cell) (λ u. u.known) (map cell_name pool.cells.now)
     c.loop-note.settled.items c.args.settled.now.items c.prerequisites-prerequisites.result.now jobs c.loop-note.place c.in-Some.note.cell c.loop-note.invariant.same c.prerequisites-prerequisites.ensures c.requires.settled at.1
 
 pub loop-note-init : goal.loop-note-init
@@ -37,14 +37,13 @@ loop-note-init g c = record {
   length_is = grind (arith, common_steps);
   place_is = refl;
   same = refl;
-  are = none_used c.args.pool.now.graph.now (g.W.Work.defines c.args.pool.now.work.now) (prerequisites_of c.args.pool.now.graph.now c.args.job);
+  are = none_used (λ u. u.cell) (λ u. u.known) (map cell_name c.args.pool.now.cells.now) c.args.settled.now.items (prerequisites_of c.args.pool.now.graph.now c.args.job);
 }
 
 pub loop-note-preserved : goal.loop-note-preserved
 loop-note-preserved g c =
     let pool = c.args.pool.now in
     let jobs : List ℕ = prerequisites_of pool.graph.now c.args.job in
-    let defines = g.W.Work.defines pool.work.now in
     let names : List ℕ = map cell_name pool.cells.now in
     let low = have_cells cell_name pool.graph.now pool.cells.now c.args.job c.jobs-jobs.ensures.graph c.requires.job pool.cell_each in
     let at = next_cell (λ u. u.cell) names jobs c.args.used.items c.loop-note.yielded _ _ c.in-Some.note c.loop-note.place c.loop-note.invariant.rest_is c.in-Some.ensures.steps.0 c.loop-note.invariant.place_is c.requires.used low in
@@ -55,8 +54,8 @@ loop-note-preserved g c =
       length_is = grind (arith, common_steps);
       place_is = omega (arith, c.loop-note.invariant.place_is, length-append c.loop-note.yielded (c.in-Some.note ∷ []));
       same = c.agrees.ensures.same ∙ c.loop-note.invariant.same;
-      are = one_more_used (λ u. u.cell) (λ u. u.known) names pool.graph.now defines jobs c.loop-note.yielded c.in-Some.note within c.loop-note.invariant.are
-          (next_agreed (λ u. u.cell) (λ u. u.known) names pool.graph.now defines c.loop-note.settled.items c.args.settled.now.items c.prerequisites-prerequisites.result.now jobs c.loop-note.place (length c.loop-note.yielded) c.agrees.result c.in-Some.note.known
+      are = one_more_used (λ u. u.cell) (λ u. u.known) names c.args.settled.now.items jobs c.loop-note.yielded c.in-Some.note within c.loop-note.invariant.are
+          (next_agreed (λ u. u.cell) (λ u. u.known) names c.loop-note.settled.items c.args.settled.now.items c.prerequisites-prerequisites.result.now jobs c.loop-note.place (length c.loop-note.yielded) c.agrees.result c.in-Some.note.known
           c.loop-note.invariant.same c.prerequisites-prerequisites.ensures c.loop-note.invariant.place_is c.requires.settled c.agrees.ensures.agree c.if-not-agrees.false);
     }
 
@@ -67,7 +66,7 @@ returns-clause-agree g c =
     let names : List ℕ = map cell_name pool.cells.now in
     let low = have_cells cell_name pool.graph.now pool.cells.now c.args.job c.jobs-jobs.ensures.graph c.requires.job pool.cell_each in
     let long = same_long (λ u. u.cell) names jobs c.args.used.items c.requires.used low in
-    λ yes_it. all_used (λ u. u.cell) (λ u. u.known) names pool.graph.now (g.W.Work.defines pool.work.now) jobs c.args.used.items c.loop-note.yielded _ c.loop-note.invariant.rest_is (sym c.loop-note.invariant.length_is ∙ c.in-None.ensures.steps.0) long c.loop-note.invariant.are
+    λ yes_it. all_used (λ u. u.cell) (λ u. u.known) names c.args.settled.now.items jobs c.args.used.items c.loop-note.yielded _ c.loop-note.invariant.rest_is (sym c.loop-note.invariant.length_is ∙ c.in-None.ensures.steps.0) long c.loop-note.invariant.are
 
 pub returns-then-not-agrees-clause-all : goal.returns-then-not-agrees-clause-all
 returns-then-not-agrees-clause-all g c =

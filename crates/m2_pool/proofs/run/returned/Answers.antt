@@ -1,4 +1,4 @@
-use Rattle.std.proofs.Common.{◌≡◌, List, [], ◌∷◌, ◌++◌, length, map, sym, ap, ◌∙◌, arith, append_assoc, length-append}
+use Rattle.std.proofs.Common.{◌≡◌, All, List, [], ◌∷◌, ◌++◌, length, map, sym, ap, ◌∙◌, arith, append_assoc, length-append}
 use Rattle.std.specs.Prelude.{MatchResult}
 use Rattle.std.proofs.lemmas.Grind.{common_steps}
 use Rattle.std.proofs.lemmas.List.Elements.{All-push, All-append}
@@ -28,11 +28,12 @@ loop-one-preserved g c =
       length_is = grind (arith, common_steps);
       count_is = omega (arith, length-append seats (seat ∷ []), length-append c.loop-one.yielded (c.in-Some.one ∷ []));
       seats_are = rw pushed (All-push (λ (s : SeatState). IsWorked c.args.pool.now.board.now.id c.args.pool.now.graph.now s) seats seat before.seats_are facts.0);
+      admitted = rw pushed (All-push (λ (s : SeatState). All (g.G.Gate.admits c.args.pool.now.gate.now) s.had) seats seat before.admitted facts.1);
       ran_is = ap (map (λ r. r.job)) joined
           ∙ (map-append (λ r. r.job) c.loop-one.all.items ran
           ∙ (ap (λ l. l ++ map (λ r. r.job) ran) before.ran_is
-          ∙ (ap (λ l. all_had seats ++ l) facts.1
+          ∙ (ap (λ l. all_had seats ++ l) facts.2
           ∙ (sym (together_push (λ (s : SeatState). s.had) seats seat) ∙ ap all_had (sym pushed)))));
       stands = rw joined (All-append (λ r. MatchResult r.kept (λ n. IsRan (map cell_name c.args.pool.now.cells.now) c.args.pool.now.graph.now (g.W.Work.defines c.args.pool.now.work.now) r.job n.cell n.known (map (λ u. u.cell) r.used.items) (map (λ u. u.known) r.used.items)) (λ b. IsMade (map cell_name c.args.pool.now.cells.now) c.args.pool.now.graph.now (g.W.Work.defines c.args.pool.now.work.now) r.job b.value (map (λ u. u.cell) r.used.items) (map (λ u. u.known) r.used.items)))
-          c.loop-one.all.items ran before.stands facts.2);
+          c.loop-one.all.items ran before.stands facts.3);
     }

@@ -1,4 +1,6 @@
-use Rattle.std.proofs.Common.{◌≡◌, ℕ, ◌<◌, List, length, map, get_or, zero, suc, [], ◌∷◌, ◌++◌, None, refl, sym, ap, ◌∙◌}
+use Rattle.std.proofs.Common.{◌≡◌, ℕ, ◌<◌, List, All, length, map, get_or, zero, suc, [], ◌∷◌, ◌++◌, None, Some, refl, sym, ap, subst, ◌∙◌}
+use Rattle.std.specs.Prelude.{slice_get}
+use Rattle.pool_board.proofs.Resulting.{item}
 use Rattle.std.proofs.lemmas.List.{length-map}
 use Rattle.pool_board.specs.Lists.{times, listed}
 use Rattle.pool_board.specs.Seats.{SeatState}
@@ -11,6 +13,17 @@ row_of : {A B : Type 0} (f : A → B) (rows : List A) (k : ℕ) (d : A) → f (g
 row_of f [] k d = refl
 row_of f (r ∷ rs) zero d = refl
 row_of f (r ∷ rs) (suc k) d = row_of f rs k d
+
+-- the item at a place, seen by f, and as it is
+seen : {A B : Type 0} (f : A → B) (xs : List A) (k : ℕ) (d : B) (x : A) → slice_get xs k ≡ Some x → get_or (map f xs) k d ≡ f x
+seen f [] k d x is = absurd (cc is)
+seen f (y ∷ ys) zero d x is = let same : y ≡ x = cc is in ap f same
+seen f (y ∷ ys) (suc k) d x is = seen f ys k d x is
+
+at : {A : Type 0} (xs : List A) (k : ℕ) (d x : A) → slice_get xs k ≡ Some x → get_or xs k d ≡ x
+at [] k d x is = absurd (cc is)
+at (y ∷ ys) zero d x is = cc is
+at (y ∷ ys) (suc k) d x is = at ys k d x is
 
 -- lists that look the same are of one length
 same_length : {A B C : Type 0} (f : A → C) (g : B → C) (xs : List A) (ys : List B) → map f xs ≡ map g ys → length xs ≡ length ys
@@ -46,6 +59,18 @@ returns-clause-seats g c =
     ∙ (c.in_ok-seats.ensures.count
     ∙ (c.in_ok-ended.ensures.count
     ∙ (sym (length-map members (λ m. m.seat)) ∙ (ap (λ (l : List SeatState). length l) c.in_ok-members.ensures.seats ∙ c.requires.seats.0.count_is))))
+
+-- what is true of each row is true of the rows of lists that look the same
+all_rows : {A B C : Type 0} (P : C → Type 0) (f : A → C) (g : B → C) (xs : List A) (ys : List B) → map f xs ≡ map g ys → All (λ y. P (g y)) ys → All P (map f xs)
+all_rows P f g xs ys same all = λ k d l.
+    let low : k < length (map g ys) = rw (← same) l in
+    let here : k < length ys = rw (← length-map ys g) low in
+    let there = item ys k here in
+    subst P (sym (ap (λ (zs : List _). get_or zs k d) same ∙ seen g ys k d there.0 there.1)) (subst (λ y. P (g y)) (at ys k there.0 there.0 there.1) (all k there.0 here))
+
+pub returns-clause-admitted : goal.returns-clause-admitted
+returns-clause-admitted g c =
+    all_rows (λ l. All (g.G.Gate.admits c.args.gate.now) l) (λ l. l.items) (λ (s : SeatState). s.had) c.close-tally.result.seats.items c.in_ok-seats.seats.items c.close-tally.ensures.seats c.in_ok-seats.ensures.admitted
 
 pub returns-clause-tally : goal.returns-clause-tally
 returns-clause-tally g c =

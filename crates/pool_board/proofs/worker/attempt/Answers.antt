@@ -25,6 +25,12 @@ returns-clause-counts g c =
           (λ from edge ne. c.count_all.ensures.others from edge ne ∙ ap (counted from edge) c.if-not-claim.ensures.counts),
     )
 
+pub returns-clause-admitted : goal.returns-clause-admitted
+returns-clause-admitted g c =
+    let had = c.args.member.now.seat.had in
+    rw (c.count_all.ensures.had ∙ c.if-not-claim.ensures.had)
+    (All-push (g.G.Gate.admits c.args.pool.now.gate.now) had c.args.job c.requires.admitted (c.if-not-enter.ensures refl))
+
 pub returns-clause-stands : goal.returns-clause-stands
 returns-clause-stands g c =
     rw c.in_ok-push.ensures.items

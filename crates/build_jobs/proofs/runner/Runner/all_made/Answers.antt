@@ -5,7 +5,7 @@ use Rattle.std.specs.Borrow.{Bor}
 use Rattle.std.specs.Global.{Vec}
 use Rattle.std.proofs.lemmas.Result.{IfOk-weaker}
 use Rattle.m2_tree.specs.declared.decl.Module.{Module}
-use Rattle.pool_board.specs.Results.{AreResults, all_jobs}
+use Rattle.pool_board.specs.Results.{AreResults}
 use Rattle.build_jobs.specs.Encoded.{Defines}
 use Rattle.build_jobs.specs.Made.{MayMake}
 use Rattle.build_jobs.specs.Borrowed.{modules_borrowed}
@@ -24,8 +24,8 @@ pub returns-clause-made : goal.returns-clause-made
 returns-clause-made g c =
     let modules = c.modules_of.result in
     let graph = c.args.graph.now in
-    IfOk-weaker c.run.result _ (λ all. AreResults (rows graph.jobs.items) (MayMake (Defines (modules_borrowed c.args.trees.now) graph.files.items)) (all_jobs (length (rows graph.jobs.items))) all.items)
+    IfOk-weaker c.run.result _ (λ all. AreResults (rows graph.jobs.items) (MayMake (Defines (modules_borrowed c.args.trees.now) graph.files.items)) all.items)
     (λ all h.
-    subst (λ (ts : List (Bor (List ℕ) × Bor Module)). AreResults (rows graph.jobs.items) (MayMake (Defines (modules_borrowed ts) graph.files.items)) (all_jobs (length (rows graph.jobs.items))) all.items) c.modules_of.ensures.trees
-    (subst (λ (fs : List ℕ). AreResults (rows graph.jobs.items) (MayMake (Defines (modules_borrowed modules.trees.now) fs)) (all_jobs (length (rows graph.jobs.items))) all.items) c.modules_of.ensures.files
-    (subst (λ (js : List (Vec ℕ)). AreResults (rows js) (MayMake (Defines (modules_borrowed modules.trees.now) modules.files.now)) (all_jobs (length (rows js))) all.items) c.modules_of.ensures.jobs h))) c.run.ensures
+    subst (λ (ts : List (Bor (List ℕ) × Bor Module)). AreResults (rows graph.jobs.items) (MayMake (Defines (modules_borrowed ts) graph.files.items)) all.items) c.modules_of.ensures.trees
+    (subst (λ (fs : List ℕ). AreResults (rows graph.jobs.items) (MayMake (Defines (modules_borrowed modules.trees.now) fs)) all.items) c.modules_of.ensures.files
+    (subst (λ (js : List (Vec ℕ)). AreResults (rows js) (MayMake (Defines (modules_borrowed modules.trees.now) modules.files.now)) all.items) c.modules_of.ensures.jobs h))) c.run.ensures

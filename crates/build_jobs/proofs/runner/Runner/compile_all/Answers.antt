@@ -1,7 +1,6 @@
 use Rattle.std.proofs.Common.{List, ℕ, map, length, ◌≡◌}
 use Rattle.std.proofs.lemmas.Result.{IfOk-weaker}
 use Rattle.m2_tree.specs.declared.decl.Module.{Module}
-use Rattle.pool_board.specs.Results.{all_jobs}
 use Rattle.build_jobs.specs.Jobs.{all_compiled}
 use Rattle.build_jobs.specs.Encoded.{AreEncoded, Defines}
 use Rattle.build_jobs.specs.Borrowed.{modules_borrowed}
@@ -16,7 +15,7 @@ returns-clause-becomes g c =
     let jobs : List (List ℕ) = map (λ job. job.items) c.args.graph.now.jobs.items in
     IfOk-weaker c.all_modules.result _ (λ all. all.items ≡ all_compiled trees files jobs)
     (λ all h. each_compiled trees files jobs all.items c.in_ok-made.ensures.sound
-    (unmade jobs (Defines trees files) (all_jobs (length jobs)) c.in_ok-made.made.items all.items c.in_ok-made.ensures.made h)) c.all_modules.ensures
+    (unmade jobs (Defines trees files) c.in_ok-made.made.items all.items c.in_ok-made.ensures.made h)) c.all_modules.ensures
 
 pub returns-clause-encoded : goal.returns-clause-encoded
 returns-clause-encoded g c =
@@ -25,4 +24,4 @@ returns-clause-encoded g c =
     let jobs : List (List ℕ) = map (λ job. job.items) c.args.graph.now.jobs.items in
     IfOk-weaker c.all_modules.result _ (λ all. AreEncoded trees files jobs)
     (λ all h. all_encoded trees files jobs all.items c.in_ok-made.ensures.sound
-    (unmade jobs (Defines trees files) (all_jobs (length jobs)) c.in_ok-made.made.items all.items c.in_ok-made.ensures.made h)) c.all_modules.ensures
+    (unmade jobs (Defines trees files) c.in_ok-made.made.items all.items c.in_ok-made.ensures.made h)) c.all_modules.ensures
