@@ -1,4 +1,3 @@
 pub mod Lists
-pub mod Operations
 pub mod Fits
 pub mod Procedures

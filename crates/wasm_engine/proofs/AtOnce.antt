@@ -39,7 +39,7 @@ use Rattle.wasm_tree.proofs.Flat.{tree_front}
 use Rattle.wasm_tree.specs.Machine.{Activation, Config, Going, Progress, Typed, top_i32, top_i64, callee_at, instance_of, memory_of, reduce, run}
 use Rattle.wasm_sound.specs.Ready.{IsI32, IsI64, AreI32, AreI64}
 use Rattle.law_effect.proofs.Steps.{top_32, top_64}
-use Rattle.wasm_known.specs.Codes.{check_typed, copy_typed, div_typed, fill_typed, mod_typed}
+use Rattle.wasm_helpers.specs.Codes.{check_typed, copy_typed, div_typed, fill_typed, mod_typed}
 use Rattle.wasm_known.specs.Known.{with, bounded, Leads}
 use Rattle.wasm_known.specs.declared.table.KnownFunction.{KnownFunction}
 use Rattle.wasm_known.specs.declared.table.KnownFunction.TheVariants as kind

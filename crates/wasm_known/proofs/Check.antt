@@ -11,7 +11,7 @@ use Rattle.wasm_tree.specs.declared.store.Value.TheVariants.{I32, I64}
 use Rattle.wasm_tree.specs.declared.store.Store.{Store}
 use Rattle.wasm_tree.specs.Numbers.{truth, is_less}
 use Rattle.wasm_tree.specs.Machine.{Label, Activation, Config, Going}
-use Rattle.wasm_known.specs.Codes.{check_tests, check_code, check_typed}
+use Rattle.wasm_helpers.specs.Codes.{check_tests, check_code, check_typed}
 use Rattle.wasm_known.specs.Known.{Leads, with, CheckReturns, BoundsReturn}
 use Rattle.wasm_known.proofs.Computed.{computed, join}
 use Rattle.wasm_known.proofs.Calls.{block_leads, call_leads, return_leads}

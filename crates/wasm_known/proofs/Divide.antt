@@ -12,7 +12,7 @@ use Rattle.wasm_tree.specs.declared.store.Value.TheVariants.{I64}
 use Rattle.wasm_tree.specs.declared.store.Store.{Store}
 use Rattle.wasm_tree.specs.Numbers.{operated}
 use Rattle.wasm_tree.specs.Machine.{Activation, Config, Going}
-use Rattle.wasm_known.specs.Codes.{divisor_checked, div_rest, mod_rest, div_typed, mod_typed}
+use Rattle.wasm_helpers.specs.Codes.{divisor_checked, div_rest, mod_rest, div_typed, mod_typed}
 use Rattle.wasm_known.specs.Known.{Leads, with, Divides, quotient_down, remainder_up, DivReturns, ModReturns}
 use Rattle.wasm_known.proofs.Computed.{computed, join}
 use Rattle.wasm_known.proofs.Calls.{call_leads, return_leads}

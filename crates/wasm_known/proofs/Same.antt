@@ -14,6 +14,7 @@ use Rattle.wasm_tree.specs.declared.kinds.ValueType.TheVariants as types
 use Rattle.wasm_tree.specs.declared.instr.Instr.{Instr}
 use Rattle.wasm_tree.specs.declared.module.Locals.{Locals}
 use Rattle.wasm_tree.specs.Machine.{Typed, are_same}
+use Rattle.wasm_helpers.specs.Operations.{check_ops, copy_ops, div_ops, fill_ops, mod_ops}
 use Rattle.wasm_tree.specs.contracts.code.OpPartialEq.TheImpl.{eq-value}
 
 abbrev pub eqs : Op → Op → Bool
@@ -136,36 +137,18 @@ lists (x ∷ xs) (y ∷ ys) h e =
     let p = both (eqs x y) (pointwise eqs xs ys) e in
     ap₂ (λ (a : Op) (l : List Op). a ∷ l) (h.0 x p.0) (lists xs ys h.1 p.1)
 
-abbrev pub check_ops : List Op
-check_ops =
-    op.Block None 13 ∷ op.Block None 9 ∷ op.LocalGet 0 ∷ op.LocalGet 1 ∷ op.Numeric (numeric.I64Relation LtS) ∷ op.BrIf 0
-    ∷ op.LocalGet 0 ∷ op.LocalGet 2 ∷ op.Numeric (numeric.I64Relation GtS) ∷ op.BrIf 0 ∷ op.Br 1
-    ∷ op.LocalGet 3 ∷ op.Call 1 ∷ op.Unreachable ∷ op.LocalGet 0 ∷ []
-
 pub check_exact : AllExact check_ops
 check_exact =
     (is_block 13, (is_block 9, (is_get 0, (is_get 1, (is_less, (is_br_if 0, (is_get 0, (is_get 2, (is_greater, (is_br_if 0, (is_br 1, (is_get 3, (is_call 1, (is_unreachable, (is_get 0, tt)))))))))))))))
 
-abbrev pub fill_ops : List Op
-fill_ops = op.Block None 16 ∷ op.Loop None 15 ∷ op.LocalGet 1 ∷ op.Numeric numeric.I32Eqz ∷ op.BrIf 1 ∷ op.LocalGet 0 ∷ op.I64Const 0 ∷ op.Store width.One ∷ op.LocalGet 0 ∷ op.I32Const 1 ∷ op.Numeric numeric.I32Add ∷ op.LocalSet 0 ∷ op.LocalGet 1 ∷ op.I32Const 4294967295 ∷ op.Numeric numeric.I32Add ∷ op.LocalSet 1 ∷ op.Br 0 ∷ []
-
 pub fill_exact : AllExact fill_ops
 fill_exact = (is_block 16, (is_loop 15, (is_get 1, (is_zero_test, (is_br_if 1, (is_get 0, (is_wide 0, (is_byte_store, (is_get 0, (is_narrow 1, (is_sum_32, (is_set 0, (is_get 1, (is_narrow 4294967295, (is_sum_32, (is_set 1, (is_br 0, tt)))))))))))))))))
-
-abbrev pub copy_ops : List Op
-copy_ops = op.Block None 21 ∷ op.Loop None 20 ∷ op.LocalGet 2 ∷ op.Numeric numeric.I32Eqz ∷ op.BrIf 1 ∷ op.LocalGet 0 ∷ op.LocalGet 1 ∷ op.Load load.I64From8U ∷ op.Store width.One ∷ op.LocalGet 0 ∷ op.I32Const 1 ∷ op.Numeric numeric.I32Add ∷ op.LocalSet 0 ∷ op.LocalGet 1 ∷ op.I32Const 1 ∷ op.Numeric numeric.I32Add ∷ op.LocalSet 1 ∷ op.LocalGet 2 ∷ op.I32Const 4294967295 ∷ op.Numeric numeric.I32Add ∷ op.LocalSet 2 ∷ op.Br 0 ∷ []
 
 pub copy_exact : AllExact copy_ops
 copy_exact = (is_block 21, (is_loop 20, (is_get 2, (is_zero_test, (is_br_if 1, (is_get 0, (is_get 1, (is_byte_load, (is_byte_store, (is_get 0, (is_narrow 1, (is_sum_32, (is_set 0, (is_get 1, (is_narrow 1, (is_sum_32, (is_set 1, (is_get 2, (is_narrow 4294967295, (is_sum_32, (is_set 2, (is_br 0, tt))))))))))))))))))))))
 
-abbrev pub div_ops : List Op
-div_ops = op.LocalGet 1 ∷ op.I64Const 1 ∷ op.I64Const 4294967295 ∷ op.I64Const 4 ∷ op.Call 4 ∷ op.LocalSet 1 ∷ op.LocalGet 0 ∷ op.LocalGet 1 ∷ op.Numeric (numeric.I64Operation operation.DivS) ∷ op.LocalGet 0 ∷ op.LocalGet 1 ∷ op.Numeric (numeric.I64Operation operation.RemS) ∷ op.I64Const 0 ∷ op.Numeric (numeric.I64Relation LtS) ∷ op.Numeric numeric.I64ExtendI32U ∷ op.Numeric (numeric.I64Operation operation.Sub) ∷ []
-
 pub div_exact : AllExact div_ops
 div_exact = (is_get 1, (is_wide 1, (is_wide 4294967295, (is_wide 4, (is_call 4, (is_set 1, (is_get 0, (is_get 1, (is_quotient, (is_get 0, (is_get 1, (is_remainder, (is_wide 0, (is_less, (is_extension, (is_difference, tt))))))))))))))))
-
-abbrev pub mod_ops : List Op
-mod_ops = op.LocalGet 1 ∷ op.I64Const 1 ∷ op.I64Const 4294967295 ∷ op.I64Const 4 ∷ op.Call 4 ∷ op.LocalSet 1 ∷ op.LocalGet 0 ∷ op.LocalGet 1 ∷ op.Numeric (numeric.I64Operation operation.RemS) ∷ op.LocalTee 2 ∷ op.LocalGet 2 ∷ op.I64Const 0 ∷ op.Numeric (numeric.I64Relation LtS) ∷ op.Numeric numeric.I64ExtendI32U ∷ op.LocalGet 1 ∷ op.Numeric (numeric.I64Operation operation.Mul) ∷ op.Numeric (numeric.I64Operation operation.Add) ∷ []
 
 pub mod_exact : AllExact mod_ops
 mod_exact = (is_get 1, (is_wide 1, (is_wide 4294967295, (is_wide 4, (is_call 4, (is_set 1, (is_get 0, (is_get 1, (is_remainder, (is_tee 2, (is_get 2, (is_wide 0, (is_less, (is_extension, (is_get 1, (is_product, (is_sum, tt)))))))))))))))))

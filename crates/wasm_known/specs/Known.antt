@@ -13,7 +13,7 @@ use Rattle.wasm_tree.specs.declared.store.Store.{Store}
 use Rattle.wasm_tree.specs.Numbers.{truth, is_less, operated}
 use Rattle.wasm_tree.specs.Machine.{Activation, Config, Going, callee_at, own_function, memory_of, with_memory_bytes, run}
 use Rattle.law_effect.specs.Bytes.{byte, copied_bytes, cleared_bytes}
-use Rattle.wasm_known.specs.Codes.{check_typed, copy_typed, fill_typed, div_typed, mod_typed}
+use Rattle.wasm_helpers.specs.Codes.{check_typed, copy_typed, fill_typed, div_typed, mod_typed}
 
 -- so many reductions lead from one configuration to another, and print nothing
 pub record Leads (modules : List WModule) (n : ℕ) (c d : Config) : Type 0 where

@@ -4,7 +4,7 @@ use Rattle.wasm_tree.specs.declared.module.WModule.{WModule}
 use Rattle.wasm_tree.specs.declared.store.Store.{Store}
 use Rattle.wasm_tree.specs.declared.store.Callee.TheVariants.{Own}
 use Rattle.wasm_tree.specs.Machine.{Config, Going, Over, Trapped, Typed, callee_at, own_function}
-use Rattle.wasm_known.specs.Codes.{check_typed, copy_typed, div_typed, fill_typed, mod_typed}
+use Rattle.wasm_helpers.specs.Codes.{check_typed, copy_typed, div_typed, fill_typed, mod_typed}
 use Rattle.wasm_known.specs.declared.table.KnownFunction.{KnownFunction}
 use Rattle.wasm_known.specs.declared.table.KnownFunction.TheVariants as known
 

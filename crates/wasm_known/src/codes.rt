@@ -3,142 +3,49 @@
 ghost use Rattle.std.specs.Prelude.{◌≡◌, ℕ, IsTrue};
 ghost use Rattle.wasm_tree.specs.Code.{tree};
 ghost use Rattle.wasm_link.specs.Placed.{typed};
-ghost use Rattle.wasm_known.specs.Codes.{check_code, check_typed, copy_code, copy_typed, div_code, div_typed, fill_code, fill_typed, mod_code, mod_typed, one_wide};
+ghost use Rattle.wasm_helpers.specs.Codes.{check_code, check_typed, copy_code, copy_typed, div_code, div_typed, fill_code, fill_typed, mod_code, mod_typed, one_wide};
 
+use wasm_helpers::{check_ops, copy_ops, div_ops, fill_ops, mod_ops};
 use wasm_link::{TypedFunction, has_types};
-use wasm_tree::{Load, Locals, Numeric, Op, Operation, Relation, StoreWidth, ValueType};
+use wasm_tree::{Locals, Op, ValueType};
 
 const NARROW: ValueType = ValueType::I32;
 
 const WIDE: ValueType = ValueType::I64;
 
-const GREATEST: u32 = 4_294_967_295;
-
 #[tactic(auto, unfolding(wasm_tree::specs::Code::tree, wasm_tree::specs::Code::tree_within))]
 fn is_check_code(ops: &[Op]) -> bool
     ensures { IsTrue result → tree ops.now ≡ check_code }
 {
-    let code = [
-        Op::Block(None, 13),
-        Op::Block(None, 9),
-        Op::LocalGet(0),
-        Op::LocalGet(1),
-        Op::Numeric(Numeric::I64Relation(Relation::LtS)),
-        Op::BrIf(0),
-        Op::LocalGet(0),
-        Op::LocalGet(2),
-        Op::Numeric(Numeric::I64Relation(Relation::GtS)),
-        Op::BrIf(0),
-        Op::Br(1),
-        Op::LocalGet(3),
-        Op::Call(1),
-        Op::Unreachable,
-        Op::LocalGet(0),
-    ];
+    let code = check_ops();
     ops == code.as_slice()
 }
 
 fn is_fill_code(ops: &[Op]) -> bool
     ensures { IsTrue result → tree ops.now ≡ fill_code }
 {
-    let code = [
-        Op::Block(None, 16),
-        Op::Loop(None, 15),
-        Op::LocalGet(1),
-        Op::Numeric(Numeric::I32Eqz),
-        Op::BrIf(1),
-        Op::LocalGet(0),
-        Op::I64Const(0),
-        Op::Store(StoreWidth::One),
-        Op::LocalGet(0),
-        Op::I32Const(1),
-        Op::Numeric(Numeric::I32Add),
-        Op::LocalSet(0),
-        Op::LocalGet(1),
-        Op::I32Const(GREATEST),
-        Op::Numeric(Numeric::I32Add),
-        Op::LocalSet(1),
-        Op::Br(0),
-    ];
+    let code = fill_ops();
     ops == code.as_slice()
 }
 
 fn is_copy_code(ops: &[Op]) -> bool
     ensures { IsTrue result → tree ops.now ≡ copy_code }
 {
-    let code = [
-        Op::Block(None, 21),
-        Op::Loop(None, 20),
-        Op::LocalGet(2),
-        Op::Numeric(Numeric::I32Eqz),
-        Op::BrIf(1),
-        Op::LocalGet(0),
-        Op::LocalGet(1),
-        Op::Load(Load::I64From8U),
-        Op::Store(StoreWidth::One),
-        Op::LocalGet(0),
-        Op::I32Const(1),
-        Op::Numeric(Numeric::I32Add),
-        Op::LocalSet(0),
-        Op::LocalGet(1),
-        Op::I32Const(1),
-        Op::Numeric(Numeric::I32Add),
-        Op::LocalSet(1),
-        Op::LocalGet(2),
-        Op::I32Const(GREATEST),
-        Op::Numeric(Numeric::I32Add),
-        Op::LocalSet(2),
-        Op::Br(0),
-    ];
+    let code = copy_ops();
     ops == code.as_slice()
 }
 
 fn is_div_code(ops: &[Op]) -> bool
     ensures { IsTrue result → tree ops.now ≡ div_code }
 {
-    let code = [
-        Op::LocalGet(1),
-        Op::I64Const(1),
-        Op::I64Const(4_294_967_295),
-        Op::I64Const(4),
-        Op::Call(4),
-        Op::LocalSet(1),
-        Op::LocalGet(0),
-        Op::LocalGet(1),
-        Op::Numeric(Numeric::I64Operation(Operation::DivS)),
-        Op::LocalGet(0),
-        Op::LocalGet(1),
-        Op::Numeric(Numeric::I64Operation(Operation::RemS)),
-        Op::I64Const(0),
-        Op::Numeric(Numeric::I64Relation(Relation::LtS)),
-        Op::Numeric(Numeric::I64ExtendI32U),
-        Op::Numeric(Numeric::I64Operation(Operation::Sub)),
-    ];
+    let code = div_ops();
     ops == code.as_slice()
 }
 
 fn is_mod_code(ops: &[Op]) -> bool
     ensures { IsTrue result → tree ops.now ≡ mod_code }
 {
-    let code = [
-        Op::LocalGet(1),
-        Op::I64Const(1),
-        Op::I64Const(4_294_967_295),
-        Op::I64Const(4),
-        Op::Call(4),
-        Op::LocalSet(1),
-        Op::LocalGet(0),
-        Op::LocalGet(1),
-        Op::Numeric(Numeric::I64Operation(Operation::RemS)),
-        Op::LocalTee(2),
-        Op::LocalGet(2),
-        Op::I64Const(0),
-        Op::Numeric(Numeric::I64Relation(Relation::LtS)),
-        Op::Numeric(Numeric::I64ExtendI32U),
-        Op::LocalGet(1),
-        Op::Numeric(Numeric::I64Operation(Operation::Mul)),
-        Op::Numeric(Numeric::I64Operation(Operation::Add)),
-    ];
+    let code = mod_ops();
     ops == code.as_slice()
 }
 

@@ -4,7 +4,7 @@ ghost use Rattle.std.specs.Prelude.{◌≡◌, ℕ, IfOk, IfSome, IsTrue, Some};
 ghost use Rattle.wasm_tree.specs.Machine.{callee_at, own_function};
 ghost use Rattle.wasm_tree.specs.declared.store.Callee.TheVariants.{Own};
 ghost use Rattle.wasm_link.specs.Placed.{typed};
-ghost use Rattle.wasm_known.specs.Codes.{check_typed};
+ghost use Rattle.wasm_helpers.specs.Codes.{check_typed};
 ghost use Rattle.wasm_known.specs.Table.{IsRight, Means, RowIsRight, Stands, known_in};
 
 use crate::codes::{is_check, is_copy, is_div, is_fill, is_mod};

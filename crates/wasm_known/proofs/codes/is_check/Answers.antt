@@ -1,6 +1,6 @@
 use Rattle.std.proofs.Common.{sym, [], ◌∙◌}
 use Rattle.wasm_link.specs.Placed.{typed}
-use Rattle.wasm_known.specs.Codes.{check_code}
+use Rattle.wasm_helpers.specs.Codes.{check_code}
 use Rattle.wasm_known.proofs.Same.{no, function_is, four_wide, wide}
 use Rattle.wasm_known.proofs.codes.is_check.Goals as goal
 use Rattle.wasm_known.proofs.codes.is_check.Goals.{then-has_types, else-has_types}

@@ -1,6 +1,6 @@
 use Rattle.std.proofs.Common.{sym, [], ◌∙◌}
 use Rattle.wasm_link.specs.Placed.{typed}
-use Rattle.wasm_known.specs.Codes.{copy_code}
+use Rattle.wasm_helpers.specs.Codes.{copy_code}
 use Rattle.wasm_known.proofs.Same.{no, function_is, three_narrow}
 use Rattle.wasm_known.proofs.codes.is_copy.Goals as goal
 use Rattle.wasm_known.proofs.codes.is_copy.Goals.{then-has_types, else-has_types}

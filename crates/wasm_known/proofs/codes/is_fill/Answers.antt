@@ -1,6 +1,6 @@
 use Rattle.std.proofs.Common.{sym, [], ◌∙◌}
 use Rattle.wasm_link.specs.Placed.{typed}
-use Rattle.wasm_known.specs.Codes.{fill_code}
+use Rattle.wasm_helpers.specs.Codes.{fill_code}
 use Rattle.wasm_known.proofs.Same.{no, function_is, two_narrow}
 use Rattle.wasm_known.proofs.codes.is_fill.Goals as goal
 use Rattle.wasm_known.proofs.codes.is_fill.Goals.{then-has_types, else-has_types}

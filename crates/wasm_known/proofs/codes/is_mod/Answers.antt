@@ -1,6 +1,6 @@
 use Rattle.std.proofs.Common.{sym, ◌∙◌}
 use Rattle.wasm_link.specs.Placed.{typed}
-use Rattle.wasm_known.specs.Codes.{mod_code, one_wide}
+use Rattle.wasm_helpers.specs.Codes.{mod_code, one_wide}
 use Rattle.wasm_known.proofs.Same.{no, function_is, two_wide, wide}
 use Rattle.wasm_known.proofs.codes.is_mod.Goals as goal
 use Rattle.wasm_known.proofs.codes.is_mod.Goals.{then-has_types, else-has_types}
