@@ -1,6 +1,7 @@
 //! What stands at a refused place.
 
 use crate::trial::{Test, Trial};
+use m2_tree::Lexeme;
 use m2c::BuildFault;
 use std::alloc::{AllocError, Global};
 use std::thread::Threads;
@@ -198,6 +199,17 @@ impl Scene<'_> {
         Ok(None)
     }
 
+    /// What a side is if it is a string literal.
+    fn string_words(&self, alloc: Global, side: Side) -> Result<Option<String>, AllocError> {
+        match self.text.tokens.get(side.from).map(|it| &it.lexeme) {
+            Some(Lexeme::Text(text)) if side.is_single() => {
+                let count = text.as_bytes().len();
+                Ok(Some(format!(in alloc; "{STRING} of {count} characters")?))
+            }
+            _ => Ok(None),
+        }
+    }
+
     /// What a side is that has no type of the language.
     fn other<R: AllocGlobal + Threads + Sync>(
         &self,
@@ -205,6 +217,9 @@ impl Scene<'_> {
         side: Side,
         is_exact: bool,
     ) -> Result<Option<String>, BuildFault> {
+        if let Some(words) = self.string_words(rt.alloc(), side)? {
+            return Ok(Some(words));
+        }
         if let Some(name) = self.named_type(rt, side, is_exact)? {
             return Ok(Some(String::from_str(rt.alloc(), name)?));
         }

@@ -4,15 +4,15 @@ use crate::given::{CARDINAL, INTEGER, Scene};
 use crate::trial::{TAKER, Trial};
 use crate::wanted::{all_words, formal_words, result_words};
 use m2_rule::Rule;
-use m2_tree::Refusal;
+use m2_tree::{Refusal, Symbol};
 use m2c::{BuildFault, Options, SourceFile};
 use std::alloc::{AllocError, Global};
 use std::thread::Threads;
 use text_places::{
-    Index, Side, Sides, Text, Texts, ValuePlace, declared_around, operator_sides, spots_at,
-    type_names, value_place, value_side,
+    Index, Side, Sides, Text, Texts, ValuePlace, declared_around, label_sides, operator_sides,
+    spots_at, type_names, value_place, value_side,
 };
-use text_tokens::{argument_at, argument_count, call_at, is_named};
+use text_tokens::{argument_at, argument_count, call_at, is_named, symbol_at};
 
 /// The most bytes of a program of which something is tried. Each trial compiles the program once.
 const MOST_BYTES: usize = 262144;
@@ -71,6 +71,12 @@ const SIDES: SideNames = SideNames {
 const CONTROL: SideNames = SideNames {
     left: "control variable",
     right: "limit",
+};
+
+/// What the selector of a CASE and its label are called.
+const LABEL: SideNames = SideNames {
+    left: "selector",
+    right: "label",
 };
 
 /// Which types stand on both sides, if both are known.
@@ -178,15 +184,57 @@ fn words_of_value<R: AllocGlobal + Threads + Sync>(
     }
 }
 
-/// Which types an operator meets.
+/// What has to stand behind a word of a statement.
+fn need_behind(symbol: Symbol) -> Option<&'static str> {
+    match symbol {
+        Symbol::If | Symbol::Elsif | Symbol::While | Symbol::Until => Some(
+            "a condition is BOOLEAN",
+        ),
+        Symbol::Case => Some("a selector is a scalar"),
+        Symbol::With => Some("WITH takes a record"),
+        Symbol::By => Some("a step is a number"),
+        Symbol::LeftBrace => Some("an element is a number"),
+        _ => None,
+    }
+}
+
+/// What has to stand at a place, and what does.
+fn words_of_need<R: AllocGlobal + Threads + Sync>(
+    rt: &R,
+    scene: &Scene<'_>,
+    at: usize,
+    need: &str,
+) -> Result<Option<String>, BuildFault> {
+    let given = scene.value_words(rt, value_side(scene.text.tokens, at))?;
+    let wanted = String::from_str(rt.alloc(), need)?;
+    Ok(join_words(rt.alloc(), Some(wanted), given)?)
+}
+
+/// What the selector of a CASE is, and its label.
+fn words_of_label<R: AllocGlobal + Threads + Sync>(
+    rt: &R,
+    scene: &Scene<'_>,
+    at: usize,
+) -> Result<Option<String>, BuildFault> {
+    match label_sides(rt.alloc(), scene.text.tokens, at)? {
+        Some(sides) => words_of_sides(rt, scene, sides, LABEL),
+        None => Ok(None),
+    }
+}
+
+/// Which types an operator meets, or what stands at the place of a condition, a selector, a label, a record, a step or an element.
 fn words_of_operator<R: AllocGlobal + Threads + Sync>(
     rt: &R,
     scene: &Scene<'_>,
     at: usize,
 ) -> Result<Option<String>, BuildFault> {
-    match operator_sides(rt.alloc(), scene.text.tokens, at)? {
-        Some(sides) => words_of_sides(rt, scene, sides, SIDES),
-        None => Ok(None),
+    let tokens = scene.text.tokens;
+    if let Some(sides) = operator_sides(rt.alloc(), tokens, at)? {
+        return words_of_sides(rt, scene, sides, SIDES);
+    }
+    match symbol_at(tokens, at.saturating_sub(1)).and_then(need_behind) {
+        Some(need) => words_of_need(rt, scene, at, need),
+        None => words_of_label(rt, scene, at),
     }
 }
 

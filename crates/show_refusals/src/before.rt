@@ -1,12 +1,7 @@
 //! What may be wrong before a token that does not fit.
 
-use m2_tree::{Lexeme, Pos, Symbol, Token};
-use scan_tokens::{ScanError, scan};
-use std::alloc::{AllocError, Global};
+use m2_tree::{Lexeme, Symbol, Token};
 use text_tokens::begins_statement;
-
-/// The rule of a token with which no module goes on.
-const UNFIT: u32 = 10;
 
 /// Whether a statement or a declaration may end with this.
 fn may_end(lexeme: &Lexeme) -> bool {
@@ -34,8 +29,30 @@ fn begins_one(symbol: Symbol) -> bool {
         )
 }
 
+/// Whether a token is this symbol.
+fn is_symbol(lexeme: &Lexeme, symbol: Symbol) -> bool {
+    match lexeme {
+        Lexeme::Symbol(it) => *it == symbol,
+        Lexeme::Name(_) | Lexeme::Number(_) | Lexeme::Char(_) | Lexeme::Text(_) | Lexeme::End =>
+            false,
+    }
+}
+
+/// What may be wrong if a sign stands twice.
+fn hint_of_pair(symbol: Symbol) -> Option<&'static str> {
+    match symbol {
+        Symbol::Equal => Some("Values are compared with one `=`."),
+        Symbol::Plus => Some("`INC(x)` adds 1 to x."),
+        Symbol::Minus => Some("`DEC(x)` takes 1 from x."),
+        _ => None,
+    }
+}
+
 /// What may be wrong if a symbol does not fit behind a token.
 fn hint_of_symbol(before: &Lexeme, symbol: Symbol) -> Option<&'static str> {
+    if is_symbol(before, symbol) {
+        return hint_of_pair(symbol);
+    }
     match symbol {
         Symbol::Equal => Some("An assignment is written with `:=`."),
         Symbol::Assign => Some("Constants are declared, and values compared, with `=`."),
@@ -65,31 +82,7 @@ fn hint_of(before: &Lexeme, lexeme: &Lexeme) -> Option<&'static str> {
     }
 }
 
-/// What may be wrong with the token at this place among others, if one stands before it.
-fn hint_among(tokens: &[Token], pos: Pos) -> Option<&'static str> {
-    let mut before: Option<&Lexeme> = None;
-    for token in tokens {
-        if token.pos == pos {
-            return hint_of(before?, &token.lexeme);
-        }
-        before = Some(&token.lexeme);
-    }
-    None
-}
-
-/// What may be wrong before the place of a text that a rule refuses, if that is known.
-pub fn hint_at(
-    alloc: Global,
-    text: &[u8],
-    rule: u32,
-    pos: Pos,
-) -> Result<Option<&'static str>, AllocError> {
-    if rule != UNFIT {
-        return Ok(None);
-    }
-    match scan(alloc, text) {
-        Ok(tokens) => Ok(hint_among(&tokens, pos)),
-        Err(ScanError::Refused(_)) => Ok(None),
-        Err(ScanError::NoMemory) => Err(AllocError),
-    }
+/// What may be wrong with a token that does not fit behind another, if one stands before it.
+pub fn hint_behind(before: Option<&Token>, token: &Token) -> Option<&'static str> {
+    hint_of(&before?.lexeme, &token.lexeme)
 }

@@ -1,6 +1,6 @@
 //! What is said of a refusal on standard error.
 
-use crate::before::hint_at;
+use crate::hints::push_hint;
 use crate::picture::{draw, part_around};
 use crate::profile::left_out_at;
 use crate::spot::{Spot, spot_at};
@@ -57,19 +57,6 @@ fn push_source(
     push_left_out(text, refusal.number, spot)
 }
 
-/// Writes what may be wrong before the token, if that is known.
-fn push_hint(
-    alloc: Global,
-    text: &mut String,
-    bytes: &[u8],
-    refusal: &Refusal,
-) -> Result<(), AllocError> {
-    match hint_at(alloc, bytes, refusal.number, refusal.pos)? {
-        Some(words) => write!(text, "  {words}\n"),
-        None => Ok(()),
-    }
-}
-
 /// All that is said of a refusal: its rule, and if its file is there also the line of source with a mark.
 pub fn explanation(
     alloc: Global,
@@ -81,7 +68,7 @@ pub fn explanation(
     if let Some(bytes) = bytes_of(files, refusal.file.as_str()) {
         let spot = spot_at(bytes, refusal.pos);
         push_source(alloc, &mut text, refusal, &spot, colour)?;
-        push_hint(alloc, &mut text, bytes, refusal)?;
+        push_hint(alloc, &mut text, bytes, refusal.number, refusal.pos)?;
     }
     Ok(text)
 }

@@ -7,8 +7,10 @@
 
 mod before;
 mod explaining;
+mod hints;
 mod json;
 mod layout;
+mod letters;
 mod line;
 mod picture;
 mod profile;

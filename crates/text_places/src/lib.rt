@@ -17,5 +17,5 @@ pub use scopes::{Declared, Kind, declaration_of, declared_around};
 pub use sides::{Side, Sides, Spots, operator_sides, spots_at, value_side};
 pub use texts::{Text, Texts};
 pub use types::type_names;
-pub use values::{Index, ValuePlace, value_place};
+pub use values::{Index, ValuePlace, label_sides, value_place};
 pub use written::{spelled_type, written_type};

@@ -3,7 +3,9 @@
 use crate::sides::{Side, Sides, value_side};
 use m2_tree::{Symbol, Token};
 use std::alloc::{AllocError, Global};
-use text_tokens::{ASSIGNMENT, Bracket, DESIGNATOR, bracket_around, operand_begin, symbol_at};
+use text_tokens::{
+    ASSIGNMENT, Bracket, DESIGNATOR, bracket_around, case_around, operand_begin, symbol_at,
+};
 
 /// An index: the array before its bracket, and the value.
 #[derive(Clone, Copy)]
@@ -102,4 +104,30 @@ pub fn value_place(
         Some(Symbol::LeftBracket | Symbol::Comma) => index_place(alloc, tokens, at),
         _ => Ok(None),
     }
+}
+
+/// Whether a label of a CASE may begin behind a symbol.
+fn stands_before_label(symbol: Symbol) -> bool {
+    matches!(
+        symbol,
+        Symbol::Of | Symbol::Bar | Symbol::Comma | Symbol::Range
+    )
+}
+
+/// The selector of a CASE and its label that begins at the token of this number, if one does.
+pub fn label_sides(
+    alloc: Global,
+    tokens: &[Token],
+    at: usize,
+) -> Result<Option<Sides>, AllocError> {
+    if !symbol_at(tokens, at.saturating_sub(1)).is_some_and(stands_before_label) {
+        return Ok(None);
+    }
+    let Some(case) = case_around(alloc, tokens, at)? else {
+        return Ok(None);
+    };
+    Ok(Some(Sides {
+        left: value_side(tokens, case.saturating_add(1)),
+        right: value_side(tokens, at),
+    }))
 }

@@ -12,5 +12,5 @@ pub use calls::{Argument, Bracket, Call, argument_at, argument_count, bracket_ar
 pub use excerpts::{bytes_between, excerpt, shorten};
 pub use operands::{ASSIGNMENT, DESIGNATOR, Strength, operand_begin, operand_end, strength_of};
 pub use places::{offset_of, part, rest};
-pub use statements::{Front, begins_statement, front_of, stands_before_statement};
+pub use statements::{Front, begins_statement, case_around, front_of, stands_before_statement};
 pub use symbols::{closes, depth_behind, is_named, name_at, opens, symbol_at, symbol_of};

@@ -2,6 +2,7 @@
 
 use crate::symbols::symbol_of;
 use m2_tree::{Symbol, Token};
+use std::alloc::{AllocError, Global};
 
 /// Whether a symbol is the first of a statement.
 pub fn begins_statement(symbol: Symbol) -> bool {
@@ -70,4 +71,40 @@ pub fn front_of(tokens: &[Token], at: usize) -> Option<Front> {
         }
     }
     front
+}
+
+/// Whether an END closes what begins with a symbol.
+fn is_closed_by_end(symbol: Symbol) -> bool {
+    matches!(
+        symbol,
+        Symbol::If
+            | Symbol::Case
+            | Symbol::While
+            | Symbol::Loop
+            | Symbol::For
+            | Symbol::With
+            | Symbol::Record
+    )
+}
+
+/// The number of the CASE in whose arms the token of this number stands, and not deeper in another statement.
+pub fn case_around(
+    alloc: Global,
+    tokens: &[Token],
+    at: usize,
+) -> Result<Option<usize>, AllocError> {
+    let mut open = Vec::new(alloc);
+    for (number, token) in tokens.iter().enumerate() {
+        if let Some(symbol) = symbol_of(token).filter(|_| number < at) {
+            if is_closed_by_end(symbol) {
+                open.push((number, symbol == Symbol::Case))?;
+            } else if symbol == Symbol::End {
+                let _ = open.pop();
+            }
+        }
+    }
+    match open.pop() {
+        Some((number, true)) => Ok(Some(number)),
+        _ => Ok(None),
+    }
 }
