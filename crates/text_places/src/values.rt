@@ -110,7 +110,7 @@ pub fn value_place(
 fn stands_before_label(symbol: Symbol) -> bool {
     matches!(
         symbol,
-        Symbol::Of | Symbol::Bar | Symbol::Comma | Symbol::Range
+        Symbol::Of | Symbol::Bar | Symbol::Comma | Symbol::DotDot
     )
 }
 
