@@ -9,8 +9,8 @@ use m2c::{BuildFault, Options, SourceFile};
 use std::alloc::{AllocError, Global};
 use std::thread::Threads;
 use text_places::{
-    Index, Side, Sides, Text, Texts, ValuePlace, declared_around, label_sides, operator_sides,
-    spots_at, type_names, value_place, value_side,
+    Index, Side, Sides, Text, Texts, ValuePlace, declared_around, label_sides, operand_side,
+    operator_sides, spots_at, type_names, value_place, value_side,
 };
 use text_tokens::{argument_at, argument_count, call_at, is_named, symbol_at};
 
@@ -198,14 +198,23 @@ fn need_behind(symbol: Symbol) -> Option<&'static str> {
     }
 }
 
+/// What has to stand behind a sign.
+fn need_of_sign(sign: Option<Symbol>) -> &'static str {
+    if sign == Some(Symbol::Minus) {
+        "minus stands before an INTEGER"
+    } else {
+        "plus stands before a number"
+    }
+}
+
 /// What has to stand at a place, and what does.
 fn words_of_need<R: AllocGlobal + Threads + Sync>(
     rt: &R,
     scene: &Scene<'_>,
-    at: usize,
+    side: Side,
     need: &str,
 ) -> Result<Option<String>, BuildFault> {
-    let given = scene.value_words(rt, value_side(scene.text.tokens, at))?;
+    let given = scene.value_words(rt, side)?;
     let wanted = String::from_str(rt.alloc(), need)?;
     Ok(join_words(rt.alloc(), Some(wanted), given)?)
 }
@@ -222,19 +231,37 @@ fn words_of_label<R: AllocGlobal + Threads + Sync>(
     }
 }
 
-/// Which types an operator meets, or what stands at the place of a condition, a selector, a label, a record, a step or an element.
+/// What stands behind a word of a statement, or as a label of a CASE.
+fn words_of_part<R: AllocGlobal + Threads + Sync>(
+    rt: &R,
+    scene: &Scene<'_>,
+    at: usize,
+) -> Result<Option<String>, BuildFault> {
+    let tokens = scene.text.tokens;
+    match symbol_at(tokens, at.saturating_sub(1)).and_then(need_behind) {
+        Some(need) => words_of_need(rt, scene, value_side(tokens, at), need),
+        None => words_of_label(rt, scene, at),
+    }
+}
+
+/// Which types an operator meets, or what stands at the place of a condition, a selector, a label, a record, a step or an
+/// element.
 fn words_of_operator<R: AllocGlobal + Threads + Sync>(
     rt: &R,
     scene: &Scene<'_>,
     at: usize,
 ) -> Result<Option<String>, BuildFault> {
     let tokens = scene.text.tokens;
-    if let Some(sides) = operator_sides(rt.alloc(), tokens, at)? {
-        return words_of_sides(rt, scene, sides, SIDES);
+    let operand = operand_side(tokens, at.saturating_add(1));
+    if symbol_at(tokens, at) == Some(Symbol::Not) {
+        return words_of_need(rt, scene, operand, "NOT takes a BOOLEAN");
     }
-    match symbol_at(tokens, at.saturating_sub(1)).and_then(need_behind) {
-        Some(need) => words_of_need(rt, scene, at, need),
-        None => words_of_label(rt, scene, at),
+    match operator_sides(rt.alloc(), tokens, at)? {
+        Some(sides) if sides.left.is_empty() => {
+            words_of_need(rt, scene, operand, need_of_sign(symbol_at(tokens, at)))
+        }
+        Some(sides) => words_of_sides(rt, scene, sides, SIDES),
+        None => words_of_part(rt, scene, at),
     }
 }
 

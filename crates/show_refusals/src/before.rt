@@ -25,7 +25,7 @@ fn begins_one(symbol: Symbol) -> bool {
     begins_statement(symbol)
         || matches!(
             symbol,
-            Symbol::Const | Symbol::Type | Symbol::Var | Symbol::Procedure
+            Symbol::Const | Symbol::Type | Symbol::Var | Symbol::Procedure | Symbol::Begin
         )
 }
 
@@ -38,24 +38,25 @@ fn is_symbol(lexeme: &Lexeme, symbol: Symbol) -> bool {
     }
 }
 
-/// What may be wrong if a sign stands twice.
-fn hint_of_pair(symbol: Symbol) -> Option<&'static str> {
+/// What may be wrong if a sign stands behind what a statement begins with.
+fn hint_of_sign(symbol: Symbol) -> Option<&'static str> {
     match symbol {
-        Symbol::Equal => Some("Values are compared with one `=`."),
-        Symbol::Plus => Some("`INC(x)` adds 1 to x."),
-        Symbol::Minus => Some("`DEC(x)` takes 1 from x."),
+        Symbol::Plus => Some("`INC(x)` adds 1 to x, and `INC(x, n)` adds n."),
+        Symbol::Minus => Some("`DEC(x)` takes 1 from x, and `DEC(x, n)` takes n."),
         _ => None,
     }
 }
 
 /// What may be wrong if a symbol does not fit behind a token.
 fn hint_of_symbol(before: &Lexeme, symbol: Symbol) -> Option<&'static str> {
-    if is_symbol(before, symbol) {
-        return hint_of_pair(symbol);
-    }
     match symbol {
-        Symbol::Equal => Some("An assignment is written with `:=`."),
+        Symbol::Equal => Some(if is_symbol(before, Symbol::Equal) {
+            "Values are compared with one `=`."
+        } else {
+            "An assignment is written with `:=`."
+        }),
         Symbol::Assign => Some("Constants are declared, and values compared, with `=`."),
+        Symbol::Plus | Symbol::Minus => hint_of_sign(symbol),
         _ => {
             if begins_one(symbol) && may_end(before) {
                 Some("A `;` may be missing before it.")

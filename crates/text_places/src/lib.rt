@@ -14,7 +14,7 @@ mod written;
 pub use headings::{Heading, procedure_around, procedure_in};
 pub use imports::module_of;
 pub use scopes::{Declared, Kind, declaration_of, declared_around};
-pub use sides::{Side, Sides, Spots, operator_sides, spots_at, value_side};
+pub use sides::{Side, Sides, Spots, operand_side, operator_sides, spots_at, value_side};
 pub use texts::{Text, Texts};
 pub use types::type_names;
 pub use values::{Index, ValuePlace, label_sides, value_place};

@@ -4,8 +4,8 @@ use crate::texts::Text;
 use m2_tree::{Symbol, Token};
 use std::alloc::{AllocError, Global};
 use text_tokens::{
-    ASSIGNMENT, Front, bytes_between, front_of, offset_of, operand_begin, operand_end, strength_of,
-    symbol_of,
+    ASSIGNMENT, DESIGNATOR, Front, bytes_between, front_of, offset_of, operand_begin, operand_end,
+    strength_of, symbol_of,
 };
 
 /// Where a text may be changed.
@@ -30,6 +30,11 @@ impl Side {
     /// The bytes of this part.
     pub fn bytes<'a>(&self, text: Text<'a>) -> &'a [u8] {
         bytes_between(text.bytes, text.tokens, self.from, self.to)
+    }
+
+    /// Whether it has no token.
+    pub fn is_empty(&self) -> bool {
+        self.from >= self.to
     }
 
     /// Whether it is one token.
@@ -81,6 +86,14 @@ pub fn value_side(tokens: &[Token], at: usize) -> Side {
     Side {
         from: at,
         to: operand_end(tokens, at, ASSIGNMENT),
+    }
+}
+
+/// The operand of a NOT or a sign that begins at the token of this number.
+pub fn operand_side(tokens: &[Token], at: usize) -> Side {
+    Side {
+        from: at,
+        to: operand_end(tokens, at, DESIGNATOR),
     }
 }
 
