@@ -81,7 +81,8 @@ pub fn show_json<O: Sink>(
         × (IsOk result → all ≡ true → count ≡ length refusals.now)
         × Says O.reported O.failed all (flat_map line_of rows) out.old out.new }
 {
-    for (number, refusal) in refusals.iter().enumerate() {
+    let mut number: usize = 0;
+    for refusal in refusals {
         let end = end_of(files, refusal);
         let words = sentence(refusal.number).unwrap_or("");
         let detail = detail_of(details, number);
@@ -89,6 +90,7 @@ pub fn show_json<O: Sink>(
         if !say_all(out, &[line.as_str(), "\n"]) {
             return Ok(());
         }
+        number = number.saturating_add(1);
     }
     Ok(())
 }

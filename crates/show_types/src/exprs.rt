@@ -118,31 +118,33 @@ pub fn show_value(
             show_value(page, module, level, first.get())?;
             show_links(page, module, level, links.as_slice())
         }
-        TypedExpr::Compare(relation, first, second) => show_operands(
-            page,
-            module,
-            level,
-            comparison_word(*relation),
-            first.get(),
-            second.get(),
-        ),
+        TypedExpr::Compare(relation, first, second) => {
+            show_operand(
+                page,
+                module,
+                level,
+                comparison_word(*relation),
+                BOOLEAN,
+                first.get(),
+            )?;
+            show_value(page, module, inner, second.get())
+        }
         TypedExpr::Not(e) => show_operand(page, module, level, "NOT", BOOLEAN, e.get()),
-        TypedExpr::Include(relation, first, second) => show_operands(
-            page,
-            module,
-            level,
-            inclusion_word(*relation),
-            first.get(),
-            second.get(),
-        ),
-        TypedExpr::In(element, set) => show_operands(
-            page,
-            module,
-            level,
-            "IN",
-            element.get(),
-            set.get(),
-        ),
+        TypedExpr::Include(relation, first, second) => {
+            show_operand(
+                page,
+                module,
+                level,
+                inclusion_word(*relation),
+                BOOLEAN,
+                first.get(),
+            )?;
+            show_value(page, module, inner, second.get())
+        }
+        TypedExpr::In(element, set) => {
+            show_operand(page, module, level, "IN", BOOLEAN, element.get())?;
+            show_value(page, module, inner, set.get())
+        }
         TypedExpr::Abs(_, _)
         | TypedExpr::Cap(_)
         | TypedExpr::Chr(_)
@@ -172,20 +174,6 @@ fn show_operand(
 ) -> Result<(), AllocError> {
     show_word(page, module, level, word, t)?;
     show_value(page, module, level.saturating_add(1), e)
-}
-
-/// The word of a relation, and its two operands below.
-#[cycle(expression)]
-fn show_operands(
-    page: &mut Page,
-    module: &TypedModule,
-    level: usize,
-    word: &str,
-    first: &TypedExpr,
-    second: &TypedExpr,
-) -> Result<(), AllocError> {
-    show_operand(page, module, level, word, BOOLEAN, first)?;
-    show_value(page, module, level.saturating_add(1), second)
 }
 
 /// A standard function with its argument.

@@ -9,7 +9,7 @@ use Rattle.show_refusals.proofs.json.show_json.Goals as goal
 pub returns-then-not-say_all : goal.returns-then-not-say_all
 returns-then-not-say_all g c =
     let inv = c.loop-refusal.invariant in
-    let row : Row = record { refusal = c.refusal-item.result; end = c.end_of-end.result; words = c.unwrap_or-words.result.now } in
+    let row : Row = record { refusal = c.refusal-item.result; end = c.end_of-end.result; words = c.unwrap_or-words.result.now; detail = c.detail_of-detail.result.now } in
     let line = c.as_str.result.now ++ codes "\n" in
     let e : line ≡ line_of row = ap (λ (l : List ℕ). l ++ codes "\n") (c.as_str.ensures.value ∙ c.in_ok-line.ensures) in
     let split = bytes_more inv.0 row ∙ ap (λ (t : List ℕ). flat_map line_of inv.0 ++ t) (sym e) in
@@ -19,7 +19,7 @@ returns-then-not-say_all g c =
 pub loop-refusal-preserved : goal.loop-refusal-preserved
 loop-refusal-preserved g c =
     let inv = c.loop-refusal.invariant in
-    let row : Row = record { refusal = c.refusal-item.result; end = c.end_of-end.result; words = c.unwrap_or-words.result.now } in
+    let row : Row = record { refusal = c.refusal-item.result; end = c.end_of-end.result; words = c.unwrap_or-words.result.now; detail = c.detail_of-detail.result.now } in
     let line = c.as_str.result.now ++ codes "\n" in
     let e : line ≡ line_of row = ap (λ (l : List ℕ). l ++ codes "\n") (c.as_str.ensures.value ∙ c.in_ok-line.ensures) in
     let split = bytes_more inv.0 row ∙ ap (λ (t : List ℕ). flat_map line_of inv.0 ++ t) (sym e) in
