@@ -28,4 +28,8 @@ pub mod Selectors
 pub mod Bounds
 pub mod Opening
 pub mod Inside
+pub mod Meeting
+pub mod Labelling
+pub mod Twice
+pub mod Choosing
 pub mod Obeying

@@ -14,6 +14,7 @@ use Rattle.m2_tree.specs.declared.expr.Selector.{Selector, out-Selector}
 use Rattle.m2_tree.specs.declared.expr.Designator.{Designator, out-Designator}
 use Rattle.m2_tree.specs.declared.expr.Item.{Item, out-Item}
 use Rattle.m2_tree.specs.declared.stmt.Stmt.{Stmt, out-Stmt}
+use Rattle.m2_tree.specs.declared.stmt.Arm.{Arm, out-Arm}
 use Rattle.m2_tree.specs.declared.stmt.Rest.{Rest, out-Rest}
 use Rattle.m2_tree.specs.declared.stmt.Rest.TheOpen as step
 use Rattle.typed_tree.specs.declared.types.TypeNo.{TypeNo}
@@ -45,7 +46,7 @@ use Rattle.check_operator.specs.Suits.{value_suited}
 use Rattle.check_call.specs.Effects.{target_at, assigned}
 use Rattle.typed_tree.specs.declared.statement.TypedStmt.{TypedStmt}
 use Rattle.typed_tree.specs.Types.{boolean}
-use Rattle.def_typing.specs.Constants.{AConstant, Fixes, BrokenAsConstant}
+use Rattle.def_typing.specs.Constants.{IsBound, AConstant, Fixes, BrokenAsConstant}
 use Rattle.check_expr.specs.Effects.{done_by}
 use Rattle.def_typing.specs.Actions.{IsAction, BrokenAction}
 use Rattle.def_typing.specs.Assignments.{Assigns, BrokenAssignment, IsCondition, BrokenCondition}
@@ -59,12 +60,12 @@ use Rattle.check_stmt_parts.specs.Labels.{bound_of}
 use Rattle.check_const_ops.specs.declared.operand.Ordinal.{Ordinal}
 use Rattle.def_typing.specs.Loops.{Runs, BrokenRun}
 use Rattle.check_stmt.specs.Statements.{stmt}
-use Rattle.def_typing.specs.Statements.{arguments, Spot, Obeys, Broken}
+use Rattle.def_typing.specs.Statements.{arguments, labels_of, Spot, Obeys, Broken}
 use Rattle.check_expr.specs.Meanings.{meant, head, part, value_of}
 use Rattle.def_typing.specs.Amounts.{Constant, Value}
 use Rattle.def_typing.specs.Operators.{◌!◌, Kind, Scalar, Set, Text, Routine, Procedure, Whole, Untaken}
 use Rattle.def_typing.specs.Things.{Thing, AValue, AVariable, AnOpenArray, AType, AProcedure, ANested, AStandard, AModule, Headless, Standing, Known, Ahead, Undeclared, NotExported, Unknown}
-use Rattle.def_typing.specs.Parts.{Operand, factors, addends}
+use Rattle.def_typing.specs.Parts.{Operand, factors, addends, Among}
 use Rattle.def_typing.specs.Expressions.{Has, BrokenAsValue}
 use Rattle.law_typing.specs.Judging.{Judges, Answers}
 
@@ -261,6 +262,9 @@ mutual
 
 -- ---- statements of which this is known
 
+abbrev pub ArePlainLabels : List Item → Type 0
+ArePlainLabels items = (i : Item) → Among i items → (e : Expr) → IsBound e (out-Item i) → IsPlain e
+
 mutual
   pub data IsPlainStmt : Stmt → Type 0 where
     plain_assignment : {x : Stmt} {d : Designator} {e : Expr} → out-Stmt x ≡ step.Assign d e
@@ -271,6 +275,9 @@ mutual
     plain_if : {x : Stmt} {c : Expr} {body : List Stmt} {rest : Rest}
         → out-Stmt x ≡ step.If c body rest → IsPlain c → ArePlainStmts body → IsPlainRest rest
         → IsPlainStmt x
+    plain_case : {x : Stmt} {e : Expr} {arms : List Arm} {otherwise : Option (List Stmt)}
+        → out-Stmt x ≡ step.Case e arms otherwise → IsPlain e → ArePlainLabels (labels_of arms)
+        → ArePlainArms arms → IsPlainElse otherwise → IsPlainStmt x
     plain_while : {x : Stmt} {c : Expr} {body : List Stmt} → out-Stmt x ≡ step.While c body
         → IsPlain c → ArePlainStmts body → IsPlainStmt x
     plain_repeat : {x : Stmt} {body : List Stmt} {c : Expr} → out-Stmt x ≡ step.Repeat body c
@@ -296,9 +303,17 @@ mutual
     plain_elsif : {r : Rest} {c : Expr} {body : List Stmt} {rest : Rest}
         → out-Rest r ≡ step.Elsif c body rest → IsPlain c → ArePlainStmts body → IsPlainRest rest
         → IsPlainRest r
-    plain_end : {r : Rest} → out-Rest r ≡ step.Else None → IsPlainRest r
-    plain_else : {r : Rest} {body : List Stmt} → out-Rest r ≡ step.Else (Some body)
-        → ArePlainStmts body → IsPlainRest r
+    plain_end : {r : Rest} {otherwise : Option (List Stmt)} → out-Rest r ≡ step.Else otherwise
+        → IsPlainElse otherwise → IsPlainRest r
+
+  pub data IsPlainElse : Option (List Stmt) → Type 0 where
+    no_else : IsPlainElse None
+    plain_else : {body : List Stmt} → ArePlainStmts body → IsPlainElse (Some body)
+
+  pub data ArePlainArms : List Arm → Type 0 where
+    no_arm : ArePlainArms []
+    one_arm : {x : Arm} {xs : List Arm} → ArePlainStmts (out-Arm x).body → ArePlainArms xs
+        → ArePlainArms (x ∷ xs)
 
 -- what is known of the spot at which a statement stands
 pub record KnowsSpot (g : Gathers) (j : Judges g) (exports : ℕ → Ident → Standing) (w : Spot)
@@ -405,7 +420,7 @@ BoundsAreExact g j =
     (λ p. IsLabelBound s.types names exports e p.0 p.1)
     (BrokenLabelBound s.types names exports base label e) (bound_of g s base label (meant g e))
 
--- Statements in which no CASE stands are answered exactly.
+-- Statements are answered exactly.
 abbrev pub StatementsAreExact : (g : Gathers) → Judges g → Type 0
 StatementsAreExact g j =
     (exports : ℕ → Ident → Standing) (w : Spot) (s : Scope g.Reported) (a : Around g.Reported)

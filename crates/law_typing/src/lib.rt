@@ -1,10 +1,9 @@
 //! Laws alone: the checker answers expressions of bodies exactly as the rules of the language say, and so it does constant
-//! expressions, conditions, and all statements but CASE.
+//! expressions, conditions, and all statements.
 //!
 //! `def_typing` has the rules: what an expression has, and which rules are broken in it. These laws hold of the elaboration in
 //! `check_stmt` and below, of all that it gathers and of the least refusal alike. They are not proved of all: what stands in
-//! braces calls nothing (`IsPlain`), constant expressions call nothing (`IsCallFree`), and in statements no CASE stands
-//! (`IsPlainStmt`).
+//! braces calls nothing (`IsPlain`), and constant expressions call nothing (`IsCallFree`).
 //!
 //! - `specs/Judging` says what it is to answer exactly, and `specs/Exact` what is elaborated, when names stand for what a
 //!   scope knows of them, and what is proved.
@@ -17,8 +16,9 @@
 //!   `proofs/Expressing` the induction, `proofs/Assigning` conditions and assignments, `proofs/Changing` standard procedures
 //!   that are statements, `proofs/Acting` all calls that are, and `proofs/Knowing` the names of scopes.
 //! - `proofs/Returning` has RETURN and EXIT, `proofs/Looping` what stands before the statements of a FOR, `proofs/Selectors`
-//!   the selector of a CASE, `proofs/Bounds` the bounds of its labels, `proofs/Opening` what a WITH opens, `proofs/Inside` what
-//!   is known inside, and `proofs/Obeying` the induction over statements.
+//!   the selector of a CASE, `proofs/Bounds` the bounds of its labels, `proofs/Labelling` each label, `proofs/Meeting` and
+//!   `proofs/Twice` labels that are there twice, `proofs/Choosing` all of a CASE, `proofs/Opening` what a WITH opens,
+//!   `proofs/Inside` what is known inside, and `proofs/Obeying` the induction over statements.
 #![tactic(auto)]
 
 ghost use Rattle.check_scope.specs.Elaborated.{every, least};
@@ -87,7 +87,7 @@ pub fn bound_laws()
     ensures least_rule { BoundsAreExact least the_least }
 {}
 
-/// The same of a statement, if no CASE stands in it.
+/// The same of a statement, with all statements inside.
 pub fn statement_laws()
     ensures every_rule { StatementsAreExact every all_of_them }
     ensures least_rule { StatementsAreExact least the_least }
