@@ -109,11 +109,15 @@ pub data IsFixedPart : Expr → Expr-F Expr Selector Designator Item → Type 0 
   in_element : {name : Option Ident} {at : Pos} {items : List Item} {i : Item} {e : Expr}
       → Among i items → IsBound e (out-Item i) → IsFixedPart e (layer.Set name at items)
 
+-- the refusals at a name that should stand for something of a sort
+pub data Misses (Fits : Thing → Type 0) (spot at : Pos) : Standing → Breach → Type 0 where
+  no_name : {s : Standing} {f : Breach} → FixedMisnamed at s f → Misses Fits spot at s f
+  other_sort : {x : Thing} → (Fits x → ⊥) → Misses Fits spot at (Known x) (spot ! rule.NoType)
+  a_procedure : Misses Fits spot at Ahead (spot ! rule.NoType)
+
 -- the refusals at the name of a set's type
-pub data Misset (at : Pos) : Standing → Breach → Type 0 where
-  no_name : {s : Standing} {f : Breach} → FixedMisnamed at s f → Misset at s f
-  no_set_type : {x : Thing} → (x ≡ AType bitset → ⊥) → Misset at (Known x) (at ! rule.NoType)
-  no_type_yet : Misset at Ahead (at ! rule.NoType)
+abbrev pub Misset : Pos → Standing → Breach → Type 0
+Misset at s f = Misses (λ x. x ≡ AType bitset) at at s f
 
 -- ---- what constant expressions are
 

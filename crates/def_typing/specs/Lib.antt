@@ -5,6 +5,7 @@ pub mod Things
 pub mod Functions
 pub mod Parts
 pub mod Constants
+pub mod TypeNames
 pub mod Expressions
 pub mod Assignments
 pub mod Actions

@@ -557,14 +557,14 @@ module _ (g : Gathers) (j : Judges g) (lawful : Lawful g j) (names : Ident → S
   SetType at st r = Checks g j lawful O {A = Unit {0}} (st ≡ Known (AType bitset)) (Misset at st) r
 
   no_set : {at : Pos} (x : Thing) → (x ≡ AType bitset → ⊥) → SetType at (Known x) (reported g at rule.NoType)
-  no_set {at = at} x n = stopped g j lawful O at rule.NoType (λ e. n (known_same e)) (rules.no_set_type n) (λ f m. one m)
+  no_set {at = at} x n = stopped g j lawful O at rule.NoType (λ e. n (known_same e)) (rules.other_sort n) (λ f m. one m)
     where
       known_same : {x y : Thing} → Known x ≡ Known y → x ≡ y
       known_same {x = x} e = ap (λ z. elim z [ Known y ↦ y | Ahead ↦ x | Undeclared ↦ x | NotExported ↦ x | Unknown ↦ x ]) e
 
       one : {f : Breach} → Misset at (Known x) f → f ≡ at ! rule.NoType
       one (rules.no_name m) = elim m.misnamed [ ]
-      one (rules.no_set_type n) = refl
+      one (rules.other_sort n) = refl
 
   set_local : {at : Pos} (t : TypeNo) (k : LocalKind) → SetType at (of_local t k) (reported g at rule.NoType)
   set_local t local.Variable = no_set (AVariable t) (λ e. absurd cc)
@@ -580,7 +580,7 @@ module _ (g : Gathers) (j : Judges g) (lawful : Lawful g j) (names : Ident → S
     where
       none : {f : Breach} → Misset at (Known (AType t)) f → ⊥
       none (rules.no_name m) = elim m.misnamed [ ]
-      none (rules.no_set_type n) = n (ap AType e)
+      none (rules.other_sort n) = n (ap AType e)
   set_type_by t _ (fails_it n) = no_set (AType t) (λ e. n (type_same e))
 
   bitset_checks : {at : Pos} (m : Meaning) → SetType at (standing m) (is_bitset g at m)
@@ -591,11 +591,11 @@ module _ (g : Gathers) (j : Judges g) (lawful : Lawful g j) (names : Ident → S
   bitset_checks (meaning.Field f) = no_set (AVariable f.of) (λ e. absurd cc)
   bitset_checks (meaning.Procedure p) = no_set (AProcedure p.heading) (λ e. absurd cc)
   bitset_checks (meaning.LocalProcedure p) = no_set (ANested p.heading) (λ e. absurd cc)
-  bitset_checks {at = at} meaning.Ahead = stopped g j lawful O at rule.NoType (λ e. absurd cc) rules.no_type_yet (λ f m. one m)
+  bitset_checks {at = at} meaning.Ahead = stopped g j lawful O at rule.NoType (λ e. absurd cc) rules.a_procedure (λ f m. one m)
     where
       one : {f : Breach} → Misset at Ahead f → f ≡ at ! rule.NoType
       one (rules.no_name m) = absurd (m.not_ahead refl)
-      one rules.no_type_yet = refl
+      one rules.a_procedure = refl
   bitset_checks (meaning.Standard f) = no_set (AStandard f) (λ e. absurd cc)
   bitset_checks (meaning.Module k) = no_set (AModule k) (λ e. absurd cc)
 

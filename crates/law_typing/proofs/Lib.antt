@@ -33,3 +33,4 @@ pub mod Labelling
 pub mod Twice
 pub mod Choosing
 pub mod Obeying
+pub mod TypeNaming

@@ -59,6 +59,9 @@ use Rattle.def_typing.specs.Cases.{IsSelector, BrokenSelector, IsLabelBound, Bro
 use Rattle.check_stmt_parts.specs.Labels.{bound_of}
 use Rattle.check_const_ops.specs.declared.operand.Ordinal.{Ordinal}
 use Rattle.def_typing.specs.Loops.{Runs, BrokenRun}
+use Rattle.m2_tree.specs.declared.expr.Qualified.{Qualified}
+use Rattle.check_type_expr.specs.Named.{named_type}
+use Rattle.def_typing.specs.TypeNames.{NamesType, BrokenTypeName}
 use Rattle.check_stmt.specs.Statements.{stmt}
 use Rattle.def_typing.specs.Statements.{arguments, labels_of, Spot, Obeys, Broken}
 use Rattle.check_expr.specs.Meanings.{meant, head, part, value_of}
@@ -419,6 +422,14 @@ BoundsAreExact g j =
     (λ (a : Ordinal) (p : Option TypeNo × ℤ). (a.sort ≡ p.0) × (a.number ≡ p.1))
     (λ p. IsLabelBound s.types names exports e p.0 p.1)
     (BrokenLabelBound s.types names exports base label e) (bound_of g s base label (meant g e))
+
+-- Names of types are answered exactly.
+abbrev pub TypeNamesAreExact : (g : Gathers) → Judges g → Type 0
+TypeNamesAreExact g j =
+    (names : Ident → Standing) (exports : ℕ → Ident → Standing) (s : Scope g.Reported)
+    → Knows g j names exports s → (q : Qualified)
+    → Answers g j (Repeats g j names s) (λ (t u : TypeNo). t ≡ u) (NamesType names exports q)
+    (BrokenTypeName names exports q) (named_type g s q)
 
 -- Statements are answered exactly.
 abbrev pub StatementsAreExact : (g : Gathers) → Judges g → Type 0

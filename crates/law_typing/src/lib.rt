@@ -23,7 +23,7 @@
 
 ghost use Rattle.check_scope.specs.Elaborated.{every, least};
 ghost use Rattle.law_typing.specs.Judging.{all_of_them, the_least};
-ghost use Rattle.law_typing.specs.Exact.{ExpressionsAreExact, ConstantsAreExact, ConditionsAreExact, AssignmentsAreExact, ActionsAreExact, ReturnsAreExact, ExitsAreExact, RunsAreExact, SelectorsAreExact, BoundsAreExact, StatementsAreExact, ScopesAreKnown};
+ghost use Rattle.law_typing.specs.Exact.{ExpressionsAreExact, ConstantsAreExact, ConditionsAreExact, AssignmentsAreExact, ActionsAreExact, ReturnsAreExact, ExitsAreExact, RunsAreExact, SelectorsAreExact, BoundsAreExact, StatementsAreExact, TypeNamesAreExact, ScopesAreKnown};
 
 /// An expression in whose braces nothing is called has a value exactly if no rule is broken in it, and the value stands for
 /// what the rules say that it has. Else all that is gathered are broken rules, here or in a declaration, and each that is
@@ -91,6 +91,12 @@ pub fn bound_laws()
 pub fn statement_laws()
     ensures every_rule { StatementsAreExact every all_of_them }
     ensures least_rule { StatementsAreExact least the_least }
+{}
+
+/// The same of the name of a type, alone or behind a module's.
+pub fn type_name_laws()
+    ensures every_rule { TypeNamesAreExact every all_of_them }
+    ensures least_rule { TypeNamesAreExact least the_least }
 {}
 
 /// No scope lacks names that stand for what it knows of them, so the laws above speak of each.
