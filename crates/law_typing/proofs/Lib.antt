@@ -34,3 +34,9 @@ pub mod Twice
 pub mod Choosing
 pub mod Obeying
 pub mod TypeNaming
+pub mod Entering
+pub mod Declaring
+pub mod Beginning
+pub mod Sayings
+pub mod Marking
+pub mod Blocks

@@ -20,7 +20,7 @@ use Rattle.check_const.specs.Denote.{exported_by, exported, member}
 use Rattle.check_type_expr.specs.Named.{type_meant, in_module, of_module, named_type}
 use Rattle.def_typing.specs.Operators.{◌!◌}
 use Rattle.def_typing.specs.Things.{Thing, AValue, AVariable, AnOpenArray, AType, AProcedure, ANested, AStandard, AModule, Headless, Standing, Known, Ahead, Undeclared, NotExported, Unknown, Misnamed, undeclared, not_exported}
-use Rattle.def_typing.specs.Constants.{FixedMisnamed, Misses, no_name, other_sort, a_procedure}
+use Rattle.def_typing.specs.Constants.{Misses, no_name, other_sort, a_procedure}
 use Rattle.def_typing.specs.TypeNames as rules
 use Rattle.def_typing.specs.TypeNames.{IsType, IsModule, NamesType, alone, BrokenTypeName}
 use Rattle.law_typing.specs.Judging.{Judges, Answers, means, refuses}

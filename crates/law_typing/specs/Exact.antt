@@ -1,5 +1,5 @@
 -- What is elaborated, and what it stands for.
-use Rattle.std.specs.Prelude.{◌≡◌, ◌⊎◌, ◌&&◌, ◌==◌, Bool, false, ℕ, ℤ, List, [], ◌∷◌, Option, Some, None, Result, Ok, Err, slice_get, map}
+use Rattle.std.specs.Prelude.{◌≡◌, ◌⊎◌, ◌&&◌, ◌==◌, Bool, true, false, ℕ, ℤ, List, [], ◌∷◌, Option, Some, None, Result, Ok, Err, slice_get, map}
 use Rattle.m2_rule.specs.declared.rule.Rule.TheVariants as rule
 use Rattle.m2_tree.specs.declared.pos.Pos.{Pos}
 use Rattle.m2_tree.specs.declared.name.Ident.{Ident}
@@ -14,6 +14,15 @@ use Rattle.m2_tree.specs.declared.expr.Selector.{Selector, out-Selector}
 use Rattle.m2_tree.specs.declared.expr.Designator.{Designator, out-Designator}
 use Rattle.m2_tree.specs.declared.expr.Item.{Item, out-Item}
 use Rattle.m2_tree.specs.declared.stmt.Stmt.{Stmt, out-Stmt}
+use Rattle.m2_tree.specs.declared.decl.Constant.{Constant as ConstantDecl}
+use Rattle.m2_tree.specs.declared.decl.TypeDecl.{TypeDecl}
+use Rattle.m2_tree.specs.declared.decl.Variables.{Variables}
+use Rattle.m2_tree.specs.declared.decl.Simple.TheVariants as simple
+use Rattle.m2_tree.specs.declared.decl.TypeExpr.{TypeExpr, out-TypeExpr}
+use Rattle.m2_tree.specs.declared.decl.TypeExpr.TheOpen as type_layer
+use Rattle.m2_tree.specs.declared.decl.Decl.{Decl, Decl-F, out-Decl}
+use Rattle.m2_tree.specs.declared.decl.Decl.TheOpen as decl_layer
+use Rattle.m2_tree.specs.declared.decl.Block.{Block}
 use Rattle.m2_tree.specs.declared.stmt.Arm.{Arm, out-Arm}
 use Rattle.m2_tree.specs.declared.stmt.Rest.{Rest, out-Rest}
 use Rattle.m2_tree.specs.declared.stmt.Rest.TheOpen as step
@@ -33,6 +42,9 @@ use Rattle.typed_tree.specs.declared.meaning.Standard.{Standard}
 use Rattle.m2_rule.specs.declared.breach.Breach.{Breach}
 use Rattle.check_scope.specs.declared.meaningless.Meaningless.{Meaningless}
 use Rattle.check_scope.specs.declared.meaningless.Meaningless.TheVariants as meaningless
+use Rattle.check_scope.specs.declared.known.Known.{Known as KnownName}
+use Rattle.check_scope.specs.declared.known.Known.TheVariants.{Declared}
+use Rattle.check_scope.specs.declared.known.Origin.{Origin}
 use Rattle.check_scope.specs.declared.scope.Scope.{Scope}
 use Rattle.check_scope.specs.Elaborated.{Gathers, ◌▷◌}
 use Rattle.check_scope.specs.Scopes.{looked_up}
@@ -62,6 +74,9 @@ use Rattle.def_typing.specs.Loops.{Runs, BrokenRun}
 use Rattle.m2_tree.specs.declared.expr.Qualified.{Qualified}
 use Rattle.check_type_expr.specs.Named.{named_type}
 use Rattle.def_typing.specs.TypeNames.{NamesType, BrokenTypeName}
+use Rattle.typed_tree.specs.Names.{found}
+use Rattle.check_block.specs.Declarations.{declared_block}
+use Rattle.def_typing.specs.Declarations.{declarations_of, with_declarations, AllStand, BrokenDeclarations}
 use Rattle.check_stmt.specs.Statements.{stmt}
 use Rattle.def_typing.specs.Statements.{arguments, labels_of, Spot, Obeys, Broken}
 use Rattle.check_expr.specs.Meanings.{meant, head, part, value_of}
@@ -70,7 +85,7 @@ use Rattle.def_typing.specs.Operators.{◌!◌, Kind, Scalar, Set, Text, Routine
 use Rattle.def_typing.specs.Things.{Thing, AValue, AVariable, AnOpenArray, AType, AProcedure, ANested, AStandard, AModule, Headless, Standing, Known, Ahead, Undeclared, NotExported, Unknown}
 use Rattle.def_typing.specs.Parts.{Operand, factors, addends, Among}
 use Rattle.def_typing.specs.Expressions.{Has, BrokenAsValue}
-use Rattle.law_typing.specs.Judging.{Judges, Answers}
+use Rattle.law_typing.specs.Judging.{Judges, Answers, Reports}
 
 -- ---- what is elaborated
 
@@ -156,6 +171,11 @@ module _ (g : Gathers) (j : Judges g) where
         → looked_up g s name ≡ Err (meaningless.Headless r) → j.Among r f → Repeats names s f
     of_declaration : {name : Ident} {r : g.Reported} → names name ≡ Unknown
         → looked_up g s name ≡ Err (meaningless.Broken r) → j.Among r f → Repeats names s f
+
+  -- whether a name is taken before a block begins
+  pub data TakenAs : Bool → Option (KnownName g.Reported) → Type 0 where
+    is_taken : {o : Origin} {m : Result Meaning g.Reported} → TakenAs true (Some (Declared o m))
+    not_taken : TakenAs false None
 
   -- what is known of the result of the body that a statement stands in
   pub data KnowsResult : Giving → Option (Result TypeNo g.Reported) → Type 0 where
@@ -318,6 +338,20 @@ mutual
     one_arm : {x : Arm} {xs : List Arm} → ArePlainStmts (out-Arm x).body → ArePlainArms xs
         → ArePlainArms (x ∷ xs)
 
+-- ---- declarations of which this is known: constants that call nothing, and types that are names
+
+abbrev pub IsNamedType : TypeExpr → Type 0
+IsNamedType e = (q : Qualified) × (out-TypeExpr e ≡ type_layer.Simple (simple.Named q))
+
+abbrev pub IsPlainLayer : Decl-F Decl Block → Type 0
+IsPlainLayer (decl_layer.Constants cs) = (c : ConstantDecl) → Among c cs → IsCallFree c.value
+IsPlainLayer (decl_layer.Types ts) = (d : TypeDecl) → Among d ts → IsNamedType d.of
+IsPlainLayer (decl_layer.Variables vs) = (v : Variables) → Among v vs → IsNamedType v.of
+IsPlainLayer (decl_layer.Procedure h b) = ⊥
+
+abbrev pub ArePlainDecls : List Decl → Type 0
+ArePlainDecls ds = (d : Decl) → Among d ds → IsPlainLayer (out-Decl d)
+
 -- what is known of the spot at which a statement stands
 pub record KnowsSpot (g : Gathers) (j : Judges g) (exports : ℕ → Ident → Standing) (w : Spot)
     (s : Scope g.Reported) (a : Around g.Reported) : Type 0 where
@@ -325,6 +359,24 @@ pub record KnowsSpot (g : Gathers) (j : Judges g) (exports : ℕ → Ident → S
   pub of_own : KnowsOwn g j w.own s
   pub of_result : KnowsResult g j w.gives a.gives
   pub of_loop : w.in_loop ≡ a.in_loop
+
+-- what is known behind the declarations of a block
+pub record IsBlockExact (g : Gathers) (j : Judges g) (exports : ℕ → Ident → Standing)
+    (outside : Ident → Standing) (s : Scope g.Reported) (taken : List ℕ → Bool) (ends : List ℕ)
+    (first : ℕ) (ds : List Decl) : Type 0 where
+  -- Exactly the broken rules are reported.
+  pub reported : Reports g j (Repeats g j outside s)
+      (BrokenDeclarations s.types exports outside taken (declarations_of ds) []
+      (declarations_of ds)) (declared_block g ends (s, Ok tt) first ds).1
+  -- Each name stands for something behind them.
+  pub stand : (names : Ident → Standing)
+      × AllStand s.types exports outside taken (declarations_of ds)
+      (with_declarations [] (declarations_of ds)) names
+  -- Whatever names stand for, the scope knows it.
+  pub known : (names : Ident → Standing)
+      → AllStand s.types exports outside taken (declarations_of ds)
+      (with_declarations [] (declarations_of ds)) names
+      → Knows g j names exports (declared_block g ends (s, Ok tt) first ds).0
 
 -- These expressions are answered exactly, whatever their names stand for.
 abbrev pub ExpressionsAreExact : (g : Gathers) → Judges g → Type 0
@@ -440,6 +492,15 @@ StatementsAreExact g j =
     → IsPlainStmt x
     → Answers g j (RepeatsResult g j w.names s a.gives) {A = TypedStmt} {K = Unit {0}}
     (λ v u. Unit {0}) (λ u. Obeys s.types exports w x) (Broken s.types exports w x) (stmt g x s a)
+
+-- Declarations are answered exactly, and what is known behind them is what the rules say.
+abbrev pub BlocksAreExact : (g : Gathers) → Judges g → Type 0
+BlocksAreExact g j =
+    (exports : ℕ → Ident → Standing) (outside : Ident → Standing) (s : Scope g.Reported)
+    (taken : List ℕ → Bool)
+    → Knows g j outside exports s → s.withs ≡ []
+    → ((n : List ℕ) → TakenAs g j (taken n) (found n s.own)) → (ends : List ℕ) (first : ℕ)
+    (ds : List Decl) → ArePlainDecls ds → IsBlockExact g j exports outside s taken ends first ds
 
 -- For each scope there are standings that it knows, and variables that are own ones.
 abbrev pub ScopesAreKnown : (g : Gathers) → Judges g → Type 0
