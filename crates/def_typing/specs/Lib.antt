@@ -6,6 +6,7 @@ pub mod Functions
 pub mod Parts
 pub mod Constants
 pub mod TypeNames
+pub mod Headings
 pub mod Declarations
 pub mod Expressions
 pub mod Assignments

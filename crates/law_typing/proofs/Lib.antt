@@ -34,6 +34,7 @@ pub mod Twice
 pub mod Choosing
 pub mod Obeying
 pub mod TypeNaming
+pub mod Heading
 pub mod Entering
 pub mod Declaring
 pub mod Beginning

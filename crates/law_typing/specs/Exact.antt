@@ -74,6 +74,11 @@ use Rattle.def_typing.specs.Loops.{Runs, BrokenRun}
 use Rattle.m2_tree.specs.declared.expr.Qualified.{Qualified}
 use Rattle.check_type_expr.specs.Named.{named_type}
 use Rattle.def_typing.specs.TypeNames.{NamesType, BrokenTypeName}
+use Rattle.m2_tree.specs.declared.decl.Heading.{Heading}
+use Rattle.typed_tree.specs.declared.shape.Made.{Made}
+use Rattle.typed_tree.specs.declared.shape.Signature.{Signature}
+use Rattle.check_type_expr.specs.Headings.{heading_of}
+use Rattle.def_typing.specs.Headings.{procedure_made, IsHeading, BrokenHeading}
 use Rattle.typed_tree.specs.Names.{found}
 use Rattle.check_block.specs.Declarations.{declared_block}
 use Rattle.def_typing.specs.Declarations.{declarations_of, with_declarations, AllStand, BrokenDeclarations}
@@ -482,6 +487,14 @@ TypeNamesAreExact g j =
     → Knows g j names exports s → (q : Qualified)
     → Answers g j (Repeats g j names s) (λ (t u : TypeNo). t ≡ u) (NamesType names exports q)
     (BrokenTypeName names exports q) (named_type g s q)
+
+-- Headings of procedures are answered exactly, whatever the names of their formals.
+abbrev pub HeadingsAreExact : (g : Gathers) → Judges g → Type 0
+HeadingsAreExact g j =
+    (names : Ident → Standing) (exports : ℕ → Ident → Standing) (s : Scope g.Reported)
+    → Knows g j names exports s → (h : Heading)
+    → Answers g j (Repeats g j names s) (λ (m : Made) (x : Signature). m ≡ procedure_made x)
+    (IsHeading s.types names exports h) (BrokenHeading s.types names exports h) (heading_of g s h)
 
 -- Statements are answered exactly.
 abbrev pub StatementsAreExact : (g : Gathers) → Judges g → Type 0
