@@ -1,6 +1,6 @@
 -- The declarations of a block are answered exactly.
-use Rattle.std.proofs.Common.{◌≡◌, ℕ, Bool, true, false, cond, List, [], ◌∷◌, ◌++◌, length, Result, Ok, Err, ◌⊎◌, inl, inr, refl, sym, subst}
-use Rattle.std.specs.Prelude.{map, ◌==◌}
+use Rattle.std.proofs.Common.{◌≡◌, ℕ, Bool, true, false, cond, List, [], ◌∷◌, ◌++◌, length, Option, Result, Ok, Err, ◌⊎◌, inl, inr, refl, sym, ap, subst, ◌∙◌}
+use Rattle.std.specs.Prelude.{map, not, ◌==◌}
 use Rattle.std.specs.List.{fold}
 use Rattle.m2_rule.specs.declared.breach.Breach.{Breach}
 use Rattle.m2_tree.specs.declared.name.Ident.{Ident}
@@ -29,90 +29,186 @@ use Rattle.m2_tree.specs.declared.decl.Decl.TheOpen as decl
 use Rattle.m2_tree.specs.declared.decl.Block.{Block}
 use Rattle.check_block.specs.Declarations.{finished_local, with_locals, with_variables_of, decl_layer, with_decl, Declared, declared_block}
 use Rattle.m2_rule.specs.declared.rule.Rule.TheVariants as rule
+use Rattle.m2_tree.specs.declared.decl.Section.{Section}
+use Rattle.m2_tree.specs.declared.decl.Heading.{Heading}
+use Rattle.typed_tree.specs.declared.shape.Made.{Made}
+use Rattle.typed_tree.specs.declared.known_types.Types.{Types}
+use Rattle.typed_tree.specs.Names.{entered}
+use Rattle.typed_tree.specs.Types.{integer}
+use Rattle.check_scope.specs.declared.known.Known.{Known}
+use Rattle.check_scope.specs.declared.known.Origin.TheVariants.{Here}
+use Rattle.check_scope.specs.declared.known.Known.TheVariants as known
+use Rattle.check_scope.specs.Scopes.{with_known}
+use Rattle.check_scope.specs.Elaborated.{reported}
+use Rattle.check_definition.specs.Declare.{with_procedure_type}
+use Rattle.check_type_expr.specs.declared.field.Fields.{Fields}
+use Rattle.std.specs.Option.{is_some}
+use Rattle.check_type_expr.specs.Cells.{plus}
+use Rattle.check_type_expr.specs.Fields.{no_fields, with_name}
+use Rattle.check_type_expr.specs.Headings.{heading_of, with_names, names_of as formals_told}
+use Rattle.check_type_expr.specs.Made.{with_shape}
+use Rattle.check_block.specs.declared.heading.Standing.{Standing as Place}
+use Rattle.check_block.specs.declared.heading.Standing.TheVariants as place
+use Rattle.check_block.specs.Headings.{standing_of, new_procedure, with_new, headed_as, with_heading}
 use Rattle.def_typing.specs.Operators.{◌!◌}
-use Rattle.def_typing.specs.Things.{Standing}
+use Rattle.def_typing.specs.Things as things
+use Rattle.def_typing.specs.Things.{Standing, Undeclared, Unknown}
 use Rattle.def_typing.specs.Parts.{Among, here, later}
 use Rattle.def_typing.specs.Declarations as rules
-use Rattle.def_typing.specs.Declarations.{Declaration, OfConstant, OfType, OfVariables, declared_by, declarations_of, names_of, with_declarations, Declares, AnyDeclares, Twice, Misdeclares, BrokenDeclarations}
+use Rattle.def_typing.specs.Declarations.{Declaration, OfConstant, OfType, OfVariables, OfProcedure, declared_by, declarations_of, names_of, names_in, formals_in, Declares, AnyDeclares, Declared as Resolved, in_order, IsThere, with_types, next_type, types_behind, procedure, in_front_of, without, Twice, Misdeclares, BrokenIn}
 use Rattle.law_typing.specs.Judging.{Judges, Reports, reports_nothing, reports_broken}
-use Rattle.law_typing.specs.Exact.{standing, TakenAs, Knows, Repeats, IsCallFree, IsNamedType, IsPlainLayer, ArePlainDecls, IsBlockExact}
-use Rattle.law_typing.proofs.Combining.{Lawful, Tells, silent, tells, tells_as, beside_tells}
-use Rattle.law_typing.proofs.Marking.{block_begins, marks_begin}
-use Rattle.law_typing.proofs.Declaring.{All, Saying, KnowsBlock, knowing, repeating, standings, all_stand}
-use Rattle.law_typing.proofs.Beginning.{Adding, adding_name, added, There', begin_one, begin_all, KnowsMid, mid_begins, mid_as, finish_one, finish_end}
-use Rattle.law_typing.proofs.Sayings.{Exactly, saying, says_tells, more_answers, IsValue, IsAType, IsAVariable, constant_says, of_type_says, variables_say, named_is}
+use Rattle.law_typing.specs.Exact.{standing, TakenAs, Knows, Repeats, IsCallFree, IsNamedType, IsPlainLayer, ArePlainDecls, is_nested, IsBlockExact}
+use Rattle.law_typing.proofs.Combining.{Lawful, Tells, silent, tells, tells_as, beside_tells, accounts_as, accounts_one}
+use Rattle.law_typing.proofs.Heading.{nil_right, append_assoc}
+use Rattle.law_typing.proofs.Entering.{entered_all}
+use Rattle.law_typing.proofs.Declaring.{All, Elsewhere, Saying, KnownAs, Same, KnowsBlock, knowing, repeating, standings, all_stand}
+use Rattle.law_typing.proofs.Beginning.{Adding, adding_name, added, clash, Theres, widen, begin_one, begin_all, place_is, PlaceIs, place_free, place_taken, MidAs, is_done, is_other, KnowsMid, mid_begins, mid_as, finish_one, finish_end}
+use Rattle.law_typing.proofs.Sayings.{Saids, said_constant, said_type, said_variables, said_procedure, Exactly, saying, saying_heading, says_tells, more_answers, constant_says, of_type_says, variables_say, procedure_says, named_is}
+use Rattle.law_typing.proofs.Marking.{block_begins}
 
-module _ (g : Gathers) (j : Judges g) (lawful : Lawful g j) (exports : ℕ → Ident → Standing) (outside : Ident → Standing) (start : Scope g.Reported) (taken : List ℕ → Bool) (block : List Declaration) (O : Breach → Type 0)
-    (takes : (n : List ℕ) → TakenAs g j (taken n) (found n start.own)) (knows : Knows g j outside exports start) (no_withs : start.withs ≡ []) (repeats : (f : Breach) → Repeats g j outside start f → O f) where
-  abbrev KB : List Declaration → (List ℕ → Type 0) → Scope g.Reported → Type 0
-  KB = KnowsBlock g j exports outside start taken block O
+no_types : (types : Types) → with_types types [] ≡ types
+no_types types = ap (λ (own : List Made). let t : Types = record types { own = own } in t) (nil_right types.own)
 
-  abbrev Th : List Declaration → List ℕ → Type 0
-  Th = There' g j lawful exports outside start taken block O takes
+module _ (g : Gathers) (j : Judges g) (lawful : Lawful g j) (exports : ℕ → Ident → Standing) (outside : Ident → Standing) (start : Scope g.Reported) (taken : List ℕ → Bool) (nested : Bool) (block : List Declaration)
+    (takes : (n : List ℕ) → TakenAs g j (taken n) (found n start.own)) (knows : Knows g j outside exports start) (no_withs : start.withs ≡ []) where
+  abbrev KB : List Resolved → List Declaration → (List ℕ → Type 0) → Scope g.Reported → Type 0
+  KB = KnowsBlock g j exports outside start taken nested block
 
-  abbrev Stand : List Declaration → (Ident → Standing) → Type 0
-  Stand = All g j exports outside start taken block O
+  abbrev Th : List Resolved → List ℕ → Type 0
+  Th = Theres g j lawful exports outside start taken nested block takes
 
-  abbrev Mis : List Declaration → Declaration → Breach → Type 0
-  Mis front d f = (i : (names : Ident → Standing) × Stand front names) × Misdeclares start.types i.0 exports d f
+  abbrev Stand : List Resolved → (Ident → Standing) → Type 0
+  Stand = All g j exports outside start taken nested block
 
-  abbrev Here : List Declaration → Declaration → Breach → Type 0
-  Here front d f = Twice (Th front) (names_of d) f ⊎ Mis front d f
+  abbrev Rep : Breach → Type 0
+  Rep f = Repeats g j outside start f
 
-  abbrev Told : (Breach → Type 0) → Result (Unit {0}) g.Reported → Type 0
-  Told B r = Tells g j lawful O B r
+  abbrev BI : List Resolved → Breach → Type 0
+  BI = BrokenIn start.types exports outside taken nested block
+
+  abbrev O : List Resolved → Breach → Type 0
+  O = Elsewhere g j exports outside start taken nested block
+
+  abbrev T : List Resolved → Types
+  T front = types_behind start.types front
+
+  abbrev Told : List Resolved → Result (Unit {0}) g.Reported → Type 0
+  Told front r = Tells g j lawful Rep (BI front) r
+
+  abbrev Mis : List Resolved → Declaration → Breach → Type 0
+  Mis front d f = (i : (names : Ident → Standing) × Stand front names) × Misdeclares (T front) i.0 exports d f
 
   -- behind one declaration more
-  abbrev Stepped : List Declaration → Declaration → (Breach → Type 0) → State (Unit {0}) g.Reported → Type 0
-  Stepped front d B st = KB (d ∷ front) (Th (d ∷ front)) st.0 × Told (λ f. B f ⊎ Here front d f) st.1
+  abbrev Stepped : List Resolved → Resolved → List Declaration → State (Unit {0}) g.Reported → Type 0
+  Stepped front d ds st = KB (d ∷ front) ds (Th (d ∷ front)) st.0 × Told (d ∷ front) st.1
 
-  abbrev Into : List Declaration → Declaration → Type 0
-  Into front d = (f : Breach) (names : Ident → Standing) → Stand front names → Misdeclares start.types names exports d f → O f
+  -- ---- what is reported
 
-  names_adding : (d : Declaration) (There : List ℕ → Type 0) (n : List ℕ) → Adding (names_of d) There n → Declares d n ⊎ There n
-  names_adding d There n h = added (names_of d) There n h
+  more_tells : {Q U B : Breach → Type 0} {r : Result (Unit {0}) g.Reported} → ((f : Breach) → Q f → U f) → Tells g j lawful Q B r → Tells g j lawful U B r
+  more_tells h (silent n) = silent n
+  more_tells h (tells r a) = tells r (record { only = λ f m. elim (a.only f m) [ inl b ↦ inl b | inr q ↦ inr (h f q) ]; each = a.each })
 
-  module _ (front : List Declaration) (d : Declaration) (in_block : Among d block) (into : Into front d) where
+  closed : {front : List Resolved} {C : Breach → Type 0} {r : Result (Unit {0}) g.Reported} → ((f : Breach) → BI front f → C f) → Tells g j lawful (O front) C r → Tells g j lawful Rep C r
+  closed h (silent n) = silent n
+  closed h (tells r a) = tells r (record { only = λ f m. elim (a.only f m) [ inl c ↦ inl c | inr o ↦ elim o [ inl q ↦ inr q | inr b ↦ inl (h f b) ] ]; each = a.each })
+
+  told_here : {front : List Resolved} {r : Result (Unit {0}) g.Reported} → Told front r → Tells g j lawful (O front) (BI front) r
+  told_here t = more_tells (λ f q. inl q) t
+
+  abbrev Parts : List Resolved → Resolved → Breach → Type 0
+  Parts front d f = BI front f ⊎ (Twice (Th front) (names_of d.what) f ⊎ (Twice (λ n. ⊥) (formals_in d.what) f ⊎ Mis front d.what f))
+
+  parts_broken : {front : List Resolved} {d : Resolved} (f : Breach) → Parts front d f → BI (d ∷ front) f
+  parts_broken f (inl b) = rules.in_front b
+  parts_broken f (inr (inl t)) = rules.twice t
+  parts_broken f (inr (inr (inl t))) = rules.formal_twice t
+  parts_broken f (inr (inr (inr (i, m)))) = rules.inside i.1 m
+
+  broken_parts : {front : List Resolved} {d : Resolved} (f : Breach) → BI (d ∷ front) f → Parts front d f
+  broken_parts f (rules.in_front b) = inl b
+  broken_parts f (rules.twice t) = inr (inl t)
+  broken_parts f (rules.formal_twice t) = inr (inr (inl t))
+  broken_parts f (rules.inside {names = names} all m) = inr (inr (inr ((names, all), m)))
+
+  -- from its parts, in whatever order
+  told_parts : {front : List Resolved} (d : Resolved) {C : Breach → Type 0} {r : Result (Unit {0}) g.Reported} → ((f : Breach) → C f → Parts front d f) → ((f : Breach) → Parts front d f → C f) → Tells g j lawful (O front) C r → Told (d ∷ front) r
+  told_parts d to from t = tells_as g j lawful Rep (λ f c. parts_broken f (to f c)) (λ f b. from f (broken_parts f b)) (closed (λ f b. from f (inl b)) t)
+
+  -- ---- a declaration that makes no type
+
+  module _ (front : List Resolved) (d : Resolved) (ds : List Declaration) (undeclared : in_front_of d.what ≡ Undeclared) (unknown : without d.what ≡ Unknown) (no_formals : formals_in d.what ≡ []) (none : d.makes ≡ []) where
     abbrev Begun : List ℕ → Type 0
-    Begun = Adding (names_of d) (Th front)
+    Begun = Adding (names_of d.what) (Th front)
 
-    any_name : (x : Ident) → Among x (names_of d) → AnyDeclares block x.name
-    any_name x m = (d, in_block, (x, m, refl))
+    named : (x : Ident) → Among x (names_of d.what) → Declares d.what x.name
+    named x m = (x, m, refl)
+
+    same_types : T (d ∷ front) ≡ T front
+    same_types = ap (λ (ms : List Made). with_types (T front) ms) none ∙ no_types (T front)
+
+    formals_silent : (f : Breach) → Twice (λ n. ⊥) (formals_in d.what) f → ⊥
+    formals_silent f t = subst (λ (xs : List Ident). Twice (λ n. ⊥) xs f) no_formals t
 
     -- the scope while its parts are read
-    module _ {s : Scope g.Reported} (k : KB front Begun s) where
+    module _ {s : Scope g.Reported} (k : KB front (d.what ∷ ds) Begun s) where
       abbrev Read : {names : Ident → Standing} → Stand front names → Knows g j names exports s
-      Read all = knowing g j exports outside start taken block O knows no_withs repeats k all
+      Read all = knowing g j exports outside start taken nested block knows no_withs k all
 
       abbrev names_here : Ident → Standing
-      names_here = standings g j exports outside start taken block O knows no_withs repeats k
+      names_here = standings g j exports outside start taken nested block knows no_withs k
 
       stand_here : Stand front names_here
-      stand_here = all_stand g j exports outside start taken block O knows no_withs repeats k
+      stand_here = all_stand g j exports outside start taken nested block knows no_withs k
 
-      abbrev Repeat : {names : Ident → Standing} → Stand front names → (f : Breach) → Repeats g j names s f → O f
-      Repeat all = repeating g j exports outside start taken block O knows no_withs repeats k all
+      abbrev Repeat : {names : Ident → Standing} → Stand front names → (f : Breach) → Repeats g j names s f → O front f
+      Repeat all = repeating g j exports outside start taken nested block knows no_withs k all
 
       abbrev Mid : (List ℕ → Type 0) → Scope g.Reported → Type 0
-      Mid done t = KnowsMid g j lawful exports outside start taken block O takes front d Begun done t
+      Mid done t = KnowsMid g j lawful exports outside start taken nested block takes front d ds Begun done t
 
-      abbrev Exact : {A : Type 0} → (A → Standing → Type 0) → Result A g.Reported → Type 0
-      Exact Is r = Exactly g j lawful exports outside start taken block O Is front d r
-
-      one_finished : (x : Ident) → Among x (names_of d) → {m : Result Meaning g.Reported} → Saying g j exports outside start taken block O front d m → (done : List ℕ → Type 0) {t : Scope g.Reported} → Mid done t → Mid (λ n. (x.name ≡ n) ⊎ done n) (finished t x m)
-      one_finished x a {m = m} say done q = finish_one g j lawful exports outside start taken block O takes front d Begun k.includes x (any_name x a) (adding_name (names_of d) (Th front) x.name x a refl) m say done q
-
-      ended : {t : Scope g.Reported} → Mid (Declares d) t → KB (d ∷ front) (Th (d ∷ front)) t
-      ended q = finish_end g j lawful exports outside start taken block O takes front d Begun k.within in_block (λ n h. adding_name (names_of d) (Th front) n h.0 h.1 h.2) (λ n h. names_adding d (Th front) n h) q
-
-      telling : {A : Type 0} (Is : A → Standing → Type 0) {r : Result A g.Reported} → Exact Is r → Told (Mis front d) (r ▷ λ a. Ok tt)
-      telling Is h = says_tells g j lawful exports outside start taken block O Is front d into h stand_here
-
-      says_it : {A : Type 0} (Is : A → Standing → Type 0) (made : A → Meaning) → ((a : A) (st : Standing) → Is a st → st ≡ standing (made a)) → {r : Result A g.Reported} → Exact Is r → Saying g j exports outside start taken block O front d (r ▷ λ a. Ok (made a))
-      says_it Is made i h = saying g j lawful exports outside start taken block O Is front d into made i h stand_here
+      abbrev Exact : {A : Type 0} → (A → Saids) → Result A g.Reported → Type 0
+      Exact said r = Exactly g j lawful exports outside start taken nested block said front d.what r
 
       begun_mid : Mid (λ n. ⊥) s
-      begun_mid = mid_begins g j lawful exports outside start taken block O takes front d Begun k
+      begun_mid = mid_begins g j lawful exports outside start taken nested block takes front d ds Begun k (record { withs = k.same.withs; outer = k.same.outer; types = k.same.types ∙ sym same_types; tables = k.same.tables; level = k.same.level }) refl
+
+      one_finished : (x : Ident) → Among x (names_of d.what) → {m : Result Meaning g.Reported} → Saying g j exports outside start taken nested block front d (known.Declared Here m) → (done : List ℕ → Type 0) {t : Scope g.Reported} → Mid done t → Mid (λ n. (x.name ≡ n) ⊎ done n) (finished t x m)
+      one_finished x a {m = m} say done q = finish_one g j lawful exports outside start taken nested block takes front d ds Begun k.includes x (k.in_block x.name (d.what, here, named x a)) (adding_name (names_of d.what) (Th front) x.name x a refl) m say done q
+
+      ended : {t : Scope g.Reported} → Mid (Declares d.what) t → KB (d ∷ front) ds (Th (d ∷ front)) t
+      ended q = finish_end g j lawful exports outside start taken nested block takes front d ds Begun k.within k.in_block k.left (λ n h. adding_name (names_of d.what) (Th front) n h.0 h.1 h.2) (λ n h. added (names_of d.what) (Th front) n h) q
+
+      telling : {A : Type 0} (said : A → Saids) {r : Result A g.Reported} → Exact said r → Tells g j lawful (O front) (Mis front d.what) (r ▷ λ a. Ok tt)
+      telling said h = says_tells g j lawful exports outside start taken nested block said front d h stand_here
+
+      says_it : {A : Type 0} (said : A → Saids) (made : A → Meaning) → ((a : A) → (said a).1 ≡ standing (made a)) → ((a : A) → [] ≡ (said a).0) → ((a : A) → standing_of (made a) ≡ place.Taken) → {r : Result A g.Reported} → Exact said r
+          → Saying g j exports outside start taken nested block front d (known.Declared Here (r ▷ λ a. Ok (made a)))
+      says_it said made i e t h = saying g j lawful exports outside start taken nested block said front d made i h (λ a q. none ∙ e a) unknown t stand_here
+
+    -- what is reported, if one name is begun
+    told_one : {x : Ident} {r b v : Result (Unit {0}) g.Reported} → names_of d.what ≡ x ∷ [] → Told front r → Tells g j lawful (O front) (λ f. Th front x.name × (f ≡ x.pos ! rule.DeclaredTwice)) b → Tells g j lawful (O front) (Mis front d.what) v → Told (d ∷ front) (beside g r (beside g b v))
+    told_one {x = x} e a b c = told_parts d (λ f z. to f z) (λ f z. from f z) (beside_tells g j lawful (O front) (told_here a) (beside_tells g j lawful (O front) b c))
+      where
+        to : (f : Breach) → BI front f ⊎ ((Th front x.name × (f ≡ x.pos ! rule.DeclaredTwice)) ⊎ Mis front d.what f) → Parts front d f
+        to f (inl z) = inl z
+        to f (inr (inl t)) = inr (inl (subst (λ (xs : List Ident). Twice (Th front) xs f) (sym e) (inl t)))
+        to f (inr (inr m)) = inr (inr (inr m))
+
+        from : (f : Breach) → Parts front d f → BI front f ⊎ ((Th front x.name × (f ≡ x.pos ! rule.DeclaredTwice)) ⊎ Mis front d.what f)
+        from f (inl z) = inl z
+        from f (inr (inl t)) = inr (inl (elim (subst (λ (xs : List Ident). Twice (Th front) xs f) e t) [ inl y ↦ y | inr y ↦ absurd y ]))
+        from f (inr (inr (inl t))) = absurd (formals_silent f t)
+        from f (inr (inr (inr m))) = inr (inr m)
+
+    -- the same of a list of names
+    told_list : {b v : Result (Unit {0}) g.Reported} → Tells g j lawful (O front) (λ f. BI front f ⊎ Twice (Th front) (names_of d.what) f) b → Tells g j lawful (O front) (Mis front d.what) v → Told (d ∷ front) (beside g b v)
+    told_list b c = told_parts d (λ f z. elim z [ inl y ↦ elim y [ inl w ↦ inl w | inr t ↦ inr (inl t) ] | inr m ↦ inr (inr (inr m)) ]) (λ f z. from f z) (beside_tells g j lawful (O front) b c)
+      where
+        from : (f : Breach) → Parts front d f → (BI front f ⊎ Twice (Th front) (names_of d.what) f) ⊎ Mis front d.what f
+        from f (inl z) = inl (inl z)
+        from f (inr (inl t)) = inl (inr t)
+        from f (inr (inr (inl t))) = absurd (formals_silent f t)
+        from f (inr (inr (inr m))) = inr m
 
   -- the name of a declaration of one name
   only_name : {x : Ident} {n : List ℕ} → (x.name ≡ n) ⊎ ⊥ → (y : Ident) × Among y (x ∷ []) × (y.name ≡ n)
@@ -123,25 +219,21 @@ module _ (g : Gathers) (j : Judges g) (lawful : Lawful g j) (exports : ℕ → I
   name_only (y, here, e) = inl e
   name_only (y, later m, e) = elim m [ ]
 
-  told_one : {front : List Declaration} {d : Declaration} {x : Ident} {B : Breach → Type 0} {r b v : Result (Unit {0}) g.Reported} → names_of d ≡ x ∷ [] → Told B r → Told (λ f. Twice (Th front) (x ∷ []) f) b → Told (Mis front d) v → Told (λ f. B f ⊎ Here front d f) (beside g r (beside g b v))
-  told_one {front = front} {d = d} {B = B} e a b c = tells_as g j lawful O (λ f z. elim z [ inl y ↦ inl y | inr y ↦ inr (elim y [ inl t ↦ inl (subst (λ (xs : List Ident). Twice (Th front) xs f) (sym e) t) | inr m ↦ inr m ]) ])
-      (λ f z. elim z [ inl y ↦ inl y | inr y ↦ inr (elim y [ inl t ↦ inl (subst (λ (xs : List Ident). Twice (Th front) xs f) e t) | inr m ↦ inr m ]) ]) (beside_tells g j lawful O a (beside_tells g j lawful O b c))
-
-  told_begun : {front : List Declaration} {x : Ident} {b : Result (Unit {0}) g.Reported} → Told (λ f. Th front x.name × (f ≡ x.pos ! rule.DeclaredTwice)) b → Told (λ f. Twice (Th front) (x ∷ []) f) b
-  told_begun t = tells_as g j lawful O (λ f z. inl z) (λ f z. elim z [ inl y ↦ y | inr y ↦ absurd y ]) t
+  abbrev plain_one : Declaration → Resolved
+  plain_one d = record { what = d; makes = [] }
 
   -- ---- constants
 
-  module _ (front : List Declaration) (c : Constant) (in_block : Among (OfConstant c) block) (into : Into front (OfConstant c)) (free : IsCallFree c.value) where
-    constant_exact : {s : Scope g.Reported} (k : KB front (Adding (c.name ∷ []) (Th front)) s) → Exactly g j lawful exports outside start taken block O IsValue front (OfConstant c) (constant g s (part g c.value))
-    constant_exact {s = s} k names all = more_answers g j lawful O (Repeat front (OfConstant c) in_block into k all) (constant_says g j lawful start.types names exports s (Read front (OfConstant c) in_block into k all) k.same.types c free)
+  module _ (front : List Resolved) (c : Constant) (ds : List Declaration) (free : IsCallFree c.value) where
+    constant_exact : {s : Scope g.Reported} (k : KB front (OfConstant c ∷ ds) (Adding (c.name ∷ []) (Th front)) s) → Exactly g j lawful exports outside start taken nested block said_constant front (OfConstant c) (constant g s (part g c.value))
+    constant_exact {s = s} k names all = more_answers g j lawful (O front) (Repeat front (plain_one (OfConstant c)) ds refl refl refl refl k all) (constant_says g j lawful nested (T front) names exports s (Read front (plain_one (OfConstant c)) ds refl refl refl refl k all) k.same.types c free)
 
-    declare_constant : {s : Scope g.Reported} {r : Result (Unit {0}) g.Reported} {B : Breach → Type 0} → KB front (Th front) s → Told B r → Stepped front (OfConstant c) B (with_constant g (s, r) c)
-    declare_constant k t = let b = begin_one g j lawful exports outside start taken block O takes front (Th front) c.name (OfConstant c, in_block, (c.name, here, refl)) k in
+    declare_constant : {s : Scope g.Reported} {r : Result (Unit {0}) g.Reported} → KB front (OfConstant c ∷ ds) (Th front) s → Told front r → Stepped front (plain_one (OfConstant c)) ds (with_constant g (s, r) c)
+    declare_constant k t = let b = begin_one g j lawful exports outside start taken nested block takes (O front) front (OfConstant c) ds refl (Th front) c.name (c.name, here, refl) k in
         let h = constant_exact b.0 in (
-          ended front (OfConstant c) in_block into b.0 (mid_as g j lawful exports outside start taken block O takes front (OfConstant c) (Adding (c.name ∷ []) (Th front)) (λ n z. only_name z) (λ n z. name_only z)
-              (one_finished front (OfConstant c) in_block into b.0 c.name here (says_it front (OfConstant c) in_block into b.0 IsValue (λ v. meaning.Constant v) (λ v st e. e) h) (λ n. ⊥) (begun_mid front (OfConstant c) in_block into b.0))),
-          told_one refl t (told_begun b.1) (telling front (OfConstant c) in_block into b.0 IsValue h),
+          ended front (plain_one (OfConstant c)) ds refl refl refl refl b.0 (mid_as g j lawful exports outside start taken nested block takes front (plain_one (OfConstant c)) ds (Adding (c.name ∷ []) (Th front)) (λ n z. only_name z) (λ n z. name_only z)
+              (one_finished front (plain_one (OfConstant c)) ds refl refl refl refl b.0 c.name here (says_it front (plain_one (OfConstant c)) ds refl refl refl refl b.0 said_constant (λ v. meaning.Constant v) (λ v. refl) (λ v. refl) (λ v. refl) h) (λ n. ⊥) (begun_mid front (plain_one (OfConstant c)) ds refl refl refl refl b.0))),
+          told_one front (plain_one (OfConstant c)) ds refl refl refl refl refl t b.1 (telling front (plain_one (OfConstant c)) ds refl refl refl refl b.0 said_constant h),
         )
 
   -- ---- types
@@ -149,55 +241,54 @@ module _ (g : Gathers) (j : Judges g) (lawful : Lawful g j) (exports : ℕ → I
   abbrev IsName : TypeExpr → Qualified → Type 0
   IsName e q = out-TypeExpr e ≡ type_layer.Simple (simple.Named q)
 
-  module _ (front : List Declaration) (d : TypeDecl) (in_block : Among (OfType d) block) (into : Into front (OfType d)) (q : Qualified) (named : IsName d.of q) where
-    type_exact : {s : Scope g.Reported} (k : KB front (Adding (d.name ∷ []) (Th front)) s) → Exactly g j lawful exports outside start taken block O IsAType front (OfType d) (named_type g s q)
-    type_exact {s = s} k names all = more_answers g j lawful O (Repeat front (OfType d) in_block into k all) (of_type_says g j lawful start.types names exports s (Read front (OfType d) in_block into k all) k.same.types d q named)
+  module _ (front : List Resolved) (d : TypeDecl) (ds : List Declaration) (q : Qualified) (is_name : IsName d.of q) where
+    type_exact : {s : Scope g.Reported} (k : KB front (OfType d ∷ ds) (Adding (d.name ∷ []) (Th front)) s) → Exactly g j lawful exports outside start taken nested block said_type front (OfType d) (named_type g s q)
+    type_exact {s = s} k names all = more_answers g j lawful (O front) (Repeat front (plain_one (OfType d)) ds refl refl refl refl k all) (of_type_says g j lawful nested (T front) names exports s (Read front (plain_one (OfType d)) ds refl refl refl refl k all) k.same.types d q is_name)
 
-    type_ended : {s : Scope g.Reported} {r b : Result (Unit {0}) g.Reported} {B : Breach → Type 0} → KB front (Adding (d.name ∷ []) (Th front)) s → Told B r → Told (λ f. Twice (Th front) (d.name ∷ []) f) b
-        → Stepped front (OfType d) B (finished s d.name (type_meaning (named_type g s q) (brings_with d.of)), beside g r (beside g b (nothing_of (named_type g s q))))
+    type_ended : {s : Scope g.Reported} {r b : Result (Unit {0}) g.Reported} → KB front (OfType d ∷ ds) (Adding (d.name ∷ []) (Th front)) s → Told front r → Tells g j lawful (O front) (λ f. Th front d.name.name × (f ≡ d.name.pos ! rule.DeclaredTwice)) b
+        → Stepped front (plain_one (OfType d)) ds (finished s d.name (type_meaning (named_type g s q) (brings_with d.of)), beside g r (beside g b (nothing_of (named_type g s q))))
     type_ended k t w = let h = type_exact k in (
-      ended front (OfType d) in_block into k (mid_as g j lawful exports outside start taken block O takes front (OfType d) (Adding (d.name ∷ []) (Th front)) (λ n z. only_name z) (λ n z. name_only z)
-          (one_finished front (OfType d) in_block into k d.name here (says_it front (OfType d) in_block into k IsAType (λ t. meaning.Type t (brings_with d.of)) (λ t st e. e) h) (λ n. ⊥) (begun_mid front (OfType d) in_block into k))),
-      told_one refl t w (telling front (OfType d) in_block into k IsAType h),
+      ended front (plain_one (OfType d)) ds refl refl refl refl k (mid_as g j lawful exports outside start taken nested block takes front (plain_one (OfType d)) ds (Adding (d.name ∷ []) (Th front)) (λ n z. only_name z) (λ n z. name_only z)
+          (one_finished front (plain_one (OfType d)) ds refl refl refl refl k d.name here (says_it front (plain_one (OfType d)) ds refl refl refl refl k said_type (λ t. meaning.Type t (brings_with d.of)) (λ t. refl) (λ t. refl) (λ t. refl) h) (λ n. ⊥) (begun_mid front (plain_one (OfType d)) ds refl refl refl refl k))),
+      told_one front (plain_one (OfType d)) ds refl refl refl refl refl t w (telling front (plain_one (OfType d)) ds refl refl refl refl k said_type h),
     )
 
-    declare_type : {s : Scope g.Reported} {r : Result (Unit {0}) g.Reported} {B : Breach → Type 0} → KB front (Th front) s → Told B r → Stepped front (OfType d) B (with_type g (s, r) d)
-    declare_type {s = s} {r = r} {B = B} k t = let b = begin_one g j lawful exports outside start taken block O takes front (Th front) d.name (OfType d, in_block, (d.name, here, refl)) k in
-        subst (λ (y : State TypeNo g.Reported). Stepped front (OfType d) B (finished y.0 d.name (type_meaning y.1 (brings_with d.of)), beside g r (beside g (begun g s d.name).1 (nothing_of y.1)))) (sym (named_is g d.of q named (begun g s d.name).0))
-        (type_ended b.0 t (told_begun b.1))
+    declare_type : {s : Scope g.Reported} {r : Result (Unit {0}) g.Reported} → KB front (OfType d ∷ ds) (Th front) s → Told front r → Stepped front (plain_one (OfType d)) ds (with_type g (s, r) d)
+    declare_type {s = s} {r = r} k t = let b = begin_one g j lawful exports outside start taken nested block takes (O front) front (OfType d) ds refl (Th front) d.name (d.name, here, refl) k in
+        subst (λ (y : State TypeNo g.Reported). Stepped front (plain_one (OfType d)) ds (finished y.0 d.name (type_meaning y.1 (brings_with d.of)), beside g r (beside g (begun g s d.name).1 (nothing_of y.1)))) (sym (named_is g d.of q is_name (begun g s d.name).0))
+        (type_ended b.0 t b.1)
 
   -- ---- variables
 
-  module _ (front : List Declaration) (v : Variables) (in_block : Among (OfVariables v) block) (into : Into front (OfVariables v)) (q : Qualified) (named : IsName v.of q) where
-    variables_exact : {s : Scope g.Reported} (k : KB front (Adding v.names (Th front)) s) → Exactly g j lawful exports outside start taken block O IsAVariable front (OfVariables v) (named_type g s q)
-    variables_exact {s = s} k names all = more_answers g j lawful O (Repeat front (OfVariables v) in_block into k all) (variables_say g j lawful start.types names exports s (Read front (OfVariables v) in_block into k all) k.same.types v q named)
+  module _ (front : List Resolved) (v : Variables) (ds : List Declaration) (q : Qualified) (is_name : IsName v.of q) where
+    variables_exact : {s : Scope g.Reported} (k : KB front (OfVariables v ∷ ds) (Adding v.names (Th front)) s) → Exactly g j lawful exports outside start taken nested block said_variables front (OfVariables v) (named_type g s q)
+    variables_exact {s = s} k names all = more_answers g j lawful (O front) (Repeat front (plain_one (OfVariables v)) ds refl refl refl refl k all) (variables_say g j lawful nested (T front) names exports s (Read front (plain_one (OfVariables v)) ds refl refl refl refl k all) k.same.types v q is_name)
 
-    module _ {s : Scope g.Reported} (k : KB front (Adding v.names (Th front)) s) where
+    module _ {s : Scope g.Reported} (k : KB front (OfVariables v ∷ ds) (Adding v.names (Th front)) s) where
       abbrev MidOf : (List ℕ → Type 0) → Scope g.Reported → Type 0
-      MidOf done t = Mid front (OfVariables v) in_block into k done t
+      MidOf done t = Mid front (plain_one (OfVariables v)) ds refl refl refl refl k done t
 
       typed_mid : {done : List ℕ → Type 0} {t : Scope g.Reported} (r : Result TypeNo g.Reported) → MidOf done t → MidOf done (with_variable_type t r)
       typed_mid (Ok u) m = record { same = record { withs = m.same.withs; outer = m.same.outer; types = m.same.types; tables = m.same.tables; level = m.same.level }; own = m.own }
       typed_mid (Err e) m = m
 
       -- one variable after another
-      finish_each : (made : Scope g.Reported → TypeNo → Meaning) → ((t : Scope g.Reported) (a : TypeNo) (st : Standing) → IsAVariable a st → st ≡ standing (made t a)) → (xs : List Ident) → ((x : Ident) → Among x xs → Among x v.names) → (done : List ℕ → Type 0) {t : Scope g.Reported} → MidOf done t
+      finish_each : (made : Scope g.Reported → TypeNo → Meaning) → ((t : Scope g.Reported) (a : TypeNo) → (said_variables a).1 ≡ standing (made t a)) → ((t : Scope g.Reported) (a : TypeNo) → standing_of (made t a) ≡ place.Taken) → (xs : List Ident) → ((x : Ident) → Among x xs → Among x v.names) → (done : List ℕ → Type 0) {t : Scope g.Reported} → MidOf done t
           → MidOf (Adding xs done) (fold (λ t x. finished (with_variable_type t (named_type g s q)) x (named_type g s q ▷ λ a. Ok (made t a))) t xs)
-      finish_each made i [] a done m = m
-      finish_each made i (x ∷ xs) a done {t = t} m = finish_each made i xs (λ y n. a y (later n)) (λ n. (x.name ≡ n) ⊎ done n)
-          (one_finished front (OfVariables v) in_block into k x (a x here) (says_it front (OfVariables v) in_block into k IsAVariable (made t) (i t) (variables_exact k)) done (typed_mid (named_type g s q) m))
+      finish_each made i z [] a done m = m
+      finish_each made i z (x ∷ xs) a done {t = t} m = finish_each made i z xs (λ y n. a y (later n)) (λ n. (x.name ≡ n) ⊎ done n)
+          (one_finished front (plain_one (OfVariables v)) ds refl refl refl refl k x (a x here) (says_it front (plain_one (OfVariables v)) ds refl refl refl refl k said_variables (made t) (i t) (λ u. refl) (z t) (variables_exact k)) done (typed_mid (named_type g s q) m))
 
       names_done : (n : List ℕ) → Adding v.names (λ n. ⊥) n → Declares (OfVariables v) n
       names_done n h = elim (added v.names (λ n. ⊥) n h) [ inl w ↦ w | inr z ↦ absurd z ]
 
-      variables_ended : (made : Scope g.Reported → TypeNo → Meaning) → ((t : Scope g.Reported) (a : TypeNo) (st : Standing) → IsAVariable a st → st ≡ standing (made t a))
-          → KB (OfVariables v ∷ front) (Th (OfVariables v ∷ front)) (fold (λ t x. finished (with_variable_type t (named_type g s q)) x (named_type g s q ▷ λ a. Ok (made t a))) s v.names)
-      variables_ended made i = ended front (OfVariables v) in_block into k (mid_as g j lawful exports outside start taken block O takes front (OfVariables v) (Adding v.names (Th front)) names_done (λ n h. adding_name v.names (λ n. ⊥) n h.0 h.1 h.2)
-          (finish_each made i v.names (λ x m. m) (λ n. ⊥) (begun_mid front (OfVariables v) in_block into k)))
+      variables_ended : (made : Scope g.Reported → TypeNo → Meaning) → ((t : Scope g.Reported) (a : TypeNo) → (said_variables a).1 ≡ standing (made t a)) → ((t : Scope g.Reported) (a : TypeNo) → standing_of (made t a) ≡ place.Taken)
+          → KB (plain_one (OfVariables v) ∷ front) ds (Th (plain_one (OfVariables v) ∷ front)) (fold (λ t x. finished (with_variable_type t (named_type g s q)) x (named_type g s q ▷ λ a. Ok (made t a))) s v.names)
+      variables_ended made i z = ended front (plain_one (OfVariables v)) ds refl refl refl refl k (mid_as g j lawful exports outside start taken nested block takes front (plain_one (OfVariables v)) ds (Adding v.names (Th front)) names_done (λ n h. adding_name v.names (λ n. ⊥) n h.0 h.1 h.2)
+          (finish_each made i z v.names (λ x m. m) (λ n. ⊥) (begun_mid front (plain_one (OfVariables v)) ds refl refl refl refl k)))
 
-      variables_told : {b : Result (Unit {0}) g.Reported} {B : Breach → Type 0} → Told (λ f. B f ⊎ Twice (Th front) v.names f) b → Told (λ f. B f ⊎ Here front (OfVariables v) f) (beside g b (nothing_of (named_type g s q)))
-      variables_told t = tells_as g j lawful O (λ f z. elim z [ inl y ↦ elim y [ inl b ↦ inl b | inr w ↦ inr (inl w) ] | inr m ↦ inr (inr m) ]) (λ f z. elim z [ inl b ↦ inl (inl b) | inr y ↦ elim y [ inl w ↦ inl (inr w) | inr m ↦ inr m ] ])
-          (beside_tells g j lawful O t (telling front (OfVariables v) in_block into k IsAVariable (variables_exact k)))
+      variables_told : {b : Result (Unit {0}) g.Reported} → Tells g j lawful (O front) (λ f. BI front f ⊎ Twice (Th front) v.names f) b → Told (plain_one (OfVariables v) ∷ front) (beside g b (nothing_of (named_type g s q)))
+      variables_told t = told_list front (plain_one (OfVariables v)) ds refl refl refl refl t (telling front (plain_one (OfVariables v)) ds refl refl refl refl k said_variables (variables_exact k))
 
     abbrev variable_made : Scope g.Reported → TypeNo → Meaning
     variable_made t a = meaning.Variable (record { home = t.types.home; number = length t.variables; of = a })
@@ -205,144 +296,303 @@ module _ (g : Gathers) (j : Judges g) (lawful : Lawful g j) (exports : ℕ → I
     abbrev local_made : Scope g.Reported → TypeNo → Meaning
     local_made t a = meaning.Local (record { level = t.level; number = length t.variables; kind = kind.Variable; of = a })
 
-    begun_list : {s : Scope g.Reported} {r : Result (Unit {0}) g.Reported} {B : Breach → Type 0} → KB front (Th front) s → Told B r → KB front (Adding v.names (Th front)) (fold (begun_name g) (s, r) v.names).0 × Told (λ f. B f ⊎ Twice (Th front) v.names f) (fold (begun_name g) (s, r) v.names).1
-    begun_list k t = begin_all g j lawful exports outside start taken block O takes front v.names (Th front) (λ x m. (OfVariables v, in_block, (x, m, refl))) k t
+    begun_list : {s : Scope g.Reported} {r : Result (Unit {0}) g.Reported} → KB front (OfVariables v ∷ ds) (Th front) s → Told front r
+        → KB front (OfVariables v ∷ ds) (Adding v.names (Th front)) (fold (begun_name g) (s, r) v.names).0 × Tells g j lawful (O front) (λ f. BI front f ⊎ Twice (Th front) v.names f) (fold (begun_name g) (s, r) v.names).1
+    begun_list k t = begin_all g j lawful exports outside start taken nested block takes (O front) front (OfVariables v) ds refl v.names (Th front) (λ x m. (x, m, refl)) k (told_here t)
 
-    declare_variables : {s : Scope g.Reported} {r : Result (Unit {0}) g.Reported} {B : Breach → Type 0} → KB front (Th front) s → Told B r → Stepped front (OfVariables v) B (with_variables g (s, r) v)
-    declare_variables {s = s} {r = r} {B = B} k t = let b = begun_list k t in
-        subst (λ (y : State TypeNo g.Reported). Stepped front (OfVariables v) B (fold (finished_variable y.1) y.0 v.names, beside g (fold (begun_name g) (s, r) v.names).1 (nothing_of y.1))) (sym (named_is g v.of q named (fold (begun_name g) (s, r) v.names).0))
-        (variables_ended b.0 variable_made (λ t a st e. e), variables_told b.0 b.1)
+    declare_variables : {s : Scope g.Reported} {r : Result (Unit {0}) g.Reported} → KB front (OfVariables v ∷ ds) (Th front) s → Told front r → Stepped front (plain_one (OfVariables v)) ds (with_variables g (s, r) v)
+    declare_variables {s = s} {r = r} k t = let b = begun_list k t in
+        subst (λ (y : State TypeNo g.Reported). Stepped front (plain_one (OfVariables v)) ds (fold (finished_variable y.1) y.0 v.names, beside g (fold (begun_name g) (s, r) v.names).1 (nothing_of y.1))) (sym (named_is g v.of q is_name (fold (begun_name g) (s, r) v.names).0))
+        (variables_ended b.0 variable_made (λ t a. refl) (λ t a. refl), variables_told b.0 b.1)
 
-    declare_locals : {s : Scope g.Reported} {r : Result (Unit {0}) g.Reported} {B : Breach → Type 0} → KB front (Th front) s → Told B r → Stepped front (OfVariables v) B (with_locals g (s, r) v)
-    declare_locals {s = s} {r = r} {B = B} k t = let b = begun_list k t in
-        subst (λ (y : State TypeNo g.Reported). Stepped front (OfVariables v) B (fold (finished_local y.1) y.0 v.names, beside g (fold (begun_name g) (s, r) v.names).1 (nothing_of y.1))) (sym (named_is g v.of q named (fold (begun_name g) (s, r) v.names).0))
-        (variables_ended b.0 local_made (λ t a st e. e), variables_told b.0 b.1)
+    declare_locals : {s : Scope g.Reported} {r : Result (Unit {0}) g.Reported} → KB front (OfVariables v ∷ ds) (Th front) s → Told front r → Stepped front (plain_one (OfVariables v)) ds (with_locals g (s, r) v)
+    declare_locals {s = s} {r = r} k t = let b = begun_list k t in
+        subst (λ (y : State TypeNo g.Reported). Stepped front (plain_one (OfVariables v)) ds (fold (finished_local y.1) y.0 v.names, beside g (fold (begun_name g) (s, r) v.names).1 (nothing_of y.1))) (sym (named_is g v.of q is_name (fold (begun_name g) (s, r) v.names).0))
+        (variables_ended b.0 local_made (λ t a. refl) (λ t a. refl), variables_told b.0 b.1)
+
+  -- ---- names of formals
+
+  abbrev HasField : Fields → List ℕ → Type 0
+  HasField fs n = is_some (found n fs.names) ≡ true
+
+  module _ (Q : Breach → Type 0) where
+    -- names that are there
+    record Lists (There : List ℕ → Type 0) (fs : Fields) : Type 0 where
+      into : (n : List ℕ) → There n → HasField fs n
+      from : (n : List ℕ) → HasField fs n → There n
+
+    field_more : {There : List ℕ → Type 0} {fs : Fields} (x : Ident) (cells : ℕ) → Lists There fs → Lists (λ n. (x.name ≡ n) ⊎ There n) (record { names = entered x.name integer fs.names; cells = cells })
+    field_more {There = There} {fs = fs} x cells l = record { into = λ n. (all n).0; from = λ n. (all n).1 }
+      where
+        abbreviated : List ℕ → Option TypeNo → Type 0
+        abbreviated n o = ((x.name ≡ n) ⊎ There n → is_some o ≡ true) × (is_some o ≡ true → (x.name ≡ n) ⊎ There n)
+
+        all : (n : List ℕ) → ((x.name ≡ n) ⊎ There n → is_some (found n (entered x.name integer fs.names)) ≡ true) × (is_some (found n (entered x.name integer fs.names)) ≡ true → (x.name ≡ n) ⊎ There n)
+        all = entered_all (λ n o. ((x.name ≡ n) ⊎ There n → is_some o ≡ true) × (is_some o ≡ true → (x.name ≡ n) ⊎ There n)) x.name integer fs.names ((λ z. refl), (λ e. inl refl)) (λ n c. ((λ z. elim z [ inl e ↦ absurd (c e) | inr t ↦ l.into n t ]), (λ e. inr (l.from n e))))
+
+    field_same : {There : List ℕ → Type 0} {fs : Fields} (x : Ident) → HasField fs x.name → Lists There fs → Lists (λ n. (x.name ≡ n) ⊎ There n) fs
+    field_same {fs = fs} x h l = record { into = λ n z. elim z [ inl e ↦ subst (HasField fs) e h | inr t ↦ l.into n t ]; from = λ n e. inr (l.from n e) }
+
+    abbrev Tell : (Breach → Type 0) → Result (Unit {0}) g.Reported → Type 0
+    Tell B r = Tells g j lawful Q B r
+
+    abbrev Named' : (List ℕ → Type 0) → Ident → Fields × Result (Unit {0}) g.Reported → Type 0
+    Named' There x q = Lists (λ n. (x.name ≡ n) ⊎ There n) q.0 × Tell (λ f. There x.name × (f ≡ x.pos ! rule.DeclaredTwice)) q.1
+
+    field_by : {There : List ℕ → Type 0} (fs : Fields) (x : Ident) (b : Bool) → is_some (found x.name fs.names) ≡ b → Lists There fs → Named' There x (cond b (fs, reported g x.pos rule.DeclaredTwice) (record { names = entered x.name integer fs.names; cells = plus fs.cells 0 }, Ok tt))
+    field_by fs x true e l = (field_same x e l, tells (g.one (x.pos ! rule.DeclaredTwice)) (accounts_as g j lawful Q (λ f q. (l.from x.name e, q)) (λ f z. z.1) (accounts_one g j lawful Q (x.pos ! rule.DeclaredTwice))))
+    field_by fs x false e l = (field_more x (plus fs.cells 0) l, silent (λ f z. clash (l.into x.name z.0) e))
+
+    names_tell : (xs : List Ident) {There : List ℕ → Type 0} {fs : Fields} {r : Result (Unit {0}) g.Reported} {B : Breach → Type 0} → Lists There fs → Tell B r
+        → Lists (Adding xs There) (fold (with_name g integer 0) (fs, r) xs).0 × Tell (λ f. B f ⊎ Twice There xs f) (fold (with_name g integer 0) (fs, r) xs).1
+    names_tell [] l t = (l, tells_as g j lawful Q (λ f b. inl b) (λ f z. elim z [ inl b ↦ b | inr b ↦ absurd b ]) t)
+    names_tell (x ∷ xs) {fs = fs} l t = let q = field_by fs x (is_some (found x.name fs.names)) refl l in let z = names_tell xs q.0 (beside_tells g j lawful Q t q.1) in
+        (z.0, tells_as g j lawful Q (λ f z. elim z [ inl y ↦ elim y [ inl b ↦ inl b | inr w ↦ inr (inl w) ] | inr b ↦ inr (inr b) ]) (λ f z. elim z [ inl b ↦ inl (inl b) | inr y ↦ elim y [ inl w ↦ inl (inr w) | inr b ↦ inr b ] ]) z.1)
+
+    twice_join : (There : List ℕ → Type 0) (xs ys : List Ident) (f : Breach) → Twice There xs f ⊎ Twice (Adding xs There) ys f → Twice There (xs ++ ys) f
+    twice_join There [] ys f (inl z) = absurd z
+    twice_join There [] ys f (inr t) = t
+    twice_join There (x ∷ xs) ys f (inl (inl h)) = inl h
+    twice_join There (x ∷ xs) ys f (inl (inr t)) = inr (twice_join (λ n. (x.name ≡ n) ⊎ There n) xs ys f (inl t))
+    twice_join There (x ∷ xs) ys f (inr t) = inr (twice_join (λ n. (x.name ≡ n) ⊎ There n) xs ys f (inr t))
+
+    twice_split : (There : List ℕ → Type 0) (xs ys : List Ident) (f : Breach) → Twice There (xs ++ ys) f → Twice There xs f ⊎ Twice (Adding xs There) ys f
+    twice_split There [] ys f t = inr t
+    twice_split There (x ∷ xs) ys f (inl h) = inl (inl h)
+    twice_split There (x ∷ xs) ys f (inr t) = elim (twice_split (λ n. (x.name ≡ n) ⊎ There n) xs ys f t) [ inl y ↦ inl (inr y) | inr y ↦ inr y ]
+
+    sections_tell : (xs : List Section) {There : List ℕ → Type 0} {fs : Fields} {r : Result (Unit {0}) g.Reported} {B : Breach → Type 0} → Lists There fs → Tell B r → Tell (λ f. B f ⊎ Twice There (names_in xs) f) (fold (with_names g) (fs, r) xs).1
+    sections_tell [] l t = tells_as g j lawful Q (λ f b. inl b) (λ f z. elim z [ inl b ↦ b | inr b ↦ absurd b ]) t
+    sections_tell (x ∷ xs) {There = There} l t = let q = names_tell x.names l t in
+        tells_as g j lawful Q (λ f z. elim z [ inl y ↦ elim y [ inl b ↦ inl b | inr w ↦ inr (twice_join There x.names (names_in xs) f (inl w)) ] | inr w ↦ inr (twice_join There x.names (names_in xs) f (inr w)) ]) (λ f z. elim z [ inl b ↦ inl (inl b) | inr y ↦ elim (twice_split There x.names (names_in xs) f y) [ inl w ↦ inl (inr w) | inr w ↦ inr w ] ])
+        (sections_tell xs q.0 q.1)
+
+    no_fields_listed : Lists (λ n. ⊥) no_fields
+    no_fields_listed = record { into = λ n z. absurd z; from = λ n e. absurd cc }
+
+    formals_tell : (h : Heading) → Tell (λ f. Twice (λ n. ⊥) (names_in h.formals) f) (formals_told g h)
+    formals_tell h = tells_as g j lawful Q (λ f z. elim z [ inl b ↦ absurd b | inr t ↦ t ]) (λ f t. inr t) (sections_tell h.formals {B = λ f. ⊥} no_fields_listed (silent (λ f z. z)))
+
+  -- ---- procedures
+
+  module _ (level : nested ≡ not (start.level == 0)) (front : List Resolved) (h : Heading) (ds : List Declaration) {s : Scope g.Reported} (k : KB front (OfProcedure h ∷ ds) (Th front) s) where
+    abbrev said : Made → Saids
+    said = said_procedure nested (T front)
+
+    abbrev Exact' : Result Made g.Reported → Type 0
+    Exact' r = Exactly g j lawful exports outside start taken nested block said front (OfProcedure h) r
+
+    abbrev names_now : Ident → Standing
+    names_now = standings g j exports outside start taken nested block knows no_withs k
+
+    stand_now : Stand front names_now
+    stand_now = all_stand g j exports outside start taken nested block knows no_withs k
+
+    procedure_exact : Exact' (heading_of g s h)
+    procedure_exact names all = more_answers g j lawful (O front) (repeating g j exports outside start taken nested block knows no_withs k all) (procedure_says g j lawful nested (T front) names exports s (knowing g j exports outside start taken nested block knows no_withs k all) k.same.types h)
+
+    abbrev with_made' : List Made → Resolved
+    with_made' ms = record { what = OfProcedure h; makes = ms }
+
+    theres_apart : {n : List ℕ} → taken n ≡ false → (IsThere front n → ⊥) → Th front n → ⊥
+    theres_apart t c (inl u) = clash u t
+    theres_apart t c (inr a) = c a
+
+    declared_name : {n : List ℕ} → Declares (OfProcedure h) n → h.name.name ≡ n
+    declared_name m = elim (name_only m) [ inl e ↦ e | inr z ↦ absurd z ]
+
+    -- a name that is taken
+    taken_ends : Th front h.name.name → KB (with_made' [] ∷ front) ds (Th (with_made' [] ∷ front)) s
+    taken_ends th = finish_end g j lawful exports outside start taken nested block takes front (with_made' []) ds (Th front) k.within k.in_block k.left (λ n m. subst (Th front) (declared_name m) th) (λ n t. inr t)
+        (record {
+          same = record { withs = k.same.withs; outer = k.same.outer; types = k.same.types ∙ sym (no_types (T front)); tables = k.same.tables; level = k.same.level };
+          own = λ n. is_other (λ t c m. theres_apart t c (subst (Th front) (declared_name m) th)) (k.own n);
+        })
+
+    -- a new name
+    new_ends : (ms : List Made) (m : Known g.Reported) → Saying g j exports outside start taken nested block front (with_made' ms) m → (Th front h.name.name → ⊥) → {t : Scope g.Reported} → Same g j exports outside start taken nested block (T (with_made' ms ∷ front)) t → t.own ≡ s.own
+        → KB (with_made' ms ∷ front) ds (Th (with_made' ms ∷ front)) (with_known h.name.name m t)
+    new_ends ms m say new {t = t} same e = finish_end g j lawful exports outside start taken nested block takes front (with_made' ms) ds (λ n. (h.name.name ≡ n) ⊎ Th front n) k.within k.in_block k.left (λ n z. inl (declared_name z)) (λ n z. elim z [ inl q ↦ inl (h.name, here, q) | inr w ↦ inr w ])
+        (record {
+          same = record { withs = same.withs; outer = same.outer; types = same.types; tables = same.tables; level = same.level };
+          own = entered_all (λ n o. MidAs g j lawful exports outside start taken nested block takes front (with_made' ms) ds (λ n. (h.name.name ≡ n) ⊎ Th front n) (Declares (OfProcedure h)) n o) h.name.name m t.own
+              (is_done m (no_taken (taken h.name.name) refl) (λ a. new (inr a)) (h.name, here, refl) say)
+              (λ n c. is_other (λ u w z. c (declared_name z)) (subst (λ (own : List (List ℕ × Known g.Reported)). KnownAs g j exports outside start taken nested block front (λ n. (h.name.name ≡ n) ⊎ Th front n) n (found n own)) (sym e) (widen g j lawful exports outside start taken nested block takes h.name (λ q. absurd (c q)) (k.own n))));
+        })
+      where
+        no_taken : (b : Bool) → taken h.name.name ≡ b → taken h.name.name ≡ false
+        no_taken true q = absurd (new (inl q))
+        no_taken false q = q
+
+    -- what its heading means
+    abbrev meant_as : Scope g.Reported → (number : ℕ) → Result TypeNo g.Reported → State (Unit {0}) g.Reported → Type 0
+    meant_as t n r st = KB (with_made' [] ∷ front) ds (Th (with_made' [] ∷ front)) st.0
+
+    says_heading : (ms : List Made) (made : Made → Meaning) → ((m : Made) → (said m).1 ≡ standing (made m)) → {r : Result Made g.Reported} → Exact' r → ((m : Made) → r ≡ Ok m → ms ≡ m ∷ []) → Saying g j exports outside start taken nested block front (with_made' ms) (known.Headed (r ▷ λ m. Ok (made m)))
+    says_heading ms made i x e = saying_heading g j lawful exports outside start taken nested block said front (with_made' ms) made i x e refl stand_now
+
+    types_next : next_type (T front) ≡ next_type s.types
+    types_next = ap (λ (t : Types). next_type t) (sym k.same.types)
+
+    abbrev module_made : (home number : ℕ) → Made → Meaning
+    module_made home n m = meaning.Procedure (record { home = home; number = n; heading = next_type s.types })
+
+    abbrev nested_made : (number : ℕ) → Made → Meaning
+    nested_made n m = meaning.LocalProcedure (record { level = s.level; number = n; heading = next_type s.types })
+
+    module_is : nested ≡ false → (home n : ℕ) (m : Made) → (said m).1 ≡ standing (module_made home n m)
+    module_is e home n m = ap (λ (b : Bool). things.Known (procedure b (next_type (T front)))) e ∙ ap (λ (t : TypeNo). things.Known (things.AProcedure t)) types_next
+
+    nested_is : nested ≡ true → (n : ℕ) (m : Made) → (said m).1 ≡ standing (nested_made n m)
+    nested_is e n m = ap (λ (b : Bool). things.Known (procedure b (next_type (T front)))) e ∙ ap (λ (t : TypeNo). things.Known (things.ANested t)) types_next
+
+    same_made : (m : Made) → Same g j exports outside start taken nested block (T (with_made' (m ∷ []) ∷ front)) (with_shape s m)
+    same_made m = record { withs = k.same.withs; outer = k.same.outer; types = ap (λ (t : Types). with_types t (m ∷ [])) k.same.types; tables = k.same.tables; level = k.same.level }
+
+    same_none : Same g j exports outside start taken nested block (T (with_made' [] ∷ front)) s
+    same_none = record { withs = k.same.withs; outer = k.same.outer; types = k.same.types ∙ sym (no_types (T front)); tables = k.same.tables; level = k.same.level }
+
+    abbrev Ended : List Made → Scope g.Reported → Type 0
+    Ended ms t = KB (with_made' ms ∷ front) ds (Th (with_made' ms ∷ front)) t
+
+    one_only : {m n : Made} → ◌≡◌ {A = Result Made g.Reported} (Ok m) (Ok n) → m ∷ [] ≡ n ∷ []
+    one_only e = cc
+
+    made_ends : (n : ℕ) (m : Made) → Exact' (Ok m) → (Th front h.name.name → ⊥) → (b : Bool) → (s.level == 0) ≡ b → nested ≡ not b → Ended (m ∷ []) (new_procedure (with_shape s m) h.name.name n (Ok (next_type s.types)))
+    made_ends n m x new true e q = subst (λ (b : Bool). Ended (m ∷ []) (cond b (with_known h.name.name (known.Headed (Ok (meaning.Procedure (record { home = s.types.home; number = length s.procedures; heading = next_type s.types })))) (with_procedure_type (with_shape s m) (Ok (next_type s.types)))) (with_known h.name.name (known.Headed (Ok (nested_made n m))) (with_shape s m)))) (sym e)
+        (new_ends (m ∷ []) (known.Headed (Ok (module_made s.types.home (length s.procedures) m))) (says_heading (m ∷ []) (module_made s.types.home (length s.procedures)) (module_is q s.types.home (length s.procedures)) x (λ w z. one_only z)) new
+        (record { withs = (same_made m).withs; outer = (same_made m).outer; types = (same_made m).types; tables = (same_made m).tables; level = (same_made m).level }) refl)
+    made_ends n m x new false e q = subst (λ (b : Bool). Ended (m ∷ []) (cond b (with_known h.name.name (known.Headed (Ok (meaning.Procedure (record { home = s.types.home; number = length s.procedures; heading = next_type s.types })))) (with_procedure_type (with_shape s m) (Ok (next_type s.types)))) (with_known h.name.name (known.Headed (Ok (nested_made n m))) (with_shape s m)))) (sym e)
+        (new_ends (m ∷ []) (known.Headed (Ok (nested_made n m))) (says_heading (m ∷ []) (nested_made n) (nested_is q n) x (λ w z. one_only z)) new (same_made m) refl)
+
+    none_ends : (n : ℕ) (r : g.Reported) → Exact' (Err r) → (Th front h.name.name → ⊥) → (b : Bool) → (s.level == 0) ≡ b → nested ≡ not b → Ended [] (new_procedure s h.name.name n (Err r))
+    none_ends n r x new true e q = subst (λ (b : Bool). Ended [] (cond b (with_known h.name.name (known.Headed (Err r)) s) (with_known h.name.name (known.Headed (Err r)) s))) (sym e)
+        (new_ends [] (known.Headed (Err r)) (says_heading [] (module_made 0 0) (module_is q 0 0) x (λ m z. absurd cc)) new same_none refl)
+    none_ends n r x new false e q = subst (λ (b : Bool). Ended [] (cond b (with_known h.name.name (known.Headed (Err r)) s) (with_known h.name.name (known.Headed (Err r)) s))) (sym e)
+        (new_ends [] (known.Headed (Err r)) (says_heading [] (nested_made n) (nested_is q n) x (λ m z. absurd cc)) new same_none refl)
+
+    level_same : nested ≡ not (s.level == 0)
+    level_same = level ∙ ap (λ (l : ℕ). not (l == 0)) (sym k.same.level)
+
+    -- what is reported
+    telling_heading : {r : Result Made g.Reported} → Exact' r → Tells g j lawful (O front) (Mis front (OfProcedure h)) (r ▷ λ m. Ok tt)
+    telling_heading x = says_tells g j lawful exports outside start taken nested block said front (with_made' []) x stand_now
+
+    told_new : (ms : List Made) {r b v : Result (Unit {0}) g.Reported} → (Th front h.name.name → ⊥) → Told front r → Tells g j lawful (O front) (λ f. Twice (λ n. ⊥) (names_in h.formals) f) b → Tells g j lawful (O front) (Mis front (OfProcedure h)) v → Told (with_made' ms ∷ front) (beside g r (beside g b v))
+    told_new ms new a b c = told_parts (with_made' ms) (λ f z. elim z [ inl y ↦ inl y | inr y ↦ inr (inr y) ]) (λ f z. back f z) (beside_tells g j lawful (O front) (told_here a) (beside_tells g j lawful (O front) b c))
+      where
+        back : (f : Breach) → Parts front (with_made' ms) f → BI front f ⊎ (Twice (λ n. ⊥) (names_in h.formals) f ⊎ Mis front (OfProcedure h) f)
+        back f (inl z) = inl z
+        back f (inr (inl (inl t))) = absurd (new t.0)
+        back f (inr (inl (inr t))) = absurd t
+        back f (inr (inr y)) = inr y
+
+    told_taken : {r b v : Result (Unit {0}) g.Reported} → Th front h.name.name → Told front r → Tells g j lawful (O front) (λ f. Twice (λ n. ⊥) (names_in h.formals) f) b → Tells g j lawful (O front) (Mis front (OfProcedure h)) v → Told (with_made' [] ∷ front) (beside g r (beside g b (beside g v (reported g h.name.pos rule.DeclaredTwice))))
+    told_taken th a b c = told_parts (with_made' []) (λ f z. to f z) (λ f z. back f z) (beside_tells g j lawful (O front) (told_here a) (beside_tells g j lawful (O front) b (beside_tells g j lawful (O front) c
+        (tells (g.one (h.name.pos ! rule.DeclaredTwice)) (accounts_one g j lawful (O front) (h.name.pos ! rule.DeclaredTwice))))))
+      where
+        to : (f : Breach) → BI front f ⊎ (Twice (λ n. ⊥) (names_in h.formals) f ⊎ (Mis front (OfProcedure h) f ⊎ (f ≡ h.name.pos ! rule.DeclaredTwice))) → Parts front (with_made' []) f
+        to f (inl z) = inl z
+        to f (inr (inl t)) = inr (inr (inl t))
+        to f (inr (inr (inl m))) = inr (inr (inr m))
+        to f (inr (inr (inr e))) = inr (inl (inl (th, e)))
+
+        back : (f : Breach) → Parts front (with_made' []) f → BI front f ⊎ (Twice (λ n. ⊥) (names_in h.formals) f ⊎ (Mis front (OfProcedure h) f ⊎ (f ≡ h.name.pos ! rule.DeclaredTwice)))
+        back f (inl z) = inl z
+        back f (inr (inl (inl t))) = inr (inr (inr t.1))
+        back f (inr (inl (inr t))) = absurd t
+        back f (inr (inr (inl t))) = inr (inl t)
+        back f (inr (inr (inr m))) = inr (inr (inl m))
+
+    -- all of it
+    abbrev Done' : State (Unit {0}) g.Reported → Result (Unit {0}) g.Reported → Type 0
+    Done' st r = (ms : List Made) × KB (with_made' ms ∷ front) ds (Th (with_made' ms ∷ front)) st.0 × Told (with_made' ms ∷ front) (beside g r (beside g (formals_told g h) st.1))
+
+    new_by : (n : ℕ) (made : Result Made g.Reported) → Exact' made → (Th front h.name.name → ⊥) → {r : Result (Unit {0}) g.Reported} → Told front r → Done' (with_new s h.name.name n made) r
+    new_by n (Ok m) x new t = (m ∷ [], made_ends n m x new (s.level == 0) refl level_same, told_new (m ∷ []) new t (formals_tell (O front) h) (telling_heading x))
+    new_by n (Err e) x new t = ([], none_ends n e x new (s.level == 0) refl level_same, told_new [] new t (formals_tell (O front) h) (telling_heading x))
+
+    headed_by : (n : ℕ) (made : Result Made g.Reported) → Exact' made → {pl : Place} → PlaceIs g j lawful exports outside start taken nested block takes front (Th front) k.includes h.name.name (k.in_block h.name.name (OfProcedure h, here, (h.name, here, refl))) pl → {r : Result (Unit {0}) g.Reported} → Told front r → Done' (headed_as g s h n made pl) r
+    headed_by n made x (place_free new) t = new_by n made x new t
+    headed_by n made x (place_taken th) t = ([], taken_ends th, told_taken th t (formals_tell (O front) h) (telling_heading x))
+
+    declare_procedure : (n : ℕ) {r : Result (Unit {0}) g.Reported} → Told front r → (ms : List Made) × Stepped front (with_made' ms) ds ((with_heading g s n h).0, beside g r (with_heading g s n h).1)
+    declare_procedure n t = let q = headed_by n (heading_of g s h) procedure_exact (place_is g j lawful exports outside start taken nested block takes front (Th front) k.includes h.name.name (k.in_block h.name.name (OfProcedure h, here, (h.name, here, refl))) (λ d i t c. theres_apart t c) (k.own h.name.name)) t in (q.0, (q.1, q.2))
 
   -- ---- one declaration after another
 
-  abbrev BD : List Declaration → List Declaration → Breach → Type 0
-  BD = BrokenDeclarations start.types exports outside taken block
+  abbrev Ran : List Resolved → List Declaration → List Declaration → State (Unit {0}) g.Reported → Type 0
+  Ran front xs rest st = (fs : List Resolved) × (in_order fs ≡ in_order front ++ xs) × (KB fs rest (Th fs) st.0 × Told fs st.1)
 
-  abbrev Ran : List Declaration → List Declaration → (Breach → Type 0) → State (Unit {0}) g.Reported → Type 0
-  Ran front ds B st = KB (with_declarations front ds) (Th (with_declarations front ds)) st.0 × Told (λ f. B f ⊎ BD front ds f) st.1
+  abbrev One : List Resolved → Declaration → List Declaration → State (Unit {0}) g.Reported → Type 0
+  One front x ds st = (d : Resolved) × (d.what ≡ x) × Stepped front d ds st
 
-  broken_first : {front ds : List Declaration} {d : Declaration} {f : Breach} → Here front d f ⊎ BD (d ∷ front) ds f → BD front (d ∷ ds) f
-  broken_first (inl (inl t)) = rules.twice t
-  broken_first (inl (inr (i, m))) = rules.inside i.1 m
-  broken_first (inr b) = rules.behind b
+  ran_nothing : {front : List Resolved} {rest : List Declaration} {s : Scope g.Reported} {r : Result (Unit {0}) g.Reported} → KB front rest (Th front) s → Told front r → Ran front [] rest (s, r)
+  ran_nothing {front = front} k t = (front, sym (nil_right (in_order front)), (k, t))
 
-  first_broken : {front ds : List Declaration} {d : Declaration} {f : Breach} → BD front (d ∷ ds) f → Here front d f ⊎ BD (d ∷ front) ds f
-  first_broken (rules.twice t) = inl (inl t)
-  first_broken (rules.inside {names = names} all m) = inl (inr ((names, all), m))
-  first_broken (rules.behind b) = inr b
-
-  broken_join : (ds : List Declaration) {front es : List Declaration} {f : Breach} → BD front ds f ⊎ BD (with_declarations front ds) es f → BD front (ds ++ es) f
-  broken_join [] (inl b) = elim b [ ]
-  broken_join [] (inr b) = b
-  broken_join (d ∷ ds) (inl b) = elim (first_broken b) [ inl h ↦ broken_first (inl h) | inr c ↦ broken_first (inr (broken_join ds (inl c))) ]
-  broken_join (d ∷ ds) (inr b) = broken_first (inr (broken_join ds (inr b)))
-
-  broken_split : (ds : List Declaration) {front es : List Declaration} {f : Breach} → BD front (ds ++ es) f → BD front ds f ⊎ BD (with_declarations front ds) es f
-  broken_split [] b = inr b
-  broken_split (d ∷ ds) b = elim (first_broken b) [ inl h ↦ inl (broken_first (inl h)) | inr c ↦ elim (broken_split ds c) [ inl y ↦ inl (broken_first (inr y)) | inr y ↦ inr y ] ]
-
-  behind_join : (ds es front : List Declaration) → with_declarations front (ds ++ es) ≡ with_declarations (with_declarations front ds) es
-  behind_join [] es front = refl
-  behind_join (d ∷ ds) es front = behind_join ds es (d ∷ front)
-
-  ran_join : (ds es front : List Declaration) {B : Breach → Type 0} {st : State (Unit {0}) g.Reported} → Ran (with_declarations front ds) es (λ f. B f ⊎ BD front ds f) st → Ran front (ds ++ es) B st
-  ran_join ds es front {B = B} {st = st} r = (
-    subst (λ (fs : List Declaration). KB fs (Th fs) st.0) (sym (behind_join ds es front)) r.0,
-    tells_as g j lawful O (λ f z. elim z [ inl y ↦ elim y [ inl b ↦ inl b | inr c ↦ inr (broken_join ds (inl c)) ] | inr c ↦ inr (broken_join ds (inr c)) ])
-        (λ f z. elim z [ inl b ↦ inl (inl b) | inr c ↦ elim (broken_split ds c) [ inl y ↦ inl (inr y) | inr y ↦ inr y ] ]) r.1,
-  )
+  in_order_more : (front fs : List Resolved) (d : Resolved) (xs : List Declaration) {x : Declaration} → d.what ≡ x → in_order fs ≡ in_order (d ∷ front) ++ xs → in_order fs ≡ in_order front ++ x ∷ xs
+  in_order_more front fs d xs e q = q ∙ append_assoc (in_order front) (d.what ∷ []) xs ∙ ap (λ (x : Declaration). in_order front ++ x ∷ xs) e
 
   -- a section
   module _ {X : Type 0} (f : State (Unit {0}) g.Reported → X → State (Unit {0}) g.Reported) (of : X → Declaration) where
-    abbrev Steps : List X → Type 1
-    Steps xs = (x : X) → Among x xs → (front : List Declaration) → Into front (of x) → (s : Scope g.Reported) (r : Result (Unit {0}) g.Reported) (B : Breach → Type 0) → KB front (Th front) s → Told B r → Stepped front (of x) B (f (s, r) x)
+    abbrev Steps : List X → Type 0
+    Steps xs = (x : X) → Among x xs → (front : List Resolved) (ds : List Declaration) (s : Scope g.Reported) (r : Result (Unit {0}) g.Reported) → KB front (of x ∷ ds) (Th front) s → Told front r → One front (of x) ds (f (s, r) x)
 
-    section_ran : (xs : List X) → Steps xs → (front : List Declaration) → ((b : Breach) → BD front (map of xs) b → O b) → {s : Scope g.Reported} {r : Result (Unit {0}) g.Reported} {B : Breach → Type 0} → KB front (Th front) s → Told B r → Ran front (map of xs) B (fold f (s, r) xs)
-    section_ran [] h front into k t = (k, tells_as g j lawful O (λ f b. inl b) (λ f z. elim z [ inl b ↦ b | inr b ↦ elim b [ ] ]) t)
-    section_ran (x ∷ xs) h front into {s = s} {r = r} {B = B} k t = let q = h x here front (λ b names all m. into b (rules.inside all m)) s r B k t in
-        let z = section_ran xs (λ y m. h y (later m)) (of x ∷ front) (λ b c. into b (rules.behind c)) q.0 q.1 in (
-          z.0,
-          tells_as g j lawful O (λ f z. elim z [ inl y ↦ elim y [ inl b ↦ inl b | inr c ↦ inr (broken_first (inl c)) ] | inr c ↦ inr (broken_first (inr c)) ])
-              (λ f z. elim z [ inl b ↦ inl (inl b) | inr c ↦ elim (first_broken c) [ inl y ↦ inl (inr y) | inr y ↦ inr y ] ]) z.1,
-        )
+    section_ran : (xs : List X) → Steps xs → (front : List Resolved) (rest : List Declaration) {s : Scope g.Reported} {r : Result (Unit {0}) g.Reported} → KB front (map of xs ++ rest) (Th front) s → Told front r → Ran front (map of xs) rest (fold f (s, r) xs)
+    section_ran [] h front rest k t = ran_nothing k t
+    section_ran (x ∷ xs) h front rest {s = s} {r = r} k t = let q = h x here front (map of xs ++ rest) s r k t in
+        let z = section_ran xs (λ y m. h y (later m)) (q.0 ∷ front) rest q.2.0 q.2.1 in
+        (z.0, in_order_more front z.0 q.0 (map of xs) q.1 z.1, z.2)
 
   -- ---- all of a block
 
-  abbrev AllIn : List Declaration → Type 0
-  AllIn ds = (d : Declaration) → Among d ds → Among d block
-
-  among_map : {X : Type 0} (of : X → Declaration) {x : X} {xs : List X} → Among x xs → Among (of x) (map of xs)
-  among_map of here = here
-  among_map of (later m) = later (among_map of m)
-
-  among_left : (ds es : List Declaration) {d : Declaration} → Among d ds → Among d (ds ++ es)
-  among_left (d ∷ ds) es here = here
-  among_left (d ∷ ds) es (later m) = later (among_left ds es m)
-  among_left [] es m = elim m [ ]
-
-  among_right : (ds : List Declaration) {es : List Declaration} {d : Declaration} → Among d es → Among d (ds ++ es)
-  among_right [] m = m
-  among_right (d ∷ ds) m = later (among_right ds m)
-
-  module _ (ends : List ℕ) where
-    variables_ran : (vs : List Variables) → ((v : Variables) → Among v vs → IsNamedType v.of) → (front : List Declaration) → ((b : Breach) → BD front (map OfVariables vs) b → O b) → AllIn (map OfVariables vs) → {s : Scope g.Reported} {r : Result (Unit {0}) g.Reported} {B : Breach → Type 0} → KB front (Th front) s → Told B r
-        → Ran front (map OfVariables vs) B (with_variables_of g (s, r) vs)
-    variables_ran vs i front into a {s = s} {r = r} {B = B} k t = by (s.level == 0)
+  module _ (level : nested ≡ not (start.level == 0)) (ends : List ℕ) where
+    variables_ran : (vs : List Variables) → ((v : Variables) → Among v vs → IsNamedType v.of) → (front : List Resolved) (rest : List Declaration) {s : Scope g.Reported} {r : Result (Unit {0}) g.Reported} → KB front (map OfVariables vs ++ rest) (Th front) s → Told front r
+        → Ran front (map OfVariables vs) rest (with_variables_of g (s, r) vs)
+    variables_ran vs i front rest {s = s} {r = r} k t = by (s.level == 0)
       where
-        by : (b : Bool) → Ran front (map OfVariables vs) B (cond b (fold (with_variables g) (s, r) vs) (fold (with_locals g) (s, r) vs))
-        by true = section_ran (with_variables g) OfVariables vs (λ v m front into s r B k t. declare_variables front v (a (OfVariables v) (among_map OfVariables m)) into (i v m).0 (i v m).1 k t) front into k t
-        by false = section_ran (with_locals g) OfVariables vs (λ v m front into s r B k t. declare_locals front v (a (OfVariables v) (among_map OfVariables m)) into (i v m).0 (i v m).1 k t) front into k t
+        by : (b : Bool) → Ran front (map OfVariables vs) rest (cond b (fold (with_variables g) (s, r) vs) (fold (with_locals g) (s, r) vs))
+        by true = section_ran (with_variables g) OfVariables vs (λ v m front ds s r k t. (plain_one (OfVariables v), refl, declare_variables front v ds (i v m).0 (i v m).1 k t)) front rest k t
+        by false = section_ran (with_locals g) OfVariables vs (λ v m front ds s r k t. (plain_one (OfVariables v), refl, declare_locals front v ds (i v m).0 (i v m).1 k t)) front rest k t
 
-    layer_ran : (y : Decl-F Decl Block) → IsPlainLayer y → (front : List Declaration) → ((b : Breach) → BD front (declared_by y) b → O b) → AllIn (declared_by y) → (n : ℕ) {s : Scope g.Reported} {r : Result (Unit {0}) g.Reported} {B : Breach → Type 0} → KB front (Th front) s → Told B r
-        → Ran front (declared_by y) B ((decl_layer g ends (s, r, n) y).0, (decl_layer g ends (s, r, n) y).1)
-    layer_ran (decl.Constants cs) i front into a n k t = section_ran (with_constant g) OfConstant cs (λ c m front into s r B k t. declare_constant front c (a (OfConstant c) (among_map OfConstant m)) into (i c m) k t) front into k t
-    layer_ran (decl.Types ts) i front into a n k t = section_ran (with_type g) OfType ts (λ d m front into s r B k t. declare_type front d (a (OfType d) (among_map OfType m)) into (i d m).0 (i d m).1 k t) front into k t
-    layer_ran (decl.Variables vs) i front into a n k t = variables_ran vs i front into a k t
-    layer_ran (decl.Procedure h b) i front into a n k t = absurd i
+    procedure_ran : (h : Heading) (n : ℕ) (front : List Resolved) (rest : List Declaration) {s : Scope g.Reported} {r : Result (Unit {0}) g.Reported} → KB front (OfProcedure h ∷ rest) (Th front) s → Told front r
+        → Ran front (OfProcedure h ∷ []) rest ((with_heading g s n h).0, beside g r (with_heading g s n h).1)
+    procedure_ran h n front rest k t = let q = declare_procedure level front h rest k n t in (record { what = OfProcedure h; makes = q.0 } ∷ front, refl, q.1)
 
-    all_ran : (ds : List Decl) → ArePlainDecls ds → (front : List Declaration) → ((b : Breach) → BD front (declarations_of ds) b → O b) → AllIn (declarations_of ds) → (n : ℕ) {s : Scope g.Reported} {r : Result (Unit {0}) g.Reported} {B : Breach → Type 0} → KB front (Th front) s → Told B r
-        → Ran front (declarations_of ds) B ((fold (with_decl g ends) (s, r, n) ds).0, (fold (with_decl g ends) (s, r, n) ds).1)
-    all_ran [] i front into a n k t = (k, tells_as g j lawful O (λ f b. inl b) (λ f z. elim z [ inl b ↦ b | inr b ↦ elim b [ ] ]) t)
-    all_ran (d ∷ ds) i front into a n {B = B} k t = let q = layer_ran (out-Decl d) (i d here) front (λ b c. into b (broken_join (declared_by (out-Decl d)) (inl c))) (λ c m. a c (among_left (declared_by (out-Decl d)) (declarations_of ds) m)) n k t in
-        ran_join (declared_by (out-Decl d)) (declarations_of ds) front
-        (all_ran ds (λ c m. i c (later m)) (with_declarations front (declared_by (out-Decl d))) (λ b c. into b (broken_join (declared_by (out-Decl d)) (inr c))) (λ c m. a c (among_right (declared_by (out-Decl d)) m)) _ q.0 q.1)
+    layer_ran : (y : Decl-F Decl Block) → IsPlainLayer y → (front : List Resolved) (rest : List Declaration) (n : ℕ) {s : Scope g.Reported} {r : Result (Unit {0}) g.Reported} → KB front (declared_by y ++ rest) (Th front) s → Told front r
+        → Ran front (declared_by y) rest ((decl_layer g ends (s, r, n) y).0, (decl_layer g ends (s, r, n) y).1)
+    layer_ran (decl.Constants cs) i front rest n k t = section_ran (with_constant g) OfConstant cs (λ c m front ds s r k t. (plain_one (OfConstant c), refl, declare_constant front c ds (i c m) k t)) front rest k t
+    layer_ran (decl.Types ts) i front rest n k t = section_ran (with_type g) OfType ts (λ d m front ds s r k t. (plain_one (OfType d), refl, declare_type front d ds (i d m).0 (i d m).1 k t)) front rest k t
+    layer_ran (decl.Variables vs) i front rest n k t = variables_ran vs i front rest k t
+    layer_ran (decl.Procedure h b) i front rest n k t = procedure_ran h n front rest k t
+
+    all_ran : (ds : List Decl) → ArePlainDecls ds → (front : List Resolved) (n : ℕ) {s : Scope g.Reported} {r : Result (Unit {0}) g.Reported} → KB front (declarations_of ds) (Th front) s → Told front r
+        → Ran front (declarations_of ds) [] ((fold (with_decl g ends) (s, r, n) ds).0, (fold (with_decl g ends) (s, r, n) ds).1)
+    all_ran [] i front n k t = ran_nothing k t
+    all_ran (d ∷ ds) i front n k t = let q = layer_ran (out-Decl d) (i d here) front (declarations_of ds) n k t in
+        let z = all_ran ds (λ c m. i c (later m)) q.0 _ q.2.0 q.2.1 in
+        (z.0, z.1 ∙ ap (λ (xs : List Declaration). xs ++ declarations_of ds) q.1 ∙ append_assoc (in_order front) (declared_by (out-Decl d)) (declarations_of ds), z.2)
 
 module _ (g : Gathers) (j : Judges g) (lawful : Lawful g j) (exports : ℕ → Ident → Standing) (outside : Ident → Standing) (start : Scope g.Reported) (taken : List ℕ → Bool) (knows : Knows g j outside exports start) (no_withs : start.withs ≡ []) (takes : (n : List ℕ) → TakenAs g j (taken n) (found n start.own)) (ends : List ℕ) (first : ℕ) (ds : List Decl) (plain : ArePlainDecls ds) where
   abbrev block : List Declaration
   block = declarations_of ds
 
-  abbrev Broken : Breach → Type 0
-  Broken = BrokenDeclarations start.types exports outside taken block [] block
+  abbrev declared : Declared g.Reported
+  declared = declared_block g ends (start, Ok tt) first ds
 
-  -- what may be repeated: refusals outside, and those of the block itself
-  abbrev O : Breach → Type 0
-  O f = Repeats g j outside start f ⊎ Broken f
+  all_of_it : Ran g j lawful exports outside start taken (is_nested start) block takes knows no_withs [] block [] (declared.0, declared.1)
+  all_of_it = all_ran g j lawful exports outside start taken (is_nested start) block takes knows no_withs refl ends ds plain [] first (block_begins g j exports outside start taken (is_nested start) block takes ds plain no_withs refl) (silent (λ f z. elim z [ ]))
 
-  abbrev Result' : Declared g.Reported
-  Result' = declared_block g ends (start, Ok tt) first ds
-
-  abbrev whole : List Declaration
-  whole = with_declarations [] block
-
-  all_of_it : Ran g j lawful exports outside start taken block O takes knows no_withs (λ f r. inl r) [] block (λ f. ⊥) (Result'.0, Result'.1)
-  all_of_it = all_ran g j lawful exports outside start taken block O takes knows no_withs (λ f r. inl r) ends ds plain [] (λ f b. inr b) (λ d m. m) first
-      (block_begins g j lawful exports outside start taken block O takes (marks_begin g j lawful exports outside start taken block O takes ds plain no_withs)) (silent (λ f z. z))
-
-  reports : {r : Result (Unit {0}) g.Reported} → Tells g j lawful O (λ f. ⊥ ⊎ Broken f) r → Reports g j (Repeats g j outside start) Broken r
-  reports (silent n) = reports_nothing (λ f b. n f (inr b))
-  reports (tells r a) = reports_broken r (record {
-    only = λ f m. elim (a.only f m) [ inl z ↦ elim z [ inl y ↦ absurd y | inr b ↦ inl b ] | inr o ↦ elim o [ inl q ↦ inr q | inr b ↦ inl b ] ];
-    each = λ f b. a.each f (inr b);
-  })
+  reports : {whole : List Resolved} {r : Result (Unit {0}) g.Reported} → Tells g j lawful (Repeats g j outside start) (BrokenIn start.types exports outside taken (is_nested start) block whole) r → Reports g j (Repeats g j outside start) (BrokenIn start.types exports outside taken (is_nested start) block whole) r
+  reports (silent n) = reports_nothing n
+  reports (tells r a) = reports_broken r a
 
   pub block_answers : IsBlockExact g j exports outside start taken ends first ds
   block_answers = record {
-    reported = reports all_of_it.1;
-    stand = (standings g j exports outside start taken block O knows no_withs (λ f r. inl r) all_of_it.0, all_stand g j exports outside start taken block O knows no_withs (λ f r. inl r) all_of_it.0);
-    known = λ names all. knowing g j exports outside start taken block O knows no_withs (λ f r. inl r) all_of_it.0 all;
+    whole = all_of_it.0;
+    in_text = all_of_it.1;
+    reported = reports all_of_it.2.1;
+    types = all_of_it.2.0.same.types;
+    stand = (standings g j exports outside start taken (is_nested start) block knows no_withs all_of_it.2.0, all_stand g j exports outside start taken (is_nested start) block knows no_withs all_of_it.2.0);
+    known = λ names all. knowing g j exports outside start taken (is_nested start) block knows no_withs all_of_it.2.0 all;
   }

@@ -3,6 +3,7 @@ use Rattle.std.proofs.Common.{◌≡◌, ℕ, Bool, true, false, cond, List, [],
 use lib.Pointwise.{bytes_decides}
 use Rattle.m2_tree.specs.Names.{same_name}
 use Rattle.typed_tree.specs.Names.{found, entered}
+use Rattle.law_typing.proofs.Combining.{Decided, holds, fails_it}
 
 same_refl : (name : List ℕ) → same_name name name ≡ true
 same_refl name = (bytes_decides name name).1 refl
@@ -18,6 +19,13 @@ compared_by a b false h = are_two (λ e. let n : same_name a b ≡ true = (bytes
 
 pub compared : (a b : List ℕ) → Compared a b
 compared a b = compared_by a b (same_name a b) refl
+
+decided_name : {a b : List ℕ} → Compared a b → Decided (a ≡ b) (same_name a b)
+decided_name {a = a} {b = b} (are_one e) = subst (λ (t : Bool). Decided (a ≡ b) t) (sym ((bytes_decides a b).1 e)) (holds e)
+decided_name {a = a} {b = b} (are_two c h) = subst (λ (t : Bool). Decided (a ≡ b) t) (sym h) (fails_it c)
+
+pub name_decided : (a b : List ℕ) → Decided (a ≡ b) (same_name a b)
+name_decided a b = decided_name (compared a b)
 
 module _ {V : Type 0} where
   found_cond : (other : List ℕ) (b : Bool) (xs ys : List (List ℕ × V)) → found other (cond b xs ys) ≡ cond b (found other xs) (found other ys)

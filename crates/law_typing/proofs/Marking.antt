@@ -2,7 +2,6 @@
 use Rattle.std.proofs.Common.{◌≡◌, ℕ, Bool, true, false, List, [], ◌∷◌, ◌++◌, Option, Some, None, ◌⊎◌, inl, inr, refl, sym, ap, subst, ◌∙◌}
 use Rattle.std.specs.Prelude.{map}
 use Rattle.std.specs.List.{fold}
-use Rattle.m2_rule.specs.declared.breach.Breach.{Breach}
 use Rattle.m2_tree.specs.declared.name.Ident.{Ident}
 use Rattle.m2_tree.specs.declared.decl.Constant.{Constant}
 use Rattle.m2_tree.specs.declared.decl.TypeDecl.{TypeDecl}
@@ -25,33 +24,68 @@ use Rattle.check_definition.specs.Marking.{Marks, marked_later, marked_in, marke
 use Rattle.check_block.specs.Naming.{marked_layer, marked_decl, with_marks, all_marked}
 use Rattle.def_typing.specs.Things.{Standing}
 use Rattle.def_typing.specs.Parts.{Among, here, later}
-use Rattle.def_typing.specs.Declarations.{Declaration, OfConstant, OfType, OfVariables, declared_by, declarations_of, Declares, AnyDeclares}
+use Rattle.def_typing.specs.Declarations.{Declaration, OfConstant, OfType, OfVariables, OfProcedure, names_of, declared_by, declarations_of, Declares, AnyDeclares, IsFirst, at_first, later_on, There}
 use Rattle.law_typing.specs.Judging.{Judges}
 use Rattle.law_typing.specs.Exact.{TakenAs, is_taken, not_taken, IsNamedType, IsPlainLayer, ArePlainDecls}
-use Rattle.law_typing.proofs.Combining.{Lawful}
-use Rattle.law_typing.proofs.Entering.{entered_all}
-use Rattle.law_typing.proofs.Declaring.{KnownAs, outer, later_on, Same, KnowsBlock}
-use Rattle.law_typing.proofs.Beginning.{Adding, adding_name, added, There'}
+use Rattle.std.specs.List.{list_any}
+use Rattle.m2_tree.specs.Names.{same_name}
+use Rattle.law_typing.proofs.Combining.{Decided, holds, fails_it, decided_as}
+use Rattle.law_typing.proofs.Meeting.{either_decided}
+use Rattle.law_typing.proofs.Entering.{Compared, are_one, are_two, compared, name_decided, entered_all}
+use Rattle.law_typing.proofs.Declaring.{any_first, mark_of, KnownAs, outer, ahead, Same, KnowsBlock}
+use Rattle.law_typing.proofs.Beginning.{Named, clash}
 
--- ---- what declares a name
+-- ---- the first declaration of a name
 
-any_more : {d : Declaration} {ds : List Declaration} {n : List ℕ} → Declares d n ⊎ AnyDeclares ds n → AnyDeclares (d ∷ ds) n
-any_more {d = d} (inl h) = (d, here, h)
-any_more (inr (c, m, h)) = (c, later m, h)
+named_by : (xs : List Ident) (n : List ℕ) → Decided (Named xs n) (list_any (λ x. same_name x.name n) xs)
+named_by [] n = fails_it (λ z. elim z.1 [ ])
+named_by (x ∷ xs) n = decided_as (λ z. more z) (λ z. parts z) (either_decided (name_decided x.name n) (named_by xs n))
+  where
+    more : (x.name ≡ n) ⊎ Named xs n → Named (x ∷ xs) n
+    more (inl e) = (x, here, e)
+    more (inr (y, m, e)) = (y, later m, e)
 
-any_parts : {d : Declaration} {ds : List Declaration} {n : List ℕ} → AnyDeclares (d ∷ ds) n → Declares d n ⊎ AnyDeclares ds n
-any_parts (c, here, h) = inl h
-any_parts (c, later m, h) = inr (c, m, h)
+    parts : Named (x ∷ xs) n → (x.name ≡ n) ⊎ Named xs n
+    parts (y, here, e) = inl e
+    parts (y, later m, e) = inr (y, m, e)
 
-any_join : (ds : List Declaration) {es : List Declaration} {n : List ℕ} → AnyDeclares ds n ⊎ AnyDeclares es n → AnyDeclares (ds ++ es) n
-any_join [] (inl h) = elim h.1 [ ]
-any_join [] (inr h) = h
-any_join (d ∷ ds) (inl h) = elim (any_parts h) [ inl x ↦ any_more (inl x) | inr y ↦ any_more (inr (any_join ds (inl y))) ]
-any_join (d ∷ ds) (inr h) = any_more (inr (any_join ds (inr h)))
+-- what is first, if something is
+abbrev First : List Declaration → List ℕ → Type 0
+First ds n = ((d : Declaration) × IsFirst n d ds) ⊎ (AnyDeclares ds n → ⊥)
 
-any_split : (ds : List Declaration) {es : List Declaration} {n : List ℕ} → AnyDeclares (ds ++ es) n → AnyDeclares ds n ⊎ AnyDeclares es n
-any_split [] h = inr h
-any_split (d ∷ ds) h = elim (any_parts h) [ inl x ↦ inl (any_more (inl x)) | inr y ↦ elim (any_split ds y) [ inl z ↦ inl (any_more (inr z)) | inr z ↦ inr z ] ]
+first_by : {b : Bool} {d : Declaration} {ds : List Declaration} {n : List ℕ} → Decided (Declares d n) b → First ds n → First (d ∷ ds) n
+first_by {d = d} (holds h) f = inl (d, at_first h)
+first_by (fails_it c) (inl (d, i)) = inl (d, later_on c i)
+first_by {d = d} {ds = ds} {n = n} (fails_it c) (inr no_more) = inr none
+  where
+    none : AnyDeclares (d ∷ ds) n → ⊥
+    none (e, here, h) = c h
+    none (e, later m, h) = no_more (e, m, h)
+
+first_there : (ds : List Declaration) (n : List ℕ) → First ds n
+first_there [] n = inr (λ a. elim a.1 [ ])
+first_there (d ∷ ds) n = first_by (named_by (names_of d) n) (first_there ds n)
+
+first_left : {n : List ℕ} {d : Declaration} {ds : List Declaration} (es : List Declaration) → IsFirst n d ds → IsFirst n d (ds ++ es)
+first_left es (at_first h) = at_first h
+first_left es (later_on c i) = later_on c (first_left es i)
+
+first_right : (ds : List Declaration) {n : List ℕ} {d : Declaration} {es : List Declaration} → (AnyDeclares ds n → ⊥) → IsFirst n d es → IsFirst n d (ds ++ es)
+first_right [] c i = i
+first_right (x ∷ ds) c i = later_on (λ h. c (x, here, h)) (first_right ds (λ a. c (a.0, later a.1, a.2)) i)
+
+first_split : (ds : List Declaration) {n : List ℕ} {d : Declaration} {es : List Declaration} → IsFirst n d (ds ++ es) → IsFirst n d ds ⊎ ((AnyDeclares ds n → ⊥) × IsFirst n d es)
+first_split [] i = inr ((λ a. elim a.1 [ ]), i)
+first_split (x ∷ ds) (at_first h) = inl (at_first h)
+first_split (x ∷ ds) {n = n} (later_on c i) = by (first_split ds i)
+  where
+    none : (AnyDeclares ds n → ⊥) → AnyDeclares (x ∷ ds) n → ⊥
+    none h (e, here, w) = c w
+    none h (e, later m, w) = h (e, m, w)
+
+    by : {d : Declaration} {es : List Declaration} → IsFirst n d ds ⊎ ((AnyDeclares ds n → ⊥) × IsFirst n d es) → IsFirst n d (x ∷ ds) ⊎ ((AnyDeclares (x ∷ ds) n → ⊥) × IsFirst n d es)
+    by (inl k) = inl (later_on c k)
+    by (inr k) = inr (none k.0, k.1)
 
 -- ---- types that are names mark nothing
 
@@ -66,139 +100,204 @@ module _ {T : Type 0} where
   named_marks : (e : TypeExpr) → IsNamedType e → (s : Scope T) → marked_in e s ≡ s
   named_marks e i s = ap (λ (m : Marks T). m s) (marks_at e (layer.Simple (simple.Named i.0)) i.1)
 
-module _ (g : Gathers) (j : Judges g) (lawful : Lawful g j) (exports : ℕ → Ident → Standing) (outside : Ident → Standing) (start : Scope g.Reported) (taken : List ℕ → Bool) (block : List Declaration) (O : Breach → Type 0)
+module _ (g : Gathers) (j : Judges g) (exports : ℕ → Ident → Standing) (outside : Ident → Standing) (start : Scope g.Reported) (taken : List ℕ → Bool) (nested : Bool) (block : List Declaration)
     (takes : (n : List ℕ) → TakenAs g j (taken n) (found n start.own)) where
+  abbrev K : Type 0
+  K = Known g.Reported
+
   abbrev SameScope : Scope g.Reported → Type 0
-  SameScope = Same g j exports outside start taken block O
+  SameScope = Same g j exports outside start taken nested block start.types
 
-  pub data MarkedAs (P : List ℕ → Type 0) (n : List ℕ) : Option (Known g.Reported) → Type 0 where
-    at_start : {k : Option (Known g.Reported)} → taken n ≡ true → k ≡ found n start.own → MarkedAs P n k
-    is_marked : taken n ≡ false → P n → MarkedAs P n (Some known.Later)
-    is_unmarked : taken n ≡ false → (P n → ⊥) → MarkedAs P n None
+  -- which names are marked, and how
+  abbrev Marks' : Type 1
+  Marks' = List ℕ → K → Type 0
 
-  pub record Marking (P : List ℕ → Type 0) (s : Scope g.Reported) : Type 0 where
-    pub same : SameScope s
-    pub marks : (n : List ℕ) → MarkedAs P n (found n s.own)
+  abbrev None' : Marks' → List ℕ → Type 0
+  None' M n = (k : K) → M n k → ⊥
 
-  -- ---- the same with other words
+  data MarkedAs (M : Marks') (n : List ℕ) : Option K → Type 0 where
+    at_start : {k : Option K} → taken n ≡ true → k ≡ found n start.own → MarkedAs M n k
+    is_marked : {k : K} → taken n ≡ false → M n k → MarkedAs M n (Some k)
+    is_unmarked : taken n ≡ false → None' M n → MarkedAs M n None
 
-  marked_one : {P Q : List ℕ → Type 0} {n : List ℕ} {k : Option (Known g.Reported)} → (P n → Q n) → (Q n → P n) → MarkedAs P n k → MarkedAs Q n k
+  record Marking (M : Marks') (s : Scope g.Reported) : Type 0 where
+    same : SameScope s
+    marks : (n : List ℕ) → MarkedAs M n (found n s.own)
+
+  marked_one : {P Q : Marks'} {n : List ℕ} {k : Option K} → ((k : K) → P n k → Q n k) → ((k : K) → Q n k → P n k) → MarkedAs P n k → MarkedAs Q n k
   marked_one pq qp (at_start t e) = at_start t e
-  marked_one pq qp (is_marked t p) = is_marked t (pq p)
-  marked_one pq qp (is_unmarked t n) = is_unmarked t (λ q. n (qp q))
+  marked_one pq qp (is_marked {k = k} t p) = is_marked t (pq k p)
+  marked_one pq qp (is_unmarked t n) = is_unmarked t (λ k q. n k (qp k q))
 
-  marking_as : {P Q : List ℕ → Type 0} {s : Scope g.Reported} → ((n : List ℕ) → P n → Q n) → ((n : List ℕ) → Q n → P n) → Marking P s → Marking Q s
+  marking_as : {P Q : Marks'} {s : Scope g.Reported} → ((n : List ℕ) (k : K) → P n k → Q n k) → ((n : List ℕ) (k : K) → Q n k → P n k) → Marking P s → Marking Q s
   marking_as pq qp m = record { same = m.same; marks = λ n. marked_one (pq n) (qp n) (m.marks n) }
 
   -- ---- one name
 
-  module _ (P : List ℕ → Type 0) (x : Ident) where
-    abbrev Next : List ℕ → Type 0
-    Next n = (x.name ≡ n) ⊎ P n
+  module _ (M : Marks') (x : Ident) (l : K) where
+    abbrev Next : Marks'
+    Next n k = M n k ⊎ (None' M n × (x.name ≡ n) × (k ≡ l))
 
-    mark_more : {n : List ℕ} {k : Option (Known g.Reported)} → (x.name ≡ n → taken n ≡ false → P n) → MarkedAs P n k → MarkedAs Next n k
+    mark_more : {n : List ℕ} {k : Option K} → (x.name ≡ n → taken n ≡ false → None' M n → ⊥) → MarkedAs M n k → MarkedAs Next n k
     mark_more h (at_start t e) = at_start t e
-    mark_more h (is_marked t p) = is_marked t (inr p)
-    mark_more h (is_unmarked t n) = is_unmarked t (λ z. elim z [ inl e ↦ n (h e t) | inr p ↦ n p ])
+    mark_more h (is_marked t p) = is_marked t (inl p)
+    mark_more h (is_unmarked t c) = is_unmarked t (λ k z. elim z [ inl p ↦ c k p | inr q ↦ h q.1 t c ])
 
-    unchanged : {s : Scope g.Reported} → Marking P s → (taken x.name ≡ false → P x.name) → Marking Next s
-    unchanged m h = record { same = m.same; marks = λ n. mark_more (λ e. subst (λ (n : List ℕ). taken n ≡ false → P n) e h) (m.marks n) }
+    unchanged : {s : Scope g.Reported} → Marking M s → (taken x.name ≡ false → None' M x.name → ⊥) → Marking Next s
+    unchanged m h = record { same = m.same; marks = λ n. mark_more (λ e. subst (λ (n : List ℕ). taken n ≡ false → None' M n → ⊥) e h) (m.marks n) }
 
-    taken_marks : {s : Scope g.Reported} {k o : Option (Known g.Reported)} → Marking P s → (t : Bool) → taken x.name ≡ t → taken x.name ≡ true → TakenAs g j t o → k ≡ o → Marking Next (unless_marked x.name known.Later s k)
-    taken_marks {s = s} m true q u (is_taken {o = o} {m = d}) e = subst (λ (k : Option (Known g.Reported)). Marking Next (unless_marked x.name known.Later s k)) (sym e) (unchanged m (λ w. let clash : true ≡ false = sym u ∙ w in absurd cc))
-    taken_marks m false q u t e = let clash : true ≡ false = sym u ∙ q in absurd cc
+    taken_marks : {s : Scope g.Reported} {k o : Option K} → Marking M s → (t : Bool) → taken x.name ≡ t → taken x.name ≡ true → TakenAs g j t o → k ≡ o → Marking Next (unless_marked x.name l s k)
+    taken_marks {s = s} m true q u (is_taken p) e = subst (λ (k : Option K). Marking Next (unless_marked x.name l s k)) (sym e) (unchanged m (λ w c. clash u w))
+    taken_marks m false q u t e = absurd (clash u q)
 
-    marks_by : {s : Scope g.Reported} {k : Option (Known g.Reported)} → Marking P s → MarkedAs P x.name k → Marking Next (unless_marked x.name known.Later s k)
+    marks_by : {s : Scope g.Reported} {k : Option K} → Marking M s → MarkedAs M x.name k → Marking Next (unless_marked x.name l s k)
     marks_by m (at_start t e) = taken_marks m (taken x.name) refl t (takes x.name) e
-    marks_by m (is_marked t p) = unchanged m (λ u. p)
-    marks_by {s = s} m (is_unmarked t n) = record {
+    marks_by m (is_marked {k = k} t p) = unchanged m (λ u c. c k p)
+    marks_by {s = s} m (is_unmarked t c) = record {
       same = record { withs = m.same.withs; outer = m.same.outer; types = m.same.types; tables = m.same.tables; level = m.same.level };
-      marks = entered_all (λ n o. MarkedAs Next n o) x.name known.Later s.own (is_marked t (inl refl)) (λ n z. mark_more (λ e. absurd (z e)) (m.marks n));
+      marks = entered_all (λ n o. MarkedAs Next n o) x.name l s.own (is_marked t (inr (c, refl, refl))) (λ n z. mark_more (λ e. absurd (z e)) (m.marks n));
     }
 
-    mark_one : {s : Scope g.Reported} → Marking P s → Marking Next (marked x known.Later s)
+    mark_one : {s : Scope g.Reported} → Marking M s → Marking Next (marked x l s)
     mark_one {s = s} m = marks_by m (m.marks x.name)
 
-  mark_names : (xs : List Ident) (P : List ℕ → Type 0) {s : Scope g.Reported} → Marking P s → Marking (Adding xs P) (fold marked_later s xs)
-  mark_names [] P m = m
-  mark_names (x ∷ xs) P m = mark_names xs (λ n. (x.name ≡ n) ⊎ P n) (mark_one P x m)
+  -- ---- names of one declaration
+
+  abbrev Names : Marks' → List Ident → K → Marks'
+  Names M xs l n k = M n k ⊎ (None' M n × Named xs n × (k ≡ l))
+
+  names_join : (M : Marks') (x : Ident) (xs : List Ident) (l : K) (n : List ℕ) (k : K) → Names (Next M x l) xs l n k → Names M (x ∷ xs) l n k
+  names_join M x xs l n k (inl (inl m)) = inl m
+  names_join M x xs l n k (inl (inr (c, e, q))) = inr (c, (x, here, e), q)
+  names_join M x xs l n k (inr (c, (y, m, e), q)) = inr ((λ k z. c k (inl z)), (y, later m, e), q)
+
+  names_split : (M : Marks') (x : Ident) (xs : List Ident) (l : K) (n : List ℕ) (k : K) → Names M (x ∷ xs) l n k → Names (Next M x l) xs l n k
+  names_split M x xs l n k (inl m) = inl (inl m)
+  names_split M x xs l n k (inr (c, (y, here, e), q)) = inl (inr (c, e, q))
+  names_split M x xs l n k (inr (c, (y, later m, e), q)) = by (compared x.name n)
+    where
+      by : Compared x.name n → Names (Next M x l) xs l n k
+      by (are_one w) = inl (inr (c, w, q))
+      by (are_two w b) = inr ((λ k z. elim z [ inl p ↦ c k p | inr u ↦ w u.1 ]), (y, m, e), q)
+
+  mark_names : (xs : List Ident) (M : Marks') {s : Scope g.Reported} → Marking M s → Marking (Names M xs known.Later) (fold marked_later s xs)
+  mark_names [] M m = marking_as (λ n k p. inl p) (λ n k z. elim z [ inl p ↦ p | inr q ↦ elim q.1.1 [ ] ]) m
+  mark_names (x ∷ xs) M m = marking_as (names_join M x xs known.Later) (names_split M x xs known.Later) (mark_names xs (Next M x known.Later) (mark_one M x known.Later m))
 
   -- ---- declarations
 
-  abbrev With : Declaration → (List ℕ → Type 0) → List ℕ → Type 0
-  With d P n = Declares d n ⊎ P n
+  abbrev With : Marks' → Declaration → Marks'
+  With M d = Names M (names_of d) (mark_of d)
 
-  one_with : (d : Declaration) (x : Ident) (P : List ℕ → Type 0) (s : Scope g.Reported) → ((n : List ℕ) → x.name ≡ n → Declares d n) → ((n : List ℕ) → Declares d n → x.name ≡ n) → Marking P s → Marking (With d P) (marked x known.Later s)
-  one_with d x P s to from m = marking_as (λ n z. elim z [ inl e ↦ inl (to n e) | inr p ↦ inr p ]) (λ n z. elim z [ inl h ↦ inl (from n h) | inr p ↦ inr p ]) (mark_one P x m)
-
-  only_one : {x : Ident} {n : List ℕ} → (y : Ident) × Among y (x ∷ []) × (y.name ≡ n) → x.name ≡ n
-  only_one (y, here, e) = e
-  only_one (y, later m, e) = elim m [ ]
-
-  constant_marks : (c : Constant) (P : List ℕ → Type 0) (s : Scope g.Reported) → Marking P s → Marking (With (OfConstant c) P) (marked_constant s c)
-  constant_marks c P s m = one_with (OfConstant c) c.name P s (λ n e. (c.name, here, e)) (λ n h. only_one h) m
-
-  type_marks : (d : TypeDecl) → IsNamedType d.of → (P : List ℕ → Type 0) (s : Scope g.Reported) → Marking P s → Marking (With (OfType d) P) (marked_type s d)
-  type_marks d i P s m = subst (Marking (With (OfType d) P)) (sym (named_marks d.of i (marked d.name known.Later s))) (one_with (OfType d) d.name P s (λ n e. (d.name, here, e)) (λ n h. only_one h) m)
-
-  variable_marks : (v : Variables) → IsNamedType v.of → (P : List ℕ → Type 0) (s : Scope g.Reported) → Marking P s → Marking (With (OfVariables v) P) (marked_variables s v)
-  variable_marks v i P s m = subst (Marking (With (OfVariables v) P)) (sym (named_marks v.of i (fold marked_later s v.names)))
-      (marking_as (λ n z. added v.names P n z) (λ n z. elim z [ inl h ↦ adding_name v.names P n h.0 h.1 h.2 | inr p ↦ inner v.names P n p ]) (mark_names v.names P m))
+  one_with : (d : Declaration) (x : Ident) → names_of d ≡ x ∷ [] → (M : Marks') (s : Scope g.Reported) → Marking M s → Marking (With M d) (marked x (mark_of d) s)
+  one_with d x e M s m = marking_as (λ n k z. to n k z) (λ n k z. from n k z) (mark_one M x (mark_of d) m)
     where
-      inner : (xs : List Ident) (P : List ℕ → Type 0) (n : List ℕ) → P n → Adding xs P n
-      inner [] P n p = p
-      inner (x ∷ xs) P n p = inner xs (λ m. (x.name ≡ m) ⊎ P m) n (inr p)
+      to : (n : List ℕ) (k : K) → Next M x (mark_of d) n k → With M d n k
+      to n k (inl p) = inl p
+      to n k (inr (c, w, q)) = inr (c, subst (λ (xs : List Ident). Named xs n) (sym e) (x, here, w), q)
+
+      single : {n : List ℕ} → Named (x ∷ []) n → x.name ≡ n
+      single (y, here, w) = w
+      single (y, later z, w) = elim z [ ]
+
+      from : (n : List ℕ) (k : K) → With M d n k → Next M x (mark_of d) n k
+      from n k (inl p) = inl p
+      from n k (inr (c, w, q)) = inr (c, single (subst (λ (xs : List Ident). Named xs n) e w), q)
+
+  constant_marks : (c : Constant) (M : Marks') (s : Scope g.Reported) → Marking M s → Marking (With M (OfConstant c)) (marked_constant s c)
+  constant_marks c M s m = one_with (OfConstant c) c.name refl M s m
+
+  type_marks : (d : TypeDecl) → IsNamedType d.of → (M : Marks') (s : Scope g.Reported) → Marking M s → Marking (With M (OfType d)) (marked_type s d)
+  type_marks d i M s m = subst (Marking (With M (OfType d))) (sym (named_marks d.of i (marked d.name known.Later s))) (one_with (OfType d) d.name refl M s m)
+
+  variable_marks : (v : Variables) → IsNamedType v.of → (M : Marks') (s : Scope g.Reported) → Marking M s → Marking (With M (OfVariables v)) (marked_variables s v)
+  variable_marks v i M s m = subst (Marking (With M (OfVariables v))) (sym (named_marks v.of i (fold marked_later s v.names))) (mark_names v.names M m)
 
   -- ---- sections and blocks
 
-  abbrev Plus : List Declaration → (List ℕ → Type 0) → List ℕ → Type 0
-  Plus ds P n = AnyDeclares ds n ⊎ P n
+  abbrev Plus : Marks' → List Declaration → Marks'
+  Plus M ds n k = M n k ⊎ (None' M n × ((d : Declaration) × IsFirst n d ds × (k ≡ mark_of d)))
 
-  section_marks : {X : Type 0} (f : Scope g.Reported → X → Scope g.Reported) (of : X → Declaration) (xs : List X) → ((x : X) → Among x xs → (P : List ℕ → Type 0) (s : Scope g.Reported) → Marking P s → Marking (With (of x) P) (f s x)) → (P : List ℕ → Type 0) (s : Scope g.Reported) → Marking P s → Marking (Plus (map of xs) P) (fold f s xs)
-  section_marks f of [] h P s m = marking_as (λ n p. inr p) (λ n z. elim z [ inl a ↦ elim a.1 [ ] | inr p ↦ p ]) m
-  section_marks f of (x ∷ xs) h P s m = marking_as (λ n z. elim z [ inl a ↦ inl (any_more (inr a)) | inr y ↦ elim y [ inl d ↦ inl (any_more (inl d)) | inr p ↦ inr p ] ])
-      (λ n z. elim z [ inl a ↦ elim (any_parts a) [ inl d ↦ inr (inl d) | inr b ↦ inl b ] | inr p ↦ inr (inr p) ])
-      (section_marks f of xs (λ y n. h y (later n)) (With (of x) P) (f s x) (h x here P s m))
+  plus_none : (M : Marks') (n : List ℕ) (k : K) → Plus M [] n k → M n k
+  plus_none M n k (inl p) = p
+  plus_none M n k (inr (c, (d, i, q))) = elim i [ ]
 
-  layer_marks : (y : Decl-F Decl Block) → IsPlainLayer y → (P : List ℕ → Type 0) (s : Scope g.Reported) → Marking P s → Marking (Plus (declared_by y) P) (marked_layer s y)
-  layer_marks (decl.Constants cs) i P s m = section_marks marked_constant OfConstant cs (λ c n. constant_marks c) P s m
-  layer_marks (decl.Types ts) i P s m = section_marks marked_type OfType ts (λ d n. type_marks d (i d n)) P s m
-  layer_marks (decl.Variables vs) i P s m = section_marks marked_variables OfVariables vs (λ v n. variable_marks v (i v n)) P s m
-  layer_marks (decl.Procedure h b) i P s m = absurd i
+  plus_join : (M : Marks') (d : Declaration) (ds : List Declaration) (n : List ℕ) (k : K) → Plus (With M d) ds n k → Plus M (d ∷ ds) n k
+  plus_join M d ds n k (inl (inl p)) = inl p
+  plus_join M d ds n k (inl (inr (c, h, q))) = inr (c, (d, at_first h, q))
+  plus_join M d ds n k (inr (c, (e, i, q))) = let none : None' M n = (λ k p. c k (inl p)) in inr (none, (e, later_on (λ h. c (mark_of d) (inr (none, h, refl))) i, q))
 
-  all_marks : (ds : List Decl) → ArePlainDecls ds → (P : List ℕ → Type 0) (s : Scope g.Reported) (ns : List ℕ) → Marking P s → Marking (Plus (declarations_of ds) P) (fold (with_marks marked_decl) (s, ns) ds).0
-  all_marks [] i P s ns m = marking_as (λ n p. inr p) (λ n z. elim z [ inl a ↦ elim a.1 [ ] | inr p ↦ p ]) m
-  all_marks (d ∷ ds) i P s ns m = marking_as (λ n z. elim z [ inl a ↦ inl (any_join (declared_by (out-Decl d)) (inr a)) | inr y ↦ elim y [ inl a ↦ inl (any_join (declared_by (out-Decl d)) (inl a)) | inr p ↦ inr p ] ])
-      (λ n z. elim z [ inl a ↦ elim (any_split (declared_by (out-Decl d)) a) [ inl b ↦ inr (inl b) | inr b ↦ inl b ] | inr p ↦ inr (inr p) ])
-      (all_marks ds (λ c n. i c (later n)) (Plus (declared_by (out-Decl d)) P) (marked_decl s d) _ (layer_marks (out-Decl d) (i d here) P s m))
+  plus_split : (M : Marks') (d : Declaration) (ds : List Declaration) (n : List ℕ) (k : K) → Plus M (d ∷ ds) n k → Plus (With M d) ds n k
+  plus_split M d ds n k (inl p) = inl (inl p)
+  plus_split M d ds n k (inr (c, (e, at_first h, q))) = inl (inr (c, h, q))
+  plus_split M d ds n k (inr (c, (e, later_on w i, q))) = inr ((λ k z. elim z [ inl p ↦ c k p | inr u ↦ w u.1 ]), (e, i, q))
+
+  plus_append : (M : Marks') (ds es : List Declaration) (n : List ℕ) (k : K) → Plus (Plus M ds) es n k → Plus M (ds ++ es) n k
+  plus_append M ds es n k (inl (inl p)) = inl p
+  plus_append M ds es n k (inl (inr (c, (d, i, q)))) = inr (c, (d, first_left es i, q))
+  plus_append M ds es n k (inr (c, (d, i, q))) = let none : None' M n = (λ k p. c k (inl p)) in inr (none, (d, first_right ds (none_in none) i, q))
+    where
+      none_in : None' M n → AnyDeclares ds n → ⊥
+      none_in u a = elim (first_there ds n) [ inl f ↦ c (mark_of f.0) (inr (u, (f.0, f.1, refl))) | inr w ↦ w a ]
+
+  append_plus : (M : Marks') (ds es : List Declaration) (n : List ℕ) (k : K) → Plus M (ds ++ es) n k → Plus (Plus M ds) es n k
+  append_plus M ds es n k (inl p) = inl (inl p)
+  append_plus M ds es n k (inr (c, (d, i, q))) = by (first_split ds i)
+    where
+      by : IsFirst n d ds ⊎ ((AnyDeclares ds n → ⊥) × IsFirst n d es) → Plus (Plus M ds) es n k
+      by (inl f) = inl (inr (c, (d, f, q)))
+      by (inr (w, f)) = inr ((λ k z. elim z [ inl p ↦ c k p | inr u ↦ w (any_first u.1.1) ]), (d, f, q))
+
+  section_marks : {X : Type 0} (f : Scope g.Reported → X → Scope g.Reported) (of : X → Declaration) (xs : List X) → ((x : X) → Among x xs → (M : Marks') (s : Scope g.Reported) → Marking M s → Marking (With M (of x)) (f s x)) → (M : Marks') (s : Scope g.Reported) → Marking M s → Marking (Plus M (map of xs)) (fold f s xs)
+  section_marks f of [] h M s m = marking_as (λ n k p. inl p) (plus_none M) m
+  section_marks f of (x ∷ xs) h M s m = marking_as (plus_join M (of x) (map of xs)) (plus_split M (of x) (map of xs)) (section_marks f of xs (λ y n. h y (later n)) (With M (of x)) (f s x) (h x here M s m))
+
+  layer_marks : (y : Decl-F Decl Block) → IsPlainLayer y → (M : Marks') (s : Scope g.Reported) → Marking M s → Marking (Plus M (declared_by y)) (marked_layer s y)
+  layer_marks (decl.Constants cs) i M s m = section_marks marked_constant OfConstant cs (λ c n. constant_marks c) M s m
+  layer_marks (decl.Types ts) i M s m = section_marks marked_type OfType ts (λ d n. type_marks d (i d n)) M s m
+  layer_marks (decl.Variables vs) i M s m = section_marks marked_variables OfVariables vs (λ v n. variable_marks v (i v n)) M s m
+  layer_marks (decl.Procedure h b) i M s m = marking_as (λ n k p. plus_join M (OfProcedure h) [] n k (inl p)) (λ n k p. plus_none (With M (OfProcedure h)) n k (plus_split M (OfProcedure h) [] n k p)) (one_with (OfProcedure h) h.name refl M s m)
+
+  all_marks : (ds : List Decl) → ArePlainDecls ds → (M : Marks') (s : Scope g.Reported) (ns : List ℕ) → Marking M s → Marking (Plus M (declarations_of ds)) (fold (with_marks marked_decl) (s, ns) ds).0
+  all_marks [] i M s ns m = marking_as (λ n k p. inl p) (plus_none M) m
+  all_marks (d ∷ ds) i M s ns m = marking_as (plus_append M (declared_by (out-Decl d)) (declarations_of ds)) (append_plus M (declared_by (out-Decl d)) (declarations_of ds))
+      (all_marks ds (λ c n. i c (later n)) (Plus M (declared_by (out-Decl d))) (marked_decl s d) _ (layer_marks (out-Decl d) (i d here) M s m))
 
   -- ---- where the declarations begin
 
-  start_marks : (n : List ℕ) (t : Bool) → taken n ≡ t → (o : Option (Known g.Reported)) → o ≡ found n start.own → TakenAs g j t o → MarkedAs (λ n. ⊥) n o
-  start_marks n true q o e t = at_start q e
-  start_marks n false q _ e not_taken = is_unmarked q (λ z. z)
+  abbrev Nothing : Marks'
+  Nothing n k = ⊥
 
-  begins : start.withs ≡ [] → Marking (λ n. ⊥) start
+  start_marks : (n : List ℕ) (t : Bool) → taken n ≡ t → (o : Option K) → o ≡ found n start.own → TakenAs g j t o → MarkedAs Nothing n o
+  start_marks n true q o e t = at_start q e
+  start_marks n false q _ e not_taken = is_unmarked q (λ k z. z)
+
+  begins : start.withs ≡ [] → Marking Nothing start
   begins e = record { same = record { withs = e; outer = refl; types = refl; tables = refl; level = refl }; marks = λ n. start_marks n (taken n) refl (found n start.own) refl (takes n) }
 
   abbrev Th : List ℕ → Type 0
-  Th = There' g j lawful exports outside start taken block O takes []
+  Th n = There start.types exports outside taken nested block [] n
 
   nothing_there : {n : List ℕ} → taken n ≡ false → Th n → ⊥
-  nothing_there t (inl u) = let clash : true ≡ false = sym u ∙ t in absurd cc
+  nothing_there t (inl u) = clash u t
   nothing_there t (inr a) = elim a.1 [ ]
 
-  none_at_start : {n : List ℕ} (t : Bool) → taken n ≡ t → taken n ≡ false → {o : Option (Known g.Reported)} → TakenAs g j t o → None ≡ o
-  none_at_start true q u t = let clash : true ≡ false = sym q ∙ u in absurd cc
+  none_at_start : {n : List ℕ} (t : Bool) → taken n ≡ t → taken n ≡ false → {o : Option K} → TakenAs g j t o → None ≡ o
+  none_at_start true q u t = absurd (clash q u)
   none_at_start false q u not_taken = refl
 
-  known_marked : (n : List ℕ) {k : Option (Known g.Reported)} → MarkedAs (λ n. AnyDeclares block n ⊎ ⊥) n k → KnownAs g j exports outside start taken block O [] Th n k
-  known_marked n (at_start t e) = outer (λ u a. let clash : true ≡ false = sym t ∙ u in absurd cc) e
-  known_marked n (is_marked t p) = later_on t (elim p [ inl a ↦ a | inr z ↦ absurd z ]) (λ a. elim a.1 [ ]) (nothing_there t)
-  known_marked n (is_unmarked t p) = outer (λ u a. p (inl a)) (none_at_start (taken n) refl t (takes n))
+  marked_ahead : (n : List ℕ) {k : K} → taken n ≡ false → Plus Nothing block n k → KnownAs g j exports outside start taken nested block [] Th n (Some k)
+  marked_ahead n t (inl z) = absurd z
+  marked_ahead n t (inr (c, (d, i, q))) = subst (λ (k : K). KnownAs g j exports outside start taken nested block [] Th n (Some k)) (sym q) (ahead d t i (λ a. elim a.1 [ ]) (nothing_there t))
 
-  pub block_begins : {s : Scope g.Reported} → Marking (λ n. AnyDeclares block n ⊎ ⊥) s → KnowsBlock g j exports outside start taken block O [] Th s
-  block_begins m = record { same = m.same; within = λ d a. elim a [ ]; includes = λ n t. t; own = λ n. known_marked n (m.marks n) }
+  unmarked_outer : (n : List ℕ) → None' (Plus Nothing block) n → AnyDeclares block n → ⊥
+  unmarked_outer n c a = elim (first_there block n) [ inl f ↦ c (mark_of f.0) (inr ((λ k z. z), (f.0, f.1, refl))) | inr w ↦ w a ]
 
-  pub marks_begin : (ds : List Decl) → ArePlainDecls ds → start.withs ≡ [] → Marking (λ n. AnyDeclares (declarations_of ds) n ⊎ ⊥) (all_marked marked_decl start ds).0
-  marks_begin ds i e = all_marks ds i (λ n. ⊥) start [] (begins e)
+  known_marked : (n : List ℕ) {k : Option K} → MarkedAs (Plus Nothing block) n k → KnownAs g j exports outside start taken nested block [] Th n k
+  known_marked n (at_start t e) = outer (λ u a. clash t u) e
+  known_marked n (is_marked t p) = marked_ahead n t p
+  known_marked n (is_unmarked t c) = outer (λ u a. unmarked_outer n c a) (none_at_start (taken n) refl t (takes n))
+
+  pub block_begins : (ds : List Decl) → ArePlainDecls ds → start.withs ≡ [] → declarations_of ds ≡ block → KnowsBlock g j exports outside start taken nested block [] block Th (all_marked marked_decl start ds).0
+  block_begins ds i e q = let m = subst (λ (block : List Declaration). Marking (Plus Nothing block) (all_marked marked_decl start ds).0) q (all_marks ds i Nothing start [] (begins e)) in
+      record { same = m.same; within = λ n a. elim a.1 [ ]; in_block = λ n a. a; left = λ n d k c. k; includes = λ n t. t; own = λ n. known_marked n (m.marks n) }

@@ -1,5 +1,5 @@
 -- Declarations say exactly what their parts give.
-use Rattle.std.proofs.Common.{◌≡◌, ℕ, Bool, List, Result, Ok, Err, inl, inr, refl, sym, ap, subst, ◌∙◌}
+use Rattle.std.proofs.Common.{◌≡◌, ℕ, Bool, List, [], ◌∷◌, Result, Ok, Err, inl, inr, refl, sym, ap, subst, ◌∙◌}
 use Rattle.m2_rule.specs.declared.breach.Breach.{Breach}
 use Rattle.m2_tree.specs.declared.pos.Pos.{Pos}
 use Rattle.m2_tree.specs.declared.name.Ident.{Ident}
@@ -24,26 +24,30 @@ use Rattle.check_expr.specs.Meanings.{part}
 use Rattle.check_type_expr.specs.Named.{named_type}
 use Rattle.check_type_expr.specs.Made.{Makes, MakesFields, type_layer, field_layer, type_of, field_list}
 use Rattle.def_typing.specs.Operators.{Kind}
-use Rattle.def_typing.specs.Things.{AValue, AVariable, AType, Standing, Known, Unknown}
+use Rattle.def_typing.specs.Things.{AValue, AVariable, AType, Headless, Standing, Known, Unknown}
+use Rattle.m2_tree.specs.declared.decl.Heading.{Heading}
+use Rattle.typed_tree.specs.declared.shape.Made.{Made}
+use Rattle.typed_tree.specs.declared.shape.Signature.{Signature}
+use Rattle.check_scope.specs.declared.meaningless.Meaningless.{Meaningless}
+use Rattle.check_scope.specs.declared.meaningless.Meaningless.TheVariants as meaningless
+use Rattle.check_scope.specs.declared.known.Known.TheVariants as known
+use Rattle.check_scope.specs.declared.known.Origin.TheVariants.{Here}
+use Rattle.check_scope.specs.Scopes.{heading_means}
+use Rattle.check_type_expr.specs.Headings.{heading_of}
+use Rattle.check_block.specs.Headings.{standing_of, standing_elaborated}
+use Rattle.check_block.specs.declared.heading.Standing.TheVariants as place
+use Rattle.def_typing.specs.Headings.{procedure_made, IsHeading, BrokenHeading}
+use Rattle.law_typing.proofs.Heading.{heading_answers}
 use Rattle.def_typing.specs.Constants.{AConstant, Fixes, BrokenAsConstant}
 use Rattle.def_typing.specs.TypeNames.{NamesType, BrokenTypeName}
 use Rattle.def_typing.specs.Declarations as rules
-use Rattle.def_typing.specs.Declarations.{Declaration, OfConstant, OfType, OfVariables, Says, Misdeclares, IsTypeOf, named, BrokenType, in_name}
+use Rattle.def_typing.specs.Declarations.{Declaration, OfConstant, OfType, OfVariables, OfProcedure, Declared, types_behind, next_type, procedure, without, Means, Says, Misdeclares, IsTypeOf, named, BrokenType, in_name}
 use Rattle.law_typing.specs.Judging.{Judges, Answers, means, refuses}
-use Rattle.law_typing.specs.Exact.{IsConst, is_const, kind_of, standing, Sees, sees, sees_unknown, Knows, Repeats, IsCallFree}
-use Rattle.law_typing.proofs.Combining.{Lawful, exact, Tells, silent, tells}
+use Rattle.law_typing.specs.Exact.{IsConst, is_const, kind_of, standing, Sees, sees, sees_unknown, sees_headless, Knows, Repeats, IsCallFree}
+use Rattle.law_typing.proofs.Combining.{Lawful, Tells, silent, tells}
 use Rattle.law_typing.proofs.Constants.{exactly_fixed}
 use Rattle.law_typing.proofs.TypeNaming.{type_name_answers}
-use Rattle.law_typing.proofs.Declaring.{All, Saying}
-
-abbrev pub IsValue : Value → Standing → Type 0
-IsValue v st = st ≡ Known (AValue (kind_of v))
-
-abbrev pub IsAType : TypeNo → Standing → Type 0
-IsAType t st = st ≡ Known (AType t)
-
-abbrev pub IsAVariable : TypeNo → Standing → Type 0
-IsAVariable t st = st ≡ Known (AVariable t)
+use Rattle.law_typing.proofs.Declaring.{All, Elsewhere, Saying}
 
 module _ (g : Gathers) (j : Judges g) (lawful : Lawful g j) (O : Breach → Type 0) where
   -- ---- results that are shared
@@ -77,53 +81,118 @@ module _ (g : Gathers) (j : Judges g) (lawful : Lawful g j) (O : Breach → Type
 
 -- ---- what a declaration says
 
-module _ (g : Gathers) (j : Judges g) (lawful : Lawful g j) (exports : ℕ → Ident → Standing) (outside : Ident → Standing) (start : Scope g.Reported) (taken : List ℕ → Bool) (block : List Declaration) (O : Breach → Type 0) where
-  abbrev Stand : List Declaration → (Ident → Standing) → Type 0
-  Stand = All g j exports outside start taken block O
+abbrev pub Saids : Type 0
+Saids = List Made × Standing
 
-  abbrev SaysSo : (Ident → Standing) → Declaration → Standing → Type 0
-  SaysSo names = Says start.types names exports
+abbrev pub said_constant : Value → Saids
+said_constant v = ([], Known (AValue (kind_of v)))
 
-  abbrev Mis : (Ident → Standing) → Declaration → Breach → Type 0
-  Mis names = Misdeclares start.types names exports
+abbrev pub said_type : TypeNo → Saids
+said_type t = ([], Known (AType t))
+
+abbrev pub said_variables : TypeNo → Saids
+said_variables t = ([], Known (AVariable t))
+
+abbrev pub said_procedure : Bool → Types → Made → Saids
+said_procedure nested types m = (m ∷ [], Known (procedure nested (next_type types)))
+
+module _ (g : Gathers) (j : Judges g) (lawful : Lawful g j) (exports : ℕ → Ident → Standing) (outside : Ident → Standing) (start : Scope g.Reported) (taken : List ℕ → Bool) (nested : Bool) (block : List Declaration) where
+  abbrev Stand : List Declared → (Ident → Standing) → Type 0
+  Stand = All g j exports outside start taken nested block
+
+  abbrev O : List Declared → Breach → Type 0
+  O = Elsewhere g j exports outside start taken nested block
+
+  abbrev Says' : List Declared → (Ident → Standing) → Declaration → Saids → Type 0
+  Says' front names d k = Says (types_behind start.types front) names exports nested d k.0 k.1
+
+  abbrev Mis : List Declared → (Ident → Standing) → Declaration → Breach → Type 0
+  Mis front names d = Misdeclares (types_behind start.types front) names exports d
 
   -- A result stands for what a declaration says, whatever its names stand for.
-  abbrev pub Exactly : {A : Type 0} → (A → Standing → Type 0) → List Declaration → Declaration → Result A g.Reported → Type 0
-  Exactly Is front d r = (names : Ident → Standing) → Stand front names → Answers g j O Is (SaysSo names d) (Mis names d) r
+  abbrev pub Exactly : {A : Type 0} → (A → Saids) → List Declared → Declaration → Result A g.Reported → Type 0
+  Exactly said front d r = (names : Ident → Standing) → Stand front names → Answers g j (O front) (λ a k. k ≡ said a) (Says' front names d) (Mis front names d) r
 
-  module _ {A : Type 0} (Is : A → Standing → Type 0) (front : List Declaration) (d : Declaration) (into : (f : Breach) (names : Ident → Standing) → Stand front names → Mis names d f → O f) where
-    stands_by : {names : Ident → Standing} {r : Result A g.Reported} → Stand front names → Answers g j O Is (SaysSo names d) (Mis names d) r → (s : Standing) × rules.Means start.types exports outside taken block front d s
-    stands_by all (means a k i m u n) = (k, rules.says all m)
-    stands_by all (refuses r c n) = (Unknown, rules.says_nothing all n)
+  module _ {A : Type 0} (said : A → Saids) (front : List Declared) (d : Declared) where
+    abbrev Made' : Standing → Type 0
+    Made' = Means start.types exports outside taken nested block front d
 
-    module _ (made : A → Meaning) (is_made : (a : A) (s : Standing) → Is a s → s ≡ standing (made a)) where
+    stands_by : {names : Ident → Standing} {r : Result A g.Reported} → ((a : A) → r ≡ Ok a → d.makes ≡ (said a).0) → Stand front names → Answers g j (O front) (λ a k. k ≡ said a) (Says' front names d.what) (Mis front names d.what) r → (s : Standing) × Made' s
+    stands_by {names = names} h all (means a k i m u n) = (k.1, rules.says all (subst (λ (ms : List Made). Says' front names d.what (ms, k.1)) (ap (λ (x : Saids). x.0) i ∙ sym (h a refl)) m))
+    stands_by h all (refuses r c n) = (without d.what, rules.says_nothing all (λ ms s m. n (ms, s) m))
+
+    module _ (made : A → Meaning) (is_made : (a : A) → (said a).1 ≡ standing (made a)) where
       abbrev meant : Result A g.Reported → Result Meaning g.Reported
       meant r = r ▷ λ a. Ok (made a)
 
-      seen_says : {names : Ident → Standing} {r : Result A g.Reported} {s : Standing} (at : Pos) → Answers g j O Is (SaysSo names d) (Mis names d) r → SaysSo names d s → Sees g j at s (plain (meant r))
-      seen_says {s = s} at (means a k i w u n) m = subst (λ (s : Standing). Sees g j at s (Ok (made a))) (sym (u s m ∙ is_made a k i)) (sees (made a))
-      seen_says at (refuses r c n) m = absurd (n _ m)
+      seen_says : {names : Ident → Standing} {r : Result A g.Reported} {s : Standing} (at : Pos) → Answers g j (O front) (λ a k. k ≡ said a) (Says' front names d.what) (Mis front names d.what) r → Says' front names d.what (d.makes, s) → (q : A) × (r ≡ Ok q) × (s ≡ standing (made q))
+      seen_says {s = s} at (means a k i w u n) m = (a, refl, ap (λ (x : Saids). x.1) (u (d.makes, s) m ∙ i) ∙ is_made a)
+      seen_says {s = s} at (refuses r c n) m = absurd (n (d.makes, s) m)
 
-      seen_nothing : {names : Ident → Standing} {r : Result A g.Reported} (at : Pos) → Answers g j O Is (SaysSo names d) (Mis names d) r → ((s : Standing) → SaysSo names d s → ⊥) → Sees g j at Unknown (plain (meant r))
-      seen_nothing at (means a k i w u c) n = absurd (n k w)
-      seen_nothing at (refuses r c w) n = sees_unknown r
+      seen_nothing : {names : Ident → Standing} {r : Result A g.Reported} → Answers g j (O front) (λ a k. k ≡ said a) (Says' front names d.what) (Mis front names d.what) r → ((ms : List Made) (s : Standing) → Says' front names d.what (ms, s) → ⊥) → (q : g.Reported) × (r ≡ Err q)
+      seen_nothing (means a k i w u c) n = absurd (n k.0 k.1 w)
+      seen_nothing (refuses r c w) n = (r, refl)
 
-      seen_by : {r : Result A g.Reported} → Exactly Is front d r → {s : Standing} → rules.Means start.types exports outside taken block front d s → (at : Pos) → Sees g j at s (plain (meant r))
-      seen_by h (rules.says {names = names} all m) at = seen_says at (h names all) m
-      seen_by h (rules.says_nothing {names = names} all n) at = seen_nothing at (h names all) n
+      -- with a meaning, or without one
+      seen_by : (into : Result Meaning g.Reported → Result Meaning (Meaningless g.Reported)) {r : Result A g.Reported} → Exactly said front d.what r → (at : Pos) → ((m : Meaning) → into (Ok m) ≡ Ok m) → ((q : g.Reported) → Sees g j at (without d.what) (into (Err q))) → {s : Standing} → Made' s → Sees g j at s (into (meant r))
+      seen_by into h at ok err (rules.says {names = names} {s = s} all m) = let q = seen_says at (h names all) m in
+          subst (λ (r : Result A g.Reported). Sees g j at s (into (meant r))) (sym q.1) (subst (λ (s : Standing). Sees g j at s (into (Ok (made q.0)))) (sym q.2) (subst (λ (x : Result Meaning (Meaningless g.Reported)). Sees g j at (standing (made q.0)) x) (sym (ok (made q.0))) (sees (made q.0))))
+      seen_by into h at ok err (rules.says_nothing {names = names} all n) = let q = seen_nothing (h names all) n in
+          subst (λ (r : Result A g.Reported). Sees g j at (without d.what) (into (meant r))) (sym q.1) (err q.0)
 
-      repeats_by : {names : Ident → Standing} {r : Result A g.Reported} → Stand front names → Answers g j O Is (SaysSo names d) (Mis names d) r → (q : g.Reported) → meant r ≡ Err q → (f : Breach) → j.Among q f → O f
+      repeats_by : {names : Ident → Standing} {r : Result A g.Reported} → Stand front names → Answers g j (O front) (λ a k. k ≡ said a) (Says' front names d.what) (Mis front names d.what) r → (q : g.Reported) → meant r ≡ Err q → (f : Breach) → j.Among q f → O (d ∷ front) f
       repeats_by all (means a k i m u n) q e f z = absurd cc
-      repeats_by {names = names} all (refuses r c n) q e f z = let same : r ≡ q = cc in elim (c.only f (subst (λ (x : g.Reported). j.Among x f) (sym same) z)) [ inl b ↦ into f names all b | inr o ↦ o ]
+      repeats_by {names = names} all (refuses r c n) q e f z = let same : r ≡ q = cc in elim (c.only f (subst (λ (x : g.Reported). j.Among x f) (sym same) z)) [ inl b ↦ inr (rules.inside all b) | inr o ↦ elim o [ inl y ↦ inl y | inr y ↦ inr (rules.in_front y) ] ]
 
-      pub saying : {r : Result A g.Reported} → Exactly Is front d r → {names : Ident → Standing} → Stand front names → Saying g j exports outside start taken block O front d (meant r)
-      saying h {names = names} all = record { stands = stands_by all (h names all); seen = λ s m at. seen_by h m at; repeats = repeats_by all (h names all) }
+      plain_heading : {q : g.Reported} (m : Result Meaning g.Reported) → plain m ≡ Err (meaningless.Headless q) → ⊥
+      plain_heading (Ok m) e = absurd cc
+      plain_heading (Err r) e = absurd cc
+
+      plain_broken : {q : g.Reported} (m : Result Meaning g.Reported) → plain m ≡ Err (meaningless.Broken q) → m ≡ Err q
+      plain_broken (Ok m) e = absurd cc
+      plain_broken (Err r) e = cc
+
+      heading_broken : {q : g.Reported} (m : Result Meaning g.Reported) → heading_means m ≡ Err (meaningless.Broken q) → ⊥
+      heading_broken (Ok m) e = absurd cc
+      heading_broken (Err r) e = absurd cc
+
+      heading_heading : {q : g.Reported} (m : Result Meaning g.Reported) → heading_means m ≡ Err (meaningless.Headless q) → m ≡ Err q
+      heading_heading (Ok m) e = absurd cc
+      heading_heading (Err r) e = cc
+
+      settled_by : ((a : A) → standing_of (made a) ≡ place.Taken) → (r : Result A g.Reported) → standing_elaborated (meant r) ≡ place.Taken
+      settled_by h (Ok a) = h a
+      settled_by h (Err e) = refl
+
+      pub saying : {r : Result A g.Reported} → Exactly said front d.what r → ((a : A) → r ≡ Ok a → d.makes ≡ (said a).0) → without d.what ≡ Unknown → ((a : A) → standing_of (made a) ≡ place.Taken) → {names : Ident → Standing} → Stand front names
+          → Saying g j exports outside start taken nested block front d (known.Declared Here (meant r))
+      saying {r = r} h e u t {names = names} all = record {
+        stands = stands_by e all (h names all);
+        seen = λ s m at. seen_by (λ m. plain m) h at (λ m. refl) (λ q. subst (λ (s : Standing). Sees g j at s (Err (meaningless.Broken q))) (sym u) (sees_unknown q)) m;
+        heading = λ at q z f m. absurd (plain_heading (meant r) z);
+        broken = λ at q z f m. repeats_by all (h names all) q (plain_broken (meant r) z) f m;
+        not_free = refl;
+        not_begun = refl;
+        settled = settled_by t r;
+      }
+
+      pub saying_heading : {r : Result A g.Reported} → Exactly said front d.what r → ((a : A) → r ≡ Ok a → d.makes ≡ (said a).0) → without d.what ≡ Known Headless → {names : Ident → Standing} → Stand front names
+          → Saying g j exports outside start taken nested block front d (known.Headed (meant r))
+      saying_heading {r = r} h e u {names = names} all = record {
+        stands = stands_by e all (h names all);
+        seen = λ s m at. seen_by (λ m. heading_means m) h at (λ m. refl) (λ q. subst (λ (s : Standing). Sees g j at s (Err (meaningless.Headless q))) (sym u) (sees_headless q)) m;
+        heading = λ at q z f m. repeats_by all (h names all) q (heading_heading (meant r) z) f m;
+        broken = λ at q z f m. absurd (heading_broken (meant r) z);
+        not_free = refl;
+        not_begun = refl;
+        settled = refl;
+      }
 
     abbrev pub AnyMis : Breach → Type 0
-    AnyMis f = (i : (names : Ident → Standing) × Stand front names) × Mis i.0 d f
+    AnyMis f = (i : (names : Ident → Standing) × Stand front names) × Mis front i.0 d.what f
 
-    pub says_tells : {r : Result A g.Reported} → Exactly Is front d r → {names : Ident → Standing} → Stand front names → Tells g j lawful O AnyMis (r ▷ λ a. Ok tt)
-    says_tells {r = r} h {names = names} all = tells_all g j lawful O {I = (names : Ident → Standing) × Stand front names} {B = λ i. Mis i.0 d} (r ▷ λ a. Ok tt) (names, all) (λ i. tells_of g j lawful O (h i.0 i.1))
+    pub says_tells : {r : Result A g.Reported} → Exactly said front d.what r → {names : Ident → Standing} → Stand front names → Tells g j lawful (O front) AnyMis (r ▷ λ a. Ok tt)
+    says_tells {r = r} h {names = names} all = tells_all g j lawful (O front) {I = (names : Ident → Standing) × Stand front names} {B = λ i. Mis front i.0 d.what} (r ▷ λ a. Ok tt) (names, all) (λ i. tells_of g j lawful (O front) (h i.0 i.1))
 
 -- ---- types by name
 
@@ -140,32 +209,42 @@ module _ (g : Gathers) where
 
 -- ---- each declaration
 
-module _ (g : Gathers) (j : Judges g) (lawful : Lawful g j) (types : Types) (names : Ident → Standing) (exports : ℕ → Ident → Standing) (s : Scope g.Reported) (knows : Knows g j names exports s) (same : s.types ≡ types) where
+module _ (g : Gathers) (j : Judges g) (lawful : Lawful g j) (nested : Bool) (types : Types) (names : Ident → Standing) (exports : ℕ → Ident → Standing) (s : Scope g.Reported) (knows : Knows g j names exports s) (same : s.types ≡ types) where
   abbrev R : Breach → Type 0
   R = Repeats g j names s
 
-  constant_parts : {c : Constant} {st : Standing} → Says types names exports (OfConstant c) st → (k : Kind) × (st ≡ Known (AValue k)) × Fixes types names exports c.value (AConstant k)
-  constant_parts (rules.constant {k = k} m) = (k, refl, m)
+  abbrev SaysIt : Declaration → Saids → Type 0
+  SaysIt d k = Says types names exports nested d k.0 k.1
 
-  constant_fails : {c : Constant} {f : Breach} → Misdeclares types names exports (OfConstant c) f → BrokenAsConstant types names exports c.value f
-  constant_fails (rules.in_constant b) = b
+  abbrev MisIt : Declaration → Breach → Type 0
+  MisIt d = Misdeclares types names exports d
 
-  const_kind : {v : Value} {k : Kind} → IsConst v k → k ≡ kind_of v
-  const_kind (is_const v) = refl
+  abbrev So : {A : Type 0} → (A → Saids) → Declaration → Result A g.Reported → Type 0
+  So said d r = Answers g j R (λ a k. k ≡ said a) (SaysIt d) (MisIt d) r
 
-  constant_by : (c : Constant) {r : Result Value g.Reported} → Answers g j R IsConst (λ k. Fixes types names exports c.value (AConstant k)) (BrokenAsConstant types names exports c.value) r
-      → Answers g j R IsValue (Says types names exports (OfConstant c)) (Misdeclares types names exports (OfConstant c)) r
-  constant_by c (means v k i m u n) = means v (Known (AValue k)) (ap (λ (k : Kind). Known (AValue k)) (const_kind i)) (rules.constant m)
-      (λ st z. let q = constant_parts z in q.1 ∙ ap (λ (k : Kind). Known (AValue k)) (u q.0 q.2)) (λ f b. n f (constant_fails b))
-  constant_by c (refuses r a n) = refuses r (record { only = λ f m. elim (a.only f m) [ inl b ↦ inl (rules.in_constant b) | inr o ↦ inr o ]; each = λ f b. a.each f (constant_fails b) }) (λ st z. let q = constant_parts z in n q.0 q.2)
+  -- a declaration says what one part of it gives
+  by_part : {A K : Type 0} {Is : A → K → Type 0} {M : K → Type 0} {B : Breach → Type 0} {r : Result A g.Reported} (said : A → Saids) (d : Declaration) → ((a : A) (k : K) → Is a k → M k → SaysIt d (said a)) → ((l : Saids) → SaysIt d l → (k : K) × M k × ((a : A) → Is a k → l ≡ said a)) → ((f : Breach) → B f → MisIt d f) → ((f : Breach) → MisIt d f → B f)
+      → Answers g j R Is M B r → So said d r
+  by_part {Is = Is} said d says parts to from (means a k i m u n) = means a (said a) refl (says a k i m) (λ l z. let q = parts l z in q.2 a (subst (Is a) (sym (u q.0 q.1)) i)) (λ f b. n f (from f b))
+  by_part said d says parts to from (refuses r c n) = refuses r (record { only = λ f m. elim (c.only f m) [ inl b ↦ inl (to f b) | inr o ↦ inr o ]; each = λ f b. c.each f (from f b) }) (λ l z. let q = parts l z in n q.0 q.1)
 
-  pub constant_says : (c : Constant) → IsCallFree c.value → Answers g j R IsValue (Says types names exports (OfConstant c)) (Misdeclares types names exports (OfConstant c)) (constant g s (part g c.value))
-  constant_says c i = constant_by c (subst (λ (types : Types). Answers g j R IsConst (λ k. Fixes types names exports c.value (AConstant k)) (BrokenAsConstant types names exports c.value) (constant g s (part g c.value))) same (exactly_fixed g j lawful names exports s knows c.value i))
+  constant_fails : {c : Constant} (f : Breach) → MisIt (OfConstant c) f → BrokenAsConstant types names exports c.value f
+  constant_fails f (rules.in_constant b) = b
+
+  const_says : {c : Constant} (v : Value) (k : Kind) → IsConst v k → Fixes types names exports c.value (AConstant k) → SaysIt (OfConstant c) (said_constant v)
+  const_says _ _ (is_const v) m = rules.constant m
+
+  const_parts : {c : Constant} {ms : List Made} {st : Standing} → Says types names exports nested (OfConstant c) ms st → (k : Kind) × Fixes types names exports c.value (AConstant k) × ((v : Value) → IsConst v k → ◌≡◌ {A = Saids} (ms, st) (said_constant v))
+  const_parts (rules.constant {k = k} m) = (k, m, λ v i. by v k i)
+    where
+      by : (v : Value) (k : Kind) → IsConst v k → ◌≡◌ {A = Saids} ([], Known (AValue k)) (said_constant v)
+      by _ _ (is_const v) = refl
+
+  pub constant_says : (c : Constant) → IsCallFree c.value → So said_constant (OfConstant c) (constant g s (part g c.value))
+  constant_says c i = by_part {Is = IsConst} said_constant (OfConstant c) const_says (λ l z. const_parts z) (λ f b. rules.in_constant b) constant_fails
+      (subst (λ (types : Types). Answers g j R IsConst (λ k. Fixes types names exports c.value (AConstant k)) (BrokenAsConstant types names exports c.value) (constant g s (part g c.value))) same (exactly_fixed g j lawful names exports s knows c.value i))
 
   -- ---- types
-
-  abbrev IsNamed : TypeExpr → Type 0
-  IsNamed e = (q : Qualified) × (out-TypeExpr e ≡ layer.Simple (simple.Named q))
 
   abbrev name_in : Qualified → Simple → Qualified
   name_in q (simple.Named p) = p
@@ -178,41 +257,44 @@ module _ (g : Gathers) (j : Judges g) (lawful : Lawful g j) (types : Types) (nam
   same_named : (e : TypeExpr) (q p : Qualified) → out-TypeExpr e ≡ layer.Simple (simple.Named q) → out-TypeExpr e ≡ layer.Simple (simple.Named p) → p ≡ q
   same_named e q p h k = ap (named_in q) (sym k ∙ h)
 
-  type_parts : {e : TypeExpr} {q : Qualified} {t : TypeNo} → out-TypeExpr e ≡ layer.Simple (simple.Named q) → IsTypeOf types names exports e t → NamesType names exports q t
-  type_parts {e = e} {q = q} {t = t} h (named {q = p} k m) = subst (λ (p : Qualified). NamesType names exports p t) (same_named e q p h k) m
+  type_parts : {e : TypeExpr} {q : Qualified} {ms : List Made} {t : TypeNo} → out-TypeExpr e ≡ layer.Simple (simple.Named q) → IsTypeOf types names exports e ms t → NamesType names exports q t × (ms ≡ [])
+  type_parts {e = e} {q = q} {t = t} h (named {q = p} k m) = (subst (λ (p : Qualified). NamesType names exports p t) (same_named e q p h k) m, refl)
 
   type_fails : {e : TypeExpr} {q : Qualified} {f : Breach} → out-TypeExpr e ≡ layer.Simple (simple.Named q) → BrokenType types names exports e f → BrokenTypeName names exports q f
   type_fails {e = e} {q = q} {f = f} h (in_name {q = p} k m) = subst (λ (p : Qualified). BrokenTypeName names exports p f) (same_named e q p h k) m
 
-  type_says : (e : TypeExpr) (q : Qualified) → out-TypeExpr e ≡ layer.Simple (simple.Named q) → Answers g j R (λ (t u : TypeNo). t ≡ u) (IsTypeOf types names exports e) (BrokenType types names exports e) (named_type g s q)
-  type_says e q h = exact g j lawful R (λ t m. named h m) (λ t m. type_parts h m) (λ f b. in_name h b) (λ f b. type_fails h b) (type_name_answers g j lawful names exports s knows q)
+  abbrev Equal : TypeNo → TypeNo → Type 0
+  Equal t u = t ≡ u
 
-  of_type_parts : {d : TypeDecl} {st : Standing} → Says types names exports (OfType d) st → (t : TypeNo) × (st ≡ Known (AType t)) × IsTypeOf types names exports d.of t
-  of_type_parts (rules.a_type {t = t} m) = (t, refl, m)
+  said_same : (th : TypeNo → Standing) {ms : List Made} {st : Standing} (t a : TypeNo) → ms ≡ [] → st ≡ th t → a ≡ t → ◌≡◌ {A = Saids} (ms, st) ([], th a)
+  said_same th {ms = ms} {st = st} t a e q i = ap (λ (x : List Made). let y : Saids = (x, st) in y) e ∙ ap (λ (x : Standing). let y : Saids = ([], x) in y) (q ∙ ap th (sym i))
 
-  of_type_fails : {d : TypeDecl} {f : Breach} → Misdeclares types names exports (OfType d) f → BrokenType types names exports d.of f
-  of_type_fails (rules.in_type b) = b
+  of_type_parts : {d : TypeDecl} {q : Qualified} {ms : List Made} {st : Standing} → out-TypeExpr d.of ≡ layer.Simple (simple.Named q) → Says types names exports nested (OfType d) ms st → (t : TypeNo) × NamesType names exports q t × ((a : TypeNo) → a ≡ t → ◌≡◌ {A = Saids} (ms, st) (said_type a))
+  of_type_parts h (rules.a_type {t = t} m) = let z = type_parts h m in (t, z.0, λ a i. said_same (λ t. Known (AType t)) t a z.1 refl i)
 
-  of_type_by : (d : TypeDecl) {r : Result TypeNo g.Reported} → Answers g j R (λ (t u : TypeNo). t ≡ u) (IsTypeOf types names exports d.of) (BrokenType types names exports d.of) r
-      → Answers g j R IsAType (Says types names exports (OfType d)) (Misdeclares types names exports (OfType d)) r
-  of_type_by d (means t u i m one n) = means t (Known (AType u)) (ap (λ (t : TypeNo). Known (AType t)) (sym i)) (rules.a_type m)
-      (λ st z. let q = of_type_parts z in q.1 ∙ ap (λ (t : TypeNo). Known (AType t)) (one q.0 q.2)) (λ f b. n f (of_type_fails b))
-  of_type_by d (refuses r a n) = refuses r (record { only = λ f m. elim (a.only f m) [ inl b ↦ inl (rules.in_type b) | inr o ↦ inr o ]; each = λ f b. a.each f (of_type_fails b) }) (λ st z. let q = of_type_parts z in n q.0 q.2)
+  of_type_fails : {d : TypeDecl} {q : Qualified} → out-TypeExpr d.of ≡ layer.Simple (simple.Named q) → (f : Breach) → MisIt (OfType d) f → BrokenTypeName names exports q f
+  of_type_fails h f (rules.in_type b) = type_fails h b
 
-  pub of_type_says : (d : TypeDecl) (q : Qualified) → out-TypeExpr d.of ≡ layer.Simple (simple.Named q) → Answers g j R IsAType (Says types names exports (OfType d)) (Misdeclares types names exports (OfType d)) (named_type g s q)
-  of_type_says d q h = of_type_by d (type_says d.of q h)
+  pub of_type_says : (d : TypeDecl) (q : Qualified) → out-TypeExpr d.of ≡ layer.Simple (simple.Named q) → So said_type (OfType d) (named_type g s q)
+  of_type_says d q h = by_part {Is = Equal} said_type (OfType d) (λ t u i m. rules.a_type (named h (subst (NamesType names exports q) (sym i) m))) (λ l z. of_type_parts h z) (λ f b. rules.in_type (in_name h b)) (of_type_fails h) (type_name_answers g j lawful names exports s knows q)
 
-  variable_parts : {v : Variables} {st : Standing} → Says types names exports (OfVariables v) st → (t : TypeNo) × (st ≡ Known (AVariable t)) × IsTypeOf types names exports v.of t
-  variable_parts (rules.variables {t = t} m) = (t, refl, m)
+  variable_parts : {v : Variables} {q : Qualified} {ms : List Made} {st : Standing} → out-TypeExpr v.of ≡ layer.Simple (simple.Named q) → Says types names exports nested (OfVariables v) ms st → (t : TypeNo) × NamesType names exports q t × ((a : TypeNo) → a ≡ t → ◌≡◌ {A = Saids} (ms, st) (said_variables a))
+  variable_parts h (rules.variables {t = t} m) = let z = type_parts h m in (t, z.0, λ a i. said_same (λ t. Known (AVariable t)) t a z.1 refl i)
 
-  variable_fails : {v : Variables} {f : Breach} → Misdeclares types names exports (OfVariables v) f → BrokenType types names exports v.of f
-  variable_fails (rules.in_variables b) = b
+  variable_fails : {v : Variables} {q : Qualified} → out-TypeExpr v.of ≡ layer.Simple (simple.Named q) → (f : Breach) → MisIt (OfVariables v) f → BrokenTypeName names exports q f
+  variable_fails h f (rules.in_variables b) = type_fails h b
 
-  variables_by : (v : Variables) {r : Result TypeNo g.Reported} → Answers g j R (λ (t u : TypeNo). t ≡ u) (IsTypeOf types names exports v.of) (BrokenType types names exports v.of) r
-      → Answers g j R IsAVariable (Says types names exports (OfVariables v)) (Misdeclares types names exports (OfVariables v)) r
-  variables_by v (means t u i m one n) = means t (Known (AVariable u)) (ap (λ (t : TypeNo). Known (AVariable t)) (sym i)) (rules.variables m)
-      (λ st z. let q = variable_parts z in q.1 ∙ ap (λ (t : TypeNo). Known (AVariable t)) (one q.0 q.2)) (λ f b. n f (variable_fails b))
-  variables_by v (refuses r a n) = refuses r (record { only = λ f m. elim (a.only f m) [ inl b ↦ inl (rules.in_variables b) | inr o ↦ inr o ]; each = λ f b. a.each f (variable_fails b) }) (λ st z. let q = variable_parts z in n q.0 q.2)
+  pub variables_say : (v : Variables) (q : Qualified) → out-TypeExpr v.of ≡ layer.Simple (simple.Named q) → So said_variables (OfVariables v) (named_type g s q)
+  variables_say v q h = by_part {Is = Equal} said_variables (OfVariables v) (λ t u i m. rules.variables (named h (subst (NamesType names exports q) (sym i) m))) (λ l z. variable_parts h z) (λ f b. rules.in_variables (in_name h b)) (variable_fails h) (type_name_answers g j lawful names exports s knows q)
 
-  pub variables_say : (v : Variables) (q : Qualified) → out-TypeExpr v.of ≡ layer.Simple (simple.Named q) → Answers g j R IsAVariable (Says types names exports (OfVariables v)) (Misdeclares types names exports (OfVariables v)) (named_type g s q)
-  variables_say v q h = variables_by v (type_says v.of q h)
+  -- ---- procedures
+
+  heading_parts : {h : Heading} {ms : List Made} {st : Standing} → Says types names exports nested (OfProcedure h) ms st → (x : Signature) × IsHeading types names exports h x × ((m : Made) → m ≡ procedure_made x → ◌≡◌ {A = Saids} (ms, st) (said_procedure nested types m))
+  heading_parts (rules.a_procedure {s = x} i) = (x, i, λ m e. ap (λ (m : Made). said_procedure nested types m) (sym e))
+
+  heading_fails : {h : Heading} (f : Breach) → MisIt (OfProcedure h) f → BrokenHeading types names exports h f
+  heading_fails f (rules.in_heading b) = b
+
+  pub procedure_says : (h : Heading) → So (said_procedure nested types) (OfProcedure h) (heading_of g s h)
+  procedure_says h = by_part {Is = λ (m : Made) (x : Signature). m ≡ procedure_made x} (said_procedure nested types) (OfProcedure h) (λ m x e i. subst (λ (m : Made). SaysIt (OfProcedure h) (said_procedure nested types m)) (sym e) (rules.a_procedure i)) (λ l z. heading_parts z) (λ f b. rules.in_heading b) heading_fails
+      (subst (λ (types : Types). Answers g j R (λ (m : Made) (x : Signature). m ≡ procedure_made x) (IsHeading types names exports h) (BrokenHeading types names exports h) (heading_of g s h)) same (heading_answers g j lawful names exports s knows h))

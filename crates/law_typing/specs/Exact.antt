@@ -1,5 +1,5 @@
 -- What is elaborated, and what it stands for.
-use Rattle.std.specs.Prelude.{◌≡◌, ◌⊎◌, ◌&&◌, ◌==◌, Bool, true, false, ℕ, ℤ, List, [], ◌∷◌, Option, Some, None, Result, Ok, Err, slice_get, map}
+use Rattle.std.specs.Prelude.{◌≡◌, ◌⊎◌, ◌&&◌, ◌==◌, Bool, true, false, not, ℕ, ℤ, List, [], ◌∷◌, Option, Some, None, Result, Ok, Err, slice_get, map}
 use Rattle.m2_rule.specs.declared.rule.Rule.TheVariants as rule
 use Rattle.m2_tree.specs.declared.pos.Pos.{Pos}
 use Rattle.m2_tree.specs.declared.name.Ident.{Ident}
@@ -81,7 +81,9 @@ use Rattle.check_type_expr.specs.Headings.{heading_of}
 use Rattle.def_typing.specs.Headings.{procedure_made, IsHeading, BrokenHeading}
 use Rattle.typed_tree.specs.Names.{found}
 use Rattle.check_block.specs.Declarations.{declared_block}
-use Rattle.def_typing.specs.Declarations.{declarations_of, with_declarations, AllStand, BrokenDeclarations}
+use Rattle.check_block.specs.Headings.{standing_from}
+use Rattle.check_block.specs.declared.heading.Standing.TheVariants as heading
+use Rattle.def_typing.specs.Declarations.{Declared as Resolved, declarations_of, in_order, types_behind, AllStand, BrokenIn}
 use Rattle.check_stmt.specs.Statements.{stmt}
 use Rattle.def_typing.specs.Statements.{arguments, labels_of, Spot, Obeys, Broken}
 use Rattle.check_expr.specs.Meanings.{meant, head, part, value_of}
@@ -177,9 +179,10 @@ module _ (g : Gathers) (j : Judges g) where
     of_declaration : {name : Ident} {r : g.Reported} → names name ≡ Unknown
         → looked_up g s name ≡ Err (meaningless.Broken r) → j.Among r f → Repeats names s f
 
-  -- whether a name is taken before a block begins
+  -- whether a name is taken before a block begins; no procedure of a definition is awaited
   pub data TakenAs : Bool → Option (KnownName g.Reported) → Type 0 where
-    is_taken : {o : Origin} {m : Result Meaning g.Reported} → TakenAs true (Some (Declared o m))
+    is_taken : {o : Origin} {m : Result Meaning g.Reported} → standing_from o m ≡ heading.Taken
+        → TakenAs true (Some (Declared o m))
     not_taken : TakenAs false None
 
   -- what is known of the result of the body that a statement stands in
@@ -343,7 +346,7 @@ mutual
     one_arm : {x : Arm} {xs : List Arm} → ArePlainStmts (out-Arm x).body → ArePlainArms xs
         → ArePlainArms (x ∷ xs)
 
--- ---- declarations of which this is known: constants that call nothing, and types that are names
+-- ---- declarations of which this is known: constants call nothing, and types are names
 
 abbrev pub IsNamedType : TypeExpr → Type 0
 IsNamedType e = (q : Qualified) × (out-TypeExpr e ≡ type_layer.Simple (simple.Named q))
@@ -352,10 +355,14 @@ abbrev pub IsPlainLayer : Decl-F Decl Block → Type 0
 IsPlainLayer (decl_layer.Constants cs) = (c : ConstantDecl) → Among c cs → IsCallFree c.value
 IsPlainLayer (decl_layer.Types ts) = (d : TypeDecl) → Among d ts → IsNamedType d.of
 IsPlainLayer (decl_layer.Variables vs) = (v : Variables) → Among v vs → IsNamedType v.of
-IsPlainLayer (decl_layer.Procedure h b) = ⊥
+IsPlainLayer (decl_layer.Procedure h b) = Unit {0}
 
 abbrev pub ArePlainDecls : List Decl → Type 0
 ArePlainDecls ds = (d : Decl) → Among d ds → IsPlainLayer (out-Decl d)
+
+-- in a procedure
+abbrev pub is_nested : {T : Type 0} → Scope T → Bool
+is_nested s = not (s.level == 0)
 
 -- what is known of the spot at which a statement stands
 pub record KnowsSpot (g : Gathers) (j : Judges g) (exports : ℕ → Ident → Standing) (w : Spot)
@@ -369,18 +376,20 @@ pub record KnowsSpot (g : Gathers) (j : Judges g) (exports : ℕ → Ident → S
 pub record IsBlockExact (g : Gathers) (j : Judges g) (exports : ℕ → Ident → Standing)
     (outside : Ident → Standing) (s : Scope g.Reported) (taken : List ℕ → Bool) (ends : List ℕ)
     (first : ℕ) (ds : List Decl) : Type 0 where
+  -- the declarations, each with the types that it makes
+  pub whole : List Resolved
+  pub in_text : in_order whole ≡ declarations_of ds
   -- Exactly the broken rules are reported.
   pub reported : Reports g j (Repeats g j outside s)
-      (BrokenDeclarations s.types exports outside taken (declarations_of ds) []
-      (declarations_of ds)) (declared_block g ends (s, Ok tt) first ds).1
+      (BrokenIn s.types exports outside taken (is_nested s) (declarations_of ds) whole)
+      (declared_block g ends (s, Ok tt) first ds).1
+  pub types : (declared_block g ends (s, Ok tt) first ds).0.types ≡ types_behind s.types whole
   -- Each name stands for something behind them.
   pub stand : (names : Ident → Standing)
-      × AllStand s.types exports outside taken (declarations_of ds)
-      (with_declarations [] (declarations_of ds)) names
+      × AllStand s.types exports outside taken (is_nested s) (declarations_of ds) whole names
   -- Whatever names stand for, the scope knows it.
   pub known : (names : Ident → Standing)
-      → AllStand s.types exports outside taken (declarations_of ds)
-      (with_declarations [] (declarations_of ds)) names
+      → AllStand s.types exports outside taken (is_nested s) (declarations_of ds) whole names
       → Knows g j names exports (declared_block g ends (s, Ok tt) first ds).0
 
 -- These expressions are answered exactly, whatever their names stand for.
