@@ -118,6 +118,10 @@ abbrev pub procedure : Bool → TypeNo → Thing
 procedure true t = ANested t
 procedure false t = AProcedure t
 
+abbrev pub is_variables : Declaration → Bool
+is_variables (OfVariables v) = true
+is_variables other = false
+
 -- what a name stands for before its declaration
 abbrev pub in_front_of : Declaration → Standing
 in_front_of (OfProcedure h) = Ahead
@@ -193,6 +197,15 @@ module _ (types : Types) (exports : ℕ → Ident → Standing) (outside : Ident
 
   abbrev pub AllStand : List Declared → (Ident → Standing) → Type 0
   AllStand front names = (x : Ident) → StandsFor front x (names x)
+
+  -- whether it is a variable that the block declares, or one of those outside that count as own
+  pub data IsOwn (outer : Ident → Bool) (front : List Declared) (name : Ident) : Bool → Type 0 where
+    of_block : {d : Declared} {before : List Declared} → taken name.name ≡ false
+        → IsNamed name.name d before front → IsOwn outer front name (is_variables d.what)
+    of_none : taken name.name ≡ false → AnyDeclares block name.name
+        → (IsThere front name.name → ⊥) → IsOwn outer front name false
+    of_outside : (taken name.name ≡ false → AnyDeclares block name.name → ⊥)
+        → IsOwn outer front name (outer name)
 
   abbrev pub There : List Declared → List ℕ → Type 0
   There front n = (taken n ≡ true) ⊎ IsThere front n

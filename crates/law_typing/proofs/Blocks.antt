@@ -1,7 +1,8 @@
 -- The declarations of a block are answered exactly.
-use Rattle.std.proofs.Common.{◌≡◌, ℕ, Bool, true, false, cond, List, [], ◌∷◌, ◌++◌, length, Option, Result, Ok, Err, ◌⊎◌, inl, inr, refl, sym, ap, subst, ◌∙◌}
+use Rattle.std.proofs.Common.{◌≡◌, ℕ, Bool, true, false, cond, List, [], ◌∷◌, ◌++◌, length, Option, Result, Ok, Err, ◌⊎◌, inl, inr, refl, sym, ap, subst, ◌∙◌, arith}
 use Rattle.std.specs.Prelude.{map, not, ◌==◌}
 use Rattle.std.specs.List.{fold}
+use Rattle.std.proofs.lemmas.Bool.Decides.{nat_tests}
 use Rattle.m2_rule.specs.declared.breach.Breach.{Breach}
 use Rattle.m2_tree.specs.declared.name.Ident.{Ident}
 use Rattle.m2_tree.specs.declared.expr.Qualified.{Qualified}
@@ -55,13 +56,13 @@ use Rattle.def_typing.specs.Things as things
 use Rattle.def_typing.specs.Things.{Standing, Undeclared, Unknown}
 use Rattle.def_typing.specs.Parts.{Among, here, later}
 use Rattle.def_typing.specs.Declarations as rules
-use Rattle.def_typing.specs.Declarations.{Declaration, OfConstant, OfType, OfVariables, OfProcedure, declared_by, declarations_of, names_of, names_in, formals_in, Declares, AnyDeclares, Declared as Resolved, in_order, IsThere, with_types, next_type, types_behind, procedure, in_front_of, without, Twice, Misdeclares, BrokenIn}
+use Rattle.def_typing.specs.Declarations.{Declaration, OfConstant, OfType, OfVariables, OfProcedure, declared_by, declarations_of, names_of, names_in, formals_in, Declares, AnyDeclares, Declared as Resolved, in_order, IsThere, with_types, next_type, types_behind, procedure, is_variables, in_front_of, without, Twice, Misdeclares, BrokenIn}
 use Rattle.law_typing.specs.Judging.{Judges, Reports, reports_nothing, reports_broken}
-use Rattle.law_typing.specs.Exact.{standing, TakenAs, Knows, Repeats, IsCallFree, IsNamedType, IsPlainLayer, ArePlainDecls, is_nested, IsBlockExact}
+use Rattle.law_typing.specs.Exact.{standing, is_own_variable, TakenAs, Knows, Repeats, IsCallFree, IsNamedType, IsPlainLayer, ArePlainDecls, is_nested, IsBlockExact}
 use Rattle.law_typing.proofs.Combining.{Lawful, Tells, silent, tells, tells_as, beside_tells, accounts_as, accounts_one}
 use Rattle.law_typing.proofs.Heading.{nil_right, append_assoc}
 use Rattle.law_typing.proofs.Entering.{entered_all}
-use Rattle.law_typing.proofs.Declaring.{All, Elsewhere, Saying, KnownAs, Same, KnowsBlock, knowing, repeating, standings, all_stand}
+use Rattle.law_typing.proofs.Declaring.{All, Elsewhere, Saying, KnownAs, Same, KnowsBlock, knowing, repeating, standings, all_stand, home_same, owning, some_own}
 use Rattle.law_typing.proofs.Beginning.{Adding, adding_name, added, clash, Theres, widen, begin_one, begin_all, place_is, PlaceIs, place_free, place_taken, MidAs, is_done, is_other, KnowsMid, mid_begins, mid_as, finish_one, finish_end}
 use Rattle.law_typing.proofs.Sayings.{Saids, said_constant, said_type, said_variables, said_procedure, Exactly, saying, saying_heading, says_tells, more_answers, constant_says, of_type_says, variables_say, procedure_says, named_is}
 use Rattle.law_typing.proofs.Marking.{block_begins}
@@ -181,9 +182,9 @@ module _ (g : Gathers) (j : Judges g) (lawful : Lawful g j) (exports : ℕ → I
       telling : {A : Type 0} (said : A → Saids) {r : Result A g.Reported} → Exact said r → Tells g j lawful (O front) (Mis front d.what) (r ▷ λ a. Ok tt)
       telling said h = says_tells g j lawful exports outside start taken nested block said front d h stand_here
 
-      says_it : {A : Type 0} (said : A → Saids) (made : A → Meaning) → ((a : A) → (said a).1 ≡ standing (made a)) → ((a : A) → [] ≡ (said a).0) → ((a : A) → standing_of (made a) ≡ place.Taken) → {r : Result A g.Reported} → Exact said r
+      says_it : {A : Type 0} (said : A → Saids) (made : A → Meaning) → ((a : A) → (said a).1 ≡ standing (made a)) → ((a : A) → [] ≡ (said a).0) → ((a : A) → standing_of (made a) ≡ place.Taken) → ((a : A) → is_own_variable start (made a) ≡ is_variables d.what) → {r : Result A g.Reported} → Exact said r
           → Saying g j exports outside start taken nested block front d (known.Declared Here (r ▷ λ a. Ok (made a)))
-      says_it said made i e t h = saying g j lawful exports outside start taken nested block said front d made i h (λ a q. none ∙ e a) unknown t stand_here
+      says_it said made i e t w h = saying g j lawful exports outside start taken nested block said front d made i h (λ a q. none ∙ e a) unknown t w stand_here
 
     -- what is reported, if one name is begun
     told_one : {x : Ident} {r b v : Result (Unit {0}) g.Reported} → names_of d.what ≡ x ∷ [] → Told front r → Tells g j lawful (O front) (λ f. Th front x.name × (f ≡ x.pos ! rule.DeclaredTwice)) b → Tells g j lawful (O front) (Mis front d.what) v → Told (d ∷ front) (beside g r (beside g b v))
@@ -232,7 +233,7 @@ module _ (g : Gathers) (j : Judges g) (lawful : Lawful g j) (exports : ℕ → I
     declare_constant k t = let b = begin_one g j lawful exports outside start taken nested block takes (O front) front (OfConstant c) ds refl (Th front) c.name (c.name, here, refl) k in
         let h = constant_exact b.0 in (
           ended front (plain_one (OfConstant c)) ds refl refl refl refl b.0 (mid_as g j lawful exports outside start taken nested block takes front (plain_one (OfConstant c)) ds (Adding (c.name ∷ []) (Th front)) (λ n z. only_name z) (λ n z. name_only z)
-              (one_finished front (plain_one (OfConstant c)) ds refl refl refl refl b.0 c.name here (says_it front (plain_one (OfConstant c)) ds refl refl refl refl b.0 said_constant (λ v. meaning.Constant v) (λ v. refl) (λ v. refl) (λ v. refl) h) (λ n. ⊥) (begun_mid front (plain_one (OfConstant c)) ds refl refl refl refl b.0))),
+              (one_finished front (plain_one (OfConstant c)) ds refl refl refl refl b.0 c.name here (says_it front (plain_one (OfConstant c)) ds refl refl refl refl b.0 said_constant (λ v. meaning.Constant v) (λ v. refl) (λ v. refl) (λ v. refl) (λ v. refl) h) (λ n. ⊥) (begun_mid front (plain_one (OfConstant c)) ds refl refl refl refl b.0))),
           told_one front (plain_one (OfConstant c)) ds refl refl refl refl refl t b.1 (telling front (plain_one (OfConstant c)) ds refl refl refl refl b.0 said_constant h),
         )
 
@@ -249,7 +250,7 @@ module _ (g : Gathers) (j : Judges g) (lawful : Lawful g j) (exports : ℕ → I
         → Stepped front (plain_one (OfType d)) ds (finished s d.name (type_meaning (named_type g s q) (brings_with d.of)), beside g r (beside g b (nothing_of (named_type g s q))))
     type_ended k t w = let h = type_exact k in (
       ended front (plain_one (OfType d)) ds refl refl refl refl k (mid_as g j lawful exports outside start taken nested block takes front (plain_one (OfType d)) ds (Adding (d.name ∷ []) (Th front)) (λ n z. only_name z) (λ n z. name_only z)
-          (one_finished front (plain_one (OfType d)) ds refl refl refl refl k d.name here (says_it front (plain_one (OfType d)) ds refl refl refl refl k said_type (λ t. meaning.Type t (brings_with d.of)) (λ t. refl) (λ t. refl) (λ t. refl) h) (λ n. ⊥) (begun_mid front (plain_one (OfType d)) ds refl refl refl refl k))),
+          (one_finished front (plain_one (OfType d)) ds refl refl refl refl k d.name here (says_it front (plain_one (OfType d)) ds refl refl refl refl k said_type (λ t. meaning.Type t (brings_with d.of)) (λ t. refl) (λ t. refl) (λ t. refl) (λ t. refl) h) (λ n. ⊥) (begun_mid front (plain_one (OfType d)) ds refl refl refl refl k))),
       told_one front (plain_one (OfType d)) ds refl refl refl refl refl t w (telling front (plain_one (OfType d)) ds refl refl refl refl k said_type h),
     )
 
@@ -272,20 +273,24 @@ module _ (g : Gathers) (j : Judges g) (lawful : Lawful g j) (exports : ℕ → I
       typed_mid (Ok u) m = record { same = record { withs = m.same.withs; outer = m.same.outer; types = m.same.types; tables = m.same.tables; level = m.same.level }; own = m.own }
       typed_mid (Err e) m = m
 
+      -- its variables count as own
+      abbrev OwnMade : (Scope g.Reported → TypeNo → Meaning) → Type 0
+      OwnMade made = (t : Scope g.Reported) → t.types ≡ T (plain_one (OfVariables v) ∷ front) → t.level ≡ start.level → (a : TypeNo) → is_own_variable start (made t a) ≡ true
+
       -- one variable after another
-      finish_each : (made : Scope g.Reported → TypeNo → Meaning) → ((t : Scope g.Reported) (a : TypeNo) → (said_variables a).1 ≡ standing (made t a)) → ((t : Scope g.Reported) (a : TypeNo) → standing_of (made t a) ≡ place.Taken) → (xs : List Ident) → ((x : Ident) → Among x xs → Among x v.names) → (done : List ℕ → Type 0) {t : Scope g.Reported} → MidOf done t
+      finish_each : (made : Scope g.Reported → TypeNo → Meaning) → ((t : Scope g.Reported) (a : TypeNo) → (said_variables a).1 ≡ standing (made t a)) → ((t : Scope g.Reported) (a : TypeNo) → standing_of (made t a) ≡ place.Taken) → OwnMade made → (xs : List Ident) → ((x : Ident) → Among x xs → Among x v.names) → (done : List ℕ → Type 0) {t : Scope g.Reported} → MidOf done t
           → MidOf (Adding xs done) (fold (λ t x. finished (with_variable_type t (named_type g s q)) x (named_type g s q ▷ λ a. Ok (made t a))) t xs)
-      finish_each made i z [] a done m = m
-      finish_each made i z (x ∷ xs) a done {t = t} m = finish_each made i z xs (λ y n. a y (later n)) (λ n. (x.name ≡ n) ⊎ done n)
-          (one_finished front (plain_one (OfVariables v)) ds refl refl refl refl k x (a x here) (says_it front (plain_one (OfVariables v)) ds refl refl refl refl k said_variables (made t) (i t) (λ u. refl) (z t) (variables_exact k)) done (typed_mid (named_type g s q) m))
+      finish_each made i z w [] a done m = m
+      finish_each made i z w (x ∷ xs) a done {t = t} m = finish_each made i z w xs (λ y n. a y (later n)) (λ n. (x.name ≡ n) ⊎ done n)
+          (one_finished front (plain_one (OfVariables v)) ds refl refl refl refl k x (a x here) (says_it front (plain_one (OfVariables v)) ds refl refl refl refl k said_variables (made t) (i t) (λ u. refl) (z t) (w t m.same.types m.same.level) (variables_exact k)) done (typed_mid (named_type g s q) m))
 
       names_done : (n : List ℕ) → Adding v.names (λ n. ⊥) n → Declares (OfVariables v) n
       names_done n h = elim (added v.names (λ n. ⊥) n h) [ inl w ↦ w | inr z ↦ absurd z ]
 
-      variables_ended : (made : Scope g.Reported → TypeNo → Meaning) → ((t : Scope g.Reported) (a : TypeNo) → (said_variables a).1 ≡ standing (made t a)) → ((t : Scope g.Reported) (a : TypeNo) → standing_of (made t a) ≡ place.Taken)
+      variables_ended : (made : Scope g.Reported → TypeNo → Meaning) → ((t : Scope g.Reported) (a : TypeNo) → (said_variables a).1 ≡ standing (made t a)) → ((t : Scope g.Reported) (a : TypeNo) → standing_of (made t a) ≡ place.Taken) → OwnMade made
           → KB (plain_one (OfVariables v) ∷ front) ds (Th (plain_one (OfVariables v) ∷ front)) (fold (λ t x. finished (with_variable_type t (named_type g s q)) x (named_type g s q ▷ λ a. Ok (made t a))) s v.names)
-      variables_ended made i z = ended front (plain_one (OfVariables v)) ds refl refl refl refl k (mid_as g j lawful exports outside start taken nested block takes front (plain_one (OfVariables v)) ds (Adding v.names (Th front)) names_done (λ n h. adding_name v.names (λ n. ⊥) n h.0 h.1 h.2)
-          (finish_each made i z v.names (λ x m. m) (λ n. ⊥) (begun_mid front (plain_one (OfVariables v)) ds refl refl refl refl k)))
+      variables_ended made i z w = ended front (plain_one (OfVariables v)) ds refl refl refl refl k (mid_as g j lawful exports outside start taken nested block takes front (plain_one (OfVariables v)) ds (Adding v.names (Th front)) names_done (λ n h. adding_name v.names (λ n. ⊥) n h.0 h.1 h.2)
+          (finish_each made i z w v.names (λ x m. m) (λ n. ⊥) (begun_mid front (plain_one (OfVariables v)) ds refl refl refl refl k)))
 
       variables_told : {b : Result (Unit {0}) g.Reported} → Tells g j lawful (O front) (λ f. BI front f ⊎ Twice (Th front) v.names f) b → Told (plain_one (OfVariables v) ∷ front) (beside g b (nothing_of (named_type g s q)))
       variables_told t = told_list front (plain_one (OfVariables v)) ds refl refl refl refl t (telling front (plain_one (OfVariables v)) ds refl refl refl refl k said_variables (variables_exact k))
@@ -296,6 +301,12 @@ module _ (g : Gathers) (j : Judges g) (lawful : Lawful g j) (exports : ℕ → I
     abbrev local_made : Scope g.Reported → TypeNo → Meaning
     local_made t a = meaning.Local (record { level = t.level; number = length t.variables; kind = kind.Variable; of = a })
 
+    own_made : (t : Scope g.Reported) → t.types ≡ T (plain_one (OfVariables v) ∷ front) → t.level ≡ start.level → (a : TypeNo) → is_own_variable start (variable_made t a) ≡ true
+    own_made t e l a = let q : t.types.home ≡ start.types.home = ap (λ (x : Types). x.home) e ∙ home_same g j exports outside start taken nested block knows no_withs front in grind (arith, nat_tests, q)
+
+    own_local : (t : Scope g.Reported) → t.types ≡ T (plain_one (OfVariables v) ∷ front) → t.level ≡ start.level → (a : TypeNo) → is_own_variable start (local_made t a) ≡ true
+    own_local t e l a = let q : t.level ≡ start.level = l in grind (arith, nat_tests, q)
+
     begun_list : {s : Scope g.Reported} {r : Result (Unit {0}) g.Reported} → KB front (OfVariables v ∷ ds) (Th front) s → Told front r
         → KB front (OfVariables v ∷ ds) (Adding v.names (Th front)) (fold (begun_name g) (s, r) v.names).0 × Tells g j lawful (O front) (λ f. BI front f ⊎ Twice (Th front) v.names f) (fold (begun_name g) (s, r) v.names).1
     begun_list k t = begin_all g j lawful exports outside start taken nested block takes (O front) front (OfVariables v) ds refl v.names (Th front) (λ x m. (x, m, refl)) k (told_here t)
@@ -303,12 +314,12 @@ module _ (g : Gathers) (j : Judges g) (lawful : Lawful g j) (exports : ℕ → I
     declare_variables : {s : Scope g.Reported} {r : Result (Unit {0}) g.Reported} → KB front (OfVariables v ∷ ds) (Th front) s → Told front r → Stepped front (plain_one (OfVariables v)) ds (with_variables g (s, r) v)
     declare_variables {s = s} {r = r} k t = let b = begun_list k t in
         subst (λ (y : State TypeNo g.Reported). Stepped front (plain_one (OfVariables v)) ds (fold (finished_variable y.1) y.0 v.names, beside g (fold (begun_name g) (s, r) v.names).1 (nothing_of y.1))) (sym (named_is g v.of q is_name (fold (begun_name g) (s, r) v.names).0))
-        (variables_ended b.0 variable_made (λ t a. refl) (λ t a. refl), variables_told b.0 b.1)
+        (variables_ended b.0 variable_made (λ t a. refl) (λ t a. refl) own_made, variables_told b.0 b.1)
 
     declare_locals : {s : Scope g.Reported} {r : Result (Unit {0}) g.Reported} → KB front (OfVariables v ∷ ds) (Th front) s → Told front r → Stepped front (plain_one (OfVariables v)) ds (with_locals g (s, r) v)
     declare_locals {s = s} {r = r} k t = let b = begun_list k t in
         subst (λ (y : State TypeNo g.Reported). Stepped front (plain_one (OfVariables v)) ds (fold (finished_local y.1) y.0 v.names, beside g (fold (begun_name g) (s, r) v.names).1 (nothing_of y.1))) (sym (named_is g v.of q is_name (fold (begun_name g) (s, r) v.names).0))
-        (variables_ended b.0 local_made (λ t a. refl) (λ t a. refl), variables_told b.0 b.1)
+        (variables_ended b.0 local_made (λ t a. refl) (λ t a. refl) own_local, variables_told b.0 b.1)
 
   -- ---- names of formals
 
@@ -428,8 +439,8 @@ module _ (g : Gathers) (j : Judges g) (lawful : Lawful g j) (exports : ℕ → I
     abbrev meant_as : Scope g.Reported → (number : ℕ) → Result TypeNo g.Reported → State (Unit {0}) g.Reported → Type 0
     meant_as t n r st = KB (with_made' [] ∷ front) ds (Th (with_made' [] ∷ front)) st.0
 
-    says_heading : (ms : List Made) (made : Made → Meaning) → ((m : Made) → (said m).1 ≡ standing (made m)) → {r : Result Made g.Reported} → Exact' r → ((m : Made) → r ≡ Ok m → ms ≡ m ∷ []) → Saying g j exports outside start taken nested block front (with_made' ms) (known.Headed (r ▷ λ m. Ok (made m)))
-    says_heading ms made i x e = saying_heading g j lawful exports outside start taken nested block said front (with_made' ms) made i x e refl stand_now
+    says_heading : (ms : List Made) (made : Made → Meaning) → ((m : Made) → (said m).1 ≡ standing (made m)) → ((m : Made) → is_own_variable start (made m) ≡ false) → {r : Result Made g.Reported} → Exact' r → ((m : Made) → r ≡ Ok m → ms ≡ m ∷ []) → Saying g j exports outside start taken nested block front (with_made' ms) (known.Headed (r ▷ λ m. Ok (made m)))
+    says_heading ms made i w x e = saying_heading g j lawful exports outside start taken nested block said front (with_made' ms) made i x e refl (λ m. w m) stand_now
 
     types_next : next_type (T front) ≡ next_type s.types
     types_next = ap (λ (t : Types). next_type t) (sym k.same.types)
@@ -460,16 +471,16 @@ module _ (g : Gathers) (j : Judges g) (lawful : Lawful g j) (exports : ℕ → I
 
     made_ends : (n : ℕ) (m : Made) → Exact' (Ok m) → (Th front h.name.name → ⊥) → (b : Bool) → (s.level == 0) ≡ b → nested ≡ not b → Ended (m ∷ []) (new_procedure (with_shape s m) h.name.name n (Ok (next_type s.types)))
     made_ends n m x new true e q = subst (λ (b : Bool). Ended (m ∷ []) (cond b (with_known h.name.name (known.Headed (Ok (meaning.Procedure (record { home = s.types.home; number = length s.procedures; heading = next_type s.types })))) (with_procedure_type (with_shape s m) (Ok (next_type s.types)))) (with_known h.name.name (known.Headed (Ok (nested_made n m))) (with_shape s m)))) (sym e)
-        (new_ends (m ∷ []) (known.Headed (Ok (module_made s.types.home (length s.procedures) m))) (says_heading (m ∷ []) (module_made s.types.home (length s.procedures)) (module_is q s.types.home (length s.procedures)) x (λ w z. one_only z)) new
+        (new_ends (m ∷ []) (known.Headed (Ok (module_made s.types.home (length s.procedures) m))) (says_heading (m ∷ []) (module_made s.types.home (length s.procedures)) (module_is q s.types.home (length s.procedures)) (λ m. refl) x (λ w z. one_only z)) new
         (record { withs = (same_made m).withs; outer = (same_made m).outer; types = (same_made m).types; tables = (same_made m).tables; level = (same_made m).level }) refl)
     made_ends n m x new false e q = subst (λ (b : Bool). Ended (m ∷ []) (cond b (with_known h.name.name (known.Headed (Ok (meaning.Procedure (record { home = s.types.home; number = length s.procedures; heading = next_type s.types })))) (with_procedure_type (with_shape s m) (Ok (next_type s.types)))) (with_known h.name.name (known.Headed (Ok (nested_made n m))) (with_shape s m)))) (sym e)
-        (new_ends (m ∷ []) (known.Headed (Ok (nested_made n m))) (says_heading (m ∷ []) (nested_made n) (nested_is q n) x (λ w z. one_only z)) new (same_made m) refl)
+        (new_ends (m ∷ []) (known.Headed (Ok (nested_made n m))) (says_heading (m ∷ []) (nested_made n) (nested_is q n) (λ m. refl) x (λ w z. one_only z)) new (same_made m) refl)
 
     none_ends : (n : ℕ) (r : g.Reported) → Exact' (Err r) → (Th front h.name.name → ⊥) → (b : Bool) → (s.level == 0) ≡ b → nested ≡ not b → Ended [] (new_procedure s h.name.name n (Err r))
     none_ends n r x new true e q = subst (λ (b : Bool). Ended [] (cond b (with_known h.name.name (known.Headed (Err r)) s) (with_known h.name.name (known.Headed (Err r)) s))) (sym e)
-        (new_ends [] (known.Headed (Err r)) (says_heading [] (module_made 0 0) (module_is q 0 0) x (λ m z. absurd cc)) new same_none refl)
+        (new_ends [] (known.Headed (Err r)) (says_heading [] (module_made 0 0) (module_is q 0 0) (λ m. refl) x (λ m z. absurd cc)) new same_none refl)
     none_ends n r x new false e q = subst (λ (b : Bool). Ended [] (cond b (with_known h.name.name (known.Headed (Err r)) s) (with_known h.name.name (known.Headed (Err r)) s))) (sym e)
-        (new_ends [] (known.Headed (Err r)) (says_heading [] (nested_made n) (nested_is q n) x (λ m z. absurd cc)) new same_none refl)
+        (new_ends [] (known.Headed (Err r)) (says_heading [] (nested_made n) (nested_is q n) (λ m. refl) x (λ m z. absurd cc)) new same_none refl)
 
     level_same : nested ≡ not (s.level == 0)
     level_same = level ∙ ap (λ (l : ℕ). not (l == 0)) (sym k.same.level)
@@ -594,5 +605,7 @@ module _ (g : Gathers) (j : Judges g) (lawful : Lawful g j) (exports : ℕ → I
     reported = reports all_of_it.2.1;
     types = all_of_it.2.0.same.types;
     stand = (standings g j exports outside start taken (is_nested start) block knows no_withs all_of_it.2.0, all_stand g j exports outside start taken (is_nested start) block knows no_withs all_of_it.2.0);
+    owned = λ outers own owns all. owning g j exports outside start taken (is_nested start) block knows no_withs all_of_it.2.0 outers owns own all;
+    own = λ outers owns. some_own g j exports outside start taken (is_nested start) block knows no_withs all_of_it.2.0 outers owns;
     known = λ names all. knowing g j exports outside start taken (is_nested start) block knows no_withs all_of_it.2.0 all;
   }

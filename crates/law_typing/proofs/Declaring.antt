@@ -1,6 +1,7 @@
 -- What a scope knows of the names of a block.
-use Rattle.std.proofs.Common.{◌≡◌, ℕ, Bool, true, false, List, [], ◌∷◌, Option, Some, Result, Err, ◌⊎◌, inl, inr, sym, ap, subst, ◌∙◌}
-use Rattle.std.specs.Prelude.{slice_get}
+use Rattle.std.proofs.Common.{◌≡◌, ℕ, Bool, true, false, List, [], ◌∷◌, Option, Some, Result, Err, ◌⊎◌, inl, inr, sym, ap, subst, ◌∙◌, Ok, refl}
+use Rattle.std.specs.Prelude.{slice_get, ◌&&◌, ◌==◌}
+use Rattle.check_stmt_parts.specs.Control.{is_own}
 use Rattle.m2_rule.specs.declared.breach.Breach.{Breach}
 use Rattle.m2_tree.specs.declared.pos.Pos.{Pos}
 use Rattle.m2_tree.specs.declared.name.Ident.{Ident}
@@ -25,9 +26,9 @@ use Rattle.def_typing.specs.Things as things
 use Rattle.def_typing.specs.Things.{Headless, Standing, Undeclared, Unknown}
 use Rattle.def_typing.specs.Parts.{here, later}
 use Rattle.def_typing.specs.Declarations as rules
-use Rattle.def_typing.specs.Declarations.{Declaration, OfConstant, OfType, OfVariables, OfProcedure, Declares, AnyDeclares, IsFirst, at_first, later_on, Declared, IsThere, IsNamed, nearest, farther, types_behind, in_front_of, StandsFor, Means, AllStand, There, BrokenIn}
+use Rattle.def_typing.specs.Declarations.{Declaration, OfConstant, OfType, OfVariables, OfProcedure, Declares, AnyDeclares, IsFirst, at_first, later_on, Declared, IsThere, IsNamed, nearest, farther, with_types, types_behind, is_variables, in_front_of, IsOwn, StandsFor, Means, AllStand, There, BrokenIn}
 use Rattle.law_typing.specs.Judging.{Judges}
-use Rattle.law_typing.specs.Exact.{Sees, sees, sees_nothing, Exports, Knows, Repeats, of_heading, of_declaration}
+use Rattle.law_typing.specs.Exact.{is_own_variable, KnowsOwn, Sees, sees, sees_nothing, Exports, Knows, Repeats, of_heading, of_declaration}
 
 -- ---- the first declaration of a name
 
@@ -76,6 +77,7 @@ module _ (g : Gathers) (j : Judges g) (exports : ℕ → Ident → Standing) (ou
     pub seen : (s : Standing) → Meant before d s → (at : Pos) → Sees g j at s (means_seen g at k true)
     pub heading : (at : Pos) (r : g.Reported) → means_seen g at k true ≡ Err (meaningless.Headless r) → (f : Breach) → j.Among r f → Elsewhere (d ∷ before) f
     pub broken : (at : Pos) (r : g.Reported) → means_seen g at k true ≡ Err (meaningless.Broken r) → (f : Breach) → j.Among r f → Elsewhere (d ∷ before) f
+    pub own : (at : Pos) (m : Meaning) → means_seen g at k true ≡ Ok m → is_own_variable start m ≡ is_variables d.what
     pub not_free : is_free (Some k) ≡ false
     pub not_begun : is_begun (Some k) ≡ false
     pub settled : standing_known k ≡ place.Taken
@@ -188,6 +190,55 @@ module _ (g : Gathers) (j : Judges g) (exports : ℕ → Ident → Standing) (ou
       broken_repeats (reading d t i n b e) (rules.from_outside c) q l m = absurd (c t (any_first i))
       broken_repeats {r = r} {f = f} (behind k t i s) z q l m = in_more i (s.broken name.pos r l f m)
 
+    -- ---- variables of its own
+
+    pub home_same : (front : List Declared) → (types_behind start.types front).home ≡ start.types.home
+    home_same [] = refl
+    home_same (d ∷ front) = home_same front
+
+    own_same : (s : Scope g.Reported) → s.types.home ≡ start.types.home → s.level ≡ start.level → (m : Meaning) → is_own_variable s m ≡ is_own_variable start m
+    own_same s h l (meaning.Constant v) = refl
+    own_same s h l (meaning.Type t n) = refl
+    own_same s h l (meaning.Variable v) = ap (λ (n : ℕ). v.home == n) h
+    own_same s h l (meaning.Local v) = ap (λ (n : ℕ). is_own v.kind && (v.level == n)) l
+    own_same s h l (meaning.Field f) = refl
+    own_same s h l (meaning.Procedure p) = refl
+    own_same s h l (meaning.LocalProcedure p) = refl
+    own_same s h l meaning.Ahead = refl
+    own_same s h l (meaning.Standard f) = refl
+    own_same s h l (meaning.Module k) = refl
+
+    module _ (outers : Ident → Bool) (owns : KnowsOwn g j outers start) (front : List Declared) (Th : List ℕ → Type 0) (within : (n : List ℕ) → IsThere front n → AnyDeclares block n) (name : Ident) where
+      abbrev Own : Bool → Type 0
+      Own b = IsOwn start.types exports outside taken nested block outers front name b
+
+      mark_own : (d : Declaration) {m : Meaning} → looked (Some (mark_of d)) name ≡ Ok m → is_own_variable start m ≡ false
+      mark_own (OfConstant c) e = absurd cc
+      mark_own (OfType d) e = absurd cc
+      mark_own (OfVariables v) e = absurd cc
+      mark_own (OfProcedure h) e = ap_ok e
+        where
+          ap_ok : {m : Meaning} → ◌≡◌ {A = Result Meaning (Meaningless g.Reported)} (Ok meaning.Ahead) (Ok m) → is_own_variable start m ≡ false
+          ap_ok {m = m} q = let same : meaning.Ahead ≡ m = cc in subst (λ (m : Meaning). is_own_variable start m ≡ false) same refl
+
+      own_known : {k : Option (Known g.Reported)} {b : Bool} {m : Meaning} → KnownAs front Th name.name k → Own b → looked k name ≡ Ok m → b ≡ is_own_variable start m
+      own_known {m = m} (outer c e) (rules.of_outside d) q = owns name m (looked_first name ∙ ap (λ (k : Option (Known g.Reported)). looked k name) (sym e) ∙ q)
+      own_known (outer c e) (rules.of_block t i) q = absurd (c t (within name.name (any_named i)))
+      own_known (outer c e) (rules.of_none t a n) q = absurd (c t a)
+      own_known (ahead d t i n b) (rules.of_block u k) q = absurd (n (any_named k))
+      own_known (ahead d t i n b) (rules.of_none u a c) q = sym (mark_own d q)
+      own_known (ahead d t i n b) (rules.of_outside c) q = absurd (c t (any_first i))
+      own_known (reading d t i n b e) z q = absurd cc
+      own_known {m = m} (behind k t i s) (rules.of_block {d = c} u p) q = sym (s.own name.pos m q ∙ one_named (λ b x. is_variables x.what ≡ is_variables c.what) i p refl)
+      own_known (behind k t i s) (rules.of_none u a c) q = absurd (c (any_named i))
+      own_known (behind k t i s) (rules.of_outside c) q = absurd (c t (within name.name (any_named i)))
+
+      own_there : {k : Option (Known g.Reported)} → KnownAs front Th name.name k → (b : Bool) × Own b
+      own_there (outer c e) = (outers name, rules.of_outside c)
+      own_there (ahead d t i n b) = (false, rules.of_none t (any_first i) n)
+      own_there (reading d t i n b e) = (false, rules.of_none t (any_first i) n)
+      own_there (behind k t i s) = (_, rules.of_block t i)
+
     module _ {front : List Declared} {rest : List Declaration} {Th : List ℕ → Type 0} {s : Scope g.Reported} (b : KnowsBlock front rest Th s) where
       pub knowing : {names : Ident → Standing} → All front names → Knows g j names exports s
       knowing {names = names} all = record {
@@ -198,6 +249,12 @@ module _ (g : Gathers) (j : Judges g) (exports : ℕ → Ident → Standing) (ou
       pub repeating : {names : Ident → Standing} → All front names → (f : Breach) → Repeats g j names s f → Elsewhere front f
       repeating all f (of_heading {name = name} e q m) = heading_repeats front Th b.within name (b.own name.name) (all name) e (sym (looked_same b.same name) ∙ q) m
       repeating all f (of_declaration {name = name} e q m) = broken_repeats front Th b.within name (b.own name.name) (all name) e (sym (looked_same b.same name) ∙ q) m
+
+      pub owning : (outers : Ident → Bool) → KnowsOwn g j outers start → (own : Ident → Bool) → ((name : Ident) → IsOwn start.types exports outside taken nested block outers front name (own name)) → KnowsOwn g j own s
+      owning outers owns own all name m q = own_known outers owns front Th b.within name (b.own name.name) (all name) (sym (looked_same b.same name) ∙ q) ∙ sym (own_same s (ap (λ (t : Types). t.home) b.same.types ∙ home_same front) b.same.level m)
+
+      pub some_own : (outers : Ident → Bool) → KnowsOwn g j outers start → (own : Ident → Bool) × ((name : Ident) → IsOwn start.types exports outside taken nested block outers front name (own name))
+      some_own outers owns = ((λ name. (own_there outers owns front Th b.within name (b.own name.name)).0), (λ name. (own_there outers owns front Th b.within name (b.own name.name)).1))
 
       abbrev pub standings : Ident → Standing
       standings name = (stands_known front Th b.within name (b.own name.name)).0

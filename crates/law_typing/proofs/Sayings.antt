@@ -41,9 +41,9 @@ use Rattle.law_typing.proofs.Heading.{heading_answers}
 use Rattle.def_typing.specs.Constants.{AConstant, Fixes, BrokenAsConstant}
 use Rattle.def_typing.specs.TypeNames.{NamesType, BrokenTypeName}
 use Rattle.def_typing.specs.Declarations as rules
-use Rattle.def_typing.specs.Declarations.{Declaration, OfConstant, OfType, OfVariables, OfProcedure, Declared, types_behind, next_type, procedure, without, Means, Says, Misdeclares, IsTypeOf, named, BrokenType, in_name}
+use Rattle.def_typing.specs.Declarations.{Declaration, OfConstant, OfType, OfVariables, OfProcedure, Declared, types_behind, next_type, procedure, is_variables, without, Means, Says, Misdeclares, IsTypeOf, named, BrokenType, in_name}
 use Rattle.law_typing.specs.Judging.{Judges, Answers, means, refuses}
-use Rattle.law_typing.specs.Exact.{IsConst, is_const, kind_of, standing, Sees, sees, sees_unknown, sees_headless, Knows, Repeats, IsCallFree}
+use Rattle.law_typing.specs.Exact.{IsConst, is_const, kind_of, standing, is_own_variable, Sees, sees, sees_unknown, sees_headless, Knows, Repeats, IsCallFree}
 use Rattle.law_typing.proofs.Combining.{Lawful, Tells, silent, tells}
 use Rattle.law_typing.proofs.Constants.{exactly_fixed}
 use Rattle.law_typing.proofs.TypeNaming.{type_name_answers}
@@ -160,29 +160,39 @@ module _ (g : Gathers) (j : Judges g) (lawful : Lawful g j) (exports : ℕ → I
       heading_heading (Ok m) e = absurd cc
       heading_heading (Err r) e = cc
 
+      plain_own : ((a : A) → is_own_variable start (made a) ≡ is_variables d.what) → (r : Result A g.Reported) {m : Meaning} → plain (meant r) ≡ Ok m → is_own_variable start m ≡ is_variables d.what
+      plain_own h (Ok a) {m = m} e = let same : made a ≡ m = cc in subst (λ (m : Meaning). is_own_variable start m ≡ is_variables d.what) same (h a)
+      plain_own h (Err q) e = absurd cc
+
+      heading_own : ((a : A) → is_own_variable start (made a) ≡ is_variables d.what) → (r : Result A g.Reported) {m : Meaning} → heading_means (meant r) ≡ Ok m → is_own_variable start m ≡ is_variables d.what
+      heading_own h (Ok a) {m = m} e = let same : made a ≡ m = cc in subst (λ (m : Meaning). is_own_variable start m ≡ is_variables d.what) same (h a)
+      heading_own h (Err q) e = absurd cc
+
       settled_by : ((a : A) → standing_of (made a) ≡ place.Taken) → (r : Result A g.Reported) → standing_elaborated (meant r) ≡ place.Taken
       settled_by h (Ok a) = h a
       settled_by h (Err e) = refl
 
-      pub saying : {r : Result A g.Reported} → Exactly said front d.what r → ((a : A) → r ≡ Ok a → d.makes ≡ (said a).0) → without d.what ≡ Unknown → ((a : A) → standing_of (made a) ≡ place.Taken) → {names : Ident → Standing} → Stand front names
+      pub saying : {r : Result A g.Reported} → Exactly said front d.what r → ((a : A) → r ≡ Ok a → d.makes ≡ (said a).0) → without d.what ≡ Unknown → ((a : A) → standing_of (made a) ≡ place.Taken) → ((a : A) → is_own_variable start (made a) ≡ is_variables d.what) → {names : Ident → Standing} → Stand front names
           → Saying g j exports outside start taken nested block front d (known.Declared Here (meant r))
-      saying {r = r} h e u t {names = names} all = record {
+      saying {r = r} h e u t w {names = names} all = record {
         stands = stands_by e all (h names all);
         seen = λ s m at. seen_by (λ m. plain m) h at (λ m. refl) (λ q. subst (λ (s : Standing). Sees g j at s (Err (meaningless.Broken q))) (sym u) (sees_unknown q)) m;
         heading = λ at q z f m. absurd (plain_heading (meant r) z);
         broken = λ at q z f m. repeats_by all (h names all) q (plain_broken (meant r) z) f m;
+        own = λ at m z. plain_own w r z;
         not_free = refl;
         not_begun = refl;
         settled = settled_by t r;
       }
 
-      pub saying_heading : {r : Result A g.Reported} → Exactly said front d.what r → ((a : A) → r ≡ Ok a → d.makes ≡ (said a).0) → without d.what ≡ Known Headless → {names : Ident → Standing} → Stand front names
+      pub saying_heading : {r : Result A g.Reported} → Exactly said front d.what r → ((a : A) → r ≡ Ok a → d.makes ≡ (said a).0) → without d.what ≡ Known Headless → ((a : A) → is_own_variable start (made a) ≡ is_variables d.what) → {names : Ident → Standing} → Stand front names
           → Saying g j exports outside start taken nested block front d (known.Headed (meant r))
-      saying_heading {r = r} h e u {names = names} all = record {
+      saying_heading {r = r} h e u w {names = names} all = record {
         stands = stands_by e all (h names all);
         seen = λ s m at. seen_by (λ m. heading_means m) h at (λ m. refl) (λ q. subst (λ (s : Standing). Sees g j at s (Err (meaningless.Headless q))) (sym u) (sees_headless q)) m;
         heading = λ at q z f m. repeats_by all (h names all) q (heading_heading (meant r) z) f m;
         broken = λ at q z f m. absurd (heading_broken (meant r) z);
+        own = λ at m z. heading_own w r z;
         not_free = refl;
         not_begun = refl;
         settled = refl;

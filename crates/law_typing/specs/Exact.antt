@@ -83,7 +83,7 @@ use Rattle.typed_tree.specs.Names.{found}
 use Rattle.check_block.specs.Declarations.{declared_block}
 use Rattle.check_block.specs.Headings.{standing_from}
 use Rattle.check_block.specs.declared.heading.Standing.TheVariants as heading
-use Rattle.def_typing.specs.Declarations.{Declared as Resolved, declarations_of, in_order, types_behind, AllStand, BrokenIn}
+use Rattle.def_typing.specs.Declarations.{Declared as Resolved, declarations_of, in_order, types_behind, AllStand, IsOwn, BrokenIn}
 use Rattle.check_stmt.specs.Statements.{stmt}
 use Rattle.def_typing.specs.Statements.{arguments, labels_of, Spot, Obeys, Broken}
 use Rattle.check_expr.specs.Meanings.{meant, head, part, value_of}
@@ -372,6 +372,13 @@ pub record KnowsSpot (g : Gathers) (j : Judges g) (exports : ℕ → Ident → S
   pub of_result : KnowsResult g j w.gives a.gives
   pub of_loop : w.in_loop ≡ a.in_loop
 
+abbrev pub AllOwn : {T : Type 0} → (outer : Ident → Bool) → Scope T → (ℕ → Ident → Standing)
+    → (Ident → Standing) → (List ℕ → Bool) → List Decl → List Resolved → (Ident → Bool) → Type 0
+AllOwn outer s exports outside taken ds whole own =
+    (name : Ident)
+    → IsOwn s.types exports outside taken (is_nested s) (declarations_of ds) outer whole name
+    (own name)
+
 -- what is known behind the declarations of a block
 pub record IsBlockExact (g : Gathers) (j : Judges g) (exports : ℕ → Ident → Standing)
     (outside : Ident → Standing) (s : Scope g.Reported) (taken : List ℕ → Bool) (ends : List ℕ)
@@ -391,6 +398,12 @@ pub record IsBlockExact (g : Gathers) (j : Judges g) (exports : ℕ → Ident �
   pub known : (names : Ident → Standing)
       → AllStand s.types exports outside taken (is_nested s) (declarations_of ds) whole names
       → Knows g j names exports (declared_block g ends (s, Ok tt) first ds).0
+  -- It is known which variables count as own ones.
+  pub own : (outer : Ident → Bool) → KnowsOwn g j outer s
+      → (own : Ident → Bool) × AllOwn outer s exports outside taken ds whole own
+  pub owned : (outer own : Ident → Bool) → KnowsOwn g j outer s
+      → AllOwn outer s exports outside taken ds whole own
+      → KnowsOwn g j own (declared_block g ends (s, Ok tt) first ds).0
 
 -- These expressions are answered exactly, whatever their names stand for.
 abbrev pub ExpressionsAreExact : (g : Gathers) → Judges g → Type 0
