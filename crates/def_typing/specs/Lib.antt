@@ -7,6 +7,7 @@ pub mod Parts
 pub mod Constants
 pub mod TypeNames
 pub mod Headings
+pub mod Subranges
 pub mod Declarations
 pub mod Expressions
 pub mod Assignments

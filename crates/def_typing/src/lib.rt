@@ -13,6 +13,6 @@
 //! - `specs/Assignments` has assignments and conditions, and `specs/Actions` calls as statements.
 //! - `specs/Returns` has RETURN and EXIT, `specs/Loops` what stands before the statements of a FOR, `specs/Fields` what a WITH
 //!   opens, `specs/Cases` the selector of a CASE and its labels, and `specs/Statements` all statements (`Obeys`, `Broken`).
-//! - `specs/TypeNames` has names of types, `specs/Headings` headings of procedures, and `specs/Declarations` what the names
-//!   of a block stand for (`StandsFor`), and which rules are broken in its declarations (`BrokenIn`).
+//! - `specs/TypeNames` has names of types, `specs/Headings` headings of procedures, `specs/Subranges` subranges, and
+//!   `specs/Declarations` what the names of a block stand for (`StandsFor`), and which rules are broken in its declarations (`BrokenIn`).
 #![tactic(auto)]

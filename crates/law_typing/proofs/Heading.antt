@@ -91,7 +91,7 @@ pub append_assoc : {A : Type 0} (xs ys zs : List A) → (xs ++ ys) ++ zs ≡ xs 
 append_assoc [] ys zs = refl
 append_assoc (x ∷ xs) ys zs = ap (λ (ws : List _). x ∷ ws) (append_assoc xs ys zs)
 
-place_same : (m : Option Ident) (name : Ident) → first_place m name ≡ begins_at m name
+pub place_same : (m : Option Ident) (name : Ident) → first_place m name ≡ begins_at m name
 place_same None name = refl
 place_same (Some home) name = refl
 

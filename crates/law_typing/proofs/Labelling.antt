@@ -32,7 +32,7 @@ use Rattle.law_typing.proofs.Elements.{IsOrdinal, is_ordinal, one_meaning, check
 use Rattle.law_typing.proofs.Places.{at_is}
 use Rattle.law_typing.proofs.Bounds.{ordinal_answers}
 
-abbrev Number : Type 0
+abbrev pub Number : Type 0
 Number = Option TypeNo × ℤ
 
 pub data IsSpan : Label → ℤ × ℤ → Type 0 where
@@ -49,14 +49,14 @@ number_goes (number_right w) = w
 together_same : {t u : TypeNo} → u ≡ t → GoTogether (Some t) (Some u) (Some t)
 together_same {t = t} e = subst (λ (u : TypeNo). GoTogether (Some t) (Some u) (Some t)) (sym e) same_type
 
-base_decided : (base : TypeNo) (sort : Option TypeNo) → Decided (IsOfBase (Some base) sort) (is_of_base base sort)
+pub base_decided : (base : TypeNo) (sort : Option TypeNo) → Decided (IsOfBase (Some base) sort) (is_of_base base sort)
 base_decided base None = decided_as number_right number_goes (whole_decided base)
 base_decided base (Some t) = decided_as together_same goes_with (same_decided t base)
 
 ranged : {base : TypeNo} {n : ℤ} → Suits (Some base) (Constant None n) → InRange (Some base) n
 ranged (takes_type r) = r
 
-suits_decided : {base : TypeNo} (n : ℤ) → IsWhole base → Decided (Suits (Some base) (Constant None n)) (fits (Some base) n)
+pub suits_decided : {base : TypeNo} (n : ℤ) → IsWhole base → Decided (Suits (Some base) (Constant None n)) (fits (Some base) n)
 suits_decided n w = decided_as takes_type ranged (range_decided n (whole w))
 
 suits_anything : (sort : Option TypeNo) (n : ℤ) → Suits None (Constant sort n)

@@ -74,6 +74,9 @@ use Rattle.def_typing.specs.Loops.{Runs, BrokenRun}
 use Rattle.m2_tree.specs.declared.expr.Qualified.{Qualified}
 use Rattle.check_type_expr.specs.Named.{named_type}
 use Rattle.def_typing.specs.TypeNames.{NamesType, BrokenTypeName}
+use Rattle.typed_tree.specs.declared.shape.Scalar.{Scalar as Range}
+use Rattle.check_type_expr.specs.Made.{subrange}
+use Rattle.def_typing.specs.Subranges.{IsSubrange, BrokenSubrange}
 use Rattle.m2_tree.specs.declared.decl.Heading.{Heading}
 use Rattle.typed_tree.specs.declared.shape.Made.{Made}
 use Rattle.typed_tree.specs.declared.shape.Signature.{Signature}
@@ -517,6 +520,16 @@ HeadingsAreExact g j =
     → Knows g j names exports s → (h : Heading)
     → Answers g j (Repeats g j names s) (λ (m : Made) (x : Signature). m ≡ procedure_made x)
     (IsHeading s.types names exports h) (BrokenHeading s.types names exports h) (heading_of g s h)
+
+-- Subranges whose bounds call nothing are answered exactly.
+abbrev pub SubrangesAreExact : (g : Gathers) → Judges g → Type 0
+SubrangesAreExact g j =
+    (names : Ident → Standing) (exports : ℕ → Ident → Standing) (s : Scope g.Reported)
+    → Knows g j names exports s → (low high : Expr) → IsCallFree low → IsCallFree high
+    → (q : Option Qualified)
+    → Answers g j (Repeats g j names s) (λ (a r : Range). a ≡ r)
+    (IsSubrange s.types names exports low high q) (BrokenSubrange s.types names exports low high q)
+    (subrange g s q (part g low) (part g high))
 
 -- Statements are answered exactly.
 abbrev pub StatementsAreExact : (g : Gathers) → Judges g → Type 0

@@ -19,14 +19,14 @@
 //!   the selector of a CASE, `proofs/Bounds` the bounds of its labels, `proofs/Labelling` each label, `proofs/Meeting` and
 //!   `proofs/Twice` labels that are there twice, `proofs/Choosing` all of a CASE, `proofs/Opening` what a WITH opens,
 //!   `proofs/Inside` what is known inside, and `proofs/Obeying` the induction over statements.
-//! - `proofs/TypeNaming` has names of types, and `proofs/Heading` headings of procedures. `proofs/Declaring` says what a
-//!   scope knows of the names of a block, and `proofs/Marking`, `proofs/Beginning` and `proofs/Sayings` that it does before
+//! - `proofs/TypeNaming` has names of types, `proofs/Heading` headings of procedures, and `proofs/Subranges` subranges.
+//!   `proofs/Declaring` says what a scope knows of the names of a block, and `proofs/Marking`, `proofs/Beginning` and `proofs/Sayings` that it does before
 //!   the declarations, inside them and behind each. `proofs/Blocks` goes from one to the next.
 #![tactic(auto)]
 
 ghost use Rattle.check_scope.specs.Elaborated.{every, least};
 ghost use Rattle.law_typing.specs.Judging.{all_of_them, the_least};
-ghost use Rattle.law_typing.specs.Exact.{ExpressionsAreExact, ConstantsAreExact, ConditionsAreExact, AssignmentsAreExact, ActionsAreExact, ReturnsAreExact, ExitsAreExact, RunsAreExact, SelectorsAreExact, BoundsAreExact, StatementsAreExact, TypeNamesAreExact, HeadingsAreExact, BlocksAreExact, ScopesAreKnown};
+ghost use Rattle.law_typing.specs.Exact.{ExpressionsAreExact, ConstantsAreExact, ConditionsAreExact, AssignmentsAreExact, ActionsAreExact, ReturnsAreExact, ExitsAreExact, RunsAreExact, SelectorsAreExact, BoundsAreExact, StatementsAreExact, TypeNamesAreExact, HeadingsAreExact, SubrangesAreExact, BlocksAreExact, ScopesAreKnown};
 
 /// An expression in whose braces nothing is called has a value exactly if no rule is broken in it, and the value stands for
 /// what the rules say that it has. Else all that is gathered are broken rules, here or in a declaration, and each that is
@@ -106,6 +106,12 @@ pub fn type_name_laws()
 pub fn heading_laws()
     ensures every_rule { HeadingsAreExact every all_of_them }
     ensures least_rule { HeadingsAreExact least the_least }
+{}
+
+/// The same of a subrange whose bounds call nothing, under a type or not.
+pub fn subrange_laws()
+    ensures every_rule { SubrangesAreExact every all_of_them }
+    ensures least_rule { SubrangesAreExact least the_least }
 {}
 
 /// What is reported of the declarations of a block are exactly the rules that are broken in them, and what is known of names
