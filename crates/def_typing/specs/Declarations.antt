@@ -1,22 +1,16 @@
--- What the names of a block stand for, and which rules are broken in its declarations. Types other
--- than names of types are not there yet.
+-- What the names of a block stand for, and which rules are broken in its declarations.
 use Rattle.std.specs.Prelude.{◌≡◌, ◌⊎◌, ℕ, Bool, true, false, List, [], ◌∷◌, ◌++◌, length, map, Option, Some}
 use Rattle.m2_rule.specs.declared.breach.Breach.{Breach}
 use Rattle.m2_rule.specs.declared.rule.Rule.TheVariants as rule
 use Rattle.m2_tree.specs.declared.name.Ident.{Ident}
-use Rattle.m2_tree.specs.declared.expr.Qualified.{Qualified}
 use Rattle.m2_tree.specs.declared.decl.Constant.{Constant}
 use Rattle.m2_tree.specs.declared.decl.TypeDecl.{TypeDecl}
 use Rattle.m2_tree.specs.declared.decl.Variables.{Variables}
-use Rattle.m2_tree.specs.declared.decl.Simple.TheVariants as simple
-use Rattle.m2_tree.specs.declared.decl.TypeExpr.{TypeExpr, out-TypeExpr}
-use Rattle.m2_tree.specs.declared.decl.TypeExpr.TheOpen as type_layer
 use Rattle.m2_tree.specs.declared.decl.Decl.{Decl, Decl-F, out-Decl}
 use Rattle.m2_tree.specs.declared.decl.Decl.TheOpen as layer
 use Rattle.m2_tree.specs.declared.decl.Block.{Block}
 use Rattle.m2_tree.specs.declared.decl.Section.{Section}
 use Rattle.m2_tree.specs.declared.decl.Heading.{Heading}
-use Rattle.typed_tree.specs.declared.types.Home.TheVariants.{Module}
 use Rattle.typed_tree.specs.declared.types.TypeNo.{TypeNo}
 use Rattle.typed_tree.specs.declared.shape.Made.{Made}
 use Rattle.typed_tree.specs.declared.shape.Signature.{Signature}
@@ -25,7 +19,7 @@ use Rattle.def_typing.specs.Operators.{◌!◌, Kind}
 use Rattle.def_typing.specs.Things.{Thing, AValue, AVariable, AType, AProcedure, ANested, Headless, Standing, Known, Ahead, Undeclared, Unknown}
 use Rattle.def_typing.specs.Parts.{Among}
 use Rattle.def_typing.specs.Constants.{AConstant, Fixes, BrokenAsConstant}
-use Rattle.def_typing.specs.TypeNames.{NamesType, BrokenTypeName}
+use Rattle.def_typing.specs.TypeExprs.{with_types, next_type, IsTypeOf, BrokenType}
 use Rattle.def_typing.specs.Headings.{procedure_made, IsHeading, BrokenHeading}
 
 -- ---- declarations
@@ -100,13 +94,6 @@ pub data IsNamed (n : List ℕ) (d : Declared) (before : List Declared) : List D
   farther : {x : Declared} {front : List Declared} → IsNamed n d before front
       → IsNamed n d before (x ∷ front)
 
--- Types are numbered in the order in which they are made.
-abbrev pub with_types : Types → List Made → Types
-with_types types ms = record types { own = types.own ++ ms }
-
-abbrev pub next_type : Types → TypeNo
-next_type types = record { home = Module types.home; number = length types.own }
-
 abbrev pub types_behind : Types → List Declared → Types
 types_behind types [] = types
 types_behind types (d ∷ front) = with_types (types_behind types front) d.makes
@@ -133,21 +120,14 @@ without (OfProcedure h) = Known Headless
 without other = Unknown
 
 module _ (types : Types) (names : Ident → Standing) (exports : ℕ → Ident → Standing) where
-  pub data IsTypeOf (e : TypeExpr) : List Made → TypeNo → Type 0 where
-    named : {q : Qualified} {t : TypeNo} → out-TypeExpr e ≡ type_layer.Simple (simple.Named q)
-        → NamesType names exports q t → IsTypeOf e [] t
-
-  pub data BrokenType (e : TypeExpr) (f : Breach) : Type 0 where
-    in_name : {q : Qualified} → out-TypeExpr e ≡ type_layer.Simple (simple.Named q)
-        → BrokenTypeName names exports q f → BrokenType e f
-
   -- which types it makes, and what its names stand for
   pub data Says (nested : Bool) : Declaration → List Made → Standing → Type 0 where
     constant : {c : Constant} {k : Kind} → Fixes types names exports c.value (AConstant k)
         → Says nested (OfConstant c) [] (Known (AValue k))
-    a_type : {d : TypeDecl} {ms : List Made} {t : TypeNo} → IsTypeOf d.of ms t
+    a_type : {d : TypeDecl} {ms : List Made} {t : TypeNo} → IsTypeOf types names exports d.of ms t
         → Says nested (OfType d) ms (Known (AType t))
-    variables : {v : Variables} {ms : List Made} {t : TypeNo} → IsTypeOf v.of ms t
+    variables : {v : Variables} {ms : List Made} {t : TypeNo}
+        → IsTypeOf types names exports v.of ms t
         → Says nested (OfVariables v) ms (Known (AVariable t))
     a_procedure : {h : Heading} {s : Signature} → IsHeading types names exports h s
         → Says nested (OfProcedure h) (procedure_made s ∷ [])
@@ -156,8 +136,10 @@ module _ (types : Types) (names : Ident → Standing) (exports : ℕ → Ident �
   pub data Misdeclares : Declaration → Breach → Type 0 where
     in_constant : {c : Constant} {f : Breach} → BrokenAsConstant types names exports c.value f
         → Misdeclares (OfConstant c) f
-    in_type : {d : TypeDecl} {f : Breach} → BrokenType d.of f → Misdeclares (OfType d) f
-    in_variables : {v : Variables} {f : Breach} → BrokenType v.of f → Misdeclares (OfVariables v) f
+    in_type : {d : TypeDecl} {f : Breach} → BrokenType types names exports d.of f
+        → Misdeclares (OfType d) f
+    in_variables : {v : Variables} {f : Breach} → BrokenType types names exports v.of f
+        → Misdeclares (OfVariables v) f
     in_heading : {h : Heading} {f : Breach} → BrokenHeading types names exports h f
         → Misdeclares (OfProcedure h) f
 

@@ -8,6 +8,7 @@ pub mod Constants
 pub mod TypeNames
 pub mod Headings
 pub mod Subranges
+pub mod TypeExprs
 pub mod Declarations
 pub mod Expressions
 pub mod Assignments

@@ -5,13 +5,10 @@ use Rattle.std.specs.List.{fold}
 use Rattle.std.proofs.lemmas.Bool.Decides.{nat_tests}
 use Rattle.m2_rule.specs.declared.breach.Breach.{Breach}
 use Rattle.m2_tree.specs.declared.name.Ident.{Ident}
-use Rattle.m2_tree.specs.declared.expr.Qualified.{Qualified}
 use Rattle.m2_tree.specs.declared.decl.Constant.{Constant}
 use Rattle.m2_tree.specs.declared.decl.TypeDecl.{TypeDecl}
 use Rattle.m2_tree.specs.declared.decl.Variables.{Variables}
-use Rattle.m2_tree.specs.declared.decl.Simple.TheVariants as simple
-use Rattle.m2_tree.specs.declared.decl.TypeExpr.{TypeExpr, out-TypeExpr}
-use Rattle.m2_tree.specs.declared.decl.TypeExpr.TheOpen as type_layer
+use Rattle.m2_tree.specs.declared.decl.TypeExpr.{TypeExpr}
 use Rattle.typed_tree.specs.declared.types.TypeNo.{TypeNo}
 use Rattle.typed_tree.specs.declared.meaning.LocalKind.TheVariants as kind
 use Rattle.typed_tree.specs.declared.meaning.Meaning.{Meaning}
@@ -22,8 +19,7 @@ use Rattle.check_scope.specs.Elaborated.{Gathers, beside, ◌▷◌}
 use Rattle.check_scope.specs.Scopes.{State, begun, finished}
 use Rattle.check_const.specs.Parts.{constant}
 use Rattle.check_expr.specs.Meanings.{part}
-use Rattle.check_type_expr.specs.Named.{named_type}
-use Rattle.check_type_expr.specs.Made.{nothing_of}
+use Rattle.check_type_expr.specs.Made.{nothing_of, type_of}
 use Rattle.check_definition.specs.Declare.{with_constant, brings_with, type_meaning, with_type, begun_name, with_variable_type, finished_variable, with_variables}
 use Rattle.m2_tree.specs.declared.decl.Decl.{Decl, Decl-F, out-Decl}
 use Rattle.m2_tree.specs.declared.decl.Decl.TheOpen as decl
@@ -56,19 +52,18 @@ use Rattle.def_typing.specs.Things as things
 use Rattle.def_typing.specs.Things.{Standing, Undeclared, Unknown}
 use Rattle.def_typing.specs.Parts.{Among, here, later}
 use Rattle.def_typing.specs.Declarations as rules
-use Rattle.def_typing.specs.Declarations.{Declaration, OfConstant, OfType, OfVariables, OfProcedure, declared_by, declarations_of, names_of, names_in, formals_in, Declares, AnyDeclares, Declared as Resolved, in_order, IsThere, with_types, next_type, types_behind, procedure, is_variables, in_front_of, without, Twice, Misdeclares, BrokenIn}
-use Rattle.law_typing.specs.Judging.{Judges, Reports, reports_nothing, reports_broken}
-use Rattle.law_typing.specs.Exact.{standing, is_own_variable, TakenAs, Knows, Repeats, IsCallFree, IsNamedType, IsPlainLayer, ArePlainDecls, is_nested, IsBlockExact}
+use Rattle.def_typing.specs.Declarations.{Declaration, OfConstant, OfType, OfVariables, OfProcedure, declared_by, declarations_of, names_of, names_in, formals_in, Declares, AnyDeclares, Declared as Resolved, in_order, IsThere, types_behind, procedure, is_variables, in_front_of, without, Twice, Misdeclares, BrokenIn}
+use Rattle.law_typing.specs.Judging.{Judges, Answers, Reports, reports_nothing, reports_broken}
+use Rattle.law_typing.specs.Exact.{standing, is_own_variable, TakenAs, Knows, Repeats, IsCallFree, IsPlainType, IsPlainLayer, ArePlainDecls, is_nested, IsBlockExact}
 use Rattle.law_typing.proofs.Combining.{Lawful, Tells, silent, tells, tells_as, beside_tells, accounts_as, accounts_one}
 use Rattle.law_typing.proofs.Heading.{nil_right, append_assoc}
 use Rattle.law_typing.proofs.Entering.{entered_all}
 use Rattle.law_typing.proofs.Declaring.{All, Elsewhere, Saying, KnownAs, Same, KnowsBlock, knowing, repeating, standings, all_stand, home_same, owning, some_own}
 use Rattle.law_typing.proofs.Beginning.{Adding, adding_name, added, clash, Theres, widen, begin_one, begin_all, place_is, PlaceIs, place_free, place_taken, MidAs, is_done, is_other, KnowsMid, mid_begins, mid_as, finish_one, finish_end}
-use Rattle.law_typing.proofs.Sayings.{Saids, said_constant, said_type, said_variables, said_procedure, Exactly, saying, saying_heading, says_tells, more_answers, constant_says, of_type_says, variables_say, procedure_says, named_is}
+use Rattle.law_typing.proofs.Sayings.{Saids, said_constant, said_type, said_variables, said_procedure, Exactly, saying, saying_heading, says_tells, more_answers, constant_says, of_type_says, variables_say, procedure_says}
+use Rattle.def_typing.specs.TypeExprs.{with_types, next_type, IsTypeOf, BrokenType}
+use Rattle.law_typing.proofs.TypeReading.{MadeType, with_made_types, no_types, no_made, TypeRead, TypeIs, TypeFails, type_read}
 use Rattle.law_typing.proofs.Marking.{block_begins}
-
-no_types : (types : Types) → with_types types [] ≡ types
-no_types types = ap (λ (own : List Made). let t : Types = record types { own = own } in t) (nil_right types.own)
 
 module _ (g : Gathers) (j : Judges g) (lawful : Lawful g j) (exports : ℕ → Ident → Standing) (outside : Ident → Standing) (start : Scope g.Reported) (taken : List ℕ → Bool) (nested : Bool) (block : List Declaration)
     (takes : (n : List ℕ) → TakenAs g j (taken n) (found n start.own)) (knows : Knows g j outside exports start) (no_withs : start.withs ≡ []) where
@@ -135,17 +130,14 @@ module _ (g : Gathers) (j : Judges g) (lawful : Lawful g j) (exports : ℕ → I
   told_parts : {front : List Resolved} (d : Resolved) {C : Breach → Type 0} {r : Result (Unit {0}) g.Reported} → ((f : Breach) → C f → Parts front d f) → ((f : Breach) → Parts front d f → C f) → Tells g j lawful (O front) C r → Told (d ∷ front) r
   told_parts d to from t = tells_as g j lawful Rep (λ f c. parts_broken f (to f c)) (λ f b. from f (broken_parts f b)) (closed (λ f b. from f (inl b)) t)
 
-  -- ---- a declaration that makes no type
+  -- ---- a declaration but a procedure
 
-  module _ (front : List Resolved) (d : Resolved) (ds : List Declaration) (undeclared : in_front_of d.what ≡ Undeclared) (unknown : without d.what ≡ Unknown) (no_formals : formals_in d.what ≡ []) (none : d.makes ≡ []) where
+  module _ (front : List Resolved) (d : Resolved) (ds : List Declaration) (undeclared : in_front_of d.what ≡ Undeclared) (unknown : without d.what ≡ Unknown) (no_formals : formals_in d.what ≡ []) where
     abbrev Begun : List ℕ → Type 0
     Begun = Adding (names_of d.what) (Th front)
 
     named : (x : Ident) → Among x (names_of d.what) → Declares d.what x.name
     named x m = (x, m, refl)
-
-    same_types : T (d ∷ front) ≡ T front
-    same_types = ap (λ (ms : List Made). with_types (T front) ms) none ∙ no_types (T front)
 
     formals_silent : (f : Breach) → Twice (λ n. ⊥) (formals_in d.what) f → ⊥
     formals_silent f t = subst (λ (xs : List Ident). Twice (λ n. ⊥) xs f) no_formals t
@@ -170,8 +162,11 @@ module _ (g : Gathers) (j : Judges g) (lawful : Lawful g j) (exports : ℕ → I
       abbrev Exact : {A : Type 0} → (A → Saids) → Result A g.Reported → Type 0
       Exact said r = Exactly g j lawful exports outside start taken nested block said front d.what r
 
-      begun_mid : Mid (λ n. ⊥) s
-      begun_mid = mid_begins g j lawful exports outside start taken nested block takes front d ds Begun k (record { withs = k.same.withs; outer = k.same.outer; types = k.same.types ∙ sym same_types; tables = k.same.tables; level = k.same.level }) refl
+      begun_mid : {t : Scope g.Reported} → Same g j exports outside start taken nested block (T (d ∷ front)) t → t.own ≡ s.own → Mid (λ n. ⊥) t
+      begun_mid same e = mid_begins g j lawful exports outside start taken nested block takes front d ds Begun k same e
+
+      begun_same : {ms : List Made} → d.makes ≡ ms → {t : Scope g.Reported} → t ≡ with_made_types s ms → Same g j exports outside start taken nested block (T (d ∷ front)) t
+      begun_same {ms = ms} q e = subst (λ (t : Scope g.Reported). Same g j exports outside start taken nested block (T (d ∷ front)) t) (sym e) (record { withs = k.same.withs; outer = k.same.outer; types = ap (λ (t : Types). with_types t ms) k.same.types ∙ ap (λ (ns : List Made). with_types (T front) ns) (sym q); tables = k.same.tables; level = k.same.level })
 
       one_finished : (x : Ident) → Among x (names_of d.what) → {m : Result Meaning g.Reported} → Saying g j exports outside start taken nested block front d (known.Declared Here m) → (done : List ℕ → Type 0) {t : Scope g.Reported} → Mid done t → Mid (λ n. (x.name ≡ n) ⊎ done n) (finished t x m)
       one_finished x a {m = m} say done q = finish_one g j lawful exports outside start taken nested block takes front d ds Begun k.includes x (k.in_block x.name (d.what, here, named x a)) (adding_name (names_of d.what) (Th front) x.name x a refl) m say done q
@@ -182,9 +177,9 @@ module _ (g : Gathers) (j : Judges g) (lawful : Lawful g j) (exports : ℕ → I
       telling : {A : Type 0} (said : A → Saids) {r : Result A g.Reported} → Exact said r → Tells g j lawful (O front) (Mis front d.what) (r ▷ λ a. Ok tt)
       telling said h = says_tells g j lawful exports outside start taken nested block said front d h stand_here
 
-      says_it : {A : Type 0} (said : A → Saids) (made : A → Meaning) → ((a : A) → (said a).1 ≡ standing (made a)) → ((a : A) → [] ≡ (said a).0) → ((a : A) → standing_of (made a) ≡ place.Taken) → ((a : A) → is_own_variable start (made a) ≡ is_variables d.what) → {r : Result A g.Reported} → Exact said r
+      says_it : {A : Type 0} (said : A → Saids) (made : A → Meaning) → ((a : A) → (said a).1 ≡ standing (made a)) → ((a : A) → d.makes ≡ (said a).0) → ((a : A) → standing_of (made a) ≡ place.Taken) → ((a : A) → is_own_variable start (made a) ≡ is_variables d.what) → {r : Result A g.Reported} → Exact said r
           → Saying g j exports outside start taken nested block front d (known.Declared Here (r ▷ λ a. Ok (made a)))
-      says_it said made i e t w h = saying g j lawful exports outside start taken nested block said front d made i h (λ a q. none ∙ e a) unknown t w stand_here
+      says_it said made i e t w h = saying g j lawful exports outside start taken nested block said front d made i h (λ a q. e a) unknown t w stand_here
 
     -- what is reported, if one name is begun
     told_one : {x : Ident} {r b v : Result (Unit {0}) g.Reported} → names_of d.what ≡ x ∷ [] → Told front r → Tells g j lawful (O front) (λ f. Th front x.name × (f ≡ x.pos ! rule.DeclaredTwice)) b → Tells g j lawful (O front) (Mis front d.what) v → Told (d ∷ front) (beside g r (beside g b v))
@@ -227,73 +222,87 @@ module _ (g : Gathers) (j : Judges g) (lawful : Lawful g j) (exports : ℕ → I
 
   module _ (front : List Resolved) (c : Constant) (ds : List Declaration) (free : IsCallFree c.value) where
     constant_exact : {s : Scope g.Reported} (k : KB front (OfConstant c ∷ ds) (Adding (c.name ∷ []) (Th front)) s) → Exactly g j lawful exports outside start taken nested block said_constant front (OfConstant c) (constant g s (part g c.value))
-    constant_exact {s = s} k names all = more_answers g j lawful (O front) (Repeat front (plain_one (OfConstant c)) ds refl refl refl refl k all) (constant_says g j lawful nested (T front) names exports s (Read front (plain_one (OfConstant c)) ds refl refl refl refl k all) k.same.types c free)
+    constant_exact {s = s} k names all = more_answers g j lawful (O front) (Repeat front (plain_one (OfConstant c)) ds refl refl refl k all) (constant_says g j lawful nested (T front) names exports s (Read front (plain_one (OfConstant c)) ds refl refl refl k all) k.same.types c free)
 
     declare_constant : {s : Scope g.Reported} {r : Result (Unit {0}) g.Reported} → KB front (OfConstant c ∷ ds) (Th front) s → Told front r → Stepped front (plain_one (OfConstant c)) ds (with_constant g (s, r) c)
     declare_constant k t = let b = begin_one g j lawful exports outside start taken nested block takes (O front) front (OfConstant c) ds refl (Th front) c.name (c.name, here, refl) k in
         let h = constant_exact b.0 in (
-          ended front (plain_one (OfConstant c)) ds refl refl refl refl b.0 (mid_as g j lawful exports outside start taken nested block takes front (plain_one (OfConstant c)) ds (Adding (c.name ∷ []) (Th front)) (λ n z. only_name z) (λ n z. name_only z)
-              (one_finished front (plain_one (OfConstant c)) ds refl refl refl refl b.0 c.name here (says_it front (plain_one (OfConstant c)) ds refl refl refl refl b.0 said_constant (λ v. meaning.Constant v) (λ v. refl) (λ v. refl) (λ v. refl) (λ v. refl) h) (λ n. ⊥) (begun_mid front (plain_one (OfConstant c)) ds refl refl refl refl b.0))),
-          told_one front (plain_one (OfConstant c)) ds refl refl refl refl refl t b.1 (telling front (plain_one (OfConstant c)) ds refl refl refl refl b.0 said_constant h),
+          ended front (plain_one (OfConstant c)) ds refl refl refl b.0 (mid_as g j lawful exports outside start taken nested block takes front (plain_one (OfConstant c)) ds (Adding (c.name ∷ []) (Th front)) (λ n z. only_name z) (λ n z. name_only z)
+              (one_finished front (plain_one (OfConstant c)) ds refl refl refl b.0 c.name here (says_it front (plain_one (OfConstant c)) ds refl refl refl b.0 said_constant (λ v. meaning.Constant v) (λ v. refl) (λ v. refl) (λ v. refl) (λ v. refl) h) (λ n. ⊥) (begun_mid front (plain_one (OfConstant c)) ds refl refl refl b.0 (begun_same front (plain_one (OfConstant c)) ds refl refl refl b.0 refl (no_made (begun g _ c.name).0)) refl))),
+          told_one front (plain_one (OfConstant c)) ds refl refl refl refl t b.1 (telling front (plain_one (OfConstant c)) ds refl refl refl b.0 said_constant h),
         )
 
   -- ---- types
 
-  abbrev IsName : TypeExpr → Qualified → Type 0
-  IsName e q = out-TypeExpr e ≡ type_layer.Simple (simple.Named q)
+  abbrev typed_one : Declaration → List Made → Resolved
+  typed_one d ms = record { what = d; makes = ms }
 
-  module _ (front : List Resolved) (d : TypeDecl) (ds : List Declaration) (q : Qualified) (is_name : IsName d.of q) where
-    type_exact : {s : Scope g.Reported} (k : KB front (OfType d ∷ ds) (Adding (d.name ∷ []) (Th front)) s) → Exactly g j lawful exports outside start taken nested block said_type front (OfType d) (named_type g s q)
-    type_exact {s = s} k names all = more_answers g j lawful (O front) (Repeat front (plain_one (OfType d)) ds refl refl refl refl k all) (of_type_says g j lawful nested (T front) names exports s (Read front (plain_one (OfType d)) ds refl refl refl refl k all) k.same.types d q is_name)
+  abbrev Read' : Scope g.Reported → TypeExpr → State TypeNo g.Reported → Type 0
+  Read' s e q = TypeRead g j lawful exports s (TypeIs g j lawful exports s e) (TypeFails g j lawful exports s e) q
 
-    type_ended : {s : Scope g.Reported} {r b : Result (Unit {0}) g.Reported} → KB front (OfType d ∷ ds) (Adding (d.name ∷ []) (Th front)) s → Told front r → Tells g j lawful (O front) (λ f. Th front d.name.name × (f ≡ d.name.pos ! rule.DeclaredTwice)) b
-        → Stepped front (plain_one (OfType d)) ds (finished s d.name (type_meaning (named_type g s q) (brings_with d.of)), beside g r (beside g b (nothing_of (named_type g s q))))
-    type_ended k t w = let h = type_exact k in (
-      ended front (plain_one (OfType d)) ds refl refl refl refl k (mid_as g j lawful exports outside start taken nested block takes front (plain_one (OfType d)) ds (Adding (d.name ∷ []) (Th front)) (λ n z. only_name z) (λ n z. name_only z)
-          (one_finished front (plain_one (OfType d)) ds refl refl refl refl k d.name here (says_it front (plain_one (OfType d)) ds refl refl refl refl k said_type (λ t. meaning.Type t (brings_with d.of)) (λ t. refl) (λ t. refl) (λ t. refl) (λ t. refl) h) (λ n. ⊥) (begun_mid front (plain_one (OfType d)) ds refl refl refl refl k))),
-      told_one front (plain_one (OfType d)) ds refl refl refl refl refl t w (telling front (plain_one (OfType d)) ds refl refl refl refl k said_type h),
+  module _ (front : List Resolved) (d : TypeDecl) (ds : List Declaration) {s : Scope g.Reported} (k : KB front (OfType d ∷ ds) (Adding (d.name ∷ []) (Th front)) s) (q : State TypeNo g.Reported) (read : Read' s d.of q) where
+    abbrev one : Resolved
+    one = typed_one (OfType d) read.ms
+
+    type_exact : Exactly g j lawful exports outside start taken nested block (said_type read.ms) front (OfType d) q.1
+    type_exact names all = more_answers g j lawful (O front) (Repeat front one ds refl refl refl k all) (of_type_says g j lawful nested (T front) names exports s (Read front one ds refl refl refl k all) k.same.types d read.ms
+        (subst (λ (types : Types). Answers g j (Repeats g j names s) (λ a k. k ≡ (read.ms, a)) (λ (k : MadeType). IsTypeOf types names exports d.of k.0 k.1) (BrokenType types names exports d.of) q.1) k.same.types (read.exact names (Read front one ds refl refl refl k all))))
+
+    type_ended : {r b : Result (Unit {0}) g.Reported} → Told front r → Tells g j lawful (O front) (λ f. Th front d.name.name × (f ≡ d.name.pos ! rule.DeclaredTwice)) b
+        → Stepped front one ds (finished q.0 d.name (type_meaning q.1 (brings_with d.of)), beside g r (beside g b (nothing_of q.1)))
+    type_ended t w = let h = type_exact in (
+      ended front one ds refl refl refl k (mid_as g j lawful exports outside start taken nested block takes front one ds (Adding (d.name ∷ []) (Th front)) (λ n z. only_name z) (λ n z. name_only z)
+          (one_finished front one ds refl refl refl k d.name here (says_it front one ds refl refl refl k (said_type read.ms) (λ t. meaning.Type t (brings_with d.of)) (λ t. refl) (λ t. refl) (λ t. refl) (λ t. refl) h) (λ n. ⊥)
+          (begun_mid front one ds refl refl refl k (begun_same front one ds refl refl refl k refl read.is) (ap (λ (u : Scope g.Reported). u.own) read.is)))),
+      told_one front one ds refl refl refl refl t w (telling front one ds refl refl refl k (said_type read.ms) h),
     )
 
-    declare_type : {s : Scope g.Reported} {r : Result (Unit {0}) g.Reported} → KB front (OfType d ∷ ds) (Th front) s → Told front r → Stepped front (plain_one (OfType d)) ds (with_type g (s, r) d)
-    declare_type {s = s} {r = r} k t = let b = begin_one g j lawful exports outside start taken nested block takes (O front) front (OfType d) ds refl (Th front) d.name (d.name, here, refl) k in
-        subst (λ (y : State TypeNo g.Reported). Stepped front (plain_one (OfType d)) ds (finished y.0 d.name (type_meaning y.1 (brings_with d.of)), beside g r (beside g (begun g s d.name).1 (nothing_of y.1)))) (sym (named_is g d.of q is_name (begun g s d.name).0))
-        (type_ended b.0 t b.1)
+  abbrev One : List Resolved → Declaration → List Declaration → State (Unit {0}) g.Reported → Type 0
+  One front x ds st = (d : Resolved) × (d.what ≡ x) × Stepped front d ds st
+
+  declare_type : (front : List Resolved) (d : TypeDecl) (ds : List Declaration) → IsPlainType d.of → {s : Scope g.Reported} {r : Result (Unit {0}) g.Reported} → KB front (OfType d ∷ ds) (Th front) s → Told front r → One front (OfType d) ds (with_type g (s, r) d)
+  declare_type front d ds i {s = s} k t = let b = begin_one g j lawful exports outside start taken nested block takes (O front) front (OfType d) ds refl (Th front) d.name (d.name, here, refl) k in
+      let read = type_read g j lawful exports (begun g s d.name).0 d.of i in
+      (typed_one (OfType d) read.ms, refl, type_ended front d ds b.0 (type_of g d.of (begun g s d.name).0) read t b.1)
 
   -- ---- variables
 
-  module _ (front : List Resolved) (v : Variables) (ds : List Declaration) (q : Qualified) (is_name : IsName v.of q) where
-    variables_exact : {s : Scope g.Reported} (k : KB front (OfVariables v ∷ ds) (Adding v.names (Th front)) s) → Exactly g j lawful exports outside start taken nested block said_variables front (OfVariables v) (named_type g s q)
-    variables_exact {s = s} k names all = more_answers g j lawful (O front) (Repeat front (plain_one (OfVariables v)) ds refl refl refl refl k all) (variables_say g j lawful nested (T front) names exports s (Read front (plain_one (OfVariables v)) ds refl refl refl refl k all) k.same.types v q is_name)
+  module _ (front : List Resolved) (v : Variables) (ds : List Declaration) {s : Scope g.Reported} (k : KB front (OfVariables v ∷ ds) (Adding v.names (Th front)) s) (q : State TypeNo g.Reported) (read : Read' s v.of q) where
+    abbrev many : Resolved
+    many = typed_one (OfVariables v) read.ms
 
-    module _ {s : Scope g.Reported} (k : KB front (OfVariables v ∷ ds) (Adding v.names (Th front)) s) where
-      abbrev MidOf : (List ℕ → Type 0) → Scope g.Reported → Type 0
-      MidOf done t = Mid front (plain_one (OfVariables v)) ds refl refl refl refl k done t
+    variables_exact : Exactly g j lawful exports outside start taken nested block (said_variables read.ms) front (OfVariables v) q.1
+    variables_exact names all = more_answers g j lawful (O front) (Repeat front many ds refl refl refl k all) (variables_say g j lawful nested (T front) names exports s (Read front many ds refl refl refl k all) k.same.types v read.ms
+        (subst (λ (types : Types). Answers g j (Repeats g j names s) (λ a k. k ≡ (read.ms, a)) (λ (k : MadeType). IsTypeOf types names exports v.of k.0 k.1) (BrokenType types names exports v.of) q.1) k.same.types (read.exact names (Read front many ds refl refl refl k all))))
 
-      typed_mid : {done : List ℕ → Type 0} {t : Scope g.Reported} (r : Result TypeNo g.Reported) → MidOf done t → MidOf done (with_variable_type t r)
-      typed_mid (Ok u) m = record { same = record { withs = m.same.withs; outer = m.same.outer; types = m.same.types; tables = m.same.tables; level = m.same.level }; own = m.own }
-      typed_mid (Err e) m = m
+    abbrev MidOf : (List ℕ → Type 0) → Scope g.Reported → Type 0
+    MidOf done t = Mid front many ds refl refl refl k done t
 
-      -- its variables count as own
-      abbrev OwnMade : (Scope g.Reported → TypeNo → Meaning) → Type 0
-      OwnMade made = (t : Scope g.Reported) → t.types ≡ T (plain_one (OfVariables v) ∷ front) → t.level ≡ start.level → (a : TypeNo) → is_own_variable start (made t a) ≡ true
+    typed_mid : {done : List ℕ → Type 0} {t : Scope g.Reported} (r : Result TypeNo g.Reported) → MidOf done t → MidOf done (with_variable_type t r)
+    typed_mid (Ok u) m = record { same = record { withs = m.same.withs; outer = m.same.outer; types = m.same.types; tables = m.same.tables; level = m.same.level }; own = m.own }
+    typed_mid (Err e) m = m
 
-      -- one variable after another
-      finish_each : (made : Scope g.Reported → TypeNo → Meaning) → ((t : Scope g.Reported) (a : TypeNo) → (said_variables a).1 ≡ standing (made t a)) → ((t : Scope g.Reported) (a : TypeNo) → standing_of (made t a) ≡ place.Taken) → OwnMade made → (xs : List Ident) → ((x : Ident) → Among x xs → Among x v.names) → (done : List ℕ → Type 0) {t : Scope g.Reported} → MidOf done t
-          → MidOf (Adding xs done) (fold (λ t x. finished (with_variable_type t (named_type g s q)) x (named_type g s q ▷ λ a. Ok (made t a))) t xs)
-      finish_each made i z w [] a done m = m
-      finish_each made i z w (x ∷ xs) a done {t = t} m = finish_each made i z w xs (λ y n. a y (later n)) (λ n. (x.name ≡ n) ⊎ done n)
-          (one_finished front (plain_one (OfVariables v)) ds refl refl refl refl k x (a x here) (says_it front (plain_one (OfVariables v)) ds refl refl refl refl k said_variables (made t) (i t) (λ u. refl) (z t) (w t m.same.types m.same.level) (variables_exact k)) done (typed_mid (named_type g s q) m))
+    -- its variables count as own
+    abbrev OwnMade : (Scope g.Reported → TypeNo → Meaning) → Type 0
+    OwnMade made = (t : Scope g.Reported) → t.types ≡ T (many ∷ front) → t.level ≡ start.level → (a : TypeNo) → is_own_variable start (made t a) ≡ true
 
-      names_done : (n : List ℕ) → Adding v.names (λ n. ⊥) n → Declares (OfVariables v) n
-      names_done n h = elim (added v.names (λ n. ⊥) n h) [ inl w ↦ w | inr z ↦ absurd z ]
+    -- one variable after another
+    finish_each : (made : Scope g.Reported → TypeNo → Meaning) → ((t : Scope g.Reported) (a : TypeNo) → (said_variables read.ms a).1 ≡ standing (made t a)) → ((t : Scope g.Reported) (a : TypeNo) → standing_of (made t a) ≡ place.Taken) → OwnMade made → (xs : List Ident) → ((x : Ident) → Among x xs → Among x v.names) → (done : List ℕ → Type 0) {t : Scope g.Reported} → MidOf done t
+        → MidOf (Adding xs done) (fold (λ t x. finished (with_variable_type t q.1) x (q.1 ▷ λ a. Ok (made t a))) t xs)
+    finish_each made i z w [] a done m = m
+    finish_each made i z w (x ∷ xs) a done {t = t} m = finish_each made i z w xs (λ y n. a y (later n)) (λ n. (x.name ≡ n) ⊎ done n)
+        (one_finished front many ds refl refl refl k x (a x here) (says_it front many ds refl refl refl k (said_variables read.ms) (made t) (i t) (λ u. refl) (z t) (w t m.same.types m.same.level) variables_exact) done (typed_mid q.1 m))
 
-      variables_ended : (made : Scope g.Reported → TypeNo → Meaning) → ((t : Scope g.Reported) (a : TypeNo) → (said_variables a).1 ≡ standing (made t a)) → ((t : Scope g.Reported) (a : TypeNo) → standing_of (made t a) ≡ place.Taken) → OwnMade made
-          → KB (plain_one (OfVariables v) ∷ front) ds (Th (plain_one (OfVariables v) ∷ front)) (fold (λ t x. finished (with_variable_type t (named_type g s q)) x (named_type g s q ▷ λ a. Ok (made t a))) s v.names)
-      variables_ended made i z w = ended front (plain_one (OfVariables v)) ds refl refl refl refl k (mid_as g j lawful exports outside start taken nested block takes front (plain_one (OfVariables v)) ds (Adding v.names (Th front)) names_done (λ n h. adding_name v.names (λ n. ⊥) n h.0 h.1 h.2)
-          (finish_each made i z w v.names (λ x m. m) (λ n. ⊥) (begun_mid front (plain_one (OfVariables v)) ds refl refl refl refl k)))
+    names_done : (n : List ℕ) → Adding v.names (λ n. ⊥) n → Declares (OfVariables v) n
+    names_done n h = elim (added v.names (λ n. ⊥) n h) [ inl w ↦ w | inr z ↦ absurd z ]
 
-      variables_told : {b : Result (Unit {0}) g.Reported} → Tells g j lawful (O front) (λ f. BI front f ⊎ Twice (Th front) v.names f) b → Told (plain_one (OfVariables v) ∷ front) (beside g b (nothing_of (named_type g s q)))
-      variables_told t = told_list front (plain_one (OfVariables v)) ds refl refl refl refl t (telling front (plain_one (OfVariables v)) ds refl refl refl refl k said_variables (variables_exact k))
+    variables_ended : (made : Scope g.Reported → TypeNo → Meaning) → ((t : Scope g.Reported) (a : TypeNo) → (said_variables read.ms a).1 ≡ standing (made t a)) → ((t : Scope g.Reported) (a : TypeNo) → standing_of (made t a) ≡ place.Taken) → OwnMade made
+        → KB (many ∷ front) ds (Th (many ∷ front)) (fold (λ t x. finished (with_variable_type t q.1) x (q.1 ▷ λ a. Ok (made t a))) q.0 v.names)
+    variables_ended made i z w = ended front many ds refl refl refl k (mid_as g j lawful exports outside start taken nested block takes front many ds (Adding v.names (Th front)) names_done (λ n h. adding_name v.names (λ n. ⊥) n h.0 h.1 h.2)
+        (finish_each made i z w v.names (λ x m. m) (λ n. ⊥) (begun_mid front many ds refl refl refl k (begun_same front many ds refl refl refl k refl read.is) (ap (λ (u : Scope g.Reported). u.own) read.is))))
+
+    variables_told : {b : Result (Unit {0}) g.Reported} → Tells g j lawful (O front) (λ f. BI front f ⊎ Twice (Th front) v.names f) b → Told (many ∷ front) (beside g b (nothing_of q.1))
+    variables_told t = told_list front many ds refl refl refl t (telling front many ds refl refl refl k (said_variables read.ms) variables_exact)
 
     abbrev variable_made : Scope g.Reported → TypeNo → Meaning
     variable_made t a = meaning.Variable (record { home = t.types.home; number = length t.variables; of = a })
@@ -301,25 +310,33 @@ module _ (g : Gathers) (j : Judges g) (lawful : Lawful g j) (exports : ℕ → I
     abbrev local_made : Scope g.Reported → TypeNo → Meaning
     local_made t a = meaning.Local (record { level = t.level; number = length t.variables; kind = kind.Variable; of = a })
 
-    own_made : (t : Scope g.Reported) → t.types ≡ T (plain_one (OfVariables v) ∷ front) → t.level ≡ start.level → (a : TypeNo) → is_own_variable start (variable_made t a) ≡ true
-    own_made t e l a = let q : t.types.home ≡ start.types.home = ap (λ (x : Types). x.home) e ∙ home_same g j exports outside start taken nested block knows no_withs front in grind (arith, nat_tests, q)
+    own_made : (t : Scope g.Reported) → t.types ≡ T (many ∷ front) → t.level ≡ start.level → (a : TypeNo) → is_own_variable start (variable_made t a) ≡ true
+    own_made t e l a = let z : t.types.home ≡ start.types.home = ap (λ (x : Types). x.home) e ∙ home_same g j exports outside start taken nested block knows no_withs front in grind (arith, nat_tests, z)
 
-    own_local : (t : Scope g.Reported) → t.types ≡ T (plain_one (OfVariables v) ∷ front) → t.level ≡ start.level → (a : TypeNo) → is_own_variable start (local_made t a) ≡ true
-    own_local t e l a = let q : t.level ≡ start.level = l in grind (arith, nat_tests, q)
+    own_local : (t : Scope g.Reported) → t.types ≡ T (many ∷ front) → t.level ≡ start.level → (a : TypeNo) → is_own_variable start (local_made t a) ≡ true
+    own_local t e l a = let z : t.level ≡ start.level = l in grind (arith, nat_tests, z)
 
-    begun_list : {s : Scope g.Reported} {r : Result (Unit {0}) g.Reported} → KB front (OfVariables v ∷ ds) (Th front) s → Told front r
-        → KB front (OfVariables v ∷ ds) (Adding v.names (Th front)) (fold (begun_name g) (s, r) v.names).0 × Tells g j lawful (O front) (λ f. BI front f ⊎ Twice (Th front) v.names f) (fold (begun_name g) (s, r) v.names).1
-    begun_list k t = begin_all g j lawful exports outside start taken nested block takes (O front) front (OfVariables v) ds refl v.names (Th front) (λ x m. (x, m, refl)) k (told_here t)
+    module_ended : {b : Result (Unit {0}) g.Reported} → Tells g j lawful (O front) (λ f. BI front f ⊎ Twice (Th front) v.names f) b → Stepped front many ds (fold (finished_variable q.1) q.0 v.names, beside g b (nothing_of q.1))
+    module_ended t = (variables_ended variable_made (λ t a. refl) (λ t a. refl) own_made, variables_told t)
 
-    declare_variables : {s : Scope g.Reported} {r : Result (Unit {0}) g.Reported} → KB front (OfVariables v ∷ ds) (Th front) s → Told front r → Stepped front (plain_one (OfVariables v)) ds (with_variables g (s, r) v)
-    declare_variables {s = s} {r = r} k t = let b = begun_list k t in
-        subst (λ (y : State TypeNo g.Reported). Stepped front (plain_one (OfVariables v)) ds (fold (finished_variable y.1) y.0 v.names, beside g (fold (begun_name g) (s, r) v.names).1 (nothing_of y.1))) (sym (named_is g v.of q is_name (fold (begun_name g) (s, r) v.names).0))
-        (variables_ended b.0 variable_made (λ t a. refl) (λ t a. refl) own_made, variables_told b.0 b.1)
+    local_ended : {b : Result (Unit {0}) g.Reported} → Tells g j lawful (O front) (λ f. BI front f ⊎ Twice (Th front) v.names f) b → Stepped front many ds (fold (finished_local q.1) q.0 v.names, beside g b (nothing_of q.1))
+    local_ended t = (variables_ended local_made (λ t a. refl) (λ t a. refl) own_local, variables_told t)
 
-    declare_locals : {s : Scope g.Reported} {r : Result (Unit {0}) g.Reported} → KB front (OfVariables v ∷ ds) (Th front) s → Told front r → Stepped front (plain_one (OfVariables v)) ds (with_locals g (s, r) v)
-    declare_locals {s = s} {r = r} k t = let b = begun_list k t in
-        subst (λ (y : State TypeNo g.Reported). Stepped front (plain_one (OfVariables v)) ds (fold (finished_local y.1) y.0 v.names, beside g (fold (begun_name g) (s, r) v.names).1 (nothing_of y.1))) (sym (named_is g v.of q is_name (fold (begun_name g) (s, r) v.names).0))
-        (variables_ended b.0 local_made (λ t a. refl) (λ t a. refl) own_local, variables_told b.0 b.1)
+  begun_list : (front : List Resolved) (v : Variables) (ds : List Declaration) {s : Scope g.Reported} {r : Result (Unit {0}) g.Reported} → KB front (OfVariables v ∷ ds) (Th front) s → Told front r
+      → KB front (OfVariables v ∷ ds) (Adding v.names (Th front)) (fold (begun_name g) (s, r) v.names).0 × Tells g j lawful (O front) (λ f. BI front f ⊎ Twice (Th front) v.names f) (fold (begun_name g) (s, r) v.names).1
+  begun_list front v ds k t = begin_all g j lawful exports outside start taken nested block takes (O front) front (OfVariables v) ds refl v.names (Th front) (λ x m. (x, m, refl)) k (told_here t)
+
+  declare_variables : (front : List Resolved) (v : Variables) (ds : List Declaration) → IsPlainType v.of → {s : Scope g.Reported} {r : Result (Unit {0}) g.Reported} → KB front (OfVariables v ∷ ds) (Th front) s → Told front r → One front (OfVariables v) ds (with_variables g (s, r) v)
+  declare_variables front v ds i {s = s} {r = r} k t = let b = begun_list front v ds k t in
+      let u = (fold (begun_name g) (s, r) v.names).0 in
+      let read = type_read g j lawful exports u v.of i in
+      (typed_one (OfVariables v) read.ms, refl, module_ended front v ds b.0 (type_of g v.of u) read b.1)
+
+  declare_locals : (front : List Resolved) (v : Variables) (ds : List Declaration) → IsPlainType v.of → {s : Scope g.Reported} {r : Result (Unit {0}) g.Reported} → KB front (OfVariables v ∷ ds) (Th front) s → Told front r → One front (OfVariables v) ds (with_locals g (s, r) v)
+  declare_locals front v ds i {s = s} {r = r} k t = let b = begun_list front v ds k t in
+      let u = (fold (begun_name g) (s, r) v.names).0 in
+      let read = type_read g j lawful exports u v.of i in
+      (typed_one (OfVariables v) read.ms, refl, local_ended front v ds b.0 (type_of g v.of u) read b.1)
 
   -- ---- names of formals
 
@@ -535,9 +552,6 @@ module _ (g : Gathers) (j : Judges g) (lawful : Lawful g j) (exports : ℕ → I
   abbrev Ran : List Resolved → List Declaration → List Declaration → State (Unit {0}) g.Reported → Type 0
   Ran front xs rest st = (fs : List Resolved) × (in_order fs ≡ in_order front ++ xs) × (KB fs rest (Th fs) st.0 × Told fs st.1)
 
-  abbrev One : List Resolved → Declaration → List Declaration → State (Unit {0}) g.Reported → Type 0
-  One front x ds st = (d : Resolved) × (d.what ≡ x) × Stepped front d ds st
-
   ran_nothing : {front : List Resolved} {rest : List Declaration} {s : Scope g.Reported} {r : Result (Unit {0}) g.Reported} → KB front rest (Th front) s → Told front r → Ran front [] rest (s, r)
   ran_nothing {front = front} k t = (front, sym (nil_right (in_order front)), (k, t))
 
@@ -558,13 +572,13 @@ module _ (g : Gathers) (j : Judges g) (lawful : Lawful g j) (exports : ℕ → I
   -- ---- all of a block
 
   module _ (level : nested ≡ not (start.level == 0)) (ends : List ℕ) where
-    variables_ran : (vs : List Variables) → ((v : Variables) → Among v vs → IsNamedType v.of) → (front : List Resolved) (rest : List Declaration) {s : Scope g.Reported} {r : Result (Unit {0}) g.Reported} → KB front (map OfVariables vs ++ rest) (Th front) s → Told front r
+    variables_ran : (vs : List Variables) → ((v : Variables) → Among v vs → IsPlainType v.of) → (front : List Resolved) (rest : List Declaration) {s : Scope g.Reported} {r : Result (Unit {0}) g.Reported} → KB front (map OfVariables vs ++ rest) (Th front) s → Told front r
         → Ran front (map OfVariables vs) rest (with_variables_of g (s, r) vs)
     variables_ran vs i front rest {s = s} {r = r} k t = by (s.level == 0)
       where
         by : (b : Bool) → Ran front (map OfVariables vs) rest (cond b (fold (with_variables g) (s, r) vs) (fold (with_locals g) (s, r) vs))
-        by true = section_ran (with_variables g) OfVariables vs (λ v m front ds s r k t. (plain_one (OfVariables v), refl, declare_variables front v ds (i v m).0 (i v m).1 k t)) front rest k t
-        by false = section_ran (with_locals g) OfVariables vs (λ v m front ds s r k t. (plain_one (OfVariables v), refl, declare_locals front v ds (i v m).0 (i v m).1 k t)) front rest k t
+        by true = section_ran (with_variables g) OfVariables vs (λ v m front ds s r k t. declare_variables front v ds (i v m) k t) front rest k t
+        by false = section_ran (with_locals g) OfVariables vs (λ v m front ds s r k t. declare_locals front v ds (i v m) k t) front rest k t
 
     procedure_ran : (h : Heading) (n : ℕ) (front : List Resolved) (rest : List Declaration) {s : Scope g.Reported} {r : Result (Unit {0}) g.Reported} → KB front (OfProcedure h ∷ rest) (Th front) s → Told front r
         → Ran front (OfProcedure h ∷ []) rest ((with_heading g s n h).0, beside g r (with_heading g s n h).1)
@@ -573,7 +587,7 @@ module _ (g : Gathers) (j : Judges g) (lawful : Lawful g j) (exports : ℕ → I
     layer_ran : (y : Decl-F Decl Block) → IsPlainLayer y → (front : List Resolved) (rest : List Declaration) (n : ℕ) {s : Scope g.Reported} {r : Result (Unit {0}) g.Reported} → KB front (declared_by y ++ rest) (Th front) s → Told front r
         → Ran front (declared_by y) rest ((decl_layer g ends (s, r, n) y).0, (decl_layer g ends (s, r, n) y).1)
     layer_ran (decl.Constants cs) i front rest n k t = section_ran (with_constant g) OfConstant cs (λ c m front ds s r k t. (plain_one (OfConstant c), refl, declare_constant front c ds (i c m) k t)) front rest k t
-    layer_ran (decl.Types ts) i front rest n k t = section_ran (with_type g) OfType ts (λ d m front ds s r k t. (plain_one (OfType d), refl, declare_type front d ds (i d m).0 (i d m).1 k t)) front rest k t
+    layer_ran (decl.Types ts) i front rest n k t = section_ran (with_type g) OfType ts (λ d m front ds s r k t. declare_type front d ds (i d m) k t) front rest k t
     layer_ran (decl.Variables vs) i front rest n k t = variables_ran vs i front rest k t
     layer_ran (decl.Procedure h b) i front rest n k t = procedure_ran h n front rest k t
 

@@ -26,7 +26,7 @@ use Rattle.def_typing.specs.Things as things
 use Rattle.def_typing.specs.Things.{Headless, Standing, Undeclared, Unknown}
 use Rattle.def_typing.specs.Parts.{here, later}
 use Rattle.def_typing.specs.Declarations as rules
-use Rattle.def_typing.specs.Declarations.{Declaration, OfConstant, OfType, OfVariables, OfProcedure, Declares, AnyDeclares, IsFirst, at_first, later_on, Declared, IsThere, IsNamed, nearest, farther, with_types, types_behind, is_variables, in_front_of, IsOwn, StandsFor, Means, AllStand, There, BrokenIn}
+use Rattle.def_typing.specs.Declarations.{Declaration, OfConstant, OfType, OfVariables, OfProcedure, Declares, AnyDeclares, IsFirst, at_first, later_on, Declared, IsThere, IsNamed, nearest, farther, types_behind, is_variables, in_front_of, IsOwn, StandsFor, Means, AllStand, There, BrokenIn}
 use Rattle.law_typing.specs.Judging.{Judges}
 use Rattle.law_typing.specs.Exact.{is_own_variable, KnowsOwn, Sees, sees, sees_nothing, Exports, Knows, Repeats, of_heading, of_declaration}
 

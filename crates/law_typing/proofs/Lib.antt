@@ -36,6 +36,7 @@ pub mod Obeying
 pub mod TypeNaming
 pub mod Heading
 pub mod Subranges
+pub mod TypeReading
 pub mod Entering
 pub mod Declaring
 pub mod Beginning

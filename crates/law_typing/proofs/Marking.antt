@@ -7,6 +7,7 @@ use Rattle.m2_tree.specs.declared.decl.Constant.{Constant}
 use Rattle.m2_tree.specs.declared.decl.TypeDecl.{TypeDecl}
 use Rattle.m2_tree.specs.declared.decl.Variables.{Variables}
 use Rattle.m2_tree.specs.declared.decl.Field.{Field}
+use Rattle.m2_tree.specs.declared.decl.Simple.{Simple}
 use Rattle.m2_tree.specs.declared.decl.Simple.TheVariants as simple
 use Rattle.m2_tree.specs.declared.decl.TypeExpr.{TypeExpr, TypeExpr-F, out-TypeExpr, map-TypeExpr, fold_out-TypeExpr}
 use Rattle.m2_tree.specs.declared.decl.TypeExpr.TheOpen as layer
@@ -26,7 +27,7 @@ use Rattle.def_typing.specs.Things.{Standing}
 use Rattle.def_typing.specs.Parts.{Among, here, later}
 use Rattle.def_typing.specs.Declarations.{Declaration, OfConstant, OfType, OfVariables, OfProcedure, names_of, declared_by, declarations_of, Declares, AnyDeclares, IsFirst, at_first, later_on, There}
 use Rattle.law_typing.specs.Judging.{Judges}
-use Rattle.law_typing.specs.Exact.{TakenAs, is_taken, not_taken, IsNamedType, IsPlainLayer, ArePlainDecls}
+use Rattle.law_typing.specs.Exact.{TakenAs, is_taken, not_taken, IsPlainType, IsPlainSimple, IsPlainLayer, ArePlainDecls}
 use Rattle.std.specs.List.{list_any}
 use Rattle.m2_tree.specs.Names.{same_name}
 use Rattle.law_typing.proofs.Combining.{Decided, holds, fails_it, decided_as}
@@ -97,8 +98,13 @@ module _ {T : Type 0} where
   unfolding marked_in marked_field
   marks_at e x h = fold_out-TypeExpr (Marks T) (Marks T) marking.type_layer marking.field_layer e ∙ ap (λ (y : TypeExpr-F TypeExpr Field). marking.type_layer (opened y)) h
 
-  named_marks : (e : TypeExpr) → IsNamedType e → (s : Scope T) → marked_in e s ≡ s
-  named_marks e i s = ap (λ (m : Marks T). m s) (marks_at e (layer.Simple (simple.Named i.0)) i.1)
+  simple_marks : (e : TypeExpr) (x : Simple) → out-TypeExpr e ≡ layer.Simple x → IsPlainSimple x → (s : Scope T) → marked_in e s ≡ s
+  simple_marks e (simple.Named q) h i s = ap (λ (m : Marks T). m s) (marks_at e (layer.Simple (simple.Named q)) h)
+  simple_marks e (simple.Enumeration at names) h i s = absurd i
+  simple_marks e (simple.Subrange of at low high) h i s = ap (λ (m : Marks T). m s) (marks_at e (layer.Simple (simple.Subrange of at low high)) h)
+
+  named_marks : (e : TypeExpr) → IsPlainType e → (s : Scope T) → marked_in e s ≡ s
+  named_marks e (x, h, i) s = simple_marks e x h i s
 
 module _ (g : Gathers) (j : Judges g) (exports : ℕ → Ident → Standing) (outside : Ident → Standing) (start : Scope g.Reported) (taken : List ℕ → Bool) (nested : Bool) (block : List Declaration)
     (takes : (n : List ℕ) → TakenAs g j (taken n) (found n start.own)) where
@@ -207,10 +213,10 @@ module _ (g : Gathers) (j : Judges g) (exports : ℕ → Ident → Standing) (ou
   constant_marks : (c : Constant) (M : Marks') (s : Scope g.Reported) → Marking M s → Marking (With M (OfConstant c)) (marked_constant s c)
   constant_marks c M s m = one_with (OfConstant c) c.name refl M s m
 
-  type_marks : (d : TypeDecl) → IsNamedType d.of → (M : Marks') (s : Scope g.Reported) → Marking M s → Marking (With M (OfType d)) (marked_type s d)
+  type_marks : (d : TypeDecl) → IsPlainType d.of → (M : Marks') (s : Scope g.Reported) → Marking M s → Marking (With M (OfType d)) (marked_type s d)
   type_marks d i M s m = subst (Marking (With M (OfType d))) (sym (named_marks d.of i (marked d.name known.Later s))) (one_with (OfType d) d.name refl M s m)
 
-  variable_marks : (v : Variables) → IsNamedType v.of → (M : Marks') (s : Scope g.Reported) → Marking M s → Marking (With M (OfVariables v)) (marked_variables s v)
+  variable_marks : (v : Variables) → IsPlainType v.of → (M : Marks') (s : Scope g.Reported) → Marking M s → Marking (With M (OfVariables v)) (marked_variables s v)
   variable_marks v i M s m = subst (Marking (With M (OfVariables v))) (sym (named_marks v.of i (fold marked_later s v.names))) (mark_names v.names M m)
 
   -- ---- sections and blocks

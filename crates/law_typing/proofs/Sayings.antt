@@ -3,26 +3,18 @@ use Rattle.std.proofs.Common.{◌≡◌, ℕ, Bool, List, [], ◌∷◌, Result,
 use Rattle.m2_rule.specs.declared.breach.Breach.{Breach}
 use Rattle.m2_tree.specs.declared.pos.Pos.{Pos}
 use Rattle.m2_tree.specs.declared.name.Ident.{Ident}
-use Rattle.m2_tree.specs.declared.expr.Qualified.{Qualified}
 use Rattle.m2_tree.specs.declared.decl.Constant.{Constant}
 use Rattle.m2_tree.specs.declared.decl.TypeDecl.{TypeDecl}
 use Rattle.m2_tree.specs.declared.decl.Variables.{Variables}
-use Rattle.m2_tree.specs.declared.decl.Field.{Field}
-use Rattle.m2_tree.specs.declared.decl.Simple.{Simple}
-use Rattle.m2_tree.specs.declared.decl.Simple.TheVariants as simple
-use Rattle.m2_tree.specs.declared.decl.TypeExpr.{TypeExpr, TypeExpr-F, out-TypeExpr, map-TypeExpr, fold_out-TypeExpr}
-use Rattle.m2_tree.specs.declared.decl.TypeExpr.TheOpen as layer
+use Rattle.m2_tree.specs.declared.decl.TypeExpr.{TypeExpr}
 use Rattle.typed_tree.specs.declared.types.TypeNo.{TypeNo}
 use Rattle.typed_tree.specs.declared.known_types.Types.{Types}
 use Rattle.typed_tree.specs.declared.meaning.Value.{Value}
 use Rattle.typed_tree.specs.declared.meaning.Meaning.{Meaning}
 use Rattle.check_scope.specs.declared.scope.Scope.{Scope}
 use Rattle.check_scope.specs.Elaborated.{Gathers, plain, ◌▷◌}
-use Rattle.check_scope.specs.Scopes.{State}
 use Rattle.check_const.specs.Parts.{constant}
 use Rattle.check_expr.specs.Meanings.{part}
-use Rattle.check_type_expr.specs.Named.{named_type}
-use Rattle.check_type_expr.specs.Made.{Makes, MakesFields, type_layer, field_layer, type_of, field_list}
 use Rattle.def_typing.specs.Operators.{Kind}
 use Rattle.def_typing.specs.Things.{AValue, AVariable, AType, Headless, Standing, Known, Unknown}
 use Rattle.m2_tree.specs.declared.decl.Heading.{Heading}
@@ -39,14 +31,14 @@ use Rattle.check_block.specs.declared.heading.Standing.TheVariants as place
 use Rattle.def_typing.specs.Headings.{procedure_made, IsHeading, BrokenHeading}
 use Rattle.law_typing.proofs.Heading.{heading_answers}
 use Rattle.def_typing.specs.Constants.{AConstant, Fixes, BrokenAsConstant}
-use Rattle.def_typing.specs.TypeNames.{NamesType, BrokenTypeName}
 use Rattle.def_typing.specs.Declarations as rules
-use Rattle.def_typing.specs.Declarations.{Declaration, OfConstant, OfType, OfVariables, OfProcedure, Declared, types_behind, next_type, procedure, is_variables, without, Means, Says, Misdeclares, IsTypeOf, named, BrokenType, in_name}
+use Rattle.def_typing.specs.Declarations.{Declaration, OfConstant, OfType, OfVariables, OfProcedure, Declared, types_behind, procedure, is_variables, without, Means, Says, Misdeclares}
+use Rattle.def_typing.specs.TypeExprs.{next_type, IsTypeOf, BrokenType}
 use Rattle.law_typing.specs.Judging.{Judges, Answers, means, refuses}
 use Rattle.law_typing.specs.Exact.{IsConst, is_const, kind_of, standing, is_own_variable, Sees, sees, sees_unknown, sees_headless, Knows, Repeats, IsCallFree}
 use Rattle.law_typing.proofs.Combining.{Lawful, Tells, silent, tells}
 use Rattle.law_typing.proofs.Constants.{exactly_fixed}
-use Rattle.law_typing.proofs.TypeNaming.{type_name_answers}
+use Rattle.law_typing.proofs.TypeReading.{MadeType}
 use Rattle.law_typing.proofs.Declaring.{All, Elsewhere, Saying}
 
 module _ (g : Gathers) (j : Judges g) (lawful : Lawful g j) (O : Breach → Type 0) where
@@ -87,11 +79,11 @@ Saids = List Made × Standing
 abbrev pub said_constant : Value → Saids
 said_constant v = ([], Known (AValue (kind_of v)))
 
-abbrev pub said_type : TypeNo → Saids
-said_type t = ([], Known (AType t))
+abbrev pub said_type : List Made → TypeNo → Saids
+said_type ms t = (ms, Known (AType t))
 
-abbrev pub said_variables : TypeNo → Saids
-said_variables t = ([], Known (AVariable t))
+abbrev pub said_variables : List Made → TypeNo → Saids
+said_variables ms t = (ms, Known (AVariable t))
 
 abbrev pub said_procedure : Bool → Types → Made → Saids
 said_procedure nested types m = (m ∷ [], Known (procedure nested (next_type types)))
@@ -204,19 +196,6 @@ module _ (g : Gathers) (j : Judges g) (lawful : Lawful g j) (exports : ℕ → I
     pub says_tells : {r : Result A g.Reported} → Exactly said front d.what r → {names : Ident → Standing} → Stand front names → Tells g j lawful (O front) AnyMis (r ▷ λ a. Ok tt)
     says_tells {r = r} h {names = names} all = tells_all g j lawful (O front) {I = (names : Ident → Standing) × Stand front names} {B = λ i. Mis front i.0 d.what} (r ▷ λ a. Ok tt) (names, all) (λ i. tells_of g j lawful (O front) (h i.0 i.1))
 
--- ---- types by name
-
-module _ (g : Gathers) where
-  abbrev opened : TypeExpr-F TypeExpr Field → TypeExpr-F (Makes g) (MakesFields g)
-  opened x = map-TypeExpr TypeExpr Field (Makes g) (MakesFields g) (type_of g) (field_list g) x
-
-  type_at : (e : TypeExpr) (x : TypeExpr-F TypeExpr Field) → out-TypeExpr e ≡ x → type_of g e ≡ type_layer g (opened x)
-  unfolding type_of field_list
-  type_at e x h = fold_out-TypeExpr (Makes g) (MakesFields g) (type_layer g) (field_layer g) e ∙ ap (λ (y : TypeExpr-F TypeExpr Field). type_layer g (opened y)) h
-
-  pub named_is : (e : TypeExpr) (q : Qualified) → out-TypeExpr e ≡ layer.Simple (simple.Named q) → (t : Scope g.Reported) → ◌≡◌ {A = State TypeNo g.Reported} (type_of g e t) (t, named_type g t q)
-  named_is e q h t = ap (λ (m : Makes g). m t) (type_at e (layer.Simple (simple.Named q)) h)
-
 -- ---- each declaration
 
 module _ (g : Gathers) (j : Judges g) (lawful : Lawful g j) (nested : Bool) (types : Types) (names : Ident → Standing) (exports : ℕ → Ident → Standing) (s : Scope g.Reported) (knows : Knows g j names exports s) (same : s.types ≡ types) where
@@ -256,46 +235,32 @@ module _ (g : Gathers) (j : Judges g) (lawful : Lawful g j) (nested : Bool) (typ
 
   -- ---- types
 
-  abbrev name_in : Qualified → Simple → Qualified
-  name_in q (simple.Named p) = p
-  name_in q other = q
+  -- what a type is, and which types it makes
+  abbrev pub TypeSo : TypeExpr → List Made → Result TypeNo g.Reported → Type 0
+  TypeSo e ms r = Answers g j R (λ a k. k ≡ (ms, a)) (λ (k : MadeType). IsTypeOf types names exports e k.0 k.1) (BrokenType types names exports e) r
 
-  abbrev named_in : Qualified → TypeExpr-F TypeExpr Field → Qualified
-  named_in q (layer.Simple t) = name_in q t
-  named_in q other = q
+  abbrev IsMadeType : List Made → TypeNo → MadeType → Type 0
+  IsMadeType ms a k = k ≡ (ms, a)
 
-  same_named : (e : TypeExpr) (q p : Qualified) → out-TypeExpr e ≡ layer.Simple (simple.Named q) → out-TypeExpr e ≡ layer.Simple (simple.Named p) → p ≡ q
-  same_named e q p h k = ap (named_in q) (sym k ∙ h)
+  of_type_parts : {d : TypeDecl} {ms : List Made} {st : Standing} → Says types names exports nested (OfType d) ms st → (k : MadeType) × IsTypeOf types names exports d.of k.0 k.1 × (◌≡◌ {A = Saids} (ms, st) (k.0, Known (AType k.1)))
+  of_type_parts (rules.a_type {ms = ms} {t = t} m) = ((ms, t), m, refl)
 
-  type_parts : {e : TypeExpr} {q : Qualified} {ms : List Made} {t : TypeNo} → out-TypeExpr e ≡ layer.Simple (simple.Named q) → IsTypeOf types names exports e ms t → NamesType names exports q t × (ms ≡ [])
-  type_parts {e = e} {q = q} {t = t} h (named {q = p} k m) = (subst (λ (p : Qualified). NamesType names exports p t) (same_named e q p h k) m, refl)
+  of_type_fails : {d : TypeDecl} (f : Breach) → MisIt (OfType d) f → BrokenType types names exports d.of f
+  of_type_fails f (rules.in_type b) = b
 
-  type_fails : {e : TypeExpr} {q : Qualified} {f : Breach} → out-TypeExpr e ≡ layer.Simple (simple.Named q) → BrokenType types names exports e f → BrokenTypeName names exports q f
-  type_fails {e = e} {q = q} {f = f} h (in_name {q = p} k m) = subst (λ (p : Qualified). BrokenTypeName names exports p f) (same_named e q p h k) m
+  pub of_type_says : (d : TypeDecl) (ms : List Made) {r : Result TypeNo g.Reported} → TypeSo d.of ms r → So (said_type ms) (OfType d) r
+  of_type_says d ms h = by_part {Is = IsMadeType ms} (said_type ms) (OfType d) (λ a k i m. rules.a_type (subst (λ (k : MadeType). IsTypeOf types names exports d.of k.0 k.1) i m))
+      (λ l z. let q = of_type_parts z in (q.0, q.1, λ a i. q.2 ∙ ap (λ (k : MadeType). let y : Saids = (k.0, Known (AType k.1)) in y) i)) (λ f b. rules.in_type b) of_type_fails h
 
-  abbrev Equal : TypeNo → TypeNo → Type 0
-  Equal t u = t ≡ u
+  variable_parts : {v : Variables} {ms : List Made} {st : Standing} → Says types names exports nested (OfVariables v) ms st → (k : MadeType) × IsTypeOf types names exports v.of k.0 k.1 × (◌≡◌ {A = Saids} (ms, st) (k.0, Known (AVariable k.1)))
+  variable_parts (rules.variables {ms = ms} {t = t} m) = ((ms, t), m, refl)
 
-  said_same : (th : TypeNo → Standing) {ms : List Made} {st : Standing} (t a : TypeNo) → ms ≡ [] → st ≡ th t → a ≡ t → ◌≡◌ {A = Saids} (ms, st) ([], th a)
-  said_same th {ms = ms} {st = st} t a e q i = ap (λ (x : List Made). let y : Saids = (x, st) in y) e ∙ ap (λ (x : Standing). let y : Saids = ([], x) in y) (q ∙ ap th (sym i))
+  variable_fails : {v : Variables} (f : Breach) → MisIt (OfVariables v) f → BrokenType types names exports v.of f
+  variable_fails f (rules.in_variables b) = b
 
-  of_type_parts : {d : TypeDecl} {q : Qualified} {ms : List Made} {st : Standing} → out-TypeExpr d.of ≡ layer.Simple (simple.Named q) → Says types names exports nested (OfType d) ms st → (t : TypeNo) × NamesType names exports q t × ((a : TypeNo) → a ≡ t → ◌≡◌ {A = Saids} (ms, st) (said_type a))
-  of_type_parts h (rules.a_type {t = t} m) = let z = type_parts h m in (t, z.0, λ a i. said_same (λ t. Known (AType t)) t a z.1 refl i)
-
-  of_type_fails : {d : TypeDecl} {q : Qualified} → out-TypeExpr d.of ≡ layer.Simple (simple.Named q) → (f : Breach) → MisIt (OfType d) f → BrokenTypeName names exports q f
-  of_type_fails h f (rules.in_type b) = type_fails h b
-
-  pub of_type_says : (d : TypeDecl) (q : Qualified) → out-TypeExpr d.of ≡ layer.Simple (simple.Named q) → So said_type (OfType d) (named_type g s q)
-  of_type_says d q h = by_part {Is = Equal} said_type (OfType d) (λ t u i m. rules.a_type (named h (subst (NamesType names exports q) (sym i) m))) (λ l z. of_type_parts h z) (λ f b. rules.in_type (in_name h b)) (of_type_fails h) (type_name_answers g j lawful names exports s knows q)
-
-  variable_parts : {v : Variables} {q : Qualified} {ms : List Made} {st : Standing} → out-TypeExpr v.of ≡ layer.Simple (simple.Named q) → Says types names exports nested (OfVariables v) ms st → (t : TypeNo) × NamesType names exports q t × ((a : TypeNo) → a ≡ t → ◌≡◌ {A = Saids} (ms, st) (said_variables a))
-  variable_parts h (rules.variables {t = t} m) = let z = type_parts h m in (t, z.0, λ a i. said_same (λ t. Known (AVariable t)) t a z.1 refl i)
-
-  variable_fails : {v : Variables} {q : Qualified} → out-TypeExpr v.of ≡ layer.Simple (simple.Named q) → (f : Breach) → MisIt (OfVariables v) f → BrokenTypeName names exports q f
-  variable_fails h f (rules.in_variables b) = type_fails h b
-
-  pub variables_say : (v : Variables) (q : Qualified) → out-TypeExpr v.of ≡ layer.Simple (simple.Named q) → So said_variables (OfVariables v) (named_type g s q)
-  variables_say v q h = by_part {Is = Equal} said_variables (OfVariables v) (λ t u i m. rules.variables (named h (subst (NamesType names exports q) (sym i) m))) (λ l z. variable_parts h z) (λ f b. rules.in_variables (in_name h b)) (variable_fails h) (type_name_answers g j lawful names exports s knows q)
+  pub variables_say : (v : Variables) (ms : List Made) {r : Result TypeNo g.Reported} → TypeSo v.of ms r → So (said_variables ms) (OfVariables v) r
+  variables_say v ms h = by_part {Is = IsMadeType ms} (said_variables ms) (OfVariables v) (λ a k i m. rules.variables (subst (λ (k : MadeType). IsTypeOf types names exports v.of k.0 k.1) i m))
+      (λ l z. let q = variable_parts z in (q.0, q.1, λ a i. q.2 ∙ ap (λ (k : MadeType). let y : Saids = (k.0, Known (AVariable k.1)) in y) i)) (λ f b. rules.in_variables b) variable_fails h
 
   -- ---- procedures
 

@@ -17,6 +17,7 @@ use Rattle.m2_tree.specs.declared.stmt.Stmt.{Stmt, out-Stmt}
 use Rattle.m2_tree.specs.declared.decl.Constant.{Constant as ConstantDecl}
 use Rattle.m2_tree.specs.declared.decl.TypeDecl.{TypeDecl}
 use Rattle.m2_tree.specs.declared.decl.Variables.{Variables}
+use Rattle.m2_tree.specs.declared.decl.Simple.{Simple}
 use Rattle.m2_tree.specs.declared.decl.Simple.TheVariants as simple
 use Rattle.m2_tree.specs.declared.decl.TypeExpr.{TypeExpr, out-TypeExpr}
 use Rattle.m2_tree.specs.declared.decl.TypeExpr.TheOpen as type_layer
@@ -349,15 +350,20 @@ mutual
     one_arm : {x : Arm} {xs : List Arm} → ArePlainStmts (out-Arm x).body → ArePlainArms xs
         → ArePlainArms (x ∷ xs)
 
--- ---- declarations of which this is known: constants call nothing, and types are names
+-- ---- declarations of which this is known: constants call nothing, and types are names or subranges
 
-abbrev pub IsNamedType : TypeExpr → Type 0
-IsNamedType e = (q : Qualified) × (out-TypeExpr e ≡ type_layer.Simple (simple.Named q))
+abbrev pub IsPlainSimple : Simple → Type 0
+IsPlainSimple (simple.Named q) = Unit {0}
+IsPlainSimple (simple.Enumeration at names) = ⊥
+IsPlainSimple (simple.Subrange of at low high) = IsCallFree low × IsCallFree high
+
+abbrev pub IsPlainType : TypeExpr → Type 0
+IsPlainType e = (x : Simple) × (out-TypeExpr e ≡ type_layer.Simple x) × IsPlainSimple x
 
 abbrev pub IsPlainLayer : Decl-F Decl Block → Type 0
 IsPlainLayer (decl_layer.Constants cs) = (c : ConstantDecl) → Among c cs → IsCallFree c.value
-IsPlainLayer (decl_layer.Types ts) = (d : TypeDecl) → Among d ts → IsNamedType d.of
-IsPlainLayer (decl_layer.Variables vs) = (v : Variables) → Among v vs → IsNamedType v.of
+IsPlainLayer (decl_layer.Types ts) = (d : TypeDecl) → Among d ts → IsPlainType d.of
+IsPlainLayer (decl_layer.Variables vs) = (v : Variables) → Among v vs → IsPlainType v.of
 IsPlainLayer (decl_layer.Procedure h b) = Unit {0}
 
 abbrev pub ArePlainDecls : List Decl → Type 0
