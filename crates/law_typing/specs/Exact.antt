@@ -350,7 +350,8 @@ mutual
     one_arm : {x : Arm} {xs : List Arm} → ArePlainStmts (out-Arm x).body → ArePlainArms xs
         → ArePlainArms (x ∷ xs)
 
--- ---- declarations of which this is known: constants call nothing, and types are names or subranges
+-- ---- declarations of which this is known: constants call nothing, and types are names or
+-- subranges
 
 abbrev pub IsPlainSimple : Simple → Type 0
 IsPlainSimple (simple.Named q) = Unit {0}
