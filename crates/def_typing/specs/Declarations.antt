@@ -124,10 +124,10 @@ module _ (types : Types) (names : Ident → Standing) (exports : ℕ → Ident �
   pub data Says (nested : Bool) : Declaration → List Made → Standing → Type 0 where
     constant : {c : Constant} {k : Kind} → Fixes types names exports c.value (AConstant k)
         → Says nested (OfConstant c) [] (Known (AValue k))
-    a_type : {d : TypeDecl} {ms : List Made} {t : TypeNo} → IsTypeOf types names exports d.of ms t
+    a_type : {d : TypeDecl} {ms : List Made} {t : TypeNo} → IsTypeOf names exports types d.of ms t
         → Says nested (OfType d) ms (Known (AType t))
     variables : {v : Variables} {ms : List Made} {t : TypeNo}
-        → IsTypeOf types names exports v.of ms t
+        → IsTypeOf names exports types v.of ms t
         → Says nested (OfVariables v) ms (Known (AVariable t))
     a_procedure : {h : Heading} {s : Signature} → IsHeading types names exports h s
         → Says nested (OfProcedure h) (procedure_made s ∷ [])
@@ -136,9 +136,9 @@ module _ (types : Types) (names : Ident → Standing) (exports : ℕ → Ident �
   pub data Misdeclares : Declaration → Breach → Type 0 where
     in_constant : {c : Constant} {f : Breach} → BrokenAsConstant types names exports c.value f
         → Misdeclares (OfConstant c) f
-    in_type : {d : TypeDecl} {f : Breach} → BrokenType types names exports d.of f
+    in_type : {d : TypeDecl} {f : Breach} → BrokenType names exports types d.of f
         → Misdeclares (OfType d) f
-    in_variables : {v : Variables} {f : Breach} → BrokenType types names exports v.of f
+    in_variables : {v : Variables} {f : Breach} → BrokenType names exports types v.of f
         → Misdeclares (OfVariables v) f
     in_heading : {h : Heading} {f : Breach} → BrokenHeading types names exports h f
         → Misdeclares (OfProcedure h) f

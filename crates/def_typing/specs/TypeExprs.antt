@@ -1,6 +1,7 @@
--- Types as they are written, and which rules are broken in them. Enumerations, arrays, records and
+-- Types as they are written, and which rules are broken in them. Enumerations, records and
 -- procedure types are not there yet.
-use Rattle.std.specs.Prelude.{◌≡◌, ℕ, List, [], ◌∷◌, ◌++◌, length, Option}
+use Rattle.std.specs.Prelude.{◌≡◌, ℕ, ◌+◌, ◌*◌, ◌-ℤ◌, true, false, cond, nat_lt, int_lt, unsigned_abs, List, [], ◌∷◌, ◌++◌, length, Option, Some, None}
+use Rattle.m2_rule.specs.declared.rule.Rule.TheVariants as rule
 use Rattle.m2_rule.specs.declared.breach.Breach.{Breach}
 use Rattle.m2_tree.specs.declared.pos.Pos.{Pos}
 use Rattle.m2_tree.specs.declared.name.Ident.{Ident}
@@ -16,6 +17,11 @@ use Rattle.typed_tree.specs.declared.shape.Scalar.{Scalar as Range}
 use Rattle.typed_tree.specs.declared.shape.Shape.TheVariants as shape
 use Rattle.typed_tree.specs.declared.shape.Made.{Made}
 use Rattle.typed_tree.specs.declared.known_types.Types.{Types}
+use Rattle.typed_tree.specs.Known.{scalar_at, cells_at}
+use Rattle.def_typing.specs.Shapes.{IsMade}
+use Rattle.def_typing.specs.Amounts.{IsWhole}
+use Rattle.def_typing.specs.Operators.{◌!◌}
+use Rattle.def_typing.specs.Headings.{begins_at}
 use Rattle.def_typing.specs.Things.{Standing}
 use Rattle.def_typing.specs.TypeNames.{NamesType, BrokenTypeName}
 use Rattle.def_typing.specs.Subranges.{IsSubrange, BrokenSubrange}
@@ -46,10 +52,70 @@ module _ (types : Types) (names : Ident → Standing) (exports : ℕ → Ident �
         → BrokenSubrange types names exports low high of f
         → BrokenSimpleType (simple.Subrange of at low high) f
 
-  pub data IsTypeOf (e : TypeExpr) (ms : List Made) (t : TypeNo) : Type 0 where
-    is_simple : {x : Simple} → out-TypeExpr e ≡ layer.Simple x → IsSimpleType x ms t
-        → IsTypeOf e ms t
+-- ---- arrays
 
-  pub data BrokenType (e : TypeExpr) (f : Breach) : Type 0 where
-    in_simple : {x : Simple} → out-TypeExpr e ≡ layer.Simple x → BrokenSimpleType x f
-        → BrokenType e f
+-- a scalar type, but not INTEGER or CARDINAL as a whole
+pub data IsIndex (types : Types) (t : TypeNo) : Type 0 where
+  is_index : {r : Range} → IsMade types t (shape.Scalar r) → (IsWhole t → ⊥) → IsIndex types t
+
+-- how many values there are
+abbrev pub values_in : Option Range → ℕ
+values_in None = 0
+values_in (Some r) = cond (int_lt r.high r.low) 0 (unsigned_abs (r.high -ℤ r.low) + 1)
+
+-- how many cells an array has, by the types of its index and its elements
+abbrev pub size_of : Types → TypeNo → TypeNo → ℕ
+size_of types i e = values_in (scalar_at types i) * cells_at types e
+
+abbrev pub array_made : Types → TypeNo → TypeNo → Made
+array_made types i e = record { shape = shape.Array i e; cells = size_of types i e }
+
+abbrev pub place_of : Simple → Pos
+place_of (simple.Named q) = begins_at q.module q.name
+place_of (simple.Enumeration at names) = at
+place_of (simple.Subrange None at low high) = at
+place_of (simple.Subrange (Some q) at low high) = begins_at q.module q.name
+
+-- ---- all types
+
+module _ (names : Ident → Standing) (exports : ℕ → Ident → Standing) where
+  pub data IsTypeOf : Types → TypeExpr → List Made → TypeNo → Type 0 where
+    is_simple : {types : Types} {e : TypeExpr} {x : Simple} {ms : List Made} {t : TypeNo}
+        → out-TypeExpr e ≡ layer.Simple x → IsSimpleType types names exports x ms t
+        → IsTypeOf types e ms t
+    -- An array has at most 131072 cells.
+    is_array : {types : Types} {e of : TypeExpr} {at : Pos} {index : Simple} {ms ns : List Made}
+        {i t : TypeNo} → out-TypeExpr e ≡ layer.Array at index of
+        → IsSimpleType types names exports index ms i → IsIndex (with_types types ms) i
+        → IsTypeOf (with_types types ms) of ns t
+        → nat_lt 131072 (size_of (with_types (with_types types ms) ns) i t) ≡ false
+        → IsTypeOf types e
+        (ms ++ (ns ++ array_made (with_types (with_types types ms) ns) i t ∷ []))
+        (next_type (with_types (with_types types ms) ns))
+
+  pub data BrokenType : Types → TypeExpr → Breach → Type 0 where
+    in_simple : {types : Types} {e : TypeExpr} {x : Simple} {f : Breach}
+        → out-TypeExpr e ≡ layer.Simple x → BrokenSimpleType types names exports x f
+        → BrokenType types e f
+    in_index : {types : Types} {e of : TypeExpr} {at : Pos} {index : Simple} {f : Breach}
+        → out-TypeExpr e ≡ layer.Array at index of → BrokenSimpleType types names exports index f
+        → BrokenType types e f
+    no_index : {types : Types} {e of : TypeExpr} {at : Pos} {index : Simple} {ms : List Made}
+        {i : TypeNo} → out-TypeExpr e ≡ layer.Array at index of
+        → IsSimpleType types names exports index ms i → (IsIndex (with_types types ms) i → ⊥)
+        → BrokenType types e (place_of index ! rule.NoIndex)
+    in_elements : {types : Types} {e of : TypeExpr} {at : Pos} {index : Simple} {ms : List Made}
+        {i : TypeNo} {f : Breach} → out-TypeExpr e ≡ layer.Array at index of
+        → IsSimpleType types names exports index ms i → BrokenType (with_types types ms) of f
+        → BrokenType types e f
+    -- An index in which rules are broken makes no type.
+    behind_index : {types : Types} {e of : TypeExpr} {at : Pos} {index : Simple} {f : Breach}
+        → out-TypeExpr e ≡ layer.Array at index of
+        → ((ms : List Made) (i : TypeNo) → IsSimpleType types names exports index ms i → ⊥)
+        → BrokenType types of f → BrokenType types e f
+    too_large : {types : Types} {e of : TypeExpr} {at : Pos} {index : Simple} {ms ns : List Made}
+        {i t : TypeNo} → out-TypeExpr e ≡ layer.Array at index of
+        → IsSimpleType types names exports index ms i → IsIndex (with_types types ms) i
+        → IsTypeOf (with_types types ms) of ns t
+        → nat_lt 131072 (size_of (with_types (with_types types ms) ns) i t) ≡ true
+        → BrokenType types e (at ! rule.LargeType)

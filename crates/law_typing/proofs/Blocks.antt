@@ -246,7 +246,7 @@ module _ (g : Gathers) (j : Judges g) (lawful : Lawful g j) (exports : ℕ → I
 
     type_exact : Exactly g j lawful exports outside start taken nested block (said_type read.ms) front (OfType d) q.1
     type_exact names all = more_answers g j lawful (O front) (Repeat front one ds refl refl refl k all) (of_type_says g j lawful nested (T front) names exports s (Read front one ds refl refl refl k all) k.same.types d read.ms
-        (subst (λ (types : Types). Answers g j (Repeats g j names s) (λ a k. k ≡ (read.ms, a)) (λ (k : MadeType). IsTypeOf types names exports d.of k.0 k.1) (BrokenType types names exports d.of) q.1) k.same.types (read.exact names (Read front one ds refl refl refl k all))))
+        (subst (λ (types : Types). Answers g j (Repeats g j names s) (λ a k. k ≡ (read.ms, a)) (λ (k : MadeType). IsTypeOf names exports types d.of k.0 k.1) (BrokenType names exports types d.of) q.1) k.same.types (read.exact names (Read front one ds refl refl refl k all))))
 
     type_ended : {r b : Result (Unit {0}) g.Reported} → Told front r → Tells g j lawful (O front) (λ f. Th front d.name.name × (f ≡ d.name.pos ! rule.DeclaredTwice)) b
         → Stepped front one ds (finished q.0 d.name (type_meaning q.1 (brings_with d.of)), beside g r (beside g b (nothing_of q.1)))
@@ -262,7 +262,7 @@ module _ (g : Gathers) (j : Judges g) (lawful : Lawful g j) (exports : ℕ → I
 
   declare_type : (front : List Resolved) (d : TypeDecl) (ds : List Declaration) → IsPlainType d.of → {s : Scope g.Reported} {r : Result (Unit {0}) g.Reported} → KB front (OfType d ∷ ds) (Th front) s → Told front r → One front (OfType d) ds (with_type g (s, r) d)
   declare_type front d ds i {s = s} k t = let b = begin_one g j lawful exports outside start taken nested block takes (O front) front (OfType d) ds refl (Th front) d.name (d.name, here, refl) k in
-      let read = type_read g j lawful exports (begun g s d.name).0 d.of i in
+      let read = type_read g j lawful exports i (begun g s d.name).0 b.0.same.withs in
       (typed_one (OfType d) read.ms, refl, type_ended front d ds b.0 (type_of g d.of (begun g s d.name).0) read t b.1)
 
   -- ---- variables
@@ -273,7 +273,7 @@ module _ (g : Gathers) (j : Judges g) (lawful : Lawful g j) (exports : ℕ → I
 
     variables_exact : Exactly g j lawful exports outside start taken nested block (said_variables read.ms) front (OfVariables v) q.1
     variables_exact names all = more_answers g j lawful (O front) (Repeat front many ds refl refl refl k all) (variables_say g j lawful nested (T front) names exports s (Read front many ds refl refl refl k all) k.same.types v read.ms
-        (subst (λ (types : Types). Answers g j (Repeats g j names s) (λ a k. k ≡ (read.ms, a)) (λ (k : MadeType). IsTypeOf types names exports v.of k.0 k.1) (BrokenType types names exports v.of) q.1) k.same.types (read.exact names (Read front many ds refl refl refl k all))))
+        (subst (λ (types : Types). Answers g j (Repeats g j names s) (λ a k. k ≡ (read.ms, a)) (λ (k : MadeType). IsTypeOf names exports types v.of k.0 k.1) (BrokenType names exports types v.of) q.1) k.same.types (read.exact names (Read front many ds refl refl refl k all))))
 
     abbrev MidOf : (List ℕ → Type 0) → Scope g.Reported → Type 0
     MidOf done t = Mid front many ds refl refl refl k done t
@@ -329,13 +329,13 @@ module _ (g : Gathers) (j : Judges g) (lawful : Lawful g j) (exports : ℕ → I
   declare_variables : (front : List Resolved) (v : Variables) (ds : List Declaration) → IsPlainType v.of → {s : Scope g.Reported} {r : Result (Unit {0}) g.Reported} → KB front (OfVariables v ∷ ds) (Th front) s → Told front r → One front (OfVariables v) ds (with_variables g (s, r) v)
   declare_variables front v ds i {s = s} {r = r} k t = let b = begun_list front v ds k t in
       let u = (fold (begun_name g) (s, r) v.names).0 in
-      let read = type_read g j lawful exports u v.of i in
+      let read = type_read g j lawful exports i u b.0.same.withs in
       (typed_one (OfVariables v) read.ms, refl, module_ended front v ds b.0 (type_of g v.of u) read b.1)
 
   declare_locals : (front : List Resolved) (v : Variables) (ds : List Declaration) → IsPlainType v.of → {s : Scope g.Reported} {r : Result (Unit {0}) g.Reported} → KB front (OfVariables v ∷ ds) (Th front) s → Told front r → One front (OfVariables v) ds (with_locals g (s, r) v)
   declare_locals front v ds i {s = s} {r = r} k t = let b = begun_list front v ds k t in
       let u = (fold (begun_name g) (s, r) v.names).0 in
-      let read = type_read g j lawful exports u v.of i in
+      let read = type_read g j lawful exports i u b.0.same.withs in
       (typed_one (OfVariables v) read.ms, refl, local_ended front v ds b.0 (type_of g v.of u) read b.1)
 
   -- ---- names of formals

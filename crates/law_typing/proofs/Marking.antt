@@ -27,7 +27,7 @@ use Rattle.def_typing.specs.Things.{Standing}
 use Rattle.def_typing.specs.Parts.{Among, here, later}
 use Rattle.def_typing.specs.Declarations.{Declaration, OfConstant, OfType, OfVariables, OfProcedure, names_of, declared_by, declarations_of, Declares, AnyDeclares, IsFirst, at_first, later_on, There}
 use Rattle.law_typing.specs.Judging.{Judges}
-use Rattle.law_typing.specs.Exact.{TakenAs, is_taken, not_taken, IsPlainType, IsPlainSimple, IsPlainLayer, ArePlainDecls}
+use Rattle.law_typing.specs.Exact.{TakenAs, is_taken, not_taken, IsPlainType, plain_simple, plain_array, IsPlainSimple, IsPlainLayer, ArePlainDecls}
 use Rattle.std.specs.List.{list_any}
 use Rattle.m2_tree.specs.Names.{same_name}
 use Rattle.law_typing.proofs.Combining.{Decided, holds, fails_it, decided_as}
@@ -98,13 +98,14 @@ module _ {T : Type 0} where
   unfolding marked_in marked_field
   marks_at e x h = fold_out-TypeExpr (Marks T) (Marks T) marking.type_layer marking.field_layer e ∙ ap (λ (y : TypeExpr-F TypeExpr Field). marking.type_layer (opened y)) h
 
-  simple_marks : (e : TypeExpr) (x : Simple) → out-TypeExpr e ≡ layer.Simple x → IsPlainSimple x → (s : Scope T) → marked_in e s ≡ s
-  simple_marks e (simple.Named q) h i s = ap (λ (m : Marks T). m s) (marks_at e (layer.Simple (simple.Named q)) h)
-  simple_marks e (simple.Enumeration at names) h i s = absurd i
-  simple_marks e (simple.Subrange of at low high) h i s = ap (λ (m : Marks T). m s) (marks_at e (layer.Simple (simple.Subrange of at low high)) h)
+  simple_marks : (x : Simple) → IsPlainSimple x → (s : Scope T) → marking.marked_simple x s ≡ s
+  simple_marks (simple.Named q) i s = refl
+  simple_marks (simple.Enumeration at names) i s = absurd i
+  simple_marks (simple.Subrange of at low high) i s = refl
 
   named_marks : (e : TypeExpr) → IsPlainType e → (s : Scope T) → marked_in e s ≡ s
-  named_marks e (x, h, i) s = simple_marks e x h i s
+  named_marks e (plain_simple {x = x} h i) s = ap (λ (m : Marks T). m s) (marks_at e (layer.Simple x) h) ∙ simple_marks x i s
+  named_marks e (plain_array {of = of} {at = at} {index = x} h i k) s = ap (λ (m : Marks T). m s) (marks_at e (layer.Array at x of) h) ∙ ap (λ (t : Scope T). marked_in of t) (simple_marks x i s) ∙ named_marks of k s
 
 module _ (g : Gathers) (j : Judges g) (exports : ℕ → Ident → Standing) (outside : Ident → Standing) (start : Scope g.Reported) (taken : List ℕ → Bool) (nested : Bool) (block : List Declaration)
     (takes : (n : List ℕ) → TakenAs g j (taken n) (found n start.own)) where

@@ -237,29 +237,29 @@ module _ (g : Gathers) (j : Judges g) (lawful : Lawful g j) (nested : Bool) (typ
 
   -- what a type is, and which types it makes
   abbrev pub TypeSo : TypeExpr → List Made → Result TypeNo g.Reported → Type 0
-  TypeSo e ms r = Answers g j R (λ a k. k ≡ (ms, a)) (λ (k : MadeType). IsTypeOf types names exports e k.0 k.1) (BrokenType types names exports e) r
+  TypeSo e ms r = Answers g j R (λ a k. k ≡ (ms, a)) (λ (k : MadeType). IsTypeOf names exports types e k.0 k.1) (BrokenType names exports types e) r
 
   abbrev IsMadeType : List Made → TypeNo → MadeType → Type 0
   IsMadeType ms a k = k ≡ (ms, a)
 
-  of_type_parts : {d : TypeDecl} {ms : List Made} {st : Standing} → Says types names exports nested (OfType d) ms st → (k : MadeType) × IsTypeOf types names exports d.of k.0 k.1 × (◌≡◌ {A = Saids} (ms, st) (k.0, Known (AType k.1)))
+  of_type_parts : {d : TypeDecl} {ms : List Made} {st : Standing} → Says types names exports nested (OfType d) ms st → (k : MadeType) × IsTypeOf names exports types d.of k.0 k.1 × (◌≡◌ {A = Saids} (ms, st) (k.0, Known (AType k.1)))
   of_type_parts (rules.a_type {ms = ms} {t = t} m) = ((ms, t), m, refl)
 
-  of_type_fails : {d : TypeDecl} (f : Breach) → MisIt (OfType d) f → BrokenType types names exports d.of f
+  of_type_fails : {d : TypeDecl} (f : Breach) → MisIt (OfType d) f → BrokenType names exports types d.of f
   of_type_fails f (rules.in_type b) = b
 
   pub of_type_says : (d : TypeDecl) (ms : List Made) {r : Result TypeNo g.Reported} → TypeSo d.of ms r → So (said_type ms) (OfType d) r
-  of_type_says d ms h = by_part {Is = IsMadeType ms} (said_type ms) (OfType d) (λ a k i m. rules.a_type (subst (λ (k : MadeType). IsTypeOf types names exports d.of k.0 k.1) i m))
+  of_type_says d ms h = by_part {Is = IsMadeType ms} (said_type ms) (OfType d) (λ a k i m. rules.a_type (subst (λ (k : MadeType). IsTypeOf names exports types d.of k.0 k.1) i m))
       (λ l z. let q = of_type_parts z in (q.0, q.1, λ a i. q.2 ∙ ap (λ (k : MadeType). let y : Saids = (k.0, Known (AType k.1)) in y) i)) (λ f b. rules.in_type b) of_type_fails h
 
-  variable_parts : {v : Variables} {ms : List Made} {st : Standing} → Says types names exports nested (OfVariables v) ms st → (k : MadeType) × IsTypeOf types names exports v.of k.0 k.1 × (◌≡◌ {A = Saids} (ms, st) (k.0, Known (AVariable k.1)))
+  variable_parts : {v : Variables} {ms : List Made} {st : Standing} → Says types names exports nested (OfVariables v) ms st → (k : MadeType) × IsTypeOf names exports types v.of k.0 k.1 × (◌≡◌ {A = Saids} (ms, st) (k.0, Known (AVariable k.1)))
   variable_parts (rules.variables {ms = ms} {t = t} m) = ((ms, t), m, refl)
 
-  variable_fails : {v : Variables} (f : Breach) → MisIt (OfVariables v) f → BrokenType types names exports v.of f
+  variable_fails : {v : Variables} (f : Breach) → MisIt (OfVariables v) f → BrokenType names exports types v.of f
   variable_fails f (rules.in_variables b) = b
 
   pub variables_say : (v : Variables) (ms : List Made) {r : Result TypeNo g.Reported} → TypeSo v.of ms r → So (said_variables ms) (OfVariables v) r
-  variables_say v ms h = by_part {Is = IsMadeType ms} (said_variables ms) (OfVariables v) (λ a k i m. rules.variables (subst (λ (k : MadeType). IsTypeOf types names exports v.of k.0 k.1) i m))
+  variables_say v ms h = by_part {Is = IsMadeType ms} (said_variables ms) (OfVariables v) (λ a k i m. rules.variables (subst (λ (k : MadeType). IsTypeOf names exports types v.of k.0 k.1) i m))
       (λ l z. let q = variable_parts z in (q.0, q.1, λ a i. q.2 ∙ ap (λ (k : MadeType). let y : Saids = (k.0, Known (AVariable k.1)) in y) i)) (λ f b. rules.in_variables b) variable_fails h
 
   -- ---- procedures

@@ -358,8 +358,12 @@ IsPlainSimple (simple.Named q) = Unit {0}
 IsPlainSimple (simple.Enumeration at names) = ⊥
 IsPlainSimple (simple.Subrange of at low high) = IsCallFree low × IsCallFree high
 
-abbrev pub IsPlainType : TypeExpr → Type 0
-IsPlainType e = (x : Simple) × (out-TypeExpr e ≡ type_layer.Simple x) × IsPlainSimple x
+pub data IsPlainType : TypeExpr → Type 0 where
+  plain_simple : {e : TypeExpr} {x : Simple} → out-TypeExpr e ≡ type_layer.Simple x
+      → IsPlainSimple x → IsPlainType e
+  plain_array : {e of : TypeExpr} {at : Pos} {index : Simple}
+      → out-TypeExpr e ≡ type_layer.Array at index of → IsPlainSimple index → IsPlainType of
+      → IsPlainType e
 
 abbrev pub IsPlainLayer : Decl-F Decl Block → Type 0
 IsPlainLayer (decl_layer.Constants cs) = (c : ConstantDecl) → Among c cs → IsCallFree c.value
