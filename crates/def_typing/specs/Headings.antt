@@ -1,4 +1,4 @@
--- Headings of procedures, and which rules are broken in them.
+-- Headings of procedures and procedure types, and which rules are broken in them.
 use Rattle.std.specs.Prelude.{◌≡◌, ℕ, Bool, List, [], ◌∷◌, ◌++◌, map, Option, Some, None}
 use Rattle.m2_rule.specs.declared.breach.Breach.{Breach}
 use Rattle.m2_rule.specs.declared.rule.Rule.TheVariants as rule
@@ -6,6 +6,7 @@ use Rattle.m2_tree.specs.declared.pos.Pos.{Pos}
 use Rattle.m2_tree.specs.declared.name.Ident.{Ident}
 use Rattle.m2_tree.specs.declared.expr.Qualified.{Qualified}
 use Rattle.m2_tree.specs.declared.decl.FormalType.{FormalType}
+use Rattle.m2_tree.specs.declared.decl.Parameter.{Parameter}
 use Rattle.m2_tree.specs.declared.decl.Section.{Section}
 use Rattle.m2_tree.specs.declared.decl.Heading.{Heading}
 use Rattle.typed_tree.specs.declared.types.TypeNo.{TypeNo}
@@ -51,6 +52,14 @@ module _ (types : Types) (names : Ident → Standing) (exports : ℕ → Ident �
     section : {x : Section} {xs : List Section} {t : TypeNo} {fs : List Formal}
         → NamesType names exports x.of.of t → AreFormals xs fs
         → AreFormals (x ∷ xs) (formals_of x t ++ fs)
+
+  -- the same of a procedure type
+  pub data AreParameters : List Parameter → List Formal → Type 0 where
+    no_parameter : AreParameters [] []
+    parameter : {x : Parameter} {xs : List Parameter} {t : TypeNo} {fs : List Formal}
+        → NamesType names exports x.of.of t → AreParameters xs fs
+        → AreParameters (x ∷ xs)
+        (record { is_var = x.is_var; is_open = x.of.is_open; of = t } ∷ fs)
 
   pub data GivesBack : Option Qualified → Option TypeNo → Type 0 where
     nothing : GivesBack None None

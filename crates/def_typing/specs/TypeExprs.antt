@@ -1,5 +1,5 @@
--- Types as they are written, and which rules are broken in them. Enumerations, records and
--- procedure types are not there yet.
+-- Types as they are written, and which rules are broken in them. Enumerations and records
+-- are not there yet.
 use Rattle.std.specs.Prelude.{◌≡◌, ℕ, ◌+◌, ◌*◌, ◌-ℤ◌, true, false, cond, nat_lt, int_lt, unsigned_abs, List, [], ◌∷◌, ◌++◌, length, Option, Some, None}
 use Rattle.m2_rule.specs.declared.rule.Rule.TheVariants as rule
 use Rattle.m2_rule.specs.declared.breach.Breach.{Breach}
@@ -21,7 +21,10 @@ use Rattle.typed_tree.specs.Known.{scalar_at, cells_at}
 use Rattle.def_typing.specs.Shapes.{IsMade}
 use Rattle.def_typing.specs.Amounts.{IsWhole}
 use Rattle.def_typing.specs.Operators.{◌!◌}
-use Rattle.def_typing.specs.Headings.{begins_at}
+use Rattle.m2_tree.specs.declared.decl.Parameter.{Parameter}
+use Rattle.typed_tree.specs.declared.shape.Signature.{Signature}
+use Rattle.def_typing.specs.Parts.{Among}
+use Rattle.def_typing.specs.Headings.{begins_at, procedure_made, AreParameters, GivesBack, BrokenResult}
 use Rattle.def_typing.specs.Things.{Standing}
 use Rattle.def_typing.specs.TypeNames.{NamesType, BrokenTypeName}
 use Rattle.def_typing.specs.Subranges.{IsSubrange, BrokenSubrange}
@@ -92,11 +95,22 @@ module _ (names : Ident → Standing) (exports : ℕ → Ident → Standing) whe
         → IsTypeOf types e
         (ms ++ (ns ++ array_made (with_types (with_types types ms) ns) i t ∷ []))
         (next_type (with_types (with_types types ms) ns))
+    is_procedure : {types : Types} {e : TypeExpr} {at : Pos} {xs : List Parameter}
+        {q : Option Qualified} {s : Signature} → out-TypeExpr e ≡ layer.Procedure at xs q
+        → AreParameters types names exports xs s.formals → GivesBack types names exports q s.result
+        → IsTypeOf types e (procedure_made s ∷ []) (next_type types)
 
   pub data BrokenType : Types → TypeExpr → Breach → Type 0 where
     in_simple : {types : Types} {e : TypeExpr} {x : Simple} {f : Breach}
         → out-TypeExpr e ≡ layer.Simple x → BrokenSimpleType types names exports x f
         → BrokenType types e f
+    in_parameter : {types : Types} {e : TypeExpr} {at : Pos} {xs : List Parameter}
+        {q : Option Qualified} {x : Parameter} {f : Breach}
+        → out-TypeExpr e ≡ layer.Procedure at xs q → Among x xs
+        → BrokenTypeName names exports x.of.of f → BrokenType types e f
+    at_result : {types : Types} {e : TypeExpr} {at : Pos} {xs : List Parameter}
+        {q : Option Qualified} {f : Breach} → out-TypeExpr e ≡ layer.Procedure at xs q
+        → BrokenResult types names exports q f → BrokenType types e f
     in_index : {types : Types} {e of : TypeExpr} {at : Pos} {index : Simple} {f : Breach}
         → out-TypeExpr e ≡ layer.Array at index of → BrokenSimpleType types names exports index f
         → BrokenType types e f

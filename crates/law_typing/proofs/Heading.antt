@@ -7,6 +7,8 @@ use Rattle.m2_rule.specs.declared.rule.Rule.TheVariants as rule
 use Rattle.m2_tree.specs.declared.pos.Pos.{Pos}
 use Rattle.m2_tree.specs.declared.name.Ident.{Ident}
 use Rattle.m2_tree.specs.declared.expr.Qualified.{Qualified}
+use Rattle.std.specs.Prelude.{map}
+use Rattle.m2_tree.specs.declared.decl.Parameter.{Parameter}
 use Rattle.m2_tree.specs.declared.decl.Section.{Section}
 use Rattle.m2_tree.specs.declared.decl.Heading.{Heading}
 use Rattle.typed_tree.specs.declared.types.Home.{Home}
@@ -23,14 +25,14 @@ use Rattle.typed_tree.specs.Known.{made_in, predeclared_scalar, is_result, is_re
 use Rattle.check_scope.specs.declared.scope.Scope.{Scope}
 use Rattle.check_scope.specs.Elaborated.{Gathers}
 use Rattle.check_type_expr.specs.Named.{first_place, first_of}
-use Rattle.check_type_expr.specs.Headings.{formal_of, result_in, result_of, repeated, with_section, heading_of}
+use Rattle.check_type_expr.specs.Headings.{formal_of, result_in, result_of, repeated, with_section, heading_of, with_parameter, procedure_type, procedure_made}
 use Rattle.def_typing.specs.Shapes.{predeclared_shape, shape_at, IsMade}
 use Rattle.def_typing.specs.Operators.{◌!◌}
 use Rattle.def_typing.specs.Things.{Standing}
 use Rattle.def_typing.specs.Parts.{Among, here, later}
 use Rattle.def_typing.specs.TypeNames.{NamesType, BrokenTypeName}
 use Rattle.def_typing.specs.Headings as rules
-use Rattle.def_typing.specs.Headings.{begins_at, IsSimple, IsResult, formals_of, AreFormals, GivesBack, IsHeading, BrokenResult, BrokenHeading}
+use Rattle.def_typing.specs.Headings.{AreParameters, begins_at, IsSimple, IsResult, formals_of, AreFormals, GivesBack, IsHeading, BrokenResult, BrokenHeading}
 use Rattle.law_typing.specs.Judging.{Judges, Answers, means}
 use Rattle.law_typing.specs.Exact.{Knows, Repeats}
 use Rattle.law_typing.proofs.Combining.{Lawful, Decided, holds, fails_it, decided_as, exact, fine, both_answer, then_answer, where_answers}
@@ -231,3 +233,51 @@ module _ (g : Gathers) (j : Judges g) (lawful : Lawful g j) (names : Ident → S
 
       made : (p k : List Formal × Option TypeNo) → (p.0 ≡ k.0) × (p.1 ≡ k.1) → Answers g j R IsSigned (λ x. x ≡ record { formals = k.0; result = k.1 }) (λ f. ⊥) (Ok (rules.procedure_made (record { formals = p.0; result = p.1 })))
       made p k i = means (rules.procedure_made (record { formals = p.0; result = p.1 })) (record { formals = k.0; result = k.1 }) (ap (λ (x : Signature). rules.procedure_made x) (same_signature i.0 i.1)) refl (λ l e. e) (λ f z. z)
+
+  -- ---- procedure types
+
+  -- a parameter as a section of one name
+  abbrev as_section : Parameter → Section
+  as_section p = record { is_var = p.is_var; names = record { name = []; pos = record { line = 1; col = 1 } } ∷ []; of = p.of }
+
+  abbrev as_heading : List Parameter → Option Qualified → Heading
+  as_heading ps q = record { name = record { name = []; pos = record { line = 1; col = 1 } }; formals = map as_section ps; result = q }
+
+  same_formals : (ps : List Parameter) (so : Result (List Formal) g.Reported) → fold (with_parameter g s) so ps ≡ fold (with_section g s) so (map as_section ps)
+  same_formals [] so = refl
+  same_formals (p ∷ ps) so = same_formals ps (with_parameter g s so p)
+
+  formals_in : {ps : List Parameter} {fs : List Formal} → AreParameters s.types names exports ps fs → AreFormals s.types names exports (map as_section ps) fs
+  formals_in rules.no_parameter = rules.no_formal
+  formals_in (rules.parameter n k) = rules.section n (formals_in k)
+
+  formals_out : (ps : List Parameter) {fs : List Formal} → AreFormals s.types names exports (map as_section ps) fs → AreParameters s.types names exports ps fs
+  formals_out [] rules.no_formal = rules.no_parameter
+  formals_out (p ∷ ps) (rules.section n k) = rules.parameter n (formals_out ps k)
+
+  section_of : {p : Parameter} {ps : List Parameter} → Among p ps → Among (as_section p) (map as_section ps)
+  section_of here = here
+  section_of (later m) = later (section_of m)
+
+  parameter_of : (ps : List Parameter) {x : Section} → Among x (map as_section ps) → (p : Parameter) × Among p ps × (x.of.of ≡ p.of.of)
+  parameter_of [] m = elim m [ ]
+  parameter_of (p ∷ ps) here = (p, here, refl)
+  parameter_of (p ∷ ps) (later m) = let q = parameter_of ps m in (q.0, later q.1, q.2)
+
+  abbrev pub TypeIs : List Parameter → Option Qualified → Signature → Type 0
+  TypeIs ps q x = AreParameters s.types names exports ps x.formals × GivesBack s.types names exports q x.result
+
+  abbrev pub TypeFails : List Parameter → Option Qualified → Breach → Type 0
+  TypeFails ps q f = ((p : Parameter) × Among p ps × BN p.of.of f) ⊎ BrokenResult s.types names exports q f
+
+  pub procedure_type_answers : (ps : List Parameter) (q : Option Qualified) → Answers g j R IsSigned (TypeIs ps q) (TypeFails ps q) (procedure_type g s ps q)
+  procedure_type_answers ps q = subst (λ (fs : Result (List Formal) g.Reported). Answers g j R IsSigned (TypeIs ps q) (TypeFails ps q) (procedure_made g fs (result_of g s q))) (sym (same_formals ps (Ok [])))
+      (exact g j lawful R (λ x i. (formals_out ps i.formals, i.result)) (λ x m. record { formals = formals_in m.0; result = m.1 }) (λ f b. to b) (λ f z. from z) (heading_answers (as_heading ps q)))
+    where
+      to : {f : Breach} → BrokenHeading s.types names exports (as_heading ps q) f → TypeFails ps q f
+      to {f = f} (rules.in_formal m b) = let z = parameter_of ps m in inl (z.0, z.1, subst (λ (q : Qualified). BN q f) z.2 b)
+      to (rules.at_result b) = inr b
+
+      from : {f : Breach} → TypeFails ps q f → BrokenHeading s.types names exports (as_heading ps q) f
+      from (inl (p, m, b)) = rules.in_formal (section_of m) b
+      from (inr b) = rules.at_result b

@@ -27,7 +27,7 @@ use Rattle.def_typing.specs.Things.{Standing}
 use Rattle.def_typing.specs.Parts.{Among, here, later}
 use Rattle.def_typing.specs.Declarations.{Declaration, OfConstant, OfType, OfVariables, OfProcedure, names_of, declared_by, declarations_of, Declares, AnyDeclares, IsFirst, at_first, later_on, There}
 use Rattle.law_typing.specs.Judging.{Judges}
-use Rattle.law_typing.specs.Exact.{TakenAs, is_taken, not_taken, IsPlainType, plain_simple, plain_array, IsPlainSimple, IsPlainLayer, ArePlainDecls}
+use Rattle.law_typing.specs.Exact.{TakenAs, is_taken, not_taken, IsPlainType, plain_simple, plain_array, plain_procedure, IsPlainSimple, IsPlainLayer, ArePlainDecls}
 use Rattle.std.specs.List.{list_any}
 use Rattle.m2_tree.specs.Names.{same_name}
 use Rattle.law_typing.proofs.Combining.{Decided, holds, fails_it, decided_as}
@@ -105,6 +105,7 @@ module _ {T : Type 0} where
 
   named_marks : (e : TypeExpr) → IsPlainType e → (s : Scope T) → marked_in e s ≡ s
   named_marks e (plain_simple {x = x} h i) s = ap (λ (m : Marks T). m s) (marks_at e (layer.Simple x) h) ∙ simple_marks x i s
+  named_marks e (plain_procedure {at = at} {xs = xs} {q = q} h) s = ap (λ (m : Marks T). m s) (marks_at e (layer.Procedure at xs q) h)
   named_marks e (plain_array {of = of} {at = at} {index = x} h i k) s = ap (λ (m : Marks T). m s) (marks_at e (layer.Array at x of) h) ∙ ap (λ (t : Scope T). marked_in of t) (simple_marks x i s) ∙ named_marks of k s
 
 module _ (g : Gathers) (j : Judges g) (exports : ℕ → Ident → Standing) (outside : Ident → Standing) (start : Scope g.Reported) (taken : List ℕ → Bool) (nested : Bool) (block : List Declaration)

@@ -40,9 +40,14 @@ use Rattle.def_typing.specs.Subranges.{IsSubrange, BrokenSubrange}
 use Rattle.def_typing.specs.TypeExprs as rules
 use Rattle.def_typing.specs.TypeExprs.{with_types, next_type, range_made, IsIndex, values_in, size_of, array_made, place_of, IsSimpleType, BrokenSimpleType, IsTypeOf, is_simple, BrokenType, in_simple}
 use Rattle.law_typing.specs.Judging.{Judges, Answers, means, refuses}
-use Rattle.law_typing.specs.Exact.{Sees, Knows, Repeats, of_heading, of_declaration, IsPlainSimple, IsPlainType, plain_simple, plain_array}
+use Rattle.law_typing.specs.Exact.{Sees, Knows, Repeats, of_heading, of_declaration, IsPlainSimple, IsPlainType, plain_simple, plain_array, plain_procedure}
 use Rattle.law_typing.proofs.Combining.{Lawful, Decided, holds, fails_it, decided_as, declined, exact, both_answer, then_answer, where_answers}
-use Rattle.law_typing.proofs.Heading.{nil_right, append_assoc, place_same}
+use Rattle.m2_tree.specs.declared.decl.Parameter.{Parameter}
+use Rattle.typed_tree.specs.declared.shape.Signature.{Signature}
+use Rattle.check_type_expr.specs.Headings.{procedure_type}
+use Rattle.def_typing.specs.Parts.{Among}
+use Rattle.def_typing.specs.Headings.{procedure_made, AreParameters, GivesBack, BrokenResult}
+use Rattle.law_typing.proofs.Heading.{procedure_type_answers, nil_right, append_assoc, place_same}
 use Rattle.law_typing.proofs.Shaping.{scalar_of, scalar_is}
 use Rattle.law_typing.proofs.Deciding.{whole_decided}
 use Rattle.law_typing.proofs.TypeNaming.{type_name_answers}
@@ -158,8 +163,11 @@ module _ (g : Gathers) (j : Judges g) (lawful : Lawful g j) (exports : ℕ → I
   simple_out : {e : TypeExpr} {x : Simple} (names : Ident → Standing) → out-TypeExpr e ≡ layer.Simple x → {ms : List Made} {t : TypeNo} → IsTypeOf names exports s.types e ms t → IsSimpleType s.types names exports x ms t
   simple_out {e = e} names h {ms = ms} {t = t} (is_simple q m) = subst (λ (y : Simple). IsSimpleType s.types names exports y ms t) (same_simple e h q) m
   simple_out names h (rules.is_array q m i n l) = let z = sym h ∙ q in absurd cc
+  simple_out names h (rules.is_procedure q m n) = let z = sym h ∙ q in absurd cc
 
   fails_out : {e : TypeExpr} {x : Simple} (names : Ident → Standing) → out-TypeExpr e ≡ layer.Simple x → (f : Breach) → TypeFails e names f → SimpleFails x names f
+  fails_out {e = e} names h f (rules.in_parameter q m b) = let z = sym h ∙ q in absurd cc
+  fails_out {e = e} names h f (rules.at_result q b) = let z = sym h ∙ q in absurd cc
   fails_out {e = e} names h f (rules.in_index q b) = let z = sym h ∙ q in absurd cc
   fails_out {e = e} names h f (rules.no_index q m n) = let z = sym h ∙ q in absurd cc
   fails_out {e = e} names h f (rules.in_elements q m b) = let z = sym h ∙ q in absurd cc
@@ -394,6 +402,7 @@ module _ (g : Gathers) (j : Judges g) (lawful : Lawful g j) (exports : ℕ → I
 
         whole_out : {n : List Made} {t : TypeNo} → Whole (n, t) → (k : Both) × (Index k.0 × Elements k.1) × (Small k × (◌≡◌ {A = MadeType} (n, t) (result k)))
         whole_out (is_simple q m) = let z = sym h ∙ q in absurd cc
+        whole_out (rules.is_procedure q m n) = let z = sym h ∙ q in absurd cc
         whole_out (rules.is_array {ms = ks} {ns = ls} {i = i} {t = u} q m w n l) = let z = indexed q m in (((ks, i), (ls, u)), ((z, w), elemented q z n), (l, refl))
 
         fails_in : (f : Breach) → PartsFail f → WholeFails f
@@ -414,6 +423,8 @@ module _ (g : Gathers) (j : Judges g) (lawful : Lawful g j) (exports : ℕ → I
 
         whole_fails : {f : Breach} → WholeFails f → PartsFail f
         whole_fails (in_simple q b) = let z = sym h ∙ q in absurd cc
+        whole_fails (rules.in_parameter q m b) = let z = sym h ∙ q in absurd cc
+        whole_fails (rules.at_result q b) = let z = sym h ∙ q in absurd cc
         whole_fails {f = f} (rules.in_index q b) = inl (inl (inl (subst (λ (y : Simple). BrokenSimpleType s.types names exports y f) (same_index q) b)))
         whole_fails (rules.no_index {ms = ks} {i = i} q m n) = inl (inl (inr ((ks, i), indexed q m, (n, ap (λ (y : Simple). place_of y ! rule.NoIndex) (same_index q)))))
         whole_fails {f = f} (rules.in_elements {ms = ks} {i = i} q m b) = inl (inr (subst (λ (ms : List Made). BrokenType names exports (with_types s.types ms) of f) (one (ks, i) (indexed q m)) (subst (λ (u : TypeExpr). BrokenType names exports (with_types s.types ks) u f) (same_of q) b)))
@@ -518,6 +529,62 @@ module _ (g : Gathers) (j : Judges g) (lawful : Lawful g j) (exports : ℕ → I
       array_read : Read s e (type_of g e s)
       array_read = subst (λ (m : Makes g). Read s e (m s)) (sym (type_at g j lawful exports s e (layer.Array at x of) h)) (subst (λ (t : Scope g.Reported). Read s e (built t)) (sym index.read.is) built_read)
 
+  -- ---- procedure types
+
+  module _ (s : Scope g.Reported) (e : TypeExpr) (at : Pos) (ps : List Parameter) (q : Option Qualified) (h : out-TypeExpr e ≡ layer.Procedure at ps q) where
+    module _ (names : Ident → Standing) (k : Knows g j names exports s) where
+      abbrev Rep : Breach → Type 0
+      Rep = Repeats g j names s
+
+      abbrev Sig : Signature → Type 0
+      Sig x = AreParameters s.types names exports ps x.formals × GivesBack s.types names exports q x.result
+
+      abbrev SigFails : Breach → Type 0
+      SigFails f = ((p : Parameter) × Among p ps × BrokenTypeName names exports p.of.of f) ⊎ BrokenResult s.types names exports q f
+
+      same_parameters : {p : Pos} {xs : List Parameter} {r : Option Qualified} → out-TypeExpr e ≡ layer.Procedure p xs r → xs ≡ ps
+      same_parameters w = let z = sym w ∙ h in cc
+
+      same_result : {p : Pos} {xs : List Parameter} {r : Option Qualified} → out-TypeExpr e ≡ layer.Procedure p xs r → r ≡ q
+      same_result w = let z = sym w ∙ h in cc
+
+      signed : {n : List Made} {t : TypeNo} → IsTypeOf names exports s.types e n t → (x : Signature) × Sig x × ((n ≡ procedure_made x ∷ []) × (t ≡ next_type s.types))
+      signed (is_simple w m) = let z = sym h ∙ w in absurd cc
+      signed (rules.is_array w m i n l) = let z = sym h ∙ w in absurd cc
+      signed (rules.is_procedure {s = x} w m n) = (x, (subst (λ (xs : List Parameter). AreParameters s.types names exports xs x.formals) (same_parameters w) m, subst (λ (r : Option Qualified). GivesBack s.types names exports r x.result) (same_result w) n), (refl, refl))
+
+      sig_in : (f : Breach) → SigFails f → BrokenType names exports s.types e f
+      sig_in f (inl (p, m, b)) = rules.in_parameter h m b
+      sig_in f (inr b) = rules.at_result h b
+
+      sig_out : {f : Breach} → BrokenType names exports s.types e f → SigFails f
+      sig_out (in_simple w b) = let z = sym h ∙ w in absurd cc
+      sig_out (rules.in_parameter {x = p} w m b) = inl (p, subst (λ (xs : List Parameter). Among p xs) (same_parameters w) m, b)
+      sig_out {f = f} (rules.at_result w b) = inr (subst (λ (r : Option Qualified). BrokenResult s.types names exports r f) (same_result w) b)
+      sig_out (rules.in_index w b) = let z = sym h ∙ w in absurd cc
+      sig_out (rules.no_index w m n) = let z = sym h ∙ w in absurd cc
+      sig_out (rules.in_elements w m b) = let z = sym h ∙ w in absurd cc
+      sig_out (rules.behind_index w n b) = let z = sym h ∙ w in absurd cc
+      sig_out (rules.too_large w m i n l) = let z = sym h ∙ w in absurd cc
+
+      signed_there : (m : Made) → Answers g j Rep (λ (m : Made) (x : Signature). m ≡ procedure_made x) Sig SigFails (Ok m) → Answers g j Rep (λ a l. l ≡ (m ∷ [], a)) (TypeIs g j lawful exports s e names) (TypeFails g j lawful exports s e names) (Ok (next_type s.types))
+      signed_there m (means _ x i (w, v) u c) = means (next_type s.types) (m ∷ [], next_type s.types) refl
+          (subst (λ (n : Made). IsTypeOf names exports s.types e (n ∷ []) (next_type s.types)) (sym i) (rules.is_procedure h w v)) (λ l z. same l z) (λ f b. c f (sig_out b))
+        where
+          same : (l : MadeType) → TypeIs g j lawful exports s e names l → l ≡ (m ∷ [], next_type s.types)
+          same l z = let y = signed z in ap (λ (n : List Made). let o : MadeType = (n, l.1) in o) (y.2.0 ∙ ap (λ (x : Signature). procedure_made x ∷ []) (u y.0 y.1) ∙ ap (λ (n : Made). n ∷ []) (sym i)) ∙ ap (λ (t : TypeNo). let o : MadeType = (m ∷ [], t) in o) y.2.1
+
+      signed_nowhere : (r : g.Reported) → Answers g j Rep (λ (m : Made) (x : Signature). m ≡ procedure_made x) Sig SigFails (Err r) → Answers g j Rep (λ a l. l ≡ ([], a)) (TypeIs g j lawful exports s e names) (TypeFails g j lawful exports s e names) (Err r)
+      signed_nowhere r (refuses _ c n) = refuses r (record { only = λ f m. elim (c.only f m) [ inl b ↦ inl (sig_in f b) | inr o ↦ inr o ]; each = λ f b. c.each f (sig_out b) }) (λ l z. let y = signed z in n y.0 y.1)
+
+    signed_read : (r : Result Made g.Reported) → ((names : Ident → Standing) (k : Knows g j names exports s) → Answers g j (Rep names k) (λ (m : Made) (x : Signature). m ≡ procedure_made x) (Sig names k) (SigFails names k) r) → Read s e (with_made s r)
+    signed_read (Ok m) a = record { ms = m ∷ []; is = refl; exact = λ names k. signed_there names k m (a names k) }
+    signed_read (Err r) a = record { ms = []; is = no_made s; exact = λ names k. signed_nowhere names k r (a names k) }
+
+    procedure_read : Read s e (type_of g e s)
+    procedure_read = subst (λ (m : Makes g). Read s e (m s)) (sym (type_at g j lawful exports s e (layer.Procedure at ps q) h)) (signed_read (procedure_type g s ps q) (λ names k. procedure_type_answers g j lawful names exports s k ps q))
+
   pub type_read : {e : TypeExpr} → IsPlainType e → (s : Scope g.Reported) → s.withs ≡ [] → Read s e (type_of g e s)
   type_read {e = e} (plain_simple {x = x} h i) s n = simple_type_read g j lawful exports s e x h i
   type_read {e = e} (plain_array {of = of} {at = at} {index = x} h i k) s n = array_read s n e at x of h i (type_read k (with_made_types s (simple_read g j lawful exports s x i).read.ms) n)
+  type_read {e = e} (plain_procedure {at = at} {xs = xs} {q = q} h) s n = procedure_read s e at xs q h

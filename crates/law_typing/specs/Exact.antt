@@ -17,6 +17,7 @@ use Rattle.m2_tree.specs.declared.stmt.Stmt.{Stmt, out-Stmt}
 use Rattle.m2_tree.specs.declared.decl.Constant.{Constant as ConstantDecl}
 use Rattle.m2_tree.specs.declared.decl.TypeDecl.{TypeDecl}
 use Rattle.m2_tree.specs.declared.decl.Variables.{Variables}
+use Rattle.m2_tree.specs.declared.decl.Parameter.{Parameter}
 use Rattle.m2_tree.specs.declared.decl.Simple.{Simple}
 use Rattle.m2_tree.specs.declared.decl.Simple.TheVariants as simple
 use Rattle.m2_tree.specs.declared.decl.TypeExpr.{TypeExpr, out-TypeExpr}
@@ -364,6 +365,8 @@ pub data IsPlainType : TypeExpr → Type 0 where
   plain_array : {e of : TypeExpr} {at : Pos} {index : Simple}
       → out-TypeExpr e ≡ type_layer.Array at index of → IsPlainSimple index → IsPlainType of
       → IsPlainType e
+  plain_procedure : {e : TypeExpr} {at : Pos} {xs : List Parameter} {q : Option Qualified}
+      → out-TypeExpr e ≡ type_layer.Procedure at xs q → IsPlainType e
 
 abbrev pub IsPlainLayer : Decl-F Decl Block → Type 0
 IsPlainLayer (decl_layer.Constants cs) = (c : ConstantDecl) → Among c cs → IsCallFree c.value

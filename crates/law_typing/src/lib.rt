@@ -116,8 +116,8 @@ pub fn subrange_laws()
 {}
 
 /// What is reported of the declarations of a block are exactly the rules that are broken in them, and what is known of names
-/// behind them is what the rules say: constants that call nothing, types that are names, subranges or arrays, variables
-/// of these, and headings of procedures that no definition awaits.
+/// behind them is what the rules say: constants that call nothing, types but enumerations and records, variables of
+/// these, and headings of procedures that no definition awaits.
 pub fn block_laws()
     ensures every_rule { BlocksAreExact every all_of_them }
     ensures least_rule { BlocksAreExact least the_least }
