@@ -211,9 +211,6 @@ module _ (g : Gathers) (j : Judges g) (lawful : Lawful g j) (exports : ℕ → I
         own = entered_all (λ n o. MidAs Done n o) x.name (known.Declared Here m) s.own (is_done (known.Declared Here m) t c (inl refl) say) (λ n z. mid_more (λ e. absurd (z e)) (k.own n));
       }
 
-      begun_as : Option (Known g.Reported) → Bool
-      begun_as o = is_begun o
-
       ends : {s : Scope g.Reported} {k : Option (Known g.Reported)} → KnowsMid done s → found x.name s.own ≡ k → MidAs done x.name k → Ends (finished s x m)
       ends k e (is_done w t c z q) = unchanged k (λ u v. z) _ (ap (λ (o : Option (Known g.Reported)). is_begun o) e ∙ q.not_begun)
       ends k e (is_other o (outer c q)) = unchanged k (λ t u. absurd (c t a)) _ (ap (λ (o : Option (Known g.Reported)). is_begun o) e ∙ (outer_taken front Th includes x.name a c q).1.1)

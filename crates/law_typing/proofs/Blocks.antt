@@ -237,10 +237,10 @@ module _ (g : Gathers) (j : Judges g) (lawful : Lawful g j) (exports : ℕ → I
   abbrev typed_one : Declaration → List Made → Resolved
   typed_one d ms = record { what = d; makes = ms }
 
-  abbrev Read' : Scope g.Reported → TypeExpr → State TypeNo g.Reported → Type 0
-  Read' s e q = TypeRead g j lawful exports s (TypeIs g j lawful exports s e) (TypeFails g j lawful exports s e) q
+  abbrev ReadType : Scope g.Reported → TypeExpr → State TypeNo g.Reported → Type 0
+  ReadType s e q = TypeRead g j lawful exports s (TypeIs g j lawful exports s e) (TypeFails g j lawful exports s e) q
 
-  module _ (front : List Resolved) (d : TypeDecl) (ds : List Declaration) {s : Scope g.Reported} (k : KB front (OfType d ∷ ds) (Adding (d.name ∷ []) (Th front)) s) (q : State TypeNo g.Reported) (read : Read' s d.of q) where
+  module _ (front : List Resolved) (d : TypeDecl) (ds : List Declaration) {s : Scope g.Reported} (k : KB front (OfType d ∷ ds) (Adding (d.name ∷ []) (Th front)) s) (q : State TypeNo g.Reported) (read : ReadType s d.of q) where
     abbrev one : Resolved
     one = typed_one (OfType d) read.ms
 
@@ -267,7 +267,7 @@ module _ (g : Gathers) (j : Judges g) (lawful : Lawful g j) (exports : ℕ → I
 
   -- ---- variables
 
-  module _ (front : List Resolved) (v : Variables) (ds : List Declaration) {s : Scope g.Reported} (k : KB front (OfVariables v ∷ ds) (Adding v.names (Th front)) s) (q : State TypeNo g.Reported) (read : Read' s v.of q) where
+  module _ (front : List Resolved) (v : Variables) (ds : List Declaration) {s : Scope g.Reported} (k : KB front (OfVariables v ∷ ds) (Adding v.names (Th front)) s) (q : State TypeNo g.Reported) (read : ReadType s v.of q) where
     abbrev many : Resolved
     many = typed_one (OfVariables v) read.ms
 
@@ -352,9 +352,6 @@ module _ (g : Gathers) (j : Judges g) (lawful : Lawful g j) (exports : ℕ → I
     field_more : {There : List ℕ → Type 0} {fs : Fields} (x : Ident) (cells : ℕ) → Lists There fs → Lists (λ n. (x.name ≡ n) ⊎ There n) (record { names = entered x.name integer fs.names; cells = cells })
     field_more {There = There} {fs = fs} x cells l = record { into = λ n. (all n).0; from = λ n. (all n).1 }
       where
-        abbreviated : List ℕ → Option TypeNo → Type 0
-        abbreviated n o = ((x.name ≡ n) ⊎ There n → is_some o ≡ true) × (is_some o ≡ true → (x.name ≡ n) ⊎ There n)
-
         all : (n : List ℕ) → ((x.name ≡ n) ⊎ There n → is_some (found n (entered x.name integer fs.names)) ≡ true) × (is_some (found n (entered x.name integer fs.names)) ≡ true → (x.name ≡ n) ⊎ There n)
         all = entered_all (λ n o. ((x.name ≡ n) ⊎ There n → is_some o ≡ true) × (is_some o ≡ true → (x.name ≡ n) ⊎ There n)) x.name integer fs.names ((λ z. refl), (λ e. inl refl)) (λ n c. ((λ z. elim z [ inl e ↦ absurd (c e) | inr t ↦ l.into n t ]), (λ e. inr (l.from n e))))
 
@@ -364,10 +361,10 @@ module _ (g : Gathers) (j : Judges g) (lawful : Lawful g j) (exports : ℕ → I
     abbrev Tell : (Breach → Type 0) → Result (Unit {0}) g.Reported → Type 0
     Tell B r = Tells g j lawful Q B r
 
-    abbrev Named' : (List ℕ → Type 0) → Ident → Fields × Result (Unit {0}) g.Reported → Type 0
-    Named' There x q = Lists (λ n. (x.name ≡ n) ⊎ There n) q.0 × Tell (λ f. There x.name × (f ≡ x.pos ! rule.DeclaredTwice)) q.1
+    abbrev NamedField : (List ℕ → Type 0) → Ident → Fields × Result (Unit {0}) g.Reported → Type 0
+    NamedField There x q = Lists (λ n. (x.name ≡ n) ⊎ There n) q.0 × Tell (λ f. There x.name × (f ≡ x.pos ! rule.DeclaredTwice)) q.1
 
-    field_by : {There : List ℕ → Type 0} (fs : Fields) (x : Ident) (b : Bool) → is_some (found x.name fs.names) ≡ b → Lists There fs → Named' There x (cond b (fs, reported g x.pos rule.DeclaredTwice) (record { names = entered x.name integer fs.names; cells = plus fs.cells 0 }, Ok tt))
+    field_by : {There : List ℕ → Type 0} (fs : Fields) (x : Ident) (b : Bool) → is_some (found x.name fs.names) ≡ b → Lists There fs → NamedField There x (cond b (fs, reported g x.pos rule.DeclaredTwice) (record { names = entered x.name integer fs.names; cells = plus fs.cells 0 }, Ok tt))
     field_by fs x true e l = (field_same x e l, tells (g.one (x.pos ! rule.DeclaredTwice)) (accounts_as g j lawful Q (λ f q. (l.from x.name e, q)) (λ f z. z.1) (accounts_one g j lawful Q (x.pos ! rule.DeclaredTwice))))
     field_by fs x false e l = (field_more x (plus fs.cells 0) l, silent (λ f z. clash (l.into x.name z.0) e))
 
@@ -407,8 +404,8 @@ module _ (g : Gathers) (j : Judges g) (lawful : Lawful g j) (exports : ℕ → I
     abbrev said : Made → Saids
     said = said_procedure nested (T front)
 
-    abbrev Exact' : Result Made g.Reported → Type 0
-    Exact' r = Exactly g j lawful exports outside start taken nested block said front (OfProcedure h) r
+    abbrev ExactHeading : Result Made g.Reported → Type 0
+    ExactHeading r = Exactly g j lawful exports outside start taken nested block said front (OfProcedure h) r
 
     abbrev names_now : Ident → Standing
     names_now = standings g j exports outside start taken nested block knows no_withs k
@@ -416,11 +413,11 @@ module _ (g : Gathers) (j : Judges g) (lawful : Lawful g j) (exports : ℕ → I
     stand_now : Stand front names_now
     stand_now = all_stand g j exports outside start taken nested block knows no_withs k
 
-    procedure_exact : Exact' (heading_of g s h)
+    procedure_exact : ExactHeading (heading_of g s h)
     procedure_exact names all = more_answers g j lawful (O front) (repeating g j exports outside start taken nested block knows no_withs k all) (procedure_says g j lawful nested (T front) names exports s (knowing g j exports outside start taken nested block knows no_withs k all) k.same.types h)
 
-    abbrev with_made' : List Made → Resolved
-    with_made' ms = record { what = OfProcedure h; makes = ms }
+    abbrev heading_with : List Made → Resolved
+    heading_with ms = record { what = OfProcedure h; makes = ms }
 
     theres_apart : {n : List ℕ} → taken n ≡ false → (IsThere front n → ⊥) → Th front n → ⊥
     theres_apart t c (inl u) = clash u t
@@ -430,20 +427,20 @@ module _ (g : Gathers) (j : Judges g) (lawful : Lawful g j) (exports : ℕ → I
     declared_name m = elim (name_only m) [ inl e ↦ e | inr z ↦ absurd z ]
 
     -- a name that is taken
-    taken_ends : Th front h.name.name → KB (with_made' [] ∷ front) ds (Th (with_made' [] ∷ front)) s
-    taken_ends th = finish_end g j lawful exports outside start taken nested block takes front (with_made' []) ds (Th front) k.within k.in_block k.left (λ n m. subst (Th front) (declared_name m) th) (λ n t. inr t)
+    taken_ends : Th front h.name.name → KB (heading_with [] ∷ front) ds (Th (heading_with [] ∷ front)) s
+    taken_ends th = finish_end g j lawful exports outside start taken nested block takes front (heading_with []) ds (Th front) k.within k.in_block k.left (λ n m. subst (Th front) (declared_name m) th) (λ n t. inr t)
         (record {
           same = record { withs = k.same.withs; outer = k.same.outer; types = k.same.types ∙ sym (no_types (T front)); tables = k.same.tables; level = k.same.level };
           own = λ n. is_other (λ t c m. theres_apart t c (subst (Th front) (declared_name m) th)) (k.own n);
         })
 
     -- a new name
-    new_ends : (ms : List Made) (m : Known g.Reported) → Saying g j exports outside start taken nested block front (with_made' ms) m → (Th front h.name.name → ⊥) → {t : Scope g.Reported} → Same g j exports outside start taken nested block (T (with_made' ms ∷ front)) t → t.own ≡ s.own
-        → KB (with_made' ms ∷ front) ds (Th (with_made' ms ∷ front)) (with_known h.name.name m t)
-    new_ends ms m say new {t = t} same e = finish_end g j lawful exports outside start taken nested block takes front (with_made' ms) ds (λ n. (h.name.name ≡ n) ⊎ Th front n) k.within k.in_block k.left (λ n z. inl (declared_name z)) (λ n z. elim z [ inl q ↦ inl (h.name, here, q) | inr w ↦ inr w ])
+    new_ends : (ms : List Made) (m : Known g.Reported) → Saying g j exports outside start taken nested block front (heading_with ms) m → (Th front h.name.name → ⊥) → {t : Scope g.Reported} → Same g j exports outside start taken nested block (T (heading_with ms ∷ front)) t → t.own ≡ s.own
+        → KB (heading_with ms ∷ front) ds (Th (heading_with ms ∷ front)) (with_known h.name.name m t)
+    new_ends ms m say new {t = t} same e = finish_end g j lawful exports outside start taken nested block takes front (heading_with ms) ds (λ n. (h.name.name ≡ n) ⊎ Th front n) k.within k.in_block k.left (λ n z. inl (declared_name z)) (λ n z. elim z [ inl q ↦ inl (h.name, here, q) | inr w ↦ inr w ])
         (record {
           same = record { withs = same.withs; outer = same.outer; types = same.types; tables = same.tables; level = same.level };
-          own = entered_all (λ n o. MidAs g j lawful exports outside start taken nested block takes front (with_made' ms) ds (λ n. (h.name.name ≡ n) ⊎ Th front n) (Declares (OfProcedure h)) n o) h.name.name m t.own
+          own = entered_all (λ n o. MidAs g j lawful exports outside start taken nested block takes front (heading_with ms) ds (λ n. (h.name.name ≡ n) ⊎ Th front n) (Declares (OfProcedure h)) n o) h.name.name m t.own
               (is_done m (no_taken (taken h.name.name) refl) (λ a. new (inr a)) (h.name, here, refl) say)
               (λ n c. is_other (λ u w z. c (declared_name z)) (subst (λ (own : List (List ℕ × Known g.Reported)). KnownAs g j exports outside start taken nested block front (λ n. (h.name.name ≡ n) ⊎ Th front n) n (found n own)) (sym e) (widen g j lawful exports outside start taken nested block takes h.name (λ q. absurd (c q)) (k.own n))));
         })
@@ -453,11 +450,8 @@ module _ (g : Gathers) (j : Judges g) (lawful : Lawful g j) (exports : ℕ → I
         no_taken false q = q
 
     -- what its heading means
-    abbrev meant_as : Scope g.Reported → (number : ℕ) → Result TypeNo g.Reported → State (Unit {0}) g.Reported → Type 0
-    meant_as t n r st = KB (with_made' [] ∷ front) ds (Th (with_made' [] ∷ front)) st.0
-
-    says_heading : (ms : List Made) (made : Made → Meaning) → ((m : Made) → (said m).1 ≡ standing (made m)) → ((m : Made) → is_own_variable start (made m) ≡ false) → {r : Result Made g.Reported} → Exact' r → ((m : Made) → r ≡ Ok m → ms ≡ m ∷ []) → Saying g j exports outside start taken nested block front (with_made' ms) (known.Headed (r ▷ λ m. Ok (made m)))
-    says_heading ms made i w x e = saying_heading g j lawful exports outside start taken nested block said front (with_made' ms) made i x e refl (λ m. w m) stand_now
+    says_heading : (ms : List Made) (made : Made → Meaning) → ((m : Made) → (said m).1 ≡ standing (made m)) → ((m : Made) → is_own_variable start (made m) ≡ false) → {r : Result Made g.Reported} → ExactHeading r → ((m : Made) → r ≡ Ok m → ms ≡ m ∷ []) → Saying g j exports outside start taken nested block front (heading_with ms) (known.Headed (r ▷ λ m. Ok (made m)))
+    says_heading ms made i w x e = saying_heading g j lawful exports outside start taken nested block said front (heading_with ms) made i x e refl (λ m. w m) stand_now
 
     types_next : next_type (T front) ≡ next_type s.types
     types_next = ap (λ (t : Types). next_type t) (sym k.same.types)
@@ -474,26 +468,26 @@ module _ (g : Gathers) (j : Judges g) (lawful : Lawful g j) (exports : ℕ → I
     nested_is : nested ≡ true → (n : ℕ) (m : Made) → (said m).1 ≡ standing (nested_made n m)
     nested_is e n m = ap (λ (b : Bool). things.Known (procedure b (next_type (T front)))) e ∙ ap (λ (t : TypeNo). things.Known (things.ANested t)) types_next
 
-    same_made : (m : Made) → Same g j exports outside start taken nested block (T (with_made' (m ∷ []) ∷ front)) (with_shape s m)
+    same_made : (m : Made) → Same g j exports outside start taken nested block (T (heading_with (m ∷ []) ∷ front)) (with_shape s m)
     same_made m = record { withs = k.same.withs; outer = k.same.outer; types = ap (λ (t : Types). with_types t (m ∷ [])) k.same.types; tables = k.same.tables; level = k.same.level }
 
-    same_none : Same g j exports outside start taken nested block (T (with_made' [] ∷ front)) s
+    same_none : Same g j exports outside start taken nested block (T (heading_with [] ∷ front)) s
     same_none = record { withs = k.same.withs; outer = k.same.outer; types = k.same.types ∙ sym (no_types (T front)); tables = k.same.tables; level = k.same.level }
 
     abbrev Ended : List Made → Scope g.Reported → Type 0
-    Ended ms t = KB (with_made' ms ∷ front) ds (Th (with_made' ms ∷ front)) t
+    Ended ms t = KB (heading_with ms ∷ front) ds (Th (heading_with ms ∷ front)) t
 
     one_only : {m n : Made} → ◌≡◌ {A = Result Made g.Reported} (Ok m) (Ok n) → m ∷ [] ≡ n ∷ []
     one_only e = cc
 
-    made_ends : (n : ℕ) (m : Made) → Exact' (Ok m) → (Th front h.name.name → ⊥) → (b : Bool) → (s.level == 0) ≡ b → nested ≡ not b → Ended (m ∷ []) (new_procedure (with_shape s m) h.name.name n (Ok (next_type s.types)))
+    made_ends : (n : ℕ) (m : Made) → ExactHeading (Ok m) → (Th front h.name.name → ⊥) → (b : Bool) → (s.level == 0) ≡ b → nested ≡ not b → Ended (m ∷ []) (new_procedure (with_shape s m) h.name.name n (Ok (next_type s.types)))
     made_ends n m x new true e q = subst (λ (b : Bool). Ended (m ∷ []) (cond b (with_known h.name.name (known.Headed (Ok (meaning.Procedure (record { home = s.types.home; number = length s.procedures; heading = next_type s.types })))) (with_procedure_type (with_shape s m) (Ok (next_type s.types)))) (with_known h.name.name (known.Headed (Ok (nested_made n m))) (with_shape s m)))) (sym e)
         (new_ends (m ∷ []) (known.Headed (Ok (module_made s.types.home (length s.procedures) m))) (says_heading (m ∷ []) (module_made s.types.home (length s.procedures)) (module_is q s.types.home (length s.procedures)) (λ m. refl) x (λ w z. one_only z)) new
         (record { withs = (same_made m).withs; outer = (same_made m).outer; types = (same_made m).types; tables = (same_made m).tables; level = (same_made m).level }) refl)
     made_ends n m x new false e q = subst (λ (b : Bool). Ended (m ∷ []) (cond b (with_known h.name.name (known.Headed (Ok (meaning.Procedure (record { home = s.types.home; number = length s.procedures; heading = next_type s.types })))) (with_procedure_type (with_shape s m) (Ok (next_type s.types)))) (with_known h.name.name (known.Headed (Ok (nested_made n m))) (with_shape s m)))) (sym e)
         (new_ends (m ∷ []) (known.Headed (Ok (nested_made n m))) (says_heading (m ∷ []) (nested_made n) (nested_is q n) (λ m. refl) x (λ w z. one_only z)) new (same_made m) refl)
 
-    none_ends : (n : ℕ) (r : g.Reported) → Exact' (Err r) → (Th front h.name.name → ⊥) → (b : Bool) → (s.level == 0) ≡ b → nested ≡ not b → Ended [] (new_procedure s h.name.name n (Err r))
+    none_ends : (n : ℕ) (r : g.Reported) → ExactHeading (Err r) → (Th front h.name.name → ⊥) → (b : Bool) → (s.level == 0) ≡ b → nested ≡ not b → Ended [] (new_procedure s h.name.name n (Err r))
     none_ends n r x new true e q = subst (λ (b : Bool). Ended [] (cond b (with_known h.name.name (known.Headed (Err r)) s) (with_known h.name.name (known.Headed (Err r)) s))) (sym e)
         (new_ends [] (known.Headed (Err r)) (says_heading [] (module_made 0 0) (module_is q 0 0) (λ m. refl) x (λ m z. absurd cc)) new same_none refl)
     none_ends n r x new false e q = subst (λ (b : Bool). Ended [] (cond b (with_known h.name.name (known.Headed (Err r)) s) (with_known h.name.name (known.Headed (Err r)) s))) (sym e)
@@ -503,29 +497,29 @@ module _ (g : Gathers) (j : Judges g) (lawful : Lawful g j) (exports : ℕ → I
     level_same = level ∙ ap (λ (l : ℕ). not (l == 0)) (sym k.same.level)
 
     -- what is reported
-    telling_heading : {r : Result Made g.Reported} → Exact' r → Tells g j lawful (O front) (Mis front (OfProcedure h)) (r ▷ λ m. Ok tt)
-    telling_heading x = says_tells g j lawful exports outside start taken nested block said front (with_made' []) x stand_now
+    telling_heading : {r : Result Made g.Reported} → ExactHeading r → Tells g j lawful (O front) (Mis front (OfProcedure h)) (r ▷ λ m. Ok tt)
+    telling_heading x = says_tells g j lawful exports outside start taken nested block said front (heading_with []) x stand_now
 
-    told_new : (ms : List Made) {r b v : Result (Unit {0}) g.Reported} → (Th front h.name.name → ⊥) → Told front r → Tells g j lawful (O front) (λ f. Twice (λ n. ⊥) (names_in h.formals) f) b → Tells g j lawful (O front) (Mis front (OfProcedure h)) v → Told (with_made' ms ∷ front) (beside g r (beside g b v))
-    told_new ms new a b c = told_parts (with_made' ms) (λ f z. elim z [ inl y ↦ inl y | inr y ↦ inr (inr y) ]) (λ f z. back f z) (beside_tells g j lawful (O front) (told_here a) (beside_tells g j lawful (O front) b c))
+    told_new : (ms : List Made) {r b v : Result (Unit {0}) g.Reported} → (Th front h.name.name → ⊥) → Told front r → Tells g j lawful (O front) (λ f. Twice (λ n. ⊥) (names_in h.formals) f) b → Tells g j lawful (O front) (Mis front (OfProcedure h)) v → Told (heading_with ms ∷ front) (beside g r (beside g b v))
+    told_new ms new a b c = told_parts (heading_with ms) (λ f z. elim z [ inl y ↦ inl y | inr y ↦ inr (inr y) ]) (λ f z. back f z) (beside_tells g j lawful (O front) (told_here a) (beside_tells g j lawful (O front) b c))
       where
-        back : (f : Breach) → Parts front (with_made' ms) f → BI front f ⊎ (Twice (λ n. ⊥) (names_in h.formals) f ⊎ Mis front (OfProcedure h) f)
+        back : (f : Breach) → Parts front (heading_with ms) f → BI front f ⊎ (Twice (λ n. ⊥) (names_in h.formals) f ⊎ Mis front (OfProcedure h) f)
         back f (inl z) = inl z
         back f (inr (inl (inl t))) = absurd (new t.0)
         back f (inr (inl (inr t))) = absurd t
         back f (inr (inr y)) = inr y
 
-    told_taken : {r b v : Result (Unit {0}) g.Reported} → Th front h.name.name → Told front r → Tells g j lawful (O front) (λ f. Twice (λ n. ⊥) (names_in h.formals) f) b → Tells g j lawful (O front) (Mis front (OfProcedure h)) v → Told (with_made' [] ∷ front) (beside g r (beside g b (beside g v (reported g h.name.pos rule.DeclaredTwice))))
-    told_taken th a b c = told_parts (with_made' []) (λ f z. to f z) (λ f z. back f z) (beside_tells g j lawful (O front) (told_here a) (beside_tells g j lawful (O front) b (beside_tells g j lawful (O front) c
+    told_taken : {r b v : Result (Unit {0}) g.Reported} → Th front h.name.name → Told front r → Tells g j lawful (O front) (λ f. Twice (λ n. ⊥) (names_in h.formals) f) b → Tells g j lawful (O front) (Mis front (OfProcedure h)) v → Told (heading_with [] ∷ front) (beside g r (beside g b (beside g v (reported g h.name.pos rule.DeclaredTwice))))
+    told_taken th a b c = told_parts (heading_with []) (λ f z. to f z) (λ f z. back f z) (beside_tells g j lawful (O front) (told_here a) (beside_tells g j lawful (O front) b (beside_tells g j lawful (O front) c
         (tells (g.one (h.name.pos ! rule.DeclaredTwice)) (accounts_one g j lawful (O front) (h.name.pos ! rule.DeclaredTwice))))))
       where
-        to : (f : Breach) → BI front f ⊎ (Twice (λ n. ⊥) (names_in h.formals) f ⊎ (Mis front (OfProcedure h) f ⊎ (f ≡ h.name.pos ! rule.DeclaredTwice))) → Parts front (with_made' []) f
+        to : (f : Breach) → BI front f ⊎ (Twice (λ n. ⊥) (names_in h.formals) f ⊎ (Mis front (OfProcedure h) f ⊎ (f ≡ h.name.pos ! rule.DeclaredTwice))) → Parts front (heading_with []) f
         to f (inl z) = inl z
         to f (inr (inl t)) = inr (inr (inl t))
         to f (inr (inr (inl m))) = inr (inr (inr m))
         to f (inr (inr (inr e))) = inr (inl (inl (th, e)))
 
-        back : (f : Breach) → Parts front (with_made' []) f → BI front f ⊎ (Twice (λ n. ⊥) (names_in h.formals) f ⊎ (Mis front (OfProcedure h) f ⊎ (f ≡ h.name.pos ! rule.DeclaredTwice)))
+        back : (f : Breach) → Parts front (heading_with []) f → BI front f ⊎ (Twice (λ n. ⊥) (names_in h.formals) f ⊎ (Mis front (OfProcedure h) f ⊎ (f ≡ h.name.pos ! rule.DeclaredTwice)))
         back f (inl z) = inl z
         back f (inr (inl (inl t))) = inr (inr (inr t.1))
         back f (inr (inl (inr t))) = absurd t
@@ -533,18 +527,18 @@ module _ (g : Gathers) (j : Judges g) (lawful : Lawful g j) (exports : ℕ → I
         back f (inr (inr (inr m))) = inr (inr (inl m))
 
     -- all of it
-    abbrev Done' : State (Unit {0}) g.Reported → Result (Unit {0}) g.Reported → Type 0
-    Done' st r = (ms : List Made) × KB (with_made' ms ∷ front) ds (Th (with_made' ms ∷ front)) st.0 × Told (with_made' ms ∷ front) (beside g r (beside g (formals_told g h) st.1))
+    abbrev DoneHeading : State (Unit {0}) g.Reported → Result (Unit {0}) g.Reported → Type 0
+    DoneHeading st r = (ms : List Made) × KB (heading_with ms ∷ front) ds (Th (heading_with ms ∷ front)) st.0 × Told (heading_with ms ∷ front) (beside g r (beside g (formals_told g h) st.1))
 
-    new_by : (n : ℕ) (made : Result Made g.Reported) → Exact' made → (Th front h.name.name → ⊥) → {r : Result (Unit {0}) g.Reported} → Told front r → Done' (with_new s h.name.name n made) r
+    new_by : (n : ℕ) (made : Result Made g.Reported) → ExactHeading made → (Th front h.name.name → ⊥) → {r : Result (Unit {0}) g.Reported} → Told front r → DoneHeading (with_new s h.name.name n made) r
     new_by n (Ok m) x new t = (m ∷ [], made_ends n m x new (s.level == 0) refl level_same, told_new (m ∷ []) new t (formals_tell (O front) h) (telling_heading x))
     new_by n (Err e) x new t = ([], none_ends n e x new (s.level == 0) refl level_same, told_new [] new t (formals_tell (O front) h) (telling_heading x))
 
-    headed_by : (n : ℕ) (made : Result Made g.Reported) → Exact' made → {pl : Place} → PlaceIs g j lawful exports outside start taken nested block takes front (Th front) k.includes h.name.name (k.in_block h.name.name (OfProcedure h, here, (h.name, here, refl))) pl → {r : Result (Unit {0}) g.Reported} → Told front r → Done' (headed_as g s h n made pl) r
+    headed_by : (n : ℕ) (made : Result Made g.Reported) → ExactHeading made → {pl : Place} → PlaceIs g j lawful exports outside start taken nested block takes front (Th front) k.includes h.name.name (k.in_block h.name.name (OfProcedure h, here, (h.name, here, refl))) pl → {r : Result (Unit {0}) g.Reported} → Told front r → DoneHeading (headed_as g s h n made pl) r
     headed_by n made x (place_free new) t = new_by n made x new t
     headed_by n made x (place_taken th) t = ([], taken_ends th, told_taken th t (formals_tell (O front) h) (telling_heading x))
 
-    declare_procedure : (n : ℕ) {r : Result (Unit {0}) g.Reported} → Told front r → (ms : List Made) × Stepped front (with_made' ms) ds ((with_heading g s n h).0, beside g r (with_heading g s n h).1)
+    declare_procedure : (n : ℕ) {r : Result (Unit {0}) g.Reported} → Told front r → (ms : List Made) × Stepped front (heading_with ms) ds ((with_heading g s n h).0, beside g r (with_heading g s n h).1)
     declare_procedure n t = let q = headed_by n (heading_of g s h) procedure_exact (place_is g j lawful exports outside start taken nested block takes front (Th front) k.includes h.name.name (k.in_block h.name.name (OfProcedure h, here, (h.name, here, refl))) (λ d i t c. theres_apart t c) (k.own h.name.name)) t in (q.0, (q.1, q.2))
 
   -- ---- one declaration after another

@@ -117,42 +117,42 @@ module _ (g : Gathers) (j : Judges g) (exports : ℕ → Ident → Standing) (ou
   SameScope = Same g j exports outside start taken nested block start.types
 
   -- which names are marked, and how
-  abbrev Marks' : Type 1
-  Marks' = List ℕ → K → Type 0
+  abbrev MarkedNames : Type 1
+  MarkedNames = List ℕ → K → Type 0
 
-  abbrev None' : Marks' → List ℕ → Type 0
-  None' M n = (k : K) → M n k → ⊥
+  abbrev Unmarked : MarkedNames → List ℕ → Type 0
+  Unmarked M n = (k : K) → M n k → ⊥
 
-  data MarkedAs (M : Marks') (n : List ℕ) : Option K → Type 0 where
+  data MarkedAs (M : MarkedNames) (n : List ℕ) : Option K → Type 0 where
     at_start : {k : Option K} → taken n ≡ true → k ≡ found n start.own → MarkedAs M n k
     is_marked : {k : K} → taken n ≡ false → M n k → MarkedAs M n (Some k)
-    is_unmarked : taken n ≡ false → None' M n → MarkedAs M n None
+    is_unmarked : taken n ≡ false → Unmarked M n → MarkedAs M n None
 
-  record Marking (M : Marks') (s : Scope g.Reported) : Type 0 where
+  record Marking (M : MarkedNames) (s : Scope g.Reported) : Type 0 where
     same : SameScope s
     marks : (n : List ℕ) → MarkedAs M n (found n s.own)
 
-  marked_one : {P Q : Marks'} {n : List ℕ} {k : Option K} → ((k : K) → P n k → Q n k) → ((k : K) → Q n k → P n k) → MarkedAs P n k → MarkedAs Q n k
+  marked_one : {P Q : MarkedNames} {n : List ℕ} {k : Option K} → ((k : K) → P n k → Q n k) → ((k : K) → Q n k → P n k) → MarkedAs P n k → MarkedAs Q n k
   marked_one pq qp (at_start t e) = at_start t e
   marked_one pq qp (is_marked {k = k} t p) = is_marked t (pq k p)
   marked_one pq qp (is_unmarked t n) = is_unmarked t (λ k q. n k (qp k q))
 
-  marking_as : {P Q : Marks'} {s : Scope g.Reported} → ((n : List ℕ) (k : K) → P n k → Q n k) → ((n : List ℕ) (k : K) → Q n k → P n k) → Marking P s → Marking Q s
+  marking_as : {P Q : MarkedNames} {s : Scope g.Reported} → ((n : List ℕ) (k : K) → P n k → Q n k) → ((n : List ℕ) (k : K) → Q n k → P n k) → Marking P s → Marking Q s
   marking_as pq qp m = record { same = m.same; marks = λ n. marked_one (pq n) (qp n) (m.marks n) }
 
   -- ---- one name
 
-  module _ (M : Marks') (x : Ident) (l : K) where
-    abbrev Next : Marks'
-    Next n k = M n k ⊎ (None' M n × (x.name ≡ n) × (k ≡ l))
+  module _ (M : MarkedNames) (x : Ident) (l : K) where
+    abbrev Next : MarkedNames
+    Next n k = M n k ⊎ (Unmarked M n × (x.name ≡ n) × (k ≡ l))
 
-    mark_more : {n : List ℕ} {k : Option K} → (x.name ≡ n → taken n ≡ false → None' M n → ⊥) → MarkedAs M n k → MarkedAs Next n k
+    mark_more : {n : List ℕ} {k : Option K} → (x.name ≡ n → taken n ≡ false → Unmarked M n → ⊥) → MarkedAs M n k → MarkedAs Next n k
     mark_more h (at_start t e) = at_start t e
     mark_more h (is_marked t p) = is_marked t (inl p)
     mark_more h (is_unmarked t c) = is_unmarked t (λ k z. elim z [ inl p ↦ c k p | inr q ↦ h q.1 t c ])
 
-    unchanged : {s : Scope g.Reported} → Marking M s → (taken x.name ≡ false → None' M x.name → ⊥) → Marking Next s
-    unchanged m h = record { same = m.same; marks = λ n. mark_more (λ e. subst (λ (n : List ℕ). taken n ≡ false → None' M n → ⊥) e h) (m.marks n) }
+    unchanged : {s : Scope g.Reported} → Marking M s → (taken x.name ≡ false → Unmarked M x.name → ⊥) → Marking Next s
+    unchanged m h = record { same = m.same; marks = λ n. mark_more (λ e. subst (λ (n : List ℕ). taken n ≡ false → Unmarked M n → ⊥) e h) (m.marks n) }
 
     taken_marks : {s : Scope g.Reported} {k o : Option K} → Marking M s → (t : Bool) → taken x.name ≡ t → taken x.name ≡ true → TakenAs g j t o → k ≡ o → Marking Next (unless_marked x.name l s k)
     taken_marks {s = s} m true q u (is_taken p) e = subst (λ (k : Option K). Marking Next (unless_marked x.name l s k)) (sym e) (unchanged m (λ w c. clash u w))
@@ -171,15 +171,15 @@ module _ (g : Gathers) (j : Judges g) (exports : ℕ → Ident → Standing) (ou
 
   -- ---- names of one declaration
 
-  abbrev Names : Marks' → List Ident → K → Marks'
-  Names M xs l n k = M n k ⊎ (None' M n × Named xs n × (k ≡ l))
+  abbrev Names : MarkedNames → List Ident → K → MarkedNames
+  Names M xs l n k = M n k ⊎ (Unmarked M n × Named xs n × (k ≡ l))
 
-  names_join : (M : Marks') (x : Ident) (xs : List Ident) (l : K) (n : List ℕ) (k : K) → Names (Next M x l) xs l n k → Names M (x ∷ xs) l n k
+  names_join : (M : MarkedNames) (x : Ident) (xs : List Ident) (l : K) (n : List ℕ) (k : K) → Names (Next M x l) xs l n k → Names M (x ∷ xs) l n k
   names_join M x xs l n k (inl (inl m)) = inl m
   names_join M x xs l n k (inl (inr (c, e, q))) = inr (c, (x, here, e), q)
   names_join M x xs l n k (inr (c, (y, m, e), q)) = inr ((λ k z. c k (inl z)), (y, later m, e), q)
 
-  names_split : (M : Marks') (x : Ident) (xs : List Ident) (l : K) (n : List ℕ) (k : K) → Names M (x ∷ xs) l n k → Names (Next M x l) xs l n k
+  names_split : (M : MarkedNames) (x : Ident) (xs : List Ident) (l : K) (n : List ℕ) (k : K) → Names M (x ∷ xs) l n k → Names (Next M x l) xs l n k
   names_split M x xs l n k (inl m) = inl (inl m)
   names_split M x xs l n k (inr (c, (y, here, e), q)) = inl (inr (c, e, q))
   names_split M x xs l n k (inr (c, (y, later m, e), q)) = by (compared x.name n)
@@ -188,16 +188,16 @@ module _ (g : Gathers) (j : Judges g) (exports : ℕ → Ident → Standing) (ou
       by (are_one w) = inl (inr (c, w, q))
       by (are_two w b) = inr ((λ k z. elim z [ inl p ↦ c k p | inr u ↦ w u.1 ]), (y, m, e), q)
 
-  mark_names : (xs : List Ident) (M : Marks') {s : Scope g.Reported} → Marking M s → Marking (Names M xs known.Later) (fold marked_later s xs)
+  mark_names : (xs : List Ident) (M : MarkedNames) {s : Scope g.Reported} → Marking M s → Marking (Names M xs known.Later) (fold marked_later s xs)
   mark_names [] M m = marking_as (λ n k p. inl p) (λ n k z. elim z [ inl p ↦ p | inr q ↦ elim q.1.1 [ ] ]) m
   mark_names (x ∷ xs) M m = marking_as (names_join M x xs known.Later) (names_split M x xs known.Later) (mark_names xs (Next M x known.Later) (mark_one M x known.Later m))
 
   -- ---- declarations
 
-  abbrev With : Marks' → Declaration → Marks'
+  abbrev With : MarkedNames → Declaration → MarkedNames
   With M d = Names M (names_of d) (mark_of d)
 
-  one_with : (d : Declaration) (x : Ident) → names_of d ≡ x ∷ [] → (M : Marks') (s : Scope g.Reported) → Marking M s → Marking (With M d) (marked x (mark_of d) s)
+  one_with : (d : Declaration) (x : Ident) → names_of d ≡ x ∷ [] → (M : MarkedNames) (s : Scope g.Reported) → Marking M s → Marking (With M d) (marked x (mark_of d) s)
   one_with d x e M s m = marking_as (λ n k z. to n k z) (λ n k z. from n k z) (mark_one M x (mark_of d) m)
     where
       to : (n : List ℕ) (k : K) → Next M x (mark_of d) n k → With M d n k
@@ -212,43 +212,43 @@ module _ (g : Gathers) (j : Judges g) (exports : ℕ → Ident → Standing) (ou
       from n k (inl p) = inl p
       from n k (inr (c, w, q)) = inr (c, single (subst (λ (xs : List Ident). Named xs n) e w), q)
 
-  constant_marks : (c : Constant) (M : Marks') (s : Scope g.Reported) → Marking M s → Marking (With M (OfConstant c)) (marked_constant s c)
+  constant_marks : (c : Constant) (M : MarkedNames) (s : Scope g.Reported) → Marking M s → Marking (With M (OfConstant c)) (marked_constant s c)
   constant_marks c M s m = one_with (OfConstant c) c.name refl M s m
 
-  type_marks : (d : TypeDecl) → IsPlainType d.of → (M : Marks') (s : Scope g.Reported) → Marking M s → Marking (With M (OfType d)) (marked_type s d)
+  type_marks : (d : TypeDecl) → IsPlainType d.of → (M : MarkedNames) (s : Scope g.Reported) → Marking M s → Marking (With M (OfType d)) (marked_type s d)
   type_marks d i M s m = subst (Marking (With M (OfType d))) (sym (named_marks d.of i (marked d.name known.Later s))) (one_with (OfType d) d.name refl M s m)
 
-  variable_marks : (v : Variables) → IsPlainType v.of → (M : Marks') (s : Scope g.Reported) → Marking M s → Marking (With M (OfVariables v)) (marked_variables s v)
+  variable_marks : (v : Variables) → IsPlainType v.of → (M : MarkedNames) (s : Scope g.Reported) → Marking M s → Marking (With M (OfVariables v)) (marked_variables s v)
   variable_marks v i M s m = subst (Marking (With M (OfVariables v))) (sym (named_marks v.of i (fold marked_later s v.names))) (mark_names v.names M m)
 
   -- ---- sections and blocks
 
-  abbrev Plus : Marks' → List Declaration → Marks'
-  Plus M ds n k = M n k ⊎ (None' M n × ((d : Declaration) × IsFirst n d ds × (k ≡ mark_of d)))
+  abbrev Plus : MarkedNames → List Declaration → MarkedNames
+  Plus M ds n k = M n k ⊎ (Unmarked M n × ((d : Declaration) × IsFirst n d ds × (k ≡ mark_of d)))
 
-  plus_none : (M : Marks') (n : List ℕ) (k : K) → Plus M [] n k → M n k
+  plus_none : (M : MarkedNames) (n : List ℕ) (k : K) → Plus M [] n k → M n k
   plus_none M n k (inl p) = p
   plus_none M n k (inr (c, (d, i, q))) = elim i [ ]
 
-  plus_join : (M : Marks') (d : Declaration) (ds : List Declaration) (n : List ℕ) (k : K) → Plus (With M d) ds n k → Plus M (d ∷ ds) n k
+  plus_join : (M : MarkedNames) (d : Declaration) (ds : List Declaration) (n : List ℕ) (k : K) → Plus (With M d) ds n k → Plus M (d ∷ ds) n k
   plus_join M d ds n k (inl (inl p)) = inl p
   plus_join M d ds n k (inl (inr (c, h, q))) = inr (c, (d, at_first h, q))
-  plus_join M d ds n k (inr (c, (e, i, q))) = let none : None' M n = (λ k p. c k (inl p)) in inr (none, (e, later_on (λ h. c (mark_of d) (inr (none, h, refl))) i, q))
+  plus_join M d ds n k (inr (c, (e, i, q))) = let none : Unmarked M n = (λ k p. c k (inl p)) in inr (none, (e, later_on (λ h. c (mark_of d) (inr (none, h, refl))) i, q))
 
-  plus_split : (M : Marks') (d : Declaration) (ds : List Declaration) (n : List ℕ) (k : K) → Plus M (d ∷ ds) n k → Plus (With M d) ds n k
+  plus_split : (M : MarkedNames) (d : Declaration) (ds : List Declaration) (n : List ℕ) (k : K) → Plus M (d ∷ ds) n k → Plus (With M d) ds n k
   plus_split M d ds n k (inl p) = inl (inl p)
   plus_split M d ds n k (inr (c, (e, at_first h, q))) = inl (inr (c, h, q))
   plus_split M d ds n k (inr (c, (e, later_on w i, q))) = inr ((λ k z. elim z [ inl p ↦ c k p | inr u ↦ w u.1 ]), (e, i, q))
 
-  plus_append : (M : Marks') (ds es : List Declaration) (n : List ℕ) (k : K) → Plus (Plus M ds) es n k → Plus M (ds ++ es) n k
+  plus_append : (M : MarkedNames) (ds es : List Declaration) (n : List ℕ) (k : K) → Plus (Plus M ds) es n k → Plus M (ds ++ es) n k
   plus_append M ds es n k (inl (inl p)) = inl p
   plus_append M ds es n k (inl (inr (c, (d, i, q)))) = inr (c, (d, first_left es i, q))
-  plus_append M ds es n k (inr (c, (d, i, q))) = let none : None' M n = (λ k p. c k (inl p)) in inr (none, (d, first_right ds (none_in none) i, q))
+  plus_append M ds es n k (inr (c, (d, i, q))) = let none : Unmarked M n = (λ k p. c k (inl p)) in inr (none, (d, first_right ds (none_in none) i, q))
     where
-      none_in : None' M n → AnyDeclares ds n → ⊥
+      none_in : Unmarked M n → AnyDeclares ds n → ⊥
       none_in u a = elim (first_there ds n) [ inl f ↦ c (mark_of f.0) (inr (u, (f.0, f.1, refl))) | inr w ↦ w a ]
 
-  append_plus : (M : Marks') (ds es : List Declaration) (n : List ℕ) (k : K) → Plus M (ds ++ es) n k → Plus (Plus M ds) es n k
+  append_plus : (M : MarkedNames) (ds es : List Declaration) (n : List ℕ) (k : K) → Plus M (ds ++ es) n k → Plus (Plus M ds) es n k
   append_plus M ds es n k (inl p) = inl (inl p)
   append_plus M ds es n k (inr (c, (d, i, q))) = by (first_split ds i)
     where
@@ -256,24 +256,24 @@ module _ (g : Gathers) (j : Judges g) (exports : ℕ → Ident → Standing) (ou
       by (inl f) = inl (inr (c, (d, f, q)))
       by (inr (w, f)) = inr ((λ k z. elim z [ inl p ↦ c k p | inr u ↦ w (any_first u.1.1) ]), (d, f, q))
 
-  section_marks : {X : Type 0} (f : Scope g.Reported → X → Scope g.Reported) (of : X → Declaration) (xs : List X) → ((x : X) → Among x xs → (M : Marks') (s : Scope g.Reported) → Marking M s → Marking (With M (of x)) (f s x)) → (M : Marks') (s : Scope g.Reported) → Marking M s → Marking (Plus M (map of xs)) (fold f s xs)
+  section_marks : {X : Type 0} (f : Scope g.Reported → X → Scope g.Reported) (of : X → Declaration) (xs : List X) → ((x : X) → Among x xs → (M : MarkedNames) (s : Scope g.Reported) → Marking M s → Marking (With M (of x)) (f s x)) → (M : MarkedNames) (s : Scope g.Reported) → Marking M s → Marking (Plus M (map of xs)) (fold f s xs)
   section_marks f of [] h M s m = marking_as (λ n k p. inl p) (plus_none M) m
   section_marks f of (x ∷ xs) h M s m = marking_as (plus_join M (of x) (map of xs)) (plus_split M (of x) (map of xs)) (section_marks f of xs (λ y n. h y (later n)) (With M (of x)) (f s x) (h x here M s m))
 
-  layer_marks : (y : Decl-F Decl Block) → IsPlainLayer y → (M : Marks') (s : Scope g.Reported) → Marking M s → Marking (Plus M (declared_by y)) (marked_layer s y)
+  layer_marks : (y : Decl-F Decl Block) → IsPlainLayer y → (M : MarkedNames) (s : Scope g.Reported) → Marking M s → Marking (Plus M (declared_by y)) (marked_layer s y)
   layer_marks (decl.Constants cs) i M s m = section_marks marked_constant OfConstant cs (λ c n. constant_marks c) M s m
   layer_marks (decl.Types ts) i M s m = section_marks marked_type OfType ts (λ d n. type_marks d (i d n)) M s m
   layer_marks (decl.Variables vs) i M s m = section_marks marked_variables OfVariables vs (λ v n. variable_marks v (i v n)) M s m
   layer_marks (decl.Procedure h b) i M s m = marking_as (λ n k p. plus_join M (OfProcedure h) [] n k (inl p)) (λ n k p. plus_none (With M (OfProcedure h)) n k (plus_split M (OfProcedure h) [] n k p)) (one_with (OfProcedure h) h.name refl M s m)
 
-  all_marks : (ds : List Decl) → ArePlainDecls ds → (M : Marks') (s : Scope g.Reported) (ns : List ℕ) → Marking M s → Marking (Plus M (declarations_of ds)) (fold (with_marks marked_decl) (s, ns) ds).0
+  all_marks : (ds : List Decl) → ArePlainDecls ds → (M : MarkedNames) (s : Scope g.Reported) (ns : List ℕ) → Marking M s → Marking (Plus M (declarations_of ds)) (fold (with_marks marked_decl) (s, ns) ds).0
   all_marks [] i M s ns m = marking_as (λ n k p. inl p) (plus_none M) m
   all_marks (d ∷ ds) i M s ns m = marking_as (plus_append M (declared_by (out-Decl d)) (declarations_of ds)) (append_plus M (declared_by (out-Decl d)) (declarations_of ds))
       (all_marks ds (λ c n. i c (later n)) (Plus M (declared_by (out-Decl d))) (marked_decl s d) _ (layer_marks (out-Decl d) (i d here) M s m))
 
   -- ---- where the declarations begin
 
-  abbrev Nothing : Marks'
+  abbrev Nothing : MarkedNames
   Nothing n k = ⊥
 
   start_marks : (n : List ℕ) (t : Bool) → taken n ≡ t → (o : Option K) → o ≡ found n start.own → TakenAs g j t o → MarkedAs Nothing n o
@@ -298,7 +298,7 @@ module _ (g : Gathers) (j : Judges g) (exports : ℕ → Ident → Standing) (ou
   marked_ahead n t (inl z) = absurd z
   marked_ahead n t (inr (c, (d, i, q))) = subst (λ (k : K). KnownAs g j exports outside start taken nested block [] Th n (Some k)) (sym q) (ahead d t i (λ a. elim a.1 [ ]) (nothing_there t))
 
-  unmarked_outer : (n : List ℕ) → None' (Plus Nothing block) n → AnyDeclares block n → ⊥
+  unmarked_outer : (n : List ℕ) → Unmarked (Plus Nothing block) n → AnyDeclares block n → ⊥
   unmarked_outer n c a = elim (first_there block n) [ inl f ↦ c (mark_of f.0) (inr ((λ k z. z), (f.0, f.1, refl))) | inr w ↦ w a ]
 
   known_marked : (n : List ℕ) {k : Option K} → MarkedAs (Plus Nothing block) n k → KnownAs g j exports outside start taken nested block [] Th n k

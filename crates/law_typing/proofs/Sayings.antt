@@ -95,44 +95,44 @@ module _ (g : Gathers) (j : Judges g) (lawful : Lawful g j) (exports : ℕ → I
   abbrev O : List Declared → Breach → Type 0
   O = Elsewhere g j exports outside start taken nested block
 
-  abbrev Says' : List Declared → (Ident → Standing) → Declaration → Saids → Type 0
-  Says' front names d k = Says (types_behind start.types front) names exports nested d k.0 k.1
+  abbrev SaysHere : List Declared → (Ident → Standing) → Declaration → Saids → Type 0
+  SaysHere front names d k = Says (types_behind start.types front) names exports nested d k.0 k.1
 
   abbrev Mis : List Declared → (Ident → Standing) → Declaration → Breach → Type 0
   Mis front names d = Misdeclares (types_behind start.types front) names exports d
 
   -- A result stands for what a declaration says, whatever its names stand for.
   abbrev pub Exactly : {A : Type 0} → (A → Saids) → List Declared → Declaration → Result A g.Reported → Type 0
-  Exactly said front d r = (names : Ident → Standing) → Stand front names → Answers g j (O front) (λ a k. k ≡ said a) (Says' front names d) (Mis front names d) r
+  Exactly said front d r = (names : Ident → Standing) → Stand front names → Answers g j (O front) (λ a k. k ≡ said a) (SaysHere front names d) (Mis front names d) r
 
   module _ {A : Type 0} (said : A → Saids) (front : List Declared) (d : Declared) where
-    abbrev Made' : Standing → Type 0
-    Made' = Means start.types exports outside taken nested block front d
+    abbrev MeansHere : Standing → Type 0
+    MeansHere = Means start.types exports outside taken nested block front d
 
-    stands_by : {names : Ident → Standing} {r : Result A g.Reported} → ((a : A) → r ≡ Ok a → d.makes ≡ (said a).0) → Stand front names → Answers g j (O front) (λ a k. k ≡ said a) (Says' front names d.what) (Mis front names d.what) r → (s : Standing) × Made' s
-    stands_by {names = names} h all (means a k i m u n) = (k.1, rules.says all (subst (λ (ms : List Made). Says' front names d.what (ms, k.1)) (ap (λ (x : Saids). x.0) i ∙ sym (h a refl)) m))
+    stands_by : {names : Ident → Standing} {r : Result A g.Reported} → ((a : A) → r ≡ Ok a → d.makes ≡ (said a).0) → Stand front names → Answers g j (O front) (λ a k. k ≡ said a) (SaysHere front names d.what) (Mis front names d.what) r → (s : Standing) × MeansHere s
+    stands_by {names = names} h all (means a k i m u n) = (k.1, rules.says all (subst (λ (ms : List Made). SaysHere front names d.what (ms, k.1)) (ap (λ (x : Saids). x.0) i ∙ sym (h a refl)) m))
     stands_by h all (refuses r c n) = (without d.what, rules.says_nothing all (λ ms s m. n (ms, s) m))
 
     module _ (made : A → Meaning) (is_made : (a : A) → (said a).1 ≡ standing (made a)) where
       abbrev meant : Result A g.Reported → Result Meaning g.Reported
       meant r = r ▷ λ a. Ok (made a)
 
-      seen_says : {names : Ident → Standing} {r : Result A g.Reported} {s : Standing} (at : Pos) → Answers g j (O front) (λ a k. k ≡ said a) (Says' front names d.what) (Mis front names d.what) r → Says' front names d.what (d.makes, s) → (q : A) × (r ≡ Ok q) × (s ≡ standing (made q))
+      seen_says : {names : Ident → Standing} {r : Result A g.Reported} {s : Standing} (at : Pos) → Answers g j (O front) (λ a k. k ≡ said a) (SaysHere front names d.what) (Mis front names d.what) r → SaysHere front names d.what (d.makes, s) → (q : A) × (r ≡ Ok q) × (s ≡ standing (made q))
       seen_says {s = s} at (means a k i w u n) m = (a, refl, ap (λ (x : Saids). x.1) (u (d.makes, s) m ∙ i) ∙ is_made a)
       seen_says {s = s} at (refuses r c n) m = absurd (n (d.makes, s) m)
 
-      seen_nothing : {names : Ident → Standing} {r : Result A g.Reported} → Answers g j (O front) (λ a k. k ≡ said a) (Says' front names d.what) (Mis front names d.what) r → ((ms : List Made) (s : Standing) → Says' front names d.what (ms, s) → ⊥) → (q : g.Reported) × (r ≡ Err q)
+      seen_nothing : {names : Ident → Standing} {r : Result A g.Reported} → Answers g j (O front) (λ a k. k ≡ said a) (SaysHere front names d.what) (Mis front names d.what) r → ((ms : List Made) (s : Standing) → SaysHere front names d.what (ms, s) → ⊥) → (q : g.Reported) × (r ≡ Err q)
       seen_nothing (means a k i w u c) n = absurd (n k.0 k.1 w)
       seen_nothing (refuses r c w) n = (r, refl)
 
       -- with a meaning, or without one
-      seen_by : (into : Result Meaning g.Reported → Result Meaning (Meaningless g.Reported)) {r : Result A g.Reported} → Exactly said front d.what r → (at : Pos) → ((m : Meaning) → into (Ok m) ≡ Ok m) → ((q : g.Reported) → Sees g j at (without d.what) (into (Err q))) → {s : Standing} → Made' s → Sees g j at s (into (meant r))
+      seen_by : (into : Result Meaning g.Reported → Result Meaning (Meaningless g.Reported)) {r : Result A g.Reported} → Exactly said front d.what r → (at : Pos) → ((m : Meaning) → into (Ok m) ≡ Ok m) → ((q : g.Reported) → Sees g j at (without d.what) (into (Err q))) → {s : Standing} → MeansHere s → Sees g j at s (into (meant r))
       seen_by into h at ok err (rules.says {names = names} {s = s} all m) = let q = seen_says at (h names all) m in
           subst (λ (r : Result A g.Reported). Sees g j at s (into (meant r))) (sym q.1) (subst (λ (s : Standing). Sees g j at s (into (Ok (made q.0)))) (sym q.2) (subst (λ (x : Result Meaning (Meaningless g.Reported)). Sees g j at (standing (made q.0)) x) (sym (ok (made q.0))) (sees (made q.0))))
       seen_by into h at ok err (rules.says_nothing {names = names} all n) = let q = seen_nothing (h names all) n in
           subst (λ (r : Result A g.Reported). Sees g j at (without d.what) (into (meant r))) (sym q.1) (err q.0)
 
-      repeats_by : {names : Ident → Standing} {r : Result A g.Reported} → Stand front names → Answers g j (O front) (λ a k. k ≡ said a) (Says' front names d.what) (Mis front names d.what) r → (q : g.Reported) → meant r ≡ Err q → (f : Breach) → j.Among q f → O (d ∷ front) f
+      repeats_by : {names : Ident → Standing} {r : Result A g.Reported} → Stand front names → Answers g j (O front) (λ a k. k ≡ said a) (SaysHere front names d.what) (Mis front names d.what) r → (q : g.Reported) → meant r ≡ Err q → (f : Breach) → j.Among q f → O (d ∷ front) f
       repeats_by all (means a k i m u n) q e f z = absurd cc
       repeats_by {names = names} all (refuses r c n) q e f z = let same : r ≡ q = cc in elim (c.only f (subst (λ (x : g.Reported). j.Among x f) (sym same) z)) [ inl b ↦ inr (rules.inside all b) | inr o ↦ elim o [ inl y ↦ inl y | inr y ↦ inr (rules.in_front y) ] ]
 
