@@ -1,5 +1,5 @@
 -- The declarations of a block are answered exactly.
-use Rattle.std.proofs.Common.{◌≡◌, ℕ, Bool, true, false, cond, List, [], ◌∷◌, ◌++◌, length, Option, Result, Ok, Err, ◌⊎◌, inl, inr, refl, sym, ap, subst, ◌∙◌, arith}
+use Rattle.std.proofs.Common.{◌≡◌, ℕ, Bool, true, false, cond, List, [], ◌∷◌, ◌++◌, length, Result, Ok, Err, ◌⊎◌, inl, inr, refl, sym, ap, subst, ◌∙◌, arith}
 use Rattle.std.specs.Prelude.{map, not, ◌==◌}
 use Rattle.std.specs.List.{fold}
 use Rattle.std.proofs.lemmas.Bool.Decides.{nat_tests}
@@ -615,5 +615,11 @@ module _ (g : Gathers) (j : Judges g) (lawful : Lawful g j) (exports : ℕ → I
     stand = (standings g j exports outside start taken (is_nested start) block knows no_withs all_of_it.2.0, all_stand g j exports outside start taken (is_nested start) block knows no_withs all_of_it.2.0);
     owned = λ outers own owns all. owning g j exports outside start taken (is_nested start) block knows no_withs all_of_it.2.0 outers owns own all;
     own = λ outers owns. some_own g j exports outside start taken (is_nested start) block knows no_withs all_of_it.2.0 outers owns;
+    spot = λ outers own names owns all mine gives a r. record {
+      of_names = knowing g j exports outside start taken (is_nested start) block knows no_withs all_of_it.2.0 all;
+      of_own = owning g j exports outside start taken (is_nested start) block knows no_withs all_of_it.2.0 outers owns own mine;
+      of_result = r;
+      of_loop = refl;
+    };
     known = λ names all. knowing g j exports outside start taken (is_nested start) block knows no_withs all_of_it.2.0 all;
   }

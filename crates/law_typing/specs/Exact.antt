@@ -421,6 +421,14 @@ pub record IsBlockExact (g : Gathers) (j : Judges g) (exports : ℕ → Ident �
   pub owned : (outer own : Ident → Bool) → KnowsOwn g j outer s
       → AllOwn outer s exports outside taken ds whole own
       → KnowsOwn g j own (declared_block g ends (s, Ok tt) first ds).0
+  -- So all is known of the spot at which a statement of the body stands.
+  pub spot : (outer own : Ident → Bool) (names : Ident → Standing) → KnowsOwn g j outer s
+      → AllStand s.types exports outside taken (is_nested s) (declarations_of ds) whole names
+      → AllOwn outer s exports outside taken ds whole own → (gives : Giving) (a : Around g.Reported)
+      → KnowsResult g j gives a.gives
+      → KnowsSpot g j exports
+      (record { names = names; own = own; gives = gives; in_loop = a.in_loop })
+      (declared_block g ends (s, Ok tt) first ds).0 a
 
 -- These expressions are answered exactly, whatever their names stand for.
 abbrev pub ExpressionsAreExact : (g : Gathers) → Judges g → Type 0
