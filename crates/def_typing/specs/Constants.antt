@@ -22,7 +22,7 @@ use Rattle.check_const_ops.specs.Sets.{with_span}
 use Rattle.def_typing.specs.Amounts.{Constant, IsNumber, GoTogether, Within}
 use Rattle.def_typing.specs.Operators.{◌!◌, Kind, Scalar, Set, Text, operand, Makes, Misused, Misapplied, MaySign, SignMakes, Negates}
 use Rattle.def_typing.specs.Things.{Thing, AValue, AType, AModule, Standing, Known, Ahead, Misnamed}
-use Rattle.def_typing.specs.Parts.{first, Operand, factors, addends, Among}
+use Rattle.def_typing.specs.Parts.{first, Operand, factors, addends, Among, IsInner}
 
 -- what an expression stands for, if it has to be constant
 pub data Fixed : Type 0 where
@@ -94,18 +94,7 @@ pub data IsBound (x : Expr) (i : Item-F Expr Selector Designator Item) : Type 0 
 
 -- the parts of a constant expression, which are constants themselves
 pub data IsFixedPart : Expr → Expr-F Expr Selector Designator Item → Type 0 where
-  in_not : {at : Pos} {e : Expr} → IsFixedPart e (layer.Not at e)
-  in_brackets : {at : Pos} {e : Expr} → IsFixedPart e (layer.Bracketed at e)
-  first_factor : {e : Expr} {rest : List (Operator MulOp × Expr)}
-      → IsFixedPart e (layer.Term e rest)
-  other_factor : {e : Expr} {rest : List (Operator MulOp × Expr)} {x : Operand}
-      → Among x (factors rest) → IsFixedPart x.of (layer.Term e rest)
-  first_addend : {sign : Option (Operator Sign)} {e : Expr} {rest : List (Operator AddOp × Expr)}
-      → IsFixedPart e (layer.Sum sign e rest)
-  other_addend : {sign : Option (Operator Sign)} {e : Expr} {rest : List (Operator AddOp × Expr)}
-      {x : Operand} → Among x (addends rest) → IsFixedPart x.of (layer.Sum sign e rest)
-  left_side : {a b : Expr} {o : Operator RelOp} → IsFixedPart a (layer.Relation a o b)
-  right_side : {a b : Expr} {o : Operator RelOp} → IsFixedPart b (layer.Relation a o b)
+  an_inner : {e : Expr} {y : Expr-F Expr Selector Designator Item} → IsInner e y → IsFixedPart e y
   in_element : {name : Option Ident} {at : Pos} {items : List Item} {i : Item} {e : Expr}
       → Among i items → IsBound e (out-Item i) → IsFixedPart e (layer.Set name at items)
 
