@@ -1,17 +1,19 @@
--- The selector of a CASE and the bounds of its labels, and which rules are broken in them.
-use Rattle.std.specs.Prelude.{◌≡◌, ℕ, ℤ, pos, true, false, int_lt, Option, Some, None}
+-- The selector of a CASE and its labels, and which rules are broken in them.
+use Rattle.std.specs.Prelude.{◌≡◌, ℕ, ℤ, pos, true, false, int_le, int_lt, ◌⊎◌, List, [], ◌∷◌, Option, Some, None}
 use Rattle.m2_rule.specs.declared.breach.Breach.{Breach}
 use Rattle.m2_rule.specs.declared.rule.Rule.TheVariants as rule
 use Rattle.m2_tree.specs.declared.pos.Pos.{Pos}
 use Rattle.m2_tree.specs.declared.name.Ident.{Ident}
 use Rattle.m2_tree.specs.declared.expr.Expr.{Expr}
+use Rattle.m2_tree.specs.declared.expr.Item.{Item, out-Item}
 use Rattle.typed_tree.specs.declared.types.TypeNo.{TypeNo}
 use Rattle.typed_tree.specs.declared.known_types.Types.{Types}
 use Rattle.typed_tree.specs.Types.{integer, cardinal}
-use Rattle.def_typing.specs.Amounts.{Amount, Constant, Value}
+use Rattle.def_typing.specs.Amounts.{Amount, Constant, Value, GoTogether, Suits}
 use Rattle.def_typing.specs.Operators.{◌!◌, Kind, Scalar, Set, Text, Untaken, operand}
 use Rattle.def_typing.specs.Things.{Thing, AValue, AVariable, ANested, AStandard, Standing, content}
 use Rattle.def_typing.specs.Parts.{first}
+use Rattle.def_typing.specs.Constants.{IsBound as Bounds}
 use Rattle.def_typing.specs.Expressions.{Stands, Has, Broken, BrokenAsValue}
 
 -- the type in which the labels are held against the selector
@@ -68,6 +70,33 @@ pub data Misbounds (types : Types) (base : Option TypeNo) (label at : Pos) (x : 
   other_type : IsNoConstant x → (SuitsSelector base (held types x) → ⊥)
       → Misbounds types base label at x (at ! rule.WrongType)
 
+-- ---- labels
+
+-- A bound has the base type of the selector, or is a number if this is INTEGER or CARDINAL.
+abbrev pub IsOfBase : Option TypeNo → Option TypeNo → Type 0
+IsOfBase None sort = Unit {0}
+IsOfBase (Some base) sort = GoTogether (Some base) sort (Some base)
+
+-- A number is one of this type.
+pub record FitsSelector (base sort : Option TypeNo) (n : ℤ) : Type 0 where
+  pub of_base : IsOfBase base sort
+  pub suits : Suits base (Constant sort n)
+
+pub data Misfits (at : Pos) (base sort : Option TypeNo) (n : ℤ) : Breach → Type 0 where
+  other_base : (IsOfBase base sort → ⊥) → Misfits at base sort n (at ! rule.WrongType)
+  not_in_base : IsOfBase base sort → (Suits base (Constant sort n) → ⊥)
+      → Misfits at base sort n (at ! rule.OutOfRange)
+
+-- The bounds go together, and the second is below the first.
+pub data IsEmpty (s t : Option TypeNo) (n m : ℤ) : Type 0 where
+  is_empty : {u : Option TypeNo} → GoTogether s t u → int_lt m n ≡ true → IsEmpty s t n m
+
+-- The first range has values, and neither ends before the other begins.
+pub record Meets (a b : ℤ × ℤ) : Type 0 where
+  pub has_values : int_lt a.1 a.0 ≡ false
+  pub from_low : int_le b.0 a.1 ≡ true
+  pub to_high : int_le a.0 b.1 ≡ true
+
 -- ---- the selector
 
 module _ (types : Types) (names : Ident → Standing) (exports : ℕ → Ident → Standing) where
@@ -91,3 +120,48 @@ module _ (types : Types) (names : Ident → Standing) (exports : ℕ → Ident �
     in_bound : Broken types names exports e f → BrokenLabelBound base label e f
     at_bound : {x : Thing} → Stands types names exports e x
         → Misbounds types base label (first e) x f → BrokenLabelBound base label e f
+
+  -- the base type that labels are held against
+  abbrev pub SelectsBy : Expr → Option TypeNo → Type 0
+  SelectsBy e (Some base) = IsSelector e base
+  SelectsBy e None = (base : TypeNo) → IsSelector e base → ⊥
+
+  module _ (base : Option TypeNo) where
+    -- A label stands for the numbers from the first to the last.
+    pub data IsLabel (i : Item) : ℤ → ℤ → Type 0 where
+      single : {sort : Option TypeNo} {n : ℤ} → (out-Item i).high ≡ None
+          → IsLabelBound (out-Item i).low sort n → FitsSelector base sort n → IsLabel i n n
+      range : {high : Expr} {s t : Option TypeNo} {n m : ℤ} → (out-Item i).high ≡ Some high
+          → IsLabelBound (out-Item i).low s n → IsLabelBound high t m → FitsSelector base s n
+          → FitsSelector base t m → (IsEmpty s t n m → ⊥) → IsLabel i n m
+
+    pub data BrokenLabel (i : Item) : Breach → Type 0 where
+      in_label_bound : {e : Expr} {f : Breach} → Bounds e (out-Item i)
+          → BrokenLabelBound base (first (out-Item i).low) e f → BrokenLabel i f
+      misfits : {e : Expr} {sort : Option TypeNo} {n : ℤ} {f : Breach} → Bounds e (out-Item i)
+          → IsLabelBound e sort n → Misfits (first e) base sort n f → BrokenLabel i f
+      empty : {high : Expr} {s t : Option TypeNo} {n m : ℤ} → (out-Item i).high ≡ Some high
+          → IsLabelBound (out-Item i).low s n → IsLabelBound high t m → IsEmpty s t n m
+          → BrokenLabel i (first (out-Item i).low ! rule.EmptyRange)
+
+    -- A label is there twice if it meets a label in front of it that is not there twice itself.
+    -- The nearest one stands first.
+    abbrev pub IsTwice : List Item → ℤ × ℤ → Type 0
+    IsTwice [] b = ⊥
+    IsTwice (i ∷ front) b =
+        ((a : ℤ × ℤ) × IsLabel i a.0 a.1 × Meets a b × (IsTwice front a → ⊥)) ⊎ IsTwice front b
+
+    -- labels behind others
+    pub data AreLabels : List Item → List Item → Type 0 where
+      no_label : {front : List Item} → AreLabels front []
+      one_label : {front is : List Item} {i : Item} {n m : ℤ} → IsLabel i n m
+          → (IsTwice front (n, m) → ⊥) → AreLabels (i ∷ front) is → AreLabels front (i ∷ is)
+
+    pub data BrokenLabels : List Item → List Item → Breach → Type 0 where
+      in_label : {front is : List Item} {i : Item} {f : Breach} → BrokenLabel i f
+          → BrokenLabels front (i ∷ is) f
+      there_twice : {front is : List Item} {i : Item} {n m : ℤ} → IsLabel i n m
+          → IsTwice front (n, m)
+          → BrokenLabels front (i ∷ is) (first (out-Item i).low ! rule.WrongLabel)
+      behind_label : {front is : List Item} {i : Item} {f : Breach}
+          → BrokenLabels (i ∷ front) is f → BrokenLabels front (i ∷ is) f

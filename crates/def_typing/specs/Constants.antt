@@ -22,7 +22,7 @@ use Rattle.check_const_ops.specs.Sets.{with_span}
 use Rattle.def_typing.specs.Amounts.{Constant, IsNumber, GoTogether, Within}
 use Rattle.def_typing.specs.Operators.{◌!◌, Kind, Scalar, Set, Text, operand, Makes, Misused, Misapplied, MaySign, SignMakes, Negates}
 use Rattle.def_typing.specs.Things.{Thing, AValue, AType, AModule, Standing, Known, Ahead, Misnamed}
-use Rattle.def_typing.specs.Parts.{first, Operand, factors, addends, Among}
+use Rattle.def_typing.specs.Parts.{first, Operand, factors, addends, Among, IsInner}
 
 -- what an expression stands for, if it has to be constant
 pub data Fixed : Type 0 where
@@ -94,26 +94,19 @@ pub data IsBound (x : Expr) (i : Item-F Expr Selector Designator Item) : Type 0 
 
 -- the parts of a constant expression, which are constants themselves
 pub data IsFixedPart : Expr → Expr-F Expr Selector Designator Item → Type 0 where
-  in_not : {at : Pos} {e : Expr} → IsFixedPart e (layer.Not at e)
-  in_brackets : {at : Pos} {e : Expr} → IsFixedPart e (layer.Bracketed at e)
-  first_factor : {e : Expr} {rest : List (Operator MulOp × Expr)}
-      → IsFixedPart e (layer.Term e rest)
-  other_factor : {e : Expr} {rest : List (Operator MulOp × Expr)} {x : Operand}
-      → Among x (factors rest) → IsFixedPart x.of (layer.Term e rest)
-  first_addend : {sign : Option (Operator Sign)} {e : Expr} {rest : List (Operator AddOp × Expr)}
-      → IsFixedPart e (layer.Sum sign e rest)
-  other_addend : {sign : Option (Operator Sign)} {e : Expr} {rest : List (Operator AddOp × Expr)}
-      {x : Operand} → Among x (addends rest) → IsFixedPart x.of (layer.Sum sign e rest)
-  left_side : {a b : Expr} {o : Operator RelOp} → IsFixedPart a (layer.Relation a o b)
-  right_side : {a b : Expr} {o : Operator RelOp} → IsFixedPart b (layer.Relation a o b)
+  an_inner : {e : Expr} {y : Expr-F Expr Selector Designator Item} → IsInner e y → IsFixedPart e y
   in_element : {name : Option Ident} {at : Pos} {items : List Item} {i : Item} {e : Expr}
       → Among i items → IsBound e (out-Item i) → IsFixedPart e (layer.Set name at items)
 
+-- the refusals at a name that should stand for something of a sort
+pub data Misses (Fits : Thing → Type 0) (spot at : Pos) : Standing → Breach → Type 0 where
+  no_name : {s : Standing} {f : Breach} → FixedMisnamed at s f → Misses Fits spot at s f
+  other_sort : {x : Thing} → (Fits x → ⊥) → Misses Fits spot at (Known x) (spot ! rule.NoType)
+  a_procedure : Misses Fits spot at Ahead (spot ! rule.NoType)
+
 -- the refusals at the name of a set's type
-pub data Misset (at : Pos) : Standing → Breach → Type 0 where
-  no_name : {s : Standing} {f : Breach} → FixedMisnamed at s f → Misset at s f
-  no_set_type : {x : Thing} → (x ≡ AType bitset → ⊥) → Misset at (Known x) (at ! rule.NoType)
-  no_type_yet : Misset at Ahead (at ! rule.NoType)
+abbrev pub Misset : Pos → Standing → Breach → Type 0
+Misset at s f = Misses (λ x. x ≡ AType bitset) at at s f
 
 -- ---- what constant expressions are
 

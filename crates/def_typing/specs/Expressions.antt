@@ -23,7 +23,7 @@ use Rattle.typed_tree.specs.declared.known_types.Types.{Types}
 use Rattle.typed_tree.specs.Types.{cardinal, char}
 use Rattle.m2_rule.specs.declared.breach.Breach.{Breach}
 use Rattle.check_const_ops.specs.declared.operator.BinaryOp.TheVariants as op
-use Rattle.def_typing.specs.Parts.{first, Operand, factors, addends, Among}
+use Rattle.def_typing.specs.Parts.{first, Operand, factors, addends, Among, IsInner}
 use Rattle.def_typing.specs.Constants.{AConstant, FixedReads, FixedFails, IsFixedPart, FixedBroken}
 use Rattle.def_typing.specs.Amounts.{Constant, Value}
 use Rattle.def_typing.specs.Operators.{◌!◌, Kind, Scalar, Text, operand, Makes, Misused, Misapplied, MaySign, SignMakes, Negates}
@@ -40,17 +40,7 @@ pub data Beside (formal : Formal) (x : Expr) : List Formal → List Expr → Typ
 
 -- the parts of an expression that are taken as values
 pub data IsOperand : Expr → Expr-F Expr Selector Designator Item → Type 0 where
-  in_not : {at : Pos} {e : Expr} → IsOperand e (layer.Not at e)
-  in_brackets : {at : Pos} {e : Expr} → IsOperand e (layer.Bracketed at e)
-  first_factor : {e : Expr} {rest : List (Operator MulOp × Expr)} → IsOperand e (layer.Term e rest)
-  other_factor : {e : Expr} {rest : List (Operator MulOp × Expr)} {x : Operand}
-      → Among x (factors rest) → IsOperand x.of (layer.Term e rest)
-  first_addend : {sign : Option (Operator Sign)} {e : Expr} {rest : List (Operator AddOp × Expr)}
-      → IsOperand e (layer.Sum sign e rest)
-  other_addend : {sign : Option (Operator Sign)} {e : Expr} {rest : List (Operator AddOp × Expr)}
-      {x : Operand} → Among x (addends rest) → IsOperand x.of (layer.Sum sign e rest)
-  left_side : {a b : Expr} {o : Operator RelOp} → IsOperand a (layer.Relation a o b)
-  right_side : {a b : Expr} {o : Operator RelOp} → IsOperand b (layer.Relation a o b)
+  an_inner : {e : Expr} {y : Expr-F Expr Selector Designator Item} → IsInner e y → IsOperand e y
   as_index : {d : Designator} {args : Option (List Expr)} {s : Selector} {at : Pos} {e : Expr}
       → Among s (out-Designator d).selectors → out-Selector s ≡ layer.Index at e
       → IsOperand e (layer.Use d args)

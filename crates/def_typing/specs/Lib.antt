@@ -5,6 +5,11 @@ pub mod Things
 pub mod Functions
 pub mod Parts
 pub mod Constants
+pub mod TypeNames
+pub mod Headings
+pub mod Subranges
+pub mod TypeExprs
+pub mod Declarations
 pub mod Expressions
 pub mod Assignments
 pub mod Actions

@@ -1,9 +1,14 @@
 -- Parts of expressions, and where they begin.
-use Rattle.std.specs.Prelude.{List, ◌∷◌, map, Some, None}
+use Rattle.std.specs.Prelude.{List, ◌∷◌, map, Option, Some, None}
 use Rattle.m2_tree.specs.declared.pos.Pos.{Pos}
 use Rattle.m2_tree.specs.declared.expr.MulOp.{MulOp}
 use Rattle.m2_tree.specs.declared.expr.AddOp.{AddOp}
+use Rattle.m2_tree.specs.declared.expr.RelOp.{RelOp}
+use Rattle.m2_tree.specs.declared.expr.Sign.{Sign}
 use Rattle.m2_tree.specs.declared.expr.Operator.{Operator}
+use Rattle.m2_tree.specs.declared.expr.Selector.{Selector}
+use Rattle.m2_tree.specs.declared.expr.Designator.{Designator}
+use Rattle.m2_tree.specs.declared.expr.Item.{Item}
 use Rattle.m2_tree.specs.declared.expr.Expr.{Expr, Expr-F, fold-Expr}
 use Rattle.m2_tree.specs.declared.expr.Expr.TheOpen as layer
 use Rattle.check_const_ops.specs.declared.operator.BinaryOp.{BinaryOp}
@@ -46,3 +51,18 @@ addends xs = map (λ x. record { op = add_op x.0.op; spot = x.0.pos; of = x.1 })
 pub data Among {A : Type 0} (x : A) : List A → Type 0 where
   here : {xs : List A} → Among x (x ∷ xs)
   later : {y : A} {xs : List A} → Among x xs → Among x (y ∷ xs)
+
+-- ---- parts that are operands
+
+pub data IsInner : Expr → Expr-F Expr Selector Designator Item → Type 0 where
+  in_not : {at : Pos} {e : Expr} → IsInner e (layer.Not at e)
+  in_brackets : {at : Pos} {e : Expr} → IsInner e (layer.Bracketed at e)
+  first_factor : {e : Expr} {rest : List (Operator MulOp × Expr)} → IsInner e (layer.Term e rest)
+  other_factor : {e : Expr} {rest : List (Operator MulOp × Expr)} {x : Operand}
+      → Among x (factors rest) → IsInner x.of (layer.Term e rest)
+  first_addend : {sign : Option (Operator Sign)} {e : Expr} {rest : List (Operator AddOp × Expr)}
+      → IsInner e (layer.Sum sign e rest)
+  other_addend : {sign : Option (Operator Sign)} {e : Expr} {rest : List (Operator AddOp × Expr)}
+      {x : Operand} → Among x (addends rest) → IsInner x.of (layer.Sum sign e rest)
+  left_side : {a b : Expr} {o : Operator RelOp} → IsInner a (layer.Relation a o b)
+  right_side : {a b : Expr} {o : Operator RelOp} → IsInner b (layer.Relation a o b)

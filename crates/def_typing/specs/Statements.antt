@@ -1,5 +1,5 @@
--- Statements, and which rules are broken in them. CASE is not there yet.
-use Rattle.std.specs.Prelude.{◌≡◌, ℕ, Bool, true, List, [], ◌∷◌, Option, Some, None}
+-- Statements, and which rules are broken in them.
+use Rattle.std.specs.Prelude.{◌≡◌, ℕ, Bool, true, List, [], ◌∷◌, ◌++◌, Option, Some, None}
 use Rattle.m2_rule.specs.declared.breach.Breach.{Breach}
 use Rattle.m2_tree.specs.declared.pos.Pos.{Pos}
 use Rattle.m2_tree.specs.declared.name.Ident.{Ident}
@@ -9,7 +9,8 @@ use Rattle.m2_tree.specs.declared.expr.Designator.{Designator, out-Designator}
 use Rattle.m2_tree.specs.declared.stmt.Stmt.{Stmt, Stmt-F, out-Stmt}
 use Rattle.m2_tree.specs.declared.stmt.Rest.{Rest, Rest-F, out-Rest}
 use Rattle.m2_tree.specs.declared.stmt.Rest.TheOpen as layer
-use Rattle.m2_tree.specs.declared.stmt.Arm.{Arm}
+use Rattle.m2_tree.specs.declared.stmt.Arm.{Arm, out-Arm}
+use Rattle.m2_tree.specs.declared.expr.Item.{Item}
 use Rattle.typed_tree.specs.declared.known_types.Types.{Types}
 use Rattle.typed_tree.specs.declared.types.TypeNo.{TypeNo}
 use Rattle.typed_tree.specs.declared.shape.Shape.TheVariants as shape
@@ -24,11 +25,17 @@ use Rattle.def_typing.specs.Fields.{field_or, own_or, LeadsToRecord}
 use Rattle.def_typing.specs.Actions.{IsAction, BrokenAction}
 use Rattle.def_typing.specs.Returns.{Giving, IsExit, BrokenExit, Returns, BrokenReturn}
 use Rattle.def_typing.specs.Loops.{Runs, BrokenRun}
+use Rattle.def_typing.specs.Cases.{IsSelector, BrokenSelector, SelectsBy, AreLabels, BrokenLabels}
 
 -- no brackets are no arguments
 abbrev pub arguments : Option (List Expr) → List Expr
 arguments None = []
 arguments (Some args) = args
+
+-- the labels of all arms
+abbrev pub labels_of : List Arm → List Item
+labels_of [] = []
+labels_of (a ∷ arms) = (out-Arm a).labels ++ labels_of arms
 
 -- where a statement stands
 pub record Spot : Type 0 where
@@ -68,6 +75,12 @@ module _ (types : Types) (exports : ℕ → Ident → Standing) where
           → AllObey w body
           → RestObeys w rest
           → IsRight w (layer.If c body rest)
+      -- No value is a label twice.
+      selection : {w : Spot} {e : Expr} {arms : List Arm} {otherwise : Option (List Stmt)}
+          {base : TypeNo} → IsSelector types w.names exports e base
+          → AreLabels types w.names exports (Some base) [] (labels_of arms)
+          → ((a : Arm) → Among a arms → AllObey w (out-Arm a).body)
+          → RestIsRight w (layer.Else otherwise) → IsRight w (layer.Case e arms otherwise)
       while_loop : {w : Spot} {c : Expr} {body : List Stmt} → IsCondition types w.names exports c
           → AllObey w body → IsRight w (layer.While c body)
       repeat_loop : {w : Spot} {body : List Stmt} {c : Expr} → AllObey w body
@@ -124,6 +137,20 @@ module _ (types : Types) (exports : ℕ → Ident → Standing) where
           → Among x body → Broken w x f → Breaks w (layer.If c body rest) f
       behind_then : {w : Spot} {c : Expr} {body : List Stmt} {rest : Rest} {f : Breach}
           → RestBroken w rest f → Breaks w (layer.If c body rest) f
+      in_selector : {w : Spot} {e : Expr} {arms : List Arm} {otherwise : Option (List Stmt)}
+          {f : Breach} → BrokenSelector types w.names exports e f
+          → Breaks w (layer.Case e arms otherwise) f
+      -- The labels are looked at, also if the selector has no meaning.
+      in_labels : {w : Spot} {e : Expr} {arms : List Arm} {otherwise : Option (List Stmt)}
+          {base : Option TypeNo} {f : Breach} → SelectsBy types w.names exports e base
+          → BrokenLabels types w.names exports base [] (labels_of arms) f
+          → Breaks w (layer.Case e arms otherwise) f
+      in_arm : {w : Spot} {e : Expr} {arms : List Arm} {otherwise : Option (List Stmt)} {a : Arm}
+          {x : Stmt} {f : Breach} → Among a arms → Among x (out-Arm a).body → Broken w x f
+          → Breaks w (layer.Case e arms otherwise) f
+      behind_arms : {w : Spot} {e : Expr} {arms : List Arm} {otherwise : Option (List Stmt)}
+          {f : Breach} → RestBreaks w (layer.Else otherwise) f
+          → Breaks w (layer.Case e arms otherwise) f
       at_while : {w : Spot} {c : Expr} {body : List Stmt} {f : Breach}
           → BrokenCondition types w.names exports c f → Breaks w (layer.While c body) f
       in_while : {w : Spot} {c : Expr} {body : List Stmt} {x : Stmt} {f : Breach} → Among x body

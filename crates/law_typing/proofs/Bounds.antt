@@ -192,10 +192,10 @@ renamed (means a k i m u n) = means a k (numbered_by i) m u n
 renamed (refuses r c n) = refuses r c n
 
 module _ (g : Gathers) (j : Judges g) (lawful : Lawful g j) (names : Ident → Standing) (exports : ℕ → Ident → Standing) (s : Scope g.Reported) (knows : Knows g j names exports s) where
-  pub bound_answers : (base : Option TypeNo) (label : Pos) (e : Expr) → IsPlain e
-      → Answers g j (Repeats g j names s) IsNumbered (λ p. IsLabelBound s.types names exports e p.0 p.1) (BrokenLabelBound s.types names exports base label e) (bound_of g s base label (meant g e))
-  bound_answers base label e i = subst (λ (at : Pos). Answers g j (Repeats g j names s) IsNumbered (λ p. IsLabelBound s.types names exports e p.0 p.1) (BrokenLabelBound s.types names exports base label e) (bound_in g s.types base label at ((meant g e).means s))) (sym (at_is g i))
-      (renamed (exact g j lawful (Repeats g j names s) (λ p z. is_label_bound z.1 z.2) (λ p z. parts z) (λ f z. elim z [ inl b ↦ in_bound b | inr q ↦ at_bound q.1 q.2 ]) out (bound_found g j lawful (Repeats g j names s) s.types base label (first e) (found g j lawful names exports s knows i))))
+  pub ordinal_answers : (base : Option TypeNo) (label : Pos) (e : Expr) → IsPlain e
+      → Answers g j (Repeats g j names s) IsOrdinal (λ p. IsLabelBound s.types names exports e p.0 p.1) (BrokenLabelBound s.types names exports base label e) (bound_of g s base label (meant g e))
+  ordinal_answers base label e i = subst (λ (at : Pos). Answers g j (Repeats g j names s) IsOrdinal (λ p. IsLabelBound s.types names exports e p.0 p.1) (BrokenLabelBound s.types names exports base label e) (bound_in g s.types base label at ((meant g e).means s))) (sym (at_is g i))
+      (exact g j lawful (Repeats g j names s) (λ p z. is_label_bound z.1 z.2) (λ p z. parts z) (λ f z. elim z [ inl b ↦ in_bound b | inr q ↦ at_bound q.1 q.2 ]) out (bound_found g j lawful (Repeats g j names s) s.types base label (first e) (found g j lawful names exports s knows i)))
     where
       parts : {sort : Option TypeNo} {n : ℤ} → IsLabelBound s.types names exports e sort n → (x : Thing) × Stands s.types names exports e x × IsBound x sort n
       parts (is_label_bound {x = x} m b) = (x, m, b)
@@ -203,3 +203,7 @@ module _ (g : Gathers) (j : Judges g) (lawful : Lawful g j) (names : Ident → S
       out : (f : Breach) → BrokenLabelBound s.types names exports base label e f → Broken s.types names exports e f ⊎ ((x : Thing) × Stands s.types names exports e x × Misbounds s.types base label (first e) x f)
       out f (in_bound b) = inl b
       out f (at_bound {x = x} m b) = inr (x, m, b)
+
+  pub bound_answers : (base : Option TypeNo) (label : Pos) (e : Expr) → IsPlain e
+      → Answers g j (Repeats g j names s) IsNumbered (λ p. IsLabelBound s.types names exports e p.0 p.1) (BrokenLabelBound s.types names exports base label e) (bound_of g s base label (meant g e))
+  bound_answers base label e i = renamed (ordinal_answers base label e i)

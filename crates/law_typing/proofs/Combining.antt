@@ -242,3 +242,14 @@ module _ (g : Gathers) (j : Judges g) (l : Lawful g j) (O : Breach → Type 0) w
   heading_tells (finds a x i s u n) = silent n
   heading_tells (finds_headless r o s u n) = tells r (record { only = λ f m. inr (o f m); each = λ f b. absurd (n f b) })
   heading_tells (finds_nothing r a n) = tells r a
+
+-- ---- if more is repeated
+
+module _ (g : Gathers) (j : Judges g) (l : Lawful g j) where
+  pub more_checks : {A P : Type 0} {B Q U : Breach → Type 0} {r : Result A g.Reported} → ((f : Breach) → Q f → U f) → Checks g j l Q {A = A} P B r → Checks g j l U {A = A} P B r
+  more_checks h (passes a p n) = passes a p n
+  more_checks h (stops r c n) = stops r (record { only = λ f m. elim (c.only f m) [ inl b ↦ inl b | inr o ↦ inr (h f o) ]; each = c.each }) n
+
+  pub unit_checks : {A : Type 0} {P U : Breach → Type 0} {M : Unit {0} → Type 0} {B : Breach → Type 0} {r : Result A g.Reported} → ((f : Breach) → P f → U f) → Answers g j P {A = A} {K = Unit {0}} (λ v u. Unit {0}) M B r → Checks g j l U (M tt) B r
+  unit_checks {M = M} h (means v u i m q n) = passes v m n
+  unit_checks {M = M} h (refuses r c n) = stops r (record { only = λ f m. elim (c.only f m) [ inl b ↦ inl b | inr o ↦ inr (h f o) ]; each = c.each }) (n tt)

@@ -41,6 +41,7 @@ use Rattle.check_expr.specs.Meanings.{Meant, Picks, meant, picks, head, item, ex
 use Rattle.def_typing.specs.Amounts.{Constant, GoTogether, Within}
 use Rattle.def_typing.specs.Operators.{◌!◌, Kind, Scalar, Set, Text, operand, Makes, Misused, Misapplied, MaySign, SignMakes, Negates}
 use Rattle.def_typing.specs.Things.{Thing, AValue, AVariable, AnOpenArray, AType, AProcedure, ANested, AStandard, AModule, Headless, Standing, Known, Ahead, Undeclared, NotExported, Unknown, Misnamed, undeclared}
+use Rattle.def_typing.specs.Parts as parts
 use Rattle.def_typing.specs.Parts.{first, Operand, factors, addends, Among, here, later}
 use Rattle.def_typing.specs.Constants as rules
 use Rattle.def_typing.specs.Constants.{Fixed, AConstant, AScope, NoConstant, FixedMisnamed, IsBound, low_bound, high_bound, IsFixedPart, Fixes, as_fixed, FixedReads, FixedChain, fixed_done, fixed_then, AddUp, no_item, one_item, Adds, HasNumber, has_number, FixedChainFails, fixed_at_once, fixed_further, ItemFails, Misset, FixedFails, no_constant, FixedBroken, fixed_fails, fixed_inside, BrokenAsConstant, broken_constant, not_constant}
@@ -121,8 +122,8 @@ module _ (g : Gathers) (j : Judges g) (lawful : Lawful g j) (names : Ident → S
       one _ rules.fixed_literal = refl
 
       none : (f : Breach) → FixedIn (layer.Number at n) f → ⊥
-      none _ (inl (no_constant i m z)) = elim i [ ]
-      none f (inr (x, i, b)) = elim i [ ]
+      none _ (inl (no_constant (rules.an_inner i) m z)) = elim i [ ]
+      none f (inr (x, rules.an_inner i, b)) = elim i [ ]
 
   character_fixed : {e : Expr} (at : Pos) (c : ℕ) → out-Expr e ≡ layer.Char at c → FixedFound e
   character_fixed at c h = literal_fixed (layer.Char at c) (valued (Some char) (pos c)) h refl rules.fixed_character one none
@@ -131,8 +132,8 @@ module _ (g : Gathers) (j : Judges g) (lawful : Lawful g j) (names : Ident → S
       one _ rules.fixed_character = refl
 
       none : (f : Breach) → FixedIn (layer.Char at c) f → ⊥
-      none _ (inl (no_constant i m z)) = elim i [ ]
-      none f (inr (x, i, b)) = elim i [ ]
+      none _ (inl (no_constant (rules.an_inner i) m z)) = elim i [ ]
+      none f (inr (x, rules.an_inner i, b)) = elim i [ ]
 
   string_fixed : {e : Expr} (at : Pos) (text : List ℕ) → out-Expr e ≡ layer.Text at text → FixedFound e
   string_fixed at text h = literal_fixed (layer.Text at text) (value.Text text) h refl rules.fixed_string one none
@@ -141,8 +142,8 @@ module _ (g : Gathers) (j : Judges g) (lawful : Lawful g j) (names : Ident → S
       one _ rules.fixed_string = refl
 
       none : (f : Breach) → FixedIn (layer.Text at text) f → ⊥
-      none _ (inl (no_constant i m z)) = elim i [ ]
-      none f (inr (x, i, b)) = elim i [ ]
+      none _ (inl (no_constant (rules.an_inner i) m z)) = elim i [ ]
+      none f (inr (x, rules.an_inner i, b)) = elim i [ ]
 
   name_fixed : {e : Expr} (d : Designator) → out-Expr e ≡ layer.Use d None → FixedFound e
   name_fixed d h = fixed_layer (layer.Use d None) ((head g d).fixed.denotes s) h refl (exact g j lawful O {N = R (layer.Use d None)} {C = FixedIn (layer.Use d None)} (λ y m. rules.fixed_name m.1 m.2) (λ y r. parted r) into out (designator_fixes g j lawful names exports s knows d))
@@ -157,8 +158,8 @@ module _ (g : Gathers) (j : Judges g) (lawful : Lawful g j) (names : Ident → S
       out : (f : Breach) → FixedIn (layer.Use d None) f → DesignatorFails g j lawful names exports s knows d f
       out f (inl (rules.fixed_at_name m)) = inl m
       out f (inl (rules.fixed_at_selector {x = x} m z)) = inr (x, m, z)
-      out _ (inl (no_constant i m z)) = elim i [ ]
-      out f (inr (x, i, b)) = elim i [ ]
+      out _ (inl (no_constant (rules.an_inner i) m z)) = elim i [ ]
+      out f (inr (x, rules.an_inner i, b)) = elim i [ ]
 
   not_fixed : {e : Expr} (at : Pos) (x : Expr) → out-Expr e ≡ layer.Not at x → IsCallFree x → FixedFound x → FixedFound e
   not_fixed at x h i q = const_layer (layer.Not at x) (operate.negated g at (constants.constant g s (meant g x).fixed)) h refl (λ k m. rules.fixed_negated m.1 m.2) reads into out
@@ -168,23 +169,23 @@ module _ (g : Gathers) (j : Judges g) (lawful : Lawful g j) (names : Ident → S
       reads _ (rules.fixed_negated {a = a} {k = k} m n) = (k, (a, m, n), refl)
 
       into : (f : Breach) → ConstBroken x f ⊎ ((a : Kind) × F x (AConstant a) × (((k : Kind) → Negates a k → ⊥) × (f ≡ at ! rule.WrongType))) → FixedIn (layer.Not at x) f
-      into f (inl b) = part_broken rules.in_not b
+      into f (inl b) = part_broken (rules.an_inner parts.in_not) b
       into f (inr (a, m, (n, e))) = inl (subst (Fails (layer.Not at x)) (sym e) (rules.fixed_not_boolean m n))
 
       out : (f : Breach) → FixedIn (layer.Not at x) f → ConstBroken x f ⊎ ((a : Kind) × F x (AConstant a) × (((k : Kind) → Negates a k → ⊥) × (f ≡ at ! rule.WrongType)))
-      out _ (inl (no_constant rules.in_not m z)) = inl (inr (_, m, (z, refl)))
+      out _ (inl (no_constant (rules.an_inner parts.in_not) m z)) = inl (inr (_, m, (z, refl)))
       out _ (inl (rules.fixed_not_boolean {a = a} m n)) = inr (a, m, (n, refl))
-      out f (inr (y, rules.in_not, b)) = inl (inl b)
+      out f (inr (y, (rules.an_inner parts.in_not), b)) = inl (inl b)
 
   brackets_fixed : {e : Expr} (at : Pos) (x : Expr) → out-Expr e ≡ layer.Bracketed at x → IsCallFree x → FixedFound x → FixedFound e
-  brackets_fixed at x h i q = const_layer (layer.Bracketed at x) (constants.constant g s (meant g x).fixed) h refl (λ k m. rules.fixed_brackets m) reads (λ f b. part_broken rules.in_brackets b) out (const_valued i q)
+  brackets_fixed at x h i q = const_layer (layer.Bracketed at x) (constants.constant g s (meant g x).fixed) h refl (λ k m. rules.fixed_brackets m) reads (λ f b. part_broken (rules.an_inner parts.in_brackets) b) out (const_valued i q)
     where
       reads : (y : Fixed) → R (layer.Bracketed at x) y → (k : Kind) × F x (AConstant k) × (y ≡ AConstant k)
       reads _ (rules.fixed_brackets {k = k} m) = (k, m, refl)
 
       out : (f : Breach) → FixedIn (layer.Bracketed at x) f → ConstBroken x f
-      out _ (inl (no_constant rules.in_brackets m z)) = inr (_, m, (z, refl))
-      out f (inr (y, rules.in_brackets, b)) = inl b
+      out _ (inl (no_constant (rules.an_inner parts.in_brackets) m z)) = inr (_, m, (z, refl))
+      out f (inr (y, (rules.an_inner parts.in_brackets), b)) = inl b
 
   relation_fixed : {e : Expr} (a : Expr) (o : Operator RelOp) (b : Expr) → out-Expr e ≡ layer.Relation a o b → IsCallFree a → IsCallFree b → FixedFound a → FixedFound b → FixedFound e
   relation_fixed a o b h i k p q = const_layer (layer.Relation a o b) (operate.combined g (op.Relation o.op) o.pos (meant g a).fixed.at (constants.constant g s (meant g a).fixed) (meant g b).fixed.at (constants.constant g s (meant g b).fixed)) h refl
@@ -204,16 +205,16 @@ module _ (g : Gathers) (j : Judges g) (lawful : Lawful g j) (names : Ident → S
       reads _ (rules.fixed_relation {x = x} {y = y} {k = l} m n r) = (l, ((x, y), (m, n), r), refl)
 
       into : (f : Breach) → Breaks f → FixedIn (layer.Relation a o b) f
-      into f (inl (inl z)) = part_broken rules.left_side z
-      into f (inl (inr z)) = part_broken rules.right_side z
+      into f (inl (inl z)) = part_broken (rules.an_inner parts.left_side) z
+      into f (inl (inr z)) = part_broken (rules.an_inner parts.right_side) z
       into f (inr (c, (m, n), u)) = inl (rules.fixed_at_relation m n u)
 
       out : (f : Breach) → FixedIn (layer.Relation a o b) f → Breaks f
-      out _ (inl (no_constant rules.left_side m z)) = inl (inl (inr (_, m, (z, refl))))
-      out _ (inl (no_constant rules.right_side m z)) = inl (inr (inr (_, m, (z, refl))))
+      out _ (inl (no_constant (rules.an_inner parts.left_side) m z)) = inl (inl (inr (_, m, (z, refl))))
+      out _ (inl (no_constant (rules.an_inner parts.right_side) m z)) = inl (inr (inr (_, m, (z, refl))))
       out f (inl (rules.fixed_at_relation {x = x} {y = y} m n u)) = inr ((x, y), (m, n), u)
-      out f (inr (x, rules.left_side, z)) = inl (inl (inl z))
-      out f (inr (x, rules.right_side, z)) = inl (inr (inl z))
+      out f (inr (x, (rules.an_inner parts.left_side), z)) = inl (inl (inl z))
+      out f (inr (x, (rules.an_inner parts.right_side), z)) = inl (inr (inl z))
 
   -- ---- operators one after another
 
@@ -296,16 +297,16 @@ module _ (g : Gathers) (j : Judges g) (lawful : Lawful g j) (names : Ident → S
       reads _ (rules.fixed_term {a = a} {k = k} m c) = (k, (a, m, c), refl)
 
       into : (f : Breach) → InChain (λ k. F x (AConstant k)) (ConstBroken x) (first x) (factors rest) f → FixedIn (layer.Term x rest) f
-      into f (inl b) = part_broken rules.first_factor b
-      into f (inr (inl (y, m, b))) = part_broken (rules.other_factor m) b
+      into f (inl b) = part_broken (rules.an_inner parts.first_factor) b
+      into f (inr (inl (y, m, b))) = part_broken (rules.an_inner (parts.other_factor m)) b
       into f (inr (inr (a, m, c))) = inl (rules.fixed_in_term m c)
 
       out : (f : Breach) → FixedIn (layer.Term x rest) f → InChain (λ k. F x (AConstant k)) (ConstBroken x) (first x) (factors rest) f
-      out _ (inl (no_constant rules.first_factor m z)) = inl (inr (_, m, (z, refl)))
-      out _ (inl (no_constant (rules.other_factor {x = y} a) m z)) = inr (inl (y, a, inr (_, m, (z, refl))))
+      out _ (inl (no_constant (rules.an_inner parts.first_factor) m z)) = inl (inr (_, m, (z, refl)))
+      out _ (inl (no_constant (rules.an_inner (parts.other_factor {x = y} a)) m z)) = inr (inl (y, a, inr (_, m, (z, refl))))
       out f (inl (rules.fixed_in_term {a = a} m c)) = inr (inr (a, m, c))
-      out f (inr (y, rules.first_factor, b)) = inl (inl b)
-      out f (inr (_, rules.other_factor {x = y} a, b)) = inr (inl (y, a, inl b))
+      out f (inr (y, (rules.an_inner parts.first_factor), b)) = inl (inl b)
+      out f (inr (_, rules.an_inner (parts.other_factor {x = y} a), b)) = inr (inl (y, a, inl b))
 
   sum_fixed : {e : Expr} (x : Expr) (rest : List (Operator AddOp × Expr)) → out-Expr e ≡ layer.Sum None x rest → IsCallFree x → FixedFound x → ((y : Operand) → Among y (addends rest) → IsCallFree y.of) → ((y : Operand) → Among y (addends rest) → FixedFound y.of) → FixedFound e
   sum_fixed x rest h i q k p = const_layer (layer.Sum None x rest) (fold (step (first x)) (constants.constant g s (meant g x).fixed) (addends rest)) h
@@ -316,16 +317,16 @@ module _ (g : Gathers) (j : Judges g) (lawful : Lawful g j) (names : Ident → S
       reads _ (rules.fixed_sum {a = a} {k = k} m c) = (k, (a, m, c), refl)
 
       into : (f : Breach) → InChain (λ k. F x (AConstant k)) (ConstBroken x) (first x) (addends rest) f → FixedIn (layer.Sum None x rest) f
-      into f (inl b) = part_broken rules.first_addend b
-      into f (inr (inl (y, m, b))) = part_broken (rules.other_addend m) b
+      into f (inl b) = part_broken (rules.an_inner parts.first_addend) b
+      into f (inr (inl (y, m, b))) = part_broken (rules.an_inner (parts.other_addend m)) b
       into f (inr (inr (a, m, c))) = inl (rules.fixed_in_sum m c)
 
       out : (f : Breach) → FixedIn (layer.Sum None x rest) f → InChain (λ k. F x (AConstant k)) (ConstBroken x) (first x) (addends rest) f
-      out _ (inl (no_constant rules.first_addend m z)) = inl (inr (_, m, (z, refl)))
-      out _ (inl (no_constant (rules.other_addend {x = y} a) m z)) = inr (inl (y, a, inr (_, m, (z, refl))))
+      out _ (inl (no_constant (rules.an_inner parts.first_addend) m z)) = inl (inr (_, m, (z, refl)))
+      out _ (inl (no_constant (rules.an_inner (parts.other_addend {x = y} a)) m z)) = inr (inl (y, a, inr (_, m, (z, refl))))
       out f (inl (rules.fixed_in_sum {a = a} m c)) = inr (inr (a, m, c))
-      out f (inr (y, rules.first_addend, b)) = inl (inl b)
-      out f (inr (_, rules.other_addend {x = y} a, b)) = inr (inl (y, a, inl b))
+      out f (inr (y, (rules.an_inner parts.first_addend), b)) = inl (inl b)
+      out f (inr (_, rules.an_inner (parts.other_addend {x = y} a), b)) = inr (inl (y, a, inl b))
 
   abbrev HasSigned : Operator Sign → Expr → Kind → Type 0
   HasSigned sign x b = (a : Kind) × F x (AConstant a) × SignMakes sign.op (operand a) b
@@ -344,18 +345,18 @@ module _ (g : Gathers) (j : Judges g) (lawful : Lawful g j) (names : Ident → S
       reads _ (rules.fixed_signed_sum {a = a} {b = b} {k = k} m t c) = (k, (b, (a, m, t), c), refl)
 
       into : (f : Breach) → InChain (HasSigned sign x) (SignFails sign x) sign.pos (addends rest) f → FixedIn (layer.Sum (Some sign) x rest) f
-      into f (inl (inl b)) = part_broken rules.first_addend b
+      into f (inl (inl b)) = part_broken (rules.an_inner parts.first_addend) b
       into f (inl (inr (a, m, z))) = inl (rules.fixed_at_sign m z)
-      into f (inr (inl (y, m, b))) = part_broken (rules.other_addend m) b
+      into f (inr (inl (y, m, b))) = part_broken (rules.an_inner (parts.other_addend m)) b
       into f (inr (inr (b, (a, m, t), c))) = inl (rules.fixed_in_signed_sum m t c)
 
       out : (f : Breach) → FixedIn (layer.Sum (Some sign) x rest) f → InChain (HasSigned sign x) (SignFails sign x) sign.pos (addends rest) f
-      out _ (inl (no_constant rules.first_addend m z)) = inl (inl (inr (_, m, (z, refl))))
-      out _ (inl (no_constant (rules.other_addend {x = y} a) m z)) = inr (inl (y, a, inr (_, m, (z, refl))))
+      out _ (inl (no_constant (rules.an_inner parts.first_addend) m z)) = inl (inl (inr (_, m, (z, refl))))
+      out _ (inl (no_constant (rules.an_inner (parts.other_addend {x = y} a)) m z)) = inr (inl (y, a, inr (_, m, (z, refl))))
       out f (inl (rules.fixed_at_sign {a = a} m z)) = inl (inr (a, m, z))
       out f (inl (rules.fixed_in_signed_sum {a = a} {b = b} m t c)) = inr (inr (b, (a, m, t), c))
-      out f (inr (y, rules.first_addend, b)) = inl (inl (inl b))
-      out f (inr (_, rules.other_addend {x = y} a, b)) = inr (inl (y, a, inl b))
+      out f (inr (y, (rules.an_inner parts.first_addend), b)) = inl (inl (inl b))
+      out f (inr (_, rules.an_inner (parts.other_addend {x = y} a), b)) = inr (inl (y, a, inl b))
 
   -- ---- elements
 
@@ -557,14 +558,14 @@ module _ (g : Gathers) (j : Judges g) (lawful : Lawful g j) (names : Ident → S
   SetType at st r = Checks g j lawful O {A = Unit {0}} (st ≡ Known (AType bitset)) (Misset at st) r
 
   no_set : {at : Pos} (x : Thing) → (x ≡ AType bitset → ⊥) → SetType at (Known x) (reported g at rule.NoType)
-  no_set {at = at} x n = stopped g j lawful O at rule.NoType (λ e. n (known_same e)) (rules.no_set_type n) (λ f m. one m)
+  no_set {at = at} x n = stopped g j lawful O at rule.NoType (λ e. n (known_same e)) (rules.other_sort n) (λ f m. one m)
     where
       known_same : {x y : Thing} → Known x ≡ Known y → x ≡ y
       known_same {x = x} e = ap (λ z. elim z [ Known y ↦ y | Ahead ↦ x | Undeclared ↦ x | NotExported ↦ x | Unknown ↦ x ]) e
 
       one : {f : Breach} → Misset at (Known x) f → f ≡ at ! rule.NoType
       one (rules.no_name m) = elim m.misnamed [ ]
-      one (rules.no_set_type n) = refl
+      one (rules.other_sort n) = refl
 
   set_local : {at : Pos} (t : TypeNo) (k : LocalKind) → SetType at (of_local t k) (reported g at rule.NoType)
   set_local t local.Variable = no_set (AVariable t) (λ e. absurd cc)
@@ -580,7 +581,7 @@ module _ (g : Gathers) (j : Judges g) (lawful : Lawful g j) (names : Ident → S
     where
       none : {f : Breach} → Misset at (Known (AType t)) f → ⊥
       none (rules.no_name m) = elim m.misnamed [ ]
-      none (rules.no_set_type n) = n (ap AType e)
+      none (rules.other_sort n) = n (ap AType e)
   set_type_by t _ (fails_it n) = no_set (AType t) (λ e. n (type_same e))
 
   bitset_checks : {at : Pos} (m : Meaning) → SetType at (standing m) (is_bitset g at m)
@@ -591,11 +592,11 @@ module _ (g : Gathers) (j : Judges g) (lawful : Lawful g j) (names : Ident → S
   bitset_checks (meaning.Field f) = no_set (AVariable f.of) (λ e. absurd cc)
   bitset_checks (meaning.Procedure p) = no_set (AProcedure p.heading) (λ e. absurd cc)
   bitset_checks (meaning.LocalProcedure p) = no_set (ANested p.heading) (λ e. absurd cc)
-  bitset_checks {at = at} meaning.Ahead = stopped g j lawful O at rule.NoType (λ e. absurd cc) rules.no_type_yet (λ f m. one m)
+  bitset_checks {at = at} meaning.Ahead = stopped g j lawful O at rule.NoType (λ e. absurd cc) rules.a_procedure (λ f m. one m)
     where
       one : {f : Breach} → Misset at Ahead f → f ≡ at ! rule.NoType
       one (rules.no_name m) = absurd (m.not_ahead refl)
-      one rules.no_type_yet = refl
+      one rules.a_procedure = refl
   bitset_checks (meaning.Standard f) = no_set (AStandard f) (λ e. absurd cc)
   bitset_checks (meaning.Module k) = no_set (AModule k) (λ e. absurd cc)
 
@@ -647,6 +648,8 @@ module _ (g : Gathers) (j : Judges g) (lawful : Lawful g j) (names : Ident → S
       out _ (inl (no_constant (rules.in_element {i = i} a b) m z)) = inr (i, a, inr (_, b, inr (_, m, (z, refl))))
       out f (inl (rules.at_item {i = i} a z)) = inr (i, a, inl z)
       out f (inr (x, rules.in_element {i = i} a b, c)) = inr (i, a, inr (x, b, inl c))
+      out _ (inl (no_constant (rules.an_inner i) m z)) = elim i [ ]
+      out f (inr (x, rules.an_inner i, c)) = elim i [ ]
 
   named_set : (name : Ident) (at : Pos) (items : List Item) → ((i : Item) → Among i items → ItemSo i) → SetAnswers (Some name) at items
   named_set name at items h = exact g j lawful O {N = R (layer.Set (Some name) at items)} {C = FixedIn (layer.Set (Some name) at items)} (λ x m. subst (R (layer.Set (Some name) at items)) (sym m.2) (rules.fixed_named_set m.1.0 m.1.1)) (λ x r. parted r)
@@ -661,6 +664,8 @@ module _ (g : Gathers) (j : Judges g) (lawful : Lawful g j) (names : Ident → S
       out f (inl (rules.at_set_type m)) = inl m
       out f (inl (rules.at_item {i = i} a z)) = inr (i, a, inl z)
       out f (inr (x, rules.in_element {i = i} a b, c)) = inr (i, a, inr (x, b, inl c))
+      out _ (inl (no_constant (rules.an_inner i) m z)) = elim i [ ]
+      out f (inr (x, rules.an_inner i, c)) = elim i [ ]
 
   set_by : (name : Option Ident) (at : Pos) (items : List Item) → ((i : Item) → Among i items → ItemSo i) → SetAnswers name at items
   set_by None at items h = plain_set at items h

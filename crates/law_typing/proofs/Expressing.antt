@@ -34,6 +34,7 @@ use Rattle.def_typing.specs.Amounts.{Constant}
 use Rattle.def_typing.specs.Operators.{◌!◌, Kind, Scalar, Text, operand, Makes, Misused, Misapplied, MaySign, SignMakes, Negates}
 use Rattle.def_typing.specs.Things.{Thing, AValue, Standing, Known, Misnamed, Picks as PicksName, Indexes}
 use Rattle.def_typing.specs.Expressions as rules
+use Rattle.def_typing.specs.Parts as parts
 use Rattle.def_typing.specs.Parts.{first, Operand, factors, addends, Among, here, later}
 use Rattle.def_typing.specs.Expressions.{IsOperand, IsPart, an_operand, an_argument, Reads, Denotes, Selected, Selects, Chain, done, then, Calls, Misselected, SelectionFails, Miscalled, ChainFails, at_once, further, Fails}
 use Rattle.law_typing.specs.Judging.{Judges, Answers, means}
@@ -91,8 +92,8 @@ module _ (g : Gathers) (j : Judges g) (lawful : Lawful g j) (names : Ident → S
       one _ rules.literal = refl
 
       none : (f : Breach) → In (layer.Number at n) f → ⊥
-      none f (inl (rules.no_operand i m z)) = elim i [ ]
-      none f (inr (x, an_operand i, b)) = elim i [ ]
+      none f (inl (rules.no_operand (rules.an_inner i) m z)) = elim i [ ]
+      none f (inr (x, an_operand (rules.an_inner i), b)) = elim i [ ]
 
   character_found : {e : Expr} (at : Pos) (c : ℕ) → out-Expr e ≡ layer.Char at c → Found e
   character_found at c h = literal_found (layer.Char at c) (computed.Constant (value.Scalar (record { of = char; base = char; number = pos c }))) (Scalar (Constant (Some char) (pos c))) h refl (kind_constant (value.Scalar (record { of = char; base = char; number = pos c }))) rules.character one none
@@ -101,8 +102,8 @@ module _ (g : Gathers) (j : Judges g) (lawful : Lawful g j) (names : Ident → S
       one _ rules.character = refl
 
       none : (f : Breach) → In (layer.Char at c) f → ⊥
-      none f (inl (rules.no_operand i m z)) = elim i [ ]
-      none f (inr (x, an_operand i, b)) = elim i [ ]
+      none f (inl (rules.no_operand (rules.an_inner i) m z)) = elim i [ ]
+      none f (inr (x, an_operand (rules.an_inner i), b)) = elim i [ ]
 
   string_found : {e : Expr} (at : Pos) (text : List ℕ) → out-Expr e ≡ layer.Text at text → Found e
   string_found at text h = literal_found (layer.Text at text) (computed.Constant (value.Text text)) (Text text) h refl (kind_constant (value.Text text)) rules.string one none
@@ -111,8 +112,8 @@ module _ (g : Gathers) (j : Judges g) (lawful : Lawful g j) (names : Ident → S
       one _ rules.string = refl
 
       none : (f : Breach) → In (layer.Text at text) f → ⊥
-      none f (inl (rules.no_operand i m z)) = elim i [ ]
-      none f (inr (x, an_operand i, b)) = elim i [ ]
+      none f (inl (rules.no_operand (rules.an_inner i) m z)) = elim i [ ]
+      none f (inr (x, an_operand (rules.an_inner i), b)) = elim i [ ]
 
   -- ---- sets
 
@@ -157,8 +158,8 @@ module _ (g : Gathers) (j : Judges g) (lawful : Lawful g j) (names : Ident → S
       out : (f : Breach) → In (layer.Set name at items) f → (FC name at items f ⊎ NoConst name at items spot f) ⊎ ((k : Kind) × ((x : Fixed) × RC name at items x × (x ≡ AConstant k)) × ⊥)
       out f (inl (rules.at_set z)) = inl (inl (inl z))
       out f (inl (rules.in_set {e = x} m b)) = inl (inl (inr (x, m, b)))
-      out f (inl (rules.no_operand i m z)) = elim i [ ]
-      out f (inr (x, an_operand i, b)) = elim i [ ]
+      out f (inl (rules.no_operand (rules.an_inner i) m z)) = elim i [ ]
+      out f (inr (x, an_operand (rules.an_inner i), b)) = elim i [ ]
 
   -- ---- NOT and brackets
 
@@ -171,23 +172,23 @@ module _ (g : Gathers) (j : Judges g) (lawful : Lawful g j) (names : Ident → S
       reads _ (rules.negated {a = a} {k = k} m n) = (k, (a, m, n), refl)
 
       into : (f : Breach) → V x f ⊎ ((a : Kind) × H x a × (((k : Kind) → Negates a k → ⊥) × (f ≡ at ! rule.WrongType))) → In (layer.Not at x) f
-      into f (inl b) = operand_broken g j lawful names exports s rules.in_not b
+      into f (inl b) = operand_broken g j lawful names exports s (rules.an_inner parts.in_not) b
       into f (inr (a, m, (n, e))) = inl (subst (Fails s.types names exports (layer.Not at x)) (sym e) (rules.not_boolean m n))
 
       out : (f : Breach) → In (layer.Not at x) f → V x f ⊎ ((a : Kind) × H x a × (((k : Kind) → Negates a k → ⊥) × (f ≡ at ! rule.WrongType)))
-      out f (inl (rules.no_operand rules.in_not m z)) = inl (rules.mistaken m z)
+      out f (inl (rules.no_operand (rules.an_inner parts.in_not) m z)) = inl (rules.mistaken m z)
       out _ (inl (rules.not_boolean {a = a} m n)) = inr (a, m, (n, refl))
-      out f (inr (y, an_operand rules.in_not, b)) = inl (rules.broken b)
+      out f (inr (y, an_operand (rules.an_inner parts.in_not), b)) = inl (rules.broken b)
 
   brackets_found : {e : Expr} (at : Pos) (x : Expr) → out-Expr e ≡ layer.Bracketed at x → IsPlain x → Found x → Found e
-  brackets_found at x h i q = value_layer g j lawful names exports s (layer.Bracketed at x) (value_of g s (meant g x)) h refl (λ k m. rules.bracketed m) reads (λ f b. operand_broken g j lawful names exports s rules.in_brackets b) out (valued g j lawful names exports s i q)
+  brackets_found at x h i q = value_layer g j lawful names exports s (layer.Bracketed at x) (value_of g s (meant g x)) h refl (λ k m. rules.bracketed m) reads (λ f b. operand_broken g j lawful names exports s (rules.an_inner parts.in_brackets) b) out (valued g j lawful names exports s i q)
     where
       reads : (y : Thing) → R (layer.Bracketed at x) y → (k : Kind) × H x k × (y ≡ AValue k)
       reads _ (rules.bracketed {k = k} m) = (k, m, refl)
 
       out : (f : Breach) → In (layer.Bracketed at x) f → V x f
-      out f (inl (rules.no_operand rules.in_brackets m z)) = rules.mistaken m z
-      out f (inr (y, an_operand rules.in_brackets, b)) = rules.broken b
+      out f (inl (rules.no_operand (rules.an_inner parts.in_brackets) m z)) = rules.mistaken m z
+      out f (inr (y, an_operand (rules.an_inner parts.in_brackets), b)) = rules.broken b
 
   -- ---- relations
 
@@ -209,16 +210,16 @@ module _ (g : Gathers) (j : Judges g) (lawful : Lawful g j) (names : Ident → S
       reads _ (rules.relation {x = x} {y = y} {k = l} m n r) = (l, ((x, y), (m, n), r), refl)
 
       into : (f : Breach) → Fails' f → In (layer.Relation a o b) f
-      into f (inl (inl z)) = operand_broken g j lawful names exports s rules.left_side z
-      into f (inl (inr z)) = operand_broken g j lawful names exports s rules.right_side z
+      into f (inl (inl z)) = operand_broken g j lawful names exports s (rules.an_inner parts.left_side) z
+      into f (inl (inr z)) = operand_broken g j lawful names exports s (rules.an_inner parts.right_side) z
       into f (inr (c, (m, n), u)) = inl (rules.at_relation m n u)
 
       out : (f : Breach) → In (layer.Relation a o b) f → Fails' f
-      out f (inl (rules.no_operand rules.left_side m z)) = inl (inl (rules.mistaken m z))
-      out f (inl (rules.no_operand rules.right_side m z)) = inl (inr (rules.mistaken m z))
+      out f (inl (rules.no_operand (rules.an_inner parts.left_side) m z)) = inl (inl (rules.mistaken m z))
+      out f (inl (rules.no_operand (rules.an_inner parts.right_side) m z)) = inl (inr (rules.mistaken m z))
       out f (inl (rules.at_relation {x = x} {y = y} m n u)) = inr ((x, y), (m, n), u)
-      out f (inr (x, an_operand rules.left_side, z)) = inl (inl (rules.broken z))
-      out f (inr (x, an_operand rules.right_side, z)) = inl (inr (rules.broken z))
+      out f (inr (x, an_operand (rules.an_inner parts.left_side), z)) = inl (inl (rules.broken z))
+      out f (inr (x, an_operand (rules.an_inner parts.right_side), z)) = inl (inr (rules.broken z))
 
   -- ---- operators one after another
 
@@ -299,16 +300,16 @@ module _ (g : Gathers) (j : Judges g) (lawful : Lawful g j) (names : Ident → S
       reads _ (rules.term {a = a} {k = k} m c) = (k, (a, m, c), refl)
 
       into : (f : Breach) → InChain (H x) (V x) (first x) (factors rest) f → In (layer.Term x rest) f
-      into f (inl b) = operand_broken g j lawful names exports s rules.first_factor b
-      into f (inr (inl (y, m, b))) = operand_broken g j lawful names exports s (rules.other_factor m) b
+      into f (inl b) = operand_broken g j lawful names exports s (rules.an_inner parts.first_factor) b
+      into f (inr (inl (y, m, b))) = operand_broken g j lawful names exports s (rules.an_inner (parts.other_factor m)) b
       into f (inr (inr (a, m, c))) = inl (rules.in_term m c)
 
       out : (f : Breach) → In (layer.Term x rest) f → InChain (H x) (V x) (first x) (factors rest) f
-      out f (inl (rules.no_operand rules.first_factor m z)) = inl (rules.mistaken m z)
-      out f (inl (rules.no_operand (rules.other_factor {x = y} a) m z)) = inr (inl (y, a, rules.mistaken m z))
+      out f (inl (rules.no_operand (rules.an_inner parts.first_factor) m z)) = inl (rules.mistaken m z)
+      out f (inl (rules.no_operand (rules.an_inner (parts.other_factor {x = y} a)) m z)) = inr (inl (y, a, rules.mistaken m z))
       out f (inl (rules.in_term {a = a} m c)) = inr (inr (a, m, c))
-      out f (inr (y, an_operand rules.first_factor, b)) = inl (rules.broken b)
-      out f (inr (_, an_operand (rules.other_factor {x = y} a), b)) = inr (inl (y, a, rules.broken b))
+      out f (inr (y, an_operand (rules.an_inner parts.first_factor), b)) = inl (rules.broken b)
+      out f (inr (_, an_operand (rules.an_inner (parts.other_factor {x = y} a)), b)) = inr (inl (y, a, rules.broken b))
 
   sum_found : {e : Expr} (x : Expr) (rest : List (Operator AddOp × Expr)) → out-Expr e ≡ layer.Sum None x rest → IsPlain x → Found x → ((y : Operand) → Among y (addends rest) → IsPlain y.of) → ((y : Operand) → Among y (addends rest) → Found y.of) → Found e
   sum_found x rest h i q k p = value_layer g j lawful names exports s (layer.Sum None x rest) (fold (step (first x)) (value_of g s (meant g x)) (addends rest)) h
@@ -319,16 +320,16 @@ module _ (g : Gathers) (j : Judges g) (lawful : Lawful g j) (names : Ident → S
       reads _ (rules.sum {a = a} {k = k} m c) = (k, (a, m, c), refl)
 
       into : (f : Breach) → InChain (H x) (V x) (first x) (addends rest) f → In (layer.Sum None x rest) f
-      into f (inl b) = operand_broken g j lawful names exports s rules.first_addend b
-      into f (inr (inl (y, m, b))) = operand_broken g j lawful names exports s (rules.other_addend m) b
+      into f (inl b) = operand_broken g j lawful names exports s (rules.an_inner parts.first_addend) b
+      into f (inr (inl (y, m, b))) = operand_broken g j lawful names exports s (rules.an_inner (parts.other_addend m)) b
       into f (inr (inr (a, m, c))) = inl (rules.in_sum m c)
 
       out : (f : Breach) → In (layer.Sum None x rest) f → InChain (H x) (V x) (first x) (addends rest) f
-      out f (inl (rules.no_operand rules.first_addend m z)) = inl (rules.mistaken m z)
-      out f (inl (rules.no_operand (rules.other_addend {x = y} a) m z)) = inr (inl (y, a, rules.mistaken m z))
+      out f (inl (rules.no_operand (rules.an_inner parts.first_addend) m z)) = inl (rules.mistaken m z)
+      out f (inl (rules.no_operand (rules.an_inner (parts.other_addend {x = y} a)) m z)) = inr (inl (y, a, rules.mistaken m z))
       out f (inl (rules.in_sum {a = a} m c)) = inr (inr (a, m, c))
-      out f (inr (y, an_operand rules.first_addend, b)) = inl (rules.broken b)
-      out f (inr (_, an_operand (rules.other_addend {x = y} a), b)) = inr (inl (y, a, rules.broken b))
+      out f (inr (y, an_operand (rules.an_inner parts.first_addend), b)) = inl (rules.broken b)
+      out f (inr (_, an_operand (rules.an_inner (parts.other_addend {x = y} a)), b)) = inr (inl (y, a, rules.broken b))
 
   abbrev HasSigned : Operator Sign → Expr → Kind → Type 0
   HasSigned sign x b = (a : Kind) × H x a × SignMakes sign.op (operand a) b
@@ -347,18 +348,18 @@ module _ (g : Gathers) (j : Judges g) (lawful : Lawful g j) (names : Ident → S
       reads _ (rules.signed_sum {a = a} {b = b} {k = k} m t c) = (k, (b, (a, m, t), c), refl)
 
       into : (f : Breach) → InChain (HasSigned sign x) (SignFails sign x) sign.pos (addends rest) f → In (layer.Sum (Some sign) x rest) f
-      into f (inl (inl b)) = operand_broken g j lawful names exports s rules.first_addend b
+      into f (inl (inl b)) = operand_broken g j lawful names exports s (rules.an_inner parts.first_addend) b
       into f (inl (inr (a, m, z))) = inl (rules.at_sign m z)
-      into f (inr (inl (y, m, b))) = operand_broken g j lawful names exports s (rules.other_addend m) b
+      into f (inr (inl (y, m, b))) = operand_broken g j lawful names exports s (rules.an_inner (parts.other_addend m)) b
       into f (inr (inr (b, (a, m, t), c))) = inl (rules.in_signed_sum m t c)
 
       out : (f : Breach) → In (layer.Sum (Some sign) x rest) f → InChain (HasSigned sign x) (SignFails sign x) sign.pos (addends rest) f
-      out f (inl (rules.no_operand rules.first_addend m z)) = inl (inl (rules.mistaken m z))
-      out f (inl (rules.no_operand (rules.other_addend {x = y} a) m z)) = inr (inl (y, a, rules.mistaken m z))
+      out f (inl (rules.no_operand (rules.an_inner parts.first_addend) m z)) = inl (inl (rules.mistaken m z))
+      out f (inl (rules.no_operand (rules.an_inner (parts.other_addend {x = y} a)) m z)) = inr (inl (y, a, rules.mistaken m z))
       out f (inl (rules.at_sign {a = a} m z)) = inl (inr (a, m, z))
       out f (inl (rules.in_signed_sum {a = a} {b = b} m t c)) = inr (inr (b, (a, m, t), c))
-      out f (inr (y, an_operand rules.first_addend, b)) = inl (inl (rules.broken b))
-      out f (inr (_, an_operand (rules.other_addend {x = y} a), b)) = inr (inl (y, a, rules.broken b))
+      out f (inr (y, an_operand (rules.an_inner parts.first_addend), b)) = inl (inl (rules.broken b))
+      out f (inr (_, an_operand (rules.an_inner (parts.other_addend {x = y} a)), b)) = inr (inl (y, a, rules.broken b))
 
   -- ---- designators
 
@@ -532,6 +533,8 @@ module _ (g : Gathers) (j : Judges g) (lawful : Lawful g j) (names : Ident → S
 
   designator_out : {d : Designator} (f : Breach) → In (layer.Use d None) f → DesignatorFails d f
   designator_out f (inl (rules.no_operand (rules.as_index {s = y} {at = at} {e = e} a q) m z)) = inr (inl (e, (y, at, a, q), rules.mistaken m z))
+  designator_out f (inl (rules.no_operand (rules.an_inner i) m z)) = elim i [ ]
+  designator_out f (inr (x, an_operand (rules.an_inner i), b)) = elim i [ ]
   designator_out f (inl (rules.at_name m)) = inl m
   designator_out f (inl (rules.at_selector {x = x} m z)) = inr (inr (x, m, z))
   designator_out f (inr (x, an_operand (rules.as_index {s = y} {at = at} {e = e} a q), b)) = inr (inl (e, (y, at, a, q), rules.broken b))
@@ -562,6 +565,8 @@ module _ (g : Gathers) (j : Judges g) (lawful : Lawful g j) (names : Ident → S
 
       out : (f : Breach) → In (layer.Use d (Some args)) f → CallBreaks d args f
       out f (inl (rules.no_operand (rules.as_index {s = y} {at = at} {e = e} a q) m z)) = inl (inl (inr (inl (e, (y, at, a, q), rules.mistaken m z))))
+      out f (inl (rules.no_operand (rules.an_inner i) m z)) = elim i [ ]
+      out f (inr (x, an_operand (rules.an_inner i), b)) = elim i [ ]
       out f (inl (rules.at_name m)) = inl (inl (inl m))
       out f (inl (rules.at_selector {x = x} m z)) = inl (inl (inr (inr (x, m, z))))
       out f (inl (rules.at_call {x = x} m z)) = inl (inr (x, m, z))

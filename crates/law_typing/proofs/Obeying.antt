@@ -11,7 +11,7 @@ use Rattle.m2_tree.specs.declared.expr.Designator.{Designator, out-Designator}
 use Rattle.m2_tree.specs.declared.stmt.Stmt.{Stmt, Stmt-F, out-Stmt, map-Stmt, fold_out-Stmt}
 use Rattle.m2_tree.specs.declared.stmt.Rest.{Rest, Rest-F, out-Rest, map-Rest, fold_out-Rest}
 use Rattle.m2_tree.specs.declared.stmt.Rest.TheOpen as layer
-use Rattle.m2_tree.specs.declared.stmt.Arm.{Arm}
+use Rattle.m2_tree.specs.declared.stmt.Arm.{Arm, out-Arm}
 use Rattle.typed_tree.specs.declared.types.TypeNo.{TypeNo}
 use Rattle.typed_tree.specs.declared.computed.TypedExpr.{TypedExpr}
 use Rattle.typed_tree.specs.declared.statement.TypedStmt.{TypedStmt}
@@ -44,10 +44,11 @@ use Rattle.def_typing.specs.Actions.{IsAction, BrokenAction}
 use Rattle.def_typing.specs.Returns.{IsExit, BrokenExit, Returns, BrokenReturn}
 use Rattle.def_typing.specs.Loops.{Runs, BrokenRun}
 use Rattle.def_typing.specs.Statements as rules
-use Rattle.def_typing.specs.Statements.{arguments, Spot, inside_loop, Obeys, as_written, IsRight, assignment, call, choice, while_loop, repeat_loop, bare_loop, exit, return, for_loop, with_record, inside_with, AllObey, no_more, one_more, RestObeys, rest_as_written, RestIsRight, elsif, no_else, an_else, Broken, broken_as_written, Breaks, RestBroken, rest_broken, RestBreaks}
+use Rattle.def_typing.specs.Statements.{arguments, labels_of, Spot, inside_loop, Obeys, as_written, IsRight, assignment, call, choice, while_loop, repeat_loop, bare_loop, exit, return, for_loop, with_record, inside_with, AllObey, no_more, one_more, RestObeys, rest_as_written, RestIsRight, elsif, no_else, an_else, Broken, broken_as_written, Breaks, RestBroken, rest_broken, RestBreaks}
+use Rattle.law_typing.specs.Exact as exact
 use Rattle.law_typing.specs.Judging.{Judges, Answers, means, refuses}
-use Rattle.law_typing.specs.Exact.{RepeatsResult, KnowsSpot, IsPlain, ArePlain, ArePlainSelectors, IsThing, thing_value, thing_variable, thing_open, thing_type, thing_procedure, thing_nested, thing_standard, thing_module, IsPlainStmt, plain_with, plain_assignment, plain_action, plain_if, plain_while, plain_repeat, plain_loop, plain_exit, plain_return, plain_for, ArePlainStmts, no_statement, one_statement, IsPlainRest, plain_elsif, plain_end, plain_else}
-use Rattle.law_typing.proofs.Combining.{Lawful, declined, Checks, passes, stops, checks_as, both_checks, map_checks, Tells, silent, tells, tells_as, refusal_tells, Finds, finds, finds_headless, finds_nothing, finds_as, sort_answers}
+use Rattle.law_typing.specs.Exact.{RepeatsResult, KnowsSpot, IsPlain, ArePlain, ArePlainSelectors, IsThing, thing_value, thing_variable, thing_open, thing_type, thing_procedure, thing_nested, thing_standard, thing_module, IsPlainStmt, plain_with, plain_assignment, plain_action, plain_if, plain_while, plain_repeat, plain_loop, plain_exit, plain_return, plain_for, ArePlainStmts, no_statement, one_statement, IsPlainRest, plain_elsif, plain_end, IsPlainElse, plain_else, ArePlainArms, one_arm, plain_case}
+use Rattle.law_typing.proofs.Combining.{Lawful, declined, Checks, passes, stops, more_checks, unit_checks, checks_as, both_checks, map_checks, Tells, silent, tells, tells_as, refusal_tells, Finds, finds, finds_headless, finds_nothing, finds_as, sort_answers}
 use Rattle.law_typing.proofs.Elements.{checks_answer}
 use Rattle.law_typing.proofs.Assigning.{condition_answers, assignment_answers}
 use Rattle.law_typing.proofs.Acting.{action_answers}
@@ -59,6 +60,8 @@ use Rattle.law_typing.proofs.Expressing.{designator_found}
 use Rattle.law_typing.proofs.Opening.{Opens, opens, opens_nothing, opened_is, denotes_record, one_record}
 use Rattle.law_typing.proofs.Inside.{repeats_inside, spot_inside}
 use Rattle.law_typing.proofs.Looping.{run_answers}
+use Rattle.law_typing.proofs.Selectors.{selector_answers}
+use Rattle.law_typing.proofs.Choosing.{BodySo, case_checks}
 
 -- ---- by layers
 
@@ -269,10 +272,6 @@ module _ (g : Gathers) (j : Judges g) (lawful : Lawful g j) (exports : ℕ → I
   abbrev Known : Spot → Scope g.Reported → Around g.Reported → Type 0
   Known = KnowsSpot g j exports
 
-  unit_checks : {A : Type 0} {P U : Breach → Type 0} {M : Unit {0} → Type 0} {B : Breach → Type 0} {r : Result A g.Reported} → ((f : Breach) → P f → U f) → Answers g j P {A = A} {K = Unit {0}} (λ v u. Unit {0}) M B r → Checks g j lawful U (M tt) B r
-  unit_checks {M = M} h (means v u i m q n) = passes v m n
-  unit_checks {M = M} h (refuses r c n) = stops r (record { only = λ f m. elim (c.only f m) [ inl b ↦ inl b | inr o ↦ inr (h f o) ]; each = c.each }) (n tt)
-
   module _ (w : Spot) (s : Scope g.Reported) (a : Around g.Reported) where
     abbrev StmtSo : Stmt → Result TypedStmt g.Reported → Type 0
     StmtSo x r = Checks g j lawful (O w s a) {A = TypedStmt} (Obeys s.types exports w x) (Broken s.types exports w x) r
@@ -309,20 +308,15 @@ module _ (g : Gathers) (j : Judges g) (lawful : Lawful g j) (exports : ℕ → I
     list_checks xs h = checks_as g j lawful (O w s a) (λ p. p.1) (λ p. (tt, p)) (λ f b. elim b [ inl z ↦ absurd z | inr z ↦ z ]) (λ f b. inr b) (list_from xs h {P = Unit {0}} {B = λ f. ⊥} (Ok []) (passes [] tt (λ f b. b)))
 
     condition_checks : (k : Known w s a) (c : Expr) → IsPlain c → Checks g j lawful (O w s a) {A = TypedExpr} (IsCondition s.types w.names exports c) (BrokenCondition s.types w.names exports c) (condition g s (meant g c))
-    condition_checks k c i = unit_checks {M = λ u. IsCondition s.types w.names exports c} (λ f o. inl o) (condition_answers g j lawful w.names exports s k.of_names c i)
+    condition_checks k c i = unit_checks g j lawful {M = λ u. IsCondition s.types w.names exports c} (λ f o. inl o) (condition_answers g j lawful w.names exports s k.of_names c i)
 
     call_layer : (k : Known w s a) (d : Designator) (args : Option (List Expr)) → ArePlainSelectors (out-Designator d).selectors → ArePlain (arguments args) → LayerSo (layer.Call d args) (stmt_layer g (opened_stmt g (layer.Call d args)) s a)
-    call_layer k d None p q = checks_as g j lawful (O w s a) call (action_of s.types exports) (λ f b. rules.in_call b) (broken_action s.types exports) (unit_checks {M = λ u. IsAction s.types w.names exports d []} (λ f o. inl o) (action_answers g j lawful w.names exports s k.of_names d [] p q))
-    call_layer k d (Some args) p q = checks_as g j lawful (O w s a) call (action_of s.types exports) (λ f b. rules.in_call b) (broken_action s.types exports) (unit_checks {M = λ u. IsAction s.types w.names exports d args} (λ f o. inl o) (action_answers g j lawful w.names exports s k.of_names d args p q))
+    call_layer k d None p q = checks_as g j lawful (O w s a) call (action_of s.types exports) (λ f b. rules.in_call b) (broken_action s.types exports) (unit_checks g j lawful {M = λ u. IsAction s.types w.names exports d []} (λ f o. inl o) (action_answers g j lawful w.names exports s k.of_names d [] p q))
+    call_layer k d (Some args) p q = checks_as g j lawful (O w s a) call (action_of s.types exports) (λ f b. rules.in_call b) (broken_action s.types exports) (unit_checks g j lawful {M = λ u. IsAction s.types w.names exports d args} (λ f o. inl o) (action_answers g j lawful w.names exports s k.of_names d args p q))
 
     exit_layer : (k : Known w s a) (at : Pos) → LayerSo (layer.Exit at) (exited g at a)
     exit_layer k at = checks_as g j lawful (O w s a) (λ m. exit (subst IsExit (sym k.of_loop) m)) (λ m. subst IsExit k.of_loop (exit_of s.types exports m)) (λ f b. rules.at_exit (subst (λ (l : Bool). BrokenExit at l f) (sym k.of_loop) b)) (λ f b. subst (λ (l : Bool). BrokenExit at l f) k.of_loop (exit_out s.types exports f b))
-        (unit_checks {M = λ u. IsExit a.in_loop} (λ f o. o) (exit_answers g j lawful (O w s a) at a))
-
-  -- what is repeated inside is repeated outside
-  more_checks : {A P : Type 0} {B Q U : Breach → Type 0} {r : Result A g.Reported} → ((f : Breach) → Q f → U f) → Checks g j lawful Q {A = A} P B r → Checks g j lawful U {A = A} P B r
-  more_checks h (passes a p n) = passes a p n
-  more_checks h (stops r c n) = stops r (record { only = λ f m. elim (c.only f m) [ inl b ↦ inl b | inr o ↦ inr (h f o) ]; each = c.each }) n
+        (unit_checks g j lawful {M = λ u. IsExit a.in_loop} (λ f o. o) (exit_answers g j lawful (O w s a) at a))
 
   check_tells : {U : Breach → Type 0} {P : Type 0} {B : Breach → Type 0} {r : Result (List TypedStmt) g.Reported} → Checks g j lawful U {A = List TypedStmt} P B r → Tells g j lawful U B (reported_in r)
   check_tells (passes a p n) = silent n
@@ -402,7 +396,7 @@ module _ (g : Gathers) (j : Judges g) (lawful : Lawful g j) (exports : ℕ → I
     Tell r = Tells g j lawful U (Inside s.types exports w d body) (reported_in r)
 
     inside_checks : Bodies → (t : TypeNo) (fields : List (List ℕ × TypeNo)) → IsMade s.types t (shape.Record fields) → Checks g j lawful U {A = List TypedStmt} (AllObey s.types exports (inside_with fields w) body) (AnyBroken s.types exports (inside_with fields w) body) (all_of g (opened s t) a (map (stmt g) body))
-    inside_checks h t fields m = more_checks (λ f o. elim o [ inl z ↦ inl (repeats_inside g j s t fields m w.names exports w.own f z) | inr z ↦ inr z ]) (h (inside_with fields w) (opened s t) (spot_inside g j s t fields m k))
+    inside_checks h t fields m = more_checks g j lawful (λ f o. elim o [ inl z ↦ inl (repeats_inside g j s t fields m w.names exports w.own f z) | inr z ↦ inr z ]) (h (inside_with fields w) (opened s t) (spot_inside g j s t fields m k))
 
     made_by : {t : TypeNo} {fields : List (List ℕ × TypeNo)} → LeadsToRecord s.types exports w.names d t fields → IsMade s.types t (shape.Record fields)
     made_by (leads e l m) = m
@@ -440,10 +434,15 @@ module _ (g : Gathers) (j : Judges g) (lawful : Lawful g j) (exports : ℕ → I
         checks_as g j lawful U (λ b. with_record there q b) (right_body l) (λ f b. with_in s.types exports f (inr (inl (t, fields, l, b)))) (λ f b. body_fails f l n b)
         (map_checks g j lawful U (λ (b : List TypedStmt). typed.With v.1 b) (subst (λ (z : TypeNo). Checks g j lawful U {A = List TypedStmt} (AllObey s.types exports (inside_with fields w) body) (AnyBroken s.types exports (inside_with fields w) body) (all_of g (opened s z) a (map (stmt g) body))) (sym i) (inside_checks h t fields q)))
     with_layer h (refuses r c n) = checks_as g j lawful U {P = ⊥} (λ z. absurd z) (none_right n) (λ f b. with_in s.types exports f b) (λ f b. with_out s.types exports f b)
-        (unit_checks {M = λ u. ⊥} (λ f o. o) (refusal_tells g j lawful U {A = TypedStmt} {K = Unit {0}} {Is = λ v u. Unit {0}} c (λ u z. z) (behind_tells h (opened_is g j lawful w.names exports s k.of_names d))))
+        (unit_checks g j lawful {M = λ u. ⊥} (λ f o. o) (refusal_tells g j lawful U {A = TypedStmt} {K = Unit {0}} {Is = λ v u. Unit {0}} c (λ u z. z) (behind_tells h (opened_is g j lawful w.names exports s k.of_names d))))
 
     with_checks : ArePlainSelectors (out-Designator d).selectors → Bodies → LayerSo w s a (layer.With d body) (stmt_layer g (opened_stmt g (layer.With d body)) s a)
     with_checks i h = with_layer h (record_answers i)
+
+  case_layer : (w : Spot) (s : Scope g.Reported) (a : Around g.Reported) (k : Known w s a) (e : Expr) (arms : List Arm) (o : Option (List Stmt)) → IsPlain e → exact.ArePlainLabels (labels_of arms) → ((x : Arm) → Among x arms → BodySo g j lawful exports w s a k.of_names x)
+      → RestLayerSo w s a (layer.Else o) (rest_layer g (opened_rest g (layer.Else o)) s a) → LayerSo w s a (layer.Case e arms o) (stmt_layer g (opened_stmt g (layer.Case e arms o)) s a)
+  case_layer w s a k e arms None i l b q = case_checks g j lawful exports w s a k.of_names e arms None (selector_answers g j lawful w.names exports s k.of_names e i) l b q
+  case_layer w s a k e arms (Some body) i l b q = case_checks g j lawful exports w s a k.of_names e arms (Some body) (selector_answers g j lawful w.names exports s k.of_names e i) l b q
 
   looping : {w : Spot} {s : Scope g.Reported} {a : Around g.Reported} → Known w s a → Known (inside_loop w) s (in_loop a)
   looping k = record { of_names = k.of_names; of_own = k.of_own; of_result = k.of_result; of_loop = refl }
@@ -451,11 +450,13 @@ module _ (g : Gathers) (j : Judges g) (lawful : Lawful g j) (exports : ℕ → I
   mutual
     stmt_checks : {x : Stmt} → IsPlainStmt x → (w : Spot) (s : Scope g.Reported) (a : Around g.Reported) → Known w s a → StmtSo w s a x (stmt g x s a)
     stmt_checks (plain_assignment {d = d} {e = e} h p i) w s a k = by_layer w s a (layer.Assign d e) h
-        (checks_as g j lawful (O w s a) assignment (assignment_of s.types exports) (λ f b. rules.in_assignment b) (broken_assignment s.types exports) (unit_checks {M = λ u. Assigns s.types w.names exports d e} (λ f o. inl o) (assignment_answers g j lawful w.names exports s k.of_names d e p i)))
+        (checks_as g j lawful (O w s a) assignment (assignment_of s.types exports) (λ f b. rules.in_assignment b) (broken_assignment s.types exports) (unit_checks g j lawful {M = λ u. Assigns s.types w.names exports d e} (λ f o. inl o) (assignment_answers g j lawful w.names exports s k.of_names d e p i)))
     stmt_checks (plain_action {d = d} {args = args} h p i) w s a k = by_layer w s a (layer.Call d args) h (call_layer w s a k d args p i)
     stmt_checks (plain_if {c = c} {body = body} {rest = r} h i b q) w s a k = by_layer w s a (layer.If c body r) h
         (checks_as g j lawful (O w s a) (λ z. choice z.0 z.1.0 z.1.1) (choice_of s.types exports) (if_in s.types exports) (if_out s.types exports)
         (map_checks g j lawful (O w s a) (λ (p : TypedExpr × (List TypedStmt × Option (List TypedStmt))). typed.If p.0 p.1.0 p.1.1) (both_checks g j lawful (O w s a) (condition_checks w s a k c i) (both_checks g j lawful (O w s a) (list_checks w s a _ (each_checks b w s a k)) (rest_checks q w s a k)))))
+    stmt_checks (plain_case {e = e} {arms = arms} {otherwise = o} h i l b q) w s a k = by_layer w s a (layer.Case e arms o) h
+        (case_layer w s a k e arms o i l (arm_checks b w s a k) (else_checks q w s a k))
     stmt_checks (plain_while {c = c} {body = body} h i b) w s a k = by_layer w s a (layer.While c body) h
         (checks_as g j lawful (O w s a) (λ z. while_loop z.0 z.1) (while_of s.types exports) (while_in s.types exports) (while_out s.types exports)
         (map_checks g j lawful (O w s a) (λ (p : TypedExpr × List TypedStmt). typed.While p.0 p.1) (both_checks g j lawful (O w s a) (condition_checks w s a k c i) (list_checks w s a _ (each_checks b w s a k)))))
@@ -467,11 +468,11 @@ module _ (g : Gathers) (j : Judges g) (lawful : Lawful g j) (exports : ℕ → I
         (map_checks g j lawful (O w s a) (λ (p : List TypedStmt). typed.Loop p) (list_checks (inside_loop w) s (in_loop a) _ (each_checks b (inside_loop w) s (in_loop a) (looping k)))))
     stmt_checks (plain_exit {at = at} h) w s a k = by_layer w s a (layer.Exit at) h (exit_layer w s a k at)
     stmt_checks (plain_return {at = at} {e = e} h i) w s a k = by_layer w s a (layer.Return at e) h
-        (checks_as g j lawful (O w s a) return (return_of s.types exports) (λ f b. rules.in_return b) (return_out s.types exports) (unit_checks {M = λ u. Returns s.types w.names exports w.gives e} (λ f o. o) (return_answers g j lawful w.names exports s k.of_names at w.gives a.gives e k.of_result i)))
+        (checks_as g j lawful (O w s a) return (return_of s.types exports) (λ f b. rules.in_return b) (return_out s.types exports) (unit_checks g j lawful {M = λ u. Returns s.types w.names exports w.gives e} (λ f o. o) (return_answers g j lawful w.names exports s k.of_names at w.gives a.gives e k.of_result i)))
     stmt_checks (plain_for {name = name} {start = start} {limit = limit} {by = by} {body = body} h i q c b) w s a k = by_layer w s a (layer.For name start limit by body) h
         (checks_as g j lawful (O w s a) (λ z. for_loop z.0 z.1) (for_of s.types exports) (for_in s.types exports) (for_out s.types exports)
         (map_checks g j lawful (O w s a) (λ (p : Course × List TypedStmt). typed.For p.0.control.place p.0.control.of p.0.start p.0.limit p.0.by p.1)
-        (both_checks g j lawful (O w s a) (unit_checks {M = λ u. Runs s.types w.names exports w.own name start limit by} (λ f o. inl o) (run_answers g j lawful w.names exports w.own s k.of_names k.of_own name start limit by i q c)) (list_checks w s a _ (each_checks b w s a k)))))
+        (both_checks g j lawful (O w s a) (unit_checks g j lawful {M = λ u. Runs s.types w.names exports w.own name start limit by} (λ f o. inl o) (run_answers g j lawful w.names exports w.own s k.of_names k.of_own name start limit by i q c)) (list_checks w s a _ (each_checks b w s a k)))))
     stmt_checks (plain_with {d = d} {body = body} h i b) w s a k = by_layer w s a (layer.With d body) h (with_checks w s a k d body i (λ v q z. list_checks v q a _ (each_checks b v q a z)))
 
     each_checks : {xs : List Stmt} → ArePlainStmts xs → (w : Spot) (s : Scope g.Reported) (a : Around g.Reported) → Known w s a → (x : Stmt) → Among x xs → StmtSo w s a x (stmt g x s a)
@@ -483,9 +484,17 @@ module _ (g : Gathers) (j : Judges g) (lawful : Lawful g j) (exports : ℕ → I
     rest_checks (plain_elsif {c = c} {body = body} {rest = r} h i b q) w s a k = by_rest w s a (layer.Elsif c body r) h
         (map_checks g j lawful (O w s a) (λ (x : TypedStmt). Some (x ∷ [])) (checks_as g j lawful (O w s a) (λ z. elsif z.0 z.1.0 z.1.1) (elsif_of s.types exports) (elsif_in s.types exports) (elsif_out s.types exports)
         (map_checks g j lawful (O w s a) (λ (p : TypedExpr × (List TypedStmt × Option (List TypedStmt))). typed.If p.0 p.1.0 p.1.1) (both_checks g j lawful (O w s a) (condition_checks w s a k c i) (both_checks g j lawful (O w s a) (list_checks w s a _ (each_checks b w s a k)) (rest_checks q w s a k))))))
-    rest_checks (plain_end h) w s a k = by_rest w s a (layer.Else None) h (passes None no_else (no_else_out s.types exports))
-    rest_checks (plain_else {body = body} h b) w s a k = by_rest w s a (layer.Else (Some body)) h
-        (map_checks g j lawful (O w s a) (λ (p : List TypedStmt). Some p) (checks_as g j lawful (O w s a) an_else (else_of s.types exports) (else_in s.types exports) (else_out s.types exports) (list_checks w s a _ (each_checks b w s a k))))
+    rest_checks (plain_end {otherwise = o} h i) w s a k = by_rest w s a (layer.Else o) h (else_checks i w s a k)
+
+    else_checks : {o : Option (List Stmt)} → IsPlainElse o → (w : Spot) (s : Scope g.Reported) (a : Around g.Reported) → Known w s a → RestLayerSo w s a (layer.Else o) (rest_layer g (opened_rest g (layer.Else o)) s a)
+    else_checks exact.no_else w s a k = passes None no_else (no_else_out s.types exports)
+    else_checks (plain_else {body = body} b) w s a k =
+        map_checks g j lawful (O w s a) (λ (p : List TypedStmt). Some p) (checks_as g j lawful (O w s a) an_else (else_of s.types exports) (else_in s.types exports) (else_out s.types exports) (list_checks w s a _ (each_checks b w s a k)))
+
+    arm_checks : {xs : List Arm} → ArePlainArms xs → (w : Spot) (s : Scope g.Reported) (a : Around g.Reported) (k : Known w s a) (x : Arm) → Among x xs → BodySo g j lawful exports w s a k.of_names x
+    arm_checks exact.no_arm w s a k x m = elim m [ ]
+    arm_checks (one_arm b bs) w s a k x here = list_checks w s a (out-Arm x).body (each_checks b w s a k)
+    arm_checks (one_arm b bs) w s a k x (later m) = arm_checks bs w s a k x m
 
   pub statement_answers : (w : Spot) (s : Scope g.Reported) (a : Around g.Reported) → Known w s a → (x : Stmt) → IsPlainStmt x
       → Answers g j (O w s a) {A = TypedStmt} {K = Unit {0}} (λ v u. Unit {0}) (λ u. Obeys s.types exports w x) (Broken s.types exports w x) (stmt g x s a)

@@ -1,5 +1,5 @@
 -- What is elaborated, and what it stands for.
-use Rattle.std.specs.Prelude.{◌≡◌, ◌⊎◌, ◌&&◌, ◌==◌, Bool, false, ℕ, ℤ, List, [], ◌∷◌, Option, Some, None, Result, Ok, Err, slice_get, map}
+use Rattle.std.specs.Prelude.{◌≡◌, ◌⊎◌, ◌&&◌, ◌==◌, Bool, true, false, not, ℕ, ℤ, List, [], ◌∷◌, Option, Some, None, Result, Ok, Err, slice_get, map}
 use Rattle.m2_rule.specs.declared.rule.Rule.TheVariants as rule
 use Rattle.m2_tree.specs.declared.pos.Pos.{Pos}
 use Rattle.m2_tree.specs.declared.name.Ident.{Ident}
@@ -14,6 +14,18 @@ use Rattle.m2_tree.specs.declared.expr.Selector.{Selector, out-Selector}
 use Rattle.m2_tree.specs.declared.expr.Designator.{Designator, out-Designator}
 use Rattle.m2_tree.specs.declared.expr.Item.{Item, out-Item}
 use Rattle.m2_tree.specs.declared.stmt.Stmt.{Stmt, out-Stmt}
+use Rattle.m2_tree.specs.declared.decl.Constant.{Constant as ConstantDecl}
+use Rattle.m2_tree.specs.declared.decl.TypeDecl.{TypeDecl}
+use Rattle.m2_tree.specs.declared.decl.Variables.{Variables}
+use Rattle.m2_tree.specs.declared.decl.Parameter.{Parameter}
+use Rattle.m2_tree.specs.declared.decl.Simple.{Simple}
+use Rattle.m2_tree.specs.declared.decl.Simple.TheVariants as simple
+use Rattle.m2_tree.specs.declared.decl.TypeExpr.{TypeExpr, out-TypeExpr}
+use Rattle.m2_tree.specs.declared.decl.TypeExpr.TheOpen as type_layer
+use Rattle.m2_tree.specs.declared.decl.Decl.{Decl, Decl-F, out-Decl}
+use Rattle.m2_tree.specs.declared.decl.Decl.TheOpen as decl_layer
+use Rattle.m2_tree.specs.declared.decl.Block.{Block}
+use Rattle.m2_tree.specs.declared.stmt.Arm.{Arm, out-Arm}
 use Rattle.m2_tree.specs.declared.stmt.Rest.{Rest, out-Rest}
 use Rattle.m2_tree.specs.declared.stmt.Rest.TheOpen as step
 use Rattle.typed_tree.specs.declared.types.TypeNo.{TypeNo}
@@ -32,6 +44,9 @@ use Rattle.typed_tree.specs.declared.meaning.Standard.{Standard}
 use Rattle.m2_rule.specs.declared.breach.Breach.{Breach}
 use Rattle.check_scope.specs.declared.meaningless.Meaningless.{Meaningless}
 use Rattle.check_scope.specs.declared.meaningless.Meaningless.TheVariants as meaningless
+use Rattle.check_scope.specs.declared.known.Known.{Known as KnownName}
+use Rattle.check_scope.specs.declared.known.Known.TheVariants.{Declared}
+use Rattle.check_scope.specs.declared.known.Origin.{Origin}
 use Rattle.check_scope.specs.declared.scope.Scope.{Scope}
 use Rattle.check_scope.specs.Elaborated.{Gathers, ◌▷◌}
 use Rattle.check_scope.specs.Scopes.{looked_up}
@@ -45,7 +60,7 @@ use Rattle.check_operator.specs.Suits.{value_suited}
 use Rattle.check_call.specs.Effects.{target_at, assigned}
 use Rattle.typed_tree.specs.declared.statement.TypedStmt.{TypedStmt}
 use Rattle.typed_tree.specs.Types.{boolean}
-use Rattle.def_typing.specs.Constants.{AConstant, Fixes, BrokenAsConstant}
+use Rattle.def_typing.specs.Constants.{IsBound, AConstant, Fixes, BrokenAsConstant}
 use Rattle.check_expr.specs.Effects.{done_by}
 use Rattle.def_typing.specs.Actions.{IsAction, BrokenAction}
 use Rattle.def_typing.specs.Assignments.{Assigns, BrokenAssignment, IsCondition, BrokenCondition}
@@ -58,15 +73,31 @@ use Rattle.def_typing.specs.Cases.{IsSelector, BrokenSelector, IsLabelBound, Bro
 use Rattle.check_stmt_parts.specs.Labels.{bound_of}
 use Rattle.check_const_ops.specs.declared.operand.Ordinal.{Ordinal}
 use Rattle.def_typing.specs.Loops.{Runs, BrokenRun}
+use Rattle.m2_tree.specs.declared.expr.Qualified.{Qualified}
+use Rattle.check_type_expr.specs.Named.{named_type}
+use Rattle.def_typing.specs.TypeNames.{NamesType, BrokenTypeName}
+use Rattle.typed_tree.specs.declared.shape.Scalar.{Scalar as Range}
+use Rattle.check_type_expr.specs.Made.{subrange}
+use Rattle.def_typing.specs.Subranges.{IsSubrange, BrokenSubrange}
+use Rattle.m2_tree.specs.declared.decl.Heading.{Heading}
+use Rattle.typed_tree.specs.declared.shape.Made.{Made}
+use Rattle.typed_tree.specs.declared.shape.Signature.{Signature}
+use Rattle.check_type_expr.specs.Headings.{heading_of}
+use Rattle.def_typing.specs.Headings.{procedure_made, IsHeading, BrokenHeading}
+use Rattle.typed_tree.specs.Names.{found}
+use Rattle.check_block.specs.Declarations.{declared_block}
+use Rattle.check_block.specs.Headings.{standing_from}
+use Rattle.check_block.specs.declared.heading.Standing.TheVariants as heading
+use Rattle.def_typing.specs.Declarations.{Declared as Resolved, declarations_of, in_order, types_behind, AllStand, IsOwn, BrokenIn}
 use Rattle.check_stmt.specs.Statements.{stmt}
-use Rattle.def_typing.specs.Statements.{arguments, Spot, Obeys, Broken}
+use Rattle.def_typing.specs.Statements.{arguments, labels_of, Spot, Obeys, Broken}
 use Rattle.check_expr.specs.Meanings.{meant, head, part, value_of}
 use Rattle.def_typing.specs.Amounts.{Constant, Value}
 use Rattle.def_typing.specs.Operators.{◌!◌, Kind, Scalar, Set, Text, Routine, Procedure, Whole, Untaken}
 use Rattle.def_typing.specs.Things.{Thing, AValue, AVariable, AnOpenArray, AType, AProcedure, ANested, AStandard, AModule, Headless, Standing, Known, Ahead, Undeclared, NotExported, Unknown}
-use Rattle.def_typing.specs.Parts.{Operand, factors, addends}
+use Rattle.def_typing.specs.Parts.{Operand, factors, addends, Among}
 use Rattle.def_typing.specs.Expressions.{Has, BrokenAsValue}
-use Rattle.law_typing.specs.Judging.{Judges, Answers}
+use Rattle.law_typing.specs.Judging.{Judges, Answers, Reports}
 
 -- ---- what is elaborated
 
@@ -152,6 +183,12 @@ module _ (g : Gathers) (j : Judges g) where
         → looked_up g s name ≡ Err (meaningless.Headless r) → j.Among r f → Repeats names s f
     of_declaration : {name : Ident} {r : g.Reported} → names name ≡ Unknown
         → looked_up g s name ≡ Err (meaningless.Broken r) → j.Among r f → Repeats names s f
+
+  -- whether a name is taken before a block begins; no procedure of a definition is awaited
+  pub data TakenAs : Bool → Option (KnownName g.Reported) → Type 0 where
+    is_taken : {o : Origin} {m : Result Meaning g.Reported} → standing_from o m ≡ heading.Taken
+        → TakenAs true (Some (Declared o m))
+    not_taken : TakenAs false None
 
   -- what is known of the result of the body that a statement stands in
   pub data KnowsResult : Giving → Option (Result TypeNo g.Reported) → Type 0 where
@@ -261,6 +298,9 @@ mutual
 
 -- ---- statements of which this is known
 
+abbrev pub ArePlainLabels : List Item → Type 0
+ArePlainLabels items = (i : Item) → Among i items → (e : Expr) → IsBound e (out-Item i) → IsPlain e
+
 mutual
   pub data IsPlainStmt : Stmt → Type 0 where
     plain_assignment : {x : Stmt} {d : Designator} {e : Expr} → out-Stmt x ≡ step.Assign d e
@@ -271,6 +311,9 @@ mutual
     plain_if : {x : Stmt} {c : Expr} {body : List Stmt} {rest : Rest}
         → out-Stmt x ≡ step.If c body rest → IsPlain c → ArePlainStmts body → IsPlainRest rest
         → IsPlainStmt x
+    plain_case : {x : Stmt} {e : Expr} {arms : List Arm} {otherwise : Option (List Stmt)}
+        → out-Stmt x ≡ step.Case e arms otherwise → IsPlain e → ArePlainLabels (labels_of arms)
+        → ArePlainArms arms → IsPlainElse otherwise → IsPlainStmt x
     plain_while : {x : Stmt} {c : Expr} {body : List Stmt} → out-Stmt x ≡ step.While c body
         → IsPlain c → ArePlainStmts body → IsPlainStmt x
     plain_repeat : {x : Stmt} {body : List Stmt} {c : Expr} → out-Stmt x ≡ step.Repeat body c
@@ -296,9 +339,47 @@ mutual
     plain_elsif : {r : Rest} {c : Expr} {body : List Stmt} {rest : Rest}
         → out-Rest r ≡ step.Elsif c body rest → IsPlain c → ArePlainStmts body → IsPlainRest rest
         → IsPlainRest r
-    plain_end : {r : Rest} → out-Rest r ≡ step.Else None → IsPlainRest r
-    plain_else : {r : Rest} {body : List Stmt} → out-Rest r ≡ step.Else (Some body)
-        → ArePlainStmts body → IsPlainRest r
+    plain_end : {r : Rest} {otherwise : Option (List Stmt)} → out-Rest r ≡ step.Else otherwise
+        → IsPlainElse otherwise → IsPlainRest r
+
+  pub data IsPlainElse : Option (List Stmt) → Type 0 where
+    no_else : IsPlainElse None
+    plain_else : {body : List Stmt} → ArePlainStmts body → IsPlainElse (Some body)
+
+  pub data ArePlainArms : List Arm → Type 0 where
+    no_arm : ArePlainArms []
+    one_arm : {x : Arm} {xs : List Arm} → ArePlainStmts (out-Arm x).body → ArePlainArms xs
+        → ArePlainArms (x ∷ xs)
+
+-- ---- declarations of which this is known: constants call nothing, and types are names or
+-- subranges
+
+abbrev pub IsPlainSimple : Simple → Type 0
+IsPlainSimple (simple.Named q) = Unit {0}
+IsPlainSimple (simple.Enumeration at names) = ⊥
+IsPlainSimple (simple.Subrange of at low high) = IsCallFree low × IsCallFree high
+
+pub data IsPlainType : TypeExpr → Type 0 where
+  plain_simple : {e : TypeExpr} {x : Simple} → out-TypeExpr e ≡ type_layer.Simple x
+      → IsPlainSimple x → IsPlainType e
+  plain_array : {e of : TypeExpr} {at : Pos} {index : Simple}
+      → out-TypeExpr e ≡ type_layer.Array at index of → IsPlainSimple index → IsPlainType of
+      → IsPlainType e
+  plain_procedure : {e : TypeExpr} {at : Pos} {xs : List Parameter} {q : Option Qualified}
+      → out-TypeExpr e ≡ type_layer.Procedure at xs q → IsPlainType e
+
+abbrev pub IsPlainLayer : Decl-F Decl Block → Type 0
+IsPlainLayer (decl_layer.Constants cs) = (c : ConstantDecl) → Among c cs → IsCallFree c.value
+IsPlainLayer (decl_layer.Types ts) = (d : TypeDecl) → Among d ts → IsPlainType d.of
+IsPlainLayer (decl_layer.Variables vs) = (v : Variables) → Among v vs → IsPlainType v.of
+IsPlainLayer (decl_layer.Procedure h b) = Unit {0}
+
+abbrev pub ArePlainDecls : List Decl → Type 0
+ArePlainDecls ds = (d : Decl) → Among d ds → IsPlainLayer (out-Decl d)
+
+-- in a procedure
+abbrev pub is_nested : {T : Type 0} → Scope T → Bool
+is_nested s = not (s.level == 0)
 
 -- what is known of the spot at which a statement stands
 pub record KnowsSpot (g : Gathers) (j : Judges g) (exports : ℕ → Ident → Standing) (w : Spot)
@@ -307,6 +388,47 @@ pub record KnowsSpot (g : Gathers) (j : Judges g) (exports : ℕ → Ident → S
   pub of_own : KnowsOwn g j w.own s
   pub of_result : KnowsResult g j w.gives a.gives
   pub of_loop : w.in_loop ≡ a.in_loop
+
+abbrev pub AllOwn : {T : Type 0} → (outer : Ident → Bool) → Scope T → (ℕ → Ident → Standing)
+    → (Ident → Standing) → (List ℕ → Bool) → List Decl → List Resolved → (Ident → Bool) → Type 0
+AllOwn outer s exports outside taken ds whole own =
+    (name : Ident)
+    → IsOwn s.types exports outside taken (is_nested s) (declarations_of ds) outer whole name
+    (own name)
+
+-- what is known behind the declarations of a block
+pub record IsBlockExact (g : Gathers) (j : Judges g) (exports : ℕ → Ident → Standing)
+    (outside : Ident → Standing) (s : Scope g.Reported) (taken : List ℕ → Bool) (ends : List ℕ)
+    (first : ℕ) (ds : List Decl) : Type 0 where
+  -- the declarations, each with the types that it makes
+  pub whole : List Resolved
+  pub in_text : in_order whole ≡ declarations_of ds
+  -- Exactly the broken rules are reported.
+  pub reported : Reports g j (Repeats g j outside s)
+      (BrokenIn s.types exports outside taken (is_nested s) (declarations_of ds) whole)
+      (declared_block g ends (s, Ok tt) first ds).1
+  pub types : (declared_block g ends (s, Ok tt) first ds).0.types ≡ types_behind s.types whole
+  -- Each name stands for something behind them.
+  pub stand : (names : Ident → Standing)
+      × AllStand s.types exports outside taken (is_nested s) (declarations_of ds) whole names
+  -- Whatever names stand for, the scope knows it.
+  pub known : (names : Ident → Standing)
+      → AllStand s.types exports outside taken (is_nested s) (declarations_of ds) whole names
+      → Knows g j names exports (declared_block g ends (s, Ok tt) first ds).0
+  -- It is known which variables count as own ones.
+  pub own : (outer : Ident → Bool) → KnowsOwn g j outer s
+      → (own : Ident → Bool) × AllOwn outer s exports outside taken ds whole own
+  pub owned : (outer own : Ident → Bool) → KnowsOwn g j outer s
+      → AllOwn outer s exports outside taken ds whole own
+      → KnowsOwn g j own (declared_block g ends (s, Ok tt) first ds).0
+  -- So all is known of the spot at which a statement of the body stands.
+  pub spot : (outer own : Ident → Bool) (names : Ident → Standing) → KnowsOwn g j outer s
+      → AllStand s.types exports outside taken (is_nested s) (declarations_of ds) whole names
+      → AllOwn outer s exports outside taken ds whole own → (gives : Giving) (a : Around g.Reported)
+      → KnowsResult g j gives a.gives
+      → KnowsSpot g j exports
+      (record { names = names; own = own; gives = gives; in_loop = a.in_loop })
+      (declared_block g ends (s, Ok tt) first ds).0 a
 
 -- These expressions are answered exactly, whatever their names stand for.
 abbrev pub ExpressionsAreExact : (g : Gathers) → Judges g → Type 0
@@ -405,7 +527,33 @@ BoundsAreExact g j =
     (λ p. IsLabelBound s.types names exports e p.0 p.1)
     (BrokenLabelBound s.types names exports base label e) (bound_of g s base label (meant g e))
 
--- Statements in which no CASE stands are answered exactly.
+-- Names of types are answered exactly.
+abbrev pub TypeNamesAreExact : (g : Gathers) → Judges g → Type 0
+TypeNamesAreExact g j =
+    (names : Ident → Standing) (exports : ℕ → Ident → Standing) (s : Scope g.Reported)
+    → Knows g j names exports s → (q : Qualified)
+    → Answers g j (Repeats g j names s) (λ (t u : TypeNo). t ≡ u) (NamesType names exports q)
+    (BrokenTypeName names exports q) (named_type g s q)
+
+-- Headings of procedures are answered exactly, whatever the names of their formals.
+abbrev pub HeadingsAreExact : (g : Gathers) → Judges g → Type 0
+HeadingsAreExact g j =
+    (names : Ident → Standing) (exports : ℕ → Ident → Standing) (s : Scope g.Reported)
+    → Knows g j names exports s → (h : Heading)
+    → Answers g j (Repeats g j names s) (λ (m : Made) (x : Signature). m ≡ procedure_made x)
+    (IsHeading s.types names exports h) (BrokenHeading s.types names exports h) (heading_of g s h)
+
+-- Subranges whose bounds call nothing are answered exactly.
+abbrev pub SubrangesAreExact : (g : Gathers) → Judges g → Type 0
+SubrangesAreExact g j =
+    (names : Ident → Standing) (exports : ℕ → Ident → Standing) (s : Scope g.Reported)
+    → Knows g j names exports s → (low high : Expr) → IsCallFree low → IsCallFree high
+    → (q : Option Qualified)
+    → Answers g j (Repeats g j names s) (λ (a r : Range). a ≡ r)
+    (IsSubrange s.types names exports low high q) (BrokenSubrange s.types names exports low high q)
+    (subrange g s q (part g low) (part g high))
+
+-- Statements are answered exactly.
 abbrev pub StatementsAreExact : (g : Gathers) → Judges g → Type 0
 StatementsAreExact g j =
     (exports : ℕ → Ident → Standing) (w : Spot) (s : Scope g.Reported) (a : Around g.Reported)
@@ -414,6 +562,15 @@ StatementsAreExact g j =
     → IsPlainStmt x
     → Answers g j (RepeatsResult g j w.names s a.gives) {A = TypedStmt} {K = Unit {0}}
     (λ v u. Unit {0}) (λ u. Obeys s.types exports w x) (Broken s.types exports w x) (stmt g x s a)
+
+-- Declarations are answered exactly, and what is known behind them is what the rules say.
+abbrev pub BlocksAreExact : (g : Gathers) → Judges g → Type 0
+BlocksAreExact g j =
+    (exports : ℕ → Ident → Standing) (outside : Ident → Standing) (s : Scope g.Reported)
+    (taken : List ℕ → Bool)
+    → Knows g j outside exports s → s.withs ≡ []
+    → ((n : List ℕ) → TakenAs g j (taken n) (found n s.own)) → (ends : List ℕ) (first : ℕ)
+    (ds : List Decl) → ArePlainDecls ds → IsBlockExact g j exports outside s taken ends first ds
 
 -- For each scope there are standings that it knows, and variables that are own ones.
 abbrev pub ScopesAreKnown : (g : Gathers) → Judges g → Type 0

@@ -35,3 +35,8 @@ module _ (g : Gathers) (j : Judges g) (Elsewhere : Breach → Type 0) where
         → ((f : Breach) → Breaks f → ⊥) → Answers Is Means Breaks (Ok a)
     refuses : (r : g.Reported) → Accounts Breaks r → ((k : K) → Means k → ⊥)
         → Answers Is Means Breaks (Err r)
+
+  -- What is reported of a part are its broken rules, if there are any.
+  pub data Reports (Breaks : Breach → Type 0) : Result (Unit {0}) g.Reported → Type 0 where
+    reports_nothing : ((f : Breach) → Breaks f → ⊥) → Reports Breaks (Ok tt)
+    reports_broken : (r : g.Reported) → Accounts Breaks r → Reports Breaks (Err r)

@@ -1,10 +1,9 @@
 //! Laws alone: the checker answers expressions of bodies exactly as the rules of the language say, and so it does constant
-//! expressions, conditions, and all statements but CASE.
+//! expressions, conditions, and all statements.
 //!
 //! `def_typing` has the rules: what an expression has, and which rules are broken in it. These laws hold of the elaboration in
 //! `check_stmt` and below, of all that it gathers and of the least refusal alike. They are not proved of all: what stands in
-//! braces calls nothing (`IsPlain`), constant expressions call nothing (`IsCallFree`), and in statements no CASE stands
-//! (`IsPlainStmt`).
+//! braces calls nothing (`IsPlain`), and constant expressions call nothing (`IsCallFree`).
 //!
 //! - `specs/Judging` says what it is to answer exactly, and `specs/Exact` what is elaborated, when names stand for what a
 //!   scope knows of them, and what is proved.
@@ -17,13 +16,18 @@
 //!   `proofs/Expressing` the induction, `proofs/Assigning` conditions and assignments, `proofs/Changing` standard procedures
 //!   that are statements, `proofs/Acting` all calls that are, and `proofs/Knowing` the names of scopes.
 //! - `proofs/Returning` has RETURN and EXIT, `proofs/Looping` what stands before the statements of a FOR, `proofs/Selectors`
-//!   the selector of a CASE, `proofs/Bounds` the bounds of its labels, `proofs/Opening` what a WITH opens, `proofs/Inside` what
-//!   is known inside, and `proofs/Obeying` the induction over statements.
+//!   the selector of a CASE, `proofs/Bounds` the bounds of its labels, `proofs/Labelling` each label, `proofs/Meeting` and
+//!   `proofs/Twice` labels that are there twice, `proofs/Choosing` all of a CASE, `proofs/Opening` what a WITH opens,
+//!   `proofs/Inside` what is known inside, and `proofs/Obeying` the induction over statements.
+//! - `proofs/TypeNaming` has names of types, `proofs/Heading` headings of procedures, `proofs/Subranges` subranges, and
+//!   `proofs/TypeReading` types as they are written. `proofs/Declaring` says what a scope knows of the names of a block, and
+//!   `proofs/Marking`, `proofs/Beginning` and `proofs/Sayings` that it does before the declarations, inside them and behind
+//!   each. `proofs/Blocks` goes from one to the next.
 #![tactic(auto)]
 
 ghost use Rattle.check_scope.specs.Elaborated.{every, least};
 ghost use Rattle.law_typing.specs.Judging.{all_of_them, the_least};
-ghost use Rattle.law_typing.specs.Exact.{ExpressionsAreExact, ConstantsAreExact, ConditionsAreExact, AssignmentsAreExact, ActionsAreExact, ReturnsAreExact, ExitsAreExact, RunsAreExact, SelectorsAreExact, BoundsAreExact, StatementsAreExact, ScopesAreKnown};
+ghost use Rattle.law_typing.specs.Exact.{ExpressionsAreExact, ConstantsAreExact, ConditionsAreExact, AssignmentsAreExact, ActionsAreExact, ReturnsAreExact, ExitsAreExact, RunsAreExact, SelectorsAreExact, BoundsAreExact, StatementsAreExact, TypeNamesAreExact, HeadingsAreExact, SubrangesAreExact, BlocksAreExact, ScopesAreKnown};
 
 /// An expression in whose braces nothing is called has a value exactly if no rule is broken in it, and the value stands for
 /// what the rules say that it has. Else all that is gathered are broken rules, here or in a declaration, and each that is
@@ -87,10 +91,36 @@ pub fn bound_laws()
     ensures least_rule { BoundsAreExact least the_least }
 {}
 
-/// The same of a statement, if no CASE stands in it.
+/// The same of a statement, with all statements inside.
 pub fn statement_laws()
     ensures every_rule { StatementsAreExact every all_of_them }
     ensures least_rule { StatementsAreExact least the_least }
+{}
+
+/// The same of the name of a type, alone or behind a module's.
+pub fn type_name_laws()
+    ensures every_rule { TypeNamesAreExact every all_of_them }
+    ensures least_rule { TypeNamesAreExact least the_least }
+{}
+
+/// The same of the heading of a procedure, whatever the names of its formals.
+pub fn heading_laws()
+    ensures every_rule { HeadingsAreExact every all_of_them }
+    ensures least_rule { HeadingsAreExact least the_least }
+{}
+
+/// The same of a subrange whose bounds call nothing, under a type or not.
+pub fn subrange_laws()
+    ensures every_rule { SubrangesAreExact every all_of_them }
+    ensures least_rule { SubrangesAreExact least the_least }
+{}
+
+/// What is reported of the declarations of a block are exactly the rules that are broken in them, and what is known of names
+/// behind them is what the rules say: constants that call nothing, types but enumerations and records, variables of
+/// these, and headings of procedures that no definition awaits.
+pub fn block_laws()
+    ensures every_rule { BlocksAreExact every all_of_them }
+    ensures least_rule { BlocksAreExact least the_least }
 {}
 
 /// No scope lacks names that stand for what it knows of them, so the laws above speak of each.

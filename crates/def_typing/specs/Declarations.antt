@@ -1,0 +1,206 @@
+-- What the names of a block stand for, and which rules are broken in its declarations.
+use Rattle.std.specs.Prelude.{◌≡◌, ◌⊎◌, ℕ, Bool, true, false, List, [], ◌∷◌, ◌++◌, length, map, Option, Some}
+use Rattle.m2_rule.specs.declared.breach.Breach.{Breach}
+use Rattle.m2_rule.specs.declared.rule.Rule.TheVariants as rule
+use Rattle.m2_tree.specs.declared.name.Ident.{Ident}
+use Rattle.m2_tree.specs.declared.decl.Constant.{Constant}
+use Rattle.m2_tree.specs.declared.decl.TypeDecl.{TypeDecl}
+use Rattle.m2_tree.specs.declared.decl.Variables.{Variables}
+use Rattle.m2_tree.specs.declared.decl.Decl.{Decl, Decl-F, out-Decl}
+use Rattle.m2_tree.specs.declared.decl.Decl.TheOpen as layer
+use Rattle.m2_tree.specs.declared.decl.Block.{Block}
+use Rattle.m2_tree.specs.declared.decl.Section.{Section}
+use Rattle.m2_tree.specs.declared.decl.Heading.{Heading}
+use Rattle.typed_tree.specs.declared.types.TypeNo.{TypeNo}
+use Rattle.typed_tree.specs.declared.shape.Made.{Made}
+use Rattle.typed_tree.specs.declared.shape.Signature.{Signature}
+use Rattle.typed_tree.specs.declared.known_types.Types.{Types}
+use Rattle.def_typing.specs.Operators.{◌!◌, Kind}
+use Rattle.def_typing.specs.Things.{Thing, AValue, AVariable, AType, AProcedure, ANested, Headless, Standing, Known, Ahead, Undeclared, Unknown}
+use Rattle.def_typing.specs.Parts.{Among}
+use Rattle.def_typing.specs.Constants.{AConstant, Fixes, BrokenAsConstant}
+use Rattle.def_typing.specs.TypeExprs.{with_types, next_type, IsTypeOf, BrokenType}
+use Rattle.def_typing.specs.Headings.{procedure_made, IsHeading, BrokenHeading}
+
+-- ---- declarations
+
+pub data Declaration : Type 0 where
+  OfConstant : Constant → Declaration
+  OfType : TypeDecl → Declaration
+  OfVariables : Variables → Declaration
+  OfProcedure : Heading → Declaration
+
+abbrev pub names_of : Declaration → List Ident
+names_of (OfConstant c) = c.name ∷ []
+names_of (OfType d) = d.name ∷ []
+names_of (OfVariables v) = v.names
+names_of (OfProcedure h) = h.name ∷ []
+
+abbrev pub names_in : List Section → List Ident
+names_in [] = []
+names_in (x ∷ xs) = x.names ++ names_in xs
+
+-- the names of formals
+abbrev pub formals_in : Declaration → List Ident
+formals_in (OfProcedure h) = names_in h.formals
+formals_in other = []
+
+abbrev pub declared_by : Decl-F Decl Block → List Declaration
+declared_by (layer.Constants cs) = map OfConstant cs
+declared_by (layer.Types ts) = map OfType ts
+declared_by (layer.Variables vs) = map OfVariables vs
+declared_by (layer.Procedure h b) = OfProcedure h ∷ []
+
+abbrev pub declarations_of : List Decl → List Declaration
+declarations_of [] = []
+declarations_of (d ∷ ds) = declared_by (out-Decl d) ++ declarations_of ds
+
+abbrev pub Declares : Declaration → List ℕ → Type 0
+Declares d n = (x : Ident) × Among x (names_of d) × (x.name ≡ n)
+
+abbrev pub AnyDeclares : List Declaration → List ℕ → Type 0
+AnyDeclares ds n = (d : Declaration) × Among d ds × Declares d n
+
+-- the first declaration of a name in a block
+pub data IsFirst (n : List ℕ) (d : Declaration) : List Declaration → Type 0 where
+  at_first : {ds : List Declaration} → Declares d n → IsFirst n d (d ∷ ds)
+  later_on : {x : Declaration} {ds : List Declaration} → (Declares x n → ⊥) → IsFirst n d ds
+      → IsFirst n d (x ∷ ds)
+
+-- A name that is there already is refused.
+abbrev pub Twice : (List ℕ → Type 0) → List Ident → Breach → Type 0
+Twice There [] f = ⊥
+Twice There (x ∷ xs) f =
+    (There x.name × (f ≡ x.pos ! rule.DeclaredTwice)) ⊎ Twice (λ n. (x.name ≡ n) ⊎ There n) xs f
+
+-- ---- declarations in front of a place, the nearest one first
+
+-- a declaration with the types that it makes
+pub record Declared : Type 0 where
+  pub what : Declaration
+  pub makes : List Made
+
+-- the same in the order of the text
+abbrev pub in_order : List Declared → List Declaration
+in_order [] = []
+in_order (d ∷ front) = in_order front ++ d.what ∷ []
+
+abbrev pub IsThere : List Declared → List ℕ → Type 0
+IsThere front n = AnyDeclares (map (λ d. d.what) front) n
+
+-- the first declaration of a name, and those in front of it
+pub data IsNamed (n : List ℕ) (d : Declared) (before : List Declared) : List Declared → Type 0 where
+  nearest : Declares d.what n → (IsThere before n → ⊥) → IsNamed n d before (d ∷ before)
+  farther : {x : Declared} {front : List Declared} → IsNamed n d before front
+      → IsNamed n d before (x ∷ front)
+
+abbrev pub types_behind : Types → List Declared → Types
+types_behind types [] = types
+types_behind types (d ∷ front) = with_types (types_behind types front) d.makes
+
+-- ---- one declaration, by what names stand for
+
+-- in a procedure, or in a module
+abbrev pub procedure : Bool → TypeNo → Thing
+procedure true t = ANested t
+procedure false t = AProcedure t
+
+abbrev pub is_variables : Declaration → Bool
+is_variables (OfVariables v) = true
+is_variables other = false
+
+-- what a name stands for before its declaration
+abbrev pub in_front_of : Declaration → Standing
+in_front_of (OfProcedure h) = Ahead
+in_front_of other = Undeclared
+
+-- what it stands for if rules are broken in its declaration
+abbrev pub without : Declaration → Standing
+without (OfProcedure h) = Known Headless
+without other = Unknown
+
+module _ (types : Types) (names : Ident → Standing) (exports : ℕ → Ident → Standing) where
+  -- which types it makes, and what its names stand for
+  pub data Says (nested : Bool) : Declaration → List Made → Standing → Type 0 where
+    constant : {c : Constant} {k : Kind} → Fixes types names exports c.value (AConstant k)
+        → Says nested (OfConstant c) [] (Known (AValue k))
+    a_type : {d : TypeDecl} {ms : List Made} {t : TypeNo} → IsTypeOf names exports types d.of ms t
+        → Says nested (OfType d) ms (Known (AType t))
+    variables : {v : Variables} {ms : List Made} {t : TypeNo}
+        → IsTypeOf names exports types v.of ms t
+        → Says nested (OfVariables v) ms (Known (AVariable t))
+    a_procedure : {h : Heading} {s : Signature} → IsHeading types names exports h s
+        → Says nested (OfProcedure h) (procedure_made s ∷ [])
+        (Known (procedure nested (next_type types)))
+
+  pub data Misdeclares : Declaration → Breach → Type 0 where
+    in_constant : {c : Constant} {f : Breach} → BrokenAsConstant types names exports c.value f
+        → Misdeclares (OfConstant c) f
+    in_type : {d : TypeDecl} {f : Breach} → BrokenType names exports types d.of f
+        → Misdeclares (OfType d) f
+    in_variables : {v : Variables} {f : Breach} → BrokenType names exports types v.of f
+        → Misdeclares (OfVariables v) f
+    in_heading : {h : Heading} {f : Breach} → BrokenHeading types names exports h f
+        → Misdeclares (OfProcedure h) f
+
+-- ---- a block
+
+-- The types that are known where it begins, what modules export, what names stand for outside,
+-- which names are taken by imports, by formals or by the module's own definition, and whether the
+-- block is a procedure's.
+module _ (types : Types) (exports : ℕ → Ident → Standing) (outside : Ident → Standing)
+    (taken : List ℕ → Bool) (nested : Bool) (block : List Declaration) where
+  mutual
+    -- what a name stands for behind these declarations
+    pub data StandsFor : List Declared → Ident → Standing → Type 0 where
+      declared : {front before : List Declared} {d : Declared} {name : Ident} {s : Standing}
+          → taken name.name ≡ false → IsNamed name.name d before front → Means before d s
+          → StandsFor front name s
+      -- Names of a block mean the block's own declaration wherever they stand, and are declared
+      -- before use.
+      not_yet : {front : List Declared} {name : Ident} {d : Declaration} → taken name.name ≡ false
+          → IsFirst name.name d block → (IsThere front name.name → ⊥)
+          → StandsFor front name (in_front_of d)
+      from_outside : {front : List Declared} {name : Ident}
+          → (taken name.name ≡ false → AnyDeclares block name.name → ⊥)
+          → StandsFor front name (outside name)
+
+    -- what a declaration says behind these
+    pub data Means : List Declared → Declared → Standing → Type 0 where
+      says : {front : List Declared} {d : Declared} {names : Ident → Standing} {s : Standing}
+          → ((x : Ident) → StandsFor front x (names x))
+          → Says (types_behind types front) names exports nested d.what d.makes s → Means front d s
+      -- Rules are broken in it.
+      says_nothing : {front : List Declared} {d : Declared} {names : Ident → Standing}
+          → ((x : Ident) → StandsFor front x (names x))
+          → ((ms : List Made) (s : Standing)
+          → Says (types_behind types front) names exports nested d.what ms s → ⊥)
+          → Means front d (without d.what)
+
+  abbrev pub AllStand : List Declared → (Ident → Standing) → Type 0
+  AllStand front names = (x : Ident) → StandsFor front x (names x)
+
+  -- whether it is a variable that the block declares, or one of those outside that count as own
+  pub data IsOwn (outer : Ident → Bool) (front : List Declared) (name : Ident) : Bool → Type 0 where
+    of_block : {d : Declared} {before : List Declared} → taken name.name ≡ false
+        → IsNamed name.name d before front → IsOwn outer front name (is_variables d.what)
+    of_none : taken name.name ≡ false → AnyDeclares block name.name
+        → (IsThere front name.name → ⊥) → IsOwn outer front name false
+    of_outside : (taken name.name ≡ false → AnyDeclares block name.name → ⊥)
+        → IsOwn outer front name (outer name)
+
+  abbrev pub There : List Declared → List ℕ → Type 0
+  There front n = (taken n ≡ true) ⊎ IsThere front n
+
+  -- the refusals in declarations
+  pub data BrokenIn : List Declared → Breach → Type 0 where
+    inside : {front : List Declared} {d : Declared} {names : Ident → Standing} {f : Breach}
+        → AllStand front names → Misdeclares (types_behind types front) names exports d.what f
+        → BrokenIn (d ∷ front) f
+    -- A name twice in a scope is refused at the second, and so is one of a formal.
+    twice : {front : List Declared} {d : Declared} {f : Breach}
+        → Twice (There front) (names_of d.what) f → BrokenIn (d ∷ front) f
+    formal_twice : {front : List Declared} {d : Declared} {f : Breach}
+        → Twice (λ n. ⊥) (formals_in d.what) f → BrokenIn (d ∷ front) f
+    in_front : {front : List Declared} {d : Declared} {f : Breach} → BrokenIn front f
+        → BrokenIn (d ∷ front) f

@@ -1,0 +1,625 @@
+-- The declarations of a block are answered exactly.
+use Rattle.std.proofs.Common.{◌≡◌, ℕ, Bool, true, false, cond, List, [], ◌∷◌, ◌++◌, length, Result, Ok, Err, ◌⊎◌, inl, inr, refl, sym, ap, subst, ◌∙◌, arith}
+use Rattle.std.specs.Prelude.{map, not, ◌==◌}
+use Rattle.std.specs.List.{fold}
+use Rattle.std.proofs.lemmas.Bool.Decides.{nat_tests}
+use Rattle.m2_rule.specs.declared.breach.Breach.{Breach}
+use Rattle.m2_tree.specs.declared.name.Ident.{Ident}
+use Rattle.m2_tree.specs.declared.decl.Constant.{Constant}
+use Rattle.m2_tree.specs.declared.decl.TypeDecl.{TypeDecl}
+use Rattle.m2_tree.specs.declared.decl.Variables.{Variables}
+use Rattle.m2_tree.specs.declared.decl.TypeExpr.{TypeExpr}
+use Rattle.typed_tree.specs.declared.types.TypeNo.{TypeNo}
+use Rattle.typed_tree.specs.declared.meaning.LocalKind.TheVariants as kind
+use Rattle.typed_tree.specs.declared.meaning.Meaning.{Meaning}
+use Rattle.typed_tree.specs.declared.meaning.Meaning.TheVariants as meaning
+use Rattle.typed_tree.specs.Names.{found}
+use Rattle.check_scope.specs.declared.scope.Scope.{Scope}
+use Rattle.check_scope.specs.Elaborated.{Gathers, beside, ◌▷◌}
+use Rattle.check_scope.specs.Scopes.{State, begun, finished}
+use Rattle.check_const.specs.Parts.{constant}
+use Rattle.check_expr.specs.Meanings.{part}
+use Rattle.check_type_expr.specs.Made.{nothing_of, type_of}
+use Rattle.check_definition.specs.Declare.{with_constant, brings_with, type_meaning, with_type, begun_name, with_variable_type, finished_variable, with_variables}
+use Rattle.m2_tree.specs.declared.decl.Decl.{Decl, Decl-F, out-Decl}
+use Rattle.m2_tree.specs.declared.decl.Decl.TheOpen as decl
+use Rattle.m2_tree.specs.declared.decl.Block.{Block}
+use Rattle.check_block.specs.Declarations.{finished_local, with_locals, with_variables_of, decl_layer, with_decl, Declared, declared_block}
+use Rattle.m2_rule.specs.declared.rule.Rule.TheVariants as rule
+use Rattle.m2_tree.specs.declared.decl.Section.{Section}
+use Rattle.m2_tree.specs.declared.decl.Heading.{Heading}
+use Rattle.typed_tree.specs.declared.shape.Made.{Made}
+use Rattle.typed_tree.specs.declared.known_types.Types.{Types}
+use Rattle.typed_tree.specs.Names.{entered}
+use Rattle.typed_tree.specs.Types.{integer}
+use Rattle.check_scope.specs.declared.known.Known.{Known}
+use Rattle.check_scope.specs.declared.known.Origin.TheVariants.{Here}
+use Rattle.check_scope.specs.declared.known.Known.TheVariants as known
+use Rattle.check_scope.specs.Scopes.{with_known}
+use Rattle.check_scope.specs.Elaborated.{reported}
+use Rattle.check_definition.specs.Declare.{with_procedure_type}
+use Rattle.check_type_expr.specs.declared.field.Fields.{Fields}
+use Rattle.std.specs.Option.{is_some}
+use Rattle.check_type_expr.specs.Cells.{plus}
+use Rattle.check_type_expr.specs.Fields.{no_fields, with_name}
+use Rattle.check_type_expr.specs.Headings.{heading_of, with_names, names_of as formals_told}
+use Rattle.check_type_expr.specs.Made.{with_shape}
+use Rattle.check_block.specs.declared.heading.Standing.{Standing as Place}
+use Rattle.check_block.specs.declared.heading.Standing.TheVariants as place
+use Rattle.check_block.specs.Headings.{standing_of, new_procedure, with_new, headed_as, with_heading}
+use Rattle.def_typing.specs.Operators.{◌!◌}
+use Rattle.def_typing.specs.Things as things
+use Rattle.def_typing.specs.Things.{Standing, Undeclared, Unknown}
+use Rattle.def_typing.specs.Parts.{Among, here, later}
+use Rattle.def_typing.specs.Declarations as rules
+use Rattle.def_typing.specs.Declarations.{Declaration, OfConstant, OfType, OfVariables, OfProcedure, declared_by, declarations_of, names_of, names_in, formals_in, Declares, AnyDeclares, Declared as Resolved, in_order, IsThere, types_behind, procedure, is_variables, in_front_of, without, Twice, Misdeclares, BrokenIn}
+use Rattle.law_typing.specs.Judging.{Judges, Answers, Reports, reports_nothing, reports_broken}
+use Rattle.law_typing.specs.Exact.{standing, is_own_variable, TakenAs, Knows, Repeats, IsCallFree, IsPlainType, IsPlainLayer, ArePlainDecls, is_nested, IsBlockExact}
+use Rattle.law_typing.proofs.Combining.{Lawful, Tells, silent, tells, tells_as, beside_tells, accounts_as, accounts_one}
+use Rattle.law_typing.proofs.Heading.{nil_right, append_assoc}
+use Rattle.law_typing.proofs.Entering.{entered_all}
+use Rattle.law_typing.proofs.Declaring.{All, Elsewhere, Saying, KnownAs, Same, KnowsBlock, knowing, repeating, standings, all_stand, home_same, owning, some_own}
+use Rattle.law_typing.proofs.Beginning.{Adding, adding_name, added, clash, Theres, widen, begin_one, begin_all, place_is, PlaceIs, place_free, place_taken, MidAs, is_done, is_other, KnowsMid, mid_begins, mid_as, finish_one, finish_end}
+use Rattle.law_typing.proofs.Sayings.{Saids, said_constant, said_type, said_variables, said_procedure, Exactly, saying, saying_heading, says_tells, more_answers, constant_says, of_type_says, variables_say, procedure_says}
+use Rattle.def_typing.specs.TypeExprs.{with_types, next_type, IsTypeOf, BrokenType}
+use Rattle.law_typing.proofs.TypeReading.{MadeType, with_made_types, no_types, no_made, TypeRead, TypeIs, TypeFails, type_read}
+use Rattle.law_typing.proofs.Marking.{block_begins}
+
+module _ (g : Gathers) (j : Judges g) (lawful : Lawful g j) (exports : ℕ → Ident → Standing) (outside : Ident → Standing) (start : Scope g.Reported) (taken : List ℕ → Bool) (nested : Bool) (block : List Declaration)
+    (takes : (n : List ℕ) → TakenAs g j (taken n) (found n start.own)) (knows : Knows g j outside exports start) (no_withs : start.withs ≡ []) where
+  abbrev KB : List Resolved → List Declaration → (List ℕ → Type 0) → Scope g.Reported → Type 0
+  KB = KnowsBlock g j exports outside start taken nested block
+
+  abbrev Th : List Resolved → List ℕ → Type 0
+  Th = Theres g j lawful exports outside start taken nested block takes
+
+  abbrev Stand : List Resolved → (Ident → Standing) → Type 0
+  Stand = All g j exports outside start taken nested block
+
+  abbrev Rep : Breach → Type 0
+  Rep f = Repeats g j outside start f
+
+  abbrev BI : List Resolved → Breach → Type 0
+  BI = BrokenIn start.types exports outside taken nested block
+
+  abbrev O : List Resolved → Breach → Type 0
+  O = Elsewhere g j exports outside start taken nested block
+
+  abbrev T : List Resolved → Types
+  T front = types_behind start.types front
+
+  abbrev Told : List Resolved → Result (Unit {0}) g.Reported → Type 0
+  Told front r = Tells g j lawful Rep (BI front) r
+
+  abbrev Mis : List Resolved → Declaration → Breach → Type 0
+  Mis front d f = (i : (names : Ident → Standing) × Stand front names) × Misdeclares (T front) i.0 exports d f
+
+  -- behind one declaration more
+  abbrev Stepped : List Resolved → Resolved → List Declaration → State (Unit {0}) g.Reported → Type 0
+  Stepped front d ds st = KB (d ∷ front) ds (Th (d ∷ front)) st.0 × Told (d ∷ front) st.1
+
+  -- ---- what is reported
+
+  more_tells : {Q U B : Breach → Type 0} {r : Result (Unit {0}) g.Reported} → ((f : Breach) → Q f → U f) → Tells g j lawful Q B r → Tells g j lawful U B r
+  more_tells h (silent n) = silent n
+  more_tells h (tells r a) = tells r (record { only = λ f m. elim (a.only f m) [ inl b ↦ inl b | inr q ↦ inr (h f q) ]; each = a.each })
+
+  closed : {front : List Resolved} {C : Breach → Type 0} {r : Result (Unit {0}) g.Reported} → ((f : Breach) → BI front f → C f) → Tells g j lawful (O front) C r → Tells g j lawful Rep C r
+  closed h (silent n) = silent n
+  closed h (tells r a) = tells r (record { only = λ f m. elim (a.only f m) [ inl c ↦ inl c | inr o ↦ elim o [ inl q ↦ inr q | inr b ↦ inl (h f b) ] ]; each = a.each })
+
+  told_here : {front : List Resolved} {r : Result (Unit {0}) g.Reported} → Told front r → Tells g j lawful (O front) (BI front) r
+  told_here t = more_tells (λ f q. inl q) t
+
+  abbrev Parts : List Resolved → Resolved → Breach → Type 0
+  Parts front d f = BI front f ⊎ (Twice (Th front) (names_of d.what) f ⊎ (Twice (λ n. ⊥) (formals_in d.what) f ⊎ Mis front d.what f))
+
+  parts_broken : {front : List Resolved} {d : Resolved} (f : Breach) → Parts front d f → BI (d ∷ front) f
+  parts_broken f (inl b) = rules.in_front b
+  parts_broken f (inr (inl t)) = rules.twice t
+  parts_broken f (inr (inr (inl t))) = rules.formal_twice t
+  parts_broken f (inr (inr (inr (i, m)))) = rules.inside i.1 m
+
+  broken_parts : {front : List Resolved} {d : Resolved} (f : Breach) → BI (d ∷ front) f → Parts front d f
+  broken_parts f (rules.in_front b) = inl b
+  broken_parts f (rules.twice t) = inr (inl t)
+  broken_parts f (rules.formal_twice t) = inr (inr (inl t))
+  broken_parts f (rules.inside {names = names} all m) = inr (inr (inr ((names, all), m)))
+
+  -- from its parts, in whatever order
+  told_parts : {front : List Resolved} (d : Resolved) {C : Breach → Type 0} {r : Result (Unit {0}) g.Reported} → ((f : Breach) → C f → Parts front d f) → ((f : Breach) → Parts front d f → C f) → Tells g j lawful (O front) C r → Told (d ∷ front) r
+  told_parts d to from t = tells_as g j lawful Rep (λ f c. parts_broken f (to f c)) (λ f b. from f (broken_parts f b)) (closed (λ f b. from f (inl b)) t)
+
+  -- ---- a declaration but a procedure
+
+  module _ (front : List Resolved) (d : Resolved) (ds : List Declaration) (undeclared : in_front_of d.what ≡ Undeclared) (unknown : without d.what ≡ Unknown) (no_formals : formals_in d.what ≡ []) where
+    abbrev Begun : List ℕ → Type 0
+    Begun = Adding (names_of d.what) (Th front)
+
+    named : (x : Ident) → Among x (names_of d.what) → Declares d.what x.name
+    named x m = (x, m, refl)
+
+    formals_silent : (f : Breach) → Twice (λ n. ⊥) (formals_in d.what) f → ⊥
+    formals_silent f t = subst (λ (xs : List Ident). Twice (λ n. ⊥) xs f) no_formals t
+
+    -- the scope while its parts are read
+    module _ {s : Scope g.Reported} (k : KB front (d.what ∷ ds) Begun s) where
+      abbrev Read : {names : Ident → Standing} → Stand front names → Knows g j names exports s
+      Read all = knowing g j exports outside start taken nested block knows no_withs k all
+
+      abbrev names_here : Ident → Standing
+      names_here = standings g j exports outside start taken nested block knows no_withs k
+
+      stand_here : Stand front names_here
+      stand_here = all_stand g j exports outside start taken nested block knows no_withs k
+
+      abbrev Repeat : {names : Ident → Standing} → Stand front names → (f : Breach) → Repeats g j names s f → O front f
+      Repeat all = repeating g j exports outside start taken nested block knows no_withs k all
+
+      abbrev Mid : (List ℕ → Type 0) → Scope g.Reported → Type 0
+      Mid done t = KnowsMid g j lawful exports outside start taken nested block takes front d ds Begun done t
+
+      abbrev Exact : {A : Type 0} → (A → Saids) → Result A g.Reported → Type 0
+      Exact said r = Exactly g j lawful exports outside start taken nested block said front d.what r
+
+      begun_mid : {t : Scope g.Reported} → Same g j exports outside start taken nested block (T (d ∷ front)) t → t.own ≡ s.own → Mid (λ n. ⊥) t
+      begun_mid same e = mid_begins g j lawful exports outside start taken nested block takes front d ds Begun k same e
+
+      begun_same : {ms : List Made} → d.makes ≡ ms → {t : Scope g.Reported} → t ≡ with_made_types s ms → Same g j exports outside start taken nested block (T (d ∷ front)) t
+      begun_same {ms = ms} q e = subst (λ (t : Scope g.Reported). Same g j exports outside start taken nested block (T (d ∷ front)) t) (sym e) (record { withs = k.same.withs; outer = k.same.outer; types = ap (λ (t : Types). with_types t ms) k.same.types ∙ ap (λ (ns : List Made). with_types (T front) ns) (sym q); tables = k.same.tables; level = k.same.level })
+
+      one_finished : (x : Ident) → Among x (names_of d.what) → {m : Result Meaning g.Reported} → Saying g j exports outside start taken nested block front d (known.Declared Here m) → (done : List ℕ → Type 0) {t : Scope g.Reported} → Mid done t → Mid (λ n. (x.name ≡ n) ⊎ done n) (finished t x m)
+      one_finished x a {m = m} say done q = finish_one g j lawful exports outside start taken nested block takes front d ds Begun k.includes x (k.in_block x.name (d.what, here, named x a)) (adding_name (names_of d.what) (Th front) x.name x a refl) m say done q
+
+      ended : {t : Scope g.Reported} → Mid (Declares d.what) t → KB (d ∷ front) ds (Th (d ∷ front)) t
+      ended q = finish_end g j lawful exports outside start taken nested block takes front d ds Begun k.within k.in_block k.left (λ n h. adding_name (names_of d.what) (Th front) n h.0 h.1 h.2) (λ n h. added (names_of d.what) (Th front) n h) q
+
+      telling : {A : Type 0} (said : A → Saids) {r : Result A g.Reported} → Exact said r → Tells g j lawful (O front) (Mis front d.what) (r ▷ λ a. Ok tt)
+      telling said h = says_tells g j lawful exports outside start taken nested block said front d h stand_here
+
+      says_it : {A : Type 0} (said : A → Saids) (made : A → Meaning) → ((a : A) → (said a).1 ≡ standing (made a)) → ((a : A) → d.makes ≡ (said a).0) → ((a : A) → standing_of (made a) ≡ place.Taken) → ((a : A) → is_own_variable start (made a) ≡ is_variables d.what) → {r : Result A g.Reported} → Exact said r
+          → Saying g j exports outside start taken nested block front d (known.Declared Here (r ▷ λ a. Ok (made a)))
+      says_it said made i e t w h = saying g j lawful exports outside start taken nested block said front d made i h (λ a q. e a) unknown t w stand_here
+
+    -- what is reported, if one name is begun
+    told_one : {x : Ident} {r b v : Result (Unit {0}) g.Reported} → names_of d.what ≡ x ∷ [] → Told front r → Tells g j lawful (O front) (λ f. Th front x.name × (f ≡ x.pos ! rule.DeclaredTwice)) b → Tells g j lawful (O front) (Mis front d.what) v → Told (d ∷ front) (beside g r (beside g b v))
+    told_one {x = x} e a b c = told_parts d (λ f z. to f z) (λ f z. from f z) (beside_tells g j lawful (O front) (told_here a) (beside_tells g j lawful (O front) b c))
+      where
+        to : (f : Breach) → BI front f ⊎ ((Th front x.name × (f ≡ x.pos ! rule.DeclaredTwice)) ⊎ Mis front d.what f) → Parts front d f
+        to f (inl z) = inl z
+        to f (inr (inl t)) = inr (inl (subst (λ (xs : List Ident). Twice (Th front) xs f) (sym e) (inl t)))
+        to f (inr (inr m)) = inr (inr (inr m))
+
+        from : (f : Breach) → Parts front d f → BI front f ⊎ ((Th front x.name × (f ≡ x.pos ! rule.DeclaredTwice)) ⊎ Mis front d.what f)
+        from f (inl z) = inl z
+        from f (inr (inl t)) = inr (inl (elim (subst (λ (xs : List Ident). Twice (Th front) xs f) e t) [ inl y ↦ y | inr y ↦ absurd y ]))
+        from f (inr (inr (inl t))) = absurd (formals_silent f t)
+        from f (inr (inr (inr m))) = inr (inr m)
+
+    -- the same of a list of names
+    told_list : {b v : Result (Unit {0}) g.Reported} → Tells g j lawful (O front) (λ f. BI front f ⊎ Twice (Th front) (names_of d.what) f) b → Tells g j lawful (O front) (Mis front d.what) v → Told (d ∷ front) (beside g b v)
+    told_list b c = told_parts d (λ f z. elim z [ inl y ↦ elim y [ inl w ↦ inl w | inr t ↦ inr (inl t) ] | inr m ↦ inr (inr (inr m)) ]) (λ f z. from f z) (beside_tells g j lawful (O front) b c)
+      where
+        from : (f : Breach) → Parts front d f → (BI front f ⊎ Twice (Th front) (names_of d.what) f) ⊎ Mis front d.what f
+        from f (inl z) = inl (inl z)
+        from f (inr (inl t)) = inl (inr t)
+        from f (inr (inr (inl t))) = absurd (formals_silent f t)
+        from f (inr (inr (inr m))) = inr m
+
+  -- the name of a declaration of one name
+  only_name : {x : Ident} {n : List ℕ} → (x.name ≡ n) ⊎ ⊥ → (y : Ident) × Among y (x ∷ []) × (y.name ≡ n)
+  only_name {x = x} (inl e) = (x, here, e)
+  only_name (inr z) = absurd z
+
+  name_only : {x : Ident} {n : List ℕ} → (y : Ident) × Among y (x ∷ []) × (y.name ≡ n) → (x.name ≡ n) ⊎ ⊥
+  name_only (y, here, e) = inl e
+  name_only (y, later m, e) = elim m [ ]
+
+  abbrev plain_one : Declaration → Resolved
+  plain_one d = record { what = d; makes = [] }
+
+  -- ---- constants
+
+  module _ (front : List Resolved) (c : Constant) (ds : List Declaration) (free : IsCallFree c.value) where
+    constant_exact : {s : Scope g.Reported} (k : KB front (OfConstant c ∷ ds) (Adding (c.name ∷ []) (Th front)) s) → Exactly g j lawful exports outside start taken nested block said_constant front (OfConstant c) (constant g s (part g c.value))
+    constant_exact {s = s} k names all = more_answers g j lawful (O front) (Repeat front (plain_one (OfConstant c)) ds refl refl refl k all) (constant_says g j lawful nested (T front) names exports s (Read front (plain_one (OfConstant c)) ds refl refl refl k all) k.same.types c free)
+
+    declare_constant : {s : Scope g.Reported} {r : Result (Unit {0}) g.Reported} → KB front (OfConstant c ∷ ds) (Th front) s → Told front r → Stepped front (plain_one (OfConstant c)) ds (with_constant g (s, r) c)
+    declare_constant k t = let b = begin_one g j lawful exports outside start taken nested block takes (O front) front (OfConstant c) ds refl (Th front) c.name (c.name, here, refl) k in
+        let h = constant_exact b.0 in (
+          ended front (plain_one (OfConstant c)) ds refl refl refl b.0 (mid_as g j lawful exports outside start taken nested block takes front (plain_one (OfConstant c)) ds (Adding (c.name ∷ []) (Th front)) (λ n z. only_name z) (λ n z. name_only z)
+              (one_finished front (plain_one (OfConstant c)) ds refl refl refl b.0 c.name here (says_it front (plain_one (OfConstant c)) ds refl refl refl b.0 said_constant (λ v. meaning.Constant v) (λ v. refl) (λ v. refl) (λ v. refl) (λ v. refl) h) (λ n. ⊥) (begun_mid front (plain_one (OfConstant c)) ds refl refl refl b.0 (begun_same front (plain_one (OfConstant c)) ds refl refl refl b.0 refl (no_made (begun g _ c.name).0)) refl))),
+          told_one front (plain_one (OfConstant c)) ds refl refl refl refl t b.1 (telling front (plain_one (OfConstant c)) ds refl refl refl b.0 said_constant h),
+        )
+
+  -- ---- types
+
+  abbrev typed_one : Declaration → List Made → Resolved
+  typed_one d ms = record { what = d; makes = ms }
+
+  abbrev ReadType : Scope g.Reported → TypeExpr → State TypeNo g.Reported → Type 0
+  ReadType s e q = TypeRead g j lawful exports s (TypeIs g j lawful exports s e) (TypeFails g j lawful exports s e) q
+
+  module _ (front : List Resolved) (d : TypeDecl) (ds : List Declaration) {s : Scope g.Reported} (k : KB front (OfType d ∷ ds) (Adding (d.name ∷ []) (Th front)) s) (q : State TypeNo g.Reported) (read : ReadType s d.of q) where
+    abbrev one : Resolved
+    one = typed_one (OfType d) read.ms
+
+    type_exact : Exactly g j lawful exports outside start taken nested block (said_type read.ms) front (OfType d) q.1
+    type_exact names all = more_answers g j lawful (O front) (Repeat front one ds refl refl refl k all) (of_type_says g j lawful nested (T front) names exports s (Read front one ds refl refl refl k all) k.same.types d read.ms
+        (subst (λ (types : Types). Answers g j (Repeats g j names s) (λ a k. k ≡ (read.ms, a)) (λ (k : MadeType). IsTypeOf names exports types d.of k.0 k.1) (BrokenType names exports types d.of) q.1) k.same.types (read.exact names (Read front one ds refl refl refl k all))))
+
+    type_ended : {r b : Result (Unit {0}) g.Reported} → Told front r → Tells g j lawful (O front) (λ f. Th front d.name.name × (f ≡ d.name.pos ! rule.DeclaredTwice)) b
+        → Stepped front one ds (finished q.0 d.name (type_meaning q.1 (brings_with d.of)), beside g r (beside g b (nothing_of q.1)))
+    type_ended t w = let h = type_exact in (
+      ended front one ds refl refl refl k (mid_as g j lawful exports outside start taken nested block takes front one ds (Adding (d.name ∷ []) (Th front)) (λ n z. only_name z) (λ n z. name_only z)
+          (one_finished front one ds refl refl refl k d.name here (says_it front one ds refl refl refl k (said_type read.ms) (λ t. meaning.Type t (brings_with d.of)) (λ t. refl) (λ t. refl) (λ t. refl) (λ t. refl) h) (λ n. ⊥)
+          (begun_mid front one ds refl refl refl k (begun_same front one ds refl refl refl k refl read.is) (ap (λ (u : Scope g.Reported). u.own) read.is)))),
+      told_one front one ds refl refl refl refl t w (telling front one ds refl refl refl k (said_type read.ms) h),
+    )
+
+  abbrev One : List Resolved → Declaration → List Declaration → State (Unit {0}) g.Reported → Type 0
+  One front x ds st = (d : Resolved) × (d.what ≡ x) × Stepped front d ds st
+
+  declare_type : (front : List Resolved) (d : TypeDecl) (ds : List Declaration) → IsPlainType d.of → {s : Scope g.Reported} {r : Result (Unit {0}) g.Reported} → KB front (OfType d ∷ ds) (Th front) s → Told front r → One front (OfType d) ds (with_type g (s, r) d)
+  declare_type front d ds i {s = s} k t = let b = begin_one g j lawful exports outside start taken nested block takes (O front) front (OfType d) ds refl (Th front) d.name (d.name, here, refl) k in
+      let read = type_read g j lawful exports i (begun g s d.name).0 b.0.same.withs in
+      (typed_one (OfType d) read.ms, refl, type_ended front d ds b.0 (type_of g d.of (begun g s d.name).0) read t b.1)
+
+  -- ---- variables
+
+  module _ (front : List Resolved) (v : Variables) (ds : List Declaration) {s : Scope g.Reported} (k : KB front (OfVariables v ∷ ds) (Adding v.names (Th front)) s) (q : State TypeNo g.Reported) (read : ReadType s v.of q) where
+    abbrev many : Resolved
+    many = typed_one (OfVariables v) read.ms
+
+    variables_exact : Exactly g j lawful exports outside start taken nested block (said_variables read.ms) front (OfVariables v) q.1
+    variables_exact names all = more_answers g j lawful (O front) (Repeat front many ds refl refl refl k all) (variables_say g j lawful nested (T front) names exports s (Read front many ds refl refl refl k all) k.same.types v read.ms
+        (subst (λ (types : Types). Answers g j (Repeats g j names s) (λ a k. k ≡ (read.ms, a)) (λ (k : MadeType). IsTypeOf names exports types v.of k.0 k.1) (BrokenType names exports types v.of) q.1) k.same.types (read.exact names (Read front many ds refl refl refl k all))))
+
+    abbrev MidOf : (List ℕ → Type 0) → Scope g.Reported → Type 0
+    MidOf done t = Mid front many ds refl refl refl k done t
+
+    typed_mid : {done : List ℕ → Type 0} {t : Scope g.Reported} (r : Result TypeNo g.Reported) → MidOf done t → MidOf done (with_variable_type t r)
+    typed_mid (Ok u) m = record { same = record { withs = m.same.withs; outer = m.same.outer; types = m.same.types; tables = m.same.tables; level = m.same.level }; own = m.own }
+    typed_mid (Err e) m = m
+
+    -- its variables count as own
+    abbrev OwnMade : (Scope g.Reported → TypeNo → Meaning) → Type 0
+    OwnMade made = (t : Scope g.Reported) → t.types ≡ T (many ∷ front) → t.level ≡ start.level → (a : TypeNo) → is_own_variable start (made t a) ≡ true
+
+    -- one variable after another
+    finish_each : (made : Scope g.Reported → TypeNo → Meaning) → ((t : Scope g.Reported) (a : TypeNo) → (said_variables read.ms a).1 ≡ standing (made t a)) → ((t : Scope g.Reported) (a : TypeNo) → standing_of (made t a) ≡ place.Taken) → OwnMade made → (xs : List Ident) → ((x : Ident) → Among x xs → Among x v.names) → (done : List ℕ → Type 0) {t : Scope g.Reported} → MidOf done t
+        → MidOf (Adding xs done) (fold (λ t x. finished (with_variable_type t q.1) x (q.1 ▷ λ a. Ok (made t a))) t xs)
+    finish_each made i z w [] a done m = m
+    finish_each made i z w (x ∷ xs) a done {t = t} m = finish_each made i z w xs (λ y n. a y (later n)) (λ n. (x.name ≡ n) ⊎ done n)
+        (one_finished front many ds refl refl refl k x (a x here) (says_it front many ds refl refl refl k (said_variables read.ms) (made t) (i t) (λ u. refl) (z t) (w t m.same.types m.same.level) variables_exact) done (typed_mid q.1 m))
+
+    names_done : (n : List ℕ) → Adding v.names (λ n. ⊥) n → Declares (OfVariables v) n
+    names_done n h = elim (added v.names (λ n. ⊥) n h) [ inl w ↦ w | inr z ↦ absurd z ]
+
+    variables_ended : (made : Scope g.Reported → TypeNo → Meaning) → ((t : Scope g.Reported) (a : TypeNo) → (said_variables read.ms a).1 ≡ standing (made t a)) → ((t : Scope g.Reported) (a : TypeNo) → standing_of (made t a) ≡ place.Taken) → OwnMade made
+        → KB (many ∷ front) ds (Th (many ∷ front)) (fold (λ t x. finished (with_variable_type t q.1) x (q.1 ▷ λ a. Ok (made t a))) q.0 v.names)
+    variables_ended made i z w = ended front many ds refl refl refl k (mid_as g j lawful exports outside start taken nested block takes front many ds (Adding v.names (Th front)) names_done (λ n h. adding_name v.names (λ n. ⊥) n h.0 h.1 h.2)
+        (finish_each made i z w v.names (λ x m. m) (λ n. ⊥) (begun_mid front many ds refl refl refl k (begun_same front many ds refl refl refl k refl read.is) (ap (λ (u : Scope g.Reported). u.own) read.is))))
+
+    variables_told : {b : Result (Unit {0}) g.Reported} → Tells g j lawful (O front) (λ f. BI front f ⊎ Twice (Th front) v.names f) b → Told (many ∷ front) (beside g b (nothing_of q.1))
+    variables_told t = told_list front many ds refl refl refl t (telling front many ds refl refl refl k (said_variables read.ms) variables_exact)
+
+    abbrev variable_made : Scope g.Reported → TypeNo → Meaning
+    variable_made t a = meaning.Variable (record { home = t.types.home; number = length t.variables; of = a })
+
+    abbrev local_made : Scope g.Reported → TypeNo → Meaning
+    local_made t a = meaning.Local (record { level = t.level; number = length t.variables; kind = kind.Variable; of = a })
+
+    own_made : (t : Scope g.Reported) → t.types ≡ T (many ∷ front) → t.level ≡ start.level → (a : TypeNo) → is_own_variable start (variable_made t a) ≡ true
+    own_made t e l a = let z : t.types.home ≡ start.types.home = ap (λ (x : Types). x.home) e ∙ home_same g j exports outside start taken nested block knows no_withs front in grind (arith, nat_tests, z)
+
+    own_local : (t : Scope g.Reported) → t.types ≡ T (many ∷ front) → t.level ≡ start.level → (a : TypeNo) → is_own_variable start (local_made t a) ≡ true
+    own_local t e l a = let z : t.level ≡ start.level = l in grind (arith, nat_tests, z)
+
+    module_ended : {b : Result (Unit {0}) g.Reported} → Tells g j lawful (O front) (λ f. BI front f ⊎ Twice (Th front) v.names f) b → Stepped front many ds (fold (finished_variable q.1) q.0 v.names, beside g b (nothing_of q.1))
+    module_ended t = (variables_ended variable_made (λ t a. refl) (λ t a. refl) own_made, variables_told t)
+
+    local_ended : {b : Result (Unit {0}) g.Reported} → Tells g j lawful (O front) (λ f. BI front f ⊎ Twice (Th front) v.names f) b → Stepped front many ds (fold (finished_local q.1) q.0 v.names, beside g b (nothing_of q.1))
+    local_ended t = (variables_ended local_made (λ t a. refl) (λ t a. refl) own_local, variables_told t)
+
+  begun_list : (front : List Resolved) (v : Variables) (ds : List Declaration) {s : Scope g.Reported} {r : Result (Unit {0}) g.Reported} → KB front (OfVariables v ∷ ds) (Th front) s → Told front r
+      → KB front (OfVariables v ∷ ds) (Adding v.names (Th front)) (fold (begun_name g) (s, r) v.names).0 × Tells g j lawful (O front) (λ f. BI front f ⊎ Twice (Th front) v.names f) (fold (begun_name g) (s, r) v.names).1
+  begun_list front v ds k t = begin_all g j lawful exports outside start taken nested block takes (O front) front (OfVariables v) ds refl v.names (Th front) (λ x m. (x, m, refl)) k (told_here t)
+
+  declare_variables : (front : List Resolved) (v : Variables) (ds : List Declaration) → IsPlainType v.of → {s : Scope g.Reported} {r : Result (Unit {0}) g.Reported} → KB front (OfVariables v ∷ ds) (Th front) s → Told front r → One front (OfVariables v) ds (with_variables g (s, r) v)
+  declare_variables front v ds i {s = s} {r = r} k t = let b = begun_list front v ds k t in
+      let u = (fold (begun_name g) (s, r) v.names).0 in
+      let read = type_read g j lawful exports i u b.0.same.withs in
+      (typed_one (OfVariables v) read.ms, refl, module_ended front v ds b.0 (type_of g v.of u) read b.1)
+
+  declare_locals : (front : List Resolved) (v : Variables) (ds : List Declaration) → IsPlainType v.of → {s : Scope g.Reported} {r : Result (Unit {0}) g.Reported} → KB front (OfVariables v ∷ ds) (Th front) s → Told front r → One front (OfVariables v) ds (with_locals g (s, r) v)
+  declare_locals front v ds i {s = s} {r = r} k t = let b = begun_list front v ds k t in
+      let u = (fold (begun_name g) (s, r) v.names).0 in
+      let read = type_read g j lawful exports i u b.0.same.withs in
+      (typed_one (OfVariables v) read.ms, refl, local_ended front v ds b.0 (type_of g v.of u) read b.1)
+
+  -- ---- names of formals
+
+  abbrev HasField : Fields → List ℕ → Type 0
+  HasField fs n = is_some (found n fs.names) ≡ true
+
+  module _ (Q : Breach → Type 0) where
+    -- names that are there
+    record Lists (There : List ℕ → Type 0) (fs : Fields) : Type 0 where
+      into : (n : List ℕ) → There n → HasField fs n
+      from : (n : List ℕ) → HasField fs n → There n
+
+    field_more : {There : List ℕ → Type 0} {fs : Fields} (x : Ident) (cells : ℕ) → Lists There fs → Lists (λ n. (x.name ≡ n) ⊎ There n) (record { names = entered x.name integer fs.names; cells = cells })
+    field_more {There = There} {fs = fs} x cells l = record { into = λ n. (all n).0; from = λ n. (all n).1 }
+      where
+        all : (n : List ℕ) → ((x.name ≡ n) ⊎ There n → is_some (found n (entered x.name integer fs.names)) ≡ true) × (is_some (found n (entered x.name integer fs.names)) ≡ true → (x.name ≡ n) ⊎ There n)
+        all = entered_all (λ n o. ((x.name ≡ n) ⊎ There n → is_some o ≡ true) × (is_some o ≡ true → (x.name ≡ n) ⊎ There n)) x.name integer fs.names ((λ z. refl), (λ e. inl refl)) (λ n c. ((λ z. elim z [ inl e ↦ absurd (c e) | inr t ↦ l.into n t ]), (λ e. inr (l.from n e))))
+
+    field_same : {There : List ℕ → Type 0} {fs : Fields} (x : Ident) → HasField fs x.name → Lists There fs → Lists (λ n. (x.name ≡ n) ⊎ There n) fs
+    field_same {fs = fs} x h l = record { into = λ n z. elim z [ inl e ↦ subst (HasField fs) e h | inr t ↦ l.into n t ]; from = λ n e. inr (l.from n e) }
+
+    abbrev Tell : (Breach → Type 0) → Result (Unit {0}) g.Reported → Type 0
+    Tell B r = Tells g j lawful Q B r
+
+    abbrev NamedField : (List ℕ → Type 0) → Ident → Fields × Result (Unit {0}) g.Reported → Type 0
+    NamedField There x q = Lists (λ n. (x.name ≡ n) ⊎ There n) q.0 × Tell (λ f. There x.name × (f ≡ x.pos ! rule.DeclaredTwice)) q.1
+
+    field_by : {There : List ℕ → Type 0} (fs : Fields) (x : Ident) (b : Bool) → is_some (found x.name fs.names) ≡ b → Lists There fs → NamedField There x (cond b (fs, reported g x.pos rule.DeclaredTwice) (record { names = entered x.name integer fs.names; cells = plus fs.cells 0 }, Ok tt))
+    field_by fs x true e l = (field_same x e l, tells (g.one (x.pos ! rule.DeclaredTwice)) (accounts_as g j lawful Q (λ f q. (l.from x.name e, q)) (λ f z. z.1) (accounts_one g j lawful Q (x.pos ! rule.DeclaredTwice))))
+    field_by fs x false e l = (field_more x (plus fs.cells 0) l, silent (λ f z. clash (l.into x.name z.0) e))
+
+    names_tell : (xs : List Ident) {There : List ℕ → Type 0} {fs : Fields} {r : Result (Unit {0}) g.Reported} {B : Breach → Type 0} → Lists There fs → Tell B r
+        → Lists (Adding xs There) (fold (with_name g integer 0) (fs, r) xs).0 × Tell (λ f. B f ⊎ Twice There xs f) (fold (with_name g integer 0) (fs, r) xs).1
+    names_tell [] l t = (l, tells_as g j lawful Q (λ f b. inl b) (λ f z. elim z [ inl b ↦ b | inr b ↦ absurd b ]) t)
+    names_tell (x ∷ xs) {fs = fs} l t = let q = field_by fs x (is_some (found x.name fs.names)) refl l in let z = names_tell xs q.0 (beside_tells g j lawful Q t q.1) in
+        (z.0, tells_as g j lawful Q (λ f z. elim z [ inl y ↦ elim y [ inl b ↦ inl b | inr w ↦ inr (inl w) ] | inr b ↦ inr (inr b) ]) (λ f z. elim z [ inl b ↦ inl (inl b) | inr y ↦ elim y [ inl w ↦ inl (inr w) | inr b ↦ inr b ] ]) z.1)
+
+    twice_join : (There : List ℕ → Type 0) (xs ys : List Ident) (f : Breach) → Twice There xs f ⊎ Twice (Adding xs There) ys f → Twice There (xs ++ ys) f
+    twice_join There [] ys f (inl z) = absurd z
+    twice_join There [] ys f (inr t) = t
+    twice_join There (x ∷ xs) ys f (inl (inl h)) = inl h
+    twice_join There (x ∷ xs) ys f (inl (inr t)) = inr (twice_join (λ n. (x.name ≡ n) ⊎ There n) xs ys f (inl t))
+    twice_join There (x ∷ xs) ys f (inr t) = inr (twice_join (λ n. (x.name ≡ n) ⊎ There n) xs ys f (inr t))
+
+    twice_split : (There : List ℕ → Type 0) (xs ys : List Ident) (f : Breach) → Twice There (xs ++ ys) f → Twice There xs f ⊎ Twice (Adding xs There) ys f
+    twice_split There [] ys f t = inr t
+    twice_split There (x ∷ xs) ys f (inl h) = inl (inl h)
+    twice_split There (x ∷ xs) ys f (inr t) = elim (twice_split (λ n. (x.name ≡ n) ⊎ There n) xs ys f t) [ inl y ↦ inl (inr y) | inr y ↦ inr y ]
+
+    sections_tell : (xs : List Section) {There : List ℕ → Type 0} {fs : Fields} {r : Result (Unit {0}) g.Reported} {B : Breach → Type 0} → Lists There fs → Tell B r → Tell (λ f. B f ⊎ Twice There (names_in xs) f) (fold (with_names g) (fs, r) xs).1
+    sections_tell [] l t = tells_as g j lawful Q (λ f b. inl b) (λ f z. elim z [ inl b ↦ b | inr b ↦ absurd b ]) t
+    sections_tell (x ∷ xs) {There = There} l t = let q = names_tell x.names l t in
+        tells_as g j lawful Q (λ f z. elim z [ inl y ↦ elim y [ inl b ↦ inl b | inr w ↦ inr (twice_join There x.names (names_in xs) f (inl w)) ] | inr w ↦ inr (twice_join There x.names (names_in xs) f (inr w)) ]) (λ f z. elim z [ inl b ↦ inl (inl b) | inr y ↦ elim (twice_split There x.names (names_in xs) f y) [ inl w ↦ inl (inr w) | inr w ↦ inr w ] ])
+        (sections_tell xs q.0 q.1)
+
+    no_fields_listed : Lists (λ n. ⊥) no_fields
+    no_fields_listed = record { into = λ n z. absurd z; from = λ n e. absurd cc }
+
+    formals_tell : (h : Heading) → Tell (λ f. Twice (λ n. ⊥) (names_in h.formals) f) (formals_told g h)
+    formals_tell h = tells_as g j lawful Q (λ f z. elim z [ inl b ↦ absurd b | inr t ↦ t ]) (λ f t. inr t) (sections_tell h.formals {B = λ f. ⊥} no_fields_listed (silent (λ f z. z)))
+
+  -- ---- procedures
+
+  module _ (level : nested ≡ not (start.level == 0)) (front : List Resolved) (h : Heading) (ds : List Declaration) {s : Scope g.Reported} (k : KB front (OfProcedure h ∷ ds) (Th front) s) where
+    abbrev said : Made → Saids
+    said = said_procedure nested (T front)
+
+    abbrev ExactHeading : Result Made g.Reported → Type 0
+    ExactHeading r = Exactly g j lawful exports outside start taken nested block said front (OfProcedure h) r
+
+    abbrev names_now : Ident → Standing
+    names_now = standings g j exports outside start taken nested block knows no_withs k
+
+    stand_now : Stand front names_now
+    stand_now = all_stand g j exports outside start taken nested block knows no_withs k
+
+    procedure_exact : ExactHeading (heading_of g s h)
+    procedure_exact names all = more_answers g j lawful (O front) (repeating g j exports outside start taken nested block knows no_withs k all) (procedure_says g j lawful nested (T front) names exports s (knowing g j exports outside start taken nested block knows no_withs k all) k.same.types h)
+
+    abbrev heading_with : List Made → Resolved
+    heading_with ms = record { what = OfProcedure h; makes = ms }
+
+    theres_apart : {n : List ℕ} → taken n ≡ false → (IsThere front n → ⊥) → Th front n → ⊥
+    theres_apart t c (inl u) = clash u t
+    theres_apart t c (inr a) = c a
+
+    declared_name : {n : List ℕ} → Declares (OfProcedure h) n → h.name.name ≡ n
+    declared_name m = elim (name_only m) [ inl e ↦ e | inr z ↦ absurd z ]
+
+    -- a name that is taken
+    taken_ends : Th front h.name.name → KB (heading_with [] ∷ front) ds (Th (heading_with [] ∷ front)) s
+    taken_ends th = finish_end g j lawful exports outside start taken nested block takes front (heading_with []) ds (Th front) k.within k.in_block k.left (λ n m. subst (Th front) (declared_name m) th) (λ n t. inr t)
+        (record {
+          same = record { withs = k.same.withs; outer = k.same.outer; types = k.same.types ∙ sym (no_types (T front)); tables = k.same.tables; level = k.same.level };
+          own = λ n. is_other (λ t c m. theres_apart t c (subst (Th front) (declared_name m) th)) (k.own n);
+        })
+
+    -- a new name
+    new_ends : (ms : List Made) (m : Known g.Reported) → Saying g j exports outside start taken nested block front (heading_with ms) m → (Th front h.name.name → ⊥) → {t : Scope g.Reported} → Same g j exports outside start taken nested block (T (heading_with ms ∷ front)) t → t.own ≡ s.own
+        → KB (heading_with ms ∷ front) ds (Th (heading_with ms ∷ front)) (with_known h.name.name m t)
+    new_ends ms m say new {t = t} same e = finish_end g j lawful exports outside start taken nested block takes front (heading_with ms) ds (λ n. (h.name.name ≡ n) ⊎ Th front n) k.within k.in_block k.left (λ n z. inl (declared_name z)) (λ n z. elim z [ inl q ↦ inl (h.name, here, q) | inr w ↦ inr w ])
+        (record {
+          same = record { withs = same.withs; outer = same.outer; types = same.types; tables = same.tables; level = same.level };
+          own = entered_all (λ n o. MidAs g j lawful exports outside start taken nested block takes front (heading_with ms) ds (λ n. (h.name.name ≡ n) ⊎ Th front n) (Declares (OfProcedure h)) n o) h.name.name m t.own
+              (is_done m (no_taken (taken h.name.name) refl) (λ a. new (inr a)) (h.name, here, refl) say)
+              (λ n c. is_other (λ u w z. c (declared_name z)) (subst (λ (own : List (List ℕ × Known g.Reported)). KnownAs g j exports outside start taken nested block front (λ n. (h.name.name ≡ n) ⊎ Th front n) n (found n own)) (sym e) (widen g j lawful exports outside start taken nested block takes h.name (λ q. absurd (c q)) (k.own n))));
+        })
+      where
+        no_taken : (b : Bool) → taken h.name.name ≡ b → taken h.name.name ≡ false
+        no_taken true q = absurd (new (inl q))
+        no_taken false q = q
+
+    -- what its heading means
+    says_heading : (ms : List Made) (made : Made → Meaning) → ((m : Made) → (said m).1 ≡ standing (made m)) → ((m : Made) → is_own_variable start (made m) ≡ false) → {r : Result Made g.Reported} → ExactHeading r → ((m : Made) → r ≡ Ok m → ms ≡ m ∷ []) → Saying g j exports outside start taken nested block front (heading_with ms) (known.Headed (r ▷ λ m. Ok (made m)))
+    says_heading ms made i w x e = saying_heading g j lawful exports outside start taken nested block said front (heading_with ms) made i x e refl (λ m. w m) stand_now
+
+    types_next : next_type (T front) ≡ next_type s.types
+    types_next = ap (λ (t : Types). next_type t) (sym k.same.types)
+
+    abbrev module_made : (home number : ℕ) → Made → Meaning
+    module_made home n m = meaning.Procedure (record { home = home; number = n; heading = next_type s.types })
+
+    abbrev nested_made : (number : ℕ) → Made → Meaning
+    nested_made n m = meaning.LocalProcedure (record { level = s.level; number = n; heading = next_type s.types })
+
+    module_is : nested ≡ false → (home n : ℕ) (m : Made) → (said m).1 ≡ standing (module_made home n m)
+    module_is e home n m = ap (λ (b : Bool). things.Known (procedure b (next_type (T front)))) e ∙ ap (λ (t : TypeNo). things.Known (things.AProcedure t)) types_next
+
+    nested_is : nested ≡ true → (n : ℕ) (m : Made) → (said m).1 ≡ standing (nested_made n m)
+    nested_is e n m = ap (λ (b : Bool). things.Known (procedure b (next_type (T front)))) e ∙ ap (λ (t : TypeNo). things.Known (things.ANested t)) types_next
+
+    same_made : (m : Made) → Same g j exports outside start taken nested block (T (heading_with (m ∷ []) ∷ front)) (with_shape s m)
+    same_made m = record { withs = k.same.withs; outer = k.same.outer; types = ap (λ (t : Types). with_types t (m ∷ [])) k.same.types; tables = k.same.tables; level = k.same.level }
+
+    same_none : Same g j exports outside start taken nested block (T (heading_with [] ∷ front)) s
+    same_none = record { withs = k.same.withs; outer = k.same.outer; types = k.same.types ∙ sym (no_types (T front)); tables = k.same.tables; level = k.same.level }
+
+    abbrev Ended : List Made → Scope g.Reported → Type 0
+    Ended ms t = KB (heading_with ms ∷ front) ds (Th (heading_with ms ∷ front)) t
+
+    one_only : {m n : Made} → ◌≡◌ {A = Result Made g.Reported} (Ok m) (Ok n) → m ∷ [] ≡ n ∷ []
+    one_only e = cc
+
+    made_ends : (n : ℕ) (m : Made) → ExactHeading (Ok m) → (Th front h.name.name → ⊥) → (b : Bool) → (s.level == 0) ≡ b → nested ≡ not b → Ended (m ∷ []) (new_procedure (with_shape s m) h.name.name n (Ok (next_type s.types)))
+    made_ends n m x new true e q = subst (λ (b : Bool). Ended (m ∷ []) (cond b (with_known h.name.name (known.Headed (Ok (meaning.Procedure (record { home = s.types.home; number = length s.procedures; heading = next_type s.types })))) (with_procedure_type (with_shape s m) (Ok (next_type s.types)))) (with_known h.name.name (known.Headed (Ok (nested_made n m))) (with_shape s m)))) (sym e)
+        (new_ends (m ∷ []) (known.Headed (Ok (module_made s.types.home (length s.procedures) m))) (says_heading (m ∷ []) (module_made s.types.home (length s.procedures)) (module_is q s.types.home (length s.procedures)) (λ m. refl) x (λ w z. one_only z)) new
+        (record { withs = (same_made m).withs; outer = (same_made m).outer; types = (same_made m).types; tables = (same_made m).tables; level = (same_made m).level }) refl)
+    made_ends n m x new false e q = subst (λ (b : Bool). Ended (m ∷ []) (cond b (with_known h.name.name (known.Headed (Ok (meaning.Procedure (record { home = s.types.home; number = length s.procedures; heading = next_type s.types })))) (with_procedure_type (with_shape s m) (Ok (next_type s.types)))) (with_known h.name.name (known.Headed (Ok (nested_made n m))) (with_shape s m)))) (sym e)
+        (new_ends (m ∷ []) (known.Headed (Ok (nested_made n m))) (says_heading (m ∷ []) (nested_made n) (nested_is q n) (λ m. refl) x (λ w z. one_only z)) new (same_made m) refl)
+
+    none_ends : (n : ℕ) (r : g.Reported) → ExactHeading (Err r) → (Th front h.name.name → ⊥) → (b : Bool) → (s.level == 0) ≡ b → nested ≡ not b → Ended [] (new_procedure s h.name.name n (Err r))
+    none_ends n r x new true e q = subst (λ (b : Bool). Ended [] (cond b (with_known h.name.name (known.Headed (Err r)) s) (with_known h.name.name (known.Headed (Err r)) s))) (sym e)
+        (new_ends [] (known.Headed (Err r)) (says_heading [] (module_made 0 0) (module_is q 0 0) (λ m. refl) x (λ m z. absurd cc)) new same_none refl)
+    none_ends n r x new false e q = subst (λ (b : Bool). Ended [] (cond b (with_known h.name.name (known.Headed (Err r)) s) (with_known h.name.name (known.Headed (Err r)) s))) (sym e)
+        (new_ends [] (known.Headed (Err r)) (says_heading [] (nested_made n) (nested_is q n) (λ m. refl) x (λ m z. absurd cc)) new same_none refl)
+
+    level_same : nested ≡ not (s.level == 0)
+    level_same = level ∙ ap (λ (l : ℕ). not (l == 0)) (sym k.same.level)
+
+    -- what is reported
+    telling_heading : {r : Result Made g.Reported} → ExactHeading r → Tells g j lawful (O front) (Mis front (OfProcedure h)) (r ▷ λ m. Ok tt)
+    telling_heading x = says_tells g j lawful exports outside start taken nested block said front (heading_with []) x stand_now
+
+    told_new : (ms : List Made) {r b v : Result (Unit {0}) g.Reported} → (Th front h.name.name → ⊥) → Told front r → Tells g j lawful (O front) (λ f. Twice (λ n. ⊥) (names_in h.formals) f) b → Tells g j lawful (O front) (Mis front (OfProcedure h)) v → Told (heading_with ms ∷ front) (beside g r (beside g b v))
+    told_new ms new a b c = told_parts (heading_with ms) (λ f z. elim z [ inl y ↦ inl y | inr y ↦ inr (inr y) ]) (λ f z. back f z) (beside_tells g j lawful (O front) (told_here a) (beside_tells g j lawful (O front) b c))
+      where
+        back : (f : Breach) → Parts front (heading_with ms) f → BI front f ⊎ (Twice (λ n. ⊥) (names_in h.formals) f ⊎ Mis front (OfProcedure h) f)
+        back f (inl z) = inl z
+        back f (inr (inl (inl t))) = absurd (new t.0)
+        back f (inr (inl (inr t))) = absurd t
+        back f (inr (inr y)) = inr y
+
+    told_taken : {r b v : Result (Unit {0}) g.Reported} → Th front h.name.name → Told front r → Tells g j lawful (O front) (λ f. Twice (λ n. ⊥) (names_in h.formals) f) b → Tells g j lawful (O front) (Mis front (OfProcedure h)) v → Told (heading_with [] ∷ front) (beside g r (beside g b (beside g v (reported g h.name.pos rule.DeclaredTwice))))
+    told_taken th a b c = told_parts (heading_with []) (λ f z. to f z) (λ f z. back f z) (beside_tells g j lawful (O front) (told_here a) (beside_tells g j lawful (O front) b (beside_tells g j lawful (O front) c
+        (tells (g.one (h.name.pos ! rule.DeclaredTwice)) (accounts_one g j lawful (O front) (h.name.pos ! rule.DeclaredTwice))))))
+      where
+        to : (f : Breach) → BI front f ⊎ (Twice (λ n. ⊥) (names_in h.formals) f ⊎ (Mis front (OfProcedure h) f ⊎ (f ≡ h.name.pos ! rule.DeclaredTwice))) → Parts front (heading_with []) f
+        to f (inl z) = inl z
+        to f (inr (inl t)) = inr (inr (inl t))
+        to f (inr (inr (inl m))) = inr (inr (inr m))
+        to f (inr (inr (inr e))) = inr (inl (inl (th, e)))
+
+        back : (f : Breach) → Parts front (heading_with []) f → BI front f ⊎ (Twice (λ n. ⊥) (names_in h.formals) f ⊎ (Mis front (OfProcedure h) f ⊎ (f ≡ h.name.pos ! rule.DeclaredTwice)))
+        back f (inl z) = inl z
+        back f (inr (inl (inl t))) = inr (inr (inr t.1))
+        back f (inr (inl (inr t))) = absurd t
+        back f (inr (inr (inl t))) = inr (inl t)
+        back f (inr (inr (inr m))) = inr (inr (inl m))
+
+    -- all of it
+    abbrev DoneHeading : State (Unit {0}) g.Reported → Result (Unit {0}) g.Reported → Type 0
+    DoneHeading st r = (ms : List Made) × KB (heading_with ms ∷ front) ds (Th (heading_with ms ∷ front)) st.0 × Told (heading_with ms ∷ front) (beside g r (beside g (formals_told g h) st.1))
+
+    new_by : (n : ℕ) (made : Result Made g.Reported) → ExactHeading made → (Th front h.name.name → ⊥) → {r : Result (Unit {0}) g.Reported} → Told front r → DoneHeading (with_new s h.name.name n made) r
+    new_by n (Ok m) x new t = (m ∷ [], made_ends n m x new (s.level == 0) refl level_same, told_new (m ∷ []) new t (formals_tell (O front) h) (telling_heading x))
+    new_by n (Err e) x new t = ([], none_ends n e x new (s.level == 0) refl level_same, told_new [] new t (formals_tell (O front) h) (telling_heading x))
+
+    headed_by : (n : ℕ) (made : Result Made g.Reported) → ExactHeading made → {pl : Place} → PlaceIs g j lawful exports outside start taken nested block takes front (Th front) k.includes h.name.name (k.in_block h.name.name (OfProcedure h, here, (h.name, here, refl))) pl → {r : Result (Unit {0}) g.Reported} → Told front r → DoneHeading (headed_as g s h n made pl) r
+    headed_by n made x (place_free new) t = new_by n made x new t
+    headed_by n made x (place_taken th) t = ([], taken_ends th, told_taken th t (formals_tell (O front) h) (telling_heading x))
+
+    declare_procedure : (n : ℕ) {r : Result (Unit {0}) g.Reported} → Told front r → (ms : List Made) × Stepped front (heading_with ms) ds ((with_heading g s n h).0, beside g r (with_heading g s n h).1)
+    declare_procedure n t = let q = headed_by n (heading_of g s h) procedure_exact (place_is g j lawful exports outside start taken nested block takes front (Th front) k.includes h.name.name (k.in_block h.name.name (OfProcedure h, here, (h.name, here, refl))) (λ d i t c. theres_apart t c) (k.own h.name.name)) t in (q.0, (q.1, q.2))
+
+  -- ---- one declaration after another
+
+  abbrev Ran : List Resolved → List Declaration → List Declaration → State (Unit {0}) g.Reported → Type 0
+  Ran front xs rest st = (fs : List Resolved) × (in_order fs ≡ in_order front ++ xs) × (KB fs rest (Th fs) st.0 × Told fs st.1)
+
+  ran_nothing : {front : List Resolved} {rest : List Declaration} {s : Scope g.Reported} {r : Result (Unit {0}) g.Reported} → KB front rest (Th front) s → Told front r → Ran front [] rest (s, r)
+  ran_nothing {front = front} k t = (front, sym (nil_right (in_order front)), (k, t))
+
+  in_order_more : (front fs : List Resolved) (d : Resolved) (xs : List Declaration) {x : Declaration} → d.what ≡ x → in_order fs ≡ in_order (d ∷ front) ++ xs → in_order fs ≡ in_order front ++ x ∷ xs
+  in_order_more front fs d xs e q = q ∙ append_assoc (in_order front) (d.what ∷ []) xs ∙ ap (λ (x : Declaration). in_order front ++ x ∷ xs) e
+
+  -- a section
+  module _ {X : Type 0} (f : State (Unit {0}) g.Reported → X → State (Unit {0}) g.Reported) (of : X → Declaration) where
+    abbrev Steps : List X → Type 0
+    Steps xs = (x : X) → Among x xs → (front : List Resolved) (ds : List Declaration) (s : Scope g.Reported) (r : Result (Unit {0}) g.Reported) → KB front (of x ∷ ds) (Th front) s → Told front r → One front (of x) ds (f (s, r) x)
+
+    section_ran : (xs : List X) → Steps xs → (front : List Resolved) (rest : List Declaration) {s : Scope g.Reported} {r : Result (Unit {0}) g.Reported} → KB front (map of xs ++ rest) (Th front) s → Told front r → Ran front (map of xs) rest (fold f (s, r) xs)
+    section_ran [] h front rest k t = ran_nothing k t
+    section_ran (x ∷ xs) h front rest {s = s} {r = r} k t = let q = h x here front (map of xs ++ rest) s r k t in
+        let z = section_ran xs (λ y m. h y (later m)) (q.0 ∷ front) rest q.2.0 q.2.1 in
+        (z.0, in_order_more front z.0 q.0 (map of xs) q.1 z.1, z.2)
+
+  -- ---- all of a block
+
+  module _ (level : nested ≡ not (start.level == 0)) (ends : List ℕ) where
+    variables_ran : (vs : List Variables) → ((v : Variables) → Among v vs → IsPlainType v.of) → (front : List Resolved) (rest : List Declaration) {s : Scope g.Reported} {r : Result (Unit {0}) g.Reported} → KB front (map OfVariables vs ++ rest) (Th front) s → Told front r
+        → Ran front (map OfVariables vs) rest (with_variables_of g (s, r) vs)
+    variables_ran vs i front rest {s = s} {r = r} k t = by (s.level == 0)
+      where
+        by : (b : Bool) → Ran front (map OfVariables vs) rest (cond b (fold (with_variables g) (s, r) vs) (fold (with_locals g) (s, r) vs))
+        by true = section_ran (with_variables g) OfVariables vs (λ v m front ds s r k t. declare_variables front v ds (i v m) k t) front rest k t
+        by false = section_ran (with_locals g) OfVariables vs (λ v m front ds s r k t. declare_locals front v ds (i v m) k t) front rest k t
+
+    procedure_ran : (h : Heading) (n : ℕ) (front : List Resolved) (rest : List Declaration) {s : Scope g.Reported} {r : Result (Unit {0}) g.Reported} → KB front (OfProcedure h ∷ rest) (Th front) s → Told front r
+        → Ran front (OfProcedure h ∷ []) rest ((with_heading g s n h).0, beside g r (with_heading g s n h).1)
+    procedure_ran h n front rest k t = let q = declare_procedure level front h rest k n t in (record { what = OfProcedure h; makes = q.0 } ∷ front, refl, q.1)
+
+    layer_ran : (y : Decl-F Decl Block) → IsPlainLayer y → (front : List Resolved) (rest : List Declaration) (n : ℕ) {s : Scope g.Reported} {r : Result (Unit {0}) g.Reported} → KB front (declared_by y ++ rest) (Th front) s → Told front r
+        → Ran front (declared_by y) rest ((decl_layer g ends (s, r, n) y).0, (decl_layer g ends (s, r, n) y).1)
+    layer_ran (decl.Constants cs) i front rest n k t = section_ran (with_constant g) OfConstant cs (λ c m front ds s r k t. (plain_one (OfConstant c), refl, declare_constant front c ds (i c m) k t)) front rest k t
+    layer_ran (decl.Types ts) i front rest n k t = section_ran (with_type g) OfType ts (λ d m front ds s r k t. declare_type front d ds (i d m) k t) front rest k t
+    layer_ran (decl.Variables vs) i front rest n k t = variables_ran vs i front rest k t
+    layer_ran (decl.Procedure h b) i front rest n k t = procedure_ran h n front rest k t
+
+    all_ran : (ds : List Decl) → ArePlainDecls ds → (front : List Resolved) (n : ℕ) {s : Scope g.Reported} {r : Result (Unit {0}) g.Reported} → KB front (declarations_of ds) (Th front) s → Told front r
+        → Ran front (declarations_of ds) [] ((fold (with_decl g ends) (s, r, n) ds).0, (fold (with_decl g ends) (s, r, n) ds).1)
+    all_ran [] i front n k t = ran_nothing k t
+    all_ran (d ∷ ds) i front n k t = let q = layer_ran (out-Decl d) (i d here) front (declarations_of ds) n k t in
+        let z = all_ran ds (λ c m. i c (later m)) q.0 _ q.2.0 q.2.1 in
+        (z.0, z.1 ∙ ap (λ (xs : List Declaration). xs ++ declarations_of ds) q.1 ∙ append_assoc (in_order front) (declared_by (out-Decl d)) (declarations_of ds), z.2)
+
+module _ (g : Gathers) (j : Judges g) (lawful : Lawful g j) (exports : ℕ → Ident → Standing) (outside : Ident → Standing) (start : Scope g.Reported) (taken : List ℕ → Bool) (knows : Knows g j outside exports start) (no_withs : start.withs ≡ []) (takes : (n : List ℕ) → TakenAs g j (taken n) (found n start.own)) (ends : List ℕ) (first : ℕ) (ds : List Decl) (plain : ArePlainDecls ds) where
+  abbrev block : List Declaration
+  block = declarations_of ds
+
+  abbrev declared : Declared g.Reported
+  declared = declared_block g ends (start, Ok tt) first ds
+
+  all_of_it : Ran g j lawful exports outside start taken (is_nested start) block takes knows no_withs [] block [] (declared.0, declared.1)
+  all_of_it = all_ran g j lawful exports outside start taken (is_nested start) block takes knows no_withs refl ends ds plain [] first (block_begins g j exports outside start taken (is_nested start) block takes ds plain no_withs refl) (silent (λ f z. elim z [ ]))
+
+  reports : {whole : List Resolved} {r : Result (Unit {0}) g.Reported} → Tells g j lawful (Repeats g j outside start) (BrokenIn start.types exports outside taken (is_nested start) block whole) r → Reports g j (Repeats g j outside start) (BrokenIn start.types exports outside taken (is_nested start) block whole) r
+  reports (silent n) = reports_nothing n
+  reports (tells r a) = reports_broken r a
+
+  pub block_answers : IsBlockExact g j exports outside start taken ends first ds
+  block_answers = record {
+    whole = all_of_it.0;
+    in_text = all_of_it.1;
+    reported = reports all_of_it.2.1;
+    types = all_of_it.2.0.same.types;
+    stand = (standings g j exports outside start taken (is_nested start) block knows no_withs all_of_it.2.0, all_stand g j exports outside start taken (is_nested start) block knows no_withs all_of_it.2.0);
+    owned = λ outers own owns all. owning g j exports outside start taken (is_nested start) block knows no_withs all_of_it.2.0 outers owns own all;
+    own = λ outers owns. some_own g j exports outside start taken (is_nested start) block knows no_withs all_of_it.2.0 outers owns;
+    spot = λ outers own names owns all mine gives a r. record {
+      of_names = knowing g j exports outside start taken (is_nested start) block knows no_withs all_of_it.2.0 all;
+      of_own = owning g j exports outside start taken (is_nested start) block knows no_withs all_of_it.2.0 outers owns own mine;
+      of_result = r;
+      of_loop = refl;
+    };
+    known = λ names all. knowing g j exports outside start taken (is_nested start) block knows no_withs all_of_it.2.0 all;
+  }

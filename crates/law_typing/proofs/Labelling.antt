@@ -1,0 +1,289 @@
+-- A label of a CASE is answered exactly.
+use Rattle.std.proofs.Common.{◌≡◌, ℕ, ℤ, Bool, true, false, Option, Some, None, Result, Ok, ◌⊎◌, inl, inr, refl, sym, ap, subst, ◌∙◌}
+use Rattle.std.specs.Prelude.{int_lt}
+use Rattle.m2_rule.specs.declared.breach.Breach.{Breach}
+use Rattle.m2_rule.specs.declared.rule.Rule.TheVariants as rule
+use Rattle.m2_tree.specs.declared.pos.Pos.{Pos}
+use Rattle.m2_tree.specs.declared.name.Ident.{Ident}
+use Rattle.m2_tree.specs.declared.expr.Expr.{Expr}
+use Rattle.m2_tree.specs.declared.expr.Item.{Item, out-Item}
+use Rattle.typed_tree.specs.declared.types.TypeNo.{TypeNo}
+use Rattle.typed_tree.specs.declared.statement.Label.{Label}
+use Rattle.check_scope.specs.declared.scope.Scope.{Scope}
+use Rattle.check_scope.specs.Elaborated.{Gathers, reported_where, beside}
+use Rattle.check_const_ops.specs.declared.operand.Ordinal.{Ordinal}
+use Rattle.check_const_ops.specs.Numbers.{fits}
+use Rattle.check_const_ops.specs.Common.{common}
+use Rattle.check_expr.specs.Meanings.{meant}
+use Rattle.check_stmt_parts.specs.Simple.{meant_if}
+use Rattle.check_stmt_parts.specs.Labels.{bound_of, is_of_base, number_fits, suits_base, bound_suits, single, ordered_if, are_ordered, spanned, label_between, item_label}
+use Rattle.def_typing.specs.Amounts.{Constant, IsWhole, whole, GoTogether, same_type, number_right, InRange, Suits, has_type, not_asked, takes_type}
+use Rattle.def_typing.specs.Operators.{◌!◌}
+use Rattle.def_typing.specs.Things.{Standing}
+use Rattle.def_typing.specs.Parts.{first}
+use Rattle.def_typing.specs.Constants.{low_bound, high_bound}
+use Rattle.def_typing.specs.Cases as rules
+use Rattle.def_typing.specs.Cases.{IsLabelBound, BrokenLabelBound, IsOfBase, FitsSelector, Misfits, other_base, not_in_base, IsEmpty, is_empty, IsLabel, BrokenLabel}
+use Rattle.law_typing.specs.Judging.{Judges, Answers, means}
+use Rattle.law_typing.specs.Exact.{Knows, Repeats, IsPlain}
+use Rattle.law_typing.proofs.Combining.{Lawful, Decided, decided_as, exact, both_answer, then_answer, Checks, Tests, passes, stopped, checks_as, where_checks, where_also, beside_checks, then_check}
+use Rattle.law_typing.proofs.Deciding.{whole_decided, same_decided, range_decided, TogetherIs, together, apart, common_is}
+use Rattle.law_typing.proofs.Elements.{IsOrdinal, is_ordinal, one_meaning, checks_answer}
+use Rattle.law_typing.proofs.Places.{at_is}
+use Rattle.law_typing.proofs.Bounds.{ordinal_answers}
+
+abbrev pub Number : Type 0
+Number = Option TypeNo × ℤ
+
+pub data IsSpan : Label → ℤ × ℤ → Type 0 where
+  is_span : (l : Label) → IsSpan l (l.low, l.high)
+
+-- ---- a bound and the selector
+
+goes_with : {t u : TypeNo} {sort : Option TypeNo} → GoTogether (Some t) (Some u) sort → u ≡ t
+goes_with same_type = refl
+
+number_goes : {t : TypeNo} {sort : Option TypeNo} → GoTogether (Some t) None sort → IsWhole t
+number_goes (number_right w) = w
+
+together_same : {t u : TypeNo} → u ≡ t → GoTogether (Some t) (Some u) (Some t)
+together_same {t = t} e = subst (λ (u : TypeNo). GoTogether (Some t) (Some u) (Some t)) (sym e) same_type
+
+pub base_decided : (base : TypeNo) (sort : Option TypeNo) → Decided (IsOfBase (Some base) sort) (is_of_base base sort)
+base_decided base None = decided_as number_right number_goes (whole_decided base)
+base_decided base (Some t) = decided_as together_same goes_with (same_decided t base)
+
+ranged : {base : TypeNo} {n : ℤ} → Suits (Some base) (Constant None n) → InRange (Some base) n
+ranged (takes_type r) = r
+
+pub suits_decided : {base : TypeNo} (n : ℤ) → IsWhole base → Decided (Suits (Some base) (Constant None n)) (fits (Some base) n)
+suits_decided n w = decided_as takes_type ranged (range_decided n (whole w))
+
+suits_anything : (sort : Option TypeNo) (n : ℤ) → Suits None (Constant sort n)
+suits_anything None n = not_asked
+suits_anything (Some t) n = has_type
+
+module _ (g : Gathers) (j : Judges g) (lawful : Lawful g j) (O : Breach → Type 0) where
+  abbrev Fits : Option TypeNo → Number → Type 0
+  Fits base p = FitsSelector base p.0 p.1
+
+  abbrev Mis : Pos → Option TypeNo → Number → Breach → Type 0
+  Mis at base p f = Misfits at base p.0 p.1 f
+
+  number_checks : (at : Pos) (base : TypeNo) (a : Ordinal) (sort : Option TypeNo) → IsOfBase (Some base) sort → Checks g j lawful O {A = Unit {0}} (Suits (Some base) (Constant sort a.number)) (λ f. (Suits (Some base) (Constant sort a.number) → ⊥) × (f ≡ at ! rule.OutOfRange)) (number_fits g base at a sort)
+  number_checks at base a None w = where_checks g j lawful O tt (fits (Some base) a.number) at rule.OutOfRange (suits_decided a.number (number_goes w))
+  number_checks at base a (Some t) w = passes tt has_type (λ f z. z.0 has_type)
+
+  fit_checks : (at : Pos) (base : Option TypeNo) (a : Ordinal) (p : Number) → IsOrdinal a p → Checks g j lawful O (Fits base p) (Mis at base p) (suits_base g base at a)
+  fit_checks at None _ _ (is_ordinal a) = passes tt (record { of_base = tt; suits = suits_anything a.sort a.number }) (λ f z. none z)
+    where
+      none : {f : Breach} → Misfits at None a.sort a.number f → ⊥
+      none (other_base n) = n tt
+      none (not_in_base b n) = n (suits_anything a.sort a.number)
+  fit_checks at (Some base) _ _ (is_ordinal a) = checks_as g j lawful O (λ p. record { of_base = p.0; suits = p.1 }) (λ m. (m.of_base, m.suits)) (λ f z. into f z) (λ f z. out z)
+      (where_also g j lawful O {Q = Suits (Some base) (Constant a.sort a.number)} {C = λ f. (Suits (Some base) (Constant a.sort a.number) → ⊥) × (f ≡ at ! rule.OutOfRange)} (is_of_base base a.sort) at rule.WrongType (base_decided base a.sort) (number_checks at base a a.sort))
+    where
+      into : (f : Breach) → ((IsOfBase (Some base) a.sort → ⊥) × (f ≡ at ! rule.WrongType)) ⊎ (IsOfBase (Some base) a.sort × ((Suits (Some base) (Constant a.sort a.number) → ⊥) × (f ≡ at ! rule.OutOfRange))) → Misfits at (Some base) a.sort a.number f
+      into f (inl (n, e)) = subst (Misfits at (Some base) a.sort a.number) (sym e) (other_base n)
+      into f (inr (w, (n, e))) = subst (Misfits at (Some base) a.sort a.number) (sym e) (not_in_base w n)
+
+      out : {f : Breach} → Misfits at (Some base) a.sort a.number f → ((IsOfBase (Some base) a.sort → ⊥) × (f ≡ at ! rule.WrongType)) ⊎ (IsOfBase (Some base) a.sort × ((Suits (Some base) (Constant a.sort a.number) → ⊥) × (f ≡ at ! rule.OutOfRange)))
+      out (other_base n) = inl (n, refl)
+      out (not_in_base w n) = inr (w, (n, refl))
+
+  -- ---- two bounds
+
+  abbrev Upward : Number × Number → Type 0
+  Upward q = IsEmpty q.0.0 q.1.0 q.0.1 q.1.1 → ⊥
+
+  abbrev Downward : Pos → Number × Number → Breach → Type 0
+  Downward at q f = IsEmpty q.0.0 q.1.0 q.0.1 q.1.1 × (f ≡ at ! rule.EmptyRange)
+
+  less_of : {s t : Option TypeNo} {n m : ℤ} → IsEmpty s t n m → int_lt m n ≡ true
+  less_of (is_empty u e) = e
+
+  goes_of : {s t : Option TypeNo} {n m : ℤ} → IsEmpty s t n m → (u : Option TypeNo) × GoTogether s t u
+  goes_of (is_empty {u = u} z e) = (u, z)
+
+  order_by : (at : Pos) (a b : Ordinal) (m : Option (Option TypeNo)) (less : Bool) → int_lt b.number a.number ≡ less → TogetherIs a.sort b.sort m
+      → Tests g j lawful O (Upward ((a.sort, a.number), (b.sort, b.number))) (Downward at ((a.sort, a.number), (b.sort, b.number))) (ordered_if g at a b m)
+  order_by at a b _ less e (apart n) = passes tt (λ z. let q = goes_of z in n q.0 q.1) (λ f z. let q = goes_of z.0 in n q.0 q.1)
+  order_by at a b _ true e (together u t only) = subst (λ (l : Bool). Tests g j lawful O (Upward ((a.sort, a.number), (b.sort, b.number))) (Downward at ((a.sort, a.number), (b.sort, b.number))) (reported_where g l at rule.EmptyRange (Ok tt))) (sym e) (stopped g j lawful O at rule.EmptyRange (λ n. n (is_empty t e)) (is_empty t e, refl) (λ f z. z.1))
+  order_by at a b _ false e (together u t only) = subst (λ (l : Bool). Tests g j lawful O (Upward ((a.sort, a.number), (b.sort, b.number))) (Downward at ((a.sort, a.number), (b.sort, b.number))) (reported_where g l at rule.EmptyRange (Ok tt))) (sym e) (passes tt (λ z. let clash : true ≡ false = sym (less_of z) ∙ e in absurd cc) (λ f z. let clash : true ≡ false = sym (less_of z.0) ∙ e in absurd cc))
+
+  order_checks : (at : Pos) (a b : Ordinal) (p q : Number) → IsOrdinal a p → IsOrdinal b q → Tests g j lawful O (Upward (p, q)) (Downward at (p, q)) (ordered_if g at a b (common a.sort b.sort))
+  order_checks at _ _ _ _ (is_ordinal a) (is_ordinal b) = order_by at a b (common a.sort b.sort) (int_lt b.number a.number) refl (common_is a.sort b.sort)
+
+  -- ---- all of a label
+
+  span_answers : (a b : Ordinal) (p q : Number) → IsOrdinal a p → IsOrdinal b q → Answers g j O IsSpan (λ x. x ≡ (p.1, q.1)) (λ f. ⊥) (Ok (record { low = a.number; high = b.number }))
+  span_answers _ _ _ _ (is_ordinal a) (is_ordinal b) = means (record { low = a.number; high = b.number }) (a.number, b.number) (is_span (record { low = a.number; high = b.number })) refl (λ x e. e) (λ f z. z)
+
+  module _ {M N : Number → Type 0} {B C : Breach → Type 0} {a b : Result Ordinal g.Reported} (base : Option TypeNo) (at at' : Pos) (low : Answers g j O IsOrdinal M B a) (high : Answers g j O IsOrdinal N C b) where
+    abbrev SingleIs : ℤ × ℤ → Type 0
+    SingleIs x = (p : Number) × M p × (Fits base p × (x ≡ (p.1, p.1)))
+
+    abbrev SingleFails : Breach → Type 0
+    SingleFails f = B f ⊎ ((p : Number) × M p × Mis at base p f)
+
+    low_fits : Checks g j lawful O {A = Unit {0}} ((p : Number) × M p × Fits base p) (λ f. B f ⊎ ((p : Number) × M p × Mis at base p f)) (bound_suits g base at a)
+    low_fits = then_check g j lawful O {P = Fits base} {D = Mis at base} low (λ x p i. fit_checks at base x p i)
+
+    high_fits : Checks g j lawful O {A = Unit {0}} ((p : Number) × N p × Fits base p) (λ f. C f ⊎ ((p : Number) × N p × Mis at' base p f)) (bound_suits g base at' b)
+    high_fits = then_check g j lawful O {P = Fits base} {D = Mis at' base} high (λ x p i. fit_checks at' base x p i)
+
+    pub single_answers : Answers g j O IsSpan SingleIs SingleFails (single g base at a)
+    single_answers = exact g j lawful O {M = λ x. (k : Number × Unit {0}) × (M k.0 × ((p : Number) × M p × Fits base p)) × (x ≡ (k.0.1, k.0.1))} {B = λ f. (B f ⊎ SingleFails f) ⊎ ((k : Number × Unit {0}) × (M k.0 × ((p : Number) × M p × Fits base p)) × ⊥)}
+        (λ x z. (z.0.0, z.1.0, (subst (Fits base) (one_meaning g j lawful O low z.1.1.0 z.0.0 z.1.1.1 z.1.0) z.1.1.2, z.2)))
+        (λ x z. ((z.0, tt), (z.1, (z.0, z.1, z.2.0)), z.2.1))
+        (λ f z. elim z [ inl y ↦ elim y [ inl b ↦ inl b | inr w ↦ w ] | inr y ↦ absurd y.2 ])
+        (λ f z. inl (inr z))
+        (then_answer g j lawful O {N = λ k x. x ≡ (k.0.1, k.0.1)} {D = λ k f. ⊥} (both_answer g j lawful O low (checks_answer g j lawful O low_fits)) (λ x k i. span_answers x.0 x.0 k.0 k.0 i.0 i.0))
+
+    abbrev RangeIs : ℤ × ℤ → Type 0
+    RangeIs x = (q : Number × Number) × (M q.0 × N q.1) × ((Fits base q.0 × Fits base q.1) × (Upward q × (x ≡ (q.0.1, q.1.1))))
+
+    abbrev RangeFails : Breach → Type 0
+    RangeFails f = (B f ⊎ C f) ⊎ ((((p : Number) × M p × Mis at base p f) ⊎ ((p : Number) × N p × Mis at' base p f)) ⊎ ((q : Number × Number) × (M q.0 × N q.1) × Downward at q f))
+
+    abbrev Fitting : Type 0
+    Fitting = (((p : Number) × M p × Fits base p) × ((p : Number) × N p × Fits base p)) × ((q : Number × Number) × (M q.0 × N q.1) × Upward q)
+
+    abbrev Unfit : Breach → Type 0
+    Unfit f = ((B f ⊎ ((p : Number) × M p × Mis at base p f)) ⊎ (C f ⊎ ((p : Number) × N p × Mis at' base p f))) ⊎ ((B f ⊎ C f) ⊎ ((q : Number × Number) × (M q.0 × N q.1) × Downward at q f))
+
+    all_fit : Checks g j lawful O {A = Unit {0}} Fitting Unfit (beside g (beside g (bound_suits g base at a) (bound_suits g base at' b)) (are_ordered g at a b))
+    all_fit = beside_checks g j lawful O (beside_checks g j lawful O low_fits high_fits) (then_check g j lawful O {P = Upward} {D = Downward at} (both_answer g j lawful O low high) (λ x q i. order_checks at x.0 x.1 q.0 q.1 i.0 i.1))
+
+    abbrev Both : Type 0
+    Both = (Number × Number) × Unit {0}
+
+    pub range_answers : Answers g j O IsSpan RangeIs RangeFails (spanned g base at a at' b)
+    range_answers = exact g j lawful O {M = λ x. (k : Both) × ((M k.0.0 × N k.0.1) × Fitting) × (x ≡ (k.0.0.1, k.0.1.1))} {B = λ f. ((B f ⊎ C f) ⊎ Unfit f) ⊎ ((k : Both) × ((M k.0.0 × N k.0.1) × Fitting) × ⊥)}
+        (λ x z. into x z) (λ x z. out x z) (λ f z. fails_in f z) (λ f z. fails_out f z)
+        (then_answer g j lawful O {N = λ k x. x ≡ (k.0.0.1, k.0.1.1)} {D = λ k f. ⊥} (both_answer g j lawful O (both_answer g j lawful O low high) (checks_answer g j lawful O all_fit)) (λ x k i. span_answers x.0.0 x.0.1 k.0.0 k.0.1 i.0.0 i.0.1))
+      where
+        into : (x : ℤ × ℤ) → (k : Both) × ((M k.0.0 × N k.0.1) × Fitting) × (x ≡ (k.0.0.1, k.0.1.1)) → RangeIs x
+        into x (k, ((m, n), (((p, mp, ip), (q, nq, iq)), (r, (mr, nr), o))), e) = (
+          k.0,
+          (m, n),
+          (
+            (subst (Fits base) (one_meaning g j lawful O low p k.0.0 mp m) ip, subst (Fits base) (one_meaning g j lawful O high q k.0.1 nq n) iq),
+            (subst (λ (x : Number). Upward (k.0.0, x)) (one_meaning g j lawful O high r.1 k.0.1 nr n) (subst (λ (x : Number). Upward (x, r.1)) (one_meaning g j lawful O low r.0 k.0.0 mr m) o), e),
+          ),
+        )
+
+        out : (x : ℤ × ℤ) → RangeIs x → (k : Both) × ((M k.0.0 × N k.0.1) × Fitting) × (x ≡ (k.0.0.1, k.0.1.1))
+        out x (q, (m, n), ((i, k), (o, e))) = ((q, tt), ((m, n), (((q.0, m, i), (q.1, n, k)), (q, (m, n), o))), e)
+
+        unfit : (f : Breach) → Unfit f → RangeFails f
+        unfit f (inl (inl (inl b))) = inl (inl b)
+        unfit f (inl (inl (inr y))) = inr (inl (inl y))
+        unfit f (inl (inr (inl c))) = inl (inr c)
+        unfit f (inl (inr (inr y))) = inr (inl (inr y))
+        unfit f (inr (inl b)) = inl b
+        unfit f (inr (inr y)) = inr (inr y)
+
+        fails_in : (f : Breach) → ((B f ⊎ C f) ⊎ Unfit f) ⊎ ((k : Both) × ((M k.0.0 × N k.0.1) × Fitting) × ⊥) → RangeFails f
+        fails_in f (inl (inl b)) = inl b
+        fails_in f (inl (inr u)) = unfit f u
+        fails_in f (inr y) = absurd y.2
+
+        fails_out : (f : Breach) → RangeFails f → ((B f ⊎ C f) ⊎ Unfit f) ⊎ ((k : Both) × ((M k.0.0 × N k.0.1) × Fitting) × ⊥)
+        fails_out f (inl b) = inl (inl b)
+        fails_out f (inr (inl (inl y))) = inl (inr (inl (inl (inr y))))
+        fails_out f (inr (inl (inr y))) = inl (inr (inl (inr (inr y))))
+        fails_out f (inr (inr y)) = inl (inr (inr (inr y)))
+
+-- ---- a label as it is written
+
+module _ (g : Gathers) (j : Judges g) (lawful : Lawful g j) (names : Ident → Standing) (exports : ℕ → Ident → Standing) (s : Scope g.Reported) (knows : Knows g j names exports s) (base : Option TypeNo) (i : Item) where
+  abbrev O : Breach → Type 0
+  O = Repeats g j names s
+
+  abbrev Bound : Expr → Number → Type 0
+  Bound e p = IsLabelBound s.types names exports e p.0 p.1
+
+  abbrev at : Pos
+  at = first (out-Item i).low
+
+  abbrev BrokenBound : Expr → Breach → Type 0
+  BrokenBound e = BrokenLabelBound s.types names exports base at e
+
+  abbrev L : ℤ → ℤ → Type 0
+  L = IsLabel s.types names exports base i
+
+  abbrev BL : Breach → Type 0
+  BL = BrokenLabel s.types names exports base i
+
+  abbrev LabelSo : Result Label g.Reported → Type 0
+  LabelSo r = Answers g j O IsSpan (λ x. L x.0 x.1) BL r
+
+  abbrev One : ℤ × ℤ → Type 0
+  One x = (p : Number) × Bound (out-Item i).low p × (FitsSelector base p.0 p.1 × (x ≡ (p.1, p.1)))
+
+  abbrev OneFails : Breach → Type 0
+  OneFails f = BrokenBound (out-Item i).low f ⊎ ((p : Number) × Bound (out-Item i).low p × Misfits at base p.0 p.1 f)
+
+  one_label : (out-Item i).high ≡ None → (x : ℤ × ℤ) → One x → L x.0 x.1
+  one_label h x (p, b, (q, e)) = subst (λ (x : ℤ × ℤ). L x.0 x.1) (sym e) (rules.single h b q)
+
+  label_one : (out-Item i).high ≡ None → {n m : ℤ} → L n m → One (n, m)
+  label_one h (rules.single {sort = sort} {n = n} e b q) = ((sort, n), b, (q, refl))
+  label_one h (rules.range e b c q r o) = let z = sym e ∙ h in absurd cc
+
+  one_broken : (f : Breach) → OneFails f → BL f
+  one_broken f (inl b) = rules.in_label_bound (low_bound refl) b
+  one_broken f (inr (p, b, m)) = rules.misfits (low_bound refl) b m
+
+  broken_one : (out-Item i).high ≡ None → {f : Breach} → BL f → OneFails f
+  broken_one h {f = f} (rules.in_label_bound (low_bound e) b) = inl (subst (λ (x : Expr). BrokenBound x f) (sym e) b)
+  broken_one h (rules.in_label_bound (high_bound e) b) = let z = sym e ∙ h in absurd cc
+  broken_one h {f = f} (rules.misfits {sort = sort} {n = n} (low_bound e) b m) = inr ((sort, n), subst (λ (x : Expr). Bound x (sort, n)) (sym e) b, subst (λ (x : Expr). Misfits (first x) base sort n f) (sym e) m)
+  broken_one h (rules.misfits (high_bound e) b m) = let z = sym e ∙ h in absurd cc
+  broken_one h (rules.empty e b c o) = let z = sym e ∙ h in absurd cc
+
+  module _ (high : Expr) (h : (out-Item i).high ≡ Some high) where
+    abbrev Two : ℤ × ℤ → Type 0
+    Two x = (q : Number × Number) × (Bound (out-Item i).low q.0 × Bound high q.1) × ((FitsSelector base q.0.0 q.0.1 × FitsSelector base q.1.0 q.1.1) × ((IsEmpty q.0.0 q.1.0 q.0.1 q.1.1 → ⊥) × (x ≡ (q.0.1, q.1.1))))
+
+    abbrev TwoFails : Breach → Type 0
+    TwoFails f = (BrokenBound (out-Item i).low f ⊎ BrokenBound high f) ⊎ ((((p : Number) × Bound (out-Item i).low p × Misfits at base p.0 p.1 f) ⊎ ((p : Number) × Bound high p × Misfits (first high) base p.0 p.1 f)) ⊎ ((q : Number × Number) × (Bound (out-Item i).low q.0 × Bound high q.1) × (IsEmpty q.0.0 q.1.0 q.0.1 q.1.1 × (f ≡ at ! rule.EmptyRange))))
+
+    abbrev unsome : Option Expr → Expr
+    unsome (Some x) = x
+    unsome None = high
+
+    same_high : {x : Expr} → (out-Item i).high ≡ Some x → x ≡ high
+    same_high e = ap unsome (sym e ∙ h)
+
+    two_label : (x : ℤ × ℤ) → Two x → L x.0 x.1
+    two_label x (q, (b, c), ((k, l), (o, e))) = subst (λ (x : ℤ × ℤ). L x.0 x.1) (sym e) (rules.range h b c k l o)
+
+    label_two : {n m : ℤ} → L n m → Two (n, m)
+    label_two (rules.single e b q) = let z = sym e ∙ h in absurd cc
+    label_two (rules.range {s = s'} {t = t} {n = n} {m = m} e b c k l o) = (((s', n), (t, m)), (b, subst (λ (x : Expr). Bound x (t, m)) (same_high e) c), ((k, l), (o, refl)))
+
+    two_broken : (f : Breach) → TwoFails f → BL f
+    two_broken f (inl (inl b)) = rules.in_label_bound (low_bound refl) b
+    two_broken f (inl (inr b)) = rules.in_label_bound (high_bound h) b
+    two_broken f (inr (inl (inl (p, b, m)))) = rules.misfits (low_bound refl) b m
+    two_broken f (inr (inl (inr (p, b, m)))) = rules.misfits (high_bound h) b m
+    two_broken f (inr (inr (q, (b, c), (o, e)))) = subst BL (sym e) (rules.empty h b c o)
+
+    broken_two : {f : Breach} → BL f → TwoFails f
+    broken_two {f = f} (rules.in_label_bound (low_bound e) b) = inl (inl (subst (λ (x : Expr). BrokenBound x f) (sym e) b))
+    broken_two {f = f} (rules.in_label_bound (high_bound e) b) = inl (inr (subst (λ (x : Expr). BrokenBound x f) (same_high e) b))
+    broken_two {f = f} (rules.misfits {sort = sort} {n = n} (low_bound e) b m) = inr (inl (inl ((sort, n), subst (λ (x : Expr). Bound x (sort, n)) (sym e) b, subst (λ (x : Expr). Misfits (first x) base sort n f) (sym e) m)))
+    broken_two {f = f} (rules.misfits {sort = sort} {n = n} (high_bound e) b m) = inr (inl (inr ((sort, n), subst (λ (x : Expr). Bound x (sort, n)) (same_high e) b, subst (λ (x : Expr). Misfits (first x) base sort n f) (same_high e) m)))
+    broken_two (rules.empty {s = s'} {t = t} {n = n} {m = m} e b c o) = inr (inr (((s', n), (t, m)), (b, subst (λ (x : Expr). Bound x (t, m)) (same_high e) c), (o, refl)))
+
+  label_by : IsPlain (out-Item i).low → (high : Option Expr) → (out-Item i).high ≡ high → ((e : Expr) → high ≡ Some e → IsPlain e) → LabelSo (label_between g s base (meant g (out-Item i).low) (meant_if g high))
+  label_by p None h q = subst (λ (at : Pos). LabelSo (single g base at (bound_of g s base at (meant g (out-Item i).low)))) (sym (at_is g p))
+      (exact g j lawful O (one_label h) (λ x z. label_one h z) one_broken (λ f z. broken_one h z) (single_answers g j lawful O {N = Bound (out-Item i).low} {C = BrokenBound (out-Item i).low} base at at (ordinal_answers g j lawful names exports s knows base at (out-Item i).low p) (ordinal_answers g j lawful names exports s knows base at (out-Item i).low p)))
+  label_by p (Some high) h q = subst (λ (at : Pos). LabelSo (spanned g base at (bound_of g s base at (meant g (out-Item i).low)) (meant g high).fixed.at (bound_of g s base at (meant g high)))) (sym (at_is g p))
+      (subst (λ (at' : Pos). LabelSo (spanned g base at (bound_of g s base at (meant g (out-Item i).low)) at' (bound_of g s base at (meant g high)))) (sym (at_is g (q high refl)))
+      (exact g j lawful O (two_label high h) (λ x z. label_two high h z) (two_broken high h) (λ f z. broken_two high h z) (range_answers g j lawful O base at (first high) (ordinal_answers g j lawful names exports s knows base at (out-Item i).low p) (ordinal_answers g j lawful names exports s knows base at high (q high refl)))))
+
+  pub label_answers : IsPlain (out-Item i).low → ((e : Expr) → (out-Item i).high ≡ Some e → IsPlain e) → LabelSo (item_label g s base i)
+  label_answers p q = label_by p (out-Item i).high refl q
