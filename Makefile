@@ -42,6 +42,7 @@ test:
 	tools/check_sources
 	tools/lay_out --check
 	tools/write_explanations --check
+	tools/try_explanations --rows --check
 	tools/believed_definitions --check
 	tools/try_edits --applies
 	tools/hostile --sample

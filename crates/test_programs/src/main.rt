@@ -5,6 +5,7 @@
 //! - `data/refusals.txt`: files with all that `build` is to report of them;
 //! - `data/corners.txt`: the same, each aimed at a corner where two rules meet or a place is unclear (docs/CORNERS.md);
 //! - `data/rows-programs.txt` and `data/rows-refusals.txt`: the rows that the language's plan works out by hand (docs/ROWS.md);
+//! - `data/explanations.txt`: the examples of docs/refusals, broken and mended, as `tools/try_explanations --rows` writes them;
 //! - `data/definitions.txt`: texts of definitions, each of which may import those before it, with the least rule that the
 //!   last one breaks.
 #![tactic(auto)]
@@ -18,10 +19,11 @@ mod refusals;
 use anyhow::Result;
 
 /// The files of refused programs, and the numbers of workers that build each.
-const REFUSALS: [(&str, &[usize]); 3] = [
+const REFUSALS: [(&str, &[usize]); 4] = [
     ("refusals.txt", &[2]),
     ("corners.txt", &[2]),
     ("rows-refusals.txt", &[1, 8]),
+    ("explanations.txt", &[2]),
 ];
 
 fn main(rt: HostRuntime) -> Result<()> {
