@@ -43,7 +43,7 @@ pub fn read_text(alloc: Global, text: &[u8]) -> Result<Read, AllocError>
 {
     match scan(alloc, text) {
         Ok(tokens) => read_tokens(alloc, &tokens, text),
-        Err(ScanError::Refused(refusal)) => Ok(Read::Refused(refusal.pos, refusal.fault.number())),
+        Err(ScanError::Refused(refusal)) => Ok(Read::Refused(refusal.pos, refusal.broken.number())),
         Err(ScanError::NoMemory) => Err(AllocError),
     }
 }

@@ -10,7 +10,7 @@ use Rattle.typed_tree.specs.declared.known_types.Types.{Types}
 use Rattle.typed_tree.specs.Types.{are_same, is_numeric}
 use Rattle.check_scope.specs.declared.meaningless.Meaningless.{Meaningless}
 use Rattle.check_scope.specs.declared.meaningless.Meaningless.TheVariants.{Broken, Headless}
-use Rattle.check_scope.specs.Elaborated.{Gathers, reported, reported_where, both, beside, ◌▷◌}
+use Rattle.check_scope.specs.Elaborated.{Gathers, report, reported_where, both, beside, ◌▷◌}
 use Rattle.check_scope.specs.declared.scope.Scope.{Scope}
 use Rattle.check_const_ops.specs.declared.operand.Ordinal.{Ordinal}
 use Rattle.check_const_ops.specs.declared.operand.Operand.{Operand}
@@ -18,6 +18,7 @@ use Rattle.check_const_ops.specs.declared.operand.Operand.TheVariants as operand
 use Rattle.check_const_ops.specs.Operands.{operand_of}
 use Rattle.check_const_ops.specs.Numbers.{fits}
 use Rattle.check_const_ops.specs.Common.{common}
+use Rattle.check_const_ops.specs.Bounds.{ordinal_in, is_of_base, fits_base, are_ordered}
 use Rattle.check_operator.specs.declared.class.Class.{Class}
 use Rattle.check_operator.specs.declared.class.Class.TheVariants as class
 use Rattle.check_operator.specs.declared.computed.Computed.{Computed}
@@ -25,8 +26,8 @@ use Rattle.check_operator.specs.declared.computed.Computed.TheVariants as value
 use Rattle.check_operator.specs.declared.computed.Designated.{Designated}
 use Rattle.check_operator.specs.declared.computed.Designated.TheVariants as designated
 use Rattle.check_operator.specs.Classes.{class_at}
-use Rattle.check_expr.specs.Meanings.{Meant, meant}
-use Rattle.check_stmt_parts.specs.Ranges.{taken}
+use Rattle.check_expr.specs.Meanings.{Meant, meanings_of}
+use Rattle.check_stmt_parts.specs.Ranges.{enter_range}
 use Rattle.check_stmt_parts.specs.Lists.{with_next}
 use Rattle.check_stmt_parts.specs.Simple.{meant_if}
 
@@ -39,18 +40,13 @@ suits_selector (Some base) b = are_same b base
 
 -- ---- one bound at its place; a label at its own place is no constant: 49
 
-abbrev pub ordinal_in : (g : Gathers) → Pos → Option Operand → Result Ordinal g.Reported
-ordinal_in g at None = reported g at rule.WrongType
-ordinal_in g at (Some (operand.Set bits)) = reported g at rule.WrongType
-ordinal_in g at (Some (operand.Scalar a)) = Ok a
-
 abbrev pub of_type : (g : Gathers) → (alike : Bool) → Pos → Result (Unit {0}) g.Reported
 of_type g alike at = reported_where g (not alike) at rule.WrongType (Ok tt)
 
 abbrev pub no_constant : (g : Gathers) → (alike : Bool) → (label at : Pos)
     → Result Ordinal g.Reported
 no_constant g alike label at =
-    both g (of_type g alike at) (reported g {A = Ordinal} label rule.WrongLabel) ▷ λ p. Ok p.1
+    both g (of_type g alike at) (report g {A = Ordinal} label rule.WrongLabel) ▷ λ p. Ok p.1
 
 abbrev pub value_bound : (g : Gathers) → Option TypeNo → (label at : Pos) → Computed
     → Result Ordinal g.Reported
@@ -78,8 +74,8 @@ bound_by g types base label at (designated.Variable t d) =
 bound_by g types base label at (designated.Open t slot) = no_constant g false label at
 bound_by g types base label at (designated.Type t) = no_constant g false label at
 bound_by g types base label at (designated.Procedure p) = no_constant g false label at
-bound_by g types base label at (designated.Nested p) = reported g at rule.NoProcedureValue
-bound_by g types base label at (designated.Standard f) = reported g at rule.NoProcedureValue
+bound_by g types base label at (designated.Nested p) = report g at rule.NoProcedureValue
+bound_by g types base label at (designated.Standard f) = report g at rule.NoProcedureValue
 bound_by g types base label at (designated.Module k) = no_constant g false label at
 
 -- a procedure is no constant, whatever its heading
@@ -95,22 +91,11 @@ bound_of g s base label x = bound_in g s.types base label x.fixed.at (x.means s)
 
 -- ---- bounds have the base type of the selector
 
-abbrev pub is_of_base : TypeNo → Option TypeNo → Bool
-is_of_base base None = is_numeric base
-is_of_base base (Some t) = are_same t base
-
--- a number without a type is one of the base type
-abbrev pub number_fits : (g : Gathers) → TypeNo → Pos → Ordinal → Option TypeNo
-    → Result (Unit {0}) g.Reported
-number_fits g base at a None =
-    reported_where g (not (fits (Some base) a.number)) at rule.OutOfRange (Ok tt)
-number_fits g base at a (Some t) = Ok tt
-
 abbrev pub suits_base : (g : Gathers) → Option TypeNo → Pos → Ordinal → Result (Unit {0}) g.Reported
 suits_base g None at a = Ok tt
 suits_base g (Some base) at a =
     reported_where g (not (is_of_base base a.sort)) at rule.WrongType
-    (number_fits g base at a a.sort)
+    (fits_base g at base a.sort a.number)
 
 abbrev pub bound_suits : (g : Gathers) → Option TypeNo → Pos → Result Ordinal g.Reported
     → Result (Unit {0}) g.Reported
@@ -123,19 +108,9 @@ single g base at a =
 
 -- ---- a range: each bound for itself, and both
 
-abbrev pub ordered_if : (g : Gathers) → Pos → Ordinal → Ordinal → Option (Option TypeNo)
-    → Result (Unit {0}) g.Reported
-ordered_if g at a b None = Ok tt
-ordered_if g at a b (Some sort) =
-    reported_where g (int_lt b.number a.number) at rule.EmptyRange (Ok tt)
-
-abbrev pub are_ordered : (g : Gathers) → Pos → Result Ordinal g.Reported → Result Ordinal g.Reported
-    → Result (Unit {0}) g.Reported
-are_ordered g at a b = both g a b ▷ λ p. ordered_if g at p.0 p.1 (common p.0.sort p.1.sort)
-
-abbrev pub spanned : (g : Gathers) → Option TypeNo → Pos → Result Ordinal g.Reported → Pos
+abbrev pub label_range : (g : Gathers) → Option TypeNo → Pos → Result Ordinal g.Reported → Pos
     → Result Ordinal g.Reported → Result Label g.Reported
-spanned g base at a at' b =
+label_range g base at a at' b =
     both g (both g a b)
     (beside g (beside g (bound_suits g base at a) (bound_suits g base at' b))
     (are_ordered g at a b))
@@ -146,7 +121,7 @@ abbrev pub label_between : (g : Gathers) → Scope g.Reported → Option TypeNo 
     → Option (Meant g.Reported) → Result Label g.Reported
 label_between g s base low None = single g base low.fixed.at (bound_of g s base low.fixed.at low)
 label_between g s base low (Some high) =
-    spanned g base low.fixed.at (bound_of g s base low.fixed.at low) high.fixed.at
+    label_range g base low.fixed.at (bound_of g s base low.fixed.at low) high.fixed.at
     (bound_of g s base low.fixed.at high)
 
 -- ---- one after another, with the values of the labels so far
@@ -157,7 +132,7 @@ Labels T = List (ℤ × ℤ) × Result (List Label) T
 -- no two labels have a value in common
 abbrev pub with_new : (g : Gathers) → Pos → Labels g.Reported → Label → Labels g.Reported
 with_new g at st l =
-    let t = taken l.low l.high st.0 in
+    let t = enter_range l.low l.high st.0 in
     (t.0, with_next g st.1 (reported_where g (not t.1) at rule.WrongLabel (Ok l)))
 
 abbrev pub with_label : (g : Gathers) → Pos → Labels g.Reported → Result Label g.Reported
@@ -168,12 +143,12 @@ with_label g at st (Err e) = (st.0, with_next g st.1 (Err e))
 abbrev pub item_label : (g : Gathers) → Scope g.Reported → Option TypeNo → Item
     → Result Label g.Reported
 item_label g s base i =
-    label_between g s base (meant g (out-Item i).low) (meant_if g (out-Item i).high)
+    label_between g s base (meanings_of g (out-Item i).low) (meant_if g (out-Item i).high)
 
 abbrev pub with_item : (g : Gathers) → Scope g.Reported → Option TypeNo → Labels g.Reported → Item
     → Labels g.Reported
 with_item g s base st i =
-    with_label g (meant g (out-Item i).low).fixed.at st (item_label g s base i)
+    with_label g (meanings_of g (out-Item i).low).fixed.at st (item_label g s base i)
 
 abbrev pub labels_in : (g : Gathers) → Scope g.Reported → Option TypeNo → List (ℤ × ℤ) → List Item
     → Labels g.Reported

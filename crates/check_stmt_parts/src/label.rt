@@ -2,38 +2,28 @@
 
 ghost use Rattle.std.specs.Prelude.{◌≡◌, IfOk, Some, Ok};
 ghost use Rattle.check_scope.specs.Elaborated.{least, ◌▷◌};
-ghost use Rattle.check_expr.specs.Meanings.{meant};
+ghost use Rattle.check_expr.specs.Meanings.{meanings_of};
 ghost use Rattle.check_const_ops.specs.Common.{common};
 ghost use Rattle.check_operator.specs.Classes.{class_at};
-ghost use Rattle.check_stmt_parts.specs.Labels.{ordinal_in, of_type, no_constant, suits_selector, value_bound, variable_bound, bound_by, bound_in, bound_of, is_of_base, number_fits, suits_base, bound_suits, single, ordered_if, are_ordered, spanned, label_between, item_label, with_new, with_label, with_item, labels_in};
+ghost use Rattle.check_stmt_parts.specs.Labels.{of_type, no_constant, suits_selector, value_bound, variable_bound, bound_by, bound_in, bound_of, suits_base, bound_suits, single, label_range, label_between, item_label, with_new, with_label, with_item, labels_in};
 
 use crate::Ranges;
 use crate::lists::with_next;
-use check_const_ops::{Operand, Ordinal, common, fits, operand_of};
+use check_const_ops::{Ordinal, are_ordered, fits_base, is_of_base, operand_of, ordinal_in};
 use check_expr::{place_of, stands_for};
 use check_operator::{Class, Computed, Designated, class_of};
-use check_scope::{Elaborated, Meaningless, Scope, Sought, beside, both, reported};
+use check_scope::{Elaborated, Meaningless, Scope, Sought, beside, both, report};
 use m2_rule::{Breach, Rule};
 use m2_tree::{Expr, Item, Pos};
 use std::alloc::{AllocError, Global};
 use tree_parts::Items;
-use typed_tree::{Label, TypeNo, Types, are_same, is_numeric};
-
-fn ordinal_in(at: Pos, operand: Option<Operand>) -> Elaborated<Ordinal>
-    ensures { result ≡ ordinal_in least at operand }
-{
-    match operand {
-        None => reported(at, Rule::WrongType),
-        Some(Operand::Set(_)) => reported(at, Rule::WrongType),
-        Some(Operand::Scalar(a)) => Ok(a),
-    }
-}
+use typed_tree::{Label, TypeNo, Types, are_same};
 
 fn of_type(alike: bool, at: Pos) -> Elaborated<()>
     ensures { result ≡ of_type least alike at }
 {
     if !alike {
-        return reported(at, Rule::WrongType);
+        return report(at, Rule::WrongType);
     }
     Ok(())
 }
@@ -42,7 +32,7 @@ fn of_type(alike: bool, at: Pos) -> Elaborated<()>
 fn no_constant(alike: bool, label: Pos, at: Pos) -> Elaborated<Ordinal>
     ensures { result ≡ no_constant least alike label at }
 {
-    let unknown: Elaborated<Ordinal> = reported(label, Rule::WrongLabel);
+    let unknown: Elaborated<Ordinal> = report(label, Rule::WrongLabel);
     match both(of_type(alike, at), unknown) {
         Err(breach) => Err(breach),
         Ok(((), a)) => Ok(a),
@@ -98,8 +88,8 @@ fn bound_by(
         Designated::Open(_, _) => no_constant(false, label, at),
         Designated::Type(_) => no_constant(false, label, at),
         Designated::Procedure(_) => no_constant(false, label, at),
-        Designated::Nested(_) => reported(at, Rule::NoProcedureValue),
-        Designated::Standard(_) => reported(at, Rule::NoProcedureValue),
+        Designated::Nested(_) => report(at, Rule::NoProcedureValue),
+        Designated::Standard(_) => report(at, Rule::NoProcedureValue),
         Designated::Module(_) => no_constant(false, label, at),
     }
 }
@@ -129,33 +119,10 @@ fn bound_of(
     label: Pos,
     e: &Expr,
 ) -> Result<Elaborated<Ordinal>, AllocError>
-    ensures { IfOk result (λ j. j ≡ bound_of least scope.now base label (meant least e.now)) }
+    ensures { IfOk result (λ j. j ≡ bound_of least scope.now base label (meanings_of least e.now)) }
 {
     let sought = stands_for(alloc, scope, e)?;
     Ok(bound_in(&scope.types, base, label, place_of(e), sought))
-}
-
-fn is_of_base(base: TypeNo, sort: Option<TypeNo>) -> bool
-    ensures { result ≡ is_of_base base sort }
-{
-    match sort {
-        None => is_numeric(base),
-        Some(t) => are_same(t, base),
-    }
-}
-
-fn number_fits(base: TypeNo, at: Pos, a: Ordinal) -> Elaborated<()>
-    ensures { result ≡ number_fits least base at a a.sort }
-{
-    match a.sort {
-        None => {
-            if !fits(Some(base), a.number) {
-                return reported(at, Rule::OutOfRange);
-            }
-            Ok(())
-        }
-        Some(_) => Ok(()),
-    }
 }
 
 fn suits_base(base: Option<TypeNo>, at: Pos, a: Ordinal) -> Elaborated<()>
@@ -165,9 +132,9 @@ fn suits_base(base: Option<TypeNo>, at: Pos, a: Ordinal) -> Elaborated<()>
         None => Ok(()),
         Some(base) => {
             if !is_of_base(base, a.sort) {
-                return reported(at, Rule::WrongType);
+                return report(at, Rule::WrongType);
             }
-            number_fits(base, at, a)
+            fits_base(at, base, a)
         }
     }
 }
@@ -195,39 +162,15 @@ fn single(base: Option<TypeNo>, at: Pos, bound: Elaborated<Ordinal>) -> Elaborat
     }
 }
 
-fn ordered_if(at: Pos, low: Ordinal, high: Ordinal) -> Elaborated<()>
-    ensures { result ≡ ordered_if least at low high (common low.sort high.sort) }
-{
-    match common(low.sort, high.sort) {
-        None => Ok(()),
-        Some(_) => {
-            if high.number < low.number {
-                return reported(at, Rule::EmptyRange);
-            }
-            Ok(())
-        }
-    }
-}
-
-/// The rule that the bounds of a range are in order.
-fn are_ordered(at: Pos, low: Elaborated<Ordinal>, high: Elaborated<Ordinal>) -> Elaborated<()>
-    ensures { result ≡ are_ordered least at low high }
-{
-    match both(low, high) {
-        Err(breach) => Err(breach),
-        Ok((a, b)) => ordered_if(at, a, b),
-    }
-}
-
 /// A label of a range of values.
-fn spanned(
+fn label_range(
     base: Option<TypeNo>,
     at: Pos,
     low: Elaborated<Ordinal>,
     high_at: Pos,
     high: Elaborated<Ordinal>,
 ) -> Elaborated<Label>
-    ensures { result ≡ spanned least base at low high_at high }
+    ensures { result ≡ label_range least base at low high_at high }
 {
     let suit = beside(bound_suits(base, at, low), bound_suits(base, high_at, high));
     let fine = beside(suit, are_ordered(at, low, high));
@@ -249,14 +192,14 @@ fn range_from(
     low: &Expr,
     high: &Expr,
 ) -> Result<Elaborated<Label>, AllocError>
-    ensures { IfOk result (λ j. j ≡ label_between least scope.now base (meant least low.now)
-        (Some (meant least high.now))) }
+    ensures { IfOk result (λ j. j ≡ label_between least scope.now base (meanings_of least low.now)
+        (Some (meanings_of least high.now))) }
 {
     let at = place_of(low);
     let high_at = place_of(high);
     let first = bound_of(alloc, scope, base, at, low)?;
     let last = bound_of(alloc, scope, base, at, high)?;
-    Ok(spanned(base, at, first, high_at, last))
+    Ok(label_range(base, at, first, high_at, last))
 }
 
 /// What an item of a list of labels stands for.
@@ -290,7 +233,7 @@ fn with_new(
     let next = if ranges.take(label.low, label.high)? {
         Ok(label)
     } else {
-        reported(at, Rule::WrongLabel)
+        report(at, Rule::WrongLabel)
     };
     with_next(done, next)
 }
