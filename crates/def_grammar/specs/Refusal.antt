@@ -48,7 +48,8 @@ IsRefused ts at TooDeep = BreaksRule ts at TooDeep
 
 -- no fault comes before this place
 abbrev pub IsLeast : List Token → List Token → Type 0
-IsLeast ts at = (other : List Token) (f : GrammarRule) → IsRefused ts other f → length other ≤ length at
+IsLeast ts at =
+    (other : List Token) (f : GrammarRule) → IsRefused ts other f → length other ≤ length at
 
 -- 13 for the words that stand in no module, or only at its head
 abbrev pub unfit_number : Lexeme → ℕ

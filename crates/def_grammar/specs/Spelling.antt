@@ -69,23 +69,24 @@ pub data Breaks : (a : Ty) → Gr a → ℕ → List Token → List Token → Gr
       → Breaks _ (grammar r).form n ts at f → Breaks _ (rule r) n ts at f
   in_first : {a b : Ty} {g : Gr a} {h : Gr b} {n : ℕ} {ts at : List Token} {f : GrammarRule}
       → Breaks _ g n ts at f → Breaks _ (g · h) n ts at f
-  in_second : {a b : Ty} {g : Gr a} {h : Gr b} {n : ℕ} {x : El a} {us ts at : List Token}
-      {f : GrammarRule} → Spells _ g x us → Breaks _ h n ts at f → Breaks _ (g · h) n (us ++ ts) at f
+  in_second :
+      {a b : Ty} {g : Gr a} {h : Gr b} {n : ℕ} {x : El a} {us ts at : List Token} {f : GrammarRule}
+      → Spells _ g x us → Breaks _ h n ts at f → Breaks _ (g · h) n (us ++ ts) at f
   in_left : {a b : Ty} {g : Gr a} {h : Gr b} {n : ℕ} {ts at : List Token} {f : GrammarRule}
       → Breaks _ g n ts at f → Breaks _ (g ∣ h) n ts at f
   in_right : {a b : Ty} {g : Gr a} {h : Gr b} {n : ℕ} {ts at : List Token} {f : GrammarRule}
       → Breaks _ h n ts at f → Breaks _ (g ∣ h) n ts at f
-  in_rest : {a : Ty} {k : Kind} {g : Gr a} {n : ℕ} {t : Token} {ts at : List Token} {f : GrammarRule}
-      → kind_of t ≡ k → Breaks _ g n ts at f → Breaks _ (lead k g) n (t ∷ ts) at f
+  in_rest : {a : Ty} {k : Kind} {g : Gr a} {n : ℕ} {t : Token} {ts at : List Token}
+      {f : GrammarRule} → kind_of t ≡ k → Breaks _ g n ts at f → Breaks _ (lead k g) n (t ∷ ts) at f
   in_front : {a : Ty} {k : Kind} {g : Gr a} {n : ℕ} {ts at : List Token} {f : GrammarRule}
       → Breaks _ g n ts at f → Breaks _ (trail g k) n ts at f
   in_opt : {a : Ty} {g : Gr a} {n : ℕ} {ts at : List Token} {f : GrammarRule} → Breaks _ g n ts at f
       → Breaks _ (opt g) n ts at f
-  in_turn_now : {a : Ty} {g : Gr a} {n : ℕ} {ts at : List Token} {f : GrammarRule} → Breaks _ g n ts at f
-      → Breaks _ (many g) n ts at f
+  in_turn_now : {a : Ty} {g : Gr a} {n : ℕ} {ts at : List Token} {f : GrammarRule}
+      → Breaks _ g n ts at f → Breaks _ (many g) n ts at f
   in_turn_later : {a : Ty} {g : Gr a} {n : ℕ} {x : El a} {us ts at : List Token} {f : GrammarRule}
       → Spells _ g x us → Breaks _ (many g) n ts at f → Breaks _ (many g) n (us ++ ts) at f
-  in_nest : {a : Ty} {g : Gr a} {n : ℕ} {ts at : List Token} {f : GrammarRule} → Breaks _ g n ts at f
-      → Breaks _ (nest g) (suc n) ts at f
+  in_nest : {a : Ty} {g : Gr a} {n : ℕ} {ts at : List Token} {f : GrammarRule}
+      → Breaks _ g n ts at f → Breaks _ (nest g) (suc n) ts at f
   in_named : {a : Ty} {g : Gr a} {n : ℕ} {t : Token} {ts at : List Token} {f : GrammarRule}
       → kind_of t ≡ the.Name → Breaks _ g n ts at f → Breaks _ (named g) n (t ∷ ts) at f

@@ -112,4 +112,5 @@ Refuses text r =
     × (front : Text)
     × HasFault text r.broken front
     × (r.pos ≡ place front)
-    × ((broken : TokenRule) (other : Text) → HasFault text broken other → length front ≤ length other))
+    × ((broken : TokenRule) (other : Text) → HasFault text broken other
+    → length front ≤ length other))

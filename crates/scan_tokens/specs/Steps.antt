@@ -52,8 +52,11 @@ Adds text pos rest after before tokens =
 abbrev pub Stops : Text → Pos → ScanError → Type 0
 Stops text pos NoMemory = Unit {0}
 Stops text pos (Refused r) =
-    (before : Text) × RefusesIn r.broken text before × (r.pos ≡ over pos before)
-    × ((broken : TokenRule) (other : Text) → RefusesIn broken text other → length before ≤ length other)
+    (before : Text)
+    × RefusesIn r.broken text before
+    × (r.pos ≡ over pos before)
+    × ((broken : TokenRule) (other : Text) → RefusesIn broken text other
+    → length before ≤ length other)
 
 -- how a number is written, by its last byte
 abbrev pub form_by : ℕ → Numeral
