@@ -7,7 +7,7 @@ use Rattle.pool_board.specs.Lists.{times}
 use Rattle.graph_walk.specs.Links.{has, targets}
 use Rattle.graph_walk.specs.Links.{times as often}
 use Rattle.std.specs.List.{AllZip}
-use Rattle.m2_graph.specs.Files.{File, given_of, numbered, trees}
+use Rattle.m2_graph.specs.Files.{File, given_of, number_files, trees}
 use Rattle.m2_graph.specs.Refused.{max_files}
 use Rattle.law_graph.proofs.Given.{few_files}
 use Rattle.std.proofs.lemmas.List.Sorted.{length_permutation}
@@ -21,7 +21,7 @@ use Rattle.build_jobs.specs.Reading.{AreRead, IsReadAt}
 use Rattle.build_jobs.proofs.All.{are_read}
 use Rattle.m2_tree.specs.declared.decl.Module.{Module}
 use Rattle.build_jobs.specs.declared.outcome.Compiled.{Compiled}
-use Rattle.build_jobs.specs.Jobs.{compiled_at, all_compiled}
+use Rattle.build_jobs.specs.Jobs.{compile_at, all_compiled}
 use Rattle.build_jobs.specs.Encoded.{Defines}
 use Rattle.build_jobs.proofs.Below.{gives}
 
@@ -73,12 +73,12 @@ jobs_count given numbers jobs starts g =
     ap length j.compiled ∙ length-map j.order (given_of g.0) ∙ zip_length _ j.order jobs j.needs
 
 -- a graph has no more jobs than a program has files
-pub few_jobs : (fs : List (List ℕ × Module)) (numbers : List ℕ) (jobs : List (List ℕ)) (starts : List ℕ) → IsGraph (numbered 0 fs) numbers jobs starts → CompileEach (numbered 0 fs) numbers → length jobs ≤ max_files
+pub few_jobs : (fs : List (List ℕ × Module)) (numbers : List ℕ) (jobs : List (List ℕ)) (starts : List ℕ) → IsGraph (number_files 0 fs) numbers jobs starts → CompileEach (number_files 0 fs) numbers → length jobs ≤ max_files
 few_jobs fs numbers jobs starts g each =
     let few : length (trees g.0) ≤ max_files = few_files fs g.0 g.1 g.2.fine in
-    let all : length numbers ≡ length (map (λ f. f.given) (numbered 0 fs)) = length_permutation (map (λ f. f.given) (numbered 0 fs)) numbers each in
-    let same : length g.0 ≡ length (numbered 0 fs) = length_permutation (numbered 0 fs) g.0 g.1.same in
-    omega (arith, few, all, same, length-map (numbered 0 fs) (λ (f : File). f.given), length-map g.0 (λ (f : File). f.tree), jobs_count (numbered 0 fs) numbers jobs starts g)
+    let all : length numbers ≡ length (map (λ f. f.given) (number_files 0 fs)) = length_permutation (map (λ f. f.given) (number_files 0 fs)) numbers each in
+    let same : length g.0 ≡ length (number_files 0 fs) = length_permutation (number_files 0 fs) g.0 g.1.same in
+    omega (arith, few, all, same, length-map (number_files 0 fs) (λ (f : File). f.given), length-map g.0 (λ (f : File). f.tree), jobs_count (number_files 0 fs) numbers jobs starts g)
 
 -- ---- results
 
@@ -95,4 +95,4 @@ read_count (f ∷ fs) [] h = absurd h
 -- where the results of all jobs are there, they are what becomes of the modules
 pub each_compiled : (trees : List Module) (files : List ℕ) (jobs : List (List ℕ)) (all : List Compiled) → IsJobGraph jobs → AreResults jobs (Defines trees files) all → all ≡ all_compiled trees files jobs
 each_compiled trees files jobs all graph are =
-    sym (map-id all) ∙ as_defined jobs (Defines trees files) (λ c. c) (compiled_at trees files) graph (gives trees files jobs) all are
+    sym (map-id all) ∙ as_defined jobs (Defines trees files) (λ c. c) (compile_at trees files) graph (gives trees files jobs) all are

@@ -12,7 +12,7 @@ use Rattle.typed_tree.specs.declared.typed_module.TypedModule.{TypedModule}
 use Rattle.m2_rule.specs.declared.breach.Breach.{Breach}
 use Rattle.check_scope.specs.Elaborated.{least}
 use Rattle.check_definition.specs.Compiled as types
-use Rattle.check_body.specs.Checks.{checked}
+use Rattle.check_body.specs.Checks.{body_module}
 use Rattle.layout_storage.specs.Layouts.{too_large}
 use Rattle.m2_emit.specs.Emitted.{emitted}
 use Rattle.build_jobs.specs.declared.outcome.Compiled.{Compiled}
@@ -46,7 +46,7 @@ of_definition (Err f) = Refused f
 -- the body of a module in which no rule is broken
 abbrev pub typed_body : Module → (number : ℕ) → List Table → Result TypedModule Breach
 typed_body m number tables =
-    let own = own_table m tables in checked least number m own (tables_behind own tables)
+    let own = own_table m tables in body_module least number m own (tables_behind own tables)
 
 -- Variables, texts or a frame that are too large are refused with 60. Else the module is emitted.
 abbrev pub of_fit : TypedModule → Option Pos → Compiled
@@ -61,11 +61,11 @@ of_checked (Err f) = Refused f
 
 abbrev pub of_contents : Module → (number : ℕ) → List Table → Contents → Compiled
 of_contents m number tables (contents.Definition defs) =
-    of_definition (types.compiled least number m tables)
+    of_definition (types.definition_table least number m tables)
 of_contents m number tables (contents.Implementation b) = of_checked (typed_body m number tables)
 of_contents m number tables (contents.Program b) = of_checked (typed_body m number tables)
 
 -- A module is blocked where one that it needs is refused or blocked.
-unfoldable pub compiled : Module → (number : ℕ) → List Compiled → Compiled
-compiled m number needed =
+unfoldable pub compilation_of : Module → (number : ℕ) → List Compiled → Compiled
+compilation_of m number needed =
     cond (list_all is_sound needed) (of_contents m number (tables_of needed) m.contents) Blocked

@@ -4,17 +4,17 @@ use Rattle.m2_tree.specs.declared.decl.Module.{Module}
 use Rattle.pool_board.specs.Results.{results}
 use Rattle.build_jobs.specs.declared.outcome.Compiled.{Compiled}
 use Rattle.build_jobs.specs.declared.outcome.Compiled.TheVariants.{Blocked}
-use Rattle.build_jobs.specs.Compiling.{compiled}
+use Rattle.build_jobs.specs.Compiling.{compilation_of}
 
 -- what becomes of the module of a job, if there is one
-abbrev pub compiled_in : Option Module → (job : ℕ) → List Compiled → Compiled
-compiled_in None job needed = Blocked
-compiled_in (Some m) job needed = compiled m job needed
+abbrev pub compile_in_place : Option Module → (job : ℕ) → List Compiled → Compiled
+compile_in_place None job needed = Blocked
+compile_in_place (Some m) job needed = compilation_of m job needed
 
 -- what becomes of a job, where the file of each job is given by its place
-abbrev pub compiled_at : List Module → (files : List ℕ) → (job : ℕ) → List Compiled → Compiled
-compiled_at trees files job needed =
-    compiled_in (slice_get trees (slice_index_or files job 0)) job needed
+abbrev pub compile_at : List Module → (files : List ℕ) → (job : ℕ) → List Compiled → Compiled
+compile_at trees files job needed =
+    compile_in_place (slice_get trees (slice_index_or files job 0)) job needed
 
 abbrev pub all_compiled : List Module → (files : List ℕ) → (jobs : List (List ℕ)) → List Compiled
-all_compiled trees files jobs = results jobs (compiled_at trees files)
+all_compiled trees files jobs = results jobs (compile_at trees files)

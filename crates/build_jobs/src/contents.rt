@@ -4,7 +4,7 @@ ghost use Rattle.std.specs.Prelude.{◌≡◌, IfOk, OnOk, map};
 ghost use Rattle.check_scope.specs.Elaborated.{least};
 ghost use Rattle.layout_storage.specs.Layouts.{too_large};
 ghost use Rattle.check_definition.specs.Compiled as types;
-ghost use Rattle.build_jobs.specs.Compiling.{compiled, of_checked, of_definition, of_fit, typed_body};
+ghost use Rattle.build_jobs.specs.Compiling.{compilation_of, of_checked, of_definition, of_fit, typed_body};
 ghost use Rattle.build_jobs.specs.ModuleEncoded.{IsEncoded, checked_encoded, fit_encoded};
 
 use crate::outcome::{Compiled, are_sound, tables_of};
@@ -28,7 +28,7 @@ fn definition(
     number: u32,
     tables: Items<Shared<Table>>,
 ) -> Result<Compiled, AllocError>
-    ensures { IfOk result (λ c. c ≡ of_definition (types.compiled least number tree.now tables)) }
+    ensures { IfOk result (λ c. c ≡ of_definition (types.definition_table least number tree.now tables)) }
 {
     match compile_definition(alloc, number, tree, tables)? {
         Ok(table) => Ok(Compiled::Defined(Shared::new(alloc, table)?)),
@@ -51,7 +51,7 @@ fn typed_body(
 }
 
 /// The module of a body that breaks no rule, or 60 where its storage is too large.
-fn fitted(alloc: Global, typed: &TypedModule) -> Result<Compiled, EncodeError>
+fn fit_storage(alloc: Global, typed: &TypedModule) -> Result<Compiled, EncodeError>
     ensures becomes { IfOk result (λ c. c ≡ of_fit typed.now (too_large typed.now)) }
     ensures encoded { OnOk result (fit_encoded typed.now (too_large typed.now)) }
 {
@@ -77,7 +77,7 @@ fn body(
 {
     match typed_body(alloc, tree, number, tables)? {
         Err(broken) => Ok(Compiled::Refused(broken)),
-        Ok(typed) => fitted(alloc, &typed),
+        Ok(typed) => fit_storage(alloc, &typed),
     }
 }
 
@@ -86,7 +86,7 @@ fn body(
 /// Else each is checked, with its types known by the job's number, and reported where it breaks a rule. A definition gives its
 /// table. A body gives its module, which has an encoding, or 60 where its variables and texts, or a frame, are too large. The
 /// only error is that memory ran out, or that the module has no encoding.
-#[tactic(auto, unfolding(crate::specs::Compiling::compiled))]
+#[tactic(auto, unfolding(crate::specs::Compiling::compilation_of))]
 pub fn compile(
     alloc: Global,
     tree: &Module,
@@ -94,7 +94,7 @@ pub fn compile(
     needed: &[&Compiled],
 ) -> Result<Compiled, EncodeError>
     ensures becomes { IfOk result (λ c.
-        c ≡ compiled tree.now number (map (λ n. n.now) needed.now)) }
+        c ≡ compilation_of tree.now number (map (λ n. n.now) needed.now)) }
     ensures encoded { OnOk result (IsEncoded tree.now number (map (λ n. n.now) needed.now)) }
 {
     if !are_sound(needed) {

@@ -2,7 +2,7 @@
 
 ghost use Rattle.std.specs.Prelude.{◌≡◌, ◌<◌, ◌≤◌, ◌^◌, length, map, slice_get, IfOk, OnOk};
 ghost use Rattle.m2_graph.specs.Refused.{max_files};
-ghost use Rattle.build_jobs.specs.Jobs.{compiled_in};
+ghost use Rattle.build_jobs.specs.Jobs.{compile_in_place};
 ghost use Rattle.build_jobs.specs.Encoded.{encoded_in, Defines};
 ghost use Rattle.build_jobs.specs.Made.{IsMadeOf, MayMake};
 ghost use Rattle.build_jobs.specs.Borrowed.{modules_borrowed};
@@ -16,7 +16,7 @@ use tree_parts::at;
 use wasm_tree::EncodeError;
 
 /// What becomes of the module in this place.
-fn compiled_in(
+fn compile_in_place(
     alloc: Global,
     trees: &[(&str, &Module)],
     file: usize,
@@ -25,7 +25,7 @@ fn compiled_in(
 ) -> Result<Compiled, EncodeError>
     requires { job < 2 ^ 32 }
     ensures becomes { IfOk result (λ c.
-        c ≡ compiled_in (slice_get (modules_borrowed trees.now) file) job
+        c ≡ compile_in_place (slice_get (modules_borrowed trees.now) file) job
         (map (λ n. n.now) needed.now)) }
     ensures encoded { OnOk result
         (encoded_in (slice_get (modules_borrowed trees.now) file) job (map (λ n. n.now) needed.now)) }
@@ -38,7 +38,7 @@ fn compiled_in(
 
 /// What becomes of the module of a job, from what the jobs that it needs came to.
 #[tactic(auto, using(crate::proofs::Making::made_from))]
-fn compiled_from(
+fn compile_from(
     alloc: Global,
     trees: &[(&str, &Module)],
     files: &[usize],
@@ -51,7 +51,7 @@ fn compiled_from(
         IfOk result (IsMadeOf defines job (map (λ n. n.now) needed.now)) }
 {
     let modules = modules_in(alloc, needed)?;
-    compiled_in(alloc, trees, files[job], job, &modules)
+    compile_in_place(alloc, trees, files[job], job, &modules)
 }
 
 /// What a job comes to, from what the jobs that it needs came to. That a module has no encoding is no want of memory.
@@ -67,7 +67,7 @@ fn made_of(
     ensures { let defines = Defines (modules_borrowed trees.now) files.now in
         IfOk result (MayMake defines job (map (λ n. n.now) needed.now)) }
 {
-    match compiled_from(alloc, trees, files, job, needed) {
+    match compile_from(alloc, trees, files, job, needed) {
         Ok(compiled) => Ok(Made::Module(compiled)),
         Err(EncodeError::NoEncoding) => Ok(Made::NoEncoding),
         Err(EncodeError::NoMemory) => Err(AllocError),

@@ -7,8 +7,8 @@ ghost use Rattle.pool_board.specs.declared.board.Tally.{Tally as Records};
 ghost use Rattle.build_jobs.specs.Jobs.{all_compiled};
 ghost use Rattle.build_jobs.specs.Encoded.{AreEncoded, Defines};
 ghost use Rattle.build_jobs.specs.Made.{MayMake};
-ghost use Rattle.build_jobs.specs.Borrowed.{borrowed, modules_borrowed};
-ghost use Rattle.m2_graph.specs.Files.{numbered};
+ghost use Rattle.build_jobs.specs.Borrowed.{borrow_trees, modules_borrowed};
+ghost use Rattle.m2_graph.specs.Files.{number_files};
 ghost use Rattle.m2_graph.specs.Graph.{IsGraph, CompileEach};
 ghost use Rattle.build_jobs.specs.Reading.{AreRead};
 ghost use Rattle.pool_board.specs.Results.{AreResults};
@@ -78,9 +78,9 @@ fn modules_of<'a>(
     trees: &'a [(&'a str, &'a Module)],
     graph: &'a Graph,
 ) -> Modules<'a>
-    requires graph { IsGraph (numbered 0 (borrowed trees.now)) graph.now.files.items
+    requires graph { IsGraph (number_files 0 (borrow_trees trees.now)) graph.now.files.items
         (map (λ j. j.items) graph.now.jobs.items) graph.now.starts.items }
-    requires each { CompileEach (numbered 0 (borrowed trees.now)) graph.now.files.items }
+    requires each { CompileEach (number_files 0 (borrow_trees trees.now)) graph.now.files.items }
     ensures trees { result.trees.now ≡ trees.now }
     ensures files { result.files.now ≡ graph.now.files.items }
     ensures jobs { result.jobs.now ≡ graph.now.jobs.items }
@@ -94,7 +94,7 @@ fn modules_of<'a>(
 }
 
 /// The graph of jobs for the pool.
-fn pooled(alloc: Global, graph: &Graph) -> Result<JobGraph, AllocError>
+fn job_graph(alloc: Global, graph: &Graph) -> Result<JobGraph, AllocError>
     ensures same { IfOk result (λ g. g ≡ map (λ row. row.items) graph.now.jobs.items) }
     ensures sound { IsJobGraph (map (λ row. row.items) graph.now.jobs.items) }
 {
@@ -123,15 +123,15 @@ impl<R: Threads + Sync, G: Gate> Runner<'_, R, G> {
 
     /// What each job of a graph comes to.
     fn all_made(&self, trees: &[(&str, &Module)], graph: &Graph) -> Result<Vec<Made>, AllocError>
-        requires graph { IsGraph (numbered 0 (borrowed trees.now)) graph.now.files.items
+        requires graph { IsGraph (number_files 0 (borrow_trees trees.now)) graph.now.files.items
             (map (λ j. j.items) graph.now.jobs.items) graph.now.starts.items }
-        requires each { CompileEach (numbered 0 (borrowed trees.now)) graph.now.files.items }
+        requires each { CompileEach (number_files 0 (borrow_trees trees.now)) graph.now.files.items }
         ensures made { let jobs = map (λ job. job.items) graph.now.jobs.items in
             let defines = Defines (modules_borrowed trees.now) graph.now.files.items in
             IfOk result (λ made. AreResults jobs (MayMake defines) made.items) }
         ensures sound { IsJobGraph (map (λ job. job.items) graph.now.jobs.items) }
     {
-        let jobs = pooled(self.alloc, graph)?;
+        let jobs = job_graph(self.alloc, graph)?;
         self.run(&jobs, &modules_of(self.alloc, trees, graph))
     }
 
@@ -142,9 +142,9 @@ impl<R: Threads + Sync, G: Gate> Runner<'_, R, G> {
         trees: &[(&str, &Module)],
         graph: &Graph,
     ) -> Result<Vec<Compiled>, EncodeError>
-        requires graph { IsGraph (numbered 0 (borrowed trees.now)) graph.now.files.items
+        requires graph { IsGraph (number_files 0 (borrow_trees trees.now)) graph.now.files.items
             (map (λ j. j.items) graph.now.jobs.items) graph.now.starts.items }
-        requires each { CompileEach (numbered 0 (borrowed trees.now)) graph.now.files.items }
+        requires each { CompileEach (number_files 0 (borrow_trees trees.now)) graph.now.files.items }
         ensures becomes { IfOk result (λ all.
             all.items ≡ all_compiled (modules_borrowed trees.now) graph.now.files.items
             (map (λ job. job.items) graph.now.jobs.items)) }

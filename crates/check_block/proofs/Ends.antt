@@ -12,7 +12,7 @@ use Rattle.m2_tree.specs.declared.decl.Decl.{Decl, Decl-F, out-Decl, map-Decl, f
 use Rattle.m2_tree.specs.declared.decl.Decl.TheOpen as layer
 use Rattle.m2_tree.specs.declared.decl.Decl.TheVariants as decl
 use Rattle.m2_tree.specs.declared.decl.Block.{Block, out-Block, fold_out-Block}
-use Rattle.check_block.specs.Nesting.{decl_layer, block_layer, joined, within_decl, within, ends_from, with_ends, with_ends_within, with_procedure_ends, with_decl_ends}
+use Rattle.check_block.specs.Nesting.{decl_layer, block_layer, append_names, within_decl, within, ends_from, with_ends, with_ends_within, with_procedure_ends, with_decl_ends}
 
 -- ---- what stands within
 
@@ -40,7 +40,7 @@ and_within so d = so ++ within_decl d
 
 within_block : (b : Block) → within b ≡ fold and_within [] (out-Block b).decls
 unfolding within_decl within
-within_block b = fold_out-Block Counts Counts decl_layer block_layer b ∙ fold-map joined within_decl [] (out-Block b).decls
+within_block b = fold_out-Block Counts Counts decl_layer block_layer b ∙ fold-map append_names within_decl [] (out-Block b).decls
 
 -- ---- numbers
 

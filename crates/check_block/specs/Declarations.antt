@@ -15,7 +15,7 @@ use Rattle.typed_tree.specs.declared.meaning.Meaning.{Meaning}
 use Rattle.typed_tree.specs.declared.meaning.Meaning.TheVariants as meaning
 use Rattle.check_scope.specs.declared.known.Known.{Known}
 use Rattle.check_scope.specs.declared.scope.Scope.{Scope}
-use Rattle.check_scope.specs.Scopes.{State, finished}
+use Rattle.check_scope.specs.Scopes.{State, finish_name}
 use Rattle.check_scope.specs.Elaborated.{Gathers, reported_where, beside, ◌▷◌}
 use Rattle.check_type_expr.specs.Made.{nothing_of, type_of}
 use Rattle.check_definition.specs.Declare.{with_constant, with_type, begun_name, with_variable_type, with_variables}
@@ -34,7 +34,7 @@ local_meaning level n t =
 
 abbrev pub finished_local : {T : Type 0} → Result TypeNo T → Scope T → Ident → Scope T
 finished_local t s name =
-    finished (with_variable_type s t) name (local_meaning s.level (length s.variables) t)
+    finish_name (with_variable_type s t) name (local_meaning s.level (length s.variables) t)
 
 abbrev pub with_locals : (g : Gathers) → State (Unit {0}) g.Reported → Variables
     → State (Unit {0}) g.Reported

@@ -10,14 +10,14 @@ use Rattle.typed_tree.specs.declared.meaning.Meaning.{Meaning}
 use Rattle.typed_tree.specs.declared.meaning.Meaning.TheVariants as meaning
 use Rattle.typed_tree.specs.declared.known_types.Types.{Types}
 use Rattle.typed_tree.specs.Known.{made_at}
-use Rattle.typed_tree.specs.Names.{found}
+use Rattle.typed_tree.specs.Names.{find_name}
 use Rattle.check_scope.specs.declared.known.Origin.{Origin}
 use Rattle.check_scope.specs.declared.known.Origin.TheVariants.{Here, Module, Export}
 use Rattle.check_scope.specs.declared.known.Known.{Known}
 use Rattle.check_scope.specs.declared.known.Known.TheVariants.{Later, Ahead, Begun, Headed, Declared}
 use Rattle.check_scope.specs.declared.scope.Scope.{Scope}
 use Rattle.check_scope.specs.Scopes.{State, with_known}
-use Rattle.check_scope.specs.Elaborated.{Gathers, reported, reported_where, beside, ◌▷◌}
+use Rattle.check_scope.specs.Elaborated.{Gathers, report, reported_where, beside, ◌▷◌}
 use Rattle.check_type_expr.specs.Headings.{heading_of, names_of}
 use Rattle.check_type_expr.specs.Made.{nothing_of, with_made}
 use Rattle.check_definition.specs.Declare.{procedure_meaning, with_procedure_type}
@@ -67,17 +67,17 @@ abbrev pub nested_meaning : {T : Type 0} → (level number : ℕ) → Result Typ
 nested_meaning level n t =
     t ▷ λ x. Ok (meaning.LocalProcedure (record { level = level; number = n; heading = x }))
 
-abbrev pub headed : {T : Type 0} → List ℕ → Result Meaning T → Scope T → Scope T
-headed name m s = with_known name (Headed m) s
+abbrev pub set_heading : {T : Type 0} → List ℕ → Result Meaning T → Scope T → Scope T
+set_heading name m s = with_known name (Headed m) s
 
 abbrev pub module_procedure : {T : Type 0} → Scope T → List ℕ → Result TypeNo T → Scope T
 module_procedure s name t =
-    headed name (procedure_meaning s.types.home (length s.procedures) t) (with_procedure_type s t)
+    set_heading name (procedure_meaning s.types.home (length s.procedures) t) (with_procedure_type s t)
 
 abbrev pub new_procedure : {T : Type 0} → Scope T → List ℕ → (number : ℕ) → Result TypeNo T
     → Scope T
 new_procedure s name n t =
-    cond (s.level == 0) (module_procedure s name t) (headed name (nested_meaning s.level n t) s)
+    cond (s.level == 0) (module_procedure s name t) (set_heading name (nested_meaning s.level n t) s)
 
 abbrev pub with_new : {T : Type 0} → Scope T → List ℕ → (number : ℕ) → Result Made T
     → State (Unit {0}) T
@@ -94,7 +94,7 @@ reported_of_other g types at p m =
 abbrev pub with_awaited : (g : Gathers) → Scope g.Reported → Heading → Procedure
     → Result Made g.Reported → State (Unit {0}) g.Reported
 with_awaited g s h p made = (
-  headed h.name.name (Ok (meaning.Procedure p)) s,
+  set_heading h.name.name (Ok (meaning.Procedure p)) s,
   made ▷ reported_of_other g s.types h.name.pos p,
 )
 
@@ -108,11 +108,11 @@ abbrev pub headed_as : (g : Gathers) → Scope g.Reported → Heading → (numbe
 headed_as g s h n made Free = with_new s h.name.name n made
 headed_as g s h n made (Awaited p) = with_awaited g s h p made
 headed_as g s h n made Taken =
-    (s, beside g (nothing_made made) (reported g h.name.pos rule.DeclaredTwice))
+    (s, beside g (nothing_made made) (report g h.name.pos rule.DeclaredTwice))
 
 -- a heading in a block; the number is for a procedure in a procedure
 abbrev pub with_heading : (g : Gathers) → Scope g.Reported → (number : ℕ) → Heading
     → State (Unit {0}) g.Reported
 with_heading g s n h =
-    let st = headed_as g s h n (heading_of g s h) (name_standing (found h.name.name s.own)) in
+    let st = headed_as g s h n (heading_of g s h) (name_standing (find_name h.name.name s.own)) in
     (st.0, beside g (names_of g h) st.1)

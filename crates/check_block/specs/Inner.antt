@@ -11,7 +11,7 @@ use Rattle.typed_tree.specs.declared.meaning.LocalKind.{LocalKind}
 use Rattle.typed_tree.specs.declared.meaning.LocalKind.TheVariants as kind
 use Rattle.typed_tree.specs.declared.meaning.Meaning.{Meaning}
 use Rattle.typed_tree.specs.declared.meaning.Meaning.TheVariants as meaning
-use Rattle.typed_tree.specs.Names.{found, entered}
+use Rattle.typed_tree.specs.Names.{find_name, enter_name}
 use Rattle.check_scope.specs.declared.known.Origin.TheVariants.{Here}
 use Rattle.check_scope.specs.declared.known.Known.{Known}
 use Rattle.check_scope.specs.declared.known.Known.TheVariants.{Declared}
@@ -49,7 +49,7 @@ formal_meaning level n f =
     Ok (meaning.Local (record { level = level; number = n; kind = formal_kind x; of = x.of }))
 
 abbrev pub unless_found : {V : Type 0} → List ℕ → V → List (List ℕ × V) → List (List ℕ × V)
-unless_found name v ns = cond (is_some (found name ns)) ns (entered name v ns)
+unless_found name v ns = cond (is_some (find_name name ns)) ns (enter_name name v ns)
 
 abbrev pub with_formal_type : {T : Type 0} → List TypeNo → Result Formal T → List TypeNo
 with_formal_type ts (Ok f) = ts ++ f.of ∷ []
@@ -97,11 +97,11 @@ split_last [] = None
 split_last (x ∷ xs) = elim (split_last xs) [ None ↦ Some ([], x) | Some p ↦ Some (x ∷ p.0, p.1) ]
 
 -- the blocks that stay, and the names of the one that is taken
-abbrev pub popped : {T : Type 0} → Option (List (Block T) × Block T)
+abbrev pub pop_block : {T : Type 0} → Option (List (Block T) × Block T)
     → List (Block T) × List (List ℕ × Known T)
-popped None = ([], [])
-popped (Some p) = (p.0, p.1.names)
+pop_block None = ([], [])
+pop_block (Some p) = (p.0, p.1.names)
 
 -- behind a procedure the innermost block around it is the own one again
 abbrev pub left_procedure : {T : Type 0} → Outside → Scope T → Scope T
-left_procedure o s = let b = popped (split_last s.outer) in outwards o s b.0 b.1
+left_procedure o s = let b = pop_block (split_last s.outer) in outwards o s b.0 b.1

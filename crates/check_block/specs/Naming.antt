@@ -5,7 +5,7 @@ use Rattle.m2_tree.specs.declared.decl.Decl.{Decl, Decl-F, out-Decl}
 use Rattle.m2_tree.specs.declared.decl.Decl.TheOpen as layer
 use Rattle.check_scope.specs.declared.known.Known.TheVariants.{Ahead}
 use Rattle.check_scope.specs.declared.scope.Scope.{Scope}
-use Rattle.check_scope.specs.Scopes.{marked}
+use Rattle.check_scope.specs.Scopes.{mark_name}
 use Rattle.check_definition.specs.Marking.{marked_constant, marked_type, marked_variables}
 
 module _ {T : Type 0} where
@@ -13,7 +13,7 @@ module _ {T : Type 0} where
   marked_layer s (layer.Constants cs) = fold marked_constant s cs
   marked_layer s (layer.Types ts) = fold marked_type s ts
   marked_layer s (layer.Variables vs) = fold marked_variables s vs
-  marked_layer s (layer.Procedure h b) = marked h.name Ahead s
+  marked_layer s (layer.Procedure h b) = mark_name h.name Ahead s
 
   abbrev pub marked_decl : Scope T → Decl → Scope T
   marked_decl s d = marked_layer s (out-Decl d)

@@ -14,11 +14,11 @@ decl_layer (layer.Types ts) = []
 decl_layer (layer.Variables vs) = []
 decl_layer (layer.Procedure h inner) = length inner ∷ inner
 
-abbrev pub joined : List ℕ → List ℕ → List ℕ
-joined so ns = so ++ ns
+abbrev pub append_names : List ℕ → List ℕ → List ℕ
+append_names so ns = so ++ ns
 
 abbrev pub block_layer : Block-F (List ℕ) (List ℕ) → List ℕ
-block_layer b = fold joined [] b.decls
+block_layer b = fold append_names [] b.decls
 
 unfoldable pub within_decl : Decl → List ℕ
 within_decl = fold-Decl (List ℕ) (List ℕ) decl_layer block_layer

@@ -14,7 +14,7 @@ use crate::naming::mark_decls;
 use check_definition::{
     begin_all, declare_constants, declare_types, declare_variables, import_all, with_variable_type,
 };
-use check_scope::{Elaborated, Known, Scope, beside, finish, reported};
+use check_scope::{Elaborated, Known, Scope, beside, finish, report};
 use check_type_expr::{nothing_of, type_of};
 use m2_rule::{Breach, Rule};
 use m2_tree::{Decl, Heading, Ident, Module, Pos, Variables};
@@ -224,7 +224,7 @@ fn reported_of_lack(at: Pos, scope: &Scope<Breach>) -> Elaborated<()>
     ensures { result ≡ reported_of_lack least at scope.now }
 {
     if lacks(&scope.own) {
-        return reported(at, Rule::MissingProcedure);
+        return report(at, Rule::MissingProcedure);
     }
     Ok(())
 }

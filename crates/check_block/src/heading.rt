@@ -3,11 +3,11 @@
 ghost use Rattle.std.specs.Prelude.{◌≡◌, Ok, IfOk, OnOk};
 ghost use Rattle.std.specs.Option.{option_copied};
 ghost use Rattle.check_scope.specs.Elaborated.{least, ◌▷◌};
-ghost use Rattle.check_block.specs.Headings.{standing_of, standing_elaborated, standing_from, standing_known, name_standing, nested_meaning, headed, module_procedure, new_procedure, with_new, reported_of_other, with_awaited, nothing_made, headed_as, with_heading};
+ghost use Rattle.check_block.specs.Headings.{standing_of, standing_elaborated, standing_from, standing_known, name_standing, nested_meaning, set_heading, module_procedure, new_procedure, with_new, reported_of_other, with_awaited, nothing_made, headed_as, with_heading};
 
 use crate::agreeing::{agree, signature_of};
 use check_definition::{procedure_meaning, with_procedure_type};
-use check_scope::{Elaborated, Known, Origin, Scope, beside, reported};
+use check_scope::{Elaborated, Known, Origin, Scope, beside, report};
 use check_type_expr::{heading_of, names_of, nothing_of, with_made};
 use m2_rule::{Breach, Rule};
 use m2_tree::{Heading, Pos};
@@ -104,7 +104,7 @@ fn head(
     name: &[u8],
     means: Elaborated<Meaning>,
 ) -> Result<(), AllocError>
-    ensures { OnOk result (scope.new ≡ headed name.now means scope.old) }
+    ensures { OnOk result (scope.new ≡ set_heading name.now means scope.old) }
 {
     scope.own.enter(alloc, name, Known::Headed(means))
 }
@@ -159,7 +159,7 @@ fn reported_of_other(types: &Types, at: Pos, procedure: Procedure, made: &Made) 
 {
     let awaited = made_of(types, procedure.heading);
     if !agree(signature_of(Some(made)), signature_of(awaited)) {
-        return reported(at, Rule::OtherHeading);
+        return report(at, Rule::OtherHeading);
     }
     Ok(())
 }
@@ -219,7 +219,7 @@ fn headed_as(
         Standing::Awaited(procedure) => with_awaited(alloc, scope, heading, procedure, &made),
         Standing::Taken => Ok(beside(
             nothing_made(&made),
-            reported(heading.name.pos, Rule::DeclaredTwice),
+            report(heading.name.pos, Rule::DeclaredTwice),
         )),
     }
 }

@@ -3,7 +3,7 @@
 ghost use Rattle.std.specs.Prelude.{◌≡◌, ◌∷◌, [], IfOk, OnOk};
 ghost use Rattle.std.specs.List.{fold};
 ghost use Rattle.check_scope.specs.Elaborated.{least};
-ghost use Rattle.check_block.specs.Inner.{inwards, outside, formal_kind, formal_meaning, unless_found, with_formal_type, with_formal, with_section, formals_in, entered_in, entered_procedure, split_last, popped, left_procedure};
+ghost use Rattle.check_block.specs.Inner.{inwards, outside, formal_kind, formal_meaning, unless_found, with_formal_type, with_formal, with_section, formals_in, entered_in, entered_procedure, split_last, pop_block, left_procedure};
 
 use check_scope::{Block, Elaborated, Known, Origin, Scope};
 use check_type_expr::{formal_of, result_of};
@@ -203,7 +203,7 @@ pub fn enter(
 
 /// Takes the names of the innermost block around a place.
 fn pop_names(alloc: Global, outer: &mut Items<Block<Breach>>) -> Dictionary<Known<Breach>>
-    ensures { (outer.new, result) ≡ popped (split_last outer.old) }
+    ensures { (outer.new, result) ≡ pop_block (split_last outer.old) }
 {
     match outer.pop() {
         None => Dictionary::new(alloc),

@@ -16,7 +16,7 @@ use Rattle.check_block.specs.Nesting.{procedure_ends}
 use Rattle.check_body.specs.Own.{implementation_scope}
 use Rattle.check_body.specs.Elaborating.{Elaborates}
 use Rattle.check_body.specs.Bodies.{Checked}
-use Rattle.check_body.specs.Checked.{module_or, walked, of_walk, of_body, of_implementation, of_contents, checked}
+use Rattle.check_body.specs.Checked.{module_or, walk_body, of_walk, of_body, of_implementation, of_contents, body_module}
 
 abbrev Answer : Type 0
 Answer = Result TypedModule Breach
@@ -30,11 +30,11 @@ by_name r e h = subst (λ (x : Answer). Answers r x) e h
 
 module _ {E : Type 0} (elaborates : Elaborates Breach) (r : Result Answer E) (m : Module) (b : Block) where
   pub walk_is : (modules : List (List ℕ × ℕ)) (s : Scope Breach) (own : Option Table) (ds : List Decl) (ends es : List ℕ) (c : Checked Breach)
-      → ds ≡ (out-Block b).decls → ends ≡ procedure_ends ds → es ≡ ends → c ≡ walked least elaborates modules es s m b
+      → ds ≡ (out-Block b).decls → ends ≡ procedure_ends ds → es ≡ ends → c ≡ walk_body least elaborates modules es s m b
       → Answers r (module_or least modules own m c) → Answers r (of_walk least elaborates modules s own m b)
   walk_is modules s own ds ends es c e0 e1 e2 e3 h =
       let e : es ≡ procedure_ends (out-Block b).decls = e2 ∙ e1 ∙ ap procedure_ends e0 in
-      by_name r (ap (module_or least modules own m) (e3 ∙ ap (λ (x : List ℕ). walked least elaborates modules x s m b) e)) h
+      by_name r (ap (module_or least modules own m) (e3 ∙ ap (λ (x : List ℕ). walk_body least elaborates modules x s m b) e)) h
 
   pub body_is : (s : Scope Breach) (own : Option Table) (tables : List Table) (modules : List (List ℕ × ℕ)) (n : ℕ)
       → tables ≡ s.tables → (modules, n) ≡ numbered_modules tables
@@ -54,7 +54,7 @@ module _ {E : Type 0} (elaborates : Elaborates Breach) (r : Result Answer E) (m 
   program_is s first e h = by_name r (ap (λ (x : Scope Breach). of_body least elaborates x None m b) e) h
 
   pub module_is : (number : ℕ) (own : Option Table) (imports tables : List Table) → m.contents ≡ contents.Program b → tables ≡ imports ++ console ∷ []
-      → Answers r (of_body least elaborates (first_scope number tables) None m b) → Answers r (checked least elaborates number m own imports)
+      → Answers r (of_body least elaborates (first_scope number tables) None m b) → Answers r (body_module least elaborates number m own imports)
   module_is number own imports tables e0 e1 h =
       by_name r (ap (λ (ts : List Table). of_body least elaborates (first_scope number ts) None m b) e1
       ∙ sym (ap (λ (x : Contents). of_contents least elaborates number m own (imports ++ console ∷ []) x) e0)) h

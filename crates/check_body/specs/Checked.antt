@@ -9,7 +9,7 @@ use Rattle.m2_tree.specs.declared.decl.Module.{Module}
 use Rattle.typed_tree.specs.declared.table.Table.{Table}
 use Rattle.typed_tree.specs.declared.typed_module.TypedModule.{TypedModule}
 use Rattle.check_scope.specs.declared.scope.Scope.{Scope}
-use Rattle.check_scope.specs.Elaborated.{Gathers, reported, both, ◌▷◌}
+use Rattle.check_scope.specs.Elaborated.{Gathers, report, both, ◌▷◌}
 use Rattle.check_definition.specs.Predeclared.{console, first_scope}
 use Rattle.check_definition.specs.Importing.{numbered_modules}
 use Rattle.check_block.specs.Nesting.{procedure_ends}
@@ -34,9 +34,9 @@ begun_module g modules ends s m ds =
 
 module _ (g : Gathers) (elaborates : Elaborates g.Reported) where
   -- behind its declarations the bodies of its procedures, and then its own
-  abbrev pub walked : (modules : List (List ℕ × ℕ)) → (ends : List ℕ) → Scope g.Reported → Module
+  abbrev pub walk_body : (modules : List (List ℕ × ℕ)) → (ends : List ℕ) → Scope g.Reported → Module
       → Block → Checked g.Reported
-  walked modules ends s m b =
+  walk_body modules ends s m b =
       let w = begun_module g modules ends s m (out-Block b).decls in
       with_statements elaborates None (out-Block b).body
       (bodies_checked g elaborates ends None w.1 w.0 (out-Block b).decls)
@@ -44,7 +44,7 @@ module _ (g : Gathers) (elaborates : Elaborates g.Reported) where
   abbrev pub of_walk : (modules : List (List ℕ × ℕ)) → Scope g.Reported → Option Table → Module
       → Block → Result TypedModule g.Reported
   of_walk modules s own m b =
-      module_or g modules own m (walked modules (procedure_ends (out-Block b).decls) s m b)
+      module_or g modules own m (walk_body modules (procedure_ends (out-Block b).decls) s m b)
 
   -- from the scope where it begins
   abbrev pub of_body : Scope g.Reported → Option Table → Module → Block
@@ -54,18 +54,18 @@ module _ (g : Gathers) (elaborates : Elaborates g.Reported) where
   -- an implementation stands on the table of its definition
   abbrev pub of_implementation : Module → Option Table → List Table → Block
       → Result TypedModule g.Reported
-  of_implementation m None tables b = reported g m.name.pos rule.LonelyModule
+  of_implementation m None tables b = report g m.name.pos rule.LonelyModule
   of_implementation m (Some own) tables b = of_body (implementation_scope own tables) (Some own) m b
 
   abbrev pub of_contents : ℕ → Module → Option Table → List Table → Contents
       → Result TypedModule g.Reported
   of_contents number m own tables (contents.Definition defs) =
-      reported g m.name.pos rule.LonelyModule
+      report g m.name.pos rule.LonelyModule
   of_contents number m own tables (contents.Implementation b) = of_implementation m own tables b
   of_contents number m own tables (contents.Program b) =
       of_body (first_scope number tables) None m b
 
   -- The module of a body, given the table of its own definition, if it has one, and the tables of
   -- those that it imports; the table of Console is always there.
-  abbrev pub checked : ℕ → Module → Option Table → List Table → Result TypedModule g.Reported
-  checked number m own imports = of_contents number m own (imports ++ console ∷ []) m.contents
+  abbrev pub body_module : ℕ → Module → Option Table → List Table → Result TypedModule g.Reported
+  body_module number m own imports = of_contents number m own (imports ++ console ∷ []) m.contents

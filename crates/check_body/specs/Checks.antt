@@ -9,11 +9,11 @@ use Rattle.check_body.specs.Checked as bodies
 use Rattle.check_stmt.specs.Statements.{statements}
 
 -- no LOOP stands around the statements of a body
-abbrev pub elaborated : (g : Gathers) → Elaborates g.Reported
-elaborated g s returns body = statements g s (record { gives = returns; in_loop = false }) body
+abbrev pub elaborate_body : (g : Gathers) → Elaborates g.Reported
+elaborate_body g s returns body = statements g s (record { gives = returns; in_loop = false }) body
 
 -- The module of a body, given the table of its own definition, if it has one, and the tables of
 -- those that it imports.
-abbrev pub checked : (g : Gathers) → ℕ → Module → Option Table → List Table
+abbrev pub body_module : (g : Gathers) → ℕ → Module → Option Table → List Table
     → Result TypedModule g.Reported
-checked g number m own imports = bodies.checked g (elaborated g) number m own imports
+body_module g number m own imports = bodies.body_module g (elaborate_body g) number m own imports

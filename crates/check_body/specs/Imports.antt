@@ -5,14 +5,14 @@ use Rattle.m2_tree.specs.declared.decl.Import.{Import}
 use Rattle.typed_tree.specs.declared.table.Table.{Table}
 use Rattle.typed_tree.specs.declared.typed_module.Imported.{Imported}
 use Rattle.m2_tree.specs.Names.{is_console}
-use Rattle.typed_tree.specs.Names.{found, entered}
+use Rattle.typed_tree.specs.Names.{find_name, enter_name}
 use Rattle.check_definition.specs.Export.{with_import_of}
 use Rattle.check_body.specs.Own.{exported_variables}
 
 -- ---- names: those that the definition imports, and then those that the body imports, each once
 
 abbrev pub with_import_copy : List (List ℕ × ℕ) → List ℕ × ℕ → List (List ℕ × ℕ)
-with_import_copy so e = entered e.0 e.1 so
+with_import_copy so e = enter_name e.0 e.1 so
 
 abbrev pub definition_imports : Option Table → List (List ℕ × ℕ)
 definition_imports None = []
@@ -43,7 +43,7 @@ with_place_of tables so e (Some k) = with_table_of so (slice_get tables k)
 
 abbrev pub with_module_of : (modules : List (List ℕ × ℕ)) → List Table → List Imported → List ℕ × ℕ
     → List Imported
-with_module_of modules tables so e = with_place_of tables so e (found e.0 modules)
+with_module_of modules tables so e = with_place_of tables so e (find_name e.0 modules)
 
 abbrev pub typed_imports : (modules : List (List ℕ × ℕ)) → List Table → List (List ℕ × ℕ)
     → List Imported

@@ -11,7 +11,7 @@ use Rattle.check_scope.specs.Elaborated.{Gathers, beside, ◌▷◌}
 use Rattle.check_block.specs.Inner.{entered_procedure, outside, left_procedure}
 use Rattle.check_body.specs.declared.routine.Numbered.{Numbered}
 use Rattle.check_body.specs.declared.routine.Bodies.{Bodies}
-use Rattle.check_body.specs.Routines.{procedure_named, begun_at, filled, routine}
+use Rattle.check_body.specs.Routines.{procedure_named, begun_at, put_routine, routine}
 use Rattle.check_body.specs.declared.procedure.Walk.{Walk}
 use Rattle.check_body.specs.declared.procedure.Begun.{Begun}
 
@@ -54,7 +54,7 @@ reported_in body = body ▷ λ xs. Ok tt
 abbrev pub with_routine : {T : Type 0} → Scope T → Ident → (around : Option Which) → (formals : ℕ)
     → Option Numbered → Result (List TypedStmt) T → Bodies → Bodies
 with_routine s name around n None body rs = rs
-with_routine s name around n (Some p) (Ok xs) rs = filled rs p.which (routine s name p around n xs)
+with_routine s name around n (Some p) (Ok xs) rs = put_routine rs p.which (routine s name p around n xs)
 with_routine s name around n (Some p) (Err e) rs = rs
 
 -- behind the END of a procedure; what its statements reported counts now

@@ -10,7 +10,7 @@ use Rattle.typed_tree.specs.declared.meaning.Meaning.TheVariants as meaning
 use Rattle.typed_tree.specs.declared.known_types.Types.{Types}
 use Rattle.typed_tree.specs.declared.table.ModuleTypes.{ModuleTypes}
 use Rattle.typed_tree.specs.declared.table.Table.{Table}
-use Rattle.typed_tree.specs.Names.{entered}
+use Rattle.typed_tree.specs.Names.{enter_name}
 use Rattle.check_scope.specs.declared.known.Origin.TheVariants.{Here}
 use Rattle.check_scope.specs.declared.known.Known.{Known}
 use Rattle.check_scope.specs.declared.known.Known.TheVariants.{Declared}
@@ -21,7 +21,7 @@ use Rattle.check_definition.specs.Predeclared.{with_table, first_scope}
 
 abbrev pub with_own_name : {T : Type 0} → List (List ℕ × Known T) → List ℕ × Meaning
     → List (List ℕ × Known T)
-with_own_name ns e = entered e.0 (Declared Here (Ok e.1)) ns
+with_own_name ns e = enter_name e.0 (Declared Here (Ok e.1)) ns
 
 abbrev pub own_names : {T : Type 0} → List (List ℕ × Meaning) → List (List ℕ × Known T)
 own_names exported = fold with_own_name [] exported
@@ -67,7 +67,7 @@ exported_headings exported = fold with_exported_heading [] exported
 -- ---- types
 
 abbrev pub with_field_copy : List (List ℕ × TypeNo) → List ℕ × TypeNo → List (List ℕ × TypeNo)
-with_field_copy fs e = entered e.0 e.1 fs
+with_field_copy fs e = enter_name e.0 e.1 fs
 
 -- a record has each field once, so these are the same fields
 abbrev pub fields_copy : List (List ℕ × TypeNo) → List (List ℕ × TypeNo)

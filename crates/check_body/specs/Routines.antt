@@ -14,7 +14,7 @@ use Rattle.typed_tree.specs.declared.typed_module.Which.TheVariants as which
 use Rattle.typed_tree.specs.declared.typed_module.Imported.{Imported}
 use Rattle.typed_tree.specs.declared.typed_module.TypedModule.{TypedModule}
 use Rattle.typed_tree.specs.Types.{integer}
-use Rattle.typed_tree.specs.Names.{found}
+use Rattle.typed_tree.specs.Names.{find_name}
 use Rattle.check_scope.specs.declared.known.Known.{Known}
 use Rattle.check_scope.specs.declared.known.Known.TheVariants.{Later, Ahead, Begun, Headed, Declared}
 use Rattle.check_scope.specs.declared.scope.Scope.{Scope}
@@ -51,13 +51,13 @@ numbered_known (Some (Headed m)) = numbered_elaborated m
 numbered_known (Some (Declared o m)) = None
 
 abbrev pub procedure_named : {T : Type 0} → Scope T → Ident → Option Numbered
-procedure_named s name = numbered_known (found name.name s.own)
+procedure_named s name = numbered_known (find_name name.name s.own)
 
 -- ---- their places in the two lists
 
 -- the place of a procedure whose body is not checked yet
-abbrev pub unfilled : TypeNo → Routine
-unfilled heading = record {
+abbrev pub empty_routine : TypeNo → Routine
+empty_routine heading = record {
   pos = record { line = 1; col = 1 };
   heading = heading;
   level = 1;
@@ -68,19 +68,19 @@ unfilled heading = record {
 
 -- where a module's block is declared
 abbrev pub no_bodies : List TypeNo → Bodies
-no_bodies headings = record { procedures = map unfilled headings; locals = []; order = [] }
+no_bodies headings = record { procedures = map empty_routine headings; locals = []; order = [] }
 
 -- where a procedure begins in a block of this level
 abbrev pub begun_at : (level : ℕ) → Bodies → Bodies
-begun_at level rs = cond (level == 0) rs (record rs { locals = rs.locals ++ unfilled integer ∷ [] })
+begun_at level rs = cond (level == 0) rs (record rs { locals = rs.locals ++ empty_routine integer ∷ [] })
 
-abbrev pub filled : Bodies → Which → Routine → Bodies
-filled rs (which.Module n) r = record {
+abbrev pub put_routine : Bodies → Which → Routine → Bodies
+put_routine rs (which.Module n) r = record {
   procedures = slice_set rs.procedures n r;
   locals = rs.locals;
   order = rs.order ++ which.Module n ∷ [];
 }
-filled rs (which.Local n) r = record {
+put_routine rs (which.Local n) r = record {
   procedures = rs.procedures;
   locals = slice_set rs.locals n r;
   order = rs.order ++ which.Local n ∷ [];

@@ -4,7 +4,7 @@ ghost use Rattle.std.specs.Prelude.{◌≡◌, None, IfOk};
 ghost use Rattle.std.specs.Option.{option_copied};
 ghost use Rattle.check_scope.specs.Elaborated.{least};
 ghost use Rattle.check_definition.specs.Predeclared.{first_scope};
-ghost use Rattle.check_body.specs.Checked.{module_or, begun_module, walked, of_walk, of_body, of_implementation, checked};
+ghost use Rattle.check_body.specs.Checked.{module_or, begun_module, walk_body, of_walk, of_body, of_implementation, body_module};
 
 use crate::procedure::Walk;
 use crate::procedures::check_procedures;
@@ -12,7 +12,7 @@ use crate::statements::{Statements, check_statements};
 use crate::{implementation_scope, no_bodies, typed_module};
 use check_block::{declare_module, procedure_ends};
 use check_definition::{first_scope, modules_of, with_console};
-use check_scope::{Elaborated, Scope, both, reported};
+use check_scope::{Elaborated, Scope, both, report};
 use m2_rule::{Breach, Rule};
 use m2_tree::{Block, Contents, Decl, Module};
 use std::alloc::{AllocError, Global};
@@ -76,7 +76,7 @@ fn walk_through<S: Statements>(
     block: &Block,
 ) -> Result<(Walk<Breach>, Elaborated<Items<TypedStmt>>), AllocError>
     ensures { IfOk result (λ r. r ≡
-        walked least (S.elaborated statements.now) modules.now ends.now scope tree.now block.now) }
+        walk_body least (S.elaborated statements.now) modules.now ends.now scope tree.now block.now) }
 {
     let decls = block.decls.as_slice();
     let (mut walk, seen) = begin_module(alloc, modules, ends, scope, tree, decls)?;
@@ -158,7 +158,7 @@ fn check_implementation<S: Statements>(
         (option_copied own.entry) tables block.now) }
 {
     match own {
-        None => Ok(reported(tree.name.pos, Rule::LonelyModule)),
+        None => Ok(report(tree.name.pos, Rule::LonelyModule)),
         Some(table) => {
             let scope = implementation_scope(alloc, table, tables)?;
             check_body(alloc, statements, scope, own, tree, block)
@@ -180,11 +180,11 @@ pub fn check_with<S: Statements>(
     imports: Items<Shared<Table>>,
 ) -> Result<Elaborated<TypedModule>, AllocError>
     ensures { IfOk result (λ j. j ≡
-        checked least (S.elaborated statements.now) number tree.now (option_copied own.entry) imports) }
+        body_module least (S.elaborated statements.now) number tree.now (option_copied own.entry) imports) }
 {
     let tables = with_console(alloc, imports)?;
     match &tree.contents {
-        Contents::Definition(_) => Ok(reported(tree.name.pos, Rule::LonelyModule)),
+        Contents::Definition(_) => Ok(report(tree.name.pos, Rule::LonelyModule)),
         Contents::Implementation(block) => {
             check_implementation(alloc, statements, tree, own, tables, block)
         }

@@ -3,7 +3,7 @@
 ghost use Rattle.std.specs.Prelude.{◌≡◌, IfOk};
 ghost use Rattle.std.specs.Option.{option_copied};
 ghost use Rattle.check_scope.specs.Elaborated.{least};
-ghost use Rattle.check_body.specs.Checks.{elaborated, checked};
+ghost use Rattle.check_body.specs.Checks.{elaborate_body, body_module};
 
 use crate::{Statements, check_with};
 use check_scope::{Elaborated, Scope};
@@ -19,7 +19,7 @@ use typed_tree::{Table, TypeNo, TypedModule, TypedStmt};
 struct Checker;
 
 impl Statements for Checker {
-    ghost elaborated = { λ checker. elaborated least };
+    ghost elaborated = { λ checker. elaborate_body least };
 
     fn check(
         &self,
@@ -48,7 +48,7 @@ pub fn check(
     imports: Items<Shared<Table>>,
 ) -> Result<Elaborated<TypedModule>, AllocError>
     ensures { IfOk result
-        (λ j. j ≡ checked least number tree.now (option_copied own.entry) imports) }
+        (λ j. j ≡ body_module least number tree.now (option_copied own.entry) imports) }
 {
     check_with(alloc, &Checker, number, tree, own, imports)
 }

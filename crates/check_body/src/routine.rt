@@ -2,7 +2,7 @@
 
 ghost use Rattle.std.specs.Prelude.{◌≡◌, [], map, drop, slice_set, IfOk, OnOk};
 ghost use Rattle.std.specs.Option.{option_copied};
-ghost use Rattle.check_body.specs.Routines.{numbered_by, numbered_elaborated, numbered_known, procedure_named, unfilled, no_bodies, begun_at, filled, routine, imports_of, with_scope, typed_module};
+ghost use Rattle.check_body.specs.Routines.{numbered_by, numbered_elaborated, numbered_known, procedure_named, empty_routine, no_bodies, begun_at, put_routine, routine, imports_of, with_scope, typed_module};
 
 use crate::imports::{all_imports, typed_imports};
 use check_scope::{Elaborated, Known, Scope};
@@ -90,8 +90,8 @@ pub fn procedure_named(scope: &Scope<Breach>, name: &Ident) -> Option<Numbered>
 
 // ---- their places
 
-fn unfilled(alloc: Global, heading: TypeNo) -> Routine
-    ensures { result ≡ unfilled heading }
+fn empty_routine(alloc: Global, heading: TypeNo) -> Routine
+    ensures { result ≡ empty_routine heading }
 {
     Routine {
         pos: Pos { line: 1, col: 1 },
@@ -104,11 +104,11 @@ fn unfilled(alloc: Global, heading: TypeNo) -> Routine
 }
 
 fn all_unfilled(alloc: Global, headings: &[TypeNo]) -> Result<Items<Routine>, AllocError>
-    ensures { IfOk result (λ routines. routines ≡ map unfilled headings.now) }
+    ensures { IfOk result (λ routines. routines ≡ map empty_routine headings.now) }
 {
     let mut routines = Items::new(alloc);
     for heading in headings {
-        routines.push(unfilled(alloc, *heading))?;
+        routines.push(empty_routine(alloc, *heading))?;
     }
     Ok(routines)
 }
@@ -133,7 +133,7 @@ pub fn begin_at(alloc: Global, bodies: &mut Bodies, level: usize) -> Result<(), 
     if level == 0 {
         return Ok(());
     }
-    bodies.locals.push(unfilled(alloc, INTEGER))
+    bodies.locals.push(empty_routine(alloc, INTEGER))
 }
 
 fn put(list: &mut Items<Routine>, number: usize, routine: Routine)
@@ -146,7 +146,7 @@ fn put(list: &mut Items<Routine>, number: usize, routine: Routine)
 
 /// Puts a procedure with its body to its place. The only error is that memory ran out.
 pub fn fill(bodies: &mut Bodies, which: Which, routine: Routine) -> Result<(), AllocError>
-    ensures { OnOk result (bodies.new ≡ filled bodies.old which routine) }
+    ensures { OnOk result (bodies.new ≡ put_routine bodies.old which routine) }
 {
     match which {
         Which::Module(number) => put(&mut bodies.procedures, number, routine),

@@ -12,7 +12,7 @@ use Rattle.typed_tree.specs.declared.shape.Scalar.{Scalar as Range}
 use Rattle.typed_tree.specs.declared.known_types.Types.{Types}
 use Rattle.typed_tree.specs.Types.{are_same, char}
 use Rattle.typed_tree.specs.Known.{scalar_at}
-use Rattle.check_scope.specs.Elaborated.{Gathers, reported, reported_where, both, ◌▷◌}
+use Rattle.check_scope.specs.Elaborated.{Gathers, report, reported_where, both, ◌▷◌}
 use Rattle.check_const_ops.specs.Numbers.{is_between}
 use Rattle.check_operator.specs.declared.class.Class.{Class}
 use Rattle.check_operator.specs.declared.class.Class.TheVariants as class
@@ -21,7 +21,7 @@ use Rattle.check_operator.specs.declared.computed.Computed.TheVariants as value
 use Rattle.check_operator.specs.declared.computed.Designated.{Designated}
 use Rattle.check_operator.specs.declared.computed.Designated.TheVariants as designated
 use Rattle.check_operator.specs.Classes.{class_at, array_at}
-use Rattle.check_operator.specs.Values.{taken}
+use Rattle.check_operator.specs.Values.{value_at_place}
 use Rattle.check_operator.specs.Suits.{value_suited}
 
 -- ---- arrays for ARRAY OF: the least index has number 0
@@ -42,13 +42,13 @@ elements_suit types t u = elements_suit_in types t (array_at types u)
 abbrev pub variable_passed : (g : Gathers) → TypeNo → Pos → Designated → Result Argument g.Reported
 variable_passed g t at (designated.Variable u d) =
     reported_where g (not (are_same u t)) at rule.NoVariable (Ok (argument.Place d))
-variable_passed g t at (designated.Value x) = reported g at rule.NoVariable
-variable_passed g t at (designated.Open u slot) = reported g at rule.NoVariable
-variable_passed g t at (designated.Type u) = reported g at rule.NoVariable
-variable_passed g t at (designated.Procedure p) = reported g at rule.NoVariable
-variable_passed g t at (designated.Nested p) = reported g at rule.NoVariable
-variable_passed g t at (designated.Standard f) = reported g at rule.NoVariable
-variable_passed g t at (designated.Module k) = reported g at rule.NoVariable
+variable_passed g t at (designated.Value x) = report g at rule.NoVariable
+variable_passed g t at (designated.Open u slot) = report g at rule.NoVariable
+variable_passed g t at (designated.Type u) = report g at rule.NoVariable
+variable_passed g t at (designated.Procedure p) = report g at rule.NoVariable
+variable_passed g t at (designated.Nested p) = report g at rule.NoVariable
+variable_passed g t at (designated.Standard f) = report g at rule.NoVariable
+variable_passed g t at (designated.Module k) = report g at rule.NoVariable
 
 abbrev pub open_passed : (g : Gathers) → Types → TypeNo → Pos → Designated
     → Result Argument g.Reported
@@ -56,30 +56,30 @@ open_passed g types t at (designated.Variable u d) =
     reported_where g (not (elements_suit types t u)) at rule.NoVariable (Ok (argument.Array u d))
 open_passed g types t at (designated.Open u slot) =
     reported_where g (not (are_same u t)) at rule.NoVariable (Ok (argument.Open slot))
-open_passed g types t at (designated.Value x) = reported g at rule.NoVariable
-open_passed g types t at (designated.Type u) = reported g at rule.NoVariable
-open_passed g types t at (designated.Procedure p) = reported g at rule.NoVariable
-open_passed g types t at (designated.Nested p) = reported g at rule.NoVariable
-open_passed g types t at (designated.Standard f) = reported g at rule.NoVariable
-open_passed g types t at (designated.Module k) = reported g at rule.NoVariable
+open_passed g types t at (designated.Value x) = report g at rule.NoVariable
+open_passed g types t at (designated.Type u) = report g at rule.NoVariable
+open_passed g types t at (designated.Procedure p) = report g at rule.NoVariable
+open_passed g types t at (designated.Nested p) = report g at rule.NoVariable
+open_passed g types t at (designated.Standard f) = report g at rule.NoVariable
+open_passed g types t at (designated.Module k) = report g at rule.NoVariable
 
 -- ---- value formals
 
 abbrev pub text_argument : (g : Gathers) → TypeNo → Pos → Value → Result Argument g.Reported
 text_argument g t at (constant.Text text) =
     reported_where g (not (are_same t char)) at rule.WrongArgument (Ok (argument.Text text))
-text_argument g t at (constant.Number n) = reported g at rule.WrongArgument
-text_argument g t at (constant.Scalar s) = reported g at rule.WrongArgument
-text_argument g t at (constant.Set bits) = reported g at rule.WrongArgument
+text_argument g t at (constant.Number n) = report g at rule.WrongArgument
+text_argument g t at (constant.Scalar s) = report g at rule.WrongArgument
+text_argument g t at (constant.Set bits) = report g at rule.WrongArgument
 
 abbrev pub text_passed : (g : Gathers) → TypeNo → Pos → Computed → Result Argument g.Reported
 text_passed g t at (value.Constant v) = text_argument g t at v
-text_passed g t at (value.Scalar u b e) = reported g at rule.WrongArgument
-text_passed g t at (value.Set e) = reported g at rule.WrongArgument
-text_passed g t at (value.Routine u e) = reported g at rule.WrongArgument
-text_passed g t at (value.Procedure p) = reported g at rule.WrongArgument
-text_passed g t at (value.Whole u d) = reported g at rule.WrongArgument
-text_passed g t at value.Untaken = reported g at rule.WrongArgument
+text_passed g t at (value.Scalar u b e) = report g at rule.WrongArgument
+text_passed g t at (value.Set e) = report g at rule.WrongArgument
+text_passed g t at (value.Routine u e) = report g at rule.WrongArgument
+text_passed g t at (value.Procedure p) = report g at rule.WrongArgument
+text_passed g t at (value.Whole u d) = report g at rule.WrongArgument
+text_passed g t at value.Untaken = report g at rule.WrongArgument
 
 -- an open array, an array, or a string where the elements are CHAR
 abbrev pub open_value : (g : Gathers) → Types → TypeNo → Pos → Designated
@@ -89,29 +89,29 @@ open_value g types t at (designated.Variable u d) =
 open_value g types t at (designated.Open u slot) =
     reported_where g (not (are_same u t)) at rule.WrongArgument (Ok (argument.Open slot))
 open_value g types t at (designated.Value x) = text_passed g t at x
-open_value g types t at (designated.Type u) = reported g at rule.WrongType
-open_value g types t at (designated.Procedure p) = reported g at rule.WrongArgument
-open_value g types t at (designated.Nested p) = reported g at rule.NoProcedureValue
-open_value g types t at (designated.Standard f) = reported g at rule.NoProcedureValue
-open_value g types t at (designated.Module k) = reported g at rule.WrongType
+open_value g types t at (designated.Type u) = report g at rule.WrongType
+open_value g types t at (designated.Procedure p) = report g at rule.WrongArgument
+open_value g types t at (designated.Nested p) = report g at rule.NoProcedureValue
+open_value g types t at (designated.Standard f) = report g at rule.NoProcedureValue
+open_value g types t at (designated.Module k) = report g at rule.WrongType
 
 -- for an array or a record a variable of the same type
 abbrev pub whole_passed : (g : Gathers) → TypeNo → Pos → Designated → Result Argument g.Reported
 whole_passed g t at (designated.Variable u d) =
     reported_where g (not (are_same u t)) at rule.WrongArgument (Ok (argument.Place d))
-whole_passed g t at (designated.Value x) = reported g at rule.WrongArgument
-whole_passed g t at (designated.Open u slot) = reported g at rule.WrongArgument
-whole_passed g t at (designated.Type u) = reported g at rule.WrongType
-whole_passed g t at (designated.Procedure p) = reported g at rule.WrongArgument
-whole_passed g t at (designated.Nested p) = reported g at rule.NoProcedureValue
-whole_passed g t at (designated.Standard f) = reported g at rule.NoProcedureValue
-whole_passed g t at (designated.Module k) = reported g at rule.WrongType
+whole_passed g t at (designated.Value x) = report g at rule.WrongArgument
+whole_passed g t at (designated.Open u slot) = report g at rule.WrongArgument
+whole_passed g t at (designated.Type u) = report g at rule.WrongType
+whole_passed g t at (designated.Procedure p) = report g at rule.WrongArgument
+whole_passed g t at (designated.Nested p) = report g at rule.NoProcedureValue
+whole_passed g t at (designated.Standard f) = report g at rule.NoProcedureValue
+whole_passed g t at (designated.Module k) = report g at rule.WrongType
 
 -- else what is assignment compatible
 abbrev pub simple_passed : (g : Gathers) → Types → TypeNo → Pos → Designated
     → Result Argument g.Reported
 simple_passed g types t at d =
-    taken g types at d ▷ λ x.
+    value_at_place g types at d ▷ λ x.
     value_suited g rule.WrongArgument types t at x ▷ λ e.
     Ok (argument.Value t e)
 

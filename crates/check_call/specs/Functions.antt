@@ -11,8 +11,8 @@ use Rattle.typed_tree.specs.declared.shape.Scalar.{Scalar as Range}
 use Rattle.typed_tree.specs.declared.known_types.Types.{Types}
 use Rattle.typed_tree.specs.Types.{are_same, is_numeric, cardinal, boolean, char}
 use Rattle.typed_tree.specs.Known.{scalar_at}
-use Rattle.check_scope.specs.Elaborated.{Gathers, reported, reported_where, both, ◌▷◌}
-use Rattle.check_const_ops.specs.Standards.{converted}
+use Rattle.check_scope.specs.Elaborated.{Gathers, report, reported_where, both, ◌▷◌}
+use Rattle.check_const_ops.specs.Standards.{conversion_of}
 use Rattle.check_const.specs.Calls.{scalar_type, unary_of, bound_by}
 use Rattle.check_operator.specs.declared.computed.Computed.{Computed}
 use Rattle.check_operator.specs.declared.computed.Computed.TheVariants as value
@@ -66,24 +66,24 @@ unary_scalar g u at b e =
 abbrev pub unary_at : (g : Gathers) → Standard → Unary → Pos → Computed → Result Computed g.Reported
 unary_at g f u at (value.Constant v) = of_value (unary_of g f at v)
 unary_at g f u at (value.Scalar t b e) = unary_scalar g u at b e
-unary_at g f u at (value.Set e) = reported g at rule.WrongArgument
-unary_at g f u at (value.Routine t e) = reported g at rule.WrongArgument
-unary_at g f u at (value.Procedure p) = reported g at rule.WrongArgument
-unary_at g f u at (value.Whole t d) = reported g at rule.WrongArgument
-unary_at g f u at value.Untaken = reported g at rule.WrongArgument
+unary_at g f u at (value.Set e) = report g at rule.WrongArgument
+unary_at g f u at (value.Routine t e) = report g at rule.WrongArgument
+unary_at g f u at (value.Procedure p) = report g at rule.WrongArgument
+unary_at g f u at (value.Whole t d) = report g at rule.WrongArgument
+unary_at g f u at value.Untaken = report g at rule.WrongArgument
 
 -- ---- of types
 
 abbrev pub type_named : (g : Gathers) → Types → Pos → Designated
     → Result (TypeNo × Range) g.Reported
 type_named g types at (designated.Type t) = scalar_type g at t (scalar_at types t)
-type_named g types at (designated.Value x) = reported g at rule.NoType
-type_named g types at (designated.Variable t d) = reported g at rule.NoType
-type_named g types at (designated.Open t slot) = reported g at rule.NoType
-type_named g types at (designated.Procedure p) = reported g at rule.NoType
-type_named g types at (designated.Nested p) = reported g at rule.NoType
-type_named g types at (designated.Standard f) = reported g at rule.NoType
-type_named g types at (designated.Module k) = reported g at rule.NoType
+type_named g types at (designated.Value x) = report g at rule.NoType
+type_named g types at (designated.Variable t d) = report g at rule.NoType
+type_named g types at (designated.Open t slot) = report g at rule.NoType
+type_named g types at (designated.Procedure p) = report g at rule.NoType
+type_named g types at (designated.Nested p) = report g at rule.NoType
+type_named g types at (designated.Standard f) = report g at rule.NoType
+type_named g types at (designated.Module k) = report g at rule.NoType
 
 abbrev pub bound_at : {T : Type 0} → Standard → Result (TypeNo × Range) T → Result Computed T
 bound_at f x = x ▷ λ p. Ok (value.Constant (bound_by f p.0 p.1))
@@ -96,13 +96,13 @@ converted_scalar g t s at b e =
 
 abbrev pub converted_value : (g : Gathers) → TypeNo → Range → Pos → Computed
     → Result Computed g.Reported
-converted_value g t s at (value.Constant v) = of_value (converted g t s at v)
+converted_value g t s at (value.Constant v) = of_value (conversion_of g t s at v)
 converted_value g t s at (value.Scalar u b e) = converted_scalar g t s at b e
-converted_value g t s at (value.Set e) = reported g at rule.WrongArgument
-converted_value g t s at (value.Routine u e) = reported g at rule.WrongArgument
-converted_value g t s at (value.Procedure p) = reported g at rule.WrongArgument
-converted_value g t s at (value.Whole u d) = reported g at rule.WrongArgument
-converted_value g t s at value.Untaken = reported g at rule.WrongArgument
+converted_value g t s at (value.Set e) = report g at rule.WrongArgument
+converted_value g t s at (value.Routine u e) = report g at rule.WrongArgument
+converted_value g t s at (value.Procedure p) = report g at rule.WrongArgument
+converted_value g t s at (value.Whole u d) = report g at rule.WrongArgument
+converted_value g t s at value.Untaken = report g at rule.WrongArgument
 
 -- VAL
 abbrev pub conversion_at : (g : Gathers) → Result (TypeNo × Range) g.Reported → Pos
@@ -113,10 +113,10 @@ conversion_at g to at x = both g to x ▷ λ p. converted_value g p.0.0 p.0.1 at
 
 abbrev pub high_of : (g : Gathers) → Pos → Designated → Result Computed g.Reported
 high_of g at (designated.Open t slot) = Ok (value.Scalar cardinal cardinal (expr.High slot))
-high_of g at (designated.Value x) = reported g at rule.WrongArgument
-high_of g at (designated.Variable t d) = reported g at rule.WrongArgument
-high_of g at (designated.Type t) = reported g at rule.WrongType
-high_of g at (designated.Procedure p) = reported g at rule.WrongArgument
-high_of g at (designated.Nested p) = reported g at rule.NoProcedureValue
-high_of g at (designated.Standard f) = reported g at rule.NoProcedureValue
-high_of g at (designated.Module k) = reported g at rule.WrongType
+high_of g at (designated.Value x) = report g at rule.WrongArgument
+high_of g at (designated.Variable t d) = report g at rule.WrongArgument
+high_of g at (designated.Type t) = report g at rule.WrongType
+high_of g at (designated.Procedure p) = report g at rule.WrongArgument
+high_of g at (designated.Nested p) = report g at rule.NoProcedureValue
+high_of g at (designated.Standard f) = report g at rule.NoProcedureValue
+high_of g at (designated.Module k) = report g at rule.WrongType

@@ -4,8 +4,10 @@ ghost use Rattle.std.specs.Prelude.{◌≡◌, IfOk};
 ghost use Rattle.check_scope.specs.Elaborated.{least};
 ghost use Rattle.check_call.specs.Actuals.{starts_at_zero, elements_suit_in, elements_suit, variable_passed, open_passed, text_argument, text_passed, open_value, whole_passed, simple_passed, value_passed, actual, next_formal, with_argument};
 
-use check_operator::{Class, Computed, Designated, array_of, class_of, taken, value_suited};
-use check_scope::{Elaborated, both, reported};
+use check_operator::{
+    Class, Computed, Designated, array_of, class_of, value_at_place, value_suited,
+};
+use check_scope::{Elaborated, both, report};
 use m2_rule::Rule;
 use m2_tree::Pos;
 use std::alloc::AllocError;
@@ -46,20 +48,20 @@ fn variable_passed(t: TypeNo, at: Pos, designated: Designated) -> Elaborated<Arg
     match designated {
         Designated::Variable(u, place) => {
             if !are_same(u, t) {
-                return reported(at, Rule::NoVariable);
+                return report(at, Rule::NoVariable);
             }
             Ok(Argument::Place(place))
         }
         Designated::Value(value) => {
             drop(value);
-            reported(at, Rule::NoVariable)
+            report(at, Rule::NoVariable)
         }
-        Designated::Open(_, _) => reported(at, Rule::NoVariable),
-        Designated::Type(_) => reported(at, Rule::NoVariable),
-        Designated::Procedure(_) => reported(at, Rule::NoVariable),
-        Designated::Nested(_) => reported(at, Rule::NoVariable),
-        Designated::Standard(_) => reported(at, Rule::NoVariable),
-        Designated::Module(_) => reported(at, Rule::NoVariable),
+        Designated::Open(_, _) => report(at, Rule::NoVariable),
+        Designated::Type(_) => report(at, Rule::NoVariable),
+        Designated::Procedure(_) => report(at, Rule::NoVariable),
+        Designated::Nested(_) => report(at, Rule::NoVariable),
+        Designated::Standard(_) => report(at, Rule::NoVariable),
+        Designated::Module(_) => report(at, Rule::NoVariable),
     }
 }
 
@@ -70,25 +72,25 @@ fn open_passed(types: &Types, t: TypeNo, at: Pos, designated: Designated) -> Ela
     match designated {
         Designated::Variable(u, place) => {
             if !elements_suit(types, t, u) {
-                return reported(at, Rule::NoVariable);
+                return report(at, Rule::NoVariable);
             }
             Ok(Argument::Array(u, place))
         }
         Designated::Open(u, slot) => {
             if !are_same(u, t) {
-                return reported(at, Rule::NoVariable);
+                return report(at, Rule::NoVariable);
             }
             Ok(Argument::Open(slot))
         }
         Designated::Value(value) => {
             drop(value);
-            reported(at, Rule::NoVariable)
+            report(at, Rule::NoVariable)
         }
-        Designated::Type(_) => reported(at, Rule::NoVariable),
-        Designated::Procedure(_) => reported(at, Rule::NoVariable),
-        Designated::Nested(_) => reported(at, Rule::NoVariable),
-        Designated::Standard(_) => reported(at, Rule::NoVariable),
-        Designated::Module(_) => reported(at, Rule::NoVariable),
+        Designated::Type(_) => report(at, Rule::NoVariable),
+        Designated::Procedure(_) => report(at, Rule::NoVariable),
+        Designated::Nested(_) => report(at, Rule::NoVariable),
+        Designated::Standard(_) => report(at, Rule::NoVariable),
+        Designated::Module(_) => report(at, Rule::NoVariable),
     }
 }
 
@@ -98,13 +100,13 @@ fn text_argument(t: TypeNo, at: Pos, value: Value) -> Elaborated<Argument>
     match value {
         Value::Text(text) => {
             if !are_same(t, CHAR) {
-                return reported(at, Rule::WrongArgument);
+                return report(at, Rule::WrongArgument);
             }
             Ok(Argument::Text(text))
         }
-        Value::Number(_) => reported(at, Rule::WrongArgument),
-        Value::Scalar(_) => reported(at, Rule::WrongArgument),
-        Value::Set(_) => reported(at, Rule::WrongArgument),
+        Value::Number(_) => report(at, Rule::WrongArgument),
+        Value::Scalar(_) => report(at, Rule::WrongArgument),
+        Value::Set(_) => report(at, Rule::WrongArgument),
     }
 }
 
@@ -113,12 +115,12 @@ fn text_passed(t: TypeNo, at: Pos, value: Computed) -> Elaborated<Argument>
 {
     match value {
         Computed::Constant(value) => text_argument(t, at, value),
-        Computed::Scalar(_, _, _) => reported(at, Rule::WrongArgument),
-        Computed::Set(_) => reported(at, Rule::WrongArgument),
-        Computed::Routine(_, _) => reported(at, Rule::WrongArgument),
-        Computed::Procedure(_) => reported(at, Rule::WrongArgument),
-        Computed::Whole(_, _) => reported(at, Rule::WrongArgument),
-        Computed::Untaken => reported(at, Rule::WrongArgument),
+        Computed::Scalar(_, _, _) => report(at, Rule::WrongArgument),
+        Computed::Set(_) => report(at, Rule::WrongArgument),
+        Computed::Routine(_, _) => report(at, Rule::WrongArgument),
+        Computed::Procedure(_) => report(at, Rule::WrongArgument),
+        Computed::Whole(_, _) => report(at, Rule::WrongArgument),
+        Computed::Untaken => report(at, Rule::WrongArgument),
     }
 }
 
@@ -129,22 +131,22 @@ fn open_value(types: &Types, t: TypeNo, at: Pos, designated: Designated) -> Elab
     match designated {
         Designated::Variable(u, place) => {
             if !elements_suit(types, t, u) {
-                return reported(at, Rule::WrongArgument);
+                return report(at, Rule::WrongArgument);
             }
             Ok(Argument::Array(u, place))
         }
         Designated::Open(u, slot) => {
             if !are_same(u, t) {
-                return reported(at, Rule::WrongArgument);
+                return report(at, Rule::WrongArgument);
             }
             Ok(Argument::Open(slot))
         }
         Designated::Value(value) => text_passed(t, at, value),
-        Designated::Type(_) => reported(at, Rule::WrongType),
-        Designated::Procedure(_) => reported(at, Rule::WrongArgument),
-        Designated::Nested(_) => reported(at, Rule::NoProcedureValue),
-        Designated::Standard(_) => reported(at, Rule::NoProcedureValue),
-        Designated::Module(_) => reported(at, Rule::WrongType),
+        Designated::Type(_) => report(at, Rule::WrongType),
+        Designated::Procedure(_) => report(at, Rule::WrongArgument),
+        Designated::Nested(_) => report(at, Rule::NoProcedureValue),
+        Designated::Standard(_) => report(at, Rule::NoProcedureValue),
+        Designated::Module(_) => report(at, Rule::WrongType),
     }
 }
 
@@ -155,27 +157,27 @@ fn whole_passed(t: TypeNo, at: Pos, designated: Designated) -> Elaborated<Argume
     match designated {
         Designated::Variable(u, place) => {
             if !are_same(u, t) {
-                return reported(at, Rule::WrongArgument);
+                return report(at, Rule::WrongArgument);
             }
             Ok(Argument::Place(place))
         }
         Designated::Value(value) => {
             drop(value);
-            reported(at, Rule::WrongArgument)
+            report(at, Rule::WrongArgument)
         }
-        Designated::Open(_, _) => reported(at, Rule::WrongArgument),
-        Designated::Type(_) => reported(at, Rule::WrongType),
-        Designated::Procedure(_) => reported(at, Rule::WrongArgument),
-        Designated::Nested(_) => reported(at, Rule::NoProcedureValue),
-        Designated::Standard(_) => reported(at, Rule::NoProcedureValue),
-        Designated::Module(_) => reported(at, Rule::WrongType),
+        Designated::Open(_, _) => report(at, Rule::WrongArgument),
+        Designated::Type(_) => report(at, Rule::WrongType),
+        Designated::Procedure(_) => report(at, Rule::WrongArgument),
+        Designated::Nested(_) => report(at, Rule::NoProcedureValue),
+        Designated::Standard(_) => report(at, Rule::NoProcedureValue),
+        Designated::Module(_) => report(at, Rule::WrongType),
     }
 }
 
 fn simple_passed(types: &Types, t: TypeNo, at: Pos, designated: Designated) -> Elaborated<Argument>
     ensures { result ≡ simple_passed least types.now t at designated }
 {
-    match taken(types, at, designated) {
+    match value_at_place(types, at, designated) {
         Err(breach) => Err(breach),
         Ok(value) => match value_suited(Rule::WrongArgument, types, t, at, value) {
             Err(breach) => Err(breach),

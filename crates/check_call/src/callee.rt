@@ -4,10 +4,10 @@ ghost use Rattle.std.specs.Prelude.{◌≡◌};
 ghost use Rattle.std.specs.Option.{option_copied};
 ghost use Rattle.check_scope.specs.Elaborated.{least};
 ghost use Rattle.check_operator.specs.Classes.{class_at};
-ghost use Rattle.check_call.specs.Callees.{held_by, callee_of, counted, function_of, proper_of, call_by};
+ghost use Rattle.check_call.specs.Callees.{callee_in_variable, callee_of, count_check, function_of, proper_of, call_by};
 
 use check_operator::{Class, Designated, class_of};
-use check_scope::{Elaborated, reported};
+use check_scope::{Elaborated, report};
 use m2_rule::Rule;
 use m2_tree::Pos;
 use tree_parts::Items;
@@ -32,14 +32,14 @@ pub enum Called {
     Standard(Standard),
 }
 
-fn held_by(types: &Types, at: Pos, t: TypeNo, place: Place) -> Elaborated<Called>
-    ensures { result ≡ held_by least at t place (class_at types.now t) }
+fn callee_in_variable(types: &Types, at: Pos, t: TypeNo, place: Place) -> Elaborated<Called>
+    ensures { result ≡ callee_in_variable least at t place (class_at types.now t) }
 {
     match class_of(types, t) {
         Class::Procedure => Ok(Called::Routine(t, Callee::Variable(t, place))),
-        Class::Scalar(_) => reported(at, Rule::WrongType),
-        Class::Set => reported(at, Rule::WrongType),
-        Class::Whole => reported(at, Rule::WrongType),
+        Class::Scalar(_) => report(at, Rule::WrongType),
+        Class::Set => report(at, Rule::WrongType),
+        Class::Whole => report(at, Rule::WrongType),
     }
 }
 
@@ -50,23 +50,23 @@ pub fn callee_of(types: &Types, at: Pos, designated: Designated) -> Elaborated<C
     match designated {
         Designated::Procedure(p) => Ok(Called::Routine(p.heading, Callee::Module(p))),
         Designated::Nested(p) => Ok(Called::Routine(p.heading, Callee::Nested(p))),
-        Designated::Variable(t, place) => held_by(types, at, t, place),
+        Designated::Variable(t, place) => callee_in_variable(types, at, t, place),
         Designated::Standard(standard) => Ok(Called::Standard(standard)),
         Designated::Value(value) => {
             drop(value);
-            reported(at, Rule::WrongType)
+            report(at, Rule::WrongType)
         }
-        Designated::Open(_, _) => reported(at, Rule::WrongType),
-        Designated::Type(_) => reported(at, Rule::WrongType),
-        Designated::Module(_) => reported(at, Rule::WrongType),
+        Designated::Open(_, _) => report(at, Rule::WrongType),
+        Designated::Type(_) => report(at, Rule::WrongType),
+        Designated::Module(_) => report(at, Rule::WrongType),
     }
 }
 
-fn counted(at: Pos, asked: usize, there: usize) -> Elaborated<()>
-    ensures { result ≡ counted least at asked there }
+fn count_check(at: Pos, asked: usize, there: usize) -> Elaborated<()>
+    ensures { result ≡ count_check least at asked there }
 {
     if asked != there {
-        return reported(at, Rule::ArgumentCount);
+        return report(at, Rule::ArgumentCount);
     }
     Ok(())
 }
@@ -77,10 +77,10 @@ pub fn function_of(at: Pos, signature: Option<&Signature>, arguments: usize) -> 
     ensures { result ≡ function_of least at (option_copied signature.entry) arguments }
 {
     match signature {
-        None => reported(at, Rule::WrongType),
+        None => report(at, Rule::WrongType),
         Some(signature) => match signature.result {
-            None => reported(at, Rule::WrongType),
-            Some(t) => match counted(at, signature.formals.len(), arguments) {
+            None => report(at, Rule::WrongType),
+            Some(t) => match count_check(at, signature.formals.len(), arguments) {
                 Err(breach) => Err(breach),
                 Ok(()) => Ok(t),
             },
@@ -94,10 +94,10 @@ pub fn proper_of(at: Pos, signature: Option<&Signature>, arguments: usize) -> El
     ensures { result ≡ proper_of least at (option_copied signature.entry) arguments }
 {
     match signature {
-        None => reported(at, Rule::WrongType),
+        None => report(at, Rule::WrongType),
         Some(signature) => match signature.result {
-            Some(_) => reported(at, Rule::WrongType),
-            None => counted(at, signature.formals.len(), arguments),
+            Some(_) => report(at, Rule::WrongType),
+            None => count_check(at, signature.formals.len(), arguments),
         },
     }
 }

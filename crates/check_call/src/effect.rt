@@ -2,11 +2,13 @@
 
 ghost use Rattle.std.specs.Prelude.{◌≡◌};
 ghost use Rattle.check_scope.specs.Elaborated.{least};
-ghost use Rattle.check_call.specs.Effects.{target_of, target_at, stored, assigned_to, assigned, changed_as, changed, set_as, set_variable, untyped, known_amount, amount, element_known, element, change_by, membership_of, put};
+ghost use Rattle.check_call.specs.Effects.{target_of, target_at, store_statement, assignment_to, assignment_of, change_target_as, change_target, set_as, set_variable, type_of_number, known_amount, amount, element_known, element, change_by, membership_of, put};
 
 use check_const_ops::{Ordinal, whole_number};
-use check_operator::{Accepted, Class, Computed, Designated, class_of, suited, value_suited};
-use check_scope::{Elaborated, Sought, both, of_sort, reported};
+use check_operator::{
+    Accepted, Class, Computed, Designated, class_of, value_for_place, value_suited,
+};
+use check_scope::{Elaborated, Sought, both, of_sort, report};
 use m2_rule::Rule;
 use m2_tree::Pos;
 use typed_tree::{
@@ -30,13 +32,13 @@ fn target_of(at: Pos, designated: Designated) -> Elaborated<Target>
         Designated::Open(_, _) => Ok(Target::Open),
         Designated::Value(value) => {
             drop(value);
-            reported(at, Rule::WrongType)
+            report(at, Rule::WrongType)
         }
-        Designated::Type(_) => reported(at, Rule::WrongType),
-        Designated::Procedure(_) => reported(at, Rule::WrongType),
-        Designated::Nested(_) => reported(at, Rule::WrongType),
-        Designated::Standard(_) => reported(at, Rule::WrongType),
-        Designated::Module(_) => reported(at, Rule::WrongType),
+        Designated::Type(_) => report(at, Rule::WrongType),
+        Designated::Procedure(_) => report(at, Rule::WrongType),
+        Designated::Nested(_) => report(at, Rule::WrongType),
+        Designated::Standard(_) => report(at, Rule::WrongType),
+        Designated::Module(_) => report(at, Rule::WrongType),
     }
 }
 
@@ -50,8 +52,8 @@ pub fn target_at(at: Pos, designated: Sought<Designated>) -> Elaborated<Target>
     }
 }
 
-fn stored(t: TypeNo, place: Place, accepted: Accepted) -> TypedStmt
-    ensures { result ≡ stored t place accepted }
+fn store_statement(t: TypeNo, place: Place, accepted: Accepted) -> TypedStmt
+    ensures { result ≡ store_statement t place accepted }
 {
     match accepted {
         Accepted::Value(e) => TypedStmt::Assign(place, t, e),
@@ -60,60 +62,66 @@ fn stored(t: TypeNo, place: Place, accepted: Accepted) -> TypedStmt
     }
 }
 
-fn assigned_to(types: &Types, target: Target, at: Pos, value: Computed) -> Elaborated<TypedStmt>
-    ensures { result ≡ assigned_to least types.now target at value }
+fn assignment_to(types: &Types, target: Target, at: Pos, value: Computed) -> Elaborated<TypedStmt>
+    ensures { result ≡ assignment_to least types.now target at value }
 {
     match target {
-        Target::Open => reported(at, Rule::NotAssignable),
-        Target::Variable(t, place) => match suited(Rule::NotAssignable, types, t, at, value) {
+        Target::Open => report(at, Rule::NotAssignable),
+        Target::Variable(t, place) => match value_for_place(
+            Rule::NotAssignable,
+            types,
+            t,
+            at,
+            value,
+        ) {
             Err(breach) => Err(breach),
-            Ok(accepted) => Ok(stored(t, place, accepted)),
+            Ok(accepted) => Ok(store_statement(t, place, accepted)),
         },
     }
 }
 
 /// An assignment of a value at a place: 41 where it is not assignment compatible, and 52 where a constant is out of range.
-pub fn assigned(
+pub fn assignment_of(
     types: &Types,
     target: Elaborated<Target>,
     at: Pos,
     value: Elaborated<Computed>,
 ) -> Elaborated<TypedStmt>
-    ensures { result ≡ assigned least types.now target at value }
+    ensures { result ≡ assignment_of least types.now target at value }
 {
     match both(target, value) {
         Err(breach) => Err(breach),
-        Ok((target, value)) => assigned_to(types, target, at, value),
+        Ok((target, value)) => assignment_to(types, target, at, value),
     }
 }
 
-fn changed_as(at: Pos, t: TypeNo, place: Place, class: Class) -> Elaborated<(TypeNo, Place)>
-    ensures { result ≡ changed_as least at t place class }
+fn change_target_as(at: Pos, t: TypeNo, place: Place, class: Class) -> Elaborated<(TypeNo, Place)>
+    ensures { result ≡ change_target_as least at t place class }
 {
     match class {
         Class::Scalar(_) => Ok((t, place)),
-        Class::Set => reported(at, Rule::NoVariable),
-        Class::Procedure => reported(at, Rule::NoVariable),
-        Class::Whole => reported(at, Rule::NoVariable),
+        Class::Set => report(at, Rule::NoVariable),
+        Class::Procedure => report(at, Rule::NoVariable),
+        Class::Whole => report(at, Rule::NoVariable),
     }
 }
 
 /// The variable of INC or DEC: 44 where it is no scalar variable.
-pub fn changed(types: &Types, at: Pos, designated: Designated) -> Elaborated<(TypeNo, Place)>
-    ensures { result ≡ changed least types.now at designated }
+pub fn change_target(types: &Types, at: Pos, designated: Designated) -> Elaborated<(TypeNo, Place)>
+    ensures { result ≡ change_target least types.now at designated }
 {
     match designated {
-        Designated::Variable(t, place) => changed_as(at, t, place, class_of(types, t)),
+        Designated::Variable(t, place) => change_target_as(at, t, place, class_of(types, t)),
         Designated::Value(value) => {
             drop(value);
-            reported(at, Rule::NoVariable)
+            report(at, Rule::NoVariable)
         }
-        Designated::Open(_, _) => reported(at, Rule::NoVariable),
-        Designated::Type(_) => reported(at, Rule::NoVariable),
-        Designated::Procedure(_) => reported(at, Rule::NoVariable),
-        Designated::Nested(_) => reported(at, Rule::NoVariable),
-        Designated::Standard(_) => reported(at, Rule::NoVariable),
-        Designated::Module(_) => reported(at, Rule::NoVariable),
+        Designated::Open(_, _) => report(at, Rule::NoVariable),
+        Designated::Type(_) => report(at, Rule::NoVariable),
+        Designated::Procedure(_) => report(at, Rule::NoVariable),
+        Designated::Nested(_) => report(at, Rule::NoVariable),
+        Designated::Standard(_) => report(at, Rule::NoVariable),
+        Designated::Module(_) => report(at, Rule::NoVariable),
     }
 }
 
@@ -122,9 +130,9 @@ fn set_as(at: Pos, place: Place, class: Class) -> Elaborated<Place>
 {
     match class {
         Class::Set => Ok(place),
-        Class::Scalar(_) => reported(at, Rule::NoVariable),
-        Class::Procedure => reported(at, Rule::NoVariable),
-        Class::Whole => reported(at, Rule::NoVariable),
+        Class::Scalar(_) => report(at, Rule::NoVariable),
+        Class::Procedure => report(at, Rule::NoVariable),
+        Class::Whole => report(at, Rule::NoVariable),
     }
 }
 
@@ -136,20 +144,20 @@ pub fn set_variable(types: &Types, at: Pos, designated: Designated) -> Elaborate
         Designated::Variable(t, place) => set_as(at, place, class_of(types, t)),
         Designated::Value(value) => {
             drop(value);
-            reported(at, Rule::NoVariable)
+            report(at, Rule::NoVariable)
         }
-        Designated::Open(_, _) => reported(at, Rule::NoVariable),
-        Designated::Type(_) => reported(at, Rule::NoVariable),
-        Designated::Procedure(_) => reported(at, Rule::NoVariable),
-        Designated::Nested(_) => reported(at, Rule::NoVariable),
-        Designated::Standard(_) => reported(at, Rule::NoVariable),
-        Designated::Module(_) => reported(at, Rule::NoVariable),
+        Designated::Open(_, _) => report(at, Rule::NoVariable),
+        Designated::Type(_) => report(at, Rule::NoVariable),
+        Designated::Procedure(_) => report(at, Rule::NoVariable),
+        Designated::Nested(_) => report(at, Rule::NoVariable),
+        Designated::Standard(_) => report(at, Rule::NoVariable),
+        Designated::Module(_) => report(at, Rule::NoVariable),
     }
 }
 
 /// The type of a number for which nothing is asked.
-pub fn untyped(a: Ordinal) -> TypeNo
-    ensures { result ≡ untyped a.number a.sort }
+pub fn type_of_number(a: Ordinal) -> TypeNo
+    ensures { result ≡ type_of_number a.number a.sort }
 {
     match a.sort {
         Some(t) => t,
@@ -161,8 +169,8 @@ fn known_amount(at: Pos, a: Option<Ordinal>) -> Elaborated<TypedExpr>
     ensures { result ≡ known_amount least at a }
 {
     match a {
-        None => reported(at, Rule::WrongArgument),
-        Some(a) => Ok(TypedExpr::Constant(untyped(a), a.number)),
+        None => report(at, Rule::WrongArgument),
+        Some(a) => Ok(TypedExpr::Constant(type_of_number(a), a.number)),
     }
 }
 
@@ -174,15 +182,15 @@ pub fn amount(at: Pos, value: Computed) -> Elaborated<TypedExpr>
         Computed::Constant(value) => known_amount(at, whole_number(&value)),
         Computed::Scalar(_, base, e) => {
             if !is_numeric(base) {
-                return reported(at, Rule::WrongArgument);
+                return report(at, Rule::WrongArgument);
             }
             Ok(e)
         }
-        Computed::Set(_) => reported(at, Rule::WrongArgument),
-        Computed::Routine(_, _) => reported(at, Rule::WrongArgument),
-        Computed::Procedure(_) => reported(at, Rule::WrongArgument),
-        Computed::Whole(_, _) => reported(at, Rule::WrongArgument),
-        Computed::Untaken => reported(at, Rule::WrongArgument),
+        Computed::Set(_) => report(at, Rule::WrongArgument),
+        Computed::Routine(_, _) => report(at, Rule::WrongArgument),
+        Computed::Procedure(_) => report(at, Rule::WrongArgument),
+        Computed::Whole(_, _) => report(at, Rule::WrongArgument),
+        Computed::Untaken => report(at, Rule::WrongArgument),
     }
 }
 
@@ -190,12 +198,12 @@ fn element_known(at: Pos, a: Option<Ordinal>) -> Elaborated<TypedExpr>
     ensures { result ≡ element_known least at a }
 {
     match a {
-        None => reported(at, Rule::WrongArgument),
+        None => report(at, Rule::WrongArgument),
         Some(a) => {
             if !(0 <= a.number && a.number <= 31) {
-                return reported(at, Rule::OutOfRange);
+                return report(at, Rule::OutOfRange);
             }
-            Ok(TypedExpr::Constant(untyped(a), a.number))
+            Ok(TypedExpr::Constant(type_of_number(a), a.number))
         }
     }
 }
@@ -208,15 +216,15 @@ pub fn element(at: Pos, value: Computed) -> Elaborated<TypedExpr>
         Computed::Constant(value) => element_known(at, whole_number(&value)),
         Computed::Scalar(_, base, e) => {
             if !is_numeric(base) {
-                return reported(at, Rule::WrongArgument);
+                return report(at, Rule::WrongArgument);
             }
             Ok(e)
         }
-        Computed::Set(_) => reported(at, Rule::WrongArgument),
-        Computed::Routine(_, _) => reported(at, Rule::WrongArgument),
-        Computed::Procedure(_) => reported(at, Rule::WrongArgument),
-        Computed::Whole(_, _) => reported(at, Rule::WrongArgument),
-        Computed::Untaken => reported(at, Rule::WrongArgument),
+        Computed::Set(_) => report(at, Rule::WrongArgument),
+        Computed::Routine(_, _) => report(at, Rule::WrongArgument),
+        Computed::Procedure(_) => report(at, Rule::WrongArgument),
+        Computed::Whole(_, _) => report(at, Rule::WrongArgument),
+        Computed::Untaken => report(at, Rule::WrongArgument),
     }
 }
 

@@ -5,9 +5,9 @@ ghost use Rattle.check_scope.specs.Elaborated.{least};
 ghost use Rattle.check_call.specs.Functions.{form_of, unary_takes, unary_built, unary_scalar, unary_at, type_named, bound_at, converted_scalar, converted_value, conversion_at, high_of};
 
 use check_const::{bound_by, scalar_type, unary_of};
-use check_const_ops::converted;
+use check_const_ops::conversion_of;
 use check_operator::{Computed, Designated, of_value};
-use check_scope::{Elaborated, both, reported};
+use check_scope::{Elaborated, both, report};
 use m2_rule::Rule;
 use m2_tree::Pos;
 use std::alloc::{AllocError, Global};
@@ -96,7 +96,7 @@ fn unary_scalar(
     ensures { IfOk result (λ v. v ≡ unary_scalar least function at base e) }
 {
     if !unary_takes(function, base) {
-        return Ok(reported(at, Rule::WrongArgument));
+        return Ok(report(at, Rule::WrongArgument));
     }
     Ok(Ok(unary_built(function, base, Boxed::new(alloc, e)?)))
 }
@@ -115,11 +115,11 @@ pub fn unary_at(
     match value {
         Computed::Constant(value) => Ok(of_value(unary_of(standard, at, &value))),
         Computed::Scalar(_, base, e) => unary_scalar(alloc, function, at, base, e),
-        Computed::Set(_) => Ok(reported(at, Rule::WrongArgument)),
-        Computed::Routine(_, _) => Ok(reported(at, Rule::WrongArgument)),
-        Computed::Procedure(_) => Ok(reported(at, Rule::WrongArgument)),
-        Computed::Whole(_, _) => Ok(reported(at, Rule::WrongArgument)),
-        Computed::Untaken => Ok(reported(at, Rule::WrongArgument)),
+        Computed::Set(_) => Ok(report(at, Rule::WrongArgument)),
+        Computed::Routine(_, _) => Ok(report(at, Rule::WrongArgument)),
+        Computed::Procedure(_) => Ok(report(at, Rule::WrongArgument)),
+        Computed::Whole(_, _) => Ok(report(at, Rule::WrongArgument)),
+        Computed::Untaken => Ok(report(at, Rule::WrongArgument)),
     }
 }
 
@@ -131,14 +131,14 @@ pub fn type_named(types: &Types, at: Pos, designated: Designated) -> Elaborated<
         Designated::Type(t) => scalar_type(at, t, scalar_of(types, t)),
         Designated::Value(value) => {
             drop(value);
-            reported(at, Rule::NoType)
+            report(at, Rule::NoType)
         }
-        Designated::Variable(_, _) => reported(at, Rule::NoType),
-        Designated::Open(_, _) => reported(at, Rule::NoType),
-        Designated::Procedure(_) => reported(at, Rule::NoType),
-        Designated::Nested(_) => reported(at, Rule::NoType),
-        Designated::Standard(_) => reported(at, Rule::NoType),
-        Designated::Module(_) => reported(at, Rule::NoType),
+        Designated::Variable(_, _) => report(at, Rule::NoType),
+        Designated::Open(_, _) => report(at, Rule::NoType),
+        Designated::Procedure(_) => report(at, Rule::NoType),
+        Designated::Nested(_) => report(at, Rule::NoType),
+        Designated::Standard(_) => report(at, Rule::NoType),
+        Designated::Module(_) => report(at, Rule::NoType),
     }
 }
 
@@ -163,7 +163,7 @@ fn converted_scalar(
     ensures { IfOk result (λ v. v ≡ converted_scalar least t to at base e) }
 {
     if !is_numeric(base) {
-        return Ok(reported(at, Rule::WrongArgument));
+        return Ok(report(at, Rule::WrongArgument));
     }
     let operand = Boxed::new(alloc, e)?;
     Ok(Ok(Computed::Scalar(t, to.base, TypedExpr::Val(t, operand))))
@@ -179,13 +179,13 @@ fn converted_value(
     ensures { IfOk result (λ v. v ≡ converted_value least t to at value) }
 {
     match value {
-        Computed::Constant(value) => Ok(of_value(converted(t, to, at, &value))),
+        Computed::Constant(value) => Ok(of_value(conversion_of(t, to, at, &value))),
         Computed::Scalar(_, base, e) => converted_scalar(alloc, t, to, at, base, e),
-        Computed::Set(_) => Ok(reported(at, Rule::WrongArgument)),
-        Computed::Routine(_, _) => Ok(reported(at, Rule::WrongArgument)),
-        Computed::Procedure(_) => Ok(reported(at, Rule::WrongArgument)),
-        Computed::Whole(_, _) => Ok(reported(at, Rule::WrongArgument)),
-        Computed::Untaken => Ok(reported(at, Rule::WrongArgument)),
+        Computed::Set(_) => Ok(report(at, Rule::WrongArgument)),
+        Computed::Routine(_, _) => Ok(report(at, Rule::WrongArgument)),
+        Computed::Procedure(_) => Ok(report(at, Rule::WrongArgument)),
+        Computed::Whole(_, _) => Ok(report(at, Rule::WrongArgument)),
+        Computed::Untaken => Ok(report(at, Rule::WrongArgument)),
     }
 }
 
@@ -215,13 +215,13 @@ pub fn high_of(at: Pos, designated: Designated) -> Elaborated<Computed>
         }
         Designated::Value(value) => {
             drop(value);
-            reported(at, Rule::WrongArgument)
+            report(at, Rule::WrongArgument)
         }
-        Designated::Variable(_, _) => reported(at, Rule::WrongArgument),
-        Designated::Type(_) => reported(at, Rule::WrongType),
-        Designated::Procedure(_) => reported(at, Rule::WrongArgument),
-        Designated::Nested(_) => reported(at, Rule::NoProcedureValue),
-        Designated::Standard(_) => reported(at, Rule::NoProcedureValue),
-        Designated::Module(_) => reported(at, Rule::WrongType),
+        Designated::Variable(_, _) => report(at, Rule::WrongArgument),
+        Designated::Type(_) => report(at, Rule::WrongType),
+        Designated::Procedure(_) => report(at, Rule::WrongArgument),
+        Designated::Nested(_) => report(at, Rule::NoProcedureValue),
+        Designated::Standard(_) => report(at, Rule::NoProcedureValue),
+        Designated::Module(_) => report(at, Rule::WrongType),
     }
 }

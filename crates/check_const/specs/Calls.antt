@@ -9,8 +9,8 @@ use Rattle.typed_tree.specs.declared.meaning.Standard.{Standard}
 use Rattle.typed_tree.specs.declared.meaning.Standard.TheVariants.{Abs, Cap, Chr, High, Max, Min, Odd, Ord, Val, Inc, Dec, Incl, Excl, Halt, Put}
 use Rattle.typed_tree.specs.declared.known_types.Types.{Types}
 use Rattle.typed_tree.specs.Known.{scalar_at}
-use Rattle.check_scope.specs.Elaborated.{Gathers, reported, both, ◌▷◌}
-use Rattle.check_const_ops.specs.Standards.{absolute, capital, character, is_odd, ordinal_of, bound_of, converted}
+use Rattle.check_scope.specs.Elaborated.{Gathers, report, both, ◌▷◌}
+use Rattle.check_const_ops.specs.Standards.{absolute, capital, character, is_odd, ordinal_of, bound_of, conversion_of}
 use Rattle.check_const.specs.declared.denoted.Denoted.{Denoted}
 use Rattle.check_const.specs.declared.denoted.Denoted.TheVariants as denoted
 use Rattle.check_const.specs.declared.call.Sort.{Sort}
@@ -37,7 +37,7 @@ sort_of Put = Never
 
 abbrev pub scalar_type : (g : Gathers) → Pos → TypeNo → Option Scalar
     → Result (TypeNo × Scalar) g.Reported
-scalar_type g at t None = reported g at rule.NoType
+scalar_type g at t None = report g at rule.NoType
 scalar_type g at t (Some s) = Ok (t, s)
 
 -- the type that stands there, if it is one
@@ -51,7 +51,7 @@ type_in (denoted.Module k) = None
 
 abbrev pub named_scalar : (g : Gathers) → Types → Pos → Option TypeNo
     → Result (TypeNo × Scalar) g.Reported
-named_scalar g types at None = reported g at rule.NoType
+named_scalar g types at None = report g at rule.NoType
 named_scalar g types at (Some t) = scalar_type g at t (scalar_at types t)
 
 abbrev pub type_argument : (g : Gathers) → Types → Pos → Result (Option TypeNo) g.Reported
@@ -64,18 +64,18 @@ abbrev pub unary_of : (g : Gathers) → Standard → Pos → Value → Result Va
 unary_of g Abs at v = absolute g at v
 unary_of g Cap at v = capital g at v
 unary_of g Chr at v = character g at v
-unary_of g High at v = reported g at rule.NoConstant
-unary_of g Max at v = reported g at rule.NoConstant
-unary_of g Min at v = reported g at rule.NoConstant
+unary_of g High at v = report g at rule.NoConstant
+unary_of g Max at v = report g at rule.NoConstant
+unary_of g Min at v = report g at rule.NoConstant
 unary_of g Odd at v = is_odd g at v
 unary_of g Ord at v = ordinal_of g at v
-unary_of g Val at v = reported g at rule.NoConstant
-unary_of g Inc at v = reported g at rule.NoConstant
-unary_of g Dec at v = reported g at rule.NoConstant
-unary_of g Incl at v = reported g at rule.NoConstant
-unary_of g Excl at v = reported g at rule.NoConstant
-unary_of g Halt at v = reported g at rule.NoConstant
-unary_of g Put at v = reported g at rule.NoConstant
+unary_of g Val at v = report g at rule.NoConstant
+unary_of g Inc at v = report g at rule.NoConstant
+unary_of g Dec at v = report g at rule.NoConstant
+unary_of g Incl at v = report g at rule.NoConstant
+unary_of g Excl at v = report g at rule.NoConstant
+unary_of g Halt at v = report g at rule.NoConstant
+unary_of g Put at v = report g at rule.NoConstant
 
 abbrev pub unary : (g : Gathers) → Standard → Result (Pos × Value) g.Reported
     → Result Value g.Reported
@@ -101,6 +101,6 @@ bound_by Put t s = bound_of t s s.high
 abbrev pub bound : {T : Type 0} → Standard → Result (TypeNo × Scalar) T → Result Value T
 bound f x = x ▷ λ p. Ok (bound_by f p.0 p.1)
 
-abbrev pub converted_by : (g : Gathers) → Result (TypeNo × Scalar) g.Reported → Pos
+abbrev pub conversion_call : (g : Gathers) → Result (TypeNo × Scalar) g.Reported → Pos
     → Result Value g.Reported → Result Value g.Reported
-converted_by g to at v = both g to v ▷ λ p. converted g p.0.0 p.0.1 at p.1
+conversion_call g to at v = both g to v ▷ λ p. conversion_of g p.0.0 p.0.1 at p.1

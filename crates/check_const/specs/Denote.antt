@@ -9,10 +9,10 @@ use Rattle.typed_tree.specs.declared.meaning.Meaning.{Meaning}
 use Rattle.typed_tree.specs.declared.meaning.Meaning.TheVariants as meaning
 use Rattle.typed_tree.specs.declared.table.Table.{Table}
 use Rattle.typed_tree.specs.Types.{are_same, bitset}
-use Rattle.typed_tree.specs.Names.{found}
+use Rattle.typed_tree.specs.Names.{find_name}
 use Rattle.check_scope.specs.declared.meaningless.Meaningless.{Meaningless}
 use Rattle.check_scope.specs.declared.meaningless.Meaningless.TheVariants.{Broken, Headless}
-use Rattle.check_scope.specs.Elaborated.{Gathers, reported, reported_where, ◌▷◌}
+use Rattle.check_scope.specs.Elaborated.{Gathers, report, reported_where, ◌▷◌}
 use Rattle.check_const.specs.declared.denoted.Denoted.{Denoted}
 use Rattle.check_const.specs.declared.denoted.Denoted.TheVariants as denoted
 
@@ -38,11 +38,11 @@ denoted_of (Err (Headless e)) = Ok denoted.Procedure
 
 abbrev pub as_constant : (g : Gathers) → Pos → Denoted → Result Value g.Reported
 as_constant g at (denoted.Value v) = Ok v
-as_constant g at (denoted.Type t) = reported g at rule.NoConstant
-as_constant g at denoted.Variable = reported g at rule.NoConstant
-as_constant g at denoted.Procedure = reported g at rule.NoConstant
-as_constant g at (denoted.Standard f) = reported g at rule.NoConstant
-as_constant g at (denoted.Module k) = reported g at rule.NoConstant
+as_constant g at (denoted.Type t) = report g at rule.NoConstant
+as_constant g at denoted.Variable = report g at rule.NoConstant
+as_constant g at denoted.Procedure = report g at rule.NoConstant
+as_constant g at (denoted.Standard f) = report g at rule.NoConstant
+as_constant g at (denoted.Module k) = report g at rule.NoConstant
 
 abbrev pub constant_by : (g : Gathers) → Pos → Result Denoted g.Reported → Result Value g.Reported
 constant_by g at d = d ▷ as_constant g at
@@ -53,34 +53,34 @@ of_value v = v ▷ λ x. Ok (denoted.Value x)
 abbrev pub is_bitset : (g : Gathers) → Pos → Meaning → Result (Unit {0}) g.Reported
 is_bitset g at (meaning.Type t n) =
     reported_where g (not (are_same t bitset)) at rule.NoType (Ok tt)
-is_bitset g at (meaning.Constant v) = reported g at rule.NoType
-is_bitset g at (meaning.Variable v) = reported g at rule.NoType
-is_bitset g at (meaning.Local v) = reported g at rule.NoType
-is_bitset g at (meaning.Field f) = reported g at rule.NoType
-is_bitset g at (meaning.Procedure p) = reported g at rule.NoType
-is_bitset g at (meaning.LocalProcedure p) = reported g at rule.NoType
-is_bitset g at meaning.Ahead = reported g at rule.NoType
-is_bitset g at (meaning.Standard f) = reported g at rule.NoType
-is_bitset g at (meaning.Module k) = reported g at rule.NoType
+is_bitset g at (meaning.Constant v) = report g at rule.NoType
+is_bitset g at (meaning.Variable v) = report g at rule.NoType
+is_bitset g at (meaning.Local v) = report g at rule.NoType
+is_bitset g at (meaning.Field f) = report g at rule.NoType
+is_bitset g at (meaning.Procedure p) = report g at rule.NoType
+is_bitset g at (meaning.LocalProcedure p) = report g at rule.NoType
+is_bitset g at meaning.Ahead = report g at rule.NoType
+is_bitset g at (meaning.Standard f) = report g at rule.NoType
+is_bitset g at (meaning.Module k) = report g at rule.NoType
 
 -- ---- components, and names of modules
 
 -- Constants and modules have no components. A type or a procedure with selectors is no constant.
 abbrev pub component : (g : Gathers) → Pos → Denoted → Result Denoted g.Reported
 component g at denoted.Variable = Ok denoted.Variable
-component g at (denoted.Value v) = reported g at rule.WrongType
+component g at (denoted.Value v) = report g at rule.WrongType
 component g at (denoted.Type t) = Ok denoted.Variable
 component g at denoted.Procedure = Ok denoted.Variable
 component g at (denoted.Standard f) = Ok denoted.Variable
-component g at (denoted.Module k) = reported g at rule.WrongType
+component g at (denoted.Module k) = report g at rule.WrongType
 
 abbrev pub exported_by : List ℕ → Option Table → Option Meaning
 exported_by name None = None
-exported_by name (Some table) = found name table.exported
+exported_by name (Some table) = find_name name table.exported
 
-abbrev pub exported : (g : Gathers) → Pos → Option Meaning → Result Meaning g.Reported
-exported g at None = reported g at rule.NotExported
-exported g at (Some m) = Ok m
+abbrev pub export_of : (g : Gathers) → Pos → Option Meaning → Result Meaning g.Reported
+export_of g at None = report g at rule.NotExported
+export_of g at (Some m) = Ok m
 
 abbrev pub member : (g : Gathers) → List Table → ℕ → Ident → Result Meaning g.Reported
-member g tables k name = exported g name.pos (exported_by name.name (slice_get tables k))
+member g tables k name = export_of g name.pos (exported_by name.name (slice_get tables k))

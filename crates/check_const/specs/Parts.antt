@@ -19,21 +19,21 @@ use Rattle.typed_tree.specs.declared.meaning.Value.{Value}
 use Rattle.typed_tree.specs.declared.meaning.Value.TheVariants as value
 use Rattle.typed_tree.specs.declared.meaning.Standard.{Standard}
 use Rattle.typed_tree.specs.Types.{char}
-use Rattle.check_scope.specs.Elaborated.{Gathers, reported, both, of_sort, ◌▷◌}
+use Rattle.check_scope.specs.Elaborated.{Gathers, report, both, of_sort, ◌▷◌}
 use Rattle.check_scope.specs.declared.scope.Scope.{Scope}
 use Rattle.check_scope.specs.Scopes.{looked_up}
 use Rattle.check_const_ops.specs.declared.operand.Ordinal.{Ordinal}
 use Rattle.check_const_ops.specs.declared.operator.BinaryOp.TheVariants as op
 use Rattle.check_const_ops.specs.Operators.{mul_op, add_op}
-use Rattle.check_const_ops.specs.Operands.{valued}
-use Rattle.check_const_ops.specs.Operate.{combined, signed, negated}
-use Rattle.check_const_ops.specs.Sets.{element, single, spanned}
+use Rattle.check_const_ops.specs.Operands.{number_value}
+use Rattle.check_const_ops.specs.Operate.{constant_operation, with_sign, negation}
+use Rattle.check_const_ops.specs.Sets.{element, single, span_of}
 use Rattle.check_const.specs.declared.denoted.Denoted.{Denoted}
 use Rattle.check_const.specs.declared.denoted.Denoted.TheVariants as denoted
 use Rattle.check_const.specs.declared.call.Sort.{Sort}
 use Rattle.check_const.specs.declared.call.Sort.TheVariants.{Unary, Bound, Conversion, Never}
 use Rattle.check_const.specs.Denote.{denoted_by, denoted_of, constant_by, of_value, is_bitset, component, member}
-use Rattle.check_const.specs.Calls.{sort_of, type_in, type_argument, unary, bound, converted_by}
+use Rattle.check_const.specs.Calls.{sort_of, type_in, type_argument, unary, bound, conversion_call}
 
 -- an expression or a designator: the place of its first token, what it stands for in a scope, and
 -- the type that it names there, if it names one
@@ -85,7 +85,7 @@ joined_bits g so more = both g so more ▷ λ p. Ok (bit_or p.0 p.1)
 abbrev pub signed_first : (g : Gathers) → Option (Operator Sign) → Result Value g.Reported
     → Result Value g.Reported
 signed_first g None v = v
-signed_first g (Some o) v = signed g o.op o.pos v
+signed_first g (Some o) v = with_sign g o.op o.pos v
 
 abbrev pub set_type : (g : Gathers) → Scope g.Reported → Option Ident → Result (Unit {0}) g.Reported
 set_type g s None = Ok tt
@@ -96,14 +96,14 @@ abbrev pub set_of : (g : Gathers) → Result (Unit {0}) g.Reported → Result �
     → Result Denoted g.Reported
 set_of g t bits = both g t bits ▷ λ p. Ok (denoted.Value (value.Set p.1))
 
-abbrev pub related : (g : Gathers) → Operator RelOp → Pos → Result Value g.Reported → Pos
+abbrev pub relation_value : (g : Gathers) → Operator RelOp → Pos → Result Value g.Reported → Pos
     → Result Value g.Reported → Result Denoted g.Reported
-related g o at a at' b = of_value (combined g (op.Relation o.op) o.pos at a at' b)
+relation_value g o at a at' b = of_value (constant_operation g (op.Relation o.op) o.pos at a at' b)
 
 -- ---- designators
 
-abbrev pub named : (g : Gathers) → Scope g.Reported → Ident → Result Denoted g.Reported
-named g s name = denoted_of (looked_up g s name)
+abbrev pub first_name : (g : Gathers) → Scope g.Reported → Ident → Result Denoted g.Reported
+first_name g s name = denoted_of (looked_up g s name)
 
 abbrev pub member_of : (g : Gathers) → Scope g.Reported → ℕ → Ident → Result Denoted g.Reported
 member_of g s k name = member g s.tables k name ▷ λ m. Ok (denoted_by m)
@@ -125,64 +125,64 @@ module _ (g : Gathers) where
   -- ---- calls
 
   abbrev pub one : Scope g.Reported → Pos → List (Part g.Reported) → Result (Pos × Value) g.Reported
-  one s at [] = reported g at rule.ArgumentCount
+  one s at [] = report g at rule.ArgumentCount
   one s at (x ∷ []) = value_at x.at (constant s x)
-  one s at (x ∷ y ∷ xs) = reported g at rule.ArgumentCount
+  one s at (x ∷ y ∷ xs) = report g at rule.ArgumentCount
 
   abbrev pub type_only : Scope g.Reported → Pos → List (Part g.Reported)
       → Result (TypeNo × Scalar) g.Reported
-  type_only s at [] = reported g at rule.ArgumentCount
+  type_only s at [] = report g at rule.ArgumentCount
   type_only s at (x ∷ []) = type_argument g s.types x.at (x.names s)
-  type_only s at (x ∷ y ∷ xs) = reported g at rule.ArgumentCount
+  type_only s at (x ∷ y ∷ xs) = report g at rule.ArgumentCount
 
   abbrev pub conversion : Scope g.Reported → Pos → List (Part g.Reported) → Result Value g.Reported
-  conversion s at [] = reported g at rule.ArgumentCount
-  conversion s at (t ∷ []) = reported g at rule.ArgumentCount
+  conversion s at [] = report g at rule.ArgumentCount
+  conversion s at (t ∷ []) = report g at rule.ArgumentCount
   conversion s at (t ∷ x ∷ []) =
-      converted_by g (type_argument g s.types t.at (t.names s)) x.at (constant s x)
-  conversion s at (t ∷ x ∷ y ∷ xs) = reported g at rule.ArgumentCount
+      conversion_call g (type_argument g s.types t.at (t.names s)) x.at (constant s x)
+  conversion s at (t ∷ x ∷ y ∷ xs) = report g at rule.ArgumentCount
 
   abbrev pub by_sort : Scope g.Reported → Pos → Standard → List (Part g.Reported) → Sort
       → Result Value g.Reported
   by_sort s at f args Unary = unary g f (one s at args)
   by_sort s at f args Bound = bound f (type_only s at args)
   by_sort s at f args Conversion = conversion s at args
-  by_sort s at f args Never = reported g at rule.NoConstant
+  by_sort s at f args Never = report g at rule.NoConstant
 
-  abbrev pub called_as : Scope g.Reported → Pos → Denoted → List (Part g.Reported)
+  abbrev pub standard_call_value : Scope g.Reported → Pos → Denoted → List (Part g.Reported)
       → Result Value g.Reported
-  called_as s at (denoted.Standard f) args = by_sort s at f args (sort_of f)
-  called_as s at (denoted.Value v) args = reported g at rule.NoConstant
-  called_as s at (denoted.Type t) args = reported g at rule.NoConstant
-  called_as s at denoted.Variable args = reported g at rule.NoConstant
-  called_as s at denoted.Procedure args = reported g at rule.NoConstant
-  called_as s at (denoted.Module k) args = reported g at rule.NoConstant
+  standard_call_value s at (denoted.Standard f) args = by_sort s at f args (sort_of f)
+  standard_call_value s at (denoted.Value v) args = report g at rule.NoConstant
+  standard_call_value s at (denoted.Type t) args = report g at rule.NoConstant
+  standard_call_value s at denoted.Variable args = report g at rule.NoConstant
+  standard_call_value s at denoted.Procedure args = report g at rule.NoConstant
+  standard_call_value s at (denoted.Module k) args = report g at rule.NoConstant
 
-  abbrev pub called : Scope g.Reported → Pos → Result Denoted g.Reported → List (Part g.Reported)
+  abbrev pub call_value : Scope g.Reported → Pos → Result Denoted g.Reported → List (Part g.Reported)
       → Result Value g.Reported
-  called s at d args = d ▷ λ x. called_as s at x args
+  call_value s at d args = d ▷ λ x. standard_call_value s at x args
 
   abbrev pub used_with : Part g.Reported → Option (List (Part g.Reported)) → Part g.Reported
   used_with d None = d
-  used_with d (Some args) = standing d.at (λ s. of_value (called s d.at (d.denotes s) args))
+  used_with d (Some args) = standing d.at (λ s. of_value (call_value s d.at (d.denotes s) args))
 
   -- ---- operators
 
   abbrev pub factor : Scope g.Reported → Pos → Result Value g.Reported
       → Operator MulOp × Part g.Reported → Result Value g.Reported
-  factor s at left x = combined g (mul_op x.0.op) x.0.pos at left x.1.at (constant s x.1)
+  factor s at left x = constant_operation g (mul_op x.0.op) x.0.pos at left x.1.at (constant s x.1)
 
   abbrev pub term : Scope g.Reported → Pos → Result Value g.Reported
       → Operator AddOp × Part g.Reported → Result Value g.Reported
-  term s at left x = combined g (add_op x.0.op) x.0.pos at left x.1.at (constant s x.1)
+  term s at left x = constant_operation g (add_op x.0.op) x.0.pos at left x.1.at (constant s x.1)
 
   -- ---- elements
 
-  abbrev pub added : Scope g.Reported → Part g.Reported → Option (Part g.Reported)
+  abbrev pub element_or_range : Scope g.Reported → Part g.Reported → Option (Part g.Reported)
       → Result ℕ g.Reported
-  added s low None = single_of g low.at (constant s low)
-  added s low (Some high) =
-      spanned g low.at (element_of g low.at (constant s low)) high.at
+  element_or_range s low None = single_of g low.at (constant s low)
+  element_or_range s low (Some high) =
+      span_of g low.at (element_of g low.at (constant s low)) high.at
       (element_of g high.at (constant s high))
 
   abbrev pub with_item : Scope g.Reported → Result ℕ g.Reported → Adds g.Reported
@@ -195,12 +195,12 @@ module _ (g : Gathers) where
       Expr-F (Part g.Reported) (Pick g.Reported) (Part g.Reported) (Adds g.Reported)
       → Part g.Reported
   expr_layer (layer.Number at n) = standing at (λ s. Ok (denoted.Value (value.Number (pos n))))
-  expr_layer (layer.Char at c) = standing at (λ s. Ok (denoted.Value (valued (Some char) (pos c))))
+  expr_layer (layer.Char at c) = standing at (λ s. Ok (denoted.Value (number_value (Some char) (pos c))))
   expr_layer (layer.Text at t) = standing at (λ s. Ok (denoted.Value (value.Text t)))
   expr_layer (layer.Set name at items) =
       standing (set_place name at) (λ s.
       set_of g (set_type g s name) (fold (with_item s) (Ok 0) items))
-  expr_layer (layer.Not at e) = standing at (λ s. of_value (negated g at (constant s e)))
+  expr_layer (layer.Not at e) = standing at (λ s. of_value (negation g at (constant s e)))
   expr_layer (layer.Bracketed at e) = standing at (λ s. of_value (constant s e))
   expr_layer (layer.Use d args) = used_with d args
   expr_layer (layer.Term e rest) =
@@ -209,7 +209,7 @@ module _ (g : Gathers) where
       standing (sign_place sign e.at) (λ s.
       of_value (fold (term s (sign_place sign e.at)) (signed_first g sign (constant s e)) rest))
   expr_layer (layer.Relation a o b) =
-      standing a.at (λ s. related g o a.at (constant s a) b.at (constant s b))
+      standing a.at (λ s. relation_value g o a.at (constant s a) b.at (constant s b))
 
   abbrev pub selector_layer :
       Selector-F (Part g.Reported) (Pick g.Reported) (Part g.Reported) (Adds g.Reported)
@@ -218,10 +218,10 @@ module _ (g : Gathers) where
   selector_layer (layer.Index at index) = λ s d. d ▷ component g at
 
   -- what a name with selectors stands for
-  abbrev pub picked : Scope g.Reported → Ident → List (Pick g.Reported) → Result Denoted g.Reported
-  picked s name picks = fold (λ x p. p s x) (named g s name) picks
+  abbrev pub selection : Scope g.Reported → Ident → List (Pick g.Reported) → Result Denoted g.Reported
+  selection s name picks = fold (λ x p. p s x) (first_name g s name) picks
 
   abbrev pub item_layer :
       Item-F (Part g.Reported) (Pick g.Reported) (Part g.Reported) (Adds g.Reported)
       → Adds g.Reported
-  item_layer i = λ s. added s i.low i.high
+  item_layer i = λ s. element_or_range s i.low i.high

@@ -2,11 +2,11 @@
 
 ghost use Rattle.std.specs.Prelude.{◌≡◌};
 ghost use Rattle.check_scope.specs.Elaborated.{least, ◌▷◌};
-ghost use Rattle.check_const.specs.Calls.{sort_of, scalar_type, type_in, named_scalar, type_argument, unary_of, unary, bound_by, bound, converted_by};
+ghost use Rattle.check_const.specs.Calls.{sort_of, scalar_type, type_in, named_scalar, type_argument, unary_of, unary, bound_by, bound, conversion_call};
 
 use crate::denoted::Denoted;
-use check_const_ops::{absolute, bound_of, capital, character, converted, is_odd, ordinal_of};
-use check_scope::{Elaborated, both, reported};
+use check_const_ops::{absolute, bound_of, capital, character, conversion_of, is_odd, ordinal_of};
+use check_scope::{Elaborated, both, report};
 use m2_rule::Rule;
 use m2_tree::Pos;
 use typed_tree::{Scalar, Standard, TypeNo, Types, Value, scalar_of};
@@ -49,7 +49,7 @@ pub fn scalar_type(at: Pos, t: TypeNo, scalar: Option<Scalar>) -> Elaborated<(Ty
     ensures { result ≡ scalar_type least at t scalar }
 {
     match scalar {
-        None => reported(at, Rule::NoType),
+        None => report(at, Rule::NoType),
         Some(scalar) => Ok((t, scalar)),
     }
 }
@@ -72,7 +72,7 @@ fn named_scalar(types: &Types, at: Pos, named: Option<TypeNo>) -> Elaborated<(Ty
     ensures { result ≡ named_scalar least types.now at named }
 {
     match named {
-        None => reported(at, Rule::NoType),
+        None => report(at, Rule::NoType),
         Some(t) => scalar_type(at, t, scalar_of(types, t)),
     }
 }
@@ -110,7 +110,7 @@ pub fn unary_of(standard: Standard, at: Pos, value: &Value) -> Elaborated<Value>
         | Standard::Incl
         | Standard::Excl
         | Standard::Halt
-        | Standard::Put => reported(at, Rule::NoConstant),
+        | Standard::Put => report(at, Rule::NoConstant),
     }
 }
 
@@ -158,15 +158,15 @@ pub fn bound(standard: Standard, argument: Elaborated<(TypeNo, Scalar)>) -> Elab
 }
 
 /// VAL of a type and of what stands at a place.
-pub fn converted_by(
+pub fn conversion_call(
     to: Elaborated<(TypeNo, Scalar)>,
     at: Pos,
     value: Elaborated<Value>,
 ) -> Elaborated<Value>
-    ensures { result ≡ converted_by least to at value }
+    ensures { result ≡ conversion_call least to at value }
 {
     match both(to, value) {
         Err(breach) => Err(breach),
-        Ok(((t, scalar), value)) => converted(t, scalar, at, &value),
+        Ok(((t, scalar), value)) => conversion_of(t, scalar, at, &value),
     }
 }

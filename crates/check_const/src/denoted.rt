@@ -4,7 +4,7 @@ ghost use Rattle.std.specs.Prelude.{◌≡◌};
 ghost use Rattle.check_scope.specs.Elaborated.{least, ◌▷◌};
 ghost use Rattle.check_const.specs.Denote.{denoted_by, denoted_of, as_constant, constant_by, is_bitset, component, of_value};
 
-use check_scope::{Elaborated, Meaningless, Sought, reported};
+use check_scope::{Elaborated, Meaningless, Sought, report};
 use m2_rule::Rule;
 use m2_tree::Pos;
 use typed_tree::{BITSET, Meaning, Standard, TypeNo, Value, are_same};
@@ -56,11 +56,11 @@ fn as_constant(at: Pos, denoted: Denoted) -> Elaborated<Value>
 {
     match denoted {
         Denoted::Value(value) => Ok(value),
-        Denoted::Type(_) => reported(at, Rule::NoConstant),
-        Denoted::Variable => reported(at, Rule::NoConstant),
-        Denoted::Procedure => reported(at, Rule::NoConstant),
-        Denoted::Standard(_) => reported(at, Rule::NoConstant),
-        Denoted::Module(_) => reported(at, Rule::NoConstant),
+        Denoted::Type(_) => report(at, Rule::NoConstant),
+        Denoted::Variable => report(at, Rule::NoConstant),
+        Denoted::Procedure => report(at, Rule::NoConstant),
+        Denoted::Standard(_) => report(at, Rule::NoConstant),
+        Denoted::Module(_) => report(at, Rule::NoConstant),
     }
 }
 
@@ -91,19 +91,19 @@ pub fn is_bitset(at: Pos, meaning: Meaning) -> Elaborated<()>
     match meaning {
         Meaning::Type(t, _) => {
             if !are_same(t, BITSET) {
-                return reported(at, Rule::NoType);
+                return report(at, Rule::NoType);
             }
             Ok(())
         }
-        Meaning::Constant(_) => reported(at, Rule::NoType),
-        Meaning::Variable(_) => reported(at, Rule::NoType),
-        Meaning::Local(_) => reported(at, Rule::NoType),
-        Meaning::Field(_) => reported(at, Rule::NoType),
-        Meaning::Procedure(_) => reported(at, Rule::NoType),
-        Meaning::LocalProcedure(_) => reported(at, Rule::NoType),
-        Meaning::Ahead => reported(at, Rule::NoType),
-        Meaning::Standard(_) => reported(at, Rule::NoType),
-        Meaning::Module(_) => reported(at, Rule::NoType),
+        Meaning::Constant(_) => report(at, Rule::NoType),
+        Meaning::Variable(_) => report(at, Rule::NoType),
+        Meaning::Local(_) => report(at, Rule::NoType),
+        Meaning::Field(_) => report(at, Rule::NoType),
+        Meaning::Procedure(_) => report(at, Rule::NoType),
+        Meaning::LocalProcedure(_) => report(at, Rule::NoType),
+        Meaning::Ahead => report(at, Rule::NoType),
+        Meaning::Standard(_) => report(at, Rule::NoType),
+        Meaning::Module(_) => report(at, Rule::NoType),
     }
 }
 
@@ -114,10 +114,10 @@ pub fn component(at: Pos, denoted: Denoted) -> Elaborated<Denoted>
 {
     match denoted {
         Denoted::Variable => Ok(Denoted::Variable),
-        Denoted::Value(_) => reported(at, Rule::WrongType),
+        Denoted::Value(_) => report(at, Rule::WrongType),
         Denoted::Type(_) => Ok(Denoted::Variable),
         Denoted::Procedure => Ok(Denoted::Variable),
         Denoted::Standard(_) => Ok(Denoted::Variable),
-        Denoted::Module(_) => reported(at, Rule::WrongType),
+        Denoted::Module(_) => report(at, Rule::WrongType),
     }
 }

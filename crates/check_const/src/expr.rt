@@ -4,12 +4,12 @@ ghost use Rattle.std.specs.Prelude.{◌≡◌, IfOk};
 ghost use Rattle.check_scope.specs.Elaborated.{least, ◌▷◌};
 ghost use Rattle.typed_tree.specs.declared.meaning.Value.TheVariants as value;
 ghost use Rattle.check_const.specs.Denote.{component};
-ghost use Rattle.check_const.specs.Parts.{related, sign_place, signed_first, field_of, set_place, set_type, set_of, joined_bits, value_at, named, named_type, member_of, single_of, element_of};
+ghost use Rattle.check_const.specs.Parts.{relation_value, sign_place, signed_first, field_of, set_place, set_type, set_of, joined_bits, value_at, first_name, named_type, member_of, single_of, element_of};
 
 use crate::call::type_in;
 use crate::denoted::{Denoted, component, denoted_by, denoted_of, is_bitset, of_value};
 use crate::qualified::member;
-use check_const_ops::{BinaryOp, Ordinal, combined, element, signed, single};
+use check_const_ops::{BinaryOp, Ordinal, constant_operation, element, single, with_sign};
 use check_scope::{Elaborated, Scope, both, looked_up, of_sort};
 use m2_rule::{Breach, Rule};
 use m2_tree::{Ident, Operator, Pos, Quoted, RelOp, Sign};
@@ -33,7 +33,7 @@ pub fn signed_first(sign: Option<Operator<Sign>>, value: Elaborated<Value>) -> E
 {
     match sign {
         None => value,
-        Some(operator) => signed(operator.op, operator.pos, value),
+        Some(operator) => with_sign(operator.op, operator.pos, value),
     }
 }
 
@@ -89,22 +89,22 @@ pub fn text_of(alloc: Global, bytes: &[u8]) -> Result<Value, AllocError>
 }
 
 /// A relation between two values.
-pub fn related(
+pub fn relation_value(
     operator: &Operator<RelOp>,
     at: Pos,
     left: Elaborated<Value>,
     other_at: Pos,
     right: Elaborated<Value>,
 ) -> Elaborated<Denoted>
-    ensures { result ≡ related least operator.now at left other_at right }
+    ensures { result ≡ relation_value least operator.now at left other_at right }
 {
     let relation = BinaryOp::Relation(operator.op);
-    of_value(combined(relation, operator.pos, at, left, other_at, right))
+    of_value(constant_operation(relation, operator.pos, at, left, other_at, right))
 }
 
 /// What the first name of a designator stands for.
-pub fn named(scope: &Scope<Breach>, name: &Ident) -> Result<Elaborated<Denoted>, AllocError>
-    ensures { IfOk result (λ d. d ≡ named least scope.now name.now) }
+pub fn first_name(scope: &Scope<Breach>, name: &Ident) -> Result<Elaborated<Denoted>, AllocError>
+    ensures { IfOk result (λ d. d ≡ first_name least scope.now name.now) }
 {
     Ok(denoted_of(looked_up(scope, name)?))
 }

@@ -7,12 +7,12 @@ mod expr;
 mod qualified;
 
 pub use call::{
-    Sort, bound, bound_by, converted_by, scalar_type, sort_of, type_argument, type_in, unary,
+    Sort, bound, bound_by, conversion_call, scalar_type, sort_of, type_argument, type_in, unary,
     unary_of,
 };
 pub use denoted::{Denoted, constant_by, of_value};
 pub use expr::{
-    component_in, element_of, field_in, joined_bits, named, named_type, related, set_of, set_place,
-    set_type, sign_place, signed_first, single_of, text_of, value_at,
+    component_in, element_of, field_in, first_name, joined_bits, named_type, relation_value,
+    set_of, set_place, set_type, sign_place, signed_first, single_of, text_of, value_at,
 };
 pub use qualified::member;

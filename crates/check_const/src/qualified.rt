@@ -3,9 +3,9 @@
 ghost use Rattle.std.specs.Prelude.{◌≡◌, IfOk};
 ghost use Rattle.std.specs.Option.{option_copied};
 ghost use Rattle.check_scope.specs.Elaborated.{least};
-ghost use Rattle.check_const.specs.Denote.{exported_by, exported, member};
+ghost use Rattle.check_const.specs.Denote.{exported_by, export_of, member};
 
-use check_scope::{Elaborated, Scope, reported};
+use check_scope::{Elaborated, Scope, report};
 use m2_rule::{Breach, Rule};
 use m2_tree::{Ident, Pos};
 use std::alloc::AllocError;
@@ -21,11 +21,11 @@ fn exported_by<'a>(table: Option<&'a Shared<Table>>, name: &[u8]) -> Option<&'a 
     }
 }
 
-fn exported(at: Pos, meaning: Option<&Meaning>) -> Result<Elaborated<Meaning>, AllocError>
-    ensures { IfOk result (λ m. m ≡ exported least at (option_copied meaning.entry)) }
+fn export_of(at: Pos, meaning: Option<&Meaning>) -> Result<Elaborated<Meaning>, AllocError>
+    ensures { IfOk result (λ m. m ≡ export_of least at (option_copied meaning.entry)) }
 {
     match meaning {
-        None => Ok(reported(at, Rule::NotExported)),
+        None => Ok(report(at, Rule::NotExported)),
         Some(meaning) => Ok(Ok(meaning.copy()?)),
     }
 }
@@ -38,7 +38,7 @@ pub fn member(
 ) -> Result<Elaborated<Meaning>, AllocError>
     ensures { IfOk result (λ m. m ≡ member least scope.now.tables place name.now) }
 {
-    exported(
+    export_of(
         name.pos,
         exported_by(scope.tables.get(place), name.name.as_bytes()),
     )

@@ -7,8 +7,8 @@ use Rattle.m2_rule.specs.declared.rule.Rule.TheVariants as rule
 use Rattle.m2_tree.specs.declared.pos.Pos.{Pos}
 use Rattle.typed_tree.specs.declared.types.TypeNo.{TypeNo}
 use Rattle.typed_tree.specs.Types.{is_integer}
-use Rattle.check_scope.specs.Elaborated.{least, reported}
-use Rattle.check_const_ops.specs.Operands.{valued}
+use Rattle.check_scope.specs.Elaborated.{least, report}
+use Rattle.check_const_ops.specs.Operands.{number_value}
 use Rattle.check_const_ops.specs.Numbers.{fits, number_at}
 
 not_between : (l n h : ℤ) → FitsSigned w64 l → FitsSigned w64 h → ¬ FitsSigned w64 n → (int_le l n && int_le n h) ≡ false
@@ -36,5 +36,5 @@ pub no_fit : (E : ℤ → ℤ → ℤ) (x y : ℤ) → FitsSigned w64 x → Fits
 no_fit E x y p q h =
     subst (λ (n : ℤ). ¬ FitsSigned w64 (E n y)) (to_z-of_z w64 x p) (subst (λ (n : ℤ). ¬ FitsSigned w64 (E (to_z w64 (of_z w64 x)) n)) (to_z-of_z w64 y q) h)
 
-pub reported_of : (at : Pos) (sort : Option TypeNo) (n : ℤ) → ¬ FitsSigned w64 n → number_at least at sort n ≡ reported least at rule.OutOfRange
-reported_of at sort n none = ap (λ (b : Bool). cond (not b) (reported least at rule.OutOfRange) (Ok (valued sort n))) (unfit sort n none)
+pub reported_of : (at : Pos) (sort : Option TypeNo) (n : ℤ) → ¬ FitsSigned w64 n → number_at least at sort n ≡ report least at rule.OutOfRange
+reported_of at sort n none = ap (λ (b : Bool). cond (not b) (report least at rule.OutOfRange) (Ok (number_value sort n))) (unfit sort n none)

@@ -9,7 +9,7 @@ use Rattle.typed_tree.specs.Types.{is_integer}
 use Rattle.check_scope.specs.Elaborated.{Gathers, reported_where}
 use Rattle.check_const_ops.specs.declared.operator.BinaryOp.{BinaryOp}
 use Rattle.check_const_ops.specs.declared.operator.BinaryOp.TheVariants.{Plus, Minus, Times, Over, Div, Mod, And, Or, Relation}
-use Rattle.check_const_ops.specs.Operands.{valued}
+use Rattle.check_const_ops.specs.Operands.{number_value}
 
 abbrev pub is_between : ℤ → ℤ → ℤ → Bool
 is_between low n high = int_le low n && int_le n high
@@ -22,22 +22,22 @@ fits (Some t) n =
     (is_between (pos 0) n (pos 4294967295))
 
 abbrev pub number_at : (g : Gathers) → Pos → Option TypeNo → ℤ → Result Value g.Reported
-number_at g at sort n = reported_where g (not (fits sort n)) at rule.OutOfRange (Ok (valued sort n))
+number_at g at sort n = reported_where g (not (fits sort n)) at rule.OutOfRange (Ok (number_value sort n))
 
-abbrev pub evaluated : BinaryOp → ℤ → ℤ → ℤ
-evaluated Plus x y = x +ℤ y
-evaluated Minus x y = x -ℤ y
-evaluated Times x y = x *ℤ y
-evaluated Over x y = pos 0
-evaluated Div x y = pos 0
-evaluated Mod x y = pos 0
-evaluated And x y = pos 0
-evaluated Or x y = pos 0
-evaluated (Relation r) x y = pos 0
+abbrev pub whole_arithmetic : BinaryOp → ℤ → ℤ → ℤ
+whole_arithmetic Plus x y = x +ℤ y
+whole_arithmetic Minus x y = x -ℤ y
+whole_arithmetic Times x y = x *ℤ y
+whole_arithmetic Over x y = pos 0
+whole_arithmetic Div x y = pos 0
+whole_arithmetic Mod x y = pos 0
+whole_arithmetic And x y = pos 0
+whole_arithmetic Or x y = pos 0
+whole_arithmetic (Relation r) x y = pos 0
 
 abbrev pub evaluated_at : (g : Gathers) → Pos → Option TypeNo → BinaryOp → ℤ → ℤ
     → Result Value g.Reported
-evaluated_at g at sort op x y = number_at g at sort (evaluated op x y)
+evaluated_at g at sort op x y = number_at g at sort (whole_arithmetic op x y)
 
 -- x = q * y + r with 0 <= r < y, where y is positive
 abbrev pub quotient : ℤ → ℤ → ℤ

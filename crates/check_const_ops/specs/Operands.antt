@@ -27,12 +27,12 @@ operand_of (value.Scalar s) = Some (scalar_operand (Some s.base) s.number)
 operand_of (value.Set bits) = Some (Set bits)
 operand_of (value.Text text) = letter_operand (letter text)
 
-abbrev pub valued : Option TypeNo → ℤ → Value
-valued None n = value.Number n
-valued (Some t) n = value.Scalar (record { of = t; base = t; number = n })
+abbrev pub number_value : Option TypeNo → ℤ → Value
+number_value None n = value.Number n
+number_value (Some t) n = value.Scalar (record { of = t; base = t; number = n })
 
 abbrev pub truth : Bool → Value
-truth b = valued (Some boolean) (cond b (pos 1) (pos 0))
+truth b = number_value (Some boolean) (cond b (pos 1) (pos 0))
 
 -- INTEGER, CARDINAL or a number without a type
 abbrev pub is_number : Option TypeNo → Bool

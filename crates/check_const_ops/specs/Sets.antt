@@ -7,7 +7,7 @@ use Rattle.m2_tree.specs.declared.expr.RelOp.TheVariants as rel
 use Rattle.typed_tree.specs.declared.types.TypeNo.{TypeNo}
 use Rattle.typed_tree.specs.declared.meaning.Value.{Value}
 use Rattle.typed_tree.specs.declared.meaning.Value.TheVariants as value
-use Rattle.check_scope.specs.Elaborated.{Gathers, reported, reported_where, both, beside, ◌▷◌}
+use Rattle.check_scope.specs.Elaborated.{Gathers, report, reported_where, both, beside, ◌▷◌}
 use Rattle.check_const_ops.specs.declared.operand.Ordinal.{Ordinal}
 use Rattle.check_const_ops.specs.declared.operator.BinaryOp.{BinaryOp}
 use Rattle.check_const_ops.specs.declared.operator.BinaryOp.TheVariants.{Plus, Minus, Times, Over, Div, Mod, And, Or, Relation}
@@ -24,21 +24,21 @@ without a b = bit_and a (bit_xor b 4294967295)
 abbrev pub set_related : (g : Gathers) → Pos → RelOp → ℕ → ℕ → Result Value g.Reported
 set_related g spot rel.Equal a b = Ok (truth (a == b))
 set_related g spot rel.Unequal a b = Ok (truth (not (a == b)))
-set_related g spot rel.Less a b = reported g spot rule.WrongType
+set_related g spot rel.Less a b = report g spot rule.WrongType
 set_related g spot rel.AtMost a b = Ok (truth (without a b == 0))
-set_related g spot rel.Greater a b = reported g spot rule.WrongType
+set_related g spot rel.Greater a b = report g spot rule.WrongType
 set_related g spot rel.AtLeast a b = Ok (truth (without b a == 0))
-set_related g spot rel.In a b = reported g spot rule.WrongType
+set_related g spot rel.In a b = report g spot rule.WrongType
 
 abbrev pub on_sets : (g : Gathers) → BinaryOp → Pos → ℕ → ℕ → Result Value g.Reported
 on_sets g Plus spot a b = Ok (value.Set (bit_or a b))
 on_sets g Minus spot a b = Ok (value.Set (without a b))
 on_sets g Times spot a b = Ok (value.Set (bit_and a b))
 on_sets g Over spot a b = Ok (value.Set (bit_xor a b))
-on_sets g Div spot a b = reported g spot rule.WrongType
-on_sets g Mod spot a b = reported g spot rule.WrongType
-on_sets g And spot a b = reported g spot rule.WrongType
-on_sets g Or spot a b = reported g spot rule.WrongType
+on_sets g Div spot a b = report g spot rule.WrongType
+on_sets g Mod spot a b = report g spot rule.WrongType
+on_sets g And spot a b = report g spot rule.WrongType
+on_sets g Or spot a b = report g spot rule.WrongType
 on_sets g (Relation r) spot a b = set_related g spot r a b
 
 -- ---- membership
@@ -58,20 +58,20 @@ member_of g spot at x bits =
     (Ok (truth (has bits x.number))))
 
 abbrev pub member : (g : Gathers) → BinaryOp → Pos → Pos → Ordinal → ℕ → Result Value g.Reported
-member g Plus spot at x bits = reported g spot rule.WrongType
-member g Minus spot at x bits = reported g spot rule.WrongType
-member g Times spot at x bits = reported g spot rule.WrongType
-member g Over spot at x bits = reported g spot rule.WrongType
-member g Div spot at x bits = reported g spot rule.WrongType
-member g Mod spot at x bits = reported g spot rule.WrongType
-member g And spot at x bits = reported g spot rule.WrongType
-member g Or spot at x bits = reported g spot rule.WrongType
-member g (Relation rel.Equal) spot at x bits = reported g spot rule.WrongType
-member g (Relation rel.Unequal) spot at x bits = reported g spot rule.WrongType
-member g (Relation rel.Less) spot at x bits = reported g spot rule.WrongType
-member g (Relation rel.AtMost) spot at x bits = reported g spot rule.WrongType
-member g (Relation rel.Greater) spot at x bits = reported g spot rule.WrongType
-member g (Relation rel.AtLeast) spot at x bits = reported g spot rule.WrongType
+member g Plus spot at x bits = report g spot rule.WrongType
+member g Minus spot at x bits = report g spot rule.WrongType
+member g Times spot at x bits = report g spot rule.WrongType
+member g Over spot at x bits = report g spot rule.WrongType
+member g Div spot at x bits = report g spot rule.WrongType
+member g Mod spot at x bits = report g spot rule.WrongType
+member g And spot at x bits = report g spot rule.WrongType
+member g Or spot at x bits = report g spot rule.WrongType
+member g (Relation rel.Equal) spot at x bits = report g spot rule.WrongType
+member g (Relation rel.Unequal) spot at x bits = report g spot rule.WrongType
+member g (Relation rel.Less) spot at x bits = report g spot rule.WrongType
+member g (Relation rel.AtMost) spot at x bits = report g spot rule.WrongType
+member g (Relation rel.Greater) spot at x bits = report g spot rule.WrongType
+member g (Relation rel.AtLeast) spot at x bits = report g spot rule.WrongType
 member g (Relation rel.In) spot at x bits = member_of g spot at x bits
 
 -- ---- elements in braces
@@ -84,12 +84,12 @@ up_to n = 4294967295 / 2 ^ (31 - n)
 abbrev pub with_span : ℕ → ℤ → ℤ → ℕ
 with_span bits low high = bit_or bits (without (up_to (place high)) (up_to (place low) / 2))
 
-abbrev pub numbered : (g : Gathers) → Pos → Option Ordinal → Result Ordinal g.Reported
-numbered g at None = reported g at rule.WrongType
-numbered g at (Some a) = Ok a
+abbrev pub ordinal_or_refusal : (g : Gathers) → Pos → Option Ordinal → Result Ordinal g.Reported
+ordinal_or_refusal g at None = report g at rule.WrongType
+ordinal_or_refusal g at (Some a) = Ok a
 
 abbrev pub element : (g : Gathers) → Pos → Value → Result Ordinal g.Reported
-element g at v = numbered g at (whole_number v)
+element g at v = ordinal_or_refusal g at (whole_number v)
 
 abbrev pub is_element : (g : Gathers) → Pos → Ordinal → Result (Unit {0}) g.Reported
 is_element g at a =
@@ -106,24 +106,24 @@ has_none (Some sort) = false
 abbrev pub is_unlike : Ordinal → Ordinal → Bool
 is_unlike a b = has_none (common a.sort b.sort)
 
-abbrev pub ordered : (g : Gathers) → Pos → ℤ → ℤ → Result (Unit {0}) g.Reported
-ordered g at low high = reported_where g (int_lt high low) at rule.EmptyRange (Ok tt)
+abbrev pub bounds_in_order : (g : Gathers) → Pos → ℤ → ℤ → Result (Unit {0}) g.Reported
+bounds_in_order g at low high = reported_where g (int_lt high low) at rule.EmptyRange (Ok tt)
 
 abbrev pub in_set : (g : Gathers) → Pos → Result Ordinal g.Reported → Result (Unit {0}) g.Reported
 in_set g at a = a ▷ is_element g at
 
-abbrev pub related : (g : Gathers) → Pos → Pos → Ordinal → Ordinal → Result (Unit {0}) g.Reported
-related g at at' a b =
-    reported_where g (is_unlike a b) at' rule.WrongType (ordered g at a.number b.number)
+abbrev pub alike_in_order : (g : Gathers) → Pos → Pos → Ordinal → Ordinal → Result (Unit {0}) g.Reported
+alike_in_order g at at' a b =
+    reported_where g (is_unlike a b) at' rule.WrongType (bounds_in_order g at a.number b.number)
 
 abbrev pub related_bounds : (g : Gathers) → Pos → Pos → Result Ordinal g.Reported
     → Result Ordinal g.Reported → Result (Unit {0}) g.Reported
-related_bounds g at at' a b = both g a b ▷ λ p. related g at at' p.0 p.1
+related_bounds g at at' a b = both g a b ▷ λ p. alike_in_order g at at' p.0 p.1
 
 -- a range of elements: each bound for itself, and both
-abbrev pub spanned : (g : Gathers) → Pos → Result Ordinal g.Reported → Pos
+abbrev pub span_of : (g : Gathers) → Pos → Result Ordinal g.Reported → Pos
     → Result Ordinal g.Reported → Result ℕ g.Reported
-spanned g at a at' b =
+span_of g at a at' b =
     both g (both g a b)
     (beside g (beside g (in_set g at a) (in_set g at' b)) (related_bounds g at at' a b))
     ▷ λ p.

@@ -2,22 +2,22 @@
 
 ghost use Rattle.std.specs.Prelude.{◌≡◌};
 ghost use Rattle.check_scope.specs.Elaborated.{least};
-ghost use Rattle.check_const_ops.specs.Sets.{numbered, element, is_element, single, is_unlike, ordered, in_set, related, related_bounds, spanned};
+ghost use Rattle.check_const_ops.specs.Sets.{ordinal_or_refusal, element, is_element, single, is_unlike, bounds_in_order, in_set, alike_in_order, related_bounds, span_of};
 
 use crate::operand::Ordinal;
 use crate::operate::common;
 use crate::sets::with_span;
 use crate::standard::whole_number;
-use check_scope::{Elaborated, beside, both, reported};
+use check_scope::{Elaborated, beside, both, report};
 use m2_rule::Rule;
 use m2_tree::Pos;
 use typed_tree::Value;
 
-fn numbered(at: Pos, x: Option<Ordinal>) -> Elaborated<Ordinal>
-    ensures { result ≡ numbered least at x }
+fn ordinal_or_refusal(at: Pos, x: Option<Ordinal>) -> Elaborated<Ordinal>
+    ensures { result ≡ ordinal_or_refusal least at x }
 {
     match x {
-        None => reported(at, Rule::WrongType),
+        None => report(at, Rule::WrongType),
         Some(a) => Ok(a),
     }
 }
@@ -26,14 +26,14 @@ fn numbered(at: Pos, x: Option<Ordinal>) -> Elaborated<Ordinal>
 pub fn element(at: Pos, value: &Value) -> Elaborated<Ordinal>
     ensures { result ≡ element least at value.now }
 {
-    numbered(at, whole_number(value))
+    ordinal_or_refusal(at, whole_number(value))
 }
 
 fn is_element(at: Pos, a: Ordinal) -> Elaborated<()>
     ensures { result ≡ is_element least at a }
 {
     if !(0 <= a.number && a.number <= 31) {
-        return reported(at, Rule::OutOfRange);
+        return report(at, Rule::OutOfRange);
     }
     Ok(())
 }
@@ -61,11 +61,11 @@ fn is_unlike(a: Ordinal, b: Ordinal) -> bool
 }
 
 /// The bounds of a range, in order.
-fn ordered(at: Pos, low: i64, high: i64) -> Elaborated<()>
-    ensures { result ≡ ordered least at low high }
+fn bounds_in_order(at: Pos, low: i64, high: i64) -> Elaborated<()>
+    ensures { result ≡ bounds_in_order least at low high }
 {
     if high < low {
-        return reported(at, Rule::EmptyRange);
+        return report(at, Rule::EmptyRange);
     }
     Ok(())
 }
@@ -79,13 +79,13 @@ fn in_set(at: Pos, a: Elaborated<Ordinal>) -> Elaborated<()>
     }
 }
 
-fn related(at: Pos, high_at: Pos, a: Ordinal, b: Ordinal) -> Elaborated<()>
-    ensures { result ≡ related least at high_at a b }
+fn alike_in_order(at: Pos, high_at: Pos, a: Ordinal, b: Ordinal) -> Elaborated<()>
+    ensures { result ≡ alike_in_order least at high_at a b }
 {
     if is_unlike(a, b) {
-        return reported(high_at, Rule::WrongType);
+        return report(high_at, Rule::WrongType);
     }
-    ordered(at, a.number, b.number)
+    bounds_in_order(at, a.number, b.number)
 }
 
 fn related_bounds(
@@ -98,18 +98,18 @@ fn related_bounds(
 {
     match both(low, high) {
         Err(breach) => Err(breach),
-        Ok((a, b)) => related(at, high_at, a, b),
+        Ok((a, b)) => alike_in_order(at, high_at, a, b),
     }
 }
 
 /// The set of a range of elements.
-pub fn spanned(
+pub fn span_of(
     at: Pos,
     low: Elaborated<Ordinal>,
     high_at: Pos,
     high: Elaborated<Ordinal>,
 ) -> Elaborated<u32>
-    ensures { result ≡ spanned least at low high_at high }
+    ensures { result ≡ span_of least at low high_at high }
 {
     let within = beside(in_set(at, low), in_set(high_at, high));
     let fine = beside(within, related_bounds(at, high_at, low, high));

@@ -9,11 +9,14 @@ mod operator;
 mod sets;
 mod standard;
 
-pub use elements::{element, single, spanned};
+pub use elements::{element, single, span_of};
 pub use number::fits;
-pub use operand::{Operand, Ordinal, is_number, is_truth, operand_of, valued};
-pub use operate::{binary, combined, common, divisor, fitting, negated, signed, takes};
+pub use operand::{Operand, Ordinal, is_number, is_truth, number_value, operand_of};
+pub use operate::{
+    binary, common, constant_operation, divisor, fitting, negation, takes, with_sign,
+};
 pub use operator::{BinaryOp, add_op, mul_op};
 pub use standard::{
-    absolute, bound_of, capital, character, converted, is_char, is_odd, ordinal_of, whole_number,
+    absolute, bound_of, capital, character, conversion_of, is_char, is_odd, ordinal_of,
+    whole_number,
 };

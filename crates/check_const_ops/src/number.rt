@@ -3,11 +3,11 @@
 ghost use Rattle.std.specs.Prelude.{◌≡◌, FitsSigned, SomeIff};
 ghost use Rattle.std.specs.Int.{w64};
 ghost use Rattle.check_scope.specs.Elaborated.{least};
-ghost use Rattle.check_const_ops.specs.Numbers.{fits, number_at, evaluated, evaluated_at, quotient, remainder};
+ghost use Rattle.check_const_ops.specs.Numbers.{fits, number_at, whole_arithmetic, evaluated_at, quotient, remainder};
 
-use crate::operand::valued;
+use crate::operand::number_value;
 use crate::operator::BinaryOp;
-use check_scope::{Elaborated, reported};
+use check_scope::{Elaborated, report};
 use m2_rule::Rule;
 use m2_tree::Pos;
 use typed_tree::{TypeNo, Value, is_integer};
@@ -33,14 +33,14 @@ pub fn number_at(at: Pos, sort: Option<TypeNo>, n: i64) -> Elaborated<Value>
     ensures { result ≡ number_at least at sort n }
 {
     if !fits(sort, n) {
-        return reported(at, Rule::OutOfRange);
+        return report(at, Rule::OutOfRange);
     }
-    Ok(valued(sort, n))
+    Ok(number_value(sort, n))
 }
 
 /// The sum, the difference or the product, if it is not too great for any type.
-fn evaluated(op: BinaryOp, x: i64, y: i64) -> Option<i64>
-    ensures { SomeIff result (FitsSigned w64 (evaluated op x y)) (evaluated op x y) }
+fn whole_arithmetic(op: BinaryOp, x: i64, y: i64) -> Option<i64>
+    ensures { SomeIff result (FitsSigned w64 (whole_arithmetic op x y)) (whole_arithmetic op x y) }
 {
     match op {
         BinaryOp::Plus => x.checked_add(y),
@@ -65,8 +65,8 @@ pub fn evaluated_at(
 ) -> Elaborated<Value>
     ensures { result ≡ evaluated_at least at sort op x y }
 {
-    match evaluated(op, x, y) {
-        None => reported(at, Rule::OutOfRange),
+    match whole_arithmetic(op, x, y) {
+        None => report(at, Rule::OutOfRange),
         Some(n) => number_at(at, sort, n),
     }
 }

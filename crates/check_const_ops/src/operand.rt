@@ -1,7 +1,7 @@
 //! Constants as operators see them.
 
 ghost use Rattle.std.specs.Prelude.{◌≡◌};
-ghost use Rattle.check_const_ops.specs.Operands.{letter, letter_operand, operand_of, valued, truth, is_number, is_truth};
+ghost use Rattle.check_const_ops.specs.Operands.{letter, letter_operand, operand_of, number_value, truth, is_number, is_truth};
 
 use typed_tree::{BOOLEAN, CHAR, ScalarValue, TypeNo, Value, are_same, is_numeric};
 
@@ -61,8 +61,8 @@ pub fn operand_of(value: &Value) -> Option<Operand>
 }
 
 /// A number without a type, or a constant of this base type.
-pub fn valued(sort: Option<TypeNo>, n: i64) -> Value
-    ensures { result ≡ valued sort n }
+pub fn number_value(sort: Option<TypeNo>, n: i64) -> Value
+    ensures { result ≡ number_value sort n }
 {
     match sort {
         None => Value::Number(n),

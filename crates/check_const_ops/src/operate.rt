@@ -3,13 +3,13 @@
 ghost use Rattle.std.specs.Prelude.{◌≡◌, Ok};
 ghost use Rattle.check_scope.specs.Elaborated.{least, ◌▷◌};
 ghost use Rattle.check_const_ops.specs.Common.{common};
-ghost use Rattle.check_const_ops.specs.Operate.{takes, compared, applied, divisor, is_misfit, fitting, operated, on_scalars, binary, combined, is_signed, signed_scalar, signed_value, signed, negated_value, negated};
+ghost use Rattle.check_const_ops.specs.Operate.{takes, holds_between, ordinal_result, divisor, is_misfit, fitting, ordinal_operation, on_scalars, binary, constant_operation, is_signed, signed_scalar, signed_value, with_sign, negated_value, negation};
 
 use crate::number::{evaluated_at, fits, number_at, quotient, remainder};
-use crate::operand::{Operand, Ordinal, is_number, is_truth, operand_of, truth, valued};
+use crate::operand::{Operand, Ordinal, is_number, is_truth, number_value, operand_of, truth};
 use crate::operator::{BinaryOp, is_division};
 use crate::sets::{member, on_sets};
-use check_scope::{Elaborated, beside, both, reported};
+use check_scope::{Elaborated, beside, both, report};
 use m2_rule::Rule;
 use m2_tree::{Pos, RelOp, Sign};
 use typed_tree::{TypeNo, Value, are_same, is_integer, is_numeric};
@@ -48,8 +48,8 @@ pub fn takes(op: BinaryOp, sort: Option<TypeNo>) -> bool
     }
 }
 
-fn compared(relation: RelOp, x: i64, y: i64) -> bool
-    ensures { result ≡ compared relation x y }
+fn holds_between(relation: RelOp, x: i64, y: i64) -> bool
+    ensures { result ≡ holds_between relation x y }
 {
     match relation {
         RelOp::Equal => x <= y && y <= x,
@@ -63,17 +63,23 @@ fn compared(relation: RelOp, x: i64, y: i64) -> bool
 }
 
 /// What an operator makes of ordinal numbers of this type, which takes it.
-fn applied(op: BinaryOp, spot: Pos, sort: Option<TypeNo>, x: i64, y: i64) -> Elaborated<Value>
-    ensures { result ≡ applied least op spot sort x y }
+fn ordinal_result(
+    op: BinaryOp,
+    spot: Pos,
+    sort: Option<TypeNo>,
+    x: i64,
+    y: i64,
+) -> Elaborated<Value>
+    ensures { result ≡ ordinal_result least op spot sort x y }
 {
     match op {
         BinaryOp::Plus | BinaryOp::Minus | BinaryOp::Times => evaluated_at(spot, sort, op, x, y),
-        BinaryOp::Over => reported(spot, Rule::WrongType),
+        BinaryOp::Over => report(spot, Rule::WrongType),
         BinaryOp::Div => number_at(spot, sort, quotient(x, y)),
         BinaryOp::Mod => number_at(spot, sort, remainder(x, y)),
         BinaryOp::And => Ok(truth(x > 0 && y > 0)),
         BinaryOp::Or => Ok(truth(x > 0 || y > 0)),
-        BinaryOp::Relation(relation) => Ok(truth(compared(relation, x, y))),
+        BinaryOp::Relation(relation) => Ok(truth(holds_between(relation, x, y))),
     }
 }
 
@@ -82,7 +88,7 @@ pub fn divisor(op: BinaryOp, spot: Pos, y: i64) -> Elaborated<()>
     ensures { result ≡ divisor least op spot y }
 {
     if is_division(op) && y < 1 {
-        return reported(spot, Rule::OutOfRange);
+        return report(spot, Rule::OutOfRange);
     }
     Ok(())
 }
@@ -104,12 +110,12 @@ pub fn fitting(wanted: Option<TypeNo>, at: Pos, a: Ordinal) -> Elaborated<()>
     ensures { result ≡ fitting least wanted at a }
 {
     if is_misfit(wanted, a) {
-        return reported(at, Rule::OutOfRange);
+        return report(at, Rule::OutOfRange);
     }
     Ok(())
 }
 
-fn operated(
+fn ordinal_operation(
     op: BinaryOp,
     spot: Pos,
     sort: Option<TypeNo>,
@@ -118,15 +124,15 @@ fn operated(
     other_at: Pos,
     b: Ordinal,
 ) -> Elaborated<Value>
-    ensures { result ≡ operated least op spot sort at a other_at b }
+    ensures { result ≡ ordinal_operation least op spot sort at a other_at b }
 {
     if !takes(op, sort) {
-        return reported(spot, Rule::WrongType);
+        return report(spot, Rule::WrongType);
     }
     let fit = beside(fitting(sort, at, a), fitting(sort, other_at, b));
     match beside(divisor(op, spot, b.number), fit) {
         Err(breach) => Err(breach),
-        Ok(()) => applied(op, spot, sort, a.number, b.number),
+        Ok(()) => ordinal_result(op, spot, sort, a.number, b.number),
     }
 }
 
@@ -141,8 +147,8 @@ fn on_scalars(
     ensures { result ≡ on_scalars least op spot at a other_at b (common a.sort b.sort) }
 {
     match common(a.sort, b.sort) {
-        None => reported(spot, Rule::WrongType),
-        Some(sort) => operated(op, spot, sort, at, a, other_at, b),
+        None => report(spot, Rule::WrongType),
+        Some(sort) => ordinal_operation(op, spot, sort, at, a, other_at, b),
     }
 }
 
@@ -162,16 +168,16 @@ pub fn binary(
             on_scalars(op, spot, at, a, other_at, b)
         }
         (Some(Operand::Scalar(a)), Some(Operand::Set(b))) => member(op, spot, at, a, b),
-        (Some(Operand::Set(_)), Some(Operand::Scalar(_))) => reported(spot, Rule::WrongType),
+        (Some(Operand::Set(_)), Some(Operand::Scalar(_))) => report(spot, Rule::WrongType),
         (Some(Operand::Set(a)), Some(Operand::Set(b))) => on_sets(op, spot, a, b),
-        (Some(Operand::Scalar(_)), None) => reported(spot, Rule::WrongType),
-        (Some(Operand::Set(_)), None) => reported(spot, Rule::WrongType),
-        (None, _) => reported(spot, Rule::WrongType),
+        (Some(Operand::Scalar(_)), None) => report(spot, Rule::WrongType),
+        (Some(Operand::Set(_)), None) => report(spot, Rule::WrongType),
+        (None, _) => report(spot, Rule::WrongType),
     }
 }
 
 /// An operator at a place, between two parts at theirs.
-pub fn combined(
+pub fn constant_operation(
     op: BinaryOp,
     spot: Pos,
     at: Pos,
@@ -179,7 +185,7 @@ pub fn combined(
     other_at: Pos,
     y: Elaborated<Value>,
 ) -> Elaborated<Value>
-    ensures { result ≡ combined least op spot at x other_at y }
+    ensures { result ≡ constant_operation least op spot at x other_at y }
 {
     match both(x, y) {
         Err(breach) => Err(breach),
@@ -191,8 +197,8 @@ fn signed_value(sign: Sign, spot: Pos, x: Option<Operand>) -> Elaborated<Value>
     ensures { result ≡ signed_value least sign spot x }
 {
     match x {
-        None => reported(spot, Rule::WrongType),
-        Some(Operand::Set(_)) => reported(spot, Rule::WrongType),
+        None => report(spot, Rule::WrongType),
+        Some(Operand::Set(_)) => report(spot, Rule::WrongType),
         Some(Operand::Scalar(a)) => signed_scalar(sign, spot, a),
     }
 }
@@ -212,13 +218,13 @@ fn signed_scalar(sign: Sign, spot: Pos, a: Ordinal) -> Elaborated<Value>
     match sign {
         Sign::Plus => {
             if !is_number(a.sort) {
-                return reported(spot, Rule::WrongType);
+                return report(spot, Rule::WrongType);
             }
-            Ok(valued(a.sort, a.number))
+            Ok(number_value(a.sort, a.number))
         }
         Sign::Minus => {
             if !is_signed(a.sort) {
-                return reported(spot, Rule::WrongType);
+                return report(spot, Rule::WrongType);
             }
             evaluated_at(spot, a.sort, BinaryOp::Minus, 0, a.number)
         }
@@ -226,8 +232,8 @@ fn signed_scalar(sign: Sign, spot: Pos, a: Ordinal) -> Elaborated<Value>
 }
 
 /// A sign at a place, before a term.
-pub fn signed(sign: Sign, spot: Pos, x: Elaborated<Value>) -> Elaborated<Value>
-    ensures { result ≡ signed least sign spot x }
+pub fn with_sign(sign: Sign, spot: Pos, x: Elaborated<Value>) -> Elaborated<Value>
+    ensures { result ≡ with_sign least sign spot x }
 {
     match x {
         Err(breach) => Err(breach),
@@ -239,11 +245,11 @@ fn negated_value(spot: Pos, x: Option<Operand>) -> Elaborated<Value>
     ensures { result ≡ negated_value least spot x }
 {
     match x {
-        None => reported(spot, Rule::WrongType),
-        Some(Operand::Set(_)) => reported(spot, Rule::WrongType),
+        None => report(spot, Rule::WrongType),
+        Some(Operand::Set(_)) => report(spot, Rule::WrongType),
         Some(Operand::Scalar(a)) => {
             if !is_truth(a.sort) {
-                return reported(spot, Rule::WrongType);
+                return report(spot, Rule::WrongType);
             }
             Ok(truth(!(a.number > 0)))
         }
@@ -251,8 +257,8 @@ fn negated_value(spot: Pos, x: Option<Operand>) -> Elaborated<Value>
 }
 
 /// NOT at a place.
-pub fn negated(spot: Pos, x: Elaborated<Value>) -> Elaborated<Value>
-    ensures { result ≡ negated least spot x }
+pub fn negation(spot: Pos, x: Elaborated<Value>) -> Elaborated<Value>
+    ensures { result ≡ negation least spot x }
 {
     match x {
         Err(breach) => Err(breach),

@@ -6,7 +6,7 @@ ghost use Rattle.check_const_ops.specs.Sets.{without, set_related, on_sets, plac
 
 use crate::operand::{Ordinal, is_number, truth};
 use crate::operator::BinaryOp;
-use check_scope::{Elaborated, reported};
+use check_scope::{Elaborated, report};
 use m2_rule::Rule;
 use m2_tree::{Pos, RelOp};
 use typed_tree::Value;
@@ -26,7 +26,7 @@ fn set_related(spot: Pos, relation: RelOp, a: u32, b: u32) -> Elaborated<Value>
         RelOp::Unequal => Ok(truth(!(a == b))),
         RelOp::AtMost => Ok(truth(without(a, b) == 0)),
         RelOp::AtLeast => Ok(truth(without(b, a) == 0)),
-        RelOp::Less | RelOp::Greater | RelOp::In => reported(spot, Rule::WrongType),
+        RelOp::Less | RelOp::Greater | RelOp::In => report(spot, Rule::WrongType),
     }
 }
 
@@ -40,7 +40,7 @@ pub fn on_sets(op: BinaryOp, spot: Pos, a: u32, b: u32) -> Elaborated<Value>
         BinaryOp::Times => Ok(Value::Set(a & b)),
         BinaryOp::Over => Ok(Value::Set(a ^ b)),
         BinaryOp::Relation(relation) => set_related(spot, relation, a, b),
-        BinaryOp::Div | BinaryOp::Mod | BinaryOp::And | BinaryOp::Or => reported(
+        BinaryOp::Div | BinaryOp::Mod | BinaryOp::And | BinaryOp::Or => report(
             spot,
             Rule::WrongType,
         ),
@@ -93,7 +93,7 @@ pub fn member(op: BinaryOp, spot: Pos, at: Pos, x: Ordinal, bits: u32) -> Elabor
         | BinaryOp::Div
         | BinaryOp::Mod
         | BinaryOp::And
-        | BinaryOp::Or => reported(spot, Rule::WrongType),
+        | BinaryOp::Or => report(spot, Rule::WrongType),
     }
 }
 
@@ -101,10 +101,10 @@ fn member_of(spot: Pos, at: Pos, x: Ordinal, bits: u32) -> Elaborated<Value>
     ensures { result ≡ member_of least spot at x bits }
 {
     if !is_number(x.sort) {
-        return reported(spot, Rule::WrongType);
+        return report(spot, Rule::WrongType);
     }
     if !(0 <= x.number && x.number <= 31) {
-        return reported(at, Rule::OutOfRange);
+        return report(at, Rule::OutOfRange);
     }
     Ok(truth(has(bits, x.number)))
 }

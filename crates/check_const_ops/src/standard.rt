@@ -2,12 +2,12 @@
 
 ghost use Rattle.std.specs.Prelude.{◌≡◌};
 ghost use Rattle.check_scope.specs.Elaborated.{least};
-ghost use Rattle.check_const_ops.specs.Standards.{scalar_part, whole_number, absolute_part, absolute, upper, is_char, capital_part, capital, character_part, character, odd_part, is_odd, ordinal_part, ordinal_of, converted_part, converted, bound_of};
+ghost use Rattle.check_const_ops.specs.Standards.{scalar_part, whole_number, absolute_part, absolute, upper, is_char, capital_part, capital, character_part, character, odd_part, is_odd, ordinal_part, ordinal_of, converted_part, conversion_of, bound_of};
 
 use crate::number::{evaluated_at, number_at};
-use crate::operand::{Operand, Ordinal, is_number, operand_of, truth, valued};
+use crate::operand::{Operand, Ordinal, is_number, number_value, operand_of, truth};
 use crate::operator::BinaryOp;
-use check_scope::{Elaborated, reported};
+use check_scope::{Elaborated, report};
 use m2_rule::Rule;
 use m2_tree::Pos;
 use typed_tree::{CARDINAL, CHAR, Scalar, ScalarValue, TypeNo, Value, are_same};
@@ -36,7 +36,7 @@ fn absolute_part(at: Pos, a: Option<Ordinal>) -> Elaborated<Value>
     ensures { result ≡ absolute_part least at a }
 {
     match a {
-        None => reported(at, Rule::WrongArgument),
+        None => report(at, Rule::WrongArgument),
         Some(a) => {
             if a.number < 0 {
                 evaluated_at(at, a.sort, BinaryOp::Minus, 0, a.number)
@@ -78,12 +78,12 @@ fn capital_part(at: Pos, a: Option<Ordinal>) -> Elaborated<Value>
     ensures { result ≡ capital_part least at a }
 {
     match a {
-        None => reported(at, Rule::WrongArgument),
+        None => report(at, Rule::WrongArgument),
         Some(a) => {
             if !is_char(a.sort) {
-                return reported(at, Rule::WrongArgument);
+                return report(at, Rule::WrongArgument);
             }
-            Ok(valued(Some(CHAR), upper(a.number)))
+            Ok(number_value(Some(CHAR), upper(a.number)))
         }
     }
 }
@@ -99,12 +99,12 @@ fn character_part(at: Pos, a: Option<Ordinal>) -> Elaborated<Value>
     ensures { result ≡ character_part least at a }
 {
     match a {
-        None => reported(at, Rule::WrongArgument),
+        None => report(at, Rule::WrongArgument),
         Some(a) => {
             if !(0 <= a.number && a.number <= 255) {
-                return reported(at, Rule::OutOfRange);
+                return report(at, Rule::OutOfRange);
             }
-            Ok(valued(Some(CHAR), a.number))
+            Ok(number_value(Some(CHAR), a.number))
         }
     }
 }
@@ -120,7 +120,7 @@ fn odd_part(at: Pos, a: Option<Ordinal>) -> Elaborated<Value>
     ensures { result ≡ odd_part least at a }
 {
     match a {
-        None => reported(at, Rule::WrongArgument),
+        None => report(at, Rule::WrongArgument),
         Some(a) => Ok(truth(0 < a.number.rem_euclid(2))),
     }
 }
@@ -136,7 +136,7 @@ fn ordinal_part(at: Pos, a: Option<Ordinal>) -> Elaborated<Value>
     ensures { result ≡ ordinal_part least at a }
 {
     match a {
-        None => reported(at, Rule::WrongArgument),
+        None => report(at, Rule::WrongArgument),
         Some(a) => number_at(at, Some(CARDINAL), a.number),
     }
 }
@@ -152,10 +152,10 @@ fn converted_part(t: TypeNo, to: Scalar, at: Pos, a: Option<Ordinal>) -> Elabora
     ensures { result ≡ converted_part least t to at a }
 {
     match a {
-        None => reported(at, Rule::WrongArgument),
+        None => report(at, Rule::WrongArgument),
         Some(a) => {
             if !(to.low <= a.number && a.number <= to.high) {
-                return reported(at, Rule::OutOfRange);
+                return report(at, Rule::OutOfRange);
             }
             Ok(bound_of(t, to, a.number))
         }
@@ -163,8 +163,8 @@ fn converted_part(t: TypeNo, to: Scalar, at: Pos, a: Option<Ordinal>) -> Elabora
 }
 
 /// VAL of a constant at a place, to a scalar type.
-pub fn converted(t: TypeNo, to: Scalar, at: Pos, value: &Value) -> Elaborated<Value>
-    ensures { result ≡ converted least t to at value.now }
+pub fn conversion_of(t: TypeNo, to: Scalar, at: Pos, value: &Value) -> Elaborated<Value>
+    ensures { result ≡ conversion_of least t to at value.now }
 {
     converted_part(t, to, at, whole_number(value))
 }

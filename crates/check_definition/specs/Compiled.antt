@@ -9,7 +9,7 @@ use Rattle.m2_tree.specs.declared.decl.Module.{Module}
 use Rattle.typed_tree.specs.declared.table.Table.{Table}
 use Rattle.check_scope.specs.declared.scope.Scope.{Scope}
 use Rattle.check_scope.specs.Scopes.{State}
-use Rattle.check_scope.specs.Elaborated.{Gathers, reported, ◌▷◌}
+use Rattle.check_scope.specs.Elaborated.{Gathers, report, ◌▷◌}
 use Rattle.check_definition.specs.Marking.{marked_def}
 use Rattle.check_definition.specs.Predeclared.{console, first_scope}
 use Rattle.check_definition.specs.Importing.{numbered_modules, with_import}
@@ -46,10 +46,10 @@ of_definition g number m tables defs =
 abbrev pub of_contents : (g : Gathers) → ℕ → Module → List Table → Contents
     → Result Table g.Reported
 of_contents g number m tables (contents.Definition defs) = of_definition g number m tables defs
-of_contents g number m tables (contents.Implementation b) = reported g m.name.pos rule.LonelyModule
-of_contents g number m tables (contents.Program b) = reported g m.name.pos rule.LonelyModule
+of_contents g number m tables (contents.Implementation b) = report g m.name.pos rule.LonelyModule
+of_contents g number m tables (contents.Program b) = report g m.name.pos rule.LonelyModule
 
 -- the table of a definition, given the tables of those that it imports; the table of Console is
 -- always there
-abbrev pub compiled : (g : Gathers) → ℕ → Module → List Table → Result Table g.Reported
-compiled g number m imports = of_contents g number m (imports ++ console ∷ []) m.contents
+abbrev pub definition_table : (g : Gathers) → ℕ → Module → List Table → Result Table g.Reported
+definition_table g number m imports = of_contents g number m (imports ++ console ∷ []) m.contents

@@ -18,7 +18,7 @@ use Rattle.typed_tree.specs.declared.meaning.Value.{Value}
 use Rattle.typed_tree.specs.declared.meaning.Meaning.{Meaning}
 use Rattle.typed_tree.specs.declared.meaning.Meaning.TheVariants as meaning
 use Rattle.check_scope.specs.declared.scope.Scope.{Scope}
-use Rattle.check_scope.specs.Scopes.{State, declared, begun, finished}
+use Rattle.check_scope.specs.Scopes.{State, declare_name, begin_name, finish_name}
 use Rattle.check_scope.specs.Elaborated.{Gathers, beside, ◌▷◌}
 use Rattle.check_const.specs.Parts.{constant}
 use Rattle.check_expr.specs.Meanings.{part}
@@ -36,9 +36,9 @@ constant_meaning v = v ▷ λ x. Ok (meaning.Constant x)
 abbrev pub with_constant : (g : Gathers) → State (Unit {0}) g.Reported → Constant
     → State (Unit {0}) g.Reported
 with_constant g st c =
-    let b = begun g st.0 c.name in
+    let b = begin_name g st.0 c.name in
     let v = constant g b.0 (part g c.value) in
-    (finished b.0 c.name (constant_meaning v), beside g st.1 (beside g b.1 (nothing_reported v)))
+    (finish_name b.0 c.name (constant_meaning v), beside g st.1 (beside g b.1 (nothing_reported v)))
 
 -- ---- types
 
@@ -63,9 +63,9 @@ type_meaning t n = t ▷ λ x. Ok (meaning.Type x n)
 abbrev pub with_type : (g : Gathers) → State (Unit {0}) g.Reported → TypeDecl
     → State (Unit {0}) g.Reported
 with_type g st d =
-    let b = begun g st.0 d.name in
+    let b = begin_name g st.0 d.name in
     let t = type_of g d.of b.0 in (
-      finished t.0 d.name (type_meaning t.1 (brings_with d.of)),
+      finish_name t.0 d.name (type_meaning t.1 (brings_with d.of)),
       beside g st.1 (beside g b.1 (nothing_of t.1)),
     )
 
@@ -73,7 +73,7 @@ with_type g st d =
 
 abbrev pub begun_name : (g : Gathers) → State (Unit {0}) g.Reported → Ident
     → State (Unit {0}) g.Reported
-begun_name g st name = let b = begun g st.0 name in (b.0, beside g st.1 b.1)
+begun_name g st name = let b = begin_name g st.0 name in (b.0, beside g st.1 b.1)
 
 abbrev pub variable_meaning : {T : Type 0} → ℕ → ℕ → Result TypeNo T → Result Meaning T
 variable_meaning home n t =
@@ -85,7 +85,7 @@ with_variable_type s (Err e) = s
 
 abbrev pub finished_variable : {T : Type 0} → Result TypeNo T → Scope T → Ident → Scope T
 finished_variable t s name =
-    finished (with_variable_type s t) name (variable_meaning s.types.home (length s.variables) t)
+    finish_name (with_variable_type s t) name (variable_meaning s.types.home (length s.variables) t)
 
 abbrev pub with_variables : (g : Gathers) → State (Unit {0}) g.Reported → Variables
     → State (Unit {0}) g.Reported
@@ -107,7 +107,7 @@ with_procedure_type s (Err e) = s
 abbrev pub declared_procedure : (g : Gathers) → Scope g.Reported → Ident → Result TypeNo g.Reported
     → State (Unit {0}) g.Reported
 declared_procedure g s name t =
-    declared g (with_procedure_type s t) name
+    declare_name g (with_procedure_type s t) name
     (procedure_meaning s.types.home (length s.procedures) t)
 
 abbrev pub with_procedure : (g : Gathers) → State (Unit {0}) g.Reported → Heading

@@ -7,7 +7,7 @@ use Rattle.typed_tree.specs.declared.shape.Made.{Made}
 use Rattle.typed_tree.specs.declared.meaning.Meaning.{Meaning}
 use Rattle.typed_tree.specs.declared.table.ModuleTypes.{ModuleTypes}
 use Rattle.typed_tree.specs.declared.table.Table.{Table}
-use Rattle.typed_tree.specs.Names.{found, entered}
+use Rattle.typed_tree.specs.Names.{find_name, enter_name}
 use Rattle.check_scope.specs.declared.known.Origin.{Origin}
 use Rattle.check_scope.specs.declared.known.Origin.TheVariants.{Here, Module, Export}
 use Rattle.check_scope.specs.declared.known.Known.{Known}
@@ -18,7 +18,7 @@ use Rattle.typed_tree.specs.declared.known_types.Types.{Types}
 
 abbrev pub with_meaning : {T : Type 0} → List (List ℕ × Meaning) → List ℕ → Result Meaning T
     → List (List ℕ × Meaning)
-with_meaning so name (Ok m) = entered name m so
+with_meaning so name (Ok m) = enter_name name m so
 with_meaning so name (Err e) = so
 
 abbrev pub with_declared : {T : Type 0} → List (List ℕ × Meaning) → List ℕ → Origin
@@ -58,7 +58,7 @@ reached_of types = fold with_types [] types.others ++ own_types types.home types
 
 abbrev pub with_table_if : List (List ℕ × ℕ) → List ℕ → Option Table → List (List ℕ × ℕ)
 with_table_if so name None = so
-with_table_if so name (Some t) = entered name t.number so
+with_table_if so name (Some t) = enter_name name t.number so
 
 abbrev pub with_place_if : List Table → List (List ℕ × ℕ) → List ℕ → Option ℕ → List (List ℕ × ℕ)
 with_place_if tables so name None = so
@@ -66,7 +66,7 @@ with_place_if tables so name (Some k) = with_table_if so name (slice_get tables 
 
 abbrev pub with_imported : List (List ℕ × ℕ) → List Table → List (List ℕ × ℕ) → Ident
     → List (List ℕ × ℕ)
-with_imported modules tables so name = with_place_if tables so name.name (found name.name modules)
+with_imported modules tables so name = with_place_if tables so name.name (find_name name.name modules)
 
 abbrev pub with_imports_of : List (List ℕ × ℕ) → List Table → List (List ℕ × ℕ) → Option Ident
     → List Ident → List (List ℕ × ℕ)

@@ -9,18 +9,18 @@ use Rattle.m2_tree.specs.declared.decl.Import.{Import}
 use Rattle.typed_tree.specs.declared.meaning.Meaning.{Meaning}
 use Rattle.typed_tree.specs.declared.meaning.Meaning.TheVariants as meaning
 use Rattle.typed_tree.specs.declared.table.Table.{Table}
-use Rattle.typed_tree.specs.Names.{found, place_of, entered}
+use Rattle.typed_tree.specs.Names.{find_name, place_of, enter_name}
 use Rattle.check_scope.specs.declared.known.Origin.TheVariants.{Module, Export}
 use Rattle.check_scope.specs.declared.known.Known.{Known}
 use Rattle.check_scope.specs.declared.known.Known.TheVariants.{Later, Ahead, Begun, Headed, Declared}
 use Rattle.check_scope.specs.declared.scope.Scope.{Scope}
-use Rattle.check_scope.specs.Scopes.{State, is_one_origin, imported}
-use Rattle.check_scope.specs.Elaborated.{Gathers, reported, reported_where, beside}
+use Rattle.check_scope.specs.Scopes.{State, is_one_origin, import_name}
+use Rattle.check_scope.specs.Elaborated.{Gathers, report, reported_where, beside}
 
 -- ---- modules by name: the first of a name counts
 
 abbrev pub with_place : List ℕ → ℕ → List (List ℕ × ℕ) → List (List ℕ × ℕ)
-with_place name k ms = cond (is_some (found name ms)) ms (entered name k ms)
+with_place name k ms = cond (is_some (find_name name ms)) ms (enter_name name k ms)
 
 abbrev pub with_numbered : List (List ℕ × ℕ) × ℕ → Table → List (List ℕ × ℕ) × ℕ
 with_numbered st t = (with_place t.name st.1 st.0, st.1 + 1)
@@ -29,17 +29,17 @@ abbrev pub numbered_modules : List Table → List (List ℕ × ℕ) × ℕ
 numbered_modules tables = fold with_numbered ([], 0) tables
 
 abbrev pub module_found : (g : Gathers) → Pos → Option ℕ → Result ℕ g.Reported
-module_found g at None = reported g at rule.MissingModule
+module_found g at None = report g at rule.MissingModule
 module_found g at (Some k) = Ok k
 
 abbrev pub module_named : (g : Gathers) → List (List ℕ × ℕ) → Ident → Result ℕ g.Reported
-module_named g modules name = module_found g name.pos (found name.name modules)
+module_named g modules name = module_found g name.pos (find_name name.name modules)
 
 -- ---- IMPORT M
 
 abbrev pub with_module_as : (g : Gathers) → Scope g.Reported → Ident → Result ℕ g.Reported
     → State (Unit {0}) g.Reported
-with_module_as g s name (Ok k) = imported g s name.pos name.name (Module k) (Ok (meaning.Module k))
+with_module_as g s name (Ok k) = import_name g s name.pos name.name (Module k) (Ok (meaning.Module k))
 with_module_as g s name (Err e) = (s, Err e)
 
 abbrev pub with_module_name : (g : Gathers) → List (List ℕ × ℕ) → State (Unit {0}) g.Reported
@@ -53,7 +53,7 @@ with_module_name g modules st name =
 abbrev pub with_entry : (g : Gathers) → Pos → ℕ → State (Unit {0}) g.Reported → List ℕ × Meaning
     → State (Unit {0}) g.Reported
 with_entry g at k st e =
-    let one = imported g st.0 at e.0 (Export k) (Ok e.1) in (one.0, beside g st.1 one.1)
+    let one = import_name g st.0 at e.0 (Export k) (Ok e.1) in (one.0, beside g st.1 one.1)
 
 -- how many names come with a name: the constants of an enumeration follow it in the table
 abbrev pub brings_of : Meaning → ℕ
@@ -78,8 +78,8 @@ abbrev pub reported_of_taken : (g : Gathers) → Pos → ℕ → Option (Known g
 reported_of_taken g at k None = None
 reported_of_taken g at k (Some Later) = None
 reported_of_taken g at k (Some Ahead) = None
-reported_of_taken g at k (Some Begun) = Some (reported g at rule.DeclaredTwice)
-reported_of_taken g at k (Some (Headed m)) = Some (reported g at rule.DeclaredTwice)
+reported_of_taken g at k (Some Begun) = Some (report g at rule.DeclaredTwice)
+reported_of_taken g at k (Some (Headed m)) = Some (report g at rule.DeclaredTwice)
 reported_of_taken g at k (Some (Declared o m)) =
     Some (reported_where g (not (is_one_origin o (Export k))) at rule.DeclaredTwice (Ok tt))
 
@@ -92,9 +92,9 @@ unless_taken g s at k es i None =
 
 abbrev pub from_place : (g : Gathers) → Scope g.Reported → Ident → ℕ → List (List ℕ × Meaning)
     → Option ℕ → State (Unit {0}) g.Reported
-from_place g s name k es None = (s, reported g name.pos rule.NotExported)
+from_place g s name k es None = (s, report g name.pos rule.NotExported)
 from_place g s name k es (Some i) =
-    unless_taken g s name.pos k es i (reported_of_taken g name.pos k (found name.name s.own))
+    unless_taken g s name.pos k es i (reported_of_taken g name.pos k (find_name name.name s.own))
 
 abbrev pub with_from : (g : Gathers) → ℕ → List (List ℕ × Meaning) → State (Unit {0}) g.Reported
     → Ident → State (Unit {0}) g.Reported

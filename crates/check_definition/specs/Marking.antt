@@ -13,14 +13,14 @@ use Rattle.m2_tree.specs.declared.decl.TypeExpr.TheOpen as layer
 use Rattle.m2_tree.specs.declared.decl.Field.{Field, Field-F, fold-Field}
 use Rattle.check_scope.specs.declared.known.Known.TheVariants.{Later, Ahead}
 use Rattle.check_scope.specs.declared.scope.Scope.{Scope}
-use Rattle.check_scope.specs.Scopes.{marked}
+use Rattle.check_scope.specs.Scopes.{mark_name}
 
 abbrev pub Marks : Type 0 → Type 0
 Marks T = Scope T → Scope T
 
 module _ {T : Type 0} where
   abbrev pub marked_later : Scope T → Ident → Scope T
-  marked_later s name = marked name Later s
+  marked_later s name = mark_name name Later s
 
   abbrev pub marked_simple : Simple → Scope T → Scope T
   marked_simple (simple.Named q) s = s
@@ -50,10 +50,10 @@ module _ {T : Type 0} where
   marked_with_field s f = marked_field f s
 
   abbrev pub marked_constant : Scope T → Constant → Scope T
-  marked_constant s c = marked c.name Later s
+  marked_constant s c = mark_name c.name Later s
 
   abbrev pub marked_type : Scope T → TypeDecl → Scope T
-  marked_type s t = marked_in t.of (marked t.name Later s)
+  marked_type s t = marked_in t.of (mark_name t.name Later s)
 
   abbrev pub marked_variables : Scope T → Variables → Scope T
   marked_variables s v = marked_in v.of (fold marked_later s v.names)
@@ -62,4 +62,4 @@ module _ {T : Type 0} where
   marked_def s (def.Constants cs) = fold marked_constant s cs
   marked_def s (def.Types ts) = fold marked_type s ts
   marked_def s (def.Variables vs) = fold marked_variables s vs
-  marked_def s (def.Procedure h) = marked h.name Ahead s
+  marked_def s (def.Procedure h) = mark_name h.name Ahead s

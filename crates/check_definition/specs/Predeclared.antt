@@ -12,7 +12,7 @@ use Rattle.typed_tree.specs.declared.meaning.Meaning.TheVariants as meaning
 use Rattle.typed_tree.specs.declared.table.ModuleTypes.{ModuleTypes}
 use Rattle.typed_tree.specs.declared.table.Table.{Table}
 use Rattle.typed_tree.specs.Types.{integer, cardinal, boolean, char, bitset}
-use Rattle.typed_tree.specs.Names.{entered}
+use Rattle.typed_tree.specs.Names.{enter_name}
 use Rattle.check_scope.specs.declared.known.Origin.TheVariants.{Here}
 use Rattle.check_scope.specs.declared.known.Known.{Known}
 use Rattle.check_scope.specs.declared.known.Known.TheVariants.{Declared}
@@ -23,7 +23,7 @@ use Rattle.check_scope.specs.declared.scope.Scope.{Scope}
 
 module _ {T : Type 0} where
   abbrev pub predeclared_as : List ℕ → Meaning → List (List ℕ × Known T) → List (List ℕ × Known T)
-  predeclared_as name m ns = entered name (Declared Here (Ok m)) ns
+  predeclared_as name m ns = enter_name name (Declared Here (Ok m)) ns
 
   abbrev pub with_types : List (List ℕ × Known T) → List (List ℕ × Known T)
   with_types ns =
@@ -65,8 +65,8 @@ module _ {T : Type 0} where
       (predeclared_as (codes "DEC") (meaning.Standard Dec)
       (predeclared_as (codes "INC") (meaning.Standard Inc) ns))))
 
-  unfoldable pub predeclared : List (List ℕ × Known T)
-  predeclared = with_procedures (with_bounds (with_functions (with_truth (with_types []))))
+  unfoldable pub predeclared_names : List (List ℕ × Known T)
+  predeclared_names = with_procedures (with_bounds (with_functions (with_truth (with_types []))))
 
 -- ---- Console
 
@@ -93,7 +93,7 @@ others_of tables = fold with_table [] tables
 
 module _ {T : Type 0} where
   abbrev pub predeclared_block : Block T
-  predeclared_block = record { names = predeclared {T = T}; seen = length (predeclared {T = T}) }
+  predeclared_block = record { names = predeclared_names {T = T}; seen = length (predeclared_names {T = T}) }
 
   abbrev pub first_scope : ℕ → List Table → Scope T
   first_scope home tables = record {

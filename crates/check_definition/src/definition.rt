@@ -3,14 +3,14 @@
 ghost use Rattle.std.specs.Prelude.{◌≡◌, IfOk, ◌++◌, ◌∷◌, []};
 ghost use Rattle.check_scope.specs.Elaborated.{least};
 ghost use Rattle.check_definition.specs.Predeclared.{console};
-ghost use Rattle.check_definition.specs.Compiled.{table_of, declared_in, table_or, of_definition, compiled};
+ghost use Rattle.check_definition.specs.Compiled.{table_of, declared_in, table_or, of_definition, definition_table};
 
 use crate::declare::declare_all;
 use crate::export::{exports, imported_modules, reached_of};
 use crate::importing::{import_all, modules_of};
 use crate::marking::mark_defs;
 use crate::predeclared::{console, first_scope};
-use check_scope::{Elaborated, Scope, reported};
+use check_scope::{Elaborated, Scope, report};
 use m2_rule::{Breach, Rule};
 use m2_tree::{Contents, Def, Module};
 use std::alloc::{AllocError, Global};
@@ -112,12 +112,12 @@ pub fn compile_definition(
     tree: &Module,
     imports: Items<Shared<Table>>,
 ) -> Result<Elaborated<Table>, AllocError>
-    ensures { IfOk result (λ j. j ≡ compiled least number tree.now imports) }
+    ensures { IfOk result (λ j. j ≡ definition_table least number tree.now imports) }
 {
     let tables = with_console(alloc, imports)?;
     match &tree.contents {
         Contents::Definition(defs) => of_definition(alloc, number, tree, tables, defs.as_slice()),
-        Contents::Implementation(_) => Ok(reported(tree.name.pos, Rule::LonelyModule)),
-        Contents::Program(_) => Ok(reported(tree.name.pos, Rule::LonelyModule)),
+        Contents::Implementation(_) => Ok(report(tree.name.pos, Rule::LonelyModule)),
+        Contents::Program(_) => Ok(report(tree.name.pos, Rule::LonelyModule)),
     }
 }

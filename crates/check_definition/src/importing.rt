@@ -10,7 +10,7 @@ ghost use Rattle.check_definition.specs.Steps.{if_some};
 ghost use Rattle.check_definition.specs.Importing.{with_place, numbered_modules, module_named, with_module_as, with_module_name, with_entry, brings_in, brings_of, reported_of_taken, from_place, with_from, exports_of, from_module, with_import};
 ghost use Rattle.m2_rule.specs.declared.rule.Rule.TheVariants as rule;
 
-use check_scope::{Elaborated, Known, Origin, Scope, beside, import, reported};
+use check_scope::{Elaborated, Known, Origin, Scope, beside, import, report};
 use m2_rule::{Breach, Rule};
 use m2_tree::{Ident, Import, Pos};
 use std::alloc::{AllocError, Global};
@@ -47,7 +47,7 @@ fn module_named(modules: &Dictionary<usize>, name: &Ident) -> Elaborated<usize>
     ensures { result ≡ module_named least modules.now name.now }
 {
     match modules.find(name.name.as_bytes()) {
-        None => reported(name.pos, Rule::MissingModule),
+        None => report(name.pos, Rule::MissingModule),
         Some(place) => Ok(*place),
     }
 }
@@ -197,8 +197,8 @@ fn reported_of_taken(known: Option<&Known<Breach>>, at: Pos, place: usize) -> Op
         None => None,
         Some(known) => match known {
             Known::Later | Known::Ahead => None,
-            Known::Begun => Some(reported(at, Rule::DeclaredTwice)),
-            Known::Headed(_) => Some(reported(at, Rule::DeclaredTwice)),
+            Known::Begun => Some(report(at, Rule::DeclaredTwice)),
+            Known::Headed(_) => Some(report(at, Rule::DeclaredTwice)),
             Known::Declared(origin, _) => Some(reported_unless_from(*origin, at, place)),
         },
     }
@@ -208,12 +208,12 @@ fn reported_unless_from(origin: Origin, at: Pos, place: usize) -> Elaborated<()>
     ensures { result ≡ reported_where least (not (is_one_origin origin (Export place))) at rule.DeclaredTwice (Ok tt) }
 {
     match origin {
-        Origin::Here | Origin::Module(_) => reported(at, Rule::DeclaredTwice),
+        Origin::Here | Origin::Module(_) => report(at, Rule::DeclaredTwice),
         Origin::Export(first) => {
             if first == place {
                 return Ok(());
             }
-            reported(at, Rule::DeclaredTwice)
+            report(at, Rule::DeclaredTwice)
         }
     }
 }
@@ -230,7 +230,7 @@ fn from_place(
     ensures { IfOk result (λ j. (scope.new, j) ≡ from_place least scope.old name.now place exported.now found) }
 {
     let Some(first) = found else {
-        return Ok(reported(name.pos, Rule::NotExported));
+        return Ok(report(name.pos, Rule::NotExported));
     };
     let known = scope.own.find(name.name.as_bytes());
     match reported_of_taken(known, name.pos, place) {

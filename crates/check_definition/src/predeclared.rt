@@ -2,7 +2,7 @@
 
 ghost use Rattle.std.specs.Prelude.{◌≡◌, [], IfOk, OnOk};
 ghost use Rattle.std.specs.List.{fold};
-ghost use Rattle.check_definition.specs.Predeclared.{predeclared_as, truth, with_types, with_truth, with_functions, with_bounds, with_procedures, predeclared, console, with_reached, with_table, others_of, first_scope};
+ghost use Rattle.check_definition.specs.Predeclared.{predeclared_as, truth, with_types, with_truth, with_functions, with_bounds, with_procedures, predeclared_names, console, with_reached, with_table, others_of, first_scope};
 
 use check_scope::{Block, Known, Origin, Scope};
 use m2_rule::Breach;
@@ -173,9 +173,9 @@ fn predeclare_procedures(
 }
 
 /// The predeclared names.
-#[tactic(auto, unfolding(crate::specs::Predeclared::predeclared))]
-fn predeclared(alloc: Global) -> Result<Dictionary<Known<Breach>>, AllocError>
-    ensures { IfOk result (λ names. names ≡ predeclared) }
+#[tactic(auto, unfolding(crate::specs::Predeclared::predeclared_names))]
+fn predeclared_names(alloc: Global) -> Result<Dictionary<Known<Breach>>, AllocError>
+    ensures { IfOk result (λ names. names ≡ predeclared_names) }
 {
     let mut names = Dictionary::new(alloc);
     predeclare_types(alloc, &mut names)?;
@@ -241,7 +241,7 @@ pub fn first_scope(
     ensures { IfOk result (λ s. s ≡ first_scope home tables) }
 {
     let others = others_of(alloc, tables.as_slice())?;
-    let names = predeclared(alloc)?;
+    let names = predeclared_names(alloc)?;
     let mut outer = Items::new(alloc);
     let seen = names.len();
     outer.push(Block { names, seen })?;

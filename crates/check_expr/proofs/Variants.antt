@@ -27,7 +27,7 @@ use Rattle.typed_tree.specs.declared.types.TypeNo.{TypeNo}
 use Rattle.typed_tree.specs.declared.meaning.Value.{Value}
 use Rattle.typed_tree.specs.declared.meaning.Value.TheVariants as value
 use Rattle.typed_tree.specs.Types.{char}
-use Rattle.check_const_ops.specs.Operands.{valued}
+use Rattle.check_const_ops.specs.Operands.{number_value}
 use Rattle.check_const_ops.specs.Operate as values
 use Rattle.check_const.specs.declared.denoted.Denoted.{Denoted}
 use Rattle.check_const.specs.declared.denoted.Denoted.TheVariants as denoted
@@ -36,8 +36,8 @@ use Rattle.check_const.specs.Parts.{Part, Pick, Adds, constant, named_type, set_
 use Rattle.check_const.specs.Parts as constants
 use Rattle.check_operator.specs.declared.computed.Computed.{Computed}
 use Rattle.check_operator.specs.declared.computed.Designated.{Designated}
-use Rattle.check_operator.specs.Signs.{negated}
-use Rattle.check_expr.specs.Meanings.{Meant, Picks, meant, picks, head, item, part, type_of, names_by, with_look, looked_at, look_in, taken_at, constant_factor_in, constant_term_in, constant_pick_in, item_in, of_computed, signed_first, relation, named, field_at, index_at, as_constant, value_of, factor, term, with_actual, factor_in, term_in, pick_in, actual_in, used}
+use Rattle.check_operator.specs.Signs.{negation}
+use Rattle.check_expr.specs.Meanings.{Meant, Picks, meanings_of, picks, head, item, part, type_of, names_by, with_look, breaches_in_all, look_in, value_standing, constant_factor_in, constant_term_in, constant_pick_in, item_in, of_computed, signed_first, relation, first_name, field_at, index_at, as_constant, value_of, factor, term, with_actual, factor_in, term_in, pick_in, actual_in, use_with}
 use Rattle.check_expr.proofs.Layers.{at, at_selector, at_designator, at_item}
 
 pub fold_mapped : {A X Y : Type 0} (f : A → Y → A) (h : X → Y) (a : A) (xs : List X) → fold f a (map h xs) ≡ fold (λ v x. f v (h x)) a xs
@@ -96,77 +96,77 @@ module _ (s : Scope Breach) where
   pub picks_Field : (p : Pos) (x : Ident) (d : Result Designated (Meaningless Breach)) → (picks least (Field p x)).picks s d ≡ field_at least s p x d
   picks_Field p x d = ap (λ (f : Picks Breach). f.picks s d) (at_selector (Field p x) (layer.Field p x) (outs-Field p x))
 
-  pub picks_Index : (p : Pos) (e : Expr) (d : Result Designated (Meaningless Breach)) → (picks least (Index p e)).picks s d ≡ index_at least s.types p d (meant least e).fixed.at (value_of least s (meant least e))
+  pub picks_Index : (p : Pos) (e : Expr) (d : Result Designated (Meaningless Breach)) → (picks least (Index p e)).picks s d ≡ index_at least s.types p d (meanings_of least e).fixed.at (value_of least s (meanings_of least e))
   picks_Index p e d = ap (λ (f : Picks Breach). f.picks s d) (at_selector (Index p e) (layer.Index p e) (outs-Index p e))
 
-  pub means_head : (d : Designator) → (head least d).means s ≡ fold (pick_in s) (named least s (out-Designator d).name) (out-Designator d).selectors
+  pub means_head : (d : Designator) → (head least d).means s ≡ fold (pick_in s) (first_name least s (out-Designator d).name) (out-Designator d).selectors
   means_head d = ap (λ (x : Meant Breach). x.means s) (at_designator d (out-Designator d) refl)
-      ∙ fold_mapped (λ x (p : Picks Breach). p.picks s x) (picks least) (named least s (out-Designator d).name) (out-Designator d).selectors
+      ∙ fold_mapped (λ x (p : Picks Breach). p.picks s x) (picks least) (first_name least s (out-Designator d).name) (out-Designator d).selectors
 
   -- ---- expressions
 
-  pub means_Number : (p : Pos) (n : ℕ) → (meant least (Number p n)).means s ≡ as_constant least s (meant least (Number p n)).fixed
+  pub means_Number : (p : Pos) (n : ℕ) → (meanings_of least (Number p n)).means s ≡ as_constant least s (meanings_of least (Number p n)).fixed
   means_Number p n = let e = at (Number p n) (layer.Number p n) (outs-Number p n) in
       ap (λ (x : Meant Breach). x.means s) e ∙ ap (λ (x : Meant Breach). as_constant least s x.fixed) (sym e)
 
-  pub means_Char : (p : Pos) (n : ℕ) → (meant least (Char p n)).means s ≡ as_constant least s (meant least (Char p n)).fixed
+  pub means_Char : (p : Pos) (n : ℕ) → (meanings_of least (Char p n)).means s ≡ as_constant least s (meanings_of least (Char p n)).fixed
   means_Char p n = let e = at (Char p n) (layer.Char p n) (outs-Char p n) in
       ap (λ (x : Meant Breach). x.means s) e ∙ ap (λ (x : Meant Breach). as_constant least s x.fixed) (sym e)
 
-  pub means_Text : (p : Pos) (t : List ℕ) → (meant least (Text p t)).means s ≡ as_constant least s (meant least (Text p t)).fixed
+  pub means_Text : (p : Pos) (t : List ℕ) → (meanings_of least (Text p t)).means s ≡ as_constant least s (meanings_of least (Text p t)).fixed
   means_Text p t = let e = at (Text p t) (layer.Text p t) (outs-Text p t) in
       ap (λ (x : Meant Breach). x.means s) e ∙ ap (λ (x : Meant Breach). as_constant least s x.fixed) (sym e)
 
-  pub means_Set : (q : Option Ident) (p : Pos) (items : List Item) → (meant least (Set q p items)).means s ≡ as_constant least s (meant least (Set q p items)).fixed
+  pub means_Set : (q : Option Ident) (p : Pos) (items : List Item) → (meanings_of least (Set q p items)).means s ≡ as_constant least s (meanings_of least (Set q p items)).fixed
   means_Set q p items = let e = at (Set q p items) (layer.Set q p items) (outs-Set q p items) in
       ap (λ (x : Meant Breach). x.means s) e ∙ ap (λ (x : Meant Breach). as_constant least s x.fixed) (sym e)
 
-  pub means_Not : (p : Pos) (e : Expr) → (meant least (Not p e)).means s ≡ of_computed (negated least p (value_of least s (meant least e)))
+  pub means_Not : (p : Pos) (e : Expr) → (meanings_of least (Not p e)).means s ≡ of_computed (negation least p (value_of least s (meanings_of least e)))
   means_Not p e = ap (λ (x : Meant Breach). x.means s) (at (Not p e) (layer.Not p e) (outs-Not p e))
 
-  pub means_Bracketed : (p : Pos) (e : Expr) → (meant least (Bracketed p e)).means s ≡ of_computed (value_of least s (meant least e))
+  pub means_Bracketed : (p : Pos) (e : Expr) → (meanings_of least (Bracketed p e)).means s ≡ of_computed (value_of least s (meanings_of least e))
   means_Bracketed p e = ap (λ (x : Meant Breach). x.means s) (at (Bracketed p e) (layer.Bracketed p e) (outs-Bracketed p e))
 
-  pub means_Use : (d : Designator) (args : Option (List Expr)) → (meant least (Use d args)).means s ≡ used s (head least d) args
+  pub means_Use : (d : Designator) (args : Option (List Expr)) → (meanings_of least (Use d args)).means s ≡ use_with s (head least d) args
   means_Use d None = ap (λ (x : Meant Breach). x.means s) (at (Use d None) (layer.Use d None) (outs-Use d None))
   means_Use d (Some es) = ap (λ (x : Meant Breach). x.means s) (at (Use d (Some es)) (layer.Use d (Some es)) (outs-Use d (Some es)))
 
-  pub means_Term : (e : Expr) (rest : List (Operator MulOp × Expr)) → (meant least (Term e rest)).means s ≡ of_computed (fold (factor_in s (meant least e).fixed.at) (value_of least s (meant least e)) rest)
+  pub means_Term : (e : Expr) (rest : List (Operator MulOp × Expr)) → (meanings_of least (Term e rest)).means s ≡ of_computed (fold (factor_in s (meanings_of least e).fixed.at) (value_of least s (meanings_of least e)) rest)
   means_Term e rest = ap (λ (x : Meant Breach). x.means s) (at (Term e rest) (layer.Term e rest) (outs-Term e rest))
-      ∙ ap of_computed (fold_mapped (factor least s (meant least e).fixed.at) (λ x. (x.0, meant least x.1)) (value_of least s (meant least e)) rest)
+      ∙ ap of_computed (fold_mapped (factor least s (meanings_of least e).fixed.at) (λ x. (x.0, meanings_of least x.1)) (value_of least s (meanings_of least e)) rest)
 
   pub means_Sum : (o : Option (Operator Sign)) (e : Expr) (rest : List (Operator AddOp × Expr)) →
-      (meant least (Sum o e rest)).means s ≡ of_computed (fold (term_in s (sign_place o (meant least e).fixed.at)) (signed_first least o (value_of least s (meant least e))) rest)
+      (meanings_of least (Sum o e rest)).means s ≡ of_computed (fold (term_in s (sign_place o (meanings_of least e).fixed.at)) (signed_first least o (value_of least s (meanings_of least e))) rest)
   means_Sum o e rest = ap (λ (x : Meant Breach). x.means s) (at (Sum o e rest) (layer.Sum o e rest) (outs-Sum o e rest))
-      ∙ ap of_computed (fold_mapped (term least s (sign_place o (meant least e).fixed.at)) (λ x. (x.0, meant least x.1)) (signed_first least o (value_of least s (meant least e))) rest)
+      ∙ ap of_computed (fold_mapped (term least s (sign_place o (meanings_of least e).fixed.at)) (λ x. (x.0, meanings_of least x.1)) (signed_first least o (value_of least s (meanings_of least e))) rest)
 
-  pub means_Relation : (a : Expr) (o : Operator RelOp) (b : Expr) → (meant least (Relation a o b)).means s ≡ of_computed (relation least s (meant least a) o (meant least b))
+  pub means_Relation : (a : Expr) (o : Operator RelOp) (b : Expr) → (meanings_of least (Relation a o b)).means s ≡ of_computed (relation least s (meanings_of least a) o (meanings_of least b))
   means_Relation a o b = ap (λ (x : Meant Breach). x.means s) (at (Relation a o b) (layer.Relation a o b) (outs-Relation a o b))
 
 -- ---- what is computed is its own value
 
-computed_again : (types : Types) (p : Pos) (v : Result Computed Breach) → taken_at least types p (of_computed v) ≡ v
+computed_again : (types : Types) (p : Pos) (v : Result Computed Breach) → value_standing least types p (of_computed v) ≡ v
 computed_again types p (Ok v) = refl
 computed_again types p (Err b) = refl
 
-value_by : (s : Scope Breach) (e : Expr) (v : Result Computed Breach) → (meant least e).means s ≡ of_computed v → value_of least s (meant least e) ≡ v
-value_by s e v h = ap (taken_at least s.types (meant least e).fixed.at) h ∙ computed_again s.types (meant least e).fixed.at v
+value_by : (s : Scope Breach) (e : Expr) (v : Result Computed Breach) → (meanings_of least e).means s ≡ of_computed v → value_of least s (meanings_of least e) ≡ v
+value_by s e v h = ap (value_standing least s.types (meanings_of least e).fixed.at) h ∙ computed_again s.types (meanings_of least e).fixed.at v
 
 module _ (s : Scope Breach) where
-  pub value_Not : (p : Pos) (e : Expr) → value_of least s (meant least (Not p e)) ≡ negated least p (value_of least s (meant least e))
+  pub value_Not : (p : Pos) (e : Expr) → value_of least s (meanings_of least (Not p e)) ≡ negation least p (value_of least s (meanings_of least e))
   value_Not p e = value_by s (Not p e) _ (means_Not s p e)
 
-  pub value_Bracketed : (p : Pos) (e : Expr) → value_of least s (meant least (Bracketed p e)) ≡ value_of least s (meant least e)
+  pub value_Bracketed : (p : Pos) (e : Expr) → value_of least s (meanings_of least (Bracketed p e)) ≡ value_of least s (meanings_of least e)
   value_Bracketed p e = value_by s (Bracketed p e) _ (means_Bracketed s p e)
 
-  pub value_Term : (e : Expr) (rest : List (Operator MulOp × Expr)) → value_of least s (meant least (Term e rest)) ≡ fold (factor_in s (meant least e).fixed.at) (value_of least s (meant least e)) rest
+  pub value_Term : (e : Expr) (rest : List (Operator MulOp × Expr)) → value_of least s (meanings_of least (Term e rest)) ≡ fold (factor_in s (meanings_of least e).fixed.at) (value_of least s (meanings_of least e)) rest
   value_Term e rest = value_by s (Term e rest) _ (means_Term s e rest)
 
   pub value_Sum : (o : Option (Operator Sign)) (e : Expr) (rest : List (Operator AddOp × Expr)) →
-      value_of least s (meant least (Sum o e rest)) ≡ fold (term_in s (sign_place o (meant least e).fixed.at)) (signed_first least o (value_of least s (meant least e))) rest
+      value_of least s (meanings_of least (Sum o e rest)) ≡ fold (term_in s (sign_place o (meanings_of least e).fixed.at)) (signed_first least o (value_of least s (meanings_of least e))) rest
   value_Sum o e rest = value_by s (Sum o e rest) _ (means_Sum s o e rest)
 
-  pub value_Relation : (a : Expr) (o : Operator RelOp) (b : Expr) → value_of least s (meant least (Relation a o b)) ≡ relation least s (meant least a) o (meant least b)
+  pub value_Relation : (a : Expr) (o : Operator RelOp) (b : Expr) → value_of least s (meanings_of least (Relation a o b)) ≡ relation least s (meanings_of least a) o (meanings_of least b)
   value_Relation a o b = value_by s (Relation a o b) _ (means_Relation s a o b)
 
 pub ruleset values = (value_Not, value_Bracketed, value_Term, value_Sum, value_Relation)
@@ -177,7 +177,7 @@ abbrev pub opened_high : Option Expr → Option (Part Breach)
 opened_high None = None
 opened_high (Some e) = Some (part least e)
 
-item_at : (i : Item) (low : Expr) (high : Option Expr) → out-Item i ≡ record { low = low; high = high } → (s : Scope Breach) → item least i s ≡ constants.added least s (part least low) (opened_high high)
+item_at : (i : Item) (low : Expr) (high : Option Expr) → out-Item i ≡ record { low = low; high = high } → (s : Scope Breach) → item least i s ≡ constants.element_or_range least s (part least low) (opened_high high)
 item_at i low None h s = ap (λ (f : Adds Breach). f s) (at_item i (record { low = low; high = None }) h)
 item_at i low (Some e) h s = ap (λ (f : Adds Breach). f s) (at_item i (record { low = low; high = Some e }) h)
 
@@ -186,7 +186,7 @@ constants_if None = None
 constants_if (Some es) = Some (map (part least) es)
 
 module _ (s : Scope Breach) where
-  pub adds_is : (i : Item) → item least i s ≡ constants.added least s (part least (out-Item i).low) (opened_high (out-Item i).high)
+  pub adds_is : (i : Item) → item least i s ≡ constants.element_or_range least s (part least (out-Item i).low) (opened_high (out-Item i).high)
   adds_is i = item_at i (out-Item i).low (out-Item i).high refl s
 
   pub fixed_Field : (p : Pos) (x : Ident) (d : Result Denoted Breach) → (picks least (Field p x)).fixed s d ≡ (d ▷ constants.field_of least s p x)
@@ -198,14 +198,14 @@ module _ (s : Scope Breach) where
   picked_is : (r : Result Denoted Breach) (xs : List Selector) → fold (λ x p. p s x) r (map (λ (p : Picks Breach). p.fixed) (map (picks least) xs)) ≡ fold (constant_pick_in s) r xs
   picked_is r xs = fold_mapped (λ x (p : Pick Breach). p s x) (λ (p : Picks Breach). p.fixed) r (map (picks least) xs) ∙ fold_mapped (λ x (p : Picks Breach). p.fixed s x) (picks least) r xs
 
-  pub denotes_head : (d : Designator) → (head least d).fixed.denotes s ≡ fold (constant_pick_in s) (constants.named least s (out-Designator d).name) (out-Designator d).selectors
+  pub denotes_head : (d : Designator) → (head least d).fixed.denotes s ≡ fold (constant_pick_in s) (constants.first_name least s (out-Designator d).name) (out-Designator d).selectors
   denotes_head d = ap (λ (x : Meant Breach). x.fixed.denotes s) (at_designator d (out-Designator d) refl)
-      ∙ picked_is (constants.named least s (out-Designator d).name) (out-Designator d).selectors
+      ∙ picked_is (constants.first_name least s (out-Designator d).name) (out-Designator d).selectors
 
   pub denotes_Number : (p : Pos) (n : ℕ) → (part least (Number p n)).denotes s ≡ Ok (denoted.Value (value.Number (pos n)))
   denotes_Number p n = ap (λ (x : Meant Breach). x.fixed.denotes s) (at (Number p n) (layer.Number p n) (outs-Number p n))
 
-  pub denotes_Char : (p : Pos) (n : ℕ) → (part least (Char p n)).denotes s ≡ Ok (denoted.Value (valued (Some char) (pos n)))
+  pub denotes_Char : (p : Pos) (n : ℕ) → (part least (Char p n)).denotes s ≡ Ok (denoted.Value (number_value (Some char) (pos n)))
   denotes_Char p n = ap (λ (x : Meant Breach). x.fixed.denotes s) (at (Char p n) (layer.Char p n) (outs-Char p n))
 
   pub denotes_Text : (p : Pos) (t : List ℕ) → (part least (Text p t)).denotes s ≡ Ok (denoted.Value (value.Text t))
@@ -218,7 +218,7 @@ module _ (s : Scope Breach) where
   denotes_Set q p items = ap (λ (x : Meant Breach). x.fixed.denotes s) (at (Set q p items) (layer.Set q p items) (outs-Set q p items))
       ∙ ap (λ (b : Result ℕ Breach). set_of least (set_type least s q) b) (items_are items)
 
-  pub denotes_Not : (p : Pos) (e : Expr) → (part least (Not p e)).denotes s ≡ of_value (values.negated least p (constant least s (part least e)))
+  pub denotes_Not : (p : Pos) (e : Expr) → (part least (Not p e)).denotes s ≡ of_value (values.negation least p (constant least s (part least e)))
   denotes_Not p e = ap (λ (x : Meant Breach). x.fixed.denotes s) (at (Not p e) (layer.Not p e) (outs-Not p e))
 
   pub denotes_Bracketed : (p : Pos) (e : Expr) → (part least (Bracketed p e)).denotes s ≡ of_value (constant least s (part least e))
@@ -227,17 +227,17 @@ module _ (s : Scope Breach) where
   pub denotes_Use : (d : Designator) (args : Option (List Expr)) → (part least (Use d args)).denotes s ≡ (constants.used_with least (head least d).fixed (constants_if args)).denotes s
   denotes_Use d None = ap (λ (x : Meant Breach). x.fixed.denotes s) (at (Use d None) (layer.Use d None) (outs-Use d None))
   denotes_Use d (Some es) = ap (λ (x : Meant Breach). x.fixed.denotes s) (at (Use d (Some es)) (layer.Use d (Some es)) (outs-Use d (Some es)))
-      ∙ ap (λ (xs : List (Part Breach)). of_value (constants.called least s (head least d).fixed.at ((head least d).fixed.denotes s) xs)) (map_mapped (λ (x : Meant Breach). x.fixed) (meant least) es)
+      ∙ ap (λ (xs : List (Part Breach)). of_value (constants.call_value least s (head least d).fixed.at ((head least d).fixed.denotes s) xs)) (map_mapped (λ (x : Meant Breach). x.fixed) (meanings_of least) es)
 
   factors_are : (p : Pos) (v : Result Value Breach) (rest : List (Operator MulOp × Expr)) →
-      fold (constants.factor least s p) v (map (λ (x : Operator MulOp × Meant Breach). (x.0, x.1.fixed)) (map (λ (x : Operator MulOp × Expr). (x.0, meant least x.1)) rest)) ≡ fold (constant_factor_in s p) v rest
-  factors_are p v rest = fold_mapped (constants.factor least s p) (λ (x : Operator MulOp × Meant Breach). (x.0, x.1.fixed)) v (map (λ (x : Operator MulOp × Expr). (x.0, meant least x.1)) rest)
-      ∙ fold_mapped (λ (w : Result Value Breach) (x : Operator MulOp × Meant Breach). constants.factor least s p w (x.0, x.1.fixed)) (λ (x : Operator MulOp × Expr). (x.0, meant least x.1)) v rest
+      fold (constants.factor least s p) v (map (λ (x : Operator MulOp × Meant Breach). (x.0, x.1.fixed)) (map (λ (x : Operator MulOp × Expr). (x.0, meanings_of least x.1)) rest)) ≡ fold (constant_factor_in s p) v rest
+  factors_are p v rest = fold_mapped (constants.factor least s p) (λ (x : Operator MulOp × Meant Breach). (x.0, x.1.fixed)) v (map (λ (x : Operator MulOp × Expr). (x.0, meanings_of least x.1)) rest)
+      ∙ fold_mapped (λ (w : Result Value Breach) (x : Operator MulOp × Meant Breach). constants.factor least s p w (x.0, x.1.fixed)) (λ (x : Operator MulOp × Expr). (x.0, meanings_of least x.1)) v rest
 
   terms_are : (p : Pos) (v : Result Value Breach) (rest : List (Operator AddOp × Expr)) →
-      fold (constants.term least s p) v (map (λ (x : Operator AddOp × Meant Breach). (x.0, x.1.fixed)) (map (λ (x : Operator AddOp × Expr). (x.0, meant least x.1)) rest)) ≡ fold (constant_term_in s p) v rest
-  terms_are p v rest = fold_mapped (constants.term least s p) (λ (x : Operator AddOp × Meant Breach). (x.0, x.1.fixed)) v (map (λ (x : Operator AddOp × Expr). (x.0, meant least x.1)) rest)
-      ∙ fold_mapped (λ (w : Result Value Breach) (x : Operator AddOp × Meant Breach). constants.term least s p w (x.0, x.1.fixed)) (λ (x : Operator AddOp × Expr). (x.0, meant least x.1)) v rest
+      fold (constants.term least s p) v (map (λ (x : Operator AddOp × Meant Breach). (x.0, x.1.fixed)) (map (λ (x : Operator AddOp × Expr). (x.0, meanings_of least x.1)) rest)) ≡ fold (constant_term_in s p) v rest
+  terms_are p v rest = fold_mapped (constants.term least s p) (λ (x : Operator AddOp × Meant Breach). (x.0, x.1.fixed)) v (map (λ (x : Operator AddOp × Expr). (x.0, meanings_of least x.1)) rest)
+      ∙ fold_mapped (λ (w : Result Value Breach) (x : Operator AddOp × Meant Breach). constants.term least s p w (x.0, x.1.fixed)) (λ (x : Operator AddOp × Expr). (x.0, meanings_of least x.1)) v rest
 
   pub denotes_Term : (e : Expr) (rest : List (Operator MulOp × Expr)) → (part least (Term e rest)).denotes s ≡ of_value (fold (constant_factor_in s (part least e).at) (constant least s (part least e)) rest)
   denotes_Term e rest = ap (λ (x : Meant Breach). x.fixed.denotes s) (at (Term e rest) (layer.Term e rest) (outs-Term e rest))
@@ -249,7 +249,7 @@ module _ (s : Scope Breach) where
       ∙ ap of_value (terms_are (sign_place o (part least e).at) (constants.signed_first least o (constant least s (part least e))) rest)
 
   pub denotes_Relation : (a : Expr) (o : Operator RelOp) (b : Expr) → (part least (Relation a o b)).denotes s
-      ≡ constants.related least o (part least a).at (constant least s (part least a)) (part least b).at (constant least s (part least b))
+      ≡ constants.relation_value least o (part least a).at (constant least s (part least a)) (part least b).at (constant least s (part least b))
   denotes_Relation a o b = ap (λ (x : Meant Breach). x.fixed.denotes s) (at (Relation a o b) (layer.Relation a o b) (outs-Relation a o b))
 
   -- ---- the types that they name
@@ -302,15 +302,15 @@ module _ (s : Scope Breach) where
       names_are d _ h _ _ refl
       ∙ ap (λ (x : Meant Breach). names_by (out-Designator d).selectors (named_type (x.fixed.denotes s)) (type_of least x.fixed.at (x.means s))) (sym h)
 
-pub count_is : (es : List Expr) → length (map (meant least) es) ≡ length es
+pub count_is : (es : List Expr) → length (map (meanings_of least) es) ≡ length es
 count_is [] = refl
 count_is (e ∷ es) = ap suc (count_is es)
 
-pub actuals_is : (s : Scope Breach) (fs : List Formal) (es : List Expr) → (fold (with_actual least s) (fs, Ok []) (map (meant least) es)).1 ≡ (fold (actual_in s) (fs, Ok []) es).1
-actuals_is s fs es = ap (λ (st : List Formal × Result (List Argument) Breach). st.1) (fold_mapped (with_actual least s) (meant least) (fs, Ok []) es)
+pub actuals_is : (s : Scope Breach) (fs : List Formal) (es : List Expr) → (fold (with_actual least s) (fs, Ok []) (map (meanings_of least) es)).1 ≡ (fold (actual_in s) (fs, Ok []) es).1
+actuals_is s fs es = ap (λ (st : List Formal × Result (List Argument) Breach). st.1) (fold_mapped (with_actual least s) (meanings_of least) (fs, Ok []) es)
 
-pub looks_is : (s : Scope Breach) (es : List Expr) → looked_at least s (map (meant least) es) ≡ fold (look_in s) (Ok tt) es
-looks_is s es = fold_mapped (with_look least s) (meant least) (Ok tt) es
+pub looks_is : (s : Scope Breach) (es : List Expr) → breaches_in_all least s (map (meanings_of least) es) ≡ fold (look_in s) (Ok tt) es
+looks_is s es = fold_mapped (with_look least s) (meanings_of least) (Ok tt) es
 
 pub ruleset variants = (at_Use, head_at, picks_Field, picks_Index, means_head, means_Number, means_Char, means_Text, means_Set, means_Not, means_Bracketed, means_Use, means_Term, means_Sum, means_Relation, fixed_Field, fixed_Index, denotes_head, denotes_Number, denotes_Char, denotes_Text, denotes_Set, denotes_Not, denotes_Bracketed, denotes_Use, denotes_Term, denotes_Sum, denotes_Relation)
 
@@ -318,10 +318,10 @@ pub ruleset naming = (names_Number, names_Char, names_Text, names_Set, names_Not
 
 pub relation_is : (s : Scope Breach) (e a : Expr) (o : Operator RelOp) (b a1 b1 : Expr) (r : Result Denoted Breach) (x y : Result Value Breach)
     → e ≡ Relation a o b → a1 ≡ a → b1 ≡ b → x ≡ constant least s (part least a1) → y ≡ constant least s (part least b1)
-    → r ≡ constants.related least o (part least a1).at x (part least b1).at y → r ≡ (part least e).denotes s
+    → r ≡ constants.relation_value least o (part least a1).at x (part least b1).at y → r ≡ (part least e).denotes s
 relation_is s e a o b a1 b1 r x y h h1 h2 hx hy hr =
-    hr ∙ ap (λ (x : Result Value Breach). constants.related least o (part least a1).at x (part least b1).at y) hx
-    ∙ ap (λ (y : Result Value Breach). constants.related least o (part least a1).at (constant least s (part least a1)) (part least b1).at y) hy
-    ∙ ap (λ (c : Expr). constants.related least o (part least c).at (constant least s (part least c)) (part least b1).at (constant least s (part least b1))) h1
-    ∙ ap (λ (c : Expr). constants.related least o (part least a).at (constant least s (part least a)) (part least c).at (constant least s (part least c))) h2
+    hr ∙ ap (λ (x : Result Value Breach). constants.relation_value least o (part least a1).at x (part least b1).at y) hx
+    ∙ ap (λ (y : Result Value Breach). constants.relation_value least o (part least a1).at (constant least s (part least a1)) (part least b1).at y) hy
+    ∙ ap (λ (c : Expr). constants.relation_value least o (part least c).at (constant least s (part least c)) (part least b1).at (constant least s (part least b1))) h1
+    ∙ ap (λ (c : Expr). constants.relation_value least o (part least a).at (constant least s (part least a)) (part least c).at (constant least s (part least c))) h2
     ∙ sym (denotes_Relation s a o b) ∙ ap (λ (e : Expr). (part least e).denotes s) (sym h)

@@ -24,7 +24,7 @@ use Rattle.typed_tree.specs.declared.shape.Signature.{Signature}
 use Rattle.typed_tree.specs.declared.meaning.Standard.{Standard}
 use Rattle.typed_tree.specs.declared.known_types.Types.{Types}
 use Rattle.check_scope.specs.declared.meaningless.Meaningless.{Meaningless}
-use Rattle.check_scope.specs.Elaborated.{Gathers, least, reported, reported_beside, both, beside, ahead, of_sort, of_heading, plain, ◌▷◌}
+use Rattle.check_scope.specs.Elaborated.{Gathers, least, report, reported_beside, both, beside, ahead, of_sort, of_heading, plain, ◌▷◌}
 use Rattle.check_scope.specs.declared.scope.Scope.{Scope}
 use Rattle.check_scope.specs.Scopes.{looked_up}
 use Rattle.check_const_ops.specs.declared.operator.BinaryOp.TheVariants as op
@@ -38,10 +38,10 @@ use Rattle.check_operator.specs.declared.computed.Computed.TheVariants as value
 use Rattle.check_operator.specs.declared.computed.Designated.{Designated}
 use Rattle.check_operator.specs.declared.computed.Designated.TheVariants as designated
 use Rattle.check_operator.specs.Classes.{signature_at}
-use Rattle.check_operator.specs.Values.{designated_by, given, taken}
-use Rattle.check_operator.specs.Operations.{combined}
-use Rattle.check_operator.specs.Signs.{signed, negated}
-use Rattle.check_operator.specs.Selection.{field, indices, indexed}
+use Rattle.check_operator.specs.Values.{designated_by, function_result, value_at_place}
+use Rattle.check_operator.specs.Operations.{operation_between}
+use Rattle.check_operator.specs.Signs.{with_sign, negation}
+use Rattle.check_operator.specs.Selection.{field, indices, element_at_index}
 use Rattle.check_call.specs.declared.callee.Callee.{Callee}
 use Rattle.check_call.specs.declared.callee.Called.{Called}
 use Rattle.check_call.specs.declared.callee.Called.TheVariants as called
@@ -68,24 +68,24 @@ pub record Picks (T : Type 0) : Type 0 where
 abbrev pub of_computed : {T : Type 0} → Result Computed T → Result Designated (Meaningless T)
 of_computed x = plain (x ▷ λ v. Ok (designated.Value v))
 
-abbrev pub taken_at : (g : Gathers) → Types → Pos → Result Designated (Meaningless g.Reported)
+abbrev pub value_standing : (g : Gathers) → Types → Pos → Result Designated (Meaningless g.Reported)
     → Result Computed g.Reported
-taken_at g types at d = of_heading d ▷ taken g types at
+value_standing g types at d = of_heading d ▷ value_at_place g types at
 
 abbrev pub signed_first : (g : Gathers) → Option (Operator Sign) → Result Computed g.Reported
     → Result Computed g.Reported
 signed_first g None x = x
-signed_first g (Some o) x = signed g o.op o.pos x
+signed_first g (Some o) x = with_sign g o.op o.pos x
 
-abbrev pub related : (g : Gathers) → Types → Operator RelOp → Pos → Result Computed g.Reported → Pos
+abbrev pub relation_value : (g : Gathers) → Types → Operator RelOp → Pos → Result Computed g.Reported → Pos
     → Result Computed g.Reported → Result Computed g.Reported
-related g types o at x at' y = combined g types (op.Relation o.op) o.pos at x at' y
+relation_value g types o at x at' y = operation_between g types (op.Relation o.op) o.pos at x at' y
 
 -- ---- designators
 
-abbrev pub named : (g : Gathers) → Scope g.Reported → Ident
+abbrev pub first_name : (g : Gathers) → Scope g.Reported → Ident
     → Result Designated (Meaningless g.Reported)
-named g s name = looked_up g s name ▷ λ m. plain (designated_by g s.level name.pos m)
+first_name g s name = looked_up g s name ▷ λ m. plain (designated_by g s.level name.pos m)
 
 abbrev pub member_of : (g : Gathers) → Scope g.Reported → ℕ → Ident → Result Designated g.Reported
 member_of g s k name = member g s.tables k name ▷ designated_by g s.level name.pos
@@ -110,7 +110,7 @@ field_at g s at name d = plain (of_sort g at rule.WrongType d ▷ field_of g s a
 abbrev pub index_at : (g : Gathers) → Types → Pos → Result Designated (Meaningless g.Reported) → Pos
     → Result Computed g.Reported → Result Designated (Meaningless g.Reported)
 index_at g types at d at' x =
-    plain (indexed g types (of_sort g at rule.WrongType d ▷ indices g types at) at' x)
+    plain (element_at_index g types (of_sort g at rule.WrongType d ▷ indices g types at) at' x)
 
 -- ---- arguments that name a type
 
@@ -147,12 +147,12 @@ passed_for g f at d = cond f.is_var (of_sort g at rule.NoVariable d) (of_heading
 
 abbrev pub argument_by : (g : Gathers) → Types → Option Formal → Pos
     → Result Designated (Meaningless g.Reported) → Result Argument g.Reported
-argument_by g types None at d = reported g at rule.ArgumentCount
+argument_by g types None at d = report g at rule.ArgumentCount
 argument_by g types (Some f) at d = passed_for g f at d ▷ actual g types f at
 
 abbrev pub call_given : (g : Gathers) → Types → TypeNo → Callee → Result (List Argument) g.Reported
     → Result Computed g.Reported
-call_given g types t c args = args ▷ λ xs. Ok (given types t (expr.Call t (call_by xs c)))
+call_given g types t c args = args ▷ λ xs. Ok (function_result types t (expr.Call t (call_by xs c)))
 
 module _ (g : Gathers) where
   -- a constant expression as it stands
@@ -162,7 +162,7 @@ module _ (g : Gathers) where
 
   -- a part taken as a value
   abbrev pub value_of : Scope g.Reported → Meant g.Reported → Result Computed g.Reported
-  value_of s x = taken_at g s.types x.fixed.at (x.means s)
+  value_of s x = value_standing g s.types x.fixed.at (x.means s)
 
   -- ---- calls
 
@@ -171,13 +171,13 @@ module _ (g : Gathers) where
       → Result (Unit {0}) g.Reported
   with_look s so x = beside g so (of_heading (x.means s) ▷ λ d. Ok tt)
 
-  abbrev pub looked_at : Scope g.Reported → List (Meant g.Reported) → Result (Unit {0}) g.Reported
-  looked_at s args = fold (with_look s) (Ok tt) args
+  abbrev pub breaches_in_all : Scope g.Reported → List (Meant g.Reported) → Result (Unit {0}) g.Reported
+  breaches_in_all s args = fold (with_look s) (Ok tt) args
 
   -- a wrong number of arguments
-  abbrev pub miscounted : {A : Type 0} → Scope g.Reported → Pos → List (Meant g.Reported)
+  abbrev pub wrong_count : {A : Type 0} → Scope g.Reported → Pos → List (Meant g.Reported)
       → Result A g.Reported
-  miscounted s at args = reported_beside g at rule.ArgumentCount (looked_at s args)
+  wrong_count s at args = reported_beside g at rule.ArgumentCount (breaches_in_all s args)
 
   -- the arguments, one after the other, with the formals that are left
   abbrev pub with_actual : Scope g.Reported → List Formal × Result (List Argument) g.Reported
@@ -194,35 +194,35 @@ module _ (g : Gathers) where
   abbrev pub routine_called : Scope g.Reported → Pos → TypeNo → Callee → List (Meant g.Reported)
       → Result Computed g.Reported
   routine_called s at h c args =
-      ahead g (function_of g at (signature_at s.types h) (length args)) (looked_at s args)
+      ahead g (function_of g at (signature_at s.types h) (length args)) (breaches_in_all s args)
       (λ t. call_given g s.types t c (actuals s (formals_of (signature_at s.types h)) args))
 
   abbrev pub unary : Scope g.Reported → Pos → Standard → Unary → List (Meant g.Reported)
       → Result Computed g.Reported
-  unary s at f u [] = miscounted s at []
+  unary s at f u [] = wrong_count s at []
   unary s at f u (x ∷ []) = value_of s x ▷ unary_at g f u x.fixed.at
-  unary s at f u (x ∷ y ∷ xs) = miscounted s at (x ∷ y ∷ xs)
+  unary s at f u (x ∷ y ∷ xs) = wrong_count s at (x ∷ y ∷ xs)
 
   abbrev pub scalar_named : Scope g.Reported → Meant g.Reported → Result (TypeNo × Range) g.Reported
   scalar_named s x = of_sort g x.fixed.at rule.NoType (x.means s) ▷ type_named g s.types x.fixed.at
 
   abbrev pub bound : Scope g.Reported → Pos → Standard → List (Meant g.Reported)
       → Result Computed g.Reported
-  bound s at f [] = miscounted s at []
+  bound s at f [] = wrong_count s at []
   bound s at f (x ∷ []) = bound_at f (scalar_named s x)
-  bound s at f (x ∷ y ∷ xs) = miscounted s at (x ∷ y ∷ xs)
+  bound s at f (x ∷ y ∷ xs) = wrong_count s at (x ∷ y ∷ xs)
 
   abbrev pub conversion : Scope g.Reported → Pos → List (Meant g.Reported)
       → Result Computed g.Reported
-  conversion s at [] = miscounted s at []
-  conversion s at (t ∷ []) = miscounted s at (t ∷ [])
+  conversion s at [] = wrong_count s at []
+  conversion s at (t ∷ []) = wrong_count s at (t ∷ [])
   conversion s at (t ∷ x ∷ []) = conversion_at g (scalar_named s t) x.fixed.at (value_of s x)
-  conversion s at (t ∷ x ∷ y ∷ xs) = miscounted s at (t ∷ x ∷ y ∷ xs)
+  conversion s at (t ∷ x ∷ y ∷ xs) = wrong_count s at (t ∷ x ∷ y ∷ xs)
 
   abbrev pub high : Scope g.Reported → Pos → List (Meant g.Reported) → Result Computed g.Reported
-  high s at [] = miscounted s at []
+  high s at [] = wrong_count s at []
   high s at (x ∷ []) = of_sort g x.fixed.at rule.WrongArgument (x.means s) ▷ high_of g x.fixed.at
-  high s at (x ∷ y ∷ xs) = miscounted s at (x ∷ y ∷ xs)
+  high s at (x ∷ y ∷ xs) = wrong_count s at (x ∷ y ∷ xs)
 
   abbrev pub by_form : Scope g.Reported → Pos → Standard → List (Meant g.Reported) → Form
       → Result Computed g.Reported
@@ -230,39 +230,39 @@ module _ (g : Gathers) where
   by_form s at f args form.Bound = bound s at f args
   by_form s at f args form.Conversion = conversion s at args
   by_form s at f args form.High = high s at args
-  by_form s at f args form.Proper = reported_beside g at rule.WrongType (looked_at s args)
+  by_form s at f args form.Proper = reported_beside g at rule.WrongType (breaches_in_all s args)
 
-  abbrev pub called_as : Scope g.Reported → Pos → List (Meant g.Reported) → Called
+  abbrev pub callee_value : Scope g.Reported → Pos → List (Meant g.Reported) → Called
       → Result Computed g.Reported
-  called_as s at args (called.Routine h c) = routine_called s at h c args
-  called_as s at args (called.Standard f) = by_form s at f args (form_of f)
+  callee_value s at args (called.Routine h c) = routine_called s at h c args
+  callee_value s at args (called.Standard f) = by_form s at f args (form_of f)
 
   -- the arguments are looked at, also if nothing can be called so
-  abbrev pub called_by : Scope g.Reported → Pos → Result Designated (Meaningless g.Reported)
+  abbrev pub call_in_expression : Scope g.Reported → Pos → Result Designated (Meaningless g.Reported)
       → List (Meant g.Reported) → Result Computed g.Reported
-  called_by s at d args =
-      ahead g (of_heading d ▷ callee_of g s.types at) (looked_at s args) (called_as s at args)
+  call_in_expression s at d args =
+      ahead g (of_heading d ▷ callee_of g s.types at) (breaches_in_all s args) (callee_value s at args)
 
   abbrev pub used_with : Scope g.Reported → Meant g.Reported → Option (List (Meant g.Reported))
       → Result Designated (Meaningless g.Reported)
   used_with s d None = d.means s
-  used_with s d (Some args) = of_computed (called_by s d.fixed.at (d.means s) args)
+  used_with s d (Some args) = of_computed (call_in_expression s d.fixed.at (d.means s) args)
 
   -- ---- operators
 
   abbrev pub factor : Scope g.Reported → Pos → Result Computed g.Reported
       → Operator MulOp × Meant g.Reported → Result Computed g.Reported
   factor s at left x =
-      combined g s.types (mul_op x.0.op) x.0.pos at left x.1.fixed.at (value_of s x.1)
+      operation_between g s.types (mul_op x.0.op) x.0.pos at left x.1.fixed.at (value_of s x.1)
 
   abbrev pub term : Scope g.Reported → Pos → Result Computed g.Reported
       → Operator AddOp × Meant g.Reported → Result Computed g.Reported
   term s at left x =
-      combined g s.types (add_op x.0.op) x.0.pos at left x.1.fixed.at (value_of s x.1)
+      operation_between g s.types (add_op x.0.op) x.0.pos at left x.1.fixed.at (value_of s x.1)
 
   abbrev pub relation : Scope g.Reported → Meant g.Reported → Operator RelOp → Meant g.Reported
       → Result Computed g.Reported
-  relation s a o b = related g s.types o a.fixed.at (value_of s a) b.fixed.at (value_of s b)
+  relation s a o b = relation_value g s.types o a.fixed.at (value_of s a) b.fixed.at (value_of s b)
 
   -- ---- the layers
 
@@ -282,7 +282,7 @@ module _ (g : Gathers) where
   expr_means (layer.Char at c) fixed s = as_constant s fixed
   expr_means (layer.Text at t) fixed s = as_constant s fixed
   expr_means (layer.Set name at items) fixed s = as_constant s fixed
-  expr_means (layer.Not at e) fixed s = of_computed (negated g at (value_of s e))
+  expr_means (layer.Not at e) fixed s = of_computed (negation g at (value_of s e))
   expr_means (layer.Bracketed at e) fixed s = of_computed (value_of s e)
   expr_means (layer.Use d args) fixed s = used_with s d args
   expr_means (layer.Term e rest) fixed s =
@@ -319,11 +319,11 @@ module _ (g : Gathers) where
 
   abbrev pub designation : Scope g.Reported → Ident → List (Picks g.Reported)
       → Result Designated (Meaningless g.Reported)
-  designation s name selectors = fold (λ x p. p.picks s x) (named g s name) selectors
+  designation s name selectors = fold (λ x p. p.picks s x) (first_name g s name) selectors
 
   abbrev pub denotation : Scope g.Reported → Ident → List (Picks g.Reported)
       → Result Denoted g.Reported
-  denotation s name selectors = constants.picked g s name (map (λ p. p.fixed) selectors)
+  denotation s name selectors = constants.selection g s name (map (λ p. p.fixed) selectors)
 
   -- the type that it names is that of a body, if it has selectors
   abbrev pub designator_fixed :
@@ -351,8 +351,8 @@ module _ (g : Gathers) where
       (Adds g.Reported) (Part g.Reported) (Pick g.Reported) (Part g.Reported) (Adds g.Reported)
       (λ e. e.fixed) (λ e. e.fixed) (λ e. e.fixed) (λ e. e) i)
 
-  unfoldable pub meant : Expr → Meant g.Reported
-  meant =
+  unfoldable pub meanings_of : Expr → Meant g.Reported
+  meanings_of =
       fold-Expr (Meant g.Reported) (Picks g.Reported) (Meant g.Reported) (Adds g.Reported)
       expr_layer selector_layer designator_layer item_layer
 
@@ -374,7 +374,7 @@ module _ (g : Gathers) where
 -- ---- constant expressions
 
 abbrev pub part : (g : Gathers) → Expr → Part g.Reported
-part g e = (meant g e).fixed
+part g e = (meanings_of g e).fixed
 
 -- ---- the same, step by step
 
@@ -396,11 +396,11 @@ item_in s so i = constants.with_item least s so (item least i)
 
 abbrev pub factor_in : Scope (least).Reported → Pos → Result Computed (least).Reported
     → Operator MulOp × Expr → Result Computed (least).Reported
-factor_in s at v x = factor least s at v (x.0, meant least x.1)
+factor_in s at v x = factor least s at v (x.0, meanings_of least x.1)
 
 abbrev pub term_in : Scope (least).Reported → Pos → Result Computed (least).Reported
     → Operator AddOp × Expr → Result Computed (least).Reported
-term_in s at v x = term least s at v (x.0, meant least x.1)
+term_in s at v x = term least s at v (x.0, meanings_of least x.1)
 
 abbrev pub pick_in : Scope (least).Reported → Result Designated (Meaningless (least).Reported)
     → Selector → Result Designated (Meaningless (least).Reported)
@@ -409,16 +409,16 @@ pick_in s d x = (picks least x).picks s d
 abbrev pub actual_in : Scope (least).Reported
     → List Formal × Result (List Argument) (least).Reported → Expr
     → List Formal × Result (List Argument) (least).Reported
-actual_in s st x = with_actual least s st (meant least x)
+actual_in s st x = with_actual least s st (meanings_of least x)
 
-abbrev pub mapped : Option (List Expr) → Option (List (Meant (least).Reported))
-mapped None = None
-mapped (Some es) = Some (map (meant least) es)
+abbrev pub argument_meanings : Option (List Expr) → Option (List (Meant (least).Reported))
+argument_meanings None = None
+argument_meanings (Some es) = Some (map (meanings_of least) es)
 
-abbrev pub used : Scope (least).Reported → Meant (least).Reported → Option (List Expr)
+abbrev pub use_with : Scope (least).Reported → Meant (least).Reported → Option (List Expr)
     → Result Designated (Meaningless (least).Reported)
-used s d args = used_with least s d (mapped args)
+use_with s d args = used_with least s d (argument_meanings args)
 
 abbrev pub look_in : Scope (least).Reported → Result (Unit {0}) (least).Reported → Expr
     → Result (Unit {0}) (least).Reported
-look_in s so x = with_look least s so (meant least x)
+look_in s so x = with_look least s so (meanings_of least x)

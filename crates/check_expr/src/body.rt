@@ -7,28 +7,32 @@ ghost use Rattle.check_const.specs.Calls.{sort_of};
 ghost use Rattle.check_const.specs.Parts.{sign_place};
 ghost use Rattle.check_const.specs.Parts as constants;
 ghost use Rattle.check_call.specs.Functions.{form_of};
-ghost use Rattle.check_expr.specs.Meanings.{part, meant, picks, head, item, as_constant, value_of, actual_in, look_in, looked_at, miscounted, routine_called, unary, bound, conversion, high, signed_first, relation, by_form, called_as, called_by, factor_in, term_in, pick_in, constant_factor_in, constant_term_in, item_in};
+ghost use Rattle.check_expr.specs.Meanings.{part, meanings_of, picks, head, item, as_constant, value_of, actual_in, look_in, breaches_in_all, wrong_count, routine_called, unary, bound, conversion, high, signed_first, relation, by_form, callee_value, call_in_expression, factor_in, term_in, pick_in, constant_factor_in, constant_term_in, item_in};
 
-use crate::fixed::denoted;
+use crate::fixed::denotation;
 use crate::pieces::{
-    argument_by, call_given, field_at, first_of, formals_of, high_at, index_at, looked, named,
-    of_computed, place_of, related, related_parts, signed_first, type_at, type_of, unary_of,
+    argument_by, breaches_in, call_given, field_at, first_name, first_of, formals_of, high_at,
+    index_at, of_computed, place_of, related_parts, relation_value, signed_first, type_at, type_of,
+    unary_of,
 };
 use check_call::{
     Called, Callee, Form, Unary, bound_at, callee_of, conversion_at, form_of, function_of,
     next_formal, with_argument,
 };
 use check_const::{
-    Denoted, Sort, bound as bound_of, constant_by, converted_by, element_of, joined_bits,
+    Denoted, Sort, bound as bound_of, constant_by, conversion_call, element_of, joined_bits,
     named_type, of_value, set_of, set_type, sign_place, signed_first as constant_signed, single_of,
     sort_of, text_of, type_argument, unary as unary_constant, value_at,
 };
 use check_const_ops::{
-    add_op, combined as combined_constants, mul_op, negated as negated_constant, spanned, valued,
+    add_op, constant_operation as combined_constants, mul_op, negation as negated_constant,
+    number_value, span_of,
 };
-use check_operator::{Computed, Designated, combined, negated, signature_of, taken};
+use check_operator::{
+    Computed, Designated, negation, operation_between, signature_of, value_at_place,
+};
 use check_scope::{
-    Elaborated, Meaningless, Scope, Sought, beside, of_heading, plain, refusal_beside, reported,
+    Elaborated, Meaningless, Scope, Sought, beside, of_heading, plain, refusal_beside, report,
     reported_beside,
 };
 use m2_rule::{Breach, Rule};
@@ -46,15 +50,15 @@ pub fn stands_for(
     scope: &Scope<Breach>,
     e: &Expr,
 ) -> Result<Sought<Designated>, AllocError>
-    ensures { IfOk result (λ d. d ≡ (meant least e.now).means scope.now) }
+    ensures { IfOk result (λ d. d ≡ (meanings_of least e.now).means scope.now) }
 {
     match e {
         Expr::Number(_, _) | Expr::Char(_, _) | Expr::Text(_, _) => itself(alloc, scope, e),
         Expr::Use(designator, args) => match args {
-            None => designated(alloc, scope, designator),
-            Some(_) => composed(alloc, scope, e),
+            None => designation(alloc, scope, designator),
+            Some(_) => composition(alloc, scope, e),
         },
-        _ => composed(alloc, scope, e),
+        _ => composition(alloc, scope, e),
     }
 }
 
@@ -62,12 +66,12 @@ pub fn stands_for(
 #[cycle(body)]
 #[inline(never)]
 #[tactic(auto, using(crate::proofs::Variants::variants))]
-fn composed(
+fn composition(
     alloc: Global,
     scope: &Scope<Breach>,
     e: &Expr,
 ) -> Result<Sought<Designated>, AllocError>
-    ensures { IfOk result (λ d. d ≡ (meant least e.now).means scope.now) }
+    ensures { IfOk result (λ d. d ≡ (meanings_of least e.now).means scope.now) }
 {
     match e {
         Expr::Number(_, _) => itself(alloc, scope, e),
@@ -76,15 +80,21 @@ fn composed(
         Expr::Set(_, _, _) => itself(alloc, scope, e),
         Expr::Not(at, inner) => {
             let value = value_of(alloc, scope, inner.get())?;
-            Ok(of_computed(negated(alloc, *at, value)?))
+            Ok(of_computed(negation(alloc, *at, value)?))
         }
         Expr::Bracketed(_, inner) => Ok(of_computed(value_of(alloc, scope, inner.get())?)),
         Expr::Use(designator, args) => match args {
-            None => designated(alloc, scope, designator),
+            None => designation(alloc, scope, designator),
             Some(args) => {
-                let callee = designated(alloc, scope, designator)?;
+                let callee = designation(alloc, scope, designator)?;
                 let at = first_of(designator);
-                Ok(of_computed(called_by(alloc, scope, at, callee, args.get().as_slice())?))
+                Ok(of_computed(call_in_expression(
+                    alloc,
+                    scope,
+                    at,
+                    callee,
+                    args.get().as_slice(),
+                )?))
             }
         },
         Expr::Term(first, rest) => {
@@ -108,7 +118,7 @@ fn product(
     first: &Expr,
     rest: &[(Operator<MulOp>, Expr)],
 ) -> Result<Elaborated<Computed>, AllocError>
-    ensures { let m = meant least first.now in
+    ensures { let m = meanings_of least first.now in
         IfOk result
         (λ v. v ≡ fold (factor_in scope.now m.fixed.at) (value_of least scope.now m) rest.now) }
 {
@@ -126,7 +136,7 @@ fn sum(
     first: &Expr,
     rest: &[(Operator<AddOp>, Expr)],
 ) -> Result<Elaborated<Computed>, AllocError>
-    ensures { let m = meant least first.now in
+    ensures { let m = meanings_of least first.now in
         IfOk result (λ v. v ≡ fold (term_in scope.now (sign_place sign m.fixed.at))
         (signed_first least sign (value_of least scope.now m)) rest.now) }
 {
@@ -146,13 +156,13 @@ fn relation(
     operator: &Operator<RelOp>,
     second: &Expr,
 ) -> Result<Elaborated<Computed>, AllocError>
-    ensures { let a = meant least first.now in
-        let b = meant least second.now in
+    ensures { let a = meanings_of least first.now in
+        let b = meanings_of least second.now in
         IfOk result (λ v. v ≡ relation least scope.now a operator.now b) }
 {
     let left = value_of(alloc, scope, first)?;
     let right = value_of(alloc, scope, second)?;
-    related(alloc, &scope.types, first, left, operator, second, right)
+    relation_value(alloc, &scope.types, first, left, operator, second, right)
 }
 
 /// The value of an expression.
@@ -162,7 +172,7 @@ pub fn value_of(
     scope: &Scope<Breach>,
     e: &Expr,
 ) -> Result<Elaborated<Computed>, AllocError>
-    ensures { IfOk result (λ v. v ≡ value_of least scope.now (meant least e.now)) }
+    ensures { IfOk result (λ v. v ≡ value_of least scope.now (meanings_of least e.now)) }
 {
     match e {
         Expr::Not(_, _)
@@ -187,12 +197,12 @@ fn computed(
     scope: &Scope<Breach>,
     e: &Expr,
 ) -> Result<Elaborated<Computed>, AllocError>
-    ensures { IfOk result (λ v. v ≡ value_of least scope.now (meant least e.now)) }
+    ensures { IfOk result (λ v. v ≡ value_of least scope.now (meanings_of least e.now)) }
 {
     match e {
         Expr::Not(at, inner) => {
             let value = value_of(alloc, scope, inner.get())?;
-            negated(alloc, *at, value)
+            negation(alloc, *at, value)
         }
         Expr::Bracketed(_, inner) => value_of(alloc, scope, inner.get()),
         Expr::Term(first, rest) => product(alloc, scope, first.get(), rest.as_slice()),
@@ -215,10 +225,10 @@ fn taken_from(
     scope: &Scope<Breach>,
     e: &Expr,
 ) -> Result<Elaborated<Computed>, AllocError>
-    ensures { IfOk result (λ v. v ≡ value_of least scope.now (meant least e.now)) }
+    ensures { IfOk result (λ v. v ≡ value_of least scope.now (meanings_of least e.now)) }
 {
     match stands_for(alloc, scope, e)? {
-        Ok(designated) => Ok(taken(&scope.types, place_of(e), designated)),
+        Ok(designated) => Ok(value_at_place(&scope.types, place_of(e), designated)),
         Err(Meaningless::Broken(breach)) => Ok(Err(breach)),
         Err(Meaningless::Headless(breach)) => Ok(Err(breach)),
     }
@@ -227,7 +237,7 @@ fn taken_from(
 /// What a designator stands for.
 #[cycle(body)]
 #[tactic(auto, using(crate::proofs::Variants::variants))]
-pub fn designated(
+pub fn designation(
     alloc: Global,
     scope: &Scope<Breach>,
     designator: &Designator,
@@ -235,16 +245,16 @@ pub fn designated(
     ensures { IfOk result (λ d. d ≡ (head least designator.now).means scope.now) }
 {
     if designator.selectors.is_empty() {
-        return named(alloc, scope, &designator.name);
+        return first_name(alloc, scope, &designator.name);
     }
-    let first = named(alloc, scope, &designator.name)?;
-    picked(alloc, scope, first, designator.selectors.as_slice())
+    let first = first_name(alloc, scope, &designator.name)?;
+    selection(alloc, scope, first, designator.selectors.as_slice())
 }
 
 /// What selectors pick, one after another.
 #[cycle(body)]
 #[inline(never)]
-fn picked(
+fn selection(
     alloc: Global,
     scope: &Scope<Breach>,
     first: Sought<Designated>,
@@ -295,7 +305,7 @@ fn factors(
         let right = value_of(alloc, scope, factor)?;
         let op = mul_op(operator.op);
         let other_at = place_of(factor);
-        value = combined(
+        value = operation_between(
             alloc,
             &scope.types,
             op,
@@ -325,7 +335,7 @@ fn terms(
         let right = value_of(alloc, scope, term)?;
         let op = add_op(operator.op);
         let other_at = place_of(term);
-        value = combined(
+        value = operation_between(
             alloc,
             &scope.types,
             op,
@@ -341,14 +351,14 @@ fn terms(
 
 /// A call in an expression.
 #[cycle(body)]
-fn called_by(
+fn call_in_expression(
     alloc: Global,
     scope: &Scope<Breach>,
     at: Pos,
     callee: Sought<Designated>,
     args: &[Expr],
 ) -> Result<Elaborated<Computed>, AllocError>
-    ensures { IfOk result (λ v. v ≡ called_by least scope.now at callee (map (meant least) args.now)) }
+    ensures { IfOk result (λ v. v ≡ call_in_expression least scope.now at callee (map (meanings_of least) args.now)) }
 {
     let called = match of_heading(callee) {
         Err(breach) => Err(breach),
@@ -356,22 +366,22 @@ fn called_by(
     };
     match called {
         Err(breach) => {
-            let rest = looked_at(alloc, scope, args)?;
+            let rest = breaches_in_all(alloc, scope, args)?;
             Ok(refusal_beside(breach, rest))
         }
-        Ok(called) => called_as(alloc, scope, at, args, called),
+        Ok(called) => callee_value(alloc, scope, at, args, called),
     }
 }
 
 #[cycle(body)]
-fn called_as(
+fn callee_value(
     alloc: Global,
     scope: &Scope<Breach>,
     at: Pos,
     args: &[Expr],
     called: Called,
 ) -> Result<Elaborated<Computed>, AllocError>
-    ensures { IfOk result (λ v. v ≡ called_as least scope.now at (map (meant least) args.now) called) }
+    ensures { IfOk result (λ v. v ≡ callee_value least scope.now at (map (meanings_of least) args.now) called) }
 {
     match called {
         Called::Routine(heading, callee) => {
@@ -393,12 +403,12 @@ fn routine_called(
     args: &[Expr],
 ) -> Result<Elaborated<Computed>, AllocError>
     ensures { IfOk result
-        (λ v. v ≡ routine_called least scope.now at heading callee (map (meant least) args.now)) }
+        (λ v. v ≡ routine_called least scope.now at heading callee (map (meanings_of least) args.now)) }
 {
     let signature = signature_of(&scope.types, heading);
     match function_of(at, signature, args.len()) {
         Err(breach) => {
-            let rest = looked_at(alloc, scope, args)?;
+            let rest = breaches_in_all(alloc, scope, args)?;
             Ok(refusal_beside(breach, rest))
         }
         Ok(t) => {
@@ -434,32 +444,32 @@ pub fn actuals(
 /// What is broken in arguments themselves.
 #[cycle(body)]
 #[tactic(auto, using(crate::proofs::Variants::looks_is))]
-pub fn looked_at(
+pub fn breaches_in_all(
     alloc: Global,
     scope: &Scope<Breach>,
     args: &[Expr],
 ) -> Result<Elaborated<()>, AllocError>
-    ensures { IfOk result (λ j. j ≡ looked_at least scope.now (map (meant least) args.now)) }
+    ensures { IfOk result (λ j. j ≡ breaches_in_all least scope.now (map (meanings_of least) args.now)) }
 {
     let mut done = Ok(());
     for arg in args {
         let designated = stands_for(alloc, scope, arg)?;
-        done = beside(done, looked(designated));
+        done = beside(done, breaches_in(designated));
     }
     Ok(done)
 }
 
 /// A wrong number of arguments, beside what is broken in them.
 #[cycle(body)]
-fn miscounted(
+fn wrong_count(
     alloc: Global,
     scope: &Scope<Breach>,
     at: Pos,
     args: &[Expr],
 ) -> Result<Elaborated<Computed>, AllocError>
-    ensures { IfOk result (λ v. v ≡ miscounted least scope.now at (map (meant least) args.now)) }
+    ensures { IfOk result (λ v. v ≡ wrong_count least scope.now at (map (meanings_of least) args.now)) }
 {
-    let rest = looked_at(alloc, scope, args)?;
+    let rest = breaches_in_all(alloc, scope, args)?;
     Ok(reported_beside(at, Rule::ArgumentCount, rest))
 }
 
@@ -473,7 +483,7 @@ fn by_form(
     args: &[Expr],
 ) -> Result<Elaborated<Computed>, AllocError>
     ensures { IfOk result
-        (λ v. v ≡ by_form least scope.now at standard (map (meant least) args.now) (form_of standard)) }
+        (λ v. v ≡ by_form least scope.now at standard (map (meanings_of least) args.now) (form_of standard)) }
 {
     match form_of(standard) {
         Form::Unary(function) => unary(alloc, scope, at, standard, function, args),
@@ -481,7 +491,7 @@ fn by_form(
         Form::Conversion => conversion(alloc, scope, at, args),
         Form::High => high(alloc, scope, at, args),
         Form::Proper => {
-            let rest = looked_at(alloc, scope, args)?;
+            let rest = breaches_in_all(alloc, scope, args)?;
             Ok(reported_beside(at, Rule::WrongType, rest))
         }
     }
@@ -498,15 +508,15 @@ fn unary(
     args: &[Expr],
 ) -> Result<Elaborated<Computed>, AllocError>
     ensures { IfOk result
-        (λ v. v ≡ unary least scope.now at standard function (map (meant least) args.now)) }
+        (λ v. v ≡ unary least scope.now at standard function (map (meanings_of least) args.now)) }
 {
     match args {
-        [] => miscounted(alloc, scope, at, args),
+        [] => wrong_count(alloc, scope, at, args),
         [arg] => {
             let value = value_of(alloc, scope, arg)?;
             unary_of(alloc, standard, function, place_of(arg), value)
         }
-        [_, _, ..] => miscounted(alloc, scope, at, args),
+        [_, _, ..] => wrong_count(alloc, scope, at, args),
     }
 }
 
@@ -519,15 +529,15 @@ fn bound(
     standard: Standard,
     args: &[Expr],
 ) -> Result<Elaborated<Computed>, AllocError>
-    ensures { IfOk result (λ v. v ≡ bound least scope.now at standard (map (meant least) args.now)) }
+    ensures { IfOk result (λ v. v ≡ bound least scope.now at standard (map (meanings_of least) args.now)) }
 {
     match args {
-        [] => miscounted(alloc, scope, at, args),
+        [] => wrong_count(alloc, scope, at, args),
         [arg] => {
             let designated = stands_for(alloc, scope, arg)?;
             Ok(bound_at(standard, type_at(&scope.types, place_of(arg), designated)))
         }
-        [_, _, ..] => miscounted(alloc, scope, at, args),
+        [_, _, ..] => wrong_count(alloc, scope, at, args),
     }
 }
 
@@ -539,18 +549,18 @@ fn conversion(
     at: Pos,
     args: &[Expr],
 ) -> Result<Elaborated<Computed>, AllocError>
-    ensures { IfOk result (λ v. v ≡ conversion least scope.now at (map (meant least) args.now)) }
+    ensures { IfOk result (λ v. v ≡ conversion least scope.now at (map (meanings_of least) args.now)) }
 {
     match args {
-        [] => miscounted(alloc, scope, at, args),
-        [_] => miscounted(alloc, scope, at, args),
+        [] => wrong_count(alloc, scope, at, args),
+        [_] => wrong_count(alloc, scope, at, args),
         [to, arg] => {
             let designated = stands_for(alloc, scope, to)?;
             let t = type_at(&scope.types, place_of(to), designated);
             let value = value_of(alloc, scope, arg)?;
             conversion_at(alloc, t, place_of(arg), value)
         }
-        [_, _, _, ..] => miscounted(alloc, scope, at, args),
+        [_, _, _, ..] => wrong_count(alloc, scope, at, args),
     }
 }
 
@@ -562,15 +572,15 @@ fn high(
     at: Pos,
     args: &[Expr],
 ) -> Result<Elaborated<Computed>, AllocError>
-    ensures { IfOk result (λ v. v ≡ high least scope.now at (map (meant least) args.now)) }
+    ensures { IfOk result (λ v. v ≡ high least scope.now at (map (meanings_of least) args.now)) }
 {
     match args {
-        [] => miscounted(alloc, scope, at, args),
+        [] => wrong_count(alloc, scope, at, args),
         [arg] => {
             let designated = stands_for(alloc, scope, arg)?;
             Ok(high_at(place_of(arg), designated))
         }
-        [_, _, ..] => miscounted(alloc, scope, at, args),
+        [_, _, ..] => wrong_count(alloc, scope, at, args),
     }
 }
 
@@ -598,7 +608,7 @@ fn denotes(
 {
     match e {
         Expr::Number(_, n) => Ok(Ok(Denoted::Value(Value::Number(i64::from(*n))))),
-        Expr::Char(_, code) => Ok(Ok(Denoted::Value(valued(Some(CHAR), i64::from(*code))))),
+        Expr::Char(_, code) => Ok(Ok(Denoted::Value(number_value(Some(CHAR), i64::from(*code))))),
         Expr::Text(_, text) => Ok(Ok(Denoted::Value(text_of(alloc, text.as_bytes())?))),
         Expr::Set(name, _, items) => {
             let of = set_type(scope, name)?;
@@ -611,9 +621,9 @@ fn denotes(
         }
         Expr::Bracketed(_, inner) => Ok(of_value(constant_of(alloc, scope, inner.get())?)),
         Expr::Use(designator, args) => match args {
-            None => denoted(scope, designator),
+            None => denotation(scope, designator),
             Some(args) => {
-                let callee = denoted(scope, designator)?;
+                let callee = denotation(scope, designator)?;
                 let at = first_of(designator);
                 let args = args.get().as_slice();
                 Ok(of_value(constant_call(alloc, scope, at, callee, args)?))
@@ -691,9 +701,9 @@ fn type_designated(
     ensures { IfOk result (λ t. t ≡ (head least designator.now).fixed.names scope.now) }
 {
     if designator.selectors.is_empty() {
-        return Ok(named_type(denoted(scope, designator)?));
+        return Ok(named_type(denotation(scope, designator)?));
     }
-    let meant = designated(alloc, scope, designator)?;
+    let meant = designation(alloc, scope, designator)?;
     Ok(type_of(first_of(designator), meant))
 }
 
@@ -707,7 +717,7 @@ fn constant_call(
     args: &[Expr],
 ) -> Result<Elaborated<Value>, AllocError>
     ensures { IfOk result
-        (λ v. v ≡ constants.called least scope.now at callee (map (part least) args.now)) }
+        (λ v. v ≡ constants.call_value least scope.now at callee (map (part least) args.now)) }
 {
     match callee {
         Err(breach) => Ok(Err(breach)),
@@ -724,15 +734,15 @@ fn constant_call_of(
     args: &[Expr],
 ) -> Result<Elaborated<Value>, AllocError>
     ensures { IfOk result
-        (λ v. v ≡ constants.called_as least scope.now at callee (map (part least) args.now)) }
+        (λ v. v ≡ constants.standard_call_value least scope.now at callee (map (part least) args.now)) }
 {
     match callee {
         Denoted::Standard(standard) => by_sort(alloc, scope, at, standard, args),
-        Denoted::Value(_) => Ok(reported(at, Rule::NoConstant)),
-        Denoted::Type(_) => Ok(reported(at, Rule::NoConstant)),
-        Denoted::Variable => Ok(reported(at, Rule::NoConstant)),
-        Denoted::Procedure => Ok(reported(at, Rule::NoConstant)),
-        Denoted::Module(_) => Ok(reported(at, Rule::NoConstant)),
+        Denoted::Value(_) => Ok(report(at, Rule::NoConstant)),
+        Denoted::Type(_) => Ok(report(at, Rule::NoConstant)),
+        Denoted::Variable => Ok(report(at, Rule::NoConstant)),
+        Denoted::Procedure => Ok(report(at, Rule::NoConstant)),
+        Denoted::Module(_) => Ok(report(at, Rule::NoConstant)),
     }
 }
 
@@ -753,7 +763,7 @@ fn by_sort(
         Sort::Unary => Ok(unary_constant(standard, one(alloc, scope, at, args)?)),
         Sort::Bound => Ok(bound_of(standard, type_only(alloc, scope, at, args)?)),
         Sort::Conversion => constant_conversion(alloc, scope, at, args),
-        Sort::Never => Ok(reported(at, Rule::NoConstant)),
+        Sort::Never => Ok(report(at, Rule::NoConstant)),
     }
 }
 
@@ -768,12 +778,12 @@ fn one(
     ensures { IfOk result (λ x. x ≡ constants.one least scope.now at (map (part least) args.now)) }
 {
     match args {
-        [] => Ok(reported(at, Rule::ArgumentCount)),
+        [] => Ok(report(at, Rule::ArgumentCount)),
         [argument] => {
             let value = constant_of(alloc, scope, argument)?;
             Ok(value_at(place_of(argument), value))
         }
-        [_, _, ..] => Ok(reported(at, Rule::ArgumentCount)),
+        [_, _, ..] => Ok(report(at, Rule::ArgumentCount)),
     }
 }
 
@@ -789,12 +799,12 @@ fn type_only(
         (λ x. x ≡ constants.type_only least scope.now at (map (part least) args.now)) }
 {
     match args {
-        [] => Ok(reported(at, Rule::ArgumentCount)),
+        [] => Ok(report(at, Rule::ArgumentCount)),
         [argument] => {
             let named = type_named(alloc, scope, argument)?;
             Ok(type_argument(&scope.types, place_of(argument), named))
         }
-        [_, _, ..] => Ok(reported(at, Rule::ArgumentCount)),
+        [_, _, ..] => Ok(report(at, Rule::ArgumentCount)),
     }
 }
 
@@ -810,15 +820,15 @@ fn constant_conversion(
         (λ v. v ≡ constants.conversion least scope.now at (map (part least) args.now)) }
 {
     match args {
-        [] => Ok(reported(at, Rule::ArgumentCount)),
-        [_] => Ok(reported(at, Rule::ArgumentCount)),
+        [] => Ok(report(at, Rule::ArgumentCount)),
+        [_] => Ok(report(at, Rule::ArgumentCount)),
         [to, argument] => {
             let named = type_named(alloc, scope, to)?;
             let t = type_argument(&scope.types, place_of(to), named);
             let value = constant_of(alloc, scope, argument)?;
-            Ok(converted_by(t, place_of(argument), value))
+            Ok(conversion_call(t, place_of(argument), value))
         }
-        [_, _, _, ..] => Ok(reported(at, Rule::ArgumentCount)),
+        [_, _, _, ..] => Ok(report(at, Rule::ArgumentCount)),
     }
 }
 
@@ -873,7 +883,7 @@ fn elements(
 {
     let mut bits = Ok(0);
     for item in items {
-        let more = added(alloc, scope, item)?;
+        let more = element_or_range(alloc, scope, item)?;
         bits = joined_bits(bits, more);
     }
     Ok(bits)
@@ -882,7 +892,7 @@ fn elements(
 /// One element or a range of elements.
 #[cycle(body)]
 #[tactic(auto, using(crate::proofs::Variants::adds_is))]
-fn added(
+fn element_or_range(
     alloc: Global,
     scope: &Scope<Breach>,
     element: &Item,
@@ -899,7 +909,7 @@ fn added(
             let last = constant_of(alloc, scope, high)?;
             let at = place_of(&element.low);
             let high_at = place_of(high);
-            Ok(spanned(at, element_of(at, low), high_at, element_of(high_at, last)))
+            Ok(span_of(at, element_of(at, low), high_at, element_of(high_at, last)))
         }
     }
 }

@@ -3,13 +3,13 @@
 ghost use Rattle.std.specs.Prelude.{◌≡◌, IfOk, map};
 ghost use Rattle.check_scope.specs.Elaborated.{least, ◌▷◌};
 ghost use Rattle.check_call.specs.Effects.{amount, change_by, element, membership_of};
-ghost use Rattle.check_expr.specs.Meanings.{meant, head, value_of, miscounted};
-ghost use Rattle.check_expr.specs.Effects.{call_done, routine_done, changed_in, changed_by, set_in, member_by, halted, put_by, function_done, standard_done, done_as, done_by};
+ghost use Rattle.check_expr.specs.Meanings.{meanings_of, head, value_of, wrong_count};
+ghost use Rattle.check_expr.specs.Effects.{call_done, routine_done, change_target_in, change_statement, set_in, member_by, halt_statement, put_by, function_done, standard_done, callee_statement, call_statement};
 
-use crate::body::{actuals, designated, looked_at, stands_for, value_of};
+use crate::body::{actuals, breaches_in_all, designation, stands_for, value_of};
 use crate::pieces::{first_of, formals_of, place_of};
 use check_call::{
-    Called, Callee, amount, call_by, callee_of, change_by, changed, element, membership_of,
+    Called, Callee, amount, call_by, callee_of, change_by, change_target, element, membership_of,
     proper_of, put, set_variable,
 };
 use check_operator::signature_of;
@@ -42,12 +42,12 @@ fn routine_done(
     args: &[Expr],
 ) -> Result<Elaborated<TypedStmt>, AllocError>
     ensures { IfOk result
-        (λ j. j ≡ routine_done least scope.now at heading callee (map (meant least) args.now)) }
+        (λ j. j ≡ routine_done least scope.now at heading callee (map (meanings_of least) args.now)) }
 {
     let signature = signature_of(&scope.types, heading);
     match proper_of(at, signature, args.len()) {
         Err(breach) => {
-            let rest = looked_at(alloc, scope, args)?;
+            let rest = breaches_in_all(alloc, scope, args)?;
             Ok(refusal_beside(breach, rest))
         }
         Ok(()) => {
@@ -58,31 +58,31 @@ fn routine_done(
 }
 
 /// A wrong number of arguments, beside what is broken in them.
-fn miscounted(
+fn wrong_count(
     alloc: Global,
     scope: &Scope<Breach>,
     at: Pos,
     args: &[Expr],
 ) -> Result<Elaborated<TypedStmt>, AllocError>
-    ensures { IfOk result (λ j. j ≡ miscounted least scope.now at (map (meant least) args.now)) }
+    ensures { IfOk result (λ j. j ≡ wrong_count least scope.now at (map (meanings_of least) args.now)) }
 {
-    let rest = looked_at(alloc, scope, args)?;
+    let rest = breaches_in_all(alloc, scope, args)?;
     Ok(reported_beside(at, Rule::ArgumentCount, rest))
 }
 
 /// The variable of INC or DEC.
-fn changed_at(
+fn change_target_at(
     alloc: Global,
     scope: &Scope<Breach>,
     arg: &Expr,
 ) -> Result<Elaborated<(TypeNo, Place)>, AllocError>
     ensures { IfOk result
-        (λ j. j ≡ changed_in least scope.now (meant least arg.now)) }
+        (λ j. j ≡ change_target_in least scope.now (meanings_of least arg.now)) }
 {
     let at = place_of(arg);
     match of_sort(at, Rule::NoVariable, stands_for(alloc, scope, arg)?) {
         Err(breach) => Ok(Err(breach)),
-        Ok(designated) => Ok(changed(&scope.types, at, designated)),
+        Ok(designated) => Ok(change_target(&scope.types, at, designated)),
     }
 }
 
@@ -93,8 +93,8 @@ fn amount_at(
     arg: &Expr,
 ) -> Result<Elaborated<TypedExpr>, AllocError>
     ensures { IfOk result
-        (λ j. j ≡ (value_of least scope.now (meant least arg.now)
-        ▷ amount least (meant least arg.now).fixed.at)) }
+        (λ j. j ≡ (value_of least scope.now (meanings_of least arg.now)
+        ▷ amount least (meanings_of least arg.now).fixed.at)) }
 {
     match value_of(alloc, scope, arg)? {
         Err(breach) => Ok(Err(breach)),
@@ -111,16 +111,16 @@ fn changed_by_amount(
     by: &Expr,
 ) -> Result<Elaborated<TypedStmt>, AllocError>
     ensures { IfOk result
-        (λ j. j ≡ change_by least change (changed_in least scope.now (meant least variable.now))
-        (value_of least scope.now (meant least by.now) ▷ amount least (meant least by.now).fixed.at)) }
+        (λ j. j ≡ change_by least change (change_target_in least scope.now (meanings_of least variable.now))
+        (value_of least scope.now (meanings_of least by.now) ▷ amount least (meanings_of least by.now).fixed.at)) }
 {
-    let place = changed_at(alloc, scope, variable)?;
+    let place = change_target_at(alloc, scope, variable)?;
     let amount = amount_at(alloc, scope, by)?;
     Ok(change_by(change, place, amount))
 }
 
 /// INC and DEC.
-fn changed_by(
+fn change_statement(
     alloc: Global,
     scope: &Scope<Breach>,
     at: Pos,
@@ -128,23 +128,23 @@ fn changed_by(
     args: &[Expr],
 ) -> Result<Elaborated<TypedStmt>, AllocError>
     ensures { IfOk result
-        (λ j. j ≡ changed_by least scope.now at change (map (meant least) args.now)) }
+        (λ j. j ≡ change_statement least scope.now at change (map (meanings_of least) args.now)) }
 {
     match args {
-        [] => miscounted(alloc, scope, at, args),
+        [] => wrong_count(alloc, scope, at, args),
         [variable] => {
-            let variable = changed_at(alloc, scope, variable)?;
+            let variable = change_target_at(alloc, scope, variable)?;
             Ok(change_by(change, variable, Ok(TypedExpr::Constant(CARDINAL, 1))))
         }
         [variable, by] => changed_by_amount(alloc, scope, change, variable, by),
-        [_, _, _, ..] => miscounted(alloc, scope, at, args),
+        [_, _, _, ..] => wrong_count(alloc, scope, at, args),
     }
 }
 
 /// The set of INCL or EXCL.
 fn set_at(alloc: Global, scope: &Scope<Breach>, arg: &Expr) -> Result<Elaborated<Place>, AllocError>
     ensures { IfOk result
-        (λ j. j ≡ set_in least scope.now (meant least arg.now)) }
+        (λ j. j ≡ set_in least scope.now (meanings_of least arg.now)) }
 {
     let at = place_of(arg);
     match of_sort(at, Rule::NoVariable, stands_for(alloc, scope, arg)?) {
@@ -160,8 +160,8 @@ fn element_at(
     arg: &Expr,
 ) -> Result<Elaborated<TypedExpr>, AllocError>
     ensures { IfOk result
-        (λ j. j ≡ (value_of least scope.now (meant least arg.now)
-        ▷ element least (meant least arg.now).fixed.at)) }
+        (λ j. j ≡ (value_of least scope.now (meanings_of least arg.now)
+        ▷ element least (meanings_of least arg.now).fixed.at)) }
 {
     match value_of(alloc, scope, arg)? {
         Err(breach) => Ok(Err(breach)),
@@ -178,9 +178,9 @@ fn member_of(
     arg: &Expr,
 ) -> Result<Elaborated<TypedStmt>, AllocError>
     ensures { IfOk result
-        (λ j. j ≡ membership_of least membership (set_in least scope.now (meant least set.now))
-        (value_of least scope.now (meant least arg.now)
-        ▷ element least (meant least arg.now).fixed.at)) }
+        (λ j. j ≡ membership_of least membership (set_in least scope.now (meanings_of least set.now))
+        (value_of least scope.now (meanings_of least arg.now)
+        ▷ element least (meanings_of least arg.now).fixed.at)) }
 {
     let place = set_at(alloc, scope, set)?;
     let element = element_at(alloc, scope, arg)?;
@@ -196,27 +196,27 @@ fn member_by(
     args: &[Expr],
 ) -> Result<Elaborated<TypedStmt>, AllocError>
     ensures { IfOk result
-        (λ j. j ≡ member_by least scope.now at membership (map (meant least) args.now)) }
+        (λ j. j ≡ member_by least scope.now at membership (map (meanings_of least) args.now)) }
 {
     match args {
-        [] => miscounted(alloc, scope, at, args),
-        [_] => miscounted(alloc, scope, at, args),
+        [] => wrong_count(alloc, scope, at, args),
+        [_] => wrong_count(alloc, scope, at, args),
         [set, arg] => member_of(alloc, scope, membership, set, arg),
-        [_, _, _, ..] => miscounted(alloc, scope, at, args),
+        [_, _, _, ..] => wrong_count(alloc, scope, at, args),
     }
 }
 
-fn halted(
+fn halt_statement(
     alloc: Global,
     scope: &Scope<Breach>,
     at: Pos,
     args: &[Expr],
 ) -> Result<Elaborated<TypedStmt>, AllocError>
-    ensures { IfOk result (λ j. j ≡ halted least scope.now at (map (meant least) args.now)) }
+    ensures { IfOk result (λ j. j ≡ halt_statement least scope.now at (map (meanings_of least) args.now)) }
 {
     match args {
         [] => Ok(Ok(TypedStmt::Halt)),
-        [_, ..] => miscounted(alloc, scope, at, args),
+        [_, ..] => wrong_count(alloc, scope, at, args),
     }
 }
 
@@ -227,9 +227,9 @@ fn function_done(
     at: Pos,
     args: &[Expr],
 ) -> Result<Elaborated<TypedStmt>, AllocError>
-    ensures { IfOk result (λ j. j ≡ function_done least scope.now at (map (meant least) args.now)) }
+    ensures { IfOk result (λ j. j ≡ function_done least scope.now at (map (meanings_of least) args.now)) }
 {
-    let rest = looked_at(alloc, scope, args)?;
+    let rest = breaches_in_all(alloc, scope, args)?;
     Ok(reported_beside(at, Rule::WrongType, rest))
 }
 
@@ -240,15 +240,15 @@ fn put_by(
     at: Pos,
     args: &[Expr],
 ) -> Result<Elaborated<TypedStmt>, AllocError>
-    ensures { IfOk result (λ j. j ≡ put_by least scope.now at (map (meant least) args.now)) }
+    ensures { IfOk result (λ j. j ≡ put_by least scope.now at (map (meanings_of least) args.now)) }
 {
     match args {
-        [] => miscounted(alloc, scope, at, args),
+        [] => wrong_count(alloc, scope, at, args),
         [arg] => match value_of(alloc, scope, arg)? {
             Err(breach) => Ok(Err(breach)),
             Ok(value) => Ok(put(&scope.types, place_of(arg), value)),
         },
-        [_, _, ..] => miscounted(alloc, scope, at, args),
+        [_, _, ..] => wrong_count(alloc, scope, at, args),
     }
 }
 
@@ -261,14 +261,14 @@ fn standard_done(
     standard: Standard,
 ) -> Result<Elaborated<TypedStmt>, AllocError>
     ensures { IfOk result
-        (λ j. j ≡ standard_done least scope.now at (map (meant least) args.now) standard) }
+        (λ j. j ≡ standard_done least scope.now at (map (meanings_of least) args.now) standard) }
 {
     match standard {
-        Standard::Inc => changed_by(alloc, scope, at, Change::Increase, args),
-        Standard::Dec => changed_by(alloc, scope, at, Change::Decrease, args),
+        Standard::Inc => change_statement(alloc, scope, at, Change::Increase, args),
+        Standard::Dec => change_statement(alloc, scope, at, Change::Decrease, args),
         Standard::Incl => member_by(alloc, scope, at, Membership::Include, args),
         Standard::Excl => member_by(alloc, scope, at, Membership::Exclude, args),
-        Standard::Halt => halted(alloc, scope, at, args),
+        Standard::Halt => halt_statement(alloc, scope, at, args),
         Standard::Put => put_by(alloc, scope, at, args),
         Standard::Abs
         | Standard::Cap
@@ -282,14 +282,14 @@ fn standard_done(
     }
 }
 
-fn done_as(
+fn callee_statement(
     alloc: Global,
     scope: &Scope<Breach>,
     at: Pos,
     args: &[Expr],
     called: Called,
 ) -> Result<Elaborated<TypedStmt>, AllocError>
-    ensures { IfOk result (λ j. j ≡ done_as least scope.now at (map (meant least) args.now) called) }
+    ensures { IfOk result (λ j. j ≡ callee_statement least scope.now at (map (meanings_of least) args.now) called) }
 {
     match called {
         Called::Routine(heading, callee) => {
@@ -301,25 +301,25 @@ fn done_as(
 
 /// A call of a designator as a statement. What is no procedure, and a function, are 40 at the designator, a wrong number
 /// of arguments is 42 there; each argument is elaborated for itself.
-pub fn done_by(
+pub fn call_statement(
     alloc: Global,
     scope: &Scope<Breach>,
     designator: &Designator,
     args: &[Expr],
 ) -> Result<Elaborated<TypedStmt>, AllocError>
     ensures { IfOk result
-        (λ j. j ≡ done_by least scope.now (head least designator.now) (map (meant least) args.now)) }
+        (λ j. j ≡ call_statement least scope.now (head least designator.now) (map (meanings_of least) args.now)) }
 {
     let at = first_of(designator);
-    let called = match of_heading(designated(alloc, scope, designator)?) {
+    let called = match of_heading(designation(alloc, scope, designator)?) {
         Err(breach) => Err(breach),
         Ok(designated) => callee_of(&scope.types, at, designated),
     };
     match called {
         Err(breach) => {
-            let rest = looked_at(alloc, scope, args)?;
+            let rest = breaches_in_all(alloc, scope, args)?;
             Ok(refusal_beside(breach, rest))
         }
-        Ok(called) => done_as(alloc, scope, at, args, called),
+        Ok(called) => callee_statement(alloc, scope, at, args, called),
     }
 }

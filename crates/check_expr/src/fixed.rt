@@ -5,7 +5,7 @@ ghost use Rattle.std.specs.List.{fold};
 ghost use Rattle.check_scope.specs.Elaborated.{least};
 ghost use Rattle.check_expr.specs.Meanings.{picks, head, constant_pick_in};
 
-use check_const::{Denoted, component_in, field_in, named};
+use check_const::{Denoted, component_in, field_in, first_name};
 use check_scope::{Elaborated, Scope};
 use m2_rule::Breach;
 use m2_tree::{Designator, Selector};
@@ -27,7 +27,7 @@ fn pick(
 }
 
 /// What selectors pick, one after another.
-fn picked(
+fn selection(
     scope: &Scope<Breach>,
     first: Elaborated<Denoted>,
     selectors: &[Selector],
@@ -43,12 +43,12 @@ fn picked(
 
 /// What a designator stands for.
 #[tactic(auto, using(crate::proofs::Variants::variants))]
-pub fn denoted(
+pub fn denotation(
     scope: &Scope<Breach>,
     designator: &Designator,
 ) -> Result<Elaborated<Denoted>, AllocError>
     ensures { IfOk result (λ d. d ≡ (head least designator.now).fixed.denotes scope.now) }
 {
-    let first = named(scope, &designator.name)?;
-    picked(scope, first, designator.selectors.as_slice())
+    let first = first_name(scope, &designator.name)?;
+    selection(scope, first, designator.selectors.as_slice())
 }

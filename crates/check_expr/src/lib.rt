@@ -6,6 +6,6 @@ mod done;
 mod fixed;
 mod pieces;
 
-pub use body::{actuals, constant_of, designated, looked_at, stands_for, value_of};
-pub use done::done_by;
-pub use pieces::{field_of, first_of, formals_of, named, place_of};
+pub use body::{actuals, breaches_in_all, constant_of, designation, stands_for, value_of};
+pub use done::call_statement;
+pub use pieces::{field_of, first_name, first_of, formals_of, place_of};

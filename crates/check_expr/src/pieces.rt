@@ -5,17 +5,18 @@ ghost use Rattle.std.specs.Option.{option_copied};
 ghost use Rattle.check_scope.specs.Elaborated.{least, of_sort, of_heading, ◌▷◌};
 ghost use Rattle.check_const.specs.Parts as constants;
 ghost use Rattle.check_call.specs.Functions.{type_named, high_of, unary_at};
-ghost use Rattle.check_expr.specs.Meanings.{part, meant, head, of_computed, signed_first, related, named, member_of, field_of, field_at, index_at, formals_of, passed_for, argument_by, call_given, type_in, type_of};
+ghost use Rattle.check_expr.specs.Meanings.{part, meanings_of, head, of_computed, signed_first, relation_value, first_name, member_of, field_of, field_at, index_at, formals_of, passed_for, argument_by, call_given, type_in, type_of};
 ghost use Rattle.m2_rule.specs.declared.rule.Rule.TheVariants as rule;
 
 use check_call::{Callee, Unary, actual, call_by, high_of, type_named, unary_at};
 use check_const::{Denoted, member, set_place, sign_place};
 use check_const_ops::BinaryOp;
 use check_operator::{
-    Computed, Designated, combined, designated_by, field, given, indexed, indices, signed,
+    Computed, Designated, designated_by, element_at_index, field, function_result, indices,
+    operation_between, with_sign,
 };
 use check_scope::{
-    Elaborated, Meaningless, Scope, Sought, looked_up, of_heading, of_sort, plain, reported,
+    Elaborated, Meaningless, Scope, Sought, looked_up, of_heading, of_sort, plain, report,
 };
 use m2_rule::{Breach, Rule};
 use m2_tree::{Designator, Expr, Ident, Operator, Pos, RelOp, Sign};
@@ -70,12 +71,12 @@ pub fn signed_first(
 {
     match sign {
         None => Ok(value),
-        Some(operator) => signed(alloc, operator.op, operator.pos, value),
+        Some(operator) => with_sign(alloc, operator.op, operator.pos, value),
     }
 }
 
 /// A relation between two expressions that have these values.
-pub fn related(
+pub fn relation_value(
     alloc: Global,
     types: &Types,
     first: &Expr,
@@ -84,13 +85,13 @@ pub fn related(
     second: &Expr,
     right: Elaborated<Computed>,
 ) -> Result<Elaborated<Computed>, AllocError>
-    ensures { IfOk result (λ v. v ≡ related least types.now operator.now
-        (meant least first.now).fixed.at left (meant least second.now).fixed.at right) }
+    ensures { IfOk result (λ v. v ≡ relation_value least types.now operator.now
+        (meanings_of least first.now).fixed.at left (meanings_of least second.now).fixed.at right) }
 {
     let relation = BinaryOp::Relation(operator.op);
     let at = place_of(first);
     let other_at = place_of(second);
-    combined(
+    operation_between(
         alloc,
         types,
         relation,
@@ -103,12 +104,12 @@ pub fn related(
 }
 
 /// What the first name of a designator stands for.
-pub fn named(
+pub fn first_name(
     alloc: Global,
     scope: &Scope<Breach>,
     name: &Ident,
 ) -> Result<Sought<Designated>, AllocError>
-    ensures { IfOk result (λ d. d ≡ named least scope.now name.now) }
+    ensures { IfOk result (λ d. d ≡ first_name least scope.now name.now) }
 {
     match looked_up(scope, name)? {
         Err(meaningless) => Ok(Err(meaningless)),
@@ -194,7 +195,7 @@ pub fn index_at(
         Err(breach) => Err(breach),
         Ok(from) => indices(types, at, from),
     };
-    Ok(plain(indexed(alloc, types, array, other_at, index)?))
+    Ok(plain(element_at_index(alloc, types, array, other_at, index)?))
 }
 
 fn type_in(designated: Designated) -> Option<TypeNo>
@@ -256,7 +257,7 @@ pub fn argument_by(
     ensures { result ≡ argument_by least types.now formal at designated }
 {
     match formal {
-        None => reported(at, Rule::ArgumentCount),
+        None => report(at, Rule::ArgumentCount),
         Some(formal) => match passed_for(formal, at, designated) {
             Err(breach) => Err(breach),
             Ok(designated) => actual(types, formal, at, designated),
@@ -278,7 +279,7 @@ pub fn call_given(
         Err(breach) => Ok(Err(breach)),
         Ok(arguments) => {
             let call = Boxed::new(alloc, call_by(callee, arguments))?;
-            Ok(Ok(given(types, t, TypedExpr::Call(t, call))))
+            Ok(Ok(function_result(types, t, TypedExpr::Call(t, call))))
         }
     }
 }
@@ -324,7 +325,7 @@ pub fn unary_of(
 }
 
 /// What is broken in what stands at a place.
-pub fn looked(designated: Sought<Designated>) -> Elaborated<()>
+pub fn breaches_in(designated: Sought<Designated>) -> Elaborated<()>
     ensures { result ≡ (of_heading designated ▷ λ d. Ok tt) }
 {
     match of_heading(designated) {
@@ -344,8 +345,8 @@ pub fn related_parts(
     second: &Expr,
     right: Elaborated<Value>,
 ) -> Elaborated<Denoted>
-    ensures { result ≡ constants.related least operator.now (part least first.now).at left
+    ensures { result ≡ constants.relation_value least operator.now (part least first.now).at left
         (part least second.now).at right }
 {
-    check_const::related(operator, place_of(first), left, place_of(second), right)
+    check_const::relation_value(operator, place_of(first), left, place_of(second), right)
 }

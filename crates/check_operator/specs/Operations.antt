@@ -17,8 +17,8 @@ use Rattle.typed_tree.specs.declared.meaning.Procedure.{Procedure}
 use Rattle.typed_tree.specs.declared.meaning.Value.{Value}
 use Rattle.typed_tree.specs.declared.known_types.Types.{Types}
 use Rattle.typed_tree.specs.Types.{are_same, boolean}
-use Rattle.typed_tree.specs.Chains.{linked}
-use Rattle.check_scope.specs.Elaborated.{Gathers, reported, reported_where, both, beside, ◌▷◌}
+use Rattle.typed_tree.specs.Chains.{link_operand}
+use Rattle.check_scope.specs.Elaborated.{Gathers, report, reported_where, both, beside, ◌▷◌}
 use Rattle.check_const_ops.specs.declared.operand.Operand.{Operand}
 use Rattle.check_const_ops.specs.declared.operator.BinaryOp.{BinaryOp}
 use Rattle.check_const_ops.specs.declared.operator.BinaryOp.TheVariants.{Plus, Minus, Times, Over, Div, Mod, And, Or, Relation}
@@ -124,11 +124,11 @@ is_in (Relation rel.In) = true
 
 -- ---- scalars
 
-abbrev pub built : TypeNo → TypedExpr → TypedExpr → Step → Computed
-built t x y (step.Arithmetic o) = value.Scalar t t (linked x (link.Arithmetic o t y))
-built t x y step.And = truth_of (linked x (link.And y))
-built t x y step.Or = truth_of (linked x (link.Or y))
-built t x y (step.Compare c) = truth_of (expr.Compare c x y)
+abbrev pub step_result : TypeNo → TypedExpr → TypedExpr → Step → Computed
+step_result t x y (step.Arithmetic o) = value.Scalar t t (link_operand x (link.Arithmetic o t y))
+step_result t x y step.And = truth_of (link_operand x (link.And y))
+step_result t x y step.Or = truth_of (link_operand x (link.Or y))
+step_result t x y (step.Compare c) = truth_of (expr.Compare c x y)
 
 abbrev pub fitting_of : (g : Gathers) → Option TypeNo → Pos → Amount → Result (Unit {0}) g.Reported
 fitting_of g sort at (Known a) = fitting g sort at a
@@ -145,17 +145,17 @@ fitting_both g op spot sort at a at' b =
     (beside g (divisor_of g op spot b)
     (beside g (fitting_of g sort at a) (fitting_of g sort at' b)))
 
-abbrev pub stepped : (g : Gathers) → Pos → Option TypeNo → Amount → Amount → Option Step
+abbrev pub step_or_refusal : (g : Gathers) → Pos → Option TypeNo → Amount → Amount → Option Step
     → Result Computed g.Reported
-stepped g spot sort a b None = reported g spot rule.WrongType
-stepped g spot sort a b (Some o) =
-    Ok (built (or_cardinal sort) (run_of (or_cardinal sort) a) (run_of (or_cardinal sort) b) o)
+step_or_refusal g spot sort a b None = report g spot rule.WrongType
+step_or_refusal g spot sort a b (Some o) =
+    Ok (step_result (or_cardinal sort) (run_of (or_cardinal sort) a) (run_of (or_cardinal sort) b) o)
 
 abbrev pub on_amounts : (g : Gathers) → BinaryOp → Pos → Pos → Amount → Pos → Amount
     → Option (Option TypeNo) → Result Computed g.Reported
-on_amounts g op spot at a at' b None = reported g spot rule.WrongType
+on_amounts g op spot at a at' b None = report g spot rule.WrongType
 on_amounts g op spot at a at' b (Some sort) =
-    fitting_both g op spot sort at a at' b ▷ λ fine. stepped g spot sort a b (step_of op)
+    fitting_both g op spot sort at a at' b ▷ λ fine. step_or_refusal g spot sort a b (step_of op)
 
 -- ---- sets
 
@@ -172,20 +172,20 @@ member g op spot at a s =
     (element_fits g at a ▷ λ fine. Ok (truth_of (expr.In (run_of (or_cardinal (sort_of a)) a) s)))
 
 abbrev pub set_built : TypedExpr → TypedExpr → SetStep → Computed
-set_built x y (set_step.Combine o) = value.Set (linked x (link.Combine o y))
+set_built x y (set_step.Combine o) = value.Set (link_operand x (link.Combine o y))
 set_built x y (set_step.Compare c) = truth_of (expr.Compare c x y)
 set_built x y (set_step.Include i) = truth_of (expr.Include i x y)
 
 abbrev pub on_sets : (g : Gathers) → Pos → TypedExpr → TypedExpr → Option SetStep
     → Result Computed g.Reported
-on_sets g spot x y None = reported g spot rule.WrongType
+on_sets g spot x y None = report g spot rule.WrongType
 on_sets g spot x y (Some o) = Ok (set_built x y o)
 
 -- ---- procedures
 
 abbrev pub on_procedures : (g : Gathers) → Pos → (fit : Bool) → TypedExpr → TypedExpr
     → Option Comparison → Result Computed g.Reported
-on_procedures g spot fit x y None = reported g spot rule.WrongType
+on_procedures g spot fit x y None = report g spot rule.WrongType
 on_procedures g spot fit x y (Some c) =
     reported_where g (not fit) spot rule.WrongType (Ok (truth_of (expr.Compare c x y)))
 
@@ -193,12 +193,12 @@ on_procedures g spot fit x y (Some c) =
 
 abbrev pub with_scalar : (g : Gathers) → BinaryOp → Pos → Pos → Amount → Pos → Option Side
     → Result Computed g.Reported
-with_scalar g op spot at a at' None = reported g spot rule.WrongType
+with_scalar g op spot at a at' None = report g spot rule.WrongType
 with_scalar g op spot at a at' (Some (side.Scalar b)) =
     on_amounts g op spot at a at' b (common (sort_of a) (sort_of b))
 with_scalar g op spot at a at' (Some (side.Set s)) = member g op spot at a s
-with_scalar g op spot at a at' (Some (side.Routine t e)) = reported g spot rule.WrongType
-with_scalar g op spot at a at' (Some (side.Procedure p)) = reported g spot rule.WrongType
+with_scalar g op spot at a at' (Some (side.Routine t e)) = report g spot rule.WrongType
+with_scalar g op spot at a at' (Some (side.Procedure p)) = report g spot rule.WrongType
 
 abbrev pub set_in : Option Side → Option TypedExpr
 set_in None = None
@@ -209,7 +209,7 @@ set_in (Some (side.Procedure p)) = None
 
 abbrev pub with_set : (g : Gathers) → BinaryOp → Pos → TypedExpr → Option TypedExpr
     → Result Computed g.Reported
-with_set g op spot x None = reported g spot rule.WrongType
+with_set g op spot x None = report g spot rule.WrongType
 with_set g op spot x (Some s) = on_sets g spot x s (set_step_of op)
 
 -- beside a value of a procedure type one of the same type, or a procedure whose heading agrees
@@ -230,12 +230,12 @@ routine_of types p (Some (side.Procedure q)) = None
 
 abbrev pub with_partner : (g : Gathers) → Pos → TypedExpr → Option Comparison
     → Option (Bool × TypedExpr) → Result Computed g.Reported
-with_partner g spot x c None = reported g spot rule.WrongType
+with_partner g spot x c None = report g spot rule.WrongType
 with_partner g spot x c (Some p) = on_procedures g spot p.0 x p.1 c
 
 abbrev pub between : (g : Gathers) → Types → BinaryOp → Pos → Pos → Option Side → Pos → Option Side
     → Result Computed g.Reported
-between g types op spot at None at' y = reported g spot rule.WrongType
+between g types op spot at None at' y = report g spot rule.WrongType
 between g types op spot at (Some (side.Scalar a)) at' y = with_scalar g op spot at a at' y
 between g types op spot at (Some (side.Set e)) at' y = with_set g op spot e (set_in y)
 between g types op spot at (Some (side.Routine t e)) at' y =
@@ -245,22 +245,22 @@ between g types op spot at (Some (side.Procedure p)) at' y =
 
 -- ---- what is made of two constants is a constant
 
-abbrev pub folded : (g : Gathers) → BinaryOp → Pos → Pos → Operand → Pos → Operand
+abbrev pub constant_result : (g : Gathers) → BinaryOp → Pos → Pos → Operand → Pos → Operand
     → Result Computed g.Reported
-folded g op spot at a at' b = of_value (binary g op spot at (Some a) at' (Some b))
+constant_result g op spot at a at' b = of_value (binary g op spot at (Some a) at' (Some b))
 
 abbrev pub by_known : (g : Gathers) → Types → BinaryOp → Pos → Pos → Computed → Pos → Computed
     → Option Operand → Option Operand → Result Computed g.Reported
 by_known g types op spot at x at' y None b = between g types op spot at (side_of x) at' (side_of y)
 by_known g types op spot at x at' y (Some a) None =
     between g types op spot at (side_of x) at' (side_of y)
-by_known g types op spot at x at' y (Some a) (Some b) = folded g op spot at a at' b
+by_known g types op spot at x at' y (Some a) (Some b) = constant_result g op spot at a at' b
 
-abbrev pub operated : (g : Gathers) → Types → BinaryOp → Pos → Pos → Computed → Pos → Computed
+abbrev pub operation_on : (g : Gathers) → Types → BinaryOp → Pos → Pos → Computed → Pos → Computed
     → Result Computed g.Reported
-operated g types op spot at x at' y = by_known g types op spot at x at' y (known_of x) (known_of y)
+operation_on g types op spot at x at' y = by_known g types op spot at x at' y (known_of x) (known_of y)
 
 -- an operator at a place, between two parts at theirs
-abbrev pub combined : (g : Gathers) → Types → BinaryOp → Pos → Pos → Result Computed g.Reported
+abbrev pub operation_between : (g : Gathers) → Types → BinaryOp → Pos → Pos → Result Computed g.Reported
     → Pos → Result Computed g.Reported → Result Computed g.Reported
-combined g types op spot at x at' y = both g x y ▷ λ p. operated g types op spot at p.0 at' p.1
+operation_between g types op spot at x at' y = both g x y ▷ λ p. operation_on g types op spot at p.0 at' p.1

@@ -12,9 +12,9 @@ use Rattle.typed_tree.specs.declared.computed.Root.TheVariants as root
 use Rattle.typed_tree.specs.declared.computed.TypedExpr.{TypedExpr}
 use Rattle.typed_tree.specs.declared.known_types.Types.{Types}
 use Rattle.typed_tree.specs.Types.{cardinal}
-use Rattle.typed_tree.specs.Chains.{behind, rooted}
+use Rattle.typed_tree.specs.Chains.{behind, root_place}
 use Rattle.typed_tree.specs.Names.{place_of}
-use Rattle.check_scope.specs.Elaborated.{Gathers, reported, both, ◌▷◌}
+use Rattle.check_scope.specs.Elaborated.{Gathers, report, both, ◌▷◌}
 use Rattle.check_scope.specs.Scopes.{fields_at}
 use Rattle.check_operator.specs.declared.computed.Computed.{Computed}
 use Rattle.check_operator.specs.declared.computed.Designated.{Designated}
@@ -35,12 +35,12 @@ abbrev pub numbered_field : List ℕ → List (List ℕ × TypeNo) → Option (�
 numbered_field name fs = typed_field fs (place_of name fs)
 
 abbrev pub field_named : (g : Gathers) → Pos → Option (ℕ × TypeNo) → Result (ℕ × TypeNo) g.Reported
-field_named g at None = reported g at rule.Undeclared
+field_named g at None = report g at rule.Undeclared
 field_named g at (Some f) = Ok f
 
 abbrev pub record_field : (g : Gathers) → Pos → Ident → Option (List (List ℕ × TypeNo))
     → Result (ℕ × TypeNo) g.Reported
-record_field g at name None = reported g at rule.WrongType
+record_field g at name None = report g at rule.WrongType
 record_field g at name (Some fs) = field_named g name.pos (numbered_field name.name fs)
 
 abbrev pub component : (g : Gathers) → Types → Pos → Ident → TypeNo → Place
@@ -52,47 +52,47 @@ component g types at name t d =
 -- only variables have components
 abbrev pub field : (g : Gathers) → Types → Pos → Ident → Designated → Result Designated g.Reported
 field g types at name (designated.Variable t d) = component g types at name t d
-field g types at name (designated.Value x) = reported g at rule.WrongType
-field g types at name (designated.Open t slot) = reported g at rule.WrongType
-field g types at name (designated.Type t) = reported g at rule.WrongType
-field g types at name (designated.Procedure p) = reported g at rule.WrongType
-field g types at name (designated.Nested p) = reported g at rule.WrongType
-field g types at name (designated.Standard f) = reported g at rule.WrongType
-field g types at name (designated.Module k) = reported g at rule.WrongType
+field g types at name (designated.Value x) = report g at rule.WrongType
+field g types at name (designated.Open t slot) = report g at rule.WrongType
+field g types at name (designated.Type t) = report g at rule.WrongType
+field g types at name (designated.Procedure p) = report g at rule.WrongType
+field g types at name (designated.Nested p) = report g at rule.WrongType
+field g types at name (designated.Standard f) = report g at rule.WrongType
+field g types at name (designated.Module k) = report g at rule.WrongType
 
 -- ---- elements
 
 abbrev pub array_indexed : (g : Gathers) → Pos → TypeNo → Place → Option (TypeNo × TypeNo)
     → Result Subscripted g.Reported
-array_indexed g at t d None = reported g at rule.WrongType
+array_indexed g at t d None = report g at rule.WrongType
 array_indexed g at t d (Some a) = Ok (indexes.Array t a.0 a.1 d)
 
 abbrev pub indices : (g : Gathers) → Types → Pos → Designated → Result Subscripted g.Reported
 indices g types at (designated.Variable t d) = array_indexed g at t d (array_at types t)
 indices g types at (designated.Open t slot) = Ok (indexes.Open t slot)
-indices g types at (designated.Value x) = reported g at rule.WrongType
-indices g types at (designated.Type t) = reported g at rule.WrongType
-indices g types at (designated.Procedure p) = reported g at rule.WrongType
-indices g types at (designated.Nested p) = reported g at rule.WrongType
-indices g types at (designated.Standard f) = reported g at rule.WrongType
-indices g types at (designated.Module k) = reported g at rule.WrongType
+indices g types at (designated.Value x) = report g at rule.WrongType
+indices g types at (designated.Type t) = report g at rule.WrongType
+indices g types at (designated.Procedure p) = report g at rule.WrongType
+indices g types at (designated.Nested p) = report g at rule.WrongType
+indices g types at (designated.Standard f) = report g at rule.WrongType
+indices g types at (designated.Module k) = report g at rule.WrongType
 
 -- the type of the index: open arrays have subscripts from 0
-abbrev pub asked : Subscripted → TypeNo
-asked (indexes.Array t i e d) = i
-asked (indexes.Open t slot) = cardinal
+abbrev pub index_type : Subscripted → TypeNo
+index_type (indexes.Array t i e d) = i
+index_type (indexes.Open t slot) = cardinal
 
-abbrev pub picked : TypedExpr → Subscripted → Designated
-picked x (indexes.Array t i e d) = designated.Variable e (behind d (part.Element t x))
-picked x (indexes.Open t slot) =
-    designated.Variable t (behind (rooted (root.Open slot)) (part.OpenElement slot t x))
+abbrev pub element_of_array : TypedExpr → Subscripted → Designated
+element_of_array x (indexes.Array t i e d) = designated.Variable e (behind d (part.Element t x))
+element_of_array x (indexes.Open t slot) =
+    designated.Variable t (behind (root_place (root.Open slot)) (part.OpenElement slot t x))
 
 abbrev pub with_index : (g : Gathers) → Types → Pos → Subscripted → Computed
     → Result Designated g.Reported
 with_index g types at a x =
-    value_suited g rule.NotAssignable types (asked a) at x ▷ λ e. Ok (picked e a)
+    value_suited g rule.NotAssignable types (index_type a) at x ▷ λ e. Ok (element_of_array e a)
 
 -- the element of an array with this index
-abbrev pub indexed : (g : Gathers) → Types → Result Subscripted g.Reported → Pos
+abbrev pub element_at_index : (g : Gathers) → Types → Result Subscripted g.Reported → Pos
     → Result Computed g.Reported → Result Designated g.Reported
-indexed g types a at x = both g a x ▷ λ p. with_index g types at p.0 p.1
+element_at_index g types a at x = both g a x ▷ λ p. with_index g types at p.0 p.1

@@ -8,8 +8,8 @@ use Rattle.typed_tree.specs.declared.types.TypeNo.{TypeNo}
 use Rattle.typed_tree.specs.declared.computed.TypedExpr.{TypedExpr}
 use Rattle.typed_tree.specs.declared.computed.TypedExpr.TheVariants as expr
 use Rattle.typed_tree.specs.Types.{are_same, is_integer, is_numeric, boolean}
-use Rattle.check_scope.specs.Elaborated.{Gathers, reported, reported_where, ◌▷◌}
-use Rattle.check_const_ops.specs.Operate.{signed as signed_constant, negated as negated_constant}
+use Rattle.check_scope.specs.Elaborated.{Gathers, report, reported_where, ◌▷◌}
+use Rattle.check_const_ops.specs.Operate.{with_sign as signed_constant, negation as negated_constant}
 use Rattle.check_operator.specs.declared.computed.Computed.{Computed}
 use Rattle.check_operator.specs.declared.computed.Computed.TheVariants as value
 use Rattle.check_operator.specs.Operations.{of_value, truth_of}
@@ -27,15 +27,15 @@ signed_scalar g sign.Minus spot b e =
 abbrev pub signed_value : (g : Gathers) → Sign → Pos → Computed → Result Computed g.Reported
 signed_value g o spot (value.Constant v) = of_value (signed_constant g o spot (Ok v))
 signed_value g o spot (value.Scalar t b e) = signed_scalar g o spot b e
-signed_value g o spot (value.Set e) = reported g spot rule.WrongType
-signed_value g o spot (value.Routine t e) = reported g spot rule.WrongType
-signed_value g o spot (value.Procedure p) = reported g spot rule.WrongType
-signed_value g o spot (value.Whole t d) = reported g spot rule.WrongType
-signed_value g o spot value.Untaken = reported g spot rule.WrongType
+signed_value g o spot (value.Set e) = report g spot rule.WrongType
+signed_value g o spot (value.Routine t e) = report g spot rule.WrongType
+signed_value g o spot (value.Procedure p) = report g spot rule.WrongType
+signed_value g o spot (value.Whole t d) = report g spot rule.WrongType
+signed_value g o spot value.Untaken = report g spot rule.WrongType
 
-abbrev pub signed : (g : Gathers) → Sign → Pos → Result Computed g.Reported
+abbrev pub with_sign : (g : Gathers) → Sign → Pos → Result Computed g.Reported
     → Result Computed g.Reported
-signed g o spot x = x ▷ signed_value g o spot
+with_sign g o spot x = x ▷ signed_value g o spot
 
 abbrev pub negated_scalar : (g : Gathers) → Pos → TypeNo → TypedExpr → Result Computed g.Reported
 negated_scalar g spot b e =
@@ -44,11 +44,11 @@ negated_scalar g spot b e =
 abbrev pub negated_value : (g : Gathers) → Pos → Computed → Result Computed g.Reported
 negated_value g spot (value.Constant v) = of_value (negated_constant g spot (Ok v))
 negated_value g spot (value.Scalar t b e) = negated_scalar g spot b e
-negated_value g spot (value.Set e) = reported g spot rule.WrongType
-negated_value g spot (value.Routine t e) = reported g spot rule.WrongType
-negated_value g spot (value.Procedure p) = reported g spot rule.WrongType
-negated_value g spot (value.Whole t d) = reported g spot rule.WrongType
-negated_value g spot value.Untaken = reported g spot rule.WrongType
+negated_value g spot (value.Set e) = report g spot rule.WrongType
+negated_value g spot (value.Routine t e) = report g spot rule.WrongType
+negated_value g spot (value.Procedure p) = report g spot rule.WrongType
+negated_value g spot (value.Whole t d) = report g spot rule.WrongType
+negated_value g spot value.Untaken = report g spot rule.WrongType
 
-abbrev pub negated : (g : Gathers) → Pos → Result Computed g.Reported → Result Computed g.Reported
-negated g spot x = x ▷ negated_value g spot
+abbrev pub negation : (g : Gathers) → Pos → Result Computed g.Reported → Result Computed g.Reported
+negation g spot x = x ▷ negated_value g spot

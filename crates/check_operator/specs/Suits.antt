@@ -12,7 +12,7 @@ use Rattle.typed_tree.specs.declared.meaning.Value.TheVariants as constant
 use Rattle.typed_tree.specs.declared.known_types.Types.{Types}
 use Rattle.typed_tree.specs.Types.{are_same, is_numeric, char}
 use Rattle.typed_tree.specs.Known.{scalar_at}
-use Rattle.check_scope.specs.Elaborated.{Gathers, reported, reported_where, ◌▷◌}
+use Rattle.check_scope.specs.Elaborated.{Gathers, report, reported_where, ◌▷◌}
 use Rattle.check_const_ops.specs.declared.operand.Ordinal.{Ordinal}
 use Rattle.check_const_ops.specs.Numbers.{is_between}
 use Rattle.check_operator.specs.declared.class.Class.{Class}
@@ -53,28 +53,28 @@ run_suited g broken s at b e = reported_where g (not (bases_suit s.base b)) at b
 
 abbrev pub scalar_suited : (g : Gathers) → Rule → TypeNo → Range → Pos → Option Side
     → Result TypedExpr g.Reported
-scalar_suited g broken t s at None = reported g at broken
+scalar_suited g broken t s at None = report g at broken
 scalar_suited g broken t s at (Some (side.Scalar (Known a))) = known_suited g broken t s at a
 scalar_suited g broken t s at (Some (side.Scalar (Run b e))) = run_suited g broken s at b e
-scalar_suited g broken t s at (Some (side.Set e)) = reported g at broken
-scalar_suited g broken t s at (Some (side.Routine u e)) = reported g at broken
-scalar_suited g broken t s at (Some (side.Procedure p)) = reported g at broken
+scalar_suited g broken t s at (Some (side.Set e)) = report g at broken
+scalar_suited g broken t s at (Some (side.Routine u e)) = report g at broken
+scalar_suited g broken t s at (Some (side.Procedure p)) = report g at broken
 
 -- ---- sets and procedures
 
 abbrev pub set_suited : (g : Gathers) → Rule → Pos → Option Side → Result TypedExpr g.Reported
-set_suited g broken at None = reported g at broken
-set_suited g broken at (Some (side.Scalar a)) = reported g at broken
+set_suited g broken at None = report g at broken
+set_suited g broken at (Some (side.Scalar a)) = report g at broken
 set_suited g broken at (Some (side.Set e)) = Ok e
-set_suited g broken at (Some (side.Routine u e)) = reported g at broken
-set_suited g broken at (Some (side.Procedure p)) = reported g at broken
+set_suited g broken at (Some (side.Routine u e)) = report g at broken
+set_suited g broken at (Some (side.Procedure p)) = report g at broken
 
 -- a value of the type, or a procedure whose heading agrees
 abbrev pub procedure_suited : (g : Gathers) → Rule → Types → TypeNo → Pos → Option Side
     → Result TypedExpr g.Reported
-procedure_suited g broken types t at None = reported g at broken
-procedure_suited g broken types t at (Some (side.Scalar a)) = reported g at broken
-procedure_suited g broken types t at (Some (side.Set e)) = reported g at broken
+procedure_suited g broken types t at None = report g at broken
+procedure_suited g broken types t at (Some (side.Scalar a)) = report g at broken
+procedure_suited g broken types t at (Some (side.Set e)) = report g at broken
 procedure_suited g broken types t at (Some (side.Routine u e)) =
     reported_where g (not (are_same u t)) at broken (Ok e)
 procedure_suited g broken types t at (Some (side.Procedure p)) =
@@ -85,7 +85,7 @@ abbrev pub value_in : (g : Gathers) → Rule → Types → TypeNo → Pos → Op
 value_in g broken types t at x (class.Scalar s) = scalar_suited g broken t s at x
 value_in g broken types t at x class.Set = set_suited g broken at x
 value_in g broken types t at x class.Procedure = procedure_suited g broken types t at x
-value_in g broken types t at x class.Whole = reported g at broken
+value_in g broken types t at x class.Whole = report g at broken
 
 -- a value for a place of this type, which is no array and no record
 abbrev pub value_suited : (g : Gathers) → Rule → Types → TypeNo → Pos → Computed
@@ -109,9 +109,9 @@ text_fits types t n = text_fits_in types n (array_at types t)
 
 abbrev pub text_suited : (g : Gathers) → Rule → Types → TypeNo → Pos → Value
     → Result Accepted g.Reported
-text_suited g broken types t at (constant.Number n) = reported g at broken
-text_suited g broken types t at (constant.Scalar s) = reported g at broken
-text_suited g broken types t at (constant.Set bits) = reported g at broken
+text_suited g broken types t at (constant.Number n) = report g at broken
+text_suited g broken types t at (constant.Scalar s) = report g at broken
+text_suited g broken types t at (constant.Set bits) = report g at broken
 text_suited g broken types t at (constant.Text text) =
     reported_where g (not (text_fits types t (length text))) at broken (Ok (suits.Text text))
 
@@ -121,11 +121,11 @@ abbrev pub whole_suited : (g : Gathers) → Rule → Types → TypeNo → Pos �
 whole_suited g broken types t at (value.Constant v) = text_suited g broken types t at v
 whole_suited g broken types t at (value.Whole u d) =
     reported_where g (not (are_same u t)) at broken (Ok (suits.Whole d))
-whole_suited g broken types t at (value.Scalar u b e) = reported g at broken
-whole_suited g broken types t at (value.Set e) = reported g at broken
-whole_suited g broken types t at (value.Routine u e) = reported g at broken
-whole_suited g broken types t at (value.Procedure p) = reported g at broken
-whole_suited g broken types t at value.Untaken = reported g at broken
+whole_suited g broken types t at (value.Scalar u b e) = report g at broken
+whole_suited g broken types t at (value.Set e) = report g at broken
+whole_suited g broken types t at (value.Routine u e) = report g at broken
+whole_suited g broken types t at (value.Procedure p) = report g at broken
+whole_suited g broken types t at value.Untaken = report g at broken
 
 abbrev pub of_expr : {T : Type 0} → Result TypedExpr T → Result Accepted T
 of_expr e = e ▷ λ x. Ok (suits.Value x)
@@ -138,6 +138,6 @@ suited_in g broken types t at x class.Procedure = of_expr (value_suited g broken
 suited_in g broken types t at x class.Whole = whole_suited g broken types t at x
 
 -- a value for a place of this type
-abbrev pub suited : (g : Gathers) → Rule → Types → TypeNo → Pos → Computed
+abbrev pub value_for_place : (g : Gathers) → Rule → Types → TypeNo → Pos → Computed
     → Result Accepted g.Reported
-suited g broken types t at x = suited_in g broken types t at x (class_at types t)
+value_for_place g broken types t at x = suited_in g broken types t at x (class_at types t)

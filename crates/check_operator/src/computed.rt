@@ -2,16 +2,16 @@
 
 ghost use Rattle.std.specs.Prelude.{◌≡◌, IfOk};
 ghost use Rattle.check_scope.specs.Elaborated.{least};
-ghost use Rattle.check_operator.specs.Values.{slot_of, local_by, opened_by, nested_by, designated_by, given, loaded, taken};
+ghost use Rattle.check_operator.specs.Values.{slot_of, local_by, opened_by, nested_by, designated_by, function_result, variable_value, value_at_place};
 
 use crate::class::{Class, class_of};
-use check_scope::{Elaborated, reported};
+use check_scope::{Elaborated, report};
 use m2_rule::Rule;
 use m2_tree::Pos;
 use std::alloc::{AllocError, Global};
 use typed_tree::{
     Component, LocalKind, LocalProcedure, LocalVariable, Meaning, NestedProcedure, OpenedField,
-    Place, Procedure, Root, Slot, Standard, TypeNo, TypedExpr, Types, Value, behind, rooted,
+    Place, Procedure, Root, Slot, Standard, TypeNo, TypedExpr, Types, Value, behind, root_place,
 };
 
 /// The value of an expression.
@@ -63,9 +63,12 @@ fn local_by(alloc: Global, level: usize, variable: LocalVariable) -> Designated
 {
     let slot = slot_of(level, variable);
     match variable.kind {
-        LocalKind::Variable => Designated::Variable(variable.of, rooted(alloc, Root::Local(slot))),
-        LocalKind::Value => Designated::Variable(variable.of, rooted(alloc, Root::Local(slot))),
-        LocalKind::Alias => Designated::Variable(variable.of, rooted(alloc, Root::Alias(slot))),
+        LocalKind::Variable => Designated::Variable(
+            variable.of,
+            root_place(alloc, Root::Local(slot)),
+        ),
+        LocalKind::Value => Designated::Variable(variable.of, root_place(alloc, Root::Local(slot))),
+        LocalKind::Alias => Designated::Variable(variable.of, root_place(alloc, Root::Alias(slot))),
         LocalKind::Open => Designated::Open(variable.of, slot),
     }
 }
@@ -73,7 +76,7 @@ fn local_by(alloc: Global, level: usize, variable: LocalVariable) -> Designated
 fn opened_by(alloc: Global, field: OpenedField) -> Result<Designated, AllocError>
     ensures { IfOk result (λ d. d ≡ opened_by field) }
 {
-    let record = rooted(alloc, Root::With(field.with));
+    let record = root_place(alloc, Root::With(field.with));
     let place = behind(record, Component::Field(field.whole, field.number))?;
     Ok(Designated::Variable(field.of, place))
 }
@@ -101,7 +104,7 @@ pub fn designated_by(
         Meaning::Constant(value) => Ok(Ok(Designated::Value(Computed::Constant(value)))),
         Meaning::Type(t, _) => Ok(Ok(Designated::Type(t))),
         Meaning::Variable(variable) => {
-            let place = rooted(alloc, Root::Global(variable));
+            let place = root_place(alloc, Root::Global(variable));
             Ok(Ok(Designated::Variable(variable.of, place)))
         }
         Meaning::Local(variable) => Ok(Ok(local_by(alloc, level, variable))),
@@ -110,15 +113,15 @@ pub fn designated_by(
         Meaning::LocalProcedure(procedure) => {
             Ok(Ok(Designated::Nested(nested_by(level, procedure))))
         }
-        Meaning::Ahead => Ok(reported(at, Rule::Undeclared)),
+        Meaning::Ahead => Ok(report(at, Rule::Undeclared)),
         Meaning::Standard(standard) => Ok(Ok(Designated::Standard(standard))),
         Meaning::Module(place) => Ok(Ok(Designated::Module(place))),
     }
 }
 
 /// What a function of this result type gives.
-pub fn given(types: &Types, t: TypeNo, e: TypedExpr) -> Computed
-    ensures { result ≡ given types.now t e }
+pub fn function_result(types: &Types, t: TypeNo, e: TypedExpr) -> Computed
+    ensures { result ≡ function_result types.now t e }
 {
     match class_of(types, t) {
         Class::Scalar(scalar) => Computed::Scalar(t, scalar.base, e),
@@ -129,8 +132,8 @@ pub fn given(types: &Types, t: TypeNo, e: TypedExpr) -> Computed
 }
 
 /// What a variable of this type holds.
-pub fn loaded(types: &Types, t: TypeNo, place: Place) -> Computed
-    ensures { result ≡ loaded types.now t place }
+pub fn variable_value(types: &Types, t: TypeNo, place: Place) -> Computed
+    ensures { result ≡ variable_value types.now t place }
 {
     match class_of(types, t) {
         Class::Scalar(scalar) => Computed::Scalar(t, scalar.base, TypedExpr::Load(t, place)),
@@ -142,17 +145,17 @@ pub fn loaded(types: &Types, t: TypeNo, place: Place) -> Computed
 
 /// What stands at a place, taken as a value. A type and a module are none: 40. A standard procedure and a procedure
 /// of a procedure are none: 53.
-pub fn taken(types: &Types, at: Pos, designated: Designated) -> Elaborated<Computed>
-    ensures { result ≡ taken least types.now at designated }
+pub fn value_at_place(types: &Types, at: Pos, designated: Designated) -> Elaborated<Computed>
+    ensures { result ≡ value_at_place least types.now at designated }
 {
     match designated {
         Designated::Value(value) => Ok(value),
-        Designated::Variable(t, place) => Ok(loaded(types, t, place)),
+        Designated::Variable(t, place) => Ok(variable_value(types, t, place)),
         Designated::Open(_, _) => Ok(Computed::Untaken),
-        Designated::Type(_) => reported(at, Rule::WrongType),
+        Designated::Type(_) => report(at, Rule::WrongType),
         Designated::Procedure(procedure) => Ok(Computed::Procedure(procedure)),
-        Designated::Nested(_) => reported(at, Rule::NoProcedureValue),
-        Designated::Standard(_) => reported(at, Rule::NoProcedureValue),
-        Designated::Module(_) => reported(at, Rule::WrongType),
+        Designated::Nested(_) => report(at, Rule::NoProcedureValue),
+        Designated::Standard(_) => report(at, Rule::NoProcedureValue),
+        Designated::Module(_) => report(at, Rule::WrongType),
     }
 }

@@ -4,20 +4,20 @@ ghost use Rattle.std.specs.Prelude.{◌≡◌, Ok, IfOk};
 ghost use Rattle.check_scope.specs.Elaborated.{least, ◌▷◌};
 ghost use Rattle.check_const_ops.specs.Common.{common};
 ghost use Rattle.check_operator.specs.Sides.{sort_of};
-ghost use Rattle.check_operator.specs.Operations.{relation_step, step_of, relation_set_step, set_step_of, equality_of, is_in, built, fitting_of, divisor_of, fitting_both, stepped, on_amounts, element_fits, member, set_built, on_sets, on_procedures, with_scalar, set_in, with_set, partner_of, routine_of, with_partner, between, folded, by_known, operated, combined};
+ghost use Rattle.check_operator.specs.Operations.{relation_step, step_of, relation_set_step, set_step_of, equality_of, is_in, step_result, fitting_of, divisor_of, fitting_both, step_or_refusal, on_amounts, element_fits, member, set_built, on_sets, on_procedures, with_scalar, set_in, with_set, partner_of, routine_of, with_partner, between, constant_result, by_known, operation_on, operation_between};
 
 use crate::agree::headings_agree;
 use crate::computed::Computed;
-use crate::pieces::{boxed, of_value, truth_of};
+use crate::pieces::{boxes_of, of_value, truth_of};
 use crate::side::{Amount, Side, known_of, or_cardinal, run_of, side_of, sort_of};
 use check_const_ops::{BinaryOp, Operand, binary, common, divisor, fitting, is_number, takes};
-use check_scope::{Elaborated, beside, both, reported};
+use check_scope::{Elaborated, beside, both, report};
 use m2_rule::Rule;
 use m2_tree::{Pos, RelOp};
 use std::alloc::{AllocError, Global};
 use typed_tree::{
     Arithmetic, Comparison, Inclusion, Link, Procedure, SetOperator, TypeNo, TypedExpr, Types,
-    are_same, linked,
+    are_same, link_operand,
 };
 
 /// What an operator does with scalars.
@@ -129,24 +129,24 @@ fn is_in(op: BinaryOp) -> bool
 }
 
 /// The result of a step on two scalars of this base type.
-fn built(
+fn step_result(
     alloc: Global,
     step: Step,
     t: TypeNo,
     x: TypedExpr,
     y: TypedExpr,
 ) -> Result<Computed, AllocError>
-    ensures { IfOk result (λ v. v ≡ built t x y step) }
+    ensures { IfOk result (λ v. v ≡ step_result t x y step) }
 {
     match step {
         Step::Arithmetic(arithmetic) => {
-            let e = linked(alloc, x, Link::Arithmetic(arithmetic, t, y))?;
+            let e = link_operand(alloc, x, Link::Arithmetic(arithmetic, t, y))?;
             Ok(Computed::Scalar(t, t, e))
         }
-        Step::And => Ok(truth_of(linked(alloc, x, Link::And(y))?)),
-        Step::Or => Ok(truth_of(linked(alloc, x, Link::Or(y))?)),
+        Step::And => Ok(truth_of(link_operand(alloc, x, Link::And(y))?)),
+        Step::Or => Ok(truth_of(link_operand(alloc, x, Link::Or(y))?)),
         Step::Compare(comparison) => {
-            let (first, second) = boxed(alloc, x, y)?;
+            let (first, second) = boxes_of(alloc, x, y)?;
             Ok(truth_of(TypedExpr::Compare(comparison, first, second)))
         }
     }
@@ -182,13 +182,13 @@ fn fitting_both(
     ensures { result ≡ fitting_both least op spot sort at a.now other_at b.now }
 {
     if !takes(op, sort) {
-        return reported(spot, Rule::WrongType);
+        return report(spot, Rule::WrongType);
     }
     let fit = beside(fitting_of(sort, at, a), fitting_of(sort, other_at, b));
     beside(divisor_of(op, spot, b), fit)
 }
 
-fn stepped(
+fn step_or_refusal(
     alloc: Global,
     spot: Pos,
     sort: Option<TypeNo>,
@@ -196,13 +196,13 @@ fn stepped(
     b: Amount,
     step: Option<Step>,
 ) -> Result<Elaborated<Computed>, AllocError>
-    ensures { IfOk result (λ v. v ≡ stepped least spot sort a b step) }
+    ensures { IfOk result (λ v. v ≡ step_or_refusal least spot sort a b step) }
 {
     match step {
-        None => Ok(reported(spot, Rule::WrongType)),
+        None => Ok(report(spot, Rule::WrongType)),
         Some(step) => {
             let t = or_cardinal(sort);
-            Ok(Ok(built(alloc, step, t, run_of(t, a), run_of(t, b))?))
+            Ok(Ok(step_result(alloc, step, t, run_of(t, a), run_of(t, b))?))
         }
     }
 }
@@ -221,10 +221,10 @@ fn on_amounts(
         (λ v. v ≡ on_amounts least op spot at a other_at b (common (sort_of a) (sort_of b))) }
 {
     match common(sort_of(&a), sort_of(&b)) {
-        None => Ok(reported(spot, Rule::WrongType)),
+        None => Ok(report(spot, Rule::WrongType)),
         Some(sort) => match fitting_both(op, spot, sort, at, &a, other_at, &b) {
             Err(breach) => Ok(Err(breach)),
-            Ok(()) => stepped(alloc, spot, sort, a, b, step_of(op)),
+            Ok(()) => step_or_refusal(alloc, spot, sort, a, b, step_of(op)),
         },
     }
 }
@@ -236,7 +236,7 @@ pub fn element_fits(at: Pos, a: &Amount) -> Elaborated<()>
     match a {
         Amount::Known(a) => {
             if !(0 <= a.number && a.number <= 31) {
-                return reported(at, Rule::OutOfRange);
+                return report(at, Rule::OutOfRange);
             }
             Ok(())
         }
@@ -257,12 +257,12 @@ fn member(
 {
     let sort = sort_of(&a);
     if !(is_in(op) && is_number(sort)) {
-        return Ok(reported(spot, Rule::WrongType));
+        return Ok(report(spot, Rule::WrongType));
     }
     match element_fits(at, &a) {
         Err(breach) => Ok(Err(breach)),
         Ok(()) => {
-            let (element, whole) = boxed(alloc, run_of(or_cardinal(sort), a), set)?;
+            let (element, whole) = boxes_of(alloc, run_of(or_cardinal(sort), a), set)?;
             Ok(Ok(truth_of(TypedExpr::In(element, whole))))
         }
     }
@@ -278,14 +278,14 @@ fn set_built(
 {
     match step {
         SetStep::Combine(operator) => {
-            Ok(Computed::Set(linked(alloc, x, Link::Combine(operator, y))?))
+            Ok(Computed::Set(link_operand(alloc, x, Link::Combine(operator, y))?))
         }
         SetStep::Compare(comparison) => {
-            let (first, second) = boxed(alloc, x, y)?;
+            let (first, second) = boxes_of(alloc, x, y)?;
             Ok(truth_of(TypedExpr::Compare(comparison, first, second)))
         }
         SetStep::Include(inclusion) => {
-            let (first, second) = boxed(alloc, x, y)?;
+            let (first, second) = boxes_of(alloc, x, y)?;
             Ok(truth_of(TypedExpr::Include(inclusion, first, second)))
         }
     }
@@ -302,7 +302,7 @@ fn on_sets(
     ensures { IfOk result (λ v. v ≡ on_sets least spot x y step) }
 {
     match step {
-        None => Ok(reported(spot, Rule::WrongType)),
+        None => Ok(report(spot, Rule::WrongType)),
         Some(step) => Ok(Ok(set_built(alloc, step, x, y)?)),
     }
 }
@@ -319,12 +319,12 @@ fn on_procedures(
     ensures { IfOk result (λ v. v ≡ on_procedures least spot fit x y comparison) }
 {
     match comparison {
-        None => Ok(reported(spot, Rule::WrongType)),
+        None => Ok(report(spot, Rule::WrongType)),
         Some(comparison) => {
             if !fit {
-                return Ok(reported(spot, Rule::WrongType));
+                return Ok(report(spot, Rule::WrongType));
             }
-            let (first, second) = boxed(alloc, x, y)?;
+            let (first, second) = boxes_of(alloc, x, y)?;
             Ok(Ok(truth_of(TypedExpr::Compare(comparison, first, second))))
         }
     }
@@ -342,11 +342,11 @@ fn with_scalar(
     ensures { IfOk result (λ v. v ≡ with_scalar least op spot at a other_at y) }
 {
     match y {
-        None => Ok(reported(spot, Rule::WrongType)),
+        None => Ok(report(spot, Rule::WrongType)),
         Some(Side::Scalar(b)) => on_amounts(alloc, op, spot, at, a, other_at, b),
         Some(Side::Set(set)) => member(alloc, op, spot, at, a, set),
-        Some(Side::Routine(_, _)) => Ok(reported(spot, Rule::WrongType)),
-        Some(Side::Procedure(_)) => Ok(reported(spot, Rule::WrongType)),
+        Some(Side::Routine(_, _)) => Ok(report(spot, Rule::WrongType)),
+        Some(Side::Procedure(_)) => Ok(report(spot, Rule::WrongType)),
     }
 }
 
@@ -373,7 +373,7 @@ fn with_set(
     ensures { IfOk result (λ v. v ≡ with_set least op spot x y) }
 {
     match y {
-        None => Ok(reported(spot, Rule::WrongType)),
+        None => Ok(report(spot, Rule::WrongType)),
         Some(set) => on_sets(alloc, spot, x, set, set_step_of(op)),
     }
 }
@@ -417,7 +417,7 @@ fn with_partner(
     ensures { IfOk result (λ v. v ≡ with_partner least spot x comparison partner) }
 {
     match partner {
-        None => Ok(reported(spot, Rule::WrongType)),
+        None => Ok(report(spot, Rule::WrongType)),
         Some((fit, y)) => on_procedures(alloc, spot, fit, x, y, comparison),
     }
 }
@@ -436,7 +436,7 @@ fn between(
     ensures { IfOk result (λ v. v ≡ between least types.now op spot at x other_at y) }
 {
     match x {
-        None => Ok(reported(spot, Rule::WrongType)),
+        None => Ok(report(spot, Rule::WrongType)),
         Some(Side::Scalar(a)) => with_scalar(alloc, op, spot, at, a, other_at, y),
         Some(Side::Set(e)) => with_set(alloc, op, spot, e, set_in(y)),
         Some(Side::Routine(t, e)) => {
@@ -455,7 +455,7 @@ fn between(
     }
 }
 
-fn folded(
+fn constant_result(
     op: BinaryOp,
     spot: Pos,
     at: Pos,
@@ -463,13 +463,13 @@ fn folded(
     other_at: Pos,
     b: Operand,
 ) -> Elaborated<Computed>
-    ensures { result ≡ folded least op spot at a other_at b }
+    ensures { result ≡ constant_result least op spot at a other_at b }
 {
     of_value(binary(op, spot, at, Some(a), other_at, Some(b)))
 }
 
 /// An operator at a place, between two values at theirs.
-fn operated(
+fn operation_on(
     alloc: Global,
     types: &Types,
     op: BinaryOp,
@@ -479,13 +479,13 @@ fn operated(
     other_at: Pos,
     y: Computed,
 ) -> Result<Elaborated<Computed>, AllocError>
-    ensures { IfOk result (λ v. v ≡ operated least types.now op spot at x other_at y) }
+    ensures { IfOk result (λ v. v ≡ operation_on least types.now op spot at x other_at y) }
 {
     match known_of(&x) {
         None => between(alloc, types, op, spot, at, side_of(x), other_at, side_of(y)),
         Some(a) => match known_of(&y) {
             None => between(alloc, types, op, spot, at, side_of(x), other_at, side_of(y)),
-            Some(b) => Ok(folded(op, spot, at, a, other_at, b)),
+            Some(b) => Ok(constant_result(op, spot, at, a, other_at, b)),
         },
     }
 }
@@ -493,7 +493,7 @@ fn operated(
 /// An operator at a place, between two parts at theirs. What the operator does not take is 40 at the operator. A divisor
 /// that is a constant below 1, and a result of constants that is out of range, are 52 there, and a number that the other
 /// operand's type does not have is 52 at the number.
-pub fn combined(
+pub fn operation_between(
     alloc: Global,
     types: &Types,
     op: BinaryOp,
@@ -503,10 +503,10 @@ pub fn combined(
     other_at: Pos,
     y: Elaborated<Computed>,
 ) -> Result<Elaborated<Computed>, AllocError>
-    ensures { IfOk result (λ v. v ≡ combined least types.now op spot at x other_at y) }
+    ensures { IfOk result (λ v. v ≡ operation_between least types.now op spot at x other_at y) }
 {
     match both(x, y) {
         Err(breach) => Ok(Err(breach)),
-        Ok((a, b)) => operated(alloc, types, op, spot, at, a, other_at, b),
+        Ok((a, b)) => operation_on(alloc, types, op, spot, at, a, other_at, b),
     }
 }

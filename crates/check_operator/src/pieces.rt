@@ -27,7 +27,7 @@ pub fn truth_of(e: TypedExpr) -> Computed
 }
 
 /// Two operands in boxes.
-pub fn boxed(
+pub fn boxes_of(
     alloc: Global,
     x: TypedExpr,
     y: TypedExpr,

@@ -2,14 +2,14 @@
 
 ghost use Rattle.std.specs.Prelude.{◌≡◌, length, IfOk};
 ghost use Rattle.check_scope.specs.Elaborated.{least};
-ghost use Rattle.check_operator.specs.Suits.{bases_suit, sort_suits, known_suited, run_suited, scalar_suited, set_suited, procedure_suited, value_suited, text_within, text_fits_in, text_fits, text_suited, whole_suited, of_expr, suited};
+ghost use Rattle.check_operator.specs.Suits.{bases_suit, sort_suits, known_suited, run_suited, scalar_suited, set_suited, procedure_suited, value_suited, text_within, text_fits_in, text_fits, text_suited, whole_suited, of_expr, value_for_place};
 
 use crate::agree::headings_agree;
 use crate::class::{Class, array_of, class_of};
 use crate::computed::Computed;
 use crate::side::{Amount, Side, side_of};
 use check_const_ops::Ordinal;
-use check_scope::{Elaborated, reported};
+use check_scope::{Elaborated, report};
 use m2_rule::Rule;
 use m2_tree::{Pos, Quoted};
 use tree_parts::Shared;
@@ -55,10 +55,10 @@ fn known_suited(
     ensures { result ≡ known_suited least broken t scalar at a }
 {
     if !sort_suits(scalar.base, a.sort) {
-        return reported(at, broken);
+        return report(at, broken);
     }
     if !(scalar.low <= a.number && a.number <= scalar.high) {
-        return reported(at, Rule::OutOfRange);
+        return report(at, Rule::OutOfRange);
     }
     Ok(TypedExpr::Constant(t, a.number))
 }
@@ -73,7 +73,7 @@ fn run_suited(
     ensures { result ≡ run_suited least broken scalar at base e }
 {
     if !bases_suit(scalar.base, base) {
-        return reported(at, broken);
+        return report(at, broken);
     }
     Ok(e)
 }
@@ -88,12 +88,12 @@ fn scalar_suited(
     ensures { result ≡ scalar_suited least broken t scalar at x }
 {
     match x {
-        None => reported(at, broken),
+        None => report(at, broken),
         Some(Side::Scalar(Amount::Known(a))) => known_suited(broken, t, scalar, at, a),
         Some(Side::Scalar(Amount::Run(base, e))) => run_suited(broken, scalar, at, base, e),
-        Some(Side::Set(_)) => reported(at, broken),
-        Some(Side::Routine(_, _)) => reported(at, broken),
-        Some(Side::Procedure(_)) => reported(at, broken),
+        Some(Side::Set(_)) => report(at, broken),
+        Some(Side::Routine(_, _)) => report(at, broken),
+        Some(Side::Procedure(_)) => report(at, broken),
     }
 }
 
@@ -101,11 +101,11 @@ fn set_suited(broken: Rule, at: Pos, x: Option<Side>) -> Elaborated<TypedExpr>
     ensures { result ≡ set_suited least broken at x }
 {
     match x {
-        None => reported(at, broken),
-        Some(Side::Scalar(_)) => reported(at, broken),
+        None => report(at, broken),
+        Some(Side::Scalar(_)) => report(at, broken),
         Some(Side::Set(e)) => Ok(e),
-        Some(Side::Routine(_, _)) => reported(at, broken),
-        Some(Side::Procedure(_)) => reported(at, broken),
+        Some(Side::Routine(_, _)) => report(at, broken),
+        Some(Side::Procedure(_)) => report(at, broken),
     }
 }
 
@@ -119,18 +119,18 @@ fn procedure_suited(
     ensures { result ≡ procedure_suited least broken types.now t at x }
 {
     match x {
-        None => reported(at, broken),
-        Some(Side::Scalar(_)) => reported(at, broken),
-        Some(Side::Set(_)) => reported(at, broken),
+        None => report(at, broken),
+        Some(Side::Scalar(_)) => report(at, broken),
+        Some(Side::Set(_)) => report(at, broken),
         Some(Side::Routine(u, e)) => {
             if !are_same(u, t) {
-                return reported(at, broken);
+                return report(at, broken);
             }
             Ok(e)
         }
         Some(Side::Procedure(procedure)) => {
             if !headings_agree(types, t, procedure.heading) {
-                return reported(at, broken);
+                return report(at, broken);
             }
             Ok(TypedExpr::Procedure(procedure))
         }
@@ -152,7 +152,7 @@ pub fn value_suited(
         Class::Scalar(scalar) => scalar_suited(broken, t, scalar, at, side_of(x)),
         Class::Set => set_suited(broken, at, side_of(x)),
         Class::Procedure => procedure_suited(broken, types, t, at, side_of(x)),
-        Class::Whole => reported(at, broken),
+        Class::Whole => report(at, broken),
     }
 }
 
@@ -196,12 +196,12 @@ fn text_suited(
     ensures { result ≡ text_suited least broken types.now t at value }
 {
     match value {
-        Value::Number(_) => reported(at, broken),
-        Value::Scalar(_) => reported(at, broken),
-        Value::Set(_) => reported(at, broken),
+        Value::Number(_) => report(at, broken),
+        Value::Scalar(_) => report(at, broken),
+        Value::Set(_) => report(at, broken),
         Value::Text(text) => {
             if !text_fits(types, t, text.get().as_bytes().len()) {
-                return reported(at, broken);
+                return report(at, broken);
             }
             Ok(Accepted::Text(text))
         }
@@ -221,15 +221,15 @@ fn whole_suited(
         Computed::Constant(value) => text_suited(broken, types, t, at, value),
         Computed::Whole(u, place) => {
             if !are_same(u, t) {
-                return reported(at, broken);
+                return report(at, broken);
             }
             Ok(Accepted::Whole(place))
         }
-        Computed::Scalar(_, _, _) => reported(at, broken),
-        Computed::Set(_) => reported(at, broken),
-        Computed::Routine(_, _) => reported(at, broken),
-        Computed::Procedure(_) => reported(at, broken),
-        Computed::Untaken => reported(at, broken),
+        Computed::Scalar(_, _, _) => report(at, broken),
+        Computed::Set(_) => report(at, broken),
+        Computed::Routine(_, _) => report(at, broken),
+        Computed::Procedure(_) => report(at, broken),
+        Computed::Untaken => report(at, broken),
     }
 }
 
@@ -244,8 +244,14 @@ fn of_expr(e: Elaborated<TypedExpr>) -> Elaborated<Accepted>
 
 /// A value for a place of this type. One that is not assignment compatible breaks the rule of this number, and a constant
 /// out of range is 52, both at the value.
-pub fn suited(broken: Rule, types: &Types, t: TypeNo, at: Pos, x: Computed) -> Elaborated<Accepted>
-    ensures { result ≡ suited least broken types.now t at x }
+pub fn value_for_place(
+    broken: Rule,
+    types: &Types,
+    t: TypeNo,
+    at: Pos,
+    x: Computed,
+) -> Elaborated<Accepted>
+    ensures { result ≡ value_for_place least broken types.now t at x }
 {
     match class_of(types, t) {
         Class::Scalar(_) => of_expr(value_suited(broken, types, t, at, x)),

@@ -3,17 +3,18 @@
 ghost use Rattle.std.specs.Prelude.{◌≡◌, IfOk};
 ghost use Rattle.std.specs.Option.{option_copied};
 ghost use Rattle.check_scope.specs.Elaborated.{least};
-ghost use Rattle.check_operator.specs.Selection.{numbered_field, field_named, record_field, component, field, array_indexed, indices, asked, picked, with_index, indexed};
+ghost use Rattle.check_operator.specs.Selection.{numbered_field, field_named, record_field, component, field, array_indexed, indices, index_type, element_of_array, with_index, element_at_index};
 
 use crate::class::array_of;
 use crate::computed::{Computed, Designated};
 use crate::places::value_suited;
-use check_scope::{Elaborated, both, fields_of, reported};
+use check_scope::{Elaborated, both, fields_of, report};
 use m2_rule::Rule;
 use m2_tree::{Ident, Pos};
 use std::alloc::{AllocError, Global};
 use typed_tree::{
-    CARDINAL, Component, Dictionary, Place, Root, Slot, TypeNo, TypedExpr, Types, behind, rooted,
+    CARDINAL, Component, Dictionary, Place, Root, Slot, TypeNo, TypedExpr, Types, behind,
+    root_place,
 };
 
 /// The number and the type of a field.
@@ -29,7 +30,7 @@ fn field_named(at: Pos, found: Option<(usize, TypeNo)>) -> Elaborated<(usize, Ty
     ensures { result ≡ field_named least at found }
 {
     match found {
-        None => reported(at, Rule::Undeclared),
+        None => report(at, Rule::Undeclared),
         Some(found) => Ok(found),
     }
 }
@@ -42,7 +43,7 @@ fn record_field(
     ensures { result ≡ record_field least at name.now (option_copied fields.entry) }
 {
     match fields {
-        None => reported(at, Rule::WrongType),
+        None => report(at, Rule::WrongType),
         Some(fields) => field_named(name.pos, numbered_field(fields, name.name.as_bytes())),
     }
 }
@@ -78,14 +79,14 @@ pub fn field(
         Designated::Variable(t, place) => component(types, at, name, t, place),
         Designated::Value(value) => {
             drop(value);
-            Ok(reported(at, Rule::WrongType))
+            Ok(report(at, Rule::WrongType))
         }
-        Designated::Open(_, _) => Ok(reported(at, Rule::WrongType)),
-        Designated::Type(_) => Ok(reported(at, Rule::WrongType)),
-        Designated::Procedure(_) => Ok(reported(at, Rule::WrongType)),
-        Designated::Nested(_) => Ok(reported(at, Rule::WrongType)),
-        Designated::Standard(_) => Ok(reported(at, Rule::WrongType)),
-        Designated::Module(_) => Ok(reported(at, Rule::WrongType)),
+        Designated::Open(_, _) => Ok(report(at, Rule::WrongType)),
+        Designated::Type(_) => Ok(report(at, Rule::WrongType)),
+        Designated::Procedure(_) => Ok(report(at, Rule::WrongType)),
+        Designated::Nested(_) => Ok(report(at, Rule::WrongType)),
+        Designated::Standard(_) => Ok(report(at, Rule::WrongType)),
+        Designated::Module(_) => Ok(report(at, Rule::WrongType)),
     }
 }
 
@@ -107,7 +108,7 @@ fn array_indexed(
     ensures { result ≡ array_indexed least at t place array }
 {
     match array {
-        None => reported(at, Rule::WrongType),
+        None => report(at, Rule::WrongType),
         Some((index, element)) => Ok(Subscripted::Array(t, index, element, place)),
     }
 }
@@ -121,18 +122,18 @@ pub fn indices(types: &Types, at: Pos, from: Designated) -> Elaborated<Subscript
         Designated::Open(t, slot) => Ok(Subscripted::Open(t, slot)),
         Designated::Value(value) => {
             drop(value);
-            reported(at, Rule::WrongType)
+            report(at, Rule::WrongType)
         }
-        Designated::Type(_) => reported(at, Rule::WrongType),
-        Designated::Procedure(_) => reported(at, Rule::WrongType),
-        Designated::Nested(_) => reported(at, Rule::WrongType),
-        Designated::Standard(_) => reported(at, Rule::WrongType),
-        Designated::Module(_) => reported(at, Rule::WrongType),
+        Designated::Type(_) => report(at, Rule::WrongType),
+        Designated::Procedure(_) => report(at, Rule::WrongType),
+        Designated::Nested(_) => report(at, Rule::WrongType),
+        Designated::Standard(_) => report(at, Rule::WrongType),
+        Designated::Module(_) => report(at, Rule::WrongType),
     }
 }
 
-fn asked(array: &Subscripted) -> TypeNo
-    ensures { result ≡ asked array.now }
+fn index_type(array: &Subscripted) -> TypeNo
+    ensures { result ≡ index_type array.now }
 {
     match array {
         Subscripted::Array(_, index, _, _) => *index,
@@ -140,8 +141,12 @@ fn asked(array: &Subscripted) -> TypeNo
     }
 }
 
-fn picked(alloc: Global, array: Subscripted, index: TypedExpr) -> Result<Designated, AllocError>
-    ensures { IfOk result (λ d. d ≡ picked index array) }
+fn element_of_array(
+    alloc: Global,
+    array: Subscripted,
+    index: TypedExpr,
+) -> Result<Designated, AllocError>
+    ensures { IfOk result (λ d. d ≡ element_of_array index array) }
 {
     match array {
         Subscripted::Array(t, _, element, place) => {
@@ -149,7 +154,7 @@ fn picked(alloc: Global, array: Subscripted, index: TypedExpr) -> Result<Designa
             Ok(Designated::Variable(element, place))
         }
         Subscripted::Open(t, slot) => {
-            let whole = rooted(alloc, Root::Open(slot));
+            let whole = root_place(alloc, Root::Open(slot));
             let place = behind(whole, Component::OpenElement(slot, t, index))?;
             Ok(Designated::Variable(t, place))
         }
@@ -165,22 +170,22 @@ fn with_index(
 ) -> Result<Elaborated<Designated>, AllocError>
     ensures { IfOk result (λ d. d ≡ with_index least types.now at array index) }
 {
-    match value_suited(Rule::NotAssignable, types, asked(&array), at, index) {
+    match value_suited(Rule::NotAssignable, types, index_type(&array), at, index) {
         Err(breach) => Ok(Err(breach)),
-        Ok(e) => Ok(Ok(picked(alloc, array, e)?)),
+        Ok(e) => Ok(Ok(element_of_array(alloc, array, e)?)),
     }
 }
 
 /// An element of an array, by an index at a place. An index that is not assignment compatible is 41, and a constant one
 /// that the array does not have is 52, both at the index.
-pub fn indexed(
+pub fn element_at_index(
     alloc: Global,
     types: &Types,
     array: Elaborated<Subscripted>,
     at: Pos,
     index: Elaborated<Computed>,
 ) -> Result<Elaborated<Designated>, AllocError>
-    ensures { IfOk result (λ d. d ≡ indexed least types.now array at index) }
+    ensures { IfOk result (λ d. d ≡ element_at_index least types.now array at index) }
 {
     match both(array, index) {
         Err(breach) => Ok(Err(breach)),

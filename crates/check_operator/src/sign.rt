@@ -2,11 +2,11 @@
 
 ghost use Rattle.std.specs.Prelude.{◌≡◌, Ok, IfOk};
 ghost use Rattle.check_scope.specs.Elaborated.{least, ◌▷◌};
-ghost use Rattle.check_operator.specs.Signs.{signed_scalar, signed_value, signed, negated_scalar, negated_value, negated};
+ghost use Rattle.check_operator.specs.Signs.{signed_scalar, signed_value, with_sign, negated_scalar, negated_value, negation};
 
 use crate::computed::Computed;
 use crate::pieces::{of_value, truth_of};
-use check_scope::{Elaborated, reported};
+use check_scope::{Elaborated, report};
 use m2_rule::Rule;
 use m2_tree::{Pos, Sign};
 use std::alloc::{AllocError, Global};
@@ -25,14 +25,14 @@ fn signed_scalar(
     match sign {
         Sign::Plus => {
             if !is_numeric(base) {
-                return Ok(reported(spot, Rule::WrongType));
+                return Ok(report(spot, Rule::WrongType));
             }
             let operand = Boxed::new(alloc, e)?;
             Ok(Ok(Computed::Scalar(base, base, TypedExpr::Plus(base, operand))))
         }
         Sign::Minus => {
             if !is_integer(base) {
-                return Ok(reported(spot, Rule::WrongType));
+                return Ok(report(spot, Rule::WrongType));
             }
             let operand = Boxed::new(alloc, e)?;
             Ok(Ok(Computed::Scalar(base, base, TypedExpr::Negate(operand))))
@@ -49,24 +49,28 @@ fn signed_value(
     ensures { IfOk result (λ v. v ≡ signed_value least sign spot value) }
 {
     match value {
-        Computed::Constant(value) => Ok(of_value(check_const_ops::signed(sign, spot, Ok(value)))),
+        Computed::Constant(value) => Ok(of_value(check_const_ops::with_sign(
+            sign,
+            spot,
+            Ok(value),
+        ))),
         Computed::Scalar(_, base, e) => signed_scalar(alloc, sign, spot, base, e),
-        Computed::Set(_) => Ok(reported(spot, Rule::WrongType)),
-        Computed::Routine(_, _) => Ok(reported(spot, Rule::WrongType)),
-        Computed::Procedure(_) => Ok(reported(spot, Rule::WrongType)),
-        Computed::Whole(_, _) => Ok(reported(spot, Rule::WrongType)),
-        Computed::Untaken => Ok(reported(spot, Rule::WrongType)),
+        Computed::Set(_) => Ok(report(spot, Rule::WrongType)),
+        Computed::Routine(_, _) => Ok(report(spot, Rule::WrongType)),
+        Computed::Procedure(_) => Ok(report(spot, Rule::WrongType)),
+        Computed::Whole(_, _) => Ok(report(spot, Rule::WrongType)),
+        Computed::Untaken => Ok(report(spot, Rule::WrongType)),
     }
 }
 
 /// A sign at a place, before a term: 40 where it does not take the term.
-pub fn signed(
+pub fn with_sign(
     alloc: Global,
     sign: Sign,
     spot: Pos,
     x: Elaborated<Computed>,
 ) -> Result<Elaborated<Computed>, AllocError>
-    ensures { IfOk result (λ v. v ≡ signed least sign spot x) }
+    ensures { IfOk result (λ v. v ≡ with_sign least sign spot x) }
 {
     match x {
         Err(breach) => Ok(Err(breach)),
@@ -83,7 +87,7 @@ fn negated_scalar(
     ensures { IfOk result (λ v. v ≡ negated_scalar least spot base e) }
 {
     if !are_same(base, BOOLEAN) {
-        return Ok(reported(spot, Rule::WrongType));
+        return Ok(report(spot, Rule::WrongType));
     }
     let operand = Boxed::new(alloc, e)?;
     Ok(Ok(truth_of(TypedExpr::Not(operand))))
@@ -97,23 +101,23 @@ fn negated_value(
     ensures { IfOk result (λ v. v ≡ negated_value least spot value) }
 {
     match value {
-        Computed::Constant(value) => Ok(of_value(check_const_ops::negated(spot, Ok(value)))),
+        Computed::Constant(value) => Ok(of_value(check_const_ops::negation(spot, Ok(value)))),
         Computed::Scalar(_, base, e) => negated_scalar(alloc, spot, base, e),
-        Computed::Set(_) => Ok(reported(spot, Rule::WrongType)),
-        Computed::Routine(_, _) => Ok(reported(spot, Rule::WrongType)),
-        Computed::Procedure(_) => Ok(reported(spot, Rule::WrongType)),
-        Computed::Whole(_, _) => Ok(reported(spot, Rule::WrongType)),
-        Computed::Untaken => Ok(reported(spot, Rule::WrongType)),
+        Computed::Set(_) => Ok(report(spot, Rule::WrongType)),
+        Computed::Routine(_, _) => Ok(report(spot, Rule::WrongType)),
+        Computed::Procedure(_) => Ok(report(spot, Rule::WrongType)),
+        Computed::Whole(_, _) => Ok(report(spot, Rule::WrongType)),
+        Computed::Untaken => Ok(report(spot, Rule::WrongType)),
     }
 }
 
 /// NOT at a place: 40 where its operand is no BOOLEAN.
-pub fn negated(
+pub fn negation(
     alloc: Global,
     spot: Pos,
     x: Elaborated<Computed>,
 ) -> Result<Elaborated<Computed>, AllocError>
-    ensures { IfOk result (λ v. v ≡ negated least spot x) }
+    ensures { IfOk result (λ v. v ≡ negation least spot x) }
 {
     match x {
         Err(breach) => Ok(Err(breach)),

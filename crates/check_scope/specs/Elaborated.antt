@@ -23,12 +23,12 @@ least = record { Reported = Breach; one = λ f. f; join = lesser }
 
 -- A part means something, or rules are broken in it. The use of a name in whose declaration rules
 -- are broken repeats these.
-abbrev pub reported : (g : Gathers) {A : Type 0} → Pos → Rule → Result A g.Reported
-reported g pos broken = Err (g.one (breach pos broken))
+abbrev pub report : (g : Gathers) {A : Type 0} → Pos → Rule → Result A g.Reported
+report g pos broken = Err (g.one (breach pos broken))
 
 abbrev pub reported_where : (g : Gathers) {A : Type 0} → Bool → Pos → Rule → Result A g.Reported
     → Result A g.Reported
-reported_where g holds pos broken otherwise = cond holds (reported g pos broken) otherwise
+reported_where g holds pos broken otherwise = cond holds (report g pos broken) otherwise
 
 -- what looks at a meaning is silent where there is none
 infixl 10 ◌▷◌
@@ -73,7 +73,7 @@ abbrev pub of_sort : (g : Gathers) {A : Type 0} → Pos → Rule → Result A (M
     → Result A g.Reported
 of_sort g pos broken (Ok x) = Ok x
 of_sort g pos broken (Err (Broken e)) = Err e
-of_sort g pos broken (Err (Headless e)) = reported g pos broken
+of_sort g pos broken (Err (Headless e)) = report g pos broken
 
 -- if the heading counts, its own refusals are repeated
 abbrev pub of_heading : {A T : Type 0} → Result A (Meaningless T) → Result A T

@@ -15,7 +15,7 @@ use Rattle.typed_tree.specs.declared.shape.Shape.TheVariants as shape
 use Rattle.typed_tree.specs.declared.shape.Made.{Made}
 use Rattle.typed_tree.specs.declared.known_types.Types.{Types}
 use Rattle.typed_tree.specs.Known.{made_at}
-use Rattle.typed_tree.specs.Names.{found, place_of, entered}
+use Rattle.typed_tree.specs.Names.{find_name, place_of, enter_name}
 use Rattle.check_scope.specs.declared.known.Origin.{Origin}
 use Rattle.check_scope.specs.declared.known.Origin.TheVariants.{Here, Module, Export}
 use Rattle.check_scope.specs.declared.known.Known.{Known}
@@ -25,7 +25,7 @@ use Rattle.check_scope.specs.declared.meaningless.Meaningless.TheVariants.{Headl
 use Rattle.check_scope.specs.declared.scope.Block.{Block}
 use Rattle.check_scope.specs.declared.scope.OpenedRecord.{OpenedRecord}
 use Rattle.check_scope.specs.declared.scope.Scope.{Scope}
-use Rattle.check_scope.specs.Elaborated.{Gathers, reported, plain}
+use Rattle.check_scope.specs.Elaborated.{Gathers, report, plain}
 
 -- ---- what a name means
 
@@ -39,8 +39,8 @@ abbrev pub Sight : Type 0 → Type 0
 Sight T = Option (Known T × Bool)
 
 -- the same, of what is borrowed
-abbrev pub sighted : {T : Type 0} → Option (Bor (Known T) × Bool) → Sight T
-sighted s = option_map {U = _ × Bool} (λ e. (e.0.now, e.1)) s
+abbrev pub sight_of_entry : {T : Type 0} → Option (Bor (Known T) × Bool) → Sight T
+sight_of_entry s = option_map {U = _ × Bool} (λ e. (e.0.now, e.1)) s
 
 abbrev pub seen_at : {T : Type 0} → (seen : ℕ) → List (List ℕ × Known T) → Option ℕ → Sight T
 seen_at seen names None = None
@@ -59,8 +59,8 @@ abbrev pub or_around : {T : Type 0} → Option (Known T) → Sight T → Sight T
 or_around None far = far
 or_around (Some k) far = Some (k, true)
 
-abbrev pub known : {T : Type 0} → List ℕ → Scope T → Sight T
-known name s = or_around (found name s.own) (known_outside name s.outer)
+abbrev pub sight_of : {T : Type 0} → List ℕ → Scope T → Sight T
+sight_of name s = or_around (find_name name s.own) (known_outside name s.outer)
 
 -- a procedure, if rules are broken in its heading, is known to be one
 abbrev pub heading_means : {T : Type 0} → Result Meaning T → Result Meaning (Meaningless T)
@@ -70,15 +70,15 @@ heading_means (Err e) = Err (Headless e)
 -- names are declared before use, but procedures are known in all bodies of their block
 abbrev pub means_seen : (g : Gathers) → Pos → Known g.Reported → (seen : Bool)
     → Result Meaning (Meaningless g.Reported)
-means_seen g at Later seen = plain (reported g at rule.Undeclared)
+means_seen g at Later seen = plain (report g at rule.Undeclared)
 means_seen g at Ahead seen = Ok meaning.Ahead
-means_seen g at Begun seen = plain (reported g at rule.Undeclared)
+means_seen g at Begun seen = plain (report g at rule.Undeclared)
 means_seen g at (Headed m) seen = heading_means m
-means_seen g at (Declared o m) seen = plain (cond seen m (reported g at rule.Undeclared))
+means_seen g at (Declared o m) seen = plain (cond seen m (report g at rule.Undeclared))
 
 abbrev pub means_as : (g : Gathers) → Pos → Sight g.Reported
     → Result Meaning (Meaningless g.Reported)
-means_as g at None = plain (reported g at rule.Undeclared)
+means_as g at None = plain (report g at rule.Undeclared)
 means_as g at (Some k) = means_seen g at k.0 k.1
 
 -- ---- fields under WITH come before all other names
@@ -114,9 +114,9 @@ field_of r name (Some fs) = field_at r name fs
 abbrev pub field_in : Types → List ℕ → OpenedRecord → Option OpenedField
 field_in types name r = field_of r name (fields_at types r.of)
 
-abbrev pub opened : Types → List ℕ → List OpenedRecord → Option OpenedField
-opened types name [] = None
-opened types name (r ∷ inner) = or_outside (opened types name inner) (field_in types name r)
+abbrev pub open_field : Types → List ℕ → List OpenedRecord → Option OpenedField
+open_field types name [] = None
+open_field types name (r ∷ inner) = or_outside (open_field types name inner) (field_in types name r)
 
 abbrev pub means_or : {T : Type 0} → Option OpenedField → Result Meaning T → Result Meaning T
 means_or (Some f) m = Ok (meaning.Field f)
@@ -125,7 +125,7 @@ means_or None m = m
 abbrev pub looked_up : (g : Gathers) → Scope g.Reported → Ident
     → Result Meaning (Meaningless g.Reported)
 looked_up g s name =
-    means_or (opened s.types name.name s.withs) (means_as g name.pos (known name.name s))
+    means_or (open_field s.types name.name s.withs) (means_as g name.pos (sight_of name.name s))
 
 -- ---- declarations
 
@@ -138,7 +138,7 @@ is_free (Some (Headed m)) = false
 is_free (Some (Declared o m)) = false
 
 abbrev pub with_known : {T : Type 0} → List ℕ → Known T → Scope T → Scope T
-with_known name k s = record s { own = entered name k s.own }
+with_known name k s = record s { own = enter_name name k s.own }
 
 -- a scope, and what is reported
 abbrev pub State : Type 0 → Type 0 → Type 0
@@ -148,16 +148,16 @@ State A T = Scope T × Result A T
 abbrev pub unless_declared : (g : Gathers) → Scope g.Reported → Ident → Known g.Reported
     → State (Unit {0}) g.Reported
 unless_declared g s name k =
-    cond (is_free (found name.name s.own)) (with_known name.name k s, Ok tt)
-    (s, reported g name.pos rule.DeclaredTwice)
+    cond (is_free (find_name name.name s.own)) (with_known name.name k s, Ok tt)
+    (s, report g name.pos rule.DeclaredTwice)
 
-abbrev pub declared : (g : Gathers) → Scope g.Reported → Ident → Result Meaning g.Reported
+abbrev pub declare_name : (g : Gathers) → Scope g.Reported → Ident → Result Meaning g.Reported
     → State (Unit {0}) g.Reported
-declared g s name m = unless_declared g s name (Declared Here m)
+declare_name g s name m = unless_declared g s name (Declared Here m)
 
 -- a name is taken from where it stands, and means something from the end of its declaration on
-abbrev pub begun : (g : Gathers) → Scope g.Reported → Ident → State (Unit {0}) g.Reported
-begun g s name = unless_declared g s name Begun
+abbrev pub begin_name : (g : Gathers) → Scope g.Reported → Ident → State (Unit {0}) g.Reported
+begin_name g s name = unless_declared g s name Begun
 
 abbrev pub is_begun : {T : Type 0} → Option (Known T) → Bool
 is_begun None = false
@@ -167,9 +167,9 @@ is_begun (Some Begun) = true
 is_begun (Some (Headed m)) = false
 is_begun (Some (Declared o m)) = false
 
-abbrev pub finished : {T : Type 0} → Scope T → Ident → Result Meaning T → Scope T
-finished s name m =
-    cond (is_begun (found name.name s.own)) (with_known name.name (Declared Here m) s) s
+abbrev pub finish_name : {T : Type 0} → Scope T → Ident → Result Meaning T → Scope T
+finish_name s name m =
+    cond (is_begun (find_name name.name s.own)) (with_known name.name (Declared Here m) s) s
 
 -- ---- imports
 
@@ -191,12 +191,12 @@ is_again (Some (Headed m)) o = false
 is_again (Some (Declared first m)) o = is_one_origin first o
 
 -- the same declaration counts once
-abbrev pub imported : (g : Gathers) → Scope g.Reported → Pos → List ℕ → Origin
+abbrev pub import_name : (g : Gathers) → Scope g.Reported → Pos → List ℕ → Origin
     → Result Meaning g.Reported → State (Unit {0}) g.Reported
-imported g s at name o m =
-    cond (is_again (found name s.own) o) (s, Ok tt)
-    (cond (is_free (found name s.own)) (with_known name (Declared o m) s, Ok tt)
-    (s, reported g at rule.DeclaredTwice))
+import_name g s at name o m =
+    cond (is_again (find_name name s.own) o) (s, Ok tt)
+    (cond (is_free (find_name name s.own)) (with_known name (Declared o m) s, Ok tt)
+    (s, report g at rule.DeclaredTwice))
 
 -- ---- the names that a block declares, wherever they stand
 
@@ -204,5 +204,5 @@ abbrev pub unless_marked : {T : Type 0} → List ℕ → Known T → Scope T →
 unless_marked name k s (Some _) = s
 unless_marked name k s None = with_known name k s
 
-abbrev pub marked : {T : Type 0} → Ident → Known T → Scope T → Scope T
-marked name k s = unless_marked name.name k s (found name.name s.own)
+abbrev pub mark_name : {T : Type 0} → Ident → Known T → Scope T → Scope T
+mark_name name k s = unless_marked name.name k s (find_name name.name s.own)

@@ -11,7 +11,7 @@ use m2_tree::Pos;
 pub type Elaborated<T> = Result<T, Breach>;
 
 /// What is reported of a rule that is broken.
-pub fn reported<T>(pos: Pos, broken: Rule) -> Elaborated<T>
+pub fn report<T>(pos: Pos, broken: Rule) -> Elaborated<T>
     ensures { result ≡ Err (breach pos broken) }
 {
     Err(Breach::at(pos, broken))

@@ -6,7 +6,7 @@ mod known;
 mod meaningless;
 mod scope;
 
-pub use elaborated::{Elaborated, beside, both, refusal_beside, reported, reported_beside};
+pub use elaborated::{Elaborated, beside, both, refusal_beside, report, reported_beside};
 pub use known::{Known, Origin};
 pub use meaningless::{Meaningless, Sought, of_heading, of_sort, plain};
 pub use scope::{

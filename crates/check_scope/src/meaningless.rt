@@ -3,7 +3,7 @@
 ghost use Rattle.std.specs.Prelude.{◌≡◌};
 ghost use Rattle.check_scope.specs.Elaborated.{least, of_sort, of_heading, plain};
 
-use crate::elaborated::{Elaborated, reported};
+use crate::elaborated::{Elaborated, report};
 use m2_rule::{Breach, Rule};
 use m2_tree::Pos;
 
@@ -26,7 +26,7 @@ pub fn of_sort<T>(pos: Pos, broken: Rule, sought: Sought<T>) -> Elaborated<T>
     match sought {
         Ok(meaning) => Ok(meaning),
         Err(Meaningless::Broken(breach)) => Err(breach),
-        Err(Meaningless::Headless(_)) => reported(pos, broken),
+        Err(Meaningless::Headless(_)) => report(pos, broken),
     }
 }
 

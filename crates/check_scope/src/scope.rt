@@ -4,9 +4,9 @@ ghost use Rattle.std.specs.Prelude.{◌≡◌, Ok, IfOk, OnOk, Option};
 ghost use Rattle.std.specs.List.{fold};
 ghost use Rattle.std.specs.Option.{option_copied};
 ghost use Rattle.check_scope.specs.Elaborated.{least, plain};
-ghost use Rattle.check_scope.specs.Scopes.{sighted, seen_at, in_block, nearer, or_outside, known_outside, known, fields_made, fields_at, field_at, field_in, opened, heading_means, means_seen, means_as, looked_up, is_free, with_known, declared, begun, is_begun, finished, is_one_origin, is_again, imported, marked};
+ghost use Rattle.check_scope.specs.Scopes.{sight_of_entry, seen_at, in_block, nearer, or_outside, known_outside, sight_of, fields_made, fields_at, field_at, field_in, open_field, heading_means, means_seen, means_as, looked_up, is_free, with_known, declare_name, begin_name, is_begun, finish_name, is_one_origin, is_again, import_name, mark_name};
 
-use crate::elaborated::{Elaborated, reported};
+use crate::elaborated::{Elaborated, report};
 use crate::known::{Known, Origin};
 use crate::meaningless::{Meaningless, Sought, plain};
 use m2_rule::{Breach, Rule};
@@ -97,7 +97,7 @@ impl Scope<Breach> {
 type Sight<'a> = Option<(&'a Known<Breach>, bool)>;
 
 fn in_block<'a>(block: &'a Block<Breach>, name: &[u8]) -> Sight<'a>
-    ensures { sighted result ≡ in_block name.now block.now }
+    ensures { sight_of_entry result ≡ in_block name.now block.now }
 {
     let place = block.names.place(name)?;
     let (_, known) = block.names.get(place)?;
@@ -105,7 +105,7 @@ fn in_block<'a>(block: &'a Block<Breach>, name: &[u8]) -> Sight<'a>
 }
 
 fn or_outside<'a>(near: Sight<'a>, far: Sight<'a>) -> Sight<'a>
-    ensures { sighted result ≡ or_outside (sighted near.entry) (sighted far.entry) }
+    ensures { sight_of_entry result ≡ or_outside (sight_of_entry near.entry) (sight_of_entry far.entry) }
 {
     match near {
         Some(known) => Some(known),
@@ -114,7 +114,7 @@ fn or_outside<'a>(near: Sight<'a>, far: Sight<'a>) -> Sight<'a>
 }
 
 fn known_outside<'a>(outer: &'a [Block<Breach>], name: &[u8]) -> Sight<'a>
-    ensures { sighted result ≡ known_outside name.now outer.now }
+    ensures { sight_of_entry result ≡ known_outside name.now outer.now }
 {
     let mut known = None;
     for block in outer {
@@ -124,7 +124,7 @@ fn known_outside<'a>(outer: &'a [Block<Breach>], name: &[u8]) -> Sight<'a>
 }
 
 fn known_in<'a>(scope: &'a Scope<Breach>, name: &[u8]) -> Sight<'a>
-    ensures { sighted result ≡ known name.now scope.now }
+    ensures { sight_of_entry result ≡ sight_of name.now scope.now }
 {
     match scope.own.find(name) {
         Some(known) => Some((known, true)),
@@ -156,14 +156,14 @@ fn means_seen(at: Pos, known: &Known<Breach>, seen: bool) -> Result<Sought<Meani
     ensures { IfOk result (λ m. m ≡ means_seen least at known.now seen) }
 {
     match known {
-        Known::Later | Known::Begun => Ok(plain(reported(at, Rule::Undeclared))),
+        Known::Later | Known::Begun => Ok(plain(report(at, Rule::Undeclared))),
         Known::Ahead => Ok(Ok(Meaning::Ahead)),
         Known::Headed(means) => heading_means(means),
         Known::Declared(_, means) => {
             if seen {
                 declared_means(means)
             } else {
-                Ok(plain(reported(at, Rule::Undeclared)))
+                Ok(plain(report(at, Rule::Undeclared)))
             }
         }
     }
@@ -171,10 +171,10 @@ fn means_seen(at: Pos, known: &Known<Breach>, seen: bool) -> Result<Sought<Meani
 
 fn means_as(at: Pos, known: Sight<'_>) -> Result<Sought<Meaning>, AllocError>
     ensures { IfOk result
-        (λ m. m ≡ means_as least at (sighted known.entry)) }
+        (λ m. m ≡ means_as least at (sight_of_entry known.entry)) }
 {
     match known {
-        None => Ok(plain(reported(at, Rule::Undeclared))),
+        None => Ok(plain(report(at, Rule::Undeclared))),
         Some((known, seen)) => means_seen(at, known, seen),
     }
 }
@@ -225,12 +225,12 @@ fn field_in(types: &Types, with: OpenedRecord, name: &[u8]) -> Option<OpenedFiel
 }
 
 /// The field that a name means under the WITHs around it.
-fn opened(types: &Types, withs: &[OpenedRecord], name: &[u8]) -> Option<OpenedField>
-    ensures { result ≡ opened types.now name.now withs.now }
+fn open_field(types: &Types, withs: &[OpenedRecord], name: &[u8]) -> Option<OpenedField>
+    ensures { result ≡ open_field types.now name.now withs.now }
 {
     match withs {
         [] => None,
-        [with, inner @ ..] => match opened(types, inner, name) {
+        [with, inner @ ..] => match open_field(types, inner, name) {
             Some(field) => Some(field),
             None => field_in(types, *with, name),
         },
@@ -242,7 +242,7 @@ pub fn looked_up(scope: &Scope<Breach>, name: &Ident) -> Result<Sought<Meaning>,
     ensures { IfOk result (λ m. m ≡ looked_up least scope.now name.now) }
 {
     let bytes = name.name.as_bytes();
-    match opened(&scope.types, scope.withs.as_slice(), bytes) {
+    match open_field(&scope.types, scope.withs.as_slice(), bytes) {
         Some(field) => Ok(Ok(Meaning::Field(field))),
         None => means_as(name.pos, known_in(scope, bytes)),
     }
@@ -266,7 +266,7 @@ fn with_known(
     name: &[u8],
     known: Known<Breach>,
 ) -> Result<(), AllocError>
-    ensures { OnOk result (scope.new ≡ with_known name.now known scope.old) }
+    ensures { OnOk result (scope.new ≡ with_known name.now sight_of scope.old) }
 {
     scope.own.enter(alloc, name, known)
 }
@@ -278,10 +278,10 @@ pub fn declare(
     name: &Ident,
     means: Elaborated<Meaning>,
 ) -> Result<Elaborated<()>, AllocError>
-    ensures { IfOk result (λ j. (scope.new, j) ≡ declared least scope.old name.now means) }
+    ensures { IfOk result (λ j. (scope.new, j) ≡ declare_name least scope.old name.now means) }
 {
     if !is_free(scope.own.find(name.name.as_bytes())) {
-        return Ok(reported(name.pos, Rule::DeclaredTwice));
+        return Ok(report(name.pos, Rule::DeclaredTwice));
     }
     with_known(
         alloc,
@@ -298,10 +298,10 @@ pub fn begin(
     scope: &mut Scope<Breach>,
     name: &Ident,
 ) -> Result<Elaborated<()>, AllocError>
-    ensures { IfOk result (λ j. (scope.new, j) ≡ begun least scope.old name.now) }
+    ensures { IfOk result (λ j. (scope.new, j) ≡ begin_name least scope.old name.now) }
 {
     if !is_free(scope.own.find(name.name.as_bytes())) {
-        return Ok(reported(name.pos, Rule::DeclaredTwice));
+        return Ok(report(name.pos, Rule::DeclaredTwice));
     }
     with_known(alloc, scope, name.name.as_bytes(), Known::Begun)?;
     Ok(Ok(()))
@@ -326,7 +326,7 @@ pub fn finish(
     name: &Ident,
     means: Elaborated<Meaning>,
 ) -> Result<(), AllocError>
-    ensures { OnOk result (scope.new ≡ finished scope.old name.now means) }
+    ensures { OnOk result (scope.new ≡ finish_name scope.old name.now means) }
 {
     if !is_begun(scope.own.find(name.name.as_bytes())) {
         return Ok(());
@@ -376,14 +376,14 @@ pub fn import(
     origin: Origin,
     means: Elaborated<Meaning>,
 ) -> Result<Elaborated<()>, AllocError>
-    ensures { IfOk result (λ j. (scope.new, j) ≡ imported least scope.old at name.now origin means) }
+    ensures { IfOk result (λ j. (scope.new, j) ≡ import_name least scope.old at name.now origin means) }
 {
     let known = scope.own.find(name);
     if is_again(known, origin) {
         return Ok(Ok(()));
     }
     if !is_free(known) {
-        return Ok(reported(at, Rule::DeclaredTwice));
+        return Ok(report(at, Rule::DeclaredTwice));
     }
     with_known(alloc, scope, name, Known::Declared(origin, means))?;
     Ok(Ok(()))
@@ -396,7 +396,7 @@ pub fn mark(
     name: &Ident,
     known: Known<Breach>,
 ) -> Result<(), AllocError>
-    ensures { OnOk result (scope.new ≡ marked name.now known scope.old) }
+    ensures { OnOk result (scope.new ≡ mark_name name.now sight_of scope.old) }
 {
     match scope.own.find(name.name.as_bytes()) {
         Some(_) => Ok(()),

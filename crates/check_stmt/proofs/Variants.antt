@@ -20,11 +20,11 @@ use Rattle.typed_tree.specs.declared.statement.TypedArm.{TypedArm}
 use Rattle.m2_rule.specs.declared.breach.Breach.{Breach}
 use Rattle.check_scope.specs.declared.scope.Scope.{Scope}
 use Rattle.check_scope.specs.Elaborated.{least, refusal_beside, ahead}
-use Rattle.check_expr.specs.Meanings.{meant, head}
-use Rattle.check_expr.specs.Effects.{done_by}
+use Rattle.check_expr.specs.Meanings.{meanings_of, head}
+use Rattle.check_expr.specs.Effects.{call_statement}
 use Rattle.check_stmt_parts.specs.declared.around.Around.{Around}
-use Rattle.check_stmt_parts.specs.Lists.{standing, chosen, chosen_else, base_in, cased, armed, repeated_while, repeated_until, looped, within, reported_in}
-use Rattle.check_stmt_parts.specs.Simple.{meant_if, in_loop, exited, returned, condition, assignment, selected, record_of, opened_type, opened, opened_if}
+use Rattle.check_stmt_parts.specs.Lists.{standing, if_statement, chosen_else, base_in, case_statement, arm_of, repeated_while, repeated_until, loop_statement, within, reported_in}
+use Rattle.check_stmt_parts.specs.Simple.{meant_if, in_loop, exit_statement, return_statement, condition, assignment, case_selector, record_of, opened_type, into_record, opened_if}
 use Rattle.check_stmt_parts.specs.Labels.{labels_in}
 use Rattle.check_stmt_parts.specs.Control.{course_of, repeated_for}
 use Rattle.check_stmt.specs.Statements.{Elaborates, ElaboratesRest, ElaboratesArm, Arms, args_meant, with_stmt, with_arm, stmt_layer, rest_layer, arm_layer, stmt, rest, arm, statements, arms}
@@ -74,42 +74,42 @@ module _ (s : Scope Breach) (w : Around Breach) where
   body_is : (xs : List Stmt) → fold (with_stmt least s w) (Ok []) (map (stmt least) xs) ≡ statements least s w xs
   body_is xs = fold_mapped (with_stmt least s w) (stmt least) (Ok []) xs
 
-  pub is_Assign : (d : Designator) (e : Expr) → stmt least (Assign d e) s w ≡ assignment least s (head least d) (meant least e)
+  pub is_Assign : (d : Designator) (e : Expr) → stmt least (Assign d e) s w ≡ assignment least s (head least d) (meanings_of least e)
   is_Assign d e = ap (λ (f : S). f s w) (at (Assign d e) (layer.Assign d e) (outs-Assign d e))
 
-  pub is_Call : (d : Designator) (args : Option (List Expr)) → stmt least (Call d args) s w ≡ done_by least s (head least d) (args_meant least args)
+  pub is_Call : (d : Designator) (args : Option (List Expr)) → stmt least (Call d args) s w ≡ call_statement least s (head least d) (args_meant least args)
   is_Call d args = ap (λ (f : S). f s w) (at (Call d args) (layer.Call d args) (outs-Call d args))
 
-  pub is_If : (c : Expr) (body : List Stmt) (r : Rest) → stmt least (If c body r) s w ≡ chosen least (condition least s (meant least c)) (statements least s w body) (rest least r s w)
+  pub is_If : (c : Expr) (body : List Stmt) (r : Rest) → stmt least (If c body r) s w ≡ if_statement least (condition least s (meanings_of least c)) (statements least s w body) (rest least r s w)
   is_If c body r = ap (λ (f : S). f s w) (at (If c body r) (layer.If c body r) (outs-If c body r))
-      ∙ ap (λ (x : Steps). chosen least (condition least s (meant least c)) x (rest least r s w)) (body_is body)
+      ∙ ap (λ (x : Steps). if_statement least (condition least s (meanings_of least c)) x (rest least r s w)) (body_is body)
 
-  pub is_While : (c : Expr) (body : List Stmt) → stmt least (While c body) s w ≡ repeated_while least (condition least s (meant least c)) (statements least s w body)
+  pub is_While : (c : Expr) (body : List Stmt) → stmt least (While c body) s w ≡ repeated_while least (condition least s (meanings_of least c)) (statements least s w body)
   is_While c body = ap (λ (f : S). f s w) (at (While c body) (layer.While c body) (outs-While c body))
-      ∙ ap (λ (x : Steps). repeated_while least (condition least s (meant least c)) x) (body_is body)
+      ∙ ap (λ (x : Steps). repeated_while least (condition least s (meanings_of least c)) x) (body_is body)
 
-  pub is_Repeat : (body : List Stmt) (c : Expr) → stmt least (Repeat body c) s w ≡ repeated_until least (statements least s w body) (condition least s (meant least c))
+  pub is_Repeat : (body : List Stmt) (c : Expr) → stmt least (Repeat body c) s w ≡ repeated_until least (statements least s w body) (condition least s (meanings_of least c))
   is_Repeat body c = ap (λ (f : S). f s w) (at (Repeat body c) (layer.Repeat body c) (outs-Repeat body c))
-      ∙ ap (λ (x : Steps). repeated_until least x (condition least s (meant least c))) (body_is body)
+      ∙ ap (λ (x : Steps). repeated_until least x (condition least s (meanings_of least c))) (body_is body)
 
-  pub is_Exit : (p : Pos) → stmt least (Exit p) s w ≡ exited least p w
+  pub is_Exit : (p : Pos) → stmt least (Exit p) s w ≡ exit_statement least p w
   is_Exit p = ap (λ (f : S). f s w) (at (Exit p) (layer.Exit p) (outs-Exit p))
 
-  pub is_Return : (p : Pos) (e : Option Expr) → stmt least (Return p e) s w ≡ returned least s p w.gives (meant_if least e)
+  pub is_Return : (p : Pos) (e : Option Expr) → stmt least (Return p e) s w ≡ return_statement least s p w.gives (meant_if least e)
   is_Return p e = ap (λ (f : S). f s w) (at (Return p e) (layer.Return p e) (outs-Return p e))
 
   pub is_For : (name : Ident) (start limit : Expr) (by : Option Expr) (body : List Stmt) →
-      stmt least (For name start limit by body) s w ≡ repeated_for least (course_of least s name (meant least start) (meant least limit) (meant_if least by)) (statements least s w body)
+      stmt least (For name start limit by body) s w ≡ repeated_for least (course_of least s name (meanings_of least start) (meanings_of least limit) (meant_if least by)) (statements least s w body)
   is_For name start limit by body = ap (λ (f : S). f s w) (at (For name start limit by body) (layer.For name start limit by body) (outs-For name start limit by body))
-      ∙ ap (λ (x : Steps). repeated_for least (course_of least s name (meant least start) (meant least limit) (meant_if least by)) x) (body_is body)
+      ∙ ap (λ (x : Steps). repeated_for least (course_of least s name (meanings_of least start) (meanings_of least limit) (meant_if least by)) x) (body_is body)
 
   arms_are : (base : Option TypeNo) (xs : List Arm) → (fold (with_arm least s w base) ([], Ok []) (map (arm least) xs)).1 ≡ arms least s w base xs
   arms_are base xs = ap (λ (st : Arms Breach). st.1) (fold_mapped (with_arm least s w base) (arm least) ([], Ok []) xs)
 
   pub is_Elsif : (c : Expr) (body : List Stmt) (r : Rest) →
-      rest least (Elsif c body r) s w ≡ chosen_else (chosen least (condition least s (meant least c)) (statements least s w body) (rest least r s w))
+      rest least (Elsif c body r) s w ≡ chosen_else (if_statement least (condition least s (meanings_of least c)) (statements least s w body) (rest least r s w))
   is_Elsif c body r = ap (λ (f : R). f s w) (at_rest (Elsif c body r) (layer.Elsif c body r) (outs-Elsif c body r))
-      ∙ ap (λ (x : Steps). chosen_else (chosen least (condition least s (meant least c)) x (rest least r s w))) (body_is body)
+      ∙ ap (λ (x : Steps). chosen_else (if_statement least (condition least s (meanings_of least c)) x (rest least r s w))) (body_is body)
 
   pub is_Else : rest least (Else None) s w ≡ Ok None
   is_Else = ap (λ (f : R). f s w) (at_rest (Else None) (layer.Else None) (outs-Else None))
@@ -125,30 +125,30 @@ with_same (Ok x) a b f h p q = ap (λ (y : Steps). within x.1 y) (q x.0)
 with_same (Err e) a b f h p q = ap (λ (y : Steps). refusal_beside least {A = TypedStmt} e (reported_in y)) p
 
 module _ (s : Scope Breach) (w : Around Breach) where
-  pub is_Loop : (body : List Stmt) → stmt least (Loop body) s w ≡ looped (statements least s (in_loop w) body)
-  is_Loop body = ap (λ (f : S). f s w) (at (Loop body) (layer.Loop body) (outs-Loop body)) ∙ ap (λ (x : Steps). looped x) (body_is s (in_loop w) body)
+  pub is_Loop : (body : List Stmt) → stmt least (Loop body) s w ≡ loop_statement (statements least s (in_loop w) body)
+  is_Loop body = ap (λ (f : S). f s w) (at (Loop body) (layer.Loop body) (outs-Loop body)) ∙ ap (λ (x : Steps). loop_statement x) (body_is s (in_loop w) body)
 
   abbrev chosen_type : Expr → Result (TypeNo × TypedExpr) Breach
-  chosen_type e = selected least s (meant least e)
+  chosen_type e = case_selector least s (meanings_of least e)
 
-  pub is_Case : (e : Expr) (xs : List Arm) → stmt least (Case e xs None) s w ≡ cased least (selected least s (meant least e)) (arms least s w (base_in (selected least s (meant least e))) xs) (Ok None)
+  pub is_Case : (e : Expr) (xs : List Arm) → stmt least (Case e xs None) s w ≡ case_statement least (case_selector least s (meanings_of least e)) (arms least s w (base_in (case_selector least s (meanings_of least e))) xs) (Ok None)
   is_Case e xs = ap (λ (f : S). f s w) (at (Case e xs None) (layer.Case e xs None) (outs-Case e xs None))
-      ∙ ap (λ (y : Result (List TypedArm) Breach). cased least (chosen_type e) y (Ok None)) (arms_are s w (base_in (chosen_type e)) xs)
+      ∙ ap (λ (y : Result (List TypedArm) Breach). case_statement least (chosen_type e) y (Ok None)) (arms_are s w (base_in (chosen_type e)) xs)
 
   pub is_CaseElse : (e : Expr) (xs : List Arm) (body : List Stmt) →
-      stmt least (Case e xs (Some body)) s w ≡ cased least (selected least s (meant least e)) (arms least s w (base_in (selected least s (meant least e))) xs) (standing (statements least s w body))
+      stmt least (Case e xs (Some body)) s w ≡ case_statement least (case_selector least s (meanings_of least e)) (arms least s w (base_in (case_selector least s (meanings_of least e))) xs) (standing (statements least s w body))
   is_CaseElse e xs body = ap (λ (f : S). f s w) (at (Case e xs (Some body)) (layer.Case e xs (Some body)) (outs-Case e xs (Some body)))
-      ∙ ap (λ (y : Result (List TypedArm) Breach). cased least (chosen_type e) y (standing (fold (with_stmt least s w) (Ok []) (map (stmt least) body)))) (arms_are s w (base_in (chosen_type e)) xs)
-      ∙ ap (λ (x : Steps). cased least (chosen_type e) (arms least s w (base_in (chosen_type e)) xs) (standing x)) (body_is s w body)
+      ∙ ap (λ (y : Result (List TypedArm) Breach). case_statement least (chosen_type e) y (standing (fold (with_stmt least s w) (Ok []) (map (stmt least) body)))) (arms_are s w (base_in (chosen_type e)) xs)
+      ∙ ap (λ (x : Steps). case_statement least (chosen_type e) (arms least s w (base_in (chosen_type e)) xs) (standing x)) (body_is s w body)
 
   pub is_With : (d : Designator) (body : List Stmt) → stmt least (With d body) s w
-      ≡ ahead least (record_of least s (head least d)) (reported_in (statements least (opened_if s (opened_type least s d)) w body)) (λ r. within r.1 (statements least (opened s r.0) w body))
+      ≡ ahead least (record_of least s (head least d)) (reported_in (statements least (opened_if s (opened_type least s d)) w body)) (λ r. within r.1 (statements least (into_record s r.0) w body))
   is_With d body = ap (λ (f : S). f s w) (at (With d body) (layer.With d body) (outs-With d body))
-      ∙ with_same (record_of least s (head least d)) _ _ _ (λ t. statements least (opened s t) w body) (body_is (opened_if s (opened_type least s d)) w body) (λ t. body_is (opened s t) w body)
+      ∙ with_same (record_of least s (head least d)) _ _ _ (λ t. statements least (into_record s t) w body) (body_is (opened_if s (opened_type least s d)) w body) (λ t. body_is (into_record s t) w body)
 
   pub arm_is : (a : Arm) (base : Option TypeNo) (ranges : List (ℤ × ℤ)) →
-      arm least a s w base ranges ≡ ((labels_in least s base ranges (out-Arm a).labels).0, armed least (labels_in least s base ranges (out-Arm a).labels).1 (statements least s w (out-Arm a).body))
+      arm least a s w base ranges ≡ ((labels_in least s base ranges (out-Arm a).labels).0, arm_of least (labels_in least s base ranges (out-Arm a).labels).1 (statements least s w (out-Arm a).body))
   arm_is a base ranges = ap (λ (f : A). f s w base ranges) (at_arm a)
-      ∙ ap (λ (x : Steps). ((labels_in least s base ranges (out-Arm a).labels).0, armed least (labels_in least s base ranges (out-Arm a).labels).1 x)) (body_is s w (out-Arm a).body)
+      ∙ ap (λ (x : Steps). ((labels_in least s base ranges (out-Arm a).labels).0, arm_of least (labels_in least s base ranges (out-Arm a).labels).1 x)) (body_is s w (out-Arm a).body)
 
 pub ruleset variants = (is_Assign, is_Call, is_If, is_Case, is_CaseElse, is_While, is_Repeat, is_Loop, is_Exit, is_Return, is_For, is_With, is_Elsif, is_Else, is_ElseSome)

@@ -13,11 +13,11 @@ use Rattle.typed_tree.specs.declared.statement.TypedStmt.{TypedStmt}
 use Rattle.typed_tree.specs.declared.statement.TypedArm.{TypedArm}
 use Rattle.check_scope.specs.Elaborated.{Gathers, ahead}
 use Rattle.check_scope.specs.declared.scope.Scope.{Scope}
-use Rattle.check_expr.specs.Meanings.{Meant, meant, head}
-use Rattle.check_expr.specs.Effects.{done_by}
+use Rattle.check_expr.specs.Meanings.{Meant, meanings_of, head}
+use Rattle.check_expr.specs.Effects.{call_statement}
 use Rattle.check_stmt_parts.specs.declared.around.Around.{Around}
-use Rattle.check_stmt_parts.specs.Lists.{with_next, standing, chosen, chosen_else, base_in, cased, armed, repeated_while, repeated_until, looped, within, reported_in}
-use Rattle.check_stmt_parts.specs.Simple.{meant_if, in_loop, exited, returned, condition, assignment, or_none, selected, record_of, opened_type, opened, opened_if}
+use Rattle.check_stmt_parts.specs.Lists.{with_next, standing, if_statement, chosen_else, base_in, case_statement, arm_of, repeated_while, repeated_until, loop_statement, within, reported_in}
+use Rattle.check_stmt_parts.specs.Simple.{meant_if, in_loop, exit_statement, return_statement, condition, assignment, or_none, case_selector, record_of, opened_type, into_record, opened_if}
 use Rattle.check_stmt_parts.specs.Labels.{labels_in}
 use Rattle.check_stmt_parts.specs.Control.{course_of, repeated_for}
 
@@ -41,7 +41,7 @@ Arms T = List (ℤ × ℤ) × Result (List TypedArm) T
 
 module _ (g : Gathers) where
   abbrev pub args_meant : Option (List Expr) → List (Meant g.Reported)
-  args_meant args = map (meant g) (or_none args)
+  args_meant args = map (meanings_of g) (or_none args)
 
   -- ---- one after another
 
@@ -74,7 +74,7 @@ module _ (g : Gathers) where
       → List (ElaboratesArm g.Reported) → Option (List (Elaborates g.Reported))
       → Result TypedStmt g.Reported
   case_of s w selector arms otherwise =
-      cased g selector (arms_of s w (base_in selector) arms) (all_if s w otherwise)
+      case_statement g selector (arms_of s w (base_in selector) arms) (all_if s w otherwise)
 
   -- the statements are looked at, also if there is no record
   abbrev pub with_of : Scope g.Reported → Around g.Reported → Designator
@@ -82,26 +82,26 @@ module _ (g : Gathers) where
   with_of s w d body =
       ahead g (record_of g s (head g d))
       (reported_in (all_of (opened_if s (opened_type g s d)) w body)) (λ r.
-      within r.1 (all_of (opened s r.0) w body))
+      within r.1 (all_of (into_record s r.0) w body))
 
   abbrev pub stmt_layer :
       Stmt-F (ElaboratesRest g.Reported) (Elaborates g.Reported) (ElaboratesArm g.Reported)
       → Elaborates g.Reported
-  stmt_layer (layer.Assign d e) s w = assignment g s (head g d) (meant g e)
-  stmt_layer (layer.Call d args) s w = done_by g s (head g d) (args_meant args)
+  stmt_layer (layer.Assign d e) s w = assignment g s (head g d) (meanings_of g e)
+  stmt_layer (layer.Call d args) s w = call_statement g s (head g d) (args_meant args)
   stmt_layer (layer.If c body rest) s w =
-      chosen g (condition g s (meant g c)) (all_of s w body) (rest s w)
+      if_statement g (condition g s (meanings_of g c)) (all_of s w body) (rest s w)
   stmt_layer (layer.Case e arms otherwise) s w =
-      case_of s w (selected g s (meant g e)) arms otherwise
+      case_of s w (case_selector g s (meanings_of g e)) arms otherwise
   stmt_layer (layer.While c body) s w =
-      repeated_while g (condition g s (meant g c)) (all_of s w body)
+      repeated_while g (condition g s (meanings_of g c)) (all_of s w body)
   stmt_layer (layer.Repeat body c) s w =
-      repeated_until g (all_of s w body) (condition g s (meant g c))
-  stmt_layer (layer.Loop body) s w = looped (all_of s (in_loop w) body)
-  stmt_layer (layer.Exit at) s w = exited g at w
-  stmt_layer (layer.Return at e) s w = returned g s at w.gives (meant_if g e)
+      repeated_until g (all_of s w body) (condition g s (meanings_of g c))
+  stmt_layer (layer.Loop body) s w = loop_statement (all_of s (in_loop w) body)
+  stmt_layer (layer.Exit at) s w = exit_statement g at w
+  stmt_layer (layer.Return at e) s w = return_statement g s at w.gives (meant_if g e)
   stmt_layer (layer.For name start limit by body) s w =
-      repeated_for g (course_of g s name (meant g start) (meant g limit) (meant_if g by))
+      repeated_for g (course_of g s name (meanings_of g start) (meanings_of g limit) (meant_if g by))
       (all_of s w body)
   stmt_layer (layer.With d body) s w = with_of s w d body
 
@@ -110,7 +110,7 @@ module _ (g : Gathers) where
       Rest-F (ElaboratesRest g.Reported) (Elaborates g.Reported) (ElaboratesArm g.Reported)
       → ElaboratesRest g.Reported
   rest_layer (layer.Elsif c body rest) s w =
-      chosen_else (chosen g (condition g s (meant g c)) (all_of s w body) (rest s w))
+      chosen_else (if_statement g (condition g s (meanings_of g c)) (all_of s w body) (rest s w))
   rest_layer (layer.Else body) s w = all_if s w body
 
   abbrev pub arm_layer :
@@ -118,7 +118,7 @@ module _ (g : Gathers) where
       → ElaboratesArm g.Reported
   arm_layer a s w base ranges =
       let labels = labels_in g s base ranges a.labels in
-      (labels.0, armed g labels.1 (all_of s w a.body))
+      (labels.0, arm_of g labels.1 (all_of s w a.body))
 
   -- ---- what each means
 

@@ -2,18 +2,18 @@
 
 ghost use Rattle.std.specs.Prelude.{◌≡◌, None, Ok, IfOk, OnOk};
 ghost use Rattle.check_scope.specs.Elaborated.{least, ahead};
-ghost use Rattle.check_expr.specs.Meanings.{meant, head};
-ghost use Rattle.check_stmt_parts.specs.Lists.{standing, chosen, base_in, cased, repeated_while, repeated_until, looped, within, reported_in};
-ghost use Rattle.check_stmt_parts.specs.Simple.{meant_if, in_loop, condition, selected, record_of, opened_type, opened, opened_if};
+ghost use Rattle.check_expr.specs.Meanings.{meanings_of, head};
+ghost use Rattle.check_stmt_parts.specs.Lists.{standing, if_statement, base_in, case_statement, repeated_while, repeated_until, loop_statement, within, reported_in};
+ghost use Rattle.check_stmt_parts.specs.Simple.{meant_if, in_loop, condition, case_selector, record_of, opened_type, into_record, opened_if};
 ghost use Rattle.check_stmt_parts.specs.Control.{course_of, repeated_for};
 ghost use Rattle.check_stmt.specs.Statements.{stmt, rest, arm, statements, arms};
 
 use check_scope::{Elaborated, Scope, refusal_beside};
 use check_stmt_parts::{
-    Around, Ranges, armed, assignment, base_in, called, cased, chosen, chosen_else, close,
-    condition, course_of, exited, in_loop, labels_in, looped, open, opened_type, record_of,
-    repeated_for, repeated_until, repeated_while, reported_in, returned, selected, standing,
-    with_next, within,
+    Around, Ranges, arm_of, assignment, base_in, case_selector, case_statement, chosen_else, close,
+    condition, course_of, exit_statement, if_statement, in_loop, labels_in, loop_statement, open,
+    opened_type, procedure_call, record_of, repeated_for, repeated_until, repeated_while,
+    reported_in, return_statement, standing, with_next, within,
 };
 use m2_rule::Breach;
 use m2_tree::{Arm, Designator, Expr, Ident, Rest, Stmt};
@@ -53,9 +53,9 @@ fn statement(
 {
     match written {
         Stmt::Assign(designator, e) => assignment(alloc, scope, designator, e),
-        Stmt::Call(designator, args) => called(alloc, scope, designator, args),
+        Stmt::Call(designator, args) => procedure_call(alloc, scope, designator, args),
         Stmt::If(e, body, further) => {
-            let first = tested(alloc, scope, around, body.as_slice(), e)?;
+            let first = condition_and_body(alloc, scope, around, body.as_slice(), e)?;
             if_rest(alloc, scope, around, further.get(), first)
         }
         Stmt::Case(e, all, otherwise) => match otherwise {
@@ -68,8 +68,8 @@ fn statement(
         Stmt::While(e, body) => while_of(alloc, scope, around, body.as_slice(), e),
         Stmt::Repeat(body, e) => repeat_of(alloc, scope, around, body.as_slice(), e),
         Stmt::Loop(body) => loop_of(alloc, scope, around, body.as_slice()),
-        Stmt::Exit(at) => Ok(exited(*at, around)),
-        Stmt::Return(at, e) => returned(alloc, scope, *at, around.gives, e),
+        Stmt::Exit(at) => Ok(exit_statement(*at, around)),
+        Stmt::Return(at, e) => return_statement(alloc, scope, *at, around.gives, e),
         Stmt::For(name, start, limit, by, body) => {
             for_of(
                 alloc,
@@ -88,7 +88,7 @@ fn statement(
 
 /// Elaborates a condition, and the statements that depend on it.
 #[cycle(body)]
-fn tested(
+fn condition_and_body(
     alloc: Global,
     scope: &mut Scope<Breach>,
     around: &Around<Breach>,
@@ -98,7 +98,7 @@ fn tested(
     ensures stays { OnOk result (scope.new ≡ scope.old) }
     ensures means { IfOk result
         (λ p. p ≡ (
-          condition least scope.old (meant least e.now),
+          condition least scope.old (meanings_of least e.now),
           statements least scope.old around.now body.now,
         )) }
 {
@@ -118,11 +118,11 @@ fn if_rest(
 ) -> Result<Elaborated<TypedStmt>, AllocError>
     ensures stays { OnOk result (scope.new ≡ scope.old) }
     ensures means { IfOk result
-        (λ j. j ≡ chosen least first.0 first.1 (rest least written.now scope.old around.now)) }
+        (λ j. j ≡ if_statement least first.0 first.1 (rest least written.now scope.old around.now)) }
 {
     let further = rest(alloc, scope, around, written)?;
     let (condition, body) = first;
-    Ok(chosen(condition, body, further))
+    Ok(if_statement(condition, body, further))
 }
 
 /// Elaborates the selector and the arms of a CASE.
@@ -135,10 +135,10 @@ fn case_arms(
     selector: &Expr,
 ) -> Result<(Elaborated<(TypeNo, TypedExpr)>, Elaborated<Items<TypedArm>>), AllocError>
     ensures stays { OnOk result (scope.new ≡ scope.old) }
-    ensures means { let s = selected least scope.old (meant least selector.now) in
+    ensures means { let s = case_selector least scope.old (meanings_of least selector.now) in
         IfOk result (λ p. p ≡ (s, arms least scope.old around.now (base_in s) all.now)) }
 {
-    let first = selected(alloc, scope, selector)?;
+    let first = case_selector(alloc, scope, selector)?;
     let done = arms(alloc, scope, around, all, base_in(&first))?;
     Ok((first, done))
 }
@@ -153,12 +153,12 @@ fn case_alone(
     selector: &Expr,
 ) -> Result<Elaborated<TypedStmt>, AllocError>
     ensures stays { OnOk result (scope.new ≡ scope.old) }
-    ensures means { let s = selected least scope.old (meant least selector.now) in
-        IfOk result (λ j. j ≡ cased least s (arms least scope.old around.now (base_in s) all.now)
+    ensures means { let s = case_selector least scope.old (meanings_of least selector.now) in
+        IfOk result (λ j. j ≡ case_statement least s (arms least scope.old around.now (base_in s) all.now)
         (Ok None)) }
 {
     let (selector, done) = case_arms(alloc, scope, around, all, selector)?;
-    Ok(cased(selector, done, Ok(None)))
+    Ok(case_statement(selector, done, Ok(None)))
 }
 
 /// Elaborates the ELSE of a CASE.
@@ -171,12 +171,12 @@ fn case_else(
     first: (Elaborated<(TypeNo, TypedExpr)>, Elaborated<Items<TypedArm>>),
 ) -> Result<Elaborated<TypedStmt>, AllocError>
     ensures stays { OnOk result (scope.new ≡ scope.old) }
-    ensures means { IfOk result (λ j. j ≡ cased least first.0 first.1
+    ensures means { IfOk result (λ j. j ≡ case_statement least first.0 first.1
         (standing (statements least scope.old around.now body.now))) }
 {
     let body = statements(alloc, scope, around, body)?;
     let (selector, done) = first;
-    Ok(cased(selector, done, standing(body)))
+    Ok(case_statement(selector, done, standing(body)))
 }
 
 /// Elaborates a WHILE.
@@ -190,10 +190,10 @@ fn while_of(
 ) -> Result<Elaborated<TypedStmt>, AllocError>
     ensures stays { OnOk result (scope.new ≡ scope.old) }
     ensures means { IfOk result (λ j. j ≡ repeated_while least
-        (condition least scope.old (meant least e.now))
+        (condition least scope.old (meanings_of least e.now))
         (statements least scope.old around.now body.now)) }
 {
-    let (condition, body) = tested(alloc, scope, around, body, e)?;
+    let (condition, body) = condition_and_body(alloc, scope, around, body, e)?;
     Ok(repeated_while(condition, body))
 }
 
@@ -209,9 +209,9 @@ fn repeat_of(
     ensures stays { OnOk result (scope.new ≡ scope.old) }
     ensures means { IfOk result (λ j. j ≡ repeated_until least
         (statements least scope.old around.now body.now)
-        (condition least scope.old (meant least e.now))) }
+        (condition least scope.old (meanings_of least e.now))) }
 {
-    let (condition, body) = tested(alloc, scope, around, body, e)?;
+    let (condition, body) = condition_and_body(alloc, scope, around, body, e)?;
     Ok(repeated_until(body, condition))
 }
 
@@ -225,11 +225,11 @@ fn loop_of(
 ) -> Result<Elaborated<TypedStmt>, AllocError>
     ensures stays { OnOk result (scope.new ≡ scope.old) }
     ensures means { IfOk result
-        (λ j. j ≡ looped (statements least scope.old (in_loop around.now) body.now)) }
+        (λ j. j ≡ loop_statement (statements least scope.old (in_loop around.now) body.now)) }
 {
     let inside = in_loop(around);
     let body = statements(alloc, scope, &inside, body)?;
-    Ok(looped(body))
+    Ok(loop_statement(body))
 }
 
 /// Elaborates a FOR.
@@ -246,7 +246,7 @@ fn for_of(
 ) -> Result<Elaborated<TypedStmt>, AllocError>
     ensures stays { OnOk result (scope.new ≡ scope.old) }
     ensures means { IfOk result (λ j. j ≡ repeated_for least
-        (course_of least scope.old name.now (meant least start.now) (meant least limit.now)
+        (course_of least scope.old name.now (meanings_of least start.now) (meanings_of least limit.now)
         (meant_if least by.now)) (statements least scope.old around.now body.now)) }
 {
     let course = course_of(alloc, scope, name, start, limit, by)?;
@@ -267,7 +267,7 @@ fn with_of(
     ensures means { IfOk result (λ j. j ≡ ahead least (record_of least scope.old (head least whole.now))
         (reported_in (statements least (opened_if scope.old (opened_type least scope.old whole.now))
         around.now body.now))
-        (λ r. within r.1 (statements least (opened scope.old r.0) around.now body.now))) }
+        (λ r. within r.1 (statements least (into_record scope.old r.0) around.now body.now))) }
 {
     match record_of(alloc, scope, whole)? {
         Err(breach) => {
@@ -313,7 +313,7 @@ fn opened_body(
 ) -> Result<Elaborated<Items<TypedStmt>>, AllocError>
     ensures stays { OnOk result (scope.new ≡ scope.old) }
     ensures means { IfOk result
-        (λ j. j ≡ statements least (opened scope.old t) around.now body.now) }
+        (λ j. j ≡ statements least (into_record scope.old t) around.now body.now) }
 {
     open(scope, t)?;
     let elaborated = statements(alloc, scope, around, body)?;
@@ -335,7 +335,7 @@ fn rest(
 {
     match written {
         Rest::Elsif(e, body, further) => {
-            let first = tested(alloc, scope, around, body.as_slice(), e)?;
+            let first = condition_and_body(alloc, scope, around, body.as_slice(), e)?;
             let step = if_rest(alloc, scope, around, further.get(), first)?;
             chosen_else(alloc, step)
         }
@@ -387,5 +387,5 @@ fn arm(
 {
     let labels = labels_in(alloc, scope, base, ranges, written.labels.as_slice())?;
     let body = statements(alloc, scope, around, written.body.as_slice())?;
-    Ok(armed(labels, body))
+    Ok(arm_of(labels, body))
 }

@@ -16,8 +16,8 @@ use Rattle.typed_tree.specs.declared.meaning.Value.{Value}
 use Rattle.typed_tree.specs.declared.statement.TypedStmt.{TypedStmt}
 use Rattle.typed_tree.specs.declared.statement.TypedStmt.TheVariants as step
 use Rattle.typed_tree.specs.declared.known_types.Types.{Types}
-use Rattle.typed_tree.specs.Chains.{rooted}
-use Rattle.check_scope.specs.Elaborated.{Gathers, reported, reported_where, both, of_sort, ◌▷◌}
+use Rattle.typed_tree.specs.Chains.{root_place}
+use Rattle.check_scope.specs.Elaborated.{Gathers, report, reported_where, both, of_sort, ◌▷◌}
 use Rattle.check_scope.specs.declared.scope.Scope.{Scope}
 use Rattle.check_scope.specs.Scopes.{looked_up}
 use Rattle.check_const_ops.specs.declared.operand.Ordinal.{Ordinal}
@@ -43,12 +43,12 @@ use Rattle.check_stmt_parts.specs.declared.control.Course.{Course}
 
 abbrev pub controlled_as : (g : Gathers) → Pos → TypeNo → Place → Class → Result Control g.Reported
 controlled_as g at t d (class.Scalar s) = Ok (record { of = t; base = s.base; place = d })
-controlled_as g at t d class.Set = reported g at rule.WrongControl
-controlled_as g at t d class.Procedure = reported g at rule.WrongControl
-controlled_as g at t d class.Whole = reported g at rule.WrongControl
+controlled_as g at t d class.Set = report g at rule.WrongControl
+controlled_as g at t d class.Procedure = report g at rule.WrongControl
+controlled_as g at t d class.Whole = report g at rule.WrongControl
 
-abbrev pub controlled : (g : Gathers) → Types → Pos → TypeNo → Place → Result Control g.Reported
-controlled g types at t d = controlled_as g at t d (class_at types t)
+abbrev pub control_variable : (g : Gathers) → Types → Pos → TypeNo → Place → Result Control g.Reported
+control_variable g types at t d = controlled_as g at t d (class_at types t)
 
 abbrev pub is_own : LocalKind → Bool
 is_own kind.Variable = true
@@ -57,20 +57,20 @@ is_own kind.Alias = false
 is_own kind.Open = false
 
 abbrev pub control_by : (g : Gathers) → Scope g.Reported → Pos → Meaning → Result Control g.Reported
-control_by g s at (meaning.Constant v) = reported g at rule.WrongControl
-control_by g s at (meaning.Type t n) = reported g at rule.WrongControl
+control_by g s at (meaning.Constant v) = report g at rule.WrongControl
+control_by g s at (meaning.Type t n) = report g at rule.WrongControl
 control_by g s at (meaning.Variable v) =
     reported_where g (not (v.home == s.types.home)) at rule.WrongControl
-    (controlled g s.types at v.of (rooted (root.Global v)))
+    (control_variable g s.types at v.of (root_place (root.Global v)))
 control_by g s at (meaning.Local v) =
     reported_where g (not (is_own v.kind && (v.level == s.level))) at rule.WrongControl
-    (controlled g s.types at v.of (rooted (root.Local (slot_of s.level v))))
-control_by g s at (meaning.Field f) = reported g at rule.WrongControl
-control_by g s at (meaning.Procedure p) = reported g at rule.WrongControl
-control_by g s at (meaning.LocalProcedure p) = reported g at rule.WrongControl
-control_by g s at meaning.Ahead = reported g at rule.Undeclared
-control_by g s at (meaning.Standard f) = reported g at rule.WrongControl
-control_by g s at (meaning.Module k) = reported g at rule.WrongControl
+    (control_variable g s.types at v.of (root_place (root.Local (slot_of s.level v))))
+control_by g s at (meaning.Field f) = report g at rule.WrongControl
+control_by g s at (meaning.Procedure p) = report g at rule.WrongControl
+control_by g s at (meaning.LocalProcedure p) = report g at rule.WrongControl
+control_by g s at meaning.Ahead = report g at rule.Undeclared
+control_by g s at (meaning.Standard f) = report g at rule.WrongControl
+control_by g s at (meaning.Module k) = report g at rule.WrongControl
 
 abbrev pub control_of : (g : Gathers) → Scope g.Reported → Ident → Result Control g.Reported
 control_of g s name =
@@ -92,15 +92,15 @@ limit_number g base at n None =
 limit_number g base at n (Some t) = Ok (expr.Constant t n)
 
 abbrev pub limit_by : (g : Gathers) → TypeNo → Pos → Option Side → Result TypedExpr g.Reported
-limit_by g base at None = reported g at rule.NotAssignable
+limit_by g base at None = report g at rule.NotAssignable
 limit_by g base at (Some (side.Scalar (Known a))) =
     reported_where g (not (sort_suits base a.sort)) at rule.NotAssignable
     (limit_number g base at a.number a.sort)
 limit_by g base at (Some (side.Scalar (Run b e))) =
     reported_where g (not (bases_suit base b)) at rule.NotAssignable (Ok e)
-limit_by g base at (Some (side.Set e)) = reported g at rule.NotAssignable
-limit_by g base at (Some (side.Routine t e)) = reported g at rule.NotAssignable
-limit_by g base at (Some (side.Procedure p)) = reported g at rule.NotAssignable
+limit_by g base at (Some (side.Set e)) = report g at rule.NotAssignable
+limit_by g base at (Some (side.Routine t e)) = report g at rule.NotAssignable
+limit_by g base at (Some (side.Procedure p)) = report g at rule.NotAssignable
 
 abbrev pub limit_at : (g : Gathers) → Pos → Result TypeNo g.Reported → Result Computed g.Reported
     → Result TypedExpr g.Reported
@@ -112,7 +112,7 @@ abbrev pub is_zero : ℤ → Bool
 is_zero n = not (int_lt n (pos 0) || int_lt (pos 0) n)
 
 abbrev pub step_number : (g : Gathers) → Pos → Option Ordinal → Result ℤ g.Reported
-step_number g at None = reported g at rule.WrongType
+step_number g at None = report g at rule.WrongType
 step_number g at (Some a) = reported_where g (is_zero a.number) at rule.ZeroStep (Ok a.number)
 
 abbrev pub step_by : (g : Gathers) → Pos → Value → Result ℤ g.Reported

@@ -10,7 +10,7 @@ use Rattle.typed_tree.specs.declared.known_types.Types.{Types}
 use Rattle.typed_tree.specs.Types.{are_same, is_numeric}
 use Rattle.check_scope.specs.declared.meaningless.Meaningless.{Meaningless}
 use Rattle.check_scope.specs.declared.meaningless.Meaningless.TheVariants.{Broken, Headless}
-use Rattle.check_scope.specs.Elaborated.{Gathers, reported, reported_where, both, beside, ◌▷◌}
+use Rattle.check_scope.specs.Elaborated.{Gathers, report, reported_where, both, beside, ◌▷◌}
 use Rattle.check_scope.specs.declared.scope.Scope.{Scope}
 use Rattle.check_const_ops.specs.declared.operand.Ordinal.{Ordinal}
 use Rattle.check_const_ops.specs.declared.operand.Operand.{Operand}
@@ -25,8 +25,8 @@ use Rattle.check_operator.specs.declared.computed.Computed.TheVariants as value
 use Rattle.check_operator.specs.declared.computed.Designated.{Designated}
 use Rattle.check_operator.specs.declared.computed.Designated.TheVariants as designated
 use Rattle.check_operator.specs.Classes.{class_at}
-use Rattle.check_expr.specs.Meanings.{Meant, meant}
-use Rattle.check_stmt_parts.specs.Ranges.{taken}
+use Rattle.check_expr.specs.Meanings.{Meant, meanings_of}
+use Rattle.check_stmt_parts.specs.Ranges.{enter_range}
 use Rattle.check_stmt_parts.specs.Lists.{with_next}
 use Rattle.check_stmt_parts.specs.Simple.{meant_if}
 
@@ -40,8 +40,8 @@ suits_selector (Some base) b = are_same b base
 -- ---- one bound at its place; a label at its own place is no constant: 49
 
 abbrev pub ordinal_in : (g : Gathers) → Pos → Option Operand → Result Ordinal g.Reported
-ordinal_in g at None = reported g at rule.WrongType
-ordinal_in g at (Some (operand.Set bits)) = reported g at rule.WrongType
+ordinal_in g at None = report g at rule.WrongType
+ordinal_in g at (Some (operand.Set bits)) = report g at rule.WrongType
 ordinal_in g at (Some (operand.Scalar a)) = Ok a
 
 abbrev pub of_type : (g : Gathers) → (alike : Bool) → Pos → Result (Unit {0}) g.Reported
@@ -50,7 +50,7 @@ of_type g alike at = reported_where g (not alike) at rule.WrongType (Ok tt)
 abbrev pub no_constant : (g : Gathers) → (alike : Bool) → (label at : Pos)
     → Result Ordinal g.Reported
 no_constant g alike label at =
-    both g (of_type g alike at) (reported g {A = Ordinal} label rule.WrongLabel) ▷ λ p. Ok p.1
+    both g (of_type g alike at) (report g {A = Ordinal} label rule.WrongLabel) ▷ λ p. Ok p.1
 
 abbrev pub value_bound : (g : Gathers) → Option TypeNo → (label at : Pos) → Computed
     → Result Ordinal g.Reported
@@ -78,8 +78,8 @@ bound_by g types base label at (designated.Variable t d) =
 bound_by g types base label at (designated.Open t slot) = no_constant g false label at
 bound_by g types base label at (designated.Type t) = no_constant g false label at
 bound_by g types base label at (designated.Procedure p) = no_constant g false label at
-bound_by g types base label at (designated.Nested p) = reported g at rule.NoProcedureValue
-bound_by g types base label at (designated.Standard f) = reported g at rule.NoProcedureValue
+bound_by g types base label at (designated.Nested p) = report g at rule.NoProcedureValue
+bound_by g types base label at (designated.Standard f) = report g at rule.NoProcedureValue
 bound_by g types base label at (designated.Module k) = no_constant g false label at
 
 -- a procedure is no constant, whatever its heading
@@ -133,9 +133,9 @@ abbrev pub are_ordered : (g : Gathers) → Pos → Result Ordinal g.Reported →
     → Result (Unit {0}) g.Reported
 are_ordered g at a b = both g a b ▷ λ p. ordered_if g at p.0 p.1 (common p.0.sort p.1.sort)
 
-abbrev pub spanned : (g : Gathers) → Option TypeNo → Pos → Result Ordinal g.Reported → Pos
+abbrev pub label_range : (g : Gathers) → Option TypeNo → Pos → Result Ordinal g.Reported → Pos
     → Result Ordinal g.Reported → Result Label g.Reported
-spanned g base at a at' b =
+label_range g base at a at' b =
     both g (both g a b)
     (beside g (beside g (bound_suits g base at a) (bound_suits g base at' b))
     (are_ordered g at a b))
@@ -146,7 +146,7 @@ abbrev pub label_between : (g : Gathers) → Scope g.Reported → Option TypeNo 
     → Option (Meant g.Reported) → Result Label g.Reported
 label_between g s base low None = single g base low.fixed.at (bound_of g s base low.fixed.at low)
 label_between g s base low (Some high) =
-    spanned g base low.fixed.at (bound_of g s base low.fixed.at low) high.fixed.at
+    label_range g base low.fixed.at (bound_of g s base low.fixed.at low) high.fixed.at
     (bound_of g s base low.fixed.at high)
 
 -- ---- one after another, with the values of the labels so far
@@ -157,7 +157,7 @@ Labels T = List (ℤ × ℤ) × Result (List Label) T
 -- no two labels have a value in common
 abbrev pub with_new : (g : Gathers) → Pos → Labels g.Reported → Label → Labels g.Reported
 with_new g at st l =
-    let t = taken l.low l.high st.0 in
+    let t = enter_range l.low l.high st.0 in
     (t.0, with_next g st.1 (reported_where g (not t.1) at rule.WrongLabel (Ok l)))
 
 abbrev pub with_label : (g : Gathers) → Pos → Labels g.Reported → Result Label g.Reported
@@ -168,12 +168,12 @@ with_label g at st (Err e) = (st.0, with_next g st.1 (Err e))
 abbrev pub item_label : (g : Gathers) → Scope g.Reported → Option TypeNo → Item
     → Result Label g.Reported
 item_label g s base i =
-    label_between g s base (meant g (out-Item i).low) (meant_if g (out-Item i).high)
+    label_between g s base (meanings_of g (out-Item i).low) (meant_if g (out-Item i).high)
 
 abbrev pub with_item : (g : Gathers) → Scope g.Reported → Option TypeNo → Labels g.Reported → Item
     → Labels g.Reported
 with_item g s base st i =
-    with_label g (meant g (out-Item i).low).fixed.at st (item_label g s base i)
+    with_label g (meanings_of g (out-Item i).low).fixed.at st (item_label g s base i)
 
 abbrev pub labels_in : (g : Gathers) → Scope g.Reported → Option TypeNo → List (ℤ × ℤ) → List Item
     → Labels g.Reported

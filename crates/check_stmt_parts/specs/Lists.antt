@@ -18,9 +18,9 @@ with_next g so x = both g so x ▷ λ p. Ok (p.0 ++ p.1 ∷ [])
 abbrev pub standing : {T : Type 0} → Result (List TypedStmt) T → Result (Option (List TypedStmt)) T
 standing body = body ▷ λ x. Ok (Some x)
 
-abbrev pub chosen : (g : Gathers) → Result TypedExpr g.Reported → Result (List TypedStmt) g.Reported
+abbrev pub if_statement : (g : Gathers) → Result TypedExpr g.Reported → Result (List TypedStmt) g.Reported
     → Result (Option (List TypedStmt)) g.Reported → Result TypedStmt g.Reported
-chosen g c body rest = both g c (both g body rest) ▷ λ p. Ok (step.If p.0 p.1.0 p.1.1)
+if_statement g c body rest = both g c (both g body rest) ▷ λ p. Ok (step.If p.0 p.1.0 p.1.1)
 
 -- an ELSIF is an IF in the ELSE
 abbrev pub chosen_else : {T : Type 0} → Result TypedStmt T → Result (Option (List TypedStmt)) T
@@ -31,15 +31,15 @@ abbrev pub base_in : {T : Type 0} → Result (TypeNo × TypedExpr) T → Option 
 base_in (Ok x) = Some x.0
 base_in (Err e) = None
 
-abbrev pub cased : (g : Gathers) → Result (TypeNo × TypedExpr) g.Reported
+abbrev pub case_statement : (g : Gathers) → Result (TypeNo × TypedExpr) g.Reported
     → Result (List TypedArm) g.Reported → Result (Option (List TypedStmt)) g.Reported
     → Result TypedStmt g.Reported
-cased g selector arms otherwise =
+case_statement g selector arms otherwise =
     both g selector (both g arms otherwise) ▷ λ p. Ok (step.Case p.0.1 p.1.0 p.1.1)
 
-abbrev pub armed : (g : Gathers) → Result (List Label) g.Reported
+abbrev pub arm_of : (g : Gathers) → Result (List Label) g.Reported
     → Result (List TypedStmt) g.Reported → Result TypedArm g.Reported
-armed g labels body = both g labels body ▷ λ p. Ok (record { labels = p.0; body = p.1 })
+arm_of g labels body = both g labels body ▷ λ p. Ok (record { labels = p.0; body = p.1 })
 
 abbrev pub repeated_while : (g : Gathers) → Result TypedExpr g.Reported
     → Result (List TypedStmt) g.Reported → Result TypedStmt g.Reported
@@ -49,8 +49,8 @@ abbrev pub repeated_until : (g : Gathers) → Result (List TypedStmt) g.Reported
     → Result TypedExpr g.Reported → Result TypedStmt g.Reported
 repeated_until g body c = both g body c ▷ λ p. Ok (step.Repeat p.0 p.1)
 
-abbrev pub looped : {T : Type 0} → Result (List TypedStmt) T → Result TypedStmt T
-looped body = body ▷ λ x. Ok (step.Loop x)
+abbrev pub loop_statement : {T : Type 0} → Result (List TypedStmt) T → Result TypedStmt T
+loop_statement body = body ▷ λ x. Ok (step.Loop x)
 
 abbrev pub within : {T : Type 0} → Place → Result (List TypedStmt) T → Result TypedStmt T
 within place body = body ▷ λ x. Ok (step.With place x)

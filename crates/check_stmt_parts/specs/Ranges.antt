@@ -16,8 +16,8 @@ abbrev pub with_range : ℤ → ℤ → List (ℤ × ℤ) → List (ℤ × ℤ)
 with_range low high ranges = cond (int_lt high low) ranges (insert_entry int_cmp ranges low high)
 
 -- one more range, if it is new, and whether it is
-abbrev pub taken : ℤ → ℤ → List (ℤ × ℤ) → List (ℤ × ℤ) × Bool
-taken low high ranges =
+abbrev pub enter_range : ℤ → ℤ → List (ℤ × ℤ) → List (ℤ × ℤ) × Bool
+enter_range low high ranges =
     cond (is_met low high ranges) (ranges, false) (with_range low high ranges, true)
 
 -- ranges that have values, in order, and none in common

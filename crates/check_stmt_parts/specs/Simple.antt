@@ -12,14 +12,14 @@ use Rattle.m2_tree.specs.declared.expr.Item.{Item}
 use Rattle.typed_tree.specs.declared.types.TypeNo.{TypeNo}
 use Rattle.typed_tree.specs.declared.computed.Place.{Place}
 use Rattle.typed_tree.specs.declared.computed.Root.TheVariants as root
-use Rattle.typed_tree.specs.Chains.{rooted}
+use Rattle.typed_tree.specs.Chains.{root_place}
 use Rattle.typed_tree.specs.declared.computed.TypedExpr.{TypedExpr}
 use Rattle.typed_tree.specs.declared.computed.TypedExpr.TheVariants as expr
 use Rattle.typed_tree.specs.declared.statement.TypedStmt.{TypedStmt}
 use Rattle.typed_tree.specs.declared.statement.TypedStmt.TheVariants as step
 use Rattle.typed_tree.specs.declared.known_types.Types.{Types}
 use Rattle.typed_tree.specs.Types.{boolean}
-use Rattle.check_scope.specs.Elaborated.{Gathers, reported, reported_where, reported_beside, both, of_sort, ◌▷◌}
+use Rattle.check_scope.specs.Elaborated.{Gathers, report, reported_where, reported_beside, both, of_sort, ◌▷◌}
 use Rattle.check_scope.specs.declared.scope.Scope.{Scope}
 use Rattle.check_scope.specs.Scopes.{fields_at}
 use Rattle.check_operator.specs.declared.computed.Computed.{Computed}
@@ -32,14 +32,14 @@ use Rattle.check_operator.specs.declared.side.Side.TheVariants as side
 use Rattle.check_operator.specs.Classes.{array_at}
 use Rattle.check_operator.specs.Sides.{side_of}
 use Rattle.check_operator.specs.Suits.{value_suited}
-use Rattle.check_call.specs.Effects.{untyped, target_at, assigned}
-use Rattle.check_expr.specs.Meanings.{Meant, meant, value_of, named, field_of}
+use Rattle.check_call.specs.Effects.{type_of_number, target_at, assignment_of}
+use Rattle.check_expr.specs.Meanings.{Meant, meanings_of, value_of, first_name, field_of}
 use Rattle.check_stmt_parts.specs.declared.around.Around.{Around}
 
 -- an expression, if one stands there
 abbrev pub meant_if : (g : Gathers) → Option Expr → Option (Meant g.Reported)
 meant_if g None = None
-meant_if g (Some e) = Some (meant g e)
+meant_if g (Some e) = Some (meanings_of g e)
 
 -- ---- EXIT and RETURN
 
@@ -47,8 +47,8 @@ abbrev pub in_loop : {T : Type 0} → Around T → Around T
 in_loop w = record { gives = w.gives; in_loop = true }
 
 -- an EXIT stands in a LOOP
-abbrev pub exited : (g : Gathers) → Pos → Around g.Reported → Result TypedStmt g.Reported
-exited g at w = reported_where g (not w.in_loop) at rule.LonelyExit (Ok step.Exit)
+abbrev pub exit_statement : (g : Gathers) → Pos → Around g.Reported → Result TypedStmt g.Reported
+exit_statement g at w = reported_where g (not w.in_loop) at rule.LonelyExit (Ok step.Exit)
 
 -- a value is assignment compatible with the type of the result
 abbrev pub given_back : (g : Gathers) → Types → Result TypeNo g.Reported → Pos
@@ -57,12 +57,12 @@ given_back g types t at x =
     both g t x ▷ λ p. value_suited g rule.NotAssignable types p.0 at p.1 ▷ λ e. Ok (step.Give p.0 e)
 
 -- functions alone give a value, and always
-abbrev pub returned : (g : Gathers) → Scope g.Reported → Pos → Option (Result TypeNo g.Reported)
+abbrev pub return_statement : (g : Gathers) → Scope g.Reported → Pos → Option (Result TypeNo g.Reported)
     → Option (Meant g.Reported) → Result TypedStmt g.Reported
-returned g s at None None = Ok step.Return
-returned g s at None (Some x) = reported_beside g at rule.WrongReturn (value_of g s x ▷ λ v. Ok tt)
-returned g s at (Some t) None = reported g at rule.WrongReturn
-returned g s at (Some t) (Some x) = given_back g s.types t x.fixed.at (value_of g s x)
+return_statement g s at None None = Ok step.Return
+return_statement g s at None (Some x) = reported_beside g at rule.WrongReturn (value_of g s x ▷ λ v. Ok tt)
+return_statement g s at (Some t) None = report g at rule.WrongReturn
+return_statement g s at (Some t) (Some x) = given_back g s.types t x.fixed.at (value_of g s x)
 
 -- ---- conditions and assignments
 
@@ -73,7 +73,7 @@ condition g s x = value_of g s x ▷ value_suited g rule.WrongType s.types boole
 abbrev pub assignment : (g : Gathers) → Scope g.Reported → Meant g.Reported → Meant g.Reported
     → Result TypedStmt g.Reported
 assignment g s d x =
-    assigned g s.types (target_at g d.fixed.at (d.means s)) x.fixed.at (value_of g s x)
+    assignment_of g s.types (target_at g d.fixed.at (d.means s)) x.fixed.at (value_of g s x)
 
 -- ---- calls: no brackets are no arguments
 
@@ -86,32 +86,32 @@ or_none (Some xs) = xs
 
 abbrev pub selector_amount : Amount → TypeNo × TypedExpr
 selector_amount (Known a) =
-    (untyped a.number a.sort, expr.Constant (untyped a.number a.sort) a.number)
+    (type_of_number a.number a.sort, expr.Constant (type_of_number a.number a.sort) a.number)
 selector_amount (Run b e) = (b, e)
 
 abbrev pub selector_of : (g : Gathers) → Pos → Option Side → Result (TypeNo × TypedExpr) g.Reported
-selector_of g at None = reported g at rule.WrongType
+selector_of g at None = report g at rule.WrongType
 selector_of g at (Some (side.Scalar a)) = Ok (selector_amount a)
-selector_of g at (Some (side.Set e)) = reported g at rule.WrongType
-selector_of g at (Some (side.Routine t e)) = reported g at rule.WrongType
-selector_of g at (Some (side.Procedure p)) = reported g at rule.WrongType
+selector_of g at (Some (side.Set e)) = report g at rule.WrongType
+selector_of g at (Some (side.Routine t e)) = report g at rule.WrongType
+selector_of g at (Some (side.Procedure p)) = report g at rule.WrongType
 
-abbrev pub selected : (g : Gathers) → Scope g.Reported → Meant g.Reported
+abbrev pub case_selector : (g : Gathers) → Scope g.Reported → Meant g.Reported
     → Result (TypeNo × TypedExpr) g.Reported
-selected g s x = value_of g s x ▷ λ v. selector_of g x.fixed.at (side_of v)
+case_selector g s x = value_of g s x ▷ λ v. selector_of g x.fixed.at (side_of v)
 
 -- ---- the record of a WITH, with its type
 
 abbrev pub record_by : (g : Gathers) → Types → Pos → Designated → Result (TypeNo × Place) g.Reported
 record_by g types at (designated.Variable t d) =
     reported_where g (not (is_some (fields_at types t))) at rule.WrongType (Ok (t, d))
-record_by g types at (designated.Value x) = reported g at rule.WrongType
-record_by g types at (designated.Open t slot) = reported g at rule.WrongType
-record_by g types at (designated.Type t) = reported g at rule.WrongType
-record_by g types at (designated.Procedure p) = reported g at rule.WrongType
-record_by g types at (designated.Nested p) = reported g at rule.WrongType
-record_by g types at (designated.Standard f) = reported g at rule.WrongType
-record_by g types at (designated.Module k) = reported g at rule.WrongType
+record_by g types at (designated.Value x) = report g at rule.WrongType
+record_by g types at (designated.Open t slot) = report g at rule.WrongType
+record_by g types at (designated.Type t) = report g at rule.WrongType
+record_by g types at (designated.Procedure p) = report g at rule.WrongType
+record_by g types at (designated.Nested p) = report g at rule.WrongType
+record_by g types at (designated.Standard f) = report g at rule.WrongType
+record_by g types at (designated.Module k) = report g at rule.WrongType
 
 abbrev pub record_of : (g : Gathers) → Scope g.Reported → Meant g.Reported
     → Result (TypeNo × Place) g.Reported
@@ -130,7 +130,7 @@ element_in d (Some a) = Some (designated.Variable a.1 d)
 
 abbrev pub element_of : Types → Designated → Option Designated
 element_of types (designated.Variable t d) = element_in d (array_at types t)
-element_of types (designated.Open t slot) = Some (designated.Variable t (rooted (root.Open slot)))
+element_of types (designated.Open t slot) = Some (designated.Variable t (root_place (root.Open slot)))
 element_of types (designated.Value x) = None
 element_of types (designated.Type t) = None
 element_of types (designated.Procedure p) = None
@@ -143,9 +143,9 @@ abbrev pub led_by : (g : Gathers) → Scope g.Reported → Designated
 led_by g s d (layer.Field at name) = known_of (field_of g s at name d)
 led_by g s d (layer.Index at x) = element_of s.types d
 
-abbrev pub led : (g : Gathers) → Scope g.Reported → Option Designated → Selector → Option Designated
-led g s None x = None
-led g s (Some d) x = led_by g s d (out-Selector x)
+abbrev pub component_behind : (g : Gathers) → Scope g.Reported → Option Designated → Selector → Option Designated
+component_behind g s None x = None
+component_behind g s (Some d) x = led_by g s d (out-Selector x)
 
 abbrev pub type_led_to : Types → Designated → Option TypeNo
 type_led_to types (designated.Variable t d) = cond (is_some (fields_at types t)) (Some t) None
@@ -164,16 +164,16 @@ record_led_to types (Some d) = type_led_to types d
 abbrev pub opened_type : (g : Gathers) → Scope g.Reported → Designating → Option TypeNo
 opened_type g s d =
     record_led_to s.types
-    (fold (led g s) (known_of (named g s (out-Designator d).name)) (out-Designator d).selectors)
+    (fold (component_behind g s) (known_of (first_name g s (out-Designator d).name)) (out-Designator d).selectors)
 
 -- inside, the fields of a record of this type stand for themselves
-abbrev pub opened : {T : Type 0} → Scope T → TypeNo → Scope T
-opened s t = record s { withs = s.withs ++ record { number = length s.withs; of = t } ∷ [] }
+abbrev pub into_record : {T : Type 0} → Scope T → TypeNo → Scope T
+into_record s t = record s { withs = s.withs ++ record { number = length s.withs; of = t } ∷ [] }
 
 -- the same, if there is one
 abbrev pub opened_if : {T : Type 0} → Scope T → Option TypeNo → Scope T
 opened_if s None = s
-opened_if s (Some t) = opened s t
+opened_if s (Some t) = into_record s t
 
 -- all but the last
 abbrev pub front : {A : Type 0} → List A → List A
@@ -181,5 +181,5 @@ front [] = []
 front (x ∷ []) = []
 front (x ∷ y ∷ xs) = x ∷ front (y ∷ xs)
 
-abbrev pub closed : {T : Type 0} → Scope T → Scope T
-closed s = record s { withs = front s.withs }
+abbrev pub out_of_record : {T : Type 0} → Scope T → Scope T
+out_of_record s = record s { withs = front s.withs }

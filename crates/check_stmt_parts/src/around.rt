@@ -2,9 +2,9 @@
 
 ghost use Rattle.std.specs.Prelude.{◌≡◌};
 ghost use Rattle.check_scope.specs.Elaborated.{least};
-ghost use Rattle.check_stmt_parts.specs.Simple.{in_loop, exited};
+ghost use Rattle.check_stmt_parts.specs.Simple.{in_loop, exit_statement};
 
-use check_scope::{Elaborated, reported};
+use check_scope::{Elaborated, report};
 use m2_rule::{Breach, Rule};
 use m2_tree::Pos;
 use typed_tree::{TypeNo, TypedStmt};
@@ -29,11 +29,11 @@ pub fn in_loop(around: &Around<Breach>) -> Around<Breach>
 }
 
 /// EXIT: 45 where no LOOP stands around it.
-pub fn exited(at: Pos, around: &Around<Breach>) -> Elaborated<TypedStmt>
-    ensures { result ≡ exited least at around.now }
+pub fn exit_statement(at: Pos, around: &Around<Breach>) -> Elaborated<TypedStmt>
+    ensures { result ≡ exit_statement least at around.now }
 {
     if !around.in_loop {
-        return reported(at, Rule::LonelyExit);
+        return report(at, Rule::LonelyExit);
     }
     Ok(TypedStmt::Exit)
 }

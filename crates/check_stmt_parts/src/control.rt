@@ -3,22 +3,22 @@
 ghost use Rattle.std.specs.Prelude.{◌≡◌, IfOk, Some};
 ghost use Rattle.check_scope.specs.Elaborated.{least};
 ghost use Rattle.check_operator.specs.declared.side.Side.TheVariants as side;
-ghost use Rattle.check_expr.specs.Meanings.{meant, value_of};
+ghost use Rattle.check_expr.specs.Meanings.{meanings_of, value_of};
 ghost use Rattle.check_stmt_parts.specs.Simple.{meant_if};
-ghost use Rattle.check_stmt_parts.specs.Control.{controlled, is_own, control_by, control_of, start_at, limit_number, limit_by, limit_at, is_zero, step_number, step_by, step_of, type_of, base_of, course, course_of, repeated_for};
+ghost use Rattle.check_stmt_parts.specs.Control.{control_variable, is_own, control_by, control_of, start_at, limit_number, limit_by, limit_at, is_zero, step_number, step_by, step_of, type_of, base_of, course, course_of, repeated_for};
 
 use check_const_ops::{Ordinal, fits, whole_number};
 use check_expr::{constant_of, place_of, value_of};
 use check_operator::{
     Amount, Class, Computed, Side, bases_suit, class_of, side_of, slot_of, sort_suits, value_suited,
 };
-use check_scope::{Elaborated, Scope, both, looked_up, of_sort, reported};
+use check_scope::{Elaborated, Scope, both, looked_up, of_sort, report};
 use m2_rule::{Breach, Rule};
 use m2_tree::{Expr, Ident, Pos};
 use std::alloc::{AllocError, Global};
 use tree_parts::{Boxed, Items};
 use typed_tree::{
-    LocalKind, Meaning, Place, Root, TypeNo, TypedExpr, TypedStmt, Types, Value, rooted,
+    LocalKind, Meaning, Place, Root, TypeNo, TypedExpr, TypedStmt, Types, Value, root_place,
 };
 
 /// The control variable of a FOR.
@@ -40,8 +40,8 @@ pub struct Course {
     pub by: i64,
 }
 
-fn controlled(types: &Types, at: Pos, t: TypeNo, place: Place) -> Elaborated<Control>
-    ensures { result ≡ controlled least types.now at t place }
+fn control_variable(types: &Types, at: Pos, t: TypeNo, place: Place) -> Elaborated<Control>
+    ensures { result ≡ control_variable least types.now at t place }
 {
     match class_of(types, t) {
         Class::Scalar(scalar) => Ok(Control {
@@ -49,9 +49,9 @@ fn controlled(types: &Types, at: Pos, t: TypeNo, place: Place) -> Elaborated<Con
             base: scalar.base,
             place,
         }),
-        Class::Set => reported(at, Rule::WrongControl),
-        Class::Procedure => reported(at, Rule::WrongControl),
-        Class::Whole => reported(at, Rule::WrongControl),
+        Class::Set => report(at, Rule::WrongControl),
+        Class::Procedure => report(at, Rule::WrongControl),
+        Class::Whole => report(at, Rule::WrongControl),
     }
 }
 
@@ -75,27 +75,27 @@ fn control_by(
     match meaning {
         Meaning::Variable(variable) => {
             if variable.home != scope.types.home {
-                return reported(at, Rule::WrongControl);
+                return report(at, Rule::WrongControl);
             }
-            let place = rooted(alloc, Root::Global(variable));
-            controlled(&scope.types, at, variable.of, place)
+            let place = root_place(alloc, Root::Global(variable));
+            control_variable(&scope.types, at, variable.of, place)
         }
         Meaning::Local(variable) => {
             if !(is_own(variable.kind) && variable.level == scope.level) {
-                return reported(at, Rule::WrongControl);
+                return report(at, Rule::WrongControl);
             }
             let slot = slot_of(scope.level, variable);
-            let place = rooted(alloc, Root::Local(slot));
-            controlled(&scope.types, at, variable.of, place)
+            let place = root_place(alloc, Root::Local(slot));
+            control_variable(&scope.types, at, variable.of, place)
         }
-        Meaning::Ahead => reported(at, Rule::Undeclared),
-        Meaning::Constant(_) => reported(at, Rule::WrongControl),
-        Meaning::Type(_, _) => reported(at, Rule::WrongControl),
-        Meaning::Field(_) => reported(at, Rule::WrongControl),
-        Meaning::Procedure(_) => reported(at, Rule::WrongControl),
-        Meaning::LocalProcedure(_) => reported(at, Rule::WrongControl),
-        Meaning::Standard(_) => reported(at, Rule::WrongControl),
-        Meaning::Module(_) => reported(at, Rule::WrongControl),
+        Meaning::Ahead => report(at, Rule::Undeclared),
+        Meaning::Constant(_) => report(at, Rule::WrongControl),
+        Meaning::Type(_, _) => report(at, Rule::WrongControl),
+        Meaning::Field(_) => report(at, Rule::WrongControl),
+        Meaning::Procedure(_) => report(at, Rule::WrongControl),
+        Meaning::LocalProcedure(_) => report(at, Rule::WrongControl),
+        Meaning::Standard(_) => report(at, Rule::WrongControl),
+        Meaning::Module(_) => report(at, Rule::WrongControl),
     }
 }
 
@@ -132,7 +132,7 @@ fn limit_number(base: TypeNo, at: Pos, n: i64, sort: Option<TypeNo>) -> Elaborat
     match sort {
         None => {
             if !fits(Some(base), n) {
-                return reported(at, Rule::OutOfRange);
+                return report(at, Rule::OutOfRange);
             }
             Ok(TypedExpr::Constant(base, n))
         }
@@ -146,13 +146,13 @@ fn limit_amount(base: TypeNo, at: Pos, a: Amount) -> Elaborated<TypedExpr>
     match a {
         Amount::Known(a) => {
             if !sort_suits(base, a.sort) {
-                return reported(at, Rule::NotAssignable);
+                return report(at, Rule::NotAssignable);
             }
             limit_number(base, at, a.number, a.sort)
         }
         Amount::Run(other, e) => {
             if !bases_suit(base, other) {
-                return reported(at, Rule::NotAssignable);
+                return report(at, Rule::NotAssignable);
             }
             Ok(e)
         }
@@ -163,11 +163,11 @@ fn limit_by(base: TypeNo, at: Pos, limit: Option<Side>) -> Elaborated<TypedExpr>
     ensures { result ≡ limit_by least base at limit }
 {
     match limit {
-        None => reported(at, Rule::NotAssignable),
+        None => report(at, Rule::NotAssignable),
         Some(Side::Scalar(a)) => limit_amount(base, at, a),
-        Some(Side::Set(_)) => reported(at, Rule::NotAssignable),
-        Some(Side::Routine(_, _)) => reported(at, Rule::NotAssignable),
-        Some(Side::Procedure(_)) => reported(at, Rule::NotAssignable),
+        Some(Side::Set(_)) => report(at, Rule::NotAssignable),
+        Some(Side::Routine(_, _)) => report(at, Rule::NotAssignable),
+        Some(Side::Procedure(_)) => report(at, Rule::NotAssignable),
     }
 }
 
@@ -190,10 +190,10 @@ fn step_number(at: Pos, number: Option<Ordinal>) -> Elaborated<i64>
     ensures { result ≡ step_number least at number }
 {
     match number {
-        None => reported(at, Rule::WrongType),
+        None => report(at, Rule::WrongType),
         Some(a) => {
             if is_zero(a.number) {
-                return reported(at, Rule::ZeroStep);
+                return report(at, Rule::ZeroStep);
             }
             Ok(a.number)
         }
@@ -270,8 +270,8 @@ fn start_of(
     control: &Elaborated<Control>,
     e: &Expr,
 ) -> Result<Elaborated<TypedExpr>, AllocError>
-    ensures { IfOk result (λ j. j ≡ start_at least scope.now.types (meant least e.now).fixed.at
-        (type_of control.now) (value_of least scope.now (meant least e.now))) }
+    ensures { IfOk result (λ j. j ≡ start_at least scope.now.types (meanings_of least e.now).fixed.at
+        (type_of control.now) (value_of least scope.now (meanings_of least e.now))) }
 {
     let value = value_of(alloc, scope, e)?;
     Ok(start_at(&scope.types, place_of(e), type_of(control), value))
@@ -284,8 +284,8 @@ fn limit_of(
     control: &Elaborated<Control>,
     e: &Expr,
 ) -> Result<Elaborated<TypedExpr>, AllocError>
-    ensures { IfOk result (λ j. j ≡ limit_at least (meant least e.now).fixed.at
-        (base_of control.now) (value_of least scope.now (meant least e.now))) }
+    ensures { IfOk result (λ j. j ≡ limit_at least (meanings_of least e.now).fixed.at
+        (base_of control.now) (value_of least scope.now (meanings_of least e.now))) }
 {
     let value = value_of(alloc, scope, e)?;
     Ok(limit_at(place_of(e), base_of(control), value))
@@ -302,8 +302,8 @@ pub fn course_of(
     limit: &Expr,
     by: &Option<Boxed<Expr>>,
 ) -> Result<Elaborated<Course>, AllocError>
-    ensures { IfOk result (λ j. j ≡ course_of least scope.now name.now (meant least start.now)
-        (meant least limit.now) (meant_if least by.now)) }
+    ensures { IfOk result (λ j. j ≡ course_of least scope.now name.now (meanings_of least start.now)
+        (meanings_of least limit.now) (meant_if least by.now)) }
 {
     let control = control_of(alloc, scope, name)?;
     let start = start_of(alloc, scope, &control, start)?;

@@ -2,17 +2,17 @@
 
 ghost use Rattle.std.specs.Prelude.{◌≡◌, IfOk, Some, Ok};
 ghost use Rattle.check_scope.specs.Elaborated.{least, ◌▷◌};
-ghost use Rattle.check_expr.specs.Meanings.{meant};
+ghost use Rattle.check_expr.specs.Meanings.{meanings_of};
 ghost use Rattle.check_const_ops.specs.Common.{common};
 ghost use Rattle.check_operator.specs.Classes.{class_at};
-ghost use Rattle.check_stmt_parts.specs.Labels.{ordinal_in, of_type, no_constant, suits_selector, value_bound, variable_bound, bound_by, bound_in, bound_of, is_of_base, number_fits, suits_base, bound_suits, single, ordered_if, are_ordered, spanned, label_between, item_label, with_new, with_label, with_item, labels_in};
+ghost use Rattle.check_stmt_parts.specs.Labels.{ordinal_in, of_type, no_constant, suits_selector, value_bound, variable_bound, bound_by, bound_in, bound_of, is_of_base, number_fits, suits_base, bound_suits, single, ordered_if, are_ordered, label_range, label_between, item_label, with_new, with_label, with_item, labels_in};
 
 use crate::Ranges;
 use crate::lists::with_next;
 use check_const_ops::{Operand, Ordinal, common, fits, operand_of};
 use check_expr::{place_of, stands_for};
 use check_operator::{Class, Computed, Designated, class_of};
-use check_scope::{Elaborated, Meaningless, Scope, Sought, beside, both, reported};
+use check_scope::{Elaborated, Meaningless, Scope, Sought, beside, both, report};
 use m2_rule::{Breach, Rule};
 use m2_tree::{Expr, Item, Pos};
 use std::alloc::{AllocError, Global};
@@ -23,8 +23,8 @@ fn ordinal_in(at: Pos, operand: Option<Operand>) -> Elaborated<Ordinal>
     ensures { result ≡ ordinal_in least at operand }
 {
     match operand {
-        None => reported(at, Rule::WrongType),
-        Some(Operand::Set(_)) => reported(at, Rule::WrongType),
+        None => report(at, Rule::WrongType),
+        Some(Operand::Set(_)) => report(at, Rule::WrongType),
         Some(Operand::Scalar(a)) => Ok(a),
     }
 }
@@ -33,7 +33,7 @@ fn of_type(alike: bool, at: Pos) -> Elaborated<()>
     ensures { result ≡ of_type least alike at }
 {
     if !alike {
-        return reported(at, Rule::WrongType);
+        return report(at, Rule::WrongType);
     }
     Ok(())
 }
@@ -42,7 +42,7 @@ fn of_type(alike: bool, at: Pos) -> Elaborated<()>
 fn no_constant(alike: bool, label: Pos, at: Pos) -> Elaborated<Ordinal>
     ensures { result ≡ no_constant least alike label at }
 {
-    let unknown: Elaborated<Ordinal> = reported(label, Rule::WrongLabel);
+    let unknown: Elaborated<Ordinal> = report(label, Rule::WrongLabel);
     match both(of_type(alike, at), unknown) {
         Err(breach) => Err(breach),
         Ok(((), a)) => Ok(a),
@@ -98,8 +98,8 @@ fn bound_by(
         Designated::Open(_, _) => no_constant(false, label, at),
         Designated::Type(_) => no_constant(false, label, at),
         Designated::Procedure(_) => no_constant(false, label, at),
-        Designated::Nested(_) => reported(at, Rule::NoProcedureValue),
-        Designated::Standard(_) => reported(at, Rule::NoProcedureValue),
+        Designated::Nested(_) => report(at, Rule::NoProcedureValue),
+        Designated::Standard(_) => report(at, Rule::NoProcedureValue),
         Designated::Module(_) => no_constant(false, label, at),
     }
 }
@@ -129,7 +129,7 @@ fn bound_of(
     label: Pos,
     e: &Expr,
 ) -> Result<Elaborated<Ordinal>, AllocError>
-    ensures { IfOk result (λ j. j ≡ bound_of least scope.now base label (meant least e.now)) }
+    ensures { IfOk result (λ j. j ≡ bound_of least scope.now base label (meanings_of least e.now)) }
 {
     let sought = stands_for(alloc, scope, e)?;
     Ok(bound_in(&scope.types, base, label, place_of(e), sought))
@@ -150,7 +150,7 @@ fn number_fits(base: TypeNo, at: Pos, a: Ordinal) -> Elaborated<()>
     match a.sort {
         None => {
             if !fits(Some(base), a.number) {
-                return reported(at, Rule::OutOfRange);
+                return report(at, Rule::OutOfRange);
             }
             Ok(())
         }
@@ -165,7 +165,7 @@ fn suits_base(base: Option<TypeNo>, at: Pos, a: Ordinal) -> Elaborated<()>
         None => Ok(()),
         Some(base) => {
             if !is_of_base(base, a.sort) {
-                return reported(at, Rule::WrongType);
+                return report(at, Rule::WrongType);
             }
             number_fits(base, at, a)
         }
@@ -202,7 +202,7 @@ fn ordered_if(at: Pos, low: Ordinal, high: Ordinal) -> Elaborated<()>
         None => Ok(()),
         Some(_) => {
             if high.number < low.number {
-                return reported(at, Rule::EmptyRange);
+                return report(at, Rule::EmptyRange);
             }
             Ok(())
         }
@@ -220,14 +220,14 @@ fn are_ordered(at: Pos, low: Elaborated<Ordinal>, high: Elaborated<Ordinal>) -> 
 }
 
 /// A label of a range of values.
-fn spanned(
+fn label_range(
     base: Option<TypeNo>,
     at: Pos,
     low: Elaborated<Ordinal>,
     high_at: Pos,
     high: Elaborated<Ordinal>,
 ) -> Elaborated<Label>
-    ensures { result ≡ spanned least base at low high_at high }
+    ensures { result ≡ label_range least base at low high_at high }
 {
     let suit = beside(bound_suits(base, at, low), bound_suits(base, high_at, high));
     let fine = beside(suit, are_ordered(at, low, high));
@@ -249,14 +249,14 @@ fn range_from(
     low: &Expr,
     high: &Expr,
 ) -> Result<Elaborated<Label>, AllocError>
-    ensures { IfOk result (λ j. j ≡ label_between least scope.now base (meant least low.now)
-        (Some (meant least high.now))) }
+    ensures { IfOk result (λ j. j ≡ label_between least scope.now base (meanings_of least low.now)
+        (Some (meanings_of least high.now))) }
 {
     let at = place_of(low);
     let high_at = place_of(high);
     let first = bound_of(alloc, scope, base, at, low)?;
     let last = bound_of(alloc, scope, base, at, high)?;
-    Ok(spanned(base, at, first, high_at, last))
+    Ok(label_range(base, at, first, high_at, last))
 }
 
 /// What an item of a list of labels stands for.
@@ -290,7 +290,7 @@ fn with_new(
     let next = if ranges.take(label.low, label.high)? {
         Ok(label)
     } else {
-        reported(at, Rule::WrongLabel)
+        report(at, Rule::WrongLabel)
     };
     with_next(done, next)
 }

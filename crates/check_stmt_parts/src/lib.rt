@@ -12,13 +12,15 @@ mod opened;
 mod ranges;
 mod simple;
 
-pub use around::{Around, exited, in_loop};
+pub use around::{Around, exit_statement, in_loop};
 pub use control::{Control, Course, course_of, repeated_for};
 pub use label::labels_in;
 pub use lists::{
-    armed, base_in, cased, chosen, chosen_else, looped, repeated_until, repeated_while,
-    reported_in, standing, with_next, within,
+    arm_of, base_in, case_statement, chosen_else, if_statement, loop_statement, repeated_until,
+    repeated_while, reported_in, standing, with_next, within,
 };
 pub use opened::opened_type;
 pub use ranges::Ranges;
-pub use simple::{assignment, called, close, condition, open, record_of, returned, selected};
+pub use simple::{
+    assignment, case_selector, close, condition, open, procedure_call, record_of, return_statement,
+};

@@ -2,7 +2,7 @@
 
 ghost use Rattle.std.specs.Prelude.{◌≡◌, IfOk};
 ghost use Rattle.check_scope.specs.Elaborated.{least};
-ghost use Rattle.check_stmt_parts.specs.Lists.{with_next, standing, chosen, chosen_else, base_in, cased, armed, repeated_while, repeated_until, looped, within, reported_in};
+ghost use Rattle.check_stmt_parts.specs.Lists.{with_next, standing, if_statement, chosen_else, base_in, case_statement, arm_of, repeated_while, repeated_until, loop_statement, within, reported_in};
 
 use check_scope::{Elaborated, both};
 use m2_rule::lesser;
@@ -43,12 +43,12 @@ pub fn standing(body: Elaborated<Items<TypedStmt>>) -> Elaborated<Option<Items<T
 }
 
 /// IF: the condition, what is done then, and what follows.
-pub fn chosen(
+pub fn if_statement(
     condition: Elaborated<TypedExpr>,
     body: Elaborated<Items<TypedStmt>>,
     rest: Elaborated<Option<Items<TypedStmt>>>,
 ) -> Elaborated<TypedStmt>
-    ensures { result ≡ chosen least condition body rest }
+    ensures { result ≡ if_statement least condition body rest }
 {
     match both(condition, both(body, rest)) {
         Err(breach) => Err(breach),
@@ -84,12 +84,12 @@ pub fn base_in(selector: &Elaborated<(TypeNo, TypedExpr)>) -> Option<TypeNo>
 }
 
 /// CASE: the selector with its base type, the arms, and what stands behind the ELSE.
-pub fn cased(
+pub fn case_statement(
     selector: Elaborated<(TypeNo, TypedExpr)>,
     arms: Elaborated<Items<TypedArm>>,
     otherwise: Elaborated<Option<Items<TypedStmt>>>,
 ) -> Elaborated<TypedStmt>
-    ensures { result ≡ cased least selector arms otherwise }
+    ensures { result ≡ case_statement least selector arms otherwise }
 {
     match both(selector, both(arms, otherwise)) {
         Err(breach) => Err(breach),
@@ -98,11 +98,11 @@ pub fn cased(
 }
 
 /// An arm of a CASE.
-pub fn armed(
+pub fn arm_of(
     labels: Elaborated<Items<Label>>,
     body: Elaborated<Items<TypedStmt>>,
 ) -> Elaborated<TypedArm>
-    ensures { result ≡ armed least labels body }
+    ensures { result ≡ arm_of least labels body }
 {
     match both(labels, body) {
         Err(breach) => Err(breach),
@@ -137,8 +137,8 @@ pub fn repeated_until(
 }
 
 /// LOOP.
-pub fn looped(body: Elaborated<Items<TypedStmt>>) -> Elaborated<TypedStmt>
-    ensures { result ≡ looped body }
+pub fn loop_statement(body: Elaborated<Items<TypedStmt>>) -> Elaborated<TypedStmt>
+    ensures { result ≡ loop_statement body }
 {
     match body {
         Err(breach) => Err(breach),

@@ -3,16 +3,16 @@
 ghost use Rattle.std.specs.Prelude.{◌≡◌, IfOk};
 ghost use Rattle.std.specs.List.{fold};
 ghost use Rattle.check_scope.specs.Elaborated.{least};
-ghost use Rattle.check_stmt_parts.specs.Simple.{known_of, element_in, element_of, led, type_led_to, record_led_to, opened_type};
+ghost use Rattle.check_stmt_parts.specs.Simple.{known_of, element_in, element_of, component_behind, type_led_to, record_led_to, opened_type};
 
 use crate::simple::is_record;
-use check_expr::{field_of, named};
+use check_expr::{field_of, first_name};
 use check_operator::{Designated, array_of};
 use check_scope::{Elaborated, Scope, Sought};
 use m2_rule::Breach;
 use m2_tree::{Designator, Selector};
 use std::alloc::{AllocError, Global};
-use typed_tree::{Place, Root, TypeNo, Types, rooted};
+use typed_tree::{Place, Root, TypeNo, Types, root_place};
 
 fn known_of(designated: Elaborated<Designated>) -> Option<Designated>
     ensures { result ≡ known_of designated }
@@ -48,7 +48,7 @@ fn element_of(alloc: Global, types: &Types, array: Designated) -> Option<Designa
     match array {
         Designated::Variable(t, place) => element_in(place, array_of(types, t)),
         Designated::Open(t, slot) => {
-            Some(Designated::Variable(t, rooted(alloc, Root::Open(slot))))
+            Some(Designated::Variable(t, root_place(alloc, Root::Open(slot))))
         }
         Designated::Value(value) => {
             drop(value);
@@ -63,13 +63,13 @@ fn element_of(alloc: Global, types: &Types, array: Designated) -> Option<Designa
 }
 
 /// Where a selector leads, whatever its subscript is.
-fn led(
+fn component_behind(
     alloc: Global,
     scope: &Scope<Breach>,
     from: Option<Designated>,
     selector: &Selector,
 ) -> Result<Option<Designated>, AllocError>
-    ensures { IfOk result (λ d. d ≡ led least scope.now from selector.now) }
+    ensures { IfOk result (λ d. d ≡ component_behind least scope.now from selector.now) }
 {
     match from {
         None => Ok(None),
@@ -86,11 +86,11 @@ fn all_led(
     first: Option<Designated>,
     selectors: &[Selector],
 ) -> Result<Option<Designated>, AllocError>
-    ensures { IfOk result (λ d. d ≡ fold (led least scope.now) first selectors.now) }
+    ensures { IfOk result (λ d. d ≡ fold (component_behind least scope.now) first selectors.now) }
 {
     let mut designated = first;
     for selector in selectors {
-        designated = led(alloc, scope, designated, selector)?;
+        designated = component_behind(alloc, scope, designated, selector)?;
     }
     Ok(designated)
 }
@@ -130,7 +130,7 @@ pub fn opened_type(
 ) -> Result<Option<TypeNo>, AllocError>
     ensures { IfOk result (λ t. t ≡ opened_type least scope.now designator.now) }
 {
-    let first = known_named(named(alloc, scope, &designator.name)?);
+    let first = known_named(first_name(alloc, scope, &designator.name)?);
     let last = all_led(alloc, scope, first, designator.selectors.as_slice())?;
     Ok(record_led_to(&scope.types, last))
 }

@@ -1,7 +1,7 @@
 //! Ranges of whole numbers that have no value in common.
 
 ghost use Rattle.std.specs.Prelude.{◌≡◌, int_le, int_lt, [], true, IfOk};
-ghost use Rattle.check_stmt_parts.specs.Ranges.{are_apart, is_met, taken};
+ghost use Rattle.check_stmt_parts.specs.Ranges.{are_apart, is_met, enter_range};
 
 use std::alloc::{AllocError, Global};
 use std::collections::BTreeMap;
@@ -59,7 +59,7 @@ impl Ranges {
     /// Takes a range in, unless another has a value of it, and answers whether it was taken in. A range without
     /// values, whose greatest number is below its least, adds nothing.
     pub fn take(&mut self, low: i64, high: i64) -> Result<bool, AllocError>
-        ensures { IfOk result (λ is_new. (self.new, is_new) ≡ taken low high self.old) }
+        ensures { IfOk result (λ is_new. (self.new, is_new) ≡ enter_range low high self.old) }
     {
         if self.is_met(low, high) {
             return Ok(false);

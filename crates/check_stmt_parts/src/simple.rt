@@ -4,15 +4,15 @@ ghost use Rattle.std.specs.Prelude.{◌≡◌, IfOk, OnOk, map};
 ghost use Rattle.std.specs.Option.{is_some};
 ghost use Rattle.check_scope.specs.Elaborated.{least};
 ghost use Rattle.check_scope.specs.Scopes.{fields_at};
-ghost use Rattle.check_expr.specs.Meanings.{meant, head};
-ghost use Rattle.check_expr.specs.Effects.{done_by};
-ghost use Rattle.check_stmt_parts.specs.Simple.{meant_if, given_back, returned, condition, assignment, or_none, selector_amount, selector_of, selected, record_by, record_of, opened, closed};
+ghost use Rattle.check_expr.specs.Meanings.{meanings_of, head};
+ghost use Rattle.check_expr.specs.Effects.{call_statement};
+ghost use Rattle.check_stmt_parts.specs.Simple.{meant_if, given_back, return_statement, condition, assignment, or_none, selector_amount, selector_of, case_selector, record_by, record_of, into_record, out_of_record};
 
-use check_call::{assigned, target_at, untyped};
-use check_expr::{designated, done_by, first_of, place_of, value_of};
+use check_call::{assignment_of, target_at, type_of_number};
+use check_expr::{call_statement, designation, first_of, place_of, value_of};
 use check_operator::{Amount, Computed, Designated, Side, side_of, value_suited};
 use check_scope::{
-    Elaborated, OpenedRecord, Scope, both, fields_of, of_sort, reported, reported_beside,
+    Elaborated, OpenedRecord, Scope, both, fields_of, of_sort, report, reported_beside,
 };
 use m2_rule::{Breach, Rule};
 use m2_tree::{Designator, Expr, Pos};
@@ -39,7 +39,7 @@ fn given_back(
 
 /// RETURN at a place. A value in a body that gives none, and none in a function, are 46. A value that is not assignment
 /// compatible with the type of the result is 41, and a constant out of range is 52.
-pub fn returned(
+pub fn return_statement(
     alloc: Global,
     scope: &Scope<Breach>,
     at: Pos,
@@ -47,7 +47,7 @@ pub fn returned(
     value: &Option<Expr>,
 ) -> Result<Elaborated<TypedStmt>, AllocError>
     ensures { IfOk result
-        (λ j. j ≡ returned least scope.now at gives (meant_if least value.now)) }
+        (λ j. j ≡ return_statement least scope.now at gives (meant_if least value.now)) }
 {
     match gives {
         None => match value {
@@ -56,12 +56,12 @@ pub fn returned(
                 Err(breach) => Ok(reported_beside(at, Rule::WrongReturn, Err(breach))),
                 Ok(value) => {
                     drop(value);
-                    Ok(reported(at, Rule::WrongReturn))
+                    Ok(report(at, Rule::WrongReturn))
                 }
             },
         },
         Some(t) => match value {
-            None => Ok(reported(at, Rule::WrongReturn)),
+            None => Ok(report(at, Rule::WrongReturn)),
             Some(e) => {
                 let value = value_of(alloc, scope, e)?;
                 Ok(given_back(&scope.types, t, place_of(e), value))
@@ -76,7 +76,7 @@ pub fn condition(
     scope: &Scope<Breach>,
     e: &Expr,
 ) -> Result<Elaborated<TypedExpr>, AllocError>
-    ensures { IfOk result (λ j. j ≡ condition least scope.now (meant least e.now)) }
+    ensures { IfOk result (λ j. j ≡ condition least scope.now (meanings_of least e.now)) }
 {
     match value_of(alloc, scope, e)? {
         Err(breach) => Ok(Err(breach)),
@@ -92,26 +92,26 @@ pub fn assignment(
     e: &Expr,
 ) -> Result<Elaborated<TypedStmt>, AllocError>
     ensures { IfOk result
-        (λ j. j ≡ assignment least scope.now (head least designator.now) (meant least e.now)) }
+        (λ j. j ≡ assignment least scope.now (head least designator.now) (meanings_of least e.now)) }
 {
-    let target = target_at(first_of(designator), designated(alloc, scope, designator)?);
+    let target = target_at(first_of(designator), designation(alloc, scope, designator)?);
     let value = value_of(alloc, scope, e)?;
-    Ok(assigned(&scope.types, target, place_of(e), value))
+    Ok(assignment_of(&scope.types, target, place_of(e), value))
 }
 
 /// A call as a statement. Where there are no brackets there are no arguments.
-pub fn called(
+pub fn procedure_call(
     alloc: Global,
     scope: &Scope<Breach>,
     designator: &Designator,
     args: &Option<Items<Expr>>,
 ) -> Result<Elaborated<TypedStmt>, AllocError>
-    ensures { IfOk result (λ j. j ≡ done_by least scope.now (head least designator.now)
-        (map (meant least) (or_none args.now))) }
+    ensures { IfOk result (λ j. j ≡ call_statement least scope.now (head least designator.now)
+        (map (meanings_of least) (or_none args.now))) }
 {
     match args {
-        None => done_by(alloc, scope, designator, &[]),
-        Some(args) => done_by(alloc, scope, designator, args.as_slice()),
+        None => call_statement(alloc, scope, designator, &[]),
+        Some(args) => call_statement(alloc, scope, designator, args.as_slice()),
     }
 }
 
@@ -120,7 +120,7 @@ fn selector_amount(a: Amount) -> (TypeNo, TypedExpr)
 {
     match a {
         Amount::Known(a) => {
-            let t = untyped(a);
+            let t = type_of_number(a);
             (t, TypedExpr::Constant(t, a.number))
         }
         Amount::Run(base, e) => (base, e),
@@ -131,21 +131,21 @@ fn selector_of(at: Pos, side: Option<Side>) -> Elaborated<(TypeNo, TypedExpr)>
     ensures { result ≡ selector_of least at side }
 {
     match side {
-        None => reported(at, Rule::WrongType),
+        None => report(at, Rule::WrongType),
         Some(Side::Scalar(a)) => Ok(selector_amount(a)),
-        Some(Side::Set(_)) => reported(at, Rule::WrongType),
-        Some(Side::Routine(_, _)) => reported(at, Rule::WrongType),
-        Some(Side::Procedure(_)) => reported(at, Rule::WrongType),
+        Some(Side::Set(_)) => report(at, Rule::WrongType),
+        Some(Side::Routine(_, _)) => report(at, Rule::WrongType),
+        Some(Side::Procedure(_)) => report(at, Rule::WrongType),
     }
 }
 
 /// The selector of a CASE with its base type: 40 where it is no scalar.
-pub fn selected(
+pub fn case_selector(
     alloc: Global,
     scope: &Scope<Breach>,
     e: &Expr,
 ) -> Result<Elaborated<(TypeNo, TypedExpr)>, AllocError>
-    ensures { IfOk result (λ j. j ≡ selected least scope.now (meant least e.now)) }
+    ensures { IfOk result (λ j. j ≡ case_selector least scope.now (meanings_of least e.now)) }
 {
     match value_of(alloc, scope, e)? {
         Err(breach) => Ok(Err(breach)),
@@ -164,25 +164,25 @@ pub fn is_record(types: &Types, t: TypeNo) -> bool
 }
 
 fn record_by(types: &Types, at: Pos, designated: Designated) -> Elaborated<(TypeNo, Place)>
-    ensures { result ≡ record_by least types.now at designated }
+    ensures { result ≡ record_by least types.now at designation }
 {
     match designated {
         Designated::Variable(t, place) => {
             if !is_record(types, t) {
-                return reported(at, Rule::WrongType);
+                return report(at, Rule::WrongType);
             }
             Ok((t, place))
         }
         Designated::Value(value) => {
             drop(value);
-            reported(at, Rule::WrongType)
+            report(at, Rule::WrongType)
         }
-        Designated::Open(_, _) => reported(at, Rule::WrongType),
-        Designated::Type(_) => reported(at, Rule::WrongType),
-        Designated::Procedure(_) => reported(at, Rule::WrongType),
-        Designated::Nested(_) => reported(at, Rule::WrongType),
-        Designated::Standard(_) => reported(at, Rule::WrongType),
-        Designated::Module(_) => reported(at, Rule::WrongType),
+        Designated::Open(_, _) => report(at, Rule::WrongType),
+        Designated::Type(_) => report(at, Rule::WrongType),
+        Designated::Procedure(_) => report(at, Rule::WrongType),
+        Designated::Nested(_) => report(at, Rule::WrongType),
+        Designated::Standard(_) => report(at, Rule::WrongType),
+        Designated::Module(_) => report(at, Rule::WrongType),
     }
 }
 
@@ -195,7 +195,7 @@ pub fn record_of(
     ensures { IfOk result (λ j. j ≡ record_of least scope.now (head least designator.now)) }
 {
     let at = first_of(designator);
-    match of_sort(at, Rule::WrongType, designated(alloc, scope, designator)?) {
+    match of_sort(at, Rule::WrongType, designation(alloc, scope, designator)?) {
         Err(breach) => Ok(Err(breach)),
         Ok(designated) => Ok(record_by(&scope.types, at, designated)),
     }
@@ -203,7 +203,7 @@ pub fn record_of(
 
 /// Puts the fields of a record of this type before all other names.
 pub fn open(scope: &mut Scope<Breach>, t: TypeNo) -> Result<(), AllocError>
-    ensures { OnOk result (scope.new ≡ opened scope.old t) }
+    ensures { OnOk result (scope.new ≡ into_record scope.old t) }
 {
     let number = scope.withs.len();
     scope.withs.push(OpenedRecord { number, of: t })
@@ -212,7 +212,7 @@ pub fn open(scope: &mut Scope<Breach>, t: TypeNo) -> Result<(), AllocError>
 /// Takes back what was opened last.
 #[tactic(auto, using(crate::proofs::Closing::front_push))]
 pub fn close(scope: &mut Scope<Breach>)
-    ensures { scope.new ≡ closed scope.old }
+    ensures { scope.new ≡ out_of_record scope.old }
 {
     let _last = scope.withs.pop();
 }

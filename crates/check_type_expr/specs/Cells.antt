@@ -9,13 +9,13 @@ use Rattle.typed_tree.specs.declared.known_types.Types.{Types}
 use Rattle.typed_tree.specs.Known.{scalar_at}
 use Rattle.check_scope.specs.Elaborated.{Gathers, reported_where}
 
-abbrev pub counted : ℕ → ℕ
-counted distance = cond (nat_lt 131072 distance) 131073 (distance + 1)
+abbrev pub count_up : ℕ → ℕ
+count_up distance = cond (nat_lt 131072 distance) 131073 (distance + 1)
 
 -- how many values a scalar type has
 abbrev pub count_of : Option Scalar → ℕ
 count_of None = 0
-count_of (Some s) = cond (int_lt s.high s.low) 0 (counted (unsigned_abs (s.high -ℤ s.low)))
+count_of (Some s) = cond (int_lt s.high s.low) 0 (count_up (unsigned_abs (s.high -ℤ s.low)))
 
 abbrev pub count_at : Types → TypeNo → ℕ
 count_at types t = count_of (scalar_at types t)

@@ -4,8 +4,8 @@ use Rattle.std.specs.Option.{is_some}
 use Rattle.m2_rule.specs.declared.rule.Rule.TheVariants as rule
 use Rattle.m2_tree.specs.declared.name.Ident.{Ident}
 use Rattle.typed_tree.specs.declared.types.TypeNo.{TypeNo}
-use Rattle.typed_tree.specs.Names.{found, entered}
-use Rattle.check_scope.specs.Elaborated.{Gathers, reported, beside}
+use Rattle.typed_tree.specs.Names.{find_name, enter_name}
+use Rattle.check_scope.specs.Elaborated.{Gathers, report, beside}
 use Rattle.check_type_expr.specs.declared.field.Fields.{Fields}
 use Rattle.check_type_expr.specs.Cells.{plus}
 
@@ -16,8 +16,8 @@ no_fields = record { names = []; cells = 0 }
 abbrev pub with_field : (g : Gathers) → TypeNo → ℕ → Fields → Ident
     → Fields × Result (Unit {0}) g.Reported
 with_field g t cells fs name =
-    cond (is_some (found name.name fs.names)) (fs, reported g name.pos rule.DeclaredTwice)
-    (record { names = entered name.name t fs.names; cells = plus fs.cells cells }, Ok tt)
+    cond (is_some (find_name name.name fs.names)) (fs, report g name.pos rule.DeclaredTwice)
+    (record { names = enter_name name.name t fs.names; cells = plus fs.cells cells }, Ok tt)
 
 abbrev pub with_name : (g : Gathers) → TypeNo → ℕ → Fields × Result (Unit {0}) g.Reported → Ident
     → Fields × Result (Unit {0}) g.Reported

@@ -17,7 +17,7 @@ use Rattle.typed_tree.specs.Types.{integer}
 use Rattle.typed_tree.specs.declared.known_types.Types.{Types}
 use Rattle.check_scope.specs.declared.scope.Scope.{Scope}
 use Rattle.typed_tree.specs.Known.{is_result}
-use Rattle.check_scope.specs.Elaborated.{Gathers, reported, reported_where, both, ◌▷◌}
+use Rattle.check_scope.specs.Elaborated.{Gathers, report, reported_where, both, ◌▷◌}
 use Rattle.check_type_expr.specs.declared.field.Fields.{Fields}
 use Rattle.check_type_expr.specs.Named.{first_of, named_type}
 use Rattle.check_type_expr.specs.Fields.{no_fields, with_name}
@@ -59,12 +59,12 @@ procedure_type g s ps of =
 
 -- ---- headings
 
-abbrev pub repeated : Formal → List Ident → List Formal
-repeated f names = map (λ n. f) names
+abbrev pub formal_for_each : Formal → List Ident → List Formal
+formal_for_each f names = map (λ n. f) names
 
 abbrev pub joined_formals : (g : Gathers) → Result (List Formal) g.Reported
     → Result Formal g.Reported → List Ident → Result (List Formal) g.Reported
-joined_formals g so f names = both g so f ▷ λ p. Ok (p.0 ++ repeated p.1 names)
+joined_formals g so f names = both g so f ▷ λ p. Ok (p.0 ++ formal_for_each p.1 names)
 
 abbrev pub with_section : (g : Gathers) → Scope g.Reported → Result (List Formal) g.Reported
     → Section → Result (List Formal) g.Reported

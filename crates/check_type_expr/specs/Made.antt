@@ -22,15 +22,15 @@ use Rattle.typed_tree.specs.Types.{integer}
 use Rattle.typed_tree.specs.declared.known_types.Types.{Types}
 use Rattle.check_scope.specs.declared.scope.Scope.{Scope}
 use Rattle.typed_tree.specs.Known.{scalar_at, cells_at}
-use Rattle.check_scope.specs.Scopes.{State, declared}
-use Rattle.check_scope.specs.Elaborated.{Gathers, least, reported, reported_where, both, beside, ◌▷◌}
+use Rattle.check_scope.specs.Scopes.{State, declare_name}
+use Rattle.check_scope.specs.Elaborated.{Gathers, least, report, reported_where, both, beside, ◌▷◌}
 use Rattle.check_const_ops.specs.declared.operand.Ordinal.{Ordinal}
 use Rattle.check_const.specs.Parts.{Part, constant}
 use Rattle.check_expr.specs.Meanings.{part}
 use Rattle.check_type_expr.specs.declared.field.Fields.{Fields}
 use Rattle.check_type_expr.specs.Named.{first_of, named_type}
 use Rattle.check_type_expr.specs.Cells.{count_at, array_cells, is_index}
-use Rattle.check_type_expr.specs.Subranges.{bound_of, unnamed, under}
+use Rattle.check_type_expr.specs.Subranges.{bound_of, subrange_between, under}
 use Rattle.check_type_expr.specs.Fields.{no_fields, with_name}
 use Rattle.check_type_expr.specs.Headings.{procedure_type}
 
@@ -53,7 +53,7 @@ scalar_made sc = sc ▷ λ x. Ok (record { shape = shape.Scalar x; cells = 1 })
 
 abbrev pub reported_at : (g : Gathers) → Option Ident → Result (Unit {0}) g.Reported
 reported_at g None = Ok tt
-reported_at g (Some name) = reported g name.pos rule.ConstantCount
+reported_at g (Some name) = report g name.pos rule.ConstantCount
 
 -- the 257th constant
 abbrev pub too_many : (g : Gathers) → List Ident → Result (Unit {0}) g.Reported
@@ -69,26 +69,26 @@ enumeration_scalar t names = record {
 }
 
 -- the constants: names so far, the next number, and what is reported
-abbrev pub listed : (g : Gathers) → TypeNo → Scope g.Reported × ℕ × Result (Unit {0}) g.Reported
+abbrev pub enumerate_name : (g : Gathers) → TypeNo → Scope g.Reported × ℕ × Result (Unit {0}) g.Reported
     → Ident → Scope g.Reported × ℕ × Result (Unit {0}) g.Reported
-listed g t l name =
-    let d = declared g l.0 name (Ok (enumeration_constant t (pos l.1))) in
+enumerate_name g t l name =
+    let d = declare_name g l.0 name (Ok (enumeration_constant t (pos l.1))) in
     (d.0, l.1 + 1, beside g l.2 d.1)
 
-abbrev pub enumerated : (g : Gathers) → TypeNo → Scope g.Reported → Result (Unit {0}) g.Reported
+abbrev pub enumeration_of : (g : Gathers) → TypeNo → Scope g.Reported → Result (Unit {0}) g.Reported
     → List Ident → Scope g.Reported × ℕ × Result (Unit {0}) g.Reported
-enumerated g t s before names = fold (listed g t) (s, 0, before) names
+enumeration_of g t s before names = fold (enumerate_name g t) (s, 0, before) names
 
 abbrev pub enumeration : (g : Gathers) → Scope g.Reported → List Ident → State TypeNo g.Reported
 enumeration g s names =
     let t = next_type s in
-    let l = enumerated g t (with_shape s (enumeration_scalar t names)) (too_many g names) names in
+    let l = enumeration_of g t (with_shape s (enumeration_scalar t names)) (too_many g names) names in
     (l.0, l.2 ▷ λ fine. Ok t)
 
 -- ---- subranges
 
 abbrev pub scalar_or : (g : Gathers) → Pos → Option Scalar → Result Scalar g.Reported
-scalar_or g at None = reported g at rule.NoType
+scalar_or g at None = report g at rule.NoType
 scalar_or g at (Some sc) = Ok sc
 
 abbrev pub scalar_in : (g : Gathers) → Types → Pos → Result TypeNo g.Reported
@@ -104,7 +104,7 @@ bound_at g s e = bound_of g e.at (constant g s e)
 
 abbrev pub subrange : (g : Gathers) → Scope g.Reported → Option Qualified → Part g.Reported
     → Part g.Reported → Result Scalar g.Reported
-subrange g s None low high = unnamed g low.at (bound_at g s low) high.at (bound_at g s high)
+subrange g s None low high = subrange_between g low.at (bound_at g s low) high.at (bound_at g s high)
 subrange g s (Some q) low high =
     under g (scalar_named g s q) low.at (bound_at g s low) high.at (bound_at g s high)
 

@@ -7,7 +7,7 @@ use Rattle.m2_tree.specs.declared.expr.Qualified.{Qualified}
 use Rattle.typed_tree.specs.declared.types.TypeNo.{TypeNo}
 use Rattle.typed_tree.specs.declared.meaning.Meaning.{Meaning}
 use Rattle.typed_tree.specs.declared.meaning.Meaning.TheVariants as meaning
-use Rattle.check_scope.specs.Elaborated.{Gathers, reported, of_sort, ◌▷◌}
+use Rattle.check_scope.specs.Elaborated.{Gathers, report, of_sort, ◌▷◌}
 use Rattle.check_scope.specs.declared.scope.Scope.{Scope}
 use Rattle.check_scope.specs.Scopes.{looked_up}
 use Rattle.check_const.specs.Denote.{member}
@@ -22,29 +22,29 @@ first_of q = first_place q.module q.name
 
 abbrev pub type_meant : (g : Gathers) → Pos → Meaning → Result TypeNo g.Reported
 type_meant g at (meaning.Type t n) = Ok t
-type_meant g at (meaning.Constant v) = reported g at rule.NoType
-type_meant g at (meaning.Variable v) = reported g at rule.NoType
-type_meant g at (meaning.Local v) = reported g at rule.NoType
-type_meant g at (meaning.Field f) = reported g at rule.NoType
-type_meant g at (meaning.Procedure p) = reported g at rule.NoType
-type_meant g at (meaning.LocalProcedure p) = reported g at rule.NoType
-type_meant g at meaning.Ahead = reported g at rule.NoType
-type_meant g at (meaning.Standard f) = reported g at rule.NoType
-type_meant g at (meaning.Module k) = reported g at rule.NoType
+type_meant g at (meaning.Constant v) = report g at rule.NoType
+type_meant g at (meaning.Variable v) = report g at rule.NoType
+type_meant g at (meaning.Local v) = report g at rule.NoType
+type_meant g at (meaning.Field f) = report g at rule.NoType
+type_meant g at (meaning.Procedure p) = report g at rule.NoType
+type_meant g at (meaning.LocalProcedure p) = report g at rule.NoType
+type_meant g at meaning.Ahead = report g at rule.NoType
+type_meant g at (meaning.Standard f) = report g at rule.NoType
+type_meant g at (meaning.Module k) = report g at rule.NoType
 
 -- M.x, where M means a module
 abbrev pub in_module : (g : Gathers) → Scope g.Reported → Pos → Ident → Meaning
     → Result TypeNo g.Reported
 in_module g s at name (meaning.Module k) = member g s.tables k name ▷ type_meant g at
-in_module g s at name (meaning.Type t n) = reported g at rule.NoType
-in_module g s at name (meaning.Constant v) = reported g at rule.NoType
-in_module g s at name (meaning.Variable v) = reported g at rule.NoType
-in_module g s at name (meaning.Local v) = reported g at rule.NoType
-in_module g s at name (meaning.Field f) = reported g at rule.NoType
-in_module g s at name (meaning.Procedure p) = reported g at rule.NoType
-in_module g s at name (meaning.LocalProcedure p) = reported g at rule.NoType
-in_module g s at name meaning.Ahead = reported g at rule.NoType
-in_module g s at name (meaning.Standard f) = reported g at rule.NoType
+in_module g s at name (meaning.Type t n) = report g at rule.NoType
+in_module g s at name (meaning.Constant v) = report g at rule.NoType
+in_module g s at name (meaning.Variable v) = report g at rule.NoType
+in_module g s at name (meaning.Local v) = report g at rule.NoType
+in_module g s at name (meaning.Field f) = report g at rule.NoType
+in_module g s at name (meaning.Procedure p) = report g at rule.NoType
+in_module g s at name (meaning.LocalProcedure p) = report g at rule.NoType
+in_module g s at name meaning.Ahead = report g at rule.NoType
+in_module g s at name (meaning.Standard f) = report g at rule.NoType
 
 abbrev pub of_module : (g : Gathers) → Scope g.Reported → Option Ident → Ident
     → Result TypeNo g.Reported

@@ -6,7 +6,7 @@ use Rattle.typed_tree.specs.declared.types.TypeNo.{TypeNo}
 use Rattle.typed_tree.specs.declared.shape.Scalar.{Scalar}
 use Rattle.typed_tree.specs.declared.meaning.Value.{Value}
 use Rattle.typed_tree.specs.Types.{are_same, is_numeric, integer, cardinal}
-use Rattle.check_scope.specs.Elaborated.{Gathers, reported, reported_where, both, beside, ◌▷◌}
+use Rattle.check_scope.specs.Elaborated.{Gathers, report, reported_where, both, beside, ◌▷◌}
 use Rattle.check_const_ops.specs.declared.operand.Ordinal.{Ordinal}
 use Rattle.check_const_ops.specs.declared.operand.Operand.{Operand}
 use Rattle.check_const_ops.specs.declared.operand.Operand.TheVariants as operands
@@ -17,16 +17,16 @@ use Rattle.check_const_ops.specs.Common.{common}
 -- ---- bounds
 
 abbrev pub ordinal_in : (g : Gathers) → Pos → Option Operand → Result Ordinal g.Reported
-ordinal_in g at None = reported g at rule.WrongType
-ordinal_in g at (Some (operands.Set bits)) = reported g at rule.WrongType
+ordinal_in g at None = report g at rule.WrongType
+ordinal_in g at (Some (operands.Set bits)) = report g at rule.WrongType
 ordinal_in g at (Some (operands.Scalar a)) = Ok a
 
 -- a bound is a scalar
 abbrev pub bound_of : (g : Gathers) → Pos → Result Value g.Reported → Result Ordinal g.Reported
 bound_of g at v = v ▷ λ x. ordinal_in g at (operand_of x)
 
-abbrev pub ordered : (g : Gathers) → Pos → ℤ → ℤ → Result (Unit {0}) g.Reported
-ordered g at low high = reported_where g (int_lt high low) at rule.EmptyRange (Ok tt)
+abbrev pub bounds_in_order : (g : Gathers) → Pos → ℤ → ℤ → Result (Unit {0}) g.Reported
+bounds_in_order g at low high = reported_where g (int_lt high low) at rule.EmptyRange (Ok tt)
 
 -- ---- with no type named
 
@@ -43,21 +43,21 @@ abbrev pub fits_at : (g : Gathers) → Pos → TypeNo → Option TypeNo → ℤ 
 fits_at g at base (Some t) n = Ok tt
 fits_at g at base None n = reported_where g (not (fits (Some base) n)) at rule.OutOfRange (Ok tt)
 
-abbrev pub based : (g : Gathers) → Pos → Ordinal → Pos → Ordinal → TypeNo → Result Scalar g.Reported
-based g at a at' b base =
-    beside g (ordered g at a.number b.number)
+abbrev pub subrange_of_base : (g : Gathers) → Pos → Ordinal → Pos → Ordinal → TypeNo → Result Scalar g.Reported
+subrange_of_base g at a at' b base =
+    beside g (bounds_in_order g at a.number b.number)
     (beside g (fits_at g at base a.sort a.number) (fits_at g at' base b.sort b.number))
     ▷ λ fine.
     Ok (record { base = base; low = a.number; high = b.number })
 
 abbrev pub between : (g : Gathers) → Pos → Ordinal → Pos → Ordinal → Option (Option TypeNo)
     → Result Scalar g.Reported
-between g at a at' b None = reported g at' rule.WrongType
-between g at a at' b (Some sort) = based g at a at' b (base_of sort a.number)
+between g at a at' b None = report g at' rule.WrongType
+between g at a at' b (Some sort) = subrange_of_base g at a at' b (base_of sort a.number)
 
-abbrev pub unnamed : (g : Gathers) → Pos → Result Ordinal g.Reported → Pos
+abbrev pub subrange_between : (g : Gathers) → Pos → Result Ordinal g.Reported → Pos
     → Result Ordinal g.Reported → Result Scalar g.Reported
-unnamed g at low at' high =
+subrange_between g at low at' high =
     both g low high ▷ λ p. between g at p.0 at' p.1 (common p.0.sort p.1.sort)
 
 -- ---- under a named type
@@ -78,7 +78,7 @@ bound_in g of at a = both g of a ▷ λ p. is_of g p.0 at p.1
 abbrev pub ordered_if : (g : Gathers) → Pos → Ordinal → Ordinal → Option (Option TypeNo)
     → Result (Unit {0}) g.Reported
 ordered_if g at a b None = Ok tt
-ordered_if g at a b (Some sort) = ordered g at a.number b.number
+ordered_if g at a b (Some sort) = bounds_in_order g at a.number b.number
 
 -- the order of two bounds that go together
 abbrev pub alike_ordered : (g : Gathers) → Pos → Result Ordinal g.Reported
@@ -92,13 +92,13 @@ are_bounds g of at low at' high =
     beside g (beside g (bound_in g of at low) (bound_in g of at' high))
     (alike_ordered g at low high)
 
-abbrev pub limited : (g : Gathers) → Result (Scalar × (Ordinal × Ordinal)) g.Reported
+abbrev pub subrange_within : (g : Gathers) → Result (Scalar × (Ordinal × Ordinal)) g.Reported
     → Result (Unit {0}) g.Reported → Result Scalar g.Reported
-limited g parts fine =
+subrange_within g parts fine =
     both g parts fine ▷ λ p.
     Ok (record { base = p.0.0.base; low = p.0.1.0.number; high = p.0.1.1.number })
 
 abbrev pub under : (g : Gathers) → Result Scalar g.Reported → Pos → Result Ordinal g.Reported → Pos
     → Result Ordinal g.Reported → Result Scalar g.Reported
 under g of at low at' high =
-    limited g (both g of (both g low high)) (are_bounds g of at low at' high)
+    subrange_within g (both g of (both g low high)) (are_bounds g of at low at' high)

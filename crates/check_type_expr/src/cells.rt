@@ -2,9 +2,9 @@
 
 ghost use Rattle.std.specs.Prelude.{◌≡◌};
 ghost use Rattle.check_scope.specs.Elaborated.{least};
-ghost use Rattle.check_type_expr.specs.Cells.{counted, count_of, count_at, plus, array_cells, is_index};
+ghost use Rattle.check_type_expr.specs.Cells.{count_up, count_of, count_at, plus, array_cells, is_index};
 
-use check_scope::{Elaborated, reported};
+use check_scope::{Elaborated, report};
 use m2_rule::Rule;
 use m2_tree::Pos;
 use typed_tree::{Scalar, TypeNo, Types, is_numeric, scalar_of};
@@ -52,10 +52,10 @@ pub fn array_cells(at: Pos, count: u32, cells: u32) -> Elaborated<u32>
     ensures { result ≡ array_cells least at count cells }
 {
     match u64::from(count).checked_mul(u64::from(cells)) {
-        None => reported(at, Rule::LargeType),
+        None => report(at, Rule::LargeType),
         Some(all) => {
             if all > 131_072 {
-                return reported(at, Rule::LargeType);
+                return report(at, Rule::LargeType);
             }
             Ok(all as u32)
         }

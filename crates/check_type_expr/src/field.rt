@@ -6,7 +6,7 @@ ghost use Rattle.check_scope.specs.Elaborated.{least};
 ghost use Rattle.check_type_expr.specs.Fields.{with_field, with_name};
 
 use crate::cells::plus;
-use check_scope::{Elaborated, beside, reported};
+use check_scope::{Elaborated, beside, report};
 use m2_rule::Rule;
 use m2_tree::Ident;
 use std::alloc::{AllocError, Global};
@@ -40,7 +40,7 @@ fn with_field(
     ensures { IfOk result (λ j. (fields.new, j) ≡ with_field least t cells fields.old name.now) }
 {
     if fields.names.find(name.name.as_bytes()).is_some() {
-        return Ok(reported(name.pos, Rule::DeclaredTwice));
+        return Ok(report(name.pos, Rule::DeclaredTwice));
     }
     fields.names.enter(alloc, name.name.as_bytes(), t)?;
     fields.cells = plus(fields.cells, cells);

@@ -3,11 +3,11 @@
 ghost use Rattle.std.specs.Prelude.{◌≡◌, [], Ok, IfOk};
 ghost use Rattle.std.specs.List.{fold};
 ghost use Rattle.check_scope.specs.Elaborated.{least};
-ghost use Rattle.check_type_expr.specs.Headings.{formal_of, result_in, result_of, joined_formal, with_parameter, repeated, joined_formals, with_section, procedure_made, heading_of, with_names as with_section_names, names_of, procedure_type};
+ghost use Rattle.check_type_expr.specs.Headings.{formal_of, result_in, result_of, joined_formal, with_parameter, formal_for_each, joined_formals, with_section, procedure_made, heading_of, with_names as with_section_names, names_of, procedure_type};
 
 use crate::field::{Fields, no_fields, with_names};
 use crate::named::{first_of, named_type};
-use check_scope::{Elaborated, Scope, both, reported};
+use check_scope::{Elaborated, Scope, both, report};
 use m2_rule::{Breach, Rule};
 use m2_tree::{FormalType, Heading, Ident, Parameter, Pos, Qualified, Section};
 use std::alloc::{AllocError, Global};
@@ -36,7 +36,7 @@ fn result_in(types: &Types, at: Pos, t: TypeNo) -> Elaborated<Option<TypeNo>>
     ensures { result ≡ result_in least types.now at t }
 {
     if !is_result(types, t) {
-        return reported(at, Rule::NoType);
+        return report(at, Rule::NoType);
     }
     Ok(Some(t))
 }
@@ -87,8 +87,12 @@ fn parameters(
     Ok(formals)
 }
 
-fn repeated(alloc: Global, formal: Formal, names: &[Ident]) -> Result<Items<Formal>, AllocError>
-    ensures { IfOk result (λ fs. fs ≡ repeated formal names.now) }
+fn formal_for_each(
+    alloc: Global,
+    formal: Formal,
+    names: &[Ident],
+) -> Result<Items<Formal>, AllocError>
+    ensures { IfOk result (λ fs. fs ≡ formal_for_each formal names.now) }
 {
     let mut formals = Items::new(alloc);
     for _name in names {
@@ -108,7 +112,7 @@ fn joined_formals(
     match both(formals, formal) {
         Err(breach) => Ok(Err(breach)),
         Ok((mut all, one)) => {
-            all.append(repeated(alloc, one, names)?)?;
+            all.append(formal_for_each(alloc, one, names)?)?;
             Ok(Ok(all))
         }
     }

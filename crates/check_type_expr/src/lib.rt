@@ -13,4 +13,4 @@ pub use field::{Fields, no_fields, with_names};
 pub use heading::{formal_of, heading_of, names_of, procedure_type, result_of};
 pub use made::{nothing_of, type_of, with_made};
 pub use named::{first_of, named_type};
-pub use subrange::{bound_of, under, unnamed};
+pub use subrange::{bound_of, subrange_between, under};

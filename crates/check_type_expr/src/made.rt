@@ -4,16 +4,16 @@ ghost use Rattle.std.specs.Prelude.{◌≡◌, Ok, IfOk, length};
 ghost use Rattle.std.specs.List.{fold};
 ghost use Rattle.check_scope.specs.Elaborated.{least, ◌▷◌};
 ghost use Rattle.check_expr.specs.Meanings.{part};
-ghost use Rattle.check_type_expr.specs.Made.{with_made, scalar_made, too_many, enumeration_constant, enumeration_scalar, enumerated, enumeration, scalar_in, scalar_named, bound_at, subrange, simple_place, subrange_place, simple_type, index_in, array_in, array_of, index_type, array_made, field_type, nothing_of, record_in, record_of, type_of, with_field_list, field_list};
+ghost use Rattle.check_type_expr.specs.Made.{with_made, scalar_made, too_many, enumeration_constant, enumeration_scalar, enumeration_of, enumeration, scalar_in, scalar_named, bound_at, subrange, simple_place, subrange_place, simple_type, index_in, array_in, array_of, index_type, array_made, field_type, nothing_of, record_in, record_of, type_of, with_field_list, field_list};
 
 use crate::cells::{array_cells, count_at, is_index};
 use crate::field::{Fields, no_fields, with_names};
 use crate::heading::procedure_type;
 use crate::named::{first_of, named_type};
-use crate::subrange::{bound_of, under, unnamed};
+use crate::subrange::{bound_of, subrange_between, under};
 use check_const_ops::Ordinal;
 use check_expr::{constant_of, place_of};
-use check_scope::{Elaborated, Scope, beside, both, declare, reported};
+use check_scope::{Elaborated, Scope, beside, both, declare, report};
 use m2_rule::{Breach, Rule};
 use m2_tree::{Expr, Field, Ident, Pos, Qualified, Simple, TypeExpr};
 use std::alloc::{AllocError, Global};
@@ -62,7 +62,7 @@ fn too_many(names: &[Ident]) -> Elaborated<()>
 {
     match names.get(256) {
         None => Ok(()),
-        Some(name) => reported(name.pos, Rule::ConstantCount),
+        Some(name) => report(name.pos, Rule::ConstantCount),
     }
 }
 
@@ -76,14 +76,14 @@ fn enumeration_constant(t: TypeNo, number: i64) -> Meaning
     }))
 }
 
-fn enumerated(
+fn enumeration_of(
     alloc: Global,
     scope: &mut Scope<Breach>,
     t: TypeNo,
     before: Elaborated<()>,
     names: &[Ident],
 ) -> Result<Elaborated<()>, AllocError>
-    ensures { IfOk result (λ j. (scope.new, length names.now, j) ≡ enumerated least t scope.old before names.now) }
+    ensures { IfOk result (λ j. (scope.new, length names.now, j) ≡ enumeration_of least t scope.old before names.now) }
 {
     let mut elaborated = before;
     for (number, name) in names.iter().enumerate() {
@@ -128,7 +128,7 @@ fn enumeration(
         number: scope.types.own.len(),
     };
     scope.types.own.push(enumeration_scalar(t, names))?;
-    let elaborated = enumerated(alloc, scope, t, too_many(names), names)?;
+    let elaborated = enumeration_of(alloc, scope, t, too_many(names), names)?;
     Ok(of_type(elaborated, t))
 }
 
@@ -140,7 +140,7 @@ fn scalar_in(types: &Types, at: Pos, t: Elaborated<TypeNo>) -> Elaborated<Scalar
     match t {
         Err(breach) => Err(breach),
         Ok(t) => match scalar_of(types, t) {
-            None => reported(at, Rule::NoType),
+            None => report(at, Rule::NoType),
             Some(scalar) => Ok(scalar),
         },
     }
@@ -177,7 +177,7 @@ fn subrange(
     let first = bound_at(alloc, scope, low)?;
     let last = bound_at(alloc, scope, high)?;
     match of {
-        None => Ok(unnamed(place_of(low), first, place_of(high), last)),
+        None => Ok(subrange_between(place_of(low), first, place_of(high), last)),
         Some(q) => {
             let base = scalar_named(scope, q)?;
             Ok(under(base, place_of(low), first, place_of(high), last))
@@ -232,7 +232,7 @@ fn index_in(types: &Types, at: Pos, t: Elaborated<TypeNo>) -> Elaborated<TypeNo>
         Err(breach) => Err(breach),
         Ok(t) => {
             if !is_index(types, t) {
-                return reported(at, Rule::NoIndex);
+                return report(at, Rule::NoIndex);
             }
             Ok(t)
         }
@@ -315,7 +315,7 @@ fn record_in(at: Pos, fields: Fields) -> Elaborated<Made>
     ensures { result ≡ record_in least at fields }
 {
     if fields.cells > 131_072 {
-        return reported(at, Rule::LargeType);
+        return report(at, Rule::LargeType);
     }
     Ok(Made {
         shape: Shape::Record(fields.names),

@@ -5,7 +5,7 @@ ghost use Rattle.check_scope.specs.Elaborated.{least, ◌▷◌};
 ghost use Rattle.check_type_expr.specs.Named.{first_of, type_meant, in_module, of_module, named_type};
 
 use check_const::member;
-use check_scope::{Elaborated, Scope, looked_up, of_sort, reported};
+use check_scope::{Elaborated, Scope, looked_up, of_sort, report};
 use m2_rule::{Breach, Rule};
 use m2_tree::{Ident, Pos, Qualified};
 use std::alloc::AllocError;
@@ -26,15 +26,15 @@ fn type_meant(at: Pos, meaning: Meaning) -> Elaborated<TypeNo>
 {
     match meaning {
         Meaning::Type(t, _) => Ok(t),
-        Meaning::Constant(_) => reported(at, Rule::NoType),
-        Meaning::Variable(_) => reported(at, Rule::NoType),
-        Meaning::Local(_) => reported(at, Rule::NoType),
-        Meaning::Field(_) => reported(at, Rule::NoType),
-        Meaning::Procedure(_) => reported(at, Rule::NoType),
-        Meaning::LocalProcedure(_) => reported(at, Rule::NoType),
-        Meaning::Ahead => reported(at, Rule::NoType),
-        Meaning::Standard(_) => reported(at, Rule::NoType),
-        Meaning::Module(_) => reported(at, Rule::NoType),
+        Meaning::Constant(_) => report(at, Rule::NoType),
+        Meaning::Variable(_) => report(at, Rule::NoType),
+        Meaning::Local(_) => report(at, Rule::NoType),
+        Meaning::Field(_) => report(at, Rule::NoType),
+        Meaning::Procedure(_) => report(at, Rule::NoType),
+        Meaning::LocalProcedure(_) => report(at, Rule::NoType),
+        Meaning::Ahead => report(at, Rule::NoType),
+        Meaning::Standard(_) => report(at, Rule::NoType),
+        Meaning::Module(_) => report(at, Rule::NoType),
     }
 }
 
@@ -57,15 +57,15 @@ fn in_module(
 {
     match meaning {
         Meaning::Module(place) => Ok(type_by(at, member(scope, place, name)?)),
-        Meaning::Type(_, _) => Ok(reported(at, Rule::NoType)),
-        Meaning::Constant(_) => Ok(reported(at, Rule::NoType)),
-        Meaning::Variable(_) => Ok(reported(at, Rule::NoType)),
-        Meaning::Local(_) => Ok(reported(at, Rule::NoType)),
-        Meaning::Field(_) => Ok(reported(at, Rule::NoType)),
-        Meaning::Procedure(_) => Ok(reported(at, Rule::NoType)),
-        Meaning::LocalProcedure(_) => Ok(reported(at, Rule::NoType)),
-        Meaning::Ahead => Ok(reported(at, Rule::NoType)),
-        Meaning::Standard(_) => Ok(reported(at, Rule::NoType)),
+        Meaning::Type(_, _) => Ok(report(at, Rule::NoType)),
+        Meaning::Constant(_) => Ok(report(at, Rule::NoType)),
+        Meaning::Variable(_) => Ok(report(at, Rule::NoType)),
+        Meaning::Local(_) => Ok(report(at, Rule::NoType)),
+        Meaning::Field(_) => Ok(report(at, Rule::NoType)),
+        Meaning::Procedure(_) => Ok(report(at, Rule::NoType)),
+        Meaning::LocalProcedure(_) => Ok(report(at, Rule::NoType)),
+        Meaning::Ahead => Ok(report(at, Rule::NoType)),
+        Meaning::Standard(_) => Ok(report(at, Rule::NoType)),
     }
 }
 

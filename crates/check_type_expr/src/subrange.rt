@@ -2,10 +2,10 @@
 
 ghost use Rattle.std.specs.Prelude.{◌≡◌};
 ghost use Rattle.check_scope.specs.Elaborated.{least, ◌▷◌};
-ghost use Rattle.check_type_expr.specs.Subranges.{ordinal_in, bound_of, number_base, base_of, fits_at, between, unnamed, ordered, is_of_base, is_of, bound_in, alike_ordered, are_bounds, limited, under};
+ghost use Rattle.check_type_expr.specs.Subranges.{ordinal_in, bound_of, number_base, base_of, fits_at, between, subrange_between, bounds_in_order, is_of_base, is_of, bound_in, alike_ordered, are_bounds, subrange_within, under};
 
 use check_const_ops::{Operand, Ordinal, common, fits, operand_of};
-use check_scope::{Elaborated, beside, both, reported};
+use check_scope::{Elaborated, beside, both, report};
 use m2_rule::Rule;
 use m2_tree::Pos;
 use typed_tree::{CARDINAL, INTEGER, Scalar, TypeNo, Value, are_same, is_numeric};
@@ -14,8 +14,8 @@ fn ordinal_in(at: Pos, x: Option<Operand>) -> Elaborated<Ordinal>
     ensures { result ≡ ordinal_in least at x }
 {
     match x {
-        None => reported(at, Rule::WrongType),
-        Some(Operand::Set(_)) => reported(at, Rule::WrongType),
+        None => report(at, Rule::WrongType),
+        Some(Operand::Set(_)) => report(at, Rule::WrongType),
         Some(Operand::Scalar(a)) => Ok(a),
     }
 }
@@ -53,18 +53,18 @@ fn fits_at(at: Pos, base: TypeNo, a: Ordinal) -> Elaborated<()>
         Some(_) => Ok(()),
         None => {
             if !fits(Some(base), a.number) {
-                return reported(at, Rule::OutOfRange);
+                return report(at, Rule::OutOfRange);
             }
             Ok(())
         }
     }
 }
 
-fn ordered(at: Pos, low: i64, high: i64) -> Elaborated<()>
-    ensures { result ≡ ordered least at low high }
+fn bounds_in_order(at: Pos, low: i64, high: i64) -> Elaborated<()>
+    ensures { result ≡ bounds_in_order least at low high }
 {
     if high < low {
-        return reported(at, Rule::EmptyRange);
+        return report(at, Rule::EmptyRange);
     }
     Ok(())
 }
@@ -79,11 +79,11 @@ fn between(
     ensures { result ≡ between least at a high_at b sort }
 {
     match sort {
-        None => reported(high_at, Rule::WrongType),
+        None => report(high_at, Rule::WrongType),
         Some(sort) => {
             let base = base_of(sort, a.number);
             let fit = beside(fits_at(at, base, a), fits_at(high_at, base, b));
-            match beside(ordered(at, a.number, b.number), fit) {
+            match beside(bounds_in_order(at, a.number, b.number), fit) {
                 Err(breach) => Err(breach),
                 Ok(()) => Ok(Scalar {
                     base,
@@ -96,13 +96,13 @@ fn between(
 }
 
 /// The subrange between two bounds, with no type named.
-pub fn unnamed(
+pub fn subrange_between(
     at: Pos,
     low: Elaborated<Ordinal>,
     high_at: Pos,
     high: Elaborated<Ordinal>,
 ) -> Elaborated<Scalar>
-    ensures { result ≡ unnamed least at low high_at high }
+    ensures { result ≡ subrange_between least at low high_at high }
 {
     match both(low, high) {
         Err(breach) => Err(breach),
@@ -124,10 +124,10 @@ fn is_of(of: Scalar, at: Pos, a: Ordinal) -> Elaborated<()>
     ensures { result ≡ is_of least of at a }
 {
     if !is_of_base(of.base, a.sort) {
-        return reported(at, Rule::WrongType);
+        return report(at, Rule::WrongType);
     }
     if !(of.low <= a.number && a.number <= of.high) {
-        return reported(at, Rule::OutOfRange);
+        return report(at, Rule::OutOfRange);
     }
     Ok(())
 }
@@ -149,7 +149,7 @@ fn alike_ordered(at: Pos, low: Elaborated<Ordinal>, high: Elaborated<Ordinal>) -
         Err(breach) => Err(breach),
         Ok((a, b)) => match common(a.sort, b.sort) {
             None => Ok(()),
-            Some(_) => ordered(at, a.number, b.number),
+            Some(_) => bounds_in_order(at, a.number, b.number),
         },
     }
 }
@@ -167,11 +167,11 @@ fn are_bounds(
     beside(within, alike_ordered(at, low, high))
 }
 
-fn limited(
+fn subrange_within(
     parts: Elaborated<(Scalar, (Ordinal, Ordinal))>,
     fine: Elaborated<()>,
 ) -> Elaborated<Scalar>
-    ensures { result ≡ limited least parts fine }
+    ensures { result ≡ subrange_within least parts fine }
 {
     match both(parts, fine) {
         Err(breach) => Err(breach),
@@ -194,5 +194,5 @@ pub fn under(
     ensures { result ≡ under least of at low high_at high }
 {
     let fine = are_bounds(of, at, low, high_at, high);
-    limited(both(of, both(low, high)), fine)
+    subrange_within(both(of, both(low, high)), fine)
 }

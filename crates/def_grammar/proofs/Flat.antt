@@ -7,7 +7,7 @@ use Rattle.def_grammar.specs.Rule.{Rule, import_rule, idents_rule, formals_rule,
 use Rattle.def_grammar.specs.Grammar.{Ty, Gr, tok, rule, ◌·◌, ◌∣◌, lead, trail, opt, many, nest, named}
 use Rattle.def_grammar.specs.Ebnf.{grammar, procedure_type}
 use Rattle.def_grammar.specs.Tables.{rank}
-use Rattle.def_grammar.specs.Reading.{first, in_turn, either_of, after_word, with_end, if_begun, repeated, with_names, made_of, read, read_rule}
+use Rattle.def_grammar.specs.Reading.{first, in_turn, either_of, after_word, with_end, if_begun, repetition_of, with_names, made_of, read, read_rule}
 use Rattle.def_grammar.proofs.Truth.{and_both}
 use Rattle.def_grammar.proofs.Knot.{rank_small, read_rule-solves}
 
@@ -52,7 +52,7 @@ same_by n b h (g ∣ l) e = let p = and_both _ _ e in ap₂ (either_of (first g)
 same_by n b h (lead k g) e = ap (after_word k) (same_by n b h g e)
 same_by n b h (trail g k) e = ap (λ p. with_end p k) (same_by n b h g e)
 same_by n b h (opt g) e = ap (if_begun (first g)) (same_by n b h g e)
-same_by n b h (many g) e = ap (repeated (first g)) (same_by n b h g e)
+same_by n b h (many g) e = ap (repetition_of (first g)) (same_by n b h g e)
 same_by n b h (nest g) e = absurd cc
 same_by n b h (named g) e = ap with_names (same_by n b h g e)
 

@@ -8,7 +8,7 @@ use Rattle.def_grammar.specs.Grammar.{Ty, Gr, tok, rule, ◌·◌, ◌∣◌, le
 use Rattle.def_grammar.specs.Ebnf.{grammar}
 use Rattle.def_grammar.proofs.Truth.{and_both}
 use Rattle.def_grammar.specs.Tables.{rank}
-use Rattle.def_grammar.specs.Reading.{Readers, first, in_turn, either_of, after_word, with_end, if_begun, repeated, with_names, read_by, made_of, read_within, read_rule, read}
+use Rattle.def_grammar.specs.Reading.{Readers, first, in_turn, either_of, after_word, with_end, if_begun, repetition_of, with_names, read_by, made_of, read_within, read_rule, read}
 
 -- whether each production outside of a level of nesting has a rank below this one
 abbrev below : {a : Ty} → ℕ → Gr a → Bool
@@ -70,7 +70,7 @@ all_same ρ σ n h (g ∣ l) = ap₂ (either_of (first g)) (all_same ρ σ n h g
 all_same ρ σ n h (lead k g) = ap (after_word k) (all_same ρ σ n h g)
 all_same ρ σ n h (trail g k) = ap (λ p. with_end p k) (all_same ρ σ n h g)
 all_same ρ σ n h (opt g) = ap (if_begun (first g)) (all_same ρ σ n h g)
-all_same ρ σ n h (many g) = ap (repeated (first g)) (all_same ρ σ n h g)
+all_same ρ σ n h (many g) = ap (repetition_of (first g)) (all_same ρ σ n h g)
 all_same ρ σ zero h (nest g) = refl
 all_same ρ σ (suc n) h (nest g) = all_same ρ σ n (λ m r le. h m r (omega arith)) g
 all_same ρ σ n h (named g) = ap with_names (all_same ρ σ n h g)
@@ -83,7 +83,7 @@ same ρ σ n b here under (g ∣ l) e = let p = and_both _ _ e in ap₂ (either_
 same ρ σ n b here under (lead k g) e = ap (after_word k) (same ρ σ n b here under g e)
 same ρ σ n b here under (trail g k) e = ap (λ p. with_end p k) (same ρ σ n b here under g e)
 same ρ σ n b here under (opt g) e = ap (if_begun (first g)) (same ρ σ n b here under g e)
-same ρ σ n b here under (many g) e = ap (repeated (first g)) (same ρ σ n b here under g e)
+same ρ σ n b here under (many g) e = ap (repetition_of (first g)) (same ρ σ n b here under g e)
 same ρ σ zero b here under (nest g) e = refl
 same ρ σ (suc n) b here under (nest g) e = all_same ρ σ n (λ m r le. under m r (omega arith)) g
 same ρ σ n b here under (named g) e = ap with_names (same ρ σ n b here under g e)

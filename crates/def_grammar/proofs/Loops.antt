@@ -7,9 +7,9 @@ use Rattle.def_grammar.specs.declared.kind.Kind.{Kind}
 use Rattle.m2_tree.specs.declared.token.Token.{Token}
 use Rattle.def_grammar.specs.declared.refusal.Fault.{Fault}
 use Rattle.def_grammar.specs.Grammar.{Ty, El, Gr, many, nest, lead, trail, ◌·◌}
-use Rattle.def_grammar.specs.Trees.{with_first, joined, present, ident_of}
+use Rattle.def_grammar.specs.Trees.{with_first, flatten_lists, present, ident_of}
 use Rattle.def_grammar.specs.Kinds.{kind_of}
-use Rattle.def_grammar.specs.Reading.{Outcome, Reader, and_then, first, begins, is_among, nullable, one_token, no_deeper, read, mapped, gathered, entered, AteIf, HadIf, TookIf, TookAs}
+use Rattle.def_grammar.specs.Reading.{Outcome, Reader, and_then, first, begins, is_among, nullable, one_token, no_deeper, read, map_outcome, gather_turns, enter_level, AteIf, HadIf, TookIf, TookAs}
 use Rattle.def_grammar.proofs.OneAhead.{is_repeatable}
 use Rattle.def_grammar.proofs.Turns.{IsShorter, read_shorter, many-is}
 
@@ -38,19 +38,19 @@ pub record Collects {A B : Type 0} (collect : List A → List B) (item : A → L
   pub more : (x : A) (xs : List A) → collect (x ∷ xs) ≡ item x ++ collect xs
 
 gathered_turn : {A B : Type 0} (collect : List A → List B) (item : A → List B) → Collects collect item → (front : List B) (x : A) (o : Outcome (List A))
-    → gathered collect front (and_then o (λ xs rest. Ok (x ∷ xs, rest))) ≡ gathered collect (front ++ item x) o
+    → gather_turns collect front (and_then o (λ xs rest. Ok (x ∷ xs, rest))) ≡ gather_turns collect (front ++ item x) o
 gathered_turn collect item c front x (Ok p) = ap (λ ys. Ok (ys, p.1)) (ap (λ ys. front ++ ys) (c.more x p.0) ∙ sym (append_assoc front (item x) (collect p.0)))
 gathered_turn collect item c front x (Err e) = refl
 
 module _ {a : Ty} {B : Type 0} (g : Gr a) (collect : List (El a) → List B) (item : El a → List B) (c : Collects collect item) (e : is_repeatable g ≡ true) (n : ℕ) (ts : List Token) (front : List B) where
   pub loop_turn : (x : El a) (mid : List Token) → begins (first g) ts ≡ true → read g n ts ≡ Ok (x, mid)
-      → gathered collect front (read (many g) n ts) ≡ gathered collect (front ++ item x) (read (many g) n mid)
+      → gather_turns collect front (read (many g) n ts) ≡ gather_turns collect (front ++ item x) (read (many g) n mid)
   loop_turn x mid b r = rw (many-is g n e ts, b, r) (gathered_turn collect item c front x (read (many g) n mid))
 
-  pub loop_stop : begins (first g) ts ≡ false → gathered collect front (read (many g) n ts) ≡ Ok (front, ts)
+  pub loop_stop : begins (first g) ts ≡ false → gather_turns collect front (read (many g) n ts) ≡ Ok (front, ts)
   loop_stop b = rw (many-is g n e ts, b) (ap (λ ys. Ok (ys, ts)) (ap (λ ys. front ++ ys) c.empty ∙ append-nil front))
 
-  pub loop_fail : (d : List Token × Fault) → begins (first g) ts ≡ true → read g n ts ≡ Err d → gathered collect front (read (many g) n ts) ≡ Err d
+  pub loop_fail : (d : List Token × Fault) → begins (first g) ts ≡ true → read g n ts ≡ Err d → gather_turns collect front (read (many g) n ts) ≡ Err d
   loop_fail d b r = rw (many-is g n e ts, b, r) refl
 
 pub plain : {A : Type 0} → Collects {A = A} (λ xs. xs) (λ x. x ∷ [])
@@ -59,10 +59,10 @@ plain = record { empty = refl; more = λ x xs. refl }
 pub mapped_each : {A B : Type 0} (f : A → B) → Collects (map f) (λ x. f x ∷ [])
 mapped_each f = record { empty = refl; more = λ x xs. refl }
 
-pub joined_each : {A B : Type 0} (f : A → List B) → Collects (λ xs. joined (map f xs)) f
+pub joined_each : {A B : Type 0} (f : A → List B) → Collects (λ xs. flatten_lists (map f xs)) f
 joined_each f = record { empty = refl; more = λ x xs. refl }
 
-pub with_first-is : {A : Type 0} (x : A) (o : Outcome (List A)) → mapped with_first (and_then o (λ xs rest. Ok ((x, xs), rest))) ≡ gathered (λ xs. xs) (x ∷ []) o
+pub with_first-is : {A : Type 0} (x : A) (o : Outcome (List A)) → map_outcome with_first (and_then o (λ xs rest. Ok ((x, xs), rest))) ≡ gather_turns (λ xs. xs) (x ∷ []) o
 with_first-is x (Ok p) = refl
 with_first-is x (Err e) = refl
 
@@ -86,7 +86,7 @@ pub had_if : (k : Kind) (ts : List Token) (b : Bool) (rest : List Token) → Ate
 had_if k ts false rest h = (None, rw (h.0, h.1) refl, refl)
 had_if k ts true rest h = (Some h.1, rw (h.0, h.2) refl, refl)
 
-pub mapped_ok : {A B : Type 0} (f : A → B) (o : Outcome A) (y : B) (rest : List Token) → mapped f o ≡ Ok (y, rest) → (x : A) × (o ≡ Ok (x, rest)) × (y ≡ f x)
+pub mapped_ok : {A B : Type 0} (f : A → B) (o : Outcome A) (y : B) (rest : List Token) → map_outcome f o ≡ Ok (y, rest) → (x : A) × (o ≡ Ok (x, rest)) × (y ≡ f x)
 mapped_ok f (Ok p) y rest e = (p.0, ap (λ r. Ok (p.0, r)) (ok_right _ _ _ _ e), sym (ok_left _ _ _ _ e))
 mapped_ok f (Err d) y rest e = absurd cc
 
@@ -99,11 +99,11 @@ optional_more (Some x) xs = refl
 pub optional : {A : Type 0} → Collects {A = Option A} present option_to_list
 optional = record { empty = refl; more = optional_more }
 
-pub present-is : {A : Type 0} (x : Option A) (o : Outcome (List (Option A))) → mapped (λ p. present (with_first p)) (and_then o (λ xs rest. Ok ((x, xs), rest))) ≡ gathered present (option_to_list x) o
+pub present-is : {A : Type 0} (x : Option A) (o : Outcome (List (Option A))) → map_outcome (λ p. present (with_first p)) (and_then o (λ xs rest. Ok ((x, xs), rest))) ≡ gather_turns present (option_to_list x) o
 present-is x (Ok p) = ap (λ ys. Ok (ys, p.1)) (optional_more x p.0)
 present-is x (Err e) = refl
 
-pub words-is : (t : Token) (o : Outcome (List Token)) → mapped (λ p. map ident_of (with_first p)) (and_then o (λ xs rest. Ok ((t, xs), rest))) ≡ gathered (map ident_of) (ident_of t ∷ []) o
+pub words-is : (t : Token) (o : Outcome (List Token)) → map_outcome (λ p. map ident_of (with_first p)) (and_then o (λ xs rest. Ok ((t, xs), rest))) ≡ gather_turns (map ident_of) (ident_of t ∷ []) o
 words-is t (Ok p) = refl
 words-is t (Err e) = refl
 
@@ -117,7 +117,7 @@ enter_none : {A : Type 0} (ks : List Kind) (ts : List Token) (p : ℕ → Reader
 enter_none ks [] p = refl
 enter_none ks (t ∷ ts) p = enter_by (is_among (kind_of t) ks) ts _ _ p
 
-pub nest-is : {a : Ty} (g : Gr a) (n : ℕ) (ts : List Token) → read (nest g) n ts ≡ and_then (entered (first g) n ts) (read g)
+pub nest-is : {a : Ty} (g : Gr a) (n : ℕ) (ts : List Token) → read (nest g) n ts ≡ and_then (enter_level (first g) n ts) (read g)
 nest-is g zero ts = enter_none (first g) ts (read g)
 nest-is g (suc n) ts = let e : suc n - 1 ≡ n = omega arith in rw (eqb-suc-zero n, e) refl
 

@@ -8,7 +8,7 @@ use Rattle.def_grammar.specs.Grammar.{◌·◌, ◌∣◌, ◌▸◌, ◌◂◌,
 use Rattle.def_grammar.specs.Ebnf.{simple, dims, expr, factor, symbol, exprs, items, procedure, structured_type, if_stmt, elsif_part, case_stmt, while_stmt, repeat_stmt, loop_stmt, for_stmt, with_stmt, grammar}
 use Rattle.def_grammar.specs.Trees.{tree}
 use Rattle.def_grammar.specs.Tables.{in_type, in_simple}
-use Rattle.def_grammar.specs.Reading.{and_then, entered, mapped, read, read_rule, made_of}
+use Rattle.def_grammar.specs.Reading.{and_then, enter_level, map_outcome, read, read_rule, made_of}
 use Rattle.def_grammar.proofs.Knot.{read_rule-is}
 use Rattle.def_grammar.proofs.Loops.{nest-is}
 
@@ -100,52 +100,52 @@ factor_is n ts = read_rule-is n factor_rule ts
 
 -- ---- parts that count as a level of nesting
 
-pub type_is : (n : ℕ) (ts : List Token) → read_rule n type_rule ts ≡ mapped (tree type_rule) (and_then (entered in_type n ts) (read (simple ∣ structured_type)))
-type_is n ts = read_rule-is n type_rule ts ∙ ap (mapped (tree type_rule)) (nest-is (simple ∣ structured_type) n ts)
+pub type_is : (n : ℕ) (ts : List Token) → read_rule n type_rule ts ≡ map_outcome (tree type_rule) (and_then (enter_level in_type n ts) (read (simple ∣ structured_type)))
+type_is n ts = read_rule-is n type_rule ts ∙ ap (map_outcome (tree type_rule)) (nest-is (simple ∣ structured_type) n ts)
 
-pub args_is : (n : ℕ) (ts : List Token) → read_rule n args_rule ts ≡ mapped (tree args_rule) (and_then (entered (the.Symbol LeftParen ∷ []) n ts) (read (LeftParen ▸ opt exprs ◂ RightParen)))
-args_is n ts = read_rule-is n args_rule ts ∙ ap (mapped (tree args_rule)) (nest-is (LeftParen ▸ opt exprs ◂ RightParen) n ts)
+pub args_is : (n : ℕ) (ts : List Token) → read_rule n args_rule ts ≡ map_outcome (tree args_rule) (and_then (enter_level (the.Symbol LeftParen ∷ []) n ts) (read (LeftParen ▸ opt exprs ◂ RightParen)))
+args_is n ts = read_rule-is n args_rule ts ∙ ap (map_outcome (tree args_rule)) (nest-is (LeftParen ▸ opt exprs ◂ RightParen) n ts)
 
-pub set_is : (n : ℕ) (ts : List Token) → read_rule n set_rule ts ≡ mapped (tree set_rule) (and_then (entered (the.Symbol LeftBrace ∷ []) n ts) (read (symbol LeftBrace · opt items ◂ RightBrace)))
-set_is n ts = read_rule-is n set_rule ts ∙ ap (mapped (tree set_rule)) (nest-is (symbol LeftBrace · opt items ◂ RightBrace) n ts)
+pub set_is : (n : ℕ) (ts : List Token) → read_rule n set_rule ts ≡ map_outcome (tree set_rule) (and_then (enter_level (the.Symbol LeftBrace ∷ []) n ts) (read (symbol LeftBrace · opt items ◂ RightBrace)))
+set_is n ts = read_rule-is n set_rule ts ∙ ap (map_outcome (tree set_rule)) (nest-is (symbol LeftBrace · opt items ◂ RightBrace) n ts)
 
-pub procedure_is : (n : ℕ) (ts : List Token) → read (nest (Procedure ▸ named procedure ◂ Semicolon)) n ts ≡ and_then (entered (the.Symbol Procedure ∷ []) n ts) (read (Procedure ▸ named procedure ◂ Semicolon))
+pub procedure_is : (n : ℕ) (ts : List Token) → read (nest (Procedure ▸ named procedure ◂ Semicolon)) n ts ≡ and_then (enter_level (the.Symbol Procedure ∷ []) n ts) (read (Procedure ▸ named procedure ◂ Semicolon))
 procedure_is n ts = nest-is (Procedure ▸ named procedure ◂ Semicolon) n ts
 
-pub inner_dims_is : (n : ℕ) (ts : List Token) → read (nest (dims)) n ts ≡ and_then (entered (in_simple) n ts) (read (dims))
+pub inner_dims_is : (n : ℕ) (ts : List Token) → read (nest (dims)) n ts ≡ and_then (enter_level (in_simple) n ts) (read (dims))
 inner_dims_is n ts = nest-is (dims) n ts
 
-pub index_is : (n : ℕ) (ts : List Token) → read (nest (symbol LeftBracket · exprs ◂ RightBracket)) n ts ≡ and_then (entered (the.Symbol LeftBracket ∷ []) n ts) (read (symbol LeftBracket · exprs ◂ RightBracket))
+pub index_is : (n : ℕ) (ts : List Token) → read (nest (symbol LeftBracket · exprs ◂ RightBracket)) n ts ≡ and_then (enter_level (the.Symbol LeftBracket ∷ []) n ts) (read (symbol LeftBracket · exprs ◂ RightBracket))
 index_is n ts = nest-is (symbol LeftBracket · exprs ◂ RightBracket) n ts
 
-pub not_is : (n : ℕ) (ts : List Token) → read (nest (symbol Not · factor)) n ts ≡ and_then (entered (the.Symbol Not ∷ []) n ts) (read (symbol Not · factor))
+pub not_is : (n : ℕ) (ts : List Token) → read (nest (symbol Not · factor)) n ts ≡ and_then (enter_level (the.Symbol Not ∷ []) n ts) (read (symbol Not · factor))
 not_is n ts = nest-is (symbol Not · factor) n ts
 
-pub group_is : (n : ℕ) (ts : List Token) → read (nest (symbol LeftParen · expr ◂ RightParen)) n ts ≡ and_then (entered (the.Symbol LeftParen ∷ []) n ts) (read (symbol LeftParen · expr ◂ RightParen))
+pub group_is : (n : ℕ) (ts : List Token) → read (nest (symbol LeftParen · expr ◂ RightParen)) n ts ≡ and_then (enter_level (the.Symbol LeftParen ∷ []) n ts) (read (symbol LeftParen · expr ◂ RightParen))
 group_is n ts = nest-is (symbol LeftParen · expr ◂ RightParen) n ts
 
-pub if_stmt_is : (n : ℕ) (ts : List Token) → read (nest (if_stmt)) n ts ≡ and_then (entered (the.Symbol If ∷ []) n ts) (read (if_stmt))
+pub if_stmt_is : (n : ℕ) (ts : List Token) → read (nest (if_stmt)) n ts ≡ and_then (enter_level (the.Symbol If ∷ []) n ts) (read (if_stmt))
 if_stmt_is n ts = nest-is (if_stmt) n ts
 
-pub elsif_part_is : (n : ℕ) (ts : List Token) → read (nest (elsif_part)) n ts ≡ and_then (entered (the.Symbol Elsif ∷ []) n ts) (read (elsif_part))
+pub elsif_part_is : (n : ℕ) (ts : List Token) → read (nest (elsif_part)) n ts ≡ and_then (enter_level (the.Symbol Elsif ∷ []) n ts) (read (elsif_part))
 elsif_part_is n ts = nest-is (elsif_part) n ts
 
-pub case_stmt_is : (n : ℕ) (ts : List Token) → read (nest (case_stmt)) n ts ≡ and_then (entered (the.Symbol Case ∷ []) n ts) (read (case_stmt))
+pub case_stmt_is : (n : ℕ) (ts : List Token) → read (nest (case_stmt)) n ts ≡ and_then (enter_level (the.Symbol Case ∷ []) n ts) (read (case_stmt))
 case_stmt_is n ts = nest-is (case_stmt) n ts
 
-pub while_stmt_is : (n : ℕ) (ts : List Token) → read (nest (while_stmt)) n ts ≡ and_then (entered (the.Symbol While ∷ []) n ts) (read (while_stmt))
+pub while_stmt_is : (n : ℕ) (ts : List Token) → read (nest (while_stmt)) n ts ≡ and_then (enter_level (the.Symbol While ∷ []) n ts) (read (while_stmt))
 while_stmt_is n ts = nest-is (while_stmt) n ts
 
-pub repeat_stmt_is : (n : ℕ) (ts : List Token) → read (nest (repeat_stmt)) n ts ≡ and_then (entered (the.Symbol Repeat ∷ []) n ts) (read (repeat_stmt))
+pub repeat_stmt_is : (n : ℕ) (ts : List Token) → read (nest (repeat_stmt)) n ts ≡ and_then (enter_level (the.Symbol Repeat ∷ []) n ts) (read (repeat_stmt))
 repeat_stmt_is n ts = nest-is (repeat_stmt) n ts
 
-pub loop_stmt_is : (n : ℕ) (ts : List Token) → read (nest (loop_stmt)) n ts ≡ and_then (entered (the.Symbol Loop ∷ []) n ts) (read (loop_stmt))
+pub loop_stmt_is : (n : ℕ) (ts : List Token) → read (nest (loop_stmt)) n ts ≡ and_then (enter_level (the.Symbol Loop ∷ []) n ts) (read (loop_stmt))
 loop_stmt_is n ts = nest-is (loop_stmt) n ts
 
-pub for_stmt_is : (n : ℕ) (ts : List Token) → read (nest (for_stmt)) n ts ≡ and_then (entered (the.Symbol For ∷ []) n ts) (read (for_stmt))
+pub for_stmt_is : (n : ℕ) (ts : List Token) → read (nest (for_stmt)) n ts ≡ and_then (enter_level (the.Symbol For ∷ []) n ts) (read (for_stmt))
 for_stmt_is n ts = nest-is (for_stmt) n ts
 
-pub with_stmt_is : (n : ℕ) (ts : List Token) → read (nest (with_stmt)) n ts ≡ and_then (entered (the.Symbol With ∷ []) n ts) (read (with_stmt))
+pub with_stmt_is : (n : ℕ) (ts : List Token) → read (nest (with_stmt)) n ts ≡ and_then (enter_level (the.Symbol With ∷ []) n ts) (read (with_stmt))
 with_stmt_is n ts = nest-is (with_stmt) n ts
 
 pub ruleset factor_steps = (factor_is, not_is, group_is)

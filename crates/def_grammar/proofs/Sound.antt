@@ -14,7 +14,7 @@ use Rattle.def_grammar.specs.Trees.{name_of, tree}
 use Rattle.def_grammar.specs.Spelling.{Spells, one, made, pair, left, right, before, behind, absent, there_is, none, more, nested, closed, Breaks, too_deep, misnamed, in_rule, in_first, in_second, in_left, in_right, in_rest, in_front, in_opt, in_turn_now, in_turn_later, in_nest, in_named}
 use Rattle.def_grammar.specs.Kinds.{kind_of}
 use Rattle.def_grammar.specs.Tables.{rank}
-use Rattle.def_grammar.specs.Reading.{Outcome, Reader, Readers, and_then, first, begins, is_among, one_token, closing, turns, repeated, no_deeper, read_by, read_within, read_rule, read}
+use Rattle.def_grammar.specs.Reading.{Outcome, Reader, Readers, and_then, first, begins, is_among, one_token, closing, turns, repetition_of, no_deeper, read_by, read_within, read_rule, read}
 use Rattle.def_grammar.proofs.Filled.{Filled, token_of, kind_token, fill}
 use Rattle.std.proofs.lemmas.Slice.Eq.{bytes_eq-Decides}
 use Rattle.def_grammar.proofs.Sets.{clash}
@@ -253,7 +253,7 @@ either_right g h n ts false o q r s = right_right g h n ts q s
 
 module _ (ρ : Readers) (all : (n : ℕ) (r : Rule) → IsRight (rule r) n (ρ n r)) where
   pub by_right : {a : Ty} (g : Gr a) (n : ℕ) → IsRight g n (read_by ρ g n)
-  unfolding repeated
+  unfolding repetition_of
   by_right (tok k ks) n ts = tok_right k ks n ts (one_token (k ∷ ks) ts) (fill (tok k ks)) (one_of (k ∷ ks) ts)
   by_right (rule r) n ts = all n r ts
   by_right (g · h) n ts = pair_right g h n ts (read_by ρ g n ts) (read_by ρ h n) (fill h) (by_right g n ts) (by_right h n)

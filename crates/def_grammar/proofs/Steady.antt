@@ -13,7 +13,7 @@ use Rattle.def_grammar.specs.Ebnf.{grammar}
 use Rattle.def_grammar.specs.Trees.{name_of, tree}
 use Rattle.def_grammar.specs.Kinds.{kind_of}
 use Rattle.def_grammar.specs.Tables.{rank}
-use Rattle.def_grammar.specs.Reading.{Outcome, Reader, Readers, and_then, nullable, first, begins, is_among, one_token, closing, no_deeper, turns, repeated, read_by, read_within, read_rule}
+use Rattle.def_grammar.specs.Reading.{Outcome, Reader, Readers, and_then, nullable, first, begins, is_among, one_token, closing, no_deeper, turns, repetition_of, read_by, read_within, read_rule}
 use Rattle.def_grammar.proofs.Truth.{and_both}
 use Rattle.def_grammar.proofs.Sets.{not_true}
 use Rattle.def_grammar.proofs.OneAhead.{ext, disjoint, one_ahead, tabled}
@@ -173,19 +173,19 @@ steady_turns ks p s (suc m) = steady_cond ks (λ ts. and_then (p ts) (λ x mid. 
     (steady_then p _ s (λ x. steady_then (turns ks p m) _ (steady_turns ks p s m) (λ xs. steady_ok (x ∷ xs)))) (steady_ok [])
 
 module _ {A : Type 0} (ks : List Kind) (p : Reader A) (s : IsSteady p) (shorter : (ts : List Token) → IsShorter ts (p ts)) (no_end : is_among the.End ks ≡ false) where
-  repeated_turns : (m : ℕ) (ts : List Token) → length ts ≤ m → turns ks p m ts ≡ repeated ks p ts
-  unfolding repeated
+  repeated_turns : (m : ℕ) (ts : List Token) → length ts ≤ m → turns ks p m ts ≡ repetition_of ks p ts
+  unfolding repetition_of
   repeated_turns m ts le = turns_same ks p shorter no_end m (length ts) ts le (omega arith)
 
-  repeated_moves : (t : Token) (tail other front : List Token) → Moves t tail other (repeated ks p (front ++ t ∷ tail)) (repeated ks p (front ++ t ∷ other))
+  repeated_moves : (t : Token) (tail other front : List Token) → Moves t tail other (repetition_of ks p (front ++ t ∷ tail)) (repetition_of ks p (front ++ t ∷ other))
   repeated_moves t tail other front =
       let m = length (front ++ t ∷ tail) + length (front ++ t ∷ other) in
-      subst (λ (o : Outcome (List A)). Moves t tail other o (repeated ks p (front ++ t ∷ other))) (repeated_turns m (front ++ t ∷ tail) (omega arith))
+      subst (λ (o : Outcome (List A)). Moves t tail other o (repetition_of ks p (front ++ t ∷ other))) (repeated_turns m (front ++ t ∷ tail) (omega arith))
       (subst (λ (o : Outcome (List A)). Moves t tail other (turns ks p m (front ++ t ∷ tail)) o) (repeated_turns m (front ++ t ∷ other) (omega arith))
       ((steady_turns ks p s m).moves t tail other front))
 
-  steady_repeated : IsSteady (repeated ks p)
-  unfolding repeated
+  steady_repeated : IsSteady (repetition_of ks p)
+  unfolding repetition_of
   steady_repeated = record { trims = λ ts. (steady_turns ks p s (length ts)).trims ts; moves = repeated_moves }
 
 -- ---- the grammar

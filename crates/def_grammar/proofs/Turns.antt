@@ -5,7 +5,7 @@ use Rattle.def_grammar.specs.declared.kind.Kind.{Kind}
 use Rattle.def_grammar.specs.declared.kind.Kind.TheVariants as the
 use Rattle.m2_tree.specs.declared.token.Token.{Token}
 use Rattle.def_grammar.specs.Grammar.{Ty, El, Gr, many}
-use Rattle.def_grammar.specs.Reading.{Outcome, Reader, and_then, nullable, first, begins, is_among, turns, repeated, read}
+use Rattle.def_grammar.specs.Reading.{Outcome, Reader, and_then, nullable, first, begins, is_among, turns, repetition_of, read}
 use Rattle.def_grammar.proofs.Truth.{and_both}
 use Rattle.def_grammar.proofs.Sets.{not_true, clash}
 use Rattle.def_grammar.proofs.OneAhead.{is_repeatable}
@@ -52,14 +52,14 @@ module _ {A : Type 0} (ks : List Kind) (p : Reader A) (shorter : (ts : List Toke
 
   settle : (ts : List Token) (b : Bool) (o : Outcome A) → IsShorter ts o
       → cond b (and_then o (λ x mid. and_then (turns ks p (length ts) mid) (λ xs rest. Ok (x ∷ xs, rest)))) (Ok ([], ts))
-      ≡ cond b (and_then o (λ x mid. and_then (repeated ks p mid) (λ xs rest. Ok (x ∷ xs, rest)))) (Ok ([], ts))
-  unfolding repeated
+      ≡ cond b (and_then o (λ x mid. and_then (repetition_of ks p mid) (λ xs rest. Ok (x ∷ xs, rest)))) (Ok ([], ts))
+  unfolding repetition_of
   settle ts true (Ok q) s = ap (λ r. and_then r (λ xs rest. Ok (q.0 ∷ xs, rest))) (turns_same (length ts) (length q.1) q.1 (omega arith) (omega arith))
   settle ts true (Err e) s = refl
   settle ts false o s = refl
 
-  repeated-is : (ts : List Token) → repeated ks p ts ≡ cond (begins ks ts) (and_then (p ts) (λ x mid. and_then (repeated ks p mid) (λ xs rest. Ok (x ∷ xs, rest)))) (Ok ([], ts))
-  unfolding repeated turns
+  repeated-is : (ts : List Token) → repetition_of ks p ts ≡ cond (begins ks ts) (and_then (p ts) (λ x mid. and_then (repetition_of ks p mid) (λ xs rest. Ok (x ∷ xs, rest)))) (Ok ([], ts))
+  unfolding repetition_of turns
   repeated-is ts = turns_same (length ts) (suc (length ts)) ts (omega arith) (omega arith) ∙ settle ts (begins ks ts) (p ts) (shorter ts)
 
 pub many-is : {a : Ty} (g : Gr a) (n : ℕ) → is_repeatable g ≡ true → (ts : List Token)

@@ -106,8 +106,8 @@ turns ks p (suc n) ts =
     then and_then (p ts) (λ x mid. and_then (turns ks p n mid) (λ xs rest. Ok (x ∷ xs, rest)))
     else Ok ([], ts)
 
-unfoldable pub repeated : {A : Type 0} → List Kind → Reader A → Reader (List A)
-repeated ks p ts = turns ks p (length ts) ts
+unfoldable pub repetition_of : {A : Type 0} → List Kind → Reader A → Reader (List A)
+repetition_of ks p ts = turns ks p (length ts) ts
 
 abbrev pub no_deeper : {A : Type 0} → List Kind → Reader A
 no_deeper ks [] = Err ([], Unfit)
@@ -139,7 +139,7 @@ read_by ρ (g ∣ h) n = either_of (first g) (read_by ρ g n) (read_by ρ h n)
 read_by ρ (lead k g) n = after_word k (read_by ρ g n)
 read_by ρ (trail g k) n = with_end (read_by ρ g n) k
 read_by ρ (opt g) n = if_begun (first g) (read_by ρ g n)
-read_by ρ (many g) n = repeated (first g) (read_by ρ g n)
+read_by ρ (many g) n = repetition_of (first g) (read_by ρ g n)
 read_by ρ (nest g) zero = no_deeper (first g)
 read_by ρ (nest g) (suc n) = read_by ρ g n
 read_by ρ (named g) n = with_names (read_by ρ g n)
@@ -182,17 +182,17 @@ ReadsOnto view outcome old (Err (Refused f)) found new = outcome ≡ Err (new, f
 
 -- ---- the cursor's own readers
 
-abbrev pub mapped : {A B : Type 0} → (A → B) → Outcome A → Outcome B
-mapped f outcome = and_then outcome (λ x rest. Ok (f x, rest))
+abbrev pub map_outcome : {A B : Type 0} → (A → B) → Outcome A → Outcome B
+map_outcome f outcome = and_then outcome (λ x rest. Ok (f x, rest))
 
 -- what was found before, and what comes of the turns that follow
-abbrev pub gathered : {A B : Type 0} → (List A → List B) → List B → Outcome (List A)
+abbrev pub gather_turns : {A B : Type 0} → (List A → List B) → List B → Outcome (List A)
     → Outcome (List B)
-gathered collect front outcome = mapped (λ xs. front ++ collect xs) outcome
+gather_turns collect front outcome = map_outcome (λ xs. front ++ collect xs) outcome
 
 -- the levels of nesting that are left inside of a part that begins with one of these kinds
-abbrev pub entered : List Kind → ℕ → Reader ℕ
-entered ks n ts = if n == 0 then no_deeper ks ts else Ok (n - 1, ts)
+abbrev pub enter_level : List Kind → ℕ → Reader ℕ
+enter_level ks n ts = if n == 0 then no_deeper ks ts else Ok (n - 1, ts)
 
 -- whether the token was taken
 abbrev pub AteIf : Kind → List Token → Bool → List Token → Type 0

@@ -122,9 +122,9 @@ present [] = []
 present (None ∷ xs) = present xs
 present (Some x ∷ xs) = x ∷ present xs
 
-abbrev pub joined : {A : Type 0} → List (List A) → List A
-joined [] = []
-joined (x ∷ xs) = x ++ joined xs
+abbrev pub flatten_lists : {A : Type 0} → List (List A) → List A
+flatten_lists [] = []
+flatten_lists (x ∷ xs) = x ++ flatten_lists xs
 
 -- a list that may be absent, by its first and the others
 abbrev pub if_any : {A : Type 0} → Option (A × List A) → List A
@@ -138,20 +138,20 @@ is_there (Some x) = true
 
 -- ---- expressions
 
-abbrev pub added : Token × Expr → Operator AddOp × Expr
-added p = (add_op_of p.0, p.1)
+abbrev pub add_operand : Token × Expr → Operator AddOp × Expr
+add_operand p = (add_op_of p.0, p.1)
 
-abbrev pub multiplied : Token × Expr → Operator MulOp × Expr
-multiplied p = (mul_op_of p.0, p.1)
+abbrev pub multiply_operand : Token × Expr → Operator MulOp × Expr
+multiply_operand p = (mul_op_of p.0, p.1)
 
-abbrev pub selected : (Token × Token) ⊎ (Token × (Expr × List Expr)) → List Selector
-selected (inl p) = sel.Field p.0.pos (ident_of p.1) ∷ []
-selected (inr p) = map (sel.Index p.0.pos) (with_first p.1)
+abbrev pub selectors_of : (Token × Token) ⊎ (Token × (Expr × List Expr)) → List Selector
+selectors_of (inl p) = sel.Field p.0.pos (ident_of p.1) ∷ []
+selectors_of (inr p) = map (sel.Index p.0.pos) (with_first p.1)
 
 -- an operand alone is its own tree
-abbrev pub related : Expr → Option (Token × Expr) → Expr
-related a None = a
-related a (Some p) = e.Relation a (relation_of p.0) p.1
+abbrev pub relation_or_operand : Expr → Option (Token × Expr) → Expr
+relation_or_operand a None = a
+relation_or_operand a (Some p) = e.Relation a (relation_of p.0) p.1
 
 abbrev pub sum_of : Option (Operator Sign) → Expr → List (Operator AddOp × Expr) → Expr
 sum_of None a [] = a
@@ -182,9 +182,9 @@ factor_of (inr (inr (inr (inr p)))) = e.Bracketed p.0.pos p.1
 
 -- ---- types
 
-abbrev pub qualified : Token → Option Token → Qualified
-qualified first None = record { «module» = None; name = ident_of first }
-qualified first (Some name) = record { «module» = Some (ident_of first); name = ident_of name }
+abbrev pub qualified_name : Token → Option Token → Qualified
+qualified_name first None = record { «module» = None; name = ident_of first }
+qualified_name first (Some name) = record { «module» = Some (ident_of first); name = ident_of name }
 
 abbrev pub subrange_of : Option Qualified → Token × (Expr × Expr) → Simple
 subrange_of base p = simple.Subrange base p.0.pos p.1.0 p.1.1
@@ -327,14 +327,14 @@ decl_of (inr p) = decl.Procedure (heading_of p.0 p.1.0) p.1.1
 abbrev pub module_with : Token → List Import → Contents → Module
 module_with name imports held = record { name = ident_of name; imports = imports; contents = held }
 
-abbrev pub held_by : Bool → Block → Contents
-held_by true block = contents.Implementation block
-held_by false block = contents.Program block
+abbrev pub contents_with : Bool → Block → Contents
+contents_with true block = contents.Implementation block
+contents_with false block = contents.Program block
 
 abbrev pub module_of :
     (Token × (List Import × List Def)) ⊎ (Option Token × (Token × (List Import × Block))) → Module
 module_of (inl p) = module_with p.0 p.1.0 (contents.Definition p.1.1)
-module_of (inr p) = module_with p.1.0 p.1.1.0 (held_by (is_there p.0) p.1.1.1)
+module_of (inr p) = module_with p.1.0 p.1.1.0 (contents_with (is_there p.0) p.1.1.1)
 
 -- ---- the productions
 
@@ -351,7 +351,7 @@ tree variables_rule p = record { names = p.0; of = p.1 }
 tree formals_rule p = formals_of p
 tree section_rule p = record { is_var = is_there p.0; names = p.1.0; of = p.1.1 }
 tree formal_rule p = record { is_open = is_there p.0; of = p.1 }
-tree qual_rule p = qualified p.0 p.1
+tree qual_rule p = qualified_name p.0 p.1
 tree simple_rule p = simple_of p
 tree type_rule p = type_of p
 tree dims_rule p = (p.0, element_of p.1)
@@ -363,10 +363,10 @@ tree rest_rule p = rest_of p
 tree arm_rule p = roll-Arm (record { labels = with_first p.0; body = p.1 })
 tree item_rule p = roll-Item (record { low = p.0; high = p.1 })
 tree desig_rule p = roll-Designator (record { name = ident_of p.0; selectors = p.1 })
-tree selectors_rule p = joined (map selected p)
+tree selectors_rule p = flatten_lists (map selectors_of p)
 tree args_rule p = if_any p
-tree expr_rule p = related p.0 p.1
-tree sum_rule p = sum_of (option_map sign_of p.0) p.1.0 (map added p.1.1)
-tree term_rule p = product_of p.0 (map multiplied p.1)
+tree expr_rule p = relation_or_operand p.0 p.1
+tree sum_rule p = sum_of (option_map sign_of p.0) p.1.0 (map add_operand p.1.1)
+tree term_rule p = product_of p.0 (map multiply_operand p.1)
 tree factor_rule p = factor_of p
 tree set_rule p = (p.0.pos, if_any p.1)

@@ -7,7 +7,7 @@ use Rattle.def_meaning.specs.Outcome.{Outcome, Normal, Exited, Returned, sequenc
 use Rattle.def_meaning.specs.Statements.{loop_left}
 use Rattle.def_meaning.specs.Calls.{at_end, result}
 use Rattle.def_meaning.specs.Runs.{then_body}
-use Rattle.def_meaning.specs.Later.{printed, Begins}
+use Rattle.def_meaning.specs.Later.{output_of, Begins}
 
 -- ---- beginnings
 
@@ -32,8 +32,8 @@ pub data Later {A : Type 0} (out : List ℕ) : Answer A → Answer A → Type 0 
   going : (more : List ℕ) (x : Answer A) → Begins out more → Begins more (reported x) → Later out (StillRunning more) x
 
 pub data After (out : List ℕ) : Outcome → Outcome → Type 0 where
-  same : (x : Outcome) → Begins out (printed x) → After out x x
-  open_yet : (more : List ℕ) (x : Outcome) → Begins out more → Begins more (printed x) → After out (StillRunning more) x
+  same : (x : Outcome) → Begins out (output_of x) → After out x x
+  open_yet : (more : List ℕ) (x : Outcome) → Begins out more → Begins more (output_of x) → After out (StillRunning more) x
 
 -- ---- the second of both
 
@@ -41,7 +41,7 @@ pub reported_later : {A : Type 0} {out : List ℕ} {x y : Answer A} → Later ou
 reported_later (alike x b) = b
 reported_later (going more x b c) = joined b c
 
-pub printed_later : {out : List ℕ} {x y : Outcome} → After out x y → Begins out (printed y)
+pub printed_later : {out : List ℕ} {x y : Outcome} → After out x y → Begins out (output_of y)
 printed_later (same x b) = b
 printed_later (open_yet more x b c) = joined b c
 
@@ -68,7 +68,7 @@ module _ {A B : Type 0} {f g : A → State → Answer B} (k : (v : A) (st : Stat
   then_later (going more x b c) = going more (x ▷ g) b (reported_on x c)
 
 module _ {A : Type 0} {f g : A → State → Outcome} (k : (v : A) (st : State) → After st.out (f v st) (g v st)) where
-  answered_on : {more : List ℕ} (x : Answer A) → Begins more (reported x) → Begins more (printed (x ▷ g))
+  answered_on : {more : List ℕ} (x : Answer A) → Begins more (reported x) → Begins more (output_of (x ▷ g))
   answered_on (Value v st) b = joined b (printed_later (k v st))
   answered_on (Ended n out) b = b
   answered_on (StillRunning out) b = b
@@ -80,7 +80,7 @@ module _ {A : Type 0} {f g : A → State → Outcome} (k : (v : A) (st : State) 
   with_later (going more x b c) = open_yet more (x ▷ g) b (answered_on x c)
 
 module _ {f g : State → Outcome} (k : (st : State) → After st.out (f st) (g st)) where
-  go_on : {more : List ℕ} (x : Outcome) → Begins more (printed x) → Begins more (printed (sequence x g))
+  go_on : {more : List ℕ} (x : Outcome) → Begins more (output_of x) → Begins more (output_of (sequence x g))
   go_on (Value Normal st) b = joined b (printed_later (k st))
   go_on (Value Exited st) b = b
   go_on (Value (Returned v) st) b = b
@@ -95,7 +95,7 @@ module _ {f g : State → Outcome} (k : (st : State) → After st.out (f st) (g 
   go_later (same (StillRunning out) b) = same (StillRunning out) b
   go_later (open_yet more x b c) = open_yet more (sequence x g) b (go_on x c)
 
-  left_on : {more : List ℕ} (x : Outcome) → Begins more (printed x) → Begins more (printed (loop_left x g))
+  left_on : {more : List ℕ} (x : Outcome) → Begins more (output_of x) → Begins more (output_of (loop_left x g))
   left_on (Value Normal st) b = joined b (printed_later (k st))
   left_on (Value Exited st) b = b
   left_on (Value (Returned v) st) b = b
@@ -110,7 +110,7 @@ module _ {f g : State → Outcome} (k : (st : State) → After st.out (f st) (g 
   left_later (same (StillRunning out) b) = same (StillRunning out) b
   left_later (open_yet more x b c) = open_yet more (loop_left x g) b (left_on x c)
 
-  body_on : {more : List ℕ} (x : Outcome) → Begins more (printed x) → Begins more (printed (then_body x g))
+  body_on : {more : List ℕ} (x : Outcome) → Begins more (output_of x) → Begins more (output_of (then_body x g))
   body_on (Value Normal st) b = joined b (printed_later (k st))
   body_on (Value Exited st) b = joined b (printed_later (k st))
   body_on (Value (Returned v) st) b = joined b (printed_later (k st))
@@ -131,7 +131,7 @@ end_reported : (function : Bool) (st : State) → Begins st.out (reported (at_en
 end_reported true st = begins st.out
 end_reported false st = begins st.out
 
-result_reported : {more : List ℕ} (function : Bool) (x : Outcome) → Begins more (printed x) → Begins more (reported (result function x))
+result_reported : {more : List ℕ} (function : Bool) (x : Outcome) → Begins more (output_of x) → Begins more (reported (result function x))
 result_reported function (Value Normal st) b = joined b (end_reported function st)
 result_reported function (Value Exited st) b = joined b (end_reported function st)
 result_reported function (Value (Returned v) st) b = b

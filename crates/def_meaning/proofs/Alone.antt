@@ -17,9 +17,9 @@ use Rattle.typed_tree.specs.Types.{integer}
 use Rattle.typed_tree.specs.Known.{scalar_at}
 use Rattle.def_meaning.specs.Store.{Location}
 use Rattle.def_meaning.specs.Answer.{State, Answer, Value, ◌▷◌, range_fault, overflow, divisor_fault, index_fault}
-use Rattle.def_meaning.specs.Operators.{is_between, truth, is_true, compared, combined, included, has, absolute, capital, odd, quotient, remainder}
-use Rattle.def_meaning.specs.Environment.{Modules, Environment, high_of, named}
-use Rattle.def_meaning.specs.Expressions.{Asks, Gives, one_by_one, within, within_range, as_type, in_base, index_range, element, element_in, divided, operated, ordinal, root_layer, component_layer, link_layer, place_layer, expr_layer, value, locate}
+use Rattle.def_meaning.specs.Operators.{is_between, truth, is_true, comparison_holds, set_operation, inclusion_holds, has, absolute, capital, odd, quotient, remainder}
+use Rattle.def_meaning.specs.Environment.{Modules, Environment, high_of, slot_named}
+use Rattle.def_meaning.specs.Expressions.{Asks, Gives, one_by_one, within, within_range, as_type, in_base, index_range, element, element_in, division_by, arithmetic_result, ordinal, root_layer, component_layer, link_layer, place_layer, expr_layer, value, locate}
 use Rattle.def_meaning.specs.Calm.{argument_calls, call_calls, component_calls, any_calls, link_calls, place_calls, expr_calls, calls, calls_at, Leaves, gives, ends, ChangesNothing, FindsAlone}
 use Rattle.def_meaning.proofs.Evaluated.{opened, opened_place, opened_component, opened_link, reached, continued, at_place, at_expr, at_component, at_link}
 
@@ -53,10 +53,10 @@ indexed_leaves : (l : Location) (o : Option Range) (i : ℤ) (st : State) → Le
 indexed_leaves l None i st = ends index_fault
 indexed_leaves l (Some s) i st = element_leaves l s.low s.high i st
 
-divided_leaves : (f : ℤ → ℤ → ℤ) (x y : ℤ) (st : State) → Leaves st (divided f x y st)
+divided_leaves : (f : ℤ → ℤ → ℤ) (x y : ℤ) (st : State) → Leaves st (division_by f x y st)
 divided_leaves f x y st = if_leaves (int_lt (pos 0) y) (gives (f x y)) (ends divisor_fault)
 
-operated_leaves : (types : Types) (o : Arithmetic) (t : TypeNo) (x y : ℤ) (st : State) → Leaves st (operated types o t x y st)
+operated_leaves : (types : Types) (o : Arithmetic) (t : TypeNo) (x y : ℤ) (st : State) → Leaves st (arithmetic_result types o t x y st)
 operated_leaves types op.Add t x y st = base_leaves types t _ st
 operated_leaves types op.Subtract t x y st = base_leaves types t _ st
 operated_leaves types op.Multiply t x y st = base_leaves types t _ st
@@ -188,7 +188,7 @@ module _ (p : Modules) (ask : Asks) where
   component_alone : (y : Component-F SA SC SK SL SE SP) → component_calls (asks_component (bare_component y)) ≡ false → GoesAlone (component_layer p ask (opened_component p ask (bare_component y)))
   component_alone (layer.Field t n) h = record { from = λ l a st. gives _ }
   component_alone (layer.Element t i) h = record { from = λ l a st. then_leaves (λ v st. indexed_leaves l (index_range a.types t) v st) ((i.1 h).at a st) }
-  component_alone (layer.OpenElement slot t i) h = record { from = λ l a st. then_leaves (λ v st. element_leaves l (pos 0) (pos (high_of (named a slot))) v st) ((i.1 h).at a st) }
+  component_alone (layer.OpenElement slot t i) h = record { from = λ l a st. then_leaves (λ v st. element_leaves l (pos 0) (pos (high_of (slot_named a slot))) v st) ((i.1 h).at a st) }
 
   place_alone : (y : Place-F SA SC SK SL SE SP) → place_calls (asks_place (bare_place y)) ≡ false → GivesAlone (place_layer p ask (opened_place p ask (bare_place y)))
   place_alone y h = record { at = λ a st. one_leaves (reached p ask) calls_behind y.components h (root_layer p ask y.root a) a st }
@@ -197,7 +197,7 @@ module _ (p : Modules) (ask : Asks) where
   link_alone (layer.Arithmetic o t e) h = record { from = λ x a st. then_leaves (λ y st. operated_leaves a.types o t x y st) ((e.1 h).at a st) }
   link_alone (layer.And e) h = record { from = λ v a st. if_leaves (is_true v) ((e.1 h).at a st) (gives (truth false)) }
   link_alone (layer.Or e) h = record { from = λ v a st. if_leaves (is_true v) (gives (truth true)) ((e.1 h).at a st) }
-  link_alone (layer.Combine o e) h = record { from = λ x a st. then_leaves (λ y st. gives (combined o x y)) ((e.1 h).at a st) }
+  link_alone (layer.Combine o e) h = record { from = λ x a st. then_leaves (λ y st. gives (set_operation o x y)) ((e.1 h).at a st) }
 
   chain_alone : (e : SE) (ls : List SL) → (calls e.0 ≡ false) × (any_calls (map calls_linked (map (λ x. x.0) ls)) ≡ false) → GivesAlone (expr_layer p ask (opened p ask (bare (layer.Chain e ls))))
   chain_alone e ls n = record { at = λ a st. then_leaves (λ v st. one_leaves (continued p ask) calls_linked ls n.1 v a st) ((e.1 n.0).at a st) }
@@ -221,9 +221,9 @@ module _ (p : Modules) (ask : Asks) where
   expr_alone (layer.Plus t e) h = e.1 h
   expr_alone (layer.Negate e) h = unary (λ a v st. in_base a.types integer (pos 0 -ℤ v) st) (λ a v st. base_leaves a.types integer (pos 0 -ℤ v) st) (e.1 h)
   expr_alone (layer.Chain e ls) h = chain_alone e ls (neither (calls e.0) (any_calls (map calls_linked (map (λ x. x.0) ls))) h)
-  expr_alone (layer.Compare o e e') h = let n = both e e' h in two (λ a x y st. Value (truth (compared o x y)) st) (λ a x y st. gives _) n.0 n.1
+  expr_alone (layer.Compare o e e') h = let n = both e e' h in two (λ a x y st. Value (truth (comparison_holds o x y)) st) (λ a x y st. gives _) n.0 n.1
   expr_alone (layer.Not e) h = record { at = λ a st. then_leaves (λ v st. gives _) ((e.1 h).at a st) }
-  expr_alone (layer.Include o e e') h = let n = both e e' h in two (λ a x y st. Value (truth (included o x y)) st) (λ a x y st. gives _) n.0 n.1
+  expr_alone (layer.Include o e e') h = let n = both e e' h in two (λ a x y st. Value (truth (inclusion_holds o x y)) st) (λ a x y st. gives _) n.0 n.1
   expr_alone (layer.In e e') h = in_alone e e' (both e e' h)
   expr_alone (layer.Abs t e) h = record { at = λ a st. then_leaves (λ v st. base_leaves a.types t (absolute v) st) ((e.1 h).at a st) }
   expr_alone (layer.Cap e) h = record { at = λ a st. then_leaves (λ v st. gives (capital v)) ((e.1 h).at a st) }

@@ -12,12 +12,12 @@ use Rattle.typed_tree.specs.declared.types.TypeNo.{TypeNo}
 use Rattle.typed_tree.specs.declared.known_types.Types.{Types}
 use Rattle.typed_tree.specs.Types.{char}
 use Rattle.typed_tree.specs.Known.{scalar_at}
-use Rattle.def_meaning.specs.Answer.{State, range_fault, case_fault, halted, Ended, Value}
+use Rattle.def_meaning.specs.Answer.{State, range_fault, case_fault, halt_status, Ended, Value}
 use Rattle.def_meaning.specs.Outcome.{Exited, Returned}
 use Rattle.def_meaning.specs.Operators.{is_true}
 use Rattle.def_meaning.specs.Environment.{Modules, Environment}
 use Rattle.def_meaning.specs.Expressions.{Asks, as_type, value, locate}
-use Rattle.def_meaning.specs.Statements.{Does, in_turn, stored, is_labelled, or_else, Arm, chosen, base_of, changed, rechecked, arm_layer}
+use Rattle.def_meaning.specs.Statements.{Does, in_turn, store_number, is_labelled, or_else, Arm, choose_arm, base_of, change_by, recheck_value, arm_layer}
 use Rattle.def_meaning.specs.Whiles.{Whiles, step_with, does_with}
 use Rattle.def_meaning.proofs.After.{begins, begins_more, Later, then_later, After, same, with_later, go_later, if_after, went}
 use Rattle.def_meaning.proofs.Evaluated.{AsksLater, Pairwise, none, more, pairwise_maps, carry, within_later, type_later, base_later, value_later, locate_later, called_later}
@@ -43,11 +43,11 @@ if_does : {d d' e e' : Does} (b : Bool) → DoesLater d e → DoesLater d' e' �
 if_does true h k = h
 if_does false h k = k
 
-chosen_later : {xs ys : List Arm} {d d' : Does} (v : ℤ) → Pairwise ArmLater xs ys → DoesLater d d' → DoesLater (chosen v xs d) (chosen v ys d')
+chosen_later : {xs ys : List Arm} {d d' : Does} (v : ℤ) → Pairwise ArmLater xs ys → DoesLater d d' → DoesLater (choose_arm v xs d) (choose_arm v ys d')
 chosen_later v none h = h
 chosen_later v (more (arm labels k) xs) h = if_does (list_any (is_labelled v) labels) k (chosen_later v xs h)
 
-rechecked_later : (types : Types) (t : TypeNo) (v : ℤ) (st : State) → Later st.out (rechecked types t v st) (rechecked types t v st)
+rechecked_later : (types : Types) (t : TypeNo) (v : ℤ) (st : State) → Later st.out (recheck_value types t v st) (recheck_value types t v st)
 rechecked_later types t v st = then_later (type_later types t) (base_later types (base_of t (scalar_at types t)) v st)
 
 -- ---- one layer at a time
@@ -105,14 +105,14 @@ module _ (w w' : Whiles) (p : Modules) (ask ask' : Asks) (k : AsksLater ask ask'
   arms xs = pairwise_maps {X = SA} {Y = TypedArm} ArmLater (λ s. s.0) (armed w p ask n) (armed w' p ask' m) (λ s. s.1) xs
 
   stmt_later : (y : TypedStmt-F SS SA) → DoesLater (step_with w p ask n (opened w p ask n (bare y))) (step_with w' p ask' m (opened w' p ask' m (bare y)))
-  stmt_later (step.Assign d t e) = record { at = λ a st. with_later (λ l st. with_later (λ v st. with_later (λ v st. went (stored l v st)) (type_later a.types t v st)) (value_at e a st)) (place_at d a st) }
+  stmt_later (step.Assign d t e) = record { at = λ a st. with_later (λ l st. with_later (λ v st. with_later (λ v st. went (store_number l v st)) (type_later a.types t v st)) (value_at e a st)) (place_at d a st) }
   stmt_later (step.Copy to from t) = record { at = λ a st. with_later (λ l st. with_later (λ l' st. went _) (place_at from a st)) (place_at to a st) }
   stmt_later (step.CopyText d t text) = record { at = λ a st. with_later (λ l st. went _) (place_at d a st) }
   stmt_later (step.Call c) = record { at = λ a st. with_later (λ v st. went st) ((called_later p ask ask' k c).at a st) }
   stmt_later (step.Put e) = record { at = λ a st. with_later (λ v st. with_later (λ v st. same _ (begins_more st.out (unsigned_abs v ∷ []))) (type_later a.types char v st)) (value_at e a st) }
-  stmt_later (step.Change o d t e) = record { at = λ a st. with_later (λ l st. with_later (λ by st. with_later (λ v st. went (stored l v st)) (rechecked_later a.types t (changed o (st.store l) by) st)) (value_at e a st)) (place_at d a st) }
+  stmt_later (step.Change o d t e) = record { at = λ a st. with_later (λ l st. with_later (λ by st. with_later (λ v st. went (store_number l v st)) (rechecked_later a.types t (change_by o (st.store l) by) st)) (value_at e a st)) (place_at d a st) }
   stmt_later (step.Membership o d e) = record { at = λ a st. with_later (λ l st. with_later (λ x st. with_later (λ x st. went _) (within_later (pos 0) (pos 31) range_fault x st)) (value_at e a st)) (place_at d a st) }
-  stmt_later step.Halt = record { at = λ a st. same (Ended halted st.out) (begins st.out) }
+  stmt_later step.Halt = record { at = λ a st. same (Ended halt_status st.out) (begins st.out) }
   stmt_later (step.If e xs None) = record { at = λ a st. with_later (λ v st. if_after (is_true v) (body xs a st) (went st)) (value_at e a st) }
   stmt_later (step.If e xs (Some ys)) = record { at = λ a st. with_later (λ v st. if_after (is_true v) (body xs a st) (body ys a st)) (value_at e a st) }
   stmt_later (step.Case e xs None) = record { at = λ a st. with_later (λ v st. (chosen_later v (arms xs) nothing_else).at a st) (value_at e a st) }
@@ -126,7 +126,7 @@ module _ (w w' : Whiles) (p : Modules) (ask ask' : Asks) (k : AsksLater ask ask'
   stmt_later (step.For d t start limit by xs) = record {
     at = λ a st.
         with_later (λ l st. with_later (λ v st. with_later (λ v st. with_later (λ last st.
-        for_later (as_type a.types t) (type_later a.types t) l by last (body xs a) n m q (stored l v st)) (value_at limit a st)) (type_later a.types t v st)) (value_at start a st)) (place_at d a st);
+        for_later (as_type a.types t) (type_later a.types t) l by last (body xs a) n m q (store_number l v st)) (value_at limit a st)) (type_later a.types t v st)) (value_at start a st)) (place_at d a st);
   }
   stmt_later (step.With d xs) = record { at = λ a st. with_later (λ l st. body xs (record a { withs = a.withs ++ l ∷ [] }) st) (place_at d a st) }
 

@@ -17,9 +17,9 @@ use Rattle.typed_tree.specs.Types.{integer}
 use Rattle.typed_tree.specs.Known.{scalar_at}
 use Rattle.def_meaning.specs.Store.{Location}
 use Rattle.def_meaning.specs.Answer.{State, Answer, ◌▷◌, range_fault, overflow, divisor_fault, index_fault, empty_procedure}
-use Rattle.def_meaning.specs.Operators.{is_between, truth, is_true, compared, combined, included, has, absolute, capital, odd, quotient, remainder}
-use Rattle.def_meaning.specs.Environment.{Modules, Environment, Callee, Passed, Number, Variable, Array, module_place, entry_of, entry_callee, module_callee, nested_in, named, high_of}
-use Rattle.def_meaning.specs.Expressions.{Asks, Gives, Reaches, Continues, one_by_one, within, within_range, as_type, in_base, index_range, high_index, element, element_in, divided, operated, ordinal, all_given, asked, asked_if, argument_layer, call_layer, root_layer, component_layer, link_layer, expr_layer, place_layer, value, locate, called}
+use Rattle.def_meaning.specs.Operators.{is_between, truth, is_true, comparison_holds, set_operation, inclusion_holds, has, absolute, capital, odd, quotient, remainder}
+use Rattle.def_meaning.specs.Environment.{Modules, Environment, Callee, Passed, Number, Variable, Array, module_place, entry_of, entry_callee, module_callee, nested_in, slot_named, high_of}
+use Rattle.def_meaning.specs.Expressions.{Asks, Gives, Reaches, Continues, one_by_one, within, within_range, as_type, in_base, index_range, high_index, element, element_in, division_by, arithmetic_result, ordinal, all_given, call_with, asked_if, argument_layer, call_layer, root_layer, component_layer, link_layer, expr_layer, place_layer, value, locate, call_value}
 use Rattle.def_meaning.proofs.After.{Later, then_later, if_later, gave, ended}
 
 -- ---- checks and operations
@@ -44,10 +44,10 @@ indexed_later : (l : Location) (o : Option Range) (i : ℤ) (st : State) → Lat
 indexed_later l None i st = ended index_fault st.out
 indexed_later l (Some s) i st = element_later l s.low s.high i st
 
-divided_later : (f : ℤ → ℤ → ℤ) (x y : ℤ) (st : State) → Later st.out (divided f x y st) (divided f x y st)
+divided_later : (f : ℤ → ℤ → ℤ) (x y : ℤ) (st : State) → Later st.out (division_by f x y st) (division_by f x y st)
 divided_later f x y st = if_later (int_lt (pos 0) y) (gave (f x y) st) (ended divisor_fault st.out)
 
-operated_later : (types : Types) (o : Arithmetic) (t : TypeNo) (x y : ℤ) (st : State) → Later st.out (operated types o t x y st) (operated types o t x y st)
+operated_later : (types : Types) (o : Arithmetic) (t : TypeNo) (x y : ℤ) (st : State) → Later st.out (arithmetic_result types o t x y st) (arithmetic_result types o t x y st)
 operated_later types op.Add t x y st = base_later types t _ st
 operated_later types op.Subtract t x y st = base_later types t _ st
 operated_later types op.Multiply t x y st = base_later types t _ st
@@ -98,45 +98,45 @@ module _ (p : Modules) (ask : Asks) where
   continued = fold-Link (Gives Passed) (Gives ℤ) Reaches Continues (Gives ℤ) (Gives Location) (argument_layer p ask) (call_layer p ask) (component_layer p ask) (link_layer p ask) (expr_layer p ask) (place_layer p ask)
 
   abbrev pub opened_argument : Argument-F Argument Call Component Link TypedExpr Place → Argument-F (Gives Passed) (Gives ℤ) Reaches Continues (Gives ℤ) (Gives Location)
-  opened_argument x = map-Argument Argument Call Component Link TypedExpr Place (Gives Passed) (Gives ℤ) Reaches Continues (Gives ℤ) (Gives Location) given (called p ask) reached continued (value p ask) (locate p ask) x
+  opened_argument x = map-Argument Argument Call Component Link TypedExpr Place (Gives Passed) (Gives ℤ) Reaches Continues (Gives ℤ) (Gives Location) given (call_value p ask) reached continued (value p ask) (locate p ask) x
 
   abbrev pub opened_call : Call-F Argument Call Component Link TypedExpr Place → Call-F (Gives Passed) (Gives ℤ) Reaches Continues (Gives ℤ) (Gives Location)
-  opened_call x = map-Call Argument Call Component Link TypedExpr Place (Gives Passed) (Gives ℤ) Reaches Continues (Gives ℤ) (Gives Location) given (called p ask) reached continued (value p ask) (locate p ask) x
+  opened_call x = map-Call Argument Call Component Link TypedExpr Place (Gives Passed) (Gives ℤ) Reaches Continues (Gives ℤ) (Gives Location) given (call_value p ask) reached continued (value p ask) (locate p ask) x
 
   abbrev pub opened_place : Place-F Argument Call Component Link TypedExpr Place → Place-F (Gives Passed) (Gives ℤ) Reaches Continues (Gives ℤ) (Gives Location)
-  opened_place x = map-Place Argument Call Component Link TypedExpr Place (Gives Passed) (Gives ℤ) Reaches Continues (Gives ℤ) (Gives Location) given (called p ask) reached continued (value p ask) (locate p ask) x
+  opened_place x = map-Place Argument Call Component Link TypedExpr Place (Gives Passed) (Gives ℤ) Reaches Continues (Gives ℤ) (Gives Location) given (call_value p ask) reached continued (value p ask) (locate p ask) x
 
   abbrev pub opened : TypedExpr-F Argument Call Component Link TypedExpr Place → TypedExpr-F (Gives Passed) (Gives ℤ) Reaches Continues (Gives ℤ) (Gives Location)
-  opened x = map-TypedExpr Argument Call Component Link TypedExpr Place (Gives Passed) (Gives ℤ) Reaches Continues (Gives ℤ) (Gives Location) given (called p ask) reached continued (value p ask) (locate p ask) x
+  opened x = map-TypedExpr Argument Call Component Link TypedExpr Place (Gives Passed) (Gives ℤ) Reaches Continues (Gives ℤ) (Gives Location) given (call_value p ask) reached continued (value p ask) (locate p ask) x
 
   abbrev pub opened_component : Component-F Argument Call Component Link TypedExpr Place → Component-F (Gives Passed) (Gives ℤ) Reaches Continues (Gives ℤ) (Gives Location)
-  opened_component x = map-Component Argument Call Component Link TypedExpr Place (Gives Passed) (Gives ℤ) Reaches Continues (Gives ℤ) (Gives Location) given (called p ask) reached continued (value p ask) (locate p ask) x
+  opened_component x = map-Component Argument Call Component Link TypedExpr Place (Gives Passed) (Gives ℤ) Reaches Continues (Gives ℤ) (Gives Location) given (call_value p ask) reached continued (value p ask) (locate p ask) x
 
   abbrev pub opened_link : Link-F Argument Call Component Link TypedExpr Place → Link-F (Gives Passed) (Gives ℤ) Reaches Continues (Gives ℤ) (Gives Location)
-  opened_link x = map-Link Argument Call Component Link TypedExpr Place (Gives Passed) (Gives ℤ) Reaches Continues (Gives ℤ) (Gives Location) given (called p ask) reached continued (value p ask) (locate p ask) x
+  opened_link x = map-Link Argument Call Component Link TypedExpr Place (Gives Passed) (Gives ℤ) Reaches Continues (Gives ℤ) (Gives Location) given (call_value p ask) reached continued (value p ask) (locate p ask) x
 
   pub at_component : (e : Component) (x : Component-F Argument Call Component Link TypedExpr Place) → out-Component e ≡ x → reached e ≡ component_layer p ask (opened_component x)
-  unfolding value locate called given reached continued
+  unfolding value locate call_value given reached continued
   at_component e x h = fold_out-Component (Gives Passed) (Gives ℤ) Reaches Continues (Gives ℤ) (Gives Location) (argument_layer p ask) (call_layer p ask) (component_layer p ask) (link_layer p ask) (expr_layer p ask) (place_layer p ask) e ∙ ap (λ (y : Component-F Argument Call Component Link TypedExpr Place). component_layer p ask (opened_component y)) h
 
   pub at_link : (e : Link) (x : Link-F Argument Call Component Link TypedExpr Place) → out-Link e ≡ x → continued e ≡ link_layer p ask (opened_link x)
-  unfolding value locate called given reached continued
+  unfolding value locate call_value given reached continued
   at_link e x h = fold_out-Link (Gives Passed) (Gives ℤ) Reaches Continues (Gives ℤ) (Gives Location) (argument_layer p ask) (call_layer p ask) (component_layer p ask) (link_layer p ask) (expr_layer p ask) (place_layer p ask) e ∙ ap (λ (y : Link-F Argument Call Component Link TypedExpr Place). link_layer p ask (opened_link y)) h
 
   pub at_argument : (e : Argument) (x : Argument-F Argument Call Component Link TypedExpr Place) → out-Argument e ≡ x → given e ≡ argument_layer p ask (opened_argument x)
-  unfolding value locate called given reached continued
+  unfolding value locate call_value given reached continued
   at_argument e x h = fold_out-Argument (Gives Passed) (Gives ℤ) Reaches Continues (Gives ℤ) (Gives Location) (argument_layer p ask) (call_layer p ask) (component_layer p ask) (link_layer p ask) (expr_layer p ask) (place_layer p ask) e ∙ ap (λ (y : Argument-F Argument Call Component Link TypedExpr Place). argument_layer p ask (opened_argument y)) h
 
-  pub at_call : (e : Call) (x : Call-F Argument Call Component Link TypedExpr Place) → out-Call e ≡ x → called p ask e ≡ call_layer p ask (opened_call x)
-  unfolding value locate called given reached continued
+  pub at_call : (e : Call) (x : Call-F Argument Call Component Link TypedExpr Place) → out-Call e ≡ x → call_value p ask e ≡ call_layer p ask (opened_call x)
+  unfolding value locate call_value given reached continued
   at_call e x h = fold_out-Call (Gives Passed) (Gives ℤ) Reaches Continues (Gives ℤ) (Gives Location) (argument_layer p ask) (call_layer p ask) (component_layer p ask) (link_layer p ask) (expr_layer p ask) (place_layer p ask) e ∙ ap (λ (y : Call-F Argument Call Component Link TypedExpr Place). call_layer p ask (opened_call y)) h
 
   pub at_place : (e : Place) (x : Place-F Argument Call Component Link TypedExpr Place) → out-Place e ≡ x → locate p ask e ≡ place_layer p ask (opened_place x)
-  unfolding value locate called given reached continued
+  unfolding value locate call_value given reached continued
   at_place e x h = fold_out-Place (Gives Passed) (Gives ℤ) Reaches Continues (Gives ℤ) (Gives Location) (argument_layer p ask) (call_layer p ask) (component_layer p ask) (link_layer p ask) (expr_layer p ask) (place_layer p ask) e ∙ ap (λ (y : Place-F Argument Call Component Link TypedExpr Place). place_layer p ask (opened_place y)) h
 
   pub at_expr : (e : TypedExpr) (x : TypedExpr-F Argument Call Component Link TypedExpr Place) → out-TypedExpr e ≡ x → value p ask e ≡ expr_layer p ask (opened x)
-  unfolding value locate called given reached continued
+  unfolding value locate call_value given reached continued
   at_expr e x h = fold_out-TypedExpr (Gives Passed) (Gives ℤ) Reaches Continues (Gives ℤ) (Gives Location) (argument_layer p ask) (call_layer p ask) (component_layer p ask) (link_layer p ask) (expr_layer p ask) (place_layer p ask) e ∙ ap (λ (y : TypedExpr-F Argument Call Component Link TypedExpr Place). expr_layer p ask (opened y)) h
 
 module _ (p : Modules) (ask ask' : Asks) (k : AsksLater ask ask') where
@@ -146,7 +146,7 @@ module _ (p : Modules) (ask ask' : Asks) (k : AsksLater ask ask') where
   given_later none a st = gave [] st
   given_later (more x xs) a st = then_later (λ v st. then_later (λ vs st. gave (v ∷ vs) st) (given_later xs a st)) (x.at a st)
 
-  asked_later : (c : Option Callee) {xs ys : List (Gives Passed)} → Pairwise GivesLater xs ys → (a : Environment) (st : State) → Later st.out (asked p ask c xs a st) (asked p ask' c ys a st)
+  asked_later : (c : Option Callee) {xs ys : List (Gives Passed)} → Pairwise GivesLater xs ys → (a : Environment) (st : State) → Later st.out (call_with p ask c xs a st) (call_with p ask' c ys a st)
   asked_later c xs a st = then_later (λ vs st. k.at c vs a.next a.free st) (given_later xs a st)
 
   asked_if_later : (c : Option Callee) {xs ys : List (Gives Passed)} → Pairwise GivesLater xs ys → (a : Environment) (st : State) → Later st.out (asked_if p ask c xs a st) (asked_if p ask' c ys a st)
@@ -162,7 +162,7 @@ module _ (p : Modules) (ask ask' : Asks) (k : AsksLater ask ask') where
   VP d = GivesLater (locate p ask d) (locate p ask' d)
 
   abbrev VC : Call → Type 0
-  VC c = GivesLater (called p ask c) (called p ask' c)
+  VC c = GivesLater (call_value p ask c) (call_value p ask' c)
 
   abbrev VA : Argument → Type 0
   VA x = GivesLater (given p ask x) (given p ask' x)
@@ -227,7 +227,7 @@ module _ (p : Modules) (ask ask' : Asks) (k : AsksLater ask ask') where
   component_later : (y : Component-F SA SC SK SL SE SP) → GoesLater (component_layer p ask (opened_component p ask (bare_component y))) (component_layer p ask' (opened_component p ask' (bare_component y)))
   component_later (layer.Field t n) = record { from = λ l a st. gave (l ++ n ∷ []) st }
   component_later (layer.Element t i) = record { from = λ l a st. then_later (λ v st. indexed_later l (index_range a.types t) v st) (i.1.at a st) }
-  component_later (layer.OpenElement slot t i) = record { from = λ l a st. then_later (λ v st. element_later l (pos 0) (pos (high_of (named a slot))) v st) (i.1.at a st) }
+  component_later (layer.OpenElement slot t i) = record { from = λ l a st. then_later (λ v st. element_later l (pos 0) (pos (high_of (slot_named a slot))) v st) (i.1.at a st) }
 
   components : (xs : List SK) → Pairwise GoesLater (map (reached p ask) (map (λ x. x.0) xs)) (map (reached p ask') (map (λ x. x.0) xs))
   components xs = pairwise_maps {X = SK} {Y = Component} GoesLater (λ x. x.0) (reached p ask) (reached p ask') (λ x. x.1) xs
@@ -239,7 +239,7 @@ module _ (p : Modules) (ask ask' : Asks) (k : AsksLater ask ask') where
   link_later (layer.Arithmetic o t e) = record { from = λ x a st. then_later (λ y st. operated_later a.types o t x y st) (e.1.at a st) }
   link_later (layer.And e) = record { from = λ v a st. if_later (is_true v) (e.1.at a st) (gave (truth false) st) }
   link_later (layer.Or e) = record { from = λ v a st. if_later (is_true v) (gave (truth true) st) (e.1.at a st) }
-  link_later (layer.Combine o e) = record { from = λ x a st. then_later (λ y st. gave (combined o x y) st) (e.1.at a st) }
+  link_later (layer.Combine o e) = record { from = λ x a st. then_later (λ y st. gave (set_operation o x y) st) (e.1.at a st) }
 
   links : (xs : List SL) → Pairwise GoesLater (map (continued p ask) (map (λ x. x.0) xs)) (map (continued p ask') (map (λ x. x.0) xs))
   links xs = pairwise_maps {X = SL} {Y = Link} GoesLater (λ x. x.0) (continued p ask) (continued p ask') (λ x. x.1) xs
@@ -258,9 +258,9 @@ module _ (p : Modules) (ask ask' : Asks) (k : AsksLater ask ask') where
   expr_later (layer.Plus t e) = e.1
   expr_later (layer.Negate e) = record { at = λ a st. then_later (λ v st. base_later a.types integer (pos 0 -ℤ v) st) (e.1.at a st) }
   expr_later (layer.Chain e ls) = record { at = λ a st. then_later (λ v st. one_later (links ls) v a st) (e.1.at a st) }
-  expr_later (layer.Compare o e e') = record { at = λ a st. binary_later _ (λ x y st. gave (truth (compared o x y)) st) e.1 e'.1 a st }
+  expr_later (layer.Compare o e e') = record { at = λ a st. binary_later _ (λ x y st. gave (truth (comparison_holds o x y)) st) e.1 e'.1 a st }
   expr_later (layer.Not e) = record { at = λ a st. then_later (λ v st. gave _ st) (e.1.at a st) }
-  expr_later (layer.Include o e e') = record { at = λ a st. binary_later _ (λ x y st. gave (truth (included o x y)) st) e.1 e'.1 a st }
+  expr_later (layer.Include o e e') = record { at = λ a st. binary_later _ (λ x y st. gave (truth (inclusion_holds o x y)) st) e.1 e'.1 a st }
   expr_later (layer.In e e') = record { at = λ a st. then_later (λ x st. then_later (λ x st. then_later (λ s st. gave (truth (has s x)) st) (e'.1.at a st)) (within_later (pos 0) (pos 31) range_fault x st)) (e.1.at a st) }
   expr_later (layer.Abs t e) = record { at = λ a st. then_later (λ v st. base_later a.types t (absolute v) st) (e.1.at a st) }
   expr_later (layer.Cap e) = record { at = λ a st. then_later (λ v st. gave (capital v) st) (e.1.at a st) }
@@ -297,5 +297,5 @@ module _ (p : Modules) (ask ask' : Asks) (k : AsksLater ask ask') where
   pub locate_later : (d : Place) → GivesLater (locate p ask d) (locate p ask' d)
   locate_later = ind-Place VA VC VK VL VE VP step_argument step_call step_component step_link step_expr step_place
 
-  pub called_later : (c : Call) → GivesLater (called p ask c) (called p ask' c)
+  pub called_later : (c : Call) → GivesLater (call_value p ask c) (call_value p ask' c)
   called_later = ind-Call VA VC VK VL VE VP step_argument step_call step_component step_link step_expr step_place

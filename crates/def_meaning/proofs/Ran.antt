@@ -9,10 +9,10 @@ use Rattle.def_meaning.specs.Outcome.{Outcome}
 use Rattle.def_meaning.specs.Environment.{Modules, Environment, Callee, Passed}
 use Rattle.def_meaning.specs.Expressions.{Asks}
 use Rattle.def_meaning.specs.Statements.{Does, Arm, in_turn, while_true, step_layer, arm_layer, does}
-use Rattle.def_meaning.specs.Calls.{needed, is_function, result, entered, environment_of, body_does, calling}
+use Rattle.def_meaning.specs.Calls.{storage_need, is_function, result, enter_call, environment_of, body_does, calling}
 use Rattle.def_meaning.specs.Runs.{storage, body_frame, first_state, body_environment, then_body, bodies, run}
 use Rattle.def_meaning.specs.Whiles.{Whiles, step_with, does_with, body_with, runs_with, calling_with, bodies_with, run_with}
-use Rattle.def_meaning.specs.Later.{printed, Begins, EndsAlike, PrintsOn}
+use Rattle.def_meaning.specs.Later.{output_of, Begins, EndsAlike, PrintsOn}
 use Rattle.def_meaning.proofs.After.{begins, Later, alike, going, reported_later, After, same, open_yet, if_later, ended, result_later, body_later}
 use Rattle.def_meaning.proofs.Evaluated.{AsksLater, Pairwise, none, more, carry}
 use Rattle.def_meaning.proofs.Turns.{WhilesLater, whiles_later}
@@ -28,8 +28,8 @@ module _ (w w' : Whiles) (p : Modules) (n m : ℕ) (q : n ≤ m) (whiles : While
 
   runs_later : {ask ask' : Asks} → AsksLater ask ask' → (c : Callee) (vs : List Passed) (next left : ℕ) (st : State) → Later st.out (runs_with w p n ask c vs next left st) (runs_with w' p m ask' c vs next left st)
   runs_later k c vs next left st =
-      if_later (nat_lt left (needed c.types c.routine vs)) (ended storage_fault st.out)
-      (result_later (is_function c.types c.routine) (body_runs k c.routine.body (environment_of c next (entered c.types c.routine next vs st.store) (left - needed c.types c.routine vs)) (record st { store = (entered c.types c.routine next vs st.store).store })))
+      if_later (nat_lt left (storage_need c.types c.routine vs)) (ended storage_fault st.out)
+      (result_later (is_function c.types c.routine) (body_runs k c.routine.body (environment_of c next (enter_call c.types c.routine next vs st.store) (left - storage_need c.types c.routine vs)) (record st { store = (enter_call c.types c.routine next vs st.store).store })))
 
   -- one more level of calls
   deeper : (d e : ℕ) → AsksLater (calling_with w p n d) (calling_with w' p m e) → (c : Option Callee) (vs : List Passed) (next left : ℕ) (st : State) → Later st.out (calling_with w p n (suc d) c vs next left st) (calling_with w' p m (suc e) c vs next left st)
@@ -97,8 +97,8 @@ same_deeper p n d h None = refl
 same_deeper p n d h (Some c) =
     ap (λ (ask : Asks). runs_with while_true p n ask c) h
     ∙ fun_ext (λ vs. fun_ext (λ next. fun_ext (λ left. fun_ext (λ st.
-    ap (λ (o : Outcome). if nat_lt left (needed c.types c.routine vs) then Ended storage_fault st.out else result (is_function c.types c.routine) o)
-    (same_body p n (calling p n d) c.routine.body (environment_of c next (entered c.types c.routine next vs st.store) (left - needed c.types c.routine vs)) (record st { store = (entered c.types c.routine next vs st.store).store }))))))
+    ap (λ (o : Outcome). if nat_lt left (storage_need c.types c.routine vs) then Ended storage_fault st.out else result (is_function c.types c.routine) o)
+    (same_body p n (calling p n d) c.routine.body (environment_of c next (enter_call c.types c.routine next vs st.store) (left - storage_need c.types c.routine vs)) (record st { store = (enter_call c.types c.routine next vs st.store).store }))))))
 
 same_calling : (p : Modules) (n d : ℕ) → calling_with while_true p n d ≡ calling p n d
 unfolding calling_with calling
@@ -125,8 +125,8 @@ pub still : {out : List ℕ} {x y : Outcome} (k : ℕ) (all : List ℕ) → Afte
 still k all (same x b) e = e
 still k all (open_yet first x b c) e = cc e
 
-pub goes_on : {out : List ℕ} {x y : Outcome} → After out x y → Begins (printed x) (printed y)
-goes_on (same x b) = begins (printed x)
+pub goes_on : {out : List ℕ} {x y : Outcome} → After out x y → Begins (output_of x) (output_of y)
+goes_on (same x b) = begins (output_of x)
 goes_on (open_yet first x b c) = c
 
 pub ends_alike : EndsAlike

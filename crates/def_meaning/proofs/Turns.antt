@@ -5,7 +5,7 @@ use Rattle.def_meaning.specs.Store.{Location}
 use Rattle.def_meaning.specs.Answer.{State, Answer, ◌▷◌, StillRunning, Value}
 use Rattle.def_meaning.specs.Outcome.{Outcome, Normal}
 use Rattle.def_meaning.specs.Operators.{is_true}
-use Rattle.def_meaning.specs.Statements.{stored, looped, while_true, until_true, has_passed, for_turns, for_all}
+use Rattle.def_meaning.specs.Statements.{store_number, loop_outcome, while_true, until_true, has_passed, for_turns, for_all}
 use Rattle.def_meaning.specs.Whiles.{Whiles}
 use Rattle.def_meaning.proofs.After.{begins, Later, alike, reported_later, After, same, open_yet, printed_later, with_later, go_later, left_later, if_after, went}
 
@@ -31,11 +31,11 @@ second_test {g = g} h = λ st. alike (g st) (reported_later (h st))
 
 -- ---- LOOP
 
-looped_twice : {g : State → Outcome} → Alike g g → (m : ℕ) → Alike (looped m g) (looped m g)
+looped_twice : {g : State → Outcome} → Alike g g → (m : ℕ) → Alike (loop_outcome m g) (loop_outcome m g)
 looped_twice h zero = λ st. stays st
 looped_twice h (suc m) = λ st. left_later (looped_twice h m) (h st)
 
-pub looped_later : {f g : State → Outcome} → Alike f g → (n m : ℕ) → n ≤ m → Alike (looped n f) (looped m g)
+pub looped_later : {f g : State → Outcome} → Alike f g → (n m : ℕ) → n ≤ m → Alike (loop_outcome n f) (loop_outcome m g)
 looped_later h zero m q = λ st. on st (looped_twice (second h) m st)
 looped_later h (suc n) zero q = absurd (omega arith)
 looped_later h (suc n) (suc m) q = λ st. left_later (looped_later h n m (omega arith)) (h st)
@@ -73,13 +73,13 @@ module _ (check : ℤ → State → Answer ℤ) (c : (v : ℤ) (st : State) → 
   turns_twice : {g : State → Outcome} → Alike g g → (m : ℕ) → Alike (for_turns m check l by limit g) (for_turns m check l by limit g)
   turns_twice h zero = λ st. stays st
   turns_twice h (suc m) =
-      λ st. go_later (λ st. if_after (has_passed by limit (st.store l +ℤ by)) (went st) (with_later (λ v st. turns_twice h m (stored l v st)) (c (st.store l +ℤ by) st))) (h st)
+      λ st. go_later (λ st. if_after (has_passed by limit (st.store l +ℤ by)) (went st) (with_later (λ v st. turns_twice h m (store_number l v st)) (c (st.store l +ℤ by) st))) (h st)
 
   turns_later : {f g : State → Outcome} → Alike f g → (n m : ℕ) → n ≤ m → Alike (for_turns n check l by limit f) (for_turns m check l by limit g)
   turns_later h zero m q = λ st. on st (turns_twice (second h) m st)
   turns_later h (suc n) zero q = absurd (omega arith)
   turns_later h (suc n) (suc m) q =
-      λ st. go_later (λ st. if_after (has_passed by limit (st.store l +ℤ by)) (went st) (with_later (λ v st. turns_later h n m (omega arith) (stored l v st)) (c (st.store l +ℤ by) st))) (h st)
+      λ st. go_later (λ st. if_after (has_passed by limit (st.store l +ℤ by)) (went st) (with_later (λ v st. turns_later h n m (omega arith) (store_number l v st)) (c (st.store l +ℤ by) st))) (h st)
 
   pub for_later : {f g : State → Outcome} → Alike f g → (n m : ℕ) → n ≤ m → Alike (for_all n check l by limit f) (for_all m check l by limit g)
   for_later h n m q = λ st. if_after (has_passed by limit (st.store l)) (went st) (turns_later h n m q st)

@@ -45,5 +45,5 @@ empty_procedure = 7
 abbrev pub storage_fault : ℕ
 storage_fault = 8
 
-abbrev pub halted : ℕ
-halted = 9
+abbrev pub halt_status : ℕ
+halt_status = 9

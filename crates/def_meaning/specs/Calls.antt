@@ -12,8 +12,8 @@ use Rattle.typed_tree.specs.Known.{made_at}
 use Rattle.layout_storage.specs.Sizes.{size}
 use Rattle.layout_storage.specs.Shapes.{tree}
 use Rattle.layout_storage.specs.Frames.{formals_of, frame}
-use Rattle.layout_storage.specs.Texts.{passed}
-use Rattle.def_meaning.specs.Store.{Location, Store, assigned, copied, placed, fresh}
+use Rattle.layout_storage.specs.Texts.{argument_text}
+use Rattle.def_meaning.specs.Store.{Location, Store, assign_number, copy_whole, overlay, fresh}
 use Rattle.def_meaning.specs.Answer.{State, Answer, Value, no_return, empty_procedure, storage_fault, Ended, StillRunning}
 use Rattle.def_meaning.specs.Outcome.{Outcome, Normal, Exited, Returned}
 use Rattle.def_meaning.specs.Environment.{Modules, Environment, Named, At, Elements, Callee, Passed, Number, Variable, Array, Text}
@@ -44,15 +44,15 @@ copied_also e high store =
 abbrev pub with_passed : (is_var : Bool) → (activation : ℕ) → Entered → Passed → Entered
 with_passed is_var activation e (Number v) =
     named_also e (At (variable_at activation (length e.names)))
-    (assigned (variable_at activation (length e.names)) v e.store)
+    (assign_number (variable_at activation (length e.names)) v e.store)
 with_passed true activation e (Variable l) = named_also e (At l) e.store
 with_passed false activation e (Variable l) =
     named_also e (At (variable_at activation (length e.names)))
-    (copied (variable_at activation (length e.names)) l e.store)
+    (copy_whole (variable_at activation (length e.names)) l e.store)
 with_passed true activation e (Array l high) = named_also e (Elements l high) e.store
-with_passed false activation e (Array l high) = copied_also e high (copied (e.next ∷ []) l e.store)
+with_passed false activation e (Array l high) = copied_also e high (copy_whole (e.next ∷ []) l e.store)
 with_passed is_var activation e (Text text) =
-    copied_also e (length (passed text) - 1) (placed (e.next ∷ []) (character text) e.store)
+    copied_also e (length (argument_text text) - 1) (overlay (e.next ∷ []) (character text) e.store)
 
 abbrev pub with_all : (activation : ℕ) → List Formal → List Passed → Entered → Entered
 with_all activation [] vs e = e
@@ -67,15 +67,15 @@ abbrev pub copy_size : Types → Formal → Passed → ℕ
 copy_size types f (Number v) = 0
 copy_size types f (Variable l) = 0
 copy_size types f (Array l high) = if f.is_var then 0 else suc high * size (tree types f.of)
-copy_size types f (Text text) = length (passed text) * size (tree types f.of)
+copy_size types f (Text text) = length (argument_text text) * size (tree types f.of)
 
 abbrev pub copies_size : Types → List Formal → List Passed → ℕ
 copies_size types [] vs = 0
 copies_size types (f ∷ fs) [] = 0
 copies_size types (f ∷ fs) (v ∷ vs) = copy_size types f v + copies_size types fs vs
 
-abbrev pub needed : Types → Routine → List Passed → ℕ
-needed types r vs = size (frame types r) + copies_size types (formals_of types r.heading) vs
+abbrev pub storage_need : Types → Routine → List Passed → ℕ
+storage_need types r vs = size (frame types r) + copies_size types (formals_of types r.heading) vs
 
 -- ---- the body
 
@@ -116,12 +116,12 @@ variables_from activation v [] = []
 variables_from activation v (t ∷ ts) =
     At (variable_at activation v) ∷ variables_from activation (suc v) ts
 
-abbrev pub entered : Types → Routine → (activation : ℕ) → List Passed → Store → Entered
-entered types r activation vs store =
+abbrev pub enter_call : Types → Routine → (activation : ℕ) → List Passed → Store → Entered
+enter_call types r activation vs store =
     with_all activation (formals_of types r.heading) vs (record {
       names = [];
       next = suc activation;
-      store = placed (activation ∷ []) (fresh (frame types r)) store;
+      store = overlay (activation ∷ []) (fresh (frame types r)) store;
     })
 
 -- the body's names are the formals and then the variables
@@ -148,10 +148,10 @@ module _ (p : Modules) (n : ℕ) where
   -- a call whose frame and copies do not fit into the free storage is a fault
   abbrev pub runs : Asks → Callee → List Passed → (next free : ℕ) → State → Answer ℤ
   runs ask c vs next free st =
-      if nat_lt free (needed c.types c.routine vs)
+      if nat_lt free (storage_need c.types c.routine vs)
       then Ended storage_fault st.out
-      else runs_in ask c next (entered c.types c.routine next vs st.store)
-      (free - needed c.types c.routine vs) st
+      else runs_in ask c next (enter_call c.types c.routine next vs st.store)
+      (free - storage_need c.types c.routine vs) st
 
   -- calls nest at most d deep
   unfoldable pub calling : (d : ℕ) → Asks

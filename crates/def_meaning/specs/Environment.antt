@@ -75,8 +75,8 @@ abbrev pub or_empty : Option (List Named) → List Named
 or_empty None = []
 or_empty (Some ns) = ns
 
-abbrev pub named : Environment → Slot → Option Named
-named a slot = slice_get (or_empty (slice_get a.frames slot.up)) slot.number
+abbrev pub slot_named : Environment → Slot → Option Named
+slot_named a slot = slice_get (or_empty (slice_get a.frames slot.up)) slot.number
 
 abbrev pub location_of : Option Named → Location
 location_of None = []

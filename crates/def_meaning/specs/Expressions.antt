@@ -23,8 +23,8 @@ use Rattle.typed_tree.specs.Known.{made_at, scalar_at}
 use Rattle.layout_storage.specs.Shapes.{elements_of}
 use Rattle.def_meaning.specs.Store.{Location}
 use Rattle.def_meaning.specs.Answer.{State, Answer, Value, Ended, ◌▷◌, range_fault, overflow, index_fault, divisor_fault, empty_procedure}
-use Rattle.def_meaning.specs.Operators.{is_between, truth, is_true, compared, combined, included, has, absolute, capital, odd, quotient, remainder}
-use Rattle.def_meaning.specs.Environment.{Modules, Environment, Callee, Passed, Number, Variable, Array, Text, module_place, procedure_value, entry_of, entry_callee, module_callee, nested_in, named, location_of, high_of, or_root}
+use Rattle.def_meaning.specs.Operators.{is_between, truth, is_true, comparison_holds, set_operation, inclusion_holds, has, absolute, capital, odd, quotient, remainder}
+use Rattle.def_meaning.specs.Environment.{Modules, Environment, Callee, Passed, Number, Variable, Array, Text, module_place, procedure_value, entry_of, entry_callee, module_callee, nested_in, slot_named, location_of, high_of, or_root}
 
 -- ---- checks
 
@@ -78,15 +78,15 @@ element_in l (Some s) i st = element l s.low s.high i st
 
 -- ---- operations
 
-abbrev pub divided : (ℤ → ℤ → ℤ) → ℤ → ℤ → State → Answer ℤ
-divided f x y st = if int_lt (pos 0) y then Value (f x y) st else Ended divisor_fault st.out
+abbrev pub division_by : (ℤ → ℤ → ℤ) → ℤ → ℤ → State → Answer ℤ
+division_by f x y st = if int_lt (pos 0) y then Value (f x y) st else Ended divisor_fault st.out
 
-abbrev pub operated : Types → Arithmetic → TypeNo → ℤ → ℤ → State → Answer ℤ
-operated types op.Add t x y st = in_base types t (x +ℤ y) st
-operated types op.Subtract t x y st = in_base types t (x -ℤ y) st
-operated types op.Multiply t x y st = in_base types t (x *ℤ y) st
-operated types op.Divide t x y st = divided quotient x y st
-operated types op.Remainder t x y st = divided remainder x y st
+abbrev pub arithmetic_result : Types → Arithmetic → TypeNo → ℤ → ℤ → State → Answer ℤ
+arithmetic_result types op.Add t x y st = in_base types t (x +ℤ y) st
+arithmetic_result types op.Subtract t x y st = in_base types t (x -ℤ y) st
+arithmetic_result types op.Multiply t x y st = in_base types t (x *ℤ y) st
+arithmetic_result types op.Divide t x y st = division_by quotient x y st
+arithmetic_result types op.Remainder t x y st = division_by remainder x y st
 
 -- the ordinal number of a value: a negative one is a fault
 abbrev pub ordinal : ℤ → State → Answer ℤ
@@ -119,13 +119,13 @@ module _ (p : Modules) (ask : Asks) where
   all_given (x ∷ xs) a st =
       x a st ▷ λ v st. all_given xs a st ▷ λ vs st. Value (v ∷ vs) st
 
-  abbrev pub asked : Option Callee → List (Gives Passed) → Environment → State → Answer ℤ
-  asked callee args a st = all_given args a st ▷ λ vs st. ask callee vs a.next a.free st
+  abbrev pub call_with : Option Callee → List (Gives Passed) → Environment → State → Answer ℤ
+  call_with callee args a st = all_given args a st ▷ λ vs st. ask callee vs a.next a.free st
 
   -- the value of a procedure variable is taken before the arguments
   abbrev pub asked_if : Option Callee → List (Gives Passed) → Environment → State → Answer ℤ
   asked_if None args a st = Ended empty_procedure st.out
-  asked_if (Some callee) args a st = asked (Some callee) args a st
+  asked_if (Some callee) args a st = call_with (Some callee) args a st
 
   abbrev pub argument_layer :
       Argument-F (Gives Passed) (Gives ℤ) Reaches Continues (Gives ℤ) (Gives Location)
@@ -136,23 +136,23 @@ module _ (p : Modules) (ask : Asks) where
   argument_layer (layer.Array t d) a st =
       d a st ▷ λ l st. Value (Array l (high_index a.types t)) st
   argument_layer (layer.Open slot) a st =
-      Value (Array (location_of (named a slot)) (high_of (named a slot))) st
+      Value (Array (location_of (slot_named a slot)) (high_of (slot_named a slot))) st
   argument_layer (layer.Text text) a st = Value (Text text) st
 
   abbrev pub call_layer :
       Call-F (Gives Passed) (Gives ℤ) Reaches Continues (Gives ℤ) (Gives Location) → Gives ℤ
   call_layer (layer.Module f args) a st =
-      asked (module_callee p (module_place p f.home) f.number) args a st
+      call_with (module_callee p (module_place p f.home) f.number) args a st
   call_layer (layer.Nested f args) a st =
-      asked (nested_in a.place (slice_get p a.place) (drop f.up a.frames) f.number) args a st
+      call_with (nested_in a.place (slice_get p a.place) (drop f.up a.frames) f.number) args a st
   call_layer (layer.Variable t d args) a st =
       d a st ▷ λ l st. asked_if (entry_callee p (entry_of p (st.store l))) args a st
 
   abbrev pub root_layer : Root → Environment → Location
   root_layer (root.Global v) a = module_place p v.home ∷ v.number ∷ []
-  root_layer (root.Local slot) a = location_of (named a slot)
-  root_layer (root.Alias slot) a = location_of (named a slot)
-  root_layer (root.Open slot) a = location_of (named a slot)
+  root_layer (root.Local slot) a = location_of (slot_named a slot)
+  root_layer (root.Alias slot) a = location_of (slot_named a slot)
+  root_layer (root.Open slot) a = location_of (slot_named a slot)
   root_layer (root.With k) a = or_root (slice_get a.withs k)
 
   -- free to right: an index is evaluated, and checked, behind what stands before its bracket
@@ -162,7 +162,7 @@ module _ (p : Modules) (ask : Asks) where
   component_layer (layer.Element t i) l a st =
       i a st ▷ λ v st. element_in l (index_range a.types t) v st
   component_layer (layer.OpenElement slot t i) l a st =
-      i a st ▷ λ v st. element l (pos 0) (pos (high_of (named a slot))) v st
+      i a st ▷ λ v st. element l (pos 0) (pos (high_of (slot_named a slot))) v st
 
   abbrev pub place_layer :
       Place-F (Gives Passed) (Gives ℤ) Reaches Continues (Gives ℤ) (Gives Location) → Gives Location
@@ -178,10 +178,10 @@ module _ (p : Modules) (ask : Asks) where
   abbrev pub link_layer :
       Link-F (Gives Passed) (Gives ℤ) Reaches Continues (Gives ℤ) (Gives Location) → Continues
   link_layer (layer.Arithmetic o t e) x a st =
-      e a st ▷ λ y st. operated a.types o t x y st
+      e a st ▷ λ y st. arithmetic_result a.types o t x y st
   link_layer (layer.And e) v a st = if is_true v then e a st else Value (truth false) st
   link_layer (layer.Or e) v a st = if is_true v then Value (truth true) st else e a st
-  link_layer (layer.Combine o e) x a st = e a st ▷ λ y st. Value (combined o x y) st
+  link_layer (layer.Combine o e) x a st = e a st ▷ λ y st. Value (set_operation o x y) st
 
   abbrev pub expr_layer :
       TypedExpr-F (Gives Passed) (Gives ℤ) Reaches Continues (Gives ℤ) (Gives Location) → Gives ℤ
@@ -192,10 +192,10 @@ module _ (p : Modules) (ask : Asks) where
   expr_layer (layer.Negate e) a st = unary e (λ v st. in_base a.types integer (pos 0 -ℤ v) st) a st
   expr_layer (layer.Chain e links) a st = e a st ▷ λ v st. one_by_one links v a st
   expr_layer (layer.Compare o e e') a st =
-      binary e e' (λ x y st. Value (truth (compared o x y)) st) a st
+      binary e e' (λ x y st. Value (truth (comparison_holds o x y)) st) a st
   expr_layer (layer.Not e) a st = unary e (λ v st. Value (truth (not (is_true v))) st) a st
   expr_layer (layer.Include o e e') a st =
-      binary e e' (λ x y st. Value (truth (included o x y)) st) a st
+      binary e e' (λ x y st. Value (truth (inclusion_holds o x y)) st) a st
   expr_layer (layer.In e e') a st =
       e a st ▷ λ x st.
       within (pos 0) (pos 31) range_fault x st ▷ λ x st.
@@ -206,7 +206,7 @@ module _ (p : Modules) (ask : Asks) where
   expr_layer (layer.Odd e) a st = unary e (λ v st. Value (truth (odd v)) st) a st
   expr_layer (layer.Ord e) a st = unary e ordinal a st
   expr_layer (layer.Val t e) a st = unary e (as_type a.types t) a st
-  expr_layer (layer.High slot) a st = Value (pos (high_of (named a slot))) st
+  expr_layer (layer.High slot) a st = Value (pos (high_of (slot_named a slot))) st
   expr_layer (layer.Call t c) a st = c a st
 
   unfoldable pub value : TypedExpr → Gives ℤ
@@ -219,7 +219,7 @@ module _ (p : Modules) (ask : Asks) where
       fold-Place (Gives Passed) (Gives ℤ) Reaches Continues (Gives ℤ) (Gives Location)
       argument_layer call_layer component_layer link_layer expr_layer place_layer
 
-  unfoldable pub called : Call → Gives ℤ
-  called =
+  unfoldable pub call_value : Call → Gives ℤ
+  call_value =
       fold-Call (Gives Passed) (Gives ℤ) Reaches Continues (Gives ℤ) (Gives Location) argument_layer
       call_layer component_layer link_layer expr_layer place_layer

@@ -5,12 +5,12 @@ use Rattle.def_meaning.specs.Outcome.{Outcome, Normal, Exited, Returned}
 use Rattle.def_meaning.specs.Environment.{Modules}
 use Rattle.def_meaning.specs.Runs.{run}
 
-abbrev pub printed : Outcome → List ℕ
-printed (Value Normal st) = st.out
-printed (Value Exited st) = st.out
-printed (Value (Returned v) st) = st.out
-printed (Ended k out) = out
-printed (StillRunning out) = out
+abbrev pub output_of : Outcome → List ℕ
+output_of (Value Normal st) = st.out
+output_of (Value Exited st) = st.out
+output_of (Value (Returned v) st) = st.out
+output_of (Ended k out) = out
+output_of (StillRunning out) = out
 
 -- the second is the first, and then more
 pub record Begins (xs ys : List ℕ) : Type 0 where
@@ -27,4 +27,4 @@ EndsAlike =
 abbrev pub PrintsOn : Type 0
 PrintsOn =
     (p : Modules) (pages n m : ℕ) → n ≤ m
-    → Begins (printed (run p pages n)) (printed (run p pages m))
+    → Begins (output_of (run p pages n)) (output_of (run p pages m))

@@ -21,13 +21,13 @@ is_true v = int_lt (pos 0) v
 
 -- ---- relations
 
-abbrev pub compared : Comparison → ℤ → ℤ → Bool
-compared Equal x y = int_le x y && int_le y x
-compared Unequal x y = not (int_le x y && int_le y x)
-compared Less x y = int_lt x y
-compared AtMost x y = int_le x y
-compared Greater x y = int_lt y x
-compared AtLeast x y = int_le y x
+abbrev pub comparison_holds : Comparison → ℤ → ℤ → Bool
+comparison_holds Equal x y = int_le x y && int_le y x
+comparison_holds Unequal x y = not (int_le x y && int_le y x)
+comparison_holds Less x y = int_lt x y
+comparison_holds AtMost x y = int_le x y
+comparison_holds Greater x y = int_lt y x
+comparison_holds AtLeast x y = int_le y x
 
 -- ---- sets
 
@@ -37,15 +37,15 @@ bits v = unsigned_abs v
 abbrev pub without : ℕ → ℕ → ℕ
 without a b = bit_and a (bit_xor b 4294967295)
 
-abbrev pub combined : SetOperator → ℤ → ℤ → ℤ
-combined Union a b = pos (bit_or (bits a) (bits b))
-combined Difference a b = pos (without (bits a) (bits b))
-combined Intersection a b = pos (bit_and (bits a) (bits b))
-combined SymmetricDifference a b = pos (bit_xor (bits a) (bits b))
+abbrev pub set_operation : SetOperator → ℤ → ℤ → ℤ
+set_operation Union a b = pos (bit_or (bits a) (bits b))
+set_operation Difference a b = pos (without (bits a) (bits b))
+set_operation Intersection a b = pos (bit_and (bits a) (bits b))
+set_operation SymmetricDifference a b = pos (bit_xor (bits a) (bits b))
 
-abbrev pub included : Inclusion → ℤ → ℤ → Bool
-included Within a b = without (bits a) (bits b) == 0
-included Around a b = without (bits b) (bits a) == 0
+abbrev pub inclusion_holds : Inclusion → ℤ → ℤ → Bool
+inclusion_holds Within a b = without (bits a) (bits b) == 0
+inclusion_holds Around a b = without (bits b) (bits a) == 0
 
 abbrev pub has : ℤ → ℤ → Bool
 has set element = bits set / 2 ^ bits element % 2 == 1

@@ -16,12 +16,12 @@ use Rattle.typed_tree.specs.declared.shape.Scalar.{Scalar as Range}
 use Rattle.typed_tree.specs.declared.known_types.Types.{Types}
 use Rattle.typed_tree.specs.Types.{char}
 use Rattle.typed_tree.specs.Known.{scalar_at}
-use Rattle.def_meaning.specs.Store.{Location, assigned, copied, placed}
-use Rattle.def_meaning.specs.Answer.{State, Answer, ◌▷◌, range_fault, case_fault, halted, Ended, StillRunning, Value}
+use Rattle.def_meaning.specs.Store.{Location, assign_number, copy_whole, overlay}
+use Rattle.def_meaning.specs.Answer.{State, Answer, ◌▷◌, range_fault, case_fault, halt_status, Ended, StillRunning, Value}
 use Rattle.def_meaning.specs.Outcome.{Outcome, Normal, Exited, Returned, sequence}
 use Rattle.def_meaning.specs.Operators.{is_between, is_true, bits, without, single}
 use Rattle.def_meaning.specs.Environment.{Modules, Environment}
-use Rattle.def_meaning.specs.Expressions.{Asks, within, as_type, in_base, value, locate, called}
+use Rattle.def_meaning.specs.Expressions.{Asks, within, as_type, in_base, value, locate, call_value}
 
 abbrev pub Does : Type 0
 Does = Environment → State → Outcome
@@ -37,8 +37,8 @@ if_there (Some ds) a st = in_turn ds a st
 
 -- ---- storing
 
-abbrev pub stored : Location → ℤ → State → State
-stored l v st = record st { store = assigned l v st.store }
+abbrev pub store_number : Location → ℤ → State → State
+store_number l v st = record st { store = assign_number l v st.store }
 
 -- the characters of a string, and 0C behind them
 abbrev pub or_zero : Option ℕ → ℤ
@@ -59,9 +59,9 @@ loop_left (Ended k out) next = Ended k out
 loop_left (StillRunning out) next = StillRunning out
 
 -- LOOP: EXIT ends it
-abbrev pub looped : ℕ → (State → Outcome) → State → Outcome
-looped zero body st = StillRunning st.out
-looped (suc n) body st = loop_left (body st) (looped n body)
+abbrev pub loop_outcome : ℕ → (State → Outcome) → State → Outcome
+loop_outcome zero body st = StillRunning st.out
+loop_outcome (suc n) body st = loop_left (body st) (loop_outcome n body)
 
 -- WHILE: the condition is evaluated before each turn, and behind the last one
 abbrev pub while_true : ℕ → (State → Answer ℤ) → (State → Outcome) → State → Outcome
@@ -91,7 +91,7 @@ for_turns (suc n) check l by limit body st =
     if has_passed by limit (st.store l +ℤ by)
     then Value Normal st
     else (check (st.store l +ℤ by) st ▷ λ v st.
-    for_turns n check l by limit body (stored l v st)))
+    for_turns n check l by limit body (store_number l v st)))
 
 abbrev pub for_all : ℕ → (check : ℤ → State → Answer ℤ) → Location → (by limit : ℤ)
     → (State → Outcome) → State → Outcome
@@ -116,10 +116,10 @@ pub record Arm : Type 0 where
   pub labels : List Label
   pub does : Does
 
-abbrev pub chosen : ℤ → List Arm → Does → Does
-chosen v [] otherwise = otherwise
-chosen v (x ∷ xs) otherwise =
-    if list_any (is_labelled v) x.labels then x.does else chosen v xs otherwise
+abbrev pub choose_arm : ℤ → List Arm → Does → Does
+choose_arm v [] otherwise = otherwise
+choose_arm v (x ∷ xs) otherwise =
+    if list_any (is_labelled v) x.labels then x.does else choose_arm v xs otherwise
 
 -- ---- INC, DEC, INCL, EXCL
 
@@ -127,13 +127,13 @@ abbrev pub base_of : TypeNo → Option Range → TypeNo
 base_of t None = t
 base_of t (Some s) = s.base
 
-abbrev pub changed : Change → ℤ → ℤ → ℤ
-changed change.Increase x by = x +ℤ by
-changed change.Decrease x by = x -ℤ by
+abbrev pub change_by : Change → ℤ → ℤ → ℤ
+change_by change.Increase x by = x +ℤ by
+change_by change.Decrease x by = x -ℤ by
 
 -- the result is one of the base type, and then one of the variable's
-abbrev pub rechecked : Types → TypeNo → ℤ → State → Answer ℤ
-rechecked types t v st =
+abbrev pub recheck_value : Types → TypeNo → ℤ → State → Answer ℤ
+recheck_value types t v st =
     in_base types (base_of t (scalar_at types t)) v st ▷ (as_type types t)
 
 abbrev pub with_element : Membership → ℤ → ℤ → ℤ
@@ -147,15 +147,15 @@ module _ (p : Modules) (ask : Asks) (n : ℕ) where
   step_layer (step.Assign d t e) a st =
       locate p ask d a st ▷ λ l st.
       value p ask e a st ▷ λ v st.
-      as_type a.types t v st ▷ λ v st. Value Normal (stored l v st)
+      as_type a.types t v st ▷ λ v st. Value Normal (store_number l v st)
   step_layer (step.Copy to from t) a st =
       locate p ask to a st ▷ λ l st.
       locate p ask from a st ▷ λ l' st.
-      Value Normal (record st { store = copied l l' st.store })
+      Value Normal (record st { store = copy_whole l l' st.store })
   step_layer (step.CopyText d t text) a st =
       locate p ask d a st ▷ λ l st.
-      Value Normal (record st { store = placed l (character text) st.store })
-  step_layer (step.Call c) a st = called p ask c a st ▷ λ v st. Value Normal st
+      Value Normal (record st { store = overlay l (character text) st.store })
+  step_layer (step.Call c) a st = call_value p ask c a st ▷ λ v st. Value Normal st
   step_layer (step.Put e) a st =
       value p ask e a st ▷ λ v st.
       as_type a.types char v st ▷ λ v st.
@@ -163,22 +163,22 @@ module _ (p : Modules) (ask : Asks) (n : ℕ) where
   step_layer (step.Change o d t e) a st =
       locate p ask d a st ▷ λ l st.
       value p ask e a st ▷ λ by st.
-      rechecked a.types t (changed o (st.store l) by) st ▷ λ v st.
-      Value Normal (stored l v st)
+      recheck_value a.types t (change_by o (st.store l) by) st ▷ λ v st.
+      Value Normal (store_number l v st)
   step_layer (step.Membership o d e) a st =
       locate p ask d a st ▷ λ l st.
       value p ask e a st ▷ λ x st.
       within (pos 0) (pos 31) range_fault x st ▷ λ x st.
-      Value Normal (stored l (with_element o (st.store l) x) st)
-  step_layer step.Halt a st = Ended halted st.out
+      Value Normal (store_number l (with_element o (st.store l) x) st)
+  step_layer step.Halt a st = Ended halt_status st.out
   step_layer (step.If e body others) a st =
       value p ask e a st ▷ λ v st.
       if is_true v then in_turn body a st else if_there others a st
   step_layer (step.Case e arms others) a st =
-      value p ask e a st ▷ λ v st. chosen v arms (or_else others) a st
+      value p ask e a st ▷ λ v st. choose_arm v arms (or_else others) a st
   step_layer (step.While e body) a st = while_true n (value p ask e a) (in_turn body a) st
   step_layer (step.Repeat body e) a st = until_true n (in_turn body a) (value p ask e a) st
-  step_layer (step.Loop body) a st = looped n (in_turn body a) st
+  step_layer (step.Loop body) a st = loop_outcome n (in_turn body a) st
   step_layer step.Exit a st = Value Exited st
   step_layer step.Return a st = Value (Returned (pos 0)) st
   step_layer (step.Give t e) a st =
@@ -190,7 +190,7 @@ module _ (p : Modules) (ask : Asks) (n : ℕ) where
       value p ask start a st ▷ λ v st.
       as_type a.types t v st ▷ λ v st.
       value p ask limit a st ▷ λ last st.
-      for_all n (as_type a.types t) l by last (in_turn body a) (stored l v st)
+      for_all n (as_type a.types t) l by last (in_turn body a) (store_number l v st)
   -- the record is found once
   step_layer (step.With d body) a st =
       locate p ask d a st ▷ λ l st.

@@ -17,20 +17,20 @@ behind (i ∷ p) [] = None
 behind (i ∷ p) (j ∷ l) = if nat_eq i j then behind p l else None
 
 -- the first where there is something behind, else the second
-abbrev pub chosen : {A : Type 0} → Option Location → (Location → A) → A → A
-chosen (Some r) f a = f r
-chosen None f a = a
+abbrev pub choose_arm : {A : Type 0} → Option Location → (Location → A) → A → A
+choose_arm (Some r) f a = f r
+choose_arm None f a = a
 
 -- a location and its components hold this now, all others what they held
-unfoldable pub placed : {A : Type 0} → Location → (Location → A) → (Location → A) → Location → A
-placed to f s l = chosen (behind to l) f (s l)
+unfoldable pub overlay : {A : Type 0} → Location → (Location → A) → (Location → A) → Location → A
+overlay to f s l = choose_arm (behind to l) f (s l)
 
 -- an assignment of a number, and of a whole array or record
-abbrev pub assigned : Location → ℤ → Store → Store
-assigned to v s = placed to (λ r. v) s
+abbrev pub assign_number : Location → ℤ → Store → Store
+assign_number to v s = overlay to (λ r. v) s
 
-abbrev pub copied : (to from : Location) → Store → Store
-copied to from s = placed to (λ r. s (from ++ r)) s
+abbrev pub copy_whole : (to from : Location) → Store → Store
+copy_whole to from s = overlay to (λ r. s (from ++ r)) s
 
 -- what a fresh variable of this type holds
 abbrev pub first_in : Option Ty → ℤ

@@ -8,7 +8,7 @@ use Rattle.def_meaning.specs.Outcome.{Outcome}
 use Rattle.def_meaning.specs.Environment.{Modules, Environment, Callee, Passed}
 use Rattle.def_meaning.specs.Expressions.{Asks, value}
 use Rattle.def_meaning.specs.Statements.{Does, Arm, in_turn, step_layer, arm_layer}
-use Rattle.def_meaning.specs.Calls.{Entered, needed, is_function, result, entered, environment_of}
+use Rattle.def_meaning.specs.Calls.{Entered, storage_need, is_function, result, enter_call, environment_of}
 use Rattle.def_meaning.specs.Runs.{storage, body_frame, first_state, body_environment, then_body}
 
 -- what a WHILE does within a bound: its condition, and its body
@@ -37,10 +37,10 @@ module _ (w : Whiles) (p : Modules) where
 
     abbrev pub runs_with : Asks → Callee → List Passed → (next free : ℕ) → State → Answer ℤ
     runs_with ask c vs next free st =
-        if nat_lt free (needed c.types c.routine vs)
+        if nat_lt free (storage_need c.types c.routine vs)
         then Ended storage_fault st.out
-        else runs_in_with ask c next (entered c.types c.routine next vs st.store)
-        (free - needed c.types c.routine vs) st
+        else runs_in_with ask c next (enter_call c.types c.routine next vs st.store)
+        (free - storage_need c.types c.routine vs) st
 
     unfoldable pub calling_with : (d : ℕ) → Asks
     calling_with zero c vs next free st = StillRunning st.out

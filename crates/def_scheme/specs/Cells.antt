@@ -16,7 +16,7 @@ use Rattle.layout_storage.specs.Types.{Ty, Scalar, Natural, Integer, Between, Ca
 use Rattle.layout_storage.specs.Sizes.{Room, One, Two, Four, room_of}
 use Rattle.layout_storage.specs.Shapes.{tree}
 use Rattle.def_meaning.specs.Answer.{overflow, range_fault}
-use Rattle.def_scheme.specs.Coded.{number, operation, checked}
+use Rattle.def_scheme.specs.Coded.{number, operation, check_code}
 
 -- ---- cells
 
@@ -72,11 +72,11 @@ store_tree (Array n t) = []
 store_tree Nothing = []
 store_tree (Field t others) = []
 
-abbrev pub loaded : Types → TypeNo → List Instr
-loaded types t = load_tree (tree types t)
+abbrev pub load_code : Types → TypeNo → List Instr
+load_code types t = load_tree (tree types t)
 
-abbrev pub stored : Types → TypeNo → List Instr
-stored types t = store_tree (tree types t)
+abbrev pub store_code : Types → TypeNo → List Instr
+store_code types t = store_tree (tree types t)
 
 -- addresses, HIGH and links are numbers of 32 bits
 abbrev pub word : Scalar
@@ -86,7 +86,7 @@ word = Natural 4294967295
 
 abbrev pub in_range : Option Range → (fault : ℕ) → List Instr
 in_range None k = []
-in_range (Some s) k = checked s.low s.high k
+in_range (Some s) k = check_code s.low s.high k
 
 -- within the bounds of a type
 abbrev pub in_type : Types → TypeNo → (fault : ℕ) → List Instr

@@ -83,8 +83,8 @@ with_setting f s c = f s s c
 abbrev pub number : ℤ → Instr
 number n = I64Const (cast_unsigned w64 n)
 
-abbrev pub raised : ℕ → List Instr
-raised n = I32Const n ∷ Numeric numeric.I32Add ∷ []
+abbrev pub raise_address : ℕ → List Instr
+raise_address n = I32Const n ∷ Numeric numeric.I32Add ∷ []
 
 abbrev pub relation : Relation → Instr
 relation r = Numeric (numeric.I64Relation r)
@@ -92,11 +92,11 @@ relation r = Numeric (numeric.I64Relation r)
 abbrev pub operation : Operation → Instr
 operation o = Numeric (numeric.I64Operation o)
 
-abbrev pub wrapped : Instr
-wrapped = Numeric numeric.I32WrapI64
+abbrev pub wrap_word : Instr
+wrap_word = Numeric numeric.I32WrapI64
 
-abbrev pub extended : Instr
-extended = Numeric numeric.I64ExtendI32U
+abbrev pub extend_word : Instr
+extend_word = Numeric numeric.I64ExtendI32U
 
 abbrev pub is_zero : Instr
 is_zero = Numeric numeric.I64Eqz
@@ -130,5 +130,5 @@ abbrev pub fault : ℕ → List Instr
 fault k = I64Const k ∷ Call stop ∷ Unreachable ∷ []
 
 -- a value within these bounds, or else this fault
-abbrev pub checked : (low high : ℤ) → (fault : ℕ) → List Instr
-checked low high k = number low ∷ number high ∷ I64Const k ∷ Call check ∷ []
+abbrev pub check_code : (low high : ℤ) → (fault : ℕ) → List Instr
+check_code low high k = number low ∷ number high ∷ I64Const k ∷ Call check ∷ []

@@ -47,10 +47,10 @@ use Rattle.layout_storage.specs.Types.{Ty, Nothing, Array, row}
 use Rattle.layout_storage.specs.Sizes.{size, offset}
 use Rattle.layout_storage.specs.Shapes.{tree, elements_of}
 use Rattle.layout_storage.specs.Frames.{formals_of, module_row}
-use Rattle.layout_storage.specs.Texts.{passed}
+use Rattle.layout_storage.specs.Texts.{argument_text}
 use Rattle.def_meaning.specs.Answer.{empty_procedure, index_fault, overflow, range_fault}
-use Rattle.def_scheme.specs.Coded.{Coded, Setting, plain, ◌⨾◌, nothing, all_coded, within, with_address, with_number, with_text, with_setting, top_local, number, raised, relation, operation, wrapped, extended, is_zero, put, copy, check, quotient, remainder, body_index, checked}
-use Rattle.def_scheme.specs.Cells.{loaded, load_scalar, word, in_range, in_type, base_of, check_taken, is_nought, unless_nought}
+use Rattle.def_scheme.specs.Coded.{Coded, Setting, plain, ◌⨾◌, nothing, all_coded, within, with_address, with_number, with_text, with_setting, top_local, number, raise_address, relation, operation, wrap_word, extend_word, is_zero, put, copy, check, quotient, remainder, body_index, check_code}
+use Rattle.def_scheme.specs.Cells.{load_code, load_scalar, word, in_range, in_type, base_of, check_taken, is_nought, unless_nought}
 
 -- ---- other modules: the globals of the place of its variables and of its slots stand behind those
 -- of the module itself
@@ -99,7 +99,7 @@ frame_at (Some t) = t
 -- from a frame to the one around it
 abbrev pub outwards : ℕ → List Instr
 outwards zero = []
-outwards (suc k) = Load load.I64 ∷ wrapped ∷ outwards k
+outwards (suc k) = Load load.I64 ∷ wrap_word ∷ outwards k
 
 abbrev pub frame_code : (up : ℕ) → List Instr
 frame_code up = LocalGet 0 ∷ outwards up
@@ -109,11 +109,11 @@ abbrev pub slot_path : Setting → Slot → List ℕ → ℕ
 slot_path s slot path = offset (frame_at (slice_get s.frames slot.up)) (suc slot.number ∷ path)
 
 abbrev pub slot_code : Setting → Slot → List ℕ → List Instr
-slot_code s slot path = frame_code slot.up ++ raised (slot_path s slot path)
+slot_code s slot path = frame_code slot.up ++ raise_address (slot_path s slot path)
 
 -- what a VAR formal, or an open array in its first cell, stands for
 abbrev pub kept_address : Setting → Slot → List ℕ → List Instr
-kept_address s slot path = slot_code s slot path ++ (load_scalar word ++ wrapped ∷ [])
+kept_address s slot path = slot_code s slot path ++ (load_scalar word ++ wrap_word ∷ [])
 
 abbrev pub open_address : Setting → Slot → List Instr
 open_address s slot = kept_address s slot (0 ∷ [])
@@ -141,8 +141,8 @@ element_tree (Array n t) = t
 element_tree t = Nothing
 
 -- the address of an element, behind the address of the array and a checked index from 0
-abbrev pub scaled : (bytes : ℕ) → List Instr
-scaled bytes = I64Const bytes ∷ operation Mul ∷ wrapped ∷ Numeric numeric.I32Add ∷ []
+abbrev pub scale_index : (bytes : ℕ) → List Instr
+scale_index bytes = I64Const bytes ∷ operation Mul ∷ wrap_word ∷ Numeric numeric.I32Add ∷ []
 
 abbrev pub from_lower : Option Range → List Instr
 from_lower None = []
@@ -151,12 +151,12 @@ from_lower (Some s) = unless_nought s.low (number s.low ∷ operation Sub ∷ []
 abbrev pub element_code : Types → TypeNo → List Instr
 element_code types t =
     in_range (index_of types t) index_fault ++ (from_lower (index_of types t)
-    ++ scaled (size (element_tree (tree types t))))
+    ++ scale_index (size (element_tree (tree types t))))
 
 abbrev pub open_element_code : Setting → Slot → TypeNo → List Instr
 open_element_code s slot t =
     I64Const 0 ∷ (high_code s slot ++ (I64Const 3 ∷ Call check
-    ∷ scaled (size (tree s.home.types t))))
+    ∷ scale_index (size (tree s.home.types t))))
 
 -- ---- expressions
 
@@ -166,8 +166,8 @@ pub record Part : Type 0 where
   pub constant : Bool
   pub code : Coded
 
-abbrev pub computed : TypeNo → Coded → Part
-computed t code = record { of = t; constant = false; code = code }
+abbrev pub part_of : TypeNo → Coded → Part
+part_of t code = record { of = t; constant = false; code = code }
 
 abbrev pub relation_of : Comparison → Relation
 relation_of compare.Equal = Eq
@@ -195,7 +195,7 @@ set_code sets.SymmetricDifference = operation Xor ∷ []
 set_code sets.Difference = complement ++ operation And ∷ []
 
 abbrev pub empty_code : List Instr
-empty_code = is_zero ∷ extended ∷ []
+empty_code = is_zero ∷ extend_word ∷ []
 
 abbrev pub include_code : Inclusion → Coded → Coded → Coded
 include_code inclusion.Within x y = x ⨾ y ⨾ plain (complement ++ (operation And ∷ empty_code))
@@ -206,14 +206,14 @@ chosen_number first second = If (Some type.I64) first (Some second)
 
 -- the second operand stands in one side of an if, behind the first
 abbrev pub and_code : Coded → Coded
-and_code y = plain (wrapped ∷ []) ⨾ within 1 (λ code. chosen_number code (I64Const 0 ∷ []) ∷ []) y
+and_code y = plain (wrap_word ∷ []) ⨾ within 1 (λ code. chosen_number code (I64Const 0 ∷ []) ∷ []) y
 
 abbrev pub or_code : Coded → Coded
-or_code y = plain (wrapped ∷ []) ⨾ within 1 (λ code. chosen_number (I64Const 1 ∷ []) code ∷ []) y
+or_code y = plain (wrap_word ∷ []) ⨾ within 1 (λ code. chosen_number (I64Const 1 ∷ []) code ∷ []) y
 
 abbrev pub in_code : Coded → Coded → Coded
 in_code x y =
-    x ⨾ plain (checked (pos 0) (pos 31) range_fault) ⨾ with_number (λ t.
+    x ⨾ plain (check_code (pos 0) (pos 31) range_fault) ⨾ with_number (λ t.
     plain (LocalSet t ∷ []) ⨾ y
     ⨾ plain (LocalGet t ∷ operation ShrU ∷ I64Const 1 ∷ operation And ∷ []))
 
@@ -221,7 +221,7 @@ abbrev pub absolute_code : ℕ → List Instr
 absolute_code t =
     LocalSet t ∷ LocalGet t ∷ I64Const 0 ∷ relation LtS
     ∷ chosen_number (I64Const 0 ∷ LocalGet t ∷ operation Sub ∷ []) (LocalGet t ∷ [])
-    ∷ checked (pos 0) (pos 2147483647) overflow
+    ∷ check_code (pos 0) (pos 2147483647) overflow
 
 abbrev pub abs_code : TypeNo → Coded → Coded
 abs_code t x = if are_same t integer then x ⨾ with_number (λ n. plain (absolute_code n)) else x
@@ -233,7 +233,7 @@ capital_code t =
 
 abbrev pub ord_check : Types → TypeNo → List Instr
 ord_check types t =
-    if are_same (base_of types t) integer then checked (pos 0) (pos 2147483647) range_fault else []
+    if are_same (base_of types t) integer then check_code (pos 0) (pos 2147483647) range_fault else []
 
 -- the base type of a result is checked with that of its operands
 abbrev pub behind : Coded → (Types → List Instr) → Coded
@@ -248,24 +248,24 @@ slot_number f = suc f.number
 
 abbrev pub procedure_code : TypedModule → Procedure → List Instr
 procedure_code m f =
-    GlobalGet (slots_global m f.home) ∷ extended ∷ I64Const (slot_number f) ∷ operation Add ∷ []
+    GlobalGet (slots_global m f.home) ∷ extend_word ∷ I64Const (slot_number f) ∷ operation Add ∷ []
 
 abbrev pub loaded_from : Coded → TypeNo → Coded
-loaded_from d t = behind d (λ types. loaded types t)
+loaded_from d t = behind d (λ types. load_code types t)
 
 -- an operator of a chain: the type of its result, and its code behind that of what stands before
 pub record Linked : Type 0 where
   pub of : TypeNo
   pub code : Coded
 
-abbrev pub linked : TypeNo → Coded → Linked
-linked t code = record { of = t; code = code }
+abbrev pub link_of : TypeNo → Coded → Linked
+link_of t code = record { of = t; code = code }
 
 abbrev pub link_layer : Link-F Coded Coded Coded Linked Part Coded → Linked
-link_layer (layer.Arithmetic o t b) = linked t (behind b.code (λ types. arithmetic_code types o t))
-link_layer (layer.And b) = linked boolean (and_code b.code)
-link_layer (layer.Or b) = linked boolean (or_code b.code)
-link_layer (layer.Combine o b) = linked bitset (b.code ⨾ plain (set_code o))
+link_layer (layer.Arithmetic o t b) = link_of t (behind b.code (λ types. arithmetic_code types o t))
+link_layer (layer.And b) = link_of boolean (and_code b.code)
+link_layer (layer.Or b) = link_of boolean (or_code b.code)
+link_layer (layer.Combine o b) = link_of bitset (b.code ⨾ plain (set_code o))
 
 -- the last operator of a chain gives its type
 abbrev pub chain_type : TypeNo → List Linked → TypeNo
@@ -278,33 +278,33 @@ chain_code (l ∷ ls) = l.code ⨾ chain_code ls
 
 abbrev pub expr_layer : TypedExpr-F Coded Coded Coded Linked Part Coded → Part
 expr_layer (layer.Constant t n) = record { of = t; constant = true; code = plain (number n ∷ []) }
-expr_layer (layer.Load t d) = computed t (loaded_from d t)
+expr_layer (layer.Load t d) = part_of t (loaded_from d t)
 expr_layer (layer.Procedure f) =
-    computed f.heading (with_setting (λ s. plain (procedure_code s.home f)))
-expr_layer (layer.Plus t e) = computed t e.code
+    part_of f.heading (with_setting (λ s. plain (procedure_code s.home f)))
+expr_layer (layer.Plus t e) = part_of t e.code
 expr_layer (layer.Negate e) =
-    computed integer (plain (I64Const 0 ∷ [])
+    part_of integer (plain (I64Const 0 ∷ [])
     ⨾ behind e.code (λ types. operation Sub ∷ in_type types integer overflow))
-expr_layer (layer.Chain e links) = computed (chain_type e.of links) (e.code ⨾ chain_code links)
+expr_layer (layer.Chain e links) = part_of (chain_type e.of links) (e.code ⨾ chain_code links)
 expr_layer (layer.Compare o a b) =
-    computed boolean (two a.code b.code (relation (relation_of o) ∷ extended ∷ []))
-expr_layer (layer.Not e) = computed boolean (e.code ⨾ plain empty_code)
-expr_layer (layer.Include o a b) = computed boolean (include_code o a.code b.code)
-expr_layer (layer.In a b) = computed boolean (in_code a.code b.code)
-expr_layer (layer.Abs t e) = computed t (abs_code t e.code)
-expr_layer (layer.Cap e) = computed char (e.code ⨾ with_number (λ t. plain (capital_code t)))
-expr_layer (layer.Chr e) = computed char (e.code ⨾ plain (checked (pos 0) (pos 255) range_fault))
-expr_layer (layer.Odd e) = computed boolean (e.code ⨾ plain (I64Const 1 ∷ operation And ∷ []))
-expr_layer (layer.Ord e) = computed cardinal (behind e.code (λ types. ord_check types e.of))
-expr_layer (layer.Val t e) = computed t (behind e.code (λ types. in_type types t range_fault))
-expr_layer (layer.High slot) = computed cardinal (with_setting (λ s. plain (high_code s slot)))
-expr_layer (layer.Call t c) = computed t c
+    part_of boolean (two a.code b.code (relation (relation_of o) ∷ extend_word ∷ []))
+expr_layer (layer.Not e) = part_of boolean (e.code ⨾ plain empty_code)
+expr_layer (layer.Include o a b) = part_of boolean (include_code o a.code b.code)
+expr_layer (layer.In a b) = part_of boolean (in_code a.code b.code)
+expr_layer (layer.Abs t e) = part_of t (abs_code t e.code)
+expr_layer (layer.Cap e) = part_of char (e.code ⨾ with_number (λ t. plain (capital_code t)))
+expr_layer (layer.Chr e) = part_of char (e.code ⨾ plain (check_code (pos 0) (pos 255) range_fault))
+expr_layer (layer.Odd e) = part_of boolean (e.code ⨾ plain (I64Const 1 ∷ operation And ∷ []))
+expr_layer (layer.Ord e) = part_of cardinal (behind e.code (λ types. ord_check types e.of))
+expr_layer (layer.Val t e) = part_of t (behind e.code (λ types. in_type types t range_fault))
+expr_layer (layer.High slot) = part_of cardinal (with_setting (λ s. plain (high_code s slot)))
+expr_layer (layer.Call t c) = part_of t c
 
 -- ---- designators
 
 abbrev pub global_code : TypedModule → Variable → List Instr
 global_code m v =
-    GlobalGet (base_global m v.home) ∷ raised (offset (variables_row m v.home) (v.number ∷ []))
+    GlobalGet (base_global m v.home) ∷ raise_address (offset (variables_row m v.home) (v.number ∷ []))
 
 abbrev pub with_code : Option ℕ → List Instr
 with_code None = []
@@ -320,7 +320,7 @@ root_layer (root.With k) = with_setting (λ s. plain (with_code (slice_get s.wit
 -- the code of a component stands behind that of what it is a component of
 abbrev pub component_layer : Component-F Coded Coded Coded Linked Part Coded → Coded
 component_layer (layer.Field t k) =
-    with_setting (λ s. plain (raised (offset (tree s.home.types t) (k ∷ []))))
+    with_setting (λ s. plain (raise_address (offset (tree s.home.types t) (k ∷ []))))
 component_layer (layer.Element t i) = behind i.code (λ types. element_code types t)
 component_layer (layer.OpenElement slot t i) =
     i.code ⨾ with_setting (λ s. plain (open_element_code s slot t))
@@ -331,7 +331,7 @@ place_layer d = root_layer d.root ⨾ all_coded d.components
 -- ---- arguments
 
 abbrev pub text_code : (offset : ℕ) → List Instr
-text_code at = GlobalGet text_global ∷ raised at
+text_code at = GlobalGet text_global ∷ raise_address at
 
 abbrev pub high_index : Types → TypeNo → ℕ
 high_index types t = elements_of (index_of types t) - 1
@@ -339,15 +339,15 @@ high_index types t = elements_of (index_of types t) - 1
 abbrev pub passed_text : List ℕ → Coded
 passed_text text =
     with_text (length text) (λ at.
-    plain (text_code at ++ (extended ∷ I64Const (length text - 1) ∷ [])))
+    plain (text_code at ++ (extend_word ∷ I64Const (length text - 1) ∷ [])))
 
 abbrev pub argument_layer : Argument-F Coded Coded Coded Linked Part Coded → Coded
 argument_layer (layer.Value t e) = behind e.code (λ types. check_taken types t e.constant e.of)
-argument_layer (layer.Place d) = d ⨾ plain (extended ∷ [])
-argument_layer (layer.Array t d) = behind d (λ types. extended ∷ I64Const (high_index types t) ∷ [])
+argument_layer (layer.Place d) = d ⨾ plain (extend_word ∷ [])
+argument_layer (layer.Array t d) = behind d (λ types. extend_word ∷ I64Const (high_index types t) ∷ [])
 argument_layer (layer.Open slot) =
-    with_setting (λ s. plain (open_address s slot ++ (extended ∷ high_code s slot)))
-argument_layer (layer.Text text) = passed_text (passed text)
+    with_setting (λ s. plain (open_address s slot ++ (extend_word ∷ high_code s slot)))
+argument_layer (layer.Text text) = passed_text (argument_text text)
 
 -- ---- calls
 
@@ -387,19 +387,19 @@ module _ (numbered : Numbered) where
   module_call m f =
       if is_own m f.home
       then Call (suc body_index + f.number) ∷ []
-      else (GlobalGet (slots_global m f.home) ∷ (raised (slot_number f)
+      else (GlobalGet (slots_global m f.home) ∷ (raise_address (slot_number f)
       ++ indirect m.types f.heading ∷ []))
 
   -- the link of the procedure around it
   abbrev pub link_code : (up : ℕ) → List Instr
-  link_code up = frame_code up ++ extended ∷ []
+  link_code up = frame_code up ++ extend_word ∷ []
 
   abbrev pub nested_call : TypedModule → LocalProcedure → List Instr
   nested_call m f = Call (suc body_index + (length m.procedures + f.number)) ∷ []
 
   abbrev pub value_call : ℕ → TypeNo → Coded
   value_call t heading =
-      with_setting (λ s. plain (LocalGet t ∷ wrapped ∷ indirect s.home.types heading ∷ []))
+      with_setting (λ s. plain (LocalGet t ∷ wrap_word ∷ indirect s.home.types heading ∷ []))
 
   abbrev pub call_layer : Call-F Coded Coded Coded Linked Part Coded → Coded
   call_layer (layer.Module f args) =
@@ -408,7 +408,7 @@ module _ (numbered : Numbered) where
       top_code ⨾ plain (link_code f.up) ⨾ all_coded args
       ⨾ with_setting (λ s. plain (nested_call s.home f))
   call_layer (layer.Variable t d args) =
-      loaded_from d t ⨾ plain (checked (pos 1) (pos 4294967295) empty_procedure)
+      loaded_from d t ⨾ plain (check_code (pos 1) (pos 4294967295) empty_procedure)
       ⨾ with_number (λ n. plain (LocalSet n ∷ []) ⨾ top_code ⨾ all_coded args ⨾ value_call n t)
 
   unfoldable pub expr_part : TypedExpr → Part

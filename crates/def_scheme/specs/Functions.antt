@@ -22,7 +22,7 @@ use Rattle.layout_storage.specs.Shapes.{tree}
 use Rattle.layout_storage.specs.Frames.{formals_of, frame}
 use Rattle.layout_storage.specs.Texts.{characters, routines_texts, texts_before}
 use Rattle.def_meaning.specs.Answer.{no_return, storage_fault}
-use Rattle.def_scheme.specs.Coded.{Coded, Counts, Setting, plain, ◌⨾◌, top_local, copy_local, raised, operation, wrapped, extended, copy, fill, fault}
+use Rattle.def_scheme.specs.Coded.{Coded, Counts, Setting, plain, ◌⨾◌, top_local, copy_local, raise_address, operation, wrap_word, extend_word, copy, fill, fault}
 use Rattle.def_scheme.specs.Cells.{store_scalar, word}
 use Rattle.def_scheme.specs.Exprs.{Numbered, arguments_of, all_arguments, has_result}
 use Rattle.def_scheme.specs.Steps.{body_code}
@@ -70,7 +70,7 @@ limit_check =
 
 abbrev pub enter_code : (top : ℕ) → (bytes : ℕ) → List Instr
 enter_code top bytes =
-    LocalGet 0 ∷ (raised bytes ++ (LocalTee top ∷ (limit_check ++ (LocalGet 0 ∷ I32Const bytes
+    LocalGet 0 ∷ (raise_address bytes ++ (LocalTee top ∷ (limit_check ++ (LocalGet 0 ∷ I32Const bytes
     ∷ Call fill ∷ []))))
 
 abbrev pub link_kept : Routine → List Instr
@@ -78,7 +78,7 @@ link_kept r = if nat_lt 1 r.level then LocalGet 0 ∷ LocalGet 1 ∷ Store width
 
 -- the address of a cell of formal v
 abbrev pub formal_address : Ty → (v : ℕ) → List ℕ → List Instr
-formal_address f v path = LocalGet 0 ∷ raised (offset f (suc v ∷ path))
+formal_address f v path = LocalGet 0 ∷ raise_address (offset f (suc v ∷ path))
 
 abbrev pub word_kept : Ty → (v : ℕ) → List ℕ → List Instr → List Instr
 word_kept f v path value = formal_address f v path ++ (value ++ store_scalar word)
@@ -87,19 +87,19 @@ word_kept f v path value = formal_address f v path ++ (value ++ store_scalar wor
 abbrev pub value_kept : Ty → (v x : ℕ) → Ty → List Instr
 value_kept f v x (Cell c) = formal_address f v [] ++ (LocalGet x ∷ store_scalar c)
 value_kept f v x t =
-    formal_address f v [] ++ (LocalGet x ∷ wrapped ∷ I32Const (size t) ∷ Call copy ∷ [])
+    formal_address f v [] ++ (LocalGet x ∷ wrap_word ∷ I32Const (size t) ∷ Call copy ∷ [])
 
 abbrev pub bytes_code : (h : ℕ) → (element : ℕ) → List Instr
 bytes_code h element =
-    LocalGet h ∷ I64Const 1 ∷ operation Add ∷ I64Const element ∷ operation Mul ∷ wrapped ∷ []
+    LocalGet h ∷ I64Const 1 ∷ operation Add ∷ I64Const element ∷ operation Mul ∷ wrap_word ∷ []
 
 -- the copy of an open array stands behind the frame, and behind the copies before it
 abbrev pub open_copied : (top p : ℕ) → Ty → (v x element : ℕ) → List Instr
 open_copied top p f v x element =
     LocalGet top ∷ LocalSet p ∷ LocalGet top ∷ (bytes_code (suc x) element
-    ++ (Numeric numeric.I32Add ∷ LocalTee top ∷ (limit_check ++ (LocalGet p ∷ LocalGet x ∷ wrapped
+    ++ (Numeric numeric.I32Add ∷ LocalTee top ∷ (limit_check ++ (LocalGet p ∷ LocalGet x ∷ wrap_word
     ∷ (bytes_code (suc x) element ++ (Call copy
-    ∷ (word_kept f v (0 ∷ []) (LocalGet p ∷ extended ∷ [])
+    ∷ (word_kept f v (0 ∷ []) (LocalGet p ∷ extend_word ∷ [])
     ++ word_kept f v (1 ∷ []) (LocalGet (suc x) ∷ []))))))))
 
 abbrev pub formal_kept : Types → (top p : ℕ) → Ty → (v x : ℕ) → Formal → List Instr
@@ -155,13 +155,13 @@ end_code true = fault no_return
 end_code false = []
 
 module _ (numbered : Numbered) (m : TypedModule) where
-  abbrev pub coded : List Ty → (arguments text : ℕ) → List TypedStmt → List Instr × Counts
-  coded frames arguments at body =
+  abbrev pub function_code : List Ty → (arguments text : ℕ) → List TypedStmt → List Instr × Counts
+  function_code frames arguments at body =
       body_code numbered body (setting m frames arguments (addresses_in body)) (from_text at)
 
   abbrev pub routine_coded : Routine → (text : ℕ) → List Instr × Counts
   routine_coded r at =
-      coded (frame m.types r ∷ frames_around m r.level r.around) (suc (numbers_of m.types r)) at
+      function_code (frame m.types r ∷ frames_around m r.level r.around) (suc (numbers_of m.types r)) at
       r.body
 
   abbrev pub routine_function : Which → Routine → Function
@@ -177,7 +177,7 @@ module _ (numbered : Numbered) (m : TypedModule) where
 
   -- the body of the module: its texts stand behind all others
   abbrev pub module_coded : List Instr × Counts
-  module_coded = coded (frame_of [] ∷ []) 1 (characters (routines_texts m)) m.body
+  module_coded = function_code (frame_of [] ∷ []) 1 (characters (routines_texts m)) m.body
 
   abbrev pub module_function : Function
   module_function = function_of 5 (enter_code 1 (size (frame_of []))) module_coded []

@@ -23,7 +23,7 @@ use Rattle.def_scheme.specs.Helpers.{copy_code, fill_code, check_code, divisor_c
 use Rattle.def_scheme.specs.Coded.{body_index}
 use Rattle.def_scheme.specs.Exprs.{Numbered}
 use Rattle.def_scheme.specs.Functions.{functions_from, module_function}
-use Rattle.def_scheme.specs.Signatures.{Signatures, needed, ordered, number_of, type_of}
+use Rattle.def_scheme.specs.Signatures.{Signatures, signatures_needed, in_order, number_of, type_of}
 
 -- a program's memory has at most so many pages, of 65536 bytes
 abbrev pub max_pages : ℕ
@@ -49,16 +49,16 @@ helpers =
     ∷ helper 4 (divisor_checked div_rest) ∷ mod_function ∷ []
 
 abbrev pub signatures : TypedModule → Signatures
-signatures m = ordered (needed m)
+signatures m = in_order (signatures_needed m)
 
-abbrev pub numbered : TypedModule → Numbered
-numbered m = number_of (signatures m)
+abbrev pub numbering_of : TypedModule → Numbered
+numbering_of m = number_of (signatures m)
 
 abbrev pub functions : TypedModule → List Function
 functions m =
-    helpers ++ (module_function (numbered m) m
-    ∷ (functions_from (numbered m) m which.Module 0 m.procedures
-    ++ functions_from (numbered m) m which.Local 0 m.locals))
+    helpers ++ (module_function (numbering_of m) m
+    ∷ (functions_from (numbering_of m) m which.Module 0 m.procedures
+    ++ functions_from (numbering_of m) m which.Local 0 m.locals))
 
 abbrev pub imports : TypedModule → List Import
 imports m = own_imports m.name ++ (imported_globals (map (λ i. i.name) m.imports) ++ host_imports)

@@ -38,13 +38,13 @@ signature n result = record { arguments = n; result = result }
 abbrev pub of_heading : Types → TypeNo → Signature
 of_heading types h = signature (all_arguments (formals_of types h)) (has_result types h)
 
-abbrev pub joined : List Signatures → Signatures
-joined [] = []
-joined (ss ∷ more) = ss ++ joined more
+abbrev pub concatenation : List Signatures → Signatures
+concatenation [] = []
+concatenation (ss ∷ more) = ss ++ concatenation more
 
 abbrev pub optional : Option (List Signatures) → Signatures
 optional None = []
-optional (Some xs) = joined xs
+optional (Some xs) = concatenation xs
 
 -- ---- calls through the table: of procedures of other modules, and of procedure variables
 
@@ -60,9 +60,9 @@ module _ (m : TypedModule) where
   abbrev pub call_layer : Call-F Signatures Signatures Signatures Signatures Signatures Signatures
       → Signatures
   call_layer (layer.Module f args) =
-      joined args ++ (if is_own m f.home then [] else of_heading m.types f.heading ∷ [])
-  call_layer (layer.Nested f args) = joined args
-  call_layer (layer.Variable t d args) = d ++ (joined args ++ of_heading m.types t ∷ [])
+      concatenation args ++ (if is_own m f.home then [] else of_heading m.types f.heading ∷ [])
+  call_layer (layer.Nested f args) = concatenation args
+  call_layer (layer.Variable t d args) = d ++ (concatenation args ++ of_heading m.types t ∷ [])
 
   abbrev pub component_layer :
       Component-F Signatures Signatures Signatures Signatures Signatures Signatures → Signatures
@@ -72,7 +72,7 @@ module _ (m : TypedModule) where
 
   abbrev pub place_layer : Place-F Signatures Signatures Signatures Signatures Signatures Signatures
       → Signatures
-  place_layer d = joined d.components
+  place_layer d = concatenation d.components
 
   abbrev pub link_layer : Link-F Signatures Signatures Signatures Signatures Signatures Signatures
       → Signatures
@@ -88,7 +88,7 @@ module _ (m : TypedModule) where
   expr_layer (layer.Procedure p) = []
   expr_layer (layer.Plus t e) = e
   expr_layer (layer.Negate e) = e
-  expr_layer (layer.Chain a links) = a ++ joined links
+  expr_layer (layer.Chain a links) = a ++ concatenation links
   expr_layer (layer.Compare op a b) = a ++ b
   expr_layer (layer.Not e) = e
   expr_layer (layer.Include op a b) = a ++ b
@@ -126,20 +126,20 @@ module _ (m : TypedModule) where
   step_layer (step.Change o d t e) = of_place d ++ of_expr e
   step_layer (step.Membership o d e) = of_place d ++ of_expr e
   step_layer step.Halt = []
-  step_layer (step.If e body others) = of_expr e ++ (joined body ++ optional others)
-  step_layer (step.Case e arms others) = of_expr e ++ (joined arms ++ optional others)
-  step_layer (step.While e body) = of_expr e ++ joined body
-  step_layer (step.Repeat body e) = joined body ++ of_expr e
-  step_layer (step.Loop body) = joined body
+  step_layer (step.If e body others) = of_expr e ++ (concatenation body ++ optional others)
+  step_layer (step.Case e arms others) = of_expr e ++ (concatenation arms ++ optional others)
+  step_layer (step.While e body) = of_expr e ++ concatenation body
+  step_layer (step.Repeat body e) = concatenation body ++ of_expr e
+  step_layer (step.Loop body) = concatenation body
   step_layer step.Exit = []
   step_layer step.Return = []
   step_layer (step.Give t e) = of_expr e
   step_layer (step.For d t start limit by body) =
-      of_place d ++ (of_expr start ++ (of_expr limit ++ joined body))
-  step_layer (step.With d body) = of_place d ++ joined body
+      of_place d ++ (of_expr start ++ (of_expr limit ++ concatenation body))
+  step_layer (step.With d body) = of_place d ++ concatenation body
 
   abbrev pub arm_layer : TypedArm-F Signatures Signatures → Signatures
-  arm_layer x = joined x.body
+  arm_layer x = concatenation x.body
 
   unfoldable pub of_step : TypedStmt → Signatures
   of_step = fold-TypedStmt Signatures Signatures step_layer arm_layer
@@ -149,8 +149,8 @@ module _ (m : TypedModule) where
       signature (numbers_of m.types r) (has_result m.types r.heading) ∷ flat_map of_step r.body
 
   -- all that are needed, in any order
-  abbrev pub needed : Signatures
-  needed =
+  abbrev pub signatures_needed : Signatures
+  signatures_needed =
       flat_map of_routine m.procedures ++ (flat_map of_routine m.locals ++ flat_map of_step m.body)
 
 -- ---- numbers
@@ -183,8 +183,8 @@ of_arguments ss zero = if_among ss (signature 0 true)
 of_arguments ss (suc n) =
     if_among ss (signature (suc n) false) ++ if_among ss (signature (suc n) true)
 
-abbrev pub ordered : Signatures → Signatures
-ordered ss = flat_map (of_arguments ss) (range_with_len 0 (suc (most_arguments ss)))
+abbrev pub in_order : Signatures → Signatures
+in_order ss = flat_map (of_arguments ss) (range_with_len 0 (suc (most_arguments ss)))
 
 abbrev pub body_signature : Signature
 body_signature = signature 0 false

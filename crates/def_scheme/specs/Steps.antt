@@ -22,9 +22,9 @@ use Rattle.typed_tree.specs.declared.known_types.Types.{Types}
 use Rattle.typed_tree.specs.Types.{char, bitset}
 use Rattle.layout_storage.specs.Sizes.{size}
 use Rattle.layout_storage.specs.Shapes.{tree}
-use Rattle.def_meaning.specs.Answer.{case_fault, halted, range_fault}
-use Rattle.def_scheme.specs.Coded.{Coded, Setting, plain, ◌⨾◌, nothing, all_coded, within, with_address, with_number, with_text, with_setting, number, raised, relation, operation, wrapped, is_zero, put, copy, fill, fault, checked}
-use Rattle.def_scheme.specs.Cells.{loaded, stored, in_type, check_taken, check_changed}
+use Rattle.def_meaning.specs.Answer.{case_fault, halt_status, range_fault}
+use Rattle.def_scheme.specs.Coded.{Coded, Setting, plain, ◌⨾◌, nothing, all_coded, within, with_address, with_number, with_text, with_setting, number, raise_address, relation, operation, wrap_word, is_zero, put, copy, fill, fault, check_code}
+use Rattle.def_scheme.specs.Cells.{load_code, store_code, in_type, check_taken, check_changed}
 use Rattle.def_scheme.specs.Exprs.{Numbered, Part, behind, complement, text_code, expr_part, place_code, call_code}
 
 -- ---- loops and blocks
@@ -137,22 +137,22 @@ from_least t low = LocalGet t ∷ number low ∷ operation Sub ∷ []
 abbrev pub dispatch : (t : ℕ) → List Arm → (least : ℤ) → (span : ℕ) → List Instr
 dispatch t arms low span =
     from_least t low ++ (I64Const (span - 1) ∷ relation GtU ∷ BrIf (length arms) ∷ (from_least t low
-    ++ (wrapped ∷ BrTable (targets arms low span) (length arms) ∷ [])))
+    ++ (wrap_word ∷ BrTable (targets arms low span) (length arms) ∷ [])))
 
 -- code in one more block, in which no EXIT stands
-abbrev pub boxed : Coded → Coded
-boxed x s c = let inner = x s c in (block inner.0, inner.1)
+abbrev pub in_block : Coded → Coded
+in_block x s c = let inner = x s c in (block inner.0, inner.1)
 
 -- each arm stands behind the end of its block
 abbrev pub jump_arms : List Arm → Coded → Coded
 jump_arms [] inner = inner
 jump_arms (x ∷ xs) inner =
     jump_arms xs
-    (boxed inner ⨾ within (length xs + 2) (λ code. code) x.code ⨾ plain (Br (length xs + 1) ∷ []))
+    (in_block inner ⨾ within (length xs + 2) (λ code. code) x.code ⨾ plain (Br (length xs + 1) ∷ []))
 
 abbrev pub table_code : (t : ℕ) → List Arm → Coded → Coded
 table_code t arms otherwise =
-    boxed (boxed (jump_arms arms
+    in_block (in_block (jump_arms arms
     (plain (dispatch t arms (least_of (all_labels arms)) (span_of (all_labels arms)))))
     ⨾ within 1 (λ code. code) otherwise)
 
@@ -172,14 +172,14 @@ passes by = if int_lt by (pos 0) then LtS else GtS
 -- the variable's address stands below its start; then the limit is kept, and the turns follow
 abbrev pub for_begin : Coded → TypeNo → Part → Part → (t : ℕ) → Coded
 for_begin d t start limit n =
-    plain (LocalSet n ∷ []) ⨾ with_setting (λ s. plain (stored s.home.types t))
+    plain (LocalSet n ∷ []) ⨾ with_setting (λ s. plain (store_code s.home.types t))
 
 abbrev pub for_turn : Coded → TypeNo → (by : ℤ) → (n : ℕ) → Coded → Coded
 for_turn d t by n body =
-    body ⨾ behind d (λ types. loaded types t)
+    body ⨾ behind d (λ types. load_code types t)
     ⨾ plain (number by ∷ operation Add ∷ LocalGet n ∷ relation (passes by) ∷ BrIf 1 ∷ []) ⨾ d
-    ⨾ behind d (λ types. loaded types t) ⨾ with_setting (λ s.
-    plain (number by ∷ operation Add ∷ (in_type s.home.types t range_fault ++ (stored s.home.types t
+    ⨾ behind d (λ types. load_code types t) ⨾ with_setting (λ s.
+    plain (number by ∷ operation Add ∷ (in_type s.home.types t range_fault ++ (store_code s.home.types t
     ++ Br 0 ∷ []))))
 
 abbrev pub for_code : Coded → TypeNo → Part → Part → (by : ℤ) → Coded → Coded
@@ -188,7 +188,7 @@ for_code d t start limit by body =
     ⨾ with_number (λ n.
     for_begin d t start limit n
     ⨾ within 1 block
-    (behind d (λ types. loaded types t) ⨾ plain (LocalGet n ∷ relation (passes by) ∷ BrIf 0 ∷ [])
+    (behind d (λ types. load_code types t) ⨾ plain (LocalGet n ∷ relation (passes by) ∷ BrIf 0 ∷ [])
     ⨾ within 1 loop (for_turn d t by n body)))
 
 -- ---- INC, DEC, INCL, EXCL
@@ -198,22 +198,22 @@ change_operation change.Increase = operation Add
 change_operation change.Decrease = operation Sub
 
 -- an address is kept, and what is added or put in
-abbrev pub kept : Coded → (ℕ → Coded) → Coded
-kept d f = d ⨾ with_address (λ w. plain (LocalSet w ∷ []) ⨾ f w)
+abbrev pub keep_address : Coded → (ℕ → Coded) → Coded
+keep_address d f = d ⨾ with_address (λ w. plain (LocalSet w ∷ []) ⨾ f w)
 
 abbrev pub read_again : (w : ℕ) → Types → TypeNo → List Instr
-read_again w types t = LocalGet w ∷ LocalGet w ∷ loaded types t
+read_again w types t = LocalGet w ∷ LocalGet w ∷ load_code types t
 
-abbrev pub changed : Change → (w n : ℕ) → Types → TypeNo → List Instr
-changed o w n types t =
+abbrev pub change_instructions : Change → (w n : ℕ) → Types → TypeNo → List Instr
+change_instructions o w n types t =
     read_again w types t ++ (LocalGet n ∷ change_operation o ∷ (check_changed types t
-    ++ stored types t))
+    ++ store_code types t))
 
 abbrev pub change_code : Change → Coded → TypeNo → Coded → Coded
 change_code o d t x =
-    kept d (λ w.
+    keep_address d (λ w.
     x ⨾ with_number (λ n.
-    plain (LocalSet n ∷ []) ⨾ with_setting (λ s. plain (changed o w n s.home.types t))))
+    plain (LocalSet n ∷ []) ⨾ with_setting (λ s. plain (change_instructions o w n s.home.types t))))
 
 abbrev pub member_operation : Membership → List Instr
 member_operation member.Include = operation Or ∷ []
@@ -222,12 +222,12 @@ member_operation member.Exclude = complement ++ operation And ∷ []
 abbrev pub with_member : Membership → (w n : ℕ) → Types → List Instr
 with_member o w n types =
     read_again w types bitset ++ (I64Const 1 ∷ LocalGet n ∷ operation Shl ∷ (member_operation o
-    ++ stored types bitset))
+    ++ store_code types bitset))
 
 abbrev pub member_code : Membership → Coded → Coded → Coded
 member_code o d x =
-    kept d (λ w.
-    x ⨾ plain (checked (pos 0) (pos 31) range_fault) ⨾ with_number (λ n.
+    keep_address d (λ w.
+    x ⨾ plain (check_code (pos 0) (pos 31) range_fault) ⨾ with_number (λ n.
     plain (LocalSet n ∷ []) ⨾ with_setting (λ s. plain (with_member o w n s.home.types))))
 
 -- ---- strings
@@ -235,7 +235,7 @@ member_code o d x =
 -- the characters are copied, and the rest of the array is filled with 0C
 abbrev pub text_copied : (at bytes rest w : ℕ) → List Instr
 text_copied at bytes rest w =
-    text_code at ++ (I32Const bytes ∷ Call copy ∷ LocalGet w ∷ (raised bytes ++ (I32Const rest
+    text_code at ++ (I32Const bytes ∷ Call copy ∷ LocalGet w ∷ (raise_address bytes ++ (I32Const rest
     ∷ Call fill ∷ [])))
 
 abbrev pub copy_text_code : Coded → TypeNo → List ℕ → Coded
@@ -255,22 +255,22 @@ module _ (numbered : Numbered) where
   place = place_code numbered
 
   -- a value as one of a type
-  abbrev pub taken : TypeNo → TypedExpr → Coded
-  taken t e = behind (part e).code (λ types. check_taken types t (part e).constant (part e).of)
+  abbrev pub take_code : TypeNo → TypedExpr → Coded
+  take_code t e = behind (part e).code (λ types. check_taken types t (part e).constant (part e).of)
 
   abbrev pub step_layer : TypedStmt-F Coded Arm → Coded
   step_layer (step.Assign d t e) =
-      place d ⨾ taken t e ⨾ with_setting (λ s. plain (stored s.home.types t))
+      place d ⨾ take_code t e ⨾ with_setting (λ s. plain (store_code s.home.types t))
   step_layer (step.Copy to from t) =
       place to ⨾ behind (place from) (λ types. I32Const (size (tree types t)) ∷ Call copy ∷ [])
   step_layer (step.CopyText d t text) = copy_text_code (place d) t text
   step_layer (step.Call c) = call_code numbered c
-  step_layer (step.Put e) = taken char e ⨾ plain (Call put ∷ [])
+  step_layer (step.Put e) = take_code char e ⨾ plain (Call put ∷ [])
   step_layer (step.Change o d t e) = change_code o (place d) t (part e).code
   step_layer (step.Membership o d e) = member_code o (place d) (part e).code
-  step_layer step.Halt = plain (fault halted)
+  step_layer step.Halt = plain (fault halt_status)
   step_layer (step.If e body others) =
-      (part e).code ⨾ plain (wrapped ∷ []) ⨾ if_code (all_coded body) others
+      (part e).code ⨾ plain (wrap_word ∷ []) ⨾ if_code (all_coded body) others
   step_layer (step.Case e arms others) = case_code (part e).code arms (else_code others)
   step_layer (step.While e body) =
       within 2 block_loop
@@ -280,7 +280,7 @@ module _ (numbered : Numbered) where
   step_layer (step.Loop body) = leaving 1 block_loop (all_coded body ⨾ plain (Br 0 ∷ []))
   step_layer step.Exit = with_setting (λ s. plain (Br s.exit ∷ []))
   step_layer step.Return = plain (Return ∷ [])
-  step_layer (step.Give t e) = taken t e ⨾ plain (Return ∷ [])
+  step_layer (step.Give t e) = take_code t e ⨾ plain (Return ∷ [])
   step_layer (step.For d t start limit by body) =
       for_code (place d) t (part start) (part limit) by (all_coded body)
   step_layer (step.With d body) =

@@ -9,7 +9,7 @@ use Rattle.typed_tree.specs.Types.{integer, cardinal, boolean}
 use Rattle.check_const_ops.specs.declared.operator.BinaryOp.{BinaryOp}
 use Rattle.check_const_ops.specs.declared.operator.BinaryOp.TheVariants.{Plus, Minus, Times, Div, Mod, And, Or, Relation}
 use Rattle.check_const_ops.specs.Numbers.{quotient, remainder}
-use Rattle.check_const_ops.specs.Operate.{compared}
+use Rattle.check_const_ops.specs.Operate.{holds_between}
 
 -- A scalar is a constant, by its base type and its ordinal number, or a value of a base type. A
 -- constant that is made of number literals alone is a number, and has no type.
@@ -113,7 +113,7 @@ pub data Evaluates : BinaryOp → ℤ → ℤ → ℤ → Type 0 where
 pub data Says : BinaryOp → ℤ → ℤ → Bool → Type 0 where
   both_hold : {x y : ℤ} → Says And x y (int_lt (pos 0) x && int_lt (pos 0) y)
   one_holds : {x y : ℤ} → Says Or x y (int_lt (pos 0) x || int_lt (pos 0) y)
-  compares : {r : RelOp} {x y : ℤ} → Says (Relation r) x y (compared r x y)
+  compares : {r : RelOp} {x y : ℤ} → Says (Relation r) x y (holds_between r x y)
 
 -- FALSE and TRUE
 abbrev pub truth : Bool → Amount

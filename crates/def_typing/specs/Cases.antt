@@ -44,10 +44,10 @@ pub record IsNoConstant (x : Thing) : Type 0 where
   pub not_refused : IsNoValue x → ⊥
 
 -- what is there at run time, if it is a value
-abbrev pub held : Types → Thing → Kind
-held types (AValue k) = k
-held types (AVariable t) = content types t
-held types other = Untaken
+abbrev pub run_time_kind : Types → Thing → Kind
+run_time_kind types (AValue k) = k
+run_time_kind types (AVariable t) = content types t
+run_time_kind types other = Untaken
 
 -- If the selector has no meaning, nothing is asked of the base type.
 abbrev pub SuitsSelector : Option TypeNo → Kind → Type 0
@@ -67,7 +67,7 @@ pub data Misbounds (types : Types) (base : Option TypeNo) (label at : Pos) (x : 
   no_value : IsNoValue x → Misbounds types base label at x (at ! rule.NoProcedureValue)
   -- a label that is no constant
   no_constant : IsNoConstant x → Misbounds types base label at x (label ! rule.WrongLabel)
-  other_type : IsNoConstant x → (SuitsSelector base (held types x) → ⊥)
+  other_type : IsNoConstant x → (SuitsSelector base (run_time_kind types x) → ⊥)
       → Misbounds types base label at x (at ! rule.WrongType)
 
 -- ---- labels

@@ -14,7 +14,7 @@ use Rattle.m2_tree.specs.declared.expr.Item.{Item}
 use Rattle.typed_tree.specs.declared.known_types.Types.{Types}
 use Rattle.typed_tree.specs.declared.types.TypeNo.{TypeNo}
 use Rattle.typed_tree.specs.declared.shape.Shape.TheVariants as shape
-use Rattle.typed_tree.specs.Names.{found}
+use Rattle.typed_tree.specs.Names.{find_name}
 use Rattle.def_typing.specs.Shapes.{IsMade}
 use Rattle.def_typing.specs.Operators.{◌!◌}
 use Rattle.def_typing.specs.Things.{Thing, AVariable, Standing}
@@ -55,8 +55,8 @@ inside_loop w = record w { in_loop = true }
 abbrev pub inside_with : List (List ℕ × TypeNo) → Spot → Spot
 inside_with fields w =
     record w {
-      names = λ name. field_or (found name.name fields) (w.names name);
-      own = λ name. own_or (found name.name fields) (w.own name);
+      names = λ name. field_or (find_name name.name fields) (w.names name);
+      own = λ name. own_or (find_name name.name fields) (w.own name);
     }
 
 -- the types that are known, and what modules export

@@ -11,7 +11,7 @@ use Rattle.typed_tree.specs.declared.shape.Shape.{Shape}
 use Rattle.typed_tree.specs.declared.shape.Shape.TheVariants as shape
 use Rattle.typed_tree.specs.declared.shape.Signature.{Signature}
 use Rattle.typed_tree.specs.declared.known_types.Types.{Types}
-use Rattle.typed_tree.specs.Names.{found}
+use Rattle.typed_tree.specs.Names.{find_name}
 use Rattle.typed_tree.specs.Types.{cardinal}
 use Rattle.m2_rule.specs.declared.breach.Breach.{Breach}
 use Rattle.def_typing.specs.Shapes.{shape_at, IsMade, Agree}
@@ -131,7 +131,7 @@ pub data Picks (types : Types) (exports : ℕ → Ident → Standing) (name : Id
   of_module : {k : ℕ} → Picks types exports name (AModule k) (exports k name)
   of_record : {t : TypeNo} {fields : List (List ℕ × TypeNo)}
       → IsMade types t (shape.Record fields)
-      → Picks types exports name (AVariable t) (field_of (found name.name fields))
+      → Picks types exports name (AVariable t) (field_of (find_name name.name fields))
 
 -- what has elements, with the types of its index and its elements
 pub data Indexes (types : Types) : Thing → TypeNo → TypeNo → Type 0 where

@@ -9,10 +9,10 @@ use Rattle.wasm_tree.specs.declared.instr.Instr.{Instr, Instr-F, out-Instr, map-
 use Rattle.wasm_tree.specs.declared.instr.Instr.TheOpen as layer
 use Rattle.wasm_tree.specs.declared.instr.Instr.TheVariants as instr
 use Rattle.wasm_tree.specs.declared.instr.Instr.TheVariants.{outs-Block, outs-Loop, outs-If}
-use Rattle.wasm_tree.specs.Code.{joined, flat_step, flat_one, flat}
+use Rattle.wasm_tree.specs.Code.{join_ops, flat_step, flat_one, flat}
 use Rattle.wasm_tree.proofs.Flat.{joined_is}
 use Rattle.def_scheme.specs.Coded.{Coded, Counts, Setting}
-use Rattle.emit_buffer.specs.Drafts.{Drafted, emitted, opened, place_of, closed_block, closed_loop, closed_if, closed_if_else}
+use Rattle.emit_buffer.specs.Drafts.{Drafted, emitted, open_draft, place_of, closed_block, closed_loop, closed_if, closed_if_else}
 
 -- ---- the lists of instructions that hold others
 
@@ -32,7 +32,7 @@ if_flat t is = at (instr.If t is None) (layer.If t is None) (outs-If t is None) 
 pub sides_flat : (t : Option ValueType) (is others : List Instr) → flat_one (instr.If t is (Some others)) ≡ op.IfElse t (length (flat is)) (length (flat others)) ∷ (flat is ++ flat others)
 sides_flat t is others =
     at (instr.If t is (Some others)) (layer.If t is (Some others)) (outs-If t is (Some others))
-    ∙ ap (λ r. op.IfElse t (length r) (length (joined (map flat_one others))) ∷ (r ++ joined (map flat_one others))) (joined_is is)
+    ∙ ap (λ r. op.IfElse t (length r) (length (join_ops (map flat_one others))) ∷ (r ++ join_ops (map flat_one others))) (joined_is is)
     ∙ ap (λ r. op.IfElse t (length (flat is)) (length r) ∷ (flat is ++ r)) (joined_is others)
 
 -- ---- the place behind these is set
@@ -57,8 +57,8 @@ set_one f old more x =
 abbrev pub boxing : (List Instr → Instr) → Coded → Setting → Setting → Counts → List Instr × Counts
 boxing box x inner s c = (box (x inner c).0 ∷ [], (x inner c).1)
 
-pub boxed_block : (t : Option ValueType) (x : Coded) (inner s : Setting) (d : Drafted) → emitted (boxing (λ is. instr.Block t is) x inner) s d ≡ closed_block (place_of d) t (emitted x inner (opened d))
-unfolding emitted opened closed_block
+pub boxed_block : (t : Option ValueType) (x : Coded) (inner s : Setting) (d : Drafted) → emitted (boxing (λ is. instr.Block t is) x inner) s d ≡ closed_block (place_of d) t (emitted x inner (open_draft d))
+unfolding emitted open_draft closed_block
 boxed_block t x inner s d =
     let code : List Instr = (x inner d.counts).0 in let counts : Counts = (x inner d.counts).1 in
     let is_set : slice_set ((d.ops ++ op.Unreachable ∷ []) ++ flat code) (length d.ops) (op.Block t (length ((d.ops ++ op.Unreachable ∷ []) ++ flat code) - length d.ops - 1)) ≡ d.ops ++ op.Block t (length (flat code)) ∷ flat code =
@@ -66,15 +66,15 @@ boxed_block t x inner s d =
     ap (λ (ops : List Op). record { ops = d.ops ++ ops; counts = counts }) (append-nil (flat_one (instr.Block t code)) ∙ block_flat t code)
     ∙ ap (λ (ops : List Op). record { ops = ops; counts = counts }) (sym is_set)
 
-pub boxed_loop : (t : Option ValueType) (x : Coded) (inner s : Setting) (d : Drafted) → emitted (boxing (λ is. instr.Loop t is) x inner) s d ≡ closed_loop (place_of d) t (emitted x inner (opened d))
-unfolding emitted opened closed_loop
+pub boxed_loop : (t : Option ValueType) (x : Coded) (inner s : Setting) (d : Drafted) → emitted (boxing (λ is. instr.Loop t is) x inner) s d ≡ closed_loop (place_of d) t (emitted x inner (open_draft d))
+unfolding emitted open_draft closed_loop
 boxed_loop t x inner s d =
     let code : List Instr = (x inner d.counts).0 in let counts : Counts = (x inner d.counts).1 in
     ap (λ (ops : List Op). record { ops = d.ops ++ ops; counts = counts }) (append-nil (flat_one (instr.Loop t code)) ∙ loop_flat t code)
     ∙ ap (λ (ops : List Op). record { ops = ops; counts = counts }) (sym (set_one (λ n. op.Loop t n) d.ops (flat code) op.Unreachable))
 
-pub boxed_if : (t : Option ValueType) (x : Coded) (inner s : Setting) (d : Drafted) → emitted (boxing (λ is. instr.If t is None) x inner) s d ≡ closed_if (place_of d) t (emitted x inner (opened d))
-unfolding emitted opened closed_if
+pub boxed_if : (t : Option ValueType) (x : Coded) (inner s : Setting) (d : Drafted) → emitted (boxing (λ is. instr.If t is None) x inner) s d ≡ closed_if (place_of d) t (emitted x inner (open_draft d))
+unfolding emitted open_draft closed_if
 boxed_if t x inner s d =
     let code : List Instr = (x inner d.counts).0 in let counts : Counts = (x inner d.counts).1 in
     ap (λ (ops : List Op). record { ops = d.ops ++ ops; counts = counts }) (append-nil (flat_one (instr.If t code None)) ∙ if_flat t code)
@@ -98,8 +98,8 @@ abbrev pub both_sides : Option ValueType → Coded → Coded → Setting → Set
 both_sides t x y inner s c = let first = x inner c in let second = y inner first.1 in (instr.If t first.0 (Some second.0) ∷ [], second.1)
 
 pub boxed_sides : (t : Option ValueType) (x y : Coded) (inner s : Setting) (d : Drafted)
-    → emitted (both_sides t x y inner) s d ≡ closed_if_else (place_of d) (place_of (emitted x inner (opened d))) t (emitted y inner (emitted x inner (opened d)))
-unfolding emitted opened closed_if_else
+    → emitted (both_sides t x y inner) s d ≡ closed_if_else (place_of d) (place_of (emitted x inner (open_draft d))) t (emitted y inner (emitted x inner (open_draft d)))
+unfolding emitted open_draft closed_if_else
 boxed_sides t x y inner s d =
     let first : List Instr × Counts = x inner d.counts in let second : List Instr × Counts = y inner first.1 in
     ap (λ (ops : List Op). record { ops = d.ops ++ ops; counts = second.1 }) (append-nil (flat_one (instr.If t first.0 (Some second.0))) ∙ sides_flat t first.0 second.0)

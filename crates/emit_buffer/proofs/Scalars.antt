@@ -8,7 +8,7 @@ use Rattle.layout_storage.specs.Types.{Ty, Scalar, Natural, Integer, Between, Ca
 use Rattle.layout_storage.specs.Sizes.{Room, One, Two, Four, room_of}
 use Rattle.layout_storage.specs.Shapes.{tree}
 use Rattle.layout_storage.specs.Extents.{scalar_of, kind_of, width_of, kind_of_tree}
-use Rattle.def_scheme.specs.Cells.{load_room, load_of, width_room, load_tree, store_tree, loaded, stored, load_scalar, store_scalar}
+use Rattle.def_scheme.specs.Cells.{load_room, load_of, width_room, load_tree, store_tree, load_code, store_code, load_scalar, store_scalar}
 use Rattle.emit_buffer.specs.Kinds.{load_width, load_by, store_width, load_kind, store_kind}
 
 width_is : (r : Room) → load_width (width_of r) ≡ load_room r
@@ -52,8 +52,8 @@ store_tree_is (Array n t) = refl
 store_tree_is Nothing = refl
 store_tree_is (Field t others) = refl
 
-pub loaded_is : (types : Types) (t : TypeNo) → load_kind (kind_of_tree (tree types t)) ≡ loaded types t
+pub loaded_is : (types : Types) (t : TypeNo) → load_kind (kind_of_tree (tree types t)) ≡ load_code types t
 loaded_is types t = load_tree_is (tree types t)
 
-pub stored_is : (types : Types) (t : TypeNo) → store_kind (kind_of_tree (tree types t)) ≡ stored types t
+pub stored_is : (types : Types) (t : TypeNo) → store_kind (kind_of_tree (tree types t)) ≡ store_code types t
 stored_is types t = store_tree_is (tree types t)

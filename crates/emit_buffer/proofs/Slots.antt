@@ -7,7 +7,7 @@ use Rattle.typed_tree.specs.declared.shape.Formal.{Formal}
 use Rattle.typed_tree.specs.declared.known_types.Types.{Types}
 use Rattle.typed_tree.specs.declared.typed_module.Routine.{Routine}
 use Rattle.layout_storage.specs.declared.row.Row.{Row}
-use Rattle.layout_storage.specs.Capped.{capped}
+use Rattle.layout_storage.specs.Capped.{cap_size}
 use Rattle.layout_storage.specs.Types.{Ty, Cell, Hidden, Array, Nothing, Field, row, frame_of}
 use Rattle.layout_storage.specs.Sizes.{size, offset}
 use Rattle.layout_storage.specs.Shapes.{tree}
@@ -68,17 +68,17 @@ first_cell types (r ∷ rs) up n =
 
 -- ---- offsets of slots
 
-kept_is : (types : Types) (r : Option Routine) (n : ℕ) → start_or (option_map (frame_row types) r) n ≡ capped (offset (frame_at (option_map (frame types) r)) (suc n ∷ []))
-kept_is types None n = ap capped (sym (none_there (suc n) []))
-kept_is types (Some r) n = part_at 16 (variable_trees types r) n ∙ ap capped (sym (in_frame (variable_trees types r) n []))
+kept_is : (types : Types) (r : Option Routine) (n : ℕ) → start_or (option_map (frame_row types) r) n ≡ cap_size (offset (frame_at (option_map (frame types) r)) (suc n ∷ []))
+kept_is types None n = ap cap_size (sym (none_there (suc n) []))
+kept_is types (Some r) n = part_at 16 (variable_trees types r) n ∙ ap cap_size (sym (in_frame (variable_trees types r) n []))
 
-pub slot_is : (types : Types) (rs : List Routine) (up n : ℕ) → slot_from (map (frame_row types) rs) up n ≡ capped (slot_at types rs up n [])
-slot_is types [] zero n = ap (λ (k : ℕ). capped (16 + k)) (sym (none_there n [])) ∙ ap capped (sym (in_frame [] n []))
-slot_is types [] (suc up) n = ap capped (sym (none_there (suc n) []))
+pub slot_is : (types : Types) (rs : List Routine) (up n : ℕ) → slot_from (map (frame_row types) rs) up n ≡ cap_size (slot_at types rs up n [])
+slot_is types [] zero n = ap (λ (k : ℕ). cap_size (16 + k)) (sym (none_there n [])) ∙ ap cap_size (sym (in_frame [] n []))
+slot_is types [] (suc up) n = ap cap_size (sym (none_there (suc n) []))
 slot_is types (r ∷ rs) up n =
     ap (λ (o : Option Row). start_or o n) (slice_get-map (frame_row types) (r ∷ rs) up)
     ∙ kept_is types (slice_get (r ∷ rs) up) n
-    ∙ ap (λ (o : Option Ty). capped (offset (frame_at o) (suc n ∷ []))) (sym (slice_get-map (frame types) (r ∷ rs) up))
+    ∙ ap (λ (o : Option Ty). cap_size (offset (frame_at o) (suc n ∷ []))) (sym (slice_get-map (frame types) (r ∷ rs) up))
 
 -- ---- HIGH
 

@@ -66,8 +66,8 @@ next_text n d = record {
 abbrev pub place_of : Drafted → ℕ
 place_of d = length d.ops
 
-unfoldable pub opened : Drafted → Drafted
-opened d = with_ops (op.Unreachable ∷ []) d
+unfoldable pub open_draft : Drafted → Drafted
+open_draft d = with_ops (op.Unreachable ∷ []) d
 
 abbrev pub set_at : (at : ℕ) → Op → Drafted → Drafted
 set_at at o d = record { ops = slice_set d.ops at o; counts = d.counts }

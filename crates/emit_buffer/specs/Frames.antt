@@ -24,8 +24,8 @@ pub record Standing : Type 0 where
   pub withs : List ℕ
 
 -- the setting that it means
-abbrev pub meant : Standing → Setting
-meant s = record {
+abbrev pub setting_of : Standing → Setting
+setting_of s = record {
   home = s.home;
   frames = frames_of s.home.types s.routines;
   arguments = s.arguments;

@@ -13,15 +13,15 @@ use Rattle.layout_storage.specs.Frames.{formals_of}
 use Rattle.layout_storage.specs.declared.row.Row.{Row}
 use Rattle.typed_tree.specs.declared.shape.Formal.{Formal}
 use Rattle.emit_buffer.specs.Homes.{start_or}
-use Rattle.def_scheme.specs.Coded.{Setting, raised, check}
-use Rattle.def_scheme.specs.Exprs.{frame_at, scaled, global_code, slot_code, kept_address, open_address, with_code}
+use Rattle.def_scheme.specs.Coded.{Setting, raise_address, check}
+use Rattle.def_scheme.specs.Exprs.{frame_at, scale_index, global_code, slot_code, kept_address, open_address, with_code}
 use Rattle.emit_buffer.specs.Frames.{frames_of}
 
 abbrev pub behind_high : (bytes : ℕ) → List Instr
-behind_high n = I64Const 3 ∷ Call check ∷ scaled n
+behind_high n = I64Const 3 ∷ Call check ∷ scale_index n
 
 abbrev pub field_code : Types → TypeNo → ℕ → List Instr
-field_code types t k = raised (offset (tree types t) (k ∷ []))
+field_code types t k = raise_address (offset (tree types t) (k ∷ []))
 
 abbrev pub root_code : Setting → Root → List Instr
 root_code s (root.Global v) = global_code s.home v

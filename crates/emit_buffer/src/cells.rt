@@ -5,13 +5,13 @@ ghost use Rattle.layout_storage.specs.Sizes.{size};
 ghost use Rattle.layout_storage.specs.Shapes.{tree};
 ghost use Rattle.layout_storage.specs.Extents.{scalar_of as scalar_in_kind};
 ghost use Rattle.def_scheme.specs.Coded.{number, operation};
-ghost use Rattle.def_scheme.specs.Cells.{lower, is_nought, unless_nought, load_scalar, store_scalar, loaded, stored, in_range, in_type, base_of, base_in, is_subrange, is_free, check_taken, check_changed};
+ghost use Rattle.def_scheme.specs.Cells.{lower, is_nought, unless_nought, load_scalar, store_scalar, load_code, store_code, in_range, in_type, base_of, base_in, is_subrange, is_free, check_taken, check_changed};
 ghost use Rattle.emit_buffer.specs.Drafts.{put};
 ghost use Rattle.emit_buffer.specs.Kinds.{load_width, load_by, store_width, load_kind, store_kind, subrange_check};
 ghost use Rattle.m2_rule.specs.FaultNumber.{fault_number};
 
 use crate::draft::Draft;
-use crate::pieces::{checked, number, operation};
+use crate::pieces::{check_code, number, operation};
 use crate::setting::Setting;
 use layout_storage::{Kind, Width, width_of};
 use m2_rule::Fault;
@@ -71,7 +71,7 @@ fn is_nought(n: i64) -> bool
 }
 
 /// Adds or subtracts a lower bound, if it is not 0.
-pub fn shifted(low: i64, o: Operation, draft: &mut Draft) -> Result<(), AllocError>
+pub fn shift_bound(low: i64, o: Operation, draft: &mut Draft) -> Result<(), AllocError>
     ensures { let shift = unless_nought low (number low ∷ operation o ∷ []) in
         OnOk result (draft.new ≡ put shift draft.old) }
 {
@@ -88,7 +88,7 @@ fn load_scalar(kind: Kind, draft: &mut Draft) -> Result<(), AllocError>
     ensures { OnOk result (draft.new ≡ put (load_scalar (scalar_in_kind kind)) draft.old) }
 {
     draft.push(Op::Load(load_of(kind)))?;
-    shifted(lower_of(kind), Operation::Add, draft)
+    shift_bound(lower_of(kind), Operation::Add, draft)
 }
 
 /// Stores a scalar.
@@ -96,7 +96,7 @@ fn load_scalar(kind: Kind, draft: &mut Draft) -> Result<(), AllocError>
 fn store_scalar(kind: Kind, draft: &mut Draft) -> Result<(), AllocError>
     ensures { OnOk result (draft.new ≡ put (store_scalar (scalar_in_kind kind)) draft.old) }
 {
-    shifted(lower_of(kind), Operation::Sub, draft)?;
+    shift_bound(lower_of(kind), Operation::Sub, draft)?;
     draft.push(Op::Store(store_width(width_of(kind))))
 }
 
@@ -121,7 +121,7 @@ fn store_kind(kind: Option<Kind>, draft: &mut Draft) -> Result<(), AllocError>
 /// Loads a value of a type.
 #[tactic(auto, using(crate::proofs::Scalars::loaded_is))]
 pub fn load(setting: &Setting<'_>, t: TypeNo, draft: &mut Draft) -> Result<(), AllocError>
-    ensures { OnOk result (draft.new ≡ put (loaded setting.now.home.types t) draft.old) }
+    ensures { OnOk result (draft.new ≡ put (load_code setting.now.home.types t) draft.old) }
 {
     load_kind(setting.home().kind(t), draft)
 }
@@ -129,7 +129,7 @@ pub fn load(setting: &Setting<'_>, t: TypeNo, draft: &mut Draft) -> Result<(), A
 /// Stores a value of a type.
 #[tactic(auto, using(crate::proofs::Scalars::stored_is))]
 pub fn store(setting: &Setting<'_>, t: TypeNo, draft: &mut Draft) -> Result<(), AllocError>
-    ensures { OnOk result (draft.new ≡ put (stored setting.now.home.types t) draft.old) }
+    ensures { OnOk result (draft.new ≡ put (store_code setting.now.home.types t) draft.old) }
 {
     store_kind(setting.home().kind(t), draft)
 }
@@ -140,7 +140,7 @@ pub fn in_range(range: Option<Scalar>, fault: Fault, draft: &mut Draft) -> Resul
 {
     match range {
         None => Ok(()),
-        Some(scalar) => checked(scalar.low, scalar.high, fault, draft),
+        Some(scalar) => check_code(scalar.low, scalar.high, fault, draft),
     }
 }
 

@@ -3,8 +3,8 @@
 ghost use Rattle.std.specs.Prelude.{◌≡◌, ◌∷◌, [], ◌<◌, true, vec_len, vec_capacity, IfOk, OnOk, slice_set};
 ghost use Rattle.def_scheme.specs.Coded.{address_local, number_local};
 ghost use Rattle.def_scheme.specs.Functions.{from_text};
-ghost use Rattle.emit_buffer.specs.Frames.{meant};
-ghost use Rattle.emit_buffer.specs.Drafts.{with_ops, one, opened, set_at, place_of, inside, closed_block, closed_loop, closed_if, closed_if_else, next_address, next_number, next_text, is_plain, instr_of};
+ghost use Rattle.emit_buffer.specs.Frames.{setting_of};
+ghost use Rattle.emit_buffer.specs.Drafts.{with_ops, one, open_draft, set_at, place_of, inside, closed_block, closed_loop, closed_if, closed_if_else, next_address, next_number, next_text, is_plain, instr_of};
 
 use crate::setting::Setting;
 use std::alloc::{AllocError, Global};
@@ -127,10 +127,10 @@ impl Draft {
     }
 
     /// Keeps a place for an operation, and answers the place.
-    #[tactic(auto, unfolding(crate::specs::Drafts::opened))]
+    #[tactic(auto, unfolding(crate::specs::Drafts::open_draft))]
     pub fn open(&mut self) -> Result<usize, AllocError>
         ensures place { IfOk result (λ at. at ≡ place_of self.old) }
-        ensures opened { OnOk result (self.new ≡ opened self.old) }
+        ensures opened { OnOk result (self.new ≡ open_draft self.old) }
     {
         let at = self.ops.len();
         self.append(Op::Unreachable)?;
@@ -224,7 +224,7 @@ impl Draft {
     /// Takes a fresh local for an address, and answers which.
     pub fn next_address(&mut self, setting: &Setting<'_>) -> Result<u32, EncodeError>
         ensures local { let k = self.old.counts.addresses in
-            IfOk result (λ w. w ≡ address_local (meant setting.now) k) }
+            IfOk result (λ w. w ≡ address_local (setting_of setting.now) k) }
         ensures taken { OnOk result (self.new ≡ next_address self.old) }
     {
         let w = setting.address_local(self.addresses)?;
@@ -235,7 +235,7 @@ impl Draft {
     /// Takes a fresh local for a number, and answers which.
     pub fn next_number(&mut self, setting: &Setting<'_>) -> Result<u32, EncodeError>
         ensures local { let k = self.old.counts.numbers in
-            IfOk result (λ t. t ≡ number_local (meant setting.now) k) }
+            IfOk result (λ t. t ≡ number_local (setting_of setting.now) k) }
         ensures taken { OnOk result (self.new ≡ next_number self.old) }
     {
         let t = setting.number_local(self.numbers)?;

@@ -2,7 +2,7 @@
 
 ghost use Rattle.std.specs.Prelude.{◌≡◌, ℕ, ◌∷◌, [], MatchOption, None, Some, IfOk, OnOk, map, slice_get};
 ghost use Rattle.std.specs.Option.{option_copied};
-ghost use Rattle.layout_storage.specs.Capped.{capped};
+ghost use Rattle.layout_storage.specs.Capped.{cap_size};
 ghost use Rattle.layout_storage.specs.Sizes.{size, offset};
 ghost use Rattle.layout_storage.specs.Shapes.{tree};
 ghost use Rattle.layout_storage.specs.Extents.{kind_of_tree, element_tree};
@@ -10,7 +10,7 @@ ghost use Rattle.layout_storage.specs.Rows.{frame_row};
 ghost use Rattle.layout_storage.specs.Layouts.{IsLayout};
 ghost use Rattle.def_scheme.specs.Exprs.{import_place, variables_row};
 ghost use Rattle.def_scheme.specs.Functions.{routine_of};
-ghost use Rattle.def_scheme.specs.Modules.{signatures as signatures_in, numbered};
+ghost use Rattle.def_scheme.specs.Modules.{signatures as signatures_in, numbering_of};
 ghost use Rattle.emit_buffer.specs.Frames.{IsFramed};
 ghost use Rattle.emit_buffer.specs.Homes.{start_or, with_place, ArePlaces, row_for};
 
@@ -164,7 +164,7 @@ impl<'a> Home<'a> {
 
     /// The number of the type of functions with so many arguments, and with a result or without.
     pub fn number(&self, arguments: usize, has_result: bool) -> u32
-        ensures { result ≡ numbered self.now arguments has_result }
+        ensures { result ≡ numbering_of self.now arguments has_result }
     {
         self.signatures().number(arguments, has_result)
     }

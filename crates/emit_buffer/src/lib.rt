@@ -18,14 +18,14 @@ mod setting;
 
 pub use amounts::exact;
 pub use cells::{
-    base_of, check_changed, check_taken, in_range, in_type, load, shifted, size_in, store,
+    base_of, check_changed, check_taken, in_range, in_type, load, shift_bound, size_in, store,
 };
 pub use draft::Draft;
 pub use frame::Framed;
 pub use helper::Helper;
 pub use home::Home;
 pub use pieces::{
-    checked, complement, extended, fault, is_zero, number, operation, raised, relation, text,
-    wrapped,
+    check_code, complement, extend_word, fault, is_zero, number, operation, raise_address,
+    relation, text, wrap_word,
 };
 pub use setting::Setting;

@@ -1,7 +1,7 @@
 //! Small pieces of code.
 
 ghost use Rattle.std.specs.Prelude.{◌≡◌, OnOk};
-ghost use Rattle.def_scheme.specs.Coded.{number, raised, relation, operation, wrapped, extended, is_zero, checked, fault};
+ghost use Rattle.def_scheme.specs.Coded.{number, raise_address, relation, operation, wrap_word, extend_word, is_zero, check_code, fault};
 ghost use Rattle.def_scheme.specs.Exprs.{text_code, complement};
 ghost use Rattle.m2_rule.specs.FaultNumber.{fault_number};
 ghost use Rattle.emit_buffer.specs.Drafts.{one, put};
@@ -20,8 +20,8 @@ pub fn number(n: i64, draft: &mut Draft) -> Result<(), AllocError>
 }
 
 /// The address so many bytes further.
-pub fn raised(bytes: u32, draft: &mut Draft) -> Result<(), AllocError>
-    ensures { OnOk result (draft.new ≡ put (raised bytes) draft.old) }
+pub fn raise_address(bytes: u32, draft: &mut Draft) -> Result<(), AllocError>
+    ensures { OnOk result (draft.new ≡ put (raise_address bytes) draft.old) }
 {
     draft.push(Op::I32Const(bytes))?;
     draft.push(Op::Numeric(Numeric::I32Add))
@@ -42,15 +42,15 @@ pub fn operation(o: Operation, draft: &mut Draft) -> Result<(), AllocError>
 }
 
 /// The low 32 bits of a number.
-pub fn wrapped(draft: &mut Draft) -> Result<(), AllocError>
-    ensures { OnOk result (draft.new ≡ one wrapped draft.old) }
+pub fn wrap_word(draft: &mut Draft) -> Result<(), AllocError>
+    ensures { OnOk result (draft.new ≡ one wrap_word draft.old) }
 {
     draft.push(Op::Numeric(Numeric::I32WrapI64))
 }
 
 /// A number of 32 bits as one of 64.
-pub fn extended(draft: &mut Draft) -> Result<(), AllocError>
-    ensures { OnOk result (draft.new ≡ one extended draft.old) }
+pub fn extend_word(draft: &mut Draft) -> Result<(), AllocError>
+    ensures { OnOk result (draft.new ≡ one extend_word draft.old) }
 {
     draft.push(Op::Numeric(Numeric::I64ExtendI32U))
 }
@@ -63,8 +63,8 @@ pub fn is_zero(draft: &mut Draft) -> Result<(), AllocError>
 }
 
 /// Ends the run with a fault where the value is outside of these bounds.
-pub fn checked(low: i64, high: i64, fault: Fault, draft: &mut Draft) -> Result<(), AllocError>
-    ensures { OnOk result (draft.new ≡ put (checked low high (fault_number fault)) draft.old) }
+pub fn check_code(low: i64, high: i64, fault: Fault, draft: &mut Draft) -> Result<(), AllocError>
+    ensures { OnOk result (draft.new ≡ put (check_code low high (fault_number fault)) draft.old) }
 {
     number(low, draft)?;
     number(high, draft)?;
@@ -94,5 +94,5 @@ pub fn text(offset: u32, draft: &mut Draft) -> Result<(), AllocError>
     ensures { OnOk result (draft.new ≡ put (text_code offset) draft.old) }
 {
     draft.push(Op::GlobalGet(2))?;
-    raised(offset, draft)
+    raise_address(offset, draft)
 }

@@ -6,7 +6,7 @@ ghost use Rattle.def_scheme.specs.Exprs.{slot_path};
 ghost use Rattle.emit_buffer.specs.Slots.{slot_from, open_in, is_open, open_at};
 ghost use Rattle.def_scheme.specs.Coded.{top_local, address_local, number_local};
 ghost use Rattle.def_scheme.specs.Functions.{setting};
-ghost use Rattle.emit_buffer.specs.Frames.{meant, frames_of, routines_in, AreFramed};
+ghost use Rattle.emit_buffer.specs.Frames.{setting_of, frames_of, routines_in, AreFramed};
 
 use crate::amounts::exact;
 use crate::frame::Framed;
@@ -117,7 +117,7 @@ impl<'a> Setting<'a> {
     ) -> Setting<'a>
         requires { AreFramed home.now.types frames.now }
         ensures frames { let frames = frames_of home.now.types (routines_in frames.now) in
-            meant result ≡ setting home.now frames arguments addresses }
+            setting_of result ≡ setting home.now frames arguments addresses }
         ensures routines { result.routines ≡ routines_in frames.now }
     {
         Setting {
@@ -140,14 +140,14 @@ impl<'a> Setting<'a> {
 
     /// The local for an address of this number.
     pub fn address_local(&self, number: u32) -> Result<u32, EncodeError>
-        ensures { IfOk result (λ w. w ≡ address_local (meant self.now) number) }
+        ensures { IfOk result (λ w. w ≡ address_local (setting_of self.now) number) }
     {
         plus(self.arguments, plus(2, number)?)
     }
 
     /// The local for a number of this number.
     pub fn number_local(&self, number: u32) -> Result<u32, EncodeError>
-        ensures { IfOk result (λ t. t ≡ number_local (meant self.now) number) }
+        ensures { IfOk result (λ t. t ≡ number_local (setting_of self.now) number) }
     {
         plus(self.arguments, plus(2, plus(self.addresses, number)?)?)
     }
@@ -214,7 +214,7 @@ impl<'a> Setting<'a> {
     /// The offset of a formal or a variable in its frame. The only error is that it does not fit into 32 bits.
     #[tactic(auto, using(crate::proofs::Slots::slot_is))]
     pub fn slot_offset(&self, slot: Slot) -> Result<u32, EncodeError>
-        ensures { IfOk result (λ n. n ≡ slot_path (meant self.now) slot []) }
+        ensures { IfOk result (λ n. n ≡ slot_path (setting_of self.now) slot []) }
     {
         exact(slot_from(self.frames, slot))
     }
@@ -222,7 +222,7 @@ impl<'a> Setting<'a> {
     /// The offset of the greatest index of a formal ARRAY OF. An error also where the slot is none.
     #[tactic(auto, using(crate::proofs::Slots::high_is))]
     pub fn high_offset(&self, slot: Slot) -> Result<u32, EncodeError>
-        ensures { IfOk result (λ n. n ≡ slot_path (meant self.now) slot (1 ∷ [])) }
+        ensures { IfOk result (λ n. n ≡ slot_path (setting_of self.now) slot (1 ∷ [])) }
     {
         if !open_at(&self.home.module_body().types, self.frames, slot) {
             return Err(EncodeError::NoEncoding);

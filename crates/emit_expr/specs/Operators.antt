@@ -9,10 +9,10 @@ use Rattle.typed_tree.specs.declared.types.TypeNo.{TypeNo}
 use Rattle.typed_tree.specs.declared.known_types.Types.{Types}
 use Rattle.typed_tree.specs.Types.{are_same, integer}
 use Rattle.def_meaning.specs.Answer.{overflow, range_fault}
-use Rattle.def_scheme.specs.Coded.{Setting, number_local, relation, operation, checked}
+use Rattle.def_scheme.specs.Coded.{Setting, number_local, relation, operation, check_code}
 use Rattle.def_scheme.specs.Cells.{in_type}
 use Rattle.def_scheme.specs.Exprs.{complement, empty_code, chosen_number, absolute_code, capital_code}
-use Rattle.emit_buffer.specs.Drafts.{Drafted, one, put, opened, place_of, closed_if_else, next_number}
+use Rattle.emit_buffer.specs.Drafts.{Drafted, one, put, open_draft, place_of, closed_if_else, next_number}
 
 abbrev pub around_behind : List Instr
 around_behind = operation And ∷ empty_code
@@ -27,7 +27,7 @@ abbrev pub odd_code : List Instr
 odd_code = I64Const 1 ∷ operation And ∷ []
 
 abbrev pub char_check : List Instr
-char_check = checked (pos 0) (pos 255) range_fault
+char_check = check_code (pos 0) (pos 255) range_fault
 
 -- behind the first side of AND, which begins at a place
 abbrev pub ending_and : (at : ℕ) → Drafted → Drafted
@@ -35,12 +35,12 @@ ending_and at d = closed_if_else at (place_of d) (Some I64) (one (I64Const 0) d)
 
 -- before the second side of OR
 abbrev pub begun_or : Drafted → Drafted
-begun_or d = one (I64Const 1) (opened d)
+begun_or d = one (I64Const 1) (open_draft d)
 
 -- an element of a set is kept
 abbrev pub kept_element : Setting → Drafted → Drafted
 kept_element s d =
-    let e = put (checked (pos 0) (pos 31) range_fault) d in
+    let e = put (check_code (pos 0) (pos 31) range_fault) d in
     one (LocalSet (number_local s e.counts.numbers)) (next_number e)
 
 abbrev pub element_bit : ℕ → List Instr
@@ -69,11 +69,11 @@ at_most_25 = I64Const 25 ∷ relation LeU ∷ []
 abbrev pub before_letter : ℕ → List Instr
 before_letter t = LocalSet t ∷ LocalGet t ∷ I64Const 97 ∷ operation Sub ∷ at_most_25
 
-abbrev pub lifted : ℕ → List Instr
-lifted t = LocalGet t ∷ I64Const 32 ∷ operation Sub ∷ []
+abbrev pub lift_word : ℕ → List Instr
+lift_word t = LocalGet t ∷ I64Const 32 ∷ operation Sub ∷ []
 
 abbrev pub lifted_or_same : ℕ → Instr
-lifted_or_same t = chosen_number (lifted t) (LocalGet t ∷ [])
+lifted_or_same t = chosen_number (lift_word t) (LocalGet t ∷ [])
 
 abbrev pub with_capital : Setting → Drafted → Drafted
 with_capital s d = put (capital_code (number_local s d.counts.numbers)) (next_number d)

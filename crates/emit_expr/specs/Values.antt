@@ -9,8 +9,8 @@ use Rattle.typed_tree.specs.declared.computed.TypedExpr.{TypedExpr}
 use Rattle.typed_tree.specs.declared.types.TypeNo.{TypeNo}
 use Rattle.def_scheme.specs.Coded.{Coded, Setting}
 use Rattle.def_scheme.specs.Exprs.{Numbered, Part, Linked, argument_layer, call_layer, component_layer, link_layer, expr_layer, place_layer, expr_part, place_code, call_code}
-use Rattle.def_scheme.specs.Modules.{numbered}
-use Rattle.def_scheme.specs.Steps.{taken}
+use Rattle.def_scheme.specs.Modules.{numbering_of}
+use Rattle.def_scheme.specs.Steps.{take_code}
 use Rattle.emit_buffer.specs.Drafts.{Drafted, emitted}
 
 -- ---- the code of the parts that the scheme gives no name
@@ -37,37 +37,37 @@ abbrev pub inside_one : Setting → Setting
 inside_one s = record s { exit = s.exit + 1 }
 
 unfoldable pub with_value : Setting → TypedExpr → Drafted → Drafted
-with_value s e d = emitted (expr_part (numbered s.home) e).code s d
+with_value s e d = emitted (expr_part (numbering_of s.home) e).code s d
 
 unfoldable pub with_place : Setting → Place → Drafted → Drafted
-with_place s x d = emitted (place_code (numbered s.home) x) s d
+with_place s x d = emitted (place_code (numbering_of s.home) x) s d
 
 unfoldable pub with_call : Setting → Call → Drafted → Drafted
-with_call s x d = emitted (call_code (numbered s.home) x) s d
+with_call s x d = emitted (call_code (numbering_of s.home) x) s d
 
 -- a value as one of a type
 unfoldable pub with_taken : Setting → TypeNo → TypedExpr → Drafted → Drafted
-with_taken s t e d = emitted (taken (numbered s.home) t e) s d
+with_taken s t e d = emitted (take_code (numbering_of s.home) t e) s d
 
 unfoldable pub with_argument : Setting → Drafted → Argument → Drafted
-with_argument s d x = emitted (argument_code (numbered s.home) x) s d
+with_argument s d x = emitted (argument_code (numbering_of s.home) x) s d
 
 unfoldable pub with_component : Setting → Drafted → Component → Drafted
-with_component s d x = emitted (component_code (numbered s.home) x) s d
+with_component s d x = emitted (component_code (numbering_of s.home) x) s d
 
 unfoldable pub with_link : Setting → Drafted → Link → Drafted
-with_link s d x = emitted (link_part (numbered s.home) x).code s d
+with_link s d x = emitted (link_part (numbering_of s.home) x).code s d
 
 -- ---- the type of a value, and whether it is a constant
 
 unfoldable pub value_type : Setting → TypedExpr → TypeNo
-value_type s e = (expr_part (numbered s.home) e).of
+value_type s e = (expr_part (numbering_of s.home) e).of
 
 unfoldable pub value_constant : Setting → TypedExpr → Bool
-value_constant s e = (expr_part (numbered s.home) e).constant
+value_constant s e = (expr_part (numbering_of s.home) e).constant
 
 unfoldable pub linked_type : Setting → Link → TypeNo
-linked_type s x = (link_part (numbered s.home) x).of
+linked_type s x = (link_part (numbering_of s.home) x).of
 
 -- the last operator gives the type
 abbrev pub linked_by : Setting → TypeNo → Link → TypeNo

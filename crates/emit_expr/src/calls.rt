@@ -2,17 +2,19 @@
 
 ghost use Rattle.std.specs.Prelude.{◌≡◌, IfOk, OnOk, length, pos, suc};
 ghost use Rattle.wasm_tree.specs.declared.instr.Instr.TheVariants.{LocalGet as get_local};
-ghost use Rattle.layout_storage.specs.Texts.{passed};
+ghost use Rattle.layout_storage.specs.Texts.{argument_text};
 ghost use Rattle.def_meaning.specs.Answer.{empty_procedure};
-ghost use Rattle.def_scheme.specs.Coded.{top_local, number_local, checked};
+ghost use Rattle.def_scheme.specs.Coded.{top_local, number_local, check_code};
 ghost use Rattle.def_scheme.specs.Exprs.{slots_global, procedure_code, high_index, indirect, module_call};
-ghost use Rattle.def_scheme.specs.Modules.{numbered};
+ghost use Rattle.def_scheme.specs.Modules.{numbering_of};
 ghost use Rattle.emit_buffer.specs.Drafts.{one, put};
-ghost use Rattle.emit_buffer.specs.Frames.{meant};
+ghost use Rattle.emit_buffer.specs.Frames.{setting_of};
 ghost use Rattle.emit_expr.specs.Called.{nested_called, slot_added, own_call, other_call, link_passed, kept_procedure, called_value, array_behind, open_code, with_passed};
 
 use crate::places::{frame_code, high_code, index_of, open_address, twice};
-use emit_buffer::{Draft, Home, Setting, checked, extended, operation, raised, text, wrapped};
+use emit_buffer::{
+    Draft, Home, Setting, check_code, extend_word, operation, raise_address, text, wrap_word,
+};
 use emit_tables::{arguments_in, has_result, is_own};
 use m2_rule::Fault;
 use std::alloc::AllocError;
@@ -39,7 +41,7 @@ fn slot_number(f: Procedure) -> Result<u32, EncodeError>
 fn slot_added(number: u32, draft: &mut Draft) -> Result<(), AllocError>
     ensures { OnOk result (draft.new ≡ put (slot_added number) draft.old) }
 {
-    extended(draft)?;
+    extend_word(draft)?;
     draft.push(Op::I64Const(u64::from(number)))?;
     operation(Operation::Add, draft)
 }
@@ -61,7 +63,7 @@ pub fn procedure_code(
 
 /// The top of the stack, where the frame of the procedure that is called begins.
 pub fn top_code(setting: &Setting<'_>, draft: &mut Draft) -> Result<(), AllocError>
-    ensures { OnOk result (draft.new ≡ one (get_local (top_local (meant setting.now))) draft.old) }
+    ensures { OnOk result (draft.new ≡ one (get_local (top_local (setting_of setting.now))) draft.old) }
 {
     draft.push(Op::LocalGet(setting.arguments()))
 }
@@ -69,7 +71,7 @@ pub fn top_code(setting: &Setting<'_>, draft: &mut Draft) -> Result<(), AllocErr
 /// A call through the table, of a procedure of this heading.
 fn indirect(setting: &Setting<'_>, heading: TypeNo, draft: &mut Draft) -> Result<(), AllocError>
     ensures { let m = setting.now.home in
-        OnOk result (draft.new ≡ one (indirect (numbered m) m.types heading) draft.old) }
+        OnOk result (draft.new ≡ one (indirect (numbering_of m) m.types heading) draft.old) }
 {
     let home = setting.home();
     let types = &home.module_body().types;
@@ -94,7 +96,7 @@ fn other_call(setting: &Setting<'_>, f: Procedure, draft: &mut Draft) -> Result<
     let global = slots_global(setting.home(), f.home)?;
     let number = slot_number(f)?;
     draft.push(Op::GlobalGet(global))?;
-    raised(number, draft)?;
+    raise_address(number, draft)?;
     indirect(setting, f.heading, draft)?;
     Ok(())
 }
@@ -106,7 +108,7 @@ pub fn module_call(
     draft: &mut Draft,
 ) -> Result<(), EncodeError>
     ensures { let m = setting.now.home in
-        OnOk result (draft.new ≡ put (module_call (numbered m) m f) draft.old) }
+        OnOk result (draft.new ≡ put (module_call (numbering_of m) m f) draft.old) }
 {
     if is_own(setting.home().module_body(), f.home) {
         return own_call(f, draft);
@@ -120,7 +122,7 @@ pub fn link_code(up: usize, draft: &mut Draft) -> Result<(), AllocError>
     ensures { OnOk result (draft.new ≡ put (link_passed up) draft.old) }
 {
     frame_code(up, draft)?;
-    extended(draft)
+    extend_word(draft)
 }
 
 /// A call of a procedure that is declared in a procedure.
@@ -138,11 +140,11 @@ pub fn nested_call(
 
 /// Keeps the procedure that a variable holds.
 pub fn keep_procedure(setting: &Setting<'_>, draft: &mut Draft) -> Result<u32, EncodeError>
-    ensures local { let k = (put (checked (pos 1) (pos 4294967295) empty_procedure) draft.old).counts.numbers in
-        IfOk result (λ t. t ≡ number_local (meant setting.now) k) }
-    ensures kept { OnOk result (draft.new ≡ kept_procedure (meant setting.now) draft.old) }
+    ensures local { let k = (put (check_code (pos 1) (pos 4294967295) empty_procedure) draft.old).counts.numbers in
+        IfOk result (λ t. t ≡ number_local (setting_of setting.now) k) }
+    ensures kept { OnOk result (draft.new ≡ kept_procedure (setting_of setting.now) draft.old) }
 {
-    checked(1, 4_294_967_295, Fault::NoProcedure, draft)?;
+    check_code(1, 4_294_967_295, Fault::NoProcedure, draft)?;
     let t = draft.next_number(setting)?;
     draft.push(Op::LocalSet(t))?;
     Ok(t)
@@ -158,7 +160,7 @@ pub fn called_value(
     ensures { OnOk result (draft.new ≡ put (called_value setting.now.home t heading) draft.old) }
 {
     draft.push(Op::LocalGet(t))?;
-    wrapped(draft)?;
+    wrap_word(draft)?;
     indirect(setting, heading, draft)
 }
 
@@ -176,23 +178,23 @@ pub fn array_behind(setting: &Setting<'_>, t: TypeNo, draft: &mut Draft) -> Resu
     ensures { OnOk result (draft.new ≡ put (array_behind setting.now.home.types t) draft.old) }
 {
     let high = high_index(setting, t);
-    extended(draft)?;
+    extend_word(draft)?;
     draft.push(Op::I64Const(high))
 }
 
 /// An open array for a formal ARRAY OF.
 #[tactic(auto, using(emit_buffer::proofs::Emitted::put_append))]
 pub fn open_code(setting: &Setting<'_>, slot: Slot, draft: &mut Draft) -> Result<(), EncodeError>
-    ensures { OnOk result (draft.new ≡ put (open_code (meant setting.now) slot) draft.old) }
+    ensures { OnOk result (draft.new ≡ put (open_code (setting_of setting.now) slot) draft.old) }
 {
     open_address(setting, slot, draft)?;
-    extended(draft)?;
+    extend_word(draft)?;
     high_code(setting, slot, draft)
 }
 
 /// The bytes of a passed string: an empty one is one character 0C.
 fn passed_bytes(text: &[u8]) -> usize
-    ensures { result ≡ length (passed text.now) }
+    ensures { result ≡ length (argument_text text.now) }
 {
     match text {
         [] => 1,
@@ -207,7 +209,7 @@ pub fn passed_text(bytes: &[u8], draft: &mut Draft) -> Result<(), EncodeError>
     let count = passed_bytes(bytes);
     let at = draft.next_text(count)?;
     text(at, draft)?;
-    extended(draft)?;
+    extend_word(draft)?;
     draft.push(Op::I64Const(count.saturating_sub(1) as u64))?;
     Ok(())
 }

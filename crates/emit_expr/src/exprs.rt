@@ -6,7 +6,7 @@ ghost use Rattle.def_scheme.specs.Coded.{Setting as Scheme};
 ghost use Rattle.def_scheme.specs.Cells.{check_taken};
 ghost use Rattle.def_scheme.specs.Exprs.{ord_check};
 ghost use Rattle.emit_buffer.specs.Drafts.{put};
-ghost use Rattle.emit_buffer.specs.Frames.{meant};
+ghost use Rattle.emit_buffer.specs.Frames.{setting_of};
 ghost use Rattle.emit_expr.specs.Values.{with_value, with_place, with_call, with_taken, with_argument, with_component, with_link, value_type, value_constant, linked_type, linked_by};
 
 use crate::calls::{
@@ -14,12 +14,13 @@ use crate::calls::{
     passed_text, procedure_code, top_code,
 };
 use crate::operators::{
-    absolute, arithmetic, around_behind, begin_or, capital, char_check, combined, compared,
-    element_bit, empty, end_and, keep_element, negated_behind, odd, ord_check, within_behind,
+    absolute, arithmetic, around_behind, begin_or, capital, char_check, comparison_code,
+    element_bit, empty, end_and, keep_element, negated_behind, odd, ord_check, set_operation,
+    within_behind,
 };
 use crate::places::{element_code, field_code, high_code, open_element_code, root_code};
 use emit_buffer::{
-    Draft, Setting, check_taken, complement, extended, in_type, load, number, wrapped,
+    Draft, Setting, check_taken, complement, extend_word, in_type, load, number, wrap_word,
 };
 use m2_rule::Fault;
 use std::alloc::AllocError;
@@ -114,7 +115,7 @@ fn check_value(
     e: &TypedExpr,
     draft: &mut Draft,
 ) -> Result<(), AllocError>
-    ensures { let s = meant setting.now in
+    ensures { let s = setting_of setting.now in
         let check = check_taken s.home.types t (value_constant s e.now) (value_type s e.now) in
         OnOk result (draft.new ≡ put check draft.old) }
 {
@@ -122,7 +123,7 @@ fn check_value(
 }
 
 fn ord_value(setting: &Setting<'_>, e: &TypedExpr, draft: &mut Draft) -> Result<(), AllocError>
-    ensures { let s = meant setting.now in
+    ensures { let s = setting_of setting.now in
         OnOk result (draft.new ≡ put (ord_check s.home.types (value_type s e.now)) draft.old) }
 {
     ord_check(setting, type_of(e), draft)
@@ -136,7 +137,7 @@ pub fn value_code(
     e: &TypedExpr,
     draft: &mut Draft,
 ) -> Result<(), EncodeError>
-    ensures { OnOk result (draft.new ≡ with_value (meant setting.now) e.now draft.old) }
+    ensures { OnOk result (draft.new ≡ with_value (setting_of setting.now) e.now draft.old) }
 {
     match e {
         TypedExpr::Constant(_, n) => Ok(number(*n, draft)?),
@@ -160,7 +161,7 @@ pub fn value_code(
         TypedExpr::Compare(o, a, b) => {
             value_code(setting, a.get(), draft)?;
             value_code(setting, b.get(), draft)?;
-            compared(*o, draft)?;
+            comparison_code(*o, draft)?;
             Ok(())
         }
         TypedExpr::Not(a) => {
@@ -227,7 +228,7 @@ pub fn value_code(
 #[cycle(exprs)]
 #[tactic(auto, using(crate::proofs::Variants::variants))]
 fn link_code_of(setting: &Setting<'_>, link: &Link, draft: &mut Draft) -> Result<(), EncodeError>
-    ensures { OnOk result (draft.new ≡ with_link (meant setting.now) draft.old link.now) }
+    ensures { OnOk result (draft.new ≡ with_link (setting_of setting.now) draft.old link.now) }
 {
     match link {
         Link::Arithmetic(o, t, b) => {
@@ -236,14 +237,14 @@ fn link_code_of(setting: &Setting<'_>, link: &Link, draft: &mut Draft) -> Result
             Ok(())
         }
         Link::And(b) => {
-            wrapped(draft)?;
+            wrap_word(draft)?;
             let inner = setting.within(1)?;
             let at = draft.open()?;
             value_code(&inner, b, draft)?;
             end_and(at, draft)
         }
         Link::Or(b) => {
-            wrapped(draft)?;
+            wrap_word(draft)?;
             let inner = setting.within(1)?;
             let (at, middle) = begin_or(draft)?;
             value_code(&inner, b, draft)?;
@@ -251,7 +252,7 @@ fn link_code_of(setting: &Setting<'_>, link: &Link, draft: &mut Draft) -> Result
         }
         Link::Combine(o, b) => {
             value_code(setting, b, draft)?;
-            combined(*o, draft)?;
+            set_operation(*o, draft)?;
             Ok(())
         }
     }
@@ -260,7 +261,7 @@ fn link_code_of(setting: &Setting<'_>, link: &Link, draft: &mut Draft) -> Result
 /// The code of the operators of a chain.
 #[cycle(exprs)]
 fn links_code(setting: &Setting<'_>, links: &[Link], draft: &mut Draft) -> Result<(), EncodeError>
-    ensures { let with = with_link (meant setting.now) in
+    ensures { let with = with_link (setting_of setting.now) in
         OnOk result (draft.new ≡ fold with draft.old links.now) }
 {
     for link in links {
@@ -277,7 +278,7 @@ pub fn place_code(
     place: &Place,
     draft: &mut Draft,
 ) -> Result<(), EncodeError>
-    ensures { OnOk result (draft.new ≡ with_place (meant setting.now) place.now draft.old) }
+    ensures { OnOk result (draft.new ≡ with_place (setting_of setting.now) place.now draft.old) }
 {
     root_code(setting, place.root, draft)?;
     components_code(setting, place.components.as_slice(), draft)
@@ -291,7 +292,7 @@ fn component_code(
     component: &Component,
     draft: &mut Draft,
 ) -> Result<(), EncodeError>
-    ensures { OnOk result (draft.new ≡ with_component (meant setting.now) draft.old component.now) }
+    ensures { OnOk result (draft.new ≡ with_component (setting_of setting.now) draft.old component.now) }
 {
     match component {
         Component::Field(t, k) => field_code(setting, *t, *k, draft),
@@ -313,7 +314,7 @@ fn components_code(
     components: &[Component],
     draft: &mut Draft,
 ) -> Result<(), EncodeError>
-    ensures { let with = with_component (meant setting.now) in
+    ensures { let with = with_component (setting_of setting.now) in
         OnOk result (draft.new ≡ fold with draft.old components.now) }
 {
     for component in components {
@@ -326,7 +327,7 @@ fn components_code(
 #[cycle(exprs)]
 #[tactic(auto, using(crate::proofs::Variants::variants))]
 pub fn call_code(setting: &Setting<'_>, call: &Call, draft: &mut Draft) -> Result<(), EncodeError>
-    ensures { OnOk result (draft.new ≡ with_call (meant setting.now) call.now draft.old) }
+    ensures { OnOk result (draft.new ≡ with_call (setting_of setting.now) call.now draft.old) }
 {
     match call {
         Call::Module(f, arguments) => {
@@ -360,7 +361,7 @@ fn argument_code(
     argument: &Argument,
     draft: &mut Draft,
 ) -> Result<(), EncodeError>
-    ensures { OnOk result (draft.new ≡ with_argument (meant setting.now) draft.old argument.now) }
+    ensures { OnOk result (draft.new ≡ with_argument (setting_of setting.now) draft.old argument.now) }
 {
     match argument {
         Argument::Value(t, e) => {
@@ -370,7 +371,7 @@ fn argument_code(
         }
         Argument::Place(place) => {
             place_code(setting, place, draft)?;
-            extended(draft)?;
+            extend_word(draft)?;
             Ok(())
         }
         Argument::Array(t, place) => {
@@ -390,7 +391,7 @@ fn arguments_code(
     arguments: &[Argument],
     draft: &mut Draft,
 ) -> Result<(), EncodeError>
-    ensures { let with = with_argument (meant setting.now) in
+    ensures { let with = with_argument (setting_of setting.now) in
         OnOk result (draft.new ≡ fold with draft.old arguments.now) }
 {
     for argument in arguments {
@@ -407,7 +408,7 @@ pub fn taken_code(
     e: &TypedExpr,
     draft: &mut Draft,
 ) -> Result<(), EncodeError>
-    ensures { OnOk result (draft.new ≡ with_taken (meant setting.now) t e.now draft.old) }
+    ensures { OnOk result (draft.new ≡ with_taken (setting_of setting.now) t e.now draft.old) }
 {
     value_code(setting, e, draft)?;
     check_value(setting, t, e, draft)?;

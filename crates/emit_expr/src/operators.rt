@@ -2,16 +2,16 @@
 
 ghost use Rattle.std.specs.Prelude.{◌≡◌, ◌∷◌, [], IfOk, OnOk, pos};
 ghost use Rattle.def_meaning.specs.Answer.{range_fault};
-ghost use Rattle.def_scheme.specs.Coded.{number_local, operation, relation, extended, checked};
+ghost use Rattle.def_scheme.specs.Coded.{number_local, operation, relation, extend_word, check_code};
 ghost use Rattle.def_scheme.specs.Cells.{in_type};
 ghost use Rattle.def_scheme.specs.Exprs.{relation_of, arithmetic_code, set_code, empty_code, ord_check, absolute_code};
 ghost use Rattle.emit_buffer.specs.Drafts.{one, put, place_of};
-ghost use Rattle.emit_buffer.specs.Frames.{meant};
-ghost use Rattle.emit_expr.specs.Operators.{ending_and, begun_or, kept_element, element_bit, negated_behind, around_behind, within_behind, odd_code, char_check, before_sign, negative, negative_or_same, with_absolute, at_most_25, before_letter, lifted, lifted_or_same, with_capital};
+ghost use Rattle.emit_buffer.specs.Frames.{setting_of};
+ghost use Rattle.emit_expr.specs.Operators.{ending_and, begun_or, kept_element, element_bit, negated_behind, around_behind, within_behind, odd_code, char_check, before_sign, negative, negative_or_same, with_absolute, at_most_25, before_letter, lift_word, lifted_or_same, with_capital};
 
 use emit_buffer::{
-    Draft, Helper, Setting, base_of, checked, complement, extended, in_type, is_zero, operation,
-    relation,
+    Draft, Helper, Setting, base_of, check_code, complement, extend_word, in_type, is_zero,
+    operation, relation,
 };
 use m2_rule::Fault;
 use std::alloc::AllocError;
@@ -32,16 +32,16 @@ fn relation_of(comparison: Comparison) -> Relation
 }
 
 /// How two numbers compare.
-pub fn compared(comparison: Comparison, draft: &mut Draft) -> Result<(), AllocError>
-    ensures { let code = relation (relation_of comparison) ∷ extended ∷ [] in
+pub fn comparison_code(comparison: Comparison, draft: &mut Draft) -> Result<(), AllocError>
+    ensures { let code = relation (relation_of comparison) ∷ extend_word ∷ [] in
         OnOk result (draft.new ≡ put code draft.old) }
 {
     relation(relation_of(comparison), draft)?;
-    extended(draft)
+    extend_word(draft)
 }
 
 /// An operation whose result is one of this type.
-fn computed(
+fn result_code(
     setting: &Setting<'_>,
     o: Operation,
     t: TypeNo,
@@ -65,16 +65,16 @@ pub fn arithmetic(
         OnOk result (draft.new ≡ put code draft.old) }
 {
     match o {
-        Arithmetic::Add => computed(setting, Operation::Add, t, draft),
-        Arithmetic::Subtract => computed(setting, Operation::Sub, t, draft),
-        Arithmetic::Multiply => computed(setting, Operation::Mul, t, draft),
+        Arithmetic::Add => result_code(setting, Operation::Add, t, draft),
+        Arithmetic::Subtract => result_code(setting, Operation::Sub, t, draft),
+        Arithmetic::Multiply => result_code(setting, Operation::Mul, t, draft),
         Arithmetic::Divide => draft.push(Op::Call(Helper::Quotient.index())),
         Arithmetic::Remainder => draft.push(Op::Call(Helper::Remainder.index())),
     }
 }
 
 /// An operator on two sets.
-pub fn combined(o: SetOperator, draft: &mut Draft) -> Result<(), AllocError>
+pub fn set_operation(o: SetOperator, draft: &mut Draft) -> Result<(), AllocError>
     ensures { OnOk result (draft.new ≡ put (set_code o) draft.old) }
 {
     match o {
@@ -93,7 +93,7 @@ pub fn empty(draft: &mut Draft) -> Result<(), AllocError>
     ensures { OnOk result (draft.new ≡ put empty_code draft.old) }
 {
     is_zero(draft)?;
-    extended(draft)
+    extend_word(draft)
 }
 
 /// Whether the second set holds the first.
@@ -117,7 +117,7 @@ pub fn negated_behind(setting: &Setting<'_>, draft: &mut Draft) -> Result<(), Al
     ensures { let code = negated_behind setting.now.home.types in
         OnOk result (draft.new ≡ put code draft.old) }
 {
-    computed(setting, Operation::Sub, INTEGER, draft)
+    result_code(setting, Operation::Sub, INTEGER, draft)
 }
 
 /// Whether a number is odd.
@@ -132,7 +132,7 @@ pub fn odd(draft: &mut Draft) -> Result<(), AllocError>
 pub fn char_check(draft: &mut Draft) -> Result<(), AllocError>
     ensures { OnOk result (draft.new ≡ put char_check draft.old) }
 {
-    checked(0, 255, Fault::OutOfRange, draft)
+    check_code(0, 255, Fault::OutOfRange, draft)
 }
 
 /// The ordinal number of a value of this type.
@@ -140,7 +140,7 @@ pub fn ord_check(setting: &Setting<'_>, t: TypeNo, draft: &mut Draft) -> Result<
     ensures { OnOk result (draft.new ≡ put (ord_check setting.now.home.types t) draft.old) }
 {
     if are_same(base_of(&setting.home().module_body().types, t), INTEGER) {
-        return checked(0, 2_147_483_647, Fault::OutOfRange, draft);
+        return check_code(0, 2_147_483_647, Fault::OutOfRange, draft);
     }
     Ok(())
 }
@@ -168,11 +168,11 @@ pub fn begin_or(draft: &mut Draft) -> Result<(usize, usize), AllocError>
 
 /// Keeps an element that is in a BITSET.
 pub fn keep_element(setting: &Setting<'_>, draft: &mut Draft) -> Result<u32, EncodeError>
-    ensures local { let k = (put (checked (pos 0) (pos 31) range_fault) draft.old).counts.numbers in
-        IfOk result (λ t. t ≡ number_local (meant setting.now) k) }
-    ensures kept { OnOk result (draft.new ≡ kept_element (meant setting.now) draft.old) }
+    ensures local { let k = (put (check_code (pos 0) (pos 31) range_fault) draft.old).counts.numbers in
+        IfOk result (λ t. t ≡ number_local (setting_of setting.now) k) }
+    ensures kept { OnOk result (draft.new ≡ kept_element (setting_of setting.now) draft.old) }
 {
-    checked(0, 31, Fault::OutOfRange, draft)?;
+    check_code(0, 31, Fault::OutOfRange, draft)?;
     let t = draft.next_number(setting)?;
     draft.push(Op::LocalSet(t))?;
     Ok(t)
@@ -222,13 +222,13 @@ fn absolute_of(t: u32, draft: &mut Draft) -> Result<(), EncodeError>
 {
     before_sign(t, draft)?;
     negative_or_same(t, draft)?;
-    checked(0, 2_147_483_647, Fault::Overflow, draft)?;
+    check_code(0, 2_147_483_647, Fault::Overflow, draft)?;
     Ok(())
 }
 
 /// The absolute value of a number of this type.
 pub fn absolute(setting: &Setting<'_>, t: TypeNo, draft: &mut Draft) -> Result<(), EncodeError>
-    ensures { OnOk result (draft.new ≡ with_absolute (meant setting.now) t draft.old) }
+    ensures { OnOk result (draft.new ≡ with_absolute (setting_of setting.now) t draft.old) }
 {
     if are_same(t, INTEGER) {
         let local = draft.next_number(setting)?;
@@ -254,8 +254,8 @@ fn at_most_25(draft: &mut Draft) -> Result<(), AllocError>
     relation(Relation::LeU, draft)
 }
 
-fn lifted(t: u32, draft: &mut Draft) -> Result<(), AllocError>
-    ensures { OnOk result (draft.new ≡ put (lifted t) draft.old) }
+fn lift_word(t: u32, draft: &mut Draft) -> Result<(), AllocError>
+    ensures { OnOk result (draft.new ≡ put (lift_word t) draft.old) }
 {
     draft.push(Op::LocalGet(t))?;
     draft.push(Op::I64Const(32))?;
@@ -267,7 +267,7 @@ fn lifted_or_same(t: u32, draft: &mut Draft) -> Result<(), EncodeError>
     ensures { OnOk result (draft.new ≡ one (lifted_or_same t) draft.old) }
 {
     let at = draft.open()?;
-    lifted(t, draft)?;
+    lift_word(t, draft)?;
     let middle = draft.place();
     draft.push(Op::LocalGet(t))?;
     draft.close_if_else(at, middle, Some(ValueType::I64))
@@ -275,7 +275,7 @@ fn lifted_or_same(t: u32, draft: &mut Draft) -> Result<(), EncodeError>
 
 /// The capital letter.
 pub fn capital(setting: &Setting<'_>, draft: &mut Draft) -> Result<(), EncodeError>
-    ensures { OnOk result (draft.new ≡ with_capital (meant setting.now) draft.old) }
+    ensures { OnOk result (draft.new ≡ with_capital (setting_of setting.now) draft.old) }
 {
     let local = draft.next_number(setting)?;
     before_letter(local, draft)?;

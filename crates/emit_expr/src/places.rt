@@ -4,13 +4,15 @@ ghost use Rattle.std.specs.Prelude.{◌≡◌, ◌+◌, ◌*◌, ◌∷◌, [], 
 ghost use Rattle.std.specs.Option.{option_copied};
 ghost use Rattle.layout_storage.specs.Sizes.{size, offset};
 ghost use Rattle.layout_storage.specs.Shapes.{tree};
-ghost use Rattle.def_scheme.specs.Exprs.{outwards, frame_code, slot_path, slot_code, kept_address, open_address, high_code, global_code, with_code, index_made, index_of, scaled, from_lower, element_code, open_element_code, base_global};
+ghost use Rattle.def_scheme.specs.Exprs.{outwards, frame_code, slot_path, slot_code, kept_address, open_address, high_code, global_code, with_code, index_made, index_of, scale_index, from_lower, element_code, open_element_code, base_global};
 ghost use Rattle.def_scheme.specs.Cells.{load_scalar, word};
 ghost use Rattle.emit_buffer.specs.Drafts.{put};
-ghost use Rattle.emit_buffer.specs.Frames.{meant};
+ghost use Rattle.emit_buffer.specs.Frames.{setting_of};
 ghost use Rattle.emit_buffer.specs.Slots.{behind_high, field_code, root_code};
 
-use emit_buffer::{Draft, Helper, Home, Setting, in_range, operation, raised, shifted, wrapped};
+use emit_buffer::{
+    Draft, Helper, Home, Setting, in_range, operation, raise_address, shift_bound, wrap_word,
+};
 use emit_tables::is_own;
 use m2_rule::Fault;
 use std::alloc::AllocError;
@@ -43,7 +45,7 @@ pub fn global_code(setting: &Setting<'_>, v: Variable, draft: &mut Draft) -> Res
     let global = base_global(home, v.home)?;
     let offset = home.variable_offset(v)?;
     draft.push(Op::GlobalGet(global))?;
-    raised(offset, draft)?;
+    raise_address(offset, draft)?;
     Ok(())
 }
 
@@ -54,7 +56,7 @@ fn outwards(up: usize, draft: &mut Draft) -> Result<(), AllocError>
 {
     for _k in 0..up {
         draft.push(Op::Load(Load::I64))?;
-        wrapped(draft)?;
+        wrap_word(draft)?;
     }
     Ok(())
 }
@@ -70,11 +72,11 @@ pub fn frame_code(up: usize, draft: &mut Draft) -> Result<(), AllocError>
 /// A formal or a variable of a procedure.
 #[tactic(auto, using(emit_buffer::proofs::Emitted::put_append))]
 pub fn slot_code(setting: &Setting<'_>, slot: Slot, draft: &mut Draft) -> Result<(), EncodeError>
-    ensures { OnOk result (draft.new ≡ put (slot_code (meant setting.now) slot []) draft.old) }
+    ensures { OnOk result (draft.new ≡ put (slot_code (setting_of setting.now) slot []) draft.old) }
 {
     let offset = setting.slot_offset(slot)?;
     frame_code(slot.up, draft)?;
-    raised(offset, draft)?;
+    raise_address(offset, draft)?;
     Ok(())
 }
 
@@ -87,18 +89,18 @@ fn word(draft: &mut Draft) -> Result<(), AllocError>
 /// What a VAR formal stands for.
 #[tactic(auto, using(emit_buffer::proofs::Emitted::put_append))]
 pub fn alias_code(setting: &Setting<'_>, slot: Slot, draft: &mut Draft) -> Result<(), EncodeError>
-    ensures { OnOk result (draft.new ≡ put (kept_address (meant setting.now) slot []) draft.old) }
+    ensures { OnOk result (draft.new ≡ put (kept_address (setting_of setting.now) slot []) draft.old) }
 {
     slot_code(setting, slot, draft)?;
     word(draft)?;
-    wrapped(draft)?;
+    wrap_word(draft)?;
     Ok(())
 }
 
 /// The elements of a formal ARRAY OF.
 #[tactic(auto, using(emit_buffer::proofs::Slots::first_cell))]
 pub fn open_address(setting: &Setting<'_>, slot: Slot, draft: &mut Draft) -> Result<(), EncodeError>
-    ensures { OnOk result (draft.new ≡ put (open_address (meant setting.now) slot) draft.old) }
+    ensures { OnOk result (draft.new ≡ put (open_address (setting_of setting.now) slot) draft.old) }
 {
     alias_code(setting, slot, draft)
 }
@@ -106,11 +108,11 @@ pub fn open_address(setting: &Setting<'_>, slot: Slot, draft: &mut Draft) -> Res
 /// The greatest index of a formal ARRAY OF.
 #[tactic(auto, using(emit_buffer::proofs::Emitted::put_append))]
 pub fn high_code(setting: &Setting<'_>, slot: Slot, draft: &mut Draft) -> Result<(), EncodeError>
-    ensures { OnOk result (draft.new ≡ put (high_code (meant setting.now) slot) draft.old) }
+    ensures { OnOk result (draft.new ≡ put (high_code (setting_of setting.now) slot) draft.old) }
 {
     let offset = setting.high_offset(slot)?;
     frame_code(slot.up, draft)?;
-    raised(offset, draft)?;
+    raise_address(offset, draft)?;
     word(draft)?;
     Ok(())
 }
@@ -149,12 +151,12 @@ pub fn index_of(types: &Types, t: TypeNo) -> Option<Scalar>
 }
 
 /// An element of so many bytes, behind the address of the array and the index from 0.
-fn scaled(bytes: u32, draft: &mut Draft) -> Result<(), AllocError>
-    ensures { OnOk result (draft.new ≡ put (scaled bytes) draft.old) }
+fn scale_index(bytes: u32, draft: &mut Draft) -> Result<(), AllocError>
+    ensures { OnOk result (draft.new ≡ put (scale_index bytes) draft.old) }
 {
     draft.push(Op::I64Const(u64::from(bytes)))?;
     operation(Operation::Mul, draft)?;
-    wrapped(draft)?;
+    wrap_word(draft)?;
     draft.push(Op::Numeric(Numeric::I32Add))
 }
 
@@ -163,7 +165,7 @@ fn from_lower(index: Option<Scalar>, draft: &mut Draft) -> Result<(), AllocError
 {
     match index {
         None => Ok(()),
-        Some(scalar) => shifted(scalar.low, Operation::Sub, draft),
+        Some(scalar) => shift_bound(scalar.low, Operation::Sub, draft),
     }
 }
 
@@ -177,7 +179,7 @@ pub fn element_code(setting: &Setting<'_>, t: TypeNo, draft: &mut Draft) -> Resu
     let bytes = home.element_size(t)?;
     in_range(index, Fault::Index, draft)?;
     from_lower(index, draft)?;
-    scaled(bytes, draft)?;
+    scale_index(bytes, draft)?;
     Ok(())
 }
 
@@ -186,7 +188,7 @@ fn behind_high(bytes: u32, draft: &mut Draft) -> Result<(), AllocError>
 {
     draft.push(Op::I64Const(u64::from(Fault::Index.number())))?;
     draft.push(Op::Call(Helper::Check.index()))?;
-    scaled(bytes, draft)
+    scale_index(bytes, draft)
 }
 
 /// An element of a formal ARRAY OF, behind its address and the index.
@@ -197,7 +199,7 @@ pub fn open_element_code(
     t: TypeNo,
     draft: &mut Draft,
 ) -> Result<(), EncodeError>
-    ensures { OnOk result (draft.new ≡ put (open_element_code (meant setting.now) slot t) draft.old) }
+    ensures { OnOk result (draft.new ≡ put (open_element_code (setting_of setting.now) slot t) draft.old) }
 {
     let bytes = setting.home().size(t)?;
     draft.push(Op::I64Const(0))?;
@@ -216,13 +218,13 @@ pub fn field_code(
     ensures { OnOk result (draft.new ≡ put (field_code setting.now.home.types t number) draft.old) }
 {
     let offset = setting.home().offset(t, number)?;
-    raised(offset, draft)?;
+    raise_address(offset, draft)?;
     Ok(())
 }
 
 /// What a variable's name stands for.
 pub fn root_code(setting: &Setting<'_>, root: Root, draft: &mut Draft) -> Result<(), EncodeError>
-    ensures { OnOk result (draft.new ≡ put (root_code (meant setting.now) root) draft.old) }
+    ensures { OnOk result (draft.new ≡ put (root_code (setting_of setting.now) root) draft.old) }
 {
     match root {
         Root::Global(v) => global_code(setting, v, draft),

@@ -16,10 +16,10 @@ use Rattle.layout_storage.specs.Types.{Ty, Cell, Hidden, Array, Nothing, Field}
 use Rattle.layout_storage.specs.Sizes.{size, offset}
 use Rattle.layout_storage.specs.Extents.{kind_of_tree}
 use Rattle.layout_storage.specs.declared.kind.Kind.{Kind}
-use Rattle.def_scheme.specs.Coded.{fault, raised, wrapped, extended, copy}
+use Rattle.def_scheme.specs.Coded.{fault, raise_address, wrap_word, extend_word, copy}
 use Rattle.def_scheme.specs.Cells.{store_tree}
 use Rattle.def_scheme.specs.Functions.{value_kept, word_kept, open_copied, formal_kept}
-use Rattle.emit_buffer.specs.Drafts.{Drafted, with_ops, one, put, opened, place_of, closed_if}
+use Rattle.emit_buffer.specs.Drafts.{Drafted, with_ops, one, put, open_draft, place_of, closed_if}
 use Rattle.emit_proc.specs.Kept.{copy_begun, copy_made}
 use Rattle.emit_buffer.proofs.Emitted.{put_is}
 
@@ -38,8 +38,8 @@ set_behind (o ∷ old) more x y = ap (λ (r : List Op). o ∷ r) (set_behind old
 so_many : (old more : List Op) (x : Op) → length (old ++ x ∷ more) - length old - 1 ≡ length more
 so_many old more x = omega (arith, length-append old (x ∷ more))
 
-held : (is : List Instr) (d : Drafted) → closed_if (place_of d) None (with_ops (flat is) (opened d)) ≡ one (instr.If None is None) d
-unfolding closed_if opened one
+held : (is : List Instr) (d : Drafted) → closed_if (place_of d) None (with_ops (flat is) (open_draft d)) ≡ one (instr.If None is None) d
+unfolding closed_if open_draft one
 held is d =
     ap (λ (ops : List Op). record { ops = ops; counts = d.counts })
     (ap (λ (ops : List Op). slice_set ops (length d.ops) (op.If None (length ops - length d.ops - 1))) (append_assoc d.ops (op.Unreachable ∷ []) (flat is))
@@ -47,10 +47,10 @@ held is d =
     ∙ set_behind d.ops (flat is) op.Unreachable (op.If None (length (flat is)))
     ∙ ap (λ (ops : List Op). d.ops ++ ops) (sym (if_flat is)))
 
-pub limit_is : (is : List Instr) (d : Drafted) → closed_if (place_of d) None (put is (opened d)) ≡ one (instr.If None is None) d
-limit_is is d = ap (λ (e : Drafted). closed_if (place_of d) None e) (put_is is (opened d)) ∙ held is d
+pub limit_is : (is : List Instr) (d : Drafted) → closed_if (place_of d) None (put is (open_draft d)) ≡ one (instr.If None is None) d
+limit_is is d = ap (λ (e : Drafted). closed_if (place_of d) None e) (put_is is (open_draft d)) ∙ held is d
 
-pub limit_fault : (d : Drafted) → closed_if (place_of d) None (put (fault 8) (opened d)) ≡ one (instr.If None (fault 8) None) d
+pub limit_fault : (d : Drafted) → closed_if (place_of d) None (put (fault 8) (open_draft d)) ≡ one (instr.If None (fault 8) None) d
 limit_fault d = limit_is (fault 8) d
 
 -- the first cell of an open array stands where the formal does
@@ -82,16 +82,16 @@ first_cell (Field t others) (suc v) = ap (λ (k : ℕ). size t + k) (first_cell 
 -- ---- value formals
 
 abbrev kept_at : Ty → (v : ℕ) → List Instr → List Instr
-kept_at f v value = LocalGet 0 ∷ (raised (offset f (suc v ∷ [])) ++ value)
+kept_at f v value = LocalGet 0 ∷ (raise_address (offset f (suc v ∷ [])) ++ value)
 
-pub scalar_value : (f t : Ty) (v x : ℕ) (k : Kind) → kind_of_tree t ≡ Some k → value_kept f v x t ≡ LocalGet 0 ∷ (raised (offset f (suc v ∷ [])) ++ (LocalGet x ∷ store_tree t))
+pub scalar_value : (f t : Ty) (v x : ℕ) (k : Kind) → kind_of_tree t ≡ Some k → value_kept f v x t ≡ LocalGet 0 ∷ (raise_address (offset f (suc v ∷ [])) ++ (LocalGet x ∷ store_tree t))
 scalar_value f (Cell c) v x k h = refl
 scalar_value f (Hidden n) v x k h = absurd cc
 scalar_value f (Array n t) v x k h = absurd cc
 scalar_value f Nothing v x k h = absurd cc
 scalar_value f (Field t others) v x k h = absurd cc
 
-pub whole_value : (f t : Ty) (v x : ℕ) → kind_of_tree t ≡ None → value_kept f v x t ≡ LocalGet 0 ∷ (raised (offset f (suc v ∷ [])) ++ (LocalGet x ∷ wrapped ∷ I32Const (size t) ∷ Call copy ∷ []))
+pub whole_value : (f t : Ty) (v x : ℕ) → kind_of_tree t ≡ None → value_kept f v x t ≡ LocalGet 0 ∷ (raise_address (offset f (suc v ∷ [])) ++ (LocalGet x ∷ wrap_word ∷ I32Const (size t) ∷ Call copy ∷ []))
 whole_value f (Cell c) v x h = absurd cc
 whole_value f (Hidden n) v x h = refl
 whole_value f (Array n t) v x h = refl
@@ -101,10 +101,10 @@ whole_value f (Field t others) v x h = refl
 -- ---- open arrays
 
 abbrev cells : Ty → (v p x : ℕ) → List Instr
-cells f v p x = word_kept f v (0 ∷ []) (LocalGet p ∷ extended ∷ []) ++ word_kept f v (1 ∷ []) (LocalGet (suc x) ∷ [])
+cells f v p x = word_kept f v (0 ∷ []) (LocalGet p ∷ extend_word ∷ []) ++ word_kept f v (1 ∷ []) (LocalGet (suc x) ∷ [])
 
 pub open_is : (top p : ℕ) (f : Ty) (v x element : ℕ) (d : Drafted)
-    → put (open_copied top p f v x element) d ≡ put (word_kept f v (0 ∷ []) (LocalGet p ∷ extended ∷ []) ++ word_kept f v (1 ∷ []) (LocalGet (suc x) ∷ [])) (put (copy_made p x element) (put (copy_begun top p x element) d))
+    → put (open_copied top p f v x element) d ≡ put (word_kept f v (0 ∷ []) (LocalGet p ∷ extend_word ∷ []) ++ word_kept f v (1 ∷ []) (LocalGet (suc x) ∷ [])) (put (copy_made p x element) (put (copy_begun top p x element) d))
 open_is top p f v x element d = refl
 
 chosen : (is_open var : Bool) (a b c : List Instr) → is_open ≡ true → var ≡ false → (if is_open then (if var then a else b) else c) ≡ b

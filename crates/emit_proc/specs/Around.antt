@@ -21,12 +21,12 @@ routines_around m zero w = []
 routines_around m (suc k) w = around_from (routines_around m k) (routine_at m w)
 
 -- no code, with so many characters of texts before it
-abbrev pub begun : ℕ → Drafted
-begun at = record { ops = []; counts = from_text at }
+abbrev pub begin_code : ℕ → Drafted
+begin_code at = record { ops = []; counts = from_text at }
 
 -- the function of a code that was made
-abbrev pub finished : (type_index : ℕ) → Drafted → Function
-finished t d =
+abbrev pub finish_code : (type_index : ℕ) → Drafted → Function
+finish_code t d =
     record { type_index = t; body = record { locals = locals_of d.counts; code = tree d.ops } }
 
 -- where the statements of a procedure stand

@@ -6,16 +6,16 @@ ghost use Rattle.std.specs.Option.{option_copied};
 ghost use Rattle.layout_storage.specs.Frames.{formals_made, frame};
 ghost use Rattle.layout_storage.specs.Sizes.{size, offset};
 ghost use Rattle.layout_storage.specs.Shapes.{tree};
-ghost use Rattle.emit_buffer.specs.Frames.{meant};
+ghost use Rattle.emit_buffer.specs.Frames.{setting_of};
 ghost use Rattle.emit_buffer.specs.Drafts.{put};
-ghost use Rattle.def_scheme.specs.Coded.{raised, wrapped, extended, copy};
-ghost use Rattle.def_scheme.specs.Cells.{stored};
+ghost use Rattle.def_scheme.specs.Coded.{raise_address, wrap_word, extend_word, copy};
+ghost use Rattle.def_scheme.specs.Cells.{store_code};
 ghost use Rattle.def_scheme.specs.Exprs.{arguments_of};
 ghost use Rattle.def_scheme.specs.Functions.{link_arguments, prologue, limit_check, enter_code, link_kept, word_kept, value_kept, bytes_code, open_copied, formal_kept, formals_kept};
 ghost use Rattle.emit_proc.specs.Kept.{own, word_at, copy_begun, copy_made};
 
 use emit_buffer::{
-    Draft, Helper, Setting, extended, fault, operation, raised, size_in, store, wrapped,
+    Draft, Helper, Setting, extend_word, fault, operation, raise_address, size_in, store, wrap_word,
 };
 use m2_rule::Fault;
 use std::alloc::AllocError;
@@ -36,11 +36,11 @@ fn limit_check(draft: &mut Draft) -> Result<(), EncodeError>
 
 /// Puts the stack's top behind a frame of so many bytes.
 fn top_raised(top: u32, bytes: u32, draft: &mut Draft) -> Result<(), EncodeError>
-    ensures { let code = LocalGet 0 ∷ (raised bytes ++ (LocalTee top ∷ limit_check)) in
+    ensures { let code = LocalGet 0 ∷ (raise_address bytes ++ (LocalTee top ∷ limit_check)) in
         OnOk result (draft.new ≡ put code draft.old) }
 {
     draft.push(Op::LocalGet(0))?;
-    raised(bytes, draft)?;
+    raise_address(bytes, draft)?;
     draft.push(Op::LocalTee(top))?;
     limit_check(draft)
 }
@@ -73,32 +73,32 @@ fn word_at(at: u32, x: u32, draft: &mut Draft) -> Result<(), AllocError>
     ensures { OnOk result (draft.new ≡ put (word_at at (LocalGet x ∷ [])) draft.old) }
 {
     draft.push(Op::LocalGet(0))?;
-    raised(at, draft)?;
+    raise_address(at, draft)?;
     draft.push(Op::LocalGet(x))?;
     draft.push(Op::Store(StoreWidth::Four))
 }
 
 /// Keeps an address as a word at an offset of the frame.
 fn address_at(at: u32, p: u32, draft: &mut Draft) -> Result<(), AllocError>
-    ensures { OnOk result (draft.new ≡ put (word_at at (LocalGet p ∷ extended ∷ [])) draft.old) }
+    ensures { OnOk result (draft.new ≡ put (word_at at (LocalGet p ∷ extend_word ∷ [])) draft.old) }
 {
     draft.push(Op::LocalGet(0))?;
-    raised(at, draft)?;
+    raise_address(at, draft)?;
     draft.push(Op::LocalGet(p))?;
-    extended(draft)?;
+    extend_word(draft)?;
     draft.push(Op::Store(StoreWidth::Four))
 }
 
 /// The offset of a formal in the frame.
 fn offset_of(setting: &Setting<'_>, v: usize) -> Result<u32, EncodeError>
-    ensures { IfOk result (λ n. n ≡ offset (own (meant setting.now)) (suc v ∷ [])) }
+    ensures { IfOk result (λ n. n ≡ offset (own (setting_of setting.now)) (suc v ∷ [])) }
 {
     setting.slot_offset(Slot { up: 0, number: v })
 }
 
 /// The offset of the second cell of an open array in the frame.
 fn high_of(setting: &Setting<'_>, v: usize) -> Result<u32, EncodeError>
-    ensures { IfOk result (λ n. n ≡ offset (own (meant setting.now)) (suc v ∷ 1 ∷ [])) }
+    ensures { IfOk result (λ n. n ≡ offset (own (setting_of setting.now)) (suc v ∷ 1 ∷ [])) }
 {
     setting.high_offset(Slot { up: 0, number: v })
 }
@@ -106,7 +106,7 @@ fn high_of(setting: &Setting<'_>, v: usize) -> Result<u32, EncodeError>
 /// Keeps the two cells of a VAR formal ARRAY OF.
 #[tactic(auto, using(emit_buffer::proofs::Emitted::put_append, crate::proofs::Entered::first_cell))]
 fn open_kept(setting: &Setting<'_>, v: usize, x: u32, draft: &mut Draft) -> Result<(), EncodeError>
-    ensures { let f = own (meant setting.now) in
+    ensures { let f = own (setting_of setting.now) in
         let first = word_kept f v (0 ∷ []) (LocalGet x ∷ []) in
         OnOk result (draft.new ≡ put (first ++ word_kept f v (1 ∷ []) (LocalGet (suc x) ∷ [])) draft.old) }
 {
@@ -123,11 +123,11 @@ fn scalar_kept(
     x: u32,
     draft: &mut Draft,
 ) -> Result<(), AllocError>
-    ensures { let value = LocalGet x ∷ stored setting.now.home.types t in
-        OnOk result (draft.new ≡ put (LocalGet 0 ∷ (raised at ++ value)) draft.old) }
+    ensures { let value = LocalGet x ∷ store_code setting.now.home.types t in
+        OnOk result (draft.new ≡ put (LocalGet 0 ∷ (raise_address at ++ value)) draft.old) }
 {
     draft.push(Op::LocalGet(0))?;
-    raised(at, draft)?;
+    raise_address(at, draft)?;
     draft.push(Op::LocalGet(x))?;
     store(setting, t, draft)
 }
@@ -141,13 +141,13 @@ fn whole_kept(
     draft: &mut Draft,
 ) -> Result<(), EncodeError>
     ensures { let bytes = size (tree setting.now.home.types t) in
-        let value = LocalGet x ∷ wrapped ∷ I32Const bytes ∷ Call copy ∷ [] in
-        OnOk result (draft.new ≡ put (LocalGet 0 ∷ (raised at ++ value)) draft.old) }
+        let value = LocalGet x ∷ wrap_word ∷ I32Const bytes ∷ Call copy ∷ [] in
+        OnOk result (draft.new ≡ put (LocalGet 0 ∷ (raise_address at ++ value)) draft.old) }
 {
     draft.push(Op::LocalGet(0))?;
-    raised(at, draft)?;
+    raise_address(at, draft)?;
     draft.push(Op::LocalGet(x))?;
-    wrapped(draft)?;
+    wrap_word(draft)?;
     draft.push(Op::I32Const(size_in(setting, t)?))?;
     draft.push(Op::Call(Helper::Copy.index()))?;
     Ok(())
@@ -162,7 +162,7 @@ fn value_kept(
     x: u32,
     draft: &mut Draft,
 ) -> Result<(), EncodeError>
-    ensures { let f = own (meant setting.now) in
+    ensures { let f = own (setting_of setting.now) in
         OnOk result (draft.new ≡ put (value_kept f v x (tree setting.now.home.types t)) draft.old) }
 {
     let at = offset_of(setting, v)?;
@@ -181,7 +181,7 @@ fn bytes_code(h: u32, element: u32, draft: &mut Draft) -> Result<(), AllocError>
     operation(Operation::Add, draft)?;
     draft.push(Op::I64Const(u64::from(element)))?;
     operation(Operation::Mul, draft)?;
-    wrapped(draft)
+    wrap_word(draft)
 }
 
 /// Raises the stack's top by the bytes of a copy.
@@ -203,7 +203,7 @@ fn copy_made(p: u32, x: u32, element: u32, draft: &mut Draft) -> Result<(), Enco
 {
     draft.push(Op::LocalGet(p))?;
     draft.push(Op::LocalGet(x))?;
-    wrapped(draft)?;
+    wrap_word(draft)?;
     bytes_code(plus(1, x)?, element, draft)?;
     draft.push(Op::Call(Helper::Copy.index()))?;
     Ok(())
@@ -218,8 +218,8 @@ fn copy_kept(
     x: u32,
     draft: &mut Draft,
 ) -> Result<(), EncodeError>
-    ensures { let f = own (meant setting.now) in
-        let first = word_kept f v (0 ∷ []) (LocalGet p ∷ extended ∷ []) in
+    ensures { let f = own (setting_of setting.now) in
+        let first = word_kept f v (0 ∷ []) (LocalGet p ∷ extend_word ∷ []) in
         OnOk result (draft.new ≡ put (first ++ word_kept f v (1 ∷ []) (LocalGet (suc x) ∷ [])) draft.old) }
 {
     address_at(offset_of(setting, v)?, p, draft)?;
@@ -237,7 +237,7 @@ fn open_copied(
     x: u32,
     draft: &mut Draft,
 ) -> Result<(), EncodeError>
-    ensures { let f = own (meant setting.now) in
+    ensures { let f = own (setting_of setting.now) in
         OnOk result (draft.new ≡ put (open_copied locals.top locals.copy f v x element) draft.old) }
 {
     copy_begun(locals.top, locals.copy, x, element, draft)?;
@@ -261,7 +261,7 @@ fn formal_kept(
     x: u32,
     draft: &mut Draft,
 ) -> Result<(), EncodeError>
-    ensures { let f = own (meant setting.now) in
+    ensures { let f = own (setting_of setting.now) in
         let code = formal_kept setting.now.home.types locals.top locals.copy f v x formal.now in
         OnOk result (draft.new ≡ put code draft.old) }
 {
@@ -292,7 +292,7 @@ fn formals_kept(
     first: u32,
     draft: &mut Draft,
 ) -> Result<(), EncodeError>
-    ensures { let f = own (meant setting.now) in
+    ensures { let f = own (setting_of setting.now) in
         let code = formals_kept setting.now.home.types locals.top locals.copy f 0 first formals.now in
         OnOk result (draft.new ≡ put code draft.old) }
 {
@@ -314,7 +314,7 @@ fn heading_kept(
     first: u32,
     draft: &mut Draft,
 ) -> Result<(), EncodeError>
-    ensures { let f = own (meant setting.now) in
+    ensures { let f = own (setting_of setting.now) in
         let formals = formals_made (option_copied heading.entry) in
         let code = formals_kept setting.now.home.types locals.top locals.copy f 0 first formals in
         OnOk result (draft.new ≡ put code draft.old) }
@@ -349,7 +349,7 @@ pub fn prologue(
     bytes: u32,
     draft: &mut Draft,
 ) -> Result<(), EncodeError>
-    requires frame { own (meant setting.now) ≡ frame setting.now.home.types routine.now }
+    requires frame { own (setting_of setting.now) ≡ frame setting.now.home.types routine.now }
     requires bytes { bytes ≡ size (frame setting.now.home.types routine.now) }
     ensures { let code = prologue setting.now.home.types routine.now locals.top locals.copy in
         OnOk result (draft.new ≡ put code draft.old) }

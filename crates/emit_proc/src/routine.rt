@@ -9,11 +9,11 @@ ghost use Rattle.layout_storage.specs.Texts.{characters, texts_before, routines_
 ghost use Rattle.def_scheme.specs.Functions.{routine_of, routine_at, end_code, enter_code, numbers_of, prologue, setting, frames_around, routine_function, module_function};
 ghost use Rattle.def_scheme.specs.Addresses.{addresses_in};
 ghost use Rattle.def_scheme.specs.Exprs.{has_result};
-ghost use Rattle.def_scheme.specs.Modules.{numbered};
-ghost use Rattle.emit_buffer.specs.Frames.{AreFramed, IsFramed, routines_in, meant, frames_of};
+ghost use Rattle.def_scheme.specs.Modules.{numbering_of};
+ghost use Rattle.emit_buffer.specs.Frames.{AreFramed, IsFramed, routines_in, setting_of, frames_of};
 ghost use Rattle.emit_buffer.specs.Drafts.{put};
 ghost use Rattle.emit_stmt.specs.Written.{with_steps};
-ghost use Rattle.emit_proc.specs.Around.{routines_around, routine_setting, begun, finished};
+ghost use Rattle.emit_proc.specs.Around.{routines_around, routine_setting, begin_code, finish_code};
 
 use crate::prologue::{Locals as Kept, enter_code, prologue};
 use emit_buffer::{Draft, Framed, Home, Setting, exact, fault};
@@ -26,8 +26,8 @@ use typed_tree::{Routine, Which};
 use wasm_tree::{Body, Code, EncodeError, Function, Locals, ValueType, plus, small};
 
 /// The function of a code that was made.
-fn finished(alloc: Global, type_index: u32, draft: Draft) -> Result<Function, EncodeError>
-    ensures { IfOk result (λ f. f ≡ finished type_index draft) }
+fn finish_code(alloc: Global, type_index: u32, draft: Draft) -> Result<Function, EncodeError>
+    ensures { IfOk result (λ f. f ≡ finish_code type_index draft) }
 {
     let (ops, addresses, numbers) = draft.finish();
     let first = Locals {
@@ -50,7 +50,7 @@ fn finished(alloc: Global, type_index: u32, draft: Draft) -> Result<Function, En
 /// What stands before the statements of the module's body, and these.
 fn module_draft(alloc: Global, home: &Home<'_>, texts: u32) -> Result<Draft, EncodeError>
     ensures { let s = setting home.now (frame_of [] ∷ []) 1 (addresses_in home.now.body) in
-        IfOk result (λ d. d ≡ with_steps s (put (enter_code 1 16) (begun texts)) home.now.body) }
+        IfOk result (λ d. d ≡ with_steps s (put (enter_code 1 16) (begin_code texts)) home.now.body) }
 {
     let body = home.module_body().body.as_slice();
     let setting = Setting::new(alloc, home, &[], 1, addresses_in(body)?);
@@ -65,9 +65,9 @@ fn module_draft(alloc: Global, home: &Home<'_>, texts: u32) -> Result<Draft, Enc
 #[tactic(auto, using(crate::proofs::Finished::module_is))]
 pub fn module_function(alloc: Global, home: &Home<'_>, texts: u32) -> Result<Function, EncodeError>
     requires { texts ≡ characters (routines_texts home.now) }
-    ensures { IfOk result (λ f. f ≡ module_function (numbered home.now) home.now) }
+    ensures { IfOk result (λ f. f ≡ module_function (numbering_of home.now) home.now) }
 {
-    finished(alloc, 5, module_draft(alloc, home, texts)?)
+    finish_code(alloc, 5, module_draft(alloc, home, texts)?)
 }
 
 /// The procedure around a procedure, with its frame.
@@ -183,8 +183,8 @@ fn framed_function(
         let before = prologue home.now.types r (suc n) (suc (suc n)) in
         let s = routine_setting home.now r in
         let gives = has_result home.now.types r.heading in
-        let t = numbered home.now (numbers_of home.now.types r) gives in
-        IfOk result (λ f. f ≡ finished t (put (end_code gives) (with_steps s (put before (begun texts)) r.body))) }
+        let t = numbering_of home.now (numbers_of home.now.types r) gives in
+        IfOk result (λ f. f ≡ finish_code t (put (end_code gives) (with_steps s (put before (begin_code texts)) r.body))) }
 {
     let routine = framed.routine;
     let types = &home.module_body().types;
@@ -202,7 +202,7 @@ fn framed_function(
         &mut draft,
     )?;
     end_code(gives, &mut draft)?;
-    finished(alloc, home.signatures().number(count, gives), draft)
+    finish_code(alloc, home.signatures().number(count, gives), draft)
 }
 
 /// The function of a procedure, where so many characters of texts stand before its own. The only error is that memory ran
@@ -217,7 +217,7 @@ pub fn routine_function(
 ) -> Result<Function, EncodeError>
     requires found { routine_of home.now which ≡ Some routine.now }
     requires texts { texts ≡ characters (texts_before home.now which home.now.order) }
-    ensures { let numbers = numbered home.now in
+    ensures { let numbers = numbering_of home.now in
         IfOk result (λ f. f ≡ routine_function numbers home.now which routine.now) }
 {
     match home.framed(which) {

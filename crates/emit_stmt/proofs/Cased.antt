@@ -16,15 +16,15 @@ use Rattle.typed_tree.specs.declared.statement.TypedStmt.{TypedStmt}
 use Rattle.typed_tree.specs.declared.statement.TypedStmt.TheOpen as sl
 use Rattle.typed_tree.specs.declared.statement.TypedStmt.TheVariants as sv
 use Rattle.typed_tree.specs.declared.statement.TypedArm.{TypedArm, fold_out-TypedArm}
-use Rattle.def_scheme.specs.Coded.{Coded, Setting, plain, ◌⨾◌, all_coded, within, with_number, wrapped, relation, fault, number_local}
+use Rattle.def_scheme.specs.Coded.{Coded, Setting, plain, ◌⨾◌, all_coded, within, with_number, wrap_word, relation, fault, number_local}
 use Rattle.def_scheme.specs.Exprs.{Numbered}
-use Rattle.def_scheme.specs.Steps.{Arm, step_layer, arm_layer, step_code, part, block, boxed, tests_code, arm_code, chain_code, all_labels, least_of, span_of, is_dense, target, targets, from_least, dispatch, jump_arms, table_code, case_code}
-use Rattle.def_scheme.specs.Modules.{numbered}
-use Rattle.emit_buffer.specs.Drafts.{Drafted, with_ops, one, put, emitted, opened, place_of, closed_block}
+use Rattle.def_scheme.specs.Steps.{Arm, step_layer, arm_layer, step_code, part, block, in_block, tests_code, arm_code, chain_code, all_labels, least_of, span_of, is_dense, target, targets, from_least, dispatch, jump_arms, table_code, case_code}
+use Rattle.def_scheme.specs.Modules.{numbering_of}
+use Rattle.emit_buffer.specs.Drafts.{Drafted, with_ops, one, put, emitted, open_draft, place_of, closed_block}
 use Rattle.emit_expr.specs.Values.{with_value}
 use Rattle.emit_buffer.proofs.Emitted.{emitted_plain, emitted_seq, then_plain}
 use Rattle.emit_buffer.proofs.Closed.{boxed_block}
-use Rattle.emit_stmt.specs.Written.{with_step, with_steps, deeper, number_kept, arm_begun, with_arm, with_arms, opened_times, with_jump, with_jumps, labels_in, has_value, target_in, targets_in, dispatch_in, with_others, by_tests, by_table, by_cases, selected, selected_local, all_cases}
+use Rattle.emit_stmt.specs.Written.{with_step, with_steps, deeper, number_kept, arm_begun, with_arm, with_arms, opened_times, with_jump, with_jumps, labels_in, has_value, target_in, targets_in, dispatch_in, with_others, by_tests, by_table, by_cases, keep_selector, selected_local, all_cases}
 use Rattle.emit_stmt.proofs.Stepped.{arm_of, by_layer, steps_are, block_is, keeps_number}
 
 -- ---- an arm as the scheme sees it
@@ -66,8 +66,8 @@ targets_are n xs low span = same_map (λ k. target (all_made n xs) (low +ℤ pos
 
 dispatch_is : (n : Numbered) (t : ℕ) (xs : List TypedArm) (low : ℤ) (span : ℕ) → dispatch t (all_made n xs) low span ≡ dispatch_in t xs low span
 dispatch_is n t xs low span =
-    ap (λ (k : ℕ). from_least t low ++ (I64Const (span - 1) ∷ relation GtU ∷ BrIf k ∷ (from_least t low ++ (wrapped ∷ BrTable (targets (all_made n xs) low span) k ∷ [])))) (count n xs)
-    ∙ ap (λ (ts : List ℕ). from_least t low ++ (I64Const (span - 1) ∷ relation GtU ∷ BrIf (length xs) ∷ (from_least t low ++ (wrapped ∷ BrTable ts (length xs) ∷ [])))) (targets_are n xs low span)
+    ap (λ (k : ℕ). from_least t low ++ (I64Const (span - 1) ∷ relation GtU ∷ BrIf k ∷ (from_least t low ++ (wrap_word ∷ BrTable (targets (all_made n xs) low span) k ∷ [])))) (count n xs)
+    ∙ ap (λ (ts : List ℕ). from_least t low ++ (I64Const (span - 1) ∷ relation GtU ∷ BrIf (length xs) ∷ (from_least t low ++ (wrap_word ∷ BrTable ts (length xs) ∷ [])))) (targets_are n xs low span)
 
 -- ---- what is done else
 
@@ -75,52 +75,52 @@ abbrev else_of : Numbered → Option (List TypedStmt) → Coded
 else_of n None = plain (fault 5)
 else_of n (Some xs) = all_coded (map (step_code n) xs)
 
-others_are : (s : Setting) (d : Drafted) (others : Option (List TypedStmt)) → emitted (else_of (numbered s.home) others) s d ≡ with_others s d others
+others_are : (s : Setting) (d : Drafted) (others : Option (List TypedStmt)) → emitted (else_of (numbering_of s.home) others) s d ≡ with_others s d others
 others_are s d None = emitted_plain (fault 5) s d
 others_are s d (Some xs) = steps_are s d xs
 
 -- ---- one test after the other
 
-block_of : (code : List Instr) (s : Setting) (d : Drafted) → emitted (plain (block code)) s d ≡ closed_block (place_of d) None (put code (opened d))
+block_of : (code : List Instr) (s : Setting) (d : Drafted) → emitted (plain (block code)) s d ≡ closed_block (place_of d) None (put code (open_draft d))
 unfolding emitted
-block_of code s d = boxed_block None (plain code) s s d ∙ ap (λ (r : Drafted). closed_block (place_of d) None r) (emitted_plain code s (opened d))
+block_of code s d = boxed_block None (plain code) s s d ∙ ap (λ (r : Drafted). closed_block (place_of d) None r) (emitted_plain code s (open_draft d))
 
-with_arm_is : (t : ℕ) (s : Setting) (d : Drafted) (x : TypedArm) → emitted (arm_code t (made (numbered s.home) x)) s d ≡ with_arm t s d x
+with_arm_is : (t : ℕ) (s : Setting) (d : Drafted) (x : TypedArm) → emitted (arm_code t (made (numbering_of s.home) x)) s d ≡ with_arm t s d x
 unfolding emitted with_arm
 with_arm_is t s d x =
     let inner : Setting = deeper 1 s in
-    let body : Coded = all_coded (map (step_code (numbered s.home)) x.body) in
+    let body : Coded = all_coded (map (step_code (numbering_of s.home)) x.body) in
     let tests : List Instr = block (tests_code t x.labels) in
     boxed_block None (plain tests ⨾ body ⨾ plain (Br 1 ∷ [])) inner s d
     ∙ ap (λ (r : Drafted). closed_block (place_of d) None r)
-    (emitted_seq (plain tests) (body ⨾ plain (Br 1 ∷ [])) inner (opened d)
-    ∙ then_plain body (Br 1 ∷ []) inner (emitted (plain tests) inner (opened d))
-    ∙ ap (λ (r : Drafted). put (Br 1 ∷ []) (emitted body inner r)) (block_of (tests_code t x.labels) inner (opened d))
+    (emitted_seq (plain tests) (body ⨾ plain (Br 1 ∷ [])) inner (open_draft d)
+    ∙ then_plain body (Br 1 ∷ []) inner (emitted (plain tests) inner (open_draft d))
+    ∙ ap (λ (r : Drafted). put (Br 1 ∷ []) (emitted body inner r)) (block_of (tests_code t x.labels) inner (open_draft d))
     ∙ ap (λ (r : Drafted). put (Br 1 ∷ []) r) (steps_are inner (arm_begun t d x) x.body))
 
-with_arms_are : (t : ℕ) (s : Setting) (d : Drafted) (xs : List TypedArm) → emitted (all_coded (map (arm_code t) (all_made (numbered s.home) xs))) s d ≡ with_arms t s d xs
+with_arms_are : (t : ℕ) (s : Setting) (d : Drafted) (xs : List TypedArm) → emitted (all_coded (map (arm_code t) (all_made (numbering_of s.home) xs))) s d ≡ with_arms t s d xs
 with_arms_are t s d [] = emitted_plain [] s d
 with_arms_are t s d (x ∷ xs) =
-    let n = numbered s.home in
+    let n = numbering_of s.home in
     emitted_seq (arm_code t (made n x)) (all_coded (map (arm_code t) (all_made n xs))) s d
     ∙ ap (λ (r : Drafted). emitted (all_coded (map (arm_code t) (all_made n xs))) s r) (with_arm_is t s d x)
     ∙ with_arms_are t s (with_arm t s d x) xs
 
 tests_are : (t : ℕ) (s : Setting) (d : Drafted) (xs : List TypedArm) (others : Option (List TypedStmt))
-    → emitted (chain_code t (all_made (numbered s.home) xs) (else_of (numbered s.home) others)) s d ≡ closed_block (place_of d) None (with_others (deeper 1 s) (by_tests t s d xs) others)
+    → emitted (chain_code t (all_made (numbering_of s.home) xs) (else_of (numbering_of s.home) others)) s d ≡ closed_block (place_of d) None (with_others (deeper 1 s) (by_tests t s d xs) others)
 tests_are t s d xs others =
-    let n = numbered s.home in
+    let n = numbering_of s.home in
     let inner : Setting = deeper 1 s in
     let arms : Coded = all_coded (map (arm_code t) (all_made n xs)) in
     block_is 1 (arms ⨾ else_of n others) s d
     ∙ ap (λ (r : Drafted). closed_block (place_of d) None r)
-    (emitted_seq arms (else_of n others) inner (opened d)
-    ∙ ap (λ (r : Drafted). emitted (else_of n others) inner r) (with_arms_are t inner (opened d) xs)
-    ∙ others_are inner (with_arms t inner (opened d) xs) others)
+    (emitted_seq arms (else_of n others) inner (open_draft d)
+    ∙ ap (λ (r : Drafted). emitted (else_of n others) inner r) (with_arms_are t inner (open_draft d) xs)
+    ∙ others_are inner (with_arms t inner (open_draft d) xs) others)
 
 -- ---- by a table
 
-boxed_is : (x : Coded) (s : Setting) (d : Drafted) → emitted (boxed x) s d ≡ closed_block (place_of d) None (emitted x s (opened d))
+boxed_is : (x : Coded) (s : Setting) (d : Drafted) → emitted (in_block x) s d ≡ closed_block (place_of d) None (emitted x s (open_draft d))
 unfolding emitted
 boxed_is x s d = boxed_block None x s s d
 
@@ -129,60 +129,60 @@ unfolding emitted
 within_is k x s d = refl
 
 place_opened : (n : ℕ) (d : Drafted) → place_of (opened_times n d) ≡ place_of d + n
-unfolding opened
+unfolding open_draft
 place_opened zero d = omega arith
 place_opened (suc n) d = length-append (opened_times n d).ops (op.Unreachable ∷ []) ∙ ap (λ (k : ℕ). k + 1) (place_opened n d) ∙ omega arith
 
 jump_is : (s : Setting) (d : Drafted) (x : TypedArm) (xs : List TypedArm) (inner : Coded)
-    → emitted (boxed inner ⨾ within (length xs + 2) (λ code. code) (all_coded (map (step_code (numbered s.home)) x.body)) ⨾ plain (Br (length xs + 1) ∷ [])) s (opened_times (length xs) d)
-    ≡ with_jump (place_of d) (length xs) s (emitted inner s (opened (opened_times (length xs) d))) x
+    → emitted (in_block inner ⨾ within (length xs + 2) (λ code. code) (all_coded (map (step_code (numbering_of s.home)) x.body)) ⨾ plain (Br (length xs + 1) ∷ [])) s (opened_times (length xs) d)
+    ≡ with_jump (place_of d) (length xs) s (emitted inner s (open_draft (opened_times (length xs) d))) x
 unfolding with_jump
 jump_is s d x xs inner =
-    let n = numbered s.home in
+    let n = numbering_of s.home in
     let k = length xs in
     let e : Drafted = opened_times k d in
     let body : Coded = all_coded (map (step_code n) x.body) in
-    let after : Drafted = closed_block (place_of d + k) None (emitted inner s (opened e)) in
-    emitted_seq (boxed inner) (within (k + 2) (λ code. code) body ⨾ plain (Br (k + 1) ∷ [])) s e
-    ∙ then_plain (within (k + 2) (λ code. code) body) (Br (k + 1) ∷ []) s (emitted (boxed inner) s e)
+    let after : Drafted = closed_block (place_of d + k) None (emitted inner s (open_draft e)) in
+    emitted_seq (in_block inner) (within (k + 2) (λ code. code) body ⨾ plain (Br (k + 1) ∷ [])) s e
+    ∙ then_plain (within (k + 2) (λ code. code) body) (Br (k + 1) ∷ []) s (emitted (in_block inner) s e)
     ∙ ap (λ (r : Drafted). put (Br (k + 1) ∷ []) r)
-    (within_is (k + 2) body s (emitted (boxed inner) s e)
+    (within_is (k + 2) body s (emitted (in_block inner) s e)
     ∙ ap (λ (r : Drafted). emitted body (deeper (k + 2) s) r)
-    (boxed_is inner s e ∙ ap (λ (p : ℕ). closed_block p None (emitted inner s (opened e))) (place_opened k d))
+    (boxed_is inner s e ∙ ap (λ (p : ℕ). closed_block p None (emitted inner s (open_draft e))) (place_opened k d))
     ∙ steps_are (deeper (k + 2) s) after x.body)
 
 jumps_are : (s : Setting) (d : Drafted) (xs : List TypedArm) (inner : Coded)
-    → emitted (jump_arms (all_made (numbered s.home) xs) inner) s d ≡ with_jumps (place_of d) s (emitted inner s (opened_times (length xs) d)) xs
+    → emitted (jump_arms (all_made (numbering_of s.home) xs) inner) s d ≡ with_jumps (place_of d) s (emitted inner s (opened_times (length xs) d)) xs
 jumps_are s d [] inner = refl
 jumps_are s d (x ∷ xs) inner =
-    let n = numbered s.home in
+    let n = numbering_of s.home in
     let k = length xs in
     let e : Drafted = opened_times k d in
     let body : Coded = all_coded (map (step_code n) x.body) in
     let rest : ℕ → Coded = λ k. within (k + 2) (λ code. code) body ⨾ plain (Br (k + 1) ∷ []) in
-    ap (λ (k : ℕ). emitted (jump_arms (all_made n xs) (boxed inner ⨾ rest k)) s d) (count n xs)
-    ∙ jumps_are s d xs (boxed inner ⨾ rest k)
+    ap (λ (k : ℕ). emitted (jump_arms (all_made n xs) (in_block inner ⨾ rest k)) s d) (count n xs)
+    ∙ jumps_are s d xs (in_block inner ⨾ rest k)
     ∙ ap (λ (r : Drafted). with_jumps (place_of d) s r xs) (jump_is s d x xs inner)
 
 table_is : (t : ℕ) (s : Setting) (d : Drafted) (xs : List TypedArm) (others : Option (List TypedStmt))
-    → emitted (table_code t (all_made (numbered s.home) xs) (else_of (numbered s.home) others)) s d ≡ closed_block (place_of d) None (with_others (deeper 1 s) (by_table t s d xs) others)
+    → emitted (table_code t (all_made (numbering_of s.home) xs) (else_of (numbering_of s.home) others)) s d ≡ closed_block (place_of d) None (with_others (deeper 1 s) (by_table t s d xs) others)
 table_is t s d xs others =
-    let n = numbered s.home in
+    let n = numbering_of s.home in
     let arms : List Arm = all_made n xs in
     let code : List Instr = dispatch_in t xs (least_of (labels_in xs)) (span_of (labels_in xs)) in
     let jumps : List Instr → Coded = λ code. jump_arms arms (plain code) in
-    let d2 : Drafted = opened (opened d) in
+    let d2 : Drafted = open_draft (open_draft d) in
     let same : dispatch t arms (least_of (all_labels arms)) (span_of (all_labels arms)) ≡ code =
     ap (λ (ls : List Label). dispatch t arms (least_of ls) (span_of ls)) (labels_are n xs) ∙ dispatch_is n t xs (least_of (labels_in xs)) (span_of (labels_in xs)) in
-    ap (λ (c : List Instr). emitted (boxed (boxed (jumps c) ⨾ within 1 (λ code. code) (else_of n others))) s d) same
-    ∙ boxed_is (boxed (jumps code) ⨾ within 1 (λ code. code) (else_of n others)) s d
+    ap (λ (c : List Instr). emitted (in_block (in_block (jumps c) ⨾ within 1 (λ code. code) (else_of n others))) s d) same
+    ∙ boxed_is (in_block (jumps code) ⨾ within 1 (λ code. code) (else_of n others)) s d
     ∙ ap (λ (r : Drafted). closed_block (place_of d) None r)
-    (emitted_seq (boxed (jumps code)) (within 1 (λ code. code) (else_of n others)) s (opened d)
-    ∙ within_is 1 (else_of n others) s (emitted (boxed (jumps code)) s (opened d))
-    ∙ others_are (deeper 1 s) (emitted (boxed (jumps code)) s (opened d)) others
+    (emitted_seq (in_block (jumps code)) (within 1 (λ code. code) (else_of n others)) s (open_draft d)
+    ∙ within_is 1 (else_of n others) s (emitted (in_block (jumps code)) s (open_draft d))
+    ∙ others_are (deeper 1 s) (emitted (in_block (jumps code)) s (open_draft d)) others
     ∙ ap (λ (r : Drafted). with_others (deeper 1 s) r others)
-    (boxed_is (jumps code) s (opened d)
-    ∙ ap (λ (r : Drafted). closed_block (place_of (opened d)) None r)
+    (boxed_is (jumps code) s (open_draft d)
+    ∙ ap (λ (r : Drafted). closed_block (place_of (open_draft d)) None r)
     (jumps_are s d2 xs (plain code)
     ∙ ap (λ (r : Drafted). with_jumps (place_of d2) s r xs) (emitted_plain code s (opened_times (length xs) d2)))))
 
@@ -196,11 +196,11 @@ abbrev case_of : Numbered → TypedExpr → List Arm → Coded → Coded
 case_of n e arms otherwise = case_code (part n e).code arms otherwise
 
 case_is : (s : Setting) (d : Drafted) (e : TypedExpr) (xs : List TypedArm) (others : Option (List TypedStmt))
-    → emitted (case_of (numbered s.home) e (all_made (numbered s.home) xs) (else_of (numbered s.home) others)) s d
-    ≡ all_cases (selected_local s e d) s (selected s e d) xs others
+    → emitted (case_of (numbering_of s.home) e (all_made (numbering_of s.home) xs) (else_of (numbering_of s.home) others)) s d
+    ≡ all_cases (selected_local s e d) s (keep_selector s e d) xs others
 unfolding with_value by_cases
 case_is s d e xs others =
-    let n = numbered s.home in
+    let n = numbering_of s.home in
     let arms : List Arm = all_made n xs in
     let otherwise : Coded = else_of n others in
     let code : ℕ → Coded = λ t. if is_dense (length arms) (all_labels arms) then table_code t arms otherwise else chain_code t arms otherwise in
@@ -215,17 +215,17 @@ case_is s d e xs others =
     ∙ ap (λ (ls : List Label). end (if is_dense (length xs) ls then by_table t s d2 xs else by_tests t s d2 xs)) (labels_are n xs)
 
 pub step_Case_None : (s : Setting) (d : Drafted) (e : TypedExpr) (xs : List TypedArm)
-    → with_step s d (sv.Case e xs None) ≡ closed_block (place_of (selected s e d)) None (put (fault 5) (by_cases (selected_local s e d) s (selected s e d) xs))
+    → with_step s d (sv.Case e xs None) ≡ closed_block (place_of (keep_selector s e d)) None (put (fault 5) (by_cases (selected_local s e d) s (keep_selector s e d) xs))
 step_Case_None s d e xs =
-    let n = numbered s.home in
+    let n = numbering_of s.home in
     by_layer s d (sv.Case e xs None) (sl.Case e xs None) (sv.outs-Case e xs None)
     ∙ ap (λ (arms : List Arm). emitted (case_of n e arms (else_of n None)) s d) (arms_are n xs)
     ∙ case_is s d e xs None
 
 pub step_Case_Some : (s : Setting) (d : Drafted) (e : TypedExpr) (xs : List TypedArm) (ys : List TypedStmt)
-    → with_step s d (sv.Case e xs (Some ys)) ≡ closed_block (place_of (selected s e d)) None (with_steps (deeper 1 s) (by_cases (selected_local s e d) s (selected s e d) xs) ys)
+    → with_step s d (sv.Case e xs (Some ys)) ≡ closed_block (place_of (keep_selector s e d)) None (with_steps (deeper 1 s) (by_cases (selected_local s e d) s (keep_selector s e d) xs) ys)
 step_Case_Some s d e xs ys =
-    let n = numbered s.home in
+    let n = numbering_of s.home in
     by_layer s d (sv.Case e xs (Some ys)) (sl.Case e xs (Some ys)) (sv.outs-Case e xs (Some ys))
     ∙ ap (λ (arms : List Arm). emitted (case_of n e arms (else_of n (Some ys))) s d) (arms_are n xs)
     ∙ case_is s d e xs (Some ys)

@@ -12,16 +12,16 @@ use Rattle.typed_tree.specs.declared.computed.TypedExpr.{TypedExpr}
 use Rattle.typed_tree.specs.declared.statement.TypedStmt.{TypedStmt}
 use Rattle.typed_tree.specs.declared.statement.TypedArm.{TypedArm}
 use Rattle.def_meaning.specs.Answer.{case_fault, range_fault}
-use Rattle.def_scheme.specs.Coded.{Setting, address_local, number_local, number, operation, relation, wrapped, fault}
-use Rattle.def_scheme.specs.Cells.{loaded, stored, in_type}
+use Rattle.def_scheme.specs.Coded.{Setting, address_local, number_local, number, operation, relation, wrap_word, fault}
+use Rattle.def_scheme.specs.Cells.{load_code, store_code, in_type}
 use Rattle.def_scheme.specs.Steps.{step_code, tests_code, passes, from_least, is_dense, least_of, span_of}
-use Rattle.def_scheme.specs.Modules.{numbered}
-use Rattle.emit_buffer.specs.Drafts.{Drafted, emitted, one, put, next_address, next_number, opened, place_of, closed_block}
+use Rattle.def_scheme.specs.Modules.{numbering_of}
+use Rattle.emit_buffer.specs.Drafts.{Drafted, emitted, one, put, next_address, next_number, open_draft, place_of, closed_block}
 use Rattle.emit_expr.specs.Values.{with_value, with_place, with_taken}
 
 -- with a statement, and with statements
 unfoldable pub with_step : Setting → Drafted → TypedStmt → Drafted
-with_step s d x = emitted (step_code (numbered s.home) x) s d
+with_step s d x = emitted (step_code (numbering_of s.home) x) s d
 
 abbrev pub with_steps : Setting → Drafted → List TypedStmt → Drafted
 with_steps s d xs = fold (with_step s) d xs
@@ -46,25 +46,25 @@ abbrev pub for_local : Setting → Place → TypeNo → (start limit : TypedExpr
 for_local s p t a b d = number_local s (for_limited s p t a b d).counts.numbers
 
 abbrev pub for_begun : Setting → Place → TypeNo → (start limit : TypedExpr) → Drafted → Drafted
-for_begun s p t a b d = put (stored s.home.types t) (number_kept s (for_limited s p t a b d))
+for_begun s p t a b d = put (store_code s.home.types t) (number_kept s (for_limited s p t a b d))
 
 -- before the first turn, and at the end of each
 abbrev pub for_tested : Setting → Place → TypeNo → (by : ℤ) → (n : ℕ) → Drafted → Drafted
 for_tested s p t by n d =
     put (LocalGet n ∷ relation (passes by) ∷ BrIf 0 ∷ [])
-    (put (loaded s.home.types t) (with_place s p d))
+    (put (load_code s.home.types t) (with_place s p d))
 
 abbrev pub for_passed : Setting → Place → TypeNo → (by : ℤ) → (n : ℕ) → Drafted → Drafted
 for_passed s p t by n d =
     put (number by ∷ operation Add ∷ LocalGet n ∷ relation (passes by) ∷ BrIf 1 ∷ [])
-    (put (loaded s.home.types t) (with_place s p d))
+    (put (load_code s.home.types t) (with_place s p d))
 
 abbrev pub for_next : Setting → Place → TypeNo → (by : ℤ) → Drafted → Drafted
 for_next s p t by d =
     put
-    (number by ∷ operation Add ∷ (in_type s.home.types t range_fault ++ (stored s.home.types t
+    (number by ∷ operation Add ∷ (in_type s.home.types t range_fault ++ (store_code s.home.types t
     ++ Br 0 ∷ [])))
-    (put (loaded s.home.types t) (with_place s p (with_place s p d)))
+    (put (load_code s.home.types t) (with_place s p (with_place s p d)))
 
 abbrev pub for_turned : Setting → Place → TypeNo → (by : ℤ) → (n : ℕ) → Drafted → Drafted
 for_turned s p t by n d = for_next s p t by (for_passed s p t by n d)
@@ -73,7 +73,7 @@ for_turned s p t by n d = for_next s p t by (for_passed s p t by n d)
 
 abbrev pub arm_begun : (t : ℕ) → Drafted → TypedArm → Drafted
 arm_begun t d x =
-    closed_block (place_of (opened d)) None (put (tests_code t x.labels) (opened (opened d)))
+    closed_block (place_of (open_draft d)) None (put (tests_code t x.labels) (open_draft (open_draft d)))
 
 unfoldable pub with_arm : (t : ℕ) → Setting → Drafted → TypedArm → Drafted
 with_arm t s d x =
@@ -87,7 +87,7 @@ with_arms t s d xs = fold (with_arm t s) d xs
 
 abbrev pub opened_times : ℕ → Drafted → Drafted
 opened_times zero d = d
-opened_times (suc n) d = opened (opened_times n d)
+opened_times (suc n) d = open_draft (opened_times n d)
 
 unfoldable pub with_jump : (place left : ℕ) → Setting → Drafted → TypedArm → Drafted
 with_jump p n s d x =
@@ -119,7 +119,7 @@ beyond t low span last = from_least t low ++ (I64Const (span - 1) ∷ relation G
 
 abbrev pub dispatch_to : (t : ℕ) → (least : ℤ) → (span : ℕ) → List ℕ → (last : ℕ) → List Instr
 dispatch_to t low span targets last =
-    beyond t low span last ++ (from_least t low ++ (wrapped ∷ BrTable targets last ∷ []))
+    beyond t low span last ++ (from_least t low ++ (wrap_word ∷ BrTable targets last ∷ []))
 
 abbrev pub dispatch_in : (t : ℕ) → List TypedArm → (least : ℤ) → (span : ℕ) → List Instr
 dispatch_in t xs low span = dispatch_to t low span (targets_in xs low span) (length xs)
@@ -132,25 +132,25 @@ with_others s d (Some xs) = with_steps s d xs
 -- by a table: a block for the whole, one for what is done else, and one for each arm
 abbrev pub table_begun : (t : ℕ) → (least : ℤ) → (span : ℕ) → List TypedArm → Drafted → Drafted
 table_begun t low span xs d =
-    put (dispatch_in t xs low span) (opened_times (length xs) (opened (opened d)))
+    put (dispatch_in t xs low span) (opened_times (length xs) (open_draft (open_draft d)))
 
 abbrev pub by_table : (t : ℕ) → Setting → Drafted → List TypedArm → Drafted
 by_table t s d xs =
-    closed_block (place_of (opened d)) None
-    (with_jumps (place_of (opened (opened d))) s
+    closed_block (place_of (open_draft d)) None
+    (with_jumps (place_of (open_draft (open_draft d))) s
     (table_begun t (least_of (labels_in xs)) (span_of (labels_in xs)) xs d) xs)
 
 -- or one test after the other
 abbrev pub by_tests : (t : ℕ) → Setting → Drafted → List TypedArm → Drafted
-by_tests t s d xs = with_arms t (deeper 1 s) (opened d) xs
+by_tests t s d xs = with_arms t (deeper 1 s) (open_draft d) xs
 
 unfoldable pub by_cases : (t : ℕ) → Setting → Drafted → List TypedArm → Drafted
 by_cases t s d xs =
     if is_dense (length xs) (labels_in xs) then by_table t s d xs else by_tests t s d xs
 
 -- the selector is kept, and all stands in a block
-abbrev pub selected : Setting → TypedExpr → Drafted → Drafted
-selected s e d = number_kept s (with_value s e d)
+abbrev pub keep_selector : Setting → TypedExpr → Drafted → Drafted
+keep_selector s e d = number_kept s (with_value s e d)
 
 abbrev pub selected_local : Setting → TypedExpr → Drafted → ℕ
 selected_local s e d = number_local s (with_value s e d).counts.numbers

@@ -1,11 +1,11 @@
 //! The code of statements in statements.
 
 ghost use Rattle.std.specs.Prelude.{◌≡◌, ◌∷◌, ◌++◌, [], IfOk, OnOk, length};
-ghost use Rattle.emit_buffer.specs.Frames.{meant};
+ghost use Rattle.emit_buffer.specs.Frames.{setting_of};
 ghost use Rattle.emit_buffer.specs.Drafts.{place_of};
 ghost use Rattle.emit_stmt.specs.Written.{with_step, with_steps, with_arm, with_arms, with_jump, with_jumps, by_cases};
 
-use crate::cases::{arm_begun, arm_ended, jump_begun, more, selected, table_begun};
+use crate::cases::{arm_begun, arm_ended, jump_begun, keep_selector, more, table_begun};
 use crate::control::{
     condition, for_begun, for_ended, for_opened, open_turns, record_kept, turn_again, unless,
 };
@@ -28,7 +28,7 @@ fn stmt_code(
     stmt: &TypedStmt,
     draft: &mut Draft,
 ) -> Result<(), EncodeError>
-    ensures { OnOk result (draft.new ≡ with_step (meant setting.now) draft.old stmt.now) }
+    ensures { OnOk result (draft.new ≡ with_step (setting_of setting.now) draft.old stmt.now) }
 {
     match stmt {
         TypedStmt::Assign(place, t, e) => assign(setting, place, *t, e, draft),
@@ -56,7 +56,7 @@ fn stmt_code(
             }
         }
         TypedStmt::Case(e, arms, others) => {
-            let t = selected(setting, e, draft)?;
+            let t = keep_selector(setting, e, draft)?;
             let place = draft.place();
             cases_code(alloc, setting, t, arms.as_slice(), draft)?;
             match others {
@@ -118,7 +118,7 @@ fn stmts_code(
     stmts: &[TypedStmt],
     draft: &mut Draft,
 ) -> Result<(), EncodeError>
-    ensures { OnOk result (draft.new ≡ with_steps (meant setting.now) draft.old stmts.now) }
+    ensures { OnOk result (draft.new ≡ with_steps (setting_of setting.now) draft.old stmts.now) }
 {
     for stmt in stmts {
         stmt_code(alloc, setting, stmt, draft)?;
@@ -136,7 +136,7 @@ fn arm_code(
     arm: &TypedArm,
     draft: &mut Draft,
 ) -> Result<(), EncodeError>
-    ensures { OnOk result (draft.new ≡ with_arm t (meant setting.now) draft.old arm.now) }
+    ensures { OnOk result (draft.new ≡ with_arm t (setting_of setting.now) draft.old arm.now) }
 {
     let place = arm_begun(t, arm, draft)?;
     let inner = setting.within(1)?;
@@ -153,7 +153,7 @@ fn arms_code(
     arms: &[TypedArm],
     draft: &mut Draft,
 ) -> Result<(), EncodeError>
-    ensures { OnOk result (draft.new ≡ with_arms t (meant setting.now) draft.old arms.now) }
+    ensures { OnOk result (draft.new ≡ with_arms t (setting_of setting.now) draft.old arms.now) }
 {
     for arm in arms {
         arm_code(alloc, setting, t, arm, draft)?;
@@ -172,7 +172,7 @@ fn jump_code(
     arm: &TypedArm,
     draft: &mut Draft,
 ) -> Result<(), EncodeError>
-    ensures { let s = meant setting.now in
+    ensures { let s = setting_of setting.now in
         OnOk result (draft.new ≡ with_jump place left s draft.old arm.now) }
 {
     jump_begun(place, left, draft)?;
@@ -192,7 +192,7 @@ fn jumps_code(
     arms: &[TypedArm],
     draft: &mut Draft,
 ) -> Result<(), EncodeError>
-    ensures { let s = meant setting.now in
+    ensures { let s = setting_of setting.now in
         OnOk result (draft.new ≡ with_jumps place s draft.old arms.now) }
 {
     let mut left = arms.len();
@@ -213,7 +213,7 @@ fn cases_code(
     arms: &[TypedArm],
     draft: &mut Draft,
 ) -> Result<(), EncodeError>
-    ensures { OnOk result (draft.new ≡ by_cases t (meant setting.now) draft.old arms.now) }
+    ensures { OnOk result (draft.new ≡ by_cases t (setting_of setting.now) draft.old arms.now) }
 {
     match plan_of(arms) {
         None => {
@@ -236,7 +236,7 @@ pub fn body_code(
     body: &[TypedStmt],
     draft: &mut Draft,
 ) -> Result<(), EncodeError>
-    ensures { OnOk result (draft.new ≡ with_steps (meant setting.now) draft.old body.now) }
+    ensures { OnOk result (draft.new ≡ with_steps (setting_of setting.now) draft.old body.now) }
 {
     stmts_code(alloc, setting, body, draft)
 }

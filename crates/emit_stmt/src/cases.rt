@@ -4,26 +4,30 @@ ghost use Rattle.std.specs.Prelude.{◌≡◌, ◌+◌, ◌∷◌, ◌++◌, [],
 ghost use Rattle.std.specs.List.{flat_map};
 ghost use Rattle.wasm_tree.specs.declared.code.Op.TheVariants as op;
 ghost use Rattle.wasm_tree.specs.declared.instr.Instr.TheVariants.{Br, BrTable};
-ghost use Rattle.emit_buffer.specs.Frames.{meant};
-ghost use Rattle.emit_buffer.specs.Drafts.{one, put, with_ops, opened, place_of, closed_block};
+ghost use Rattle.emit_buffer.specs.Frames.{setting_of};
+ghost use Rattle.emit_buffer.specs.Drafts.{one, put, with_ops, open_draft, place_of, closed_block};
 ghost use Rattle.def_scheme.specs.Steps.{label_code, tests_code, from_least};
-ghost use Rattle.emit_stmt.specs.Written.{selected, selected_local, arm_begun, labels_in, targets_in, beyond, dispatch_to, opened_times, table_begun};
+ghost use Rattle.emit_stmt.specs.Written.{keep_selector, selected_local, arm_begun, labels_in, targets_in, beyond, dispatch_to, opened_times, table_begun};
 
 use crate::control::open_turns;
 use crate::plan::{Plan, targets};
 use crate::simple::keep_number;
-use emit_buffer::{Draft, Setting, number, operation, relation, wrapped};
+use emit_buffer::{Draft, Setting, number, operation, relation, wrap_word};
 use emit_expr::value_code;
 use std::alloc::{AllocError, Global};
 use typed_tree::{Label, TypedArm, TypedExpr};
 use wasm_tree::{EncodeError, Op, Operation, Relation, plus, small};
 
 /// The selector of a CASE, kept in a local.
-pub fn selected(setting: &Setting<'_>, e: &TypedExpr, draft: &mut Draft) -> Result<u32, EncodeError>
-    ensures local { let s = meant setting.now in
+pub fn keep_selector(
+    setting: &Setting<'_>,
+    e: &TypedExpr,
+    draft: &mut Draft,
+) -> Result<u32, EncodeError>
+    ensures local { let s = setting_of setting.now in
         IfOk result (λ t. t ≡ selected_local s e.now draft.old) }
-    ensures kept { let s = meant setting.now in
-        OnOk result (draft.new ≡ selected s e.now draft.old) }
+    ensures kept { let s = setting_of setting.now in
+        OnOk result (draft.new ≡ keep_selector s e.now draft.old) }
 {
     value_code(setting, e, draft)?;
     keep_number(setting, draft)
@@ -165,7 +169,7 @@ fn dispatch(
 {
     beyond(t, plan, last, draft)?;
     from_least(t, plan.least, draft)?;
-    wrapped(draft)?;
+    wrap_word(draft)?;
     table_code(targets, last, draft)
 }
 
@@ -178,9 +182,9 @@ pub struct Begun {
 
 /// Begins the blocks of a table: one for the whole, one for what is done else, and one for each arm.
 fn blocks_begun(count: usize, draft: &mut Draft) -> Result<Begun, AllocError>
-    ensures rest { IfOk result (λ x. x.rest ≡ place_of (opened draft.old)) }
-    ensures first { IfOk result (λ x. x.first ≡ place_of (opened (opened draft.old))) }
-    ensures begun { OnOk result (draft.new ≡ opened_times count (opened (opened draft.old))) }
+    ensures rest { IfOk result (λ x. x.rest ≡ place_of (open_draft draft.old)) }
+    ensures first { IfOk result (λ x. x.first ≡ place_of (open_draft (open_draft draft.old))) }
+    ensures begun { OnOk result (draft.new ≡ opened_times count (open_draft (open_draft draft.old))) }
 {
     let rest = open_turns(draft)?.turn;
     let first = draft.place();
@@ -196,8 +200,8 @@ pub fn table_begun(
     plan: Plan,
     draft: &mut Draft,
 ) -> Result<Begun, EncodeError>
-    ensures rest { IfOk result (λ x. x.rest ≡ place_of (opened draft.old)) }
-    ensures first { IfOk result (λ x. x.first ≡ place_of (opened (opened draft.old))) }
+    ensures rest { IfOk result (λ x. x.rest ≡ place_of (open_draft draft.old)) }
+    ensures first { IfOk result (λ x. x.first ≡ place_of (open_draft (open_draft draft.old))) }
     ensures begun { OnOk result
         (draft.new ≡ table_begun t plan.least plan.span arms.now draft.old) }
 {

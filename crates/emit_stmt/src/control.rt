@@ -2,17 +2,17 @@
 
 ghost use Rattle.std.specs.Prelude.{◌≡◌, ◌∷◌, ◌++◌, [], IfOk, OnOk, None};
 ghost use Rattle.wasm_tree.specs.declared.instr.Instr.TheVariants.{Br, BrIf};
-ghost use Rattle.emit_buffer.specs.Frames.{meant};
-ghost use Rattle.emit_buffer.specs.Drafts.{one, put, opened, place_of, closed_block, closed_loop};
+ghost use Rattle.emit_buffer.specs.Frames.{setting_of};
+ghost use Rattle.emit_buffer.specs.Drafts.{one, put, open_draft, place_of, closed_block, closed_loop};
 ghost use Rattle.emit_expr.specs.Values.{with_value, with_place};
-ghost use Rattle.def_scheme.specs.Cells.{loaded};
-ghost use Rattle.def_scheme.specs.Coded.{is_zero, wrapped, address_local};
+ghost use Rattle.def_scheme.specs.Cells.{load_code};
+ghost use Rattle.def_scheme.specs.Coded.{is_zero, wrap_word, address_local};
 ghost use Rattle.def_scheme.specs.Steps.{passes};
 ghost use Rattle.emit_stmt.specs.Written.{address_kept, for_local, for_begun, for_tested, for_passed, for_next, for_turned};
 
 use crate::simple::{keep_address, keep_number};
 use emit_buffer::{
-    Draft, Setting, in_type, is_zero, load, number, operation, relation, store, wrapped,
+    Draft, Setting, in_type, is_zero, load, number, operation, relation, store, wrap_word,
 };
 use emit_expr::{place_code, taken_code, value_code};
 use m2_rule::Fault;
@@ -30,8 +30,8 @@ pub struct Turns {
 /// Begins a loop in a block.
 pub fn open_turns(draft: &mut Draft) -> Result<Turns, AllocError>
     ensures block { IfOk result (λ x. x.block ≡ place_of draft.old) }
-    ensures turn { IfOk result (λ x. x.turn ≡ place_of (opened draft.old)) }
-    ensures opened { OnOk result (draft.new ≡ opened (opened draft.old)) }
+    ensures turn { IfOk result (λ x. x.turn ≡ place_of (open_draft draft.old)) }
+    ensures opened { OnOk result (draft.new ≡ open_draft (open_draft draft.old)) }
 {
     let block = draft.open()?;
     let turn = draft.open()?;
@@ -63,7 +63,7 @@ pub fn unless(
     label: u32,
     draft: &mut Draft,
 ) -> Result<(), EncodeError>
-    ensures { let value = with_value (meant setting.now) e.now draft.old in
+    ensures { let value = with_value (setting_of setting.now) e.now draft.old in
         OnOk result (draft.new ≡ one (BrIf label) (one is_zero value)) }
 {
     value_code(setting, e, draft)?;
@@ -74,11 +74,11 @@ pub fn unless(
 
 /// The condition of an IF.
 pub fn condition(setting: &Setting<'_>, e: &TypedExpr, draft: &mut Draft) -> Result<(), EncodeError>
-    ensures { let value = with_value (meant setting.now) e.now draft.old in
-        OnOk result (draft.new ≡ one wrapped value) }
+    ensures { let value = with_value (setting_of setting.now) e.now draft.old in
+        OnOk result (draft.new ≡ one wrap_word value) }
 {
     value_code(setting, e, draft)?;
-    wrapped(draft)?;
+    wrap_word(draft)?;
     Ok(())
 }
 
@@ -88,10 +88,10 @@ pub fn record_kept(
     place: &Place,
     draft: &mut Draft,
 ) -> Result<u32, EncodeError>
-    ensures local { let d = with_place (meant setting.now) place.now draft.old in
-        IfOk result (λ w. w ≡ address_local (meant setting.now) d.counts.addresses) }
-    ensures kept { let d = with_place (meant setting.now) place.now draft.old in
-        OnOk result (draft.new ≡ address_kept (meant setting.now) d) }
+    ensures local { let d = with_place (setting_of setting.now) place.now draft.old in
+        IfOk result (λ w. w ≡ address_local (setting_of setting.now) d.counts.addresses) }
+    ensures kept { let d = with_place (setting_of setting.now) place.now draft.old in
+        OnOk result (draft.new ≡ address_kept (setting_of setting.now) d) }
 {
     place_code(setting, place, draft)?;
     keep_address(setting, draft)
@@ -104,14 +104,14 @@ fn passes(by: i64) -> Relation
 }
 
 /// What a variable holds.
-fn held(
+fn variable_value(
     setting: &Setting<'_>,
     place: &Place,
     t: TypeNo,
     draft: &mut Draft,
 ) -> Result<(), EncodeError>
-    ensures { let d = with_place (meant setting.now) place.now draft.old in
-        OnOk result (draft.new ≡ put (loaded setting.now.home.types t) d) }
+    ensures { let d = with_place (setting_of setting.now) place.now draft.old in
+        OnOk result (draft.new ≡ put (load_code setting.now.home.types t) d) }
 {
     place_code(setting, place, draft)?;
     load(setting, t, draft)?;
@@ -127,9 +127,9 @@ pub fn for_begun(
     limit: &TypedExpr,
     draft: &mut Draft,
 ) -> Result<u32, EncodeError>
-    ensures local { let s = meant setting.now in
+    ensures local { let s = setting_of setting.now in
         IfOk result (λ n. n ≡ for_local s place.now t start.now limit.now draft.old) }
-    ensures begun { let s = meant setting.now in
+    ensures begun { let s = setting_of setting.now in
         OnOk result (draft.new ≡ for_begun s place.now t start.now limit.now draft.old) }
 {
     place_code(setting, place, draft)?;
@@ -149,10 +149,10 @@ fn for_tested(
     n: u32,
     draft: &mut Draft,
 ) -> Result<(), EncodeError>
-    ensures { let s = meant setting.now in
+    ensures { let s = setting_of setting.now in
         OnOk result (draft.new ≡ for_tested s place.now t by n draft.old) }
 {
-    held(setting, place, t, draft)?;
+    variable_value(setting, place, t, draft)?;
     draft.push(Op::LocalGet(n))?;
     relation(passes(by), draft)?;
     draft.push(Op::BrIf(0))?;
@@ -168,10 +168,10 @@ fn for_passed(
     n: u32,
     draft: &mut Draft,
 ) -> Result<(), EncodeError>
-    ensures { let s = meant setting.now in
+    ensures { let s = setting_of setting.now in
         OnOk result (draft.new ≡ for_passed s place.now t by n draft.old) }
 {
-    held(setting, place, t, draft)?;
+    variable_value(setting, place, t, draft)?;
     number(by, draft)?;
     operation(Operation::Add, draft)?;
     draft.push(Op::LocalGet(n))?;
@@ -189,11 +189,11 @@ fn for_next(
     by: i64,
     draft: &mut Draft,
 ) -> Result<(), EncodeError>
-    ensures { let s = meant setting.now in
+    ensures { let s = setting_of setting.now in
         OnOk result (draft.new ≡ for_next s place.now t by draft.old) }
 {
     place_code(setting, place, draft)?;
-    held(setting, place, t, draft)?;
+    variable_value(setting, place, t, draft)?;
     number(by, draft)?;
     operation(Operation::Add, draft)?;
     in_type(setting, t, Fault::OutOfRange, draft)?;
@@ -211,7 +211,7 @@ fn for_turned(
     n: u32,
     draft: &mut Draft,
 ) -> Result<(), EncodeError>
-    ensures { let s = meant setting.now in
+    ensures { let s = setting_of setting.now in
         OnOk result (draft.new ≡ for_turned s place.now t by n draft.old) }
 {
     for_passed(setting, place, t, by, n, draft)?;
@@ -228,11 +228,11 @@ pub fn for_opened(
     draft: &mut Draft,
 ) -> Result<Turns, EncodeError>
     ensures block { IfOk result (λ x. x.block ≡ place_of draft.old) }
-    ensures turn { let s = meant setting.now in
-        let tested = for_tested s place.now t by n (opened draft.old) in
+    ensures turn { let s = setting_of setting.now in
+        let tested = for_tested s place.now t by n (open_draft draft.old) in
         IfOk result (λ x. x.turn ≡ place_of tested) }
-    ensures begun { let s = meant setting.now in
-        OnOk result (draft.new ≡ opened (for_tested s place.now t by n (opened draft.old))) }
+    ensures begun { let s = setting_of setting.now in
+        OnOk result (draft.new ≡ open_draft (for_tested s place.now t by n (open_draft draft.old))) }
 {
     let block = draft.open()?;
     for_tested(setting, place, t, by, n, draft)?;
@@ -250,7 +250,7 @@ pub fn for_ended(
     turns: Turns,
     draft: &mut Draft,
 ) -> Result<(), EncodeError>
-    ensures { let s = meant setting.now in
+    ensures { let s = setting_of setting.now in
         let inner = closed_loop turns.turn None (for_turned s place.now t by n draft.old) in
         OnOk result (draft.new ≡ closed_block turns.block None inner) }
 {

@@ -2,15 +2,15 @@
 
 ghost use Rattle.std.specs.Prelude.{◌≡◌, ◌∷◌, [], ◌-◌, IfOk, OnOk, length};
 ghost use Rattle.typed_tree.specs.declared.statement.TypedStmt.TheVariants as stmt;
-ghost use Rattle.emit_buffer.specs.Frames.{meant};
+ghost use Rattle.emit_buffer.specs.Frames.{setting_of};
 ghost use Rattle.emit_buffer.specs.Drafts.{put};
 ghost use Rattle.def_scheme.specs.Coded.{number_local, address_local};
-ghost use Rattle.def_scheme.specs.Steps.{read_again, changed, change_operation, member_operation, with_member, text_copied};
+ghost use Rattle.def_scheme.specs.Steps.{read_again, change_instructions, change_operation, member_operation, with_member, text_copied};
 ghost use Rattle.emit_stmt.specs.Written.{with_step, address_kept, number_kept};
 
 use emit_buffer::{
-    Draft, Helper, Setting, check_changed, checked, complement, fault, load, operation, raised,
-    size_in, store, text,
+    Draft, Helper, Setting, check_changed, check_code, complement, fault, load, operation,
+    raise_address, size_in, store, text,
 };
 use emit_expr::{call_code, place_code, taken_code, value_code};
 use m2_rule::Fault;
@@ -28,7 +28,7 @@ pub fn assign(
     draft: &mut Draft,
 ) -> Result<(), EncodeError>
     ensures { OnOk result
-        (draft.new ≡ with_step (meant setting.now) draft.old (stmt.Assign place.now t e.now)) }
+        (draft.new ≡ with_step (setting_of setting.now) draft.old (stmt.Assign place.now t e.now)) }
 {
     place_code(setting, place, draft)?;
     taken_code(setting, t, e, draft)?;
@@ -46,7 +46,7 @@ pub fn copy(
     draft: &mut Draft,
 ) -> Result<(), EncodeError>
     ensures { OnOk result
-        (draft.new ≡ with_step (meant setting.now) draft.old (stmt.Copy to.now from.now t)) }
+        (draft.new ≡ with_step (setting_of setting.now) draft.old (stmt.Copy to.now from.now t)) }
 {
     place_code(setting, to, draft)?;
     place_code(setting, from, draft)?;
@@ -58,7 +58,7 @@ pub fn copy(
 /// The call of a procedure.
 #[tactic(auto, using(crate::proofs::Stepped::step_Call))]
 pub fn call(setting: &Setting<'_>, call: &Call, draft: &mut Draft) -> Result<(), EncodeError>
-    ensures { OnOk result (draft.new ≡ with_step (meant setting.now) draft.old (stmt.Call call.now)) }
+    ensures { OnOk result (draft.new ≡ with_step (setting_of setting.now) draft.old (stmt.Call call.now)) }
 {
     call_code(setting, call, draft)
 }
@@ -66,7 +66,7 @@ pub fn call(setting: &Setting<'_>, call: &Call, draft: &mut Draft) -> Result<(),
 /// The output of a character.
 #[tactic(auto, using(crate::proofs::Stepped::step_Put))]
 pub fn print(setting: &Setting<'_>, e: &TypedExpr, draft: &mut Draft) -> Result<(), EncodeError>
-    ensures { OnOk result (draft.new ≡ with_step (meant setting.now) draft.old (stmt.Put e.now)) }
+    ensures { OnOk result (draft.new ≡ with_step (setting_of setting.now) draft.old (stmt.Put e.now)) }
 {
     taken_code(setting, CHAR, e, draft)?;
     draft.push(Op::Call(Helper::Put.index()))?;
@@ -75,21 +75,21 @@ pub fn print(setting: &Setting<'_>, e: &TypedExpr, draft: &mut Draft) -> Result<
 
 #[tactic(auto, using(crate::proofs::Stepped::step_Halt))]
 pub fn halt(setting: &Setting<'_>, draft: &mut Draft) -> Result<(), AllocError>
-    ensures { OnOk result (draft.new ≡ with_step (meant setting.now) draft.old stmt.Halt) }
+    ensures { OnOk result (draft.new ≡ with_step (setting_of setting.now) draft.old stmt.Halt) }
 {
     fault(Fault::Halt, draft)
 }
 
 #[tactic(auto, using(crate::proofs::Stepped::step_Exit))]
 pub fn exit(setting: &Setting<'_>, draft: &mut Draft) -> Result<(), AllocError>
-    ensures { OnOk result (draft.new ≡ with_step (meant setting.now) draft.old stmt.Exit) }
+    ensures { OnOk result (draft.new ≡ with_step (setting_of setting.now) draft.old stmt.Exit) }
 {
     draft.push(Op::Br(setting.exit()))
 }
 
 #[tactic(auto, using(crate::proofs::Stepped::step_Return))]
 pub fn leave(setting: &Setting<'_>, draft: &mut Draft) -> Result<(), AllocError>
-    ensures { OnOk result (draft.new ≡ with_step (meant setting.now) draft.old stmt.Return) }
+    ensures { OnOk result (draft.new ≡ with_step (setting_of setting.now) draft.old stmt.Return) }
 {
     draft.push(Op::Return)
 }
@@ -102,7 +102,7 @@ pub fn give(
     e: &TypedExpr,
     draft: &mut Draft,
 ) -> Result<(), EncodeError>
-    ensures { OnOk result (draft.new ≡ with_step (meant setting.now) draft.old (stmt.Give t e.now)) }
+    ensures { OnOk result (draft.new ≡ with_step (setting_of setting.now) draft.old (stmt.Give t e.now)) }
 {
     taken_code(setting, t, e, draft)?;
     draft.push(Op::Return)?;
@@ -112,8 +112,8 @@ pub fn give(
 /// Keeps an address in a fresh local, and answers which.
 pub fn keep_address(setting: &Setting<'_>, draft: &mut Draft) -> Result<u32, EncodeError>
     ensures local { let k = draft.old.counts.addresses in
-        IfOk result (λ w. w ≡ address_local (meant setting.now) k) }
-    ensures kept { OnOk result (draft.new ≡ address_kept (meant setting.now) draft.old) }
+        IfOk result (λ w. w ≡ address_local (setting_of setting.now) k) }
+    ensures kept { OnOk result (draft.new ≡ address_kept (setting_of setting.now) draft.old) }
 {
     let w = draft.next_address(setting)?;
     draft.push(Op::LocalSet(w))?;
@@ -123,8 +123,8 @@ pub fn keep_address(setting: &Setting<'_>, draft: &mut Draft) -> Result<u32, Enc
 /// Keeps a number in a fresh local, and answers which.
 pub fn keep_number(setting: &Setting<'_>, draft: &mut Draft) -> Result<u32, EncodeError>
     ensures local { let k = draft.old.counts.numbers in
-        IfOk result (λ n. n ≡ number_local (meant setting.now) k) }
-    ensures kept { OnOk result (draft.new ≡ number_kept (meant setting.now) draft.old) }
+        IfOk result (λ n. n ≡ number_local (setting_of setting.now) k) }
+    ensures kept { OnOk result (draft.new ≡ number_kept (setting_of setting.now) draft.old) }
 {
     let n = draft.next_number(setting)?;
     draft.push(Op::LocalSet(n))?;
@@ -152,7 +152,7 @@ fn change_operation(change: Change, draft: &mut Draft) -> Result<(), AllocError>
 
 /// The result of INC or DEC, checked and stored.
 #[tactic(auto, using(emit_buffer::proofs::Emitted::put_append))]
-fn changed(
+fn change_instructions(
     setting: &Setting<'_>,
     change: Change,
     w: u32,
@@ -160,7 +160,7 @@ fn changed(
     t: TypeNo,
     draft: &mut Draft,
 ) -> Result<(), AllocError>
-    ensures { let code = changed change w n setting.now.home.types t in
+    ensures { let code = change_instructions change w n setting.now.home.types t in
         OnOk result (draft.new ≡ put code draft.old) }
 {
     read_again(setting, w, t, draft)?;
@@ -181,13 +181,13 @@ pub fn change(
     draft: &mut Draft,
 ) -> Result<(), EncodeError>
     ensures { OnOk result
-        (draft.new ≡ with_step (meant setting.now) draft.old (stmt.Change change place.now t e.now)) }
+        (draft.new ≡ with_step (setting_of setting.now) draft.old (stmt.Change change place.now t e.now)) }
 {
     place_code(setting, place, draft)?;
     let w = keep_address(setting, draft)?;
     value_code(setting, e, draft)?;
     let n = keep_number(setting, draft)?;
-    changed(setting, change, w, n, t, draft)?;
+    change_instructions(setting, change, w, n, t, draft)?;
     Ok(())
 }
 
@@ -233,12 +233,12 @@ pub fn membership(
     draft: &mut Draft,
 ) -> Result<(), EncodeError>
     ensures { OnOk result
-        (draft.new ≡ with_step (meant setting.now) draft.old (stmt.Membership membership place.now e.now)) }
+        (draft.new ≡ with_step (setting_of setting.now) draft.old (stmt.Membership membership place.now e.now)) }
 {
     place_code(setting, place, draft)?;
     let w = keep_address(setting, draft)?;
     value_code(setting, e, draft)?;
-    checked(0, 31, Fault::OutOfRange, draft)?;
+    check_code(0, 31, Fault::OutOfRange, draft)?;
     let n = keep_number(setting, draft)?;
     with_member(setting, membership, w, n, draft)?;
     Ok(())
@@ -261,7 +261,7 @@ fn text_copied(at: u32, bytes: u32, rest: u32, w: u32, draft: &mut Draft) -> Res
     draft.push(Op::I32Const(bytes))?;
     draft.push(Op::Call(Helper::Copy.index()))?;
     draft.push(Op::LocalGet(w))?;
-    raised(bytes, draft)?;
+    raise_address(bytes, draft)?;
     draft.push(Op::I32Const(rest))?;
     draft.push(Op::Call(Helper::Fill.index()))
 }
@@ -276,7 +276,7 @@ pub fn copy_text(
     draft: &mut Draft,
 ) -> Result<(), EncodeError>
     ensures { OnOk result (draft.new
-        ≡ with_step (meant setting.now) draft.old (stmt.CopyText place.now t characters.now)) }
+        ≡ with_step (setting_of setting.now) draft.old (stmt.CopyText place.now t characters.now)) }
 {
     place_code(setting, place, draft)?;
     let w = draft.next_address(setting)?;

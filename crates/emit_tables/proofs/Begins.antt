@@ -15,7 +15,7 @@ use Rattle.emit_tables.specs.declared.offsets.Offsets.{Offsets}
 use Rattle.emit_tables.specs.declared.texts.Gathering.{Gathering}
 use Rattle.emit_tables.specs.declared.texts.ModuleTexts.{ModuleTexts}
 use Rattle.emit_tables.specs.Written.{which_written}
-use Rattle.emit_tables.specs.Offsets.{Table, noted_at, noted, noted_which, or_else, noted_or, no_offsets, nothing_yet, with_which, gathered, AreTexts}
+use Rattle.emit_tables.specs.Offsets.{Table, noted_at, note_place, noted_which, or_else, noted_or, no_offsets, nothing_yet, with_which, gather_texts, AreTexts}
 use Rattle.emit_tables.proofs.TextVariants.{both}
 use Rattle.emit_tables.proofs.TextBodies.{routines_are}
 
@@ -73,12 +73,12 @@ longer : (cs : List ℕ) (ts : Texts) → length (cs ++ all_characters ts) ≡ l
 longer cs ts = length-append cs (all_characters ts) ∙ ap (λ (n : ℕ). length cs + n) (length_all ts)
 
 at_same : (xs : Table) (n k : ℕ) (cs : List ℕ) (ts more : Texts) (later : ℕ) → (n == k) ≡ true → n < length xs
-    → or_else (slice_get xs n) (length cs + characters (if n == k then [] else ts ++ more)) ≡ or_else (slice_get (noted xs k (length cs)) n) later
+    → or_else (slice_get xs n) (length cs + characters (if n == k then [] else ts ++ more)) ≡ or_else (slice_get (note_place xs k (length cs)) n) later
 at_same xs n k cs ts more later e h =
     let none : length cs + characters (if n == k then [] else ts ++ more) ≡ length cs = omega (arith, before_same ts more e) in
     ap (λ (at : ℕ). or_else (slice_get xs n) at) none
     ∙ same_place (slice_get xs n) xs n (length cs) later refl h
-    ∙ ap (λ (j : ℕ). or_else (slice_get (noted xs j (length cs)) n) later) (eqb-true n k e)
+    ∙ ap (λ (j : ℕ). or_else (slice_get (note_place xs j (length cs)) n) later) (eqb-true n k e)
 
 at_other : (xs ys : Table) (n : ℕ) (b : Bool) (cs : List ℕ) (ts more : Texts) → b ≡ false → slice_get ys n ≡ slice_get xs n
     → or_else (slice_get xs n) (length cs + characters (if b then [] else ts ++ more)) ≡ or_else (slice_get ys n) (length (cs ++ all_characters ts) + characters more)
@@ -88,11 +88,11 @@ at_other xs ys n b cs ts more e s =
 
 at_either : (xs : Table) (n k : ℕ) (cs : List ℕ) (ts more : Texts) → n < length xs
     → or_else (slice_get xs n) (length cs + characters (if n == k then [] else ts ++ more))
-    ≡ or_else (slice_get (noted xs k (length cs)) n) (length (cs ++ all_characters ts) + characters more)
+    ≡ or_else (slice_get (note_place xs k (length cs)) n) (length (cs ++ all_characters ts) + characters more)
 at_either xs n k cs ts more h =
     elim (eqb_tells n k) [
       | inl p ↦ at_same xs n k cs ts more (length (cs ++ all_characters ts) + characters more) p.0 h
-      | inr p ↦ at_other xs (noted xs k (length cs)) n (n == k) cs ts more p.0 (other_place (slice_get xs k) xs k n (length cs) p.1)
+      | inr p ↦ at_other xs (note_place xs k (length cs)) n (n == k) cs ts more p.0 (other_place (slice_get xs k) xs k n (length cs) p.1)
     ]
 
 -- ---- all procedures
@@ -134,28 +134,28 @@ one_after_another : (m : TypedModule) (x : Gathering) (vs : List Which) → (fol
 one_after_another m x [] = sym (append-nil x.characters)
 one_after_another m x (v ∷ vs) = one_after_another m (with_which m x v) vs ∙ append_assoc x.characters (which_written m v) (flat_map (which_written m) vs)
 
-routines : (m : TypedModule) → (gathered m).characters ≡ all_characters (routines_texts m)
+routines : (m : TypedModule) → (gather_texts m).characters ≡ all_characters (routines_texts m)
 routines m = one_after_another m (nothing_yet m) m.order ∙ sym (routines_are m m.order)
 
-behind : (m : TypedModule) → length (gathered m).characters ≡ characters (routines_texts m)
+behind : (m : TypedModule) → length (gather_texts m).characters ≡ characters (routines_texts m)
 behind m = ap (λ (cs : List ℕ). length cs) (routines m) ∙ length_all (routines_texts m)
 
-begin : (m : TypedModule) (w : Which) → Reach (no_offsets m) w → noted_or (gathered m).offsets w (length (gathered m).characters) ≡ characters (texts_before m w m.order)
+begin : (m : TypedModule) (w : Which) → Reach (no_offsets m) w → noted_or (gather_texts m).offsets w (length (gather_texts m).characters) ≡ characters (texts_before m w m.order)
 begin m w h =
-    let end : length (gathered m).characters ≡ length (gathered m).characters + 0 = omega arith in
-    ap (λ (at : ℕ). noted_or (gathered m).offsets w at) end ∙ sym (all_steps m (nothing_yet m) w m.order h) ∙ at_start m w
+    let end : length (gather_texts m).characters ≡ length (gather_texts m).characters + 0 = omega arith in
+    ap (λ (at : ℕ). noted_or (gather_texts m).offsets w at) end ∙ sym (all_steps m (nothing_yet m) w m.order h) ∙ at_start m w
 
 abbrev made : List ℕ → Offsets → ℕ → ModuleTexts
 made cs x body = record { characters = cs; offsets = x; body = body }
 
 abbrev found : TypedModule → ModuleTexts
-found m = record { characters = (gathered m).characters ++ all_characters (body_texts m.body); offsets = (gathered m).offsets; body = length (gathered m).characters }
+found m = record { characters = (gather_texts m).characters ++ all_characters (body_texts m.body); offsets = (gather_texts m).offsets; body = length (gather_texts m).characters }
 
-with_body : (m : TypedModule) (g : Gathering) (cs : List ℕ) (body : ℕ) → g ≡ gathered m → body ≡ length g.characters → cs ≡ g.characters ++ all_characters (body_texts m.body)
+with_body : (m : TypedModule) (g : Gathering) (cs : List ℕ) (body : ℕ) → g ≡ gather_texts m → body ≡ length g.characters → cs ≡ g.characters ++ all_characters (body_texts m.body)
     → made cs g.offsets body ≡ found m
 with_body m g cs body e f h =
-    ap (λ (x : Gathering). made cs x.offsets body) e ∙ ap (λ (n : ℕ). made cs (gathered m).offsets n) (f ∙ ap (λ (x : Gathering). length x.characters) e)
-    ∙ ap (λ (ds : List ℕ). made ds (gathered m).offsets (length (gathered m).characters)) (h ∙ ap (λ (x : Gathering). x.characters ++ all_characters (body_texts m.body)) e)
+    ap (λ (x : Gathering). made cs x.offsets body) e ∙ ap (λ (n : ℕ). made cs (gather_texts m).offsets n) (f ∙ ap (λ (x : Gathering). length x.characters) e)
+    ∙ ap (λ (ds : List ℕ). made ds (gather_texts m).offsets (length (gather_texts m).characters)) (h ∙ ap (λ (x : Gathering). x.characters ++ all_characters (body_texts m.body)) e)
 
 abbrev no_entry : Option ℕ
 no_entry = None
@@ -168,6 +168,6 @@ found_texts m = record {
   locals = λ n h. begin m (which.Local n) (subst (λ (k : ℕ). n < k) (sym (length-replicate (length m.locals) no_entry)) h);
 }
 
-pub texts_are : (m : TypedModule) (g : Gathering) (cs : List ℕ) (body : ℕ) → g ≡ gathered m → body ≡ length g.characters → cs ≡ g.characters ++ all_characters (body_texts m.body)
+pub texts_are : (m : TypedModule) (g : Gathering) (cs : List ℕ) (body : ℕ) → g ≡ gather_texts m → body ≡ length g.characters → cs ≡ g.characters ++ all_characters (body_texts m.body)
     → AreTexts m (record { characters = cs; offsets = g.offsets; body = body })
 texts_are m g cs body e f h = subst (λ (x : ModuleTexts). AreTexts m x) (sym (with_body m g cs body e f h)) (found_texts m)

@@ -16,14 +16,14 @@ use Rattle.typed_tree.specs.declared.typed_module.Routine.{Routine}
 use Rattle.typed_tree.specs.declared.typed_module.TypedModule.{TypedModule}
 use Rattle.def_scheme.specs.Functions.{numbers_of}
 use Rattle.def_scheme.specs.Exprs.{has_result}
-use Rattle.def_scheme.specs.Signatures.{Signatures, signature, joined, step_layer, arm_layer, of_expr, of_place, of_call, of_step, of_routine, needed}
+use Rattle.def_scheme.specs.Signatures.{Signatures, signature, concatenation, step_layer, arm_layer, of_expr, of_place, of_call, of_step, of_routine, signatures_needed}
 use Rattle.emit_tables.specs.declared.marks.Mark.{Mark}
 use Rattle.emit_tables.specs.Marked.{with_one, with_all}
 use Rattle.emit_tables.specs.Needed.{of_arm, with_step, with_arm, with_routine}
 use Rattle.emit_tables.proofs.Variants.{none_needed, both, one_needed, walked}
 
 -- lists that are joined at once
-flat : {A : Type 0} (f : A → Signatures) (xs : List A) → flat_map f xs ≡ joined (map f xs)
+flat : {A : Type 0} (f : A → Signatures) (xs : List A) → flat_map f xs ≡ concatenation (map f xs)
 flat f [] = refl
 flat f (x ∷ xs) = ap (λ (ss : Signatures). f x ++ ss) (flat f xs)
 
@@ -43,23 +43,23 @@ module _ (m : TypedModule) where
   arm_is x ms = ap (λ (ss : Signatures). with_all ss ms) (fold_out-TypedArm Signatures Signatures (step_layer m) (arm_layer m) x) ∙ walked (of_step m) x.body ms
 
   -- lists of statements and arms, and what stands behind them
-  stmts : (xs : List TypedStmt) (ms : List Mark) → with_all (joined (map (of_step m) xs)) ms ≡ fold (with_step m) ms xs
+  stmts : (xs : List TypedStmt) (ms : List Mark) → with_all (concatenation (map (of_step m) xs)) ms ≡ fold (with_step m) ms xs
   stmts xs ms = walked (of_step m) xs ms
 
-  arms : (xs : List TypedArm) (ms : List Mark) → with_all (joined (map (of_arm m) xs)) ms ≡ fold (with_arm m) ms xs
+  arms : (xs : List TypedArm) (ms : List Mark) → with_all (concatenation (map (of_arm m) xs)) ms ≡ fold (with_arm m) ms xs
   arms xs ms = walked (of_arm m) xs ms
 
-  stmts_alone : (xs : List TypedStmt) (ms : List Mark) → with_all (joined (map (of_step m) xs) ++ []) ms ≡ fold (with_step m) ms xs
-  stmts_alone xs ms = ap (λ (ss : Signatures). with_all ss ms) (append-nil (joined (map (of_step m) xs))) ∙ stmts xs ms
+  stmts_alone : (xs : List TypedStmt) (ms : List Mark) → with_all (concatenation (map (of_step m) xs) ++ []) ms ≡ fold (with_step m) ms xs
+  stmts_alone xs ms = ap (λ (ss : Signatures). with_all ss ms) (append-nil (concatenation (map (of_step m) xs))) ∙ stmts xs ms
 
-  arms_alone : (xs : List TypedArm) (ms : List Mark) → with_all (joined (map (of_arm m) xs) ++ []) ms ≡ fold (with_arm m) ms xs
-  arms_alone xs ms = ap (λ (ss : Signatures). with_all ss ms) (append-nil (joined (map (of_arm m) xs))) ∙ arms xs ms
+  arms_alone : (xs : List TypedArm) (ms : List Mark) → with_all (concatenation (map (of_arm m) xs) ++ []) ms ≡ fold (with_arm m) ms xs
+  arms_alone xs ms = ap (λ (ss : Signatures). with_all ss ms) (append-nil (concatenation (map (of_arm m) xs))) ∙ arms xs ms
 
-  stmts_both : (xs ys : List TypedStmt) (ms : List Mark) → with_all (joined (map (of_step m) xs) ++ joined (map (of_step m) ys)) ms ≡ fold (with_step m) (fold (with_step m) ms xs) ys
-  stmts_both xs ys ms = both (joined (map (of_step m) xs)) (joined (map (of_step m) ys)) ms ∙ stmts ys (with_all (joined (map (of_step m) xs)) ms) ∙ ap (λ (ms : List Mark). fold (with_step m) ms ys) (stmts xs ms)
+  stmts_both : (xs ys : List TypedStmt) (ms : List Mark) → with_all (concatenation (map (of_step m) xs) ++ concatenation (map (of_step m) ys)) ms ≡ fold (with_step m) (fold (with_step m) ms xs) ys
+  stmts_both xs ys ms = both (concatenation (map (of_step m) xs)) (concatenation (map (of_step m) ys)) ms ∙ stmts ys (with_all (concatenation (map (of_step m) xs)) ms) ∙ ap (λ (ms : List Mark). fold (with_step m) ms ys) (stmts xs ms)
 
-  arms_both : (xs : List TypedArm) (ys : List TypedStmt) (ms : List Mark) → with_all (joined (map (of_arm m) xs) ++ joined (map (of_step m) ys)) ms ≡ fold (with_step m) (fold (with_arm m) ms xs) ys
-  arms_both xs ys ms = both (joined (map (of_arm m) xs)) (joined (map (of_step m) ys)) ms ∙ stmts ys (with_all (joined (map (of_arm m) xs)) ms) ∙ ap (λ (ms : List Mark). fold (with_step m) ms ys) (arms xs ms)
+  arms_both : (xs : List TypedArm) (ys : List TypedStmt) (ms : List Mark) → with_all (concatenation (map (of_arm m) xs) ++ concatenation (map (of_step m) ys)) ms ≡ fold (with_step m) (fold (with_arm m) ms xs) ys
+  arms_both xs ys ms = both (concatenation (map (of_arm m) xs)) (concatenation (map (of_step m) ys)) ms ∙ stmts ys (with_all (concatenation (map (of_arm m) xs)) ms) ∙ ap (λ (ms : List Mark). fold (with_step m) ms ys) (arms xs ms)
 
   pub stmt_Assign : (d : Place) (t : TypeNo) (e : TypedExpr) (ms : List Mark) → with_all (of_step m (sv.Assign d t e)) ms ≡ with_all (of_expr m e) (with_all (of_place m d) ms)
   stmt_Assign d t e ms = ap (λ (ss : Signatures). with_all ss ms) (at_stmt (sv.Assign d t e) (sl.Assign d t e) (sv.outs-Assign d t e)) ∙ both (of_place m d) (of_expr m e) ms
@@ -86,22 +86,22 @@ module _ (m : TypedModule) where
   stmt_Halt ms = ap (λ (ss : Signatures). with_all ss ms) (at_stmt sv.Halt sl.Halt sv.outs-Halt) ∙ none_needed ms
 
   pub stmt_If_None : (e : TypedExpr) (xs : List TypedStmt) (ms : List Mark) → with_all (of_step m (sv.If e xs None)) ms ≡ fold (with_step m) (with_all (of_expr m e) ms) xs
-  stmt_If_None e xs ms = ap (λ (ss : Signatures). with_all ss ms) (at_stmt (sv.If e xs None) (sl.If e xs None) (sv.outs-If e xs None)) ∙ both (of_expr m e) (joined (map (of_step m) xs) ++ []) ms ∙ stmts_alone xs (with_all (of_expr m e) ms)
+  stmt_If_None e xs ms = ap (λ (ss : Signatures). with_all ss ms) (at_stmt (sv.If e xs None) (sl.If e xs None) (sv.outs-If e xs None)) ∙ both (of_expr m e) (concatenation (map (of_step m) xs) ++ []) ms ∙ stmts_alone xs (with_all (of_expr m e) ms)
 
   pub stmt_If_Some : (e : TypedExpr) (xs : List TypedStmt) (ys : List TypedStmt) (ms : List Mark) → with_all (of_step m (sv.If e xs (Some ys))) ms ≡ fold (with_step m) (fold (with_step m) (with_all (of_expr m e) ms) xs) ys
-  stmt_If_Some e xs ys ms = ap (λ (ss : Signatures). with_all ss ms) (at_stmt (sv.If e xs (Some ys)) (sl.If e xs (Some ys)) (sv.outs-If e xs (Some ys))) ∙ both (of_expr m e) (joined (map (of_step m) xs) ++ joined (map (of_step m) ys)) ms ∙ stmts_both xs ys (with_all (of_expr m e) ms)
+  stmt_If_Some e xs ys ms = ap (λ (ss : Signatures). with_all ss ms) (at_stmt (sv.If e xs (Some ys)) (sl.If e xs (Some ys)) (sv.outs-If e xs (Some ys))) ∙ both (of_expr m e) (concatenation (map (of_step m) xs) ++ concatenation (map (of_step m) ys)) ms ∙ stmts_both xs ys (with_all (of_expr m e) ms)
 
   pub stmt_Case_None : (e : TypedExpr) (xs : List TypedArm) (ms : List Mark) → with_all (of_step m (sv.Case e xs None)) ms ≡ fold (with_arm m) (with_all (of_expr m e) ms) xs
-  stmt_Case_None e xs ms = ap (λ (ss : Signatures). with_all ss ms) (at_stmt (sv.Case e xs None) (sl.Case e xs None) (sv.outs-Case e xs None)) ∙ both (of_expr m e) (joined (map (of_arm m) xs) ++ []) ms ∙ arms_alone xs (with_all (of_expr m e) ms)
+  stmt_Case_None e xs ms = ap (λ (ss : Signatures). with_all ss ms) (at_stmt (sv.Case e xs None) (sl.Case e xs None) (sv.outs-Case e xs None)) ∙ both (of_expr m e) (concatenation (map (of_arm m) xs) ++ []) ms ∙ arms_alone xs (with_all (of_expr m e) ms)
 
   pub stmt_Case_Some : (e : TypedExpr) (xs : List TypedArm) (ys : List TypedStmt) (ms : List Mark) → with_all (of_step m (sv.Case e xs (Some ys))) ms ≡ fold (with_step m) (fold (with_arm m) (with_all (of_expr m e) ms) xs) ys
-  stmt_Case_Some e xs ys ms = ap (λ (ss : Signatures). with_all ss ms) (at_stmt (sv.Case e xs (Some ys)) (sl.Case e xs (Some ys)) (sv.outs-Case e xs (Some ys))) ∙ both (of_expr m e) (joined (map (of_arm m) xs) ++ joined (map (of_step m) ys)) ms ∙ arms_both xs ys (with_all (of_expr m e) ms)
+  stmt_Case_Some e xs ys ms = ap (λ (ss : Signatures). with_all ss ms) (at_stmt (sv.Case e xs (Some ys)) (sl.Case e xs (Some ys)) (sv.outs-Case e xs (Some ys))) ∙ both (of_expr m e) (concatenation (map (of_arm m) xs) ++ concatenation (map (of_step m) ys)) ms ∙ arms_both xs ys (with_all (of_expr m e) ms)
 
   pub stmt_While : (e : TypedExpr) (xs : List TypedStmt) (ms : List Mark) → with_all (of_step m (sv.While e xs)) ms ≡ fold (with_step m) (with_all (of_expr m e) ms) xs
-  stmt_While e xs ms = ap (λ (ss : Signatures). with_all ss ms) (at_stmt (sv.While e xs) (sl.While e xs) (sv.outs-While e xs)) ∙ both (of_expr m e) (joined (map (of_step m) xs)) ms ∙ stmts xs (with_all (of_expr m e) ms)
+  stmt_While e xs ms = ap (λ (ss : Signatures). with_all ss ms) (at_stmt (sv.While e xs) (sl.While e xs) (sv.outs-While e xs)) ∙ both (of_expr m e) (concatenation (map (of_step m) xs)) ms ∙ stmts xs (with_all (of_expr m e) ms)
 
   pub stmt_Repeat : (xs : List TypedStmt) (e : TypedExpr) (ms : List Mark) → with_all (of_step m (sv.Repeat xs e)) ms ≡ with_all (of_expr m e) (fold (with_step m) ms xs)
-  stmt_Repeat xs e ms = ap (λ (ss : Signatures). with_all ss ms) (at_stmt (sv.Repeat xs e) (sl.Repeat xs e) (sv.outs-Repeat xs e)) ∙ both (joined (map (of_step m) xs)) (of_expr m e) ms ∙ ap (λ (ms : List Mark). with_all (of_expr m e) ms) (stmts xs ms)
+  stmt_Repeat xs e ms = ap (λ (ss : Signatures). with_all ss ms) (at_stmt (sv.Repeat xs e) (sl.Repeat xs e) (sv.outs-Repeat xs e)) ∙ both (concatenation (map (of_step m) xs)) (of_expr m e) ms ∙ ap (λ (ms : List Mark). with_all (of_expr m e) ms) (stmts xs ms)
 
   pub stmt_Loop : (xs : List TypedStmt) (ms : List Mark) → with_all (of_step m (sv.Loop xs)) ms ≡ fold (with_step m) ms xs
   stmt_Loop xs ms = ap (λ (ss : Signatures). with_all ss ms) (at_stmt (sv.Loop xs) (sl.Loop xs) (sv.outs-Loop xs)) ∙ stmts xs ms
@@ -116,10 +116,10 @@ module _ (m : TypedModule) where
   stmt_Give t e ms = ap (λ (ss : Signatures). with_all ss ms) (at_stmt (sv.Give t e) (sl.Give t e) (sv.outs-Give t e))
 
   pub stmt_For : (d : Place) (t : TypeNo) (a b : TypedExpr) (n : ℤ) (xs : List TypedStmt) (ms : List Mark) → with_all (of_step m (sv.For d t a b n xs)) ms ≡ fold (with_step m) (with_all (of_expr m b) (with_all (of_expr m a) (with_all (of_place m d) ms))) xs
-  stmt_For d t a b n xs ms = ap (λ (ss : Signatures). with_all ss ms) (at_stmt (sv.For d t a b n xs) (sl.For d t a b n xs) (sv.outs-For d t a b n xs)) ∙ both (of_place m d) (of_expr m a ++ (of_expr m b ++ joined (map (of_step m) xs))) ms ∙ both (of_expr m a) (of_expr m b ++ joined (map (of_step m) xs)) (with_all (of_place m d) ms) ∙ both (of_expr m b) (joined (map (of_step m) xs)) (with_all (of_expr m a) (with_all (of_place m d) ms)) ∙ stmts xs (with_all (of_expr m b) (with_all (of_expr m a) (with_all (of_place m d) ms)))
+  stmt_For d t a b n xs ms = ap (λ (ss : Signatures). with_all ss ms) (at_stmt (sv.For d t a b n xs) (sl.For d t a b n xs) (sv.outs-For d t a b n xs)) ∙ both (of_place m d) (of_expr m a ++ (of_expr m b ++ concatenation (map (of_step m) xs))) ms ∙ both (of_expr m a) (of_expr m b ++ concatenation (map (of_step m) xs)) (with_all (of_place m d) ms) ∙ both (of_expr m b) (concatenation (map (of_step m) xs)) (with_all (of_expr m a) (with_all (of_place m d) ms)) ∙ stmts xs (with_all (of_expr m b) (with_all (of_expr m a) (with_all (of_place m d) ms)))
 
   pub stmt_With : (d : Place) (xs : List TypedStmt) (ms : List Mark) → with_all (of_step m (sv.With d xs)) ms ≡ fold (with_step m) (with_all (of_place m d) ms) xs
-  stmt_With d xs ms = ap (λ (ss : Signatures). with_all ss ms) (at_stmt (sv.With d xs) (sl.With d xs) (sv.outs-With d xs)) ∙ both (of_place m d) (joined (map (of_step m) xs)) ms ∙ stmts xs (with_all (of_place m d) ms)
+  stmt_With d xs ms = ap (λ (ss : Signatures). with_all ss ms) (at_stmt (sv.With d xs) (sl.With d xs) (sv.outs-With d xs)) ∙ both (of_place m d) (concatenation (map (of_step m) xs)) ms ∙ stmts xs (with_all (of_place m d) ms)
 
   pub routine_is : (r : Routine) (ms : List Mark) → with_all (of_routine m r) ms ≡ fold (with_step m) (with_one ms (signature (numbers_of m.types r) (has_result m.types r.heading))) r.body
   routine_is r ms =
@@ -127,7 +127,7 @@ module _ (m : TypedModule) where
       ∙ flat_walked (of_step m) r.body (with_all (signature (numbers_of m.types r) (has_result m.types r.heading) ∷ []) ms)
       ∙ ap (λ (xs : List Mark). fold (with_step m) xs r.body) (one_needed (signature (numbers_of m.types r) (has_result m.types r.heading)) ms)
 
-  pub module_is : (ms : List Mark) → with_all (needed m) ms ≡ fold (with_step m) (fold (with_routine m) (fold (with_routine m) ms m.procedures) m.locals) m.body
+  pub module_is : (ms : List Mark) → with_all (signatures_needed m) ms ≡ fold (with_step m) (fold (with_routine m) (fold (with_routine m) ms m.procedures) m.locals) m.body
   module_is ms =
       both (flat_map (of_routine m) m.procedures) (flat_map (of_routine m) m.locals ++ flat_map (of_step m) m.body) ms
       ∙ both (flat_map (of_routine m) m.locals) (flat_map (of_step m) m.body) (with_all (flat_map (of_routine m) m.procedures) ms)

@@ -2,7 +2,7 @@
 use Rattle.std.proofs.Common.{◌≡◌, ℕ, zero, suc, ◌<◌, ◌≤◌, Bool, List, [], ◌∷◌, ◌++◌, length, refl, ap, arith}
 use Rattle.std.specs.Prelude.{slice_set, slice_get, Some}
 use Rattle.emit_tables.specs.declared.marks.Mark.{Mark}
-use Rattle.emit_tables.specs.Marked.{none, marked, marked_at}
+use Rattle.emit_tables.specs.Marked.{none, mark_kind, marked_at}
 
 less : (m n : ℕ) → suc m < suc n → m < n
 less m n h = omega (arith, h)
@@ -18,8 +18,8 @@ inside_some : (x y : Mark) → Some y ≡ Some x → x ≡ y
 inside_some x y e = cc
 
 -- and one that does
-pub is_set : (n : ℕ) (r : Bool) (xs : List Mark) (x : Mark) → slice_get xs n ≡ Some x → slice_set xs n (marked x r) ≡ marked_at n r xs
+pub is_set : (n : ℕ) (r : Bool) (xs : List Mark) (x : Mark) → slice_get xs n ≡ Some x → slice_set xs n (mark_kind x r) ≡ marked_at n r xs
 is_set zero r [] x e = absurd cc
-is_set zero r (y ∷ xs) x e = ap (λ (z : Mark). marked z r ∷ xs) (inside_some x y e)
+is_set zero r (y ∷ xs) x e = ap (λ (z : Mark). mark_kind z r ∷ xs) (inside_some x y e)
 is_set (suc n) r [] x e = absurd cc
 is_set (suc n) r (y ∷ xs) x e = ap (λ (ys : List Mark). y ∷ ys) (is_set n r xs x e)

@@ -5,12 +5,12 @@ use Rattle.std.specs.List.{fold, flat_map, range_with_len}
 use Rattle.std.proofs.lemmas.Bool.{leb-true, leb-false}
 use Rattle.std.proofs.lemmas.List.{map-append}
 use Rattle.std.proofs.Math.Dec.{eqb-suc-zero, eqb-zero-suc, eqb-suc-suc}
-use Rattle.def_scheme.specs.Signatures.{Signatures, signature, same_result, is_among, greater, most_arguments, of_arguments, ordered}
+use Rattle.def_scheme.specs.Signatures.{Signatures, signature, same_result, is_among, greater, most_arguments, of_arguments, in_order}
 use Rattle.emit_tables.specs.declared.signature.Signature.{Signature}
 use Rattle.emit_tables.specs.declared.marks.Mark.{Mark}
-use Rattle.emit_tables.specs.Seen.{seen}
-use Rattle.emit_tables.specs.Marked.{none, marked, marked_at, with_one, with_all}
-use Rattle.emit_tables.specs.Tables.{entered, is_wanted}
+use Rattle.emit_tables.specs.Seen.{meaning_of}
+use Rattle.emit_tables.specs.Marked.{none, mark_kind, marked_at, with_one, with_all}
+use Rattle.emit_tables.specs.Tables.{enter_signature, is_wanted}
 
 -- ---- which marks there are
 
@@ -31,7 +31,7 @@ or_false : (b : Bool) → b ≡ (b || false)
 or_false true = refl
 or_false false = refl
 
-has_one : (x : Mark) (q r : Bool) → has (marked x r) q ≡ (has x q || same_result q r)
+has_one : (x : Mark) (q r : Bool) → has (mark_kind x r) q ≡ (has x q || same_result q r)
 has_one x true true = or_true x.giving
 has_one x true false = or_false x.giving
 has_one x false true = or_false x.without
@@ -100,13 +100,13 @@ reaches ss = length_all ss (none ∷ []) 0 refl
 -- ---- the list
 
 abbrev pub entered_two : ℕ → Mark → List Signature
-entered_two k x = entered (is_wanted k x) k false ++ entered x.giving k true
+entered_two k x = enter_signature (is_wanted k x) k false ++ enter_signature x.giving k true
 
 abbrev pub lists : ℕ → List Mark → List Signature
 lists k [] = []
 lists k (x ∷ xs) = entered_two k x ++ lists (k + 1) xs
 
-entered_seen : (b : Bool) (n : ℕ) (r : Bool) → map seen (entered b n r) ≡ (if b then signature n r ∷ [] else [])
+entered_seen : (b : Bool) (n : ℕ) (r : Bool) → map meaning_of (enter_signature b n r) ≡ (if b then signature n r ∷ [] else [])
 entered_seen true n r = refl
 entered_seen false n r = refl
 
@@ -118,16 +118,16 @@ wanted : (n : ℕ) (b : Bool) → (b && not (suc n == 0)) ≡ b
 wanted n true = ap not (eqb-suc-zero n)
 wanted n false = refl
 
-front : (k : ℕ) (x : Mark) → map seen (entered_two k x) ≡ map seen (entered (is_wanted k x) k false) ++ (if x.giving then signature k true ∷ [] else [])
-front k x = map-append seen (entered (is_wanted k x) k false) (entered x.giving k true) ∙ ap (λ (ss : Signatures). map seen (entered (is_wanted k x) k false) ++ ss) (entered_seen x.giving k true)
+front : (k : ℕ) (x : Mark) → map meaning_of (entered_two k x) ≡ map meaning_of (enter_signature (is_wanted k x) k false) ++ (if x.giving then signature k true ∷ [] else [])
+front k x = map-append meaning_of (enter_signature (is_wanted k x) k false) (enter_signature x.giving k true) ∙ ap (λ (ss : Signatures). map meaning_of (enter_signature (is_wanted k x) k false) ++ ss) (entered_seen x.giving k true)
 
-two_are : (ss : Signatures) (k : ℕ) (x : Mark) → x.without ≡ is_among ss (signature k false) → x.giving ≡ is_among ss (signature k true) → map seen (entered_two k x) ≡ of_arguments ss k
+two_are : (ss : Signatures) (k : ℕ) (x : Mark) → x.without ≡ is_among ss (signature k false) → x.giving ≡ is_among ss (signature k true) → map meaning_of (entered_two k x) ≡ of_arguments ss k
 two_are ss zero x e f =
-    front 0 x ∙ ap (λ (b : Bool). map seen (entered b 0 false) ++ (if x.giving then signature 0 true ∷ [] else [])) (not_wanted x.without)
+    front 0 x ∙ ap (λ (b : Bool). map meaning_of (enter_signature b 0 false) ++ (if x.giving then signature 0 true ∷ [] else [])) (not_wanted x.without)
     ∙ ap (λ (b : Bool). if b then signature 0 true ∷ [] else []) f
 two_are ss (suc n) x e f =
     front (suc n) x
-    ∙ ap (λ (b : Bool). map seen (entered b (suc n) false) ++ (if x.giving then signature (suc n) true ∷ [] else [])) (wanted n x.without ∙ e)
+    ∙ ap (λ (b : Bool). map meaning_of (enter_signature b (suc n) false) ++ (if x.giving then signature (suc n) true ∷ [] else [])) (wanted n x.without ∙ e)
     ∙ ap (λ (ms : Signatures). ms ++ (if x.giving then signature (suc n) true ∷ [] else [])) (entered_seen (is_among ss (signature (suc n) false)) (suc n) false)
     ∙ ap (λ (b : Bool). (if is_among ss (signature (suc n) false) then signature (suc n) false ∷ [] else []) ++ (if b then signature (suc n) true ∷ [] else [])) f
 
@@ -139,17 +139,17 @@ marks_tail : (ss : Signatures) (k : ℕ) (x : Mark) (xs : List Mark) → Marks s
 unfolding Marks
 marks_tail ss k x xs h i n q e = h (suc i) n q (omega (arith, e))
 
-lists_are : (ss : Signatures) (k : ℕ) (xs : List Mark) → Marks ss k xs → map seen (lists k xs) ≡ flat_map (of_arguments ss) (range_with_len k (length xs))
+lists_are : (ss : Signatures) (k : ℕ) (xs : List Mark) → Marks ss k xs → map meaning_of (lists k xs) ≡ flat_map (of_arguments ss) (range_with_len k (length xs))
 unfolding Marks
 lists_are ss k [] h = refl
 lists_are ss k (x ∷ xs) h =
-    map-append seen (entered_two k x) (lists (k + 1) xs)
-    ∙ ap (λ (ms : Signatures). ms ++ map seen (lists (k + 1) xs)) (two_are ss k x (h 0 k false (omega arith)) (h 0 k true (omega arith)))
+    map-append meaning_of (entered_two k x) (lists (k + 1) xs)
+    ∙ ap (λ (ms : Signatures). ms ++ map meaning_of (lists (k + 1) xs)) (two_are ss k x (h 0 k false (omega arith)) (h 0 k true (omega arith)))
     ∙ ap (λ (ms : Signatures). of_arguments ss k ++ ms) (lists_are ss (k + 1) xs (marks_tail ss k x xs h))
 
 from_nought : (ss : Signatures) → Marks ss 0 (with_all ss (none ∷ []))
 unfolding Marks
 from_nought ss i n q e = subst (λ (j : ℕ). has (mark_in (with_all ss (none ∷ [])) i) q ≡ is_among ss (signature j q)) (omega (arith, e)) (marks_are ss i q)
 
-pub list_is : (ss : Signatures) → map seen (lists 0 (with_all ss (none ∷ []))) ≡ ordered ss
+pub list_is : (ss : Signatures) → map meaning_of (lists 0 (with_all ss (none ∷ []))) ≡ in_order ss
 list_is ss = lists_are ss 0 (with_all ss (none ∷ [])) (from_nought ss) ∙ ap (λ (n : ℕ). flat_map (of_arguments ss) (range_with_len 0 n)) (reaches ss)

@@ -7,15 +7,15 @@ use Rattle.std.proofs.lemmas.Bool.{eqb-true, lt-ltb, ltb-true, eq-eqb}
 use Rattle.std.proofs.lemmas.List.{map-append, append-nil, length-append, length-map}
 use Rattle.std.proofs.lemmas.List.Folds.{list_any-append}
 use Rattle.typed_tree.specs.declared.typed_module.TypedModule.{TypedModule}
-use Rattle.def_scheme.specs.Signatures.{Signature as Meant, Signatures, signature, same_result, is_same, body_signature, needed}
+use Rattle.def_scheme.specs.Signatures.{Signature as Meant, Signatures, signature, same_result, is_same, body_signature, signatures_needed}
 use Rattle.def_scheme.specs.Modules.{signatures}
 use Rattle.emit_tables.specs.declared.signature.Signature.{Signature}
 use Rattle.emit_tables.specs.declared.signature.Numbers.{Numbers}
 use Rattle.emit_tables.specs.declared.marks.Mark.{Mark}
 use Rattle.emit_tables.specs.declared.table.Table.{Table}
-use Rattle.emit_tables.specs.Seen.{seen}
+use Rattle.emit_tables.specs.Seen.{meaning_of}
 use Rattle.emit_tables.specs.Numbered.{number_at, AreNumbers}
-use Rattle.emit_tables.specs.Tables.{entered, number_behind, is_wanted, entered_first, entered_both, numbers_for, with_mark, table_of, no_table}
+use Rattle.emit_tables.specs.Tables.{enter_signature, number_behind, is_wanted, entered_first, entered_both, numbers_for, with_mark, table_of, no_table}
 use Rattle.emit_tables.specs.Needed.{marks_of}
 use Rattle.emit_tables.proofs.Ordered.{entered_two, lists, list_is}
 
@@ -59,10 +59,10 @@ test n r = is_same (signature n r)
 
 -- whether a type is there
 abbrev is_in : ℕ → Bool → List Signature → Bool
-is_in n r l = list_any (test n r) (map seen l)
+is_in n r l = list_any (test n r) (map meaning_of l)
 
 abbrev place : ℕ → Bool → List Signature → ℕ
-place n r l = unwrap_or (position (test n r) (map seen l)) 0
+place n r l = unwrap_or (position (test n r) (map meaning_of l)) 0
 
 both_false : (a b d : Bool) → a ≡ (b || d) → b ≡ false → d ≡ false → a ≡ false
 both_false a true d e f g = absurd (cc f)
@@ -70,15 +70,15 @@ both_false a false d e f g = e ∙ g
 
 in_neither : (n : ℕ) (r : Bool) (a b : List Signature) → is_in n r a ≡ false → is_in n r b ≡ false → is_in n r (a ++ b) ≡ false
 in_neither n r a b e f =
-    both_false (is_in n r (a ++ b)) (is_in n r a) (is_in n r b) (ap (λ (ms : Signatures). list_any (test n r) ms) (map-append seen a b) ∙ list_any-append (test n r) (map seen a) (map seen b)) e f
+    both_false (is_in n r (a ++ b)) (is_in n r a) (is_in n r b) (ap (λ (ms : Signatures). list_any (test n r) ms) (map-append meaning_of a b) ∙ list_any-append (test n r) (map meaning_of a) (map meaning_of b)) e f
 
 lacking : (n : ℕ) (r : Bool) (l : List Signature) → is_in n r l ≡ false → place n r l ≡ 0
-lacking n r l e = ap (λ (o : Option ℕ). unwrap_or o 0) (none_found (test n r) (map seen l) e)
+lacking n r l e = ap (λ (o : Option ℕ). unwrap_or o 0) (none_found (test n r) (map meaning_of l) e)
 
-found_at : (n : ℕ) (r : Bool) (a : List Signature) (x : Signature) (m : List Signature) → is_in n r a ≡ false → test n r (seen x) ≡ true → place n r (a ++ x ∷ m) ≡ length a
+found_at : (n : ℕ) (r : Bool) (a : List Signature) (x : Signature) (m : List Signature) → is_in n r a ≡ false → test n r (meaning_of x) ≡ true → place n r (a ++ x ∷ m) ≡ length a
 found_at n r a x m e f =
-    ap (λ (ms : Signatures). unwrap_or (position (test n r) ms) 0) (map-append seen a (x ∷ m))
-    ∙ ap (λ (o : Option ℕ). unwrap_or o 0) (found (test n r) (map seen a) (seen x) (map seen m) e f) ∙ length-map a seen
+    ap (λ (ms : Signatures). unwrap_or (position (test n r) ms) 0) (map-append meaning_of a (x ∷ m))
+    ∙ ap (λ (o : Option ℕ). unwrap_or o 0) (found (test n r) (map meaning_of a) (meaning_of x) (map meaning_of m) e f) ∙ length-map a meaning_of
 
 -- ---- types that are the same, and others
 
@@ -107,7 +107,7 @@ test_less n k r q h = ap (λ (b : Bool). b && same_result r q) (less_case n k (n
 test_more : (n k : ℕ) (r q : Bool) → suc k ≤ n → test n r (signature k q) ≡ false
 test_more n k r q h = ap (λ (b : Bool). b && same_result r q) (more_case n k (n == k) refl h)
 
-in_entered : (n : ℕ) (r b : Bool) (k : ℕ) (q : Bool) → test n r (signature k q) ≡ false → is_in n r (entered b k q) ≡ false
+in_entered : (n : ℕ) (r b : Bool) (k : ℕ) (q : Bool) → test n r (signature k q) ≡ false → is_in n r (enter_signature b k q) ≡ false
 in_entered n r true k q e = ap (λ (c : Bool). c || false) e
 in_entered n r false k q e = refl
 
@@ -115,7 +115,7 @@ later : (xs : List Mark) (m n : ℕ) (r : Bool) → suc n ≤ m → is_in n r (l
 later [] m n r h = refl
 later (x ∷ xs) m n r h =
     in_neither n r (entered_two m x) (lists (m + 1) xs)
-    (in_neither n r (entered (is_wanted m x) m false) (entered x.giving m true) (in_entered n r (is_wanted m x) m false (test_less n m r false h)) (in_entered n r x.giving m true (test_less n m r true h)))
+    (in_neither n r (enter_signature (is_wanted m x) m false) (enter_signature x.giving m true) (in_entered n r (is_wanted m x) m false (test_less n m r false h)) (in_entered n r x.giving m true (test_less n m r true h)))
     (later xs (m + 1) n r (omega (arith, h)))
 
 -- ---- rows of numbers
@@ -124,21 +124,21 @@ rows : ℕ → List Signature → List Mark → List Numbers
 rows k l [] = []
 rows k l (x ∷ xs) = numbers_for l k x ∷ rows (k + 1) (entered_both l k x) xs
 
-first_row : (w g : Bool) (k : ℕ) (l m : List Signature) → is_in k false l ≡ false → is_in k false m ≡ false → number_behind w l ≡ 6 + place k false (l ++ ((entered w k false ++ entered g k true) ++ m))
-first_row true g k l m e f = ap (λ (n : ℕ). 6 + n) (sym (found_at k false l (record { arguments = k; has_result = false }) (entered g k true ++ m) e (test_self k false)))
+first_row : (w g : Bool) (k : ℕ) (l m : List Signature) → is_in k false l ≡ false → is_in k false m ≡ false → number_behind w l ≡ 6 + place k false (l ++ ((enter_signature w k false ++ enter_signature g k true) ++ m))
+first_row true g k l m e f = ap (λ (n : ℕ). 6 + n) (sym (found_at k false l (record { arguments = k; has_result = false }) (enter_signature g k true ++ m) e (test_self k false)))
 first_row false g k l m e f =
-    ap (λ (n : ℕ). 6 + n) (sym (lacking k false (l ++ (entered g k true ++ m)) (in_neither k false l (entered g k true ++ m) e
-    (in_neither k false (entered g k true) m (in_entered k false g k true (and_false (k == k))) f))))
+    ap (λ (n : ℕ). 6 + n) (sym (lacking k false (l ++ (enter_signature g k true ++ m)) (in_neither k false l (enter_signature g k true ++ m) e
+    (in_neither k false (enter_signature g k true) m (in_entered k false g k true (and_false (k == k))) f))))
 
-second_row : (w g : Bool) (k : ℕ) (l m : List Signature) → is_in k true l ≡ false → is_in k true m ≡ false → number_behind g (l ++ entered w k false) ≡ 6 + place k true (l ++ ((entered w k false ++ entered g k true) ++ m))
+second_row : (w g : Bool) (k : ℕ) (l m : List Signature) → is_in k true l ≡ false → is_in k true m ≡ false → number_behind g (l ++ enter_signature w k false) ≡ 6 + place k true (l ++ ((enter_signature w k false ++ enter_signature g k true) ++ m))
 second_row w true k l m e f =
     let x : Signature = record { arguments = k; has_result = true } in
-    let a : List Signature = entered w k false in
+    let a : List Signature = enter_signature w k false in
     ap (λ (n : ℕ). 6 + n)
     (sym (found_at k true (l ++ a) x m (in_neither k true l a e (in_entered k true w k false (and_false (k == k)))) (test_self k true))
     ∙ ap (λ (s : List Signature). place k true s) (append_assoc l a (x ∷ m) ∙ ap (λ (s : List Signature). l ++ s) (sym (append_assoc a (x ∷ []) m))))
 second_row w false k l m e f =
-    let a : List Signature = entered w k false in
+    let a : List Signature = enter_signature w k false in
     ap (λ (n : ℕ). 6 + n) (sym (lacking k true (l ++ ((a ++ []) ++ m)) (in_neither k true l ((a ++ []) ++ m) e
     (in_neither k true (a ++ []) m (in_neither k true a [] (in_entered k true w k false (and_false (k == k))) refl) f))))
 
@@ -148,8 +148,8 @@ record Before (k : ℕ) (l : List Signature) : Type 0 where
 
 before_more : (k : ℕ) (l : List Signature) (x : Mark) → Before k l → Before (k + 1) (entered_both l k x)
 before_more k l x b = record {
-  of = λ n r h. in_neither n r (entered_first l k x) (entered x.giving k true)
-      (in_neither n r l (entered (is_wanted k x) k false) (b.of n r (omega (arith, h))) (in_entered n r (is_wanted k x) k false (test_more n k r false (omega (arith, h)))))
+  of = λ n r h. in_neither n r (entered_first l k x) (enter_signature x.giving k true)
+      (in_neither n r l (enter_signature (is_wanted k x) k false) (b.of n r (omega (arith, h))) (in_entered n r (is_wanted k x) k false (test_more n k r false (omega (arith, h)))))
       (in_entered n r x.giving k true (test_more n k r true (omega (arith, h))));
 }
 
@@ -166,7 +166,7 @@ number_row [] k i n r l e b = ap (λ (n : ℕ). 6 + n) (sym (lacking n r (l ++ [
 number_row (x ∷ xs) k zero n r l e b = subst (λ (j : ℕ). number_at (Some (numbers_for l k x)) r ≡ 6 + place j r (l ++ lists k (x ∷ xs))) (omega (arith, e)) (row_here x xs k r l b)
 number_row (x ∷ xs) k (suc i) n r l e b =
     number_row xs (k + 1) i n r (entered_both l k x) (omega (arith, e)) (before_more k l x b)
-    ∙ ap (λ (s : List Signature). 6 + place n r s) (grouped l (entered (is_wanted k x) k false) (entered x.giving k true) (lists (k + 1) xs))
+    ∙ ap (λ (s : List Signature). 6 + place n r s) (grouped l (enter_signature (is_wanted k x) k false) (enter_signature x.giving k true) (lists (k + 1) xs))
 
 -- ---- the table
 
@@ -185,7 +185,7 @@ fold_is (x ∷ xs) t =
     let row : Numbers = numbers_for t.list k x in
     fold_is xs (with_mark t x)
     ∙ ap (λ (n : ℕ). made (l ++ lists n xs) ((t.numbers ++ row ∷ []) ++ rows n l xs)) (one_longer t.numbers row)
-    ∙ ap (λ (s : List Signature). made s ((t.numbers ++ row ∷ []) ++ rows (k + 1) l xs)) (grouped t.list (entered (is_wanted k x) k false) (entered x.giving k true) (lists (k + 1) xs))
+    ∙ ap (λ (s : List Signature). made s ((t.numbers ++ row ∷ []) ++ rows (k + 1) l xs)) (grouped t.list (enter_signature (is_wanted k x) k false) (enter_signature x.giving k true) (lists (k + 1) xs))
     ∙ ap (λ (ns : List Numbers). made (t.list ++ lists k (x ∷ xs)) ns) (append_assoc t.numbers (row ∷ []) (rows (k + 1) l xs))
 
 nothing_before : Before 0 []
@@ -204,8 +204,8 @@ are_numbers xs = subst (λ (t : Table). AreNumbers t.list t.numbers) (sym (fold_
 
 -- ---- the table of a module
 
-pub module_list : (m : TypedModule) (t : Table) → t ≡ table_of (marks_of m) → map seen t.list ≡ signatures m
-module_list m t e = ap (λ (t : Table). map seen t.list) e ∙ ap (λ (l : List Signature). map seen l) (list_of (marks_of m)) ∙ list_is (needed m)
+pub module_list : (m : TypedModule) (t : Table) → t ≡ table_of (marks_of m) → map meaning_of t.list ≡ signatures m
+module_list m t e = ap (λ (t : Table). map meaning_of t.list) e ∙ ap (λ (l : List Signature). map meaning_of l) (list_of (marks_of m)) ∙ list_is (signatures_needed m)
 
 pub module_numbers : (m : TypedModule) (t : Table) → t ≡ table_of (marks_of m) → AreNumbers t.list t.numbers
 module_numbers m t e = subst (λ (t : Table). AreNumbers t.list t.numbers) (sym e) (are_numbers (marks_of m))

@@ -14,7 +14,7 @@ use Rattle.typed_tree.specs.declared.statement.TypedStmt.TheVariants as sv
 use Rattle.typed_tree.specs.declared.statement.TypedArm.{TypedArm, TypedArm-F, map-TypedArm, fold_out-TypedArm}
 use Rattle.typed_tree.specs.declared.typed_module.Which.{Which}
 use Rattle.typed_tree.specs.declared.typed_module.TypedModule.{TypedModule}
-use Rattle.layout_storage.specs.Texts.{Texts, joined, texts_of, texts_at, texts_called, step_texts, arm_texts, texts_in, texts_armed, body_texts, which_texts}
+use Rattle.layout_storage.specs.Texts.{Texts, concatenation, texts_of, texts_at, texts_called, step_texts, arm_texts, texts_in, texts_armed, body_texts, which_texts}
 use Rattle.def_scheme.specs.Modules.{all_characters}
 use Rattle.emit_tables.specs.Written.{stmt_written, arm_written, which_written}
 use Rattle.emit_tables.proofs.TextVariants.{both, one_text, walked}
@@ -22,10 +22,10 @@ use Rattle.emit_tables.proofs.TextVariants.{both, one_text, walked}
 two : {m n : List ℕ} (a b : Texts) → all_characters a ≡ m → all_characters b ≡ n → all_characters (a ++ b) ≡ (m ++ n)
 two {m = m} a b e f = both a b ∙ ap (λ (k : List ℕ). (k ++ all_characters b)) e ∙ ap (λ (k : List ℕ). (m ++ k)) f
 
-stmts : (xs : List TypedStmt) → all_characters (joined (map texts_in xs)) ≡ flat_map stmt_written xs
+stmts : (xs : List TypedStmt) → all_characters (concatenation (map texts_in xs)) ≡ flat_map stmt_written xs
 stmts xs = walked texts_in xs
 
-arms : (xs : List TypedArm) → all_characters (joined (map texts_armed xs)) ≡ flat_map arm_written xs
+arms : (xs : List TypedArm) → all_characters (concatenation (map texts_armed xs)) ≡ flat_map arm_written xs
 arms xs = walked texts_armed xs
 
 abbrev opened : TypedStmt-F TypedStmt TypedArm → TypedStmt-F Texts Texts
@@ -43,7 +43,7 @@ unfolding texts_in texts_armed
 arm_is x = ap all_characters (fold_out-TypedArm Texts Texts step_texts arm_texts x) ∙ stmts x.body
 
 -- a body
-flat : (xs : List TypedStmt) → body_texts xs ≡ joined (map texts_in xs)
+flat : (xs : List TypedStmt) → body_texts xs ≡ concatenation (map texts_in xs)
 flat [] = refl
 flat (x ∷ xs) = ap (λ (ts : Texts). texts_in x ++ ts) (flat xs)
 
@@ -51,7 +51,7 @@ pub body_is : (xs : List TypedStmt) → all_characters (body_texts xs) ≡ flat_
 body_is xs = ap all_characters (flat xs) ∙ stmts xs
 
 -- a module
-routines : (m : TypedModule) (ws : List Which) → flat_map (which_texts m) ws ≡ joined (map (which_texts m) ws)
+routines : (m : TypedModule) (ws : List Which) → flat_map (which_texts m) ws ≡ concatenation (map (which_texts m) ws)
 routines m [] = refl
 routines m (w ∷ ws) = ap (λ (ts : Texts). which_texts m w ++ ts) (routines m ws)
 
@@ -86,27 +86,27 @@ stmt_Halt = ap all_characters (at_stmt sv.Halt sl.Halt sv.outs-Halt)
 
 pub stmt_If_None : (e : TypedExpr) (xs : List TypedStmt) → all_characters (texts_in (sv.If e xs None)) ≡ (all_characters (texts_of e) ++ flat_map stmt_written xs)
 stmt_If_None e xs =
-    ap all_characters (at_stmt (sv.If e xs None) (sl.If e xs None) (sv.outs-If e xs None)) ∙ two (texts_of e) (joined (map texts_in xs) ++ []) refl (ap all_characters (append-nil (joined (map texts_in xs))) ∙ stmts xs)
+    ap all_characters (at_stmt (sv.If e xs None) (sl.If e xs None) (sv.outs-If e xs None)) ∙ two (texts_of e) (concatenation (map texts_in xs) ++ []) refl (ap all_characters (append-nil (concatenation (map texts_in xs))) ∙ stmts xs)
 
 pub stmt_If_Some : (e : TypedExpr) (xs : List TypedStmt) (ys : List TypedStmt) → all_characters (texts_in (sv.If e xs (Some ys))) ≡ (all_characters (texts_of e) ++ (flat_map stmt_written xs ++ flat_map stmt_written ys))
 stmt_If_Some e xs ys =
     ap all_characters (at_stmt (sv.If e xs (Some ys)) (sl.If e xs (Some ys)) (sv.outs-If e xs (Some ys)))
-    ∙ two (texts_of e) (joined (map texts_in xs) ++ joined (map texts_in ys)) refl (two (joined (map texts_in xs)) (joined (map texts_in ys)) (stmts xs) (stmts ys))
+    ∙ two (texts_of e) (concatenation (map texts_in xs) ++ concatenation (map texts_in ys)) refl (two (concatenation (map texts_in xs)) (concatenation (map texts_in ys)) (stmts xs) (stmts ys))
 
 pub stmt_Case_None : (e : TypedExpr) (xs : List TypedArm) → all_characters (texts_in (sv.Case e xs None)) ≡ (all_characters (texts_of e) ++ flat_map arm_written xs)
 stmt_Case_None e xs =
-    ap all_characters (at_stmt (sv.Case e xs None) (sl.Case e xs None) (sv.outs-Case e xs None)) ∙ two (texts_of e) (joined (map texts_armed xs) ++ []) refl (ap all_characters (append-nil (joined (map texts_armed xs))) ∙ arms xs)
+    ap all_characters (at_stmt (sv.Case e xs None) (sl.Case e xs None) (sv.outs-Case e xs None)) ∙ two (texts_of e) (concatenation (map texts_armed xs) ++ []) refl (ap all_characters (append-nil (concatenation (map texts_armed xs))) ∙ arms xs)
 
 pub stmt_Case_Some : (e : TypedExpr) (xs : List TypedArm) (ys : List TypedStmt) → all_characters (texts_in (sv.Case e xs (Some ys))) ≡ (all_characters (texts_of e) ++ (flat_map arm_written xs ++ flat_map stmt_written ys))
 stmt_Case_Some e xs ys =
     ap all_characters (at_stmt (sv.Case e xs (Some ys)) (sl.Case e xs (Some ys)) (sv.outs-Case e xs (Some ys)))
-    ∙ two (texts_of e) (joined (map texts_armed xs) ++ joined (map texts_in ys)) refl (two (joined (map texts_armed xs)) (joined (map texts_in ys)) (arms xs) (stmts ys))
+    ∙ two (texts_of e) (concatenation (map texts_armed xs) ++ concatenation (map texts_in ys)) refl (two (concatenation (map texts_armed xs)) (concatenation (map texts_in ys)) (arms xs) (stmts ys))
 
 pub stmt_While : (e : TypedExpr) (xs : List TypedStmt) → all_characters (texts_in (sv.While e xs)) ≡ (all_characters (texts_of e) ++ flat_map stmt_written xs)
-stmt_While e xs = ap all_characters (at_stmt (sv.While e xs) (sl.While e xs) (sv.outs-While e xs)) ∙ two (texts_of e) (joined (map texts_in xs)) refl (stmts xs)
+stmt_While e xs = ap all_characters (at_stmt (sv.While e xs) (sl.While e xs) (sv.outs-While e xs)) ∙ two (texts_of e) (concatenation (map texts_in xs)) refl (stmts xs)
 
 pub stmt_Repeat : (xs : List TypedStmt) (e : TypedExpr) → all_characters (texts_in (sv.Repeat xs e)) ≡ (flat_map stmt_written xs ++ all_characters (texts_of e))
-stmt_Repeat xs e = ap all_characters (at_stmt (sv.Repeat xs e) (sl.Repeat xs e) (sv.outs-Repeat xs e)) ∙ two (joined (map texts_in xs)) (texts_of e) (stmts xs) refl
+stmt_Repeat xs e = ap all_characters (at_stmt (sv.Repeat xs e) (sl.Repeat xs e) (sv.outs-Repeat xs e)) ∙ two (concatenation (map texts_in xs)) (texts_of e) (stmts xs) refl
 
 pub stmt_Loop : (xs : List TypedStmt) → all_characters (texts_in (sv.Loop xs)) ≡ flat_map stmt_written xs
 stmt_Loop xs = ap all_characters (at_stmt (sv.Loop xs) (sl.Loop xs) (sv.outs-Loop xs)) ∙ stmts xs
@@ -121,10 +121,10 @@ pub stmt_Give : (t : TypeNo) (e : TypedExpr) → all_characters (texts_in (sv.Gi
 stmt_Give t e = ap all_characters (at_stmt (sv.Give t e) (sl.Give t e) (sv.outs-Give t e))
 
 pub stmt_For : (d : Place) (t : TypeNo) (a b : TypedExpr) (n : ℤ) (xs : List TypedStmt) → all_characters (texts_in (sv.For d t a b n xs)) ≡ (all_characters (texts_at d) ++ (all_characters (texts_of a) ++ (all_characters (texts_of b) ++ flat_map stmt_written xs)))
-stmt_For d t a b n xs = ap all_characters (at_stmt (sv.For d t a b n xs) (sl.For d t a b n xs) (sv.outs-For d t a b n xs)) ∙ two (texts_at d) ((texts_of a) ++ ((texts_of b) ++ (joined (map texts_in xs)))) refl (two (texts_of a) ((texts_of b) ++ (joined (map texts_in xs))) refl (two (texts_of b) (joined (map texts_in xs)) refl (stmts xs)))
+stmt_For d t a b n xs = ap all_characters (at_stmt (sv.For d t a b n xs) (sl.For d t a b n xs) (sv.outs-For d t a b n xs)) ∙ two (texts_at d) ((texts_of a) ++ ((texts_of b) ++ (concatenation (map texts_in xs)))) refl (two (texts_of a) ((texts_of b) ++ (concatenation (map texts_in xs))) refl (two (texts_of b) (concatenation (map texts_in xs)) refl (stmts xs)))
 
 pub stmt_With : (d : Place) (xs : List TypedStmt) → all_characters (texts_in (sv.With d xs)) ≡ (all_characters (texts_at d) ++ flat_map stmt_written xs)
-stmt_With d xs = ap all_characters (at_stmt (sv.With d xs) (sl.With d xs) (sv.outs-With d xs)) ∙ two (texts_at d) (joined (map texts_in xs)) refl (stmts xs)
+stmt_With d xs = ap all_characters (at_stmt (sv.With d xs) (sl.With d xs) (sv.outs-With d xs)) ∙ two (texts_at d) (concatenation (map texts_in xs)) refl (stmts xs)
 
 -- all of these
 pub ruleset stmt_variants = (append-nil, append_assoc, stmt_Assign, stmt_Copy, stmt_CopyText, stmt_Call, stmt_Put, stmt_Change, stmt_Membership, stmt_Halt, stmt_If_None, stmt_If_Some, stmt_Case_None, stmt_Case_Some, stmt_While, stmt_Repeat, stmt_Loop, stmt_Exit, stmt_Return, stmt_Give, stmt_For, stmt_With, arm_is)

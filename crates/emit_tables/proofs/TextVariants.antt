@@ -22,7 +22,7 @@ use Rattle.typed_tree.specs.declared.computed.Call.TheVariants as cv
 use Rattle.typed_tree.specs.declared.computed.Argument.{Argument, Argument-F, out-Argument, map-Argument, fold_out-Argument}
 use Rattle.typed_tree.specs.declared.computed.Argument.TheOpen as layer
 use Rattle.typed_tree.specs.declared.computed.Argument.TheVariants as xv
-use Rattle.layout_storage.specs.Texts.{Texts, joined, passed, argument_texts, call_texts, component_texts, link_texts, place_texts, expr_texts, texts_of, texts_at, texts_called, texts_passed, texts_behind, texts_linked}
+use Rattle.layout_storage.specs.Texts.{Texts, concatenation, argument_text, argument_texts, call_texts, component_texts, link_texts, place_texts, expr_texts, texts_of, texts_at, texts_called, texts_passed, texts_behind, texts_linked}
 use Rattle.def_scheme.specs.Modules.{all_characters}
 use Rattle.emit_tables.specs.Written.{argument_written, component_written, link_written}
 
@@ -36,17 +36,17 @@ pub one_text : (t : List ℕ) → all_characters (t ∷ []) ≡ t
 one_text t = append-nil t
 
 -- one after another
-pub walked : {A : Type 0} (f : A → Texts) (xs : List A) → all_characters (joined (map f xs)) ≡ flat_map (λ x. all_characters (f x)) xs
+pub walked : {A : Type 0} (f : A → Texts) (xs : List A) → all_characters (concatenation (map f xs)) ≡ flat_map (λ x. all_characters (f x)) xs
 walked f [] = refl
-walked f (x ∷ xs) = both (f x) (joined (map f xs)) ∙ ap (λ (cs : List ℕ). all_characters (f x) ++ cs) (walked f xs)
+walked f (x ∷ xs) = both (f x) (concatenation (map f xs)) ∙ ap (λ (cs : List ℕ). all_characters (f x) ++ cs) (walked f xs)
 
-arguments : (xs : List Argument) → all_characters (joined (map texts_passed xs)) ≡ flat_map argument_written xs
+arguments : (xs : List Argument) → all_characters (concatenation (map texts_passed xs)) ≡ flat_map argument_written xs
 arguments xs = walked texts_passed xs
 
-components : (xs : List Component) → all_characters (joined (map texts_behind xs)) ≡ flat_map component_written xs
+components : (xs : List Component) → all_characters (concatenation (map texts_behind xs)) ≡ flat_map component_written xs
 components xs = walked texts_behind xs
 
-links : (xs : List Link) → all_characters (joined (map texts_linked xs)) ≡ flat_map link_written xs
+links : (xs : List Link) → all_characters (concatenation (map texts_linked xs)) ≡ flat_map link_written xs
 links xs = walked texts_linked xs
 
 -- ---- one layer
@@ -104,7 +104,7 @@ pub expr_Negate : (e : TypedExpr) → all_characters (texts_of (ev.Negate e)) �
 expr_Negate e = ap all_characters (at_expr (ev.Negate e) (layer.Negate e) (ev.outs-Negate e))
 
 pub expr_Chain : (e : TypedExpr) (ls : List Link) → all_characters (texts_of (ev.Chain e ls)) ≡ (all_characters (texts_of e) ++ flat_map link_written ls)
-expr_Chain e ls = ap all_characters (at_expr (ev.Chain e ls) (layer.Chain e ls) (ev.outs-Chain e ls)) ∙ both (texts_of e) (joined (map texts_linked ls)) ∙ ap (λ (k : List ℕ). (all_characters (texts_of e) ++ k)) (links ls)
+expr_Chain e ls = ap all_characters (at_expr (ev.Chain e ls) (layer.Chain e ls) (ev.outs-Chain e ls)) ∙ both (texts_of e) (concatenation (map texts_linked ls)) ∙ ap (λ (k : List ℕ). (all_characters (texts_of e) ++ k)) (links ls)
 
 pub expr_Compare : (o : Comparison) (a b : TypedExpr) → all_characters (texts_of (ev.Compare o a b)) ≡ (all_characters (texts_of a) ++ all_characters (texts_of b))
 expr_Compare o a b = ap all_characters (at_expr (ev.Compare o a b) (layer.Compare o a b) (ev.outs-Compare o a b)) ∙ both (texts_of a) (texts_of b)
@@ -174,7 +174,7 @@ pub call_Nested : (f : LocalProcedure) (xs : List Argument) → all_characters (
 call_Nested f xs = ap all_characters (at_call (cv.Nested f xs) (layer.Nested f xs) (cv.outs-Nested f xs)) ∙ arguments xs
 
 pub call_Variable : (t : TypeNo) (d : Place) (xs : List Argument) → all_characters (texts_called (cv.Variable t d xs)) ≡ (all_characters (texts_at d) ++ flat_map argument_written xs)
-call_Variable t d xs = ap all_characters (at_call (cv.Variable t d xs) (layer.Variable t d xs) (cv.outs-Variable t d xs)) ∙ both (texts_at d) (joined (map texts_passed xs)) ∙ ap (λ (k : List ℕ). (all_characters (texts_at d) ++ k)) (arguments xs)
+call_Variable t d xs = ap all_characters (at_call (cv.Variable t d xs) (layer.Variable t d xs) (cv.outs-Variable t d xs)) ∙ both (texts_at d) (concatenation (map texts_passed xs)) ∙ ap (λ (k : List ℕ). (all_characters (texts_at d) ++ k)) (arguments xs)
 
 pub argument_Value : (t : TypeNo) (e : TypedExpr) → all_characters (texts_passed (xv.Value t e)) ≡ all_characters (texts_of e)
 argument_Value t e = ap all_characters (at_argument (xv.Value t e) (layer.Value t e) (xv.outs-Value t e))
@@ -188,8 +188,8 @@ argument_Array t d = ap all_characters (at_argument (xv.Array t d) (layer.Array 
 pub argument_Open : (s : Slot) → all_characters (texts_passed (xv.Open s)) ≡ []
 argument_Open s = ap all_characters (at_argument (xv.Open s) (layer.Open s) (xv.outs-Open s))
 
-pub argument_Text : (text : List ℕ) → all_characters (texts_passed (xv.Text text)) ≡ (passed text)
-argument_Text text = ap all_characters (at_argument (xv.Text text) (layer.Text text) (xv.outs-Text text)) ∙ one_text (passed text)
+pub argument_Text : (text : List ℕ) → all_characters (texts_passed (xv.Text text)) ≡ (argument_text text)
+argument_Text text = ap all_characters (at_argument (xv.Text text) (layer.Text text) (xv.outs-Text text)) ∙ one_text (argument_text text)
 
 -- all of these
 pub ruleset variants = (append-nil, append_assoc, expr_Constant, expr_Load, expr_Procedure, expr_Plus, expr_Negate, expr_Chain, expr_Compare, expr_Not, expr_Include, expr_In, expr_Abs, expr_Cap, expr_Chr, expr_Odd, expr_Ord, expr_Val, expr_High, expr_Call, place_is, component_Field, component_Element, component_OpenElement, link_Arithmetic, link_And, link_Or, link_Combine, call_Module, call_Nested, call_Variable, argument_Value, argument_Place, argument_Array, argument_Open, argument_Text)

@@ -23,7 +23,7 @@ use Rattle.typed_tree.specs.declared.computed.Argument.{Argument, Argument-F, ou
 use Rattle.typed_tree.specs.declared.computed.Argument.TheOpen as layer
 use Rattle.typed_tree.specs.declared.computed.Argument.TheVariants as xv
 use Rattle.typed_tree.specs.declared.typed_module.TypedModule.{TypedModule}
-use Rattle.def_scheme.specs.Signatures.{Signature, Signatures, joined, of_heading, argument_layer, call_layer, component_layer, link_layer, expr_layer, place_layer, of_expr, of_place, of_call}
+use Rattle.def_scheme.specs.Signatures.{Signature, Signatures, concatenation, of_heading, argument_layer, call_layer, component_layer, link_layer, expr_layer, place_layer, of_expr, of_place, of_call}
 use Rattle.emit_tables.specs.declared.marks.Mark.{Mark}
 use Rattle.emit_tables.specs.Marked.{with_one, with_all}
 use Rattle.emit_tables.specs.Needed.{of_procedure, of_argument, of_component, of_link, with_argument, with_component, with_link}
@@ -43,9 +43,9 @@ unfolding with_all
 one_needed s xs = refl
 
 -- one after another
-pub walked : {A : Type 0} (f : A → Signatures) (xs : List A) (ms : List Mark) → with_all (joined (map f xs)) ms ≡ fold (λ ms x. with_all (f x) ms) ms xs
+pub walked : {A : Type 0} (f : A → Signatures) (xs : List A) (ms : List Mark) → with_all (concatenation (map f xs)) ms ≡ fold (λ ms x. with_all (f x) ms) ms xs
 walked f [] ms = none_needed ms
-walked f (x ∷ xs) ms = both (f x) (joined (map f xs)) ms ∙ walked f xs (with_all (f x) ms)
+walked f (x ∷ xs) ms = both (f x) (concatenation (map f xs)) ms ∙ walked f xs (with_all (f x) ms)
 
 module _ (m : TypedModule) where
   abbrev opened_expr : TypedExpr-F Argument Call Component Link TypedExpr Place → TypedExpr-F Signatures Signatures Signatures Signatures Signatures Signatures
@@ -99,7 +99,7 @@ module _ (m : TypedModule) where
   expr_Negate e xs = ap (λ (ss : Signatures). with_all ss xs) (at_expr (ev.Negate e) (layer.Negate e) (ev.outs-Negate e))
 
   pub expr_Chain : (e : TypedExpr) (ls : List Link) (xs : List Mark) → with_all (of_expr m (ev.Chain e ls)) xs ≡ fold (with_link m) (with_all (of_expr m e) xs) ls
-  expr_Chain e ls xs = ap (λ (ss : Signatures). with_all ss xs) (at_expr (ev.Chain e ls) (layer.Chain e ls) (ev.outs-Chain e ls)) ∙ both (of_expr m e) (joined (map (of_link m) ls)) xs ∙ walked (of_link m) ls (with_all (of_expr m e) xs)
+  expr_Chain e ls xs = ap (λ (ss : Signatures). with_all ss xs) (at_expr (ev.Chain e ls) (layer.Chain e ls) (ev.outs-Chain e ls)) ∙ both (of_expr m e) (concatenation (map (of_link m) ls)) xs ∙ walked (of_link m) ls (with_all (of_expr m e) xs)
 
   pub expr_Compare : (o : Comparison) (a b : TypedExpr) (xs : List Mark) → with_all (of_expr m (ev.Compare o a b)) xs ≡ with_all (of_expr m b) (with_all (of_expr m a) xs)
   expr_Compare o a b xs = ap (λ (ss : Signatures). with_all ss xs) (at_expr (ev.Compare o a b) (layer.Compare o a b) (ev.outs-Compare o a b)) ∙ both (of_expr m a) (of_expr m b) xs
@@ -163,13 +163,13 @@ module _ (m : TypedModule) where
   link_Combine o e xs = ap (λ (ss : Signatures). with_all ss xs) (at_link (lv.Combine o e) (layer.Combine o e) (lv.outs-Combine o e))
 
   pub call_Module : (f : Procedure) (args : List Argument) (xs : List Mark) → with_all (of_call m (cv.Module f args)) xs ≡ with_all (of_procedure m f) (fold (with_argument m) xs args)
-  call_Module f args xs = ap (λ (ss : Signatures). with_all ss xs) (at_call (cv.Module f args) (layer.Module f args) (cv.outs-Module f args)) ∙ both (joined (map (of_argument m) args)) (of_procedure m f) xs ∙ ap (λ (ms : List Mark). with_all (of_procedure m f) ms) (walked (of_argument m) args xs)
+  call_Module f args xs = ap (λ (ss : Signatures). with_all ss xs) (at_call (cv.Module f args) (layer.Module f args) (cv.outs-Module f args)) ∙ both (concatenation (map (of_argument m) args)) (of_procedure m f) xs ∙ ap (λ (ms : List Mark). with_all (of_procedure m f) ms) (walked (of_argument m) args xs)
 
   pub call_Nested : (f : LocalProcedure) (args : List Argument) (xs : List Mark) → with_all (of_call m (cv.Nested f args)) xs ≡ fold (with_argument m) xs args
   call_Nested f args xs = ap (λ (ss : Signatures). with_all ss xs) (at_call (cv.Nested f args) (layer.Nested f args) (cv.outs-Nested f args)) ∙ walked (of_argument m) args xs
 
   pub call_Variable : (t : TypeNo) (d : Place) (args : List Argument) (xs : List Mark) → with_all (of_call m (cv.Variable t d args)) xs ≡ with_one (fold (with_argument m) (with_all (of_place m d) xs) args) (of_heading m.types t)
-  call_Variable t d args xs = ap (λ (ss : Signatures). with_all ss xs) (at_call (cv.Variable t d args) (layer.Variable t d args) (cv.outs-Variable t d args)) ∙ both (of_place m d) (joined (map (of_argument m) args) ++ of_heading m.types t ∷ []) xs ∙ both (joined (map (of_argument m) args)) (of_heading m.types t ∷ []) (with_all (of_place m d) xs) ∙ one_needed (of_heading m.types t) (with_all (joined (map (of_argument m) args)) (with_all (of_place m d) xs)) ∙ ap (λ (ms : List Mark). with_one ms (of_heading m.types t)) (walked (of_argument m) args (with_all (of_place m d) xs))
+  call_Variable t d args xs = ap (λ (ss : Signatures). with_all ss xs) (at_call (cv.Variable t d args) (layer.Variable t d args) (cv.outs-Variable t d args)) ∙ both (of_place m d) (concatenation (map (of_argument m) args) ++ of_heading m.types t ∷ []) xs ∙ both (concatenation (map (of_argument m) args)) (of_heading m.types t ∷ []) (with_all (of_place m d) xs) ∙ one_needed (of_heading m.types t) (with_all (concatenation (map (of_argument m) args)) (with_all (of_place m d) xs)) ∙ ap (λ (ms : List Mark). with_one ms (of_heading m.types t)) (walked (of_argument m) args (with_all (of_place m d) xs))
 
   pub argument_Value : (t : TypeNo) (e : TypedExpr) (xs : List Mark) → with_all (of_argument m (xv.Value t e)) xs ≡ with_all (of_expr m e) xs
   argument_Value t e xs = ap (λ (ss : Signatures). with_all ss xs) (at_argument (xv.Value t e) (layer.Value t e) (xv.outs-Value t e))

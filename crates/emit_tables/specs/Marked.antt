@@ -7,14 +7,14 @@ use Rattle.emit_tables.specs.declared.marks.Mark.{Mark}
 abbrev pub none : Mark
 none = record { without = false; giving = false }
 
-abbrev pub marked : Mark → Bool → Mark
-marked x true = record { without = x.without; giving = true }
-marked x false = record { without = true; giving = x.giving }
+abbrev pub mark_kind : Mark → Bool → Mark
+mark_kind x true = record { without = x.without; giving = true }
+mark_kind x false = record { without = true; giving = x.giving }
 
 -- the type of this many arguments is marked, in a table that reaches so far
 abbrev pub marked_at : ℕ → Bool → List Mark → List Mark
-marked_at zero r [] = marked none r ∷ []
-marked_at zero r (x ∷ xs) = marked x r ∷ xs
+marked_at zero r [] = mark_kind none r ∷ []
+marked_at zero r (x ∷ xs) = mark_kind x r ∷ xs
 marked_at (suc n) r [] = none ∷ marked_at n r []
 marked_at (suc n) r (x ∷ xs) = x ∷ marked_at n r xs
 

@@ -9,7 +9,7 @@ use Rattle.typed_tree.specs.declared.statement.TypedArm.{TypedArm, fold-TypedArm
 use Rattle.typed_tree.specs.declared.typed_module.Routine.{Routine}
 use Rattle.typed_tree.specs.declared.typed_module.TypedModule.{TypedModule}
 use Rattle.def_scheme.specs.Exprs.{is_own}
-use Rattle.def_scheme.specs.Signatures.{Signatures, of_heading, argument_layer, call_layer, component_layer, link_layer, expr_layer, place_layer, step_layer, arm_layer, of_step, of_routine, needed}
+use Rattle.def_scheme.specs.Signatures.{Signatures, of_heading, argument_layer, call_layer, component_layer, link_layer, expr_layer, place_layer, step_layer, arm_layer, of_step, of_routine, signatures_needed}
 use Rattle.emit_tables.specs.declared.marks.Mark.{Mark}
 use Rattle.emit_tables.specs.Marked.{with_all, none}
 
@@ -59,4 +59,4 @@ module _ (m : TypedModule) where
 
 -- what is marked for a module; the type of bodies stands before all others
 abbrev pub marks_of : TypedModule → List Mark
-marks_of m = with_all (needed m) (none ∷ [])
+marks_of m = with_all (signatures_needed m) (none ∷ [])

@@ -3,7 +3,7 @@ use Rattle.std.specs.Prelude.{◌≡◌, ℕ, Bool, true, false, List, map, Opti
 use Rattle.def_scheme.specs.Signatures.{signature, is_same, body_signature, number_of}
 use Rattle.emit_tables.specs.declared.signature.Signature.{Signature}
 use Rattle.emit_tables.specs.declared.signature.Numbers.{Numbers}
-use Rattle.emit_tables.specs.Seen.{seen}
+use Rattle.emit_tables.specs.Seen.{meaning_of}
 
 abbrev pub number_at : Option Numbers → Bool → ℕ
 number_at None r = 6
@@ -16,4 +16,4 @@ number_in rows n r =
 
 -- the table has the number of each type in the list
 abbrev pub AreNumbers : List Signature → List Numbers → Type 0
-AreNumbers list rows = (n : ℕ) (r : Bool) → number_in rows n r ≡ number_of (map seen list) n r
+AreNumbers list rows = (n : ℕ) (r : Bool) → number_in rows n r ≡ number_of (map meaning_of list) n r

@@ -22,12 +22,12 @@ noted_at (Some (Some begin)) xs n at = xs
 noted_at (Some None) xs n at = slice_set xs n (Some at)
 
 -- the first place stays
-abbrev pub noted : Table → (number at : ℕ) → Table
-noted xs n at = noted_at (slice_get xs n) xs n at
+abbrev pub note_place : Table → (number at : ℕ) → Table
+note_place xs n at = noted_at (slice_get xs n) xs n at
 
 abbrev pub noted_which : Offsets → Which → ℕ → Offsets
-noted_which x (which.Module n) at = record x { procedures = noted x.procedures n at }
-noted_which x (which.Local n) at = record x { locals = noted x.locals n at }
+noted_which x (which.Module n) at = record x { procedures = note_place x.procedures n at }
+noted_which x (which.Local n) at = record x { locals = note_place x.locals n at }
 
 abbrev pub or_else : Option (Option ℕ) → ℕ → ℕ
 or_else None at = at
@@ -56,8 +56,8 @@ with_which m x w = record {
   offsets = noted_which x.offsets w (length x.characters);
 }
 
-abbrev pub gathered : TypedModule → Gathering
-gathered m = fold (with_which m) (nothing_yet m) m.order
+abbrev pub gather_texts : TypedModule → Gathering
+gather_texts m = fold (with_which m) (nothing_yet m) m.order
 
 -- ---- the texts of a module
 

@@ -7,9 +7,9 @@ use Rattle.emit_tables.specs.declared.marks.Mark.{Mark}
 use Rattle.emit_tables.specs.declared.table.Table.{Table}
 
 -- a type that is wanted, and its number behind these
-abbrev pub entered : Bool → ℕ → Bool → List Signature
-entered true n r = record { arguments = n; has_result = r } ∷ []
-entered false n r = []
+abbrev pub enter_signature : Bool → ℕ → Bool → List Signature
+enter_signature true n r = record { arguments = n; has_result = r } ∷ []
+enter_signature false n r = []
 
 abbrev pub number_behind : Bool → List Signature → ℕ
 number_behind true list = 6 + length list
@@ -20,10 +20,10 @@ abbrev pub is_wanted : ℕ → Mark → Bool
 is_wanted n x = x.without && not (n == 0)
 
 abbrev pub entered_first : List Signature → ℕ → Mark → List Signature
-entered_first list n x = list ++ entered (is_wanted n x) n false
+entered_first list n x = list ++ enter_signature (is_wanted n x) n false
 
 abbrev pub entered_both : List Signature → ℕ → Mark → List Signature
-entered_both list n x = entered_first list n x ++ entered x.giving n true
+entered_both list n x = entered_first list n x ++ enter_signature x.giving n true
 
 abbrev pub numbers_for : List Signature → ℕ → Mark → Numbers
 numbers_for list n x = record {

@@ -2,7 +2,7 @@
 
 ghost use Rattle.std.specs.Prelude.{◌≡◌, ◌++◌, OnOk};
 ghost use Rattle.std.specs.List.{flat_map};
-ghost use Rattle.layout_storage.specs.Texts.{passed, texts_of, texts_at, texts_called, texts_passed, texts_behind, texts_linked};
+ghost use Rattle.layout_storage.specs.Texts.{argument_text, texts_of, texts_at, texts_called, texts_passed, texts_behind, texts_linked};
 ghost use Rattle.def_scheme.specs.Modules.{all_characters};
 ghost use Rattle.emit_tables.specs.Written.{argument_written, component_written, link_written};
 
@@ -12,7 +12,7 @@ use typed_tree::{Argument, Call, Component, Link, Place, TypedExpr};
 
 /// Appends the characters of a passed string: an empty one is one character 0C.
 fn push_passed(characters: &mut Characters, text: &[u8]) -> Result<(), AllocError>
-    ensures { OnOk result (characters.new ≡ characters.old ++ passed text.now) }
+    ensures { OnOk result (characters.new ≡ characters.old ++ argument_text text.now) }
 {
     match text {
         [] => characters.push_text(&[0]),

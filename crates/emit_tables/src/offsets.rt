@@ -1,7 +1,7 @@
 //! Where the texts of each procedure begin.
 
 ghost use Rattle.std.specs.Prelude.{◌≡◌, ◌<◌, None, length, replicate, slice_get, IfOk, OnSome};
-ghost use Rattle.emit_tables.specs.Offsets.{noted, noted_which, or_else, noted_or, no_offsets};
+ghost use Rattle.emit_tables.specs.Offsets.{note_place, noted_which, or_else, noted_or, no_offsets};
 
 use std::alloc::{AllocError, Global};
 use tree_parts::Items;
@@ -35,7 +35,7 @@ fn entry(table: &Items<Option<u32>>, number: usize) -> Option<Option<u32>>
 
 /// Notes where the texts of a procedure begin, where it is not known yet.
 fn note(table: &mut Items<Option<u32>>, number: usize, at: u32)
-    ensures { table.new ≡ noted table.old number at }
+    ensures { table.new ≡ note_place table.old number at }
 {
     match entry(table, number) {
         None => {}

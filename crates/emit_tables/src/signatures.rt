@@ -4,7 +4,7 @@ ghost use Rattle.std.specs.Prelude.{◌≡◌, IfOk, map};
 ghost use Rattle.std.specs.Option.{option_copied};
 ghost use Rattle.def_scheme.specs.Signatures.{number_of};
 ghost use Rattle.def_scheme.specs.Modules.{signatures};
-ghost use Rattle.emit_tables.specs.Seen.{seen};
+ghost use Rattle.emit_tables.specs.Seen.{meaning_of};
 ghost use Rattle.emit_tables.specs.Needed.{marks_of};
 ghost use Rattle.emit_tables.specs.Tables.{table_of};
 ghost use Rattle.emit_tables.specs.Numbered.{number_at, number_in};
@@ -29,12 +29,12 @@ pub struct Signatures {
 impl Model for Signatures {
     ghost use Rattle.std.specs.Prelude.{List, map};
     ghost use Rattle.def_scheme.specs.Signatures.{Signature};
-    ghost use Rattle.emit_tables.specs.Seen.{seen};
+    ghost use Rattle.emit_tables.specs.Seen.{meaning_of};
     ghost use Rattle.emit_tables.specs.Numbered.{AreNumbers};
 
     ghost Value = { List Signature };
 
-    ghost view = { λ s. map seen s.list };
+    ghost view = { λ s. map meaning_of s.list };
 
     ghost invariant = { λ s. AreNumbers s.list s.numbers };
 }
@@ -61,7 +61,7 @@ fn number_in(numbers: &[Numbers], arguments: usize, has_result: bool) -> u32
 impl Signatures {
     /// The list.
     pub fn list(&self) -> &[Signature]
-        ensures { map seen result.now ≡ self.now }
+        ensures { map meaning_of result.now ≡ self.now }
     {
         self.list.as_slice()
     }

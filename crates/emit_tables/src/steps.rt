@@ -2,7 +2,7 @@
 
 ghost use Rattle.std.specs.Prelude.{◌≡◌, OnOk};
 ghost use Rattle.std.specs.List.{fold};
-ghost use Rattle.def_scheme.specs.Signatures.{of_step, of_routine, needed};
+ghost use Rattle.def_scheme.specs.Signatures.{of_step, of_routine, signatures_needed};
 ghost use Rattle.emit_tables.specs.Marked.{with_all};
 ghost use Rattle.emit_tables.specs.Needed.{of_arm, with_step, with_arm, with_routine};
 
@@ -173,7 +173,7 @@ fn routines_marks(
 /// Marks all that a module needs.
 #[tactic(auto, using(crate::proofs::Bodies::module_is))]
 pub fn module_marks(module_body: &TypedModule, marks: &mut Vec<Mark>) -> Result<(), AllocError>
-    ensures { let ss = needed module_body.now in
+    ensures { let ss = signatures_needed module_body.now in
         OnOk result (marks.new.items ≡ with_all ss marks.old.items) }
 {
     routines_marks(module_body, marks, module_body.procedures.as_slice())?;

@@ -1,7 +1,7 @@
 //! The list of the types of functions that are marked, and their numbers.
 
 ghost use Rattle.std.specs.Prelude.{◌≡◌, ◌+◌, ◌++◌, IfOk, OnOk};
-ghost use Rattle.emit_tables.specs.Tables.{entered, number_behind, with_mark, table_of};
+ghost use Rattle.emit_tables.specs.Tables.{enter_signature, number_behind, with_mark, table_of};
 
 use crate::marks::Mark;
 use crate::signature::{Numbers, Signature};
@@ -17,14 +17,14 @@ pub struct Table {
 }
 
 /// Enters a type if it is wanted, and answers its number.
-fn entered(
+fn enter_signature(
     list: &mut Items<Signature>,
     wanted: bool,
     arguments: usize,
     has_result: bool,
 ) -> Result<u32, EncodeError>
     ensures number { IfOk result (λ n. n ≡ number_behind wanted list.old) }
-    ensures list { OnOk result (list.new ≡ list.old ++ entered wanted arguments has_result) }
+    ensures list { OnOk result (list.new ≡ list.old ++ enter_signature wanted arguments has_result) }
 {
     if !wanted {
         return Ok(6);
@@ -43,8 +43,8 @@ fn with_mark(table: &mut Table, mark: Mark) -> Result<(), EncodeError>
 {
     let arguments = table.numbers.len();
     let wanted = mark.without && arguments != 0;
-    let without = entered(&mut table.list, wanted, arguments, false)?;
-    let giving = entered(&mut table.list, mark.giving, arguments, true)?;
+    let without = enter_signature(&mut table.list, wanted, arguments, false)?;
+    let giving = enter_signature(&mut table.list, mark.giving, arguments, true)?;
     table.numbers.push(Numbers { without, giving })?;
     Ok(())
 }

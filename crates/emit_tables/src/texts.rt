@@ -1,7 +1,7 @@
 //! The characters of the strings that a module keeps, and where those of each procedure begin.
 
 ghost use Rattle.std.specs.Prelude.{◌≡◌, IfOk, OnOk};
-ghost use Rattle.emit_tables.specs.Offsets.{nothing_yet, with_which, gathered, offset_in, AreTexts};
+ghost use Rattle.emit_tables.specs.Offsets.{nothing_yet, with_which, gather_texts, offset_in, AreTexts};
 
 use crate::body::{push_body, push_which};
 use crate::characters::Characters;
@@ -51,12 +51,12 @@ fn gather_which(
 }
 
 /// The texts of all procedures.
-fn gathered(
+fn gather_texts(
     alloc: Global,
     module_body: &TypedModule,
     capacity: usize,
 ) -> Result<Gathering, EncodeError>
-    ensures { IfOk result (λ x. x ≡ gathered module_body.now) }
+    ensures { IfOk result (λ x. x ≡ gather_texts module_body.now) }
 {
     let mut gathering = Gathering {
         characters: Characters::with_capacity(alloc, capacity)?,
@@ -80,7 +80,7 @@ pub fn module_texts(
     let Gathering {
         mut characters,
         offsets,
-    } = gathered(alloc, module_body, capacity)?;
+    } = gather_texts(alloc, module_body, capacity)?;
     let body = small(characters.len())?;
     push_body(&mut characters, module_body.body.as_slice())?;
     Ok(ModuleTexts {

@@ -10,9 +10,9 @@ use Rattle.scan_tokens.specs.declared.refusal.ScanError.TheVariants.{Refused, No
 use Rattle.scan_tokens.specs.declared.refusal.ScanRefusal.{ScanRefusal}
 use Rattle.find_modules.specs.Found.{BodyImports, TextsImport}
 use Rattle.find_modules.specs.declared.found.Sources.{Sources}
-use Rattle.find_modules.specs.Imports.{AreTokens, Imports, TokensImport, imported}
+use Rattle.find_modules.specs.Imports.{AreTokens, Imports, TokensImport, names_of_imports}
 
-pub of_tree : (tokens : List Token) (tree : Module) (names : List (List ℕ)) → IsTree tokens tree → names ≡ imported tree → TokensImport tokens names
+pub of_tree : (tokens : List Token) (tree : Module) (names : List (List ℕ)) → IsTree tokens tree → names ≡ names_of_imports tree → TokensImport tokens names
 of_tree tokens tree names is e = inl (tree, is, e)
 
 pub of_no_tree : (tokens : List Token) (names : List (List ℕ)) → ((tree : Module) → IsTree tokens tree → ⊥) → names ≡ [] → TokensImport tokens names

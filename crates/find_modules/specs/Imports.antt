@@ -18,13 +18,13 @@ abbrev pub named_by : Import → List (List ℕ)
 named_by i = named_in i.from i.names
 
 -- the modules that a tree imports, as they are written
-abbrev pub imported : Module → List (List ℕ)
-imported tree = flat_map named_by tree.imports
+abbrev pub names_of_imports : Module → List (List ℕ)
+names_of_imports tree = flat_map named_by tree.imports
 
 -- the modules that tokens import: those of their tree, or none if they have no tree
 abbrev pub TokensImport : List Token → List (List ℕ) → Type 0
 TokensImport tokens names =
-    ((tree : Module) × IsTree tokens tree × (names ≡ imported tree))
+    ((tree : Module) × IsTree tokens tree × (names ≡ names_of_imports tree))
     ⊎ (((tree : Module) → IsTree tokens tree → ⊥) × (names ≡ []))
 
 -- these are the tokens of the text

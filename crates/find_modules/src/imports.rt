@@ -1,7 +1,7 @@
 //! Which modules a text imports.
 
 ghost use Rattle.std.specs.Prelude.{◌≡◌, ◌++◌, map, IfOk, OnOk};
-ghost use Rattle.find_modules.specs.Imports.{AreTokens, named_by, imported, Imports, TokensImport};
+ghost use Rattle.find_modules.specs.Imports.{AreTokens, named_by, names_of_imports, Imports, TokensImport};
 
 use crate::folders::FindFault;
 use m2_parse::{ParseError, parse};
@@ -33,8 +33,8 @@ fn add_named(names: &mut Vec<Name>, import: &Import) -> Result<(), AllocError>
 }
 
 /// The modules that a tree imports, as they are written.
-fn imported(alloc: Global, tree: &Module) -> Result<Vec<Name>, AllocError>
-    ensures { IfOk result (λ names. names.items ≡ imported tree.now) }
+fn names_of_imports(alloc: Global, tree: &Module) -> Result<Vec<Name>, AllocError>
+    ensures { IfOk result (λ names. names.items ≡ names_of_imports tree.now) }
 {
     let mut names = Vec::new(alloc);
     let imports = tree.imports.as_slice();
@@ -49,7 +49,7 @@ fn imports_of_tokens(alloc: Global, tokens: &[Token]) -> Result<Vec<Name>, FindF
     ensures { IfOk result (λ names. TokensImport tokens.now names.items) }
 {
     match parse(alloc, tokens) {
-        Ok(tree) => Ok(imported(alloc, &tree)?),
+        Ok(tree) => Ok(names_of_imports(alloc, &tree)?),
         Err(ParseError::Refused(_)) => Ok(Vec::new(alloc)),
         Err(ParseError::NoMemory) => Err(FindFault::NoMemory),
     }

@@ -1,7 +1,7 @@
 //! The search for the modules of a program.
 
 ghost use Rattle.std.specs.Prelude.{◌≡◌, ◌≤◌, ◌∷◌, [], length, map, IfOk, OnOk};
-ghost use Rattle.typed_tree.specs.Names.{entered};
+ghost use Rattle.typed_tree.specs.Names.{enter_name};
 ghost use Rattle.find_modules.specs.Found.{IsAt, AreSources, BodyImports, AreOf, AreAdded, Knows, SourcesImport, TextsImport, first_of, is_among, max_modules};
 
 use crate::folders::{FindFault, ModuleFolders, Part};
@@ -67,7 +67,7 @@ fn enter(
     number: usize,
     known: &mut Dictionary<usize>,
 ) -> Result<(), AllocError>
-    ensures { OnOk result (known.new ≡ entered name.now number known.old) }
+    ensures { OnOk result (known.new ≡ enter_name name.now number known.old) }
 {
     known.enter(alloc, name.as_bytes(), number)
 }

@@ -6,8 +6,8 @@ use Rattle.graph_walk.specs.Links.{times}
 use Rattle.graph_walk.specs.Numbering.{is_open}
 
 -- the numbers that are held
-abbrev pub held : Least → List ℕ
-held l = map (λ r. r.0) (heap_items l.heap)
+abbrev pub numbers_in : Least → List ℕ
+numbers_in l = map (λ r. r.0) (heap_items l.heap)
 
 -- the count of a node
 abbrev pub count_at : List ℕ → ℕ → ℕ

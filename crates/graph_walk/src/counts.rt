@@ -3,7 +3,7 @@
 ghost use Rattle.std.specs.Prelude.{◌≡◌, ◌<◌, ◌≤◌, ◌+◌, ◌∷◌, [], ℕ, length, map, IfOk, OnOk};
 ghost use Rattle.graph_walk.specs.Links.{times};
 ghost use Rattle.graph_walk.specs.Numbering.{is_open};
-ghost use Rattle.graph_walk.specs.Waiting.{held, count_at, Settles};
+ghost use Rattle.graph_walk.specs.Waiting.{numbers_in, count_at, Settles};
 
 use crate::flags::is_marked;
 use crate::least::Least;
@@ -39,8 +39,8 @@ fn settle(
     requires within { node < length counts.old }
     requires some { 0 < count_at counts.old node }
     ensures { OnOk result
-        (Settles definitions.now done.now (node ∷ []) counts.old (held ready.old) counts.new
-        (held ready.new)) }
+        (Settles definitions.now done.now (node ∷ []) counts.old (numbers_in ready.old) counts.new
+        (numbers_in ready.new)) }
 {
     counts[node] -= 1;
     if counts[node] == 0 && is_open(definitions, done, node) {
@@ -59,8 +59,8 @@ pub fn settle_all(
 ) -> Result<(), AllocError>
     requires { (k : ℕ) → times nodes.now k ≤ count_at counts.old k }
     ensures { OnOk result
-        (Settles definitions.now done.now nodes.now counts.old (held ready.old) counts.new
-        (held ready.new)) }
+        (Settles definitions.now done.now nodes.now counts.old (numbers_in ready.old) counts.new
+        (numbers_in ready.new)) }
 {
     for node in nodes {
         settle(definitions, done, *node, counts, ready)?;

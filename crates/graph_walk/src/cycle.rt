@@ -9,7 +9,7 @@ ghost use Rattle.graph_walk.specs.Links.{flag, AreNodes, Leads};
 ghost use Rattle.graph_walk.specs.Cycles.{IsClosed, IsCycleOrder, HasCycleOrder, Sweeps};
 ghost use Rattle.graph_walk.specs.Turned.{IsTurned};
 
-use crate::flags::{is_marked, mark_all, targets, unmarked};
+use crate::flags::{is_marked, mark_all, no_marks, targets};
 use crate::starts::start_order;
 use std::alloc::{AllocError, Global};
 use tree_parts::Items;
@@ -46,7 +46,7 @@ pub fn led_to(alloc: Global, links: &[Items<usize>], from: usize) -> Result<Vec<
     requires within { from < length links.now }
     ensures { IfOk result (λ flags. (k : ℕ) → IsTrue (flag flags.items k) ↔ Leads links.now from k) }
 {
-    let mut flags = unmarked(alloc, links.len())?;
+    let mut flags = no_marks(alloc, links.len())?;
     lead_on(alloc, links, from, &mut flags)?;
     Ok(flags)
 }
@@ -86,8 +86,8 @@ fn cyclic(
     ensures { IfOk result (λ flags.
         (k : ℕ) → k < length links.now → IsTrue (flag flags.items k) ↔ Leads links.now k k) }
 {
-    let mut led = unmarked(alloc, links.len())?;
-    let mut flags = unmarked(alloc, links.len())?;
+    let mut led = no_marks(alloc, links.len())?;
+    let mut flags = no_marks(alloc, links.len())?;
     let mut left = order;
     while let Some(node) = left.pop() {
         sweep(alloc, links, node, &mut led, &mut flags)?;

@@ -9,7 +9,7 @@ use std::alloc::{AllocError, Global};
 use tree_parts::Items;
 
 /// Marks for this many nodes, none of which is marked.
-pub fn unmarked(alloc: Global, count: usize) -> Result<Vec<bool>, AllocError>
+pub fn no_marks(alloc: Global, count: usize) -> Result<Vec<bool>, AllocError>
     ensures { IfOk result (λ flags. flags.items ≡ replicate count false) }
 {
     vec![in alloc; false; count]

@@ -18,11 +18,11 @@ pub struct Least {
 
 impl Least {
     ghost use Rattle.graph_walk.specs.Links.{has, times};
-    ghost use Rattle.graph_walk.specs.Waiting.{held};
+    ghost use Rattle.graph_walk.specs.Waiting.{numbers_in};
 
     /// No numbers.
     pub fn new(alloc: Global) -> Least
-        ensures { held result ≡ [] }
+        ensures { numbers_in result ≡ [] }
     {
         Least {
             heap: BinaryHeap::new(alloc),
@@ -33,7 +33,7 @@ impl Least {
     pub fn push(&mut self, number: usize) -> Result<(), AllocError>
         ensures { OnOk result
             ((k : ℕ)
-            → times (held self.new) k ≡ times (held self.old) k + cond (number == k) 1 0) }
+            → times (numbers_in self.new) k ≡ times (numbers_in self.old) k + cond (number == k) 1 0) }
     {
         self.heap.push(Reverse(number))?;
         Ok(())
@@ -41,10 +41,10 @@ impl Least {
 
     /// Takes the least.
     pub fn pop(&mut self) -> Option<usize>
-        ensures taken { MatchOption result (held self.old ≡ []) (λ number.
+        ensures taken { MatchOption result (numbers_in self.old ≡ []) (λ number.
             (k : ℕ)
-            → times (held self.old) k ≡ times (held self.new) k + cond (number == k) 1 0) }
-        ensures least { IfSome result (λ number. (k : ℕ) → has (held self.old) k ≡ true → number ≤ k) }
+            → times (numbers_in self.old) k ≡ times (numbers_in self.new) k + cond (number == k) 1 0) }
+        ensures least { IfSome result (λ number. (k : ℕ) → has (numbers_in self.old) k ≡ true → number ≤ k) }
     {
         let Reverse(number) = self.heap.pop()?;
         Some(number)

@@ -11,7 +11,7 @@ mod reversal;
 mod starts;
 
 pub use cycle::{first_on_cycle, led_to};
-pub use flags::{each_once, is_marked, unmarked};
+pub use flags::{each_once, is_marked, no_marks};
 pub use numbering::definition_order;
-pub use reversal::turned;
+pub use reversal::reverse_links;
 pub use starts::start_order;

@@ -6,7 +6,7 @@ ghost use Rattle.graph_walk.specs.Turned.{IsTurned};
 ghost use Rattle.graph_walk.specs.Numbering.{IsNumbering};
 
 use crate::counts::{counts_of, settle_all};
-use crate::flags::{targets, unmarked};
+use crate::flags::{no_marks, targets};
 use crate::least::Least;
 use std::alloc::{AllocError, Global};
 use tree_parts::Items;
@@ -26,7 +26,7 @@ pub fn definition_order(
     ensures { IfOk result (λ order. IsNumbering links.now definitions.now order) }
 {
     let mut counts = counts_of(alloc, links)?;
-    let mut done = unmarked(alloc, links.len())?;
+    let mut done = no_marks(alloc, links.len())?;
     let mut ready = Least::new(alloc);
     let all = targets(back, links.len());
     settle_all(definitions, &done, all, &mut counts, &mut ready)?;

@@ -52,7 +52,7 @@ fn add_pairs(rows: &mut [Items<usize>], nodes: &[usize], to: usize) -> Result<()
 }
 
 /// The pairs the other way round, as often as they are there, and behind them a node from which a pair goes to each.
-pub fn turned(alloc: Global, links: &[Items<usize>]) -> Result<Vec<Items<usize>>, AllocError>
+pub fn reverse_links(alloc: Global, links: &[Items<usize>]) -> Result<Vec<Items<usize>>, AllocError>
     requires { AreNodes links.now }
     ensures { IfOk result (λ back. IsTurned links.now back.items) }
 {

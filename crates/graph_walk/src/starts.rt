@@ -5,7 +5,7 @@ ghost use Rattle.graph_walk.specs.Links.{AreNodes, flag};
 ghost use Rattle.graph_walk.specs.Starts.{IsStartOrder};
 ghost use Rattle.graph_walk.specs.Frames.{entering, Advances};
 
-use crate::flags::{is_marked, targets, unmarked};
+use crate::flags::{is_marked, no_marks, targets};
 use std::alloc::{AllocError, Global};
 use tree_parts::Items;
 
@@ -76,7 +76,7 @@ pub fn start_order(
     ensures { IfOk result (λ order. IsStartOrder imports.now from order) }
 {
     let mut order = Items::new(alloc);
-    let mut entered = unmarked(alloc, imports.len())?;
+    let mut entered = no_marks(alloc, imports.len())?;
     let mut todo = Items::new(alloc);
     todo.push(Frame {
         node: from,

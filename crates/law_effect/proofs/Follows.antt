@@ -10,9 +10,9 @@ use Rattle.wasm_tree.specs.declared.module.WModule.{WModule}
 use Rattle.wasm_tree.specs.declared.store.Value.{Value}
 use Rattle.wasm_tree.specs.declared.store.Callee.{Callee}
 use Rattle.wasm_tree.specs.declared.store.Callee.TheVariants.{Put, Stop, Own}
-use Rattle.wasm_tree.specs.Machine.{Label, Activation, Config, Going, Over, Trapped, Progress, Typed, trapped, or_trap, split_last, split_end, topmost, top_i32, top_i64, found, branched, inside, returned, callee_at, callee_in, own_function, type_at, callee_type, agree, entered, called, stopped, global_at, calculated, bytes_at, begun_layer, results_of, reduce}
-use Rattle.wasm_tree.specs.Numbers.{stored, load_size}
-use Rattle.law_effect.specs.Effect.{Fixed, State, store_of, Effect, FellThrough, Branched, Returned, Ended, Traps, StillRunning, Does, Calling, or_traps, exec, out_of, back, of_config, alone, call, does_layer, does, effect, calling, nested}
+use Rattle.wasm_tree.specs.Machine.{Label, Activation, Config, Going, Over, Trapped, Progress, Typed, trap_now, or_trap, split_last, split_end, topmost, top_i32, top_i64, branch_to, branch_by, inside, return_to, callee_at, callee_in, own_function, type_at, callee_type, agree, enter_function, call_function, stop_with, global_at, calculation, bytes_at, begun_layer, results_of, reduce}
+use Rattle.wasm_tree.specs.Numbers.{store_bytes, load_size}
+use Rattle.law_effect.specs.Effect.{Fixed, State, store_of, Effect, FellThrough, Branched, Returned, Ended, Traps, StillRunning, Does, Calling, or_traps, exec, out_of, back, of_config, alone, call, does_layer, does, effect, calling, nest_calls}
 use Rattle.law_effect.specs.Laws.{Around, frame, at, Reaches, Leads, Follows, RunLeads, Runs, NestedFollows, NestedRuns}
 use Rattle.law_effect.proofs.Reaching.{got, silent, one, none, join, behind, begins, then_leads}
 use Rattle.law_effect.proofs.Plain.{config_of, Same, same_or, same_if, same_memory, same_leads}
@@ -21,11 +21,11 @@ use Rattle.law_effect.proofs.Ways.{under, block_label, block_leads, turns_lead, 
 module _ (modules : List WModule) (fx : Fixed) where
   -- the module m calls with this frame
   abbrev calls_here : (m : ℕ) → Around → List Instr → State → List Value → Callee → Progress
-  calls_here m a rest st stack c = called modules (store_of fx st.bytes) (frame m a rest st stack) a.callers c
+  calls_here m a rest st stack c = call_function modules (store_of fx st.bytes) (frame m a rest st stack) a.callers c
 
   -- where a callee begins
   abbrev callee_begins : (m : ℕ) → Around → List Instr → State → (below : List Value) → (k : ℕ) → Typed → List Value → Config
-  callee_begins m a rest st below k t args = Going (store_of fx st.bytes) (entered k t args) (a.callers ++ frame m a rest st below ∷ [])
+  callee_begins m a rest st below k t args = Going (store_of fx st.bytes) (enter_function k t args) (a.callers ++ frame m a rest st below ∷ [])
 
   -- what calls lead to
   abbrev pub CallsLead : ℕ → Calling → Type 0
@@ -87,28 +87,28 @@ module _ (modules : List WModule) (fx : Fixed) where
     or_leads None f g a rest c out h e = silent modules c Trapped out e
     or_leads (Some x) f g a rest c out h e = h x e
 
-    same_branch : (l : ℕ) (a : Around) (code : List Instr) (st : State) (stack : List Value) → branched (store_of fx st.bytes) (frame m a code st stack) a.callers l ≡ branched (store_of fx st.bytes) (frame m a [] st stack) a.callers l
+    same_branch : (l : ℕ) (a : Around) (code : List Instr) (st : State) (stack : List Value) → branch_by (store_of fx st.bytes) (frame m a code st stack) a.callers l ≡ branch_by (store_of fx st.bytes) (frame m a [] st stack) a.callers l
     same_branch l a code st stack = go (nat_le l (length a.labels)) (split_last (take (length a.labels - l) a.labels))
       where
-        go : (b : Bool) (o : Option (List Label × Label)) → (if b then found (store_of fx st.bytes) (frame m a code st stack) a.callers o else trapped) ≡ (if b then found (store_of fx st.bytes) (frame m a [] st stack) a.callers o else trapped)
+        go : (b : Bool) (o : Option (List Label × Label)) → (if b then branch_to (store_of fx st.bytes) (frame m a code st stack) a.callers o else trap_now) ≡ (if b then branch_to (store_of fx st.bytes) (frame m a [] st stack) a.callers o else trap_now)
         go true None = refl
         go true (Some x) = refl
         go false o = refl
 
     branch_leads : (l : ℕ) (a : Around) (rest : List Instr) (c : Config) (code : List Instr) (st : State) (stack : List Value)
-        → reduce modules c ≡ branched (store_of fx st.bytes) (frame m a code st stack) a.callers l → Leads modules fx w m a rest c st.out (Branched l st stack)
+        → reduce modules c ≡ branch_by (store_of fx st.bytes) (frame m a code st stack) a.callers l → Leads modules fx w m a rest c st.out (Branched l st stack)
     branch_leads l a rest c code st stack e =
-        let to : Progress = branched (store_of fx st.bytes) (frame m a [] st stack) a.callers l in
+        let to : Progress = branch_by (store_of fx st.bytes) (frame m a [] st stack) a.callers l in
         silent modules c to.0 st.out (e ∙ same_branch l a code st stack ∙ ap (λ (x : List ℕ). got to.0 x) (branched_silent (store_of fx st.bytes) (frame m a [] st stack) a.callers l))
 
     return_leads : (a : Around) (rest : List Instr) (c : Config) (code : List Instr) (st : State) (stack : List Value)
-        → reduce modules c ≡ found (store_of fx st.bytes) (frame m a code st stack) a.callers None → Leads modules fx w m a rest c st.out (Returned st stack)
+        → reduce modules c ≡ branch_to (store_of fx st.bytes) (frame m a code st stack) a.callers None → Leads modules fx w m a rest c st.out (Returned st stack)
     return_leads a rest c code st stack e =
-        let to : Progress = found (store_of fx st.bytes) (frame m a [] st stack) a.callers None in
+        let to : Progress = branch_to (store_of fx st.bytes) (frame m a [] st stack) a.callers None in
         silent modules c to.0 st.out (e ∙ ap (λ (x : List ℕ). got to.0 x) (found_silent (store_of fx st.bytes) (frame m a [] st stack) a.callers None))
 
     branch_if_leads : (b : Bool) (l : ℕ) (a : Around) (rest : List Instr) (c : Config) (st : State) (stack : List Value)
-        → reduce modules c ≡ (if b then (at fx m a rest st stack, []) else branched (store_of fx st.bytes) (frame m a rest st stack) a.callers l) → Leads modules fx w m a rest c st.out (if b then FellThrough st stack else Branched l st stack)
+        → reduce modules c ≡ (if b then (at fx m a rest st stack, []) else branch_by (store_of fx st.bytes) (frame m a rest st stack) a.callers l) → Leads modules fx w m a rest c st.out (if b then FellThrough st stack else Branched l st stack)
     branch_if_leads true l a rest c st stack e = silent modules c _ st.out e
     branch_if_leads false l a rest c st stack e = branch_leads l a rest c rest st stack e
 
@@ -124,7 +124,7 @@ module _ (modules : List WModule) (fx : Fixed) where
     put_leads None a rest c st stack e = one modules c Trapped st.out [] e
     put_leads (Some p) a rest c st stack e = one modules c _ st.out (p.1 % 256 ∷ []) e
 
-    stop_same : (out : List ℕ) (a : Around) (rest : List Instr) (p : List Value × ℕ) → Same modules fx m a rest out (stopped p.1, []) (stopped p.1, [])
+    stop_same : (out : List ℕ) (a : Around) (rest : List Instr) (p : List Value × ℕ) → Same modules fx m a rest out (stop_with p.1, []) (stop_with p.1, [])
     stop_same out a rest p = go (nat_le 1 p.1 && nat_le p.1 255)
       where
         go : (b : Bool) → got (if b then Over p.1 else Trapped) [] ≡ (config_of modules fx m a rest (of_config out (if b then Over p.1 else Trapped)), [])
@@ -133,12 +133,12 @@ module _ (modules : List WModule) (fx : Fixed) where
 
     call_leads : (c : Callee) (a : Around) (before rest : List Instr) (st : State) (stack vs : List Value) → reduce modules (at fx m a before st stack) ≡ calls_here m a rest st vs c → Leads modules fx w m a rest (at fx m a before st stack) st.out (call modules fx calls m c st vs)
     call_leads Put a before rest st stack vs e = put_leads (top_i64 vs) a rest _ st vs e
-    call_leads Stop a before rest st stack vs e = plain_leads a rest _ st.out _ (called modules (store_of fx st.bytes) (alone m st vs) [] Stop) e (same_or modules fx m a rest st.out (top_i64 vs) _ _ (stop_same st.out a rest))
+    call_leads Stop a before rest st stack vs e = plain_leads a rest _ st.out _ (call_function modules (store_of fx st.bytes) (alone m st vs) [] Stop) e (same_or modules fx m a rest st.out (top_i64 vs) _ _ (stop_same st.out a rest))
     call_leads (Own k f) a before rest st stack vs e =
         or_leads (own_function modules k f) _ _ a rest _ st.out
         (λ t. or_leads (split_end (length t.type.params) vs) _ _ a rest _ st.out (λ p e'. good m a before rest st stack p.0 k f t p.1 e')) e
 
-    agreed_leads : (b : Bool) (c : Callee) (a : Around) (before rest : List Instr) (st : State) (stack vs : List Value) → reduce modules (at fx m a before st stack) ≡ (if b then calls_here m a rest st vs c else trapped)
+    agreed_leads : (b : Bool) (c : Callee) (a : Around) (before rest : List Instr) (st : State) (stack vs : List Value) → reduce modules (at fx m a before st stack) ≡ (if b then calls_here m a rest st vs c else trap_now)
         → Leads modules fx w m a rest (at fx m a before st stack) st.out (if b then call modules fx calls m c st vs else Traps st.out)
     agreed_leads true c a before rest st stack vs e = call_leads c a before rest st stack vs e
     agreed_leads false c a before rest st stack vs e = silent modules _ Trapped st.out e
@@ -185,10 +185,10 @@ module _ (modules : List WModule) (fx : Fixed) where
         same (layer.Store width) i h a rest st stack
         (same_or modules fx m a rest st.out (top_i64 stack) _ _
         (λ v. same_or modules fx m a rest st.out (top_i32 v.0) _ _
-        (λ p. same_memory modules fx m a rest st.out st.bytes _ _ (same_if modules fx m a rest st.out (nat_le (p.1 + length (stored width v.1)) (length st.bytes)) _ _ refl))))
+        (λ p. same_memory modules fx m a rest st.out st.bytes _ _ (same_if modules fx m a rest st.out (nat_le (p.1 + length (store_bytes width v.1)) (length st.bytes)) _ _ refl))))
     layer_leads i (layer.I32Const k) h a rest st stack = same (layer.I32Const k) i h a rest st stack refl
     layer_leads i (layer.I64Const k) h a rest st stack = same (layer.I64Const k) i h a rest st stack refl
-    layer_leads i (layer.Numeric o) h a rest st stack = same (layer.Numeric o) i h a rest st stack (same_or modules fx m a rest st.out (calculated o stack) _ _ (λ p. refl))
+    layer_leads i (layer.Numeric o) h a rest st stack = same (layer.Numeric o) i h a rest st stack (same_or modules fx m a rest st.out (calculation o stack) _ _ (λ p. refl))
 
     does_is : (i : Instr) → doing i ≡ does_layer modules fx n calls m (map-Instr Instr Does doing (out-Instr i))
     unfolding does
@@ -226,14 +226,14 @@ module _ (modules : List WModule) (fx : Fixed) where
         let inner = callee modules fx m a (length t.type.results) caller in
         behind modules fx m a 0 rest _ (callee_begins m a rest st below k t args) st.out st.out (back (length t.type.results) st.locals below did) (silent modules _ _ st.out e)
         (back_leads modules fx m a 0 k (length t.type.results) rest (callee_begins m a rest st below k t args) st.out st below did
-        (body_leads (n + extra k f) 0 (omega arith) (calling modules fx extra n d) (calls_lead n d 0 le (omega arith)) k t.function.body.code inner (record { locals = (entered k t args).locals; bytes = st.bytes; out = st.out }) []))
+        (body_leads (n + extra k f) 0 (omega arith) (calling modules fx extra n d) (calls_lead n d 0 le (omega arith)) k t.function.body.code inner (record { locals = (enter_function k t args).locals; bytes = st.bytes; out = st.out }) []))
     calls_lead n (suc d) (suc w) le le' m a before rest st stack below k f t args e =
         let caller : Activation = frame m a rest st below in
         let did : Effect = calling modules fx extra n (suc d) k f t args st.bytes st.out in
         let inner = callee modules fx m a (length t.type.results) caller in
         begins modules fx m a w rest _ (callee_begins m a rest st below k t args) st.out (back (length t.type.results) st.locals below did) e
         (back_leads modules fx m a w k (length t.type.results) rest (callee_begins m a rest st below k t args) st.out st below did
-        (body_leads (n + extra k f) w (omega (arith, le)) (calling modules fx extra n d) (calls_lead n d w (omega (arith, le)) (omega (arith, le'))) k t.function.body.code inner (record { locals = (entered k t args).locals; bytes = st.bytes; out = st.out }) []))
+        (body_leads (n + extra k f) w (omega (arith, le)) (calling modules fx extra n d) (calls_lead n d w (omega (arith, le)) (omega (arith, le'))) k t.function.body.code inner (record { locals = (enter_function k t args).locals; bytes = st.bytes; out = st.out }) []))
 
 pub follows : Follows
 follows modules fx extra n m a code rest st stack =
@@ -247,7 +247,7 @@ outermost arity = record { arity = arity; labels = []; callers = [] }
 
 module _ (modules : List WModule) (fx : Fixed) (w m arity : ℕ) (c : Config) where
   abbrev over : State → List Value → Progress
-  over st stack = found (store_of fx st.bytes) (frame m (outermost arity) [] st stack) [] None
+  over st stack = branch_to (store_of fx st.bytes) (frame m (outermost arity) [] st stack) [] None
 
   abbrev cut : List Value → Bool → Option (List Value × List Value)
   cut stack b = if b then Some (take (length stack - arity) stack, drop (length stack - arity) stack) else None
@@ -255,7 +255,7 @@ module _ (modules : List WModule) (fx : Fixed) (w m arity : ℕ) (c : Config) wh
   over_is : (st : State) (stack : List Value) → (over st stack).0 ≡ (if nat_le arity (length stack) then Over 0 else Trapped)
   over_is st stack = go (nat_le arity (length stack))
     where
-      go : (b : Bool) → (or_trap (cut stack b) (λ p. returned (store_of fx st.bytes) [] p.1)).0 ≡ (if b then Over 0 else Trapped)
+      go : (b : Bool) → (or_trap (cut stack b) (λ p. return_to (store_of fx st.bytes) [] p.1)).0 ≡ (if b then Over 0 else Trapped)
       go true = refl
       go false = refl
 
@@ -267,7 +267,7 @@ module _ (modules : List WModule) (fx : Fixed) (w m arity : ℕ) (c : Config) wh
   to_over st stack r = subst (λ (d : Config). Reaches modules c [] d st.out) (over_is st stack) r
 
   abbrev if_over : State → List Value → (k : ℕ) → Bool → Progress
-  if_over st stack k b = if b then found (store_of fx st.bytes) (frame m (outermost arity) [] st stack) [] (split_last (take (0 - suc k) [])) else trapped
+  if_over st stack k b = if b then branch_to (store_of fx st.bytes) (frame m (outermost arity) [] st stack) [] (split_last (take (0 - suc k) [])) else trap_now
 
   run_leads_from : (e : Effect) → Leads modules fx w m (outermost arity) [] c [] e → RunLeads modules w arity c e
   run_leads_from (FellThrough st stack) l = to_over st stack (join modules c _ _ [] st.out st.out l (silent modules _ (over st stack).0 st.out (ends st stack)))
@@ -283,7 +283,7 @@ unfolding calling
 runs modules fx extra n m f t bytes =
     run_leads_from modules fx n m (length t.type.results) _ (calling modules fx extra n (suc n) m f t [] bytes [])
     (body_leads modules fx (n + extra m f) n (omega arith) (calling modules fx extra n n) (calls_lead modules fx extra n n n (omega arith) (omega arith)) m t.function.body.code (outermost (length t.type.results))
-    (record { locals = (entered m t []).locals; bytes = bytes; out = [] }) [])
+    (record { locals = (enter_function m t []).locals; bytes = bytes; out = [] }) [])
 
 -- ---- where some functions serve the others
 
@@ -295,8 +295,8 @@ module _ (modules : List WModule) (fx : Fixed) (serves : (k f : ℕ) → Bool) (
   either w m a rest c out arity locals below first second true h g = h refl
   either w m a rest c out arity locals below first second false h g = g refl
 
-  pub nested_lead : (n d w : ℕ) → w ≤ n → w ≤ d → CallsLead modules fx w (nested modules fx serves extra n d)
-  unfolding nested
+  pub nested_lead : (n d w : ℕ) → w ≤ n → w ≤ d → CallsLead modules fx w (nest_calls modules fx serves extra n d)
+  unfolding nest_calls
   nested_lead n zero zero le le' m a before rest st stack below k f t args e =
       either 0 m a rest (at fx m a before st stack) st.out (length t.type.results) st.locals below (calling modules fx extra n (suc (suc n)) k f t args st.bytes st.out) (StillRunning st.out) (serves k f)
       (λ b. calls_lead modules fx extra n (suc (suc n)) 0 le (omega arith) m a before rest st stack below k f t args e)
@@ -304,36 +304,36 @@ module _ (modules : List WModule) (fx : Fixed) (serves : (k f : ℕ) → Bool) (
   nested_lead n zero (suc w) le le' m a before rest st stack below k f t args e = absurd (omega (arith, le'))
   nested_lead n (suc d) zero le le' m a before rest st stack below k f t args e =
       let caller : Activation = frame m a rest st below in
-      let start : State = record { locals = (entered k t args).locals; bytes = st.bytes; out = st.out } in
-      let did : Effect = effect modules fx (n + extra k f) (nested modules fx serves extra n d) k t.function.body.code start [] in
+      let start : State = record { locals = (enter_function k t args).locals; bytes = st.bytes; out = st.out } in
+      let did : Effect = effect modules fx (n + extra k f) (nest_calls modules fx serves extra n d) k t.function.body.code start [] in
       let inner = callee modules fx m a (length t.type.results) caller in
       either 0 m a rest (at fx m a before st stack) st.out (length t.type.results) st.locals below (calling modules fx extra n (suc (suc n)) k f t args st.bytes st.out) did (serves k f)
       (λ b. calls_lead modules fx extra n (suc (suc n)) 0 le (omega arith) m a before rest st stack below k f t args e)
       (λ b. behind modules fx m a 0 rest _ (callee_begins modules fx m a rest st below k t args) st.out st.out (back (length t.type.results) st.locals below did) (silent modules _ _ st.out e)
       (back_leads modules fx m a 0 k (length t.type.results) rest (callee_begins modules fx m a rest st below k t args) st.out st below did
-      (body_leads modules fx (n + extra k f) 0 (omega arith) (nested modules fx serves extra n d) (nested_lead n d 0 le (omega arith)) k t.function.body.code inner start [])))
+      (body_leads modules fx (n + extra k f) 0 (omega arith) (nest_calls modules fx serves extra n d) (nested_lead n d 0 le (omega arith)) k t.function.body.code inner start [])))
   nested_lead n (suc d) (suc w) le le' m a before rest st stack below k f t args e =
       let caller : Activation = frame m a rest st below in
-      let start : State = record { locals = (entered k t args).locals; bytes = st.bytes; out = st.out } in
-      let did : Effect = effect modules fx (n + extra k f) (nested modules fx serves extra n d) k t.function.body.code start [] in
+      let start : State = record { locals = (enter_function k t args).locals; bytes = st.bytes; out = st.out } in
+      let did : Effect = effect modules fx (n + extra k f) (nest_calls modules fx serves extra n d) k t.function.body.code start [] in
       let inner = callee modules fx m a (length t.type.results) caller in
       either (suc w) m a rest (at fx m a before st stack) st.out (length t.type.results) st.locals below (calling modules fx extra n (suc (suc n)) k f t args st.bytes st.out) did (serves k f)
       (λ b. calls_lead modules fx extra n (suc (suc n)) (suc w) le (omega (arith, le)) m a before rest st stack below k f t args e)
       (λ b. begins modules fx m a w rest _ (callee_begins modules fx m a rest st below k t args) st.out (back (length t.type.results) st.locals below did) e
       (back_leads modules fx m a w k (length t.type.results) rest (callee_begins modules fx m a rest st below k t args) st.out st below did
-      (body_leads modules fx (n + extra k f) w (omega (arith, le)) (nested modules fx serves extra n d) (nested_lead n d w (omega (arith, le)) (omega (arith, le'))) k t.function.body.code inner start [])))
+      (body_leads modules fx (n + extra k f) w (omega (arith, le)) (nest_calls modules fx serves extra n d) (nested_lead n d w (omega (arith, le)) (omega (arith, le'))) k t.function.body.code inner start [])))
 
 pub nested_follows : NestedFollows
 nested_follows modules fx serves extra n d m le a code rest st stack =
-    code_leads modules fx n n (omega arith) (nested modules fx serves extra n d) (nested_lead modules fx serves extra n d n (omega arith) le) m code a rest st stack
+    code_leads modules fx n n (omega arith) (nest_calls modules fx serves extra n d) (nested_lead modules fx serves extra n d n (omega arith) le) m code a rest st stack
 
 pub nested_runs : NestedRuns
-unfolding nested
+unfolding nest_calls
 nested_runs modules fx serves extra n d m f le none t bytes =
-    let start : State = record { locals = (entered m t []).locals; bytes = bytes; out = [] } in
+    let start : State = record { locals = (enter_function m t []).locals; bytes = bytes; out = [] } in
     let first : Effect = calling modules fx extra n (suc (suc n)) m f t [] bytes [] in
-    let did : Effect = effect modules fx (n + extra m f) (nested modules fx serves extra n d) m t.function.body.code start [] in
-    subst (λ (b : Bool). RunLeads modules n (length t.type.results) (Going (store_of fx bytes) (entered m t []) []) (if b then first else did)) (sym none)
+    let did : Effect = effect modules fx (n + extra m f) (nest_calls modules fx serves extra n d) m t.function.body.code start [] in
+    subst (λ (b : Bool). RunLeads modules n (length t.type.results) (Going (store_of fx bytes) (enter_function m t []) []) (if b then first else did)) (sym none)
     (run_leads_from modules fx n m (length t.type.results) _ did
-    (body_leads modules fx (n + extra m f) n (omega arith) (nested modules fx serves extra n d) (nested_lead modules fx serves extra n d n (omega arith) le) m t.function.body.code (outermost (length t.type.results))
+    (body_leads modules fx (n + extra m f) n (omega arith) (nest_calls modules fx serves extra n d) (nested_lead modules fx serves extra n d n (omega arith) le) m t.function.body.code (outermost (length t.type.results))
     start []))

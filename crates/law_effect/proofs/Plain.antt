@@ -6,7 +6,7 @@ use Rattle.wasm_tree.specs.declared.instr.Instr.{Instr}
 use Rattle.wasm_tree.specs.declared.module.WModule.{WModule}
 use Rattle.wasm_tree.specs.declared.store.Memory.{Memory}
 use Rattle.wasm_tree.specs.declared.store.Instance.{Instance}
-use Rattle.wasm_tree.specs.Machine.{Config, Going, Over, Trapped, Progress, trapped, or_trap, instance_of, memory_of, reduce}
+use Rattle.wasm_tree.specs.Machine.{Config, Going, Over, Trapped, Progress, trap_now, or_trap, instance_of, memory_of, reduce}
 use Rattle.law_effect.specs.Effect.{Fixed, store_of, Effect, FellThrough, Branched, Returned, Ended, Traps, StillRunning, of_config}
 use Rattle.law_effect.specs.Laws.{Around, at, Leads}
 use Rattle.law_effect.proofs.Reaching.{silent}
@@ -29,7 +29,7 @@ module _ (modules : List WModule) (fx : Fixed) (m : ℕ) (a : Around) (rest : Li
   same_or out None f g h = refl
   same_or out (Some x) f g h = h x
 
-  pub same_if : (out : List ℕ) (b : Bool) (p q : Progress) → Same out p q → Same out (if b then p else trapped) (if b then q else trapped)
+  pub same_if : (out : List ℕ) (b : Bool) (p q : Progress) → Same out p q → Same out (if b then p else trap_now) (if b then q else trap_now)
   same_if out true p q h = h
   same_if out false p q h = refl
 

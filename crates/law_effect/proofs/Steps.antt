@@ -17,9 +17,9 @@ use Rattle.wasm_tree.specs.declared.store.Value.{Value}
 use Rattle.wasm_tree.specs.declared.store.Value.TheVariants.{I32, I64}
 use Rattle.wasm_tree.specs.declared.store.Callee.{Callee}
 use Rattle.wasm_tree.specs.declared.store.Callee.TheVariants.{Put, Stop, Own}
-use Rattle.wasm_tree.specs.Numbers.{load_size, loaded, stored}
-use Rattle.wasm_tree.specs.Machine.{Going, Over, Trapped, Typed, trapped, or_trap, split_end, kept, topmost, top_i32, top_i64, one_i32, one_i64, two_i32, two_i64, calculated, callee_at, callee_in, own_function, type_at, callee_type, agree, stopped, global_at, memory_of, bytes_at, pasted, pushed, with_local, loads, stores, results_of}
-use Rattle.law_effect.specs.Effect.{Fixed, State, store_of, FellThrough, Branched, Returned, Ended, Traps, Does, Calling, or_traps, then_run, exec, to_label, out_of, turns, back, of_config, alone, picked, call, does_layer, does, effect}
+use Rattle.wasm_tree.specs.Numbers.{load_size, load_number, store_bytes}
+use Rattle.wasm_tree.specs.Machine.{Going, Over, Trapped, Typed, trap_now, or_trap, split_end, keep_operands, topmost, top_i32, top_i64, one_i32, one_i64, two_i32, two_i64, calculation, callee_at, callee_in, own_function, type_at, callee_type, agree, stop_with, global_at, memory_of, bytes_at, paste_items, push_value, with_local, loads, stores, results_of}
+use Rattle.law_effect.specs.Effect.{Fixed, State, store_of, FellThrough, Branched, Returned, Ended, Traps, Does, Calling, or_traps, then_run, exec, to_label, out_of, turns, back, of_config, alone, pick_branch, call, does_layer, does, effect}
 use Rattle.law_effect.proofs.Ways.{split_last-push}
 
 -- ---- the operands on top
@@ -76,7 +76,7 @@ split_end_at xs ys n e =
 -- a branch to a label keeps what it asks for above what stood below the block
 pub to_label_keeps : (below more results : List Value) (arity height : ℕ) (st : State) (go : Does) → arity ≡ length results → length below ≡ height → to_label arity height st ((below ++ more) ++ results) go ≡ go st (below ++ results)
 to_label_keeps below more results arity height st go e h =
-    ap (λ o. or_traps st.out o (λ p. go st (kept height p))) (split_end_at (below ++ more) results arity e) ∙ ap (λ (s : List Value). go st (s ++ results)) (take_at below more height h)
+    ap (λ o. or_traps st.out o (λ p. go st (keep_operands height p))) (split_end_at (below ++ more) results arity e) ∙ ap (λ (s : List Value). go st (s ++ results)) (take_at below more height h)
 
 module _ (modules : List WModule) (fx : Fixed) (n : ℕ) (calls : Calling) (m : ℕ) where
   abbrev pub runs : List Instr → Does
@@ -99,16 +99,16 @@ module _ (modules : List WModule) (fx : Fixed) (n : ℕ) (calls : Calling) (m : 
     loop_runs t body s = front (instr.Loop t body) (layer.Loop t body) (outs-Loop t body) rest st s
 
     pub if_runs : (t : Option ValueType) (body otherwise : List Instr) (s : List Value) (k : ℕ)
-        → runs (instr.If t body (Some otherwise) ∷ rest) st (s ▹ I32 k) ≡ then_run (out_of (results_of t) (length s) (exec (picked k (map (does modules fx n calls m) body) (Some (map (does modules fx n calls m) otherwise))) st s)) (runs rest)
+        → runs (instr.If t body (Some otherwise) ∷ rest) st (s ▹ I32 k) ≡ then_run (out_of (results_of t) (length s) (exec (pick_branch k (map (does modules fx n calls m) body) (Some (map (does modules fx n calls m) otherwise))) st s)) (runs rest)
     if_runs t body otherwise s k =
         front (instr.If t body (Some otherwise)) (layer.If t body (Some otherwise)) (outs-If t body (Some otherwise)) rest st (s ▹ I32 k)
-        ∙ ap (λ o. then_run (or_traps st.out o (λ p. out_of (results_of t) (length p.0) (exec (picked p.1 (map (does modules fx n calls m) body) (Some (map (does modules fx n calls m) otherwise))) st p.0))) (runs rest)) (top_32 s k)
+        ∙ ap (λ o. then_run (or_traps st.out o (λ p. out_of (results_of t) (length p.0) (exec (pick_branch p.1 (map (does modules fx n calls m) body) (Some (map (does modules fx n calls m) otherwise))) st p.0))) (runs rest)) (top_32 s k)
 
     pub if_one_runs : (t : Option ValueType) (body : List Instr) (s : List Value) (k : ℕ)
-        → runs (instr.If t body None ∷ rest) st (s ▹ I32 k) ≡ then_run (out_of (results_of t) (length s) (exec (picked k (map (does modules fx n calls m) body) None) st s)) (runs rest)
+        → runs (instr.If t body None ∷ rest) st (s ▹ I32 k) ≡ then_run (out_of (results_of t) (length s) (exec (pick_branch k (map (does modules fx n calls m) body) None) st s)) (runs rest)
     if_one_runs t body s k =
         front (instr.If t body None) (layer.If t body None) (outs-If t body None) rest st (s ▹ I32 k)
-        ∙ ap (λ o. then_run (or_traps st.out o (λ p. out_of (results_of t) (length p.0) (exec (picked p.1 (map (does modules fx n calls m) body) None) st p.0))) (runs rest)) (top_32 s k)
+        ∙ ap (λ o. then_run (or_traps st.out o (λ p. out_of (results_of t) (length p.0) (exec (pick_branch p.1 (map (does modules fx n calls m) body) None) st p.0))) (runs rest)) (top_32 s k)
 
     pub br_runs : (l : ℕ) (s : List Value) → runs (instr.Br l ∷ rest) st s ≡ Branched l st s
     br_runs l s = front (instr.Br l) (layer.Br l) (outs-Br l) rest st s
@@ -137,24 +137,24 @@ module _ (modules : List WModule) (fx : Fixed) (n : ℕ) (calls : Calling) (m : 
     pub get_runs : (x : ℕ) (v : Value) (s : List Value) → slice_get st.locals x ≡ Some v → runs (instr.LocalGet x ∷ rest) st s ≡ runs rest st (s ▹ v)
     get_runs x v s e =
         front (instr.LocalGet x) (layer.LocalGet x) (outs-LocalGet x) rest st s
-        ∙ ap (λ o. then_run (of_config st.out (or_trap o (pushed (store_of fx st.bytes) (alone m st s) [])).0) (runs rest)) e
+        ∙ ap (λ o. then_run (of_config st.out (or_trap o (push_value (store_of fx st.bytes) (alone m st s) [])).0) (runs rest)) e
 
     pub set_runs : (x : ℕ) (v : Value) (s : List Value) → x < length st.locals → runs (instr.LocalSet x ∷ rest) st (s ▹ v) ≡ runs rest (record st { locals = slice_set st.locals x v }) s
     set_runs x v s h =
         front (instr.LocalSet x) (layer.LocalSet x) (outs-LocalSet x) rest st (s ▹ v)
         ∙ ap (λ o. then_run (of_config st.out (or_trap o (λ p. with_local (store_of fx st.bytes) (record (alone m st (s ▹ v)) { stack = p.0 }) [] x p.1)).0) (runs rest)) (split_last-push s v)
-        ∙ ap (λ b. then_run (of_config st.out (if b then (Going (store_of fx st.bytes) (record (alone m st s) { locals = slice_set st.locals x v }) [], []) else trapped).0) (runs rest)) (le-leb (suc x) (length st.locals) (omega (arith, h)))
+        ∙ ap (λ b. then_run (of_config st.out (if b then (Going (store_of fx st.bytes) (record (alone m st s) { locals = slice_set st.locals x v }) [], []) else trap_now).0) (runs rest)) (le-leb (suc x) (length st.locals) (omega (arith, h)))
 
     pub tee_runs : (x : ℕ) (v : Value) (s : List Value) → x < length st.locals → runs (instr.LocalTee x ∷ rest) st (s ▹ v) ≡ runs rest (record st { locals = slice_set st.locals x v }) (s ▹ v)
     tee_runs x v s h =
         front (instr.LocalTee x) (layer.LocalTee x) (outs-LocalTee x) rest st (s ▹ v)
         ∙ ap (λ o. then_run (of_config st.out (or_trap o (with_local (store_of fx st.bytes) (alone m st (s ▹ v)) [] x)).0) (runs rest)) (topmost_is s v)
-        ∙ ap (λ b. then_run (of_config st.out (if b then (Going (store_of fx st.bytes) (record (alone m st (s ▹ v)) { locals = slice_set st.locals x v }) [], []) else trapped).0) (runs rest)) (le-leb (suc x) (length st.locals) (omega (arith, h)))
+        ∙ ap (λ b. then_run (of_config st.out (if b then (Going (store_of fx st.bytes) (record (alone m st (s ▹ v)) { locals = slice_set st.locals x v }) [], []) else trap_now).0) (runs rest)) (le-leb (suc x) (length st.locals) (omega (arith, h)))
 
     pub global_runs : (x : ℕ) (v : Value) (s : List Value) → global_at (store_of fx st.bytes) m x ≡ Some v → runs (instr.GlobalGet x ∷ rest) st s ≡ runs rest st (s ▹ v)
     global_runs x v s e =
         front (instr.GlobalGet x) (layer.GlobalGet x) (outs-GlobalGet x) rest st s
-        ∙ ap (λ o. then_run (of_config st.out (or_trap o (pushed (store_of fx st.bytes) (alone m st s) [])).0) (runs rest)) e
+        ∙ ap (λ o. then_run (of_config st.out (or_trap o (push_value (store_of fx st.bytes) (alone m st s) [])).0) (runs rest)) e
 
     pub i32_runs : (k : ℕ) (s : List Value) → runs (instr.I32Const k ∷ rest) st s ≡ runs rest st (s ▹ I32 k)
     i32_runs k s = front (instr.I32Const k) (layer.I32Const k) (outs-I32Const k) rest st s
@@ -163,27 +163,27 @@ module _ (modules : List WModule) (fx : Fixed) (n : ℕ) (calls : Calling) (m : 
     i64_runs k s = front (instr.I64Const k) (layer.I64Const k) (outs-I64Const k) rest st s
 
     -- the operands and the result by one_32 to two_64
-    pub number_runs : (o : Numeric) (stack s : List Value) (v : Value) → calculated o stack ≡ Some (s, v) → runs (instr.Numeric o ∷ rest) st stack ≡ runs rest st (s ▹ v)
+    pub number_runs : (o : Numeric) (stack s : List Value) (v : Value) → calculation o stack ≡ Some (s, v) → runs (instr.Numeric o ∷ rest) st stack ≡ runs rest st (s ▹ v)
     number_runs o stack s v e =
         front (instr.Numeric o) (layer.Numeric o) (outs-Numeric o) rest st stack
-        ∙ ap (λ q. then_run (of_config st.out (or_trap q (λ p. pushed (store_of fx st.bytes) (record (alone m st stack) { stack = p.0 }) [] p.1)).0) (runs rest)) e
+        ∙ ap (λ q. then_run (of_config st.out (or_trap q (λ p. push_value (store_of fx st.bytes) (record (alone m st stack) { stack = p.0 }) [] p.1)).0) (runs rest)) e
 
     pub load_runs : (kind : Load) (place : ℕ) (bytes : List ℕ) (s : List Value) → memory_of (store_of fx st.bytes) m ≡ Some (0, record { bytes = st.bytes; max = fx.max }) → bytes_at (load_size kind) place st.bytes ≡ Some bytes
-        → runs (instr.Load kind ∷ rest) st (s ▹ I32 place) ≡ runs rest st (s ▹ I64 (loaded kind bytes))
+        → runs (instr.Load kind ∷ rest) st (s ▹ I32 place) ≡ runs rest st (s ▹ I64 (load_number kind bytes))
     load_runs kind place bytes s own e =
         front (instr.Load kind) (layer.Load kind) (outs-Load kind) rest st (s ▹ I32 place)
         ∙ ap (λ o. then_run (of_config st.out (or_trap o (λ p. or_trap (memory_of (store_of fx st.bytes) m) (loads (store_of fx st.bytes) (record (alone m st (s ▹ I32 place)) { stack = p.0 }) [] kind p.1))).0) (runs rest)) (top_32 s place)
         ∙ ap (λ o. then_run (of_config st.out (or_trap o (loads (store_of fx st.bytes) (alone m st s) [] kind place)).0) (runs rest)) own
-        ∙ ap (λ o. then_run (of_config st.out (or_trap o (λ bytes. pushed (store_of fx st.bytes) (alone m st s) [] (I64 (loaded kind bytes)))).0) (runs rest)) e
+        ∙ ap (λ o. then_run (of_config st.out (or_trap o (λ bytes. push_value (store_of fx st.bytes) (alone m st s) [] (I64 (load_number kind bytes)))).0) (runs rest)) e
 
-    pub store_runs : (width : StoreWidth) (place k : ℕ) (s : List Value) → memory_of (store_of fx st.bytes) m ≡ Some (0, record { bytes = st.bytes; max = fx.max }) → place + length (stored width k) ≤ length st.bytes
-        → runs (instr.Store width ∷ rest) st (s ▹ I32 place ▹ I64 k) ≡ runs rest (record st { bytes = pasted st.bytes place (stored width k) }) s
+    pub store_runs : (width : StoreWidth) (place k : ℕ) (s : List Value) → memory_of (store_of fx st.bytes) m ≡ Some (0, record { bytes = st.bytes; max = fx.max }) → place + length (store_bytes width k) ≤ length st.bytes
+        → runs (instr.Store width ∷ rest) st (s ▹ I32 place ▹ I64 k) ≡ runs rest (record st { bytes = paste_items st.bytes place (store_bytes width k) }) s
     store_runs width place k s own h =
         front (instr.Store width) (layer.Store width) (outs-Store width) rest st (s ▹ I32 place ▹ I64 k)
-        ∙ ap (λ o. then_run (of_config st.out (or_trap o (λ v. or_trap (top_i32 v.0) (λ p. or_trap (memory_of (store_of fx st.bytes) m) (stores (store_of fx st.bytes) (record (alone m st (s ▹ I32 place ▹ I64 k)) { stack = p.0 }) [] p.1 (stored width v.1))))).0) (runs rest)) (top_64 (s ▹ I32 place) k)
-        ∙ ap (λ o. then_run (of_config st.out (or_trap o (λ p. or_trap (memory_of (store_of fx st.bytes) m) (stores (store_of fx st.bytes) (record (alone m st s) { stack = p.0 }) [] p.1 (stored width k)))).0) (runs rest)) (top_32 s place)
-        ∙ ap (λ o. then_run (of_config st.out (or_trap o (stores (store_of fx st.bytes) (alone m st s) [] place (stored width k))).0) (runs rest)) own
-        ∙ ap (λ b. then_run (of_config st.out (if b then (Going (store_of fx (pasted st.bytes place (stored width k))) (alone m st s) [], []) else trapped).0) (runs rest)) (le-leb (place + length (stored width k)) (length st.bytes) h)
+        ∙ ap (λ o. then_run (of_config st.out (or_trap o (λ v. or_trap (top_i32 v.0) (λ p. or_trap (memory_of (store_of fx st.bytes) m) (stores (store_of fx st.bytes) (record (alone m st (s ▹ I32 place ▹ I64 k)) { stack = p.0 }) [] p.1 (store_bytes width v.1))))).0) (runs rest)) (top_64 (s ▹ I32 place) k)
+        ∙ ap (λ o. then_run (of_config st.out (or_trap o (λ p. or_trap (memory_of (store_of fx st.bytes) m) (stores (store_of fx st.bytes) (record (alone m st s) { stack = p.0 }) [] p.1 (store_bytes width k)))).0) (runs rest)) (top_32 s place)
+        ∙ ap (λ o. then_run (of_config st.out (or_trap o (stores (store_of fx st.bytes) (alone m st s) [] place (store_bytes width k))).0) (runs rest)) own
+        ∙ ap (λ b. then_run (of_config st.out (if b then (Going (store_of fx (paste_items st.bytes place (store_bytes width k))) (alone m st s) [], []) else trap_now).0) (runs rest)) (le-leb (place + length (store_bytes width k)) (length st.bytes) h)
 
     -- ---- calls
 
@@ -219,7 +219,7 @@ module _ (modules : List WModule) (fx : Fixed) (n : ℕ) (calls : Calling) (m : 
     stop_runs f k s e =
         front (instr.Call f) (layer.Call f) (outs-Call f) rest st (s ▹ I64 k)
         ∙ ap (λ o. then_run (or_traps st.out o (λ c. call modules fx calls m c st (s ▹ I64 k))) (runs rest)) e
-        ∙ ap (λ o. then_run (of_config st.out (or_trap o (λ p. (stopped p.1, []))).0) (runs rest)) (top_64 s k)
+        ∙ ap (λ o. then_run (of_config st.out (or_trap o (λ p. (stop_with p.1, []))).0) (runs rest)) (top_64 s k)
         ∙ go (nat_le 1 k && nat_le k 255)
       where
         go : (b : Bool) → then_run (of_config st.out (if b then Over k else Trapped)) (runs rest) ≡ (if b then Ended k st.out else Traps st.out)

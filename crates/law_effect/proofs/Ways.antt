@@ -8,7 +8,7 @@ use Rattle.wasm_tree.specs.declared.instr.Instr.{Instr}
 use Rattle.wasm_tree.specs.declared.module.WModule.{WModule}
 use Rattle.wasm_tree.specs.declared.store.Value.{Value}
 use Rattle.wasm_tree.specs.declared.store.Store.{Store}
-use Rattle.wasm_tree.specs.Machine.{Label, Activation, Config, Going, Over, Progress, trapped, or_trap, split_last, split_end, kept, found, branched, ended, returned, reduce}
+use Rattle.wasm_tree.specs.Machine.{Label, Activation, Config, Going, Over, Progress, trap_now, or_trap, split_last, split_end, keep_operands, branch_to, branch_by, end_block, return_to, reduce}
 use Rattle.law_effect.specs.Effect.{Fixed, State, store_of, Effect, FellThrough, Branched, Returned, Ended, Traps, StillRunning, Does, or_traps, to_label, out_of, turn, turns, back, back_with}
 use Rattle.law_effect.specs.Laws.{Around, frame, at, Reaches, GoesOn, Leads}
 use Rattle.law_effect.proofs.Reaching.{silent, none, join, behind, begins, fewer, run-zero, got}
@@ -20,7 +20,7 @@ split_last-push (y ∷ xs) x = rw (split_last-push xs x) refl
 
 -- ---- branches print nothing
 
-returned_silent : (st : Store) (callers : List Activation) (o : Option (List Value × List Value)) → (or_trap o (λ p. returned st callers p.1)).1 ≡ []
+returned_silent : (st : Store) (callers : List Activation) (o : Option (List Value × List Value)) → (or_trap o (λ p. return_to st callers p.1)).1 ≡ []
 returned_silent st callers None = refl
 returned_silent st callers (Some p) = go (split_last callers)
   where
@@ -28,18 +28,18 @@ returned_silent st callers (Some p) = go (split_last callers)
     go None = refl
     go (Some c) = refl
 
-kept_silent : (st : Store) (now : Activation) (callers : List Activation) (l : List Label × Label) (o : Option (List Value × List Value)) → (or_trap o (λ p. (Going st (record now { labels = l.0; rest = l.1.again; stack = kept l.1.height p }) callers, []))).1 ≡ []
+kept_silent : (st : Store) (now : Activation) (callers : List Activation) (l : List Label × Label) (o : Option (List Value × List Value)) → (or_trap o (λ p. (Going st (record now { labels = l.0; rest = l.1.again; stack = keep_operands l.1.height p }) callers, []))).1 ≡ []
 kept_silent st now callers l None = refl
 kept_silent st now callers l (Some p) = refl
 
-pub found_silent : (st : Store) (now : Activation) (callers : List Activation) (o : Option (List Label × Label)) → (found st now callers o).1 ≡ []
+pub found_silent : (st : Store) (now : Activation) (callers : List Activation) (o : Option (List Label × Label)) → (branch_to st now callers o).1 ≡ []
 found_silent st now callers None = returned_silent st callers (split_end now.arity now.stack)
 found_silent st now callers (Some l) = kept_silent st now callers l (split_end l.1.arity now.stack)
 
-pub branched_silent : (st : Store) (now : Activation) (callers : List Activation) (k : ℕ) → (branched st now callers k).1 ≡ []
+pub branched_silent : (st : Store) (now : Activation) (callers : List Activation) (k : ℕ) → (branch_by st now callers k).1 ≡ []
 branched_silent st now callers k = go (nat_le k (length now.labels)) (split_last (take (length now.labels - k) now.labels))
   where
-    go : (b : Bool) (o : Option (List Label × Label)) → (if b then found st now callers o else trapped).1 ≡ []
+    go : (b : Bool) (o : Option (List Label × Label)) → (if b then branch_to st now callers o else trap_now).1 ≡ []
     go true o = found_silent st now callers o
     go false o = refl
 
@@ -66,42 +66,42 @@ taken_same k ls l =
 module _ (modules : List WModule) (fx : Fixed) (m : ℕ) (a : Around) where
   -- where a branch in the function goes to that finds so many labels
   abbrev to_found : (labels : List Label) → State → List Value → (Bool × List Label) → Progress
-  to_found labels st stack q = if q.0 then found (store_of fx st.bytes) (frame m (record a { labels = labels }) [] st stack) a.callers (split_last q.1) else trapped
+  to_found labels st stack q = if q.0 then branch_to (store_of fx st.bytes) (frame m (record a { labels = labels }) [] st stack) a.callers (split_last q.1) else trap_now
 
-  found_same : (l : Label) (st : State) (stack : List Value) (o : Option (List Label × Label)) → found (store_of fx st.bytes) (frame m (under a l) [] st stack) a.callers o ≡ found (store_of fx st.bytes) (frame m a [] st stack) a.callers o
+  found_same : (l : Label) (st : State) (stack : List Value) (o : Option (List Label × Label)) → branch_to (store_of fx st.bytes) (frame m (under a l) [] st stack) a.callers o ≡ branch_to (store_of fx st.bytes) (frame m a [] st stack) a.callers o
   found_same l st stack None = refl
   found_same l st stack (Some q) = refl
 
   abbrev test : Bool → Progress → Progress
-  test b p = if b then p else trapped
+  test b p = if b then p else trap_now
 
   -- to a label further out
-  branch_past : (l : Label) (st : State) (stack : List Value) (k : ℕ) → branched (store_of fx st.bytes) (frame m (under a l) [] st stack) a.callers (suc k) ≡ branched (store_of fx st.bytes) (frame m a [] st stack) a.callers k
+  branch_past : (l : Label) (st : State) (stack : List Value) (k : ℕ) → branch_by (store_of fx st.bytes) (frame m (under a l) [] st stack) a.callers (suc k) ≡ branch_by (store_of fx st.bytes) (frame m a [] st stack) a.callers k
   branch_past l st stack k =
       let labels = a.labels ++ l ∷ [] in
       let where_to : Option (List Label × Label) = split_last (take (length labels - suc k) labels) in
       found_in (nat_le (suc k) (length labels)) where_to
-      ∙ ap (λ b. test b (found (store_of fx st.bytes) (frame m a [] st stack) a.callers where_to)) (within_same k a.labels l)
-      ∙ ap (λ ls. test (nat_le k (length a.labels)) (found (store_of fx st.bytes) (frame m a [] st stack) a.callers (split_last ls))) (taken_same k a.labels l)
+      ∙ ap (λ b. test b (branch_to (store_of fx st.bytes) (frame m a [] st stack) a.callers where_to)) (within_same k a.labels l)
+      ∙ ap (λ ls. test (nat_le k (length a.labels)) (branch_to (store_of fx st.bytes) (frame m a [] st stack) a.callers (split_last ls))) (taken_same k a.labels l)
     where
-      found_in : (b : Bool) (o : Option (List Label × Label)) → test b (found (store_of fx st.bytes) (frame m (under a l) [] st stack) a.callers o) ≡ test b (found (store_of fx st.bytes) (frame m a [] st stack) a.callers o)
+      found_in : (b : Bool) (o : Option (List Label × Label)) → test b (branch_to (store_of fx st.bytes) (frame m (under a l) [] st stack) a.callers o) ≡ test b (branch_to (store_of fx st.bytes) (frame m a [] st stack) a.callers o)
       found_in b o = ap (test b) (found_same l st stack o)
 
   -- to this label
-  branch_here : (l : Label) (st : State) (stack : List Value) → branched (store_of fx st.bytes) (frame m (under a l) [] st stack) a.callers 0 ≡ found (store_of fx st.bytes) (frame m (under a l) [] st stack) a.callers (Some (a.labels, l))
+  branch_here : (l : Label) (st : State) (stack : List Value) → branch_by (store_of fx st.bytes) (frame m (under a l) [] st stack) a.callers 0 ≡ branch_to (store_of fx st.bytes) (frame m (under a l) [] st stack) a.callers (Some (a.labels, l))
   branch_here l st stack =
-      ap (λ b. test b (found (store_of fx st.bytes) (frame m (under a l) [] st stack) a.callers (split_last (take (length (a.labels ++ l ∷ []) - 0) (a.labels ++ l ∷ []))))) (le-leb 0 (length (a.labels ++ l ∷ [])) (omega arith))
-      ∙ ap (λ ls. found (store_of fx st.bytes) (frame m (under a l) [] st stack) a.callers (split_last ls)) (at_all (length (a.labels ++ l ∷ []) - 0) (a.labels ++ l ∷ []) (omega arith))
-      ∙ ap (found (store_of fx st.bytes) (frame m (under a l) [] st stack) a.callers) (split_last-push a.labels l)
+      ap (λ b. test b (branch_to (store_of fx st.bytes) (frame m (under a l) [] st stack) a.callers (split_last (take (length (a.labels ++ l ∷ []) - 0) (a.labels ++ l ∷ []))))) (le-leb 0 (length (a.labels ++ l ∷ [])) (omega arith))
+      ∙ ap (λ ls. branch_to (store_of fx st.bytes) (frame m (under a l) [] st stack) a.callers (split_last ls)) (at_all (length (a.labels ++ l ∷ []) - 0) (a.labels ++ l ∷ []) (omega arith))
+      ∙ ap (branch_to (store_of fx st.bytes) (frame m (under a l) [] st stack) a.callers) (split_last-push a.labels l)
 
   -- a branch to this label leads where its code leads
-  to_label_leads : (w : ℕ) (l : Label) (rest : List Instr) (c : Config) (first : List ℕ) (st : State) (stack : List Value) (go : Does) → Reaches modules c first (branched (store_of fx st.bytes) (frame m (under a l) [] st stack) a.callers 0).0 st.out
+  to_label_leads : (w : ℕ) (l : Label) (rest : List Instr) (c : Config) (first : List ℕ) (st : State) (stack : List Value) (go : Does) → Reaches modules c first (branch_by (store_of fx st.bytes) (frame m (under a l) [] st stack) a.callers 0).0 st.out
       → ((s : State) (vs : List Value) → Leads modules fx w m a rest (at fx m a l.again s vs) s.out (go s vs)) → Leads modules fx w m a rest c first (to_label l.arity l.height st stack go)
   to_label_leads w l rest c first st stack go r next = cases (split_end l.arity stack) (subst (λ (p : Progress). Reaches modules c first p.0 st.out) (branch_here l st stack) r)
     where
-      cases : (o : Option (List Value × List Value)) → Reaches modules c first (or_trap o (λ p. (at fx m a l.again st (kept l.height p), []))).0 st.out → Leads modules fx w m a rest c first (or_traps st.out o (λ p. go st (kept l.height p)))
+      cases : (o : Option (List Value × List Value)) → Reaches modules c first (or_trap o (λ p. (at fx m a l.again st (keep_operands l.height p), []))).0 st.out → Leads modules fx w m a rest c first (or_traps st.out o (λ p. go st (keep_operands l.height p)))
       cases None q = q
-      cases (Some p) q = behind modules fx m a w rest c _ first st.out (go st (kept l.height p)) q (next st (kept l.height p))
+      cases (Some p) q = behind modules fx m a w rest c _ first st.out (go st (keep_operands l.height p)) q (next st (keep_operands l.height p))
 
   -- the end of the code under a label
   label_ends : (l : Label) (st : State) (stack : List Value) → Reaches modules (at fx m (under a l) [] st stack) st.out (at fx m a l.rest st stack) st.out
@@ -109,9 +109,9 @@ module _ (modules : List WModule) (fx : Fixed) (m : ℕ) (a : Around) where
   label_ends l st stack = silent modules (at fx m (under a l) [] st stack) (at fx m a l.rest st stack) st.out (ends l st stack)
     where
       ends : (l : Label) (st : State) (stack : List Value) → reduce modules (at fx m (under a l) [] st stack) ≡ (at fx m a l.rest st stack, [])
-      ends l st stack = ap (ended (store_of fx st.bytes) (frame m (under a l) [] st stack) a.callers) (split_last-push a.labels l)
+      ends l st stack = ap (end_block (store_of fx st.bytes) (frame m (under a l) [] st stack) a.callers) (split_last-push a.labels l)
 
-  past : (c : Config) (first : List ℕ) (l : Label) (k : ℕ) (st : State) (stack : List Value) → Reaches modules c first (branched (store_of fx st.bytes) (frame m (under a l) [] st stack) a.callers (suc k)).0 st.out → Reaches modules c first (branched (store_of fx st.bytes) (frame m a [] st stack) a.callers k).0 st.out
+  past : (c : Config) (first : List ℕ) (l : Label) (k : ℕ) (st : State) (stack : List Value) → Reaches modules c first (branch_by (store_of fx st.bytes) (frame m (under a l) [] st stack) a.callers (suc k)).0 st.out → Reaches modules c first (branch_by (store_of fx st.bytes) (frame m a [] st stack) a.callers k).0 st.out
   past c first l k st stack r = subst (λ (p : Progress). Reaches modules c first p.0 st.out) (branch_past l st stack k) r
 
   abbrev pub block_label : (arity height : ℕ) → List Instr → Label
@@ -168,26 +168,26 @@ module _ (modules : List WModule) (fx : Fixed) (m : ℕ) (a : Around) where
   callee arity caller = record { arity = arity; labels = []; callers = a.callers ++ caller ∷ [] }
 
   back_with_leads : (w k arity : ℕ) (rest : List Instr) (c : Config) (first : List ℕ) (st : State) (below : List Value) (s : State) (vs : List Value)
-      → Reaches modules c first (found (store_of fx s.bytes) (frame k (callee arity (frame m a rest st below)) [] s vs) (a.callers ++ frame m a rest st below ∷ []) None).0 s.out → Leads modules fx w m a rest c first (back_with arity st.locals below s vs)
+      → Reaches modules c first (branch_to (store_of fx s.bytes) (frame k (callee arity (frame m a rest st below)) [] s vs) (a.callers ++ frame m a rest st below ∷ []) None).0 s.out → Leads modules fx w m a rest c first (back_with arity st.locals below s vs)
   back_with_leads w k arity rest c first st below s vs r = cases (split_end arity vs) r
     where
-      back_to : (p : List Value × List Value) → returned (store_of fx s.bytes) (a.callers ++ frame m a rest st below ∷ []) p.1 ≡ (at fx m a rest (record s { locals = st.locals }) (below ++ p.1), [])
+      back_to : (p : List Value × List Value) → return_to (store_of fx s.bytes) (a.callers ++ frame m a rest st below ∷ []) p.1 ≡ (at fx m a rest (record s { locals = st.locals }) (below ++ p.1), [])
       back_to p = ap (λ o. elim o as (λ _. Progress) [ None ↦ (Over 0, []) | Some q ↦ (Going (store_of fx s.bytes) (record q.1 { stack = q.1.stack ++ p.1 }) q.0, []) ]) (split_last-push a.callers (frame m a rest st below))
 
-      cases : (o : Option (List Value × List Value)) → Reaches modules c first (or_trap o (λ p. returned (store_of fx s.bytes) (a.callers ++ frame m a rest st below ∷ []) p.1)).0 s.out → Leads modules fx w m a rest c first (or_traps s.out o (λ p. FellThrough (record s { locals = st.locals }) (below ++ p.1)))
+      cases : (o : Option (List Value × List Value)) → Reaches modules c first (or_trap o (λ p. return_to (store_of fx s.bytes) (a.callers ++ frame m a rest st below ∷ []) p.1)).0 s.out → Leads modules fx w m a rest c first (or_traps s.out o (λ p. FellThrough (record s { locals = st.locals }) (below ++ p.1)))
       cases None q = q
       cases (Some p) q = subst (λ (x : Progress). Reaches modules c first x.0 s.out) (back_to p) q
 
   function_ends : (k arity : ℕ) (caller : Activation) (s : State) (vs : List Value)
-      → Reaches modules (at fx k (callee arity caller) [] s vs) s.out (found (store_of fx s.bytes) (frame k (callee arity caller) [] s vs) (a.callers ++ caller ∷ []) None).0 s.out
+      → Reaches modules (at fx k (callee arity caller) [] s vs) s.out (branch_to (store_of fx s.bytes) (frame k (callee arity caller) [] s vs) (a.callers ++ caller ∷ []) None).0 s.out
   unfolding reduce
   function_ends k arity caller s vs =
-      let to : Progress = found (store_of fx s.bytes) (frame k (callee arity caller) [] s vs) (a.callers ++ caller ∷ []) None in
+      let to : Progress = branch_to (store_of fx s.bytes) (frame k (callee arity caller) [] s vs) (a.callers ++ caller ∷ []) None in
       silent modules _ to.0 s.out (ap (λ (w : List ℕ). got to.0 w) (found_silent (store_of fx s.bytes) (frame k (callee arity caller) [] s vs) (a.callers ++ caller ∷ []) None))
 
   -- a branch out of a function by more than one label
   abbrev too_far : (k arity : ℕ) → Activation → (j : ℕ) → State → List Value → Bool → Progress
-  too_far k arity caller j s vs b = test b (found (store_of fx s.bytes) (frame k (callee arity caller) [] s vs) (a.callers ++ caller ∷ []) (split_last (take (0 - suc j) [])))
+  too_far k arity caller j s vs b = test b (branch_to (store_of fx s.bytes) (frame k (callee arity caller) [] s vs) (a.callers ++ caller ∷ []) (split_last (take (0 - suc j) [])))
 
   pub back_leads : (w k arity : ℕ) (rest : List Instr) (c : Config) (first : List ℕ) (st : State) (below : List Value) (e : Effect) → Leads modules fx w k (callee arity (frame m a rest st below)) [] c first e → Leads modules fx w m a rest c first (back arity st.locals below e)
   back_leads w k arity rest c first st below (FellThrough s vs) l = back_with_leads w k arity rest c first st below s vs (join modules c _ _ first s.out s.out l (function_ends k arity (frame m a rest st below) s vs))

@@ -4,8 +4,8 @@ use Rattle.std.proofs.lemmas.List.{append-nil}
 use Rattle.std.proofs.lemmas.Bool.{cases_lt}
 use Rattle.wasm_tree.specs.declared.module.WModule.{WModule}
 use Rattle.wasm_tree.specs.Machine.{Config, Going, Over, Trapped, Progress, reduce, run}
-use Rattle.law_effect.specs.Effect.{Effect, FellThrough, Branched, Returned, Ended, Traps, StillRunning, calling, nested}
-use Rattle.law_effect.specs.Laws.{after, Reaches, GoesOn, RunLeads, comes, shown, IsOver, Only, Prints, NestedOnly, NestedPrints}
+use Rattle.law_effect.specs.Effect.{Effect, FellThrough, Branched, Returned, Ended, Traps, StillRunning, calling, nest_calls}
+use Rattle.law_effect.specs.Laws.{after, Reaches, GoesOn, RunLeads, comes, output_shown, IsOver, Only, Prints, NestedOnly, NestedPrints}
 use Rattle.law_effect.proofs.Reaching.{run-add, got}
 use Rattle.law_effect.proofs.Follows.{runs, nested_runs}
 
@@ -58,7 +58,7 @@ module _ (modules : List WModule) where
   only arity j c d out (Traps bytes) o p l = ap (λ (x : Progress). Some x) (same c j d Trapped out bytes o tt p l)
   only arity j c d out (StillRunning bytes) o p l = absurd (not_both c j d out bytes o p l)
 
-  prints : (arity j : ℕ) (c : Config) (e : Effect) → RunLeads modules j arity c e → (rest : List ℕ) × (shown e ≡ (run modules j c).1 ++ rest)
+  prints : (arity j : ℕ) (c : Config) (e : Effect) → RunLeads modules j arity c e → (rest : List ℕ) × (output_shown e ≡ (run modules j c).1 ++ rest)
   prints arity j c (FellThrough st stack) l = printed c j _ st.out (over_if (nat_le arity (length stack))) l
   prints arity j c (Branched zero st stack) l = printed c j _ st.out (over_if (nat_le arity (length stack))) l
   prints arity j c (Branched (suc k) st stack) l = printed c j Trapped st.out tt l
@@ -77,8 +77,8 @@ run_prints modules fx extra m f t bytes j =
 
 pub nested_only : NestedOnly
 nested_only modules fx serves extra d m f none t bytes j le end out o p =
-    only modules (length t.type.results) j _ end out (nested modules fx serves extra j (suc d) m f t [] bytes []) o p (nested_runs modules fx serves extra j d m f le none t bytes)
+    only modules (length t.type.results) j _ end out (nest_calls modules fx serves extra j (suc d) m f t [] bytes []) o p (nested_runs modules fx serves extra j d m f le none t bytes)
 
 pub nested_prints : NestedPrints
 nested_prints modules fx serves extra d m f none t bytes j le =
-    prints modules (length t.type.results) j _ (nested modules fx serves extra j (suc d) m f t [] bytes []) (nested_runs modules fx serves extra j d m f le none t bytes)
+    prints modules (length t.type.results) j _ (nest_calls modules fx serves extra j (suc d) m f t [] bytes []) (nested_runs modules fx serves extra j d m f le none t bytes)

@@ -12,7 +12,7 @@ use Rattle.wasm_tree.specs.declared.store.Table.{Table}
 use Rattle.wasm_tree.specs.declared.store.Memory.{Memory}
 use Rattle.wasm_tree.specs.declared.store.Instance.{Instance}
 use Rattle.wasm_tree.specs.declared.store.Store.{Store}
-use Rattle.wasm_tree.specs.Machine.{Activation, Config, Going, Over, Trapped, Typed, split_end, kept, top_i32, callee_at, callee_in, own_function, type_at, callee_type, agree, entered, called, begun_layer, results_of}
+use Rattle.wasm_tree.specs.Machine.{Activation, Config, Going, Over, Trapped, Typed, split_end, keep_operands, top_i32, callee_at, callee_in, own_function, type_at, callee_type, agree, enter_function, call_function, begun_layer, results_of}
 
 -- what a run does not change: all of the store but the bytes of the one memory
 pub record Fixed : Type 0 where
@@ -75,7 +75,7 @@ exec (d ∷ ds) st stack = then_run (d st stack) (exec ds)
 -- a branch to a label: so many operands are kept above those that stood below the block
 abbrev pub to_label : (arity height : ℕ) → State → List Value → Does → Effect
 to_label arity height st stack go =
-    or_traps st.out (split_end arity stack) (λ p. go st (kept height p))
+    or_traps st.out (split_end arity stack) (λ p. go st (keep_operands height p))
 
 -- out of a block that began above so many operands
 abbrev pub out_of : (arity height : ℕ) → Effect → Effect
@@ -133,9 +133,9 @@ abbrev pub alone : (m : ℕ) → State → List Value → Activation
 alone m st stack =
     record { instance = m; arity = 0; locals = st.locals; labels = []; rest = []; stack = stack }
 
-abbrev pub picked : (condition : ℕ) → List Does → Option (List Does) → List Does
-picked condition body None = if condition == 0 then [] else body
-picked condition body (Some otherwise) = if condition == 0 then otherwise else body
+abbrev pub pick_branch : (condition : ℕ) → List Does → Option (List Does) → List Does
+pick_branch condition body None = if condition == 0 then [] else body
+pick_branch condition body (Some otherwise) = if condition == 0 then otherwise else body
 
 module _ (modules : List WModule) (fx : Fixed) where
   -- the machine's own meaning
@@ -148,10 +148,10 @@ module _ (modules : List WModule) (fx : Fixed) where
   -- the caller is the module of the number m
   abbrev pub call : Calling → (m : ℕ) → Callee → Does
   call calls m Put st stack =
-      let p = called modules (store_of fx st.bytes) (alone m st stack) [] Put in
+      let p = call_function modules (store_of fx st.bytes) (alone m st stack) [] Put in
       of_config (st.out ++ p.1) p.0
   call calls m Stop st stack =
-      of_config st.out (called modules (store_of fx st.bytes) (alone m st stack) [] Stop).0
+      of_config st.out (call_function modules (store_of fx st.bytes) (alone m st stack) [] Stop).0
   call calls m (Own k f) st stack =
       or_traps st.out (own_function modules k f) (λ t.
       or_traps st.out (split_end (length t.type.params) stack) (λ p.
@@ -163,7 +163,7 @@ module _ (modules : List WModule) (fx : Fixed) where
   does_layer n calls m (layer.Loop t body) st stack = turns n (exec body) st stack
   does_layer n calls m (layer.If t body otherwise) st stack =
       or_traps st.out (top_i32 stack) (λ p.
-      out_of (results_of t) (length p.0) (exec (picked p.1 body otherwise) st p.0))
+      out_of (results_of t) (length p.0) (exec (pick_branch p.1 body otherwise) st p.0))
   does_layer n calls m (layer.Br l) st stack = Branched l st stack
   does_layer n calls m (layer.BrIf l) st stack =
       or_traps st.out (top_i32 stack) (λ p.
@@ -194,15 +194,15 @@ module _ (modules : List WModule) (fx : Fixed) where
   calling extra n zero k f t args bytes out = StillRunning out
   calling extra n (suc d) k f t args bytes out =
       effect (n + extra k f) (calling extra n d) k t.function.body.code
-      (record { locals = (entered k t args).locals; bytes = bytes; out = out }) []
+      (record { locals = (enter_function k t args).locals; bytes = bytes; out = out }) []
 
   -- Calls that nest at most d deep, where functions that serve the others do not count. These call
   -- as deep as they need to.
-  unfoldable pub nested : (serves : (k f : ℕ) → Bool) (extra : (k f : ℕ) → ℕ) (n d : ℕ) → Calling
-  nested serves extra n zero k f t args bytes out =
+  unfoldable pub nest_calls : (serves : (k f : ℕ) → Bool) (extra : (k f : ℕ) → ℕ) (n d : ℕ) → Calling
+  nest_calls serves extra n zero k f t args bytes out =
       if serves k f then calling extra n (suc (suc n)) k f t args bytes out else StillRunning out
-  nested serves extra n (suc d) k f t args bytes out =
+  nest_calls serves extra n (suc d) k f t args bytes out =
       if serves k f
       then calling extra n (suc (suc n)) k f t args bytes out
-      else effect (n + extra k f) (nested serves extra n d) k t.function.body.code
-      (record { locals = (entered k t args).locals; bytes = bytes; out = out }) []
+      else effect (n + extra k f) (nest_calls serves extra n d) k t.function.body.code
+      (record { locals = (enter_function k t args).locals; bytes = bytes; out = out }) []

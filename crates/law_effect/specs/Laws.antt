@@ -4,8 +4,8 @@ use Rattle.wasm_tree.specs.declared.instr.Instr.{Instr}
 use Rattle.wasm_tree.specs.declared.module.WModule.{WModule}
 use Rattle.wasm_tree.specs.declared.store.Value.{Value}
 use Rattle.wasm_tree.specs.declared.store.Store.{Store}
-use Rattle.wasm_tree.specs.Machine.{Label, Activation, Config, Going, Over, Trapped, Progress, Typed, entered, found, branched, run}
-use Rattle.law_effect.specs.Effect.{Fixed, State, store_of, Effect, FellThrough, Branched, Returned, Ended, Traps, StillRunning, effect, calling, nested}
+use Rattle.wasm_tree.specs.Machine.{Label, Activation, Config, Going, Over, Trapped, Progress, Typed, enter_function, branch_to, branch_by, run}
+use Rattle.law_effect.specs.Effect.{Fixed, State, store_of, Effect, FellThrough, Branched, Returned, Ended, Traps, StillRunning, effect, calling, nest_calls}
 
 -- what stands around the code that runs: how many results its function has, the labels, and the
 -- callers
@@ -54,10 +54,10 @@ abbrev pub Leads : List WModule → Fixed → (least m : ℕ) → Around → (co
 Leads modules fx least m a code c first (FellThrough st stack) =
     Reaches modules c first (at fx m a code st stack) st.out
 Leads modules fx least m a code c first (Branched k st stack) =
-    Reaches modules c first (branched (store_of fx st.bytes) (frame m a [] st stack) a.callers k).0
+    Reaches modules c first (branch_by (store_of fx st.bytes) (frame m a [] st stack) a.callers k).0
     st.out
 Leads modules fx least m a code c first (Returned st stack) =
-    Reaches modules c first (found (store_of fx st.bytes) (frame m a [] st stack) a.callers None).0
+    Reaches modules c first (branch_to (store_of fx st.bytes) (frame m a [] st stack) a.callers None).0
     st.out
 Leads modules fx least m a code c first (Ended k out) = Reaches modules c first (Over k) out
 Leads modules fx least m a code c first (Traps out) = Reaches modules c first Trapped out
@@ -89,7 +89,7 @@ abbrev pub Runs : Type 0
 Runs =
     (modules : List WModule) (fx : Fixed) (extra : (k f : ℕ) → ℕ) (n m f : ℕ) (t : Typed)
     (bytes : List ℕ)
-    → RunLeads modules n (length t.type.results) (Going (store_of fx bytes) (entered m t []) [])
+    → RunLeads modules n (length t.type.results) (Going (store_of fx bytes) (enter_function m t []) [])
     (calling modules fx extra n (suc n) m f t [] bytes [])
 
 -- what the effect of such a run's function says that the run comes to, unless it still runs
@@ -105,13 +105,13 @@ comes arity (Ended k out) = Some (Over k, out)
 comes arity (Traps out) = Some (Trapped, out)
 comes arity (StillRunning out) = None
 
-abbrev pub shown : Effect → List ℕ
-shown (FellThrough st stack) = st.out
-shown (Branched k st stack) = st.out
-shown (Returned st stack) = st.out
-shown (Ended k out) = out
-shown (Traps out) = out
-shown (StillRunning out) = out
+abbrev pub output_shown : Effect → List ℕ
+output_shown (FellThrough st stack) = st.out
+output_shown (Branched k st stack) = st.out
+output_shown (Returned st stack) = st.out
+output_shown (Ended k out) = out
+output_shown (Traps out) = out
+output_shown (StillRunning out) = out
 
 abbrev pub IsOver : Config → Type 0
 IsOver (Going store now callers) = ⊥
@@ -124,7 +124,7 @@ Only =
     (modules : List WModule) (fx : Fixed) (extra : (k f : ℕ) → ℕ) (m f : ℕ) (t : Typed)
     (bytes : List ℕ) (j : ℕ) (d : Config) (out : List ℕ)
     → IsOver d
-    → run modules j (Going (store_of fx bytes) (entered m t []) []) ≡ (d, out)
+    → run modules j (Going (store_of fx bytes) (enter_function m t []) []) ≡ (d, out)
     → comes (length t.type.results) (calling modules fx extra j (suc j) m f t [] bytes [])
     ≡ Some (d, out)
 
@@ -134,8 +134,8 @@ Prints =
     (modules : List WModule) (fx : Fixed) (extra : (k f : ℕ) → ℕ) (m f : ℕ) (t : Typed)
     (bytes : List ℕ) (j : ℕ)
     → (rest : List ℕ)
-    × (shown (calling modules fx extra j (suc j) m f t [] bytes [])
-    ≡ (run modules j (Going (store_of fx bytes) (entered m t []) [])).1 ++ rest)
+    × (output_shown (calling modules fx extra j (suc j) m f t [] bytes [])
+    ≡ (run modules j (Going (store_of fx bytes) (enter_function m t []) [])).1 ++ rest)
 
 -- ---- where some functions serve the others
 
@@ -146,7 +146,7 @@ NestedFollows =
     → n ≤ d
     → (a : Around) (code rest : List Instr) (st : State) (stack : List Value)
     → Leads modules fx n m a rest (at fx m a (code ++ rest) st stack) st.out
-    (effect modules fx n (nested modules fx serves extra n d) m code st stack)
+    (effect modules fx n (nest_calls modules fx serves extra n d) m code st stack)
 
 -- a run that begins in a function that does not serve
 abbrev pub NestedRuns : Type 0
@@ -156,8 +156,8 @@ NestedRuns =
     → n ≤ d
     → serves m f ≡ false
     → (t : Typed) (bytes : List ℕ)
-    → RunLeads modules n (length t.type.results) (Going (store_of fx bytes) (entered m t []) [])
-    (nested modules fx serves extra n (suc d) m f t [] bytes [])
+    → RunLeads modules n (length t.type.results) (Going (store_of fx bytes) (enter_function m t []) [])
+    (nest_calls modules fx serves extra n (suc d) m f t [] bytes [])
 
 abbrev pub NestedOnly : Type 0
 NestedOnly =
@@ -168,8 +168,8 @@ NestedOnly =
     → j ≤ d
     → (end : Config) (out : List ℕ)
     → IsOver end
-    → run modules j (Going (store_of fx bytes) (entered m t []) []) ≡ (end, out)
-    → comes (length t.type.results) (nested modules fx serves extra j (suc d) m f t [] bytes [])
+    → run modules j (Going (store_of fx bytes) (enter_function m t []) []) ≡ (end, out)
+    → comes (length t.type.results) (nest_calls modules fx serves extra j (suc d) m f t [] bytes [])
     ≡ Some (end, out)
 
 abbrev pub NestedPrints : Type 0
@@ -180,5 +180,5 @@ NestedPrints =
     → (t : Typed) (bytes : List ℕ) (j : ℕ)
     → j ≤ d
     → (rest : List ℕ)
-    × (shown (nested modules fx serves extra j (suc d) m f t [] bytes [])
-    ≡ (run modules j (Going (store_of fx bytes) (entered m t []) [])).1 ++ rest)
+    × (output_shown (nest_calls modules fx serves extra j (suc d) m f t [] bytes [])
+    ≡ (run modules j (Going (store_of fx bytes) (enter_function m t []) [])).1 ++ rest)

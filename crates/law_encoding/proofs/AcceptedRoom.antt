@@ -9,7 +9,7 @@ use Rattle.typed_tree.specs.declared.typed_module.TypedModule.{TypedModule}
 use Rattle.typed_tree.specs.declared.known_types.Types.{Types}
 use Rattle.layout_storage.specs.Frames.{formals_of}
 use Rattle.def_grammar.specs.Refusal.{max_nesting}
-use Rattle.def_scheme.specs.Signatures.{needed}
+use Rattle.def_scheme.specs.Signatures.{signatures_needed}
 use Rattle.def_scheme.specs.Modules.{slots, typed_module}
 use Rattle.wasm_binary.specs.Binary.{module_fits}
 use Rattle.law_modules.specs.Linked.{Program, text}
@@ -94,7 +94,7 @@ fewer_locals l h = omega (arith, h)
 module _ (m : TypedModule) (levels : most_levels m ≤ max_levels) (near : outward_bodies m ≤ max_nesting) (well : IsWellFormed m) (small : IsSmallBody m) where
   few : HasFewParts m
   few = record {
-    types = types_sum (types_count (needed m)) (counts_in m) (needed_few m well) small.counts;
+    types = types_sum (types_count (signatures_needed m)) (counts_in m) (needed_few m well) small.counts;
     imported = small.names.count;
     locals = locals_sum (most_locals m) (size_bodies m) (counts_in m) (functions_few m) (bodies_count m) small.counts;
     size = sizes_fit m near small.counts;

@@ -13,9 +13,9 @@ use Rattle.typed_tree.specs.declared.meaning.Meaning.TheVariants as meaning
 use Rattle.typed_tree.specs.declared.meaning.Value.{Value}
 use Rattle.typed_tree.specs.declared.shape.Made.{Made}
 use Rattle.typed_tree.specs.declared.types.TypeNo.{TypeNo}
-use Rattle.typed_tree.specs.Names.{found, entered}
+use Rattle.typed_tree.specs.Names.{find_name, enter_name}
 use Rattle.check_scope.specs.Elaborated.{Gathers}
-use Rattle.check_scope.specs.Scopes.{State, begun, marked}
+use Rattle.check_scope.specs.Scopes.{State, begin_name, mark_name}
 use Rattle.check_scope.specs.declared.known.Known.{Known}
 use Rattle.check_scope.specs.declared.known.Known.TheVariants.{Later, Ahead, Headed}
 use Rattle.check_scope.specs.declared.scope.Scope.{Scope}
@@ -27,7 +27,7 @@ use Rattle.check_definition.specs.Declare.{constant_meaning, with_constant, brin
 use Rattle.check_definition.specs.Marking.{marked_later, marked_constant, marked_type, marked_variables}
 use Rattle.check_block.specs.declared.heading.Standing.{Standing}
 use Rattle.check_block.specs.declared.heading.Standing.TheVariants.{Free, Awaited, Taken}
-use Rattle.check_block.specs.Headings.{name_standing, nested_meaning, headed, module_procedure, with_new, headed_as, with_heading}
+use Rattle.check_block.specs.Headings.{name_standing, nested_meaning, set_heading, module_procedure, with_new, headed_as, with_heading}
 use Rattle.check_block.specs.Naming.{marked_layer, marked_decl, with_marks}
 use Rattle.check_block.specs.Declarations.{local_meaning, finished_local, with_locals, Course, decl_layer, with_decl}
 use Rattle.law_encoding.specs.Sizes.{sum_of}
@@ -72,7 +72,7 @@ module _ (weight : TypeNo → ℕ) (g : Gathers) where
 
   constant_stays : (st : State (Unit {0}) g.Reported) (c : Constant) → Goes st.0 (with_constant g st c).0
   constant_stays st c =
-      let b : Scope g.Reported = (begun g st.0 c.name).0 in
+      let b : Scope g.Reported = (begin_name g st.0 c.name).0 in
       let v : Result Value g.Reported = constant g b (part g c.value) in
       stays_then (begun_stays g st.0 c.name) (finished_stays b c.name (constant_meaning v))
 
@@ -82,7 +82,7 @@ module _ (weight : TypeNo → ℕ) (g : Gathers) where
 
   type_stays : (st : State (Unit {0}) g.Reported) (d : TypeDecl) → Goes st.0 (with_type g st d).0
   type_stays st d =
-      let b : Scope g.Reported = (begun g st.0 d.name).0 in
+      let b : Scope g.Reported = (begin_name g st.0 d.name).0 in
       let t : State TypeNo g.Reported = type_of g d.of b in
       stays_then (begun_stays g st.0 d.name) (stays_then (type_of_stays weight g d.of b) (finished_stays t.0 d.name (type_meaning t.1 (brings_with d.of))))
 
@@ -146,25 +146,25 @@ module _ (weight : TypeNo → ℕ) (g : Gathers) where
   new_fills : (s : Scope g.Reported) (name : List ℕ) (n : ℕ) (t : TypeNo) → weight t ≤ n → (es : Names g.Reported) → awaiting weight s.own ≤ awaiting weight es → Fills weight n s (record s { procedures = s.procedures ++ t ∷ []; own = es })
   new_fills s name n t h es k = record { most = more_sum n (sum_of weight s.procedures) _ (awaiting weight s.own) (awaiting weight es) (weight t) (sum_append weight s.procedures (t ∷ [])) h k }
 
-  unawaited : (s : Scope g.Reported) (name : List ℕ) (k : Known g.Reported) → awaiting_of weight (found name s.own) ≤ 0 → awaiting weight s.own ≤ awaiting weight (entered name k s.own)
+  unawaited : (s : Scope g.Reported) (name : List ℕ) (k : Known g.Reported) → awaiting_of weight (find_name name s.own) ≤ 0 → awaiting weight s.own ≤ awaiting weight (enter_name name k s.own)
   unawaited s name k e = from_stays (sum_of weight s.procedures) (awaiting weight s.own) _ ((known_fills {weight = weight} 0 s name k e).most)
 
-  module_fills : (s : Scope g.Reported) (name : List ℕ) (n : ℕ) (t : Result TypeNo g.Reported) → awaiting_of weight (found name s.own) ≤ 0 → HeadFits weight n (module_procedure s name t).own name → Fills weight n s (module_procedure s name t)
+  module_fills : (s : Scope g.Reported) (name : List ℕ) (n : ℕ) (t : Result TypeNo g.Reported) → awaiting_of weight (find_name name s.own) ≤ 0 → HeadFits weight n (module_procedure s name t).own name → Fills weight n s (module_procedure s name t)
   module_fills s name n (Ok t) e h =
       let m : Meaning = meaning.Procedure (record { home = s.types.home; number = length s.procedures; heading = t }) in
-      new_fills s name n t (h m t (found_self name (Headed (Ok m)) s.own) refl) (entered name (Headed (Ok m)) s.own) (unawaited s name (Headed (Ok m)) e)
+      new_fills s name n t (h m t (found_self name (Headed (Ok m)) s.own) refl) (enter_name name (Headed (Ok m)) s.own) (unawaited s name (Headed (Ok m)) e)
   module_fills s name n (Err x) e h = more_of n s _ (known_fills 0 s name (Headed (Err x)) e)
 
-  new_by : (b : Bool) (s : Scope g.Reported) (name : List ℕ) (n number : ℕ) (t : Result TypeNo g.Reported) → awaiting_of weight (found name s.own) ≤ 0
-      → HeadFits weight n (cond b (module_procedure s name t) (headed name (nested_meaning s.level number t) s)).own name → Fills weight n s (cond b (module_procedure s name t) (headed name (nested_meaning s.level number t) s))
+  new_by : (b : Bool) (s : Scope g.Reported) (name : List ℕ) (n number : ℕ) (t : Result TypeNo g.Reported) → awaiting_of weight (find_name name s.own) ≤ 0
+      → HeadFits weight n (cond b (module_procedure s name t) (set_heading name (nested_meaning s.level number t) s)).own name → Fills weight n s (cond b (module_procedure s name t) (set_heading name (nested_meaning s.level number t) s))
   new_by true s name n number t e h = module_fills s name n t e h
   new_by false s name n number t e h = more_of n s _ (known_fills 0 s name (Headed (nested_meaning s.level number t)) e)
 
-  made_fills : (s : Scope g.Reported) (name : List ℕ) (n number : ℕ) (made : Result Made g.Reported) → awaiting_of weight (found name s.own) ≤ 0 → HeadFits weight n (with_new s name number made).0.own name → Fills weight n s (with_new s name number made).0
+  made_fills : (s : Scope g.Reported) (name : List ℕ) (n number : ℕ) (made : Result Made g.Reported) → awaiting_of weight (find_name name s.own) ≤ 0 → HeadFits weight n (with_new s name number made).0.own name → Fills weight n s (with_new s name number made).0
   made_fills s name n number (Ok x) e h = record { most = (new_by (s.level == 0) (with_shape s x) name n number (Ok (next_type s)) e h).most }
   made_fills s name n number (Err x) e h = new_by (s.level == 0) s name n number (Err x) e h
 
-  heading_by : (s : Scope g.Reported) (h : Heading) (n number : ℕ) (made : Result Made g.Reported) (o : Standing) → name_standing (found h.name.name s.own) ≡ o → HeadFits weight n (headed_as g s h number made o).0.own h.name.name
+  heading_by : (s : Scope g.Reported) (h : Heading) (n number : ℕ) (made : Result Made g.Reported) (o : Standing) → name_standing (find_name h.name.name s.own) ≡ o → HeadFits weight n (headed_as g s h number made o).0.own h.name.name
       → Fills weight n s (headed_as g s h number made o).0
   heading_by s h n number made Free e fits = made_fills s h.name.name n number made (free_sum (ap (standing_weight weight) e)) fits
   heading_by s h n number made (Awaited p) e fits =
@@ -173,7 +173,7 @@ module _ (weight : TypeNo → ℕ) (g : Gathers) where
   heading_by s h n number made Taken e fits = more_of n s s (stays_refl s)
 
   heading_fills : (s : Scope g.Reported) (h : Heading) (n number : ℕ) → HeadFits weight n (with_heading g s number h).0.own h.name.name → Fills weight n s (with_heading g s number h).0
-  heading_fills s h n number fits = heading_by s h n number (heading_of g s h) (name_standing (found h.name.name s.own)) refl fits
+  heading_fills s h n number fits = heading_by s h n number (heading_of g s h) (name_standing (find_name h.name.name s.own)) refl fits
 
   -- ---- marks
 
@@ -182,7 +182,7 @@ module _ (weight : TypeNo → ℕ) (g : Gathers) where
   marked_constants (c ∷ cs) s = stays_then (marked_stays s c.name Later) (marked_constants cs (marked_constant s c))
 
   one_type : (t : TypeDecl) (s : Scope g.Reported) → Goes s (marked_type s t)
-  one_type t s = stays_then (marked_stays s t.name Later) (marked_in_stays weight g.Reported t.of (marked t.name Later s))
+  one_type t s = stays_then (marked_stays s t.name Later) (marked_in_stays weight g.Reported t.of (mark_name t.name Later s))
 
   marked_types : (ts : List TypeDecl) (s : Scope g.Reported) → Goes s (fold marked_type s ts)
   marked_types [] s = stays_refl s

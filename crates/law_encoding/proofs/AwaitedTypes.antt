@@ -15,7 +15,7 @@ use Rattle.check_scope.specs.declared.known.Origin.TheVariants.{Here}
 use Rattle.check_scope.specs.declared.scope.Scope.{Scope}
 use Rattle.check_type_expr.specs.declared.field.Fields.{Fields}
 use Rattle.check_type_expr.specs.Fields.{no_fields}
-use Rattle.check_type_expr.specs.Made.{next_type, with_shape, enumeration_constant, enumeration_scalar, too_many, listed, simple_type, index_type, Makes, MakesFields, then_fields, type_layer, field_layer, type_of, field_list}
+use Rattle.check_type_expr.specs.Made.{next_type, with_shape, enumeration_constant, enumeration_scalar, too_many, enumerate_name, simple_type, index_type, Makes, MakesFields, then_fields, type_layer, field_layer, type_of, field_list}
 use Rattle.check_definition.specs.Marking.{Marks, marked_later, marked_simple, then_marks, marked_in, marked_field}
 use Rattle.check_definition.specs.Marking as marking
 use Rattle.law_encoding.proofs.Awaited.{Stays, stays_refl, stays_then, unless_stays, marked_stays, shape_stays, made_stays}
@@ -89,9 +89,9 @@ module _ (weight : TypeNo → ℕ) (T : Type 0) where
 -- ---- types that are made
 
 module _ (weight : TypeNo → ℕ) (g : Gathers) where
-  listed_all : (t : TypeNo) (names : List Ident) (l : Scope g.Reported × ℕ × Result (Unit {0}) g.Reported) → Stays weight l.0 (fold (listed g t) l names).0
+  listed_all : (t : TypeNo) (names : List Ident) (l : Scope g.Reported × ℕ × Result (Unit {0}) g.Reported) → Stays weight l.0 (fold (enumerate_name g t) l names).0
   listed_all t [] l = stays_refl l.0
-  listed_all t (x ∷ xs) l = stays_then (unless_stays g l.0 x (Declared Here (Ok (enumeration_constant t (pos l.1))))) (listed_all t xs (listed g t l x))
+  listed_all t (x ∷ xs) l = stays_then (unless_stays g l.0 x (Declared Here (Ok (enumeration_constant t (pos l.1))))) (listed_all t xs (enumerate_name g t l x))
 
   simple_stays : (s : Scope g.Reported) (t : Simple) → Stays weight s (simple_type g s t).0
   simple_stays s (simple.Named q) = stays_refl s

@@ -11,7 +11,7 @@ use Rattle.wasm_tree.specs.declared.module.Function.{Function}
 use Rattle.wasm_tree.specs.declared.module.Element.{Element}
 use Rattle.wasm_tree.specs.declared.module.Data.{Data}
 use Rattle.wasm_code.specs.Number.{unsigned}
-use Rattle.wasm_code.specs.Parts.{vector, sized, bytes_left, section}
+use Rattle.wasm_code.specs.Parts.{vector, with_size, bytes_left, section}
 use Rattle.wasm_code.specs.Instructions.{code}
 use Rattle.wasm_binary.specs.Binary.{element, data_segment, types_of, module_fits}
 use Rattle.typed_tree.specs.declared.typed_module.TypedModule.{TypedModule}
@@ -158,9 +158,9 @@ segment_sum m a r o v c n e h g l i j p = omega (arith, e, h, g, l, i, j, p)
 segment_short : (bs : List ℕ) → length bs ≤ few_entries → length (data_segment.encoding (segment_of bs)) < 2 ^ 31
 unfolding data_segment
 segment_short bs h =
-    segment_sum _ (length (unsigned.encoding 0)) (length (code.encoding (GlobalGet 2 ∷ []) ++ (sized bytes_left).encoding bs)) (length (code.encoding (GlobalGet 2 ∷ []))) (length ((sized bytes_left).encoding bs)) (length (unsigned.encoding (length bs))) (length bs)
-    (length-append (unsigned.encoding 0) (code.encoding (GlobalGet 2 ∷ []) ++ (sized bytes_left).encoding bs)) (unsigned_short 0 refl)
-    (length-append (code.encoding (GlobalGet 2 ∷ [])) ((sized bytes_left).encoding bs)) (offset_short 2 refl)
+    segment_sum _ (length (unsigned.encoding 0)) (length (code.encoding (GlobalGet 2 ∷ []) ++ (with_size bytes_left).encoding bs)) (length (code.encoding (GlobalGet 2 ∷ []))) (length ((with_size bytes_left).encoding bs)) (length (unsigned.encoding (length bs))) (length bs)
+    (length-append (unsigned.encoding 0) (code.encoding (GlobalGet 2 ∷ []) ++ (with_size bytes_left).encoding bs)) (unsigned_short 0 refl)
+    (length-append (code.encoding (GlobalGet 2 ∷ [])) ((with_size bytes_left).encoding bs)) (offset_short 2 refl)
     (length-append (unsigned.encoding (length bs)) bs) (unsigned_short (length bs) (lt-ltb _ _ (few_bytes (length bs) h))) h
 
 texts_fit : (bs : List ℕ) → list_all (λ b. nat_lt b 256) bs ≡ true → length bs ≤ few_entries → (section 11 data_segment).fits (data_of bs) ≡ true

@@ -34,11 +34,11 @@ use Rattle.typed_tree.specs.Known.{scalar_at}
 use Rattle.layout_storage.specs.Types.{Ty, Heading, Callable, Cell, Hidden, Array, row, component}
 use Rattle.layout_storage.specs.Shapes.{tree, elements_of}
 use Rattle.layout_storage.specs.Sizes.{size, offset}
-use Rattle.layout_storage.specs.Texts.{passed}
+use Rattle.layout_storage.specs.Texts.{argument_text}
 use Rattle.def_meaning.specs.Answer.{empty_procedure, overflow, range_fault}
 use Rattle.def_meaning.specs.Store.{Location}
-use Rattle.def_scheme.specs.Coded.{Coded, Setting, Counts, plain, ◌⨾◌, all_coded, within, with_address, with_number, with_text, with_setting, number_local, address_local, operation, extended, raised, checked}
-use Rattle.def_scheme.specs.Cells.{loaded, in_type, check_taken}
+use Rattle.def_scheme.specs.Coded.{Coded, Setting, Counts, plain, ◌⨾◌, all_coded, within, with_address, with_number, with_text, with_setting, number_local, address_local, operation, extend_word, raise_address, check_code}
+use Rattle.def_scheme.specs.Cells.{load_code, in_type, check_taken}
 use Rattle.def_scheme.specs.Exprs.{Part, Linked, Numbered, variables_row, frame_at, slot_path, chosen_number, absolute_code, capital_code, include_code, in_code, and_code, or_code, behind, chain_code, index_of, element_tree, element_code, arithmetic_code, ord_check, high_index, text_code, top_code, global_code, root_layer, argument_layer, call_layer, component_layer, link_layer, expr_layer, place_layer, expr_part, place_code, call_code}
 use Rattle.law_memory.proofs.Places.{inside}
 use Rattle.law_simulation.specs.Frames.{Kind, Kept, Alias, Open, Kinds, kind_tree, frame_kinds, or_none, kind_at, AreFrames}
@@ -212,7 +212,7 @@ module _ (x : Context) (fs : List Ty) (small : HasSmallParts x fs) where
   include_fine {b = b} {c = c} inclusion.Within p q = fine_then m fs p (fine_then m fs q (fine_plain m fs c (const_both const_complement (computes _ ▹ const_empty))))
   include_fine {b = b} {c = c} inclusion.Around p q = fine_then m fs p (fine_then m fs (fine_plain m fs b const_complement) (fine_then m fs q (fine_plain m fs c (computes _ ▹ const_empty))))
 
-  set_bounds : Const (checked (pos 0) (pos 31) range_fault)
+  set_bounds : Const (check_code (pos 0) (pos 31) range_fault)
   set_bounds = const_checked (pos 0) (pos 31) range_fault (omega (arith, ints)) (omega (arith, ints)) (omega arith)
 
   const_in : (t : ℕ) → Const (LocalGet t ∷ operation ShrU ∷ I64Const 1 ∷ operation And ∷ [])
@@ -251,7 +251,7 @@ module _ (x : Context) (fs : List Ty) (small : HasSmallParts x fs) where
   top_fine : (a : ℕ) → Good a a top_code
   top_fine a = fine_setting m fs a (λ s h g. gets _ ▹ const_end)
 
-  checked_empty : Const (checked (pos 1) (pos 4294967295) empty_procedure)
+  checked_empty : Const (check_code (pos 1) (pos 4294967295) empty_procedure)
   checked_empty = const_checked (pos 1) (pos 4294967295) empty_procedure (omega (arith, ints)) (omega (arith, ints)) (omega arith)
 
   -- ---- trees
@@ -281,7 +281,7 @@ module _ (x : Context) (fs : List Ty) (small : HasSmallParts x fs) where
     mutual
       pub expr_fine : (ws : List Ty) (a b : ℕ) (e : TypedExpr) (t : TypeNo) → typed.IsExpr x ws a b e t → GoodExpr a b e
       expr_fine ws _ _ _ _ (typed.Constant a t n is) = expr_by (expr.Constant t n) (layer.Constant t n) (expr.outs-Constant t n) (fine_plain m fs a (signed n (value_low T small.ranges t n is) ▹ const_end))
-      expr_fine ws _ _ _ _ (typed.Load a b t c d cell h) = expr_by (expr.Load t d) (layer.Load t d) (expr.outs-Load t d) (fine_types m fs (λ types. loaded types t) (place_fine ws a b d (Cell c) h) (const_loaded T t small.cells))
+      expr_fine ws _ _ _ _ (typed.Load a b t c d cell h) = expr_by (expr.Load t d) (layer.Load t d) (expr.outs-Load t d) (fine_types m fs (λ types. load_code types t) (place_fine ws a b d (Cell c) h) (const_loaded T t small.cells))
       expr_fine ws _ _ _ _ (typed.ProcedureValue a b t h e is of none) = held_fine ws a b e h is
       expr_fine ws _ _ _ _ (typed.Plus a b t u e h g) = expr_by (expr.Plus t e) (layer.Plus t e) (expr.outs-Plus t e) (expr_fine ws a b e u h)
       expr_fine ws _ _ _ _ (typed.Negate a b u e h) = expr_by (expr.Negate e) (layer.Negate e) (expr.outs-Negate e) (fine_then m fs (fine_plain m fs a (amount 0 (omega arith) ▹ const_end)) (fine_types m fs (λ types. operation Sub ∷ in_type types integer overflow) (expr_fine ws a b e u h) (computes _ ▹ const_in_type T integer overflow small.ranges (omega arith))))
@@ -300,7 +300,7 @@ module _ (x : Context) (fs : List Ty) (small : HasSmallParts x fs) where
       expr_fine ws _ _ _ _ (typed.FunctionCall a b t r c h cell) = expr_by (expr.Call t c) (layer.Call t c) (expr.outs-Call t c) (call_fine ws a b c (Some (tree T t)) h)
 
       pub held_fine : (ws : List Ty) (a b : ℕ) (e : TypedExpr) (h : Heading) → typed.IsProcedureExpr x ws a b e h → GoodExpr a b e
-      held_fine ws _ _ _ _ (typed.LoadedProcedure a b t h d type g) = expr_by (expr.Load t d) (layer.Load t d) (expr.outs-Load t d) (fine_types m fs (λ types. loaded types t) (place_fine ws a b d (Cell (Callable h)) g) (const_loaded T t small.cells))
+      held_fine ws _ _ _ _ (typed.LoadedProcedure a b t h d type g) = expr_by (expr.Load t d) (layer.Load t d) (expr.outs-Load t d) (fine_types m fs (λ types. load_code types t) (place_fine ws a b d (Cell (Callable h)) g) (const_loaded T t small.cells))
       held_fine ws _ _ _ _ (typed.NamedProcedure a f h known is) =
           expr_by (expr.Procedure f) (layer.Procedure f) (expr.outs-Procedure f) (fine_setting m fs a (λ s i g. const_procedure s.home f (procedure_few f known)))
       held_fine ws _ _ _ _ (typed.GivenProcedure a b t h c g) = expr_by (expr.Call t c) (layer.Call t c) (expr.outs-Call t c) (call_fine ws a b c (Some (Cell (Callable h))) g)
@@ -336,7 +336,7 @@ module _ (x : Context) (fs : List Ty) (small : HasSmallParts x fs) where
       component_fine : (ws : List Ty) (a b : ℕ) (t : Ty) (k : Component) (u : Ty) → typed.IsComponent x ws a b t k u → Good a b (of_component numbered k)
       component_fine ws _ _ _ _ _ (typed.FieldOf a t j u is) =
           component_by (component'.Field t j) (layer.Field t j) (component'.outs-Field t j)
-          (fine_setting m fs a (λ s h g. subst (λ (n : TypedModule). Const (raised (offset (tree n.types t) (j ∷ [])))) (sym h) (const_raised _ (global_few u _ (size u) _ (inside (tree T t) u (j ∷ []) is) (small.types t)))))
+          (fine_setting m fs a (λ s h g. subst (λ (n : TypedModule). Const (raise_address (offset (tree n.types t) (j ∷ [])))) (sym h) (const_raised _ (global_few u _ (size u) _ (inside (tree T t) u (j ∷ []) is) (small.types t)))))
       component_fine ws _ _ _ _ _ (typed.ElementOf a b t w r u i index is h) =
           component_by (component'.Element t i) (layer.Element t i) (component'.outs-Element t i) (fine_types m fs (λ types. element_code types t) (expr_fine ws a b i w h) (const_element T t small.ranges (element_few T t r u is (small.types t))))
 
@@ -349,7 +349,7 @@ module _ (x : Context) (fs : List Ty) (small : HasSmallParts x fs) where
           (fine_then m fs (top_fine a) (fine_then m fs (fine_plain m fs a (const_link numbered f.up)) (fine_then m fs (arguments_fine ws a b args (forms_of T f.heading) hs) (fine_setting m fs b (λ s h g. const_nested_call numbered s.home f)))))
       call_fine ws _ _ _ _ (typed.OfVariable a b c t h d args is type g among hs) =
           call_by (call.Variable t d args) (layer.Variable t d args) (call.outs-Variable t d args)
-          (fine_then m fs (fine_types m fs (λ types. loaded types t) (place_fine ws a b d (Cell (Callable h)) g) (const_loaded T t small.cells)) (fine_then m fs (fine_plain m fs b checked_empty)
+          (fine_then m fs (fine_types m fs (λ types. load_code types t) (place_fine ws a b d (Cell (Callable h)) g) (const_loaded T t small.cells)) (fine_then m fs (fine_plain m fs b checked_empty)
           (fine_number m fs (λ n. fine_then m fs (fine_plain m fs b (sets n ▹ const_end)) (fine_then m fs (top_fine b) (fine_then m fs (arguments_fine ws b c args (forms_of T t) hs)
           (fine_setting m fs c (λ s i j. const_value_call numbered s.home.types n t))))))))
 
@@ -366,10 +366,10 @@ module _ (x : Context) (fs : List Ty) (small : HasSmallParts x fs) where
       argument_fine ws _ _ _ _ (typed.ActualCopy a b d t h) = argument_by (argument.Place d) (layer.Place d) (argument.outs-Place d) (fine_then m fs (place_fine ws a b d t h) (fine_plain m fs b (computes _ ▹ const_end)))
       argument_fine ws _ _ _ _ (typed.ActualArray a b t r u v d index narrow is h) =
           argument_by (argument.Array t d) (layer.Array t d) (argument.outs-Array t d)
-          (fine_types m fs (λ types. extended ∷ I64Const (high_index types t) ∷ []) (place_fine ws a b d (tree T t) h) (computes _ ▹ amount _ (high_small T t r small.ranges index narrow) ▹ const_end))
+          (fine_types m fs (λ types. extend_word ∷ I64Const (high_index types t) ∷ []) (place_fine ws a b d (tree T t) h) (computes _ ▹ amount _ (high_small T t r small.ranges index narrow) ▹ const_end))
       argument_fine ws _ _ _ _ (typed.ActualOpen a slot v u k) =
           argument_by (argument.Open slot) (layer.Open slot) (argument.outs-Open slot)
           (fine_setting m fs a (λ s h g. const_both (const_open s slot (slot_few s g slot (Open u) (0 ∷ []) (Hidden 4) k (first_hidden u))) (computes _ ▹ const_high s slot (slot_few s g slot (Open u) (1 ∷ []) (Hidden 4) k (second_hidden u)))))
       argument_fine ws _ _ _ _ (typed.ActualText a text has few) =
           argument_by (argument.Text text) (layer.Text text) (argument.outs-Text text)
-          (fine_text m fs (length (passed text)) (λ at. plain (text_code at ++ (extended ∷ I64Const (length (passed text) - 1) ∷ []))) (fine_plain m fs (a + length (passed text)) (const_both (const_text a (text_start a (length (passed text)) _ has.fits small.texts)) (computes _ ▹ amount _ (text_last _ few) ▹ const_end))))
+          (fine_text m fs (length (argument_text text)) (λ at. plain (text_code at ++ (extend_word ∷ I64Const (length (argument_text text) - 1) ∷ []))) (fine_plain m fs (a + length (argument_text text)) (const_both (const_text a (text_start a (length (argument_text text)) _ has.fits small.texts)) (computes _ ▹ amount _ (text_last _ few) ▹ const_end))))

@@ -19,11 +19,11 @@ use Rattle.layout_storage.specs.Sizes.{size, offset}
 use Rattle.layout_storage.specs.Frames.{frame, formals_of}
 use Rattle.layout_storage.specs.Texts.{characters, texts_before, routines_texts}
 use Rattle.def_meaning.specs.Answer.{no_return, storage_fault}
-use Rattle.def_scheme.specs.Coded.{wrapped, copy}
+use Rattle.def_scheme.specs.Coded.{wrap_word, copy}
 use Rattle.def_scheme.specs.Exprs.{Numbered, arguments_of, has_result}
 use Rattle.def_scheme.specs.Functions.{routine_of, routine_at, own_frame, around_in, frames_around, limit_check, enter_code, link_kept, formal_address, word_kept, value_kept, bytes_code, open_copied, formals_kept, end_code, routine_coded, routine_function, functions_from, module_coded, module_function}
 use Rattle.def_scheme.specs.Helpers.{copy_turn, copy_code, fill_turn, fill_code, check_tests, check_code, divisor_checked, div_rest, mod_rest}
-use Rattle.def_scheme.specs.Modules.{helpers, numbered, functions}
+use Rattle.def_scheme.specs.Modules.{helpers, numbering_of, functions}
 use Rattle.law_modules.specs.Linked.{Program}
 use Rattle.law_modules.specs.Ranges.{AreRanged}
 use Rattle.law_modules.proofs.Known.{range_at}
@@ -116,7 +116,7 @@ module _ (f : Ty) (v : ℕ) where
   const_word_kept : (path : List ℕ) → offset f (suc v ∷ path) < max_bytes → {value : List Instr} → Const value → Const (word_kept f v path value)
   const_word_kept path h p = const_both (const_formal path h) (const_both p const_word)
 
-  const_copied : (x bytes : ℕ) → offset f (suc v ∷ []) < max_bytes → bytes < max_bytes → Const (formal_address f v [] ++ (LocalGet x ∷ wrapped ∷ I32Const bytes ∷ Call copy ∷ []))
+  const_copied : (x bytes : ℕ) → offset f (suc v ∷ []) < max_bytes → bytes < max_bytes → Const (formal_address f v [] ++ (LocalGet x ∷ wrap_word ∷ I32Const bytes ∷ Call copy ∷ []))
   const_copied x bytes h l = const_both (const_formal [] h) (gets x ▹ computes _ ▹ address bytes l ▹ calls _ ▹ const_end)
 
   const_value_kept : (x : ℕ) (t : Ty) → ((c : Scalar) → t ≡ Cell c → IsScalar c) → offset f (suc v ∷ []) < max_bytes → size t < max_bytes → Const (value_kept f v x t)
@@ -257,8 +257,8 @@ module _ (p : Program) (pages place : ℕ) (m : TypedModule) (ranged : AreRanged
 
   pub functions_const : AllConst (functions m)
   functions_const =
-      let rest = functions_from (numbered m) m which.Module 0 m.procedures ++ functions_from (numbered m) m which.Local 0 m.locals in
-      all_both helpers (module_function (numbered m) m ∷ rest) helpers_const (both_true _ _ (module_const (numbered m))
-      (all_both (functions_from (numbered m) m which.Module 0 m.procedures) (functions_from (numbered m) m which.Local 0 m.locals)
-      (routines_const (numbered m) which.Module 0 m.procedures (λ k r e. subst (λ (j : ℕ). slice_get m.procedures j ≡ Some r) (sym (from_nought 0 k refl)) e))
-      (routines_const (numbered m) which.Local 0 m.locals (λ k r e. subst (λ (j : ℕ). slice_get m.locals j ≡ Some r) (sym (from_nought 0 k refl)) e))))
+      let rest = functions_from (numbering_of m) m which.Module 0 m.procedures ++ functions_from (numbering_of m) m which.Local 0 m.locals in
+      all_both helpers (module_function (numbering_of m) m ∷ rest) helpers_const (both_true _ _ (module_const (numbering_of m))
+      (all_both (functions_from (numbering_of m) m which.Module 0 m.procedures) (functions_from (numbering_of m) m which.Local 0 m.locals)
+      (routines_const (numbering_of m) which.Module 0 m.procedures (λ k r e. subst (λ (j : ℕ). slice_get m.procedures j ≡ Some r) (sym (from_nought 0 k refl)) e))
+      (routines_const (numbering_of m) which.Local 0 m.locals (λ k r e. subst (λ (j : ℕ). slice_get m.locals j ≡ Some r) (sym (from_nought 0 k refl)) e))))

@@ -31,10 +31,10 @@ use Rattle.layout_storage.specs.Types.{Ty, Scalar, Natural, Integer, Between, Ca
 use Rattle.layout_storage.specs.Shapes.{tree}
 use Rattle.layout_storage.specs.Sizes.{size, offset}
 use Rattle.def_meaning.specs.Answer.{index_fault, overflow, range_fault}
-use Rattle.def_scheme.specs.Coded.{Setting, raised, wrapped, fault, checked}
-use Rattle.def_scheme.specs.Cells.{is_nought, lower, load_scalar, store_scalar, load_tree, store_tree, loaded, stored, word, in_range, in_type, base_of, is_free, is_subrange, check_taken, check_changed}
-use Rattle.def_scheme.specs.Exprs.{Numbered, is_own, variables_row, outwards, frame_code, slot_path, slot_code, kept_address, open_address, high_code, index_shape, index_made, index_of, element_tree, scaled, from_lower, element_code, open_element_code, arithmetic_code, complement, set_code, empty_code, ord_check, procedure_code, global_code, with_code, text_code, indirect, module_call, link_code, nested_call}
-use Rattle.def_scheme.specs.Steps.{Arm, label_code, tests_code, from_least, dispatch, change_operation, read_again, changed, member_operation, with_member, text_copied}
+use Rattle.def_scheme.specs.Coded.{Setting, raise_address, wrap_word, fault, check_code}
+use Rattle.def_scheme.specs.Cells.{is_nought, lower, load_scalar, store_scalar, load_tree, store_tree, load_code, store_code, word, in_range, in_type, base_of, is_free, is_subrange, check_taken, check_changed}
+use Rattle.def_scheme.specs.Exprs.{Numbered, is_own, variables_row, outwards, frame_code, slot_path, slot_code, kept_address, open_address, high_code, index_shape, index_made, index_of, element_tree, scale_index, from_lower, element_code, open_element_code, arithmetic_code, complement, set_code, empty_code, ord_check, procedure_code, global_code, with_code, text_code, indirect, module_call, link_code, nested_call}
+use Rattle.def_scheme.specs.Steps.{Arm, label_code, tests_code, from_least, dispatch, change_operation, read_again, change_instructions, member_operation, with_member, text_copied}
 use Rattle.law_simulation.specs.Scene.{AreSmall, IsSmall, IsLabel, AreLabels}
 use Rattle.law_encoding.specs.Fits.{max_bytes, few_entries}
 use Rattle.law_encoding.specs.ValidNumbers.{constants_fit}
@@ -63,13 +63,13 @@ index_small types small t r q = index_made_small types small (made_at types t) r
 
 -- ---- pieces
 
-pub const_raised : (n : ℕ) → n < max_bytes → Const (raised n)
+pub const_raised : (n : ℕ) → n < max_bytes → Const (raise_address n)
 const_raised n h = address n h ▹ computes _ ▹ const_end
 
 pub const_fault : (k : ℕ) → k < 16 → Const (fault k)
 const_fault k h = amount k (small_number k h) ▹ calls _ ▹ stops ▹ const_end
 
-pub const_checked : (low high : ℤ) (k : ℕ) → IsLow low → IsLow high → k < 16 → Const (checked low high k)
+pub const_checked : (low high : ℤ) (k : ℕ) → IsLow low → IsLow high → k < 16 → Const (check_code low high k)
 const_checked low high k l h j = signed low l ▹ signed high h ▹ amount k (small_number k j) ▹ calls _ ▹ const_end
 
 -- ---- cells and checks
@@ -112,10 +112,10 @@ const_store_tree (Array n t) h = const_end
 const_store_tree Nothing h = const_end
 const_store_tree (Field t others) h = const_end
 
-pub const_loaded : (types : Types) (t : TypeNo) → AreCells types → Const (loaded types t)
+pub const_loaded : (types : Types) (t : TypeNo) → AreCells types → Const (load_code types t)
 const_loaded types t cells = const_load_tree (tree types t) (cells t)
 
-pub const_stored : (types : Types) (t : TypeNo) → AreCells types → Const (stored types t)
+pub const_stored : (types : Types) (t : TypeNo) → AreCells types → Const (store_code types t)
 const_stored types t cells = const_store_tree (tree types t) (cells t)
 
 pub const_in_range : (o : Option Range) (k : ℕ) → ((r : Range) → o ≡ Some r → IsSmall r) → k < 16 → Const (in_range o k)
@@ -160,7 +160,7 @@ const_high s slot h = const_both (const_slot s slot (1 ∷ []) h) (const_load wo
 few_amount : (n : ℕ) → n ≤ few_entries → n < 2 ^ 64
 few_amount n h = omega (arith, h)
 
-const_scaled : (bytes : ℕ) → bytes ≤ few_entries → Const (scaled bytes)
+const_scaled : (bytes : ℕ) → bytes ≤ few_entries → Const (scale_index bytes)
 const_scaled bytes h = amount _ (few_amount bytes h) ▹ computes _ ▹ computes _ ▹ computes _ ▹ const_end
 
 const_from_lower : (o : Option Range) → ((r : Range) → o ≡ Some r → IsSmall r) → Const (from_lower o)
@@ -226,7 +226,7 @@ const_module_call numbered m f h = const_either (is_own m f.home) (calls _ ▹ c
 pub const_nested_call : (numbered : Numbered) (m : TypedModule) (f : LocalProcedure) → Const (nested_call numbered m f)
 const_nested_call numbered m f = calls _ ▹ const_end
 
-pub const_value_call : (numbered : Numbered) (types : Types) (t : ℕ) (heading : TypeNo) → Const (LocalGet t ∷ wrapped ∷ indirect numbered types heading ∷ [])
+pub const_value_call : (numbered : Numbered) (types : Types) (t : ℕ) (heading : TypeNo) → Const (LocalGet t ∷ wrap_word ∷ indirect numbered types heading ∷ [])
 const_value_call numbered types t heading = gets t ▹ computes _ ▹ calls_by _ ▹ const_end
 
 -- ---- statements
@@ -261,7 +261,7 @@ one_operation : (o : Change) → constants_fit (change_operation o) ≡ true
 one_operation change.Increase = computes _
 one_operation change.Decrease = computes _
 
-pub const_changed : (o : Change) (w n : ℕ) (types : Types) (t : TypeNo) → AreCells types → AreSmall types → Const (changed o w n types t)
+pub const_changed : (o : Change) (w n : ℕ) (types : Types) (t : TypeNo) → AreCells types → AreSmall types → Const (change_instructions o w n types t)
 const_changed o w n types t cells small =
     const_both (const_read_again w types t cells) (gets n ▹ one_operation o ▹ const_both (const_check_changed types t small) (const_stored types t cells))
 

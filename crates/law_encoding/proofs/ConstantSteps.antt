@@ -24,11 +24,11 @@ use Rattle.typed_tree.specs.declared.types.TypeNo.{TypeNo}
 use Rattle.layout_storage.specs.Types.{Ty, Callable, Cell}
 use Rattle.layout_storage.specs.Shapes.{tree}
 use Rattle.layout_storage.specs.Sizes.{size}
-use Rattle.def_meaning.specs.Answer.{case_fault, halted, range_fault}
+use Rattle.def_meaning.specs.Answer.{case_fault, halt_status, range_fault}
 use Rattle.def_scheme.specs.Coded.{Coded, Setting, Counts, plain, all_coded, with_setting, number, operation, relation, copy}
-use Rattle.def_scheme.specs.Cells.{loaded, stored, in_type, check_taken}
+use Rattle.def_scheme.specs.Cells.{load_code, store_code, in_type, check_taken}
 use Rattle.def_scheme.specs.Exprs.{Numbered, Part, expr_part, place_code}
-use Rattle.def_scheme.specs.Steps.{Arm, block, loop, block_loop, leaving, under, if_else, tests_code, arm_code, chain_code, lesser, all_labels, least_of, span_of, is_dense, boxed, jump_arms, table_code, case_code, passes, for_turn, for_code, changed, change_code, with_member, member_code, text_copied, copy_text_code, taken, step_layer, step_code, body_code}
+use Rattle.def_scheme.specs.Steps.{Arm, block, loop, block_loop, leaving, under, if_else, tests_code, arm_code, chain_code, lesser, all_labels, least_of, span_of, is_dense, in_block, jump_arms, table_code, case_code, passes, for_turn, for_code, change_instructions, change_code, with_member, member_code, text_copied, copy_text_code, take_code, step_layer, step_code, body_code}
 use Rattle.law_simulation.specs.Passing.{Result}
 use Rattle.law_simulation.specs.Scene.{AreLabels}
 use Rattle.law_simulation.specs.StmtsTyped as steps
@@ -111,7 +111,7 @@ module _ (x : Context) (fs : List Ty) (small : HasSmallParts x fs) (numbered : N
   under_fine : {a b : ℕ} (w : ℕ) {y : Coded} → Good a b y → Good a b (under w y)
   under_fine w p = record { run = λ s c i g e. p.run (record s { withs = s.withs ++ w ∷ [] }) c i g e }
 
-  boxed_fine : {a b : ℕ} {y : Coded} → Good a b y → Good a b (boxed y)
+  boxed_fine : {a b : ℕ} {y : Coded} → Good a b y → Good a b (in_block y)
   boxed_fine p = record { run = λ s c i g e. let r = p.run s c i g e in (const_block r.0, r.1) }
 
   else_fine : {a b c : ℕ} {y z : Coded} → Good a b y → Good b c z → Good a c (if_else y z)
@@ -125,8 +125,8 @@ module _ (x : Context) (fs : List Ty) (small : HasSmallParts x fs) (numbered : N
   only_wraps : (code : List Instr) → Const code → Const (If None code None ∷ [])
   only_wraps code p = tests None p ▹ const_end
 
-  stored_fine : (a : ℕ) (t : TypeNo) → Good a a (with_setting (λ s. plain (stored s.home.types t)))
-  stored_fine a t = fine_setting m fs a (λ s h g. subst (λ (n : TypedModule). Const (stored n.types t)) (sym h) (const_stored T t small.cells))
+  stored_fine : (a : ℕ) (t : TypeNo) → Good a a (with_setting (λ s. plain (store_code s.home.types t)))
+  stored_fine a t = fine_setting m fs a (λ s h g. subst (λ (n : TypedModule). Const (store_code n.types t)) (sym h) (const_stored T t small.cells))
 
   -- ---- CASE
 
@@ -181,16 +181,16 @@ module _ (x : Context) (fs : List Ty) (small : HasSmallParts x fs) (numbered : N
 
   turn_fine : {a b : ℕ} {d : Coded} (t : TypeNo) (by : ℤ) (n : ℕ) {body : Coded} → ((k : ℕ) → Good k k d) → IsLow by → Good a b body → Good a b (for_turn d t by n body)
   turn_fine {b = b} t by n p h q =
-      fine_then m fs q (fine_then m fs (fine_types m fs (λ types. loaded types t) (p b) (const_loaded T t small.cells)) (fine_then m fs (fine_plain m fs b (const_turn by n h)) (fine_then m fs (p b)
-      (fine_then m fs (fine_types m fs (λ types. loaded types t) (p b) (const_loaded T t small.cells))
-      (fine_setting m fs b (λ s i g. subst (λ (k : TypedModule). Const (number by ∷ operation Add ∷ (in_type k.types t range_fault ++ (stored k.types t ++ Br 0 ∷ [])))) (sym i)
+      fine_then m fs q (fine_then m fs (fine_types m fs (λ types. load_code types t) (p b) (const_loaded T t small.cells)) (fine_then m fs (fine_plain m fs b (const_turn by n h)) (fine_then m fs (p b)
+      (fine_then m fs (fine_types m fs (λ types. load_code types t) (p b) (const_loaded T t small.cells))
+      (fine_setting m fs b (λ s i g. subst (λ (k : TypedModule). Const (number by ∷ operation Add ∷ (in_type k.types t range_fault ++ (store_code k.types t ++ Br 0 ∷ [])))) (sym i)
       (signed by h ▹ computes _ ▹ const_both (const_in_type T t range_fault small.ranges (omega arith)) (const_both (const_stored T t small.cells) (jumps 0 ▹ const_end)))))))))
 
   for_fine : {a b c z : ℕ} {d : Coded} (t : TypeNo) (start limit : Part) (by : ℤ) {body : Coded} → ((k : ℕ) → Good k k d) → IsLow by → Good a b start.code → Good b c limit.code → Good c z body → Good a z (for_code d t start limit by body)
   for_fine {a = a} {c = c} {d = d} t start limit by {body} p h q r w =
       fine_then m fs (p a) (fine_then m fs (fine_types m fs (λ types. check_taken types t start.constant start.of) q (const_taken T t start.constant start.of small.ranges)) (fine_then m fs r
       (fine_number m fs (λ n. fine_then m fs (fine_then m fs (fine_plain m fs c (sets n ▹ const_end)) (stored_fine c t))
-      (fine_within m fs 1 block (λ code i. const_block i) (fine_then m fs (fine_types m fs (λ types. loaded types t) (p c) (const_loaded T t small.cells))
+      (fine_within m fs 1 block (λ code i. const_block i) (fine_then m fs (fine_types m fs (λ types. load_code types t) (p c) (const_loaded T t small.cells))
       (fine_then m fs (fine_plain m fs c (const_passes n by)) (fine_within m fs 1 loop (λ code i. const_loop i) (turn_fine t by n p h w)))))))))
 
   -- ---- INC, DEC, INCL, EXCL and strings
@@ -198,7 +198,7 @@ module _ (x : Context) (fs : List Ty) (small : HasSmallParts x fs) (numbered : N
   change_fine : {a b c : ℕ} (o : Change) {d y : Coded} (t : TypeNo) → Good a b d → Good b c y → Good a c (change_code o d t y)
   change_fine {b = b} {c = c} o t p q =
       fine_then m fs p (fine_address m fs (λ w. fine_then m fs (fine_plain m fs b (sets w ▹ const_end)) (fine_then m fs q (fine_number m fs (λ n.
-      fine_then m fs (fine_plain m fs c (sets n ▹ const_end)) (fine_setting m fs c (λ s h g. subst (λ (k : TypedModule). Const (changed o w n k.types t)) (sym h) (const_changed o w n T t small.cells small.ranges))))))))
+      fine_then m fs (fine_plain m fs c (sets n ▹ const_end)) (fine_setting m fs c (λ s h g. subst (λ (k : TypedModule). Const (change_instructions o w n k.types t)) (sym h) (const_changed o w n T t small.cells small.ranges))))))))
 
   member_fine : {a b c : ℕ} (o : Membership) {d y : Coded} → Good a b d → Good b c y → Good a c (member_code o d y)
   member_fine {b = b} {c = c} o p q =
@@ -222,10 +222,10 @@ module _ (x : Context) (fs : List Ty) (small : HasSmallParts x fs) (numbered : N
     step_by : {a b : ℕ} (e : TypedStmt) (y : TypedStmt-F TypedStmt TypedArm) → out-TypedStmt e ≡ y → Good a b (step_layer numbered (opened_step numbered y)) → Good a b (step_code numbered e)
     step_by {a = a} {b = b} e y q p = subst (λ (z : Coded). Good a b z) (sym (at_step numbered e y q)) p
 
-    given_fine : {ws : List Ty} {a b : ℕ} {e : TypedExpr} {t : TypeNo} → steps.IsGiven x result ws a b e t → Good a b (taken numbered t e)
+    given_fine : {ws : List Ty} {a b : ℕ} {e : TypedExpr} {t : TypeNo} → steps.IsGiven x result ws a b e t → Good a b (take_code numbered t e)
     given_fine {ws} {a} {b} {e} {t} p = fine_types m fs (λ types. check_taken types t (part e).constant (part e).of) (expr_fine x fs small numbered ws a b e p.of p.is) (const_taken T t (part e).constant (part e).of small.ranges)
 
-    held_given : (ws : List Ty) (a b : ℕ) (e : TypedExpr) (t : TypeNo) (h : _) → typed.IsProcedureExpr x ws a b e h → Good a b (taken numbered t e)
+    held_given : (ws : List Ty) (a b : ℕ) (e : TypedExpr) (t : TypeNo) (h : _) → typed.IsProcedureExpr x ws a b e h → Good a b (take_code numbered t e)
     held_given ws a b e t h p = fine_types m fs (λ types. check_taken types t (part e).constant (part e).of) (held_fine x fs small numbered ws a b e h p) (const_taken T t (part e).constant (part e).of small.ranges)
 
     test_fine : {ws : List Ty} {a b : ℕ} {e : TypedExpr} → steps.IsTest x result ws a b e → Good a b (part e).code
@@ -254,7 +254,7 @@ module _ (x : Context) (fs : List Ty) (small : HasSmallParts x fs) (numbered : N
           step_by (stmt.Change o d t e) (layer.Change o d t e) (stmt.outs-Change o d t e) (change_fine o t (at_place ws a b d (Cell r) p) (expr_fine x fs small numbered ws b c e u q))
       step_fine _ _ _ _ _ (steps.Member ws l a b c o d u r e cell p q) =
           step_by (stmt.Membership o d e) (layer.Membership o d e) (stmt.outs-Membership o d e) (member_fine o (at_place ws a b d (Cell r) p) (expr_fine x fs small numbered ws b c e u q))
-      step_fine _ _ _ _ _ (steps.Halt ws l a) = step_by stmt.Halt layer.Halt stmt.outs-Halt (fine_plain m fs a (const_fault halted (omega arith)))
+      step_fine _ _ _ _ _ (steps.Halt ws l a) = step_by stmt.Halt layer.Halt stmt.outs-Halt (fine_plain m fs a (const_fault halt_status (omega arith)))
       step_fine _ _ _ _ _ (steps.If ws l a b c e body p q) =
           step_by (stmt.If e body None) (layer.If e body None) (stmt.outs-If e body None)
           (fine_then m fs (test_fine p) (fine_then m fs (fine_plain m fs b (computes _ ▹ const_end)) (fine_within m fs 1 (λ code. If None code None ∷ []) only_wraps (body_fine ws l b c body q))))

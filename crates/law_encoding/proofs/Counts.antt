@@ -18,8 +18,8 @@ use Rattle.typed_tree.specs.declared.computed.TypedExpr.{TypedExpr, TypedExpr-F,
 use Rattle.typed_tree.specs.declared.computed.Place.{ind-Place}
 use Rattle.typed_tree.specs.declared.computed.Call.{ind-Call}
 use Rattle.typed_tree.specs.Types.{are_same, integer}
-use Rattle.def_scheme.specs.Coded.{Coded, Setting, Counts, plain, ◌⨾◌, all_coded, within, with_address, with_number, with_text, with_setting, number_local, address_local, top_local, operation, wrapped, checked}
-use Rattle.def_scheme.specs.Cells.{loaded, in_type}
+use Rattle.def_scheme.specs.Coded.{Coded, Setting, Counts, plain, ◌⨾◌, all_coded, within, with_address, with_number, with_text, with_setting, number_local, address_local, top_local, operation, wrap_word, check_code}
+use Rattle.def_scheme.specs.Cells.{load_code, in_type}
 use Rattle.def_scheme.specs.Exprs.{Part, Linked, Numbered, complement, empty_code, chosen_number, absolute_code, capital_code, link_code, module_call, nested_call, indirect, include_code, in_code, chain_code, root_layer, argument_layer, call_layer, component_layer, link_layer, expr_layer, place_layer, expr_part, place_code, call_code}
 use Rattle.law_encoding.specs.Sizes.{total}
 use Rattle.law_encoding.specs.TypedSizes.{size_typed, size_place, size_component, size_link, size_call, size_passed}
@@ -138,7 +138,7 @@ in_sum : (n k : ℕ) → n + (1 + k) ≤ 1 + n + k
 in_sum n k = omega arith
 
 in_grows : (n k : ℕ) {x y : Coded} → Grows n x → Grows k y → Grows (1 + n + k) (in_code x y)
-in_grows n k p q = grows_more (n + (1 + k)) (1 + n + k) (in_sum n k) (both_grow n (1 + k) p (plain_then (1 + k) (checked (pos 0) (pos 31) 1)
+in_grows n k p q = grows_more (n + (1 + k)) (1 + n + k) (in_sum n k) (both_grow n (1 + k) p (plain_then (1 + k) (check_code (pos 0) (pos 31) 1)
     (number_grows k (λ t. plain_then k (LocalSet t ∷ []) (then_plain k (LocalGet t ∷ operation ShrU ∷ I64Const 1 ∷ operation And ∷ []) q)))))
 
 own_number : (n : ℕ) → n + (1 + 0) ≤ 1 + n
@@ -292,10 +292,10 @@ module _ (numbered : Numbered) where
   call_grows (layer.Nested f args) = grows_more _ _ (one_more _) (setting_then _ top (plain_then _ (link_code numbered f.up) (then_setting _ (λ s. nested_call numbered s.home f) (args_grow args))))
   call_grows (layer.Variable t d args) =
       grows_more (size_place d.0 + (1 + total (map size_passed (map (λ (e : SA). e.0) args)))) _ (call_sum (size_place d.0) _)
-      (both_grow (size_place d.0) (1 + total (map size_passed (map (λ (e : SA). e.0) args))) (then_setting (size_place d.0) (λ s. loaded s.home.types t) d.1)
-      (plain_then _ (checked (pos 1) (pos 4294967295) 7)
+      (both_grow (size_place d.0) (1 + total (map size_passed (map (λ (e : SA). e.0) args))) (then_setting (size_place d.0) (λ s. load_code s.home.types t) d.1)
+      (plain_then _ (check_code (pos 1) (pos 4294967295) 7)
       (number_grows (total (map size_passed (map (λ (e : SA). e.0) args)))
-      (λ n. plain_then _ (LocalSet n ∷ []) (setting_then _ top (then_setting _ (λ s. LocalGet n ∷ wrapped ∷ indirect numbered s.home.types t ∷ []) (args_grow args)))))))
+      (λ n. plain_then _ (LocalSet n ∷ []) (setting_then _ top (then_setting _ (λ s. LocalGet n ∷ wrap_word ∷ indirect numbered s.home.types t ∷ []) (args_grow args)))))))
 
   component_grows : (y : Component-F SA SC SK SL SE SP) → Grows (sizes.component_layer (typed.sizes_component (bare_component y))) (component_layer (opened_component (bare_component y)))
   component_grows (layer.Field t k) = setting_grows 1 (λ s. plain_grows 1 _)
@@ -305,9 +305,9 @@ module _ (numbered : Numbered) where
   link_grows : (y : Link-F SA SC SK SL SE SP) → Grows (sizes.link_layer (typed.sizes_link (bare_link y))) (link_layer (opened_link (bare_link y))).code
   link_grows (layer.Arithmetic o t b) = grows_more (size_typed b.0) _ (one_more _) (then_setting (size_typed b.0) _ b.1)
   link_grows (layer.And b) =
-      grows_more (size_typed b.0) _ (one_more _) (plain_then (size_typed b.0) (wrapped ∷ []) (within_grows (size_typed b.0) 1 (λ code. chosen_number code (I64Const 0 ∷ []) ∷ []) b.1))
+      grows_more (size_typed b.0) _ (one_more _) (plain_then (size_typed b.0) (wrap_word ∷ []) (within_grows (size_typed b.0) 1 (λ code. chosen_number code (I64Const 0 ∷ []) ∷ []) b.1))
   link_grows (layer.Or b) =
-      grows_more (size_typed b.0) _ (one_more _) (plain_then (size_typed b.0) (wrapped ∷ []) (within_grows (size_typed b.0) 1 (λ code. chosen_number (I64Const 1 ∷ []) code ∷ []) b.1))
+      grows_more (size_typed b.0) _ (one_more _) (plain_then (size_typed b.0) (wrap_word ∷ []) (within_grows (size_typed b.0) 1 (λ code. chosen_number (I64Const 1 ∷ []) code ∷ []) b.1))
   link_grows (layer.Combine o b) = grows_more (size_typed b.0) _ (one_more _) (then_plain (size_typed b.0) _ b.1)
 
   pair_sum : (n k : ℕ) → n + k ≤ 1 + n + k

@@ -25,7 +25,7 @@ use Rattle.typed_tree.specs.declared.typed_module.Routine.{Routine}
 use Rattle.typed_tree.specs.declared.typed_module.Which.{Which}
 use Rattle.typed_tree.specs.declared.typed_module.Which.TheVariants as which
 use Rattle.typed_tree.specs.declared.typed_module.TypedModule.{TypedModule}
-use Rattle.typed_tree.specs.Names.{found, entered}
+use Rattle.typed_tree.specs.Names.{find_name, enter_name}
 use Rattle.check_scope.specs.Elaborated.{Gathers, reported_where, both, ◌▷◌}
 use Rattle.check_scope.specs.Scopes.{State}
 use Rattle.check_scope.specs.declared.known.Known.{Known}
@@ -42,12 +42,12 @@ use Rattle.check_block.specs.Nesting.{procedure_ends}
 use Rattle.check_body.specs.Own.{with_own_name, with_heading_of, with_exported_heading, implementation_scope}
 use Rattle.check_body.specs.declared.routine.Bodies.{Bodies}
 use Rattle.check_body.specs.declared.routine.Numbered.{Numbered}
-use Rattle.check_body.specs.Routines.{unfilled, filled, routine, typed_module}
+use Rattle.check_body.specs.Routines.{empty_routine, put_routine, routine, typed_module}
 use Rattle.check_body.specs.declared.procedure.Walk.{Walk}
 use Rattle.check_body.specs.Elaborating.{Elaborates}
 use Rattle.check_body.specs.Inside.{which_of, begun_procedure, with_routine}
 use Rattle.check_body.specs.Bodies.{Steps, Checks, ChecksBlock, marked_by, declared_by, checked_by, begun_from, with_body, procedure_checked, steps_layer, block_layer, steps, checks_block, checks_decl, bodies_checked}
-use Rattle.check_body.specs.Checked.{begun_module, walked, of_walk, of_implementation, of_contents, checked}
+use Rattle.check_body.specs.Checked.{begun_module, walk_body, of_walk, of_implementation, of_contents, body_module}
 use Rattle.law_well_formed.specs.FormedBodies.{FormsStatements}
 use Rattle.law_well_formed.specs.FormedScopes.{is_awaiting}
 use Rattle.law_well_formed.proofs.ImportsLists.{same_is}
@@ -71,7 +71,7 @@ length_set [] n r = refl
 length_set (x ∷ rs) zero r = refl
 length_set (x ∷ rs) (suc n) r = ap suc (length_set rs n r)
 
-filled_same : (rs : Bodies) (w : Which) (r : Routine) → length (filled rs w r).procedures ≡ length rs.procedures
+filled_same : (rs : Bodies) (w : Which) (r : Routine) → length (put_routine rs w r).procedures ≡ length rs.procedures
 filled_same rs (which.Module k) r = length_set rs.procedures k r
 filled_same rs (which.Local k) r = refl
 
@@ -224,9 +224,9 @@ one_more : (a b n : ℕ) → b ≡ a + (n + 0) → b ≤ a + n
 one_more a b n e = omega (arith, e)
 
 abbrev AreNew : {T : Type 0} → Names T → List (List ℕ × Meaning) → Type 0
-AreNew ns es = AllByRecursion (λ e. found e.0 ns ≡ None) es
+AreNew ns es = AllByRecursion (λ e. find_name e.0 ns ≡ None) es
 
-still_new : {T : Type 0} (ns : Names T) (name : List ℕ) (k : Known T) (es : List (List ℕ × Meaning)) → AllByRecursion (λ y. name ≡ y → ⊥) (map (λ (e : List ℕ × Meaning). e.0) es) → AreNew ns es → AreNew (entered name k ns) es
+still_new : {T : Type 0} (ns : Names T) (name : List ℕ) (k : Known T) (es : List (List ℕ × Meaning)) → AllByRecursion (λ y. name ≡ y → ⊥) (map (λ (e : List ℕ × Meaning). e.0) es) → AreNew ns es → AreNew (enter_name name k ns) es
 still_new ns name k [] d n = tt
 still_new ns name k (e ∷ es) d n = (found_other name k ns e.0 (other_name e.0 name d.0) ∙ n.0, still_new ns name k es d.1 n.1)
 
@@ -245,9 +245,9 @@ module _ (weight : TypeNo → ℕ) where
   new_by true k e es more o h i = absurd cc
   new_by false k e es more o h i = new_behind (of_known e.1) (awaiting weight es) (awaiting weight more) (of_known k) (i h)
 
-  new_awaits : {T : Type 0} (name : List ℕ) (k : Known T) (es : Names T) → found name es ≡ None → awaiting weight es + of_known k ≤ awaiting weight (entered name k es)
+  new_awaits : {T : Type 0} (name : List ℕ) (k : Known T) (es : Names T) → find_name name es ≡ None → awaiting weight es + of_known k ≤ awaiting weight (enter_name name k es)
   new_awaits name k [] h = new_here (of_known k)
-  new_awaits name k (e ∷ es) h = new_by (same_name name e.0) k e es (entered name k es) (found name es) h (new_awaits name k es)
+  new_awaits name k (e ∷ es) h = new_by (same_name name e.0) k e es (enter_name name k es) (find_name name es) h (new_awaits name k es)
 
   heading_awaits : (ts : List TypeNo) (m : Meaning) → sum_of weight (with_heading_of ts m) ≤ sum_of weight ts + of_standing (standing_of m)
   heading_awaits ts (meaning.Procedure p) = one_more (sum_of weight ts) _ (weight p.heading) (sum_append weight ts (p.heading ∷ []))
@@ -301,7 +301,7 @@ module _ (weight : TypeNo → ℕ) (count : Heading → ℕ) (g : Gathers) (modu
   imported = fold (with_import g modules) (s, Ok tt) m.imports
 
   imports_stay : Stays weight s imported.0
-  imports_stay = imports_keep g (λ z. Stays weight s z) (λ z name k e h. stays_then h (known_stays z name k (free_unawaited (found name z.own) e))) modules m.imports (s, Ok tt) (stays_refl s)
+  imports_stay = imports_keep g (λ z. Stays weight s z) (λ z name k e h. stays_then h (known_stays z name k (free_unawaited (find_name name z.own) e))) modules m.imports (s, Ok tt) (stays_refl s)
 
   abbrev marks : Scope g.Reported × List ℕ
   marks = fold (with_marks marked_decl) (imported.0, []) ds
@@ -345,7 +345,7 @@ count_one : (hs : List TypeNo) → sum_of one hs ≡ length hs
 count_one [] = refl
 count_one (h ∷ hs) = next_count (sum_of one hs) (length hs) (count_one hs)
 
-count_map : (hs : List TypeNo) → length (map unfilled hs) ≡ length hs
+count_map : (hs : List TypeNo) → length (map empty_routine hs) ≡ length hs
 count_map [] = refl
 count_map (h ∷ hs) = ap suc (count_map hs)
 
@@ -401,7 +401,7 @@ module _ (g : Gathers) (elaborates : Elaborates g.Reported) (forms : FormsStatem
 
   walk_few : (modules : List (List ℕ × ℕ)) (s : Scope g.Reported) (own : Option Table) (m : Module) (b : Block) → AwaitsAll one s → AtMost procedures_of (declared_headings (out-Block b).decls) (of_walk g elaborates modules s own m b)
   walk_few modules s own m b start =
-      let c = walked g elaborates modules (procedure_ends (out-Block b).decls) s m b in
+      let c = walk_body g elaborates modules (procedure_ends (out-Block b).decls) s m b in
       both_few (declared_headings (out-Block b).decls) c.0.so_far c.1 (λ ys. typed_module c.0.scope modules own m c.0.bodies ys) (λ ys e. bodies_few modules s m (out-Block b).decls start e)
 
   implementation_few : (m : Module) (o : Option Table) (tables : List Table) (b : Block) → ExportsOnce o → AtMost procedures_of (declared_headings (out-Block b).decls) (of_implementation g elaborates m o tables b)
@@ -413,5 +413,5 @@ module _ (g : Gathers) (elaborates : Elaborates g.Reported) (forms : FormsStatem
   contents_few number m own tables (contents.Implementation b) once = implementation_few m own tables b once
   contents_few number m own tables (contents.Program b) once = walk_few _ (first_scope number tables) None m b (nothing_in _)
 
-  pub procedures_declared : (number : ℕ) (m : Module) (own : Option Table) (tables : List Table) → ExportsOnce own → AtMost procedures_of (outermost_in m.contents) (checked g elaborates number m own tables)
+  pub procedures_declared : (number : ℕ) (m : Module) (own : Option Table) (tables : List Table) → ExportsOnce own → AtMost procedures_of (outermost_in m.contents) (body_module g elaborates number m own tables)
   procedures_declared number m own tables once = contents_few number m own (tables ++ console ∷ []) m.contents once

@@ -24,12 +24,12 @@ use Rattle.check_block.specs.Declarations.{all_declared}
 use Rattle.check_block.specs.Nesting.{procedure_ends}
 use Rattle.check_body.specs.declared.routine.Bodies.{Bodies}
 use Rattle.check_body.specs.declared.routine.Numbered.{Numbered}
-use Rattle.check_body.specs.Routines.{unfilled, begun_at, filled, routine, typed_module}
+use Rattle.check_body.specs.Routines.{empty_routine, begun_at, put_routine, routine, typed_module}
 use Rattle.check_body.specs.declared.procedure.Walk.{Walk}
 use Rattle.check_body.specs.Elaborating.{Elaborates, statements_of}
 use Rattle.check_body.specs.Inside.{which_of, begun_procedure, with_routine}
 use Rattle.check_body.specs.Bodies.{Steps, Checks, ChecksBlock, marked_by, declared_by, checked_by, begun_from, with_body, with_bodies, procedure_checked, steps_layer, block_layer, steps, checks_block, checks_decl, bodies_checked}
-use Rattle.check_body.specs.Checked.{begun_module, walked, of_walk, of_implementation, of_contents, checked}
+use Rattle.check_body.specs.Checked.{begun_module, walk_body, of_walk, of_implementation, of_contents, body_module}
 use Rattle.law_encoding.specs.Nesting.{◌⊔◌, deepest_of, deepest, depth_decl, depth_block, depth_stmts, depth_stmts_if, depth_contents, depth_module}
 use Rattle.law_encoding.specs.Nesting as nesting
 use Rattle.law_encoding.specs.TypedNesting.{depth_body, depth_routine, depth_bodies}
@@ -66,16 +66,16 @@ first_filled a b c d n m h k l = omega (arith, h, k, l)
 second_filled : (a b c d n m : ℕ) → a ≤ b ⊔ c → d ⊔ b ≤ n → c ≤ m → d ⊔ a ≤ n ⊔ m
 second_filled a b c d n m h k l = omega (arith, h, k, l)
 
-filled_most : (n m : ℕ) (rs : Bodies) (w : Which) (r : Routine) → depth_so_far rs ≤ n → depth_routine r ≤ m → depth_so_far (filled rs w r) ≤ n ⊔ m
+filled_most : (n m : ℕ) (rs : Bodies) (w : Which) (r : Routine) → depth_so_far rs ≤ n → depth_routine r ≤ m → depth_so_far (put_routine rs w r) ≤ n ⊔ m
 filled_most n m rs (which.Module k) r p q = first_filled _ _ _ _ n m (set_most rs.procedures k r) p q
 filled_most n m rs (which.Local k) r p q = second_filled _ _ _ _ n m (set_most rs.locals k r) p q
 
 begun_sum : (a b c n : ℕ) → b ≡ c ⊔ (0 ⊔ 0) → a ⊔ c ≤ n → a ⊔ b ≤ n
 begun_sum a b c n e l = omega (arith, e, l)
 
-begun_by : (b : Bool) (n : ℕ) (rs : Bodies) → depth_so_far rs ≤ n → depth_so_far (cond b rs (record rs { locals = rs.locals ++ unfilled integer ∷ [] })) ≤ n
+begun_by : (b : Bool) (n : ℕ) (rs : Bodies) → depth_so_far rs ≤ n → depth_so_far (cond b rs (record rs { locals = rs.locals ++ empty_routine integer ∷ [] })) ≤ n
 begun_by true n rs p = p
-begun_by false n rs p = begun_sum _ _ _ n (deepest_append depth_routine rs.locals (unfilled integer ∷ [])) p
+begun_by false n rs p = begun_sum _ _ _ n (deepest_append depth_routine rs.locals (empty_routine integer ∷ [])) p
 
 begun_most : (n level : ℕ) (rs : Bodies) → depth_so_far rs ≤ n → depth_so_far (begun_at level rs) ≤ n
 begun_most n level rs p = begun_by (level == 0) n rs p
@@ -225,7 +225,7 @@ module _ (g : Gathers) (elaborates : Elaborates g.Reported) (small : (s : Scope 
     none_sum : (n : ℕ) → n ≤ 0 → 0 ⊔ n ≤ 0
     none_sum n l = omega (arith, l)
 
-    none_yet : (hs : List TypeNo) → deepest_of depth_routine (map unfilled hs) ≤ 0
+    none_yet : (hs : List TypeNo) → deepest_of depth_routine (map empty_routine hs) ≤ 0
     none_yet [] = omega arith
     none_yet (h ∷ hs) = none_sum _ (none_yet hs)
 
@@ -249,7 +249,7 @@ module _ (g : Gathers) (elaborates : Elaborates g.Reported) (small : (s : Scope 
   of_walk_most : (modules : List (List ℕ × ℕ)) (s : Scope g.Reported) (own : Option Table) (m : Module) (b : Block) → AtMost depth_bodies (depth_block b) (of_walk g elaborates modules s own m b)
   of_walk_most modules s own m b =
       let ends = procedure_ends (out-Block b).decls in
-      let c = walked g elaborates modules ends s m b in
+      let c = walk_body g elaborates modules ends s m b in
       then_most (both_most g (any_most c.0.so_far) (statements_most c.0.scope None (out-Block b).body))
       (λ p l. fine (typed_module c.0.scope modules own m c.0.bodies p.1) (module_sum _ _ _ _ _ (block_depth b) (walked_bodies ends modules s m (out-Block b).decls) l))
 
@@ -262,5 +262,5 @@ module _ (g : Gathers) (elaborates : Elaborates g.Reported) (small : (s : Scope 
   contents_most number m own tables (contents.Implementation b) = of_implementation_most m own tables b
   contents_most number m own tables (contents.Program b) = of_walk_most _ _ None m b
 
-  pub module_most : (number : ℕ) (m : Module) (own : Option Table) (tables : List Table) → AtMost depth_bodies (depth_module m) (checked g elaborates number m own tables)
+  pub module_most : (number : ℕ) (m : Module) (own : Option Table) (tables : List Table) → AtMost depth_bodies (depth_module m) (body_module g elaborates number m own tables)
   module_most number m own tables = contents_most number m own _ m.contents

@@ -18,7 +18,7 @@ use Rattle.typed_tree.specs.declared.types.TypeNo.{TypeNo}
 use Rattle.typed_tree.specs.Types.{is_numeric, cardinal}
 use Rattle.check_scope.specs.Elaborated.{Gathers}
 use Rattle.check_operator.specs.Classes.{class_at}
-use Rattle.check_operator.specs.Values.{given_as, given, loaded_as, loaded, taken}
+use Rattle.check_operator.specs.Values.{given_as, function_result, loaded_as, variable_value, value_at_place}
 use Rattle.check_operator.specs.declared.class.Class.{Class}
 use Rattle.check_operator.specs.declared.class.Class.TheVariants as class
 use Rattle.check_operator.specs.declared.computed.Computed.{Computed}
@@ -26,7 +26,7 @@ use Rattle.check_operator.specs.declared.computed.Computed.TheVariants as value
 use Rattle.check_operator.specs.declared.computed.Designated.{Designated}
 use Rattle.check_operator.specs.declared.computed.Designated.TheVariants as designated
 use Rattle.check_call.specs.Actuals.{variable_passed, open_passed, text_argument, text_passed, open_value, whole_passed, simple_passed, passed_as, value_passed, actual}
-use Rattle.check_call.specs.Callees.{held_by, callee_of, call_by}
+use Rattle.check_call.specs.Callees.{callee_in_variable, callee_of, call_by}
 use Rattle.check_call.specs.Functions.{unary_takes, unary_built, unary_at, bound_at, converted_value, conversion_at, high_of}
 use Rattle.check_call.specs.declared.callee.Callee.{Callee}
 use Rattle.check_call.specs.declared.callee.Callee.TheVariants as callee
@@ -77,12 +77,12 @@ module _ (g : Gathers) (types : Types) where
   given_as_most n t e class.Procedure p = p
   given_as_most n t e class.Whole p = omega arith
 
-  pub given_most : (n : ℕ) (t : TypeNo) (e : TypedExpr) → depth_typed e ≤ n → depth_value (given types t e) ≤ n
+  pub given_most : (n : ℕ) (t : TypeNo) (e : TypedExpr) → depth_typed e ≤ n → depth_value (function_result types t e) ≤ n
   given_most n t e p = given_as_most n t e (class_at types t) p
 
-  pub taken_most : (n : ℕ) (at : Pos) (d : Designated) → depth_designated d ≤ n → AtMost depth_value n (taken g types at d)
+  pub taken_most : (n : ℕ) (at : Pos) (d : Designated) → depth_designated d ≤ n → AtMost depth_value n (value_at_place g types at d)
   taken_most n at (designated.Value x) p = fine x p
-  taken_most n at (designated.Variable t d) p = fine (loaded types t d) (loaded_as_most n t d (class_at types t) p)
+  taken_most n at (designated.Variable t d) p = fine (variable_value types t d) (loaded_as_most n t d (class_at types t) p)
   taken_most n at (designated.Open t slot) p = fine value.Untaken (omega arith)
   taken_most n at (designated.Type t) p = reported_most g at rule.WrongType
   taken_most n at (designated.Procedure f) p = fine (value.Procedure f) (omega (arith, p))
@@ -183,7 +183,7 @@ module _ (g : Gathers) (types : Types) where
 
   -- ---- callees
 
-  held_most : (n : ℕ) (at : Pos) (t : TypeNo) (d : Place) (c : Class) → 1 ⊔ depth_place d ≤ n → AtMost depth_called n (held_by g at t d c)
+  held_most : (n : ℕ) (at : Pos) (t : TypeNo) (d : Place) (c : Class) → 1 ⊔ depth_place d ≤ n → AtMost depth_called n (callee_in_variable g at t d c)
   held_most n at t d class.Procedure p = fine (called.Routine t (callee.Variable t d)) p
   held_most n at t d (class.Scalar s) p = reported_most g at rule.WrongType
   held_most n at t d class.Set p = reported_most g at rule.WrongType

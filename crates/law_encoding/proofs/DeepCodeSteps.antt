@@ -16,7 +16,7 @@ use Rattle.layout_storage.specs.Sizes.{size}
 use Rattle.std.proofs.lemmas.Bool.{leb-true}
 use Rattle.def_scheme.specs.Coded.{Coded, all_coded, relation, put}
 use Rattle.def_scheme.specs.Exprs.{Numbered, Part, expr_part}
-use Rattle.def_scheme.specs.Steps.{Arm, block, loop, block_loop, leaving, under, if_else, tests_code, arm_code, chain_code, all_labels, least_of, span_of, is_dense, boxed, jump_arms, table_code, case_code, passes, for_turn, for_code, change_code, member_code, copy_text_code, step_layer, arm_layer, step_code, body_code}
+use Rattle.def_scheme.specs.Steps.{Arm, block, loop, block_loop, leaving, under, if_else, tests_code, arm_code, chain_code, all_labels, least_of, span_of, is_dense, in_block, jump_arms, table_code, case_code, passes, for_turn, for_code, change_code, member_code, copy_text_code, step_layer, arm_layer, step_code, body_code}
 use Rattle.law_encoding.specs.Nesting.{◌⊔◌, deepest, case_levels, if_levels, loop_levels}
 use Rattle.law_encoding.specs.CodeNesting.{levels}
 use Rattle.law_encoding.specs.TypedNesting.{depth_typed, depth_place, depth_call, depth_step, depth_arm, depth_body}
@@ -49,7 +49,7 @@ leaving_nests n k exit wrap h p = record { at_most = λ s c. h _ (p.at_most (rec
 under_nests : (n w : ℕ) {x : Coded} → Nests n x → Nests n (under w x)
 under_nests n w p = record { at_most = λ s c. p.at_most (record s { withs = s.withs ++ w ∷ [] }) c }
 
-boxed_nests : (n : ℕ) {x : Coded} → Nests n x → Nests (1 + n) (boxed x)
+boxed_nests : (n : ℕ) {x : Coded} → Nests n x → Nests (1 + n) (in_block x)
 boxed_nests n p = record { at_most = λ s c. block_wraps n _ (p.at_most s c) }
 
 one_side : (m a n : ℕ) → m ≡ 1 + (a ⊔ 0) → a ≤ n → m ≤ 1 + n

@@ -14,12 +14,12 @@ use Rattle.layout_storage.specs.Sizes.{size}
 use Rattle.layout_storage.specs.Shapes.{tree}
 use Rattle.layout_storage.specs.Frames.{formals_of, frame}
 use Rattle.layout_storage.specs.Texts.{characters, texts_before}
-use Rattle.def_scheme.specs.Coded.{Counts, wrapped, copy}
+use Rattle.def_scheme.specs.Coded.{Counts, wrap_word, copy}
 use Rattle.def_scheme.specs.Cells.{word}
 use Rattle.def_scheme.specs.Exprs.{Numbered, arguments_of, has_result}
 use Rattle.def_scheme.specs.Functions.{numbers_of, link_arguments, limit_check, enter_code, link_kept, formal_address, word_kept, value_kept, bytes_code, open_copied, formal_kept, formals_kept, prologue, function_of, end_code, routine_coded, routine_function, functions_from, module_coded, module_function}
 use Rattle.def_scheme.specs.Helpers.{copy_turn, copy_code, fill_turn, fill_code, check_tests, check_code, divisor_checked, div_rest, mod_rest}
-use Rattle.def_scheme.specs.Modules.{Part, part_of, stack_begin, calls_from, typed_link, helpers, numbered, functions}
+use Rattle.def_scheme.specs.Modules.{Part, part_of, stack_begin, calls_from, typed_link, helpers, numbering_of, functions}
 use Rattle.law_encoding.specs.Nesting.{◌⊔◌, deepest_of}
 use Rattle.law_encoding.specs.TypedNesting.{depth_body, depth_routine, depth_bodies}
 use Rattle.law_encoding.specs.CodeNesting.{levels, function_levels}
@@ -55,7 +55,7 @@ flat_formal_address f v path = gets 0 ▹ flat_raised _
 flat_word_kept : (f : Ty) (v : ℕ) (path : List ℕ) {value : List Instr} → Flat value → Flat (word_kept f v path value)
 flat_word_kept f v path p = flat_both (flat_formal_address f v path) (flat_both p (flat_store word))
 
-flat_copied : (f : Ty) (v x bytes : ℕ) → Flat (formal_address f v [] ++ (LocalGet x ∷ wrapped ∷ I32Const bytes ∷ Call copy ∷ []))
+flat_copied : (f : Ty) (v x bytes : ℕ) → Flat (formal_address f v [] ++ (LocalGet x ∷ wrap_word ∷ I32Const bytes ∷ Call copy ∷ []))
 flat_copied f v x bytes = flat_both (flat_formal_address f v []) (gets x ▹ computes _ ▹ address bytes ▹ calls _ ▹ flat_end)
 
 flat_value_kept : (f : Ty) (v x : ℕ) (t : Ty) → Flat (value_kept f v x t)
@@ -103,9 +103,9 @@ function_low : (n t : ℕ) (before : List Instr) (x : List Instr × Counts) (aft
 function_low n t before x after p h q =
     around_body _ (levels before) (levels (x.0 ++ after)) (levels x.0) (levels after) n (levels_append before (x.0 ++ after)) (levels_append x.0 after) p.low h q.none
 
-module _ (numbered : Numbered) (m : TypedModule) where
-  routine_low : (w : Which) (r : Routine) → function_levels (routine_function numbered m w r) ≤ 1 ⊔ depth_routine r
-  routine_low w r = function_low (depth_routine r) (numbered (numbers_of m.types r) (has_result m.types r.heading)) _ (routine_coded numbered m r (characters (texts_before m w m.order))) _ (low_prologue m.types r _ _) ((body_levels numbered r.body).at_most _ _) (flat_end_code _)
+module _ (numbering_of : Numbered) (m : TypedModule) where
+  routine_low : (w : Which) (r : Routine) → function_levels (routine_function numbering_of m w r) ≤ 1 ⊔ depth_routine r
+  routine_low w r = function_low (depth_routine r) (numbering_of (numbers_of m.types r) (has_result m.types r.heading)) _ (routine_coded numbering_of m r (characters (texts_before m w m.order))) _ (low_prologue m.types r _ _) ((body_levels numbering_of r.body).at_most _ _) (flat_end_code _)
 
   one_more_function : (a b c d : ℕ) → a ≤ 1 ⊔ c → b ≤ 1 ⊔ d → a ⊔ b ≤ 1 ⊔ (c ⊔ d)
   one_more_function a b c d h l = omega (arith, h, l)
@@ -113,12 +113,12 @@ module _ (numbered : Numbered) (m : TypedModule) where
   no_function : 0 ≤ 1 ⊔ 0
   no_function = omega arith
 
-  routines_low : (w : ℕ → Which) (n : ℕ) (rs : List Routine) → deepest_of function_levels (functions_from numbered m w n rs) ≤ 1 ⊔ deepest_of depth_routine rs
+  routines_low : (w : ℕ → Which) (n : ℕ) (rs : List Routine) → deepest_of function_levels (functions_from numbering_of m w n rs) ≤ 1 ⊔ deepest_of depth_routine rs
   routines_low w n [] = no_function
   routines_low w n (r ∷ rs) = one_more_function _ _ _ _ (routine_low (w n) r) (routines_low w (suc n) rs)
 
-  body_low : function_levels (module_function numbered m) ≤ 1 ⊔ depth_body m.body
-  body_low = function_low (depth_body m.body) 5 _ (module_coded numbered m) [] (low_enter 1 _) ((body_levels numbered m.body).at_most _ _) flat_end
+  body_low : function_levels (module_function numbering_of m) ≤ 1 ⊔ depth_body m.body
+  body_low = function_low (depth_body m.body) 5 _ (module_coded numbering_of m) [] (low_enter 1 _) ((body_levels numbering_of m.body).at_most _ _) flat_end
 
 -- ---- helpers
 
@@ -171,10 +171,10 @@ functions_sum all h rest b rs p x y z e f g i j k = omega (arith, e, f, g, i, j,
 
 pub functions_low : (m : TypedModule) → deepest_of function_levels (functions m) ≤ 2 ⊔ depth_bodies m
 functions_low m =
-    functions_sum _ (deepest_of function_levels helpers) _ (function_levels (module_function (numbered m) m)) _ _ (deepest_of depth_routine m.procedures) (deepest_of depth_routine m.locals) (depth_body m.body)
-    (deepest_append function_levels helpers (module_function (numbered m) m ∷ (functions_from (numbered m) m which.Module 0 m.procedures ++ functions_from (numbered m) m which.Local 0 m.locals)))
-    (deepest_append function_levels (functions_from (numbered m) m which.Module 0 m.procedures) (functions_from (numbered m) m which.Local 0 m.locals))
-    helpers_low (body_low (numbered m) m) (routines_low (numbered m) m which.Module 0 m.procedures) (routines_low (numbered m) m which.Local 0 m.locals)
+    functions_sum _ (deepest_of function_levels helpers) _ (function_levels (module_function (numbering_of m) m)) _ _ (deepest_of depth_routine m.procedures) (deepest_of depth_routine m.locals) (depth_body m.body)
+    (deepest_append function_levels helpers (module_function (numbering_of m) m ∷ (functions_from (numbering_of m) m which.Module 0 m.procedures ++ functions_from (numbering_of m) m which.Local 0 m.locals)))
+    (deepest_append function_levels (functions_from (numbering_of m) m which.Module 0 m.procedures) (functions_from (numbering_of m) m which.Local 0 m.locals))
+    helpers_low (body_low (numbering_of m) m) (routines_low (numbering_of m) m which.Module 0 m.procedures) (routines_low (numbering_of m) m which.Local 0 m.locals)
 
 flat_calls : (stack g : ℕ) (ms : List Part) → Flat (calls_from stack g ms)
 flat_calls stack g [] = flat_end

@@ -13,7 +13,7 @@ use Rattle.typed_tree.specs.declared.meaning.Meaning.TheVariants as meaning
 use Rattle.typed_tree.specs.declared.statement.TypedStmt.{TypedStmt}
 use Rattle.typed_tree.specs.declared.statement.TypedStmt.TheVariants as step
 use Rattle.typed_tree.specs.declared.types.TypeNo.{TypeNo}
-use Rattle.typed_tree.specs.Chains.{rooted}
+use Rattle.typed_tree.specs.Chains.{root_place}
 use Rattle.typed_tree.specs.Types.{boolean}
 use Rattle.check_scope.specs.Elaborated.{Gathers, reported_where}
 use Rattle.check_scope.specs.declared.scope.Scope.{Scope}
@@ -31,8 +31,8 @@ use Rattle.check_operator.specs.declared.side.Amount.TheVariants.{Known, Run}
 use Rattle.check_operator.specs.declared.side.Side.{Side}
 use Rattle.check_operator.specs.declared.side.Side.TheVariants as side
 use Rattle.check_expr.specs.Meanings.{Meant}
-use Rattle.check_stmt_parts.specs.Simple.{exited, given_back, returned, condition, selector_amount, selector_of, selected, record_by, record_of}
-use Rattle.check_stmt_parts.specs.Control.{controlled_as, controlled, control_by, control_of, start_at, limit_number, limit_by, limit_at, type_of, base_of, course_of, step_of, repeated_for}
+use Rattle.check_stmt_parts.specs.Simple.{exit_statement, given_back, return_statement, condition, selector_amount, selector_of, case_selector, record_by, record_of}
+use Rattle.check_stmt_parts.specs.Control.{controlled_as, control_variable, control_by, control_of, start_at, limit_number, limit_by, limit_at, type_of, base_of, course_of, step_of, repeated_for}
 use Rattle.check_stmt_parts.specs.declared.around.Around.{Around}
 use Rattle.check_stmt_parts.specs.declared.control.Control.{Control}
 use Rattle.check_stmt_parts.specs.declared.control.Course.{Course}
@@ -88,7 +88,7 @@ module _ (g : Gathers) (s : Scope g.Reported) where
   exited_as at true = fine step.Exit (le_of _ 1 step_exit)
   exited_as at false = reported_most g at rule.LonelyExit
 
-  pub exited_most : (at : Pos) (a : Around g.Reported) → Stmt_ 1 (exited g at a)
+  pub exited_most : (at : Pos) (a : Around g.Reported) → Stmt_ 1 (exit_statement g at a)
   exited_most at a = exited_as at a.in_loop
 
   give_sum : (a e n : ℕ) → a ≡ 1 ⊔ e → e ≤ n → a ≤ 1 ⊔ n
@@ -106,7 +106,7 @@ module _ (g : Gathers) (s : Scope g.Reported) where
   one_of : (a n : ℕ) → a ≡ 1 → a ≤ 1 ⊔ n
   one_of a n e = omega (arith, e)
 
-  pub returned_most : (n : ℕ) (at : Pos) (o : Option (Result TypeNo g.Reported)) (x : Option (Meant g.Reported)) → KnownIf n x → Stmt_ (1 ⊔ n) (returned g s at o x)
+  pub returned_most : (n : ℕ) (at : Pos) (o : Option (Result TypeNo g.Reported)) (x : Option (Meant g.Reported)) → KnownIf n x → Stmt_ (1 ⊔ n) (return_statement g s at o x)
   returned_most n at None None p = fine step.Return (one_of _ n step_return)
   returned_most n at None (Some x) p = reported_beside_most g at rule.WrongReturn _
   returned_most n at (Some t) None p = reported_most g at rule.WrongReturn
@@ -128,7 +128,7 @@ module _ (g : Gathers) (s : Scope g.Reported) where
   selector_most n at (Some (side.Routine t e)) p = reported_most g at rule.WrongType
   selector_most n at (Some (side.Procedure f)) p = reported_most g at rule.WrongType
 
-  pub selected_most : (n : ℕ) (x : Meant g.Reported) → FM g s n x → AtMost depth_selector n (selected g s x)
+  pub selected_most : (n : ℕ) (x : Meant g.Reported) → FM g s n x → AtMost depth_selector n (case_selector g s x)
   selected_most n x p = then_most (value_most g s n x p) (λ v k. selector_most n x.fixed.at (side_of v) (le_trans _ _ n (side_most v) k))
 
   -- ---- FOR
@@ -145,8 +145,8 @@ module _ (g : Gathers) (s : Scope g.Reported) where
   at_most_one : (n : ℕ) → n ≡ 1 → n ≤ 1
   at_most_one n e = omega (arith, e)
 
-  controlled_most : (at : Pos) (t : TypeNo) (r : Root) → AtMost depth_control 1 (controlled g s.types at t (rooted r))
-  controlled_most at t r = controlled_as_most at t (rooted r) (class_at s.types t) (at_most_one _ (rooted_depth r))
+  controlled_most : (at : Pos) (t : TypeNo) (r : Root) → AtMost depth_control 1 (control_variable g s.types at t (root_place r))
+  controlled_most at t r = controlled_as_most at t (root_place r) (class_at s.types t) (at_most_one _ (rooted_depth r))
 
   control_by_most : (at : Pos) (x : Meaning) → AtMost depth_control 1 (control_by g s at x)
   control_by_most at (meaning.Constant v) = reported_most g at rule.WrongControl

@@ -19,7 +19,7 @@ use Rattle.m2_tree.specs.declared.decl.Module.{Module}
 use Rattle.def_grammar.specs.Rule.{Rule, Ast, module_rule, import_rule, idents_rule, def_rule, block_rule, decl_rule, constant_rule, type_decl_rule, variables_rule, formals_rule, section_rule, formal_rule, qual_rule, simple_rule, type_rule, dims_rule, parameter_rule, field_rule, stmts_rule, stmt_rule, rest_rule, arm_rule, item_rule, desig_rule, selectors_rule, args_rule, expr_rule, sum_rule, term_rule, factor_rule, set_rule}
 use Rattle.def_grammar.specs.Grammar.{Ty, ast, El, Gr, tok, rule, ◌·◌, ◌∣◌, lead, trail, opt, many, nest, named, ◌▸◌}
 use Rattle.def_grammar.specs.Ebnf.{grammar, symbol, selector, expr, stmt, stmts, arm, arms, else_part, step}
-use Rattle.def_grammar.specs.Trees.{ident_of, literal_said, with_first, present, joined, is_there, sign_of, added, multiplied, selected, held_by, tree}
+use Rattle.def_grammar.specs.Trees.{ident_of, literal_said, with_first, present, flatten_lists, is_there, sign_of, add_operand, multiply_operand, selectors_of, contents_with, tree}
 use Rattle.def_grammar.specs.Spelling.{Spells, one, made, pair, left, right, before, behind, absent, there_is, none, more, nested, closed}
 use Rattle.def_grammar.specs.Spelling.{Breaks, too_deep, in_rule, in_first, in_second, in_left, in_right, in_rest, in_front, in_opt, in_turn_now, in_turn_later, in_nest, in_named}
 use Rattle.def_grammar.specs.declared.refusal.Fault.TheVariants.{TooDeep}
@@ -121,14 +121,14 @@ related_below x (Some p) = two_below (depth_expr x) (depth_expr p.1) _ (relation
 add_step : (e c d : ℕ) → 1 + c ≤ 1 ⊔ d → 1 + ((1 + e) ⊔ c) ≤ 1 ⊔ ((4 ⊔ (2 + e)) ⊔ d)
 add_step e c d h = omega (arith, h)
 
-adds_below : (ps : List (Token × Expr)) → 1 + deepest_of depth_operand (map added ps) ≤ 1 ⊔ deepest_of (λ (p : Token × Expr). 4 ⊔ (2 + depth_expr p.1)) ps
+adds_below : (ps : List (Token × Expr)) → 1 + deepest_of depth_operand (map add_operand ps) ≤ 1 ⊔ deepest_of (λ (p : Token × Expr). 4 ⊔ (2 + depth_expr p.1)) ps
 adds_below [] = omega arith
 adds_below (p ∷ ps) = add_step (depth_expr p.1) _ _ (adds_below ps)
 
 times_step : (e c d : ℕ) → 2 + c ≤ 2 ⊔ d → 2 + ((1 + e) ⊔ c) ≤ 2 ⊔ ((4 ⊔ (3 + e)) ⊔ d)
 times_step e c d h = omega (arith, h)
 
-times_below : (ps : List (Token × Expr)) → 2 + deepest_of depth_operand (map multiplied ps) ≤ 2 ⊔ deepest_of (λ (p : Token × Expr). 4 ⊔ (3 + depth_expr p.1)) ps
+times_below : (ps : List (Token × Expr)) → 2 + deepest_of depth_operand (map multiply_operand ps) ≤ 2 ⊔ deepest_of (λ (p : Token × Expr). 4 ⊔ (3 + depth_expr p.1)) ps
 times_below [] = omega arith
 times_below (p ∷ ps) = times_step (depth_expr p.1) _ _ (times_below ps)
 
@@ -140,15 +140,15 @@ with_sign n a c d e h = omega (arith, e, h)
 
 sum_below : (o : Option Token) (x : Expr) (ps : List (Token × Expr)) → Shallow sum_rule (o, (x, ps))
 sum_below None x [] = omega arith
-sum_below None x (p ∷ ps) = one_more _ (depth_expr x) (depth_expr p.1) _ _ (sum_depth None x (map added (p ∷ ps))) (adds_below ps)
-sum_below (Some t) x ps = with_sign _ (depth_expr x) _ _ (sum_depth (Some (sign_of t)) x (map added ps)) (adds_below ps)
+sum_below None x (p ∷ ps) = one_more _ (depth_expr x) (depth_expr p.1) _ _ (sum_depth None x (map add_operand (p ∷ ps))) (adds_below ps)
+sum_below (Some t) x ps = with_sign _ (depth_expr x) _ _ (sum_depth (Some (sign_of t)) x (map add_operand ps)) (adds_below ps)
 
 added_to : (n a c d : ℕ) → n ≡ a ⊔ c → 2 + c ≤ 2 ⊔ d → 2 + n ≤ (3 + a) ⊔ d
 added_to n a c d e h = omega (arith, e, h)
 
 term_below : (x : Expr) (ps : List (Token × Expr)) → Shallow term_rule (x, ps)
 term_below x [] = omega arith
-term_below x (p ∷ ps) = added_to _ (depth_expr x) _ _ (term_depth x (map multiplied (p ∷ ps))) (times_below (p ∷ ps))
+term_below x (p ∷ ps) = added_to _ (depth_expr x) _ _ (term_depth x (map multiply_operand (p ∷ ps))) (times_below (p ∷ ps))
 
 set_begun : (n : ℕ) → n ≡ 1 → 3 + n ≤ 4 ⊔ 4
 set_begun n e = omega (arith, e)
@@ -198,14 +198,14 @@ first_index n e c d q h = omega (arith, q, h)
 field_below : (n : ℕ) → n ≡ 1 → (3 + n) ⊔ 0 ≤ 4 ⊔ 4
 field_below n e = omega (arith, e)
 
-selected_below : (x : (Token × Token) ⊎ (Token × (Expr × List Expr))) → deepest_of (λ s. 3 + depth_selector s) (selected x) ≤ weight selector x
+selected_below : (x : (Token × Token) ⊎ (Token × (Expr × List Expr))) → deepest_of (λ s. 3 + depth_selector s) (selectors_of x) ≤ weight selector x
 selected_below (inl p) = field_below _ (field_selector_depth p.0.pos (ident_of p.1))
 selected_below (inr p) = first_index _ (depth_expr p.1.0) _ _ (index_depth p.0.pos p.1.0) (indexes_below p.0.pos p.1.1)
 
 selectors_below : (xs : El (grammar selectors_rule).shape) → Shallow selectors_rule xs
 selectors_below [] = omega arith
 selectors_below (x ∷ xs) =
-    le_by _ _ _ (deepest_append (λ s. 3 + depth_selector s) (selected x) (joined (map selected xs))) (both_below _ _ _ _ (selected_below x) (selectors_below xs))
+    le_by _ _ _ (deepest_append (λ s. 3 + depth_selector s) (selectors_of x) (flatten_lists (map selectors_of xs))) (both_below _ _ _ _ (selected_below x) (selectors_below xs))
 
 args_below : (es : List Expr) → deepest_of depth_argument es ≤ deepest_of (λ (x : Expr). 4 ⊔ depth_expr x) es
 args_below es = deepest_below depth_argument (λ (x : Expr). 4 ⊔ depth_expr x) (λ x. omega arith) es
@@ -353,7 +353,7 @@ definition_below n = omega arith
 body_below : (o i b : ℕ) → b ≤ o ⊔ (4 ⊔ (4 ⊔ (4 ⊔ (i ⊔ b) ⊔ 4) ⊔ 4)) ⊔ 4
 body_below o i b = omega arith
 
-held_depth : (h : Bool) (b : Block) → depth_contents (held_by h b) ≡ depth_block b
+held_depth : (h : Bool) (b : Block) → depth_contents (contents_with h b) ≡ depth_block b
 held_depth true b = refl
 held_depth false b = refl
 

@@ -15,7 +15,7 @@ use Rattle.check_scope.specs.declared.known.Known.TheVariants.{Later, Ahead, Beg
 use Rattle.check_scope.specs.declared.known.Origin.{Origin}
 use Rattle.check_scope.specs.declared.known.Origin.TheVariants as origin
 use Rattle.check_scope.specs.declared.scope.Scope.{Scope}
-use Rattle.check_definition.specs.Compiled.{declared_in, table_or, of_contents, compiled}
+use Rattle.check_definition.specs.Compiled.{declared_in, table_or, of_contents, definition_table}
 use Rattle.check_definition.specs.Export.{with_meaning, with_declared, with_known, with_export, exports}
 use Rattle.check_definition.specs.Importing.{numbered_modules}
 use Rattle.check_definition.specs.Predeclared.{console, first_scope}
@@ -67,5 +67,5 @@ module _ (g : Gathers) where
   contents_once number m tables (contents.Implementation b) = tt
   contents_once number m tables (contents.Program b) = tt
 
-  pub tables_once : (number : ℕ) (m : Module) (tables : List Table) → IfOk (compiled g number m tables) (λ t. ExportsOnce (Some t))
+  pub tables_once : (number : ℕ) (m : Module) (tables : List Table) → IfOk (definition_table g number m tables) (λ t. ExportsOnce (Some t))
   tables_once number m tables = contents_once number m (tables ++ console ∷ []) m.contents

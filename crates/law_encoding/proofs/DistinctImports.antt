@@ -15,7 +15,7 @@ use Rattle.typed_tree.specs.declared.table.Table.{Table}
 use Rattle.typed_tree.specs.declared.statement.TypedStmt.{TypedStmt}
 use Rattle.typed_tree.specs.declared.typed_module.Imported.{Imported}
 use Rattle.typed_tree.specs.declared.typed_module.TypedModule.{TypedModule}
-use Rattle.typed_tree.specs.Names.{found, entered}
+use Rattle.typed_tree.specs.Names.{find_name, enter_name}
 use Rattle.check_scope.specs.Elaborated.{Gathers, both, ◌▷◌}
 use Rattle.check_scope.specs.declared.scope.Scope.{Scope}
 use Rattle.check_definition.specs.Export.{with_table_if, with_place_if, with_imported, with_imports_of, with_import_of}
@@ -27,7 +27,7 @@ use Rattle.check_body.specs.Own.{implementation_scope}
 use Rattle.check_body.specs.Routines.{typed_module}
 use Rattle.check_body.specs.declared.routine.Bodies.{Bodies}
 use Rattle.check_body.specs.Elaborating.{Elaborates}
-use Rattle.check_body.specs.Checked.{walked, of_body, of_implementation, of_contents, checked}
+use Rattle.check_body.specs.Checked.{walk_body, of_body, of_implementation, of_contents, body_module}
 use Rattle.law_modules.specs.Linked.{Program}
 use Rattle.law_simulation.specs.Knows.{Knows}
 use Rattle.law_well_formed.proofs.ImportsLists.{same_is, same_refl, each_entered, found_each}
@@ -103,17 +103,17 @@ apart name other key n s e =
     absurd cc
 
 module _ {V : Type 0} where
-  differ_by : (name : List ℕ) (v : V) (e : List ℕ × V) (es : List (List ℕ × V)) (b : Bool) → same_name name e.0 ≡ b → KeysDiffer (e ∷ es) → KeysDiffer (entered name v es) → KeysDiffer (cond b ((e.0, v) ∷ es) (e ∷ entered name v es))
+  differ_by : (name : List ℕ) (v : V) (e : List ℕ × V) (es : List (List ℕ × V)) (b : Bool) → same_name name e.0 ≡ b → KeysDiffer (e ∷ es) → KeysDiffer (enter_name name v es) → KeysDiffer (cond b ((e.0, v) ∷ es) (e ∷ enter_name name v es))
   differ_by name v e es true h d more = d
   differ_by name v e es false h d more = (each_entered (λ (x : List ℕ × V). e.0 ≡ x.0 → ⊥) name v es (λ other s. apart name other e.0 h s) d.0, more)
 
-  pub entered_differ : (name : List ℕ) (v : V) (es : List (List ℕ × V)) → KeysDiffer es → KeysDiffer (entered name v es)
+  pub entered_differ : (name : List ℕ) (v : V) (es : List (List ℕ × V)) → KeysDiffer es → KeysDiffer (enter_name name v es)
   entered_differ name v [] d = (tt, tt)
   entered_differ name v (e ∷ es) d = differ_by name v e es (same_name name e.0) refl d (entered_differ name v es d.1)
 
 copies_differ : (es so : List (List ℕ × ℕ)) → KeysDiffer so → KeysDiffer (fold with_import_copy so es)
 copies_differ [] so d = d
-copies_differ (e ∷ es) so d = copies_differ es (entered e.0 e.1 so) (entered_differ e.0 e.1 so d)
+copies_differ (e ∷ es) so d = copies_differ es (enter_name e.0 e.1 so) (entered_differ e.0 e.1 so d)
 
 definition_differ : (own : Option Table) → KeysDiffer (definition_imports own)
 definition_differ None = tt
@@ -129,7 +129,7 @@ module _ (modules : List (List ℕ × ℕ)) (tables : List Table) where
   place_differ so name (Some k) d = table_differ so name (slice_get tables k) d
 
   one_differ : (so : List (List ℕ × ℕ)) (name : Ident) → KeysDiffer so → KeysDiffer (with_imported modules tables so name)
-  one_differ so name d = place_differ so name.name (found name.name modules) d
+  one_differ so name d = place_differ so name.name (find_name name.name modules) d
 
   names_differ : (names : List Ident) (so : List (List ℕ × ℕ)) → KeysDiffer so → KeysDiffer (fold (with_imported modules tables) so names)
   names_differ [] so d = d
@@ -185,7 +185,7 @@ module _ (tables : List Table) where
   place_named so e rest (Some n) k d = table_named so e.0 rest (slice_get tables n) (k n refl) d
 
   module _ (modules : List (List ℕ × ℕ)) (placed : AllByRecursion (IsPlaced tables) modules) where
-    named_at : (name : List ℕ) (k : ℕ) → found name modules ≡ Some k → (t : Table) → slice_get tables k ≡ Some t → t.name ≡ name
+    named_at : (name : List ℕ) (k : ℕ) → find_name name modules ≡ Some k → (t : Table) → slice_get tables k ≡ Some t → t.name ≡ name
     named_at name k h t e =
         let f = found_each (IsPlaced tables) name modules k placed h in
         let same : t ≡ f.2.0 = same_Some t f.2.0 (sym e ∙ f.2.1) in
@@ -193,7 +193,7 @@ module _ (tables : List Table) where
 
     typed_differ : (es : List (List ℕ × ℕ)) (so : List Imported) → WillDiffer so (keys es) → WillDiffer (fold (with_module_of modules tables) so es) []
     typed_differ [] so d = d
-    typed_differ (e ∷ es) so d = typed_differ es (with_module_of modules tables so e) (place_named so e (keys es) (found e.0 modules) (named_at e.0) d)
+    typed_differ (e ∷ es) so d = typed_differ es (with_module_of modules tables so e) (place_named so e (keys es) (find_name e.0 modules) (named_at e.0) d)
 
 -- ---- whole modules
 
@@ -219,7 +219,7 @@ module _ (m : Module) (own : Option Table) where
     body_differs : (elaborates : Elaborates g.Reported) (s : Scope g.Reported) (b : Block) → IfOk (of_body g elaborates s own m b) ImportsDiffer
     body_differs elaborates s b =
         let modules = (numbered_modules s.tables).0 in
-        let c = walked g elaborates modules (procedure_ends (out-Block b).decls) s m b in
+        let c = walk_body g elaborates modules (procedure_ends (out-Block b).decls) s m b in
         differ_if c.0.scope s.tables c.0.bodies (both g c.0.so_far c.1) (ap (λ (k : List Table × ℕ). k.0) (walk_keeps g elaborates (procedure_ends (out-Block b).decls) modules s m b))
 
 module _ (g : Gathers) (elaborates : Elaborates g.Reported) (m : Module) where
@@ -232,7 +232,7 @@ module _ (g : Gathers) (elaborates : Elaborates g.Reported) (m : Module) where
   contents_differ home o tables (contents.Implementation b) = implementation_differs o tables b
   contents_differ home o tables (contents.Program b) = body_differs m None g elaborates (first_scope home tables) b
 
-  pub module_differs : (home : ℕ) (o : Option Table) (tables : List Table) → IfOk (checked g elaborates home m o tables) ImportsDiffer
+  pub module_differs : (home : ℕ) (o : Option Table) (tables : List Table) → IfOk (body_module g elaborates home m o tables) ImportsDiffer
   module_differs home o tables = contents_differ home o (tables ++ console ∷ []) m.contents
 
 -- ---- in a program

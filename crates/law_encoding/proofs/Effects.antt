@@ -23,7 +23,7 @@ use Rattle.check_scope.specs.declared.scope.Scope.{Scope}
 use Rattle.check_const_ops.specs.declared.operand.Ordinal.{Ordinal}
 use Rattle.check_const_ops.specs.Standards.{whole_number}
 use Rattle.check_operator.specs.Classes.{class_at, signature_at}
-use Rattle.check_operator.specs.Suits.{text_suited, whole_suited, of_expr, value_suited, suited_in, suited}
+use Rattle.check_operator.specs.Suits.{text_suited, whole_suited, of_expr, value_suited, suited_in, value_for_place}
 use Rattle.check_operator.specs.declared.class.Class.{Class}
 use Rattle.check_operator.specs.declared.class.Class.TheVariants as class
 use Rattle.check_operator.specs.declared.computed.Computed.{Computed}
@@ -33,14 +33,14 @@ use Rattle.check_operator.specs.declared.computed.Designated.TheVariants as desi
 use Rattle.check_operator.specs.declared.places.Accepted.{Accepted}
 use Rattle.check_operator.specs.declared.places.Accepted.TheVariants as accepted
 use Rattle.check_call.specs.Callees.{proper_of, call_by}
-use Rattle.check_call.specs.Effects.{target_of, target_at, stored, assigned_to, assigned, changed_as, changed, untyped, known_amount, amount, change_by, set_as, set_variable, element_known, element, membership_of}
+use Rattle.check_call.specs.Effects.{target_of, target_at, store_statement, assignment_to, assignment_of, change_target_as, change_target, type_of_number, known_amount, amount, change_by, set_as, set_variable, element_known, element, membership_of}
 use Rattle.check_call.specs.declared.callee.Callee.{Callee}
 use Rattle.check_call.specs.declared.callee.Called.{Called}
 use Rattle.check_call.specs.declared.callee.Called.TheVariants as called
 use Rattle.check_call.specs.declared.effect.Target.{Target}
 use Rattle.check_call.specs.declared.effect.Target.TheVariants as target
-use Rattle.check_expr.specs.Meanings.{Meant, formals_of, value_of, looked_at}
-use Rattle.check_expr.specs.Effects.{call_done, routine_done, changed_in, changed_by, set_in, member_by, halted, put_by, standard_done, done_as, done_by}
+use Rattle.check_expr.specs.Meanings.{Meant, formals_of, value_of, breaches_in_all}
+use Rattle.check_expr.specs.Effects.{call_done, routine_done, change_target_in, change_statement, set_in, member_by, halt_statement, put_by, standard_done, callee_statement, call_statement}
 use Rattle.typed_tree.specs.declared.computed.Argument.{Argument}
 use Rattle.law_encoding.specs.Sizes.{arguments}
 use Rattle.law_encoding.specs.TypedSizes.{size_typed, size_place, size_step}
@@ -107,7 +107,7 @@ module _ (g : Gathers) (s : Scope g.Reported) where
   accepted_in n number t at x class.Procedure p = value_accepted n number t at x p
   accepted_in n number t at x class.Whole p = whole_accepted n number t at x p
 
-  accepted_most : (n : ℕ) (broken : Rule) (t : TypeNo) (at : Pos) (x : Computed) → size_value x ≤ n → AtMost size_accepted n (suited g broken s.types t at x)
+  accepted_most : (n : ℕ) (broken : Rule) (t : TypeNo) (at : Pos) (x : Computed) → size_value x ≤ n → AtMost size_accepted n (value_for_place g broken s.types t at x)
   accepted_most n number t at x p = accepted_in n number t at x (class_at s.types t) p
 
   assign_sum : (a d e n k : ℕ) → a ≡ 1 + d + e → 1 + d ≤ n → e ≤ k → a ≤ n + k
@@ -119,7 +119,7 @@ module _ (g : Gathers) (s : Scope g.Reported) where
   text_sum : (a d n k : ℕ) → a ≡ 1 + d → 1 + d ≤ n → a ≤ n + k
   text_sum a d n k q h = omega (arith, q, h)
 
-  stored_most : (n k : ℕ) (t : TypeNo) (d : Place) (a : Accepted) → 1 + size_place d ≤ n → size_accepted a ≤ k → size_step (stored t d a) ≤ n + k
+  stored_most : (n k : ℕ) (t : TypeNo) (d : Place) (a : Accepted) → 1 + size_place d ≤ n → size_accepted a ≤ k → size_step (store_statement t d a) ≤ n + k
   stored_most n k t d (accepted.Value e) p q = assign_sum _ _ _ n k (step_assign d t e) p q
   stored_most n k t d (accepted.Whole from) p q = copy_sum _ _ _ n k (step_copy d from t) p q
   stored_most n k t d (accepted.Text text) p q = text_sum _ _ n k (step_copytext d t text) p
@@ -130,12 +130,12 @@ module _ (g : Gathers) (s : Scope g.Reported) where
   both_sum : (a b c n : ℕ) → c ≤ a + b → a + b ≤ n → c ≤ n
   both_sum a b c n h l = omega (arith, h, l)
 
-  assigned_to_most : (n : ℕ) (a : Target) (at : Pos) (x : Computed) → size_target a + size_value x ≤ n → Stmt_ n (assigned_to g s.types a at x)
+  assigned_to_most : (n : ℕ) (a : Target) (at : Pos) (x : Computed) → size_target a + size_value x ≤ n → Stmt_ n (assignment_to g s.types a at x)
   assigned_to_most n target.Open at x p = reported_most g at rule.NotAssignable
   assigned_to_most n (target.Variable t d) at x p =
-      then_most (accepted_most (size_value x) rule.NotAssignable t at x (itself_most _)) (λ a k. fine (stored t d a) (both_sum _ _ _ n (stored_most (1 + size_place d) (size_value x) t d a (itself_most _) k) p))
+      then_most (accepted_most (size_value x) rule.NotAssignable t at x (itself_most _)) (λ a k. fine (store_statement t d a) (both_sum _ _ _ n (stored_most (1 + size_place d) (size_value x) t d a (itself_most _) k) p))
 
-  pub assignment_most : (n k : ℕ) (d : Meant g.Reported) (at : Pos) (x : Meant g.Reported) → FM g s n d → FM g s k x → Stmt_ (n + k) (assigned g s.types (target_at g d.fixed.at (d.means s)) at (value_of g s x))
+  pub assignment_most : (n k : ℕ) (d : Meant g.Reported) (at : Pos) (x : Meant g.Reported) → FM g s n d → FM g s k x → Stmt_ (n + k) (assignment_of g s.types (target_at g d.fixed.at (d.means s)) at (value_of g s x))
   assignment_most n k d at x p q =
       then_most (both_most g (then_most (sort_most g d.fixed.at rule.WrongType p) (λ e l. target_of_most n d.fixed.at e l)) (value_most g s k x q)) (λ v l. assigned_to_most (n + k) v.0 at v.1 l)
 
@@ -144,13 +144,13 @@ module _ (g : Gathers) (s : Scope g.Reported) where
   abbrev size_variable : TypeNo × Place → ℕ
   size_variable v = 1 + size_place v.1
 
-  changed_as_most : (n : ℕ) (at : Pos) (t : TypeNo) (d : Place) (c : Class) → 1 + size_place d ≤ n → AtMost size_variable n (changed_as g at t d c)
+  changed_as_most : (n : ℕ) (at : Pos) (t : TypeNo) (d : Place) (c : Class) → 1 + size_place d ≤ n → AtMost size_variable n (change_target_as g at t d c)
   changed_as_most n at t d (class.Scalar r) p = fine (t, d) p
   changed_as_most n at t d class.Set p = reported_most g at rule.NoVariable
   changed_as_most n at t d class.Procedure p = reported_most g at rule.NoVariable
   changed_as_most n at t d class.Whole p = reported_most g at rule.NoVariable
 
-  changed_most : (n : ℕ) (at : Pos) (d : Designated) → size_designated d ≤ n → AtMost size_variable n (changed g s.types at d)
+  changed_most : (n : ℕ) (at : Pos) (d : Designated) → size_designated d ≤ n → AtMost size_variable n (change_target g s.types at d)
   changed_most n at (designated.Variable t d) p = changed_as_most n at t d (class_at s.types t) p
   changed_most n at (designated.Value x) p = reported_most g at rule.NoVariable
   changed_most n at (designated.Open t slot) p = reported_most g at rule.NoVariable
@@ -162,7 +162,7 @@ module _ (g : Gathers) (s : Scope g.Reported) where
 
   known_amount_most : (n : ℕ) (at : Pos) (o : Option Ordinal) → 1 ≤ n → Expr_ n (known_amount g at o)
   known_amount_most n at None l = reported_most g at rule.WrongArgument
-  known_amount_most n at (Some a) l = fine (expr.Constant (untyped a.number a.sort) a.number) (le_trans _ 1 n (le_of _ 1 (expr_constant (untyped a.number a.sort) a.number)) l)
+  known_amount_most n at (Some a) l = fine (expr.Constant (type_of_number a.number a.sort) a.number) (le_trans _ 1 n (le_of _ 1 (expr_constant (type_of_number a.number a.sort) a.number)) l)
 
   amount_most : (n : ℕ) (at : Pos) (x : Computed) → size_value x ≤ n → Expr_ n (amount g at x)
   amount_most n at (value.Constant v) p = known_amount_most n at (whole_number v) p
@@ -179,7 +179,7 @@ module _ (g : Gathers) (s : Scope g.Reported) where
   change_by_most : (n k : ℕ) (o : Change) {v : Result (TypeNo × Place) g.Reported} {e : Result TypedExpr g.Reported} → AtMost size_variable n v → Expr_ k e → Stmt_ (1 + (n + k)) (change_by g o v e)
   change_by_most n k o p q = then_most (both_most g p q) (λ v l. fine (step.Change o v.0.1 v.0.0 v.1) (change_sum _ _ _ (n + k) (step_change o v.0.1 v.0.0 v.1) l))
 
-  changed_in_most : (n : ℕ) (v : Meant g.Reported) → FM g s n v → AtMost size_variable n (changed_in g s v)
+  changed_in_most : (n : ℕ) (v : Meant g.Reported) → FM g s n v → AtMost size_variable n (change_target_in g s v)
   changed_in_most n v p = then_most (sort_most g v.fixed.at rule.NoVariable p) (λ d k. changed_most n v.fixed.at d k)
 
   one_sum : (k n : ℕ) → 1 + (n + 1) ≤ 1 + (k + (1 + n + 0))
@@ -188,8 +188,8 @@ module _ (g : Gathers) (s : Scope g.Reported) where
   two_sum : (k n m a : ℕ) → 1 + (n + m) ≤ 1 + (k + (1 + n + (1 + m + a)))
   two_sum k n m a = omega arith
 
-  changed_by_most : (k : ℕ) (ns : List ℕ) (at : Pos) (o : Change) (args : List (Meant g.Reported)) → AllM g s ns args → Stmt_ (1 + (k + arguments ns)) (changed_by g s at o args)
-  changed_by_most k ns at o [] all = reported_beside_most g at rule.ArgumentCount (looked_at g s [])
+  changed_by_most : (k : ℕ) (ns : List ℕ) (at : Pos) (o : Change) (args : List (Meant g.Reported)) → AllM g s ns args → Stmt_ (1 + (k + arguments ns)) (change_statement g s at o args)
+  changed_by_most k ns at o [] all = reported_beside_most g at rule.ArgumentCount (breaches_in_all g s [])
   changed_by_most k [] at o (v ∷ []) all = absurd all
   changed_by_most k (n ∷ m ∷ ns) at o (v ∷ []) all = absurd all.1
   changed_by_most k (n ∷ []) at o (v ∷ []) all =
@@ -223,7 +223,7 @@ module _ (g : Gathers) (s : Scope g.Reported) where
 
   element_known_most : (n : ℕ) (at : Pos) (o : Option Ordinal) → 1 ≤ n → Expr_ n (element_known g at o)
   element_known_most n at None l = reported_most g at rule.WrongArgument
-  element_known_most n at (Some a) l = where_most g _ at rule.OutOfRange (fine (expr.Constant (untyped a.number a.sort) a.number) (le_trans _ 1 n (le_of _ 1 (expr_constant (untyped a.number a.sort) a.number)) l))
+  element_known_most n at (Some a) l = where_most g _ at rule.OutOfRange (fine (expr.Constant (type_of_number a.number a.sort) a.number) (le_trans _ 1 n (le_of _ 1 (expr_constant (type_of_number a.number a.sort) a.number)) l))
 
   element_most : (n : ℕ) (at : Pos) (x : Computed) → size_value x ≤ n → Expr_ n (element g at x)
   element_most n at (value.Constant v) p = element_known_most n at (whole_number v) p
@@ -241,7 +241,7 @@ module _ (g : Gathers) (s : Scope g.Reported) where
   set_in_most n v p = then_most (sort_most g v.fixed.at rule.NoVariable p) (λ d k. set_variable_most n v.fixed.at d k)
 
   member_by_most : (k : ℕ) (ns : List ℕ) (at : Pos) (o : Membership) (args : List (Meant g.Reported)) → AllM g s ns args → Stmt_ (1 + (k + arguments ns)) (member_by g s at o args)
-  member_by_most k ns at o [] all = reported_beside_most g at rule.ArgumentCount (looked_at g s [])
+  member_by_most k ns at o [] all = reported_beside_most g at rule.ArgumentCount (breaches_in_all g s [])
   member_by_most k ns at o (v ∷ []) all = reported_beside_most g at rule.ArgumentCount _
   member_by_most k [] at o (v ∷ x ∷ []) all = absurd all
   member_by_most k (n ∷ []) at o (v ∷ x ∷ []) all = absurd all.1
@@ -254,7 +254,7 @@ module _ (g : Gathers) (s : Scope g.Reported) where
   one_of : (a n : ℕ) → a ≡ 1 → a ≤ 1 + n
   one_of a n e = omega (arith, e)
 
-  halted_most : (n : ℕ) (at : Pos) (args : List (Meant g.Reported)) → Stmt_ (1 + n) (halted g s at args)
+  halted_most : (n : ℕ) (at : Pos) (args : List (Meant g.Reported)) → Stmt_ (1 + n) (halt_statement g s at args)
   halted_most n at [] = fine step.Halt (one_of _ n step_halt)
   halted_most n at (x ∷ xs) = reported_beside_most g at rule.ArgumentCount _
 
@@ -262,7 +262,7 @@ module _ (g : Gathers) (s : Scope g.Reported) where
   put_sum a e k n b q l = omega (arith, q, l)
 
   put_by_most : (k : ℕ) (ns : List ℕ) (at : Pos) (args : List (Meant g.Reported)) → AllM g s ns args → Stmt_ (1 + (k + arguments ns)) (put_by g s at args)
-  put_by_most k ns at [] all = reported_beside_most g at rule.ArgumentCount (looked_at g s [])
+  put_by_most k ns at [] all = reported_beside_most g at rule.ArgumentCount (breaches_in_all g s [])
   put_by_most k [] at (x ∷ []) all = absurd all
   put_by_most k (n ∷ ns) at (x ∷ []) all =
       then_most (value_most g s n x all.0) (λ v l. then_most (suited_most g n rule.WrongArgument s.types char x.fixed.at v l) (λ e q. fine (step.Put e) (put_sum _ _ k n (arguments ns) (step_put e) q)))
@@ -295,12 +295,12 @@ module _ (g : Gathers) (s : Scope g.Reported) where
 
   routine_most : (k : ℕ) (ns : List ℕ) (at : Pos) (t : TypeNo) (c : Callee) (args : List (Meant g.Reported)) → size_callee c ≤ k → AllM g s ns args → Stmt_ (1 + (k + arguments ns)) (routine_done g s at t c args)
   routine_most k ns at t c args l all =
-      ahead_most g (looked_at g s args) (any_most (proper_of g at (signature_at s.types t) (length args)))
+      ahead_most g (breaches_in_all g s args) (any_most (proper_of g at (signature_at s.types t) (length args)))
       (λ r h. call_done_most k (arguments ns) c l (actuals_most g s ns args (formals_of (signature_at s.types t)) all))
 
-  done_as_most : (k : ℕ) (ns : List ℕ) (at : Pos) (args : List (Meant g.Reported)) (x : Called) → size_called x ≤ k → AllM g s ns args → Stmt_ (1 + (k + arguments ns)) (done_as g s at args x)
+  done_as_most : (k : ℕ) (ns : List ℕ) (at : Pos) (args : List (Meant g.Reported)) (x : Called) → size_called x ≤ k → AllM g s ns args → Stmt_ (1 + (k + arguments ns)) (callee_statement g s at args x)
   done_as_most k ns at args (called.Routine t c) p all = routine_most k ns at t c args p all
   done_as_most k ns at args (called.Standard f) p all = standard_most k ns at args f all
 
-  pub done_most : (k : ℕ) (ns : List ℕ) (d : Meant g.Reported) (args : List (Meant g.Reported)) → FM g s k d → AllM g s ns args → Stmt_ (1 + (k + arguments ns)) (done_by g s d args)
-  done_most k ns d args p all = ahead_most g (looked_at g s args) (then_most (of_heading_most p) (λ e q. callee_most g s.types k d.fixed.at e q)) (λ x q. done_as_most k ns d.fixed.at args x q all)
+  pub done_most : (k : ℕ) (ns : List ℕ) (d : Meant g.Reported) (args : List (Meant g.Reported)) → FM g s k d → AllM g s ns args → Stmt_ (1 + (k + arguments ns)) (call_statement g s d args)
+  done_most k ns d args p all = ahead_most g (breaches_in_all g s args) (then_most (of_heading_most p) (λ e q. callee_most g s.types k d.fixed.at e q)) (λ x q. done_as_most k ns d.fixed.at args x q all)

@@ -8,7 +8,7 @@ use Rattle.wasm_tree.specs.declared.kinds.ValueType.{ValueType}
 use Rattle.wasm_tree.specs.declared.kinds.ValueType.TheVariants.{I32, I64}
 use Rattle.wasm_tree.specs.declared.instr.Instr.{Instr, Instr-F, out-Instr, roll-Instr, out-roll-Instr, map-Instr, fold_out-Instr, ind-Instr}
 use Rattle.wasm_tree.specs.declared.instr.Instr.TheOpen as layer
-use Rattle.wasm_code.specs.Number.{groups, signed_groups, shifted, unsigned}
+use Rattle.wasm_code.specs.Number.{groups, signed_groups, shift_group, unsigned}
 use Rattle.wasm_code.specs.Parts.{vector}
 use Rattle.wasm_code.specs.Instructions.{block_type, value_type_encoding, encoding_step, instr_encoding}
 use Rattle.law_encoding.specs.Sizes.{total}
@@ -68,8 +68,8 @@ pub signed_short : (most top n : ℕ) → length (signed_groups most top n) ≤ 
 unfolding signed_groups
 signed_short zero top n = itself 0
 signed_short (suc most) top n =
-    signed_by (nat_lt n 64) (nat_lt (top - 64) n) most n (n ∷ []) ((n + 127 - top) ∷ []) ((128 + n % 128) ∷ signed_groups most top (shifted top n)) (one_group most) (one_group most)
-    (one_more (length (signed_groups most top (shifted top n))) most (signed_short most top (shifted top n))) where
+    signed_by (nat_lt n 64) (nat_lt (top - 64) n) most n (n ∷ []) ((n + 127 - top) ∷ []) ((128 + n % 128) ∷ signed_groups most top (shift_group top n)) (one_group most) (one_group most)
+    (one_more (length (signed_groups most top (shift_group top n))) most (signed_short most top (shift_group top n))) where
       one_more : (a k : ℕ) → a ≤ k → suc a ≤ suc k
       one_more a k h = omega (arith, h)
 

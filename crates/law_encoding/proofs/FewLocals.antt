@@ -8,8 +8,8 @@ use Rattle.layout_storage.specs.Texts.{characters, routines_texts, texts_before}
 use Rattle.def_scheme.specs.Coded.{Counts}
 use Rattle.def_scheme.specs.Exprs.{Numbered}
 use Rattle.def_scheme.specs.Functions.{locals_of, from_text, routine_coded, functions_from, module_coded, module_function}
-use Rattle.def_scheme.specs.Modules.{helpers, numbered}
-use Rattle.wasm_binary.specs.Binary.{declared}
+use Rattle.def_scheme.specs.Modules.{helpers, numbering_of}
+use Rattle.wasm_binary.specs.Binary.{local_count}
 use Rattle.law_encoding.specs.Nesting.{◌⊔◌, deepest_of}
 use Rattle.law_encoding.specs.Sizes.{sum_of}
 use Rattle.law_encoding.specs.TypedSizes.{size_body, size_routine, size_bodies}
@@ -23,7 +23,7 @@ use Rattle.law_encoding.proofs.StepCounts.{body_counts}
 counted : (a n k : ℕ) → a ≤ 0 + k → n ≤ 0 + k → 0 + (2 + a) + n ≤ 2 + 2 * k
 counted a n k h l = omega (arith, h, l)
 
-few : (k : ℕ) (c : Counts) → c.addresses ≤ 0 + k → c.numbers ≤ 0 + k → declared (locals_of c) ≤ 2 + 2 * k
+few : (k : ℕ) (c : Counts) → c.addresses ≤ 0 + k → c.numbers ≤ 0 + k → local_count (locals_of c) ≤ 2 + 2 * k
 few k c h l = counted c.addresses c.numbers k h l
 
 none : (n : ℕ) → 0 ≤ n
@@ -49,10 +49,10 @@ functions_sum all h rest b rs p x y z e f g i j k = omega (arith, e, f, g, i, j,
 
 pub functions_few : (m : TypedModule) → most_locals m ≤ 2 + 2 * size_bodies m
 functions_few m =
-    functions_sum _ (deepest_of function_locals helpers) _ (function_locals (module_function (numbered m) m)) _ _ (sum_of size_routine m.procedures) (sum_of size_routine m.locals) (size_body m.body)
-    (deepest_append function_locals helpers (module_function (numbered m) m ∷ (functions_from (numbered m) m which.Module 0 m.procedures ++ functions_from (numbered m) m which.Local 0 m.locals)))
-    (deepest_append function_locals (functions_from (numbered m) m which.Module 0 m.procedures) (functions_from (numbered m) m which.Local 0 m.locals))
-    helpers_few (body_few (numbered m) m) (routines_few (numbered m) m which.Module 0 m.procedures) (routines_few (numbered m) m which.Local 0 m.locals)
+    functions_sum _ (deepest_of function_locals helpers) _ (function_locals (module_function (numbering_of m) m)) _ _ (sum_of size_routine m.procedures) (sum_of size_routine m.locals) (size_body m.body)
+    (deepest_append function_locals helpers (module_function (numbering_of m) m ∷ (functions_from (numbering_of m) m which.Module 0 m.procedures ++ functions_from (numbering_of m) m which.Local 0 m.locals)))
+    (deepest_append function_locals (functions_from (numbering_of m) m which.Module 0 m.procedures) (functions_from (numbering_of m) m which.Local 0 m.locals))
+    helpers_few (body_few (numbering_of m) m) (routines_few (numbering_of m) m which.Module 0 m.procedures) (routines_few (numbering_of m) m which.Local 0 m.locals)
 
 in_all : (a b n : ℕ) → a ≤ 2 + 2 * b → b ≤ n → a ≤ 2 + 2 * n
 in_all a b n h l = omega (arith, h, l)

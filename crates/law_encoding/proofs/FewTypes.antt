@@ -12,7 +12,7 @@ use Rattle.wasm_code.specs.Instructions.{value_type}
 use Rattle.wasm_binary.specs.Binary.{func_type}
 use Rattle.typed_tree.specs.declared.typed_module.TypedModule.{TypedModule}
 use Rattle.def_scheme.specs.Scheme.{body_types}
-use Rattle.def_scheme.specs.Signatures.{Signatures, needed, so_many, results_of, type_of}
+use Rattle.def_scheme.specs.Signatures.{Signatures, signatures_needed, so_many, results_of, type_of}
 use Rattle.def_scheme.specs.Modules.{signatures}
 use Rattle.law_encoding.specs.Sizes.{sum_of}
 use Rattle.law_encoding.specs.Fits.{max_bytes, few_entries}
@@ -125,9 +125,9 @@ with_few (u ∷ us) ts a e = both_true _ _ (type_fits u a.0.0 a.0.1) (with_few u
 body_types_few : AllByRecursion IsFew body_types
 body_types_few = ((omega arith, omega arith), ((omega arith, omega arith), ((omega arith, omega arith), ((omega arith, omega arith), ((omega arith, omega arith), ((omega arith, omega arith), tt))))))
 
-pub types_fit : (m : TypedModule) → types_count (needed m) ≤ few_entries → (section 1 func_type).fits (body_types ++ map type_of (signatures m)) ≡ true
+pub types_fit : (m : TypedModule) → types_count (signatures_needed m) ≤ few_entries → (section 1 func_type).fits (body_types ++ map type_of (signatures m)) ≡ true
 types_fit m h =
-    let few = listed_within _ _ (listed_few (needed m)) h in
+    let few = listed_within _ _ (listed_few (signatures_needed m)) h in
     let ts = map type_of (signatures m) in
     section_fits 1 func_type type_bytes some_bytes type_short (body_types ++ ts) (with_few body_types ts body_types_few (all_fit (signatures m) few))
     (whole_sum _ (sum_of type_bytes body_types) _ (types_count (signatures m)) (sum_append type_bytes body_types ts) refl (signatures_short (signatures m)) few)

@@ -25,22 +25,22 @@ use Rattle.typed_tree.specs.Types.{are_same, integer, bitset}
 use Rattle.typed_tree.specs.Known.{scalar_at}
 use Rattle.layout_storage.specs.Types.{Ty, Scalar, Cell, Hidden, Array, Nothing, Field}
 use Rattle.layout_storage.specs.Shapes.{tree}
-use Rattle.def_scheme.specs.Coded.{Setting, raised, wrapped, fault, checked}
-use Rattle.def_scheme.specs.Cells.{is_nought, lower, load_scalar, store_scalar, load_tree, store_tree, loaded, stored, word, in_range, in_type, base_of, is_free, is_subrange, check_taken, check_changed}
-use Rattle.def_scheme.specs.Exprs.{Numbered, is_own, outwards, frame_code, slot_code, kept_address, open_address, high_code, index_of, scaled, from_lower, element_code, open_element_code, arithmetic_code, complement, set_code, empty_code, ord_check, procedure_code, global_code, with_code, text_code, indirect, module_call, link_code, nested_call}
-use Rattle.def_scheme.specs.Steps.{Arm, label_code, tests_code, from_least, dispatch, change_operation, read_again, changed, member_operation, with_member, text_copied}
+use Rattle.def_scheme.specs.Coded.{Setting, raise_address, wrap_word, fault, check_code}
+use Rattle.def_scheme.specs.Cells.{is_nought, lower, load_scalar, store_scalar, load_tree, store_tree, load_code, store_code, word, in_range, in_type, base_of, is_free, is_subrange, check_taken, check_changed}
+use Rattle.def_scheme.specs.Exprs.{Numbered, is_own, outwards, frame_code, slot_code, kept_address, open_address, high_code, index_of, scale_index, from_lower, element_code, open_element_code, arithmetic_code, complement, set_code, empty_code, ord_check, procedure_code, global_code, with_code, text_code, indirect, module_call, link_code, nested_call}
+use Rattle.def_scheme.specs.Steps.{Arm, label_code, tests_code, from_least, dispatch, change_operation, read_again, change_instructions, member_operation, with_member, text_copied}
 use Rattle.law_encoding.specs.CodeNesting.{levels_in}
 use Rattle.law_encoding.proofs.Levels.{stops, jumps, jumps_if, jumps_by, calls, calls_by, gets, globals, loads, stores, address, amount, computes, Flat, flat_end, ◌▹◌, flat_both, flat_either}
 
 -- ---- pieces
 
-pub flat_raised : (n : ℕ) → Flat (raised n)
+pub flat_raised : (n : ℕ) → Flat (raise_address n)
 flat_raised n = address n ▹ computes _ ▹ flat_end
 
 pub flat_fault : (k : ℕ) → Flat (fault k)
 flat_fault k = amount k ▹ calls _ ▹ stops ▹ flat_end
 
-pub flat_checked : (low high : ℤ) (k : ℕ) → Flat (checked low high k)
+pub flat_checked : (low high : ℤ) (k : ℕ) → Flat (check_code low high k)
 flat_checked low high k = amount _ ▹ amount _ ▹ amount k ▹ calls _ ▹ flat_end
 
 -- ---- cells and checks
@@ -68,10 +68,10 @@ flat_store_tree (Array n t) = flat_end
 flat_store_tree Nothing = flat_end
 flat_store_tree (Field t others) = flat_end
 
-pub flat_loaded : (types : Types) (t : TypeNo) → Flat (loaded types t)
+pub flat_loaded : (types : Types) (t : TypeNo) → Flat (load_code types t)
 flat_loaded types t = flat_load_tree (tree types t)
 
-pub flat_stored : (types : Types) (t : TypeNo) → Flat (stored types t)
+pub flat_stored : (types : Types) (t : TypeNo) → Flat (store_code types t)
 flat_stored types t = flat_store_tree (tree types t)
 
 pub flat_in_range : (o : Option Range) (k : ℕ) → Flat (in_range o k)
@@ -108,7 +108,7 @@ flat_open s slot = flat_kept s slot (0 ∷ [])
 pub flat_high : (s : Setting) (slot : Slot) → Flat (high_code s slot)
 flat_high s slot = flat_both (flat_slot s slot (1 ∷ [])) (flat_load word)
 
-flat_scaled : (bytes : ℕ) → Flat (scaled bytes)
+flat_scaled : (bytes : ℕ) → Flat (scale_index bytes)
 flat_scaled bytes = amount _ ▹ computes _ ▹ computes _ ▹ computes _ ▹ flat_end
 
 flat_from_lower : (o : Option Range) → Flat (from_lower o)
@@ -167,7 +167,7 @@ flat_module_call numbered m f = flat_either (is_own m f.home) (calls _ ▹ flat_
 pub flat_nested_call : (numbered : Numbered) (m : TypedModule) (f : LocalProcedure) → Flat (nested_call numbered m f)
 flat_nested_call numbered m f = calls _ ▹ flat_end
 
-pub flat_value_call : (numbered : Numbered) (types : Types) (t : ℕ) (heading : TypeNo) → Flat (LocalGet t ∷ wrapped ∷ indirect numbered types heading ∷ [])
+pub flat_value_call : (numbered : Numbered) (types : Types) (t : ℕ) (heading : TypeNo) → Flat (LocalGet t ∷ wrap_word ∷ indirect numbered types heading ∷ [])
 flat_value_call numbered types t heading = gets t ▹ computes _ ▹ calls_by _ ▹ flat_end
 
 -- ---- statements
@@ -195,7 +195,7 @@ one_operation : (o : Change) → levels_in (change_operation o) ≡ 0
 one_operation change.Increase = computes _
 one_operation change.Decrease = computes _
 
-pub flat_changed : (o : Change) (w n : ℕ) (types : Types) (t : TypeNo) → Flat (changed o w n types t)
+pub flat_changed : (o : Change) (w n : ℕ) (types : Types) (t : TypeNo) → Flat (change_instructions o w n types t)
 flat_changed o w n types t = flat_both (flat_read_again w types t) (gets n ▹ one_operation o ▹ flat_both (flat_check_changed types t) (flat_stored types t))
 
 flat_member : (o : Membership) → Flat (member_operation o)

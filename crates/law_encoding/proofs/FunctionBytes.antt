@@ -14,12 +14,12 @@ use Rattle.layout_storage.specs.Sizes.{size}
 use Rattle.layout_storage.specs.Shapes.{tree}
 use Rattle.layout_storage.specs.Frames.{formals_of, frame}
 use Rattle.layout_storage.specs.Texts.{characters, texts_before, routines_texts}
-use Rattle.def_scheme.specs.Coded.{Counts, wrapped, copy}
+use Rattle.def_scheme.specs.Coded.{Counts, wrap_word, copy}
 use Rattle.def_scheme.specs.Cells.{word}
 use Rattle.def_scheme.specs.Exprs.{Numbered, arguments_of, has_result}
 use Rattle.def_scheme.specs.Functions.{numbers_of, link_arguments, limit_check, enter_code, link_kept, formal_address, word_kept, value_kept, bytes_code, open_copied, formal_kept, formals_kept, prologue, function_of, end_code, routine_coded, routine_function, functions_from, from_text, module_coded, module_function}
 use Rattle.def_scheme.specs.Helpers.{copy_turn, copy_code, fill_turn, fill_code, check_tests, check_code, divisor_checked, div_rest, mod_rest}
-use Rattle.def_scheme.specs.Modules.{helpers, numbered, functions}
+use Rattle.def_scheme.specs.Modules.{helpers, numbering_of, functions}
 use Rattle.law_encoding.specs.Nesting.{◌⊔◌, deepest_of}
 use Rattle.law_encoding.specs.Sizes.{sum_of}
 use Rattle.law_encoding.specs.TypedSizes.{size_body, size_routine, size_bodies}
@@ -56,7 +56,7 @@ short_formal_address f v path = gets 0 ▹ short_raised _
 short_word_kept : (f : Ty) (v : ℕ) (path : List ℕ) {value : List Instr} {n : ℕ} → Short n value → Short (13 + (n + 15)) (word_kept f v path value)
 short_word_kept f v path p = short_both (short_formal_address f v path) (short_both p (short_store word))
 
-short_copied : (f : Ty) (v x bytes : ℕ) → Short 34 (formal_address f v [] ++ (LocalGet x ∷ wrapped ∷ I32Const bytes ∷ Call copy ∷ []))
+short_copied : (f : Ty) (v x bytes : ℕ) → Short 34 (formal_address f v [] ++ (LocalGet x ∷ wrap_word ∷ I32Const bytes ∷ Call copy ∷ []))
 short_copied f v x bytes = short_more two_more (short_both (short_formal_address f v []) (gets x ▹ computes _ ▹ address bytes ▹ calls _ ▹ short_end)) where
   two_more : 32 ≤ 34
   two_more = omega arith
@@ -197,11 +197,11 @@ functions_sum all h rest b rs p v w x y z e f g i j k = omega (arith, e, f, g, i
 pub functions_short : (m : TypedModule) → IsNear (outward_bodies m) → sum_of function_bytes (functions m) ≤ unit_bytes * (1 + size_bodies m) + heading_bytes * headings_in m
 functions_short m h =
     let routines = first_near (deepest_of outward_routine m.procedures ⊔ deepest_of outward_routine m.locals) (outward_body m.body) h in
-    functions_sum _ (sum_of function_bytes helpers) _ (function_bytes (module_function (numbered m) m)) _ _ (sum_of (heading_counts m.types) m.procedures) (sum_of (heading_counts m.types) m.locals) (sum_of size_routine m.procedures) (sum_of size_routine m.locals) (size_body m.body)
-    (sum_append function_bytes helpers (module_function (numbered m) m ∷ (functions_from (numbered m) m which.Module 0 m.procedures ++ functions_from (numbered m) m which.Local 0 m.locals)))
-    (sum_append function_bytes (functions_from (numbered m) m which.Module 0 m.procedures) (functions_from (numbered m) m which.Local 0 m.locals))
-    helpers_short (body_bytes (numbered m) m (others_near (deepest_of outward_routine m.procedures ⊔ deepest_of outward_routine m.locals) (outward_body m.body) h))
-    (routines_short (numbered m) m which.Module 0 m.procedures (first_near _ (deepest_of outward_routine m.locals) routines)) (routines_short (numbered m) m which.Local 0 m.locals (others_near (deepest_of outward_routine m.procedures) _ routines))
+    functions_sum _ (sum_of function_bytes helpers) _ (function_bytes (module_function (numbering_of m) m)) _ _ (sum_of (heading_counts m.types) m.procedures) (sum_of (heading_counts m.types) m.locals) (sum_of size_routine m.procedures) (sum_of size_routine m.locals) (size_body m.body)
+    (sum_append function_bytes helpers (module_function (numbering_of m) m ∷ (functions_from (numbering_of m) m which.Module 0 m.procedures ++ functions_from (numbering_of m) m which.Local 0 m.locals)))
+    (sum_append function_bytes (functions_from (numbering_of m) m which.Module 0 m.procedures) (functions_from (numbering_of m) m which.Local 0 m.locals))
+    helpers_short (body_bytes (numbering_of m) m (others_near (deepest_of outward_routine m.procedures ⊔ deepest_of outward_routine m.locals) (outward_body m.body) h))
+    (routines_short (numbering_of m) m which.Module 0 m.procedures (first_near _ (deepest_of outward_routine m.locals) routines)) (routines_short (numbering_of m) m which.Local 0 m.locals (others_near (deepest_of outward_routine m.procedures) _ routines))
 
 -- ---- what a module counts
 

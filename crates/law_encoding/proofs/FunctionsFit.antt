@@ -12,7 +12,7 @@ use Rattle.wasm_tree.specs.declared.module.Function.{Function}
 use Rattle.wasm_tree.specs.declared.module.WModule.{WModule}
 use Rattle.wasm_code.specs.Number.{unsigned}
 use Rattle.wasm_code.specs.Instructions.{value_type, instr_encoding, code}
-use Rattle.wasm_binary.specs.Binary.{locals_encoding, declared, locals, body, body_encoding, bodies_encoding, module_fits}
+use Rattle.wasm_binary.specs.Binary.{locals_encoding, local_count, locals, body, body_encoding, bodies_encoding, module_fits}
 use Rattle.law_encoding.specs.Sizes.{sum_of}
 use Rattle.law_encoding.specs.Nesting.{◌⊔◌, deepest_of}
 use Rattle.law_encoding.specs.CodeNesting.{levels, function_levels}
@@ -41,15 +41,15 @@ group_sum m a u t b n e f h g l = omega (arith, e, f, h, g, l)
 in_all : (a b : ℕ) → a ≡ b → a < max_bytes → b < max_bytes
 in_all a b e h = omega (arith, e, h)
 
-groups_short : (ls : List Locals) → declared ls < max_bytes → length (flat_map locals_encoding ls) ≤ 6 * length ls
+groups_short : (ls : List Locals) → local_count ls < max_bytes → length (flat_map locals_encoding ls) ≤ 6 * length ls
 groups_short [] h = none where
   none : 0 ≤ 0
   none = omega arith
 groups_short (l ∷ ls) g =
-    let h = in_all (declared (l ∷ ls)) (l.count + declared ls) (sum_by-cons (λ (x : Locals). x.count) l ls) g in
+    let h = in_all (local_count (l ∷ ls)) (l.count + local_count ls) (sum_by-cons (λ (x : Locals). x.count) l ls) g in
     group_sum _ (length (locals_encoding l)) (length (unsigned.encoding l.count)) (length (value_type.encoding l.value_type)) (length (flat_map locals_encoding ls)) (length ls)
     (length-append (locals_encoding l) (flat_map locals_encoding ls)) (length-append (unsigned.encoding l.count) (value_type.encoding l.value_type))
-    (unsigned_short l.count (lt-ltb _ _ (first_fits l.count (declared ls) h))) (value_type_short l.value_type) (groups_short ls (second_fits l.count (declared ls) h))
+    (unsigned_short l.count (lt-ltb _ _ (first_fits l.count (local_count ls) h))) (value_type_short l.value_type) (groups_short ls (second_fits l.count (local_count ls) h))
 
 -- ---- bodies
 
@@ -60,7 +60,7 @@ inner f = locals.encoding f.body.locals ++ code.encoding f.body.code
 locals_sum : (m a b k : ℕ) → m ≡ a + b → a ≤ 5 → b ≤ 6 * k → m ≤ 5 + 6 * k
 locals_sum m a b k e h l = omega (arith, e, h, l)
 
-locals_short : (ls : List Locals) → nat_lt (length ls) max_bytes ≡ true → declared ls < max_bytes → length (locals.encoding ls) ≤ 5 + 6 * length ls
+locals_short : (ls : List Locals) → nat_lt (length ls) max_bytes ≡ true → local_count ls < max_bytes → length (locals.encoding ls) ≤ 5 + 6 * length ls
 unfolding locals
 locals_short ls e h =
     locals_sum _ (length (unsigned.encoding (length ls))) (length (flat_map locals_encoding ls)) (length ls) (length-append (unsigned.encoding (length ls)) (flat_map locals_encoding ls))
@@ -80,7 +80,7 @@ inner_sum : (m a c k b : ℕ) → m ≡ a + c → a ≤ 5 + 6 * k → c ≤ b + 
 inner_sum m a c k b e h l = omega (arith, e, h, l)
 
 abbrev Fitting : Function → Type 0
-Fitting f = (levels f.body.code ≤ 4096) × (code_numbers_fit f.body.code ≡ true) × (declared f.body.locals < max_bytes) × (function_bytes f < max_bytes)
+Fitting f = (levels f.body.code ≤ 4096) × (code_numbers_fit f.body.code ≡ true) × (local_count f.body.locals < max_bytes) × (function_bytes f < max_bytes)
 
 inner_short : (f : Function) → Fitting f → length (inner f) + 5 ≤ function_bytes f
 inner_short f h =
@@ -90,7 +90,7 @@ inner_short f h =
 below : (a n : ℕ) → a + 5 ≤ n → n < max_bytes → a < max_bytes
 below a n h l = omega (arith, h, l)
 
-locals_fit : (ls : List Locals) → nat_lt (length ls) max_bytes ≡ true → nat_lt (declared ls) max_bytes ≡ true → locals.fits ls ≡ true
+locals_fit : (ls : List Locals) → nat_lt (length ls) max_bytes ≡ true → nat_lt (local_count ls) max_bytes ≡ true → locals.fits ls ≡ true
 unfolding locals
 locals_fit ls e h = both_true _ _ e h
 

@@ -13,7 +13,7 @@ use Rattle.typed_tree.specs.declared.shape.Made.{Made}
 use Rattle.typed_tree.specs.declared.shape.Shape.{Shape}
 use Rattle.typed_tree.specs.declared.types.TypeNo.{TypeNo}
 use Rattle.typed_tree.specs.Known.{made_at}
-use Rattle.typed_tree.specs.Names.{found}
+use Rattle.typed_tree.specs.Names.{find_name}
 use Rattle.check_scope.specs.Elaborated.{Gathers}
 use Rattle.check_scope.specs.declared.known.Known.{Known}
 use Rattle.check_scope.specs.declared.known.Known.TheVariants.{Headed}
@@ -141,7 +141,7 @@ module _ (types : Types) where
 
     -- ---- behind each declaration
 
-    heading_back : {A B : Type 0} (s s' : Scope g.Reported) → ((name : List ℕ) (k : Known g.Reported) → is_settled k ≡ true → found name s.own ≡ Some k → found name s'.own ≡ Some k) → (y : Decl-F A B) → HeadingFits s'.own y → HeadingFits s.own y
+    heading_back : {A B : Type 0} (s s' : Scope g.Reported) → ((name : List ℕ) (k : Known g.Reported) → is_settled k ≡ true → find_name name s.own ≡ Some k → find_name name s'.own ≡ Some k) → (y : Decl-F A B) → HeadingFits s'.own y → HeadingFits s.own y
     heading_back s s' settled (layer.Constants cs) fits = tt
     heading_back s s' settled (layer.Types ts) fits = tt
     heading_back s s' settled (layer.Variables vs) fits = tt

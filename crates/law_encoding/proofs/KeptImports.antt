@@ -8,9 +8,9 @@ use Rattle.m2_tree.specs.declared.name.Ident.{Ident}
 use Rattle.m2_tree.specs.declared.decl.Import.{Import}
 use Rattle.typed_tree.specs.declared.meaning.Meaning.{Meaning}
 use Rattle.typed_tree.specs.declared.meaning.Meaning.TheVariants as meaning
-use Rattle.typed_tree.specs.Names.{found, place_of}
-use Rattle.check_scope.specs.Elaborated.{Gathers, reported}
-use Rattle.check_scope.specs.Scopes.{State, is_free, with_known, is_again, imported}
+use Rattle.typed_tree.specs.Names.{find_name, place_of}
+use Rattle.check_scope.specs.Elaborated.{Gathers, report}
+use Rattle.check_scope.specs.Scopes.{State, is_free, with_known, is_again, import_name}
 use Rattle.check_scope.specs.declared.known.Known.{Known}
 use Rattle.check_scope.specs.declared.known.Known.TheVariants.{Declared}
 use Rattle.check_scope.specs.declared.known.Origin.{Origin}
@@ -18,8 +18,8 @@ use Rattle.check_scope.specs.declared.known.Origin.TheVariants as origin
 use Rattle.check_scope.specs.declared.scope.Scope.{Scope}
 use Rattle.check_definition.specs.Importing.{module_named, with_module_as, with_module_name, with_entry, brings_in, reported_of_taken, unless_taken, from_place, with_from, exports_of, from_module, with_imports, with_import}
 
-module _ (g : Gathers) (P : Scope g.Reported → Type 0) (named : (s : Scope g.Reported) (name : List ℕ) (k : Known g.Reported) → is_free (found name s.own) ≡ true → P s → P (with_known name k s)) where
-  free_keeps : (s : Scope g.Reported) (at : Pos) (name : List ℕ) (k : Known g.Reported) (b : Bool) → (b ≡ true → P (with_known name k s)) → P s → P (cond {A = State (Unit {0}) g.Reported} b (with_known name k s, Ok tt) (s, reported g at rule.DeclaredTwice)).0
+module _ (g : Gathers) (P : Scope g.Reported → Type 0) (named : (s : Scope g.Reported) (name : List ℕ) (k : Known g.Reported) → is_free (find_name name s.own) ≡ true → P s → P (with_known name k s)) where
+  free_keeps : (s : Scope g.Reported) (at : Pos) (name : List ℕ) (k : Known g.Reported) (b : Bool) → (b ≡ true → P (with_known name k s)) → P s → P (cond {A = State (Unit {0}) g.Reported} b (with_known name k s, Ok tt) (s, report g at rule.DeclaredTwice)).0
   free_keeps s at name k true n h = n refl
   free_keeps s at name k false n h = h
 
@@ -27,8 +27,8 @@ module _ (g : Gathers) (P : Scope g.Reported → Type 0) (named : (s : Scope g.R
   again_keeps s x true h p = h
   again_keeps s x false h p = p
 
-  imported_keeps : (s : Scope g.Reported) (at : Pos) (name : List ℕ) (o : Origin) (m : Result Meaning g.Reported) → P s → P (imported g s at name o m).0
-  imported_keeps s at name o m h = again_keeps s _ (is_again (found name s.own) o) h (free_keeps s at name (Declared o m) (is_free (found name s.own)) (λ e. named s name (Declared o m) e h) h)
+  imported_keeps : (s : Scope g.Reported) (at : Pos) (name : List ℕ) (o : Origin) (m : Result Meaning g.Reported) → P s → P (import_name g s at name o m).0
+  imported_keeps s at name o m h = again_keeps s _ (is_again (find_name name s.own) o) h (free_keeps s at name (Declared o m) (is_free (find_name name s.own)) (λ e. named s name (Declared o m) e h) h)
 
   module_as_keeps : (s : Scope g.Reported) (name : Ident) (r : Result ℕ g.Reported) → P s → P (with_module_as g s name r).0
   module_as_keeps s name (Ok k) h = imported_keeps s name.pos name.name (origin.Module k) (Ok (meaning.Module k)) h
@@ -48,7 +48,7 @@ module _ (g : Gathers) (P : Scope g.Reported → Type 0) (named : (s : Scope g.R
 
   place_keeps : (s : Scope g.Reported) (name : Ident) (k : ℕ) (es : List (List ℕ × Meaning)) (o : Option ℕ) → P s → P (from_place g s name k es o).0
   place_keeps s name k es None h = h
-  place_keeps s name k es (Some i) h = taken_keeps s name.pos k es i (reported_of_taken g name.pos k (found name.name s.own)) h
+  place_keeps s name k es (Some i) h = taken_keeps s name.pos k es i (reported_of_taken g name.pos k (find_name name.name s.own)) h
 
   from_keeps : (k : ℕ) (es : List (List ℕ × Meaning)) (names : List Ident) (st : State (Unit {0}) g.Reported) → P st.0 → P (fold (with_from g k es) st names).0
   from_keeps k es [] st h = h

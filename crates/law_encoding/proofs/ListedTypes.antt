@@ -3,7 +3,7 @@ use Rattle.std.proofs.Common.{◌≡◌, ℕ, zero, suc, ◌+◌, ◌≤◌, ◌
 use Rattle.std.specs.Prelude.{if◌then◌else◌}
 use Rattle.std.specs.List.{flat_map, range_with_len}
 use Rattle.std.proofs.lemmas.Bool.{eqb-true}
-use Rattle.def_scheme.specs.Signatures.{Signature, Signatures, signature, same_result, is_same, is_among, if_among, of_arguments, most_arguments, ordered}
+use Rattle.def_scheme.specs.Signatures.{Signature, Signatures, signature, same_result, is_same, is_among, if_among, of_arguments, most_arguments, in_order}
 use Rattle.law_encoding.specs.FunctionTypes.{type_counts, types_count}
 use Rattle.law_encoding.proofs.Sums.{sum_append}
 
@@ -119,5 +119,5 @@ range_few : (ss : Signatures) (a n : ℕ) → types_count (in_range ss a n) ≤ 
 range_few [] a n = range_none a n
 range_few (s ∷ ss) a n = more_once _ _ _ (type_counts s) (types_count ss) (range_more s ss a n) (once s a n) (range_few ss a n)
 
-pub listed_few : (ss : Signatures) → types_count (ordered ss) ≤ types_count ss
+pub listed_few : (ss : Signatures) → types_count (in_order ss) ≤ types_count ss
 listed_few ss = range_few ss 0 (suc (most_arguments ss))

@@ -22,11 +22,11 @@ use Rattle.check_definition.specs.Predeclared.{console, first_scope}
 use Rattle.check_block.specs.Declarations.{reported_of_lack, declared_block}
 use Rattle.check_block.specs.Nesting.{procedure_ends}
 use Rattle.check_body.specs.Own.{implementation_scope}
-use Rattle.check_body.specs.Routines.{unfilled, typed_module}
+use Rattle.check_body.specs.Routines.{empty_routine, typed_module}
 use Rattle.check_body.specs.declared.procedure.Walk.{Walk}
 use Rattle.check_body.specs.Elaborating.{Elaborates}
 use Rattle.check_body.specs.Bodies.{bodies_checked}
-use Rattle.check_body.specs.Checked.{begun_module, walked, of_walk, of_implementation, of_contents, checked}
+use Rattle.check_body.specs.Checked.{begun_module, walk_body, of_walk, of_implementation, of_contents, body_module}
 use Rattle.law_well_formed.specs.FormedBodies.{FormsStatements}
 use Rattle.law_well_formed.proofs.ScopesDeclarations.{beside_left}
 use Rattle.law_encoding.specs.Sizes.{sum_of, size_decl, size_block, size_section, size_stmts, size_stmts_if, size_contents, size_module}
@@ -75,7 +75,7 @@ block_size b = variants.at_block b (out-Block b) refl ∙ ap (λ n. 1 + n + size
 unfilled_sum : (w n m : ℕ) → n ≡ m → w + 0 + n ≡ w + m
 unfilled_sum w n m e = omega (arith, e)
 
-unfilled_counts : (types : Types) (hs : List TypeNo) → sum_of (routine_counts types) (map unfilled hs) ≡ sum_of (type_weight types) hs
+unfilled_counts : (types : Types) (hs : List TypeNo) → sum_of (routine_counts types) (map empty_routine hs) ≡ sum_of (type_weight types) hs
 unfilled_counts types [] = refl
 unfilled_counts types (h ∷ hs) = unfilled_sum (type_weight types h) _ _ (unfilled_counts types hs)
 
@@ -140,7 +140,7 @@ module _ (g : Gathers) where
 
     walk_few : (modules : List (List ℕ × ℕ)) (s : Scope g.Reported) (own : Option Table) (m : Module) (b : Block) → Begins s → AtMost counts_in (size_block b) (of_walk g elaborates modules s own m b)
     walk_few modules s own m b begins =
-        let c = walked g elaborates modules (procedure_ends (out-Block b).decls) s m b in
+        let c = walk_body g elaborates modules (procedure_ends (out-Block b).decls) s m b in
         both_few (size_block b) (size_stmts_if (out-Block b).body) c.0.so_far (λ ys. typed_module c.0.scope modules own m c.0.bodies ys)
         (statements_most c.0.scope.types g elaborates forms small c.0.scope None (out-Block b).body)
         (λ ys ok q. module_sum _ _ (size_body ys) _ _ _ _ (size_block b) (bodies_few modules s m b begins ok) (decls_few (out-Block b).decls) q (block_size b))
@@ -160,5 +160,5 @@ module _ (g : Gathers) where
     more_than : (a b : ℕ) → b ≤ 1 + a + b
     more_than a b = omega arith
 
-    pub module_few : (number : ℕ) (m : Module) (own : Option Table) (tables : List Table) → ExportsOnce own → AtMost counts_in (size_module m) (checked g elaborates number m own tables)
+    pub module_few : (number : ℕ) (m : Module) (own : Option Table) (tables : List Table) → ExportsOnce own → AtMost counts_in (size_module m) (body_module g elaborates number m own tables)
     module_few number m own tables once = at_more (more_than _ (size_contents m.contents)) (contents_few number m own (tables ++ console ∷ []) m.contents once)

@@ -12,10 +12,10 @@ use Rattle.wasm_tree.specs.declared.module.Locals.{Locals}
 use Rattle.wasm_tree.specs.Validity as valid
 use Rattle.wasm_tree.specs.Validity.{Context, context, function_context, function_import, global_import, IsFunction, IsValid}
 use Rattle.wasm_code.specs.Number.{unsigned}
-use Rattle.wasm_binary.specs.Binary.{declared, types_of}
+use Rattle.wasm_binary.specs.Binary.{local_count, types_of}
 use Rattle.typed_tree.specs.declared.typed_module.TypedModule.{TypedModule}
 use Rattle.def_scheme.specs.Scheme.{body_types, own_imports, imported_globals, host_imports}
-use Rattle.def_scheme.specs.Signatures.{Signature, Signatures, needed, type_of}
+use Rattle.def_scheme.specs.Signatures.{Signature, Signatures, signatures_needed, type_of}
 use Rattle.def_scheme.specs.Modules.{functions, signatures, imports, typed_module}
 use Rattle.law_modules.specs.WellFormed.{IsWellFormed}
 use Rattle.law_modules.proofs.Modules.{typed_module_valid}
@@ -97,10 +97,10 @@ module _ (c : Context) where
     pub params : AllByRecursion FewParams c.types
 
   -- the locals of a function are its arguments and those that it declares
-  declared_count : (gs : List Locals) → length (valid.declared gs) ≡ declared gs
+  declared_count : (gs : List Locals) → length (valid.local_types gs) ≡ local_count gs
   declared_count [] = refl
   declared_count (g ∷ gs) =
-      declared_step _ (length (replicate g.count g.value_type)) (length (valid.declared gs)) g.count (declared gs) (length-append (replicate g.count g.value_type) (valid.declared gs)) (length-replicate g.count g.value_type) (declared_count gs)
+      declared_step _ (length (replicate g.count g.value_type)) (length (valid.local_types gs)) g.count (local_count gs) (length-append (replicate g.count g.value_type) (valid.local_types gs)) (length-replicate g.count g.value_type) (declared_count gs)
       ∙ sym (sum_by-cons (λ (x : Locals). x.count) g gs)
 
   locals_few : (m p n d k : ℕ) → m ≡ p + n → p ≤ suc few_entries → n ≡ d → d ⊔ k ≤ few_entries → m ≤ max_bytes
@@ -124,7 +124,7 @@ module _ (c : Context) where
       types = few.types;
       functions = few.functions;
       globals = few.globals;
-      locals = locals_few _ (length t.params) _ (declared f.body.locals) s (length-append t.params (valid.declared f.body.locals)) p (declared_count f.body.locals) h;
+      locals = locals_few _ (length t.params) _ (local_count f.body.locals) s (length-append t.params (valid.local_types f.body.locals)) p (declared_count f.body.locals) h;
     }
 
     numbers_fit : (fs : List Function) → All (IsFunction c) fs → deepest_of function_locals fs ≤ few_entries → 5 + sum_of function_bytes fs < max_bytes
@@ -165,7 +165,7 @@ within_few a b h l = omega (arith, h, l)
 
 module_names : (m : TypedModule) → HasFewParts m → NamesFew (context (typed_module m))
 module_names m p =
-    let few = within_few _ _ (listed_few (needed m)) p.types in
+    let few = within_few _ _ (listed_few (signatures_needed m)) p.types in
     record {
       types = types_few _ (length (map type_of (signatures m))) (types_count (signatures m)) (length-append body_types (map type_of (signatures m))) (le_mapped (signatures m)) few;
       functions =

@@ -10,7 +10,7 @@ use Rattle.typed_tree.specs.declared.typed_module.TypedModule.{TypedModule}
 use Rattle.layout_storage.specs.Frames.{formals_of}
 use Rattle.def_scheme.specs.Exprs.{all_arguments, arguments_of, has_result}
 use Rattle.def_scheme.specs.Functions.{link_arguments}
-use Rattle.def_scheme.specs.Signatures.{Signatures, joined, of_step, of_routine, needed}
+use Rattle.def_scheme.specs.Signatures.{Signatures, concatenation, of_step, of_routine, signatures_needed}
 use Rattle.law_modules.specs.WellFormed.{AreStmts, IsBody, IsWellFormed}
 use Rattle.law_encoding.specs.Sizes.{sum_of}
 use Rattle.law_encoding.specs.TypedSizes.{size_body}
@@ -38,7 +38,7 @@ one_link false = omega arith
 
 -- ---- procedures
 
-joined_is : (m : TypedModule) (xs : List TypedStmt) → flat_map (of_step m) xs ≡ joined (map (of_step m) xs)
+joined_is : (m : TypedModule) (xs : List TypedStmt) → flat_map (of_step m) xs ≡ concatenation (map (of_step m) xs)
 joined_is m [] = refl
 joined_is m (x ∷ xs) = ap (λ (ss : Signatures). of_step m x ++ ss) (joined_is m xs)
 
@@ -64,7 +64,7 @@ routines_few m (r ∷ rs) p =
 whole_sum : (a b c d e n k j : ℕ) → a ≡ b + c → c ≡ d + e → b ≤ 2 * n → d ≤ 2 * k → e ≤ 2 * j → a ≤ 2 * (n + k + j)
 whole_sum a b c d e n k j x y h l q = omega (arith, x, y, h, l, q)
 
-pub needed_few : (m : TypedModule) → IsWellFormed m → types_count (needed m) ≤ 2 * counts_in m
+pub needed_few : (m : TypedModule) → IsWellFormed m → types_count (signatures_needed m) ≤ 2 * counts_in m
 needed_few m p =
     let first = flat_map (of_routine m) m.procedures in
     let second = flat_map (of_routine m) m.locals in

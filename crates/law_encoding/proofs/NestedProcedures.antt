@@ -16,7 +16,7 @@ use Rattle.m2_tree.specs.declared.decl.Block.{Block, Block-F, out-Block, roll-Bl
 use Rattle.def_grammar.specs.Rule.{Rule, Ast, module_rule, import_rule, idents_rule, def_rule, block_rule, decl_rule, constant_rule, type_decl_rule, variables_rule, formals_rule, section_rule, formal_rule, qual_rule, simple_rule, type_rule, dims_rule, parameter_rule, field_rule, stmts_rule, stmt_rule, rest_rule, arm_rule, item_rule, desig_rule, selectors_rule, args_rule, expr_rule, sum_rule, term_rule, factor_rule, set_rule}
 use Rattle.def_grammar.specs.Grammar.{Ty, ast, El, Gr, tok, rule, ◌·◌, ◌∣◌, lead, trail, opt, many, nest, named}
 use Rattle.def_grammar.specs.Ebnf.{grammar, symbol}
-use Rattle.def_grammar.specs.Trees.{is_there, held_by, tree}
+use Rattle.def_grammar.specs.Trees.{is_there, contents_with, tree}
 use Rattle.def_grammar.specs.Spelling.{Spells, one, made, pair, left, right, before, behind, absent, there_is, none, more, nested, closed}
 use Rattle.def_grammar.specs.Spelling.{Breaks, too_deep, in_rule, in_first, in_second, in_left, in_right, in_rest, in_front, in_opt, in_turn_now, in_turn_later, in_nest, in_named}
 use Rattle.def_grammar.specs.declared.refusal.Fault.TheVariants.{TooDeep}
@@ -140,7 +140,7 @@ block_below ds o = block_step _ _ _ (of_block ds o)
 body_below : (o i b : ℕ) → b ≤ o ⊔ (i ⊔ b)
 body_below o i b = omega arith
 
-held_in : (h : Bool) (b : Block) → procedures_contents (held_by h b) ≡ procedures_block b
+held_in : (h : Bool) (b : Block) → procedures_contents (contents_with h b) ≡ procedures_block b
 held_in true b = refl
 held_in false b = refl
 

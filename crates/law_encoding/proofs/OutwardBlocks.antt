@@ -24,12 +24,12 @@ use Rattle.check_block.specs.Declarations.{all_declared}
 use Rattle.check_block.specs.Nesting.{procedure_ends}
 use Rattle.check_body.specs.declared.routine.Bodies.{Bodies}
 use Rattle.check_body.specs.declared.routine.Numbered.{Numbered}
-use Rattle.check_body.specs.Routines.{unfilled, begun_at, filled, routine, typed_module}
+use Rattle.check_body.specs.Routines.{empty_routine, begun_at, put_routine, routine, typed_module}
 use Rattle.check_body.specs.declared.procedure.Walk.{Walk}
 use Rattle.check_body.specs.Elaborating.{Elaborates, statements_of}
 use Rattle.check_body.specs.Inside.{which_of, begun_procedure, with_routine}
 use Rattle.check_body.specs.Bodies.{Steps, Checks, ChecksBlock, marked_by, declared_by, checked_by, begun_from, with_body, with_bodies, procedure_checked, steps_layer, block_layer, steps, checks_block, checks_decl, bodies_checked}
-use Rattle.check_body.specs.Checked.{begun_module, walked, of_walk, of_implementation, of_contents, checked}
+use Rattle.check_body.specs.Checked.{begun_module, walk_body, of_walk, of_implementation, of_contents, body_module}
 use Rattle.law_encoding.specs.Nesting.{◌⊔◌, deepest_of}
 use Rattle.law_encoding.specs.Counted.{AtMost, fine, broken}
 use Rattle.law_encoding.specs.Outward.{outward_body}
@@ -53,16 +53,16 @@ first_filled a b c d h k l = omega (arith, h, k, l)
 second_filled : (a b c d : ℕ) → a ≤ b ⊔ c → d ⊔ b ≤ 0 → c ≤ 0 → d ⊔ a ≤ 0
 second_filled a b c d h k l = omega (arith, h, k, l)
 
-filled_near : (rs : Bodies) (w : Which) (r : Routine) → AreNear rs → beyond_routine r ≤ 0 → AreNear (filled rs w r)
+filled_near : (rs : Bodies) (w : Which) (r : Routine) → AreNear rs → beyond_routine r ≤ 0 → AreNear (put_routine rs w r)
 filled_near rs (which.Module k) r p q = first_filled _ _ _ _ (deepest_set beyond_routine rs.procedures k r) p q
 filled_near rs (which.Local k) r p q = second_filled _ _ _ _ (deepest_set beyond_routine rs.locals k r) p q
 
 begun_sum : (a b c : ℕ) → b ≡ c ⊔ (0 ⊔ 0) → a ⊔ c ≤ 0 → a ⊔ b ≤ 0
 begun_sum a b c e l = omega (arith, e, l)
 
-begun_by : (b : Bool) (rs : Bodies) → AreNear rs → AreNear (cond b rs (record rs { locals = rs.locals ++ unfilled integer ∷ [] }))
+begun_by : (b : Bool) (rs : Bodies) → AreNear rs → AreNear (cond b rs (record rs { locals = rs.locals ++ empty_routine integer ∷ [] }))
 begun_by true rs p = p
-begun_by false rs p = begun_sum _ _ _ (deepest_append beyond_routine rs.locals (unfilled integer ∷ [])) p
+begun_by false rs p = begun_sum _ _ _ (deepest_append beyond_routine rs.locals (empty_routine integer ∷ [])) p
 
 begun_near : (level : ℕ) (rs : Bodies) → AreNear rs → AreNear (begun_at level rs)
 begun_near level rs p = begun_by (level == 0) rs p
@@ -186,7 +186,7 @@ module _ (g : Gathers) (elaborates : Elaborates g.Reported) (near : (s : Scope g
     none_sum : (n : ℕ) → n ≤ 0 → 0 ⊔ n ≤ 0
     none_sum n l = omega (arith, l)
 
-    none_yet : (hs : List TypeNo) → deepest_of beyond_routine (map unfilled hs) ≤ 0
+    none_yet : (hs : List TypeNo) → deepest_of beyond_routine (map empty_routine hs) ≤ 0
     none_yet [] = omega arith
     none_yet (h ∷ hs) = none_sum _ (none_yet hs)
 
@@ -203,7 +203,7 @@ module _ (g : Gathers) (elaborates : Elaborates g.Reported) (near : (s : Scope g
   of_walk_near : (modules : List (List ℕ × ℕ)) (s : Scope g.Reported) (own : Option Table) (m : Module) (b : Block) → AtMost beyond_routines 0 (of_walk g elaborates modules s own m b)
   of_walk_near modules s own m b =
       let ends = procedure_ends (out-Block b).decls in
-      let c = walked g elaborates modules ends s m b in
+      let c = walk_body g elaborates modules ends s m b in
       then_most (both_most g (any_most c.0.so_far) (statements_near c.0.scope None (out-Block b).body))
       (λ p l. fine (typed_module c.0.scope modules own m c.0.bodies p.1) (walked_near ends modules s m (out-Block b).decls))
 
@@ -216,5 +216,5 @@ module _ (g : Gathers) (elaborates : Elaborates g.Reported) (near : (s : Scope g
   contents_near number m own tables (contents.Implementation b) = of_implementation_near m own tables b
   contents_near number m own tables (contents.Program b) = of_walk_near _ _ None m b
 
-  pub module_near : (number : ℕ) (m : Module) (own : Option Table) (tables : List Table) → AtMost beyond_routines 0 (checked g elaborates number m own tables)
+  pub module_near : (number : ℕ) (m : Module) (own : Option Table) (tables : List Table) → AtMost beyond_routines 0 (body_module g elaborates number m own tables)
   module_near number m own tables = contents_near number m own _ m.contents

@@ -27,7 +27,7 @@ use Rattle.typed_tree.specs.declared.meaning.Meaning.TheVariants as meaning
 use Rattle.typed_tree.specs.declared.meaning.Standard.{Standard}
 use Rattle.typed_tree.specs.declared.shape.Formal.{Formal}
 use Rattle.typed_tree.specs.declared.types.TypeNo.{TypeNo}
-use Rattle.typed_tree.specs.Chains.{rooted}
+use Rattle.typed_tree.specs.Chains.{root_place}
 use Rattle.check_scope.specs.declared.meaningless.Meaningless.{Meaningless}
 use Rattle.check_scope.specs.Elaborated.{Gathers, of_sort, of_heading}
 use Rattle.check_scope.specs.declared.scope.Scope.{Scope}
@@ -35,7 +35,7 @@ use Rattle.check_const.specs.Parts.{Part, Adds, sign_place}
 use Rattle.check_const_ops.specs.Operators.{mul_op, add_op}
 use Rattle.check_const_ops.specs.declared.operator.BinaryOp.TheVariants as op
 use Rattle.check_operator.specs.Classes.{signature_at}
-use Rattle.check_operator.specs.Values.{slot_of, local_by, designated_by, given}
+use Rattle.check_operator.specs.Values.{slot_of, local_by, designated_by, function_result}
 use Rattle.check_operator.specs.declared.computed.Computed.{Computed}
 use Rattle.check_operator.specs.declared.computed.Computed.TheVariants as value
 use Rattle.check_operator.specs.declared.computed.Designated.{Designated}
@@ -49,7 +49,7 @@ use Rattle.check_call.specs.declared.callee.Called.TheVariants as called
 use Rattle.check_call.specs.declared.standard.Form.{Form}
 use Rattle.check_call.specs.declared.standard.Form.TheVariants as form
 use Rattle.check_call.specs.declared.standard.Unary.{Unary}
-use Rattle.check_expr.specs.Meanings.{Meant, Picks, of_computed, signed_first, named, field_of, formals_of, argument_by, call_given, as_constant, value_of, looked_at, with_actual, actuals, routine_called, unary, bound, conversion, high, by_form, called_as, called_by, factor, term, relation, expr_layer, selector_layer, designator_layer, item_layer, meant, picks, head, item}
+use Rattle.check_expr.specs.Meanings.{Meant, Picks, of_computed, signed_first, first_name, field_of, formals_of, argument_by, call_given, as_constant, value_of, breaches_in_all, with_actual, actuals, routine_called, unary, bound, conversion, high, by_form, callee_value, call_in_expression, factor, term, relation, expr_layer, selector_layer, designator_layer, item_layer, meanings_of, picks, head, item}
 use Rattle.law_encoding.specs.Nesting.{◌⊔◌, deepest_of, deepest}
 use Rattle.law_encoding.specs.Outward.{outward_passed}
 use Rattle.law_encoding.specs.Counted.{AtMost, fine}
@@ -132,17 +132,17 @@ module _ (g : Gathers) (s : Scope g.Reported) where
   pub by_meaning : (level : ℕ) (at : Pos) (x : Meaning) → Designated_ level (designated_by g level at x)
   by_meaning level at (meaning.Constant v) = fine (designated.Value (value.Constant v)) (omega arith)
   by_meaning level at (meaning.Type t n) = fine (designated.Type t) (omega arith)
-  by_meaning level at (meaning.Variable v) = fine (designated.Variable v.of (rooted (root.Global v))) (of_global _ level (rooted_reach (root.Global v)))
+  by_meaning level at (meaning.Variable v) = fine (designated.Variable v.of (root_place (root.Global v))) (of_global _ level (rooted_reach (root.Global v)))
   by_meaning level at (meaning.Local v) = fine (local_by level v v.kind) (local_most level v v.kind)
   by_meaning level at (meaning.Field f) =
-      fine _ (of_field _ _ _ level (behind_reach (rooted (root.With f.with)) (part.Field f.whole f.number)) (rooted_reach (root.With f.with)) (component_field f.whole f.number))
+      fine _ (of_field _ _ _ level (behind_reach (root_place (root.With f.with)) (part.Field f.whole f.number)) (rooted_reach (root.With f.with)) (component_field f.whole f.number))
   by_meaning level at (meaning.Procedure f) = fine (designated.Procedure f) (omega arith)
   by_meaning level at (meaning.LocalProcedure f) = fine _ (no_further level f.level)
   by_meaning level at meaning.Ahead = reported_most g at rule.Undeclared
   by_meaning level at (meaning.Standard f) = fine (designated.Standard f) (omega arith)
   by_meaning level at (meaning.Module k) = fine (designated.Module k) (omega arith)
 
-  named_most : (name : Ident) → Designated_ s.level (named g s name)
+  named_most : (name : Ident) → Designated_ s.level (first_name g s name)
   named_most name = then_most (any_most _) (λ x p. plain_most (by_meaning s.level name.pos x))
 
   field_of_most : (n : ℕ) (at : Pos) (name : Ident) (d : Designated) → s.level ≤ n → outward_meant d ≤ n → Designated_ n (field_of g s at name d)
@@ -198,11 +198,11 @@ module _ (g : Gathers) (s : Scope g.Reported) where
 
   call_given_most : (k n : ℕ) (t : TypeNo) (c : Callee) {args : Result (List Argument) g.Reported} → outward_callee c ≤ k → AtMost outward_list (0 ⊔ n) args → Value_ ((k ⊔ n)) (call_given g s.types t c args)
   call_given_most k n t c l p =
-      then_most p (λ xs q. fine (given s.types t (expr.Call t (call_by xs c))) (given_most g s.types ((k ⊔ n)) t (expr.Call t (call_by xs c)) (call_sum _ _ _ _ k n (expr_call t (call_by xs c)) (call_most c xs) l q)))
+      then_most p (λ xs q. fine (function_result s.types t (expr.Call t (call_by xs c))) (given_most g s.types ((k ⊔ n)) t (expr.Call t (call_by xs c)) (call_sum _ _ _ _ k n (expr_call t (call_by xs c)) (call_most c xs) l q)))
 
   routine_most : (k : ℕ) (ns : List ℕ) (at : Pos) (t : TypeNo) (c : Callee) (args : List (Meant g.Reported)) → outward_callee c ≤ k → AllM ns args → Value_ ((k ⊔ arguments ns)) (routine_called g s at t c args)
   routine_most k ns at t c args l all =
-      ahead_most g (looked_at g s args) (any_most (function_of g at (signature_at s.types t) (length args)))
+      ahead_most g (breaches_in_all g s args) (any_most (function_of g at (signature_at s.types t) (length args)))
       (λ r h. call_given_most k (arguments ns) r c l (actuals_most ns args (formals_of (signature_at s.types t)) all))
 
   -- ---- standard functions
@@ -211,14 +211,14 @@ module _ (g : Gathers) (s : Scope g.Reported) where
   only_one k n = omega arith
 
   unary_all : (k : ℕ) (ns : List ℕ) (at : Pos) (f : Standard) (u : Unary) (args : List (Meant g.Reported)) → AllM ns args → Value_ ((k ⊔ arguments ns)) (unary g s at f u args)
-  unary_all k ns at f u [] all = reported_beside_most g at rule.ArgumentCount (looked_at g s [])
+  unary_all k ns at f u [] all = reported_beside_most g at rule.ArgumentCount (breaches_in_all g s [])
   unary_all k [] at f u (x ∷ []) all = absurd all
   unary_all k (n ∷ []) at f u (x ∷ []) all = at_more (only_one k n) (then_most (value_most n x all.0) (λ v p. unary_most g s.types n f u x.fixed.at v p))
   unary_all k (n ∷ m ∷ ns) at f u (x ∷ []) all = absurd all.1
   unary_all k ns at f u (x ∷ y ∷ xs) all = reported_beside_most g at rule.ArgumentCount _
 
   bound_all : (k n : ℕ) (at : Pos) (f : Standard) (args : List (Meant g.Reported)) → Value_ ((k ⊔ n)) (bound g s at f args)
-  bound_all k n at f [] = reported_beside_most g at rule.ArgumentCount (looked_at g s [])
+  bound_all k n at f [] = reported_beside_most g at rule.ArgumentCount (breaches_in_all g s [])
   bound_all k n at f (x ∷ []) = bound_most g s.types (k ⊔ n) f _
   bound_all k n at f (x ∷ y ∷ xs) = reported_beside_most g at rule.ArgumentCount _
 
@@ -226,7 +226,7 @@ module _ (g : Gathers) (s : Scope g.Reported) where
   second_one k m n a = omega arith
 
   conversion_all : (k : ℕ) (ns : List ℕ) (at : Pos) (args : List (Meant g.Reported)) → AllM ns args → Value_ ((k ⊔ arguments ns)) (conversion g s at args)
-  conversion_all k ns at [] all = reported_beside_most g at rule.ArgumentCount (looked_at g s [])
+  conversion_all k ns at [] all = reported_beside_most g at rule.ArgumentCount (breaches_in_all g s [])
   conversion_all k ns at (t ∷ []) all = reported_beside_most g at rule.ArgumentCount _
   conversion_all k [] at (t ∷ x ∷ []) all = absurd all
   conversion_all k (m ∷ []) at (t ∷ x ∷ []) all = absurd all.1
@@ -237,7 +237,7 @@ module _ (g : Gathers) (s : Scope g.Reported) where
   high_sum k n a b l = omega (arith, l)
 
   high_all : (k : ℕ) (ns : List ℕ) (at : Pos) (args : List (Meant g.Reported)) → AllM ns args → Value_ ((k ⊔ arguments ns)) (high g s at args)
-  high_all k ns at [] all = reported_beside_most g at rule.ArgumentCount (looked_at g s [])
+  high_all k ns at [] all = reported_beside_most g at rule.ArgumentCount (breaches_in_all g s [])
   high_all k [] at (x ∷ []) all = absurd all
   high_all k (n ∷ ns) at (x ∷ []) all = then_most (sort_most g x.fixed.at rule.WrongArgument all.0) (λ d p. high_most g s.types (k ⊔ arguments (n ∷ ns)) x.fixed.at d (high_sum k n (outward_meant d) (arguments ns) p))
   high_all k ns at (x ∷ y ∷ xs) all = reported_beside_most g at rule.ArgumentCount _
@@ -249,12 +249,12 @@ module _ (g : Gathers) (s : Scope g.Reported) where
   form_most k ns at f args form.High all = high_all k ns at args all
   form_most k ns at f args form.Proper all = reported_beside_most g at rule.WrongType _
 
-  called_as_most : (k : ℕ) (ns : List ℕ) (at : Pos) (args : List (Meant g.Reported)) (x : Called) → outward_called x ≤ k → AllM ns args → Value_ ((k ⊔ arguments ns)) (called_as g s at args x)
+  called_as_most : (k : ℕ) (ns : List ℕ) (at : Pos) (args : List (Meant g.Reported)) (x : Called) → outward_called x ≤ k → AllM ns args → Value_ ((k ⊔ arguments ns)) (callee_value g s at args x)
   called_as_most k ns at args (called.Routine t c) p all = routine_most k ns at t c args p all
   called_as_most k ns at args (called.Standard f) p all = form_most k ns at f args (form_of f) all
 
-  called_most : (k : ℕ) (ns : List ℕ) (at : Pos) {d : Result Designated (Meaningless g.Reported)} (args : List (Meant g.Reported)) → Designated_ k d → AllM ns args → Value_ ((k ⊔ arguments ns)) (called_by g s at d args)
-  called_most k ns at args p all = ahead_most g (looked_at g s args) (then_most (of_heading_most p) (λ d q. callee_most g s.types k at d q)) (λ x q. called_as_most k ns at args x q all)
+  called_most : (k : ℕ) (ns : List ℕ) (at : Pos) {d : Result Designated (Meaningless g.Reported)} (args : List (Meant g.Reported)) → Designated_ k d → AllM ns args → Value_ ((k ⊔ arguments ns)) (call_in_expression g s at d args)
+  called_most k ns at args p all = ahead_most g (breaches_in_all g s args) (then_most (of_heading_most p) (λ d q. callee_most g s.types k at d q)) (λ x q. called_as_most k ns at args x q all)
 
   -- ---- operators
 
@@ -302,7 +302,7 @@ module _ (g : Gathers) (s : Scope g.Reported) where
   -- ---- a layer, each part of which has its meaning
 
   abbrev PE : Expr → Type 0
-  PE e = FM s.level (meant g e)
+  PE e = FM s.level (meanings_of g e)
 
   abbrev PS : Selector → Type 0
   PS e = FP s.level (picks g e)
@@ -326,24 +326,24 @@ module _ (g : Gathers) (s : Scope g.Reported) where
   SI = (e : Item) × PI e
 
   abbrev opened : Expr-F Expr Selector Designator Item → Expr-F (Meant g.Reported) (Picks g.Reported) (Meant g.Reported) (Adds g.Reported)
-  opened x = map-Expr Expr Selector Designator Item (Meant g.Reported) (Picks g.Reported) (Meant g.Reported) (Adds g.Reported) (meant g) (picks g) (head g) (item g) x
+  opened x = map-Expr Expr Selector Designator Item (Meant g.Reported) (Picks g.Reported) (Meant g.Reported) (Adds g.Reported) (meanings_of g) (picks g) (head g) (item g) x
 
   abbrev opened_selector : Selector-F Expr Selector Designator Item → Selector-F (Meant g.Reported) (Picks g.Reported) (Meant g.Reported) (Adds g.Reported)
-  opened_selector x = map-Selector Expr Selector Designator Item (Meant g.Reported) (Picks g.Reported) (Meant g.Reported) (Adds g.Reported) (meant g) (picks g) (head g) (item g) x
+  opened_selector x = map-Selector Expr Selector Designator Item (Meant g.Reported) (Picks g.Reported) (Meant g.Reported) (Adds g.Reported) (meanings_of g) (picks g) (head g) (item g) x
 
   abbrev opened_designator : Designator-F Expr Selector Designator Item → Designator-F (Meant g.Reported) (Picks g.Reported) (Meant g.Reported) (Adds g.Reported)
-  opened_designator x = map-Designator Expr Selector Designator Item (Meant g.Reported) (Picks g.Reported) (Meant g.Reported) (Adds g.Reported) (meant g) (picks g) (head g) (item g) x
+  opened_designator x = map-Designator Expr Selector Designator Item (Meant g.Reported) (Picks g.Reported) (Meant g.Reported) (Adds g.Reported) (meanings_of g) (picks g) (head g) (item g) x
 
-  at_expr : (e : Expr) (x : Expr-F Expr Selector Designator Item) → out-Expr e ≡ x → meant g e ≡ expr_layer g (opened x)
-  unfolding meant picks head item
+  at_expr : (e : Expr) (x : Expr-F Expr Selector Designator Item) → out-Expr e ≡ x → meanings_of g e ≡ expr_layer g (opened x)
+  unfolding meanings_of picks head item
   at_expr e x q = fold_out-Expr (Meant g.Reported) (Picks g.Reported) (Meant g.Reported) (Adds g.Reported) (expr_layer g) (selector_layer g) (designator_layer g) (item_layer g) e ∙ ap (λ (y : Expr-F Expr Selector Designator Item). expr_layer g (opened y)) q
 
   at_selector : (e : Selector) (x : Selector-F Expr Selector Designator Item) → out-Selector e ≡ x → picks g e ≡ selector_layer g (opened_selector x)
-  unfolding meant picks head item
+  unfolding meanings_of picks head item
   at_selector e x q = fold_out-Selector (Meant g.Reported) (Picks g.Reported) (Meant g.Reported) (Adds g.Reported) (expr_layer g) (selector_layer g) (designator_layer g) (item_layer g) e ∙ ap (λ (y : Selector-F Expr Selector Designator Item). selector_layer g (opened_selector y)) q
 
   at_designator : (e : Designator) (x : Designator-F Expr Selector Designator Item) → out-Designator e ≡ x → head g e ≡ designator_layer g (opened_designator x)
-  unfolding meant picks head item
+  unfolding meanings_of picks head item
   at_designator e x q = fold_out-Designator (Meant g.Reported) (Picks g.Reported) (Meant g.Reported) (Adds g.Reported) (expr_layer g) (selector_layer g) (designator_layer g) (item_layer g) e ∙ ap (λ (y : Designator-F Expr Selector Designator Item). designator_layer g (opened_designator y)) q
 
   abbrev bare : Expr-F SE SS SD SI → Expr-F Expr Selector Designator Item
@@ -359,11 +359,11 @@ module _ (g : Gathers) (s : Scope g.Reported) where
   far x = s.level
 
   all_terms : {O : Type 0} (xs : List (Operator O × SE))
-      → AllT (map (λ (x : Operator O × Expr). (x.0, far x.1)) (map (λ (a : Operator O × SE). (a.0, a.1.0)) xs)) (map (λ (x : Operator O × Expr). (x.0, meant g x.1)) (map (λ (a : Operator O × SE). (a.0, a.1.0)) xs))
+      → AllT (map (λ (x : Operator O × Expr). (x.0, far x.1)) (map (λ (a : Operator O × SE). (a.0, a.1.0)) xs)) (map (λ (x : Operator O × Expr). (x.0, meanings_of g x.1)) (map (λ (a : Operator O × SE). (a.0, a.1.0)) xs))
   all_terms [] = tt
   all_terms (x ∷ xs) = (x.1.1, all_terms xs)
 
-  all_args : (xs : List SE) → AllM (map (λ (e : Expr). far e) (map (λ (e : SE). e.0) xs)) (map (meant g) (map (λ (e : SE). e.0) xs))
+  all_args : (xs : List SE) → AllM (map (λ (e : Expr). far e) (map (λ (e : SE). e.0) xs)) (map (meanings_of g) (map (λ (e : SE). e.0) xs))
   all_args [] = tt
   all_args (x ∷ xs) = (x.1, all_args xs)
 
@@ -397,27 +397,27 @@ module _ (g : Gathers) (s : Scope g.Reported) where
   expr_most (layer.Char p n) = constant_meant s.level (expr_layer g (opened (bare (layer.Char p n)))).fixed (omega arith)
   expr_most (layer.Text p t) = constant_meant s.level (expr_layer g (opened (bare (layer.Text p t)))).fixed (omega arith)
   expr_most (layer.Set q p items) = constant_meant s.level (expr_layer g (opened (bare (layer.Set q p items)))).fixed (omega arith)
-  expr_most (layer.Not p e) = computed_most _ (negated_most g s.level p (value_most _ (meant g e.0) e.1))
-  expr_most (layer.Bracketed p e) = computed_most _ (value_most _ (meant g e.0) e.1)
+  expr_most (layer.Not p e) = computed_most _ (negated_most g s.level p (value_most _ (meanings_of g e.0) e.1))
+  expr_most (layer.Bracketed p e) = computed_most _ (value_most _ (meanings_of g e.0) e.1)
   expr_most (layer.Use d None) = d.1
   expr_most (layer.Use d (Some es)) =
       computed_most _ (at_more (all_as_far (map (λ (e : SE). e.0) es))
-      (called_most s.level (map (λ (e : Expr). far e) (map (λ (e : SE). e.0) es)) (head g d.0).fixed.at (map (meant g) (map (λ (e : SE). e.0) es)) d.1 (all_args es)))
+      (called_most s.level (map (λ (e : Expr). far e) (map (λ (e : SE). e.0) es)) (head g d.0).fixed.at (map (meanings_of g) (map (λ (e : SE). e.0) es)) d.1 (all_args es)))
   expr_most (layer.Term e xs) =
       computed_most _ (at_more (terms_as_far (map (λ (a : Operator MulOp × SE). (a.0, a.1.0)) xs))
-      (factors_most s.level _ (meant g e.0).fixed.at (map (λ (x : Operator MulOp × Expr). (x.0, meant g x.1)) (map (λ (a : Operator MulOp × SE). (a.0, a.1.0)) xs)) (value_of g s (meant g e.0)) (value_most _ (meant g e.0) e.1) (all_terms xs)))
+      (factors_most s.level _ (meanings_of g e.0).fixed.at (map (λ (x : Operator MulOp × Expr). (x.0, meanings_of g x.1)) (map (λ (a : Operator MulOp × SE). (a.0, a.1.0)) xs)) (value_of g s (meanings_of g e.0)) (value_most _ (meanings_of g e.0) e.1) (all_terms xs)))
   expr_most (layer.Sum o e xs) =
       computed_most _ (at_more (terms_as_far (map (λ (a : Operator AddOp × SE). (a.0, a.1.0)) xs))
-      (terms_most s.level _ (sign_place o (meant g e.0).fixed.at) (map (λ (x : Operator AddOp × Expr). (x.0, meant g x.1)) (map (λ (a : Operator AddOp × SE). (a.0, a.1.0)) xs)) (signed_first g o (value_of g s (meant g e.0)))
-      (first_most s.level o (value_most _ (meant g e.0) e.1)) (all_terms xs)))
-  expr_most (layer.Relation e o f) = computed_most _ (at_more twice (relation_most s.level s.level (meant g e.0) o (meant g f.0) e.1 f.1))
+      (terms_most s.level _ (sign_place o (meanings_of g e.0).fixed.at) (map (λ (x : Operator AddOp × Expr). (x.0, meanings_of g x.1)) (map (λ (a : Operator AddOp × SE). (a.0, a.1.0)) xs)) (signed_first g o (value_of g s (meanings_of g e.0)))
+      (first_most s.level o (value_most _ (meanings_of g e.0) e.1)) (all_terms xs)))
+  expr_most (layer.Relation e o f) = computed_most _ (at_more twice (relation_most s.level s.level (meanings_of g e.0) o (meanings_of g f.0) e.1 f.1))
 
   beside : (k n : ℕ) → k ≤ k ⊔ n
   beside k n = omega arith
 
   selector_most : (y : Selector-F SE SS SD SI) → FP s.level (selector_layer g (opened_selector (bare_selector y)))
   selector_most (layer.Field p name) = λ k d l q. at_more (beside k s.level) (plain_most (then_most (sort_most g p rule.WrongType q) (λ x h. field_of_most k p name x l h)))
-  selector_most (layer.Index p e) = λ k d l q. plain_most (indexed_most g k s.level s.types p (meant g e.0).fixed.at (sort_most g p rule.WrongType q) (value_most _ (meant g e.0) e.1))
+  selector_most (layer.Index p e) = λ k d l q. plain_most (indexed_most g k s.level s.types p (meanings_of g e.0).fixed.at (sort_most g p rule.WrongType q) (value_most _ (meanings_of g e.0) e.1))
 
   itself : (n : ℕ) → n ≤ n
   itself n = omega arith
@@ -425,7 +425,7 @@ module _ (g : Gathers) (s : Scope g.Reported) where
   designator_most : (y : Designator-F SE SS SD SI) → FM s.level (designator_layer g (opened_designator (bare_designator y)))
   designator_most y =
       at_more (picks_as_far (map (λ (e : SS). e.0) y.selectors))
-      (picks_most s.level _ (map (picks g) (map (λ (e : SS). e.0) y.selectors)) (named g s y.name) (itself s.level) (named_most y.name) (all_picks y.selectors))
+      (picks_most s.level _ (map (picks g) (map (λ (e : SS). e.0) y.selectors)) (first_name g s y.name) (itself s.level) (named_most y.name) (all_picks y.selectors))
 
   -- ---- the induction
 

@@ -24,7 +24,7 @@ use Rattle.typed_tree.specs.declared.meaning.Procedure.{Procedure}
 use Rattle.typed_tree.specs.declared.meaning.Value.{Value}
 use Rattle.typed_tree.specs.declared.shape.Scalar.{Scalar as Range}
 use Rattle.typed_tree.specs.declared.types.TypeNo.{TypeNo}
-use Rattle.typed_tree.specs.Chains.{linked_to, linked, rooted, behind}
+use Rattle.typed_tree.specs.Chains.{linked_to, link_operand, root_place, behind}
 use Rattle.typed_tree.specs.Types.{are_same, is_integer, is_numeric, boolean, bitset}
 use Rattle.check_scope.specs.Elaborated.{Gathers, ◌▷◌}
 use Rattle.check_scope.specs.Scopes.{fields_at}
@@ -35,9 +35,9 @@ use Rattle.check_const_ops.specs.declared.operand.Operand.TheVariants as operand
 use Rattle.check_const_ops.specs.declared.operator.BinaryOp.{BinaryOp}
 use Rattle.check_operator.specs.Classes.{class_at, array_at}
 use Rattle.check_operator.specs.Sides.{known_of, constant_side, side_of, sort_of, or_cardinal, run_of}
-use Rattle.check_operator.specs.Signs.{signed_scalar, signed_value, signed, negated_value, negated}
-use Rattle.check_operator.specs.Operations.{of_value, truth_of, step_of, set_step_of, equality_of, is_in, built, fitting_both, stepped, on_amounts, element_fits, member, set_built, on_sets, on_procedures, with_scalar, set_in, with_set, partner_of, routine_of, with_partner, between, by_known, combined}
-use Rattle.check_operator.specs.Selection.{record_field, field, array_indexed, indices, asked, picked, indexed}
+use Rattle.check_operator.specs.Signs.{signed_scalar, signed_value, with_sign, negated_value, negation}
+use Rattle.check_operator.specs.Operations.{of_value, truth_of, step_of, set_step_of, equality_of, is_in, step_result, fitting_both, step_or_refusal, on_amounts, element_fits, member, set_built, on_sets, on_procedures, with_scalar, set_in, with_set, partner_of, routine_of, with_partner, between, by_known, operation_between}
+use Rattle.check_operator.specs.Selection.{record_field, field, array_indexed, indices, index_type, element_of_array, element_at_index}
 use Rattle.check_operator.specs.Suits.{scalar_suited, set_suited, procedure_suited, value_in, value_suited}
 use Rattle.check_operator.specs.declared.class.Class.{Class}
 use Rattle.check_operator.specs.declared.class.Class.TheVariants as class
@@ -103,7 +103,7 @@ linked_by (layer.Val t x) e l h = chain_of_one e l
 linked_by (layer.High slot) e l h = chain_of_one e l
 linked_by (layer.Call t c) e l h = chain_of_one e l
 
-pub linked_most : (e : TypedExpr) (l : Link) → outward_typed (linked e l) ≤ outward_typed e ⊔ outward_link l
+pub linked_most : (e : TypedExpr) (l : Link) → outward_typed (link_operand e l) ≤ outward_typed e ⊔ outward_link l
 linked_most e l = linked_by (out-TypedExpr e) e l refl
 
 behind_step : (r n d s c k : ℕ) → n ≡ r ⊔ s → s ≡ k ⊔ (c ⊔ 0) → d ≡ r ⊔ k → n ≡ d ⊔ c
@@ -112,8 +112,8 @@ behind_step r n d s c k h i j = omega (arith, h, i, j)
 pub behind_reach : (d : Place) (c : Component) → outward_place (behind d c) ≡ outward_place d ⊔ outward_component c
 behind_reach d c = behind_step (outward_root d.root) _ _ _ _ (deepest_of outward_component d.components) (place_sum (behind d c)) (deepest_append outward_component d.components (c ∷ [])) (place_sum d)
 
-pub rooted_reach : (r : Root) → outward_place (rooted r) ≡ outward_root r
-rooted_reach r = place_sum (rooted r) ∙ plus_none (outward_root r) where
+pub rooted_reach : (r : Root) → outward_place (root_place r) ≡ outward_root r
+rooted_reach r = place_sum (root_place r) ∙ plus_none (outward_root r) where
   plus_none : (n : ℕ) → n ⊔ 0 ≡ n
   plus_none n = omega arith
 
@@ -176,7 +176,7 @@ module _ (g : Gathers) where
   signed_value_most n o at (value.Whole t d) p = reported_most g at rule.WrongType
   signed_value_most n o at value.Untaken p = reported_most g at rule.WrongType
 
-  pub signed_most : (n : ℕ) (o : Sign) (at : Pos) {x : Result Computed g.Reported} → Value_ n x → Value_ (n) (signed g o at x)
+  pub signed_most : (n : ℕ) (o : Sign) (at : Pos) {x : Result Computed g.Reported} → Value_ n x → Value_ (n) (with_sign g o at x)
   signed_most n o at h = then_most h (λ x p. signed_value_most n o at x p)
 
   negated_value_most : (n : ℕ) (at : Pos) (x : Computed) → outward_value x ≤ n → Value_ (n) (negated_value g at x)
@@ -188,7 +188,7 @@ module _ (g : Gathers) where
   negated_value_most n at (value.Whole t d) p = reported_most g at rule.WrongType
   negated_value_most n at value.Untaken p = reported_most g at rule.WrongType
 
-  pub negated_most : (n : ℕ) (at : Pos) {x : Result Computed g.Reported} → Value_ n x → Value_ (n) (negated g at x)
+  pub negated_most : (n : ℕ) (at : Pos) {x : Result Computed g.Reported} → Value_ n x → Value_ (n) (negation g at x)
   negated_most n at h = then_most h (λ x p. negated_value_most n at x p)
 
   -- ---- operators
@@ -199,7 +199,7 @@ module _ (g : Gathers) where
   pair : (a x y n : ℕ) → a ≡ x ⊔ y → x ⊔ (y) ≤ n → a ≤ n
   pair a x y n e h = omega (arith, e, h)
 
-  built_most : (n : ℕ) (t : TypeNo) (x y : TypedExpr) (o : Step) → outward_typed x ⊔ (outward_typed y) ≤ n → outward_value (built t x y o) ≤ n
+  built_most : (n : ℕ) (t : TypeNo) (x y : TypedExpr) (o : Step) → outward_typed x ⊔ (outward_typed y) ≤ n → outward_value (step_result t x y o) ≤ n
   built_most n t x y (step.Arithmetic o) p = join _ _ _ _ n (linked_most x (link.Arithmetic o t y)) (link_arithmetic o t y) p
   built_most n t x y step.And p = join _ _ _ _ n (linked_most x (link.And y)) (link_and y) p
   built_most n t x y step.Or p = join _ _ _ _ n (linked_most x (link.Or y)) (link_or y) p
@@ -211,10 +211,10 @@ module _ (g : Gathers) where
   first_less : (a b c n : ℕ) → a ≤ b → b ⊔ c ≤ n → a ⊔ c ≤ n
   first_less a b c n h l = omega (arith, h, l)
 
-  stepped_most : (n : ℕ) (at : Pos) (sort : Option TypeNo) (a b : Amount) (o : Option Step) → outward_amount a ⊔ (outward_amount b) ≤ n → Value_ (n) (stepped g at sort a b o)
+  stepped_most : (n : ℕ) (at : Pos) (sort : Option TypeNo) (a b : Amount) (o : Option Step) → outward_amount a ⊔ (outward_amount b) ≤ n → Value_ (n) (step_or_refusal g at sort a b o)
   stepped_most n at sort a b None p = reported_most g at rule.WrongType
   stepped_most n at sort a b (Some o) p =
-      fine (built (or_cardinal sort) (run_of (or_cardinal sort) a) (run_of (or_cardinal sort) b) o)
+      fine (step_result (or_cardinal sort) (run_of (or_cardinal sort) a) (run_of (or_cardinal sort) b) o)
       (built_most n (or_cardinal sort) (run_of (or_cardinal sort) a) (run_of (or_cardinal sort) b) o (both_less _ _ _ _ n (run_most (or_cardinal sort) a) (run_most (or_cardinal sort) b) p))
 
   amounts_most : (n : ℕ) (op : BinaryOp) (spot at : Pos) (a : Amount) (at' : Pos) (b : Amount) (o : Option (Option TypeNo)) → outward_amount a ⊔ (outward_amount b) ≤ n → Value_ (n) (on_amounts g op spot at a at' b o)
@@ -298,7 +298,7 @@ module _ (g : Gathers) where
   known_most n types op spot at x at' y (Some a) None p = between_most n types op spot at (side_of x) at' (side_of y) (both_less _ _ _ _ n (side_most x) (side_most y) p)
   known_most n types op spot at x at' y (Some a) (Some b) p = of_value_most (n) _ (one_or_more n)
 
-  pub combined_most : (n k : ℕ) (types : Types) (op : BinaryOp) (spot at : Pos) {x : Result Computed g.Reported} (at' : Pos) {y : Result Computed g.Reported} → Value_ n x → Value_ k y → Value_ ((n ⊔ (k))) (combined g types op spot at x at' y)
+  pub combined_most : (n k : ℕ) (types : Types) (op : BinaryOp) (spot at : Pos) {x : Result Computed g.Reported} (at' : Pos) {y : Result Computed g.Reported} → Value_ n x → Value_ k y → Value_ ((n ⊔ (k))) (operation_between g types op spot at x at' y)
   combined_most n k types op spot at at' p q = then_most (both_most g p q) (λ v h. known_most (n ⊔ (k)) types op spot at v.0 at' v.1 (known_of v.0) (known_of v.1) h)
 
   -- ---- what places take
@@ -381,13 +381,13 @@ module _ (g : Gathers) where
   open_sum : (u a d c x n k : ℕ) → a ≡ d ⊔ c → c ≡ u ⊔ x → d ≡ u → u ⊔ k ≤ n → x ≤ k → a ≤ n
   open_sum u a d c x n k e f q l h = omega (arith, e, f, q, l, h)
 
-  picked_most : (n k : ℕ) (x : TypedExpr) (a : Subscripted) → outward_typed x ≤ k → outward_subscripted a ⊔ k ≤ n → outward_designated (picked x a) ≤ n
+  picked_most : (n k : ℕ) (x : TypedExpr) (a : Subscripted) → outward_typed x ≤ k → outward_subscripted a ⊔ k ≤ n → outward_designated (element_of_array x a) ≤ n
   picked_most n k x (indexes.Array t i e d) p q = element_sum _ _ _ _ _ n k (behind_reach d (part.Element t x)) (component_element t x) refl q p
   picked_most n k x (indexes.Open t slot) p q =
-      open_sum slot.up _ _ _ _ n k (behind_reach (rooted (root.Open slot)) (part.OpenElement slot t x)) (component_openelement slot t x) (rooted_reach (root.Open slot)) q p
+      open_sum slot.up _ _ _ _ n k (behind_reach (root_place (root.Open slot)) (part.OpenElement slot t x)) (component_openelement slot t x) (rooted_reach (root.Open slot)) q p
 
   pub indexed_most : (n k : ℕ) (types : Types) (at : Pos) {d : Result Designated g.Reported} (at' : Pos) {x : Result Computed g.Reported} → Designated_ n d → Value_ k x
-      → Designated_ ((n ⊔ k)) (indexed g types (d ▷ indices g types at) at' x)
+      → Designated_ ((n ⊔ k)) (element_at_index g types (d ▷ indices g types at) at' x)
   indexed_most n k types at at' p q =
       then_most (both_most g (then_most p (λ d h. indices_most n types at d h)) q)
-      (λ v h. then_most (suited_most (outward_value v.1) rule.NotAssignable types (asked v.0) at' v.1 (omega arith)) (λ e l. fine (picked e v.0) (picked_most (n ⊔ k) (outward_value v.1) e v.0 l h)))
+      (λ v h. then_most (suited_most (outward_value v.1) rule.NotAssignable types (index_type v.0) at' v.1 (omega arith)) (λ e l. fine (element_of_array e v.0) (picked_most (n ⊔ k) (outward_value v.1) e v.0 l h)))

@@ -13,7 +13,7 @@ use Rattle.typed_tree.specs.declared.meaning.Meaning.TheVariants as meaning
 use Rattle.typed_tree.specs.declared.statement.TypedStmt.{TypedStmt}
 use Rattle.typed_tree.specs.declared.statement.TypedStmt.TheVariants as step
 use Rattle.typed_tree.specs.declared.types.TypeNo.{TypeNo}
-use Rattle.typed_tree.specs.Chains.{rooted}
+use Rattle.typed_tree.specs.Chains.{root_place}
 use Rattle.typed_tree.specs.Types.{boolean}
 use Rattle.check_scope.specs.Elaborated.{Gathers, reported_where}
 use Rattle.check_scope.specs.declared.scope.Scope.{Scope}
@@ -31,7 +31,7 @@ use Rattle.check_operator.specs.declared.side.Amount.TheVariants.{Known, Run}
 use Rattle.check_operator.specs.declared.side.Side.{Side}
 use Rattle.check_operator.specs.declared.side.Side.TheVariants as side
 use Rattle.check_expr.specs.Meanings.{Meant}
-use Rattle.check_stmt_parts.specs.Simple.{exited, given_back, returned, condition, selector_amount, selector_of, selected, record_by, record_of}
+use Rattle.check_stmt_parts.specs.Simple.{exit_statement, given_back, return_statement, condition, selector_amount, selector_of, case_selector, record_by, record_of}
 use Rattle.check_stmt_parts.specs.Control.{controlled_as, control_by, control_of, start_at, limit_number, limit_by, limit_at, type_of, base_of, course_of, step_of, repeated_for}
 use Rattle.check_stmt_parts.specs.declared.around.Around.{Around}
 use Rattle.check_stmt_parts.specs.declared.control.Control.{Control}
@@ -87,7 +87,7 @@ module _ (g : Gathers) (s : Scope g.Reported) where
   exited_as at true = fine step.Exit (le_of _ 0 step_exit)
   exited_as at false = reported_most g at rule.LonelyExit
 
-  pub exited_most : (at : Pos) (a : Around g.Reported) → Stmt_ 0 (exited g at a)
+  pub exited_most : (at : Pos) (a : Around g.Reported) → Stmt_ 0 (exit_statement g at a)
   exited_most at a = exited_as at a.in_loop
 
   give_sum : (a e n : ℕ) → a ≡ e → e ≤ n → a ≤ n
@@ -105,7 +105,7 @@ module _ (g : Gathers) (s : Scope g.Reported) where
   one_of : (a n : ℕ) → a ≡ 0 → a ≤ n
   one_of a n e = omega (arith, e)
 
-  pub returned_most : (n : ℕ) (at : Pos) (o : Option (Result TypeNo g.Reported)) (x : Option (Meant g.Reported)) → KnownIf n x → Stmt_ (n) (returned g s at o x)
+  pub returned_most : (n : ℕ) (at : Pos) (o : Option (Result TypeNo g.Reported)) (x : Option (Meant g.Reported)) → KnownIf n x → Stmt_ (n) (return_statement g s at o x)
   returned_most n at None None p = fine step.Return (one_of _ n step_return)
   returned_most n at None (Some x) p = reported_beside_most g at rule.WrongReturn _
   returned_most n at (Some t) None p = reported_most g at rule.WrongReturn
@@ -127,7 +127,7 @@ module _ (g : Gathers) (s : Scope g.Reported) where
   selector_most n at (Some (side.Routine t e)) p = reported_most g at rule.WrongType
   selector_most n at (Some (side.Procedure f)) p = reported_most g at rule.WrongType
 
-  pub selected_most : (n : ℕ) (x : Meant g.Reported) → FM g s n x → AtMost outward_selector n (selected g s x)
+  pub selected_most : (n : ℕ) (x : Meant g.Reported) → FM g s n x → AtMost outward_selector n (case_selector g s x)
   selected_most n x p = then_most (value_most g s n x p) (λ v k. selector_most n x.fixed.at (side_of v) (le_trans _ _ n (side_most v) k))
 
   -- ---- FOR
@@ -151,9 +151,9 @@ module _ (g : Gathers) (s : Scope g.Reported) where
   control_by_most at (meaning.Constant v) = reported_most g at rule.WrongControl
   control_by_most at (meaning.Type t n) = reported_most g at rule.WrongControl
   control_by_most at (meaning.Variable v) =
-      where_most g _ at rule.WrongControl (controlled_as_most s.level at v.of (rooted (root.Global v)) (class_at s.types v.of) (of_global _ s.level (rooted_reach (root.Global v))))
+      where_most g _ at rule.WrongControl (controlled_as_most s.level at v.of (root_place (root.Global v)) (class_at s.types v.of) (of_global _ s.level (rooted_reach (root.Global v))))
   control_by_most at (meaning.Local v) =
-      where_most g _ at rule.WrongControl (controlled_as_most s.level at v.of (rooted (root.Local (slot_of s.level v))) (class_at s.types v.of) (of_local _ s.level v.level (rooted_reach (root.Local (slot_of s.level v)))))
+      where_most g _ at rule.WrongControl (controlled_as_most s.level at v.of (root_place (root.Local (slot_of s.level v))) (class_at s.types v.of) (of_local _ s.level v.level (rooted_reach (root.Local (slot_of s.level v)))))
   control_by_most at (meaning.Field f) = reported_most g at rule.WrongControl
   control_by_most at (meaning.Procedure f) = reported_most g at rule.WrongControl
   control_by_most at (meaning.LocalProcedure f) = reported_most g at rule.WrongControl

@@ -34,11 +34,11 @@ use Rattle.check_body.specs.declared.routine.Bodies.{Bodies}
 use Rattle.check_body.specs.declared.routine.Numbered.{Numbered}
 use Rattle.check_body.specs.declared.procedure.Walk.{Walk}
 use Rattle.check_body.specs.Own.{implementation_scope}
-use Rattle.check_body.specs.Routines.{unfilled, filled, routine, typed_module}
+use Rattle.check_body.specs.Routines.{empty_routine, put_routine, routine, typed_module}
 use Rattle.check_body.specs.Elaborating.{Elaborates}
 use Rattle.check_body.specs.Inside.{which_of, with_routine}
 use Rattle.check_body.specs.Bodies.{Steps, Checks, ChecksBlock, marked_by, declared_by, checked_by, begun_from, with_body, procedure_checked, steps_layer, block_layer, steps, checks_block, checks_decl, bodies_checked}
-use Rattle.check_body.specs.Checked.{begun_module, walked, of_walk, of_implementation, of_contents, checked}
+use Rattle.check_body.specs.Checked.{begun_module, walk_body, of_walk, of_implementation, of_contents, body_module}
 use Rattle.law_well_formed.specs.FormedScopes.{Leads}
 use Rattle.law_well_formed.specs.FormedBodies.{FormsStatements, Keeps, FormedBlock}
 use Rattle.law_well_formed.proofs.Parts.{nothing_at, no_home, nothing_open, all_marks, all_lead}
@@ -72,16 +72,16 @@ module _ (most : ℕ) where
   second_filled : (a b c d : ℕ) → a ≤ b ⊔ c → d ⊔ b ≤ most → c ≤ most → d ⊔ a ≤ most
   second_filled a b c d h k l = omega (arith, h, k, l)
 
-  filled_low : (rs : Bodies) (w : Which) (r : Routine) → AreLow rs → r.level ≤ most → AreLow (filled rs w r)
+  filled_low : (rs : Bodies) (w : Which) (r : Routine) → AreLow rs → r.level ≤ most → AreLow (put_routine rs w r)
   filled_low rs (which.Module k) r p q = first_filled _ _ _ _ (deepest_set level_of rs.procedures k r) p q
   filled_low rs (which.Local k) r p q = second_filled _ _ _ _ (deepest_set level_of rs.locals k r) p q
 
   begun_sum : (a b c : ℕ) → b ≡ c ⊔ (1 ⊔ 0) → a ⊔ c ≤ most → 1 ≤ most → a ⊔ b ≤ most
   begun_sum a b c e l k = omega (arith, e, l, k)
 
-  begun_by : (b : Bool) (rs : Bodies) → AreLow rs → 1 ≤ most → AreLow (cond b rs (record rs { locals = rs.locals ++ unfilled integer ∷ [] }))
+  begun_by : (b : Bool) (rs : Bodies) → AreLow rs → 1 ≤ most → AreLow (cond b rs (record rs { locals = rs.locals ++ empty_routine integer ∷ [] }))
   begun_by true rs p k = p
-  begun_by false rs p k = begun_sum _ _ _ (deepest_append level_of rs.locals (unfilled integer ∷ [])) p k
+  begun_by false rs p k = begun_sum _ _ _ (deepest_append level_of rs.locals (empty_routine integer ∷ [])) p k
 
   -- ---- scopes
 
@@ -247,7 +247,7 @@ module _ (most : ℕ) where
       unfilled_sum : (n : ℕ) → n ≤ 1 → 1 ⊔ n ≤ 1
       unfilled_sum n l = omega (arith, l)
 
-      unfilled_low : (hs : List TypeNo) → deepest_of level_of (map unfilled hs) ≤ 1
+      unfilled_low : (hs : List TypeNo) → deepest_of level_of (map empty_routine hs) ≤ 1
       unfilled_low [] = omega arith
       unfilled_low (h ∷ hs) = unfilled_sum _ (unfilled_low hs)
 
@@ -292,7 +292,7 @@ module _ (most : ℕ) where
     few_in a b e l = omega (arith, e, l)
 
     abbrev walk_low : (modules : List (List ℕ × ℕ)) (s : Scope g.Reported) (m : Module) (b : Block) → Type 0
-    walk_low modules s m b = let w = (walked g elaborates modules (procedure_ends (out-Block b).decls) s m b).0 in AreLow w.bodies × (w.scope.level ≡ 0)
+    walk_low modules s m b = let w = (walk_body g elaborates modules (procedure_ends (out-Block b).decls) s m b).0 in AreLow w.bodies × (w.scope.level ≡ 0)
 
     walks_low : (modules : List (List ℕ × ℕ)) (s : Scope g.Reported) (m : Module) (b : Block) → length s.outer ≡ 1 → s.level ≡ 0 → 1 ≤ most → procedures_block b ≤ most → walk_low modules s m b
     walks_low modules s m b o l one few = module_low (procedure_ends (out-Block b).decls) modules s m (out-Block b).decls (o, l) one (few_in _ _ (block_few b) few)
@@ -300,7 +300,7 @@ module _ (most : ℕ) where
     levels_walk : (modules : List (List ℕ × ℕ)) (s : Scope g.Reported) (own : Option Table) (m : Module) (b : Block) → length s.outer ≡ 1 → s.level ≡ 0 → 1 ≤ most → procedures_block b ≤ most
         → AtMost greatest_level most (of_walk g elaborates modules s own m b)
     levels_walk modules s own m b o l one few =
-        let c = walked g elaborates modules (procedure_ends (out-Block b).decls) s m b in
+        let c = walk_body g elaborates modules (procedure_ends (out-Block b).decls) s m b in
         then_most (both_most g (any_most c.0.so_far) (any_most c.1)) (λ p q. fine (typed_module c.0.scope modules own m c.0.bodies p.1) (walks_low modules s m b o l one few).0)
 
     levels_implementation : (m : Module) (o : Option Table) (tables : List Table) (b : Block) → 1 ≤ most → procedures_block b ≤ most → AtMost greatest_level most (of_implementation g elaborates m o tables b)
@@ -312,7 +312,7 @@ module _ (most : ℕ) where
     levels_contents number m own tables (contents.Implementation b) one few = levels_implementation m own tables b one few
     levels_contents number m own tables (contents.Program b) one few = levels_walk _ (first_scope number tables) None m b refl refl one few
 
-    pub module_levels : (number : ℕ) (m : Module) (own : Option Table) (tables : List Table) → 1 ≤ most → procedures_module m ≤ most → AtMost greatest_level most (checked g elaborates number m own tables)
+    pub module_levels : (number : ℕ) (m : Module) (own : Option Table) (tables : List Table) → 1 ≤ most → procedures_module m ≤ most → AtMost greatest_level most (body_module g elaborates number m own tables)
     module_levels number m own tables one few = levels_contents number m own _ m.contents one few
 
     -- ---- how far the bodies go outwards
@@ -347,7 +347,7 @@ module _ (most : ℕ) where
           → AtMost outward_bodies most (of_walk g elaborates modules s own m b)
       near_walk modules s own m b o l one few =
           let ends = procedure_ends (out-Block b).decls in
-          let c = walked g elaborates modules ends s m b in
+          let c = walk_body g elaborates modules ends s m b in
           let low = walks_low modules s m b o l one few in
           let beyond = walked_near g elaborates near ends modules s m (out-Block b).decls in
           let firsts = routines_near c.0.bodies.procedures (first_of _ _ 0 beyond) (first_of _ _ most low.0) in
@@ -364,7 +364,7 @@ module _ (most : ℕ) where
       near_contents number m own tables (contents.Implementation b) one few = near_implementation m own tables b one few
       near_contents number m own tables (contents.Program b) one few = near_walk _ (first_scope number tables) None m b refl refl one few
 
-      pub bodies_near : (number : ℕ) (m : Module) (own : Option Table) (tables : List Table) → 1 ≤ most → procedures_module m ≤ most → AtMost outward_bodies most (checked g elaborates number m own tables)
+      pub bodies_near : (number : ℕ) (m : Module) (own : Option Table) (tables : List Table) → 1 ≤ most → procedures_module m ≤ most → AtMost outward_bodies most (body_module g elaborates number m own tables)
       bodies_near number m own tables one few = near_contents number m own _ m.contents one few
 
 -- ---- the laws
@@ -376,5 +376,5 @@ more_or_one : (n : ℕ) → n ≤ 1 ⊔ n
 more_or_one n = omega arith
 
 pub levels_low : (g : Gathers) (elaborates : Elaborates g.Reported) → FormsStatements g elaborates → (number : ℕ) (m : Module) (own : Option Table) (tables : List Table)
-    → AtMost greatest_level (1 ⊔ procedures_module m) (checked g elaborates number m own tables)
+    → AtMost greatest_level (1 ⊔ procedures_module m) (body_module g elaborates number m own tables)
 levels_low g elaborates forms number m own tables = module_levels (1 ⊔ procedures_module m) g elaborates forms number m own tables (one_or_more (procedures_module m)) (more_or_one (procedures_module m))

@@ -13,7 +13,7 @@ use Rattle.typed_tree.specs.declared.typed_module.Imported.{Imported}
 use Rattle.typed_tree.specs.declared.typed_module.Routine.{Routine}
 use Rattle.typed_tree.specs.declared.typed_module.TypedModule.{TypedModule}
 use Rattle.check_scope.specs.Elaborated.{Gathers}
-use Rattle.check_body.specs.Checks.{elaborated}
+use Rattle.check_body.specs.Checks.{elaborate_body}
 use Rattle.layout_storage.specs.Types.{Ty, Nothing, row}
 use Rattle.layout_storage.specs.Sizes.{size}
 use Rattle.layout_storage.specs.Shapes.{tree}
@@ -217,12 +217,12 @@ ok_most {size = size} {n = n} {x = x} (fine y p) e = let same : y ≡ x = cc e i
 ok_most (broken y) e = absurd cc
 
 imports_differ : (g : Gathers) (t : TypedModule) → IsAccepted g t → ImportsDiffer t
-imports_differ g t is = subst (λ r. IfOk r ImportsDiffer) is.accepted (module_differs g (elaborated g) is.tree is.number is.own is.tables)
+imports_differ g t is = subst (λ r. IfOk r ImportsDiffer) is.accepted (module_differs g (elaborate_body g) is.tree is.number is.own is.tables)
 
 own_short : (g : Gathers) (t : TypedModule) → IsAccepted g t → is_short_name t.name ≡ true
 own_short g t is =
     let stands : StandsOnImports is.tree is.own t =
-    subst (λ r. IfOk r (StandsOnImports is.tree is.own)) is.accepted (modules_stand g (elaborated g) is.number is.tree is.own is.tables) in
+    subst (λ r. IfOk r (StandsOnImports is.tree is.own)) is.accepted (modules_stand g (elaborate_body g) is.number is.tree is.own is.tables) in
     subst (λ (n : List ℕ). is_short_name n ≡ true) (sym stands.name) (text_named is.text is.tokens is.tree is.scanned is.parsed.0)
 
 tree_few : (g : Gathers) (t : TypedModule) (is : IsAccepted g t) → size_module is.tree ≤ most

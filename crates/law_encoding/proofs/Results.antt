@@ -3,7 +3,7 @@ use Rattle.std.proofs.Common.{ℕ, ◌+◌, ◌≤◌, Bool, true, false, Result
 use Rattle.m2_rule.specs.RuleNumber.{number_of}
 use Rattle.m2_rule.specs.declared.rule.Rule.{Rule}
 use Rattle.m2_tree.specs.declared.pos.Pos.{Pos}
-use Rattle.check_scope.specs.Elaborated.{Gathers, reported, reported_where, ◌▷◌, both, refusal_beside, reported_beside, ahead, of_sort, of_heading, plain}
+use Rattle.check_scope.specs.Elaborated.{Gathers, report, reported_where, ◌▷◌, both, refusal_beside, reported_beside, ahead, of_sort, of_heading, plain}
 use Rattle.check_scope.specs.declared.meaningless.Meaningless.{Meaningless}
 use Rattle.check_scope.specs.declared.meaningless.Meaningless.TheVariants.{Broken, Headless}
 use Rattle.law_encoding.specs.Counted.{AtMost, fine, broken}
@@ -24,7 +24,7 @@ at_mapped c (fine x p) = fine x (c x p)
 at_mapped c (broken e) = broken e
 
 module _ (g : Gathers) where
-  pub reported_most : {A : Type 0} {f : A → ℕ} {n : ℕ} (at : Pos) (k : Rule) → AtMost f n (reported g {A = A} at k)
+  pub reported_most : {A : Type 0} {f : A → ℕ} {n : ℕ} (at : Pos) (k : Rule) → AtMost f n (report g {A = A} at k)
   reported_most at k = broken _
 
   pub where_most : {A : Type 0} {f : A → ℕ} {n : ℕ} (q : Bool) (at : Pos) (k : Rule) {r : Result A g.Reported} → AtMost f n r → AtMost f n (reported_where g q at k r)

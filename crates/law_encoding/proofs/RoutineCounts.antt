@@ -19,7 +19,7 @@ use Rattle.typed_tree.specs.declared.typed_module.Routine.{Routine}
 use Rattle.typed_tree.specs.declared.typed_module.TypedModule.{TypedModule}
 use Rattle.typed_tree.specs.declared.typed_module.Which.{Which}
 use Rattle.typed_tree.specs.declared.typed_module.Which.TheVariants as which
-use Rattle.typed_tree.specs.Names.{found}
+use Rattle.typed_tree.specs.Names.{find_name}
 use Rattle.typed_tree.specs.Types.{integer}
 use Rattle.check_scope.specs.declared.known.Known.{Known}
 use Rattle.check_scope.specs.declared.known.Known.TheVariants.{Later, Ahead, Begun, Headed, Declared}
@@ -30,7 +30,7 @@ use Rattle.check_block.specs.Nesting.{within}
 use Rattle.check_block.specs.Declarations.{Declared as Behind, all_declared, declared_block}
 use Rattle.check_body.specs.declared.routine.Bodies.{Bodies}
 use Rattle.check_body.specs.declared.routine.Numbered.{Numbered}
-use Rattle.check_body.specs.Routines.{numbered_by, numbered_elaborated, numbered_known, unfilled, filled, routine}
+use Rattle.check_body.specs.Routines.{numbered_by, numbered_elaborated, numbered_known, empty_routine, put_routine, routine}
 use Rattle.check_body.specs.declared.procedure.Walk.{Walk}
 use Rattle.check_body.specs.Elaborating.{Elaborates, statements_of}
 use Rattle.check_body.specs.Inside.{which_of, with_routine}
@@ -144,7 +144,7 @@ module _ (types : Types) where
   set_most (x ∷ rs) zero r = set_here (routine_counts types r) (sum_of (routine_counts types) rs) (routine_counts types r) (routine_counts types x) (omega arith)
   set_most (x ∷ rs) (suc n) r = set_step (routine_counts types x) _ _ (routine_counts types r) (set_most rs n r)
 
-  filled_most : (n m : ℕ) (rs : Bodies) (w : Which) (r : Routine) → counts_so_far rs ≤ n → routine_counts types r ≤ m → counts_so_far (filled rs w r) ≤ n + m
+  filled_most : (n m : ℕ) (rs : Bodies) (w : Which) (r : Routine) → counts_so_far rs ≤ n → routine_counts types r ≤ m → counts_so_far (put_routine rs w r) ≤ n + m
   filled_most n m rs (which.Module k) r p q = first_filled _ _ _ _ n m (set_most rs.procedures k r) p q
   filled_most n m rs (which.Local k) r p q = second_filled _ _ _ _ n m (set_most rs.locals k r) p q
 
@@ -153,9 +153,9 @@ module _ (types : Types) where
   begun_more true = 0
   begun_more false = 1
 
-  begun_by : (b : Bool) (n : ℕ) (rs : Bodies) → counts_so_far rs ≤ n → counts_so_far (cond b rs (record rs { locals = rs.locals ++ unfilled integer ∷ [] })) ≤ n + begun_more b
+  begun_by : (b : Bool) (n : ℕ) (rs : Bodies) → counts_so_far rs ≤ n → counts_so_far (cond b rs (record rs { locals = rs.locals ++ empty_routine integer ∷ [] })) ≤ n + begun_more b
   begun_by true n rs p = plus_none _ n p
-  begun_by false n rs p = begun_sum _ _ _ n (sum_append (routine_counts types) rs.locals (unfilled integer ∷ [])) p
+  begun_by false n rs p = begun_sum _ _ _ n (sum_append (routine_counts types) rs.locals (empty_routine integer ∷ [])) p
 
   module _ (g : Gathers) (elaborates : Elaborates g.Reported) (forms : FormsStatements g elaborates) (small : (s : Scope g.Reported) (r : Option (Result TypeNo g.Reported)) (xs : List Stmt) → AtMost size_body (size_stmts xs) (elaborates s r xs)) where
     with_routine_most : (n m j : ℕ) (s : Scope g.Reported) (name : Ident) (around : Option Which) (formals : ℕ) (o : Option Numbered) {body : Result (List TypedStmt) g.Reported} (rs : Bodies)
@@ -202,7 +202,7 @@ module _ (types : Types) where
         let r = adds (which_of b.1.procedure) b.1.returns b.0 (k + more) withs ends_in (begun_by (w.scope.level == 0) k w.bodies p) in
         procedure_sum _ k more (heading_names h) r.0 r.1 n
         (with_routine_most (k + more + r.0) (heading_names h) r.1 i.0.scope h.name around b.1.formals b.1.procedure i.0.bodies
-        (λ q named. known_fits (type_weight types) (heading_names h) q (found h.name.name w.scope.own) fits named) r.3 r.4) r.2
+        (λ q named. known_fits (type_weight types) (heading_names h) q (find_name h.name.name w.scope.own) fits named) r.3 r.4) r.2
 
     module _ (ends : List ℕ) where
       abbrev steps_of : Decl → Steps g.Reported

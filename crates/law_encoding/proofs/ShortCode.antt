@@ -25,23 +25,23 @@ use Rattle.typed_tree.specs.Types.{are_same, integer, bitset}
 use Rattle.typed_tree.specs.Known.{scalar_at}
 use Rattle.layout_storage.specs.Types.{Ty, Scalar, Cell, Hidden, Array, Nothing, Field}
 use Rattle.layout_storage.specs.Shapes.{tree}
-use Rattle.def_scheme.specs.Coded.{Setting, raised, wrapped, fault, checked}
-use Rattle.def_scheme.specs.Cells.{is_nought, lower, load_scalar, store_scalar, load_tree, store_tree, loaded, stored, word, in_range, in_type, base_of, is_free, is_subrange, check_taken, check_changed}
-use Rattle.def_scheme.specs.Exprs.{Numbered, is_own, outwards, frame_code, slot_code, kept_address, open_address, high_code, index_of, scaled, from_lower, element_code, open_element_code, arithmetic_code, complement, set_code, empty_code, ord_check, procedure_code, global_code, with_code, text_code, indirect, module_call, link_code, nested_call}
-use Rattle.def_scheme.specs.Steps.{Arm, label_code, tests_code, from_least, dispatch, targets, target, change_operation, read_again, changed, member_operation, with_member, text_copied}
+use Rattle.def_scheme.specs.Coded.{Setting, raise_address, wrap_word, fault, check_code}
+use Rattle.def_scheme.specs.Cells.{is_nought, lower, load_scalar, store_scalar, load_tree, store_tree, load_code, store_code, word, in_range, in_type, base_of, is_free, is_subrange, check_taken, check_changed}
+use Rattle.def_scheme.specs.Exprs.{Numbered, is_own, outwards, frame_code, slot_code, kept_address, open_address, high_code, index_of, scale_index, from_lower, element_code, open_element_code, arithmetic_code, complement, set_code, empty_code, ord_check, procedure_code, global_code, with_code, text_code, indirect, module_call, link_code, nested_call}
+use Rattle.def_scheme.specs.Steps.{Arm, label_code, tests_code, from_least, dispatch, targets, target, change_operation, read_again, change_instructions, member_operation, with_member, text_copied}
 use Rattle.def_grammar.specs.Refusal.{max_nesting}
 use Rattle.law_encoding.specs.CodeBytes.{bytes_in, bytes}
 use Rattle.law_encoding.proofs.CodeLengths.{stops, jumps, jumps_if, jumps_by, calls, calls_by, gets, globals, loads, stores, address, amount, computes, Short, short_end, short_none, ◌▹◌, short_both, short_more, short_either, short_unless}
 
 -- ---- pieces
 
-pub short_raised : (n : ℕ) → Short 7 (raised n)
+pub short_raised : (n : ℕ) → Short 7 (raise_address n)
 short_raised n = address n ▹ computes _ ▹ short_end
 
 pub short_fault : (k : ℕ) → Short 18 (fault k)
 short_fault k = amount k ▹ calls _ ▹ stops ▹ short_end
 
-pub short_checked : (low high : ℤ) (k : ℕ) → Short 39 (checked low high k)
+pub short_checked : (low high : ℤ) (k : ℕ) → Short 39 (check_code low high k)
 short_checked low high k = amount _ ▹ amount _ ▹ amount k ▹ calls _ ▹ short_end
 
 -- ---- cells and checks
@@ -66,10 +66,10 @@ short_store_tree (Array n t) = short_none 15
 short_store_tree Nothing = short_none 15
 short_store_tree (Field t others) = short_none 15
 
-pub short_loaded : (types : Types) (t : TypeNo) → Short 15 (loaded types t)
+pub short_loaded : (types : Types) (t : TypeNo) → Short 15 (load_code types t)
 short_loaded types t = short_load_tree (tree types t)
 
-pub short_stored : (types : Types) (t : TypeNo) → Short 15 (stored types t)
+pub short_stored : (types : Types) (t : TypeNo) → Short 15 (store_code types t)
 short_stored types t = short_store_tree (tree types t)
 
 pub short_in_range : (o : Option Range) (k : ℕ) → Short 39 (in_range o k)
@@ -117,7 +117,7 @@ short_open s slot h = short_kept s slot (0 ∷ []) h
 pub short_high : (s : Setting) (slot : Slot) → IsNear slot.up → Short 828 (high_code s slot)
 short_high s slot h = short_both (short_slot s slot (1 ∷ []) h) (short_load word)
 
-short_scaled : (bytes : ℕ) → Short 14 (scaled bytes)
+short_scaled : (bytes : ℕ) → Short 14 (scale_index bytes)
 short_scaled bytes = amount _ ▹ computes _ ▹ computes _ ▹ computes _ ▹ short_end
 
 short_from_lower : (o : Option Range) → Short 12 (from_lower o)
@@ -176,7 +176,7 @@ short_module_call numbered m f = short_either (is_own m f.home) (calls _ ▹ sho
 pub short_nested_call : (numbered : Numbered) (m : TypedModule) (f : LocalProcedure) → Short 6 (nested_call numbered m f)
 short_nested_call numbered m f = calls _ ▹ short_end
 
-pub short_value_call : (numbered : Numbered) (types : Types) (t : ℕ) (heading : TypeNo) → Short 14 (LocalGet t ∷ wrapped ∷ indirect numbered types heading ∷ [])
+pub short_value_call : (numbered : Numbered) (types : Types) (t : ℕ) (heading : TypeNo) → Short 14 (LocalGet t ∷ wrap_word ∷ indirect numbered types heading ∷ [])
 short_value_call numbered types t heading = gets t ▹ computes _ ▹ calls_by _ ▹ short_end
 
 -- ---- statements
@@ -216,7 +216,7 @@ one_operation : (o : Change) → bytes_in (change_operation o) ≡ 1
 one_operation change.Increase = computes _
 one_operation change.Decrease = computes _
 
-pub short_changed : (o : Change) (w n : ℕ) (types : Types) (t : TypeNo) → Short 127 (changed o w n types t)
+pub short_changed : (o : Change) (w n : ℕ) (types : Types) (t : TypeNo) → Short 127 (change_instructions o w n types t)
 short_changed o w n types t = short_both (short_read_again w types t) (gets n ▹ one_operation o ▹ short_both (short_check_changed types t) (short_stored types t))
 
 short_member : (o : Membership) → Short 13 (member_operation o)

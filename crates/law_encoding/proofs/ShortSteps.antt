@@ -16,7 +16,7 @@ use Rattle.layout_storage.specs.Shapes.{tree}
 use Rattle.layout_storage.specs.Sizes.{size}
 use Rattle.def_scheme.specs.Coded.{Coded, plain, ◌⨾◌, within, all_coded, relation}
 use Rattle.def_scheme.specs.Exprs.{Numbered, Part, expr_part}
-use Rattle.def_scheme.specs.Steps.{Arm, block, loop, block_loop, leaving, under, if_else, tests_code, arm_code, chain_code, all_labels, all_values, least_of, span_of, is_dense, boxed, jump_arms, table_code, case_code, passes, for_turn, for_code, change_code, member_code, copy_text_code, step_layer, arm_layer, step_code, body_code}
+use Rattle.def_scheme.specs.Steps.{Arm, block, loop, block_loop, leaving, under, if_else, tests_code, arm_code, chain_code, all_labels, all_values, least_of, span_of, is_dense, in_block, jump_arms, table_code, case_code, passes, for_turn, for_code, change_code, member_code, copy_text_code, step_layer, arm_layer, step_code, body_code}
 use Rattle.law_encoding.specs.Nesting.{◌⊔◌, deepest}
 use Rattle.law_encoding.specs.Sizes.{total}
 use Rattle.law_encoding.specs.TypedSizes.{size_typed, size_place, size_call, size_step, size_arm, size_body}
@@ -68,7 +68,7 @@ leaving_costs {n} {u} w exit wrap h p = record { at_most = λ s c. wrapped_most 
 under_costs : {n u : ℕ} (w : ℕ) {x : Coded} → Costs n u x → Costs n u (under w x)
 under_costs w p = record { at_most = λ s c. p.at_most (record s { withs = s.withs ++ w ∷ [] }) c }
 
-boxed_costs : {n u : ℕ} {x : Coded} → Costs n u x → Costs n (u + 3) (boxed x)
+boxed_costs : {n u : ℕ} {x : Coded} → Costs n u x → Costs n (u + 3) (in_block x)
 boxed_costs {n} {u} p = record { at_most = λ s c. wrapped_most _ _ n u 3 (block_wraps _) (p.at_most s c) }
 
 both_sides : (m a b n k u v : ℕ) → m ≡ 4 + (a + b) → a ≤ unit_bytes * n + u → b ≤ unit_bytes * k + v → m ≤ unit_bytes * (n + k) + (4 + (u + v))
@@ -131,7 +131,7 @@ chain_costs t ns xs p q = extra_costs refl (within_costs 3 1 block block_wraps (
 jump_fits : (a k n l m u : ℕ) → 1 + l + n ≤ m → a ≤ unit_bytes * (k + n) + (u + 3 + (0 + 0 + 6)) → a ≤ unit_bytes * (k + m) + u
 jump_fits a k n l m u h p = omega (arith, h, p)
 
-jump_costs : {k u : ℕ} (m : ℕ) (x : Arm) (labels label : ℕ) {inner : Coded} → Costs k u inner → ArmCosts m x → Costs (k + m) u (boxed inner ⨾ within labels (λ code. code) x.code ⨾ plain (Br label ∷ []))
+jump_costs : {k u : ℕ} (m : ℕ) (x : Arm) (labels label : ℕ) {inner : Coded} → Costs k u inner → ArmCosts m x → Costs (k + m) u (in_block inner ⨾ within labels (λ code. code) x.code ⨾ plain (Br label ∷ []))
 jump_costs {k} {u} m x labels label q p = record {
   at_most = λ s c. jump_fits _ k p.count (length x.labels) m u p.room
       ((both_cost (boxed_costs q) (then_plain (one_jump label) (within_costs 0 labels (λ code. code) as_it_is p.costs))).at_most s c);

@@ -17,12 +17,12 @@ use Rattle.typed_tree.specs.declared.statement.TypedStmt.TheVariants as step
 use Rattle.typed_tree.specs.declared.types.TypeNo.{TypeNo}
 use Rattle.check_scope.specs.Elaborated.{Gathers}
 use Rattle.check_scope.specs.declared.scope.Scope.{Scope}
-use Rattle.check_expr.specs.Meanings.{meant, head}
+use Rattle.check_expr.specs.Meanings.{meanings_of, head}
 use Rattle.check_stmt_parts.specs.declared.around.Around.{Around}
-use Rattle.check_stmt_parts.specs.Lists.{with_next, chosen, chosen_else, base_in, cased, armed, repeated_while, repeated_until, looped, within}
-use Rattle.check_stmt_parts.specs.Simple.{meant_if, in_loop, selected, opened}
+use Rattle.check_stmt_parts.specs.Lists.{with_next, if_statement, chosen_else, base_in, case_statement, arm_of, repeated_while, repeated_until, loop_statement, within}
+use Rattle.check_stmt_parts.specs.Simple.{meant_if, in_loop, case_selector, into_record}
 use Rattle.check_stmt.specs.Statements.{Elaborates, ElaboratesRest, ElaboratesArm, Arms, args_meant, with_stmt, all_of, all_if, with_arm, arms_of, stmt_layer, rest_layer, arm_layer, stmt, rest, arm, with_written, statements}
-use Rattle.check_expr.specs.Effects.{done_by}
+use Rattle.check_expr.specs.Effects.{call_statement}
 use Rattle.check_stmt_parts.specs.Labels.{Labels, with_label, with_item, item_label}
 use Rattle.check_stmt_parts.specs.Lists.{with_next}
 use Rattle.m2_tree.specs.declared.pos.Pos.{Pos}
@@ -123,7 +123,7 @@ module _ (g : Gathers) where
   labels_most k s base [] st p = at_more (no_more k) p
   labels_most k s base (i ∷ items) st p =
       at_more (one_label k (size_item i) (sum_of (λ i. 1 + size_item i) items))
-      (labels_most (k + 1) s base items (with_item g s base st i) (label_most k (meant g (out-Item i).low).fixed.at st (item_label g s base i) p))
+      (labels_most (k + 1) s base items (with_item g s base st i) (label_most k (meanings_of g (out-Item i).low).fixed.at st (item_label g s base i) p))
 
   -- ---- statements around others
 
@@ -131,7 +131,7 @@ module _ (g : Gathers) where
   if_sum a c b r n m k e l = omega (arith, e, l)
 
   chosen_most : (n m k : ℕ) {c : Result TypedExpr g.Reported} {body : Result (List TypedStmt) g.Reported} {follow : Result (Option (List TypedStmt)) g.Reported} → AtMost size_typed n c → AtMost size_body m body → AtMost size_body_if k follow
-      → AtMost size_step (1 + n + m + k) (chosen g c body follow)
+      → AtMost size_step (1 + n + m + k) (if_statement g c body follow)
   chosen_most n m k p q r = then_most (both_most g p (both_most g q r)) (λ v l. fine (step.If v.0 v.1.0 v.1.1) (if_sum _ _ _ _ n m k (step_if v.0 v.1.0 v.1.1) l))
 
   alone : (a n : ℕ) → a ≤ n → a + 0 ≤ n
@@ -144,7 +144,7 @@ module _ (g : Gathers) where
   case_sum a c b r n m k e l = omega (arith, e, l)
 
   cased_most : (n m k : ℕ) (s : Scope g.Reported) {e : Result (TypeNo × TypedExpr) g.Reported} {xs : Result (List TypedArm) g.Reported} {otherwise : Result (Option (List TypedStmt)) g.Reported}
-      → AtMost (size_selector g s) n e → AtMost (sum_of typed.size_arm) m xs → AtMost size_body_if k otherwise → AtMost size_step (6 + n + m + k) (cased g e xs otherwise)
+      → AtMost (size_selector g s) n e → AtMost (sum_of typed.size_arm) m xs → AtMost size_body_if k otherwise → AtMost size_step (6 + n + m + k) (case_statement g e xs otherwise)
   cased_most n m k s p q r = then_most (both_most g p (both_most g q r)) (λ v l. fine (step.Case v.0.1 v.1.0 v.1.1) (case_sum _ _ _ _ n m k (step_case v.0.1 v.1.0 v.1.1) l))
 
   two_sum : (a c b n m : ℕ) → a ≡ 1 + c + b → c + b ≤ n + m → a ≤ 1 + n + m
@@ -159,7 +159,7 @@ module _ (g : Gathers) where
   one_sum : (a b n : ℕ) → a ≡ 1 + b → b ≤ n → a ≤ 1 + n
   one_sum a b n e l = omega (arith, e, l)
 
-  looped_most : (n : ℕ) {body : Result (List TypedStmt) g.Reported} → AtMost size_body n body → AtMost size_step (1 + n) (looped body)
+  looped_most : (n : ℕ) {body : Result (List TypedStmt) g.Reported} → AtMost size_body n body → AtMost size_step (1 + n) (loop_statement body)
   looped_most n p = then_most p (λ v l. fine (step.Loop v) (one_sum _ _ n (step_loop v) l))
 
   with_sum : (a d b n m : ℕ) → a ≡ 1 + d + b → 1 + d ≤ n → b ≤ m → a ≤ n + m
@@ -170,7 +170,7 @@ module _ (g : Gathers) where
 
   -- ---- parts
 
-  all_meant : (s : Scope g.Reported) (xs : List Expr) → AllM g s (map size_expr xs) (map (meant g) xs)
+  all_meant : (s : Scope g.Reported) (xs : List Expr) → AllM g s (map size_expr xs) (map (meanings_of g) xs)
   all_meant s [] = tt
   all_meant s (x ∷ xs) = (meant_most g s x, all_meant s xs)
 
@@ -262,45 +262,45 @@ module _ (g : Gathers) where
   call_sum : (d a b : ℕ) → a ≡ b → 1 + (1 + d + a) ≤ 2 + d + (1 + b)
   call_sum d a b e = omega (arith, e)
 
-  call_most : (s : Scope g.Reported) (d : Designator) (args : Option (List Expr)) → AtMost size_step (2 + size_designator d + size_arguments args) (done_by g s (head g d) (args_meant g args))
+  call_most : (s : Scope g.Reported) (d : Designator) (args : Option (List Expr)) → AtMost size_step (2 + size_designator d + size_arguments args) (call_statement g s (head g d) (args_meant g args))
   call_most s d None = at_more (call_alone (size_designator d)) (done_most g s (1 + size_designator d) [] (head g d) [] (head_most g s d) tt)
   call_most s d (Some es) =
-      at_more (call_sum (size_designator d) _ _ (arguments_map es)) (done_most g s (1 + size_designator d) (map size_expr es) (head g d) (map (meant g) es) (head_most g s d) (all_meant s es))
+      at_more (call_sum (size_designator d) _ _ (arguments_map es)) (done_most g s (1 + size_designator d) (map size_expr es) (head g d) (map (meanings_of g) es) (head_most g s d) (all_meant s es))
 
   for_more : (n k o b : ℕ) → 6 + n + k + b ≤ 9 + n + k + o + b
   for_more n k o b = omega arith
 
   stmt_most_layer : (y : Stmt-F SR SS SA) → Elaborates_ (sizes.stmt_layer (sizes_stmt (bare_stmt y))) (stmt_layer g (opened_stmt (bare_stmt y)))
-  stmt_most_layer (layer.Assign d e) = λ s a. assignment_most g s (1 + size_designator d) (size_expr e) (head g d) (meant g e).fixed.at (meant g e) (head_most g s d) (meant_most g s e)
+  stmt_most_layer (layer.Assign d e) = λ s a. assignment_most g s (1 + size_designator d) (size_expr e) (head g d) (meanings_of g e).fixed.at (meanings_of g e) (head_most g s d) (meant_most g s e)
   stmt_most_layer (layer.Call d args) = λ s a. call_most s d args
-  stmt_most_layer (layer.If c body follow) = λ s a. chosen_most (size_expr c) (count_of body) (size_rest follow.0) (condition_most g s (size_expr c) (meant g c) (meant_most g s c)) (body_most s a body) (follow.1 s a)
+  stmt_most_layer (layer.If c body follow) = λ s a. chosen_most (size_expr c) (count_of body) (size_rest follow.0) (condition_most g s (size_expr c) (meanings_of g c) (meant_most g s c)) (body_most s a body) (follow.1 s a)
   stmt_most_layer (layer.Case e arms None) = λ s a.
-      cased_most (size_expr e) (total (map sizes.size_arm (map (λ (e : SA). e.0) arms))) 0 s (selected_most g s (size_expr e) (meant g e) (meant_most g s e))
-      (all_arms s a (base_in (selected g s (meant g e))) _ (map (arm g) (map (λ (e : SA). e.0) arms)) (armed_all arms)) (no_else s a)
+      cased_most (size_expr e) (total (map sizes.size_arm (map (λ (e : SA). e.0) arms))) 0 s (selected_most g s (size_expr e) (meanings_of g e) (meant_most g s e))
+      (all_arms s a (base_in (case_selector g s (meanings_of g e))) _ (map (arm g) (map (λ (e : SA). e.0) arms)) (armed_all arms)) (no_else s a)
   stmt_most_layer (layer.Case e arms (Some body)) = λ s a.
-      cased_most (size_expr e) (total (map sizes.size_arm (map (λ (e : SA). e.0) arms))) (count_of body) s (selected_most g s (size_expr e) (meant g e) (meant_most g s e))
-      (all_arms s a (base_in (selected g s (meant g e))) _ (map (arm g) (map (λ (e : SA). e.0) arms)) (armed_all arms)) (else_most s a body)
-  stmt_most_layer (layer.While c body) = λ s a. while_most (size_expr c) (count_of body) (condition_most g s (size_expr c) (meant g c) (meant_most g s c)) (body_most s a body)
-  stmt_most_layer (layer.Repeat body c) = λ s a. until_most (size_expr c) (count_of body) (body_most s a body) (condition_most g s (size_expr c) (meant g c) (meant_most g s c))
+      cased_most (size_expr e) (total (map sizes.size_arm (map (λ (e : SA). e.0) arms))) (count_of body) s (selected_most g s (size_expr e) (meanings_of g e) (meant_most g s e))
+      (all_arms s a (base_in (case_selector g s (meanings_of g e))) _ (map (arm g) (map (λ (e : SA). e.0) arms)) (armed_all arms)) (else_most s a body)
+  stmt_most_layer (layer.While c body) = λ s a. while_most (size_expr c) (count_of body) (condition_most g s (size_expr c) (meanings_of g c) (meant_most g s c)) (body_most s a body)
+  stmt_most_layer (layer.Repeat body c) = λ s a. until_most (size_expr c) (count_of body) (body_most s a body) (condition_most g s (size_expr c) (meanings_of g c) (meant_most g s c))
   stmt_most_layer (layer.Loop body) = λ s a. looped_most (count_of body) (body_most s (in_loop a) body)
   stmt_most_layer (layer.Exit at) = λ s a. exited_most g s at a
   stmt_most_layer (layer.Return at e) = λ s a. returned_most g s (size_if e) at a.gives (meant_if g e) (known_if s e)
   stmt_most_layer (layer.For name start limit by body) = λ s a.
       at_more (for_more (size_expr start) (size_expr limit) (size_if by) (count_of body))
-      (for_most g s (size_expr start) (size_expr limit) (count_of body) (course_most g s (size_expr start) (size_expr limit) name (meant g start) (meant g limit) (meant_if g by) (meant_most g s start) (meant_most g s limit)) (body_most s a body))
+      (for_most g s (size_expr start) (size_expr limit) (count_of body) (course_most g s (size_expr start) (size_expr limit) name (meanings_of g start) (meanings_of g limit) (meant_if g by) (meant_most g s start) (meant_most g s limit)) (body_most s a body))
   stmt_most_layer (layer.With d body) = λ s a.
-      ahead_most g _ (record_most g s (1 + size_designator d) (head g d) (head_most g s d)) (λ r k. with_most (1 + size_designator d) (count_of body) r.1 k (body_most (opened s r.0) a body))
+      ahead_most g _ (record_most g s (1 + size_designator d) (head g d) (head_most g s d)) (λ r k. with_most (1 + size_designator d) (count_of body) r.1 k (body_most (into_record s r.0) a body))
 
   rest_most_layer : (y : Rest-F SR SS SA) → Rest_ (sizes.rest_layer (sizes_rest (bare_rest y))) (rest_layer g (opened_rest (bare_rest y)))
   rest_most_layer (layer.Elsif c body follow) = λ s a.
-      chosen_else_most _ (chosen_most (size_expr c) (count_of body) (size_rest follow.0) (condition_most g s (size_expr c) (meant g c) (meant_most g s c)) (body_most s a body) (follow.1 s a))
+      chosen_else_most _ (chosen_most (size_expr c) (count_of body) (size_rest follow.0) (condition_most g s (size_expr c) (meanings_of g c) (meant_most g s c)) (body_most s a body) (follow.1 s a))
   rest_most_layer (layer.Else None) = λ s a. no_else s a
   rest_most_layer (layer.Else (Some body)) = λ s a. else_most s a body
 
   armed_sum : (a l b n m : ℕ) → a ≡ 1 + l + b → l + b ≤ 0 + n + m → a ≤ 1 + n + m
   armed_sum a l b n m e h = omega (arith, e, h)
 
-  armed_most : (n m : ℕ) {labels : Result (List Label) g.Reported} {body : Result (List TypedStmt) g.Reported} → AtMost (λ (xs : List Label). length xs) (0 + n) labels → AtMost size_body m body → AtMost typed.size_arm (1 + n + m) (armed g labels body)
+  armed_most : (n m : ℕ) {labels : Result (List Label) g.Reported} {body : Result (List TypedStmt) g.Reported} → AtMost (λ (xs : List Label). length xs) (0 + n) labels → AtMost size_body m body → AtMost typed.size_arm (1 + n + m) (arm_of g labels body)
   armed_most n m p q = then_most (both_most g p q) (λ v l. fine (record { labels = v.0; body = v.1 }) (armed_sum _ _ _ n m (arm_sum (record { labels = v.0; body = v.1 })) l))
 
   arm_most_layer : (y : Arm-F SR SS SA) → Arm_ (sizes.arm_layer (sizes_arm (bare_arm y))) (arm_layer g (opened_arm (bare_arm y)))

@@ -12,10 +12,10 @@ use Rattle.typed_tree.specs.declared.statement.TypedStmt.TheOpen as layer
 use Rattle.typed_tree.specs.declared.types.TypeNo.{TypeNo}
 use Rattle.layout_storage.specs.Shapes.{tree}
 use Rattle.layout_storage.specs.Sizes.{size}
-use Rattle.def_scheme.specs.Coded.{Coded, all_coded, number, operation, relation, wrapped, is_zero, put, fault, checked}
-use Rattle.def_scheme.specs.Cells.{loaded, stored, in_type}
+use Rattle.def_scheme.specs.Coded.{Coded, all_coded, number, operation, relation, wrap_word, is_zero, put, fault, check_code}
+use Rattle.def_scheme.specs.Cells.{load_code, store_code, in_type}
 use Rattle.def_scheme.specs.Exprs.{Numbered, Part, expr_part}
-use Rattle.def_scheme.specs.Steps.{Arm, block, loop, block_loop, leaving, under, if_else, tests_code, arm_code, chain_code, all_labels, least_of, span_of, is_dense, dispatch, boxed, jump_arms, table_code, case_code, passes, for_turn, for_code, changed, change_code, with_member, member_code, text_copied, copy_text_code, step_layer, arm_layer, step_code, body_code}
+use Rattle.def_scheme.specs.Steps.{Arm, block, loop, block_loop, leaving, under, if_else, tests_code, arm_code, chain_code, all_labels, least_of, span_of, is_dense, dispatch, in_block, jump_arms, table_code, case_code, passes, for_turn, for_code, change_instructions, change_code, with_member, member_code, text_copied, copy_text_code, step_layer, arm_layer, step_code, body_code}
 use Rattle.law_encoding.specs.Sizes.{total}
 use Rattle.law_encoding.specs.TypedSizes.{size_typed, size_place, size_call, size_step, size_arm, size_body}
 use Rattle.law_encoding.specs.TypedSizes as sizes
@@ -30,7 +30,7 @@ leaving_grows n exit wrap p = record { numbers = λ s c. p.numbers (record s { e
 under_grows : (n w : ℕ) {x : Coded} → Grows n x → Grows n (under w x)
 under_grows n w p = record { numbers = λ s c. p.numbers (record s { withs = s.withs ++ w ∷ [] }) c; addresses = λ s c. p.addresses (record s { withs = s.withs ++ w ∷ [] }) c }
 
-boxed_grows : (n : ℕ) {x : Coded} → Grows n x → Grows n (boxed x)
+boxed_grows : (n : ℕ) {x : Coded} → Grows n x → Grows n (in_block x)
 boxed_grows n p = record { numbers = λ s c. p.numbers s c; addresses = λ s c. p.addresses s c }
 
 in_turn : (a b c n k : ℕ) → b ≤ a + n → c ≤ b + k → c ≤ a + (n + k)
@@ -98,9 +98,9 @@ case_grows n o ns xs r p q =
 
 turn_grows : (d b : ℕ) (t : TypeNo) (by : ℤ) (n : ℕ) {place body : Coded} → Grows d place → Grows b body → Grows (b + (d + (d + d))) (for_turn place t by n body)
 turn_grows d b t by n p q =
-    both_grow b (d + (d + d)) q (both_grow d (d + d) (then_setting d (λ s. loaded s.home.types t) p)
+    both_grow b (d + (d + d)) q (both_grow d (d + d) (then_setting d (λ s. load_code s.home.types t) p)
     (plain_then (d + d) (number by ∷ operation Add ∷ LocalGet n ∷ relation (passes by) ∷ BrIf 1 ∷ [])
-    (both_grow d d p (then_setting d (λ s. number by ∷ operation Add ∷ (in_type s.home.types t 1 ++ (stored s.home.types t ++ Br 0 ∷ []))) (then_setting d (λ s. loaded s.home.types t) p)))))
+    (both_grow d d p (then_setting d (λ s. number by ∷ operation Add ∷ (in_type s.home.types t 1 ++ (store_code s.home.types t ++ Br 0 ∷ []))) (then_setting d (λ s. load_code s.home.types t) p)))))
 
 for_sum : (d s l b : ℕ) → d + (s + (l + (1 + (0 + (d + (b + (d + (d + d)))))))) ≤ 1 + 5 * d + s + l + b
 for_sum d s l b = omega arith
@@ -110,9 +110,9 @@ for_grows : (d k l b : ℕ) (t : TypeNo) (start limit : Part) (by : ℤ) {place 
 for_grows d k l b t start limit by p q r u =
     grows_more _ _ (for_sum d k l b)
     (both_grow d _ p (both_grow k _ (then_setting k _ q) (both_grow l _ r (number_grows (0 + (d + (b + (d + (d + d)))))
-    (λ n. both_grow 0 _ (plain_then 0 (LocalSet n ∷ []) (setting_grows 0 (λ s. plain_grows 0 (stored s.home.types t))))
+    (λ n. both_grow 0 _ (plain_then 0 (LocalSet n ∷ []) (setting_grows 0 (λ s. plain_grows 0 (store_code s.home.types t))))
     (within_grows (d + (b + (d + (d + d)))) 1 block
-    (both_grow d (b + (d + (d + d))) (then_setting d (λ s. loaded s.home.types t) p)
+    (both_grow d (b + (d + (d + d))) (then_setting d (λ s. load_code s.home.types t) p)
     (plain_then (b + (d + (d + d))) (LocalGet n ∷ relation (passes by) ∷ BrIf 0 ∷ []) (within_grows (b + (d + (d + d))) 1 loop (turn_grows d b t by n p u))))))))))
 
 -- ---- INC, DEC, INCL, EXCL and strings
@@ -125,13 +125,13 @@ change_grows d n o t p q =
     grows_more (d + (1 + (n + (1 + 0)))) (2 + d + n) (change_sum d n)
     (both_grow d (1 + (n + (1 + 0))) p (address_grows (n + (1 + 0))
     (λ w. plain_then (n + (1 + 0)) (LocalSet w ∷ []) (both_grow n (1 + 0) q (number_grows 0
-    (λ k. plain_then 0 (LocalSet k ∷ []) (setting_grows 0 (λ s. plain_grows 0 (changed o w k s.home.types t)))))))))
+    (λ k. plain_then 0 (LocalSet k ∷ []) (setting_grows 0 (λ s. plain_grows 0 (change_instructions o w k s.home.types t)))))))))
 
 member_grows : (d n : ℕ) (o : Membership) {place x : Coded} → Grows d place → Grows n x → Grows (2 + d + n) (member_code o place x)
 member_grows d n o p q =
     grows_more (d + (1 + (n + (1 + 0)))) (2 + d + n) (change_sum d n)
     (both_grow d (1 + (n + (1 + 0))) p (address_grows (n + (1 + 0))
-    (λ w. plain_then (n + (1 + 0)) (LocalSet w ∷ []) (both_grow n (1 + 0) q (plain_then (1 + 0) (checked (pos 0) (pos 31) 1) (number_grows 0
+    (λ w. plain_then (n + (1 + 0)) (LocalSet w ∷ []) (both_grow n (1 + 0) q (plain_then (1 + 0) (check_code (pos 0) (pos 31) 1) (number_grows 0
     (λ k. plain_then 0 (LocalSet k ∷ []) (setting_grows 0 (λ s. plain_grows 0 (with_member o w k s.home.types))))))))))
 
 text_sum : (d : ℕ) → d + (1 + 0) ≤ 1 + d
@@ -214,7 +214,7 @@ module _ (numbered : Numbered) where
   step_grows : (y : TypedStmt-F SS SA) → Grows (sizes.step_layer (typed.sizes_step (bare_step y))) (step_layer numbered (opened_step (bare_step y)))
   step_grows (layer.Assign d t e) =
       grows_more (size_place d + size_typed e) _ (two_sum _ _)
-      (both_grow (size_place d) (size_typed e) (place_counts numbered d) (then_setting (size_typed e) (λ s. stored s.home.types t) (then_setting (size_typed e) _ (expr_counts numbered e))))
+      (both_grow (size_place d) (size_typed e) (place_counts numbered d) (then_setting (size_typed e) (λ s. store_code s.home.types t) (then_setting (size_typed e) _ (expr_counts numbered e))))
   step_grows (layer.Copy to from t) =
       grows_more (size_place to + size_place from) _ (two_sum _ _) (both_grow (size_place to) (size_place from) (place_counts numbered to) (then_setting (size_place from) _ (place_counts numbered from)))
   step_grows (layer.CopyText d t text) = copied_grows (size_place d) t text (place_counts numbered d)
@@ -225,10 +225,10 @@ module _ (numbered : Numbered) where
   step_grows layer.Halt = plain_grows 1 (fault 9)
   step_grows (layer.If e body None) =
       grows_more (size_typed e + count body) _ (alone_sum _ _)
-      (both_grow (size_typed e) (count body) (expr_counts numbered e) (plain_then (count body) (wrapped ∷ []) (within_grows (count body) 1 (λ code. If None code None ∷ []) (body_grows body))))
+      (both_grow (size_typed e) (count body) (expr_counts numbered e) (plain_then (count body) (wrap_word ∷ []) (within_grows (count body) 1 (λ code. If None code None ∷ []) (body_grows body))))
   step_grows (layer.If e body (Some others)) =
       grows_more (size_typed e + (count body + count others)) _ (if_sum _ _ _)
-      (both_grow (size_typed e) (count body + count others) (expr_counts numbered e) (plain_then (count body + count others) (wrapped ∷ []) (else_grows (count body) (count others) (body_grows body) (body_grows others))))
+      (both_grow (size_typed e) (count body + count others) (expr_counts numbered e) (plain_then (count body + count others) (wrap_word ∷ []) (else_grows (count body) (count others) (body_grows body) (body_grows others))))
   step_grows (layer.Case e arms None) = case_grows (size_typed e) 0 _ _ (expr_counts numbered e) (all_arms arms) (plain_grows 0 (fault 5))
   step_grows (layer.Case e arms (Some others)) = case_grows (size_typed e) (count others) _ _ (expr_counts numbered e) (all_arms arms) (body_grows others)
   step_grows (layer.While e body) =

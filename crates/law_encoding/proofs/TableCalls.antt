@@ -10,7 +10,7 @@ use Rattle.typed_tree.specs.declared.computed.TypedExpr.{TypedExpr, TypedExpr-F,
 use Rattle.typed_tree.specs.declared.computed.Place.{Place, Place-F, out-Place, roll-Place, out-roll-Place, map-Place, fold_out-Place, ind-Place}
 use Rattle.typed_tree.specs.declared.typed_module.TypedModule.{TypedModule}
 use Rattle.def_scheme.specs.Exprs.{is_own}
-use Rattle.def_scheme.specs.Signatures.{Signature, Signatures, of_heading, joined, of_expr, of_place, of_call}
+use Rattle.def_scheme.specs.Signatures.{Signature, Signatures, of_heading, concatenation, of_expr, of_place, of_call}
 use Rattle.def_scheme.specs.Signatures as sign
 use Rattle.law_encoding.specs.Sizes.{total}
 use Rattle.law_encoding.specs.TypedSizes.{size_typed, size_place, size_component, size_link, size_call, size_passed}
@@ -31,11 +31,11 @@ AllFew (n ∷ ns) (x ∷ xs) = (length x ≤ n) × AllFew ns xs
 AllFew [] (x ∷ xs) = ⊥
 AllFew (n ∷ ns) [] = ⊥
 
-pub all_few : (ns : List ℕ) (xs : List Signatures) → AllFew ns xs → length (joined xs) ≤ total ns
+pub all_few : (ns : List ℕ) (xs : List Signatures) → AllFew ns xs → length (concatenation xs) ≤ total ns
 all_few [] [] p = omega arith
 all_few [] (x ∷ xs) p = absurd p
 all_few (n ∷ ns) [] p = absurd p
-all_few (n ∷ ns) (x ∷ xs) p = both_few x (joined xs) n (total ns) p.0 (all_few ns xs p.1)
+all_few (n ∷ ns) (x ∷ xs) p = both_few x (concatenation xs) n (total ns) p.0 (all_few ns xs p.1)
 
 pub more : (a n k : ℕ) → n ≤ k → a ≤ n → a ≤ k
 more a n k h l = omega (arith, h, l)
@@ -171,21 +171,21 @@ module _ (m : TypedModule) where
   all_args [] = tt
   all_args (x ∷ xs) = (x.1, all_args xs)
 
-  few_args : (xs : List SA) → length (joined (map of_argument (map (λ (e : SA). e.0) xs))) ≤ total (map size_passed (map (λ (e : SA). e.0) xs))
+  few_args : (xs : List SA) → length (concatenation (map of_argument (map (λ (e : SA). e.0) xs))) ≤ total (map size_passed (map (λ (e : SA). e.0) xs))
   few_args xs = all_few _ _ (all_args xs)
 
   all_components : (xs : List SK) → AllFew (map size_component (map (λ (e : SK). e.0) xs)) (map of_component (map (λ (e : SK). e.0) xs))
   all_components [] = tt
   all_components (x ∷ xs) = (x.1, all_components xs)
 
-  few_components : (xs : List SK) → length (joined (map of_component (map (λ (e : SK). e.0) xs))) ≤ total (map size_component (map (λ (e : SK). e.0) xs))
+  few_components : (xs : List SK) → length (concatenation (map of_component (map (λ (e : SK). e.0) xs))) ≤ total (map size_component (map (λ (e : SK). e.0) xs))
   few_components xs = all_few _ _ (all_components xs)
 
   all_links : (xs : List SL) → AllFew (map size_link (map (λ (e : SL). e.0) xs)) (map of_link (map (λ (e : SL). e.0) xs))
   all_links [] = tt
   all_links (x ∷ xs) = (x.1, all_links xs)
 
-  few_links : (xs : List SL) → length (joined (map of_link (map (λ (e : SL). e.0) xs))) ≤ total (map size_link (map (λ (e : SL). e.0) xs))
+  few_links : (xs : List SL) → length (concatenation (map of_link (map (λ (e : SL). e.0) xs))) ≤ total (map size_link (map (λ (e : SL). e.0) xs))
   few_links xs = all_few _ _ (all_links xs)
 
   argument_few : (y : Argument-F SA SC SK SL SE SP) → length (sign.argument_layer m (opened_argument (bare_argument y))) ≤ sizes.argument_layer (typed.sizes_argument (bare_argument y))

@@ -4,7 +4,7 @@ use Rattle.typed_tree.specs.declared.statement.TypedArm.{TypedArm, TypedArm-F, o
 use Rattle.typed_tree.specs.declared.statement.TypedStmt.{TypedStmt, TypedStmt-F, out-TypedStmt, roll-TypedStmt, out-roll-TypedStmt, map-TypedStmt, fold_out-TypedStmt, ind-TypedStmt}
 use Rattle.typed_tree.specs.declared.statement.TypedStmt.TheOpen as layer
 use Rattle.typed_tree.specs.declared.typed_module.TypedModule.{TypedModule}
-use Rattle.def_scheme.specs.Signatures.{Signatures, joined, of_step}
+use Rattle.def_scheme.specs.Signatures.{Signatures, concatenation, of_step}
 use Rattle.def_scheme.specs.Signatures as sign
 use Rattle.law_encoding.specs.Sizes.{total}
 use Rattle.law_encoding.specs.TypedSizes.{size_typed, size_place, size_call, size_step, size_arm}
@@ -80,10 +80,10 @@ module _ (m : TypedModule) where
   abbrev count : List SS → ℕ
   count xs = total (map size_step (map (λ (e : SS). e.0) xs))
 
-  few_steps : (xs : List SS) → length (joined (map (of_step m) (map (λ (e : SS). e.0) xs))) ≤ count xs
+  few_steps : (xs : List SS) → length (concatenation (map (of_step m) (map (λ (e : SS). e.0) xs))) ≤ count xs
   few_steps xs = all_few _ _ (all_steps xs)
 
-  few_arms : (xs : List SA) → length (joined (map of_arm (map (λ (e : SA). e.0) xs))) ≤ total (map size_arm (map (λ (e : SA). e.0) xs))
+  few_arms : (xs : List SA) → length (concatenation (map of_arm (map (λ (e : SA). e.0) xs))) ≤ total (map size_arm (map (λ (e : SA). e.0) xs))
   few_arms xs = all_few _ _ (all_arms xs)
 
   step_few : (y : TypedStmt-F SS SA) → length (sign.step_layer m (opened_step (bare_step y))) ≤ sizes.step_layer (typed.sizes_step (bare_step y))

@@ -21,7 +21,7 @@ use Rattle.typed_tree.specs.declared.statement.TypedStmt.TheVariants as stmt
 use Rattle.typed_tree.specs.declared.typed_module.TypedModule.{TypedModule}
 use Rattle.layout_storage.specs.Frames.{formals_of}
 use Rattle.def_scheme.specs.Exprs.{is_own, all_arguments}
-use Rattle.def_scheme.specs.Signatures.{Signature, Signatures, of_heading, joined, of_expr, of_place, of_call, of_step}
+use Rattle.def_scheme.specs.Signatures.{Signature, Signatures, of_heading, concatenation, of_expr, of_place, of_call, of_step}
 use Rattle.law_modules.specs.WellFormed.{IsExpr, Constant, Load, ProcedureValue, Plus, Negate, Chain, Compare, Not, Include, In, Abs, Cap, Chr, Odd, Ord, Val, High, FunctionCall, AreLinks, no_links, more_links, IsLink, Operated, And as AndOf, Or as OrOf, Combine, IsPlace, Designator, AreComponents, no_components, more_components, IsComponent, FieldOf, Element, OpenElement, IsCall, OfModule, OfProcedure, OfVariable, AreArguments, no_arguments, more_arguments, IsArgument, Value, Actual, ActualArray, Open, Text}
 use Rattle.law_modules.specs.WellFormed.{IsStmt, Assign, Copy, CopyText, ProcedureCall, Put, Changed, Member, Halt, If, Case, While, Repeat, Loop, Exit, Return, Give, For, With, AreStmts, no_stmts, more_stmts, no_others, others, AreArms, no_arms, more_arms}
 use Rattle.law_encoding.specs.Sizes.{sum_of}
@@ -122,7 +122,7 @@ module _ (m : TypedModule) (w : ℕ) where
     expr_types _ (High slot) = carry (at_expr m (expr.High slot) (layer.High slot) (expr.outs-High slot)) (typed.expr_high slot) (none 1)
     expr_types _ (FunctionCall t c x) = carry (at_expr m (expr.Call t c) (layer.Call t c) (expr.outs-Call t c)) (typed.expr_call t c) (one _ (size_call c) (call_types c true x))
 
-    links_types : (ls : List Link) → AreLinks m w ls → Few (joined (map (of_link m) ls)) (sum_of size_link ls)
+    links_types : (ls : List Link) → AreLinks m w ls → Few (concatenation (map (of_link m) ls)) (sum_of size_link ls)
     links_types _ no_links = none 0
     links_types _ (more_links x xs y ys) = both (of_link m x) _ (size_link x) (sum_of size_link xs) (link_types x y) (links_types xs ys)
 
@@ -135,7 +135,7 @@ module _ (m : TypedModule) (w : ℕ) where
     pub place_types : (d : Place) → IsPlace m w d → Few (of_place m d) (size_place d)
     place_types _ (Designator d r xs) = carry (at_place m d (out-Place d) refl) (typed.place_sum d) (one _ (sum_of size_component d.components) (components_types d.components xs))
 
-    components_types : (cs : List Component) → AreComponents m w cs → Few (joined (map (of_component m) cs)) (sum_of size_component cs)
+    components_types : (cs : List Component) → AreComponents m w cs → Few (concatenation (map (of_component m) cs)) (sum_of size_component cs)
     components_types _ no_components = none 0
     components_types _ (more_components x xs y ys) = both (of_component m x) _ (size_component x) (sum_of size_component xs) (component_types x y) (components_types xs ys)
 
@@ -147,20 +147,20 @@ module _ (m : TypedModule) (w : ℕ) where
     pub call_types : (c : Call) (r : Bool) → IsCall m w c r → Few (of_call m c) (size_call c)
     call_types _ _ (OfModule f xs r p e ys) =
         carry (at_call m (call.Module f xs) (layer.Module f xs) (call.outs-Module f xs)) (typed.call_module f xs)
-        (heading_by (is_own m f.home) (joined (map (of_argument m) xs)) (of_heading m.types f.heading) (sum_of size_passed xs) (arguments_types xs (formals_of m.types f.heading) ys))
+        (heading_by (is_own m f.home) (concatenation (map (of_argument m) xs)) (of_heading m.types f.heading) (sum_of size_passed xs) (arguments_types xs (formals_of m.types f.heading) ys))
     call_types _ _ (OfProcedure f xs r p e ys) =
         carry (at_call m (call.Nested f xs) (layer.Nested f xs) (call.outs-Nested f xs)) (typed.call_nested f xs) (args_alone _ (all_arguments (formals_of m.types f.heading)) (sum_of size_passed xs) (arguments_types xs (formals_of m.types f.heading) ys))
     call_types _ _ (OfVariable t d xs r s x e ys) =
-        let args = joined (map (of_argument m) xs) in
+        let args = concatenation (map (of_argument m) xs) in
         let heading = of_heading m.types t ∷ [] in
         carry (at_call m (call.Variable t d xs) (layer.Variable t d xs) (call.outs-Variable t d xs)) (typed.call_variable t d xs)
         (variable_sum _ (types_count (of_place m d)) _ (types_count args) (all_arguments (formals_of m.types t)) (size_place d) (sum_of size_passed xs) (sum_append type_counts (of_place m d) (args ++ heading)) (sum_append type_counts args heading)
         (place_types d x) (arguments_types xs (formals_of m.types t) ys))
 
-    arguments_types : (xs : List Argument) (fs : List Formal) → AreArguments m w xs fs → types_count (joined (map (of_argument m) xs)) + all_arguments fs ≤ 2 * sum_of size_passed xs
+    arguments_types : (xs : List Argument) (fs : List Formal) → AreArguments m w xs fs → types_count (concatenation (map (of_argument m) xs)) + all_arguments fs ≤ 2 * sum_of size_passed xs
     arguments_types _ _ no_arguments = omega arith
     arguments_types _ _ (more_arguments x xs f fs y ys) =
-        next_argument _ (types_count (of_argument m x)) _ (if f.is_open then 2 else 1) (all_arguments fs) (size_passed x) (sum_of size_passed xs) (sum_append type_counts (of_argument m x) (joined (map (of_argument m) xs)))
+        next_argument _ (types_count (of_argument m x)) _ (if f.is_open then 2 else 1) (all_arguments fs) (size_passed x) (sum_of size_passed xs) (sum_append type_counts (of_argument m x) (concatenation (map (of_argument m) xs)))
         (argument_types x f.is_open y) (arguments_types xs fs ys)
 
     argument_types : (x : Argument) (q : Bool) → IsArgument m w x q → types_count (of_argument m x) + (if q then 2 else 1) ≤ 2 * size_passed x
@@ -183,24 +183,24 @@ module _ (m : TypedModule) (gives : Bool) where
     step_types _ _ _ (Changed w l o d t e s x y) = carry (at_step m (stmt.Change o d t e) (step.Change o d t e) (stmt.outs-Change o d t e)) (typed.step_change o d t e) (change _ (size_place d) (size_typed e) (both (of_place m d) (of_expr m e) (size_place d) (size_typed e) (place_types m w d x) (expr_types m w e y)))
     step_types _ _ _ (Member w l o d e x y) = carry (at_step m (stmt.Membership o d e) (step.Membership o d e) (stmt.outs-Membership o d e)) (typed.step_membership o d e) (change _ (size_place d) (size_typed e) (both (of_place m d) (of_expr m e) (size_place d) (size_typed e) (place_types m w d x) (expr_types m w e y)))
     step_types _ _ _ (Halt w l) = carry (at_step m stmt.Halt step.Halt stmt.outs-Halt) typed.step_halt (none 1)
-    step_types _ _ _ (If w l e body _ x y (no_others _ _)) = carry (at_step m (stmt.If e body None) (step.If e body None) (stmt.outs-If e body None)) (typed.step_if e body None) (sides _ (size_typed e) (size_body body) 0 (both (of_expr m e) ((joined (map (of_step m) body)) ++ []) (size_typed e) ((size_body body) + 0) (expr_types m w e x) (both (joined (map (of_step m) body)) [] (size_body body) 0 (body_types w l body y) (none 0))))
-    step_types _ _ _ (If w l e body _ x y (others _ _ xs z)) = carry (at_step m (stmt.If e body (Some xs)) (step.If e body (Some xs)) (stmt.outs-If e body (Some xs))) (typed.step_if e body (Some xs)) (sides _ (size_typed e) (size_body body) (size_body xs) (both (of_expr m e) ((joined (map (of_step m) body)) ++ joined (map (of_step m) xs)) (size_typed e) ((size_body body) + size_body xs) (expr_types m w e x) (both (joined (map (of_step m) body)) (joined (map (of_step m) xs)) (size_body body) (size_body xs) (body_types w l body y) (body_types w l xs z))))
-    step_types _ _ _ (Case w l e arms _ x y (no_others _ _)) = carry (at_step m (stmt.Case e arms None) (step.Case e arms None) (stmt.outs-Case e arms None)) (typed.step_case e arms None) (cases _ (size_typed e) (sum_of size_arm arms) 0 (both (of_expr m e) ((joined (map (of_arm m) arms)) ++ []) (size_typed e) ((sum_of size_arm arms) + 0) (expr_types m w e x) (both (joined (map (of_arm m) arms)) [] (sum_of size_arm arms) 0 (arms_types w l arms y) (none 0))))
-    step_types _ _ _ (Case w l e arms _ x y (others _ _ xs z)) = carry (at_step m (stmt.Case e arms (Some xs)) (step.Case e arms (Some xs)) (stmt.outs-Case e arms (Some xs))) (typed.step_case e arms (Some xs)) (cases _ (size_typed e) (sum_of size_arm arms) (size_body xs) (both (of_expr m e) ((joined (map (of_arm m) arms)) ++ joined (map (of_step m) xs)) (size_typed e) ((sum_of size_arm arms) + size_body xs) (expr_types m w e x) (both (joined (map (of_arm m) arms)) (joined (map (of_step m) xs)) (sum_of size_arm arms) (size_body xs) (arms_types w l arms y) (body_types w l xs z))))
-    step_types _ _ _ (While w l e body x y) = carry (at_step m (stmt.While e body) (step.While e body) (stmt.outs-While e body)) (typed.step_while e body) (two _ (size_typed e) (size_body body) (both (of_expr m e) (joined (map (of_step m) body)) (size_typed e) (size_body body) (expr_types m w e x) (body_types w l body y)))
-    step_types _ _ _ (Repeat w l body e y x) = carry (at_step m (stmt.Repeat body e) (step.Repeat body e) (stmt.outs-Repeat body e)) (typed.step_repeat body e) (two _ (size_body body) (size_typed e) (both (joined (map (of_step m) body)) (of_expr m e) (size_body body) (size_typed e) (body_types w l body y) (expr_types m w e x)))
+    step_types _ _ _ (If w l e body _ x y (no_others _ _)) = carry (at_step m (stmt.If e body None) (step.If e body None) (stmt.outs-If e body None)) (typed.step_if e body None) (sides _ (size_typed e) (size_body body) 0 (both (of_expr m e) ((concatenation (map (of_step m) body)) ++ []) (size_typed e) ((size_body body) + 0) (expr_types m w e x) (both (concatenation (map (of_step m) body)) [] (size_body body) 0 (body_types w l body y) (none 0))))
+    step_types _ _ _ (If w l e body _ x y (others _ _ xs z)) = carry (at_step m (stmt.If e body (Some xs)) (step.If e body (Some xs)) (stmt.outs-If e body (Some xs))) (typed.step_if e body (Some xs)) (sides _ (size_typed e) (size_body body) (size_body xs) (both (of_expr m e) ((concatenation (map (of_step m) body)) ++ concatenation (map (of_step m) xs)) (size_typed e) ((size_body body) + size_body xs) (expr_types m w e x) (both (concatenation (map (of_step m) body)) (concatenation (map (of_step m) xs)) (size_body body) (size_body xs) (body_types w l body y) (body_types w l xs z))))
+    step_types _ _ _ (Case w l e arms _ x y (no_others _ _)) = carry (at_step m (stmt.Case e arms None) (step.Case e arms None) (stmt.outs-Case e arms None)) (typed.step_case e arms None) (cases _ (size_typed e) (sum_of size_arm arms) 0 (both (of_expr m e) ((concatenation (map (of_arm m) arms)) ++ []) (size_typed e) ((sum_of size_arm arms) + 0) (expr_types m w e x) (both (concatenation (map (of_arm m) arms)) [] (sum_of size_arm arms) 0 (arms_types w l arms y) (none 0))))
+    step_types _ _ _ (Case w l e arms _ x y (others _ _ xs z)) = carry (at_step m (stmt.Case e arms (Some xs)) (step.Case e arms (Some xs)) (stmt.outs-Case e arms (Some xs))) (typed.step_case e arms (Some xs)) (cases _ (size_typed e) (sum_of size_arm arms) (size_body xs) (both (of_expr m e) ((concatenation (map (of_arm m) arms)) ++ concatenation (map (of_step m) xs)) (size_typed e) ((sum_of size_arm arms) + size_body xs) (expr_types m w e x) (both (concatenation (map (of_arm m) arms)) (concatenation (map (of_step m) xs)) (sum_of size_arm arms) (size_body xs) (arms_types w l arms y) (body_types w l xs z))))
+    step_types _ _ _ (While w l e body x y) = carry (at_step m (stmt.While e body) (step.While e body) (stmt.outs-While e body)) (typed.step_while e body) (two _ (size_typed e) (size_body body) (both (of_expr m e) (concatenation (map (of_step m) body)) (size_typed e) (size_body body) (expr_types m w e x) (body_types w l body y)))
+    step_types _ _ _ (Repeat w l body e y x) = carry (at_step m (stmt.Repeat body e) (step.Repeat body e) (stmt.outs-Repeat body e)) (typed.step_repeat body e) (two _ (size_body body) (size_typed e) (both (concatenation (map (of_step m) body)) (of_expr m e) (size_body body) (size_typed e) (body_types w l body y) (expr_types m w e x)))
     step_types _ _ _ (Loop w l body y) = carry (at_step m (stmt.Loop body) (step.Loop body) (stmt.outs-Loop body)) (typed.step_loop body) (one _ (size_body body) (body_types w true body y))
     step_types _ _ _ (Exit w) = carry (at_step m stmt.Exit step.Exit stmt.outs-Exit) typed.step_exit (none 1)
     step_types _ _ _ (Return w l q) = carry (at_step m stmt.Return step.Return stmt.outs-Return) typed.step_return (none 1)
     step_types _ _ _ (Give w l t e q x) = carry (at_step m (stmt.Give t e) (step.Give t e) (stmt.outs-Give t e)) (typed.step_give t e) (one _ (size_typed e) (expr_types m w e x))
-    step_types _ _ _ (For w l d t start limit by body s x y z v) = carry (at_step m (stmt.For d t start limit by body) (step.For d t start limit by body) (stmt.outs-For d t start limit by body)) (typed.step_for d t start limit by body) (course _ (size_place d) (size_typed start) (size_typed limit) (size_body body) (both (of_place m d) (of_expr m start ++ (of_expr m limit ++ joined (map (of_step m) body))) (size_place d) (size_typed start + (size_typed limit + size_body body)) (place_types m w d x) (both (of_expr m start) (of_expr m limit ++ joined (map (of_step m) body)) (size_typed start) (size_typed limit + size_body body) (expr_types m w start y) (both (of_expr m limit) (joined (map (of_step m) body)) (size_typed limit) (size_body body) (expr_types m w limit z) (body_types w l body v)))))
-    step_types _ _ _ (With w l d body x y) = carry (at_step m (stmt.With d body) (step.With d body) (stmt.outs-With d body)) (typed.step_with d body) (two _ (size_place d) (size_body body) (both (of_place m d) (joined (map (of_step m) body)) (size_place d) (size_body body) (place_types m w d x) (body_types (suc w) l body y)))
+    step_types _ _ _ (For w l d t start limit by body s x y z v) = carry (at_step m (stmt.For d t start limit by body) (step.For d t start limit by body) (stmt.outs-For d t start limit by body)) (typed.step_for d t start limit by body) (course _ (size_place d) (size_typed start) (size_typed limit) (size_body body) (both (of_place m d) (of_expr m start ++ (of_expr m limit ++ concatenation (map (of_step m) body))) (size_place d) (size_typed start + (size_typed limit + size_body body)) (place_types m w d x) (both (of_expr m start) (of_expr m limit ++ concatenation (map (of_step m) body)) (size_typed start) (size_typed limit + size_body body) (expr_types m w start y) (both (of_expr m limit) (concatenation (map (of_step m) body)) (size_typed limit) (size_body body) (expr_types m w limit z) (body_types w l body v)))))
+    step_types _ _ _ (With w l d body x y) = carry (at_step m (stmt.With d body) (step.With d body) (stmt.outs-With d body)) (typed.step_with d body) (two _ (size_place d) (size_body body) (both (of_place m d) (concatenation (map (of_step m) body)) (size_place d) (size_body body) (place_types m w d x) (body_types (suc w) l body y)))
 
-    pub body_types : (w : ℕ) (l : Bool) (xs : List TypedStmt) → AreStmts m gives w l xs → Few (joined (map (of_step m) xs)) (size_body xs)
+    pub body_types : (w : ℕ) (l : Bool) (xs : List TypedStmt) → AreStmts m gives w l xs → Few (concatenation (map (of_step m) xs)) (size_body xs)
     body_types _ _ _ (no_stmts w l) = none 0
     body_types _ _ _ (more_stmts w l x xs y ys) = both (of_step m x) _ (size_step x) (size_body xs) (step_types w l x y) (body_types w l xs ys)
 
-    arms_types : (w : ℕ) (l : Bool) (xs : List TypedArm) → AreArms m gives w l xs → Few (joined (map (of_arm m) xs)) (sum_of size_arm xs)
+    arms_types : (w : ℕ) (l : Bool) (xs : List TypedArm) → AreArms m gives w l xs → Few (concatenation (map (of_arm m) xs)) (sum_of size_arm xs)
     arms_types _ _ _ (no_arms w l) = none 0
     arms_types _ _ _ (more_arms w l x xs y ys) =
         both (of_arm m x) _ (size_arm x) (sum_of size_arm xs) (carry (at_arm m x (out-TypedArm x) refl) (typed.arm_sum x) (arm _ (length x.labels) (size_body x.body) (body_types w l x.body y))) (arms_types w l xs ys)

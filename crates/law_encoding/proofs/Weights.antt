@@ -25,7 +25,7 @@ use Rattle.m2_tree.specs.declared.decl.Module.{Module}
 use Rattle.def_grammar.specs.Rule.{Rule, Ast, module_rule, import_rule, idents_rule, def_rule, block_rule, decl_rule, constant_rule, type_decl_rule, variables_rule, formals_rule, section_rule, formal_rule, qual_rule, simple_rule, type_rule, dims_rule, parameter_rule, field_rule, stmts_rule, stmt_rule, rest_rule, arm_rule, item_rule, desig_rule, selectors_rule, args_rule, expr_rule, sum_rule, term_rule, factor_rule, set_rule}
 use Rattle.def_grammar.specs.Grammar.{Ty, ast, El, Gr, tok, rule, ◌·◌, ◌∣◌, lead, trail, opt, many, nest, named, ◌▸◌}
 use Rattle.def_grammar.specs.Ebnf.{grammar, symbol, field, fields, selector, expr, stmt, stmts, arm, arms, else_part, step}
-use Rattle.def_grammar.specs.Trees.{ident_of, literal_said, with_first, present, joined, is_there, sign_of, added, multiplied, selected, held_by, tree}
+use Rattle.def_grammar.specs.Trees.{ident_of, literal_said, with_first, present, flatten_lists, is_there, sign_of, add_operand, multiply_operand, selectors_of, contents_with, tree}
 use Rattle.def_grammar.specs.Spelling.{Spells, one, made, pair, left, right, before, behind, absent, there_is, none, more, nested, closed}
 use Rattle.law_encoding.specs.Sizes.{sum_of, size_expr, size_selector, size_designator, size_item, size_if, size_argument, size_arguments, size_stmt, size_rest, size_arm, size_stmts, size_stmts_if, size_simple, size_type, size_field, size_section, size_constant, size_type_decl, size_variables, size_def, size_decl, size_block, size_import, size_contents, size_module}
 use Rattle.law_encoding.proofs.Sums.{le_sum, le_trans, le_by, sum_below, sum_append, length_below}
@@ -118,11 +118,11 @@ related_below : (x : Expr) (o : Option (Token × Expr)) → Sized expr_rule (x, 
 related_below x None = omega arith
 related_below x (Some p) = two_below (size_expr x) (size_expr p.1) _ (relation_size x _ p.1)
 
-adds_below : (ps : List (Token × Expr)) → sum_of size_operand (map added ps) ≤ sum_of (λ (p : Token × Expr). 4 + size_expr p.1) ps
+adds_below : (ps : List (Token × Expr)) → sum_of size_operand (map add_operand ps) ≤ sum_of (λ (p : Token × Expr). 4 + size_expr p.1) ps
 adds_below [] = omega arith
 adds_below (p ∷ ps) = let h = adds_below ps in le_sum (2 + size_expr p.1) (4 + size_expr p.1) _ _ (omega arith) h
 
-times_below : (ps : List (Token × Expr)) → sum_of size_operand (map multiplied ps) ≤ sum_of (λ (p : Token × Expr). 4 + size_expr p.1) ps
+times_below : (ps : List (Token × Expr)) → sum_of size_operand (map multiply_operand ps) ≤ sum_of (λ (p : Token × Expr). 4 + size_expr p.1) ps
 times_below [] = omega arith
 times_below (p ∷ ps) = let h = times_below ps in le_sum (2 + size_expr p.1) (4 + size_expr p.1) _ _ (omega arith) h
 
@@ -134,15 +134,15 @@ with_sign n a c d e h = omega (arith, e, h)
 
 sum_sized : (o : Option Token) (x : Expr) (ps : List (Token × Expr)) → Sized sum_rule (o, (x, ps))
 sum_sized None x [] = omega arith
-sum_sized None x (p ∷ ps) = one_more _ (size_expr x) (size_expr p.1) _ _ (sum_size None x (map added (p ∷ ps))) (adds_below ps)
-sum_sized (Some t) x ps = with_sign _ (size_expr x) _ _ (sum_size (Some (sign_of t)) x (map added ps)) (adds_below ps)
+sum_sized None x (p ∷ ps) = one_more _ (size_expr x) (size_expr p.1) _ _ (sum_size None x (map add_operand (p ∷ ps))) (adds_below ps)
+sum_sized (Some t) x ps = with_sign _ (size_expr x) _ _ (sum_size (Some (sign_of t)) x (map add_operand ps)) (adds_below ps)
 
 added_to : (n a c d : ℕ) → n ≡ a + c → c ≤ d → n ≤ a + d
 added_to n a c d e h = omega (arith, e, h)
 
 term_sized : (x : Expr) (ps : List (Token × Expr)) → Sized term_rule (x, ps)
 term_sized x [] = omega arith
-term_sized x (p ∷ ps) = added_to _ (size_expr x) _ _ (term_size x (map multiplied (p ∷ ps))) (times_below (p ∷ ps))
+term_sized x (p ∷ ps) = added_to _ (size_expr x) _ _ (term_size x (map multiply_operand (p ∷ ps))) (times_below (p ∷ ps))
 
 set_of_four : (n a : ℕ) → n ≡ 1 + a → n ≤ 4 + (1 + a)
 set_of_four n a e = omega (arith, e)
@@ -186,14 +186,14 @@ first_index n e c d q h = omega (arith, q, h)
 field_below : (n : ℕ) → n ≡ 1 → n + 0 ≤ 4 + 4
 field_below n e = omega (arith, e)
 
-selected_sized : (x : (Token × Token) ⊎ (Token × (Expr × List Expr))) → sum_of size_selector (selected x) ≤ weight selector x
+selected_sized : (x : (Token × Token) ⊎ (Token × (Expr × List Expr))) → sum_of size_selector (selectors_of x) ≤ weight selector x
 selected_sized (inl p) = field_below _ (field_selector_size p.0.pos (ident_of p.1))
 selected_sized (inr p) = first_index _ (size_expr p.1.0) _ _ (index_size p.0.pos p.1.0) (indexes_below p.0.pos p.1.1)
 
 selectors_sized : (xs : El (grammar selectors_rule).shape) → Sized selectors_rule xs
 selectors_sized [] = omega arith
 selectors_sized (x ∷ xs) =
-    le_by _ _ _ (sum_append size_selector (selected x) (joined (map selected xs))) (le_sum _ _ _ _ (selected_sized x) (selectors_sized xs))
+    le_by _ _ _ (sum_append size_selector (selectors_of x) (flatten_lists (map selectors_of xs))) (le_sum _ _ _ _ (selected_sized x) (selectors_sized xs))
 
 args_below : (es : List Expr) → sum_of size_argument es ≤ sum_of (λ (x : Expr). 4 + size_expr x) es
 args_below es = sum_below size_argument (λ (x : Expr). 4 + size_expr x) (λ x. omega arith) es
@@ -443,7 +443,7 @@ module_sum i d = omega arith
 body_sum : (o i b : ℕ) → 1 + i + b ≤ o + (4 + (4 + (4 + (i + b) + 4) + 4)) + 4
 body_sum o i b = omega arith
 
-held_size : (h : Bool) (b : Block) → size_contents (held_by h b) ≡ size_block b
+held_size : (h : Bool) (b : Block) → size_contents (contents_with h b) ≡ size_block b
 held_size true b = refl
 held_size false b = refl
 

@@ -7,7 +7,7 @@ use Rattle.typed_tree.specs.declared.table.Table.{Table}
 use Rattle.typed_tree.specs.declared.typed_module.TypedModule.{TypedModule}
 use Rattle.def_grammar.specs.Refusal.{IsTree, max_nesting}
 use Rattle.check_scope.specs.Elaborated.{Gathers}
-use Rattle.check_body.specs.Checks.{checked}
+use Rattle.check_body.specs.Checks.{body_module}
 use Rattle.layout_storage.specs.Texts.{module_texts}
 use Rattle.def_scheme.specs.Modules.{functions, all_characters, typed_module}
 use Rattle.wasm_binary.specs.Binary.{module_fits}
@@ -36,7 +36,7 @@ abbrev pub AcceptedFit : Gathers → Type 0
 AcceptedFit g = (ts : List Token) (m : Module) → IsTree ts m
     → (number : ℕ) (own : Option Table) (tables : List Table) → AreFor number own tables m.contents
     → Holds (λ t. IsSmallBody t → module_fits (typed_module t) ≡ true)
-    (checked g number m own tables)
+    (body_module g number m own tables)
 
 -- ---- typed programs
 

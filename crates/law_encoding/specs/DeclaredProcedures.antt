@@ -11,8 +11,8 @@ use Rattle.wasm_tree.specs.Validity.{AreDistinct}
 use Rattle.typed_tree.specs.declared.table.Table.{Table}
 use Rattle.typed_tree.specs.declared.typed_module.TypedModule.{TypedModule}
 use Rattle.check_scope.specs.Elaborated.{Gathers}
-use Rattle.check_definition.specs.Compiled.{compiled}
-use Rattle.check_body.specs.Checks.{checked}
+use Rattle.check_definition.specs.Compiled.{definition_table}
+use Rattle.check_body.specs.Checks.{body_module}
 use Rattle.law_encoding.specs.Sizes.{sum_of, size_module}
 use Rattle.law_encoding.specs.Counted.{AtMost}
 use Rattle.law_encoding.specs.Short.{counts_in}
@@ -41,7 +41,7 @@ ExportsOnce (Some t) = AreDistinct (map (λ e. e.0) t.exported)
 -- So does the table that the checker makes of a definition.
 abbrev pub TablesExportOnce : Gathers → Type 0
 TablesExportOnce g = (number : ℕ) (m : Module) (tables : List Table)
-    → IfOk (compiled g number m tables) (λ t. ExportsOnce (Some t))
+    → IfOk (definition_table g number m tables) (λ t. ExportsOnce (Some t))
 
 -- the procedures of a typed module, without those in them
 abbrev pub procedures_of : TypedModule → ℕ
@@ -52,10 +52,10 @@ procedures_of t = length t.procedures
 abbrev pub ProceduresAreDeclared : Gathers → Type 0
 ProceduresAreDeclared g =
     (number : ℕ) (m : Module) (own : Option Table) (tables : List Table) → ExportsOnce own
-    → AtMost procedures_of (outermost_in m.contents) (checked g number m own tables)
+    → AtMost procedures_of (outermost_in m.contents) (body_module g number m own tables)
 
 -- Procedures, formals and bodies count no more than the module's tree.
 abbrev pub CountsAreSmall : Gathers → Type 0
 CountsAreSmall g =
     (number : ℕ) (m : Module) (own : Option Table) (tables : List Table) → ExportsOnce own
-    → AtMost counts_in (size_module m) (checked g number m own tables)
+    → AtMost counts_in (size_module m) (body_module g number m own tables)

@@ -8,7 +8,7 @@ use Rattle.typed_tree.specs.declared.typed_module.TypedModule.{TypedModule}
 use Rattle.scan_tokens.specs.Division.{HasTokens, max_text}
 use Rattle.def_grammar.specs.Refusal.{IsModule, max_nesting}
 use Rattle.check_scope.specs.Elaborated.{Gathers}
-use Rattle.check_body.specs.Checks.{checked}
+use Rattle.check_body.specs.Checks.{body_module}
 use Rattle.layout_storage.specs.Texts.{module_texts}
 use Rattle.def_scheme.specs.Scheme.{body_types}
 use Rattle.def_scheme.specs.Signatures.{type_of}
@@ -19,7 +19,7 @@ use Rattle.wasm_tree.specs.declared.module.WModule.{WModule}
 use Rattle.wasm_code.specs.Number.{unsigned}
 use Rattle.wasm_code.specs.Parts.{section}
 use Rattle.wasm_code.specs.Instructions.{code_within, instr_encoding}
-use Rattle.wasm_binary.specs.Binary.{func_type, import, table_type, memory_type, global, export, element, data_segment, declared, types_of, body, bodies_encoding, module_fits}
+use Rattle.wasm_binary.specs.Binary.{func_type, import, table_type, memory_type, global, export, element, data_segment, local_count, types_of, body, bodies_encoding, module_fits}
 use Rattle.law_encoding.specs.Sizes.{sum_of}
 use Rattle.law_encoding.specs.Nesting.{deepest_of}
 use Rattle.law_encoding.specs.CodeNesting.{levels, function_levels}
@@ -48,7 +48,7 @@ abbrev pub max_bytes : ℕ
 max_bytes = 2 ^ 32
 
 abbrev pub function_locals : Function → ℕ
-function_locals f = declared f.body.locals
+function_locals f = local_count f.body.locals
 
 -- What is asked of functions: few levels, numbers in their widths, and less than 2 ^ 32 locals in
 -- each and bytes in all.
@@ -120,7 +120,7 @@ abbrev pub LocalsFit : Gathers → Type 0
 LocalsFit g = (text : List ℕ) (ts : List Token) (m : Module) → length text ≤ max_text
     → HasTokens text ts → IsModule ts m
     → (number : ℕ) (own : Option Table) (tables : List Table)
-    → AtMost most_locals max_locals (checked g number m own tables)
+    → AtMost most_locals max_locals (body_module g number m own tables)
 
 -- A module counts no more than the tree of the longest text.
 abbrev pub CountsFew : TypedModule → Type 0

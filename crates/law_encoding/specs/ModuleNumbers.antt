@@ -2,7 +2,7 @@
 use Rattle.std.specs.Prelude.{◌≡◌, ◌≤◌, ◌<◌, ◌+◌, true, length}
 use Rattle.std.specs.List.{list_all}
 use Rattle.typed_tree.specs.declared.typed_module.TypedModule.{TypedModule}
-use Rattle.def_scheme.specs.Signatures.{needed}
+use Rattle.def_scheme.specs.Signatures.{signatures_needed}
 use Rattle.def_scheme.specs.Modules.{functions}
 use Rattle.wasm_code.specs.Number.{unsigned}
 use Rattle.wasm_binary.specs.Binary.{types_of}
@@ -16,7 +16,7 @@ use Rattle.law_encoding.specs.ValidNumbers.{code_constants_fit}
 
 -- The module has few types, imports and locals, and its functions are short in all.
 pub record HasFewParts (m : TypedModule) : Type 0 where
-  pub types : types_count (needed m) ≤ few_entries
+  pub types : types_count (signatures_needed m) ≤ few_entries
   pub imported : length m.imports ≤ few_entries
   pub locals : most_locals m ≤ few_entries
   pub size : 5 + sum_of function_bytes (functions m) < max_bytes

@@ -8,7 +8,7 @@ use Rattle.typed_tree.specs.declared.statement.TypedStmt.{TypedStmt}
 use Rattle.typed_tree.specs.declared.typed_module.TypedModule.{TypedModule}
 use Rattle.def_grammar.specs.Refusal.{IsTree, max_nesting}
 use Rattle.check_scope.specs.Elaborated.{Gathers}
-use Rattle.check_body.specs.Checks.{checked}
+use Rattle.check_body.specs.Checks.{body_module}
 use Rattle.def_scheme.specs.Coded.{Setting, Counts}
 use Rattle.def_scheme.specs.Exprs.{Numbered}
 use Rattle.def_scheme.specs.Steps.{body_code}
@@ -38,7 +38,7 @@ TreesAreShallow = (ts : List Token) (m : Module) → IsTree ts m → depth_modul
 -- The bodies of a module that the checker accepts nest no deeper than the module does.
 abbrev pub ModulesAreShallow : Gathers → Type 0
 ModulesAreShallow g = (number : ℕ) (m : Module) (own : Option Table) (tables : List Table)
-    → AtMost depth_bodies (depth_module m) (checked g number m own tables)
+    → AtMost depth_bodies (depth_module m) (body_module g number m own tables)
 
 -- The code of statements nests no deeper than they do.
 abbrev pub CodeIsShallow : Type 0
@@ -63,4 +63,4 @@ most_levels m = deepest_of function_levels (functions m)
 abbrev pub AcceptedAreShallow : Gathers → Type 0
 AcceptedAreShallow g = (ts : List Token) (m : Module) → IsTree ts m
     → (number : ℕ) (own : Option Table) (tables : List Table)
-    → AtMost most_levels max_levels (checked g number m own tables)
+    → AtMost most_levels max_levels (body_module g number m own tables)

@@ -7,7 +7,7 @@ use Rattle.typed_tree.specs.declared.typed_module.Routine.{Routine}
 use Rattle.typed_tree.specs.declared.typed_module.TypedModule.{TypedModule}
 use Rattle.def_grammar.specs.Refusal.{IsTree, max_nesting}
 use Rattle.check_scope.specs.Elaborated.{Gathers}
-use Rattle.check_body.specs.Checks.{checked}
+use Rattle.check_body.specs.Checks.{body_module}
 use Rattle.law_encoding.specs.Nesting.{◌⊔◌, deepest_of}
 use Rattle.law_encoding.specs.Counted.{AtMost}
 use Rattle.law_encoding.specs.Outward.{outward_bodies}
@@ -23,10 +23,10 @@ greatest_level m = deepest_of level_of m.procedures ⊔ deepest_of level_of m.lo
 -- tree. One that waits for its body has level 1.
 abbrev pub LevelsAreLow : Gathers → Type 0
 LevelsAreLow g = (number : ℕ) (m : Module) (own : Option Table) (tables : List Table)
-    → AtMost greatest_level (1 ⊔ procedures_module m) (checked g number m own tables)
+    → AtMost greatest_level (1 ⊔ procedures_module m) (body_module g number m own tables)
 
 -- So the bodies of what is parsed and accepted go at most 200 procedures outwards.
 abbrev pub AcceptedAreNear : Gathers → Type 0
 AcceptedAreNear g = (ts : List Token) (m : Module) → IsTree ts m
     → (number : ℕ) (own : Option Table) (tables : List Table)
-    → AtMost outward_bodies max_nesting (checked g number m own tables)
+    → AtMost outward_bodies max_nesting (body_module g number m own tables)

@@ -8,7 +8,7 @@ use Rattle.typed_tree.specs.declared.table.Table.{Table}
 use Rattle.typed_tree.specs.declared.typed_module.TypedModule.{TypedModule}
 use Rattle.def_grammar.specs.Refusal.{IsTree, max_nesting}
 use Rattle.check_scope.specs.Elaborated.{Gathers}
-use Rattle.check_body.specs.Checks.{checked}
+use Rattle.check_body.specs.Checks.{body_module}
 use Rattle.def_scheme.specs.Modules.{max_pages}
 use Rattle.layout_storage.specs.Fitting.{types_fit}
 use Rattle.layout_storage.specs.Layouts.{AllFits}
@@ -67,7 +67,7 @@ pub record IsAccepted (g : Gathers) (t : TypedModule) : Type 0 where
   pub own : Option Table
   pub own_once : ExportsOnce own
   pub tables : List Table
-  pub accepted : checked g number tree own tables ≡ Ok t
+  pub accepted : body_module g number tree own tables ≡ Ok t
 
 -- a program has no more modules than there may be files
 abbrev pub most_modules : ℕ

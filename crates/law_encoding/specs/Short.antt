@@ -10,10 +10,10 @@ use Rattle.typed_tree.specs.declared.typed_module.Routine.{Routine}
 use Rattle.typed_tree.specs.declared.typed_module.TypedModule.{TypedModule}
 use Rattle.check_scope.specs.Elaborated.{Gathers}
 use Rattle.check_scope.specs.declared.scope.Scope.{Scope}
-use Rattle.check_expr.specs.Meanings.{meant}
+use Rattle.check_expr.specs.Meanings.{meanings_of}
 use Rattle.check_stmt_parts.specs.declared.around.Around.{Around}
 use Rattle.check_stmt.specs.Statements.{statements}
-use Rattle.check_body.specs.Checks.{checked}
+use Rattle.check_body.specs.Checks.{body_module}
 use Rattle.def_grammar.specs.Refusal.{max_nesting}
 use Rattle.layout_storage.specs.Frames.{formals_of}
 use Rattle.def_scheme.specs.Coded.{Setting, Counts}
@@ -42,7 +42,7 @@ CodeIsShort = (numbered : Numbered) (xs : List TypedStmt) → outward_body xs �
 -- stands deep.
 abbrev pub ExpressionsAreNear : Gathers → Type 0
 ExpressionsAreNear g = (s : Scope g.Reported) (e : Expr)
-    → AtMost outward_designated s.level ((meant g e).means s)
+    → AtMost outward_designated s.level ((meanings_of g e).means s)
 
 abbrev pub StatementsAreNear : Gathers → Type 0
 StatementsAreNear g = (s : Scope g.Reported) (a : Around g.Reported) (xs : List Stmt)
@@ -58,7 +58,7 @@ beyond_routines m = deepest_of beyond_routine m.procedures ⊔ deepest_of beyond
 -- In a module that the checker accepts no procedure goes further.
 abbrev pub RoutinesAreNear : Gathers → Type 0
 RoutinesAreNear g = (number : ℕ) (m : Module) (own : Option Table) (tables : List Table)
-    → AtMost beyond_routines 0 (checked g number m own tables)
+    → AtMost beyond_routines 0 (body_module g number m own tables)
 
 -- ---- the functions of a module
 

@@ -10,10 +10,10 @@ use Rattle.scan_tokens.specs.Division.{HasTokens, max_text}
 use Rattle.def_grammar.specs.Refusal.{IsModule}
 use Rattle.check_scope.specs.Elaborated.{Gathers}
 use Rattle.check_scope.specs.declared.scope.Scope.{Scope}
-use Rattle.check_expr.specs.Meanings.{meant, head}
+use Rattle.check_expr.specs.Meanings.{meanings_of, head}
 use Rattle.check_stmt_parts.specs.declared.around.Around.{Around}
 use Rattle.check_stmt.specs.Statements.{statements}
-use Rattle.check_body.specs.Checks.{checked}
+use Rattle.check_body.specs.Checks.{body_module}
 use Rattle.typed_tree.specs.declared.statement.TypedStmt.{TypedStmt}
 use Rattle.def_scheme.specs.Coded.{Setting, Counts}
 use Rattle.def_scheme.specs.Exprs.{Numbered}
@@ -37,7 +37,7 @@ TextsAreSmall = (text : List ℕ) (ts : List Token) (m : Module) → HasTokens t
 -- gathered so.
 abbrev pub ExpressionsAreSmall : Gathers → Type 0
 ExpressionsAreSmall g = (s : Scope g.Reported) (e : Expr)
-    → AtMost size_meant (size_expr e) ((meant g e).means s)
+    → AtMost size_meant (size_expr e) ((meanings_of g e).means s)
 
 abbrev pub DesignatorsAreSmall : Gathers → Type 0
 DesignatorsAreSmall g = (s : Scope g.Reported) (d : Designator)
@@ -51,7 +51,7 @@ StatementsAreSmall g = (s : Scope g.Reported) (a : Around g.Reported) (xs : List
 -- The bodies of a module that the checker accepts count no more than the module does.
 abbrev pub ModulesAreSmall : Gathers → Type 0
 ModulesAreSmall g = (number : ℕ) (m : Module) (own : Option Table) (tables : List Table)
-    → AtMost size_bodies (size_module m) (checked g number m own tables)
+    → AtMost size_bodies (size_module m) (body_module g number m own tables)
 
 -- A text that is not too long has bodies of at most so many.
 abbrev pub most : ℕ
@@ -61,7 +61,7 @@ abbrev pub BodiesAreSmall : Gathers → Type 0
 BodiesAreSmall g = (text : List ℕ) (ts : List Token) (m : Module) → length text ≤ max_text
     → HasTokens text ts → IsModule ts m
     → (number : ℕ) (own : Option Table) (tables : List Table)
-    → AtMost size_bodies most (checked g number m own tables)
+    → AtMost size_bodies most (body_module g number m own tables)
 
 -- The code of statements takes no more locals, for addresses and for numbers, than they count.
 abbrev pub LocalsAreFew : Type 0

@@ -6,7 +6,7 @@ use Rattle.m2_tree.specs.declared.decl.Module.{Module}
 use Rattle.m2_tree.specs.declared.name.Ident.{Ident}
 use Rattle.m2_tree.specs.declared.pos.Pos.{Pos}
 use Rattle.m2_graph.specs.Files.{File, trees}
-use Rattle.m2_graph.specs.Imports.{imported}
+use Rattle.m2_graph.specs.Imports.{imports_of}
 use Rattle.m2_graph.specs.Reported.{LeadsBack, IsBack, IsReportedCycle, AreCycles, Reported, refused_of, IsReported}
 use Rattle.law_graph.proofs.Sorting.{same_first, same_rest}
 
@@ -32,7 +32,7 @@ one_node modules m n p q a b = elim (cases_order m n) [
 one_place : (modules : List Module) (node : ℕ) (p q : Pos) → IsReportedCycle modules node p → IsReportedCycle modules node q → p ≡ q
 one_place modules node p q a b =
     let e : b.tree ≡ a.tree = same_Some b.tree a.tree (sym b.is_tree ∙ a.is_tree) in
-    one_back modules node (imported a.tree) p q a.back (subst (λ (t : Module). IsBack modules node (imported t) q) e b.back)
+    one_back modules node (imports_of a.tree) p q a.back (subst (λ (t : Module). IsBack modules node (imports_of t) q) e b.back)
 
 -- What is reported of cycles is determined.
 pub one_cycle : (modules : List Module) (c d : Option (ℕ × Pos)) → AreCycles modules c → AreCycles modules d → c ≡ d

@@ -7,10 +7,10 @@ use Rattle.std.proofs.lemmas.Bool.{false≢true, and_parts}
 use Rattle.std.proofs.lemmas.Option.{same_Some}
 use Rattle.m2_tree.specs.declared.decl.Module.{Module}
 use Rattle.m2_tree.specs.declared.name.Ident.{Ident}
-use Rattle.m2_graph.specs.Files.{File, AreInOrder, numbered, trees}
+use Rattle.m2_graph.specs.Files.{File, AreInOrder, number_files, trees}
 use Rattle.m2_graph.specs.Graph.{IsGraph}
 use Rattle.m2_tree.specs.Names.{same_name}
-use Rattle.m2_graph.specs.Imports.{imported, is_definition, defines, definition_of, first_that}
+use Rattle.m2_graph.specs.Imports.{imports_of, is_definition, defines, definition_of, first_that}
 use Rattle.law_graph.specs.Started.{definition_imported, imported_by}
 use Rattle.law_graph.specs.Defined.{OneDefinition}
 use Rattle.law_graph.proofs.Lists.{Among}
@@ -28,7 +28,7 @@ some_of test ms d a passes = by (is_some (first_that test ms)) refl
     by true e = refl
     by false e = absurd (false≢true (sym (none_that test ms d e a) ∙ passes))
 
-pub one_definition : (fs : List (List ℕ × Module)) (files : List ℕ) (jobs : List (List ℕ)) (starts : List ℕ) → IsGraph (numbered 0 fs) files jobs starts → OneDefinition (given_trees fs)
+pub one_definition : (fs : List (List ℕ × Module)) (files : List ℕ) (jobs : List (List ℕ)) (starts : List ℕ) → IsGraph (number_files 0 fs) files jobs starts → OneDefinition (given_trees fs)
 one_definition fs files jobs starts g d among is =
     let ms : List Module = given_trees fs in
     let k = some_that (defines d.name.name) ms (some_of (defines d.name.name) ms d among (defines_own d is)) in
@@ -39,4 +39,4 @@ one_definition fs files jobs starts g d among is =
     let i = given_among fs g.0 g.1 d among in
     let place : j.0 ≡ i.0 = (are_fine g.0 g.2.fine).apart j.0 i.0 e.0 d j.1 i.1 (parts.0 ∙ sym is) (sym named) in
     let same : e.0 ≡ d = same_Some e.0 d (sym j.1 ∙ ap (slice_get (trees g.0)) place ∙ i.1) in
-    ap (λ (o : Option ℕ). definition_imported ms o) k.1 ∙ ap imported_by e.1 ∙ ap imported same
+    ap (λ (o : Option ℕ). definition_imported ms o) k.1 ∙ ap imported_by e.1 ∙ ap imports_of same

@@ -15,7 +15,7 @@ use Rattle.m2_tree.specs.declared.pos.Pos.{Pos}
 use Rattle.m2_rule.specs.declared.breach.Breach.{Breach}
 use Rattle.m2_graph.specs.Files.{File, trees}
 use Rattle.m2_tree.specs.Names.{same_name, is_console}
-use Rattle.m2_graph.specs.Imports.{imported, is_definition, is_implementation, defines, implements, definition_of, first_that}
+use Rattle.m2_graph.specs.Imports.{imports_of, is_definition, is_implementation, defines, implements, definition_of, first_that}
 use Rattle.m2_graph.specs.Refused.{breach_where, first_place, least_of, is_bad_import, import_breaches, are_one_part, is_second, is_repeated, is_second_program, is_without_program, is_built_in, is_lone, max_files, breaches_of}
 use Rattle.m2_rule.specs.Breaches.{breach}
 use Rattle.m2_graph.specs.Reported.{Reported, reported_at, cycle_breaches, refused_from, refused_of, IsReported}
@@ -25,7 +25,7 @@ use Rattle.law_graph.proofs.Passing.{some_that, none_that, among_taken}
 
 -- what is not refused in a module behind others
 pub record Fine (modules before : List Module) (given : ℕ) (m : Module) : Type 0 where
-  pub imports : (x : Ident) → Among (imported m) x → is_bad_import modules m x.name ≡ false
+  pub imports : (x : Ident) → Among (imports_of m) x → is_bad_import modules m x.name ≡ false
   pub first : is_repeated before m ≡ false
   pub whole : is_lone modules m ≡ false
   pub counted : (given == max_files) ≡ false
@@ -58,7 +58,7 @@ filter_none {X} p (y ∷ xs) x e a = step (λ h b. filter_none p xs x h b) (p y)
 
 fine_one : (modules before : List Module) (given : ℕ) (m : Module) (cycle : List Breach) → least_of (breaches_of modules before given m ++ cycle) ≡ None → Fine modules before given m
 fine_one modules before given m cycle e =
-    let a = import_breaches modules m (imported m) in
+    let a = import_breaches modules m (imports_of m) in
     let b = breach_where (is_repeated before m) m.name.pos rule.SecondFile in
     let c = breach_where (is_second_program before m) m.name.pos rule.ProgramCount in
     let d = breach_where (is_without_program modules before) first_place rule.ProgramCount in
@@ -71,7 +71,7 @@ fine_one modules before given m cycle e =
     let t = parts_none (a ++ b) c s.0 in
     let u = parts_none a b t.0 in
     record {
-      imports = λ x i. filter_none (λ (y : Ident). is_bad_import modules m y.name) (imported m) x (map_none (λ (y : Ident). breach y.pos rule.MissingModule) (filter (λ (y : Ident). is_bad_import modules m y.name) (imported m)) u.0) i;
+      imports = λ x i. filter_none (λ (y : Ident). is_bad_import modules m y.name) (imports_of m) x (map_none (λ (y : Ident). breach y.pos rule.MissingModule) (filter (λ (y : Ident). is_bad_import modules m y.name) (imports_of m)) u.0) i;
       first = where_none (is_repeated before m) m.name.pos rule.SecondFile u.1;
       whole = where_none (is_lone modules m) m.name.pos rule.LonelyModule r.1;
       counted = where_none (given == max_files) first_place rule.FileCount q.1;
@@ -101,7 +101,7 @@ fine_file fs h k f at = fine_of fs h.0 (sym h.2) k f at
 -- ---- the modules of such files
 
 pub record AreFine (modules : List Module) : Type 0 where
-  pub imports : (m : Module) (x : Ident) → Among modules m → Among (imported m) x → (is_console x.name ≡ true) ⊎ ((t : ℕ) × (definition_of modules x.name ≡ Some t))
+  pub imports : (m : Module) (x : Ident) → Among modules m → Among (imports_of m) x → (is_console x.name ≡ true) ⊎ ((t : ℕ) × (definition_of modules x.name ≡ Some t))
   pub apart : (j k : ℕ) (m n : Module) → slice_get modules j ≡ Some m → slice_get modules k ≡ Some n → is_definition m ≡ is_definition n → m.name.name ≡ n.name.name → j ≡ k
   pub whole : (m : Module) → Among modules m → is_definition m ≡ true → (i : ℕ) × (first_that (implements m.name.name) modules ≡ Some i)
 

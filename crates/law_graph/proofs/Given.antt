@@ -8,7 +8,7 @@ use Rattle.std.proofs.lemmas.List.{length-map}
 use Rattle.std.proofs.lemmas.List.Sorted.{IsPermutation-sym, IsPermutation-map, length_permutation}
 use Rattle.std.proofs.lemmas.Option.{none-some, same_Some, slice_get-map, slice_get_within, get_or_from_slice_get}
 use Rattle.m2_tree.specs.declared.decl.Module.{Module}
-use Rattle.m2_graph.specs.Files.{File, AreInOrder, numbered, trees, given_of}
+use Rattle.m2_graph.specs.Files.{File, AreInOrder, number_files, trees, given_of}
 use Rattle.m2_graph.specs.Refused.{max_files}
 use Rattle.m2_graph.specs.Reported.{IsReported}
 use Rattle.law_graph.specs.Started.{at_places}
@@ -19,7 +19,7 @@ use Rattle.law_graph.proofs.Fine.{fine_file, tree_at}
 abbrev pub given_trees : List (List ℕ × Module) → List Module
 given_trees fs = map (λ (f : List ℕ × Module). f.1) fs
 
-numbered_at : (n : ℕ) (fs : List (List ℕ × Module)) (k : ℕ) (f : File) → slice_get (numbered n fs) k ≡ Some f → (f.given ≡ n + k) × (slice_get (given_trees fs) k ≡ Some f.tree)
+numbered_at : (n : ℕ) (fs : List (List ℕ × Module)) (k : ℕ) (f : File) → slice_get (number_files n fs) k ≡ Some f → (f.given ≡ n + k) × (slice_get (given_trees fs) k ≡ Some f.tree)
 numbered_at n [] k f e = absurd (none-some f e)
 numbered_at n (p ∷ fs) zero f e =
     let s = same_Some (record { name = p.0; tree = p.1; given = n }) f e in
@@ -27,19 +27,19 @@ numbered_at n (p ∷ fs) zero f e =
     (omega (arith, g), ap (λ (x : File). Some x.tree) s)
 numbered_at n (p ∷ fs) (suc k) f e = let r = numbered_at (n + 1) fs k f e in (omega (arith, r.0), r.1)
 
-numbered_length : (n : ℕ) (fs : List (List ℕ × Module)) → length (numbered n fs) ≡ length fs
+numbered_length : (n : ℕ) (fs : List (List ℕ × Module)) → length (number_files n fs) ≡ length fs
 numbered_length n [] = refl
 numbered_length n (p ∷ fs) = ap suc (numbered_length (n + 1) fs)
 
-numbered_trees : (n : ℕ) (fs : List (List ℕ × Module)) → trees (numbered n fs) ≡ given_trees fs
+numbered_trees : (n : ℕ) (fs : List (List ℕ × Module)) → trees (number_files n fs) ≡ given_trees fs
 numbered_trees n [] = refl
 numbered_trees n (p ∷ fs) = ap (λ (ms : List Module). p.1 ∷ ms) (numbered_trees (n + 1) fs)
 
-module _ (fs : List (List ℕ × Module)) (ordered : List File) (o : AreInOrder (numbered 0 fs) ordered) where
+module _ (fs : List (List ℕ × Module)) (ordered : List File) (o : AreInOrder (number_files 0 fs) ordered) where
   -- the file in order has the place that its number says
   file_given : (k : ℕ) (f : File) → slice_get ordered k ≡ Some f → slice_get (given_trees fs) f.given ≡ Some f.tree
   file_given k f e =
-      let a = among-permutation ordered (numbered 0 fs) f (IsPermutation-sym (numbered 0 fs) ordered o.same) (k, e) in
+      let a = among-permutation ordered (number_files 0 fs) f (IsPermutation-sym (number_files 0 fs) ordered o.same) (k, e) in
       let r = numbered_at 0 fs a.0 f a.1 in
       let q : f.given ≡ a.0 = omega (arith, r.0) in
       ap (slice_get (given_trees fs)) q ∙ r.1
@@ -53,10 +53,10 @@ module _ (fs : List (List ℕ × Module)) (ordered : List File) (o : AreInOrder 
 
   -- a module as it was given is among those in order
   pub given_among : (m : Module) → Among (given_trees fs) m → Among (trees ordered) m
-  given_among m a = among-permutation (given_trees fs) (trees ordered) m (subst (λ (ms : List Module). IsPermutation ms (trees ordered)) (numbered_trees 0 fs) (IsPermutation-map (λ (f : File). f.tree) (numbered 0 fs) ordered o.same)) a
+  given_among m a = among-permutation (given_trees fs) (trees ordered) m (subst (λ (ms : List Module). IsPermutation ms (trees ordered)) (numbered_trees 0 fs) (IsPermutation-map (λ (f : File). f.tree) (number_files 0 fs) ordered o.same)) a
 
   as_many : length (trees ordered) ≡ length fs
-  as_many = length-map ordered (λ (f : File). f.tree) ∙ length_permutation (numbered 0 fs) ordered o.same ∙ numbered_length 0 fs
+  as_many = length-map ordered (λ (f : File). f.tree) ∙ length_permutation (number_files 0 fs) ordered o.same ∙ numbered_length 0 fs
 
   -- there are no more files than are let
   pub few_files : IsReported ordered [] → length (trees ordered) ≤ max_files
@@ -68,10 +68,10 @@ module _ (fs : List (List ℕ × Module)) (ordered : List File) (o : AreInOrder 
       many : 1024 < length fs → ⊥
       many l =
           let n = numbered_length 0 fs in
-          let p = some_at (numbered 0 fs) 1024 (omega (arith, l, n)) in
+          let p = some_at (number_files 0 fs) 1024 (omega (arith, l, n)) in
           let r = numbered_at 0 fs 1024 p.0 p.1 in
           let q : p.0.given ≡ 1024 = omega (arith, r.0) in
-          let a = among-permutation (numbered 0 fs) ordered p.0 o.same (1024, p.1) in
+          let a = among-permutation (number_files 0 fs) ordered p.0 o.same (1024, p.1) in
           false≢true (sym (fine_file ordered fine a.0 p.0 a.1).counted ∙ eq-eqb p.0.given 1024 q)
 
   -- the modules at the places of these numbers

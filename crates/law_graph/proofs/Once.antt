@@ -9,7 +9,7 @@ use Rattle.m2_graph.specs.declared.error.GraphError.TheVariants.{Refused}
 use Rattle.m2_graph.specs.Imports.{links, walks}
 use Rattle.m2_graph.specs.Files.{File, is_before, AreInOrder, trees, given_of}
 use Rattle.m2_graph.specs.Order.{IsJob}
-use Rattle.m2_graph.specs.Reported.{reported, IsReported}
+use Rattle.m2_graph.specs.Reported.{report_of, IsReported}
 use Rattle.m2_graph.specs.Graph.{bodies_of, IsJobs, IsStarts, IsGraphOf, IsGraph, IsRefusal}
 use Rattle.law_graph.proofs.Sorting.{one_stable_sort, by_key}
 use Rattle.law_graph.proofs.Walking.{one_start_order}
@@ -45,13 +45,13 @@ one_graph given fs gs js ks ss ts a b =
     one_graph_of a.0 fs gs js ks ss ts a.2 (subst (λ (ordered : List File). IsGraphOf ordered gs ks ts) e b.2)
 
 -- Files have at most one list of refusals.
-pub one_refusal : (given : List File) (r q : Vec Refusal) → IsRefusal given (Refused r) → IsRefusal given (Refused q) → map reported r.items ≡ map reported q.items
+pub one_refusal : (given : List File) (r q : Vec Refusal) → IsRefusal given (Refused r) → IsRefusal given (Refused q) → map report_of r.items ≡ map report_of q.items
 one_refusal given r q a b =
     let e : b.0 ≡ a.0 = one_order given b.0 a.0 b.1 a.1 in
-    one_reported a.0 (map reported r.items) (map reported q.items) a.2.0 (subst (λ (ordered : List File). IsReported ordered (map reported q.items)) e b.2.0)
+    one_reported a.0 (map report_of r.items) (map report_of q.items) a.2.0 (subst (λ (ordered : List File). IsReported ordered (map report_of q.items)) e b.2.0)
 
 -- Files that have a graph are not refused.
 pub graph_or_refusal : (given : List File) (fs : List ℕ) (js : List (List ℕ)) (ss : List ℕ) (r : Vec Refusal) → IsGraph given fs js ss → IsRefusal given (Refused r) → ⊥
 graph_or_refusal given fs js ss r a b =
     let e : a.0 ≡ b.0 = one_order given a.0 b.0 a.1 b.1 in
-    b.2.1 (one_reported b.0 (map reported r.items) [] b.2.0 (subst (λ (ordered : List File). IsReported ordered []) e a.2.fine))
+    b.2.1 (one_reported b.0 (map report_of r.items) [] b.2.0 (subst (λ (ordered : List File). IsReported ordered []) e a.2.fine))

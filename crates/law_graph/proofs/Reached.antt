@@ -13,7 +13,7 @@ use Rattle.graph_walk.specs.Starts.{One, Walks}
 use Rattle.graph_walk.proofs.Marking.{has-append}
 use Rattle.graph_walk.proofs.Chains.{times_has}
 use Rattle.m2_tree.specs.Names.{same_name, is_console}
-use Rattle.m2_graph.specs.Imports.{imported, is_definition, is_program, is_implementation, defines, implements, first_that, definition_of, links_of, links_at, body_links, walks}
+use Rattle.m2_graph.specs.Imports.{imports_of, is_definition, is_program, is_implementation, defines, implements, first_that, definition_of, links_of, links_at, body_links, walks}
 use Rattle.law_graph.specs.Started.{names_of, is_named, AreApart}
 use Rattle.law_graph.proofs.Lists.{Among, has_among, among_has, filtered_among, among_filtered, all_among, map_among, among-map, any_among}
 use Rattle.law_graph.proofs.Passing.{found_at}
@@ -119,8 +119,8 @@ module _ (modules : List Module) (fine : AreFine modules) (program : ℕ) (is_fi
 
   -- ---- imports
 
-  linked : (m : Module) (x : Ident) (t : ℕ) → Among (imported m) x → definition_of modules x.name ≡ Some t → has (links_of modules m) t ≡ true
-  linked m x t a e = among_has (links_of modules m) t (among_filtered (λ (i : Ident). definition_of modules i.name) (imported m) x t a e)
+  linked : (m : Module) (x : Ident) (t : ℕ) → Among (imports_of m) x → definition_of modules x.name ≡ Some t → has (links_of modules m) t ≡ true
+  linked m x t a e = among_has (links_of modules m) t (among_filtered (λ (i : Ident). definition_of modules i.name) (imports_of m) x t a e)
 
   walk_left : (n : ℕ) (m : Module) (t : ℕ) → slice_get modules n ≡ Some m → has (links_of modules m) t ≡ true → has (targets (walks modules) n) t ≡ true
   walk_left n m t e h = ap (λ (ts : List ℕ). has ts t) (walks_at modules n m e) ∙ has-append (links_of modules m) (body_links modules m) t ∙ or_left (has (links_of modules m) t) (has (body_links modules m) t) h
@@ -147,7 +147,7 @@ module _ (modules : List Module) (fine : AreFine modules) (program : ℕ) (is_fi
       reached k i = elim (facts.new k i) [ inl none ↦ absurd (false≢true none) | inr some ↦ some ]
 
   -- what a body that starts imports
-  pub body_reached : (n : ℕ) (b : Module) (x : Ident) → has walk n ≡ true → start modules n ≡ Some b → Among (imported b) x → (is_console x.name ≡ true) ⊎ (is_named (filter_map (start modules) walk) x.name ≡ true)
+  pub body_reached : (n : ℕ) (b : Module) (x : Ident) → has walk n ≡ true → start modules n ≡ Some b → Among (imports_of b) x → (is_console x.name ≡ true) ⊎ (is_named (filter_map (start modules) walk) x.name ≡ true)
   body_reached n b x h e a = elim (fine.imports b x (s.place, s.found) a) [
     | inl c ↦ inl c
     | inr t ↦ inr (goes_to n t.0 x.name h (goes t.0 (linked b x t.0 a t.1)) t.1)
@@ -163,7 +163,7 @@ module _ (modules : List Module) (fine : AreFine modules) (program : ℕ) (is_fi
       ]
 
   -- what the definition of its name imports
-  pub definition_reached : (n : ℕ) (b d : Module) (x : Ident) → has walk n ≡ true → start modules n ≡ Some b → Among modules d → is_definition d ≡ true → b.name.name ≡ d.name.name → Among (imported d) x →
+  pub definition_reached : (n : ℕ) (b d : Module) (x : Ident) → has walk n ≡ true → start modules n ≡ Some b → Among modules d → is_definition d ≡ true → b.name.name ≡ d.name.name → Among (imports_of d) x →
       (is_console x.name ≡ true) ⊎ (is_named (filter_map (start modules) walk) x.name ≡ true)
   definition_reached n b d x h e i is_so same a = elim (fine.imports d x i a) [
     | inl c ↦ inl c

@@ -8,10 +8,10 @@ use Rattle.std.proofs.lemmas.List.{length-map}
 use Rattle.m2_tree.specs.declared.decl.Module.{Module}
 use Rattle.m2_tree.specs.declared.name.Ident.{Ident}
 use Rattle.graph_walk.specs.Links.{has}
-use Rattle.m2_graph.specs.Files.{File, AreInOrder, numbered, trees, given_of}
+use Rattle.m2_graph.specs.Files.{File, AreInOrder, number_files, trees, given_of}
 use Rattle.m2_graph.specs.Graph.{IsGraph, IsGraphOf, body_of, bodies_of}
 use Rattle.m2_tree.specs.Names.{same_name, is_console}
-use Rattle.m2_graph.specs.Imports.{imported, is_definition, defines, definition_of}
+use Rattle.m2_graph.specs.Imports.{imports_of, is_definition, defines, definition_of}
 use Rattle.m2_graph.specs.Refused.{max_files}
 use Rattle.law_graph.specs.Started.{at_places, names_of, is_named, AreApart, imported_by, definition_imported, all_imported, AreStarted}
 use Rattle.law_graph.proofs.Lists.{Among, none_among, among_has, filtered_among, filtered_twice, filtered_length, few_below, all_among, among_append_cases}
@@ -21,7 +21,7 @@ use Rattle.law_graph.proofs.Given.{given_trees, given_among, places_given, place
 use Rattle.law_graph.proofs.Starting.{start, body_at}
 use Rattle.law_graph.proofs.Reached as reached
 
-module _ (fs : List (List ℕ × Module)) (ordered : List File) (o : AreInOrder (numbered 0 fs) ordered) (files : List ℕ) (jobs : List (List ℕ)) (starts : List ℕ) (g : IsGraphOf ordered files jobs starts) where
+module _ (fs : List (List ℕ × Module)) (ordered : List File) (o : AreInOrder (number_files 0 fs) ordered) (files : List ℕ) (jobs : List (List ℕ)) (starts : List ℕ) (g : IsGraphOf ordered files jobs starts) where
   abbrev modules : List Module
   modules = trees ordered
 
@@ -75,7 +75,7 @@ module _ (fs : List (List ℕ × Module)) (ordered : List File) (o : AreInOrder 
           reached.definition_reached modules fine g.is_starts.program g.is_starts.is_program walk g.is_starts.is_walk.0 g.is_starts.is_walk.1 n b f.0 x h e (given_among fs ordered o f.0 (j, f.1)) both.0 ((bytes_decides b.name.name f.0.name.name).0 both.1) (subst (λ (m : Option Module). Among (imported_by m) x) f.1 i)
 
   each_import : (n : ℕ) (b : Module) (x : Ident) → has walk n ≡ true → start modules n ≡ Some b → Among (all_imported (given_trees fs) b) x → (is_console x.name ≡ true) ⊎ (is_named those x.name ≡ true)
-  each_import n b x h e a = elim (among_append_cases (definition_imported (given_trees fs) (definition_of (given_trees fs) b.name.name)) (imported b) x a) [
+  each_import n b x h e a = elim (among_append_cases (definition_imported (given_trees fs) (definition_of (given_trees fs) b.name.name)) (imports_of b) x a) [
     | inl d ↦ from_definition n b x h e d
     | inr i ↦ reached.body_reached modules fine g.is_starts.program g.is_starts.is_program walk g.is_starts.is_walk.0 g.is_starts.is_walk.1 n b x h e i
   ]
@@ -91,5 +91,5 @@ module _ (fs : List (List ℕ × Module)) (ordered : List File) (o : AreInOrder 
   started : AreStarted (given_trees fs) starts
   started = record { within = within; bodies = are_bodies; distinct = distinct; closed = closed; few = few }
 
-pub are_started : (fs : List (List ℕ × Module)) (files : List ℕ) (jobs : List (List ℕ)) (starts : List ℕ) → IsGraph (numbered 0 fs) files jobs starts → AreStarted (map (λ (f : List ℕ × Module). f.1) fs) starts
+pub are_started : (fs : List (List ℕ × Module)) (files : List ℕ) (jobs : List (List ℕ)) (starts : List ℕ) → IsGraph (number_files 0 fs) files jobs starts → AreStarted (map (λ (f : List ℕ × Module). f.1) fs) starts
 are_started fs files jobs starts h = started fs h.0 h.1 files jobs starts h.2

@@ -9,7 +9,7 @@ use Rattle.m2_tree.specs.declared.decl.Module.{Module}
 use Rattle.m2_tree.specs.declared.name.Ident.{Ident}
 use Rattle.graph_walk.specs.Links.{has, targets}
 use Rattle.m2_tree.specs.Names.{same_name}
-use Rattle.m2_graph.specs.Imports.{imported, is_definition, is_program, is_implementation, implements, first_that, definition_of, links_of, links_at, body_links, walk_of, walks}
+use Rattle.m2_graph.specs.Imports.{imports_of, is_definition, is_program, is_implementation, implements, first_that, definition_of, links_of, links_at, body_links, walk_of, walks}
 use Rattle.m2_graph.specs.Graph.{body_of}
 use Rattle.law_graph.proofs.Lists.{bound, has_among, among_has, filtered_among, among_append_cases}
 use Rattle.law_graph.proofs.Passing.{found_at}
@@ -110,7 +110,7 @@ abbrev pub IsNamed : List Module → ℕ → Type 0
 IsNamed modules k = (name : List ℕ) × (definition_of modules name ≡ Some k)
 
 linked_named : (modules : List Module) (m : Module) (k : ℕ) → has (links_of modules m) k ≡ true → IsNamed modules k
-linked_named modules m k h = let f = filtered_among (λ (i : Ident). definition_of modules i.name) (imported m) k (has_among (links_of modules m) k h) in (f.0.name, f.2)
+linked_named modules m k h = let f = filtered_among (λ (i : Ident). definition_of modules i.name) (imports_of m) k (has_among (links_of modules m) k h) in (f.0.name, f.2)
 
 links_named : (modules : List Module) (m : Module) (o : Option ℕ) (k : ℕ) → has (links_at modules m o) k ≡ true → IsNamed modules k
 links_named modules m None k h = absurd (false≢true h)

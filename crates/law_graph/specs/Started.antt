@@ -5,7 +5,7 @@ use Rattle.std.specs.List.{All, filter_map, list_any}
 use Rattle.std.specs.Str.{bytes_eq}
 use Rattle.m2_tree.specs.declared.name.Ident.{Ident}
 use Rattle.m2_tree.specs.declared.decl.Module.{Module}
-use Rattle.m2_graph.specs.Imports.{imported, is_definition, definition_of}
+use Rattle.m2_graph.specs.Imports.{imports_of, is_definition, definition_of}
 use Rattle.m2_tree.specs.Names.{is_console}
 use Rattle.m2_graph.specs.Refused.{max_files}
 
@@ -28,7 +28,7 @@ AreApart (x ∷ xs) = All (λ y. x ≢ y) xs × AreApart xs
 -- what a module imports, if there is one
 abbrev pub imported_by : Option Module → List Ident
 imported_by None = []
-imported_by (Some m) = imported m
+imported_by (Some m) = imports_of m
 
 -- what the module at this place imports
 abbrev pub definition_imported : List Module → Option ℕ → List Ident
@@ -37,7 +37,7 @@ definition_imported trees (Some place) = imported_by (slice_get trees place)
 
 -- what a module's definition, and then the module itself, imports
 abbrev pub all_imported : List Module → Module → List Ident
-all_imported trees m = definition_imported trees (definition_of trees m.name.name) ++ imported m
+all_imported trees m = definition_imported trees (definition_of trees m.name.name) ++ imports_of m
 
 -- These places are those of bodies with names of their own, and what one of them or its definition
 -- imports is built in or is among them.

@@ -6,7 +6,7 @@ use Rattle.m2_rule.specs.declared.breach.Breach.{Breach}
 use Rattle.check_scope.specs.declared.scope.Scope.{Scope}
 use Rattle.check_scope.specs.Elaborated.{every, least}
 use Rattle.check_stmt_parts.specs.declared.around.Around.{Around}
-use Rattle.check_stmt_parts.specs.Simple.{in_loop, meant_if, opened, opened_if}
+use Rattle.check_stmt_parts.specs.Simple.{in_loop, meant_if, into_record, opened_if}
 use Rattle.law_least_definition.specs.Least.{Reports}
 use Rattle.law_least_definition.specs.Beside.{Optionwise, nothing, something, ScopeBeside, scopes}
 use Rattle.law_least_definition.proofs.Pieces.{MeantBeside}
@@ -19,7 +19,7 @@ pub data AroundBeside : Around Breach → Around (List Breach) → Type 0 where
 pub in_loop_beside : {w : Around Breach} {w' : Around (List Breach)} → AroundBeside w w' → AroundBeside (in_loop w) (in_loop w')
 in_loop_beside (arounds gives looped) = arounds gives true
 
-pub opened_beside : {s : Scope Breach} {s' : Scope (List Breach)} → ScopeBeside s s' → (t : TypeNo) → ScopeBeside (opened s t) (opened s' t)
+pub opened_beside : {s : Scope Breach} {s' : Scope (List Breach)} → ScopeBeside s s' → (t : TypeNo) → ScopeBeside (into_record s t) (into_record s' t)
 opened_beside (scopes tables types vars procs own outer) t = scopes tables types vars procs own outer
 
 pub opened_if_beside : {s : Scope Breach} {s' : Scope (List Breach)} → ScopeBeside s s' → (t : Option TypeNo) → ScopeBeside (opened_if s t) (opened_if s' t)

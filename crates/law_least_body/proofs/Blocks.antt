@@ -26,7 +26,7 @@ use Rattle.typed_tree.specs.declared.meaning.Meaning.TheVariants as meaning
 use Rattle.typed_tree.specs.declared.meaning.Procedure.{Procedure}
 use Rattle.typed_tree.specs.declared.known_types.Types.{Types}
 use Rattle.typed_tree.specs.Known.{made_at}
-use Rattle.typed_tree.specs.Names.{found}
+use Rattle.typed_tree.specs.Names.{find_name}
 use Rattle.m2_rule.specs.declared.breach.Breach.{Breach}
 use Rattle.check_scope.specs.declared.known.Known.{Known}
 use Rattle.check_scope.specs.declared.known.Origin.TheVariants.{Here, Module as ModuleOrigin, Export}
@@ -41,9 +41,9 @@ use Rattle.check_block.specs.declared.inner.Outside.{Outside}
 use Rattle.check_block.specs.Agreeing.{agree, signature_of}
 use Rattle.check_block.specs.Naming.{marked_layer, marked_decl, with_marks}
 use Rattle.check_block.specs.Nesting.{number_behind}
-use Rattle.check_block.specs.Headings.{standing_known, name_standing, nested_meaning, headed, module_procedure, new_procedure, with_new, reported_of_other, with_awaited, nothing_made, headed_as, with_heading}
+use Rattle.check_block.specs.Headings.{standing_known, name_standing, nested_meaning, set_heading, module_procedure, new_procedure, with_new, reported_of_other, with_awaited, nothing_made, headed_as, with_heading}
 use Rattle.check_block.specs.Declarations.{local_meaning, finished_local, with_locals, with_variables_of, Course, going_on, with_procedure, decl_layer, with_decl, Declared, all_declared, declared_block, is_awaited, or_awaited, lacks, reported_of_lack, declared_module}
-use Rattle.check_block.specs.Inner.{inwards, formal_meaning, unless_found, Formals, with_formal, with_section, formals_in, with_formals, entered_in, entered_procedure, outwards, split_last, popped, left_procedure}
+use Rattle.check_block.specs.Inner.{inwards, formal_meaning, unless_found, Formals, with_formal, with_section, formals_in, with_formals, entered_in, entered_procedure, outwards, split_last, pop_block, left_procedure}
 use Rattle.law_least_definition.specs.Least.{Reports, fine, is_refused}
 use Rattle.law_least_definition.specs.Beside.{Pairwise, none, more, Optionwise, nothing, something, KnownBeside, known_later, known_ahead, known_begun, known_headed, known_declared, EntryBeside, entry, BlockBeside, block, ScopeBeside, scopes, StateBeside}
 use Rattle.law_least_definition.proofs.Forms.{reported_reports, where_reports, then_reports, beside_reports, cond_same, fold_pairwise, fold_keeps}
@@ -121,14 +121,14 @@ name_standing_same (something k) = standing_same k
 nested_meaning_reports : (level number : ℕ) {t : Result TypeNo Breach} {t' : Result TypeNo (List Breach)} → Reports t t' → Reports (nested_meaning level number t) (nested_meaning level number t')
 nested_meaning_reports level number t = then_reports t (λ x. fine _)
 
-headed_beside : (name : List ℕ) {m : Result Meaning Breach} {m' : Result Meaning (List Breach)} → Reports m m' → {s : Scope Breach} {s' : Scope (List Breach)} → ScopeBeside s s' → ScopeBeside (headed name m s) (headed name m' s')
+headed_beside : (name : List ℕ) {m : Result Meaning Breach} {m' : Result Meaning (List Breach)} → Reports m m' → {s : Scope Breach} {s' : Scope (List Breach)} → ScopeBeside s s' → ScopeBeside (set_heading name m s) (set_heading name m' s')
 headed_beside name m b = with_known_beside name (known_headed m) b
 
 module_procedure_beside : {s : Scope Breach} {s' : Scope (List Breach)} → ScopeBeside s s' → (name : List ℕ) {t : Result TypeNo Breach} {t' : Result TypeNo (List Breach)} → Reports t t' → ScopeBeside (module_procedure s name t) (module_procedure s' name t')
 module_procedure_beside b name t = headed_beside name (procedure_meaning_reports b t) (with_procedure_type_beside b t)
 
 nested_procedure_beside : {s : Scope Breach} {s' : Scope (List Breach)} → ScopeBeside s s' → (name : List ℕ) (n : ℕ) {t : Result TypeNo Breach} {t' : Result TypeNo (List Breach)} → Reports t t'
-    → ScopeBeside (headed name (nested_meaning s.level n t) s) (headed name (nested_meaning s'.level n t') s')
+    → ScopeBeside (set_heading name (nested_meaning s.level n t) s) (set_heading name (nested_meaning s'.level n t') s')
 nested_procedure_beside (scopes tables types vars procs {level = level} {withs = withs} own outer) name n t = headed_beside name (nested_meaning_reports level n t) (scopes tables types vars procs {level = level} {withs = withs} own outer)
 
 new_procedure_beside : {s : Scope Breach} {s' : Scope (List Breach)} → ScopeBeside s s' → (name : List ℕ) (n : ℕ) {t : Result TypeNo Breach} {t' : Result TypeNo (List Breach)} → Reports t t' → ScopeBeside (new_procedure s name n t) (new_procedure s' name n t')
@@ -154,8 +154,8 @@ headed_as_goes b h n m Taken = goes b (beside_reports (nothing_made_reports m) (
 
 with_heading_goes : {s : Scope Breach} {s' : Scope (List Breach)} → ScopeBeside s s' → (n : ℕ) (h : Heading) → StateBeside (with_heading least s n h) (with_heading every s' n h)
 with_heading_goes {s = s} {s' = s'} b n h = join_goes (names_of_reports h)
-    (subst (λ (t : Standing). StateBeside (headed_as least s h n (heading_of least s h) (name_standing (found h.name.name s.own))) (headed_as every s' h n (heading_of every s' h) t)) (name_standing_same (own_beside h.name.name b))
-    (headed_as_goes b h n (heading_of_reports b h) (name_standing (found h.name.name s.own))))
+    (subst (λ (t : Standing). StateBeside (headed_as least s h n (heading_of least s h) (name_standing (find_name h.name.name s.own))) (headed_as every s' h n (heading_of every s' h) t)) (name_standing_same (own_beside h.name.name b))
+    (headed_as_goes b h n (heading_of_reports b h) (name_standing (find_name h.name.name s.own))))
 
 -- ---- declarations, in order
 
@@ -319,7 +319,7 @@ split_last_beside (more b xs) = split_more b (split_last_beside xs)
 data PoppedBeside : List (Block Breach) × List (List ℕ × Known Breach) → List (Block (List Breach)) × List (List ℕ × Known (List Breach)) → Type 0 where
   are_popped : {xs : List (Block Breach)} {ys : List (Block (List Breach))} → Pairwise BlockBeside xs ys → {es : List (List ℕ × Known Breach)} {es' : List (List ℕ × Known (List Breach))} → Pairwise EntryBeside es es' → PoppedBeside (xs, es) (ys, es')
 
-popped_beside : {o : Option (List (Block Breach) × Block Breach)} {o' : Option (List (Block (List Breach)) × Block (List Breach))} → Optionwise SplitBeside o o' → PoppedBeside (popped o) (popped o')
+popped_beside : {o : Option (List (Block Breach) × Block Breach)} {o' : Option (List (Block (List Breach)) × Block (List Breach))} → Optionwise SplitBeside o o' → PoppedBeside (pop_block o) (pop_block o')
 popped_beside nothing = are_popped none none
 popped_beside (something (split xs (block seen es))) = are_popped xs es
 

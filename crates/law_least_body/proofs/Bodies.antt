@@ -39,8 +39,8 @@ use Rattle.check_body.specs.declared.procedure.Begun.{Begun}
 use Rattle.check_body.specs.Elaborating.{Elaborates, statements_of}
 use Rattle.check_body.specs.Inside.{returns_of, which_of, begun_as, begun_procedure, reported_in, with_routine, ended_procedure}
 use Rattle.check_body.specs.Bodies.{begun_from, Checked, Checks, ChecksBlock, Steps, marked_by, declared_by, checked_by, with_body, with_bodies, with_statements, block_from, steps_layer, block_layer, steps, checks_block, checks_decl, bodies_checked}
-use Rattle.check_body.specs.Checked.{module_or, begun_module, walked, of_walk, of_body, of_implementation, of_contents}
-use Rattle.check_body.specs.Checks.{elaborated, checked}
+use Rattle.check_body.specs.Checked.{module_or, begun_module, walk_body, of_walk, of_body, of_implementation, of_contents}
+use Rattle.check_body.specs.Checks.{elaborate_body, body_module}
 use Rattle.law_least_definition.specs.Least.{Reports, fine, is_refused}
 use Rattle.law_least_definition.specs.Beside.{Pairwise, none, Optionwise, nothing, something, KnownBeside, known_later, known_ahead, known_begun, known_headed, known_declared, EntryBeside, ScopeBeside, scopes, StateBeside}
 use Rattle.law_least_definition.proofs.Forms.{reported_reports, then_reports, both_reports, beside_reports, fold_pairwise, fold_keeps, pairwise_maps, carry}
@@ -296,7 +296,7 @@ module _ {elaborates : Elaborates Breach} {elaborates' : Elaborates (List Breach
       → CheckedBeside (with_statements elaborates None body (bodies_checked least elaborates ends None w.1 w.0 ds)) (with_statements elaborates' None body (bodies_checked every elaborates' ends None w'.1 w'.0 ds))
   walked_from ends ds body (begun_so w seen) = with_statements_beside J nothing body (bodies_checked_beside J ends None seen w ds)
 
-  walked_beside : (modules : List (List ℕ × ℕ)) (ends : List ℕ) {s : Scope Breach} {s' : Scope (List Breach)} → ScopeBeside s s' → (m : Module) (b : Block) → CheckedBeside (walked least elaborates modules ends s m b) (walked every elaborates' modules ends s' m b)
+  walked_beside : (modules : List (List ℕ × ℕ)) (ends : List ℕ) {s : Scope Breach} {s' : Scope (List Breach)} → ScopeBeside s s' → (m : Module) (b : Block) → CheckedBeside (walk_body least elaborates modules ends s m b) (walk_body every elaborates' modules ends s' m b)
   walked_beside modules ends s m b = walked_from ends (out-Block b).decls (out-Block b).body (begun_module_beside modules ends s m (out-Block b).decls)
 
   of_walk_reports : (modules : List (List ℕ × ℕ)) {s : Scope Breach} {s' : Scope (List Breach)} → ScopeBeside s s' → (own : Option Table) (m : Module) (b : Block) → Reports (of_walk least elaborates modules s own m b) (of_walk every elaborates' modules s' own m b)
@@ -315,8 +315,8 @@ module _ {elaborates : Elaborates Breach} {elaborates' : Elaborates (List Breach
   of_contents_reports number m own tables (contents.Program b) = of_body_reports (first_scope_beside number tables) None m b
 
 -- what is reported of a body is the least of all rules that are broken in it
-elaborated_beside : StatementsBeside (elaborated least) (elaborated every)
+elaborated_beside : StatementsBeside (elaborate_body least) (elaborate_body every)
 elaborated_beside = record { elaborates = λ s s' b r r' p xs. statements_reports b (arounds p false) xs }
 
-pub checked_reports : (number : ℕ) (m : Module) (own : Option Table) (imports : List Table) → Reports (checked least number m own imports) (checked every number m own imports)
+pub checked_reports : (number : ℕ) (m : Module) (own : Option Table) (imports : List Table) → Reports (body_module least number m own imports) (body_module every number m own imports)
 checked_reports number m own imports = of_contents_reports elaborated_beside number m own (imports ++ console ∷ []) m.contents

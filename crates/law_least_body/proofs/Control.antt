@@ -6,7 +6,7 @@ use Rattle.m2_tree.specs.declared.name.Ident.{Ident}
 use Rattle.typed_tree.specs.declared.types.TypeNo.{TypeNo}
 use Rattle.typed_tree.specs.declared.computed.Place.{Place}
 use Rattle.typed_tree.specs.declared.computed.Root.TheVariants as root
-use Rattle.typed_tree.specs.Chains.{rooted}
+use Rattle.typed_tree.specs.Chains.{root_place}
 use Rattle.typed_tree.specs.declared.computed.TypedExpr.{TypedExpr}
 use Rattle.typed_tree.specs.declared.meaning.Meaning.{Meaning}
 use Rattle.typed_tree.specs.declared.meaning.Meaning.TheVariants as meaning
@@ -33,7 +33,7 @@ use Rattle.check_stmt_parts.specs.declared.control.Course.{Course}
 use Rattle.m2_rule.specs.declared.breach.Breach.{Breach}
 use Rattle.check_scope.specs.Elaborated.{every, least}
 use Rattle.law_least_definition.specs.Least.{Reports, fine}
-use Rattle.check_stmt_parts.specs.Control.{controlled_as, controlled, is_own, control_by, control_of, start_at, limit_number, limit_by, limit_at, is_zero, step_number, step_by, step_of, type_of, base_of, course, course_of, repeated_for}
+use Rattle.check_stmt_parts.specs.Control.{controlled_as, control_variable, is_own, control_by, control_of, start_at, limit_number, limit_by, limit_at, is_zero, step_number, step_by, step_of, type_of, base_of, course, course_of, repeated_for}
 use Rattle.law_least_definition.proofs.Forms.{both_reports, then_reports, reported_reports, where_reports, of_sort_reports}
 use Rattle.law_least_definition.proofs.Constants.{constant_reports}
 use Rattle.law_least_definition.proofs.Scopes.{looked_up_sought}
@@ -49,14 +49,14 @@ controlled_as_reports at t d class.Set = reported_reports at rule.WrongControl
 controlled_as_reports at t d class.Procedure = reported_reports at rule.WrongControl
 controlled_as_reports at t d class.Whole = reported_reports at rule.WrongControl
 
-pub controlled_reports : (types : Types) → (at : Pos) → (t : TypeNo) → (d : Place) → Reports (controlled least types at t d) (controlled every types at t d)
+pub controlled_reports : (types : Types) → (at : Pos) → (t : TypeNo) → (d : Place) → Reports (control_variable least types at t d) (control_variable every types at t d)
 controlled_reports types at t d = controlled_as_reports at t d (class_at types t)
 
 pub control_by_reports : {s : Scope Breach} {s' : Scope (List Breach)} → ScopeBeside s s' → (at : Pos) → (p2 : Meaning) → Reports (control_by least s at p2) (control_by every s' at p2)
 control_by_reports s at (meaning.Constant v) = reported_reports at rule.WrongControl
 control_by_reports s at (meaning.Type t n) = reported_reports at rule.WrongControl
-control_by_reports (scopes tables types vars procs {level = level} {withs = withs} own outer) at (meaning.Variable v) = where_reports (not (v.home == types.home)) at rule.WrongControl (controlled_reports types at v.of (rooted (root.Global v)))
-control_by_reports (scopes tables types vars procs {level = level} {withs = withs} own outer) at (meaning.Local v) = where_reports (not (is_own v.kind && (v.level == level))) at rule.WrongControl (controlled_reports types at v.of (rooted (root.Local (slot_of level v))))
+control_by_reports (scopes tables types vars procs {level = level} {withs = withs} own outer) at (meaning.Variable v) = where_reports (not (v.home == types.home)) at rule.WrongControl (controlled_reports types at v.of (root_place (root.Global v)))
+control_by_reports (scopes tables types vars procs {level = level} {withs = withs} own outer) at (meaning.Local v) = where_reports (not (is_own v.kind && (v.level == level))) at rule.WrongControl (controlled_reports types at v.of (root_place (root.Local (slot_of level v))))
 control_by_reports s at (meaning.Field f) = reported_reports at rule.WrongControl
 control_by_reports s at (meaning.Procedure p) = reported_reports at rule.WrongControl
 control_by_reports s at (meaning.LocalProcedure p) = reported_reports at rule.WrongControl

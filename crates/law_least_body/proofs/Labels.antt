@@ -22,11 +22,11 @@ use Rattle.check_operator.specs.declared.computed.Designated.{Designated}
 use Rattle.check_operator.specs.declared.computed.Designated.TheVariants as designated
 use Rattle.check_operator.specs.Classes.{class_at}
 use Rattle.check_expr.specs.Meanings.{Meant}
-use Rattle.check_stmt_parts.specs.Ranges.{taken}
+use Rattle.check_stmt_parts.specs.Ranges.{enter_range}
 use Rattle.m2_rule.specs.declared.breach.Breach.{Breach}
 use Rattle.check_scope.specs.Elaborated.{every, least}
 use Rattle.law_least_definition.specs.Least.{Reports, fine}
-use Rattle.check_stmt_parts.specs.Labels.{suits_selector, ordinal_in, of_type, no_constant, value_bound, variable_bound, bound_by, bound_in, bound_of, is_of_base, number_fits, suits_base, bound_suits, single, ordered_if, are_ordered, spanned, label_between, Labels, with_new, with_label, item_label, with_item, labels_in}
+use Rattle.check_stmt_parts.specs.Labels.{suits_selector, ordinal_in, of_type, no_constant, value_bound, variable_bound, bound_by, bound_in, bound_of, is_of_base, number_fits, suits_base, bound_suits, single, ordered_if, are_ordered, label_range, label_between, Labels, with_new, with_label, item_label, with_item, labels_in}
 use Rattle.law_least_definition.proofs.Forms.{beside_reports, both_reports, fold_keeps, then_reports, reported_reports, where_reports}
 use Rattle.law_least_definition.proofs.Exprs.{meant_beside}
 use Rattle.law_least_body.proofs.Arounds.{meant_if_beside}
@@ -102,7 +102,7 @@ ordered_if_reports at a b (Some sort) = where_reports (int_lt b.number a.number)
 pub are_ordered_reports : (at : Pos) → {a : Result Ordinal Breach} {a' : Result Ordinal (List Breach)} → Reports a a' → {b : Result Ordinal Breach} {b' : Result Ordinal (List Breach)} → Reports b b' → Reports (are_ordered least at a b) (are_ordered every at a' b')
 are_ordered_reports at a b = then_reports (both_reports a b) (λ p. ordered_if_reports at p.0 p.1 (common p.0.sort p.1.sort))
 
-pub spanned_reports : (base : Option TypeNo) → (at : Pos) → {a : Result Ordinal Breach} {a' : Result Ordinal (List Breach)} → Reports a a' → (at' : Pos) → {b : Result Ordinal Breach} {b' : Result Ordinal (List Breach)} → Reports b b' → Reports (spanned least base at a at' b) (spanned every base at a' at' b')
+pub spanned_reports : (base : Option TypeNo) → (at : Pos) → {a : Result Ordinal Breach} {a' : Result Ordinal (List Breach)} → Reports a a' → (at' : Pos) → {b : Result Ordinal Breach} {b' : Result Ordinal (List Breach)} → Reports b b' → Reports (label_range least base at a at' b) (label_range every base at a' at' b')
 spanned_reports base at a at' b = then_reports (both_reports (both_reports a b) (beside_reports (beside_reports (bound_suits_reports base at a) (bound_suits_reports base at' b)) (are_ordered_reports at a b))) (λ p. fine _)
 
 pub label_between_reports : {s : Scope Breach} {s' : Scope (List Breach)} → ScopeBeside s s' → (base : Option TypeNo) → {low : Meant Breach} {low' : Meant (List Breach)} → MeantBeside low low' → {p3 : Option (Meant Breach)} {p3' : Option (Meant (List Breach))} → Optionwise MeantBeside p3 p3' → Reports (label_between least s base low p3) (label_between every s' base low' p3')
@@ -110,7 +110,7 @@ label_between_reports s base (meants (parts low_at low_p low_n) low_m) nothing =
 label_between_reports s base (meants (parts low_at low_p low_n) low_m) (something (meants (parts high_at high_p high_n) high_m)) = spanned_reports base low_at (bound_of_reports s base low_at (meants (parts low_at low_p low_n) low_m)) high_at (bound_of_reports s base low_at (meants (parts high_at high_p high_n) high_m))
 
 with_new_kept : (at : Pos) → {st : Labels Breach} {st' : Labels (List Breach)} → KeptBeside st st' → (l : Label) → KeptBeside (with_new least at st l) (with_new every at st' l)
-with_new_kept at (is_kept ranges so) l = is_kept (taken l.low l.high ranges).0 (with_next_reports so (where_reports (not (taken l.low l.high ranges).1) at rule.WrongLabel (fine l)))
+with_new_kept at (is_kept ranges so) l = is_kept (enter_range l.low l.high ranges).0 (with_next_reports so (where_reports (not (enter_range l.low l.high ranges).1) at rule.WrongLabel (fine l)))
 
 with_label_kept : (at : Pos) → {st : Labels Breach} {st' : Labels (List Breach)} → KeptBeside st st' → {l : Result Label Breach} {l' : Result Label (List Breach)} → Reports l l' → KeptBeside (with_label least at st l) (with_label every at st' l')
 with_label_kept at st (fine l) = with_new_kept at st l

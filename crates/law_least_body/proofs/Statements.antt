@@ -16,9 +16,9 @@ use Rattle.typed_tree.specs.declared.statement.Label.{Label}
 use Rattle.m2_rule.specs.declared.breach.Breach.{Breach}
 use Rattle.check_scope.specs.declared.scope.Scope.{Scope}
 use Rattle.check_scope.specs.Elaborated.{Gathers, every, least}
-use Rattle.check_expr.specs.Meanings.{meant}
+use Rattle.check_expr.specs.Meanings.{meanings_of}
 use Rattle.check_stmt_parts.specs.declared.around.Around.{Around}
-use Rattle.check_stmt_parts.specs.Lists.{with_next, armed, reported_in}
+use Rattle.check_stmt_parts.specs.Lists.{with_next, arm_of, reported_in}
 use Rattle.check_stmt_parts.specs.Simple.{opened_type, opened_if}
 use Rattle.check_stmt.specs.Statements.{Elaborates, ElaboratesRest, ElaboratesArm, Arms, args_meant, with_stmt, all_of, all_if, with_arm, arms_of, case_of, with_of, stmt_layer, rest_layer, arm_layer, stmt, rest, arm, with_written, statements}
 use Rattle.law_least_definition.specs.Least.{Reports, fine, is_refused}
@@ -47,7 +47,7 @@ record ArmBeside (f : ElaboratesArm Breach) (f' : ElaboratesArm (List Breach)) :
 
 -- ---- one after another
 
-args_beside : (xs : List Expr) → Pairwise MeantBeside (map (meant least) xs) (map (meant every) xs)
+args_beside : (xs : List Expr) → Pairwise MeantBeside (map (meanings_of least) xs) (map (meanings_of every) xs)
 args_beside [] = none
 args_beside (x ∷ xs) = more (meant_beside x) (args_beside xs)
 
@@ -173,7 +173,7 @@ rest_beside_layer (layer.Else None) = record { follows = λ s s' b w w' a. all_i
 rest_beside_layer (layer.Else (Some body)) = record { follows = λ s s' b w w' a. all_if_reports b a (something (elaborated body)) }
 
 labelled_arm : {l : List (ℤ × ℤ) × Result (List Label) Breach} {l' : List (ℤ × ℤ) × Result (List Label) (List Breach)} → KeptBeside l l' → {body : Result (List TypedStmt) Breach} {body' : Result (List TypedStmt) (List Breach)} → Reports body body'
-    → KeptBeside (l.0, armed least l.1 body) (l'.0, armed every l'.1 body')
+    → KeptBeside (l.0, arm_of least l.1 body) (l'.0, arm_of every l'.1 body')
 labelled_arm (is_kept ranges labels) body = is_kept ranges (armed_reports labels body)
 
 arm_at : (labels : List Item) (body : List SS) → ArmBeside (arm_layer least (opened_arm least (bare_arm (record { labels = labels; body = body })))) (arm_layer every (opened_arm every (bare_arm (record { labels = labels; body = body }))))

@@ -13,10 +13,10 @@ use Rattle.check_operator.specs.declared.computed.Designated.TheVariants as desi
 use Rattle.check_operator.specs.Classes.{class_at}
 use Rattle.check_scope.specs.Elaborated.{every, least}
 use Rattle.law_least_definition.specs.Least.{Reports, fine}
-use Rattle.check_call.specs.Callees.{held_by, callee_of, counted, function_with, function_of, proper_with, proper_of}
+use Rattle.check_call.specs.Callees.{callee_in_variable, callee_of, count_check, function_with, function_of, proper_with, proper_of}
 use Rattle.law_least_definition.proofs.Forms.{then_reports, reported_reports, where_reports}
 
-pub held_by_reports : (at : Pos) → (t : TypeNo) → (d : Place) → (p3 : Class) → Reports (held_by least at t d p3) (held_by every at t d p3)
+pub held_by_reports : (at : Pos) → (t : TypeNo) → (d : Place) → (p3 : Class) → Reports (callee_in_variable least at t d p3) (callee_in_variable every at t d p3)
 held_by_reports at t d class.Procedure = fine _
 held_by_reports at t d (class.Scalar s) = reported_reports at rule.WrongType
 held_by_reports at t d class.Set = reported_reports at rule.WrongType
@@ -32,7 +32,7 @@ callee_of_reports types at (designated.Open t slot) = reported_reports at rule.W
 callee_of_reports types at (designated.Type t) = reported_reports at rule.WrongType
 callee_of_reports types at (designated.Module k) = reported_reports at rule.WrongType
 
-pub counted_reports : (at : Pos) → (asked : ℕ) → (there : ℕ) → Reports (counted least at asked there) (counted every at asked there)
+pub counted_reports : (at : Pos) → (asked : ℕ) → (there : ℕ) → Reports (count_check least at asked there) (count_check every at asked there)
 counted_reports at asked there = where_reports (not (asked == there)) at rule.ArgumentCount (fine tt)
 
 pub function_with_reports : (at : Pos) → (asked : ℕ) → (there : ℕ) → (p3 : Option TypeNo) → Reports (function_with least at asked there p3) (function_with every at asked there p3)

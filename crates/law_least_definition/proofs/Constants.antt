@@ -31,9 +31,9 @@ use Rattle.check_const.specs.declared.denoted.Denoted.{Denoted}
 use Rattle.check_const.specs.declared.denoted.Denoted.TheVariants as denoted
 use Rattle.check_const.specs.declared.call.Sort.{Sort}
 use Rattle.check_const.specs.declared.call.Sort.TheVariants.{Unary, Bound, Conversion, Never}
-use Rattle.check_const.specs.Denote.{denoted_by, denoted_of, as_constant, constant_by, of_value, is_bitset, component, exported_by, exported, member}
-use Rattle.check_const.specs.Calls.{sort_of, scalar_type, named_scalar, type_argument, unary_of, unary, bound, converted_by}
-use Rattle.check_const.specs.Parts.{Part, Pick, Adds, standing, sign_place, set_place, signed_first, set_type, named, field_of, constant, one, type_only, conversion, by_sort, called_as, used_with, factor, term, added, with_item, picked, expr_layer}
+use Rattle.check_const.specs.Denote.{denoted_by, denoted_of, as_constant, constant_by, of_value, is_bitset, component, exported_by, export_of, member}
+use Rattle.check_const.specs.Calls.{sort_of, scalar_type, named_scalar, type_argument, unary_of, unary, bound, conversion_call}
+use Rattle.check_const.specs.Parts.{Part, Pick, Adds, standing, sign_place, set_place, signed_first, set_type, first_name, field_of, constant, one, type_only, conversion, by_sort, standard_call_value, used_with, factor, term, element_or_range, with_item, selection, expr_layer}
 use Rattle.law_least_definition.specs.Least.{Reports, fine, is_refused}
 use Rattle.law_least_definition.specs.Beside.{Pairwise, none, more, Optionwise, nothing, something, SoughtBeside, is_found, is_broken, is_headless, ScopeBeside, scopes}
 use Rattle.law_least_definition.proofs.Forms.{reported_reports, where_reports, both_reports, then_reports, of_sort_reports, fold_pairwise}
@@ -81,7 +81,7 @@ component_reports at denoted.Procedure = fine denoted.Variable
 component_reports at (denoted.Standard f) = fine denoted.Variable
 component_reports at (denoted.Module k) = reported_reports at rule.WrongType
 
-exported_reports : (at : Pos) (m : Option Meaning) → Reports (exported least at m) (exported every at m)
+exported_reports : (at : Pos) (m : Option Meaning) → Reports (export_of least at m) (export_of every at m)
 exported_reports at None = reported_reports at rule.NotExported
 exported_reports at (Some m) = fine m
 
@@ -125,7 +125,7 @@ bound_reports : (f : Standard) {x : Result (TypeNo × Scalar) Breach} {x' : Resu
 bound_reports f p = then_reports p (λ x. fine _)
 
 converted_by_reports : {t : Result (TypeNo × Scalar) Breach} {t' : Result (TypeNo × Scalar) (List Breach)} → Reports t t' → (at : Pos) {v : Result Value Breach} {v' : Result Value (List Breach)} → Reports v v'
-    → Reports (converted_by least t at v) (converted_by every t' at v')
+    → Reports (conversion_call least t at v) (conversion_call every t' at v')
 converted_by_reports p at q = then_reports (both_reports p q) (λ x. converted_reports x.0.0 x.0.1 at x.1)
 
 -- ---- parts
@@ -182,7 +182,7 @@ by_sort_reports b at f xs Bound = bound_reports f (type_only_reports b at xs)
 by_sort_reports b at f xs Conversion = conversion_reports b at xs
 by_sort_reports b at f xs Never = reported_reports at rule.NoConstant
 
-called_as_reports : {s : Scope Breach} {s' : Scope (List Breach)} → ScopeBeside s s' → (at : Pos) (d : Denoted) {xs : List (Part Breach)} {xs' : List (Part (List Breach))} → Pairwise PartBeside xs xs' → Reports (called_as least s at d xs) (called_as every s' at d xs')
+called_as_reports : {s : Scope Breach} {s' : Scope (List Breach)} → ScopeBeside s s' → (at : Pos) (d : Denoted) {xs : List (Part Breach)} {xs' : List (Part (List Breach))} → Pairwise PartBeside xs xs' → Reports (standard_call_value least s at d xs) (standard_call_value every s' at d xs')
 called_as_reports b at (denoted.Standard f) xs = by_sort_reports b at f xs (sort_of f)
 called_as_reports b at (denoted.Value v) xs = reported_reports at rule.NoConstant
 called_as_reports b at (denoted.Type t) xs = reported_reports at rule.NoConstant
@@ -212,7 +212,7 @@ signed_first_reports None p = p
 signed_first_reports (Some o) p = signed_reports o.op o.pos p
 
 pub added_reports : {s : Scope Breach} {s' : Scope (List Breach)} → ScopeBeside s s' → {x : Part Breach} {x' : Part (List Breach)} → PartBeside x x' → {y : Option (Part Breach)} {y' : Option (Part (List Breach))} → Optionwise PartBeside y y'
-    → Reports (added least s x y) (added every s' x' y')
+    → Reports (element_or_range least s x y) (element_or_range every s' x' y')
 added_reports b (parts at d d_n) nothing = then_reports (constant_reports b (parts at d d_n)) (λ v. single_reports at v)
 added_reports b (parts at d d_n) (something (parts at' e e_n)) =
     spanned_reports at (then_reports (constant_reports b (parts at d d_n)) (λ v. element_reports at v)) at' (then_reports (constant_reports b (parts at' e e_n)) (λ v. element_reports at' v))
@@ -223,7 +223,7 @@ set_type_reports b (Some name) = then_reports (of_sort_reports name.pos rule.NoT
 
 -- ---- designators
 
-named_reports : {s : Scope Breach} {s' : Scope (List Breach)} → ScopeBeside s s' → (name : Ident) → Reports (named least s name) (named every s' name)
+named_reports : {s : Scope Breach} {s' : Scope (List Breach)} → ScopeBeside s s' → (name : Ident) → Reports (first_name least s name) (first_name every s' name)
 named_reports b name = denoted_of_reports (looked_up_sought name b)
 
 pub field_of_reports : {s : Scope Breach} {s' : Scope (List Breach)} → ScopeBeside s s' → (at : Pos) (name : Ident) (d : Denoted) → Reports (field_of least s at name d) (field_of every s' at name d)
@@ -272,5 +272,5 @@ pub of_use : {d : Part Breach} {d' : Part (List Breach)} → PartBeside d d' →
 of_use d xs = used_with_beside d xs
 
 -- what a name with selectors stands for
-pub picked_reports : {s : Scope Breach} {s' : Scope (List Breach)} → ScopeBeside s s' → (name : Ident) {ps : List (Pick Breach)} {ps' : List (Pick (List Breach))} → Pairwise PickBeside ps ps' → Reports (picked least s name ps) (picked every s' name ps')
+pub picked_reports : {s : Scope Breach} {s' : Scope (List Breach)} → ScopeBeside s s' → (name : Ident) {ps : List (Pick Breach)} {ps' : List (Pick (List Breach))} → Pairwise PickBeside ps ps' → Reports (selection least s name ps) (selection every s' name ps')
 picked_reports {s = s} {s' = s'} b name ps = fold_pairwise Reports PickBeside (λ x p. p s x) (λ x p. p s' x) (λ x x' f f' p q. q.picks s s' b x x' p) ps _ _ (named_reports b name)

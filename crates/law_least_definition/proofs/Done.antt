@@ -20,7 +20,7 @@ use Rattle.check_expr.specs.Meanings.{Meant, formals_of}
 use Rattle.m2_rule.specs.declared.breach.Breach.{Breach}
 use Rattle.check_scope.specs.Elaborated.{every, least}
 use Rattle.law_least_definition.specs.Least.{Reports, fine}
-use Rattle.check_expr.specs.Effects.{call_done, routine_done, changed_in, changed_by, set_in, member_by, halted, put_by, function_done, standard_done, done_as, done_by}
+use Rattle.check_expr.specs.Effects.{call_done, routine_done, change_target_in, change_statement, set_in, member_by, halt_statement, put_by, function_done, standard_done, callee_statement, call_statement}
 use Rattle.law_least_definition.proofs.Meanings.{actuals_reports, value_of_reports, looked_at_reports, miscounted_reports}
 use Rattle.law_least_definition.proofs.Effects.{amount_reports, change_by_reports, changed_reports, element_reports, membership_of_reports, put_reports, set_variable_reports}
 use Rattle.law_least_definition.proofs.Callees.{callee_of_reports, proper_of_reports}
@@ -38,10 +38,10 @@ routine_done_reports (scopes tables types vars procs {level = level} {withs = wi
     (looked_at_reports (scopes tables types vars procs {level = level} {withs = withs} own outer) args)
     (λ u. call_done_reports c (actuals_reports (scopes tables types vars procs {level = level} {withs = withs} own outer) (formals_of (signature_at types h)) args))
 
-changed_in_reports : {s : Scope Breach} {s' : Scope (List Breach)} → ScopeBeside s s' → {x : Meant Breach} {x' : Meant (List Breach)} → MeantBeside x x' → Reports (changed_in least s x) (changed_in every s' x')
+changed_in_reports : {s : Scope Breach} {s' : Scope (List Breach)} → ScopeBeside s s' → {x : Meant Breach} {x' : Meant (List Breach)} → MeantBeside x x' → Reports (change_target_in least s x) (change_target_in every s' x')
 changed_in_reports (scopes tables types vars procs {level = level} {withs = withs} own outer) (meants (parts x_at x_p x_n) x_m) = then_reports (of_sort_reports x_at rule.NoVariable (x_m _ _ (scopes tables types vars procs {level = level} {withs = withs} own outer))) (λ v. changed_reports types x_at v)
 
-pub changed_by_reports : {s : Scope Breach} {s' : Scope (List Breach)} → ScopeBeside s s' → (at : Pos) → (o : Change) → {p3 : List (Meant Breach)} {p3' : List (Meant (List Breach))} → Pairwise MeantBeside p3 p3' → Reports (changed_by least s at o p3) (changed_by every s' at o p3')
+pub changed_by_reports : {s : Scope Breach} {s' : Scope (List Breach)} → ScopeBeside s s' → (at : Pos) → (o : Change) → {p3 : List (Meant Breach)} {p3' : List (Meant (List Breach))} → Pairwise MeantBeside p3 p3' → Reports (change_statement least s at o p3) (change_statement every s' at o p3')
 changed_by_reports s at o none = miscounted_reports s at none
 changed_by_reports s at o (more v none) = change_by_reports o (changed_in_reports s v) (fine _)
 changed_by_reports s at o (more v (more (meants (parts n_at n_p n_n) n_m) none)) = change_by_reports o (changed_in_reports s v) (then_reports (value_of_reports s (meants (parts n_at n_p n_n) n_m)) (λ x. amount_reports n_at x))
@@ -56,7 +56,7 @@ member_by_reports s at o (more v none) = miscounted_reports s at (more v none)
 member_by_reports s at o (more v (more (meants (parts n_at n_p n_n) n_m) none)) = membership_of_reports o (set_in_reports s v) (then_reports (value_of_reports s (meants (parts n_at n_p n_n) n_m)) (λ x. element_reports n_at x))
 member_by_reports s at o (more v (more n (more x xs))) = miscounted_reports s at (more v (more n (more x xs)))
 
-pub halted_reports : {s : Scope Breach} {s' : Scope (List Breach)} → ScopeBeside s s' → (at : Pos) → {p1 : List (Meant Breach)} {p1' : List (Meant (List Breach))} → Pairwise MeantBeside p1 p1' → Reports (halted least s at p1) (halted every s' at p1')
+pub halted_reports : {s : Scope Breach} {s' : Scope (List Breach)} → ScopeBeside s s' → (at : Pos) → {p1 : List (Meant Breach)} {p1' : List (Meant (List Breach))} → Pairwise MeantBeside p1 p1' → Reports (halt_statement least s at p1) (halt_statement every s' at p1')
 halted_reports s at none = fine _
 halted_reports s at (more x xs) = miscounted_reports s at (more x xs)
 
@@ -85,9 +85,9 @@ standard_done_reports s at args Excl = member_by_reports s at Exclude args
 standard_done_reports s at args Halt = halted_reports s at args
 standard_done_reports s at args Put = put_by_reports s at args
 
-pub done_as_reports : {s : Scope Breach} {s' : Scope (List Breach)} → ScopeBeside s s' → (at : Pos) → {args : List (Meant Breach)} {args' : List (Meant (List Breach))} → Pairwise MeantBeside args args' → (p3 : Called) → Reports (done_as least s at args p3) (done_as every s' at args' p3)
+pub done_as_reports : {s : Scope Breach} {s' : Scope (List Breach)} → ScopeBeside s s' → (at : Pos) → {args : List (Meant Breach)} {args' : List (Meant (List Breach))} → Pairwise MeantBeside args args' → (p3 : Called) → Reports (callee_statement least s at args p3) (callee_statement every s' at args' p3)
 done_as_reports s at args (called.Routine h c) = routine_done_reports s at h c args
 done_as_reports s at args (called.Standard f) = standard_done_reports s at args f
 
-pub done_by_reports : {s : Scope Breach} {s' : Scope (List Breach)} → ScopeBeside s s' → {d : Meant Breach} {d' : Meant (List Breach)} → MeantBeside d d' → {args : List (Meant Breach)} {args' : List (Meant (List Breach))} → Pairwise MeantBeside args args' → Reports (done_by least s d args) (done_by every s' d' args')
+pub done_by_reports : {s : Scope Breach} {s' : Scope (List Breach)} → ScopeBeside s s' → {d : Meant Breach} {d' : Meant (List Breach)} → MeantBeside d d' → {args : List (Meant Breach)} {args' : List (Meant (List Breach))} → Pairwise MeantBeside args args' → Reports (call_statement least s d args) (call_statement every s' d' args')
 done_by_reports (scopes tables types vars procs {level = level} {withs = withs} own outer) (meants (parts d_at d_p d_n) d_m) args = ahead_reports (then_reports (of_heading_reports (d_m _ _ (scopes tables types vars procs {level = level} {withs = withs} own outer))) (λ v. callee_of_reports types d_at v)) (looked_at_reports (scopes tables types vars procs {level = level} {withs = withs} own outer) args) (λ v. done_as_reports (scopes tables types vars procs {level = level} {withs = withs} own outer) d_at args v)

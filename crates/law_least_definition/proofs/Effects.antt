@@ -26,7 +26,7 @@ use Rattle.check_scope.specs.declared.meaningless.Meaningless.{Meaningless}
 use Rattle.check_scope.specs.Elaborated.{every, least}
 use Rattle.law_least_definition.specs.Least.{Reports, fine}
 use Rattle.law_least_definition.specs.Beside.{SoughtBeside}
-use Rattle.check_call.specs.Effects.{target_of, target_at, assigned_to, assigned, changed_as, changed, known_amount, amount, change_by, set_as, set_variable, element_known, element, membership_of, put}
+use Rattle.check_call.specs.Effects.{target_of, target_at, assignment_to, assignment_of, change_target_as, change_target, known_amount, amount, change_by, set_as, set_variable, element_known, element, membership_of, put}
 use Rattle.law_least_definition.proofs.Forms.{both_reports, then_reports, reported_reports, where_reports, of_sort_reports}
 use Rattle.law_least_definition.proofs.Suits.{suited_reports, value_suited_reports}
 
@@ -43,20 +43,20 @@ target_of_reports at (designated.Module k) = reported_reports at rule.WrongType
 pub target_at_reports : (at : Pos) → {d : Result Designated (Meaningless Breach)} {d' : Result Designated (Meaningless (List Breach))} → SoughtBeside d d' → Reports (target_at least at d) (target_at every at d')
 target_at_reports at d = then_reports (of_sort_reports at rule.WrongType d) (λ v. target_of_reports at v)
 
-pub assigned_to_reports : (types : Types) → (p1 : Target) → (at : Pos) → (x : Computed) → Reports (assigned_to least types p1 at x) (assigned_to every types p1 at x)
+pub assigned_to_reports : (types : Types) → (p1 : Target) → (at : Pos) → (x : Computed) → Reports (assignment_to least types p1 at x) (assignment_to every types p1 at x)
 assigned_to_reports types target.Open at x = reported_reports at rule.NotAssignable
 assigned_to_reports types (target.Variable t d) at x = then_reports (suited_reports rule.NotAssignable types t at x) (λ a. fine _)
 
-pub assigned_reports : (types : Types) → {left : Result Target Breach} {left' : Result Target (List Breach)} → Reports left left' → (at : Pos) → {x : Result Computed Breach} {x' : Result Computed (List Breach)} → Reports x x' → Reports (assigned least types left at x) (assigned every types left' at x')
+pub assigned_reports : (types : Types) → {left : Result Target Breach} {left' : Result Target (List Breach)} → Reports left left' → (at : Pos) → {x : Result Computed Breach} {x' : Result Computed (List Breach)} → Reports x x' → Reports (assignment_of least types left at x) (assignment_of every types left' at x')
 assigned_reports types left at x = then_reports (both_reports left x) (λ p. assigned_to_reports types p.0 at p.1)
 
-pub changed_as_reports : (at : Pos) → (t : TypeNo) → (d : Place) → (p3 : Class) → Reports (changed_as least at t d p3) (changed_as every at t d p3)
+pub changed_as_reports : (at : Pos) → (t : TypeNo) → (d : Place) → (p3 : Class) → Reports (change_target_as least at t d p3) (change_target_as every at t d p3)
 changed_as_reports at t d (class.Scalar s) = fine _
 changed_as_reports at t d class.Set = reported_reports at rule.NoVariable
 changed_as_reports at t d class.Procedure = reported_reports at rule.NoVariable
 changed_as_reports at t d class.Whole = reported_reports at rule.NoVariable
 
-pub changed_reports : (types : Types) → (at : Pos) → (p2 : Designated) → Reports (changed least types at p2) (changed every types at p2)
+pub changed_reports : (types : Types) → (at : Pos) → (p2 : Designated) → Reports (change_target least types at p2) (change_target every types at p2)
 changed_reports types at (designated.Variable t d) = changed_as_reports at t d (class_at types t)
 changed_reports types at (designated.Value x) = reported_reports at rule.NoVariable
 changed_reports types at (designated.Open t slot) = reported_reports at rule.NoVariable

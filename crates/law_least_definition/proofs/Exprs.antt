@@ -19,7 +19,7 @@ use Rattle.check_scope.specs.declared.scope.Scope.{Scope}
 use Rattle.check_scope.specs.Elaborated.{Gathers, every, least}
 use Rattle.check_const.specs.Parts.{Adds, sign_place}
 use Rattle.check_operator.specs.declared.computed.Designated.{Designated}
-use Rattle.check_expr.specs.Meanings.{Meant, Picks, index_at, names_by, value_of, factor, term as addend, expr_layer, selector_layer, designation, denotation, designator_layer, item_layer, meant, picks, head, item, part}
+use Rattle.check_expr.specs.Meanings.{Meant, Picks, index_at, names_by, value_of, factor, term as addend, expr_layer, selector_layer, designation, denotation, designator_layer, item_layer, meanings_of, picks, head, item, part}
 use Rattle.law_least_definition.specs.Least.{Reports, fine}
 use Rattle.law_least_definition.specs.Beside.{Pairwise, none, more, Optionwise, nothing, something, SoughtBeside, ScopeBeside, scopes}
 use Rattle.law_least_definition.proofs.Forms.{then_reports, fold_pairwise, pairwise_maps, carry}
@@ -108,7 +108,7 @@ designator_meant name ps = meants
     (λ s s' b. designation_sought b name ps)
 
 abbrev PE : Expr → Type 0
-PE e = MeantBeside (meant least e) (meant every e)
+PE e = MeantBeside (meanings_of least e) (meanings_of every e)
 
 abbrev PS : Selector → Type 0
 PS e = PicksBeside (picks least e) (picks every e)
@@ -135,31 +135,31 @@ SI = (e : Item) × PI e
 
 module _ (g : Gathers) where
   abbrev opened : Expr-F Expr Selector Designator Item → Expr-F (Meant g.Reported) (Picks g.Reported) (Meant g.Reported) (Adds g.Reported)
-  opened x = map-Expr Expr Selector Designator Item (Meant g.Reported) (Picks g.Reported) (Meant g.Reported) (Adds g.Reported) (meant g) (picks g) (head g) (item g) x
+  opened x = map-Expr Expr Selector Designator Item (Meant g.Reported) (Picks g.Reported) (Meant g.Reported) (Adds g.Reported) (meanings_of g) (picks g) (head g) (item g) x
 
   abbrev opened_selector : Selector-F Expr Selector Designator Item → Selector-F (Meant g.Reported) (Picks g.Reported) (Meant g.Reported) (Adds g.Reported)
-  opened_selector x = map-Selector Expr Selector Designator Item (Meant g.Reported) (Picks g.Reported) (Meant g.Reported) (Adds g.Reported) (meant g) (picks g) (head g) (item g) x
+  opened_selector x = map-Selector Expr Selector Designator Item (Meant g.Reported) (Picks g.Reported) (Meant g.Reported) (Adds g.Reported) (meanings_of g) (picks g) (head g) (item g) x
 
   abbrev opened_designator : Designator-F Expr Selector Designator Item → Designator-F (Meant g.Reported) (Picks g.Reported) (Meant g.Reported) (Adds g.Reported)
-  opened_designator x = map-Designator Expr Selector Designator Item (Meant g.Reported) (Picks g.Reported) (Meant g.Reported) (Adds g.Reported) (meant g) (picks g) (head g) (item g) x
+  opened_designator x = map-Designator Expr Selector Designator Item (Meant g.Reported) (Picks g.Reported) (Meant g.Reported) (Adds g.Reported) (meanings_of g) (picks g) (head g) (item g) x
 
   abbrev opened_item : Item-F Expr Selector Designator Item → Item-F (Meant g.Reported) (Picks g.Reported) (Meant g.Reported) (Adds g.Reported)
-  opened_item x = map-Item Expr Selector Designator Item (Meant g.Reported) (Picks g.Reported) (Meant g.Reported) (Adds g.Reported) (meant g) (picks g) (head g) (item g) x
+  opened_item x = map-Item Expr Selector Designator Item (Meant g.Reported) (Picks g.Reported) (Meant g.Reported) (Adds g.Reported) (meanings_of g) (picks g) (head g) (item g) x
 
-  at : (e : Expr) (x : Expr-F Expr Selector Designator Item) → out-Expr e ≡ x → meant g e ≡ expr_layer g (opened x)
-  unfolding meant picks head item
+  at : (e : Expr) (x : Expr-F Expr Selector Designator Item) → out-Expr e ≡ x → meanings_of g e ≡ expr_layer g (opened x)
+  unfolding meanings_of picks head item
   at e x h = fold_out-Expr (Meant g.Reported) (Picks g.Reported) (Meant g.Reported) (Adds g.Reported) (expr_layer g) (selector_layer g) (designator_layer g) (item_layer g) e ∙ ap (λ (y : Expr-F Expr Selector Designator Item). expr_layer g (opened y)) h
 
   at_selector : (e : Selector) (x : Selector-F Expr Selector Designator Item) → out-Selector e ≡ x → picks g e ≡ selector_layer g (opened_selector x)
-  unfolding meant picks head item
+  unfolding meanings_of picks head item
   at_selector e x h = fold_out-Selector (Meant g.Reported) (Picks g.Reported) (Meant g.Reported) (Adds g.Reported) (expr_layer g) (selector_layer g) (designator_layer g) (item_layer g) e ∙ ap (λ (y : Selector-F Expr Selector Designator Item). selector_layer g (opened_selector y)) h
 
   at_designator : (e : Designator) (x : Designator-F Expr Selector Designator Item) → out-Designator e ≡ x → head g e ≡ designator_layer g (opened_designator x)
-  unfolding meant picks head item
+  unfolding meanings_of picks head item
   at_designator e x h = fold_out-Designator (Meant g.Reported) (Picks g.Reported) (Meant g.Reported) (Adds g.Reported) (expr_layer g) (selector_layer g) (designator_layer g) (item_layer g) e ∙ ap (λ (y : Designator-F Expr Selector Designator Item). designator_layer g (opened_designator y)) h
 
   at_item : (e : Item) (x : Item-F Expr Selector Designator Item) → out-Item e ≡ x → item g e ≡ item_layer g (opened_item x)
-  unfolding meant picks head item
+  unfolding meanings_of picks head item
   at_item e x h = fold_out-Item (Meant g.Reported) (Picks g.Reported) (Meant g.Reported) (Adds g.Reported) (expr_layer g) (selector_layer g) (designator_layer g) (item_layer g) e ∙ ap (λ (y : Item-F Expr Selector Designator Item). item_layer g (opened_item y)) h
 
 -- ---- a layer of parts for which it is known
@@ -176,8 +176,8 @@ bare_designator x = map-Designator SE SS SD SI Expr Selector Designator Item (λ
 abbrev bare_item : Item-F SE SS SD SI → Item-F Expr Selector Designator Item
 bare_item x = map-Item SE SS SD SI Expr Selector Designator Item (λ e. e.0) (λ e. e.0) (λ e. e.0) (λ e. e.0) x
 
-terms : {O : Type 0} (xs : List (Operator O × SE)) → Pairwise TermBeside (map (λ (x : Operator O × Expr). (x.0, meant least x.1)) (map (λ (a : Operator O × SE). (a.0, a.1.0)) xs)) (map (λ (x : Operator O × Expr). (x.0, meant every x.1)) (map (λ (a : Operator O × SE). (a.0, a.1.0)) xs))
-terms {O = O} xs = pairwise_maps TermBeside (λ (a : Operator O × SE). (a.0, a.1.0)) (λ (x : Operator O × Expr). (x.0, meant least x.1)) (λ (x : Operator O × Expr). (x.0, meant every x.1)) (λ x. is_term x.0 x.1.1) xs
+terms : {O : Type 0} (xs : List (Operator O × SE)) → Pairwise TermBeside (map (λ (x : Operator O × Expr). (x.0, meanings_of least x.1)) (map (λ (a : Operator O × SE). (a.0, a.1.0)) xs)) (map (λ (x : Operator O × Expr). (x.0, meanings_of every x.1)) (map (λ (a : Operator O × SE). (a.0, a.1.0)) xs))
+terms {O = O} xs = pairwise_maps TermBeside (λ (a : Operator O × SE). (a.0, a.1.0)) (λ (x : Operator O × Expr). (x.0, meanings_of least x.1)) (λ (x : Operator O × Expr). (x.0, meanings_of every x.1)) (λ x. is_term x.0 x.1.1) xs
 
 expr_beside : (y : Expr-F SE SS SD SI) → MeantBeside (expr_layer least (opened least (bare y))) (expr_layer every (opened every (bare y)))
 expr_beside (layer.Number p n) = number_meant p n
@@ -187,7 +187,7 @@ expr_beside (layer.Set q p items) = set_meant q p (pairwise_maps {X = SI} {Y = I
 expr_beside (layer.Not p e) = not_meant p e.1
 expr_beside (layer.Bracketed p e) = bracketed_meant p e.1
 expr_beside (layer.Use d None) = use_meant d.1 nothing
-expr_beside (layer.Use d (Some es)) = use_meant d.1 (something (pairwise_maps {X = SE} {Y = Expr} MeantBeside (λ e. e.0) (meant least) (meant every) (λ e. e.1) es))
+expr_beside (layer.Use d (Some es)) = use_meant d.1 (something (pairwise_maps {X = SE} {Y = Expr} MeantBeside (λ e. e.0) (meanings_of least) (meanings_of every) (λ e. e.1) es))
 expr_beside (layer.Term e xs) = term_meant e.1 (terms xs)
 expr_beside (layer.Sum o e xs) = sum_meant o e.1 (terms xs)
 expr_beside (layer.Relation e o f) = relation_meant e.1 o f.1
@@ -217,7 +217,7 @@ step_designator x y q = carry MeantBeside (at_designator least (roll-Designator 
 step_item : (x : Item-F Expr Selector Designator Item) (y : Item-F SE SS SD SI) → bare_item y ≡ x → PI (roll-Item x)
 step_item x y q = carry AddsBeside (at_item least (roll-Item x) (bare_item y) (out-roll-Item x ∙ sym q)) (at_item every (roll-Item x) (bare_item y) (out-roll-Item x ∙ sym q)) (item_at y.low y.high)
 
-pub meant_beside : (e : Expr) → MeantBeside (meant least e) (meant every e)
+pub meant_beside : (e : Expr) → MeantBeside (meanings_of least e) (meanings_of every e)
 meant_beside = ind-Expr PE PS PD PI step_expr step_selector step_designator step_item
 
 pub head_beside : (d : Designator) → MeantBeside (head least d) (head every d)

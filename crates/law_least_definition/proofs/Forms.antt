@@ -7,13 +7,13 @@ use Rattle.m2_rule.specs.declared.rule.Rule.{Rule}
 use Rattle.m2_tree.specs.declared.pos.Pos.{Pos}
 use Rattle.m2_rule.specs.declared.breach.Breach.{Breach}
 use Rattle.check_scope.specs.declared.meaningless.Meaningless.{Meaningless}
-use Rattle.check_scope.specs.Elaborated.{every, least, reported, reported_where, both, beside, refusal_beside, reported_beside, ahead, of_sort, of_heading, plain, ◌▷◌}
+use Rattle.check_scope.specs.Elaborated.{every, least, report, reported_where, both, beside, refusal_beside, reported_beside, ahead, of_sort, of_heading, plain, ◌▷◌}
 use Rattle.m2_rule.specs.Breaches.{lesser}
 use Rattle.law_least_definition.specs.Least.{IsLeast, Reports, fine, is_refused}
 use Rattle.law_least_definition.specs.Beside.{Pairwise, none, more, SoughtBeside, is_found, is_broken, is_headless}
 use Rattle.law_least_definition.proofs.Order.{least_of_both, least_of_one}
 
-pub reported_reports : {A : Type 0} (at : Pos) (n : Rule) → Reports {A = A} (reported least at n) (reported every at n)
+pub reported_reports : {A : Type 0} (at : Pos) (n : Rule) → Reports {A = A} (report least at n) (report every at n)
 reported_reports at n = let f : Breach = record { pos = at; number = number_of n } in is_refused f (f ∷ []) (least_of_one f)
 
 pub where_reports : {A : Type 0} (b : Bool) (at : Pos) (n : Rule) {x : Result A Breach} {x' : Result A (List Breach)} → Reports x x' → Reports (reported_where least b at n x) (reported_where every b at n x')

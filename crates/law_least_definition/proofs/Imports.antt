@@ -9,14 +9,14 @@ use Rattle.m2_tree.specs.declared.decl.Import.{Import}
 use Rattle.typed_tree.specs.declared.meaning.Meaning.{Meaning}
 use Rattle.typed_tree.specs.declared.meaning.Meaning.TheVariants as meaning
 use Rattle.typed_tree.specs.declared.table.Table.{Table}
-use Rattle.typed_tree.specs.Names.{found, place_of}
+use Rattle.typed_tree.specs.Names.{find_name, place_of}
 use Rattle.m2_rule.specs.declared.breach.Breach.{Breach}
 use Rattle.check_scope.specs.Scopes.{is_one_origin}
 use Rattle.check_scope.specs.declared.known.Known.{Known}
 use Rattle.check_scope.specs.declared.known.Origin.TheVariants.{Here, Module, Export}
 use Rattle.check_scope.specs.declared.scope.Scope.{Scope}
 use Rattle.check_scope.specs.Elaborated.{every, least, beside}
-use Rattle.check_definition.specs.Predeclared.{predeclared_as, with_types, with_truth, with_functions, with_bounds, with_procedures, predeclared, first_scope}
+use Rattle.check_definition.specs.Predeclared.{predeclared_as, with_types, with_truth, with_functions, with_bounds, with_procedures, predeclared_names, first_scope}
 use Rattle.check_definition.specs.Importing.{module_found, module_named, with_module_as, with_module_name, with_entry, brings_in, reported_of_taken, unless_taken, from_place, with_from, exports_of, from_module, with_imports, with_import}
 use Rattle.law_least_definition.specs.Least.{Reports, fine, is_refused}
 use Rattle.law_least_definition.specs.Beside.{block, Pairwise, none, more, Optionwise, nothing, something, KnownBeside, known_later, known_ahead, known_begun, known_headed, known_declared, EntryBeside, ScopeBeside, scopes, StateBeside}
@@ -46,12 +46,12 @@ bounds p = with_named _ _ (with_named _ _ (with_named _ _ (with_named _ _ (with_
 procedures : {ns : List (List ℕ × Known Breach)} {ns' : List (List ℕ × Known (List Breach))} → Names ns ns' → Names (with_procedures ns) (with_procedures ns')
 procedures p = with_named _ _ (with_named _ _ (with_named _ _ (with_named _ _ (with_named _ _ p))))
 
-pub predeclared_beside : Pairwise EntryBeside predeclared predeclared
-unfolding predeclared
+pub predeclared_beside : Pairwise EntryBeside predeclared_names predeclared_names
+unfolding predeclared_names
 predeclared_beside = procedures (bounds (functions (truths (types none))))
 
 pub first_scope_beside : (home : ℕ) (tables : List Table) → ScopeBeside (first_scope home tables) (first_scope home tables)
-unfolding predeclared
+unfolding predeclared_names
 first_scope_beside home tables = scopes _ _ _ _ none (more (block _ predeclared_beside) none)
 
 -- ---- imports
@@ -65,7 +65,7 @@ module_found_reports at None = reported_reports at rule.MissingModule
 module_found_reports at (Some k) = fine k
 
 module_named_reports : (modules : List (List ℕ × ℕ)) (name : Ident) → Reports (module_named least modules name) (module_named every modules name)
-module_named_reports modules name = module_found_reports name.pos (found name.name modules)
+module_named_reports modules name = module_found_reports name.pos (find_name name.name modules)
 
 pub with_module_as_goes : {s : Scope Breach} {s' : Scope (List Breach)} → ScopeBeside s s' → (name : Ident) {k : Result ℕ Breach} {k' : Result ℕ (List Breach)} → Reports k k' → StateBeside (with_module_as least s name k) (with_module_as every s' name k')
 with_module_as_goes b name (fine k) = imported_goes name.pos name.name (Module k) (fine (meaning.Module k)) b

@@ -19,7 +19,7 @@ use Rattle.typed_tree.specs.declared.meaning.Value.{Value}
 use Rattle.typed_tree.specs.declared.meaning.Meaning.{Meaning}
 use Rattle.typed_tree.specs.declared.meaning.Meaning.TheVariants as meaning
 use Rattle.typed_tree.specs.Types.{integer}
-use Rattle.typed_tree.specs.Names.{found}
+use Rattle.typed_tree.specs.Names.{find_name}
 use Rattle.m2_rule.specs.declared.breach.Breach.{Breach}
 use Rattle.typed_tree.specs.declared.known_types.Types.{Types}
 use Rattle.check_scope.specs.declared.scope.Scope.{Scope}
@@ -33,10 +33,10 @@ use Rattle.check_const_ops.specs.Numbers.{is_between, fits}
 use Rattle.check_const_ops.specs.Common.{common}
 use Rattle.check_type_expr.specs.declared.field.Fields.{Fields}
 use Rattle.check_type_expr.specs.Named.{first_of, type_meant, in_module, of_module, named_type}
-use Rattle.check_type_expr.specs.Subranges.{ordinal_in, bound_of, ordered, base_of, fits_at, based, between, unnamed, is_of_base, is_of, bound_in, ordered_if, alike_ordered, under}
+use Rattle.check_type_expr.specs.Subranges.{ordinal_in, bound_of, bounds_in_order, base_of, fits_at, subrange_of_base, between, subrange_between, is_of_base, is_of, bound_in, ordered_if, alike_ordered, under}
 use Rattle.check_type_expr.specs.Fields.{no_fields, with_field, with_name}
 use Rattle.check_type_expr.specs.Headings.{formal_of, result_in, result_of, procedure_made, with_parameter, procedure_type, with_section, heading_of, with_names, names_of}
-use Rattle.check_type_expr.specs.Made.{with_shape, with_made, reported_at, enumeration_constant, enumeration_scalar, listed, enumerated, enumeration}
+use Rattle.check_type_expr.specs.Made.{with_shape, with_made, reported_at, enumeration_constant, enumeration_scalar, enumerate_name, enumeration_of, enumeration}
 use Rattle.law_least_definition.specs.Least.{Reports, fine, is_refused}
 use Rattle.law_least_definition.specs.Beside.{ScopeBeside, scopes, StateBeside}
 use Rattle.law_least_definition.proofs.Forms.{reported_reports, where_reports, both_reports, then_reports, of_sort_reports, beside_reports, cond_keeps, fold_keeps}
@@ -86,14 +86,14 @@ ordinal_in_reports at (Some (operands.Scalar a)) = fine a
 pub bound_of_reports : (at : Pos) {v : Result Value Breach} {v' : Result Value (List Breach)} → Reports v v' → Reports (bound_of least at v) (bound_of every at v')
 bound_of_reports at p = then_reports p (λ x. ordinal_in_reports at (operand_of x))
 
-ordered_reports : (at : Pos) (low high : ℤ) → Reports (ordered least at low high) (ordered every at low high)
+ordered_reports : (at : Pos) (low high : ℤ) → Reports (bounds_in_order least at low high) (bounds_in_order every at low high)
 ordered_reports at low high = where_reports (int_lt high low) at rule.EmptyRange (fine tt)
 
 fits_at_reports : (at : Pos) (base : TypeNo) (sort : Option TypeNo) (n : ℤ) → Reports (fits_at least at base sort n) (fits_at every at base sort n)
 fits_at_reports at base (Some t) n = fine tt
 fits_at_reports at base None n = where_reports (not (fits (Some base) n)) at rule.OutOfRange (fine tt)
 
-based_reports : (at : Pos) (a : Ordinal) (at' : Pos) (b : Ordinal) (base : TypeNo) → Reports (based least at a at' b base) (based every at a at' b base)
+based_reports : (at : Pos) (a : Ordinal) (at' : Pos) (b : Ordinal) (base : TypeNo) → Reports (subrange_of_base least at a at' b base) (subrange_of_base every at a at' b base)
 based_reports at a at' b base = then_reports (beside_reports (ordered_reports at a.number b.number) (beside_reports (fits_at_reports at base a.sort a.number) (fits_at_reports at' base b.sort b.number))) (λ u. fine _)
 
 between_reports : (at : Pos) (a : Ordinal) (at' : Pos) (b : Ordinal) (sort : Option (Option TypeNo)) → Reports (between least at a at' b sort) (between every at a at' b sort)
@@ -101,7 +101,7 @@ between_reports at a at' b None = reported_reports at' rule.WrongType
 between_reports at a at' b (Some sort) = based_reports at a at' b (base_of sort a.number)
 
 pub unnamed_reports : (at : Pos) {a : Result Ordinal Breach} {a' : Result Ordinal (List Breach)} → Reports a a' → (at' : Pos) {b : Result Ordinal Breach} {b' : Result Ordinal (List Breach)} → Reports b b'
-    → Reports (unnamed least at a at' b) (unnamed every at a' at' b')
+    → Reports (subrange_between least at a at' b) (subrange_between every at a' at' b')
 unnamed_reports at p at' q = then_reports (both_reports p q) (λ x. between_reports at x.0 at' x.1 (common x.0.sort x.1.sort))
 
 is_of_reports : (of : Scalar) (at : Pos) (a : Ordinal) → Reports (is_of least of at a) (is_of every of at a)
@@ -134,7 +134,7 @@ pub reported_of : {X A : Type 0} {st : X × Result A Breach} {st' : X × Result 
 reported_of (is_kept x t) = t
 
 with_field_kept : (t : TypeNo) (cells : ℕ) (fs : Fields) (name : Ident) → KeptBeside (with_field least t cells fs name) (with_field every t cells fs name)
-with_field_kept t cells fs name = cond_keeps KeptBeside (is_some (found name.name fs.names)) (is_kept fs (reported_reports name.pos rule.DeclaredTwice)) (is_kept _ (fine tt))
+with_field_kept t cells fs name = cond_keeps KeptBeside (is_some (find_name name.name fs.names)) (is_kept fs (reported_reports name.pos rule.DeclaredTwice)) (is_kept _ (fine tt))
 
 with_name_kept : (t : TypeNo) (cells : ℕ) {st : Fields × Result (Unit {0}) Breach} {st' : Fields × Result (Unit {0}) (List Breach)} → KeptBeside st st' → (name : Ident) → KeptBeside (with_name least t cells st name) (with_name every t cells st' name)
 with_name_kept t cells (is_kept fs u) name = join_kept u (with_field_kept t cells fs name)
@@ -199,13 +199,13 @@ reported_at_reports (Some name) = reported_reports name.pos rule.ConstantCount
 data ListedBeside : Scope Breach × ℕ × Result (Unit {0}) Breach → Scope (List Breach) × ℕ × Result (Unit {0}) (List Breach) → Type 0 where
   listed_so : (n : ℕ) {s : Scope Breach} {s' : Scope (List Breach)} → ScopeBeside s s' → {r : Result (Unit {0}) Breach} {r' : Result (Unit {0}) (List Breach)} → Reports r r' → ListedBeside (s, n, r) (s', n, r')
 
-listed_beside : (t : TypeNo) {l : Scope Breach × ℕ × Result (Unit {0}) Breach} {l' : Scope (List Breach) × ℕ × Result (Unit {0}) (List Breach)} → ListedBeside l l' → (name : Ident) → ListedBeside (listed least t l name) (listed every t l' name)
+listed_beside : (t : TypeNo) {l : Scope Breach × ℕ × Result (Unit {0}) Breach} {l' : Scope (List Breach) × ℕ × Result (Unit {0}) (List Breach)} → ListedBeside l l' → (name : Ident) → ListedBeside (enumerate_name least t l name) (enumerate_name every t l' name)
 listed_beside t (listed_so n b u) name =
     let d = declared_goes name (fine (enumeration_constant t (pos n))) b in
     listed_so (n + 1) d.scope (beside_reports u d.reported)
 
-all_listed : (t : TypeNo) {s : Scope Breach} {s' : Scope (List Breach)} → ScopeBeside s s' → {r : Result (Unit {0}) Breach} {r' : Result (Unit {0}) (List Breach)} → Reports r r' → (names : List Ident) → ListedBeside (enumerated least t s r names) (enumerated every t s' r' names)
-all_listed t b u names = fold_keeps ListedBeside (listed least t) (listed every t) (λ l l' name p. listed_beside t p name) names _ _ (listed_so 0 b u)
+all_listed : (t : TypeNo) {s : Scope Breach} {s' : Scope (List Breach)} → ScopeBeside s s' → {r : Result (Unit {0}) Breach} {r' : Result (Unit {0}) (List Breach)} → Reports r r' → (names : List Ident) → ListedBeside (enumeration_of least t s r names) (enumeration_of every t s' r' names)
+all_listed t b u names = fold_keeps ListedBeside (enumerate_name least t) (enumerate_name every t) (λ l l' name p. listed_beside t p name) names _ _ (listed_so 0 b u)
 
 finished_list : (t : TypeNo) {l : Scope Breach × ℕ × Result (Unit {0}) Breach} {l' : Scope (List Breach) × ℕ × Result (Unit {0}) (List Breach)} → ListedBeside l l' → StateBeside (l.0, l.2 ▷ λ u. Ok t) (l'.0, l'.2 ▷ λ u. Ok t)
 finished_list t (listed_so n b u) = goes b (then_reports u (λ v. fine t))

@@ -34,7 +34,7 @@ use Rattle.check_call.specs.Functions.{form_of}
 use Rattle.m2_rule.specs.declared.breach.Breach.{Breach}
 use Rattle.check_scope.specs.Elaborated.{every, least}
 use Rattle.law_least_definition.specs.Least.{Reports, fine}
-use Rattle.check_expr.specs.Meanings.{of_computed, taken_at, signed_first, related, named, member_of, field_of, field_at, index_at, type_of, formals_of, passed_for, argument_by, call_given, as_constant, value_of, with_look, looked_at, miscounted, with_actual, actuals, routine_called, unary, scalar_named, bound, conversion, high, by_form, called_as, called_by, used_with, factor, term, relation, Meant}
+use Rattle.check_expr.specs.Meanings.{of_computed, value_standing, signed_first, relation_value, first_name, member_of, field_of, field_at, index_at, type_of, formals_of, passed_for, argument_by, call_given, as_constant, value_of, with_look, breaches_in_all, wrong_count, with_actual, actuals, routine_called, unary, scalar_named, bound, conversion, high, by_form, callee_value, call_in_expression, used_with, factor, term, relation, Meant}
 use Rattle.law_least_definition.proofs.Actuals.{actual_reports, with_argument_reports}
 use Rattle.law_least_definition.proofs.Functions.{bound_at_reports, conversion_at_reports, high_of_reports, type_named_reports, unary_at_reports}
 use Rattle.law_least_definition.proofs.Callees.{callee_of_reports, function_of_reports}
@@ -54,17 +54,17 @@ use Rattle.law_least_definition.proofs.Making.{KeptBeside, is_kept, reported_of}
 pub of_computed_sought : {x : Result Computed Breach} {x' : Result Computed (List Breach)} → Reports x x' → SoughtBeside (of_computed x) (of_computed x')
 of_computed_sought x = plain_sought (then_reports x (λ v. fine _))
 
-pub taken_at_reports : (types : Types) → (at : Pos) → {d : Result Designated (Meaningless Breach)} {d' : Result Designated (Meaningless (List Breach))} → SoughtBeside d d' → Reports (taken_at least types at d) (taken_at every types at d')
+pub taken_at_reports : (types : Types) → (at : Pos) → {d : Result Designated (Meaningless Breach)} {d' : Result Designated (Meaningless (List Breach))} → SoughtBeside d d' → Reports (value_standing least types at d) (value_standing every types at d')
 taken_at_reports types at d = then_reports (of_heading_reports d) (λ v. taken_reports types at v)
 
 pub signed_first_reports : (p0 : Option (Operator Sign)) → {x : Result Computed Breach} {x' : Result Computed (List Breach)} → Reports x x' → Reports (signed_first least p0 x) (signed_first every p0 x')
 signed_first_reports None x = x
 signed_first_reports (Some o) x = signed_reports o.op o.pos x
 
-pub related_reports : (types : Types) → (o : Operator RelOp) → (at : Pos) → {x : Result Computed Breach} {x' : Result Computed (List Breach)} → Reports x x' → (at' : Pos) → {y : Result Computed Breach} {y' : Result Computed (List Breach)} → Reports y y' → Reports (related least types o at x at' y) (related every types o at x' at' y')
+pub related_reports : (types : Types) → (o : Operator RelOp) → (at : Pos) → {x : Result Computed Breach} {x' : Result Computed (List Breach)} → Reports x x' → (at' : Pos) → {y : Result Computed Breach} {y' : Result Computed (List Breach)} → Reports y y' → Reports (relation_value least types o at x at' y) (relation_value every types o at x' at' y')
 related_reports types o at x at' y = combined_reports types (op.Relation o.op) o.pos at x at' y
 
-pub named_sought : {s : Scope Breach} {s' : Scope (List Breach)} → ScopeBeside s s' → (name : Ident) → SoughtBeside (named least s name) (named every s' name)
+pub named_sought : {s : Scope Breach} {s' : Scope (List Breach)} → ScopeBeside s s' → (name : Ident) → SoughtBeside (first_name least s name) (first_name every s' name)
 named_sought (scopes tables types vars procs {level = level} {withs = withs} own outer) name = then_sought (looked_up_sought name (scopes tables types vars procs {level = level} {withs = withs} own outer)) (λ v. plain_sought (designated_by_reports level name.pos v))
 
 pub member_of_reports : {s : Scope Breach} {s' : Scope (List Breach)} → ScopeBeside s s' → (k : ℕ) → (name : Ident) → Reports (member_of least s k name) (member_of every s' k name)
@@ -110,10 +110,10 @@ value_of_reports (scopes tables types vars procs {level = level} {withs = withs}
 with_look_reports : {s : Scope Breach} {s' : Scope (List Breach)} → ScopeBeside s s' → {so : Result (Unit {0}) Breach} {so' : Result (Unit {0}) (List Breach)} → Reports so so' → {x : Meant Breach} {x' : Meant (List Breach)} → MeantBeside x x' → Reports (with_look least s so x) (with_look every s' so' x')
 with_look_reports s so (meants x x_m) = beside_reports so (then_reports (of_heading_reports (x_m _ _ s)) (λ d. fine tt))
 
-pub looked_at_reports : {s : Scope Breach} {s' : Scope (List Breach)} → ScopeBeside s s' → {args : List (Meant Breach)} {args' : List (Meant (List Breach))} → Pairwise MeantBeside args args' → Reports (looked_at least s args) (looked_at every s' args')
+pub looked_at_reports : {s : Scope Breach} {s' : Scope (List Breach)} → ScopeBeside s s' → {args : List (Meant Breach)} {args' : List (Meant (List Breach))} → Pairwise MeantBeside args args' → Reports (breaches_in_all least s args) (breaches_in_all every s' args')
 looked_at_reports {s = s} {s' = s'} b args = fold_pairwise Reports MeantBeside (with_look least s) (with_look every s') (λ so so' x x' p q. with_look_reports b p q) args _ _ (fine tt)
 
-pub miscounted_reports : {A : Type 0} {s : Scope Breach} {s' : Scope (List Breach)} → ScopeBeside s s' → (at : Pos) → {args : List (Meant Breach)} {args' : List (Meant (List Breach))} → Pairwise MeantBeside args args' → Reports {A = A} (miscounted least s at args) (miscounted every s' at args')
+pub miscounted_reports : {A : Type 0} {s : Scope Breach} {s' : Scope (List Breach)} → ScopeBeside s s' → (at : Pos) → {args : List (Meant Breach)} {args' : List (Meant (List Breach))} → Pairwise MeantBeside args args' → Reports {A = A} (wrong_count least s at args) (wrong_count every s' at args')
 miscounted_reports s at args = reported_beside_reports at rule.ArgumentCount (looked_at_reports s args)
 
 pub with_actual_kept : {s : Scope Breach} {s' : Scope (List Breach)} → ScopeBeside s s' → {st : List Formal × Result (List Argument) Breach} {st' : List Formal × Result (List Argument) (List Breach)} → KeptBeside st st' → {x : Meant Breach} {x' : Meant (List Breach)} → MeantBeside x x'
@@ -160,11 +160,11 @@ by_form_reports s at f args form.Conversion = conversion_reports s at args
 by_form_reports s at f args form.High = high_reports s at args
 by_form_reports s at f args form.Proper = reported_beside_reports at rule.WrongType (looked_at_reports s args)
 
-pub called_as_reports : {s : Scope Breach} {s' : Scope (List Breach)} → ScopeBeside s s' → (at : Pos) → {args : List (Meant Breach)} {args' : List (Meant (List Breach))} → Pairwise MeantBeside args args' → (p3 : Called) → Reports (called_as least s at args p3) (called_as every s' at args' p3)
+pub called_as_reports : {s : Scope Breach} {s' : Scope (List Breach)} → ScopeBeside s s' → (at : Pos) → {args : List (Meant Breach)} {args' : List (Meant (List Breach))} → Pairwise MeantBeside args args' → (p3 : Called) → Reports (callee_value least s at args p3) (callee_value every s' at args' p3)
 called_as_reports s at args (called.Routine h c) = routine_called_reports s at h c args
 called_as_reports s at args (called.Standard f) = by_form_reports s at f args (form_of f)
 
-pub called_by_reports : {s : Scope Breach} {s' : Scope (List Breach)} → ScopeBeside s s' → (at : Pos) → {d : Result Designated (Meaningless Breach)} {d' : Result Designated (Meaningless (List Breach))} → SoughtBeside d d' → {args : List (Meant Breach)} {args' : List (Meant (List Breach))} → Pairwise MeantBeside args args' → Reports (called_by least s at d args) (called_by every s' at d' args')
+pub called_by_reports : {s : Scope Breach} {s' : Scope (List Breach)} → ScopeBeside s s' → (at : Pos) → {d : Result Designated (Meaningless Breach)} {d' : Result Designated (Meaningless (List Breach))} → SoughtBeside d d' → {args : List (Meant Breach)} {args' : List (Meant (List Breach))} → Pairwise MeantBeside args args' → Reports (call_in_expression least s at d args) (call_in_expression every s' at d' args')
 called_by_reports (scopes tables types vars procs {level = level} {withs = withs} own outer) at d args = ahead_reports (then_reports (of_heading_reports d) (λ v. callee_of_reports types at v)) (looked_at_reports (scopes tables types vars procs {level = level} {withs = withs} own outer) args) (λ v. called_as_reports (scopes tables types vars procs {level = level} {withs = withs} own outer) at args v)
 
 pub used_with_sought : {s : Scope Breach} {s' : Scope (List Breach)} → ScopeBeside s s' → {d : Meant Breach} {d' : Meant (List Breach)} → MeantBeside d d' → {p2 : Option (List (Meant Breach))} {p2' : Option (List (Meant (List Breach)))} → Optionwise (Pairwise MeantBeside) p2 p2' → SoughtBeside (used_with least s d p2) (used_with every s' d' p2')

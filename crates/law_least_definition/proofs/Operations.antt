@@ -25,7 +25,7 @@ use Rattle.check_operator.specs.Sides.{known_of, side_of, sort_of}
 use Rattle.m2_rule.specs.declared.breach.Breach.{Breach}
 use Rattle.check_scope.specs.Elaborated.{every, least}
 use Rattle.law_least_definition.specs.Least.{Reports, fine}
-use Rattle.check_operator.specs.Operations.{of_value, step_of, set_step_of, equality_of, is_in, fitting_of, divisor_of, fitting_both, stepped, on_amounts, element_fits, member, on_sets, on_procedures, with_scalar, set_in, with_set, partner_of, routine_of, with_partner, between, folded, by_known, operated, combined}
+use Rattle.check_operator.specs.Operations.{of_value, step_of, set_step_of, equality_of, is_in, fitting_of, divisor_of, fitting_both, step_or_refusal, on_amounts, element_fits, member, on_sets, on_procedures, with_scalar, set_in, with_set, partner_of, routine_of, with_partner, between, constant_result, by_known, operation_on, operation_between}
 use Rattle.law_least_definition.proofs.Forms.{beside_reports, both_reports, then_reports, reported_reports, where_reports}
 use Rattle.law_least_definition.proofs.Values.{binary_reports, divisor_reports, fitting_reports}
 
@@ -43,7 +43,7 @@ divisor_of_reports op spot (Run b e) = fine tt
 pub fitting_both_reports : (op : BinaryOp) → (spot : Pos) → (sort : Option TypeNo) → (at : Pos) → (a : Amount) → (at' : Pos) → (b : Amount) → Reports (fitting_both least op spot sort at a at' b) (fitting_both every op spot sort at a at' b)
 fitting_both_reports op spot sort at a at' b = where_reports (not (takes op sort)) spot rule.WrongType (beside_reports (divisor_of_reports op spot b) (beside_reports (fitting_of_reports sort at a) (fitting_of_reports sort at' b)))
 
-pub stepped_reports : (spot : Pos) → (sort : Option TypeNo) → (a : Amount) → (b : Amount) → (p4 : Option Step) → Reports (stepped least spot sort a b p4) (stepped every spot sort a b p4)
+pub stepped_reports : (spot : Pos) → (sort : Option TypeNo) → (a : Amount) → (b : Amount) → (p4 : Option Step) → Reports (step_or_refusal least spot sort a b p4) (step_or_refusal every spot sort a b p4)
 stepped_reports spot sort a b None = reported_reports spot rule.WrongType
 stepped_reports spot sort a b (Some o) = fine _
 
@@ -88,7 +88,7 @@ between_reports types op spot at (Some (side.Set e)) at' y = with_set_reports op
 between_reports types op spot at (Some (side.Routine t e)) at' y = with_partner_reports spot e (equality_of op) (partner_of types t y)
 between_reports types op spot at (Some (side.Procedure p)) at' y = with_partner_reports spot (expr.Procedure p) (equality_of op) (routine_of types p y)
 
-pub folded_reports : (op : BinaryOp) → (spot : Pos) → (at : Pos) → (a : Operand) → (at' : Pos) → (b : Operand) → Reports (folded least op spot at a at' b) (folded every op spot at a at' b)
+pub folded_reports : (op : BinaryOp) → (spot : Pos) → (at : Pos) → (a : Operand) → (at' : Pos) → (b : Operand) → Reports (constant_result least op spot at a at' b) (constant_result every op spot at a at' b)
 folded_reports op spot at a at' b = of_value_reports (binary_reports op spot at (Some a) at' (Some b))
 
 pub by_known_reports : (types : Types) → (op : BinaryOp) → (spot : Pos) → (at : Pos) → (x : Computed) → (at' : Pos) → (y : Computed) → (p7 : Option Operand) → (b : Option Operand) → Reports (by_known least types op spot at x at' y p7 b) (by_known every types op spot at x at' y p7 b)
@@ -96,8 +96,8 @@ by_known_reports types op spot at x at' y None b = between_reports types op spot
 by_known_reports types op spot at x at' y (Some a) None = between_reports types op spot at (side_of x) at' (side_of y)
 by_known_reports types op spot at x at' y (Some a) (Some b) = folded_reports op spot at a at' b
 
-pub operated_reports : (types : Types) → (op : BinaryOp) → (spot : Pos) → (at : Pos) → (x : Computed) → (at' : Pos) → (y : Computed) → Reports (operated least types op spot at x at' y) (operated every types op spot at x at' y)
+pub operated_reports : (types : Types) → (op : BinaryOp) → (spot : Pos) → (at : Pos) → (x : Computed) → (at' : Pos) → (y : Computed) → Reports (operation_on least types op spot at x at' y) (operation_on every types op spot at x at' y)
 operated_reports types op spot at x at' y = by_known_reports types op spot at x at' y (known_of x) (known_of y)
 
-pub combined_reports : (types : Types) → (op : BinaryOp) → (spot : Pos) → (at : Pos) → {x : Result Computed Breach} {x' : Result Computed (List Breach)} → Reports x x' → (at' : Pos) → {y : Result Computed Breach} {y' : Result Computed (List Breach)} → Reports y y' → Reports (combined least types op spot at x at' y) (combined every types op spot at x' at' y')
+pub combined_reports : (types : Types) → (op : BinaryOp) → (spot : Pos) → (at : Pos) → {x : Result Computed Breach} {x' : Result Computed (List Breach)} → Reports x x' → (at' : Pos) → {y : Result Computed Breach} {y' : Result Computed (List Breach)} → Reports y y' → Reports (operation_between least types op spot at x at' y) (operation_between every types op spot at x' at' y')
 combined_reports types op spot at x at' y = then_reports (both_reports x y) (λ p. operated_reports types op spot at p.0 at' p.1)

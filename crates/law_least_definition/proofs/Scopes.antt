@@ -8,7 +8,7 @@ use Rattle.m2_tree.specs.declared.name.Ident.{Ident}
 use Rattle.typed_tree.specs.declared.meaning.Meaning.{Meaning}
 use Rattle.typed_tree.specs.declared.meaning.Meaning.TheVariants as meaning
 use Rattle.m2_tree.specs.Names.{same_name}
-use Rattle.typed_tree.specs.Names.{found, place_of, entered}
+use Rattle.typed_tree.specs.Names.{find_name, place_of, enter_name}
 use Rattle.typed_tree.specs.declared.meaning.OpenedField.{OpenedField}
 use Rattle.m2_rule.specs.declared.breach.Breach.{Breach}
 use Rattle.check_scope.specs.declared.known.Origin.{Origin}
@@ -18,7 +18,7 @@ use Rattle.check_scope.specs.declared.meaningless.Meaningless.{Meaningless}
 use Rattle.check_scope.specs.declared.scope.Block.{Block}
 use Rattle.check_scope.specs.declared.scope.Scope.{Scope}
 use Rattle.check_scope.specs.Elaborated.{every, least}
-use Rattle.check_scope.specs.Scopes.{Sight, or_outside, seen_at, in_block, nearer, known_outside, or_around, known, heading_means, means_seen, means_as, opened, means_or, looked_up, is_free, with_known, unless_declared, declared, begun, is_begun, finished, is_again, imported, unless_marked, marked}
+use Rattle.check_scope.specs.Scopes.{Sight, or_outside, seen_at, in_block, nearer, known_outside, or_around, sight_of, heading_means, means_seen, means_as, open_field, means_or, looked_up, is_free, with_known, unless_declared, declare_name, begin_name, is_begun, finish_name, is_again, import_name, unless_marked, mark_name}
 use Rattle.law_least_definition.specs.Least.{Reports, fine, is_refused}
 use Rattle.law_least_definition.specs.Beside.{Pairwise, none, more, Optionwise, nothing, something, SoughtBeside, is_found, is_headless, KnownBeside, known_later, known_ahead, known_begun, known_headed, known_declared, EntryBeside, entry, BlockBeside, block, SightBeside, sight, ScopeBeside, scopes, StateBeside}
 use Rattle.law_least_definition.proofs.Forms.{reported_reports, plain_sought, cond_keeps, cond_same, fold_pairwise}
@@ -28,12 +28,12 @@ goes p q = record { scope = p; reported = q }
 
 -- ---- what a name means
 
-pub found_beside : (name : List ℕ) {es : List (List ℕ × Known Breach)} {es' : List (List ℕ × Known (List Breach))} → Pairwise EntryBeside es es' → Optionwise KnownBeside (found name es) (found name es')
+pub found_beside : (name : List ℕ) {es : List (List ℕ × Known Breach)} {es' : List (List ℕ × Known (List Breach))} → Pairwise EntryBeside es es' → Optionwise KnownBeside (find_name name es) (find_name name es')
 found_beside name none = nothing
 found_beside name (more (entry n k) rest) = cond_keeps (Optionwise KnownBeside) (same_name name n) (something k) (found_beside name rest)
 
 pub entered_beside : (name : List ℕ) {k : Known Breach} {k' : Known (List Breach)} → KnownBeside k k' → {es : List (List ℕ × Known Breach)} {es' : List (List ℕ × Known (List Breach))} → Pairwise EntryBeside es es'
-    → Pairwise EntryBeside (entered name k es) (entered name k' es')
+    → Pairwise EntryBeside (enter_name name k es) (enter_name name k' es')
 entered_beside name p none = more (entry name p) none
 entered_beside name p (more (entry n q) rest) = cond_keeps (Pairwise EntryBeside) (same_name name n) (more (entry n p) rest) (more (entry n q) (entered_beside name p rest))
 
@@ -82,7 +82,7 @@ or_around_beside : {k : Option (Known Breach)} {k' : Option (Known (List Breach)
 or_around_beside nothing q = q
 or_around_beside (something k) q = something (sight true k)
 
-pub known_beside : (name : List ℕ) {s : Scope Breach} {s' : Scope (List Breach)} → ScopeBeside s s' → Optionwise SightBeside (known name s) (known name s')
+pub known_beside : (name : List ℕ) {s : Scope Breach} {s' : Scope (List Breach)} → ScopeBeside s s' → Optionwise SightBeside (sight_of name s) (sight_of name s')
 known_beside name (scopes t ty v p own outer) = or_around_beside (found_beside name own) (outside_beside name outer)
 
 heading_means_sought : {m : Result Meaning Breach} {m' : Result Meaning (List Breach)} → Reports m m' → SoughtBeside (heading_means m) (heading_means m')
@@ -105,7 +105,7 @@ means_or_sought None p = p
 means_or_sought (Some f) p = is_found (meaning.Field f)
 
 pub looked_up_sought : (name : Ident) {s : Scope Breach} {s' : Scope (List Breach)} → ScopeBeside s s' → SoughtBeside (looked_up least s name) (looked_up every s' name)
-looked_up_sought name (scopes t ty v p {withs = withs} own outer) = means_or_sought (opened ty name.name withs) (means_as_sought name.pos (or_around_beside (found_beside name.name own) (outside_beside name.name outer)))
+looked_up_sought name (scopes t ty v p {withs = withs} own outer) = means_or_sought (open_field ty name.name withs) (means_as_sought name.pos (or_around_beside (found_beside name.name own) (outside_beside name.name outer)))
 
 -- ---- declarations
 
@@ -136,25 +136,25 @@ is_again_same o (something (known_declared first m)) = refl
 pub with_known_beside : (name : List ℕ) {k : Known Breach} {k' : Known (List Breach)} → KnownBeside k k' → {s : Scope Breach} {s' : Scope (List Breach)} → ScopeBeside s s' → ScopeBeside (with_known name k s) (with_known name k' s')
 with_known_beside name k (scopes t ty v p own outer) = scopes t ty v p (entered_beside name k own) outer
 
-pub own_beside : (name : List ℕ) {s : Scope Breach} {s' : Scope (List Breach)} → ScopeBeside s s' → Optionwise KnownBeside (found name s.own) (found name s'.own)
+pub own_beside : (name : List ℕ) {s : Scope Breach} {s' : Scope (List Breach)} → ScopeBeside s s' → Optionwise KnownBeside (find_name name s.own) (find_name name s'.own)
 own_beside name (scopes t ty v p own outer) = found_beside name own
 
 pub unless_declared_goes : (name : Ident) {k : Known Breach} {k' : Known (List Breach)} → KnownBeside k k' → {s : Scope Breach} {s' : Scope (List Breach)} → ScopeBeside s s' → StateBeside (unless_declared least s name k) (unless_declared every s' name k')
 unless_declared_goes name k b = cond_same StateBeside (is_free_same (own_beside name.name b)) (goes (with_known_beside name.name k b) (fine tt)) (goes b (reported_reports name.pos rule.DeclaredTwice))
 
-pub declared_goes : (name : Ident) {m : Result Meaning Breach} {m' : Result Meaning (List Breach)} → Reports m m' → {s : Scope Breach} {s' : Scope (List Breach)} → ScopeBeside s s' → StateBeside (declared least s name m) (declared every s' name m')
+pub declared_goes : (name : Ident) {m : Result Meaning Breach} {m' : Result Meaning (List Breach)} → Reports m m' → {s : Scope Breach} {s' : Scope (List Breach)} → ScopeBeside s s' → StateBeside (declare_name least s name m) (declare_name every s' name m')
 declared_goes name m b = unless_declared_goes name (known_declared Here m) b
 
-pub begun_goes : (name : Ident) {s : Scope Breach} {s' : Scope (List Breach)} → ScopeBeside s s' → StateBeside (begun least s name) (begun every s' name)
+pub begun_goes : (name : Ident) {s : Scope Breach} {s' : Scope (List Breach)} → ScopeBeside s s' → StateBeside (begin_name least s name) (begin_name every s' name)
 begun_goes name b = unless_declared_goes name known_begun b
 
-pub finished_beside : (name : Ident) {m : Result Meaning Breach} {m' : Result Meaning (List Breach)} → Reports m m' → {s : Scope Breach} {s' : Scope (List Breach)} → ScopeBeside s s' → ScopeBeside (finished s name m) (finished s' name m')
+pub finished_beside : (name : Ident) {m : Result Meaning Breach} {m' : Result Meaning (List Breach)} → Reports m m' → {s : Scope Breach} {s' : Scope (List Breach)} → ScopeBeside s s' → ScopeBeside (finish_name s name m) (finish_name s' name m')
 finished_beside name m b = cond_same ScopeBeside (is_begun_same (own_beside name.name b)) (with_known_beside name.name (known_declared Here m) b) b
 
 -- ---- imports
 
 pub imported_goes : (at : Pos) (name : List ℕ) (o : Origin) {m : Result Meaning Breach} {m' : Result Meaning (List Breach)} → Reports m m' → {s : Scope Breach} {s' : Scope (List Breach)} → ScopeBeside s s'
-    → StateBeside (imported least s at name o m) (imported every s' at name o m')
+    → StateBeside (import_name least s at name o m) (import_name every s' at name o m')
 imported_goes at name o m b = cond_same StateBeside (is_again_same o (own_beside name b)) (goes b (fine tt))
     (cond_same StateBeside (is_free_same (own_beside name b)) (goes (with_known_beside name (known_declared o m) b) (fine tt)) (goes b (reported_reports at rule.DeclaredTwice)))
 
@@ -165,5 +165,5 @@ pub unless_marked_beside : (name : List ℕ) {k : Known Breach} {k' : Known (Lis
 unless_marked_beside name k b nothing = with_known_beside name k b
 unless_marked_beside name k b (something x) = b
 
-pub marked_beside : (name : Ident) {k : Known Breach} {k' : Known (List Breach)} → KnownBeside k k' → {s : Scope Breach} {s' : Scope (List Breach)} → ScopeBeside s s' → ScopeBeside (marked name k s) (marked name k' s')
+pub marked_beside : (name : Ident) {k : Known Breach} {k' : Known (List Breach)} → KnownBeside k k' → {s : Scope Breach} {s' : Scope (List Breach)} → ScopeBeside s s' → ScopeBeside (mark_name name k s) (mark_name name k' s')
 marked_beside name k b = unless_marked_beside name.name k b (own_beside name.name b)

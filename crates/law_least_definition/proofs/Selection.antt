@@ -15,7 +15,7 @@ use Rattle.check_operator.specs.Classes.{array_at}
 use Rattle.m2_rule.specs.declared.breach.Breach.{Breach}
 use Rattle.check_scope.specs.Elaborated.{every, least}
 use Rattle.law_least_definition.specs.Least.{Reports, fine}
-use Rattle.check_operator.specs.Selection.{numbered_field, field_named, record_field, component, field, array_indexed, indices, asked, with_index, indexed}
+use Rattle.check_operator.specs.Selection.{numbered_field, field_named, record_field, component, field, array_indexed, indices, index_type, with_index, element_at_index}
 use Rattle.law_least_definition.proofs.Forms.{both_reports, then_reports, reported_reports}
 use Rattle.law_least_definition.proofs.Suits.{value_suited_reports}
 
@@ -55,7 +55,7 @@ indices_reports types at (designated.Standard f) = reported_reports at rule.Wron
 indices_reports types at (designated.Module k) = reported_reports at rule.WrongType
 
 pub with_index_reports : (types : Types) → (at : Pos) → (a : Subscripted) → (x : Computed) → Reports (with_index least types at a x) (with_index every types at a x)
-with_index_reports types at a x = then_reports (value_suited_reports rule.NotAssignable types (asked a) at x) (λ e. fine _)
+with_index_reports types at a x = then_reports (value_suited_reports rule.NotAssignable types (index_type a) at x) (λ e. fine _)
 
-pub indexed_reports : (types : Types) → {a : Result Subscripted Breach} {a' : Result Subscripted (List Breach)} → Reports a a' → (at : Pos) → {x : Result Computed Breach} {x' : Result Computed (List Breach)} → Reports x x' → Reports (indexed least types a at x) (indexed every types a' at x')
+pub indexed_reports : (types : Types) → {a : Result Subscripted Breach} {a' : Result Subscripted (List Breach)} → Reports a a' → (at : Pos) → {x : Result Computed Breach} {x' : Result Computed (List Breach)} → Reports x x' → Reports (element_at_index least types a at x) (element_at_index every types a' at x')
 indexed_reports types a at x = then_reports (both_reports a x) (λ p. with_index_reports types at p.0 p.1)

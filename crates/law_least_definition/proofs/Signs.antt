@@ -12,7 +12,7 @@ use Rattle.check_operator.specs.declared.computed.Computed.TheVariants as value
 use Rattle.m2_rule.specs.declared.breach.Breach.{Breach}
 use Rattle.check_scope.specs.Elaborated.{every, least}
 use Rattle.law_least_definition.specs.Least.{Reports, fine}
-use Rattle.check_operator.specs.Signs.{signed_scalar, signed_value, signed, negated_scalar, negated_value, negated}
+use Rattle.check_operator.specs.Signs.{signed_scalar, signed_value, with_sign, negated_scalar, negated_value, negation}
 use Rattle.law_least_definition.proofs.Values.{negated_reports as negated_constant_reports, signed_reports as signed_constant_reports}
 use Rattle.law_least_definition.proofs.Operations.{of_value_reports}
 use Rattle.law_least_definition.proofs.Forms.{then_reports, reported_reports, where_reports}
@@ -30,7 +30,7 @@ signed_value_reports o spot (value.Procedure p) = reported_reports spot rule.Wro
 signed_value_reports o spot (value.Whole t d) = reported_reports spot rule.WrongType
 signed_value_reports o spot value.Untaken = reported_reports spot rule.WrongType
 
-pub signed_reports : (o : Sign) → (spot : Pos) → {x : Result Computed Breach} {x' : Result Computed (List Breach)} → Reports x x' → Reports (signed least o spot x) (signed every o spot x')
+pub signed_reports : (o : Sign) → (spot : Pos) → {x : Result Computed Breach} {x' : Result Computed (List Breach)} → Reports x x' → Reports (with_sign least o spot x) (with_sign every o spot x')
 signed_reports o spot x = then_reports x (λ v. signed_value_reports o spot v)
 
 pub negated_scalar_reports : (spot : Pos) → (b : TypeNo) → (e : TypedExpr) → Reports (negated_scalar least spot b e) (negated_scalar every spot b e)
@@ -45,5 +45,5 @@ negated_value_reports spot (value.Procedure p) = reported_reports spot rule.Wron
 negated_value_reports spot (value.Whole t d) = reported_reports spot rule.WrongType
 negated_value_reports spot value.Untaken = reported_reports spot rule.WrongType
 
-pub negated_reports : (spot : Pos) → {x : Result Computed Breach} {x' : Result Computed (List Breach)} → Reports x x' → Reports (negated least spot x) (negated every spot x')
+pub negated_reports : (spot : Pos) → {x : Result Computed Breach} {x' : Result Computed (List Breach)} → Reports x x' → Reports (negation least spot x) (negation every spot x')
 negated_reports spot x = then_reports x (λ v. negated_value_reports spot v)

@@ -25,7 +25,7 @@ use Rattle.check_operator.specs.Sides.{side_of}
 use Rattle.m2_rule.specs.declared.breach.Breach.{Breach}
 use Rattle.check_scope.specs.Elaborated.{every, least}
 use Rattle.law_least_definition.specs.Least.{Reports, fine}
-use Rattle.check_operator.specs.Suits.{bases_suit, sort_suits, known_suited, run_suited, scalar_suited, set_suited, procedure_suited, value_in, value_suited, text_fits, text_suited, whole_suited, of_expr, suited_in, suited}
+use Rattle.check_operator.specs.Suits.{bases_suit, sort_suits, known_suited, run_suited, scalar_suited, set_suited, procedure_suited, value_in, value_suited, text_fits, text_suited, whole_suited, of_expr, suited_in, value_for_place}
 use Rattle.law_least_definition.proofs.Forms.{then_reports, reported_reports, where_reports}
 
 pub known_suited_reports : (broken : Rule) → (t : TypeNo) → (s : Range) → (at : Pos) → (a : Ordinal) → Reports (known_suited least broken t s at a) (known_suited every broken t s at a)
@@ -89,5 +89,5 @@ suited_in_reports broken types t at x class.Set = of_expr_reports (value_suited_
 suited_in_reports broken types t at x class.Procedure = of_expr_reports (value_suited_reports broken types t at x)
 suited_in_reports broken types t at x class.Whole = whole_suited_reports broken types t at x
 
-pub suited_reports : (broken : Rule) → (types : Types) → (t : TypeNo) → (at : Pos) → (x : Computed) → Reports (suited least broken types t at x) (suited every broken types t at x)
+pub suited_reports : (broken : Rule) → (types : Types) → (t : TypeNo) → (at : Pos) → (x : Computed) → Reports (value_for_place least broken types t at x) (value_for_place every broken types t at x)
 suited_reports broken types t at x = suited_in_reports broken types t at x (class_at types t)

@@ -7,7 +7,7 @@ use Rattle.m2_tree.specs.declared.decl.Contents.TheVariants as contents
 use Rattle.m2_tree.specs.declared.decl.Module.{Module}
 use Rattle.typed_tree.specs.declared.meaning.Meaning.{Meaning}
 use Rattle.typed_tree.specs.declared.table.Table.{Table}
-use Rattle.typed_tree.specs.Names.{entered}
+use Rattle.typed_tree.specs.Names.{enter_name}
 use Rattle.m2_rule.specs.declared.breach.Breach.{Breach}
 use Rattle.check_scope.specs.declared.known.Known.{Known}
 use Rattle.check_scope.specs.declared.known.Origin.TheVariants as origin
@@ -16,7 +16,7 @@ use Rattle.check_scope.specs.Elaborated.{every, least}
 use Rattle.check_definition.specs.Predeclared.{console}
 use Rattle.check_definition.specs.Importing.{numbered_modules}
 use Rattle.check_definition.specs.Export.{with_export, exports, reached_of, imported_modules}
-use Rattle.check_definition.specs.Compiled.{table_of, table_or, declared_in, of_definition, of_contents, compiled}
+use Rattle.check_definition.specs.Compiled.{table_of, table_or, declared_in, of_definition, of_contents, definition_table}
 use Rattle.law_least_definition.specs.Least.{Reports, fine, is_refused}
 use Rattle.law_least_definition.specs.Beside.{Pairwise, known_later, known_ahead, known_begun, known_headed, known_declared, EntryBeside, entry, ScopeBeside, scopes, StateBeside}
 use Rattle.law_least_definition.proofs.Forms.{reported_reports, fold_pairwise}
@@ -31,9 +31,9 @@ with_export_same : {so so' : List (List ℕ × Meaning)} → so ≡ so' → {e :
 with_export_same h (entry name known_later) = h
 with_export_same h (entry name known_ahead) = h
 with_export_same h (entry name known_begun) = h
-with_export_same h (entry name (known_headed (fine m))) = ap (entered name m) h
+with_export_same h (entry name (known_headed (fine m))) = ap (enter_name name m) h
 with_export_same h (entry name (known_headed (is_refused f fs l))) = h
-with_export_same h (entry name (known_declared origin.Here (fine m))) = ap (entered name m) h
+with_export_same h (entry name (known_declared origin.Here (fine m))) = ap (enter_name name m) h
 with_export_same h (entry name (known_declared origin.Here (is_refused f fs l))) = h
 with_export_same h (entry name (known_declared (origin.Module k) t)) = h
 with_export_same h (entry name (known_declared (origin.Export k) t)) = h
@@ -63,5 +63,5 @@ of_contents_reports number m tables (contents.Implementation b) = reported_repor
 of_contents_reports number m tables (contents.Program b) = reported_reports m.name.pos rule.LonelyModule
 
 -- what is reported of a definition is the least of all rules that are broken in it
-pub compiled_reports : (number : ℕ) (m : Module) (imports : List Table) → Reports (compiled least number m imports) (compiled every number m imports)
+pub compiled_reports : (number : ℕ) (m : Module) (imports : List Table) → Reports (definition_table least number m imports) (definition_table every number m imports)
 compiled_reports number m imports = of_contents_reports number m (imports ++ console ∷ []) m.contents

@@ -9,7 +9,7 @@ use Rattle.check_operator.specs.declared.computed.Designated.{Designated}
 use Rattle.check_operator.specs.declared.computed.Designated.TheVariants as designated
 use Rattle.check_scope.specs.Elaborated.{every, least}
 use Rattle.law_least_definition.specs.Least.{Reports, fine}
-use Rattle.check_operator.specs.Values.{designated_by, taken}
+use Rattle.check_operator.specs.Values.{designated_by, value_at_place}
 use Rattle.law_least_definition.proofs.Forms.{reported_reports}
 
 pub designated_by_reports : (level : ℕ) → (at : Pos) → (p2 : Meaning) → Reports (designated_by least level at p2) (designated_by every level at p2)
@@ -24,7 +24,7 @@ designated_by_reports level at meaning.Ahead = reported_reports at rule.Undeclar
 designated_by_reports level at (meaning.Standard f) = fine _
 designated_by_reports level at (meaning.Module k) = fine _
 
-pub taken_reports : (types : Types) → (at : Pos) → (p2 : Designated) → Reports (taken least types at p2) (taken every types at p2)
+pub taken_reports : (types : Types) → (at : Pos) → (p2 : Designated) → Reports (value_at_place least types at p2) (value_at_place every types at p2)
 taken_reports types at (designated.Value x) = fine x
 taken_reports types at (designated.Variable t d) = fine _
 taken_reports types at (designated.Open t slot) = fine _

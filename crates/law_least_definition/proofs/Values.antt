@@ -20,11 +20,11 @@ use Rattle.check_const_ops.specs.declared.operator.BinaryOp.{BinaryOp}
 use Rattle.check_const_ops.specs.declared.operator.BinaryOp.TheVariants.{Plus, Minus, Times, Over, Div, Mod, And, Or, Relation}
 use Rattle.check_const_ops.specs.Operators.{is_division}
 use Rattle.check_const_ops.specs.Operands.{operand_of, is_number, is_truth}
-use Rattle.check_const_ops.specs.Numbers.{fits, is_between, number_at, evaluated, evaluated_at, quotient, remainder}
+use Rattle.check_const_ops.specs.Numbers.{fits, is_between, number_at, whole_arithmetic, evaluated_at, quotient, remainder}
 use Rattle.check_const_ops.specs.Common.{common}
-use Rattle.check_const_ops.specs.Standards.{scalar_part, whole_number, absolute_part, absolute, is_char, capital_part, capital, character_part, character, odd_part, is_odd, ordinal_part, ordinal_of, converted_part, converted}
-use Rattle.check_const_ops.specs.Sets.{set_related, on_sets, member_of, member, numbered, element, is_element, single, is_unlike, ordered, related, spanned}
-use Rattle.check_const_ops.specs.Operate.{takes, applied, divisor, is_misfit, fitting, operated, on_scalars, binary, combined, is_signed, signed_scalar, signed_value, signed, negated_value, negated}
+use Rattle.check_const_ops.specs.Standards.{scalar_part, whole_number, absolute_part, absolute, is_char, capital_part, capital, character_part, character, odd_part, is_odd, ordinal_part, ordinal_of, converted_part, conversion_of}
+use Rattle.check_const_ops.specs.Sets.{set_related, on_sets, member_of, member, ordinal_or_refusal, element, is_element, single, is_unlike, bounds_in_order, alike_in_order, span_of}
+use Rattle.check_const_ops.specs.Operate.{takes, ordinal_result, divisor, is_misfit, fitting, ordinal_operation, on_scalars, binary, constant_operation, is_signed, signed_scalar, signed_value, with_sign, negated_value, negation}
 use Rattle.law_least_definition.specs.Least.{Reports, fine}
 use Rattle.law_least_definition.proofs.Forms.{reported_reports, where_reports, both_reports, then_reports, beside_reports, cond_keeps}
 
@@ -34,7 +34,7 @@ pub number_at_reports : (at : Pos) (sort : Option TypeNo) (n : ℤ) → Reports 
 number_at_reports at sort n = where_reports (not (fits sort n)) at rule.OutOfRange (fine _)
 
 pub evaluated_at_reports : (at : Pos) (sort : Option TypeNo) (op : BinaryOp) (x y : ℤ) → Reports (evaluated_at least at sort op x y) (evaluated_at every at sort op x y)
-evaluated_at_reports at sort op x y = number_at_reports at sort (evaluated op x y)
+evaluated_at_reports at sort op x y = number_at_reports at sort (whole_arithmetic op x y)
 
 -- ---- standard procedures
 
@@ -77,7 +77,7 @@ converted_part_reports : (t : TypeNo) (s : Scalar) (at : Pos) (a : Option Ordina
 converted_part_reports t s at None = reported_reports at rule.WrongArgument
 converted_part_reports t s at (Some a) = where_reports (not (is_between s.low a.number s.high)) at rule.OutOfRange (fine _)
 
-pub converted_reports : (t : TypeNo) (s : Scalar) (at : Pos) (v : Value) → Reports (converted least t s at v) (converted every t s at v)
+pub converted_reports : (t : TypeNo) (s : Scalar) (at : Pos) (v : Value) → Reports (conversion_of least t s at v) (conversion_of every t s at v)
 converted_reports t s at v = converted_part_reports t s at (whole_number v)
 
 -- ---- sets
@@ -122,7 +122,7 @@ member_reports Mod spot at x bits = reported_reports spot rule.WrongType
 member_reports And spot at x bits = reported_reports spot rule.WrongType
 member_reports Or spot at x bits = reported_reports spot rule.WrongType
 
-numbered_reports : (at : Pos) (a : Option Ordinal) → Reports (numbered least at a) (numbered every at a)
+numbered_reports : (at : Pos) (a : Option Ordinal) → Reports (ordinal_or_refusal least at a) (ordinal_or_refusal every at a)
 numbered_reports at None = reported_reports at rule.WrongType
 numbered_reports at (Some a) = fine a
 
@@ -135,21 +135,21 @@ is_element_reports at a = where_reports (not (is_between (pos 0) a.number (pos 3
 pub single_reports : (at : Pos) (v : Value) → Reports (single least at v) (single every at v)
 single_reports at v = then_reports (element_reports at v) (λ a. then_reports (is_element_reports at a) (λ u. fine _))
 
-ordered_reports : (at : Pos) (low high : ℤ) → Reports (ordered least at low high) (ordered every at low high)
+ordered_reports : (at : Pos) (low high : ℤ) → Reports (bounds_in_order least at low high) (bounds_in_order every at low high)
 ordered_reports at low high = where_reports (int_lt high low) at rule.EmptyRange (fine tt)
 
-related_reports : (at at' : Pos) (a b : Ordinal) → Reports (related least at at' a b) (related every at at' a b)
+related_reports : (at at' : Pos) (a b : Ordinal) → Reports (alike_in_order least at at' a b) (alike_in_order every at at' a b)
 related_reports at at' a b = where_reports (is_unlike a b) at' rule.WrongType (ordered_reports at a.number b.number)
 
 pub spanned_reports : (at : Pos) {a : Result Ordinal Breach} {a' : Result Ordinal (List Breach)} → Reports a a' → (at' : Pos) {b : Result Ordinal Breach} {b' : Result Ordinal (List Breach)} → Reports b b'
-    → Reports (spanned least at a at' b) (spanned every at a' at' b')
+    → Reports (span_of least at a at' b) (span_of every at a' at' b')
 spanned_reports at p at' q =
     then_reports (both_reports (both_reports p q) (beside_reports (beside_reports (then_reports p (λ x. is_element_reports at x)) (then_reports q (λ x. is_element_reports at' x)))
     (then_reports (both_reports p q) (λ x. related_reports at at' x.0 x.1)))) (λ x. fine _)
 
 -- ---- operators
 
-applied_reports : (op : BinaryOp) (at : Pos) (sort : Option TypeNo) (x y : ℤ) → Reports (applied least op at sort x y) (applied every op at sort x y)
+applied_reports : (op : BinaryOp) (at : Pos) (sort : Option TypeNo) (x y : ℤ) → Reports (ordinal_result least op at sort x y) (ordinal_result every op at sort x y)
 applied_reports Plus at sort x y = evaluated_at_reports at sort Plus x y
 applied_reports Minus at sort x y = evaluated_at_reports at sort Minus x y
 applied_reports Times at sort x y = evaluated_at_reports at sort Times x y
@@ -166,7 +166,7 @@ divisor_reports op at y = where_reports (is_division op && int_lt y (pos 1)) at 
 pub fitting_reports : (sort : Option TypeNo) (at : Pos) (a : Ordinal) → Reports (fitting least sort at a) (fitting every sort at a)
 fitting_reports sort at a = where_reports (is_misfit sort a.sort a.number) at rule.OutOfRange (fine tt)
 
-operated_reports : (op : BinaryOp) (spot : Pos) (sort : Option TypeNo) (at : Pos) (a : Ordinal) (at' : Pos) (b : Ordinal) → Reports (operated least op spot sort at a at' b) (operated every op spot sort at a at' b)
+operated_reports : (op : BinaryOp) (spot : Pos) (sort : Option TypeNo) (at : Pos) (a : Ordinal) (at' : Pos) (b : Ordinal) → Reports (ordinal_operation least op spot sort at a at' b) (ordinal_operation every op spot sort at a at' b)
 operated_reports op spot sort at a at' b =
     where_reports (not (takes op sort)) spot rule.WrongType
     (then_reports (beside_reports (divisor_reports op spot b.number) (beside_reports (fitting_reports sort at a) (fitting_reports sort at' b))) (λ u. applied_reports op spot sort a.number b.number))
@@ -185,7 +185,7 @@ binary_reports op spot at (Some (operands.Set a)) at' None = reported_reports sp
 binary_reports op spot at None at' y = reported_reports spot rule.WrongType
 
 pub combined_reports : (op : BinaryOp) (spot at : Pos) {x : Result Value Breach} {x' : Result Value (List Breach)} → Reports x x' → (at' : Pos) {y : Result Value Breach} {y' : Result Value (List Breach)} → Reports y y'
-    → Reports (combined least op spot at x at' y) (combined every op spot at x' at' y')
+    → Reports (constant_operation least op spot at x at' y) (constant_operation every op spot at x' at' y')
 combined_reports op spot at p at' q = then_reports (both_reports p q) (λ v. binary_reports op spot at (operand_of v.0) at' (operand_of v.1))
 
 -- ---- signs and NOT
@@ -199,7 +199,7 @@ signed_value_reports o at None = reported_reports at rule.WrongType
 signed_value_reports o at (Some (operands.Set bits)) = reported_reports at rule.WrongType
 signed_value_reports o at (Some (operands.Scalar a)) = signed_scalar_reports o at a
 
-pub signed_reports : (o : Sign) (at : Pos) {x : Result Value Breach} {x' : Result Value (List Breach)} → Reports x x' → Reports (signed least o at x) (signed every o at x')
+pub signed_reports : (o : Sign) (at : Pos) {x : Result Value Breach} {x' : Result Value (List Breach)} → Reports x x' → Reports (with_sign least o at x) (with_sign every o at x')
 signed_reports o at p = then_reports p (λ v. signed_value_reports o at (operand_of v))
 
 negated_value_reports : (at : Pos) (x : Option Operand) → Reports (negated_value least at x) (negated_value every at x)
@@ -207,5 +207,5 @@ negated_value_reports at None = reported_reports at rule.WrongType
 negated_value_reports at (Some (operands.Set bits)) = reported_reports at rule.WrongType
 negated_value_reports at (Some (operands.Scalar a)) = where_reports (not (is_truth a.sort)) at rule.WrongType (fine _)
 
-pub negated_reports : (at : Pos) {x : Result Value Breach} {x' : Result Value (List Breach)} → Reports x x' → Reports (negated least at x) (negated every at x')
+pub negated_reports : (at : Pos) {x : Result Value Breach} {x' : Result Value (List Breach)} → Reports x x' → Reports (negation least at x) (negation every at x')
 negated_reports at p = then_reports p (λ v. negated_value_reports at (operand_of v))

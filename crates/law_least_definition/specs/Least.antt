@@ -6,7 +6,7 @@ use Rattle.m2_tree.specs.declared.decl.Module.{Module}
 use Rattle.typed_tree.specs.declared.table.Table.{Table}
 use Rattle.check_scope.specs.Elaborated.{every, least}
 use Rattle.m2_rule.specs.Breaches.{is_less}
-use Rattle.check_definition.specs.Compiled.{compiled}
+use Rattle.check_definition.specs.Compiled.{definition_table}
 
 -- one of them, and none of them is less, by place and then by number
 pub record IsLeast (f : Breach) (fs : List Breach) : Type 0 where
@@ -23,4 +23,4 @@ pub data Reports {A : Type 0} : Result A Breach → Result A (List Breach) → T
 abbrev pub DefinitionsReportTheLeast : Type 0
 DefinitionsReportTheLeast =
     (number : ℕ) (m : Module) (imports : List Table)
-    → Reports (compiled least number m imports) (compiled every number m imports)
+    → Reports (definition_table least number m imports) (definition_table every number m imports)

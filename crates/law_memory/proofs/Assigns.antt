@@ -4,7 +4,7 @@ use Rattle.law_effect.specs.Bytes.{copied_bytes, cleared_bytes}
 use Rattle.law_effect.proofs.Bytes.{copied_length, copied_small, copied_only, copied_moved, cleared_length, cleared_small, cleared_only, cleared_zero}
 use Rattle.layout_storage.specs.Types.{Ty, row, component, IsPlain, IsFit}
 use Rattle.def_meaning.specs.Environment.{Modules}
-use Rattle.def_meaning.specs.Store.{Location, Store, placed, copied, fresh}
+use Rattle.def_meaning.specs.Store.{Location, Store, overlay, copy_whole, fresh}
 use Rattle.layout_storage.specs.Sizes.{size, offset}
 use Rattle.law_memory.specs.Relation.{Shows, Holds}
 use Rattle.law_memory.proofs.Places.{same_or_apart, inside}
@@ -14,7 +14,7 @@ use Rattle.law_memory.proofs.Frames.{zero_shows, zero_hides}
 
 module _ (program : Modules) (world : List Ty) (x : Location → ℕ → ℕ) (s : Store) (m : List ℕ) (h : Holds program world x s m) where
   -- a whole array or record is assigned by the loop over its bytes, also to itself
-  pub assigns_whole : (to from : Location) (t : Ty) → IsPlain t → component (row world) to ≡ Some t → component (row world) from ≡ Some t → Holds program world x (copied to from s) (copied_bytes (size t) (offset (row world) to) (offset (row world) from) m)
+  pub assigns_whole : (to from : Location) (t : Ty) → IsPlain t → component (row world) to ≡ Some t → component (row world) from ≡ Some t → Holds program world x (copy_whole to from s) (copied_bytes (size t) (offset (row world) to) (offset (row world) from) m)
   assigns_whole to from t plain there source =
       let a = offset (row world) to in
       let b = offset (row world) from in
@@ -24,7 +24,7 @@ module _ (program : Modules) (world : List Ty) (x : Location → ℕ → ℕ) (s
       (copied_moved (size t) a b m fits apart) (copied_only (size t) a b m fits) (copied_length (size t) a b m fits) (copied_small (size t) a b m fits h.bytes)
 
   -- a frame begins: its variables are fresh
-  pub begins_frame : (t : Ty) → IsFit t → size (row world) + size t ≤ length m → Holds program (world ++ t ∷ []) (placed (length world ∷ []) (λ r k. 0) x) (placed (length world ∷ []) (fresh t) s) (cleared_bytes (size t) (size (row world)) m)
+  pub begins_frame : (t : Ty) → IsFit t → size (row world) + size t ≤ length m → Holds program (world ++ t ∷ []) (overlay (length world ∷ []) (λ r k. 0) x) (overlay (length world ∷ []) (fresh t) s) (cleared_bytes (size t) (size (row world)) m)
   begins_frame t fit room =
       let a = size (row world) in
       let m' = cleared_bytes (size t) a m in
@@ -33,7 +33,7 @@ module _ (program : Modules) (world : List Ty) (x : Location → ℕ → ℕ) (s
       (zero_shows program t a m' fit (cleared_zero (size t) a m room)) (zero_hides t a m' (cleared_zero (size t) a m room))
 
   -- the copy of an array behind the frame
-  pub begins_copy : (from : Location) (t : Ty) → IsPlain t → component (row world) from ≡ Some t → size (row world) + size t ≤ length m → Holds program (world ++ t ∷ []) (placed (length world ∷ []) (λ r k. 0) x) (placed (length world ∷ []) (λ r. s (from ++ r)) s) (copied_bytes (size t) (size (row world)) (offset (row world) from) m)
+  pub begins_copy : (from : Location) (t : Ty) → IsPlain t → component (row world) from ≡ Some t → size (row world) + size t ≤ length m → Holds program (world ++ t ∷ []) (overlay (length world ∷ []) (λ r k. 0) x) (overlay (length world ∷ []) (λ r. s (from ++ r)) s) (copied_bytes (size t) (size (row world)) (offset (row world) from) m)
   begins_copy from t plain source room =
       let a = size (row world) in
       let b = offset (row world) from in

@@ -4,7 +4,7 @@ use Rattle.wasm_tree.specs.declared.kinds.FuncType.{FuncType}
 use Rattle.wasm_tree.specs.declared.module.WModule.{WModule}
 use Rattle.wasm_tree.specs.declared.store.Value.{Value}
 use Rattle.wasm_tree.specs.declared.store.Value.TheVariants.{I32}
-use Rattle.wasm_tree.specs.Machine.{Going, entered}
+use Rattle.wasm_tree.specs.Machine.{Going, enter_function}
 use Rattle.law_effect.specs.Effect.{Fixed, State, store_of, Effect, FellThrough, Branched, Returned, Ended, Traps, StillRunning, Does, Calling, effect, calling, then_run, back}
 use Rattle.law_effect.specs.Laws.{RunLeads}
 use Rattle.law_effect.proofs.Follows.{runs}
@@ -32,6 +32,6 @@ bodies_called modules fx n calls m top type (b ∷ bs) are st s =
 pub program_runs : ProgramRuns
 unfolding calling
 program_runs modules fx extra n m f index top type bs are bytes =
-    subst (λ (e : Effect). RunLeads modules n 0 (Going (store_of fx bytes) (entered m (run_typed index top type bs) []) []) e)
+    subst (λ (e : Effect). RunLeads modules n 0 (Going (store_of fx bytes) (enter_function m (run_typed index top type bs) []) []) e)
     (bodies_called modules fx (n + extra m f) (calling modules fx extra n n) m top type bs are (record { locals = []; bytes = bytes; out = [] }) [])
     (runs modules fx extra n m f (run_typed index top type bs) bytes)

@@ -5,14 +5,14 @@ use Rattle.std.proofs.lemmas.Int.{ints, to_z-of_z}
 use Rattle.std.proofs.Math.Nat.{pow-succ'}
 use lib.Signed.{mag}
 use Rattle.std.specs.Int.{w8, w16, w32, w64, cast_signed, cast_unsigned, from_le_bytes}
-use Rattle.wasm_tree.specs.Machine.{bytes_at, pasted}
-use Rattle.wasm_tree.specs.Numbers.{load_size, loaded, extended}
+use Rattle.wasm_tree.specs.Machine.{bytes_at, paste_items}
+use Rattle.wasm_tree.specs.Numbers.{load_size, load_number, extend_number}
 use Rattle.law_effect.specs.Bytes.{byte, IsOnly}
 use Rattle.law_effect.proofs.Bytes.{byte_part, byte_pasted, pasted_only, length-pasted, small_pasted, part0}
 use Rattle.layout_storage.specs.Types.{Scalar, Natural, Integer, Between, Callable, IsOf, IsScalar}
 use Rattle.def_meaning.specs.Environment.{Modules}
 use Rattle.layout_storage.specs.Sizes.{Room, One, Two, Four, room_for, bytes_in, room_of, width, value_of}
-use Rattle.law_memory.specs.Cells.{number, word, unsigned_load, load_of, raised, lowered, fetched, put, stored_in}
+use Rattle.law_memory.specs.Cells.{number, word, unsigned_load, load_of, raise_cell, lower_cell, fetch_cell, put, stored_in}
 use Rattle.law_memory.specs.Relation.{Means, Says}
 
 -- ---- numbers
@@ -52,25 +52,25 @@ from_4 a m =
     omega arith
 
 -- what stands where a number was stored
-pub number_stored : (r : Room) (a n : ℕ) (m : List ℕ) → a + bytes_in r ≤ length m → number (bytes_in r) a (pasted m a (stored_in r n)) ≡ n % 256 ^ bytes_in r
+pub number_stored : (r : Room) (a n : ℕ) (m : List ℕ) → a + bytes_in r ≤ length m → number (bytes_in r) a (paste_items m a (stored_in r n)) ≡ n % 256 ^ bytes_in r
 number_stored One a n m fits =
     let p = byte_pasted m a 0 (stored_in One n) (omega arith) (omega arith) in
-    let q : byte (a + 0) (pasted m a (stored_in One n)) ≡ byte a (pasted m a (stored_in One n)) = ap (λ i. byte i (pasted m a (stored_in One n))) (omega arith) in
-    let e = one a (pasted m a (stored_in One n)) in
+    let q : byte (a + 0) (paste_items m a (stored_in One n)) ≡ byte a (paste_items m a (stored_in One n)) = ap (λ i. byte i (paste_items m a (stored_in One n))) (omega arith) in
+    let e = one a (paste_items m a (stored_in One n)) in
     omega arith
 number_stored Two a n m fits =
     let p = byte_pasted m a 0 (stored_in Two n) (omega arith) (omega arith) in
-    let q : byte (a + 0) (pasted m a (stored_in Two n)) ≡ byte a (pasted m a (stored_in Two n)) = ap (λ i. byte i (pasted m a (stored_in Two n))) (omega arith) in
+    let q : byte (a + 0) (paste_items m a (stored_in Two n)) ≡ byte a (paste_items m a (stored_in Two n)) = ap (λ i. byte i (paste_items m a (stored_in Two n))) (omega arith) in
     let p1 = byte_pasted m a 1 (stored_in Two n) (omega arith) (omega arith) in
-    let e = two a (pasted m a (stored_in Two n)) in
+    let e = two a (paste_items m a (stored_in Two n)) in
     omega arith
 number_stored Four a n m fits =
     let p = byte_pasted m a 0 (stored_in Four n) (omega arith) (omega arith) in
-    let q : byte (a + 0) (pasted m a (stored_in Four n)) ≡ byte a (pasted m a (stored_in Four n)) = ap (λ i. byte i (pasted m a (stored_in Four n))) (omega arith) in
+    let q : byte (a + 0) (paste_items m a (stored_in Four n)) ≡ byte a (paste_items m a (stored_in Four n)) = ap (λ i. byte i (paste_items m a (stored_in Four n))) (omega arith) in
     let p1 = byte_pasted m a 1 (stored_in Four n) (omega arith) (omega arith) in
     let p2 = byte_pasted m a 2 (stored_in Four n) (omega arith) (omega arith) in
     let p3 = byte_pasted m a 3 (stored_in Four n) (omega arith) (omega arith) in
-    let e = four a (pasted m a (stored_in Four n)) in
+    let e = four a (paste_items m a (stored_in Four n)) in
     omega arith
 
 pub number_below : (k a : ℕ) (m : List ℕ) → ((b : ℕ) → byte b m < 256) → number k a m < 256 ^ k
@@ -84,14 +84,14 @@ number_below (suc k) a m small =
 
 -- ---- values
 
-raised_is : (c : Scalar) (a : ℕ) (m : List ℕ) → IsScalar c → ((b : ℕ) → byte b m < 256) → a + width c ≤ length m → raised c (loaded (load_of c) (take (load_size (load_of c)) (drop a m))) ≡ word (value_of c (number (width c) a m))
+raised_is : (c : Scalar) (a : ℕ) (m : List ℕ) → IsScalar c → ((b : ℕ) → byte b m < 256) → a + width c ≤ length m → raise_cell c (load_number (load_of c) (take (load_size (load_of c)) (drop a m))) ≡ word (value_of c (number (width c) a m))
 raised_is (Natural g) a m ok small fits = unsigned (room_for g)
   where
-    unsigned : (r : Room) → loaded (unsigned_load r) (take (load_size (unsigned_load r)) (drop a m)) ≡ number (bytes_in r) a m
+    unsigned : (r : Room) → load_number (unsigned_load r) (take (load_size (unsigned_load r)) (drop a m)) ≡ number (bytes_in r) a m
     unsigned One = from_1 a m
     unsigned Two = from_2 a m
     unsigned Four = from_4 a m
-raised_is Integer a m ok small fits = ap extended (from_4 a m)
+raised_is Integer a m ok small fits = ap extend_number (from_4 a m)
 raised_is (Between l g) a m ok small fits = unsigned (room_of (Between l g))
   where
     below : (r : Room) → number (bytes_in r) a m < 2 ^ 32
@@ -102,7 +102,7 @@ raised_is (Between l g) a m ok small fits = unsigned (room_of (Between l g))
     sums : (n : ℕ) → n < 2 ^ 32 → (n + word l) % 2 ^ 64 ≡ word (l +ℤ pos n)
     sums n h = let low = ok.low in let high = ok.high in let some = ok.some in omega (arith, ints)
 
-    unsigned : (r : Room) → (loaded (unsigned_load r) (take (load_size (unsigned_load r)) (drop a m)) + word l) % 2 ^ 64 ≡ word (l +ℤ pos (number (bytes_in r) a m))
+    unsigned : (r : Room) → (load_number (unsigned_load r) (take (load_size (unsigned_load r)) (drop a m)) + word l) % 2 ^ 64 ≡ word (l +ℤ pos (number (bytes_in r) a m))
     unsigned One = ap (λ n. (n + word l) % 2 ^ 64) (from_1 a m) ∙ sums _ (below One)
     unsigned Two = ap (λ n. (n + word l) % 2 ^ 64) (from_2 a m) ∙ sums _ (below Two)
     unsigned Four = ap (λ n. (n + word l) % 2 ^ 64) (from_4 a m) ∙ sums _ (below Four)
@@ -125,17 +125,17 @@ load_width (Between l g) = unsigned_width (room_of (Between l g))
 load_width (Callable h) = refl
 
 -- what is loaded from a cell
-pub fetch_parts : (program : Modules) → (c : Scalar) (a : ℕ) (v : ℤ) (m : List ℕ) → IsScalar c → ((b : ℕ) → byte b m < 256) → a + width c ≤ length m → Says program c a v m → (bytes : List ℕ) × (bytes_at (load_size (load_of c)) a m ≡ Some bytes) × (raised c (loaded (load_of c) bytes) ≡ word v)
+pub fetch_parts : (program : Modules) → (c : Scalar) (a : ℕ) (v : ℤ) (m : List ℕ) → IsScalar c → ((b : ℕ) → byte b m < 256) → a + width c ≤ length m → Says program c a v m → (bytes : List ℕ) × (bytes_at (load_size (load_of c)) a m ≡ Some bytes) × (raise_cell c (load_number (load_of c) bytes) ≡ word v)
 fetch_parts program c a v m ok small fits says =
     let w = load_width c in
     let there : nat_le (a + load_size (load_of c)) (length m) ≡ true = le-leb _ _ (omega arith) in
     let bytes = take (load_size (load_of c)) (drop a m) in
     (bytes, ap (λ b. if b then Some bytes else None) there, raised_is c a m ok small fits ∙ ap word says.value)
 
-pub fetches : (program : Modules) → (c : Scalar) (a : ℕ) (v : ℤ) (m : List ℕ) → IsScalar c → ((b : ℕ) → byte b m < 256) → a + width c ≤ length m → Says program c a v m → fetched c a m ≡ Some (word v)
+pub fetches : (program : Modules) → (c : Scalar) (a : ℕ) (v : ℤ) (m : List ℕ) → IsScalar c → ((b : ℕ) → byte b m < 256) → a + width c ≤ length m → Says program c a v m → fetch_cell c a m ≡ Some (word v)
 fetches program c a v m ok small fits says =
     let p = fetch_parts program c a v m ok small fits says in
-    ap (λ o. option_map (λ bs. raised c (loaded (load_of c) bs)) o) p.1 ∙ ap Some p.2
+    ap (λ o. option_map (λ bs. raise_cell c (load_number (load_of c) bs)) o) p.1 ∙ ap Some p.2
 
 -- eight bytes, as the link of a frame has
 pub eight : (a : ℕ) (m : List ℕ) → number 8 a m ≡ byte a m + byte (a + 1) m * 256 + byte (a + 2) m * 65536 + byte (a + 3) m * 16777216 + byte (a + 4) m * 4294967296 + byte (a + 5) m * 1099511627776 + byte (a + 6) m * 281474976710656 + byte (a + 7) m * 72057594037927936
@@ -186,7 +186,7 @@ mag_below (pos n) l h = omega (arith, ints)
 mag_below (negsuc n) l h = omega (arith, ints)
 
 -- what is stored stands for the number
-stands_for : (c : Scalar) (v : ℤ) → IsScalar c → IsOf c v → value_of c (lowered c (word v) % 256 ^ width c) ≡ v
+stands_for : (c : Scalar) (v : ℤ) → IsScalar c → IsOf c v → value_of c (lower_cell c (word v) % 256 ^ width c) ≡ v
 stands_for (Natural g) v ok is =
     let low = is.low in let high = is.high in let top = ok.high in
     let n : unsigned_abs v ≤ g = omega (arith, ints) in
@@ -218,18 +218,18 @@ length-stored Four n = refl
 
 pub puts : (program : Modules) → (c : Scalar) (a : ℕ) (v : ℤ) (m : List ℕ) → IsScalar c → IsOf c v → Means program c v → a + width c ≤ length m → Says program c a v (put c a (word v) m)
 puts program c a v m ok is means fits = record {
-  value = ap (value_of c) (number_stored (room_of c) a (lowered c (word v)) m fits) ∙ stands_for c v ok is;
+  value = ap (value_of c) (number_stored (room_of c) a (lower_cell c (word v)) m fits) ∙ stands_for c v ok is;
   within = is;
   means = means;
 }
 
 pub put_only : (c : Scalar) (a n : ℕ) (m : List ℕ) → a + width c ≤ length m → IsOnly a (width c) m (put c a n m)
 put_only c a n m fits =
-    let l = length-stored (room_of c) (lowered c n) in
-    subst (λ k. IsOnly a k m (put c a n m)) l (pasted_only m a (stored_in (room_of c) (lowered c n)) (omega arith))
+    let l = length-stored (room_of c) (lower_cell c n) in
+    subst (λ k. IsOnly a k m (put c a n m)) l (pasted_only m a (stored_in (room_of c) (lower_cell c n)) (omega arith))
 
 pub length-put : (c : Scalar) (a n : ℕ) (m : List ℕ) → a + width c ≤ length m → length (put c a n m) ≡ length m
-length-put c a n m fits = let l = length-stored (room_of c) (lowered c n) in length-pasted m a _ (omega arith)
+length-put c a n m fits = let l = length-stored (room_of c) (lower_cell c n) in length-pasted m a _ (omega arith)
 
 stored_small : (r : Room) (n j : ℕ) → j < bytes_in r → get_or (stored_in r n) j 0 < 256
 stored_small One n zero h = omega arith
@@ -245,5 +245,5 @@ stored_small Four n (suc (suc (suc (suc j)))) h = absurd (omega arith)
 
 pub small_put : (c : Scalar) (a n : ℕ) (m : List ℕ) → a + width c ≤ length m → ((b : ℕ) → byte b m < 256) → (b : ℕ) → byte b (put c a n m) < 256
 small_put c a n m fits small =
-    let l = length-stored (room_of c) (lowered c n) in
-    small_pasted m a _ (omega arith) small (λ j h. stored_small (room_of c) (lowered c n) j (omega arith))
+    let l = length-stored (room_of c) (lower_cell c n) in
+    small_pasted m a _ (omega arith) small (λ j h. stored_small (room_of c) (lower_cell c n) j (omega arith))

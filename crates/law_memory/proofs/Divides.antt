@@ -15,7 +15,7 @@ use Rattle.wasm_tree.specs.declared.module.WModule.{WModule}
 use Rattle.wasm_tree.specs.declared.store.Value.{Value}
 use Rattle.wasm_tree.specs.declared.store.Value.TheVariants.{I32, I64}
 use Rattle.wasm_tree.specs.declared.store.Callee.TheVariants.{Stop, Own}
-use Rattle.wasm_tree.specs.Numbers.{truth, is_less, compares, operated}
+use Rattle.wasm_tree.specs.Numbers.{truth, is_less, compares, operation_result}
 use Rattle.wasm_tree.specs.Machine.{callee_at, own_function}
 use Rattle.law_effect.specs.Effect.{Fixed, State, store_of, Effect, FellThrough, Ended, Does, Calling, then_run, back, effect, calling}
 use Rattle.def_scheme.specs.Helpers.{divisor_checked, div_rest, mod_rest, mod_typed, check_typed}
@@ -49,13 +49,13 @@ quotient x y = cast_unsigned w64 (int_div (cast_signed w64 x) (cast_signed w64 y
 abbrev unless : Bool → Option ℕ → Option ℕ
 unless b o = if b then None else o
 
-divides : (x y : ℕ) → is_less w64 y 1 ≡ false → operated DivS x y ≡ Some (quotient x y)
+divides : (x y : ℕ) → is_less w64 y 1 ≡ false → operation_result DivS x y ≡ Some (quotient x y)
 divides x y h =
     ap (λ b. unless ((x == 9223372036854775808) && b) (unless (y == 0) (Some (quotient x y)))) (not_last y h)
     ∙ ap (λ b. unless b (unless (y == 0) (Some (quotient x y)))) (and_false (x == 9223372036854775808))
     ∙ ap (λ b. unless b (Some (quotient x y))) (not_zero y h)
 
-leaves : (x y : ℕ) → is_less w64 y 1 ≡ false → operated RemS x y ≡ Some (remainder x y)
+leaves : (x y : ℕ) → is_less w64 y 1 ≡ false → operation_result RemS x y ≡ Some (remainder x y)
 leaves x y h = ap (λ b. unless b (Some (remainder x y))) (not_zero y h)
 
 -- ---- the code
@@ -67,9 +67,9 @@ module _ (modules : List WModule) (fx : Fixed) (n : ℕ) (calls : Calling) (m : 
   abbrev does : List Instr → Does
   does = runs modules fx n calls m
 
-  op_runs : (rest : List Instr) (st : State) (o : Operation) (x y r : ℕ) (s : List Value) → operated o x y ≡ Some r → does (instr.Numeric (numeric.I64Operation o) ∷ rest) st (s ▹ I64 x ▹ I64 y) ≡ does rest st (s ▹ I64 r)
+  op_runs : (rest : List Instr) (st : State) (o : Operation) (x y r : ℕ) (s : List Value) → operation_result o x y ≡ Some r → does (instr.Numeric (numeric.I64Operation o) ∷ rest) st (s ▹ I64 x ▹ I64 y) ≡ does rest st (s ▹ I64 r)
   op_runs rest st o x y r s e =
-      number_runs modules fx n calls m rest st (numeric.I64Operation o) (s ▹ I64 x ▹ I64 y) s (I64 r) (two_64 s x y (λ a b. option_map I64 (operated o a b)) ∙ ap (λ q. option_map (λ v. (s, v)) (option_map I64 q)) e)
+      number_runs modules fx n calls m rest st (numeric.I64Operation o) (s ▹ I64 x ▹ I64 y) s (I64 r) (two_64 s x y (λ a b. option_map I64 (operation_result o a b)) ∙ ap (λ q. option_map (λ v. (s, v)) (option_map I64 q)) e)
 
   -- 1 if the number on top is below 0
   below_runs : (rest : List Instr) (st : State) (r : ℕ) (s : List Value) → does (instr.I64Const 0 ∷ instr.Numeric (numeric.I64Relation LtS) ∷ instr.Numeric numeric.I64ExtendI32U ∷ rest) st (s ▹ I64 r) ≡ does rest st (s ▹ I64 (is_below_zero r))

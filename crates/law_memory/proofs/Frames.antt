@@ -5,16 +5,16 @@ use Rattle.std.proofs.lemmas.Int.{ints}
 use Rattle.std.proofs.lemmas.Bool.{le-leb}
 use Rattle.std.proofs.lemmas.Nat.{from_le_bytes-to_le_bytes_8}
 use Rattle.std.specs.Int.{w64, to_le_bytes}
-use Rattle.wasm_tree.specs.Machine.{pasted, bytes_at}
+use Rattle.wasm_tree.specs.Machine.{paste_items, bytes_at}
 use Rattle.wasm_tree.specs.declared.instr.Load.TheVariants as load
-use Rattle.wasm_tree.specs.Numbers.{load_size, loaded}
+use Rattle.wasm_tree.specs.Numbers.{load_size, load_number}
 use Rattle.law_effect.specs.Bytes.{byte, IsOnly}
 use Rattle.law_effect.proofs.Bytes.{pasted_only, byte_pasted, length-pasted, small_pasted}
 use Rattle.layout_storage.specs.Types.{Ty, Scalar, Natural, Integer, Between, Callable, Cell, Hidden, row, frame_of, component, IsFit, IsOf, IsScalar, first}
 use Rattle.def_meaning.specs.Environment.{Modules}
-use Rattle.def_meaning.specs.Store.{Location, Store, placed, fresh, first_in}
+use Rattle.def_meaning.specs.Store.{Location, Store, overlay, fresh, first_in}
 use Rattle.layout_storage.specs.Sizes.{Four, size, offset, width, value_of}
-use Rattle.law_memory.specs.Cells.{number, load_of, raised, fetched, stored_in}
+use Rattle.law_memory.specs.Cells.{number, load_of, raise_cell, fetch_cell, stored_in}
 use Rattle.law_memory.specs.Relation.{Empty, Means, Says, Shows, Hides, Holds, Keeps}
 use Rattle.law_memory.proofs.Places.{inside, component_append, offset_append}
 use Rattle.law_memory.proofs.Keeps.{number_moved, shows_written, hides_written}
@@ -82,12 +82,12 @@ unfolding component hidden_in
 hidden_apart n [] c e = suc-ne-zero n (ap hidden_in e)
 hidden_apart n (i ∷ r) c e = none-some (Cell c) e
 
-bytes_there : (n a : ℕ) (to : Location) (ys : List ℕ) (x : Location → ℕ → ℕ) (m : List ℕ) → length ys ≡ n → a ≤ length m → Hides (Hidden n) a (λ r. placed to (λ r k. get_or ys k 0) x (to ++ r)) (pasted m a ys)
+bytes_there : (n a : ℕ) (to : Location) (ys : List ℕ) (x : Location → ℕ → ℕ) (m : List ℕ) → length ys ≡ n → a ≤ length m → Hides (Hidden n) a (λ r. overlay to (λ r k. get_or ys k 0) x (to ++ r)) (paste_items m a ys)
 unfolding component offset hidden_in
 bytes_there n a to ys x m long fits (i ∷ r) n' k e less = absurd (none-some (Hidden n') e)
 bytes_there n a to ys x m long fits [] n' k e less =
     let same : suc n ≡ suc n' = ap hidden_in e in
-    ap (λ b. byte b (pasted m a ys)) (omega arith) ∙ byte_pasted m a k ys fits (omega arith)
+    ap (λ b. byte b (paste_items m a ys)) (omega arith) ∙ byte_pasted m a k ys fits (omega arith)
     ∙ ap (λ g. g k) (sym (placed_behind to [] (λ r k. get_or ys k 0) x))
 
 whole : (n : ℕ) → n < 2 ^ 32 → number 4 0 (stored_in Four n) ≡ n
@@ -98,12 +98,12 @@ whole_8 n small = eight 0 (to_le_bytes w64 n) ∙ from_le_bytes-to_le_bytes_8 n 
 
 module _ (program : Modules) (world : List Ty) (x : Location → ℕ → ℕ) (s : Store) (m : List ℕ) (h : Holds program world x s m) where
   -- bytes are written there
-  pub holds_hidden : (to : Location) (n : ℕ) (ys : List ℕ) → component (row world) to ≡ Some (Hidden n) → length ys ≡ n → ((j : ℕ) → j < length ys → get_or ys j 0 < 256) → Holds program world (placed to (λ r k. get_or ys k 0) x) s (pasted m (offset (row world) to) ys)
+  pub holds_hidden : (to : Location) (n : ℕ) (ys : List ℕ) → component (row world) to ≡ Some (Hidden n) → length ys ≡ n → ((j : ℕ) → j < length ys → get_or ys j 0 < 256) → Holds program world (overlay to (λ r k. get_or ys k 0) x) s (paste_items m (offset (row world) to) ys)
   unfolding size
   holds_hidden to n ys there long new =
       let a = offset (row world) to in
-      let m' = pasted m a ys in
-      let x' = placed to (λ r k. get_or ys k 0) x in
+      let m' = paste_items m a ys in
+      let x' = overlay to (λ r k. get_or ys k 0) x in
       let fits = lies program world x s m h to (Hidden n) there in
       let room : a + length ys ≤ length m = omega arith in
       let only : IsOnly (0 + a) n m m' = subst (λ b. IsOnly b n m m') (omega arith) (subst (λ k. IsOnly a k m m') long (pasted_only m a ys room)) in
@@ -116,7 +116,7 @@ module _ (program : Modules) (world : List Ty) (x : Location → ℕ → ℕ) (s
       }
 
   -- a variable's address, read from where it was written
-  pub alias_parts : (l : Location) (n : ℕ) → component (row world) l ≡ Some (Hidden 4) → Keeps x l (stored_in Four n) → n < 2 ^ 32 → (bytes : List ℕ) × (bytes_at (load_size (load_of (Natural 4294967295))) (offset (row world) l) m ≡ Some bytes) × (raised (Natural 4294967295) (loaded (load_of (Natural 4294967295)) bytes) ≡ n)
+  pub alias_parts : (l : Location) (n : ℕ) → component (row world) l ≡ Some (Hidden 4) → Keeps x l (stored_in Four n) → n < 2 ^ 32 → (bytes : List ℕ) × (bytes_at (load_size (load_of (Natural 4294967295))) (offset (row world) l) m ≡ Some bytes) × (raise_cell (Natural 4294967295) (load_number (load_of (Natural 4294967295)) bytes) ≡ n)
   unfolding size number
   alias_parts l n there keeps small =
       let a = offset (row world) l in
@@ -128,7 +128,7 @@ module _ (program : Modules) (world : List Ty) (x : Location → ℕ → ℕ) (s
       fetch_parts program (Natural 4294967295) a (pos n) m (record { low = omega (arith, ints); high = omega (arith, ints); some = omega (arith, ints); narrow = omega (arith, ints) }) h.bytes (lies program world x s m h l (Hidden 4) there) says
 
   -- the link of a frame
-  pub holds_link : (l : Location) (n : ℕ) → component (row world) l ≡ Some (Hidden 8) → Keeps x l (to_le_bytes w64 n) → n < 2 ^ 64 → (bytes : List ℕ) × (bytes_at 8 (offset (row world) l) m ≡ Some bytes) × (loaded load.I64 bytes ≡ n)
+  pub holds_link : (l : Location) (n : ℕ) → component (row world) l ≡ Some (Hidden 8) → Keeps x l (to_le_bytes w64 n) → n < 2 ^ 64 → (bytes : List ℕ) × (bytes_at 8 (offset (row world) l) m ≡ Some bytes) × (load_number load.I64 bytes ≡ n)
   unfolding size number
   holds_link l n there keeps small =
       let a = offset (row world) l in
@@ -138,7 +138,7 @@ module _ (program : Modules) (world : List Ty) (x : Location → ℕ → ℕ) (s
       (take 8 (drop a m), ap (λ b. if b then Some (take 8 (drop a m)) else None) inside, from_8 a m ∙ moved ∙ whole_8 n small)
 
   -- it stands at the frame's address
-  pub link_parts : (root : ℕ) (vars : List Ty) (n : ℕ) → component (row world) (root ∷ []) ≡ Some (frame_of vars) → Keeps x (root ∷ 0 ∷ 0 ∷ []) (to_le_bytes w64 n) → n < 2 ^ 64 → (bytes : List ℕ) × (bytes_at 8 (offset (row world) (root ∷ [])) m ≡ Some bytes) × (loaded load.I64 bytes ≡ n)
+  pub link_parts : (root : ℕ) (vars : List Ty) (n : ℕ) → component (row world) (root ∷ []) ≡ Some (frame_of vars) → Keeps x (root ∷ 0 ∷ 0 ∷ []) (to_le_bytes w64 n) → n < 2 ^ 64 → (bytes : List ℕ) × (bytes_at 8 (offset (row world) (root ∷ [])) m ≡ Some bytes) × (load_number load.I64 bytes ≡ n)
   unfolding component offset
   link_parts root vars n there keeps small =
       let e : component (row world) (root ∷ 0 ∷ 0 ∷ []) ≡ Some (Hidden 8) = component_append (row world) (frame_of vars) (root ∷ []) (0 ∷ 0 ∷ []) there in
@@ -148,10 +148,10 @@ module _ (program : Modules) (world : List Ty) (x : Location → ℕ → ℕ) (s
 
 module _ (program : Modules) (world : List Ty) (x : Location → ℕ → ℕ) (s : Store) (m : List ℕ) (h : Holds program world x s m) where
   -- the same as what is loaded there
-  pub address_is : (l : Location) (n : ℕ) → component (row world) l ≡ Some (Hidden 4) → Keeps x l (stored_in Four n) → n < 2 ^ 32 → fetched (Natural 4294967295) (offset (row world) l) m ≡ Some n
+  pub address_is : (l : Location) (n : ℕ) → component (row world) l ≡ Some (Hidden 4) → Keeps x l (stored_in Four n) → n < 2 ^ 32 → fetch_cell (Natural 4294967295) (offset (row world) l) m ≡ Some n
   address_is l n there keeps small =
       let p = alias_parts program world x s m h l n there keeps small in
-      ap (λ o. option_map (λ bytes. raised (Natural 4294967295) (loaded (load_of (Natural 4294967295)) bytes)) o) p.1 ∙ ap Some p.2
+      ap (λ o. option_map (λ bytes. raise_cell (Natural 4294967295) (load_number (load_of (Natural 4294967295)) bytes)) o) p.1 ∙ ap Some p.2
 
 -- ---- a memory of zeros
 

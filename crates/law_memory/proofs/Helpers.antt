@@ -19,8 +19,8 @@ use Rattle.wasm_tree.specs.declared.module.WModule.{WModule}
 use Rattle.wasm_tree.specs.declared.store.Value.{Value}
 use Rattle.wasm_tree.specs.declared.store.Value.TheVariants.{I32, I64}
 use Rattle.wasm_tree.specs.declared.store.Callee.TheVariants.{Stop, Own}
-use Rattle.wasm_tree.specs.Numbers.{truth, is_less, compares, load_size, loaded, stored}
-use Rattle.wasm_tree.specs.Machine.{Typed, type_at, agree, pasted, bytes_at, callee_at, own_function}
+use Rattle.wasm_tree.specs.Numbers.{truth, is_less, compares, load_size, load_number, store_bytes}
+use Rattle.wasm_tree.specs.Machine.{Typed, type_at, agree, paste_items, bytes_at, callee_at, own_function}
 use Rattle.law_effect.specs.Effect.{Fixed, State, store_of, Effect, FellThrough, Branched, Ended, Traps, Does, Calling, then_run, out_of, turn, turns, back, effect, calling}
 use Rattle.def_scheme.specs.Helpers.{raise, copy_raises, copy_turn, copy_code, fill_raises, fill_turn, fill_code, check_tests, check_code, helper}
 use Rattle.law_memory.specs.Called.{HasMemory, stopped_by, CopyRuns, FillRuns, CopyCalled, FillCalled, CheckCalled, TableCalled}
@@ -53,11 +53,11 @@ module _ (modules : List WModule) (fx : Fixed) (n : ℕ) (calls : Calling) (m : 
 
     -- a turn that copies a byte
     copies : (to from k : ℕ) (b : List ℕ) → to < length b → from < length b → byte from b < 256 → length b < 2 ^ 32 → suc k < 2 ^ 32
-        → go copy_turn (three to from (suc k) b) [] ≡ Branched 0 (three (to + 1) (from + 1) k (pasted b to (byte from b ∷ []))) []
+        → go copy_turn (three to from (suc k) b) [] ≡ Branched 0 (three (to + 1) (from + 1) k (paste_items b to (byte from b ∷ []))) []
     copies to from k b h1 h2 small long few =
         let st = three to from (suc k) b in
-        let v = loaded load.I64From8U (take 1 (drop from b)) in
-        let wrote : State = record st { bytes = pasted b to (stored width.One v) } in
+        let v = load_number load.I64From8U (take 1 (drop from b)) in
+        let wrote : State = record st { bytes = paste_items b to (store_bytes width.One v) } in
         let r3 : List Instr = instr.LocalGet 0 ∷ instr.LocalGet 1 ∷ instr.Load load.I64From8U ∷ instr.Store width.One ∷ copy_raises in
         let there : bytes_at (load_size load.I64From8U) from b ≡ Some (take 1 (drop from b)) = ap (λ x. if x then Some (take 1 (drop from b)) else None) (le-leb (from + 1) (length b) (omega arith)) in
         let t : (to + 1) % 2 ^ 32 ≡ to + 1 = omega arith in
@@ -74,11 +74,11 @@ module _ (modules : List WModule) (fx : Fixed) (n : ℕ) (calls : Calling) (m : 
         ∙ raise_runs (raise 1 1 (raise 2 4294967295 (instr.Br 0 ∷ []))) wrote 0 1 to [] refl (omega arith)
         ∙ raise_runs (raise 2 4294967295 (instr.Br 0 ∷ [])) (record wrote { locals = I32 ((to + 1) % 2 ^ 32) ∷ I32 from ∷ I32 (suc k) ∷ [] }) 1 1 from [] refl (omega arith)
         ∙ raise_runs (instr.Br 0 ∷ []) (record wrote { locals = I32 ((to + 1) % 2 ^ 32) ∷ I32 ((from + 1) % 2 ^ 32) ∷ I32 (suc k) ∷ [] }) 2 4294967295 (suc k) [] refl (omega arith)
-        ∙ br_runs modules fx n calls m [] (three ((to + 1) % 2 ^ 32) ((from + 1) % 2 ^ 32) ((suc k + 4294967295) % 2 ^ 32) (pasted b to (stored width.One v))) 0 []
-        ∙ ap (λ x. Branched 0 (three x ((from + 1) % 2 ^ 32) ((suc k + 4294967295) % 2 ^ 32) (pasted b to (stored width.One v))) []) t
-        ∙ ap (λ x. Branched 0 (three (to + 1) x ((suc k + 4294967295) % 2 ^ 32) (pasted b to (stored width.One v))) []) f
-        ∙ ap (λ x. Branched 0 (three (to + 1) (from + 1) x (pasted b to (stored width.One v))) []) c
-        ∙ ap (λ ys. Branched 0 (three (to + 1) (from + 1) k (pasted b to ys)) []) (same_byte from b small)
+        ∙ br_runs modules fx n calls m [] (three ((to + 1) % 2 ^ 32) ((from + 1) % 2 ^ 32) ((suc k + 4294967295) % 2 ^ 32) (paste_items b to (store_bytes width.One v))) 0 []
+        ∙ ap (λ x. Branched 0 (three x ((from + 1) % 2 ^ 32) ((suc k + 4294967295) % 2 ^ 32) (paste_items b to (store_bytes width.One v))) []) t
+        ∙ ap (λ x. Branched 0 (three (to + 1) x ((suc k + 4294967295) % 2 ^ 32) (paste_items b to (store_bytes width.One v))) []) f
+        ∙ ap (λ x. Branched 0 (three (to + 1) (from + 1) x (paste_items b to (store_bytes width.One v))) []) c
+        ∙ ap (λ ys. Branched 0 (three (to + 1) (from + 1) k (paste_items b to ys)) []) (same_byte from b small)
 
     -- the last turn
     copied : (to from : ℕ) (b : List ℕ) → go copy_turn (three to from 0 b) [] ≡ Branched 1 (three to from 0 b) []
@@ -99,7 +99,7 @@ module _ (modules : List WModule) (fx : Fixed) (n : ℕ) (calls : Calling) (m : 
         ap (λ x. turn 0 x (turns j (go copy_turn))) (copied to from b)
         ∙ ap (λ x. Branched 0 (three x from 0 b) []) (omega arith) ∙ ap (λ x. Branched 0 (three (to + 0) x 0 b) []) (omega arith)
     copy_turns (suc k) (suc j) to from b h a e small long =
-        let b' = pasted b to (byte from b ∷ []) in
+        let b' = paste_items b to (byte from b ∷ []) in
         let l : length b' ≡ length b = length-pasted b to (byte from b ∷ []) (omega arith) in
         let small' = small_pasted b to (byte from b ∷ []) (omega arith) small (one_byte (byte from b) (small from)) in
         ap (λ x. turn 0 x (turns j (go copy_turn))) (copies to from k b (omega arith) (omega arith) (small from) long (omega arith))
@@ -111,10 +111,10 @@ module _ (modules : List WModule) (fx : Fixed) (n : ℕ) (calls : Calling) (m : 
     abbrev two : (to k : ℕ) → List ℕ → State
     two to k bytes = record { locals = I32 to ∷ I32 k ∷ []; bytes = bytes; out = out }
 
-    clears : (to k : ℕ) (b : List ℕ) → to < length b → length b < 2 ^ 32 → suc k < 2 ^ 32 → go fill_turn (two to (suc k) b) [] ≡ Branched 0 (two (to + 1) k (pasted b to (0 ∷ []))) []
+    clears : (to k : ℕ) (b : List ℕ) → to < length b → length b < 2 ^ 32 → suc k < 2 ^ 32 → go fill_turn (two to (suc k) b) [] ≡ Branched 0 (two (to + 1) k (paste_items b to (0 ∷ []))) []
     clears to k b h long few =
         let st = two to (suc k) b in
-        let wrote : State = record st { bytes = pasted b to (0 ∷ []) } in
+        let wrote : State = record st { bytes = paste_items b to (0 ∷ []) } in
         let r3 : List Instr = instr.LocalGet 0 ∷ instr.I64Const 0 ∷ instr.Store width.One ∷ fill_raises in
         let t : (to + 1) % 2 ^ 32 ≡ to + 1 = omega arith in
         let c : (suc k + 4294967295) % 2 ^ 32 ≡ k = omega arith in
@@ -127,9 +127,9 @@ module _ (modules : List WModule) (fx : Fixed) (n : ℕ) (calls : Calling) (m : 
         ∙ store_runs modules fx n calls m fill_raises st width.One to 0 [] (has b) (omega (arith, h))
         ∙ raise_runs (raise 1 4294967295 (instr.Br 0 ∷ [])) wrote 0 1 to [] refl (omega arith)
         ∙ raise_runs (instr.Br 0 ∷ []) (record wrote { locals = I32 ((to + 1) % 2 ^ 32) ∷ I32 (suc k) ∷ [] }) 1 4294967295 (suc k) [] refl (omega arith)
-        ∙ br_runs modules fx n calls m [] (two ((to + 1) % 2 ^ 32) ((suc k + 4294967295) % 2 ^ 32) (pasted b to (0 ∷ []))) 0 []
-        ∙ ap (λ x. Branched 0 (two x ((suc k + 4294967295) % 2 ^ 32) (pasted b to (0 ∷ []))) []) t
-        ∙ ap (λ x. Branched 0 (two (to + 1) x (pasted b to (0 ∷ []))) []) c
+        ∙ br_runs modules fx n calls m [] (two ((to + 1) % 2 ^ 32) ((suc k + 4294967295) % 2 ^ 32) (paste_items b to (0 ∷ []))) 0 []
+        ∙ ap (λ x. Branched 0 (two x ((suc k + 4294967295) % 2 ^ 32) (paste_items b to (0 ∷ []))) []) t
+        ∙ ap (λ x. Branched 0 (two (to + 1) x (paste_items b to (0 ∷ []))) []) c
 
     cleared : (to : ℕ) (b : List ℕ) → go fill_turn (two to 0 b) [] ≡ Branched 1 (two to 0 b) []
     cleared to b =
@@ -145,7 +145,7 @@ module _ (modules : List WModule) (fx : Fixed) (n : ℕ) (calls : Calling) (m : 
     clear_turns (suc k) zero to b h a long = absurd (omega arith)
     clear_turns zero (suc j) to b h a long = ap (λ x. turn 0 x (turns j (go fill_turn))) (cleared to b) ∙ ap (λ x. Branched 0 (two x 0 b) []) (omega arith)
     clear_turns (suc k) (suc j) to b h a long =
-        let b' = pasted b to (0 ∷ []) in
+        let b' = paste_items b to (0 ∷ []) in
         let l : length b' ≡ length b = length-pasted b to (0 ∷ []) (omega arith) in
         ap (λ x. turn 0 x (turns j (go fill_turn))) (clears to k b (omega arith) long (omega arith))
         ∙ clear_turns k j (to + 1) b' (omega arith) (omega arith) (omega arith)

@@ -5,9 +5,9 @@ use Rattle.std.proofs.lemmas.Option.{none-some, same_Some}
 use Rattle.law_effect.specs.Bytes.{byte, AreMoved, IsOnly}
 use Rattle.layout_storage.specs.Types.{Ty, Scalar, Callable, Cell, Hidden, Array, Nothing, Field, Heading, row, component, IsOf, IsScalar, IsPlain}
 use Rattle.def_meaning.specs.Environment.{Modules}
-use Rattle.def_meaning.specs.Store.{Location, Store, behind, placed, chosen, assigned, copied}
+use Rattle.def_meaning.specs.Store.{Location, Store, behind, overlay, choose_arm, assign_number, copy_whole}
 use Rattle.layout_storage.specs.Sizes.{size, offset, width}
-use Rattle.law_memory.specs.Cells.{word, fetched, put}
+use Rattle.law_memory.specs.Cells.{word, fetch_cell, put}
 use Rattle.law_memory.specs.Relation.{IsProcedureValue, Means, Says, Shows, Hides, Holds}
 use Rattle.law_memory.proofs.Places.{when, behind_append, inside}
 use Rattle.law_memory.proofs.Keeps.{shows_at, shows_moved, shows_alike, shows_written, hides_written, says_moved}
@@ -45,13 +45,13 @@ same_cell c d e = ap (scalar_in c) e
 
 -- ---- what is placed
 
-pub placed_behind : {A : Type 0} (to r : Location) (f s : Location → A) → placed to f s (to ++ r) ≡ f r
-unfolding placed
-placed_behind to r f s = ap (λ o. chosen o f (s (to ++ r))) (behind_append to r)
+pub placed_behind : {A : Type 0} (to r : Location) (f s : Location → A) → overlay to f s (to ++ r) ≡ f r
+unfolding overlay
+placed_behind to r f s = ap (λ o. choose_arm o f (s (to ++ r))) (behind_append to r)
 
-pub placed_else : {A : Type 0} (to l : Location) (f s : Location → A) → behind to l ≡ None → placed to f s l ≡ s l
-unfolding placed
-placed_else to l f s e = ap (λ o. chosen o f (s l)) e
+pub placed_else : {A : Type 0} (to l : Location) (f s : Location → A) → behind to l ≡ None → overlay to f s l ≡ s l
+unfolding overlay
+placed_else to l f s e = ap (λ o. choose_arm o f (s l)) e
 
 module _ (program : Modules) (world : List Ty) (x : Location → ℕ → ℕ) (s : Store) (m : List ℕ) (h : Holds program world x s m) where
   -- a location lies in the memory
@@ -59,7 +59,7 @@ module _ (program : Modules) (world : List Ty) (x : Location → ℕ → ℕ) (s
   lies l t e = let i = inside (row world) t l e in let r = h.room in omega arith
 
   -- a variable is read
-  pub holds_fetched : (l : Location) (c : Scalar) → IsScalar c → component (row world) l ≡ Some (Cell c) → fetched c (offset (row world) l) m ≡ Some (word (s l))
+  pub holds_fetched : (l : Location) (c : Scalar) → IsScalar c → component (row world) l ≡ Some (Cell c) → fetch_cell c (offset (row world) l) m ≡ Some (word (s l))
   unfolding size
   holds_fetched l c ok e =
       fetches program c (offset (row world) l) (s l) m ok h.bytes (lies l (Cell c) e) (subst (λ a. Says program c a (s l) m) (omega arith) (h.cells l c e))
@@ -69,19 +69,19 @@ module _ (program : Modules) (world : List Ty) (x : Location → ℕ → ℕ) (s
   holds_procedure l t e = (h.cells l (Callable t) e).means
 
   -- any write to a location of a plain type
-  pub holds_placed : (to : Location) (t : Ty) (f : Location → ℤ) (m' : List ℕ) → IsPlain t → component (row world) to ≡ Some t → IsOnly (offset (row world) to) (size t) m m' → length m' ≡ length m → ((a : ℕ) → byte a m' < 256) → Shows program t (offset (row world) to) f m' → Holds program world x (placed to f s) m'
+  pub holds_placed : (to : Location) (t : Ty) (f : Location → ℤ) (m' : List ℕ) → IsPlain t → component (row world) to ≡ Some t → IsOnly (offset (row world) to) (size t) m m' → length m' ≡ length m → ((a : ℕ) → byte a m' < 256) → Shows program t (offset (row world) to) f m' → Holds program world x (overlay to f s) m'
   holds_placed to t f m' plain there only long small new =
       let only' : IsOnly (0 + offset (row world) to) (size t) m m' = subst (λ a. IsOnly a (size t) m m') (omega arith) only in
       record {
         bytes = small;
         room = let r = h.room in omega arith;
-        cells = shows_written (row world) t 0 to m m' there only' program s (placed to f s) (λ l e. placed_else to l f s e)
-            (shows_alike program t _ f (λ r. placed to f s (to ++ r)) m' (λ r. sym (placed_behind to r f s)) (subst (λ a. Shows program t a f m') (omega arith) new)) h.cells;
+        cells = shows_written (row world) t 0 to m m' there only' program s (overlay to f s) (λ l e. placed_else to l f s e)
+            (shows_alike program t _ f (λ r. overlay to f s (to ++ r)) m' (λ r. sym (placed_behind to r f s)) (subst (λ a. Shows program t a f m') (omega arith) new)) h.cells;
         hidden = hides_written (row world) t 0 to m m' there only' x x (λ l k e. refl) (λ r n k e less. absurd (plain_hidden t r n plain e)) h.hidden;
       }
 
   -- a number is assigned
-  pub holds_assigned : (to : Location) (c : Scalar) (v : ℤ) → IsScalar c → IsOf c v → Means program c v → component (row world) to ≡ Some (Cell c) → Holds program world x (assigned to v s) (put c (offset (row world) to) (word v) m)
+  pub holds_assigned : (to : Location) (c : Scalar) (v : ℤ) → IsScalar c → IsOf c v → Means program c v → component (row world) to ≡ Some (Cell c) → Holds program world x (assign_number to v s) (put c (offset (row world) to) (word v) m)
   unfolding size component offset
   holds_assigned to c v ok is means there =
       let a = offset (row world) to in
@@ -94,7 +94,7 @@ module _ (program : Modules) (world : List Ty) (x : Location → ℕ → ℕ) (s
       one_cell a says (i ∷ r) d e = absurd (none-some (Cell d) e)
 
   -- a whole array or record is assigned
-  pub holds_copied : (to from : Location) (t : Ty) (m' : List ℕ) → IsPlain t → component (row world) to ≡ Some t → component (row world) from ≡ Some t → AreMoved (size t) (offset (row world) from) (offset (row world) to) m m' → IsOnly (offset (row world) to) (size t) m m' → length m' ≡ length m → ((a : ℕ) → byte a m' < 256) → Holds program world x (copied to from s) m'
+  pub holds_copied : (to from : Location) (t : Ty) (m' : List ℕ) → IsPlain t → component (row world) to ≡ Some t → component (row world) from ≡ Some t → AreMoved (size t) (offset (row world) from) (offset (row world) to) m m' → IsOnly (offset (row world) to) (size t) m m' → length m' ≡ length m → ((a : ℕ) → byte a m' < 256) → Holds program world x (copy_whole to from s) m'
   holds_copied to from t m' plain there source moved only long small =
       holds_placed to t (λ r. s (from ++ r)) m' plain there only long small
       (shows_moved program t (offset (row world) from) (offset (row world) to) (λ r. s (from ++ r)) m m' moved
@@ -174,11 +174,11 @@ row_no_leaf (v ∷ us) u l e = true≢false (sym l ∙ ap is_leaf (sym e))
 
 -- a new instance behind those that live
 module _ (program : Modules) (world : List Ty) (x : Location → ℕ → ℕ) (s : Store) (m : List ℕ) (h : Holds program world x s m) (t : Ty) (m' : List ℕ) (same : (b : ℕ) → b < size (row world) → byte b m' ≡ byte b m) where
-  pushed_cells : (f : Location → ℤ) → Shows program t (size (row world)) f m' → Shows program (row (world ++ t ∷ [])) 0 (placed (length world ∷ []) f s) m'
+  pushed_cells : (f : Location → ℤ) → Shows program t (size (row world)) f m' → Shows program (row (world ++ t ∷ [])) 0 (overlay (length world ∷ []) f s) m'
   unfolding is_leaf size
   pushed_cells f new l c e = cases l (where_is world t (Cell c) l e)
     where
-      cases : (l : Location) → Where world t (Cell c) l → Says program c (0 + offset (row (world ++ t ∷ [])) l) (placed (length world ∷ []) f s l) m'
+      cases : (l : Location) → Where world t (Cell c) l → Says program c (0 + offset (row (world ++ t ∷ [])) l) (overlay (length world ∷ []) f s l) m'
       cases l (All e) = absurd (no_leaf world t (Cell c) refl e)
       cases l (Old {i = i} {p = p} less e) =
           let o = offset_old world (t ∷ []) i p (Cell c) e in
@@ -191,11 +191,11 @@ module _ (program : Modules) (world : List Ty) (x : Location → ℕ → ℕ) (s
           subst (λ v. Says program c (0 + offset (row (world ++ t ∷ [])) (length world ∷ p)) v m') (sym (placed_behind (length world ∷ []) p f s))
           (subst (λ a. Says program c a (f p) m') (omega arith) (new p c e))
 
-  pushed_hidden : (y : Location → ℕ → ℕ) → Hides t (size (row world)) y m' → Hides (row (world ++ t ∷ [])) 0 (placed (length world ∷ []) y x) m'
+  pushed_hidden : (y : Location → ℕ → ℕ) → Hides t (size (row world)) y m' → Hides (row (world ++ t ∷ [])) 0 (overlay (length world ∷ []) y x) m'
   unfolding is_leaf size
   pushed_hidden y new l n k e less = cases l (where_is world t (Hidden n) l e)
     where
-      cases : (l : Location) → Where world t (Hidden n) l → byte (0 + offset (row (world ++ t ∷ [])) l + k) m' ≡ placed (length world ∷ []) y x l k
+      cases : (l : Location) → Where world t (Hidden n) l → byte (0 + offset (row (world ++ t ∷ [])) l + k) m' ≡ overlay (length world ∷ []) y x l k
       cases l (All e) = absurd (no_leaf world t (Hidden n) refl e)
       cases l (Old {i = i} {p = p} lt e) =
           let o = offset_old world (t ∷ []) i p (Hidden n) e in
@@ -206,7 +206,7 @@ module _ (program : Modules) (world : List Ty) (x : Location → ℕ → ℕ) (s
           let o = offset_new world t p in
           ap (λ b. byte b m') (omega arith) ∙ new p n k e less ∙ ap (λ g. g k) (sym (placed_behind (length world ∷ []) p y x))
 
-  pub holds_pushed : (f : Location → ℤ) (y : Location → ℕ → ℕ) → size (row world) + size t ≤ length m' → ((b : ℕ) → byte b m' < 256) → Shows program t (size (row world)) f m' → Hides t (size (row world)) y m' → Holds program (world ++ t ∷ []) (placed (length world ∷ []) y x) (placed (length world ∷ []) f s) m'
+  pub holds_pushed : (f : Location → ℤ) (y : Location → ℕ → ℕ) → size (row world) + size t ≤ length m' → ((b : ℕ) → byte b m' < 256) → Shows program t (size (row world)) f m' → Hides t (size (row world)) y m' → Holds program (world ++ t ∷ []) (overlay (length world ∷ []) y x) (overlay (length world ∷ []) f s) m'
   holds_pushed f y fits small cells hidden = record {
     bytes = small;
     room = let e = row_size world t in omega arith;

@@ -8,7 +8,7 @@ use Rattle.wasm_tree.specs.declared.module.WModule.{WModule}
 use Rattle.wasm_tree.specs.declared.store.Value.{Value}
 use Rattle.wasm_tree.specs.declared.store.Value.TheVariants.{I32}
 use Rattle.wasm_tree.specs.declared.store.Callee.TheVariants.{Own}
-use Rattle.wasm_tree.specs.Machine.{Going, Typed, callee_in, global_at, own_function, type_at, agree, entered}
+use Rattle.wasm_tree.specs.Machine.{Going, Typed, callee_in, global_at, own_function, type_at, agree, enter_function}
 use Rattle.law_effect.specs.Effect.{Fixed, State, store_of, Effect, FellThrough, Calling, effect, calling, then_run, back}
 use Rattle.law_effect.specs.Laws.{RunLeads}
 
@@ -75,6 +75,6 @@ ProgramRuns =
     → AreThere modules fx m type bs
     → (bytes : List ℕ)
     → RunLeads modules n 0
-    (Going (store_of fx bytes) (entered m (run_typed index top type bs) []) [])
+    (Going (store_of fx bytes) (enter_function m (run_typed index top type bs) []) [])
     (bodies_do (calling modules fx extra n n) top bs
     (record { locals = []; bytes = bytes; out = [] }) [])

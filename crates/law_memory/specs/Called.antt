@@ -9,7 +9,7 @@ use Rattle.wasm_tree.specs.declared.store.Value.{Value}
 use Rattle.wasm_tree.specs.declared.store.Value.TheVariants.{I32, I64}
 use Rattle.wasm_tree.specs.declared.store.Callee.TheVariants.{Stop, Own}
 use Rattle.wasm_tree.specs.Numbers.{truth, is_less}
-use Rattle.wasm_tree.specs.Machine.{Typed, pasted, callee_at, callee_in, global_at, memory_of, own_function, type_at, agree}
+use Rattle.wasm_tree.specs.Machine.{Typed, paste_items, callee_at, callee_in, global_at, memory_of, own_function, type_at, agree}
 use Rattle.def_scheme.specs.Helpers.{copy_code, fill_code, check_typed, divisor_checked, div_rest, mod_typed, helper}
 use Rattle.law_effect.specs.Bytes.{byte, copied_bytes, cleared_bytes}
 use Rattle.law_effect.specs.Effect.{Fixed, State, store_of, Effect, FellThrough, Ended, Traps, Calling, effect, calling, then_run, back}

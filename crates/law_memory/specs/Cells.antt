@@ -4,8 +4,8 @@ use Rattle.std.specs.Int.{w64, cast_unsigned}
 use Rattle.wasm_tree.specs.declared.instr.Load.{Load}
 use Rattle.wasm_tree.specs.declared.instr.Load.TheVariants as load
 use Rattle.wasm_tree.specs.declared.instr.StoreWidth.TheVariants as width
-use Rattle.wasm_tree.specs.Numbers.{load_size, loaded, stored}
-use Rattle.wasm_tree.specs.Machine.{bytes_at, pasted}
+use Rattle.wasm_tree.specs.Numbers.{load_size, load_number, store_bytes}
+use Rattle.wasm_tree.specs.Machine.{bytes_at, paste_items}
 use Rattle.law_effect.specs.Bytes.{byte}
 use Rattle.layout_storage.specs.Types.{Scalar, Natural, Integer, Between, Callable}
 use Rattle.layout_storage.specs.Sizes.{Room, One, Two, Four, room_of}
@@ -17,9 +17,9 @@ number (suc k) a m = byte a m + 256 * number k (a + 1) m
 
 -- the bytes that a number is stored as in this room
 abbrev pub stored_in : Room → ℕ → List ℕ
-stored_in One n = stored width.One n
-stored_in Two n = stored width.Two n
-stored_in Four n = stored width.Four n
+stored_in One n = store_bytes width.One n
+stored_in Two n = store_bytes width.Two n
+stored_in Four n = store_bytes width.Four n
 
 -- the operand that stands for a number
 abbrev pub word : ℤ → ℕ
@@ -37,23 +37,23 @@ load_of (Between l g) = unsigned_load (room_of (Between l g))
 load_of (Callable h) = unsigned_load (room_of (Callable h))
 
 -- the lower bound is added behind the load and taken off before the store
-abbrev pub raised : Scalar → ℕ → ℕ
-raised (Natural g) n = n
-raised Integer n = n
-raised (Between l g) n = (n + word l) % 2 ^ 64
-raised (Callable h) n = n
+abbrev pub raise_cell : Scalar → ℕ → ℕ
+raise_cell (Natural g) n = n
+raise_cell Integer n = n
+raise_cell (Between l g) n = (n + word l) % 2 ^ 64
+raise_cell (Callable h) n = n
 
-abbrev pub lowered : Scalar → ℕ → ℕ
-lowered (Natural g) n = n
-lowered Integer n = n
-lowered (Between l g) n = (n + (2 ^ 64 - word l)) % 2 ^ 64
-lowered (Callable h) n = n
+abbrev pub lower_cell : Scalar → ℕ → ℕ
+lower_cell (Natural g) n = n
+lower_cell Integer n = n
+lower_cell (Between l g) n = (n + (2 ^ 64 - word l)) % 2 ^ 64
+lower_cell (Callable h) n = n
 
 -- the operand that is loaded from place a, if it is there
-abbrev pub fetched : Scalar → ℕ → List ℕ → Option ℕ
-fetched c a m =
-    option_map (λ bytes. raised c (loaded (load_of c) bytes)) (bytes_at (load_size (load_of c)) a m)
+abbrev pub fetch_cell : Scalar → ℕ → List ℕ → Option ℕ
+fetch_cell c a m =
+    option_map (λ bytes. raise_cell c (load_number (load_of c) bytes)) (bytes_at (load_size (load_of c)) a m)
 
 -- the memory with this operand stored at place a
 abbrev pub put : Scalar → ℕ → ℕ → List ℕ → List ℕ
-put c a n m = pasted m a (stored_in (room_of c) (lowered c n))
+put c a n m = paste_items m a (stored_in (room_of c) (lower_cell c n))

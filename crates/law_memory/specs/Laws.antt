@@ -2,14 +2,14 @@
 use Rattle.std.specs.Prelude.{◌≡◌, ℕ, ◌+◌, ◌^◌, ◌<◌, ◌≤◌, ℤ, List, [], ◌∷◌, ◌++◌, length, get_or, Some}
 use Rattle.std.specs.Int.{w64, to_le_bytes}
 use Rattle.wasm_tree.specs.declared.instr.Load.TheVariants as load
-use Rattle.wasm_tree.specs.Numbers.{loaded}
-use Rattle.wasm_tree.specs.Machine.{bytes_at, pasted}
+use Rattle.wasm_tree.specs.Numbers.{load_number}
+use Rattle.wasm_tree.specs.Machine.{bytes_at, paste_items}
 use Rattle.law_effect.specs.Bytes.{copied_bytes, cleared_bytes}
 use Rattle.layout_storage.specs.Types.{Ty, Scalar, Natural, Callable, Cell, Hidden, Heading, row, frame_of, component, IsScalar, IsOf, IsPlain, IsFit}
 use Rattle.def_meaning.specs.Environment.{Modules}
-use Rattle.def_meaning.specs.Store.{Location, Store, placed, assigned, copied, fresh}
+use Rattle.def_meaning.specs.Store.{Location, Store, overlay, assign_number, copy_whole, fresh}
 use Rattle.layout_storage.specs.Sizes.{Four, size, offset}
-use Rattle.law_memory.specs.Cells.{word, stored_in, fetched, put}
+use Rattle.law_memory.specs.Cells.{word, stored_in, fetch_cell, put}
 use Rattle.law_memory.specs.Relation.{IsProcedureValue, Means, Holds, Keeps}
 
 -- a variable is read from its cell
@@ -20,7 +20,7 @@ Reads =
     → (l : Location) (c : Scalar)
     → IsScalar c
     → component (row world) l ≡ Some (Cell c)
-    → fetched c (offset (row world) l) m ≡ Some (word (s l))
+    → fetch_cell c (offset (row world) l) m ≡ Some (word (s l))
 
 -- where it is of a procedure type, it holds no procedure, or one with the heading of the type
 abbrev pub ReadsProcedure : Type 0
@@ -41,7 +41,7 @@ Assigns =
     → IsOf c v
     → Means p c v
     → component (row world) l ≡ Some (Cell c)
-    → Holds p world x (assigned l v s) (put c (offset (row world) l) (word v) m)
+    → Holds p world x (assign_number l v s) (put c (offset (row world) l) (word v) m)
 
 -- the bytes of a whole array or record are copied, also where it is assigned to itself
 abbrev pub Copies : Type 0
@@ -52,7 +52,7 @@ Copies =
     → IsPlain t
     → component (row world) to ≡ Some t
     → component (row world) from ≡ Some t
-    → Holds p world x (copied to from s)
+    → Holds p world x (copy_whole to from s)
     (copied_bytes (size t) (offset (row world) to) (offset (row world) from) m)
 
 -- an activation's variables are fresh in cleared bytes behind the other instances
@@ -63,8 +63,8 @@ Begins =
     → (t : Ty)
     → IsFit t
     → size (row world) + size t ≤ length m
-    → Holds p (world ++ t ∷ []) (placed (length world ∷ []) (λ r k. 0) x)
-    (placed (length world ∷ []) (fresh t) s) (cleared_bytes (size t) (size (row world)) m)
+    → Holds p (world ++ t ∷ []) (overlay (length world ∷ []) (λ r k. 0) x)
+    (overlay (length world ∷ []) (fresh t) s) (cleared_bytes (size t) (size (row world)) m)
 
 -- the last instances end
 abbrev pub Ends : Type 0
@@ -84,8 +84,8 @@ CopiesArgument =
     → IsPlain t
     → component (row world) from ≡ Some t
     → size (row world) + size t ≤ length m
-    → Holds p (world ++ t ∷ []) (placed (length world ∷ []) (λ r k. 0) x)
-    (placed (length world ∷ []) (λ r. s (from ++ r)) s)
+    → Holds p (world ++ t ∷ []) (overlay (length world ∷ []) (λ r k. 0) x)
+    (overlay (length world ∷ []) (λ r. s (from ++ r)) s)
     (copied_bytes (size t) (size (row world)) (offset (row world) from) m)
 
 -- bytes are written into room in which no variable stands: all variables are as they were
@@ -97,7 +97,7 @@ WritesHidden =
     → component (row world) to ≡ Some (Hidden n)
     → length ys ≡ n
     → ((j : ℕ) → j < length ys → get_or ys j 0 < 256)
-    → Holds p world (placed to (λ r k. get_or ys k 0) x) s (pasted m (offset (row world) to) ys)
+    → Holds p world (overlay to (λ r k. get_or ys k 0) x) s (paste_items m (offset (row world) to) ys)
 
 -- an address or a HIGH in such room is read as it was written
 abbrev pub ReadsAddress : Type 0
@@ -108,7 +108,7 @@ ReadsAddress =
     → component (row world) l ≡ Some (Hidden 4)
     → Keeps x l (stored_in Four n)
     → n < 2 ^ 32
-    → fetched (Natural 4294967295) (offset (row world) l) m ≡ Some n
+    → fetch_cell (Natural 4294967295) (offset (row world) l) m ≡ Some n
 
 -- and the link of a frame, which stands in its first eight bytes
 abbrev pub ReadsLink : Type 0
@@ -120,7 +120,7 @@ ReadsLink =
     → Keeps x (root ∷ 0 ∷ 0 ∷ []) (to_le_bytes w64 n)
     → n < 2 ^ 64
     → (bytes : List ℕ) × (bytes_at 8 (offset (row world) (root ∷ [])) m ≡ Some bytes)
-    × (loaded load.I64 bytes ≡ n)
+    × (load_number load.I64 bytes ≡ n)
 
 -- a memory of zeros holds what a fresh instance of each type has, so there are states in which the
 -- laws speak

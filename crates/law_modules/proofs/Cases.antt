@@ -12,7 +12,7 @@ use Rattle.wasm_tree.specs.Validity.{Leads}
 use Rattle.typed_tree.specs.declared.statement.Label.{Label}
 use Rattle.def_scheme.specs.Coded.{Coded, plain, ◌⨾◌, all_coded, within}
 use Rattle.def_scheme.specs.Addresses.{total}
-use Rattle.def_scheme.specs.Steps.{Arm, block as block_of, tests_code, arm_code, chain_code, all_labels, least_of, span_of, is_dense, has_label, target, targets, dispatch, boxed, jump_arms, table_code, case_code}
+use Rattle.def_scheme.specs.Steps.{Arm, block as block_of, tests_code, arm_code, chain_code, all_labels, least_of, span_of, is_dense, has_label, target, targets, dispatch, in_block, jump_arms, table_code, case_code}
 use Rattle.law_modules.proofs.Leading.{Stack, then_leads, get, set, long, calc, br, br_if, br_table, block, done}
 use Rattle.law_modules.proofs.Fits.{Body, Holds, Suits, Fits, labelled, IsNumber, blocks, block_label, moved, fits_plain, fits_nothing, fits_then, fits_given, fits_number, fits_as, fits_moved, fits_within, fits_boxed, fits_inside}
 use Rattle.law_modules.proofs.Parts.{N}
@@ -87,7 +87,7 @@ module _ (b : Body) (h : Holds b) (w : ℕ) (l : Bool) where
       let deeper : Fits b (T t) w l (λ e. e) (suc n) inner j [] [] = subst (λ (i : ℕ). Fits b (T t) w l (λ e. e) i inner j [] []) (let i : suc (length xs) + 2 ≡ suc n = omega arith in i) q in
       let out : Fits b (T t) w l (λ e. e) n (plain (Br (length xs + 1) ∷ [])) 0 [] [] = fits_plain (λ g ls. br (length xs + 1) [] [] (block_label n (length xs + 1) ls (omega arith)) (done [])) in
       let arm : Fits b (T t) w l (λ e. e) n (within n (λ code. code) x.code) k [] [] = fits_inside n (fits_given (λ g. tt) p.0) in
-      fits_as refl (omega arith) (jump_fine t xs ks (boxed inner ⨾ within n (λ code. code) x.code ⨾ plain (Br (length xs + 1) ∷ [])) (j + (k + 0)) p.1 (fits_then (fits_boxed deeper) (fits_then arm out)))
+      fits_as refl (omega arith) (jump_fine t xs ks (in_block inner ⨾ within n (λ code. code) x.code ⨾ plain (Br (length xs + 1) ∷ [])) (j + (k + 0)) p.1 (fits_then (fits_boxed deeper) (fits_then arm out)))
 
   table_fine : (t : ℕ) (xs : List Arm) (ks : List ℕ) (other : Coded) (j : ℕ) → FineArms xs ks → Fits b (Unit {0}) w l (λ e. e) 0 other j [] [] → Fits b (T t) w l (λ e. e) 0 (table_code t xs other) (total ks + j) [] []
   table_fine t xs ks other j p q =

@@ -38,9 +38,9 @@ use Rattle.typed_tree.specs.Types.{are_same, integer}
 use Rattle.layout_storage.specs.Frames.{formals_of}
 use Rattle.layout_storage.specs.Sizes.{offset}
 use Rattle.layout_storage.specs.Shapes.{tree}
-use Rattle.layout_storage.specs.Texts.{passed}
-use Rattle.def_scheme.specs.Coded.{Coded, plain, ◌⨾◌, all_coded, with_number, top_local, raised, operation, wrapped, extended}
-use Rattle.def_scheme.specs.Cells.{loaded, in_type, check_taken}
+use Rattle.layout_storage.specs.Texts.{argument_text}
+use Rattle.def_scheme.specs.Coded.{Coded, plain, ◌⨾◌, all_coded, with_number, top_local, raise_address, operation, wrap_word, extend_word}
+use Rattle.def_scheme.specs.Cells.{load_code, in_type, check_taken}
 use Rattle.def_scheme.specs.Exprs.{Part, Linked, all_arguments, has_result, is_own, relation_of, arithmetic_code, include_code, absolute_code, capital_code, ord_check, behind, procedure_code, high_code, chain_code, argument_layer, call_layer, component_layer, link_layer, expr_layer, root_layer, root_layer, with_code, global_code, slot_code, kept_address, open_address, open_element_code, element_code, high_index, top_code, indirect, module_call, nested_call, value_call, slots_global, slot_number, expr_part, place_code, call_code}
 use Rattle.def_scheme.specs.Signatures.{Signatures, signature, of_heading, is_among, so_many, results_of, type_of}
 use Rattle.law_modules.specs.WellFormed.{IsScalar, IsRoutine, IsProcedure, IsRoot}
@@ -109,7 +109,7 @@ module _ (b : Body) (h : Holds b) (w : ℕ) (l : Bool) where
   constant_fine t v = from_expr (expr.Constant t v) (layer.Constant t v) (expr.outs-Constant t v) (plain_fine (λ ls. long _ [] (done N)))
 
   pub load_fine : (t : TypeNo) (d : Place) → IsScalar b.home.types t → FinePlace d → FineExpr (expr.Load t d)
-  load_fine t d s x = from_expr (expr.Load t d) (layer.Load t d) (expr.outs-Load t d) (behind_fine (λ types. loaded types t) x (λ ls. loaded_leads b h ls b.home.types t s))
+  load_fine t d s x = from_expr (expr.Load t d) (layer.Load t d) (expr.outs-Load t d) (behind_fine (λ types. load_code types t) x (λ ls. loaded_leads b h ls b.home.types t s))
 
   pub procedure_fine : (f : Procedure) → IsProcedure b.home f → FineExpr (expr.Procedure f)
   procedure_fine f p = from_expr (expr.Procedure f) (layer.Procedure f) (expr.outs-Procedure f) (fits_code {f = λ s. procedure_code s.home f} (λ q e ws ls suits. procedure_leads b h ls f p.known))
@@ -221,7 +221,7 @@ module _ (b : Body) (h : Holds b) (w : ℕ) (l : Bool) where
   from_component e x q k = fits_as (component_at b.numbered e x q) refl k
 
   pub field_fine : (t : TypeNo) (k : ℕ) → FineComponent (component.Field t k)
-  field_fine t k = from_component (component.Field t k) (layer.Field t k) (component.outs-Field t k) (fits_code {f = λ s. raised (offset (tree s.home.types t) (k ∷ []))} (λ p e ws ls suits. raised_leads b h ls (offset (tree b.home.types t) (k ∷ []))))
+  field_fine t k = from_component (component.Field t k) (layer.Field t k) (component.outs-Field t k) (fits_code {f = λ s. raise_address (offset (tree s.home.types t) (k ∷ []))} (λ p e ws ls suits. raised_leads b h ls (offset (tree b.home.types t) (k ∷ []))))
 
   pub element_fine : (t : TypeNo) (i : TypedExpr) → FineExpr i → FineComponent (component.Element t i)
   element_fine t i x = from_component (component.Element t i) (layer.Element t i) (component.outs-Element t i) (behind_fine (λ types. element_code types t) (fits_above S x) (λ ls. element_leads b h ls b.home.types t))
@@ -247,15 +247,15 @@ module _ (b : Body) (h : Holds b) (w : ℕ) (l : Bool) where
 
   pub array_fine : (t : TypeNo) (d : Place) → FinePlace d → FineArgument (argument.Array t d) true
   array_fine t d x = from_argument (argument.Array t d) (layer.Array t d) NN (argument.outs-Array t d)
-      (behind_fine (λ types. extended ∷ I64Const (high_index types t) ∷ []) x (λ ls. calc numeric.I64ExtendI32U [] (long _ N (done NN))))
+      (behind_fine (λ types. extend_word ∷ I64Const (high_index types t) ∷ []) x (λ ls. calc numeric.I64ExtendI32U [] (long _ N (done NN))))
 
   pub open_fine : (x : Slot) → FineArgument (argument.Open x) true
   open_fine x = from_argument (argument.Open x) (layer.Open x) NN (argument.outs-Open x)
-      (fits_code {f = λ s. open_address s x ++ (extended ∷ high_code s x)} (λ p e ws ls suits. then_leads (open_leads b h ls (at b e ws) x) (calc numeric.I64ExtendI32U [] (above N (high_leads b h ls (at b e ws) x)))))
+      (fits_code {f = λ s. open_address s x ++ (extend_word ∷ high_code s x)} (λ p e ws ls suits. then_leads (open_leads b h ls (at b e ws) x) (calc numeric.I64ExtendI32U [] (above N (high_leads b h ls (at b e ws) x)))))
 
   pub text_fine : (text : List ℕ) → FineArgument (argument.Text text) true
   text_fine text = from_argument (argument.Text text) (layer.Text text) NN (argument.outs-Text text)
-      (fits_text (length (passed text)) (λ n. plain_fine (λ ls. then_leads (text_leads b h ls n) (calc numeric.I64ExtendI32U [] (long _ N (done NN))))))
+      (fits_text (length (argument_text text)) (λ n. plain_fine (λ ls. then_leads (text_leads b h ls n) (calc numeric.I64ExtendI32U [] (long _ N (done NN))))))
 
   -- ---- calls
 
@@ -281,7 +281,7 @@ module _ (b : Body) (h : Holds b) (w : ℕ) (l : Bool) where
       (subst (λ (t : TypeNo). Callable b.base (8 + f.number) (heading_type t)) r.2 (h.procedure f.number r.0 r.1)) (done (results_of (has_result b.home.types f.heading)))
 
   module_leads : (ls : List Stack) (f : Procedure) → IsProcedure b.home f → (q : Bool) → is_own b.home f.home ≡ q → AreKnown b.known (if q then [] else of_heading b.home.types f.heading ∷ [])
-      → Leads (labelled b ls) (if q then Calls (8 + f.number) ∷ [] else GlobalGet (slots_global b.home f.home) ∷ (raised (slot_number f) ++ indirect b.numbered b.home.types f.heading ∷ [])) (I32 ∷ so_many (all_arguments (formals_of b.home.types f.heading))) (results_of (has_result b.home.types f.heading))
+      → Leads (labelled b ls) (if q then Calls (8 + f.number) ∷ [] else GlobalGet (slots_global b.home f.home) ∷ (raise_address (slot_number f) ++ indirect b.numbered b.home.types f.heading ∷ [])) (I32 ∷ so_many (all_arguments (formals_of b.home.types f.heading))) (results_of (has_result b.home.types f.heading))
   module_leads ls f p true e k = own_leads ls f (p.own e)
   module_leads ls f p false e k =
       let s : Stack = I32 ∷ so_many (all_arguments (formals_of b.home.types f.heading)) in
@@ -311,10 +311,10 @@ module _ (b : Body) (h : Holds b) (w : ℕ) (l : Bool) where
       → Fits b (Unit {0} × IsNumber b n) w l (λ e. e) 0 (value_call b.numbered n t) 0 (I32 ∷ so_many (all_arguments (formals_of b.home.types t))) (results_of (has_result b.home.types t))
   value_call_fine n t k =
       let s : Stack = I32 ∷ so_many (all_arguments (formals_of b.home.types t)) in
-      fits_code {f = λ s. LocalGet n ∷ wrapped ∷ indirect b.numbered s.home.types t ∷ []}
+      fits_code {f = λ s. LocalGet n ∷ wrap_word ∷ indirect b.numbered s.home.types t ∷ []}
       (λ q e ws ls suits. same_stacks (append-nil s) refl (get n I64 s q.1 (calc numeric.I32WrapI64 s (indirect_leads ls t k))))
 
   pub variable_fine : (t : TypeNo) (d : Place) (xs : List Argument) → IsScalar b.home.types t → is_among b.known (of_heading b.home.types t) ≡ true → FinePlace d → FineArguments xs t → FineCall (call.Variable t d xs) (has_result b.home.types t)
   variable_fine t d xs s k x y = from_call (call.Variable t d xs) (layer.Variable t d xs) (has_result b.home.types t) (call.outs-Variable t d xs)
-      (fits_then (behind_fine (λ types. loaded types t) x (λ ls. loaded_leads b h ls b.home.types t s)) (fits_then (plain_fine (λ ls. checked_leads b h ls (pos 1) (pos 4294967295) 7)) (fits_number h (λ n.
+      (fits_then (behind_fine (λ types. load_code types t) x (λ ls. loaded_leads b h ls b.home.types t s)) (fits_then (plain_fine (λ ls. checked_leads b h ls (pos 1) (pos 4294967295) 7)) (fits_number h (λ n.
       fits_then (fits_plain (λ p ls. set n I64 [] p.1 (done []))) (fits_then (fits_given (λ p. tt) top_fine) (fits_then (fits_given (λ p. tt) (fits_above S y)) (value_call_fine n t k)))))))

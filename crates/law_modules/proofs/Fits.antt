@@ -13,7 +13,7 @@ use Rattle.def_scheme.specs.Scheme.{type_from}
 use Rattle.def_scheme.specs.Coded.{Coded, Counts, Setting, plain, ◌⨾◌, nothing, within, with_address, with_number, with_text, with_setting, put, stop, copy, fill, check, quotient, remainder, body_index}
 use Rattle.def_scheme.specs.Exprs.{Numbered, all_arguments, has_result}
 use Rattle.def_scheme.specs.Signatures.{Signatures, Signature, signature, is_among, results_of, type_of}
-use Rattle.def_scheme.specs.Steps.{if_else, leaving, under, boxed}
+use Rattle.def_scheme.specs.Steps.{if_else, leaving, under, in_block}
 use Rattle.law_modules.proofs.Leading.{Stack, then_leads, above, Callable, done, block, one_of}
 
 -- ---- a function in the making, and what it may name
@@ -243,7 +243,7 @@ module _ {b : Body} {P : Type 0} {w : ℕ} {l : Bool} {shift : ℕ → ℕ} {n :
   }
 
   -- a block in which no EXIT stands
-  pub fits_boxed : {x : Coded} {k : ℕ} → Fits b P w l shift (suc n) x k [] [] → Fits b P w l shift n (boxed x) k [] []
+  pub fits_boxed : {x : Coded} {k : ℕ} → Fits b P w l shift (suc n) x k [] [] → Fits b P w l shift n (in_block x) k [] []
   fits_boxed {x = x} p = record {
     numbers = λ e ws c. p.numbers e ws c;
     addresses = λ e ws c. p.addresses e ws c;

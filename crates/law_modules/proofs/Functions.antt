@@ -12,7 +12,7 @@ use Rattle.wasm_tree.specs.declared.instr.Operation.TheVariants.{Add, Sub, Mul, 
 use Rattle.wasm_tree.specs.declared.instr.Relation.TheVariants.{LtS, GtS, GtU}
 use Rattle.wasm_tree.specs.declared.instr.StoreWidth.TheVariants as width
 use Rattle.wasm_tree.specs.declared.module.Locals.{Locals}
-use Rattle.wasm_tree.specs.Validity.{Context, function_context, declared, Leads, IsFunction}
+use Rattle.wasm_tree.specs.Validity.{Context, function_context, local_types, Leads, IsFunction}
 use Rattle.typed_tree.specs.declared.known_types.Types.{Types}
 use Rattle.typed_tree.specs.declared.shape.Formal.{Formal}
 use Rattle.typed_tree.specs.declared.statement.TypedStmt.{TypedStmt}
@@ -25,15 +25,15 @@ use Rattle.layout_storage.specs.Shapes.{tree}
 use Rattle.layout_storage.specs.Frames.{formals_of, frame}
 use Rattle.layout_storage.specs.Texts.{characters, routines_texts, texts_before}
 use Rattle.def_scheme.specs.Scheme.{type_from}
-use Rattle.def_scheme.specs.Coded.{Counts, wrapped, extended, copy, fill, fault}
+use Rattle.def_scheme.specs.Coded.{Counts, wrap_word, extend_word, copy, fill, fault}
 use Rattle.def_scheme.specs.Cells.{word}
 use Rattle.def_scheme.specs.Exprs.{arguments_of, all_arguments, has_result}
 use Rattle.def_scheme.specs.Steps.{body_code}
 use Rattle.def_scheme.specs.Addresses.{addresses_in}
-use Rattle.def_scheme.specs.Signatures.{signature, needed, so_many, results_of, type_of, of_routine}
-use Rattle.def_scheme.specs.Functions.{frames_around, link_arguments, numbers_of, limit_check, enter_code, formal_address, word_kept, value_kept, bytes_code, open_copied, formals_kept, prologue, from_text, locals_of, end_code, coded, routine_function, module_function}
+use Rattle.def_scheme.specs.Signatures.{signature, signatures_needed, so_many, results_of, type_of, of_routine}
+use Rattle.def_scheme.specs.Functions.{frames_around, link_arguments, numbers_of, limit_check, enter_code, formal_address, word_kept, value_kept, bytes_code, open_copied, formals_kept, prologue, from_text, locals_of, end_code, function_code, routine_function, module_function}
 use Rattle.def_scheme.specs.Helpers.{copy_turn, copy_code, fill_turn, fill_code, check_tests, check_code, divisor_checked, div_rest, mod_rest}
-use Rattle.def_scheme.specs.Modules.{helper, mod_function, numbered}
+use Rattle.def_scheme.specs.Modules.{helper, mod_function, numbering_of}
 use Rattle.law_modules.specs.WellFormed.{IsBody, IsWellFormed}
 use Rattle.law_modules.proofs.Leading.{Stack, then_leads, above, get, set, tee, glob, short, long, calc, load, store, br, br_if, stuck, block, loop, one_of, done, invoke}
 use Rattle.law_modules.proofs.Fits.{Body, Holds, Suits, Fits, labelled, IsNumber, IsAddress}
@@ -63,12 +63,12 @@ abbrev groups : (addresses numbers : ℕ) → List Locals
 groups a k = record { count = 2 + a; value_type = I32 } ∷ record { count = k; value_type = I64 } ∷ []
 
 abbrev all_locals : (n a k : ℕ) → List ValueType
-all_locals n a k = (I32 ∷ so_many n) ++ declared (groups a k)
+all_locals n a k = (I32 ∷ so_many n) ++ local_types (groups a k)
 
-declared_at : (n a k i : ℕ) → slice_get (all_locals n a k) (suc n + i) ≡ slice_get (declared (groups a k)) i
+declared_at : (n a k i : ℕ) → slice_get (all_locals n a k) (suc n + i) ≡ slice_get (local_types (groups a k)) i
 declared_at n a k i =
     let e : suc n + i ≡ length (I32 ∷ so_many n) + i = omega (arith, numbers_length n) in
-    ap (λ (j : ℕ). slice_get (all_locals n a k) j) e ∙ append_at (I32 ∷ so_many n) (declared (groups a k)) i
+    ap (λ (j : ℕ). slice_get (all_locals n a k) j) e ∙ append_at (I32 ∷ so_many n) (local_types (groups a k)) i
 
 address_at : (n a k i : ℕ) → i < 2 + a → slice_get (all_locals n a k) (suc n + i) ≡ Some I32
 address_at n a k i lt = declared_at n a k i ∙ front_at (replicate (2 + a) I32) (replicate k I64 ++ []) i I32 (replicated I32 (2 + a) i lt)
@@ -76,11 +76,11 @@ address_at n a k i lt = declared_at n a k i ∙ front_at (replicate (2 + a) I32)
 number_at : (n a k i : ℕ) → i < k → slice_get (all_locals n a k) (suc n + (2 + (a + i))) ≡ Some I64
 number_at n a k i lt =
     let e : 2 + (a + i) ≡ length (replicate (2 + a) I32) + i = omega (arith, length-replicate (2 + a) I32) in
-    declared_at n a k (2 + (a + i)) ∙ ap (λ (j : ℕ). slice_get (declared (groups a k)) j) e ∙ append_at (replicate (2 + a) I32) (replicate k I64 ++ []) i ∙ front_at (replicate k I64) [] i I64 (replicated I64 k i lt)
+    declared_at n a k (2 + (a + i)) ∙ ap (λ (j : ℕ). slice_get (local_types (groups a k)) j) e ∙ append_at (replicate (2 + a) I32) (replicate k I64 ++ []) i ∙ front_at (replicate k I64) [] i I64 (replicated I64 k i lt)
 
 param_at : (n a k i : ℕ) → 1 ≤ i → i < suc n → slice_get (all_locals n a k) i ≡ Some I64
 param_at n a k zero le lt = absurd (omega (arith, le))
-param_at n a k (suc i) le lt = front_at (so_many n) (declared (groups a k)) i I64 (number_in n i (omega (arith, lt)))
+param_at n a k (suc i) le lt = front_at (so_many n) (local_types (groups a k)) i I64 (number_in n i (omega (arith, lt)))
 
 -- ---- a function with its locals
 
@@ -88,8 +88,8 @@ module _ (m : TypedModule) where
   abbrev made : (n : ℕ) (gives : Bool) (frames : List Ty) (a k : ℕ) → Body
   made n gives frames a k = record {
     home = m;
-    numbered = numbered m;
-    known = needed m;
+    numbering_of = numbering_of m;
+    known = signatures_needed m;
     frames = frames;
     arguments = suc n;
     addresses = a;
@@ -143,7 +143,7 @@ module _ (b : Body) (h : Holds b) (params : (i : ℕ) → 1 ≤ i → i < b.argu
   param_leads : (i : ℕ) → 1 ≤ i → i < b.arguments → Leads here (LocalGet i ∷ []) [] N
   param_leads i le lt = get i I64 [] (params i le lt) (done N)
 
-  copied_leads : (x n : ℕ) → 1 ≤ x → x < b.arguments → Leads here (LocalGet x ∷ wrapped ∷ I32Const n ∷ Call copy ∷ []) S []
+  copied_leads : (x n : ℕ) → 1 ≤ x → x < b.arguments → Leads here (LocalGet x ∷ wrap_word ∷ I32Const n ∷ Call copy ∷ []) S []
   copied_leads x n le lt = get x I64 S (params x le lt) (calc numeric.I32WrapI64 S (short n (I32 ∷ I32 ∷ []) (invoke copy (type_from (I32 ∷ I32 ∷ I32 ∷ []) []) [] h.copy (done []))))
 
   value_leads : (f : Ty) (v x : ℕ) → 1 ≤ x → x < b.arguments → (t : Ty) → Leads here (value_kept f v x t) [] []
@@ -163,7 +163,7 @@ module _ (b : Body) (h : Holds b) (params : (i : ℕ) → 1 ≤ i → i < b.argu
   open_copy_leads f v x n le lt =
       get b.arguments I32 [] h.top (set (suc b.arguments) I32 [] copied (get b.arguments I32 [] h.top (then_leads (above S (bytes_leads (suc x) n (omega arith) lt)) (calc numeric.I32Add [] (tee b.arguments I32 [] h.top (then_leads limit_leads
       (get (suc b.arguments) I32 [] copied (get x I64 S (params x le (omega (arith, lt))) (calc numeric.I32WrapI64 S (then_leads (above (I32 ∷ I32 ∷ []) (bytes_leads (suc x) n (omega arith) lt))
-      (invoke copy (type_from (I32 ∷ I32 ∷ I32 ∷ []) []) [] h.copy (both_kept f v x (LocalGet (suc b.arguments) ∷ extended ∷ []) lt (get (suc b.arguments) I32 [] copied (calc numeric.I64ExtendI32U [] (done N)))))))))))))))
+      (invoke copy (type_from (I32 ∷ I32 ∷ I32 ∷ []) []) [] h.copy (both_kept f v x (LocalGet (suc b.arguments) ∷ extend_word ∷ []) lt (get (suc b.arguments) I32 [] copied (calc numeric.I64ExtendI32U [] (done N)))))))))))))))
 
   formal_case : (types : Types) (f : Ty) (v x : ℕ) (of : Ty) (open_array var : Bool) → 1 ≤ x → x + open_count b h 0 false open_array ≤ b.arguments
       → Leads here (if open_array then (if var then word_kept f v (0 ∷ []) (LocalGet x ∷ []) ++ word_kept f v (1 ∷ []) (LocalGet (suc x) ∷ []) else open_copied b.arguments (suc b.arguments) f v x (size of))
@@ -199,12 +199,12 @@ end_leads b h ls false = done []
 module _ (m : TypedModule) (wf : IsWellFormed m) where
   -- the code of a body, between what stands before and behind it
   body_leads : (n : ℕ) (gives : Bool) (frames : List Ty) (text : ℕ) (body : List TypedStmt) (before after : List Instr)
-      → Fits (made m n gives frames (addresses_in body) (coded (numbered m) m frames (suc n) text body).1.numbers) (Unit {0}) 0 false (λ e. e) 0 (body_code (numbered m) body) (addresses_in body) [] []
-      → ((ls : List Stack) → Leads (labelled (made m n gives frames (addresses_in body) (coded (numbered m) m frames (suc n) text body).1.numbers) ls) before [] [])
-      → ((ls : List Stack) → Leads (labelled (made m n gives frames (addresses_in body) (coded (numbered m) m frames (suc n) text body).1.numbers) ls) after [] (results_of gives))
-      → Leads (function_context (own m) (type_of (signature n gives)) (locals_of (coded (numbered m) m frames (suc n) text body).1)) (before ++ ((coded (numbered m) m frames (suc n) text body).0 ++ after)) [] (results_of gives)
+      → Fits (made m n gives frames (addresses_in body) (function_code (numbering_of m) m frames (suc n) text body).1.numbers) (Unit {0}) 0 false (λ e. e) 0 (body_code (numbering_of m) body) (addresses_in body) [] []
+      → ((ls : List Stack) → Leads (labelled (made m n gives frames (addresses_in body) (function_code (numbering_of m) m frames (suc n) text body).1.numbers) ls) before [] [])
+      → ((ls : List Stack) → Leads (labelled (made m n gives frames (addresses_in body) (function_code (numbering_of m) m frames (suc n) text body).1.numbers) ls) after [] (results_of gives))
+      → Leads (function_context (own m) (type_of (signature n gives)) (locals_of (function_code (numbering_of m) m frames (suc n) text body).1)) (before ++ ((function_code (numbering_of m) m frames (suc n) text body).0 ++ after)) [] (results_of gives)
   body_leads n gives frames text body before after fit first last =
-      let x : List Instr × Counts = coded (numbered m) m frames (suc n) text body in
+      let x : List Instr × Counts = function_code (numbering_of m) m frames (suc n) text body in
       let b : Body = made m n gives frames (addresses_in body) x.1.numbers in
       let count : x.1.addresses ≡ 0 + addresses_in body = fit.addresses 0 [] (from_text text) in
       let same : addresses_in body ≡ x.1.addresses = omega (arith, count) in
@@ -213,13 +213,13 @@ module _ (m : TypedModule) (wf : IsWellFormed m) where
       subst (λ (a : ℕ). Leads (function_context (own m) (type_of (signature n gives)) (groups a x.1.numbers)) (before ++ (x.0 ++ after)) [] (results_of gives)) same
       (then_leads (first (results_of gives ∷ [])) (then_leads inner (last (results_of gives ∷ []))))
 
-  pub routine_valid : (w : Which) (r : Routine) → Within (needed m) (of_routine m r) → IsBody m r → IsFunction (own m) (routine_function (numbered m) m w r)
+  pub routine_valid : (w : Which) (r : Routine) → Within (signatures_needed m) (of_routine m r) → IsBody m r → IsFunction (own m) (routine_function (numbering_of m) m w r)
   routine_valid w r known wb =
       let n : ℕ = numbers_of m.types r in
       let gives : Bool = has_result m.types r.heading in
       let frames : List Ty = frame m.types r ∷ frames_around m r.level r.around in
       let text : ℕ = characters (texts_before m w m.order) in
-      let k : ℕ = (coded (numbered m) m frames (suc n) text r.body).1.numbers in
+      let k : ℕ = (function_code (numbering_of m) m frames (suc n) text r.body).1.numbers in
       let a : ℕ = addresses_in r.body in
       let b : Body = made m n gives frames a k in
       let h : Holds b = made_holds m wf n gives frames a k in
@@ -231,31 +231,31 @@ module _ (m : TypedModule) (wf : IsWellFormed m) where
       )
 
   -- its code keeps so many addresses in locals
-  pub routine_addresses : (text : ℕ) (r : Routine) → Within (needed m) (of_routine m r) → IsBody m r
-      → (coded (numbered m) m (frame m.types r ∷ frames_around m r.level r.around) (suc (numbers_of m.types r)) text r.body).1.addresses ≡ addresses_in r.body
+  pub routine_addresses : (text : ℕ) (r : Routine) → Within (signatures_needed m) (of_routine m r) → IsBody m r
+      → (function_code (numbering_of m) m (frame m.types r ∷ frames_around m r.level r.around) (suc (numbers_of m.types r)) text r.body).1.addresses ≡ addresses_in r.body
   routine_addresses text r known wb =
       let n : ℕ = numbers_of m.types r in
       let gives : Bool = has_result m.types r.heading in
       let frames : List Ty = frame m.types r ∷ frames_around m r.level r.around in
-      let b : Body = made m n gives frames (addresses_in r.body) (coded (numbered m) m frames (suc n) text r.body).1.numbers in
-      let h : Holds b = made_holds m wf n gives frames (addresses_in r.body) (coded (numbered m) m frames (suc n) text r.body).1.numbers in
-      let count : (coded (numbered m) m frames (suc n) text r.body).1.addresses ≡ 0 + addresses_in r.body = (stmts_valid b h 0 false r.body wb.body (body_known m r known)).addresses 0 [] (from_text text) in
+      let b : Body = made m n gives frames (addresses_in r.body) (function_code (numbering_of m) m frames (suc n) text r.body).1.numbers in
+      let h : Holds b = made_holds m wf n gives frames (addresses_in r.body) (function_code (numbering_of m) m frames (suc n) text r.body).1.numbers in
+      let count : (function_code (numbering_of m) m frames (suc n) text r.body).1.addresses ≡ 0 + addresses_in r.body = (stmts_valid b h 0 false r.body wb.body (body_known m r known)).addresses 0 [] (from_text text) in
       omega (arith, count)
 
-  pub module_addresses : (text : ℕ) → (coded (numbered m) m (frame_of [] ∷ []) 1 text m.body).1.addresses ≡ addresses_in m.body
+  pub module_addresses : (text : ℕ) → (function_code (numbering_of m) m (frame_of [] ∷ []) 1 text m.body).1.addresses ≡ addresses_in m.body
   module_addresses text =
       let frames : List Ty = frame_of [] ∷ [] in
-      let k : ℕ = (coded (numbered m) m frames 1 text m.body).1.numbers in
+      let k : ℕ = (function_code (numbering_of m) m frames 1 text m.body).1.numbers in
       let b : Body = made m 0 false frames (addresses_in m.body) k in
       let h : Holds b = made_holds m wf 0 false frames (addresses_in m.body) k in
-      let count : (coded (numbered m) m frames 1 text m.body).1.addresses ≡ 0 + addresses_in m.body = (stmts_valid b h 0 false m.body wf.body (module_known m)).addresses 0 [] (from_text text) in
+      let count : (function_code (numbering_of m) m frames 1 text m.body).1.addresses ≡ 0 + addresses_in m.body = (stmts_valid b h 0 false m.body wf.body (module_known m)).addresses 0 [] (from_text text) in
       omega (arith, count)
 
-  pub module_valid : IsFunction (own m) (module_function (numbered m) m)
+  pub module_valid : IsFunction (own m) (module_function (numbering_of m) m)
   module_valid =
       let frames : List Ty = frame_of [] ∷ [] in
       let text : ℕ = characters (routines_texts m) in
-      let k : ℕ = (coded (numbered m) m frames 1 text m.body).1.numbers in
+      let k : ℕ = (function_code (numbering_of m) m frames 1 text m.body).1.numbers in
       let a : ℕ = addresses_in m.body in
       let b : Body = made m 0 false frames a k in
       let h : Holds b = made_holds m wf 0 false frames a k in

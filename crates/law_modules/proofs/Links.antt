@@ -15,12 +15,12 @@ use Rattle.wasm_tree.specs.declared.store.Value.TheVariants.{I32}
 use Rattle.wasm_tree.specs.declared.store.Callee.TheVariants.{Put, Stop, Own}
 use Rattle.wasm_tree.specs.declared.store.Instance.{Instance}
 use Rattle.wasm_tree.specs.declared.store.Store.{Store}
-use Rattle.wasm_tree.specs.Linking.{each, Linked, with_functions, with_global, with_import, with_table, with_memory, with_element, with_segment, linked_one, host_store, no_instance, named}
+use Rattle.wasm_tree.specs.Linking.{each, Linked, with_functions, with_global, with_import, with_table, with_memory, with_element, with_segment, linked_one, host_store, no_instance, export_named}
 use Rattle.typed_tree.specs.declared.typed_module.TypedModule.{TypedModule}
 use Rattle.layout_storage.specs.Texts.{characters, module_texts}
 use Rattle.def_scheme.specs.Scheme.{constant_global, imported_globals, host_imports, base_name, text_name, tab_name, from_link, from_host, at_least_one}
 use Rattle.def_scheme.specs.Modules.{slots, imports, part_of, globals_from, typed_module, typed_link}
-use Rattle.law_modules.specs.Linked.{Program, names, imported_names, all, variables, values, filled, image, places, base_at, text_at, tab_at, own_places, imported_places, slots_in, bytes_in, store, IsAmong}
+use Rattle.law_modules.specs.Linked.{Program, names, imported_names, all, variables, values, table_slots, image, places, base_at, text_at, tab_at, own_places, imported_places, slots_in, bytes_in, store, IsAmong}
 use Rattle.law_modules.proofs.Stores.{image_length, global_place, link_value, place_within, link_exports, base_found, text_found, tab_found}
 
 -- ---- a module in steps
@@ -163,10 +163,10 @@ module _ (p : Program) (pages spare : ℕ) (before rest : Program) (b : TypedMod
   gets_table : (i : Instance) → asks (record { module_name = codes "link"; name = codes "table"; kind = imported.Table (record { limits = at_least_one }) }) i ≡ Ok (record i { tables = i.tables ++ 0 ∷ [] })
   unfolding asks
   gets_table i =
-      let one : leb 1 (suc (length (filled 3 before ++ replicate {A = Option ℕ} (slots_in rest) None))) ≡ true = le-leb 1 _ (omega arith) in
+      let one : leb 1 (suc (length (table_slots 3 before ++ replicate {A = Option ℕ} (slots_in rest) None))) ≡ true = le-leb 1 _ (omega arith) in
       rw one refl
 
-  gets_global : (name : List ℕ) (x : ℕ) (i : Instance) → named name (link_exports p) ≡ Some (exported.Global x) → x < 1 + 3 * length p → asks (from_link name) i ≡ Ok (record i { globals = i.globals ++ x ∷ [] })
+  gets_global : (name : List ℕ) (x : ℕ) (i : Instance) → export_named name (link_exports p) ≡ Some (exported.Global x) → x < 1 + 3 * length p → asks (from_link name) i ≡ Ok (record i { globals = i.globals ++ x ∷ [] })
   unfolding asks
   gets_global name x i e lt = rw (e, global_place x p lt, (link_value x p pages lt).1) refl
 
@@ -196,7 +196,7 @@ module _ (p : Program) (pages spare : ℕ) (before rest : Program) (b : TypedMod
   gets_tab : (name : List ℕ) (i : Instance) → IsAmong (names p) name → asks (from_link (tab_name name)) i ≡ Ok (record i { globals = i.globals ++ tab_at p name ∷ [] })
   gets_tab name i e = gets_global (tab_name name) (tab_at p name) i (tab_found p name e) (tab_within name e)
 
-  abbrev limit_found : named (codes "limit") (link_exports p) ≡ Some (exported.Global 0)
+  abbrev limit_found : export_named (codes "limit") (link_exports p) ≡ Some (exported.Global 0)
   limit_found = refl
 
   -- what is imported from other modules, in front of more

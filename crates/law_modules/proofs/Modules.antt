@@ -17,7 +17,7 @@ use Rattle.def_scheme.specs.Scheme.{imported_globals, host_imports}
 use Rattle.def_scheme.specs.Coded.{body_index}
 use Rattle.def_scheme.specs.Functions.{routine_function, functions_from}
 use Rattle.def_scheme.specs.Signatures.{Signature, type_of, results_of}
-use Rattle.def_scheme.specs.Modules.{numbered, signatures, slots, all_characters, data_of, typed_module}
+use Rattle.def_scheme.specs.Modules.{numbering_of, signatures, slots, all_characters, data_of, typed_module}
 use Rattle.law_modules.specs.WellFormed.{IsBody, IsWellFormed}
 use Rattle.law_modules.proofs.Names.{◌▪◌}
 use Rattle.law_modules.proofs.LinkModule.{limits_from}
@@ -57,7 +57,7 @@ module _ (m : TypedModule) where
   data_fine [] = tt
   data_fine (b ∷ bs) = ((omega (arith, memories_count m), place_of 2 refl), tt)
 
-  count_routines : (w : ℕ → Which) (j : ℕ) (rs : List Routine) → length (functions_from (numbered m) m w j rs) ≡ length rs
+  count_routines : (w : ℕ → Which) (j : ℕ) (rs : List Routine) → length (functions_from (numbering_of m) m w j rs) ≡ length rs
   count_routines w j [] = refl
   count_routines w j (r ∷ rs) = ap suc (count_routines w (suc j) rs)
 
@@ -65,21 +65,21 @@ module _ (m : TypedModule) where
   enough =
       let a : length (own m).functions ≡ 8 + length (indices (routines m)) = ap (λ (ks : List ℕ). length ks) (functions_are m) ∙ (omega arith) in
       let b : length (indices (routines m)) ≡ length (routines m) = indices_count (routines m) in
-      let c : length (routines m) ≡ length (functions_from (numbered m) m which.Module 0 m.procedures) + length (functions_from (numbered m) m which.Local 0 m.locals) =
-      length-append (functions_from (numbered m) m which.Module 0 m.procedures) (functions_from (numbered m) m which.Local 0 m.locals) in
+      let c : length (routines m) ≡ length (functions_from (numbering_of m) m which.Module 0 m.procedures) + length (functions_from (numbering_of m) m which.Local 0 m.locals) =
+      length-append (functions_from (numbering_of m) m which.Module 0 m.procedures) (functions_from (numbering_of m) m which.Local 0 m.locals) in
       let d = count_routines which.Module 0 m.procedures in
       omega (arith, a, b, c, d)
 
   -- each procedure of a list is valid, whatever it is called
   AreFine : List Routine → Type 0
-  AreFine rs = (k : ℕ) (r : Routine) → slice_get rs k ≡ Some r → (w : Which) → IsFunction (own m) (routine_function (numbered m) m w r)
+  AreFine rs = (k : ℕ) (r : Routine) → slice_get rs k ≡ Some r → (w : Which) → IsFunction (own m) (routine_function (numbering_of m) m w r)
 
-  routines_fine : (w : ℕ → Which) (j : ℕ) (rs : List Routine) (more : List Function) → AreFine rs → ByRecursion (IsFunction (own m)) more → ByRecursion (IsFunction (own m)) (functions_from (numbered m) m w j rs ++ more)
+  routines_fine : (w : ℕ → Which) (j : ℕ) (rs : List Routine) (more : List Function) → AreFine rs → ByRecursion (IsFunction (own m)) more → ByRecursion (IsFunction (own m)) (functions_from (numbering_of m) m w j rs ++ more)
   unfolding AreFine
   routines_fine w j [] more fine rest = rest
   routines_fine w j (r ∷ rs) more fine rest = (fine 0 r refl (w j), routines_fine w (suc j) rs more (λ k x e. fine (suc k) x e) rest)
 
-  alone_fine : (w : ℕ → Which) (j : ℕ) (rs : List Routine) → AreFine rs → ByRecursion (IsFunction (own m)) (functions_from (numbered m) m w j rs)
+  alone_fine : (w : ℕ → Which) (j : ℕ) (rs : List Routine) → AreFine rs → ByRecursion (IsFunction (own m)) (functions_from (numbering_of m) m w j rs)
   unfolding AreFine
   alone_fine w j [] fine = tt
   alone_fine w j (r ∷ rs) fine = (fine 0 r refl (w j), alone_fine w (suc j) rs (λ k x e. fine (suc k) x e))
@@ -108,7 +108,7 @@ module _ (m : TypedModule) where
     functions =
         All-from_recursion (IsFunction (own m)) (whole m).functions
         (copy_valid m ▪ fill_valid m ▪ check_valid m ▪ div_valid m ▪ mod_valid m ▪ module_valid m wf
-        ▪ routines_fine which.Module 0 m.procedures (functions_from (numbered m) m which.Local 0 m.locals) (procedures_fine wf) (alone_fine which.Local 0 m.locals (nested_fine wf)));
+        ▪ routines_fine which.Module 0 m.procedures (functions_from (numbering_of m) m which.Local 0 m.locals) (procedures_fine wf) (alone_fine which.Local 0 m.locals (nested_fine wf)));
     elements =
         All-from_recursion (IsElement (own m)) (whole m).elements
         ((omega (arith, tables_count m), place_of 3 refl, All-from_recursion (λ f. f < length (own m).functions) (range_with_len body_index (slots m)) (range_below body_index (slots m) (length (own m).functions) enough)), tt);

@@ -6,7 +6,7 @@ use Rattle.std.specs.Option.{unwrap_or}
 use Rattle.std.proofs.lemmas.Bool.{and_parts, and_from, or_cases, or_left, or_right, eqb-true, eq-eqb, leb-true, leb-false, lt-ltb, cases_eq, cases_lt}
 use Rattle.wasm_tree.specs.declared.kinds.FuncType.{FuncType}
 use Rattle.def_scheme.specs.Scheme.{body_types}
-use Rattle.def_scheme.specs.Signatures.{Signatures, Signature, signature, same_result, is_same, is_among, greater, most_arguments, if_among, of_arguments, ordered, body_signature, number_of, type_of}
+use Rattle.def_scheme.specs.Signatures.{Signatures, Signature, signature, same_result, is_same, is_among, greater, most_arguments, if_among, of_arguments, in_order, body_signature, number_of, type_of}
 
 -- ---- lists
 
@@ -106,7 +106,7 @@ arguments_have ss zero false h e = absurd cc
 arguments_have ss (suc n) false h e = any_left (is_same (signature (suc n) false)) (if_among ss (signature (suc n) false)) (if_among ss (signature (suc n) true)) (if_has (signature (suc n) false) (is_among ss (signature (suc n) false)) h)
 arguments_have ss (suc n) true h e = any_right (is_same (signature (suc n) true)) (if_among ss (signature (suc n) false)) (if_among ss (signature (suc n) true)) (if_has (signature (suc n) true) (is_among ss (signature (suc n) true)) h)
 
-in_ordered : (ss : Signatures) (s : Signature) → is_among ss s ≡ true → is_same s body_signature ≡ false → list_any (is_same s) (ordered ss) ≡ true
+in_ordered : (ss : Signatures) (s : Signature) → is_among ss s ≡ true → is_same s body_signature ≡ false → list_any (is_same s) (in_order ss) ≡ true
 in_ordered ss s h e = let most = among_most ss 0 s h in any_at (is_same s) (of_arguments ss) s.arguments 0 (suc (most_arguments ss)) (omega arith) (omega (arith, most)) (arguments_have ss s.arguments s.result h e)
 
 -- ---- the type under a number
@@ -115,12 +115,12 @@ behind_types : (more : List FuncType) (k : ℕ) → slice_get (body_types ++ mor
 behind_types more k = let e : 6 + k ≡ suc (suc (suc (suc (suc (suc k))))) = omega arith in ap (λ (j : ℕ). slice_get (body_types ++ more) j) e
 
 typed_case : (ss : Signatures) (s : Signature) (q : Bool) → is_same s body_signature ≡ q → is_among ss s ≡ true
-    → slice_get (body_types ++ map type_of (ordered ss)) (if q then 5 else 6 + unwrap_or (position (is_same s) (ordered ss)) 0) ≡ Some (type_of s)
+    → slice_get (body_types ++ map type_of (in_order ss)) (if q then 5 else 6 + unwrap_or (position (is_same s) (in_order ss)) 0) ≡ Some (type_of s)
 typed_case ss s true e h = ap (λ (t : Signature). Some (type_of t)) (sym (same_is s body_signature e))
 typed_case ss s false e h =
-    let one = position_at (is_same s) (ordered ss) (in_ordered ss s h e) in
-    let k : ℕ = unwrap_or (position (is_same s) (ordered ss)) 0 in
-    behind_types (map type_of (ordered ss)) k ∙ mapped_at type_of (ordered ss) k one.0 one.1 ∙ ap (λ (t : Signature). Some (type_of t)) (sym (same_is s one.0 one.2))
+    let one = position_at (is_same s) (in_order ss) (in_ordered ss s h e) in
+    let k : ℕ = unwrap_or (position (is_same s) (in_order ss)) 0 in
+    behind_types (map type_of (in_order ss)) k ∙ mapped_at type_of (in_order ss) k one.0 one.1 ∙ ap (λ (t : Signature). Some (type_of t)) (sym (same_is s one.0 one.2))
 
-pub typed_at : (ss : Signatures) (s : Signature) → is_among ss s ≡ true → slice_get (body_types ++ map type_of (ordered ss)) (number_of (ordered ss) s.arguments s.result) ≡ Some (type_of s)
+pub typed_at : (ss : Signatures) (s : Signature) → is_among ss s ≡ true → slice_get (body_types ++ map type_of (in_order ss)) (number_of (in_order ss) s.arguments s.result) ≡ Some (type_of s)
 typed_at ss s h = typed_case ss s (is_same s body_signature) refl h

@@ -20,8 +20,8 @@ use Rattle.def_scheme.specs.Scheme.{type_from, imported_globals, host_imports}
 use Rattle.def_scheme.specs.Coded.{put, stop, copy, fill, check, quotient, remainder, body_index}
 use Rattle.def_scheme.specs.Exprs.{Numbered, all_arguments, has_result}
 use Rattle.def_scheme.specs.Functions.{numbers_of, link_arguments, functions_from}
-use Rattle.def_scheme.specs.Signatures.{Signatures, Signature, signature, is_same, is_among, joined, needed, of_step, of_routine, type_of}
-use Rattle.def_scheme.specs.Modules.{typed_module, numbered}
+use Rattle.def_scheme.specs.Signatures.{Signatures, Signature, signature, is_same, is_among, concatenation, signatures_needed, of_step, of_routine, type_of}
+use Rattle.def_scheme.specs.Modules.{typed_module, numbering_of}
 use Rattle.law_modules.specs.WellFormed.{IsWellFormed}
 use Rattle.law_modules.proofs.Leading.{Callable}
 use Rattle.law_modules.proofs.Exprs.{AreKnown}
@@ -67,7 +67,7 @@ within_one f [] k r h = absurd cc
 within_one f (x ∷ rs) zero r h = let e : x ≡ r = cc in subst (λ (y : Routine). Within (f x ++ flat_map f rs) (f y)) e (within_left (f x) (flat_map f rs) (f x) (within_self (f x)))
 within_one f (x ∷ rs) (suc k) r h = within_right (f x) (flat_map f rs) (f r) (within_one f rs k r h)
 
-joined_is : {A : Type 0} (f : A → Signatures) (xs : List A) → flat_map f xs ≡ joined (map f xs)
+joined_is : {A : Type 0} (f : A → Signatures) (xs : List A) → flat_map f xs ≡ concatenation (map f xs)
 joined_is f [] = refl
 joined_is f (x ∷ xs) = ap (λ (ss : Signatures). f x ++ ss) (joined_is f xs)
 
@@ -150,7 +150,7 @@ module _ (m : TypedModule) where
   own = context whole
 
   abbrev pub routines : List Function
-  routines = functions_from (numbered m) m which.Module 0 m.procedures ++ functions_from (numbered m) m which.Local 0 m.locals
+  routines = functions_from (numbering_of m) m which.Module 0 m.procedures ++ functions_from (numbering_of m) m which.Local 0 m.locals
 
   abbrev pub all_indices : List ℕ
   all_indices = 0 ∷ 0 ∷ 1 ∷ 2 ∷ 3 ∷ 4 ∷ 4 ∷ 5 ∷ indices routines
@@ -200,19 +200,19 @@ module _ (m : TypedModule) where
 
   -- ---- types
 
-  pub typed_in : (s : Signature) → is_among (needed m) s ≡ true → slice_get own.types (numbered m s.arguments s.result) ≡ Some (type_of s)
-  typed_in s h = typed_at (needed m) s h
+  pub typed_in : (s : Signature) → is_among (signatures_needed m) s ≡ true → slice_get own.types (numbering_of m s.arguments s.result) ≡ Some (type_of s)
+  typed_in s h = typed_at (signatures_needed m) s h
 
   -- what a procedure of the module, one in a procedure, and the body need
-  pub of_own : (k : ℕ) (r : Routine) → slice_get m.procedures k ≡ Some r → Within (needed m) (of_routine m r)
+  pub of_own : (k : ℕ) (r : Routine) → slice_get m.procedures k ≡ Some r → Within (signatures_needed m) (of_routine m r)
   of_own k r h = within_left (flat_map (of_routine m) m.procedures) (flat_map (of_routine m) m.locals ++ flat_map (of_step m) m.body) (of_routine m r) (within_one (of_routine m) m.procedures k r h)
 
-  pub of_nested : (k : ℕ) (r : Routine) → slice_get m.locals k ≡ Some r → Within (needed m) (of_routine m r)
+  pub of_nested : (k : ℕ) (r : Routine) → slice_get m.locals k ≡ Some r → Within (signatures_needed m) (of_routine m r)
   of_nested k r h =
       within_right (flat_map (of_routine m) m.procedures) (flat_map (of_routine m) m.locals ++ flat_map (of_step m) m.body) (of_routine m r)
       (within_left (flat_map (of_routine m) m.locals) (flat_map (of_step m) m.body) (of_routine m r) (within_one (of_routine m) m.locals k r h))
 
-  pub of_body : Within (needed m) (flat_map (of_step m) m.body)
+  pub of_body : Within (signatures_needed m) (flat_map (of_step m) m.body)
   of_body =
       within_right (flat_map (of_routine m) m.procedures) (flat_map (of_routine m) m.locals ++ flat_map (of_step m) m.body) (flat_map (of_step m) m.body)
       (within_right (flat_map (of_routine m) m.locals) (flat_map (of_step m) m.body) (flat_map (of_step m) m.body) (within_self (flat_map (of_step m) m.body)))
@@ -220,26 +220,26 @@ module _ (m : TypedModule) where
   abbrev pub routine_signature : Routine → Signature
   routine_signature r = signature (numbers_of m.types r) (has_result m.types r.heading)
 
-  pub routine_known : (r : Routine) → Within (needed m) (of_routine m r) → is_among (needed m) (routine_signature r) ≡ true
+  pub routine_known : (r : Routine) → Within (signatures_needed m) (of_routine m r) → is_among (signatures_needed m) (routine_signature r) ≡ true
   routine_known r h = h.has (routine_signature r) (or_left (is_same (routine_signature r) (routine_signature r)) (is_among (flat_map (of_step m) r.body) (routine_signature r)) (same_self (routine_signature r)))
 
-  pub body_known : (r : Routine) → Within (needed m) (of_routine m r) → AreKnown (needed m) (joined (map (of_step m) r.body))
+  pub body_known : (r : Routine) → Within (signatures_needed m) (of_routine m r) → AreKnown (signatures_needed m) (concatenation (map (of_step m) r.body))
   body_known r h =
-      let inner : Within (needed m) (flat_map (of_step m) r.body) = record { has = λ s k. h.has s (or_right (is_same s (routine_signature r)) (is_among (flat_map (of_step m) r.body) s) k) } in
-      subst (λ (ss : Signatures). AreKnown (needed m) ss) (joined_is (of_step m) r.body) (all_known (needed m) (flat_map (of_step m) r.body) inner)
+      let inner : Within (signatures_needed m) (flat_map (of_step m) r.body) = record { has = λ s k. h.has s (or_right (is_same s (routine_signature r)) (is_among (flat_map (of_step m) r.body) s) k) } in
+      subst (λ (ss : Signatures). AreKnown (signatures_needed m) ss) (joined_is (of_step m) r.body) (all_known (signatures_needed m) (flat_map (of_step m) r.body) inner)
 
-  pub module_known : AreKnown (needed m) (joined (map (of_step m) m.body))
-  module_known = subst (λ (ss : Signatures). AreKnown (needed m) ss) (joined_is (of_step m) m.body) (all_known (needed m) (flat_map (of_step m) m.body) of_body)
+  pub module_known : AreKnown (signatures_needed m) (concatenation (map (of_step m) m.body))
+  module_known = subst (λ (ss : Signatures). AreKnown (signatures_needed m) ss) (joined_is (of_step m) m.body) (all_known (signatures_needed m) (flat_map (of_step m) m.body) of_body)
 
   -- ---- procedures
 
-  own_index : (k : ℕ) (r : Routine) → slice_get m.procedures k ≡ Some r → slice_get own.functions (8 + k) ≡ Some (numbered m (numbers_of m.types r) (has_result m.types r.heading))
-  own_index k r h = function_at (8 + k) _ (at_eight (indices routines) 0 0 1 2 3 4 4 5 k ∙ routine_index (numbered m) m which.Module 0 m.procedures (functions_from (numbered m) m which.Local 0 m.locals) k r h)
+  own_index : (k : ℕ) (r : Routine) → slice_get m.procedures k ≡ Some r → slice_get own.functions (8 + k) ≡ Some (numbering_of m (numbers_of m.types r) (has_result m.types r.heading))
+  own_index k r h = function_at (8 + k) _ (at_eight (indices routines) 0 0 1 2 3 4 4 5 k ∙ routine_index (numbering_of m) m which.Module 0 m.procedures (functions_from (numbering_of m) m which.Local 0 m.locals) k r h)
 
-  nested_index : (k : ℕ) (r : Routine) → slice_get m.locals k ≡ Some r → slice_get own.functions (8 + (length m.procedures + k)) ≡ Some (numbered m (numbers_of m.types r) (has_result m.types r.heading))
+  nested_index : (k : ℕ) (r : Routine) → slice_get m.locals k ≡ Some r → slice_get own.functions (8 + (length m.procedures + k)) ≡ Some (numbering_of m (numbers_of m.types r) (has_result m.types r.heading))
   nested_index k r h =
       function_at (8 + (length m.procedures + k)) _
-      (at_eight (indices routines) 0 0 1 2 3 4 4 5 (length m.procedures + k) ∙ behind_routines (numbered m) m which.Module 0 m.procedures (functions_from (numbered m) m which.Local 0 m.locals) k ∙ alone_index (numbered m) m which.Local 0 m.locals k r h)
+      (at_eight (indices routines) 0 0 1 2 3 4 4 5 (length m.procedures + k) ∙ behind_routines (numbering_of m) m which.Module 0 m.procedures (functions_from (numbering_of m) m which.Local 0 m.locals) k ∙ alone_index (numbering_of m) m which.Local 0 m.locals k r h)
 
   pub own_at : IsWellFormed m → (k : ℕ) (r : Routine) → slice_get m.procedures k ≡ Some r → Callable own (suc body_index + k) (type_of (signature (all_arguments (formals_of m.types r.heading)) (has_result m.types r.heading)))
   own_at wf k r h =

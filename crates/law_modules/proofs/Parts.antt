@@ -28,9 +28,9 @@ use Rattle.layout_storage.specs.Types.{Ty, Scalar, Cell, Hidden, Array, Nothing,
 use Rattle.layout_storage.specs.Sizes.{size}
 use Rattle.layout_storage.specs.Shapes.{tree}
 use Rattle.def_scheme.specs.Scheme.{type_from}
-use Rattle.def_scheme.specs.Coded.{Setting, raised, wrapped, fault, stop, check, quotient, remainder, checked}
-use Rattle.def_scheme.specs.Cells.{load_of, lower, is_nought, unless_nought, load_scalar, store_scalar, load_tree, store_tree, loaded, stored, word, in_range, in_type, base_of, is_free, is_subrange, check_taken, check_changed}
-use Rattle.def_scheme.specs.Exprs.{import_place, is_own, base_global, slots_global, outwards, frame_code, slot_path, slot_code, kept_address, open_address, high_code, index_of, element_tree, scaled, from_lower, element_code, open_element_code, arithmetic_code, complement, set_code, empty_code, ord_check, procedure_code, global_code, text_code}
+use Rattle.def_scheme.specs.Coded.{Setting, raise_address, wrap_word, fault, stop, check, quotient, remainder, check_code}
+use Rattle.def_scheme.specs.Cells.{load_of, lower, is_nought, unless_nought, load_scalar, store_scalar, load_tree, store_tree, load_code, store_code, word, in_range, in_type, base_of, is_free, is_subrange, check_taken, check_changed}
+use Rattle.def_scheme.specs.Exprs.{import_place, is_own, base_global, slots_global, outwards, frame_code, slot_path, slot_code, kept_address, open_address, high_code, index_of, element_tree, scale_index, from_lower, element_code, open_element_code, arithmetic_code, complement, set_code, empty_code, ord_check, procedure_code, global_code, text_code}
 use Rattle.law_modules.specs.WellFormed.{IsScalar, is_known, IsKnown}
 use Rattle.law_modules.proofs.Cells.{is_cell, cell_of}
 use Rattle.law_modules.proofs.Leading.{Stack, then_leads, above, get, glob, short, long, calc, load, store, stuck, done, invoke}
@@ -74,7 +74,7 @@ module _ (b : Body) (h : Holds b) (ls : List Stack) where
 
   -- ---- checks
 
-  pub checked_leads : (low high : ℤ) (k : ℕ) → Leads here (checked low high k) N N
+  pub checked_leads : (low high : ℤ) (k : ℕ) → Leads here (check_code low high k) N N
   checked_leads low high k = long _ (I64 ∷ []) (long _ (I64 ∷ I64 ∷ []) (long k (I64 ∷ I64 ∷ I64 ∷ []) (invoke check (type_from (I64 ∷ I64 ∷ I64 ∷ I64 ∷ []) (I64 ∷ [])) [] h.check (done N))))
 
   pub range_leads : (o : Option Range) (k : ℕ) → Leads here (in_range o k) N N
@@ -115,18 +115,18 @@ module _ (b : Body) (h : Holds b) (ls : List Stack) where
   stored_cell Nothing e = absurd cc
   stored_cell (Field t others) e = absurd cc
 
-  pub loaded_leads : (types : Types) (t : TypeNo) → IsScalar types t → Leads here (loaded types t) S N
+  pub loaded_leads : (types : Types) (t : TypeNo) → IsScalar types t → Leads here (load_code types t) S N
   loaded_leads types t e = loaded_cell (tree types t) (cell_of types t e)
 
-  pub stored_leads : (types : Types) (t : TypeNo) → IsScalar types t → Leads here (stored types t) (I32 ∷ I64 ∷ []) []
+  pub stored_leads : (types : Types) (t : TypeNo) → IsScalar types t → Leads here (store_code types t) (I32 ∷ I64 ∷ []) []
   stored_leads types t e = stored_cell (tree types t) (cell_of types t e)
 
   -- ---- places
 
-  pub raised_leads : (n : ℕ) → Leads here (raised n) S S
+  pub raised_leads : (n : ℕ) → Leads here (raise_address n) S S
   raised_leads n = short n S (calc numeric.I32Add [] (done S))
 
-  wrapped_leads : Leads here (wrapped ∷ []) N S
+  wrapped_leads : Leads here (wrap_word ∷ []) N S
   wrapped_leads = calc numeric.I32WrapI64 [] (done S)
 
   outwards_lead : (k : ℕ) → Leads here (outwards k) S S
@@ -148,7 +148,7 @@ module _ (b : Body) (h : Holds b) (ls : List Stack) where
   pub high_leads : (s : Setting) (x : Slot) → Leads here (high_code s x) [] N
   high_leads s x = then_leads (slot_leads s x (1 ∷ [])) (load_leads word)
 
-  scaled_leads : (n : ℕ) → Leads here (scaled n) (I32 ∷ I64 ∷ []) S
+  scaled_leads : (n : ℕ) → Leads here (scale_index n) (I32 ∷ I64 ∷ []) S
   scaled_leads n = long n (I32 ∷ I64 ∷ []) (calc (numeric.I64Operation Mul) S (calc numeric.I32WrapI64 S (calc numeric.I32Add [] (done S))))
 
   lower_leads : (o : Option Range) → Leads here (from_lower o) N N

@@ -17,8 +17,8 @@ use Rattle.wasm_tree.specs.declared.store.Callee.TheVariants.{Put, Stop, Own}
 use Rattle.wasm_tree.specs.declared.store.Instance.{Instance}
 use Rattle.wasm_tree.specs.declared.store.Store.{Store}
 use Rattle.wasm_tree.specs.Validity.{AreDistinct}
-use Rattle.wasm_tree.specs.Machine.{Going, pasted}
-use Rattle.wasm_tree.specs.Linking.{each, Linked, with_function, with_functions, with_element, with_segment, addresses, linked_one, linked_from, link, named, host_store}
+use Rattle.wasm_tree.specs.Machine.{Going, paste_items}
+use Rattle.wasm_tree.specs.Linking.{each, Linked, with_function, with_functions, with_element, with_segment, addresses, linked_one, linked_from, link, export_named, host_store}
 use Rattle.typed_tree.specs.declared.typed_module.Routine.{Routine}
 use Rattle.typed_tree.specs.declared.typed_module.Which.{Which}
 use Rattle.typed_tree.specs.declared.typed_module.Which.TheVariants as which
@@ -26,8 +26,8 @@ use Rattle.typed_tree.specs.declared.typed_module.TypedModule.{TypedModule}
 use Rattle.layout_storage.specs.Texts.{characters, module_texts}
 use Rattle.def_scheme.specs.Coded.{body_index}
 use Rattle.def_scheme.specs.Functions.{functions_from}
-use Rattle.def_scheme.specs.Modules.{slots, functions, numbered, data_of, part_of, exports_from, typed_module}
-use Rattle.law_modules.specs.Linked.{Program, names, imported_names, all, variables, text, count, numbers_from, own_from, somes_from, owns, filled, image, place_of, tab_at, text_at, own_places, imported_places, instances, link_instance, link_values, slots_in, bytes_in, store, linked_store, begin, IsAmong, IsLinkable}
+use Rattle.def_scheme.specs.Modules.{slots, functions, numbering_of, data_of, part_of, exports_from, typed_module}
+use Rattle.law_modules.specs.Linked.{Program, names, imported_names, all, variables, text, count, numbers_from, own_from, somes_from, owns, table_slots, image, place_of, tab_at, text_at, own_places, imported_places, instances, link_instance, link_values, slots_in, bytes_in, store, linked_store, begin, IsAmong, IsLinkable}
 use Rattle.law_modules.proofs.Stores.{counts, text_length, owns_more, filled_more, instances_more, image_more, owns_length, somes_length, filled_length, image_length, slot_is, text_is, run_export}
 use Rattle.law_modules.proofs.Links.{linked_by, step_on, step_none, first_linked, body_imported}
 
@@ -96,25 +96,25 @@ drop_part [] back (suc k) e = absurd (omega (arith, e))
 drop_part (x ∷ part) back zero e = absurd (omega (arith, e))
 drop_part (x ∷ part) back (suc k) e = drop_part part back k (omega (arith, e))
 
-paste_part : {A : Type 0} (front part back new : List A) → length part ≡ length new → pasted (front ++ (part ++ back)) (length front) new ≡ front ++ (new ++ back)
+paste_part : {A : Type 0} (front part back new : List A) → length part ≡ length new → paste_items (front ++ (part ++ back)) (length front) new ≡ front ++ (new ++ back)
 paste_part [] part back new e = let i : length part ≡ 0 + length new = omega (arith, e) in ap (λ (r : List _). new ++ r) (drop_part part back (0 + length new) i)
 paste_part {A = A} (x ∷ front) part back new e =
     let i : suc (length front) + length new ≡ suc (length front + length new) = omega arith in
     ap (λ (n : ℕ). (take (suc (length front)) (x ∷ (front ++ (part ++ back))) ++ new) ++ drop n (x ∷ (front ++ (part ++ back)))) i ∙ ap (λ (r : List A). x ∷ r) (paste_part front part back new e)
 
-paste_at : {A : Type 0} (xs front part back new : List A) (n : ℕ) → xs ≡ front ++ (part ++ back) → n ≡ length front → length part ≡ length new → pasted xs n new ≡ front ++ (new ++ back)
-paste_at xs front part back new n is at e = ap (λ (ys : List _). pasted ys n new) is ∙ ap (λ (m : ℕ). pasted (front ++ (part ++ back)) m new) at ∙ paste_part front part back new e
+paste_at : {A : Type 0} (xs front part back new : List A) (n : ℕ) → xs ≡ front ++ (part ++ back) → n ≡ length front → length part ≡ length new → paste_items xs n new ≡ front ++ (new ++ back)
+paste_at xs front part back new n is at e = ap (λ (ys : List _). paste_items ys n new) is ∙ ap (λ (m : ℕ). paste_items (front ++ (part ++ back)) m new) at ∙ paste_part front part back new e
 
 -- ---- the functions of a module
 
-count_routines : (m : TypedModule) (w : ℕ → Which) (j : ℕ) (rs : List Routine) → length (functions_from (numbered m) m w j rs) ≡ length rs
+count_routines : (m : TypedModule) (w : ℕ → Which) (j : ℕ) (rs : List Routine) → length (functions_from (numbering_of m) m w j rs) ≡ length rs
 count_routines m w j [] = refl
 count_routines m w j (r ∷ rs) = ap suc (count_routines m w (suc j) rs)
 
 -- helpers, the body and the procedures are there
 pub enough : (m : TypedModule) → 5 + slots m ≤ count m
 enough m =
-    let own = functions_from (numbered m) m which.Module 0 m.procedures in let nested = functions_from (numbered m) m which.Local 0 m.locals in
+    let own = functions_from (numbering_of m) m which.Module 0 m.procedures in let nested = functions_from (numbering_of m) m which.Local 0 m.locals in
     let a = length-append own nested in let b = count_routines m which.Module 0 m.procedures in
     omega (arith, a, b)
 
@@ -168,26 +168,26 @@ module _ (p : Program) (pages spare : ℕ) (room : bytes_in p + spare ≡ 65536 
   -- ---- the table
 
   abbrev old_slots : List (Option ℕ)
-  old_slots = None ∷ (filled 3 before ++ replicate (slots_in (b ∷ rest)) None)
+  old_slots = None ∷ (table_slots 3 before ++ replicate (slots_in (b ∷ rest)) None)
 
   abbrev new_slots : List (Option ℕ)
-  new_slots = None ∷ (filled 3 (before ++ b ∷ []) ++ replicate (slots_in rest) None)
+  new_slots = None ∷ (table_slots 3 (before ++ b ∷ []) ++ replicate (slots_in rest) None)
 
-  slots_pasted : pasted old_slots (1 + slots_in before) (somes_from (first_address + 5) (slots b)) ≡ new_slots
+  slots_pasted : paste_items old_slots (1 + slots_in before) (somes_from (first_address + 5) (slots b)) ≡ new_slots
   slots_pasted =
-      let front : List (Option ℕ) = None ∷ filled 3 before in
+      let front : List (Option ℕ) = None ∷ table_slots 3 before in
       let part : List (Option ℕ) = replicate (slots b) None in
       let back : List (Option ℕ) = replicate (slots_in rest) None in
       let new : List (Option ℕ) = somes_from (first_address + 5) (slots b) in
       let old : old_slots ≡ front ++ (part ++ back) = ap (λ (r : List (Option ℕ)). front ++ r) (sym (replicate-append-replicate (slots b) (slots_in rest) None)) in
       let many : length part ≡ length new = length-replicate (slots b) None ∙ sym (somes_length (first_address + 5) (slots b)) in
-      let named : new ≡ somes_from (3 + counts before + 5) (slots b) = ap (λ (n : ℕ). somes_from (n + 5) (slots b)) address in
+      let export_named : new ≡ somes_from (3 + counts before + 5) (slots b) = ap (λ (n : ℕ). somes_from (n + 5) (slots b)) address in
       paste_at old_slots front part back new (1 + slots_in before) old (omega (arith, filled_length 3 before)) many
-      ∙ sym (append_assoc front new back) ∙ ap (λ (s : List (Option ℕ)). None ∷ ((filled 3 before ++ s) ++ back)) named ∙ ap (λ (s : List (Option ℕ)). None ∷ (s ++ back)) (sym (filled_more 3 before b))
+      ∙ sym (append_assoc front new back) ∙ ap (λ (s : List (Option ℕ)). None ∷ ((table_slots 3 before ++ s) ++ back)) export_named ∙ ap (λ (s : List (Option ℕ)). None ∷ (s ++ back)) (sym (filled_more 3 before b))
 
   slots_fit : leb (1 + slots_in before + length (somes_from (first_address + 5) (slots b))) (length old_slots) ≡ true
   slots_fit =
-      let i = length-append (filled 3 before) (replicate {A = Option ℕ} (slots_in (b ∷ rest)) None) in let j = filled_length 3 before in let l : length (replicate {A = Option ℕ} (slots_in (b ∷ rest)) None) ≡ slots_in (b ∷ rest) = length-replicate (slots_in (b ∷ rest)) None in
+      let i = length-append (table_slots 3 before) (replicate {A = Option ℕ} (slots_in (b ∷ rest)) None) in let j = filled_length 3 before in let l : length (replicate {A = Option ℕ} (slots_in (b ∷ rest)) None) ≡ slots_in (b ∷ rest) = length-replicate (slots_in (b ∷ rest)) None in
       let n = somes_length (first_address + 5) (slots b) in
       le-leb (1 + slots_in before + length (somes_from (first_address + 5) (slots b))) (length old_slots) (omega (arith, i, j, l, n))
 
@@ -220,7 +220,7 @@ module _ (p : Program) (pages spare : ℕ) (room : bytes_in p + spare ≡ 65536 
       let i = length-append (image before) (replicate (variables b) 0) in let j = image_length before in let l : length (replicate {A = ℕ} (variables b) 0) ≡ variables b = length-replicate (variables b) 0 in
       omega (arith, i, j, l)
 
-  bytes_pasted : (t : List ℕ) → length t ≡ characters (module_texts b) → pasted old_bytes (bytes_in before + variables b) t ≡ with_text t
+  bytes_pasted : (t : List ℕ) → length t ≡ characters (module_texts b) → paste_items old_bytes (bytes_in before + variables b) t ≡ with_text t
   bytes_pasted t many =
       paste_at old_bytes (image before ++ replicate (variables b) 0) (replicate (characters (module_texts b)) 0) (replicate (bytes_in rest + spare) 0) t (bytes_in before + variables b) old_parts front_length
       (length-replicate (characters (module_texts b)) 0 ∙ sym many)
@@ -326,7 +326,7 @@ module _ (p : Program) (pages spare : ℕ) (room : bytes_in p + spare ≡ 65536 
 
 -- ---- run
 
-run_found : (g : ℕ) (p : Program) → named (codes "run") (exports_from g (map part_of p) ++ run_export ∷ []) ≡ Some (exported.Function 0)
+run_found : (g : ℕ) (p : Program) → export_named (codes "run") (exports_from g (map part_of p) ++ run_export ∷ []) ≡ Some (exported.Function 0)
 run_found g [] = refl
 run_found g (b ∷ bs) = run_found (g + 3) bs
 

@@ -25,10 +25,10 @@ use Rattle.typed_tree.specs.Types.{char, bitset}
 use Rattle.layout_storage.specs.Sizes.{size}
 use Rattle.layout_storage.specs.Shapes.{tree}
 use Rattle.def_scheme.specs.Scheme.{type_from}
-use Rattle.def_scheme.specs.Coded.{Coded, plain, all_coded, with_setting, number, relation, operation, wrapped, is_zero, put, copy, fill, fault}
-use Rattle.def_scheme.specs.Cells.{loaded, stored, in_type, check_taken}
+use Rattle.def_scheme.specs.Coded.{Coded, plain, all_coded, with_setting, number, relation, operation, wrap_word, is_zero, put, copy, fill, fault}
+use Rattle.def_scheme.specs.Cells.{load_code, store_code, in_type, check_taken}
 use Rattle.def_scheme.specs.Exprs.{behind, expr_part, place_code}
-use Rattle.def_scheme.specs.Steps.{block_loop, loop as loop_of, Arm, step_layer, step_code, taken, passes, change_operation, read_again, changed, member_operation, with_member, text_copied}
+use Rattle.def_scheme.specs.Steps.{block_loop, loop as loop_of, Arm, step_layer, step_code, take_code, passes, change_operation, read_again, change_instructions, member_operation, with_member, text_copied}
 use Rattle.def_scheme.specs.Signatures.{Signatures, of_step}
 use Rattle.def_scheme.specs.Signatures as sign
 use Rattle.def_scheme.specs.Addresses.{total, addresses_of, addresses_armed}
@@ -71,14 +71,14 @@ module _ (b : Body) (h : Holds b) (w : ℕ) (l : Bool) where
 
   -- ---- assignments
 
-  pub taken_fine : (t : TypeNo) (e : TypedExpr) → FineExpr b h w l e → Does (taken b.numbered t e) 0 [] N
+  pub taken_fine : (t : TypeNo) (e : TypedExpr) → FineExpr b h w l e → Does (take_code b.numbered t e) 0 [] N
   taken_fine t e x =
       behind_fine b h w l (λ types. check_taken types t (expr_part b.numbered e).constant (expr_part b.numbered e).of) x
       (λ ls. taken_leads b h ls b.home.types t (expr_part b.numbered e).constant (expr_part b.numbered e).of)
 
   pub assign_fine : (d : Place) (t : TypeNo) (e : TypedExpr) → IsScalar b.home.types t → FinePlace b h w l d → FineExpr b h w l e → FineStmt (stmt.Assign d t e)
   assign_fine d t e s x y = from_step (stmt.Assign d t e) (step.Assign d t e) (stmt.outs-Assign d t e)
-      (fits_then x (fits_then (fits_above S (taken_fine t e y)) (types_do (λ types. stored types t) (λ ls. stored_leads b h ls b.home.types t s))))
+      (fits_then x (fits_then (fits_above S (taken_fine t e y)) (types_do (λ types. store_code types t) (λ ls. stored_leads b h ls b.home.types t s))))
 
   pub copy_fine : (to from : Place) (t : TypeNo) → FinePlace b h w l to → FinePlace b h w l from → FineStmt (stmt.Copy to from t)
   copy_fine to from t x y = from_step (stmt.Copy to from t) (step.Copy to from t) (stmt.outs-Copy to from t)
@@ -110,13 +110,13 @@ module _ (b : Body) (h : Holds b) (w : ℕ) (l : Bool) where
   read_leads : (ls : List Stack) (i : ℕ) (t : TypeNo) → IsAddress b i → IsScalar b.home.types t → Leads (labelled b ls) (read_again i b.home.types t) [] SN
   read_leads ls i t p s = get i I32 [] p (get i I32 S p (above S (loaded_leads b h ls b.home.types t s)))
 
-  changed_lead : (ls : List Stack) (o : Change) (i n : ℕ) (t : TypeNo) → IsAddress b i → IsNumber b n → IsScalar b.home.types t → Leads (labelled b ls) (changed o i n b.home.types t) [] []
+  changed_lead : (ls : List Stack) (o : Change) (i n : ℕ) (t : TypeNo) → IsAddress b i → IsNumber b n → IsScalar b.home.types t → Leads (labelled b ls) (change_instructions o i n b.home.types t) [] []
   changed_lead ls o i n t p q s = then_leads (read_leads ls i t p s) (get n I64 SN q (change_leads ls o (then_leads (above S (changed_leads b h ls b.home.types t)) (stored_leads b h ls b.home.types t s))))
 
   pub change_fine : (o : Change) (d : Place) (t : TypeNo) (e : TypedExpr) → IsScalar b.home.types t → FinePlace b h w l d → FineExpr b h w l e → FineStmt (stmt.Change o d t e)
   change_fine o d t e s x y = from_step (stmt.Change o d t e) (step.Change o d t e) (stmt.outs-Change o d t e)
       (fits_then x (fits_address h (λ i. fits_then (fits_plain (λ p ls. set i I32 [] p.1 (done []))) (fits_then (fits_given (λ p. tt) y) (fits_number h (λ n.
-      fits_then (fits_plain (λ p ls. set n I64 [] p.1 (done []))) (fits_code {f = λ s. changed o i n s.home.types t} (λ p e ws ls suits. changed_lead ls o i n t p.0.1 p.1 s))))))))
+      fits_then (fits_plain (λ p ls. set n I64 [] p.1 (done []))) (fits_code {f = λ s. change_instructions o i n s.home.types t} (λ p e ws ls suits. changed_lead ls o i n t p.0.1 p.1 s))))))))
 
   member_leads : (ls : List Stack) (o : Membership) → Leads (labelled b ls) (member_operation o) (I64 ∷ I64 ∷ []) N
   member_leads ls member.Include = calc (numeric.I64Operation Or) [] (done N)
@@ -137,7 +137,7 @@ module _ (b : Body) (h : Holds b) (w : ℕ) (l : Bool) where
 
   -- ---- choices
 
-  wrapped_does : Does (plain (wrapped ∷ [])) 0 N S
+  wrapped_does : Does (plain (wrap_word ∷ [])) 0 N S
   wrapped_does = plain_does (λ ls. calc numeric.I32WrapI64 [] (done S))
 
   pub if_fine : (e : TypedExpr) (body : List TypedStmt) → FineExpr b h w l e → FineStmts body → FineStmt (stmt.If e body None)
@@ -189,19 +189,19 @@ module _ (b : Body) (h : Holds b) (w : ℕ) (l : Bool) where
       → FineStmt (stmt.For d t start limit by body)
   for_fine d t start limit by body s x y z v = from_step (stmt.For d t start limit by body) (step.For d t start limit by body) (stmt.outs-For d t start limit by body)
       (fits_as refl (omega arith) (fits_then x (fits_then (fits_above S (taken_fine t start y)) (fits_then (fits_above SN z) (fits_number h (λ n.
-      fits_then (fits_then (fits_plain (λ p ls. set n I64 SN p.1 (done SN))) (fits_code {f = λ s. stored s.home.types t} (λ p e ws ls suits. stored_leads b h ls b.home.types t s)))
+      fits_then (fits_then (fits_plain (λ p ls. set n I64 SN p.1 (done SN))) (fits_code {f = λ s. store_code s.home.types t} (λ p e ws ls suits. stored_leads b h ls b.home.types t s)))
       (fits_within (λ g ls code k. block None [] code k (done []))
       (fits_then (fits_moved (moved 1) (fits_given (λ p. tt) value)) (fits_then (fits_plain (λ p ls. get n I64 N p.1 (passed_leads ([] ∷ ls) (passes by) (br_if 0 [] refl (done [])))))
       (fits_within (λ g ls code k. loop None [] code k (done []))
       (fits_then (fits_moved moved_twice (fits_given (λ p. tt) v)) (fits_then (fits_moved moved_twice (fits_given (λ p. tt) value))
       (fits_then (fits_plain (λ p ls. long (cast_unsigned w64 by) N (calc (numeric.I64Operation Add) [] (get n I64 N p.1 (passed_leads ([] ∷ [] ∷ ls) (passes by) (br_if 1 [] refl (done [])))))))
       (fits_then (fits_moved moved_twice (fits_given (λ p. tt) x)) (fits_then (fits_moved moved_twice (fits_given (λ p. tt) (fits_above S value)))
-      (fits_code {f = λ s. number by ∷ operation Add ∷ (in_type s.home.types t 1 ++ (stored s.home.types t ++ Br 0 ∷ []))} (λ p e ws ls suits. last_leads ls)))))))))))))))))
+      (fits_code {f = λ s. number by ∷ operation Add ∷ (in_type s.home.types t 1 ++ (store_code s.home.types t ++ Br 0 ∷ []))} (λ p e ws ls suits. last_leads ls)))))))))))))))))
     where
-      value : Does (behind (place_code b.numbered d) (λ types. loaded types t)) 0 [] N
-      value = behind_fine b h w l (λ types. loaded types t) x (λ ls. loaded_leads b h ls b.home.types t s)
+      value : Does (behind (place_code b.numbered d) (λ types. load_code types t)) 0 [] N
+      value = behind_fine b h w l (λ types. load_code types t) x (λ ls. loaded_leads b h ls b.home.types t s)
 
-      last_leads : (ls : List Stack) → Leads (labelled b ([] ∷ [] ∷ ls)) (number by ∷ operation Add ∷ (in_type b.home.types t 1 ++ (stored b.home.types t ++ Br 0 ∷ []))) SN []
+      last_leads : (ls : List Stack) → Leads (labelled b ([] ∷ [] ∷ ls)) (number by ∷ operation Add ∷ (in_type b.home.types t 1 ++ (store_code b.home.types t ++ Br 0 ∷ []))) SN []
       last_leads ls =
           long _ SN (calc (numeric.I64Operation Add) S (then_leads (above S (type_leads b h ([] ∷ [] ∷ ls) b.home.types t 1)) (then_leads (stored_leads b h ([] ∷ [] ∷ ls) b.home.types t s) (br 0 [] [] refl (done [])))))
 

@@ -9,12 +9,12 @@ use Rattle.wasm_tree.specs.declared.module.ExportKind.TheVariants as exported
 use Rattle.wasm_tree.specs.declared.store.Callee.{Callee}
 use Rattle.wasm_tree.specs.declared.store.Instance.{Instance}
 use Rattle.wasm_tree.specs.declared.store.Value.TheVariants.{I32}
-use Rattle.wasm_tree.specs.Linking.{named}
+use Rattle.wasm_tree.specs.Linking.{export_named}
 use Rattle.typed_tree.specs.declared.typed_module.TypedModule.{TypedModule}
 use Rattle.layout_storage.specs.Texts.{Texts, characters, module_texts}
 use Rattle.def_scheme.specs.Scheme.{base_name, text_name, tab_name, exported_as}
 use Rattle.def_scheme.specs.Modules.{slots, all_characters, part_of, exports_from}
-use Rattle.law_modules.specs.Linked.{Program, names, variables, text, count, values, own_from, somes_from, owns, filled, image, places, place_of, base_at, text_at, tab_at, module_instance, instances, link_instance, link_values, slots_in, bytes_in, IsAmong}
+use Rattle.law_modules.specs.Linked.{Program, names, variables, text, count, values, own_from, somes_from, owns, table_slots, image, places, place_of, base_at, text_at, tab_at, module_instance, instances, link_instance, link_values, slots_in, bytes_in, IsAmong}
 
 -- so many functions of modules
 abbrev pub counts : Program → ℕ
@@ -36,12 +36,12 @@ owns_more m (x ∷ bs) b =
     ap (λ (r : List Callee). own_from m 0 (count x) ++ r) (owns_more (m + 1) bs b ∙ ap (λ (n : ℕ). owns (m + 1) bs ++ own_from n 0 (count b)) e)
     ∙ sym (append_assoc (own_from m 0 (count x)) (owns (m + 1) bs) (own_from (m + suc (length bs)) 0 (count b)))
 
-pub filled_more : (a : ℕ) (bs : Program) (b : TypedModule) → filled a (bs ++ b ∷ []) ≡ filled a bs ++ somes_from (a + counts bs + 5) (slots b)
+pub filled_more : (a : ℕ) (bs : Program) (b : TypedModule) → table_slots a (bs ++ b ∷ []) ≡ table_slots a bs ++ somes_from (a + counts bs + 5) (slots b)
 filled_more a [] b = let e : a + 5 ≡ a + 0 + 5 = omega arith in append-nil (somes_from (a + 5) (slots b)) ∙ ap (λ (n : ℕ). somes_from n (slots b)) e
 filled_more a (x ∷ bs) b =
     let e : a + count x + counts bs + 5 ≡ a + (count x + counts bs) + 5 = omega arith in
-    ap (λ (r : List (Option ℕ)). somes_from (a + 5) (slots x) ++ r) (filled_more (a + count x) bs b ∙ ap (λ (n : ℕ). filled (a + count x) bs ++ somes_from n (slots b)) e)
-    ∙ sym (append_assoc (somes_from (a + 5) (slots x)) (filled (a + count x) bs) (somes_from (a + (count x + counts bs) + 5) (slots b)))
+    ap (λ (r : List (Option ℕ)). somes_from (a + 5) (slots x) ++ r) (filled_more (a + count x) bs b ∙ ap (λ (n : ℕ). table_slots (a + count x) bs ++ somes_from n (slots b)) e)
+    ∙ sym (append_assoc (somes_from (a + 5) (slots x)) (table_slots (a + count x) bs) (somes_from (a + (count x + counts bs) + 5) (slots b)))
 
 pub instances_more : (p : Program) (a : ℕ) (bs : Program) (b : TypedModule) → instances p a (bs ++ b ∷ []) ≡ instances p a bs ++ module_instance p (a + counts bs) b ∷ []
 instances_more p a [] b = let e : a ≡ a + 0 = omega arith in ap (λ (n : ℕ). module_instance p n b ∷ []) e
@@ -73,9 +73,9 @@ pub somes_length : (a n : ℕ) → length (somes_from a n) ≡ n
 somes_length a zero = refl
 somes_length a (suc n) = ap suc (somes_length (suc a) n)
 
-pub filled_length : (a : ℕ) (bs : Program) → length (filled a bs) ≡ slots_in bs
+pub filled_length : (a : ℕ) (bs : Program) → length (table_slots a bs) ≡ slots_in bs
 filled_length a [] = refl
-filled_length a (b ∷ bs) = let i = length-append (somes_from (a + 5) (slots b)) (filled (a + count b) bs) in let j = somes_length (a + 5) (slots b) in let k = filled_length (a + count b) bs in omega (arith, i, j, k)
+filled_length a (b ∷ bs) = let i = length-append (somes_from (a + 5) (slots b)) (table_slots (a + count b) bs) in let j = somes_length (a + 5) (slots b) in let k = filled_length (a + count b) bs in omega (arith, i, j, k)
 
 pub image_length : (bs : Program) → length (image bs) ≡ bytes_in bs
 image_length [] = refl
@@ -135,9 +135,9 @@ place_within name (x ∷ xs) e = by (bytes_eq x name) refl (λ h. place_within n
 
 -- the exports of a module are found under its names
 record AreFound (name : List ℕ) (g : ℕ) (p : Program) (others : List Export) : Type 0 where
-  base : named (base_name name) (exports_from g (map part_of p) ++ others) ≡ Some (exported.Global (g + 3 * place_of name (names p)))
-  text : named (text_name name) (exports_from g (map part_of p) ++ others) ≡ Some (exported.Global (g + 1 + 3 * place_of name (names p)))
-  tab : named (tab_name name) (exports_from g (map part_of p) ++ others) ≡ Some (exported.Global (g + 2 + 3 * place_of name (names p)))
+  base : export_named (base_name name) (exports_from g (map part_of p) ++ others) ≡ Some (exported.Global (g + 3 * place_of name (names p)))
+  text : export_named (text_name name) (exports_from g (map part_of p) ++ others) ≡ Some (exported.Global (g + 1 + 3 * place_of name (names p)))
+  tab : export_named (tab_name name) (exports_from g (map part_of p) ++ others) ≡ Some (exported.Global (g + 2 + 3 * place_of name (names p)))
 
 abbrev global_of : ℕ → Option ExportKind
 global_of n = Some (exported.Global n)
@@ -171,11 +171,11 @@ module _ (p : Program) (name : List ℕ) (e : IsAmong (names p) name) where
   found : AreFound name 1 p (run_export ∷ [])
   found = are_found name 1 p (run_export ∷ []) e
 
-  pub base_found : named (base_name name) (link_exports p) ≡ Some (exported.Global (base_at p name))
+  pub base_found : export_named (base_name name) (link_exports p) ≡ Some (exported.Global (base_at p name))
   base_found = found.base
 
-  pub text_found : named (text_name name) (link_exports p) ≡ Some (exported.Global (text_at p name))
+  pub text_found : export_named (text_name name) (link_exports p) ≡ Some (exported.Global (text_at p name))
   text_found = found.text
 
-  pub tab_found : named (tab_name name) (link_exports p) ≡ Some (exported.Global (tab_at p name))
+  pub tab_found : export_named (tab_name name) (link_exports p) ≡ Some (exported.Global (tab_at p name))
   tab_found = found.tab

@@ -19,7 +19,7 @@ use Rattle.typed_tree.specs.declared.shape.Formal.{Formal}
 use Rattle.layout_storage.specs.Frames.{formals_of}
 use Rattle.def_scheme.specs.Coded.{all_coded}
 use Rattle.def_scheme.specs.Exprs.{all_arguments, arguments_of, is_own, chain_code}
-use Rattle.def_scheme.specs.Signatures.{Signatures, Signature, signature, of_heading, joined, is_among, so_many, results_of, type_of, of_expr, of_place, of_call}
+use Rattle.def_scheme.specs.Signatures.{Signatures, Signature, signature, of_heading, concatenation, is_among, so_many, results_of, type_of, of_expr, of_place, of_call}
 use Rattle.def_scheme.specs.Signatures as sign
 use Rattle.law_modules.specs.WellFormed.{IsExpr, Constant, Load, ProcedureValue, Plus, Negate, Chain, Compare, Not, Include, In, Abs, Cap, Chr, Odd, Ord, Val, High, FunctionCall, AreLinks, no_links, more_links, IsLink, Operated, And as AndOf, Or as OrOf, Combine, IsPlace, Designator, AreComponents, no_components, more_components, IsComponent, FieldOf, Element, OpenElement, IsCall, OfModule, OfProcedure, OfVariable, AreArguments, no_arguments, more_arguments, IsArgument, Value, Actual, ActualArray, Open, Text}
 use Rattle.law_modules.proofs.Exprs as fine
@@ -66,16 +66,16 @@ module _ (b : Body) (h : Holds b) (w : ℕ) (l : Bool) where
     expr_valid _ (Odd e x) k = fine.odd_fine b h w l e (expr_valid e x (expr_knows (expr.Odd e) (layer.Odd e) (expr.outs-Odd e) k))
     expr_valid _ (Ord e x) k = fine.ord_fine b h w l e (expr_valid e x (expr_knows (expr.Ord e) (layer.Ord e) (expr.outs-Ord e) k))
     expr_valid _ (Val t e x) k = fine.val_fine b h w l t e (expr_valid e x (expr_knows (expr.Val t e) (layer.Val t e) (expr.outs-Val t e) k))
-    expr_valid _ (Chain e ls x xs) k = let j = expr_knows (expr.Chain e ls) (layer.Chain e ls) (expr.outs-Chain e ls) k in fine.chain_fine b h w l e ls (expr_valid e x (first_known b.known (of_expr b.home e) (joined (map (of_link b.home) ls)) j)) (links_valid ls xs (rest_known b.known (of_expr b.home e) (joined (map (of_link b.home) ls)) j))
+    expr_valid _ (Chain e ls x xs) k = let j = expr_knows (expr.Chain e ls) (layer.Chain e ls) (expr.outs-Chain e ls) k in fine.chain_fine b h w l e ls (expr_valid e x (first_known b.known (of_expr b.home e) (concatenation (map (of_link b.home) ls)) j)) (links_valid ls xs (rest_known b.known (of_expr b.home e) (concatenation (map (of_link b.home) ls)) j))
     expr_valid _ (Compare o e f x y) k = let j = expr_knows (expr.Compare o e f) (layer.Compare o e f) (expr.outs-Compare o e f) k in fine.compare_fine b h w l o e f (expr_valid e x (first_known b.known (of_expr b.home e) (of_expr b.home f) j)) (expr_valid f y (rest_known b.known (of_expr b.home e) (of_expr b.home f) j))
     expr_valid _ (Include o e f x y) k = let j = expr_knows (expr.Include o e f) (layer.Include o e f) (expr.outs-Include o e f) k in fine.included_fine b h w l o e f (expr_valid e x (first_known b.known (of_expr b.home e) (of_expr b.home f) j)) (expr_valid f y (rest_known b.known (of_expr b.home e) (of_expr b.home f) j))
     expr_valid _ (In e f x y) k = let j = expr_knows (expr.In e f) (layer.In e f) (expr.outs-In e f) k in fine.in_fine b h w l e f (expr_valid e x (first_known b.known (of_expr b.home e) (of_expr b.home f) j)) (expr_valid f y (rest_known b.known (of_expr b.home e) (of_expr b.home f) j))
     expr_valid _ (High x) k = fine.high_fine b h w l x
     expr_valid _ (FunctionCall t c x) k = fine.called_fine b h w l t c (call_valid c true x (expr_knows (expr.Call t c) (layer.Call t c) (expr.outs-Call t c) k))
 
-    links_valid : (ls : List Link) → AreLinks b.home w ls → AreKnown b.known (joined (map (of_link b.home) ls)) → fine.Fine b h w l (chain_code (map (link_part b.numbered) ls)) N N
+    links_valid : (ls : List Link) → AreLinks b.home w ls → AreKnown b.known (concatenation (map (of_link b.home) ls)) → fine.Fine b h w l (chain_code (map (link_part b.numbered) ls)) N N
     links_valid _ no_links k = fits_nothing N
-    links_valid _ (more_links x xs y ys) k = fits_then (link_valid x y (first_known b.known (of_link b.home x) (joined (map (of_link b.home) xs)) k)) (links_valid xs ys (rest_known b.known (of_link b.home x) (joined (map (of_link b.home) xs)) k))
+    links_valid _ (more_links x xs y ys) k = fits_then (link_valid x y (first_known b.known (of_link b.home x) (concatenation (map (of_link b.home) xs)) k)) (links_valid xs ys (rest_known b.known (of_link b.home x) (concatenation (map (of_link b.home) xs)) k))
 
     link_valid : (x : Link) → IsLink b.home w x → AreKnown b.known (of_link b.home x) → fine.FineLink b h w l x
     link_valid _ (Operated o t e x) k = fine.arithmetic_fine b h w l o t e (expr_valid e x (link_knows (link.Arithmetic o t e) (layer.Arithmetic o t e) (link.outs-Arithmetic o t e) k))
@@ -86,9 +86,9 @@ module _ (b : Body) (h : Holds b) (w : ℕ) (l : Bool) where
     pub place_valid : (d : Place) → IsPlace b.home w d → AreKnown b.known (of_place b.home d) → fine.FinePlace b h w l d
     place_valid _ (Designator d r xs) k = fine.place_fine b h w l d r (components_valid d.components xs (place_knows d (out-Place d) refl k))
 
-    components_valid : (cs : List Component) → AreComponents b.home w cs → AreKnown b.known (joined (map (of_component b.home) cs)) → fine.Fine b h w l (all_coded (map (component_code b.numbered) cs)) S S
+    components_valid : (cs : List Component) → AreComponents b.home w cs → AreKnown b.known (concatenation (map (of_component b.home) cs)) → fine.Fine b h w l (all_coded (map (component_code b.numbered) cs)) S S
     components_valid _ no_components k = fits_nothing S
-    components_valid _ (more_components x xs y ys) k = fits_then (component_valid x y (first_known b.known (of_component b.home x) (joined (map (of_component b.home) xs)) k)) (components_valid xs ys (rest_known b.known (of_component b.home x) (joined (map (of_component b.home) xs)) k))
+    components_valid _ (more_components x xs y ys) k = fits_then (component_valid x y (first_known b.known (of_component b.home x) (concatenation (map (of_component b.home) xs)) k)) (components_valid xs ys (rest_known b.known (of_component b.home x) (concatenation (map (of_component b.home) xs)) k))
 
     component_valid : (x : Component) → IsComponent b.home w x → AreKnown b.known (of_component b.home x) → fine.FineComponent b h w l x
     component_valid _ (FieldOf t n) k = fine.field_fine b h w l t n
@@ -99,23 +99,23 @@ module _ (b : Body) (h : Holds b) (w : ℕ) (l : Bool) where
     call_valid _ _ (OfModule f xs r p e ys) k =
         let j = call_knows (call.Module f xs) (layer.Module f xs) (call.outs-Module f xs) k in
         let own : Signatures = if is_own b.home f.home then [] else of_heading b.home.types f.heading ∷ [] in
-        subst (λ (q : Bool). fine.FineCall b h w l (call.Module f xs) q) e (fine.module_fine b h w l f xs p (rest_known b.known (joined (map (of_argument b.home) xs)) own j)
-        (arguments_valid xs (formals_of b.home.types f.heading) ys (first_known b.known (joined (map (of_argument b.home) xs)) own j)))
+        subst (λ (q : Bool). fine.FineCall b h w l (call.Module f xs) q) e (fine.module_fine b h w l f xs p (rest_known b.known (concatenation (map (of_argument b.home) xs)) own j)
+        (arguments_valid xs (formals_of b.home.types f.heading) ys (first_known b.known (concatenation (map (of_argument b.home) xs)) own j)))
     call_valid _ _ (OfProcedure f xs r p e ys) k =
         subst (λ (q : Bool). fine.FineCall b h w l (call.Nested f xs) q) e (fine.nested_fine b h w l f xs p (arguments_valid xs (formals_of b.home.types f.heading) ys (call_knows (call.Nested f xs) (layer.Nested f xs) (call.outs-Nested f xs) k)))
     call_valid _ _ (OfVariable t d xs r s x e ys) k =
         let j = call_knows (call.Variable t d xs) (layer.Variable t d xs) (call.outs-Variable t d xs) k in
-        let args : Signatures = joined (map (of_argument b.home) xs) in
+        let args : Signatures = concatenation (map (of_argument b.home) xs) in
         let heading : Signatures = of_heading b.home.types t ∷ [] in
         let i = rest_known b.known (of_place b.home d) (args ++ heading) j in
         subst (λ (q : Bool). fine.FineCall b h w l (call.Variable t d xs) q) e (fine.variable_fine b h w l t d xs s (rest_known b.known args heading i).0 (place_valid d x (first_known b.known (of_place b.home d) (args ++ heading) j))
         (arguments_valid xs (formals_of b.home.types t) ys (first_known b.known args heading i)))
 
-    arguments_valid : (xs : List Argument) (fs : List Formal) → AreArguments b.home w xs fs → AreKnown b.known (joined (map (of_argument b.home) xs)) → fine.Fine b h w l (all_coded (map (argument_code b.numbered) xs)) [] (so_many (all_arguments fs))
+    arguments_valid : (xs : List Argument) (fs : List Formal) → AreArguments b.home w xs fs → AreKnown b.known (concatenation (map (of_argument b.home) xs)) → fine.Fine b h w l (all_coded (map (argument_code b.numbered) xs)) [] (so_many (all_arguments fs))
     arguments_valid _ _ no_arguments k = fits_nothing []
     arguments_valid _ _ (more_arguments x xs f fs y ys) k =
-        fits_then (argument_valid x f.is_open y (first_known b.known (of_argument b.home x) (joined (map (of_argument b.home) xs)) k))
-        (fits_stacks (append-nil (so_many (arguments_of f))) (so_many_more (arguments_of f) (all_arguments fs)) (fits_above (so_many (arguments_of f)) (arguments_valid xs fs ys (rest_known b.known (of_argument b.home x) (joined (map (of_argument b.home) xs)) k))))
+        fits_then (argument_valid x f.is_open y (first_known b.known (of_argument b.home x) (concatenation (map (of_argument b.home) xs)) k))
+        (fits_stacks (append-nil (so_many (arguments_of f))) (so_many_more (arguments_of f) (all_arguments fs)) (fits_above (so_many (arguments_of f)) (arguments_valid xs fs ys (rest_known b.known (of_argument b.home x) (concatenation (map (of_argument b.home) xs)) k))))
 
     argument_valid : (x : Argument) (q : Bool) → IsArgument b.home w x q → AreKnown b.known (of_argument b.home x) → fine.FineArgument b h w l x q
     argument_valid _ _ (Value t e x) k = fine.value_fine b h w l t e (expr_valid e x (argument_knows (argument.Value t e) (layer.Value t e) (argument.outs-Value t e) k))

@@ -71,9 +71,9 @@ owns m [] = []
 owns m (b ∷ bs) = own_from m 0 (count b) ++ owns (m + 1) bs
 
 -- the body and the procedures stand behind five helpers
-abbrev pub filled : (address : ℕ) → Program → List (Option ℕ)
-filled a [] = []
-filled a (b ∷ bs) = somes_from (a + 5) (slots b) ++ filled (a + count b) bs
+abbrev pub table_slots : (address : ℕ) → Program → List (Option ℕ)
+table_slots a [] = []
+table_slots a (b ∷ bs) = somes_from (a + 5) (slots b) ++ table_slots (a + count b) bs
 
 -- the bytes of variables, which are nought, and of texts
 abbrev pub image : Program → List ℕ
@@ -144,7 +144,7 @@ abbrev pub store : Program → (pages spare : ℕ) → (before rest : Program) �
 store p pages spare before rest = record {
   functions = Put ∷ Stop ∷ Own 0 0 ∷ owns 1 before;
   tables = record {
-    slots = None ∷ (filled 3 before ++ replicate (slots_in rest) None);
+    slots = None ∷ (table_slots 3 before ++ replicate (slots_in rest) None);
     max = Some (1 + slots_in p);
   } ∷ [];
   memories = record {

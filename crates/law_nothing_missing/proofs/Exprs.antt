@@ -41,11 +41,11 @@ use Rattle.layout_storage.specs.Types.{Ty, Scalar, Natural, Callable, Cell, Arra
 use Rattle.layout_storage.specs.Shapes.{tree, elements_of}
 use Rattle.def_meaning.specs.Store.{Location}
 use Rattle.def_meaning.specs.Answer.{State, Answer, Value, Ended, ◌▷◌, range_fault, overflow, index_fault, divisor_fault, empty_procedure}
-use Rattle.def_meaning.specs.Environment.{Modules, Environment, Callee, Frames, Named, At, Elements, Passed, Number, Variable as Place', Array as Whole, Text, entry_of, entry_callee, module_place, module_callee, procedure_in, nested_in, callee_with, named, location_of, high_of, or_root}
+use Rattle.def_meaning.specs.Environment.{Modules, Environment, Callee, Frames, Named, At, Elements, Passed, Number, Variable as Place', Array as Whole, Text, entry_of, entry_callee, module_place, module_callee, procedure_in, nested_in, callee_with, slot_named, location_of, high_of, or_root}
 use Rattle.def_meaning.specs.Operators.{is_between, is_true, absolute, quotient, remainder}
 use Rattle.def_meaning.specs.Calls.{is_there}
 use Rattle.def_meaning.specs.Expressions as meaning
-use Rattle.def_meaning.specs.Expressions.{Asks, Gives, Reaches, Continues, value, locate, called, one_by_one, element, element_in, index_range, operated, as_type}
+use Rattle.def_meaning.specs.Expressions.{Asks, Gives, Reaches, Continues, value, locate, call_value, one_by_one, element, element_in, index_range, arithmetic_result, as_type}
 use Rattle.law_memory.specs.Relation.{IsProcedureValue, Empty, Full, NamesProcedure, IsNumber, heading_in, heading_made, heading_at, value_number}
 use Rattle.law_memory.proofs.Procedures.{entry_there}
 use Rattle.def_scheme.specs.Exprs.{index_of}
@@ -62,7 +62,7 @@ use Rattle.law_simulation.proofs.TreesMeant.{argument_value, component_value, li
 use Rattle.law_simulation.specs.Linked.{Spot, environment_of}
 use Rattle.law_nothing_missing.specs.Worlds.{World, type_at, is_cell}
 use Rattle.law_nothing_missing.specs.Expressions as strict
-use Rattle.law_nothing_missing.specs.Expressions.{Calls, is_module, is_ranged, is_procedure_shape, is_procedure_made, is_procedure_type, is_number_type, has_range, variable_of, elements_named, first_of, provided, needs, at_there, at_cell, suits_call}
+use Rattle.law_nothing_missing.specs.Expressions.{Calls, is_module, is_ranged, is_procedure_shape, is_procedure_made, is_procedure_type, is_number_type, has_range, variable_of, elements_named, first_of, if_provided, needs, at_there, at_cell, suits_call}
 use Rattle.law_nothing_missing.proofs.Meant as strictly
 use Rattle.law_nothing_missing.proofs.Worlds.{there_behind, IsFine}
 use Rattle.law_nothing_missing.proofs.Same.{Any, Same, gives, ends, still, same_weak, same_then, same_if, same_provided, same_needs, same_within, same_range}
@@ -187,10 +187,10 @@ module _ (x : Context) (lacking : ℕ) (world : World) (sask ask : Asks) (knows 
   cell_there (still out) = still out
 
   there_then : {B : Type 0} {G : B → Type 0} (t : Ty) (l : Location) (f : Location → State → Answer B) (st : State) (y : Answer B) → IsAt t l → Same P world G (f l st) y → Same P world G (at_there lacking P sask world l st ▷ f) y
-  there_then {B = B} {G = G} t l f st y at h = subst (λ (b : Bool). Same P world G (provided lacking b (Value l) st ▷ f) y) (sym (ap is_there at)) h
+  there_then {B = B} {G = G} t l f st y at h = subst (λ (b : Bool). Same P world G (if_provided lacking b (Value l) st ▷ f) y) (sym (ap is_there at)) h
 
-  open_at : (ws : List Ty) (a : Environment) → Fits x world ws a → (slot : Slot) (t : Ty) → kind_at x.kinds slot ≡ Some (Open t) → OpenName world t (named a slot)
-  open_at ws a fit slot t e = let n = named_at world x.kinds a fit.frames slot (Open t) e in open_named world (named a slot) (Open t) n.0 t n.1 n.2 refl
+  open_at : (ws : List Ty) (a : Environment) → Fits x world ws a → (slot : Slot) (t : Ty) → kind_at x.kinds slot ≡ Some (Open t) → OpenName world t (slot_named a slot)
+  open_at ws a fit slot t e = let n = named_at world x.kinds a fit.frames slot (Open t) e in open_named world (slot_named a slot) (Open t) n.0 t n.1 n.2 refl
 
   -- a value that is taken as one of a type
   pub type_checked : (G : ℤ → Type 0) (ws : List Ty) (t : TypeNo) (v : ℤ) (a : Environment) → Fits x world ws a → (st : State) → IsFine P world st.store → is_number_type types t ≡ true → G v
@@ -229,7 +229,7 @@ module _ (x : Context) (lacking : ℕ) (world : World) (sask ask : Asks) (knows 
 
     -- where a value is wanted, there is a result
     abbrev pub C : Call → Result → Type 0
-    C c r = (wanted : Bool) → (wanted ≡ true → is_there r ≡ true) → Both ws (IsGood P r) (strict.called lacking P sask world c wanted) (called P ask c)
+    C c r = (wanted : Bool) → (wanted ≡ true → is_there r ≡ true) → Both ws (IsGood P r) (strict.call_value lacking P sask world c wanted) (call_value P ask c)
 
     unary_same : (G : ℤ → Type 0) (e : TypedExpr) (f : Environment → ℤ → State → Answer ℤ) → E e → ((a : Environment) (v : ℤ) (st : State) → IsFine P world st.store → Same P world G (f a v st) (f a v st))
         → Both ws G (λ a st. sv e a st ▷ (f a)) (λ a st. value P ask e a st ▷ (f a))
@@ -332,7 +332,7 @@ module _ (x : Context) (lacking : ℕ) (world : World) (sask ask : Asks) (knows 
         subst (λ (f : Continues). (v : ℤ) → Both ws Any (f v) (link_value P ask l v)) (sym (strictly.link_means lacking P sask world l y h))
         (subst (λ (f : Continues). (v : ℤ) → Both ws Any (strict.link_layer lacking P sask world (strictly.link_meant lacking P sask world y) v) (f v)) (sym (link_means P ask l y h)) m)
 
-    operated_same : (ts : Types) (o : Arithmetic) (t : TypeNo) (v w : ℤ) (st : State) → IsFine P world st.store → Same P world Any (operated ts o t v w st) (operated ts o t v w st)
+    operated_same : (ts : Types) (o : Arithmetic) (t : TypeNo) (v w : ℤ) (st : State) → IsFine P world st.store → Same P world Any (arithmetic_result ts o t v w st) (arithmetic_result ts o t v w st)
     operated_same ts op.Add t v w st fine = same_range P world (scalar_at ts t) overflow _ st refl fine tt
     operated_same ts op.Subtract t v w st fine = same_range P world (scalar_at ts t) overflow _ st refl fine tt
     operated_same ts op.Multiply t v w st fine = same_range P world (scalar_at ts t) overflow _ st refl fine tt
@@ -342,7 +342,7 @@ module _ (x : Context) (lacking : ℕ) (world : World) (sask ask : Asks) (knows 
     arithmetic_same : (o : Arithmetic) (t : TypeNo) (e : TypedExpr) → has_range lacking P sask world types o t ≡ true → E e → L (link.Arithmetic o t e)
     arithmetic_same o t e ok m = from_link (link.Arithmetic o t e) (layer.Arithmetic o t e) (link.outs-Arithmetic o t e)
         (λ v a fit st fine. same_then P world (m a fit st fine) (λ w st fine good.
-        same_provided P world lacking (has_range lacking P sask world a.types o t) (operated a.types o t v w) st (ap (λ (ts : Types). has_range lacking P sask world ts o t) fit.types ∙ ok) (operated_same a.types o t v w st fine)))
+        same_provided P world lacking (has_range lacking P sask world a.types o t) (arithmetic_result a.types o t v w) st (ap (λ (ts : Types). has_range lacking P sask world ts o t) fit.types ∙ ok) (operated_same a.types o t v w st fine)))
 
     and_same : (e : TypedExpr) → E e → L (link.And e)
     and_same e m = from_link (link.And e) (layer.And e) (link.outs-And e) (λ v a fit st fine. same_if P world (is_true v) (m a fit st fine) (gives _ st fine tt))
@@ -367,11 +367,11 @@ module _ (x : Context) (lacking : ℕ) (world : World) (sask ask : Asks) (knows 
         (ap (λ (b : Bool). if b then Some (module_place P v.home ∷ v.number ∷ []) else None) (knows.modules v.home is.known), knows.globals v t is)
     root_same _ _ (typed.LocalRoot slot t e) a fit =
         let n = named_at world x.kinds a fit.frames slot (Kept t) e in
-        let v = kept_named world (named a slot) (Kept t) n.0 t n.1 n.2 refl in
+        let v = kept_named world (slot_named a slot) (Kept t) n.0 t n.1 n.2 refl in
         (ap variable_of v.is ∙ sym (ap (λ (o : Option Named). Some (location_of o)) v.is), ap (λ (o : Option Named). type_at world (location_of o)) v.is ∙ v.type)
     root_same _ _ (typed.AliasRoot slot t e) a fit =
         let n = named_at world x.kinds a fit.frames slot (Alias t) e in
-        let v = alias_named world (named a slot) (Alias t) n.0 t n.1 n.2 refl in
+        let v = alias_named world (slot_named a slot) (Alias t) n.0 t n.1 n.2 refl in
         (ap variable_of v.is ∙ sym (ap (λ (o : Option Named). Some (location_of o)) v.is), ap (λ (o : Option Named). type_at world (location_of o)) v.is ∙ v.type)
     root_same _ _ (typed.WithRoot j t e) a fit =
         let q = pair_at (λ t l. type_at world l ≡ Some t) ws a.withs fit.withs j t e in
@@ -448,7 +448,7 @@ module _ (x : Context) (lacking : ℕ) (world : World) (sask ask : Asks) (knows 
         k = component'.OpenElement slot t i
 
         -- the element
-        first_same : (a : Environment) → Fits x world ws a → (o : OpenName world (tree types t) (named a slot)) → (st : State) → IsFine P world st.store → Same P world (IsAt (tree types t)) (sk k o.at a st) (component_value P ask k o.at a st)
+        first_same : (a : Environment) → Fits x world ws a → (o : OpenName world (tree types t) (slot_named a slot)) → (st : State) → IsFine P world st.store → Same P world (IsAt (tree types t)) (sk k o.at a st) (component_value P ask k o.at a st)
         first_same a fit o st fine =
             subst (λ (f : Reaches). Same P world (IsAt (tree types t)) (f o.at a st) (component_value P ask k o.at a st)) (sym (strictly.component_means lacking P sask world k (layer.OpenElement slot t i) (component'.outs-OpenElement slot t i)))
             (subst (λ (f : Reaches). Same P world (IsAt (tree types t)) (strict.component_layer lacking P sask world (strictly.component_meant lacking P sask world (layer.OpenElement slot t i)) o.at a st) (f o.at a st))
@@ -527,7 +527,7 @@ module _ (x : Context) (lacking : ℕ) (world : World) (sask ask : Asks) (knows 
     from_call : (r : Result) (c : Call) (y : Call-F Argument Call Component Link TypedExpr Place) → out-Call c ≡ y
         → ((wanted : Bool) → (wanted ≡ true → is_there r ≡ true) → Both ws (IsGood P r) (strict.call_layer lacking P sask world (strictly.call_meant lacking P sask world y) wanted) (meaning.call_layer P ask (call_meant P ask y))) → C c r
     from_call r c y h m =
-        subst (λ (q : Calls). (wanted : Bool) → (wanted ≡ true → is_there r ≡ true) → Both ws (IsGood P r) (q wanted) (called P ask c)) (sym (strictly.call_means lacking P sask world c y h))
+        subst (λ (q : Calls). (wanted : Bool) → (wanted ≡ true → is_there r ≡ true) → Both ws (IsGood P r) (q wanted) (call_value P ask c)) (sym (strictly.call_means lacking P sask world c y h))
         (subst (λ (q : Gives ℤ). (wanted : Bool) → (wanted ≡ true → is_there r ≡ true) → Both ws (IsGood P r) (strict.call_layer lacking P sask world (strictly.call_meant lacking P sask world y) wanted) q) (sym (call_means P ask c y h)) m)
 
     suits_same : (headed wanted function : Bool) → headed ≡ true → (wanted ≡ true → function ≡ true) → headed && (not wanted || function) ≡ true
@@ -537,13 +537,13 @@ module _ (x : Context) (lacking : ℕ) (world : World) (sask ask : Asks) (knows 
     -- of a procedure that is known
     asked_same : (o : Spot P) (frames : Frames) → AreFrames world (environment_of o.home o.routine) frames → (fs : Forms) (r : Result) → forms_of o.home.types o.routine.heading ≡ fs → result_of o.home.types o.routine.heading ≡ r
         → (gs : List Argument) → As gs fs → (h : Heading) → heading_at o.home.types o.routine.heading ≡ Some h → (wanted : Bool) → (wanted ≡ true → is_there r ≡ true) → (a : Environment) → Fits x world ws a → (st : State) → IsFine P world st.store
-        → Same P world (IsGood P r) (strict.asked lacking P sask world wanted (Some (callee_of o.place o.home o.routine frames)) (map sg gs) a st) (meaning.asked P ask (Some (callee_of o.place o.home o.routine frames)) (map (argument_value P ask) gs) a st)
+        → Same P world (IsGood P r) (strict.call_with lacking P sask world wanted (Some (callee_of o.place o.home o.routine frames)) (map sg gs) a st) (meaning.call_with P ask (Some (callee_of o.place o.home o.routine frames)) (map (argument_value P ask) gs) a st)
     asked_same o frames is fs r forms result gs ms h headed wanted ok a fit st fine =
         let c : Callee = callee_of o.place o.home o.routine frames in
         let suits : suits_call lacking P sask world wanted c ≡ true = suits_same (is_procedure_type o.home.types o.routine.heading) wanted _ (headed_type o.home.types (made_at o.home.types o.routine.heading) h headed) (λ e. means_it o.home.types o.routine.heading ∙ ap (λ (r : Result). is_there r) result ∙ ok e) in
         let all' : CalleeSame P world sask ask c fs r =
         subst (λ (fs : Forms). CalleeSame P world sask ask c fs r) forms (subst (λ (r : Result). CalleeSame P world sask ask c (forms_of o.home.types o.routine.heading) r) result (all o frames is)) in
-        same_provided P world lacking (suits_call lacking P sask world wanted c) (meaning.asked P sask (Some c) (map sg gs) a) st suits
+        same_provided P world lacking (suits_call lacking P sask world wanted c) (meaning.call_with P sask (Some c) (map sg gs) a) st suits
         (same_then P world (ms a fit st fine) (λ vs st fine given.
         subst (λ (n : ℕ). Same P world (IsGood P r) (sask (Some c) vs n a.free st) (ask (Some c) vs n a.free st)) (sym fit.next) (all' vs given a.free st fine)))
 
@@ -553,7 +553,7 @@ module _ (x : Context) (lacking : ℕ) (world : World) (sask ask : Asks) (knows 
         let o : Spot P = spot_of f h in
         let none : AreFrames world (environment_of h.home h.routine) [] = subst (λ (kss : List Kinds). AreFrames world kss []) (sym h.outermost) no_pairs in
         same_provided P world lacking (is_module P f.home) _ st (knows.modules f.home h.known)
-        (subst (λ (q : Option Callee). Same P world (IsGood P (result_of types f.heading)) (strict.asked lacking P sask world wanted q (map sg args) a st) (meaning.asked P ask q (map (argument_value P ask) args) a st)) (sym (named_callee f h))
+        (subst (λ (q : Option Callee). Same P world (IsGood P (result_of types f.heading)) (strict.call_with lacking P sask world wanted q (map sg args) a st) (meaning.call_with P ask q (map (argument_value P ask) args) a st)) (sym (named_callee f h))
         (asked_same o [] none (forms_of types f.heading) (result_of types f.heading) h.forms h.result args ms k (h.heading ∙ headed) wanted ok a fit st fine)))
 
     nested_same : (f : LocalProcedure) (args : List Argument) → IsInner x f → (k : Heading) → heading_at types f.heading ≡ Some k → As args (forms_of types f.heading) → C (call.Nested f args) (result_of types f.heading)
@@ -566,7 +566,7 @@ module _ (x : Context) (lacking : ℕ) (world : World) (sask ask : Asks) (knows 
         let found : nested_in a.place (slice_get P a.place) frames f.number ≡ Some (callee_of x.place x.home h.routine frames) =
         ap (λ (n : ℕ). nested_in n (slice_get P n) frames f.number) fit.place ∙ ap (λ (q : Option TypedModule). nested_in x.place q frames f.number) h.there ∙ ap (λ (q : Option Routine). callee_with x.place types frames q) h.is in
         same_provided P world lacking (nat_lt f.up (length a.frames)) _ st (lt-ltb f.up (length a.frames) less)
-        (subst (λ (q : Option Callee). Same P world (IsGood P (result_of types f.heading)) (strict.asked lacking P sask world wanted q (map sg args) a st) (meaning.asked P ask q (map (argument_value P ask) args) a st)) (sym found)
+        (subst (λ (q : Option Callee). Same P world (IsGood P (result_of types f.heading)) (strict.call_with lacking P sask world wanted q (map sg args) a st) (meaning.call_with P ask q (map (argument_value P ask) args) a st)) (sym found)
         (asked_same o frames is (forms_of types f.heading) (result_of types f.heading) h.forms h.result args ms k (h.heading ∙ headed) wanted ok a fit st fine)))
 
     -- of the procedure that a variable holds
@@ -580,7 +580,7 @@ module _ (x : Context) (lacking : ℕ) (world : World) (sask ask : Asks) (knows 
         let forms : forms_of names.home.types names.routine.heading ≡ forms_of types t = forms_same names.home.types names.routine.heading h names.heading ∙ sym (forms_same types t h e) in
         let result : result_of names.home.types names.routine.heading ≡ result_of types t = result_same names.home.types names.routine.heading h names.heading ∙ sym (result_same types t h e) in
         subst (λ (n : ℕ). Same P world (IsGood P (result_of types t)) (strict.asked_value lacking P sask world wanted (pos n) (map sg args) a st) (meaning.asked_if P ask (entry_callee P (entry_of P (pos n))) (map (argument_value P ask) args) a st)) (sym names.value)
-        (subst (λ (q : Option Callee). Same P world (IsGood P (result_of types t)) (strict.asked lacking P sask world wanted q (map sg args) a st) (meaning.asked_if P ask q (map (argument_value P ask) args) a st)) (sym (found_at h n names))
+        (subst (λ (q : Option Callee). Same P world (IsGood P (result_of types t)) (strict.call_with lacking P sask world wanted q (map sg args) a st) (meaning.asked_if P ask q (map (argument_value P ask) args) a st)) (sym (found_at h n names))
         (asked_same o [] none (forms_of types t) (result_of types t) forms result args ms h names.heading wanted ok a fit st fine))
 
     variable_same : (t : TypeNo) (h : Heading) (d : Place) (args : List Argument) → heading_at types t ≡ Some h → D d (Cell (Callable h)) → As args (forms_of types t) → C (call.Variable t d args) (result_of types t)

@@ -8,11 +8,11 @@ use Rattle.typed_tree.specs.declared.typed_module.Routine.{Routine}
 use Rattle.layout_storage.specs.Types.{Ty, Natural, Callable, Cell, Hidden, Array, Nothing, Field, Heading, row, frame_of, component}
 use Rattle.layout_storage.specs.Shapes.{tree}
 use Rattle.layout_storage.specs.Frames.{formals_of, formal_tree, frame}
-use Rattle.layout_storage.specs.Texts.{passed}
-use Rattle.def_meaning.specs.Store.{Location, Store, placed, fresh, first_in}
+use Rattle.layout_storage.specs.Texts.{argument_text}
+use Rattle.def_meaning.specs.Store.{Location, Store, overlay, fresh, first_in}
 use Rattle.def_meaning.specs.Environment.{Modules, Named, At, Elements, Passed, Number, Variable, Array as Whole, Text}
 use Rattle.def_meaning.specs.Statements.{character}
-use Rattle.def_meaning.specs.Calls.{Entered, variable_at, with_passed, with_all, variables_from, entered}
+use Rattle.def_meaning.specs.Calls.{Entered, variable_at, with_passed, with_all, variables_from, enter_call}
 use Rattle.law_memory.specs.Relation.{IsProcedureValue, Empty}
 use Rattle.law_simulation.specs.Frames.{Kind, Kept, Alias, Open, Kinds, formal_kind, kinds_of}
 use Rattle.law_simulation.specs.Passing.{Form, ByNumber, ByCopy, ByName, ByArray, value_form, form_of}
@@ -22,7 +22,7 @@ use Rattle.law_nothing_missing.proofs.Worlds.{there_more, there_behind, there_ne
 use Rattle.law_nothing_missing.proofs.Frames.{Pairs, no_pairs, more_pairs, pairs_append, pairs_length, IsName, kept_name, alias_name, open_name, AreNames, names_more, IsGiven, given_number, given_copy, given_name, given_array, given_text}
 use Rattle.law_nothing_missing.proofs.Stmts.{cell_holds, text_holds}
 
-some_length : (text : List ℕ) → suc (length (passed text) - 1) ≡ length (passed text)
+some_length : (text : List ℕ) → suc (length (argument_text text) - 1) ≡ length (argument_text text)
 some_length [] = omega arith
 some_length (c ∷ text) = omega arith
 
@@ -166,7 +166,7 @@ module _ (p : Modules) where
 
     -- and with a copy behind the others
     copied_more : (world : World) (ks : Kinds) (e : Entered) → Begun world ks e → (u : Ty) (high : ℕ) (f : Location → ℤ) → HoldsProcedures p (Array (suc high) u) f
-        → Begun (world ++ Array (suc high) u ∷ []) (ks ++ Open u ∷ []) (record { names = e.names ++ Elements (e.next ∷ []) high ∷ []; next = suc e.next; store = placed (e.next ∷ []) f e.store })
+        → Begun (world ++ Array (suc high) u ∷ []) (ks ++ Open u ∷ []) (record { names = e.names ++ Elements (e.next ∷ []) high ∷ []; next = suc e.next; store = overlay (e.next ∷ []) f e.store })
     copied_more world ks e b u high f holds =
         let long : length (world ++ Array (suc high) u ∷ []) ≡ length world + 1 = length-append world (Array (suc high) u ∷ []) in
         let next = b.next in
@@ -175,7 +175,7 @@ module _ (p : Modules) where
         record {
           more = b.more ++ Array (suc high) u ∷ [];
           is = ap (λ (w : World). w ++ Array (suc high) u ∷ []) b.is ∙ append_assoc base b.more (Array (suc high) u ∷ []);
-          fine = subst (λ (n : ℕ). IsFine p (world ++ Array (suc high) u ∷ []) (placed (n ∷ []) f e.store)) (sym b.next) (fine_new p world e.store (Array (suc high) u) f b.fine holds);
+          fine = subst (λ (n : ℕ). IsFine p (world ++ Array (suc high) u ∷ []) (overlay (n ∷ []) f e.store)) (sym b.next) (fine_new p world e.store (Array (suc high) u) f b.fine holds);
           next = omega (arith, long, next);
           names = pairs_append (IsName (world ++ Array (suc high) u ∷ [])) ks e.names (Open u ∷ []) (Elements (e.next ∷ []) high ∷ []) (names_more world (Array (suc high) u ∷ []) ks e.names b.names)
               (more_pairs (Open u) [] (Elements (e.next ∷ []) high) [] (open_name u (e.next ∷ []) high at) no_pairs);
@@ -191,10 +191,10 @@ module _ (p : Modules) where
 
       -- its own variable
       kept_more : (world : World) (ks : Kinds) (e : Entered) → Begun world ks e → component F (suc (length e.names) ∷ []) ≡ Some u → (g : Location → ℤ) → HoldsProcedures p u g
-          → Begun (world ++ []) (ks ++ Kept u ∷ []) (record e { names = e.names ++ At (variable_at activation (length e.names)) ∷ []; store = placed (variable_at activation (length e.names)) g e.store })
+          → Begun (world ++ []) (ks ++ Kept u ∷ []) (record e { names = e.names ++ At (variable_at activation (length e.names)) ∷ []; store = overlay (variable_at activation (length e.names)) g e.store })
       kept_more world ks e b own g holds =
           let at = own_there world (length e.names) u b.frame own in
-          named_more world ks e b (Kept u) (At (variable_at activation (length e.names))) (placed (variable_at activation (length e.names)) g e.store) (kept_name u (variable_at activation (length e.names)) at)
+          named_more world ks e b (Kept u) (At (variable_at activation (length e.names))) (overlay (variable_at activation (length e.names)) g e.store) (kept_name u (variable_at activation (length e.names)) at)
           (fine_placed p world e.store (variable_at activation (length e.names)) u g b.fine at holds)
 
       value_begun : (w : Ty) → u ≡ w → (q : Passed) → Given base (value_form w) q → (world : World) (ks : Kinds) (e : Entered) → Begun world ks e → component F (suc (length e.names) ∷ []) ≡ Some u
@@ -229,8 +229,8 @@ module _ (p : Modules) where
       formal_as true false (Whole l high) g world ks e b own = copied_more world ks e b u high (λ r. e.store (l ++ r)) (copy_holds world e.store l (Array (suc high) u) b.fine (base_there world ks e b l (Array (suc high) u) g))
       formal_as true true (Text text) g world ks e b own = cc g.0
       formal_as true false (Text text) g world ks e b own =
-          let n : ℕ = length (passed text) - 1 in
-          subst (λ (k : ℕ). Begun (world ++ Array k u ∷ []) (ks ++ Open u ∷ []) (record { names = e.names ++ Elements (e.next ∷ []) n ∷ []; next = suc e.next; store = placed (e.next ∷ []) (character text) e.store })) (some_length text)
+          let n : ℕ = length (argument_text text) - 1 in
+          subst (λ (k : ℕ). Begun (world ++ Array k u ∷ []) (ks ++ Open u ∷ []) (record { names = e.names ++ Elements (e.next ∷ []) n ∷ []; next = suc e.next; store = overlay (e.next ∷ []) (character text) e.store })) (some_length text)
           (copied_more world ks e b u n (character text) (subst (λ (t : Ty). HoldsProcedures p (Array (suc n) t) (character text)) (sym g.1) (text_holds p (suc n) (character text))))
       formal_as false true (Number n) g world ks e b own = absurd g
       formal_as false true (Variable l) g world ks e b own = named_more world ks e b (Alias u) (At l) e.store (alias_name u l (base_there world ks e b l u g)) b.fine
@@ -284,9 +284,9 @@ module _ (p : Modules) where
 
   -- what the body of a procedure finds
   pub record IsEntered (types : Types) (r : Routine) (world : World) (vs : List Passed) (s : Store) (w : World) : Type 0 where
-    pub fine : IsFine p w (entered types r (length world) vs s).store
-    pub next : (entered types r (length world) vs s).next ≡ length w
-    pub names : AreNames w (kinds_of types r) ((entered types r (length world) vs s).names ++ variables_from (length world) (length (entered types r (length world) vs s).names) r.variables)
+    pub fine : IsFine p w (enter_call types r (length world) vs s).store
+    pub next : (enter_call types r (length world) vs s).next ≡ length w
+    pub names : AreNames w (kinds_of types r) ((enter_call types r (length world) vs s).names ++ variables_from (length world) (length (enter_call types r (length world) vs s).names) r.variables)
 
   pub is_entered : (types : Types) (r : Routine) (world : World) (vs : List Passed) (s : Store) → IsFine p world s → Pairs (IsGiven p world) (map (form_of types) (formals_of types r.heading)) vs
       → IsEntered types r world vs s (world ++ frame types r ∷ copies_of types (formals_of types r.heading) vs)
@@ -294,7 +294,7 @@ module _ (p : Modules) where
       let fs : List Formal = formals_of types r.heading in
       let F : Ty = frame types r in
       let act : ℕ = length world in
-      let e0 : Entered = record { names = []; next = suc act; store = placed (act ∷ []) (fresh F) s } in
+      let e0 : Entered = record { names = []; next = suc act; store = overlay (act ∷ []) (fresh F) s } in
       let start : Begun types world act F (world ++ F ∷ []) [] e0 = record {
         more = F ∷ [];
         is = refl;

@@ -3,7 +3,7 @@ use Rattle.std.proofs.Common.{◌≡◌, ℕ, zero, suc, ℤ, Bool, false, List,
 use Rattle.std.specs.Prelude.{slice_get, drop}
 use Rattle.typed_tree.specs.declared.computed.Slot.{Slot}
 use Rattle.layout_storage.specs.Types.{Ty, Scalar, Natural, Callable, Cell, Array, Heading}
-use Rattle.def_meaning.specs.Environment.{Modules, Named, At, Elements, Frames, Environment, Passed, Number, Variable, Array as Whole, Text, or_empty, named}
+use Rattle.def_meaning.specs.Environment.{Modules, Named, At, Elements, Frames, Environment, Passed, Number, Variable, Array as Whole, Text, or_empty, slot_named}
 use Rattle.def_meaning.specs.Store.{Location}
 use Rattle.law_memory.specs.Relation.{IsProcedureValue}
 use Rattle.law_simulation.specs.Frames.{Kind, Kept, Alias, Open, Kinds, or_none, kind_at}
@@ -65,10 +65,10 @@ pub frames_more : (world more : World) (kss : List Kinds) (nss : Frames) → Are
 frames_more world more kss nss h = pairs_map (AreNames world) (AreNames (world ++ more)) (names_more world more) kss nss h
 
 -- a name at a slot
-pub named_at : (world : World) (kss : List Kinds) (a : Environment) → AreFrames world kss a.frames → (slot : Slot) (k : Kind) → kind_at kss slot ≡ Some k → (n : Named) × (named a slot ≡ Some n) × IsName world k n
+pub named_at : (world : World) (kss : List Kinds) (a : Environment) → AreFrames world kss a.frames → (slot : Slot) (k : Kind) → kind_at kss slot ≡ Some k → (n : Named) × (slot_named a slot ≡ Some n) × IsName world k n
 named_at world kss a frames slot k e = go (slice_get kss slot.up) refl e
   where
-    go : (o : Option Kinds) → slice_get kss slot.up ≡ o → slice_get (or_none o) slot.number ≡ Some k → (n : Named) × (named a slot ≡ Some n) × IsName world k n
+    go : (o : Option Kinds) → slice_get kss slot.up ≡ o → slice_get (or_none o) slot.number ≡ Some k → (n : Named) × (slot_named a slot ≡ Some n) × IsName world k n
     go None f e = absurd (none_some k e)
     go (Some ks) f e =
         let p = pair_at (AreNames world) kss a.frames frames slot.up ks f in

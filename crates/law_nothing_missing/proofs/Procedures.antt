@@ -12,7 +12,7 @@ use Rattle.def_meaning.specs.Answer.{storage_fault, no_return}
 use Rattle.def_meaning.specs.Outcome.{Outcome}
 use Rattle.def_meaning.specs.Environment.{Modules, Environment, Callee, Frames}
 use Rattle.def_meaning.specs.Calls as meaning
-use Rattle.def_meaning.specs.Calls.{Entered, calling, entered, environment_of, needed, is_function, is_there, variables_from}
+use Rattle.def_meaning.specs.Calls.{Entered, calling, enter_call, environment_of, storage_need, is_function, is_there, variables_from}
 use Rattle.law_simulation.specs.Frames.{Kinds, kinds_of}
 use Rattle.law_simulation.specs.Passing.{Result, forms_of, result_of}
 use Rattle.law_simulation.proofs.Headings.{means_it}
@@ -75,8 +75,8 @@ module _ (p : Modules) (lacking n : ℕ) (base : List Ty) (texts : Location → 
         let result : Result = result_of m.types r.heading in
         let more : World = frame m.types r ∷ copies_of m.types fs vs in
         let w : World = world ++ more in
-        let e : Entered = entered m.types r (length world) vs st.store in
-        let left' : ℕ = left - needed m.types r vs in
+        let e : Entered = enter_call m.types r (length world) vs st.store in
+        let left' : ℕ = left - storage_need m.types r vs in
         let q = is_entered p m.types r world vs st.store fine given in
         let kind : is_function m.types r ≡ is_there result = means_it m.types r.heading in
         let a : Environment = environment_of c (length world) e left' in
@@ -93,7 +93,7 @@ module _ (p : Modules) (lacking n : ℕ) (base : List Ty) (texts : Location → 
         [] false t.0 t.1 r.body t.2 a fit (record st { store = e.store }) q.fine in
         let fresh : (nat_eq (length world) (length world) && all_suit m.types world fs vs) ≡ true = ap (λ (b : Bool). b && all_suit m.types world fs vs) (eq-eqb (length world) (length world) refl) ∙ all_given_suit p m.types world fs vs given in
         same_provided p world lacking (nat_eq (length world) (length world) && all_suit m.types world fs vs) (strict.runs_with lacking p n (strict_calling lacking p n d) world c vs (length world) left) st fresh
-        (same_if p world (nat_lt left (needed m.types r vs)) (ends storage_fault st.out refl) (result_same p lacking world more (is_function m.types r) result kind _ _ body))
+        (same_if p world (nat_lt left (storage_need m.types r vs)) (ends storage_fault st.out refl) (result_same p lacking world more (is_function m.types r) result kind _ _ body))
 
     pub all_calls_same : (d : ℕ) (world : World) → HasBase p world → AllSame p world (strict_calling lacking p n d world) (calling p n d)
     unfolding strict_calling calling

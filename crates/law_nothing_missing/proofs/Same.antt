@@ -7,7 +7,7 @@ use Rattle.def_meaning.specs.Environment.{Modules}
 use Rattle.def_meaning.specs.Operators.{is_between}
 use Rattle.def_meaning.specs.Expressions.{within, within_range}
 use Rattle.law_nothing_missing.specs.Worlds.{World}
-use Rattle.law_nothing_missing.specs.Expressions.{provided, needs}
+use Rattle.law_nothing_missing.specs.Expressions.{if_provided, needs}
 use Rattle.law_nothing_missing.proofs.Worlds.{IsFine}
 
 abbrev pub Any : {A : Type 0} → A → Type 0
@@ -72,7 +72,7 @@ module _ (p : Modules) (world : World) where
 
   -- ---- what is there
 
-  pub same_provided : (lacking : ℕ) {A : Type 0} {G : A → Type 0} (b : Bool) (go : State → Answer A) (st : State) {y : Answer A} → b ≡ true → Same p world G (go st) y → Same p world G (provided lacking b go st) y
+  pub same_provided : (lacking : ℕ) {A : Type 0} {G : A → Type 0} (b : Bool) (go : State → Answer A) (st : State) {y : Answer A} → b ≡ true → Same p world G (go st) y → Same p world G (if_provided lacking b go st) y
   same_provided lacking true go st e h = h
   same_provided lacking false go st e h = cc e
 

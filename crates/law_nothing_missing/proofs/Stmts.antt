@@ -20,15 +20,15 @@ use Rattle.typed_tree.specs.Types.{char, bitset}
 use Rattle.typed_tree.specs.Known.{scalar_at}
 use Rattle.layout_storage.specs.Types.{Ty, Scalar, Natural, Callable, Cell, Array, Heading, component}
 use Rattle.layout_storage.specs.Shapes.{tree}
-use Rattle.def_meaning.specs.Store.{Location, copied, placed}
-use Rattle.def_meaning.specs.Answer.{State, Answer, Value, ◌▷◌, range_fault, overflow, case_fault, halted, Ended}
+use Rattle.def_meaning.specs.Store.{Location, copy_whole, overlay}
+use Rattle.def_meaning.specs.Answer.{State, Answer, Value, ◌▷◌, range_fault, overflow, case_fault, halt_status, Ended}
 use Rattle.def_meaning.specs.Outcome.{Outcome, Normal, Returned}
 use Rattle.def_meaning.specs.Environment.{Modules, Environment}
 use Rattle.def_meaning.specs.Operators.{is_true}
 use Rattle.def_meaning.specs.Calls.{is_there}
 use Rattle.def_meaning.specs.Expressions.{Asks, Gives, value, locate, as_type}
 use Rattle.def_meaning.specs.Statements as meaning
-use Rattle.def_meaning.specs.Statements.{Does, Arm, does, in_turn, if_there, or_else, chosen, is_labelled, stored, character, loop_left, looped, while_true, until_true, has_passed, for_turns, for_all, base_of, changed, rechecked, with_element}
+use Rattle.def_meaning.specs.Statements.{Does, Arm, does, in_turn, if_there, or_else, choose_arm, is_labelled, store_number, character, loop_left, loop_outcome, while_true, until_true, has_passed, for_turns, for_all, base_of, change_by, recheck_value, with_element}
 use Rattle.law_memory.specs.Relation.{IsProcedureValue}
 use Rattle.law_memory.proofs.Places.{when}
 use Rattle.law_memory.proofs.Worlds.{same_cell}
@@ -40,7 +40,7 @@ use Rattle.law_simulation.specs.StmtsTyped as typed
 use Rattle.law_nothing_missing.proofs.StmtsMeant.{arm_does, step_meant, step_means, arm_means}
 use Rattle.law_nothing_missing.specs.Worlds.{World, type_at, is_like, has_room}
 use Rattle.law_nothing_missing.specs.Expressions as places
-use Rattle.law_nothing_missing.specs.Expressions.{is_ranged, is_number_type, provided, at_cell}
+use Rattle.law_nothing_missing.specs.Expressions.{is_ranged, is_number_type, if_provided, at_cell}
 use Rattle.law_nothing_missing.specs.Statements as strict
 use Rattle.law_nothing_missing.specs.Statements.{are_ranged}
 use Rattle.def_scheme.specs.Cells.{base_in}
@@ -126,8 +126,8 @@ module _ (x : Context) (lacking : ℕ) (world : World) (sask ask : Asks) (knows 
   cells h = cell_there x lacking world sask ask knows all h
 
   -- a number that is stored
-  store_goes : (l : Bool) (c : Scalar) (at : Location) (v : ℤ) (st : State) → IsFine P world st.store → IsAt (Cell c) at → ((h : Heading) → c ≡ Callable h → IsProcedureValue P h v) → End l (Value Normal (stored at v st)) (Value Normal (stored at v st))
-  store_goes l c at v st fine is good = goes (stored at v st) (fine_placed P world st.store at (Cell c) (λ r. v) fine is (cell_holds P c v good))
+  store_goes : (l : Bool) (c : Scalar) (at : Location) (v : ℤ) (st : State) → IsFine P world st.store → IsAt (Cell c) at → ((h : Heading) → c ≡ Callable h → IsProcedureValue P h v) → End l (Value Normal (store_number at v st)) (Value Normal (store_number at v st))
+  store_goes l c at v st fine is good = goes (store_number at v st) (fine_placed P world st.store at (Cell c) (λ r. v) fine is (cell_holds P c v good))
 
   from_stmt : (ws : List Ty) (l : Bool) (s : TypedStmt) (y : TypedStmt-F TypedStmt TypedArm) → out-TypedStmt s ≡ y
       → Ends ws l (strict.step_layer lacking P sask world n function (strictly.step_meant lacking P sask world n function y)) (meaning.step_layer P ask n (step_meant P ask n y)) → S ws l s
@@ -159,7 +159,7 @@ module _ (x : Context) (lacking : ℕ) (world : World) (sask ask : Asks) (knows 
   copy_same : (ws : List Ty) (l : Bool) (d e : Place) (t : TypeNo) → Dx ws d (tree types t) → Dx ws e (tree types t) → S ws l (stmt.Copy d e t)
   copy_same ws l d e t m q = from_stmt ws l (stmt.Copy d e t) (step.Copy d e t) (stmt.outs-Copy d e t)
       (λ a fit st fine. end_with P world (m a fit st fine) (λ to st fine is. end_with P world (like_there (tree types t) to is (q a fit st fine)) (λ from st fine at.
-      goes (record st { store = copied to from st.store }) (fine_placed P world st.store to (tree types t) (λ r. st.store (from ++ r)) fine is (record { each = λ r h e. fine.each (from ++ r) h (there_behind world from (tree types t) r at ∙ e) })))))
+      goes (record st { store = copy_whole to from st.store }) (fine_placed P world st.store to (tree types t) (λ r. st.store (from ++ r)) fine is (record { each = λ r h e. fine.each (from ++ r) h (there_behind world from (tree types t) r at ∙ e) })))))
 
   room_there : (k m : ℕ) {y z : Answer Location} → k ≤ m → Same P world (IsAt (Array m (Cell (Natural 255)))) y z → Same P world (IsAt (Array m (Cell (Natural 255)))) (y ▷ (strict.at_room lacking P sask world n function k)) z
   room_there k m less (gives l st fine at) =
@@ -170,7 +170,7 @@ module _ (x : Context) (lacking : ℕ) (world : World) (sask ask : Asks) (knows 
   copy_text_same : (ws : List Ty) (l : Bool) (d : Place) (t : TypeNo) (m : ℕ) (text : List ℕ) → tree types t ≡ Array m (Cell (Natural 255)) → length text ≤ m → Dx ws d (tree types t) → S ws l (stmt.CopyText d t text)
   copy_text_same ws l d t m text array less q = from_stmt ws l (stmt.CopyText d t text) (step.CopyText d t text) (stmt.outs-CopyText d t text)
       (λ a fit st fine. end_with P world (room_there (length text) m less (subst (λ (t : Ty). Same P world (IsAt t) (strict_place d a st) (locate P ask d a st)) array (q a fit st fine)))
-      (λ at st fine is. goes (record st { store = placed at (character text) st.store }) (fine_placed P world st.store at (Array m (Cell (Natural 255))) (character text) fine is (text_holds P m (character text)))))
+      (λ at st fine is. goes (record st { store = overlay at (character text) st.store }) (fine_placed P world st.store at (Array m (Cell (Natural 255))) (character text) fine is (text_holds P m (character text)))))
     where
       strict_place : Place → Gives Location
       strict_place d = places.locate lacking P sask world d
@@ -187,15 +187,15 @@ module _ (x : Context) (lacking : ℕ) (world : World) (sask ask : Asks) (knows 
   same_base t None = refl
   same_base t (Some r) = refl
 
-  rechecked_same : (types : Types) (t : TypeNo) (v : ℤ) (st : State) → IsFine P world st.store → Same P world Any (rechecked types t v st) (rechecked types t v st)
+  rechecked_same : (types : Types) (t : TypeNo) (v : ℤ) (st : State) → IsFine P world st.store → Same P world Any (recheck_value types t v st) (recheck_value types t v st)
   rechecked_same types t v st fine =
       same_then P world (same_range P world {G = Any} (scalar_at types (base_of t (scalar_at types t))) overflow v st refl fine tt) (λ v st fine good. same_range P world {G = Any} (scalar_at types t) range_fault v st refl fine tt)
 
   change_same : (ws : List Ty) (l : Bool) (o : Change) (d : Place) (t : TypeNo) (c : Scalar) (e : TypedExpr) → IsCell types t c → is_ranged types t ≡ true → is_ranged types (base_of t (scalar_at types t)) ≡ true → Dx ws d (Cell c) → Ex ws e → S ws l (stmt.Change o d t e)
   change_same ws l o d t c e cell one two m q = from_stmt ws l (stmt.Change o d t e) (step.Change o d t e) (stmt.outs-Change o d t e)
       (λ a fit st fine. end_with P world (cells (m a fit st fine)) (λ at st fine is. end_with P world (q a fit st fine) (λ by st fine good.
-      end_with P world (same_provided P world lacking (are_ranged a.types t) (rechecked a.types t (changed o (st.store at) by)) st (ap (λ (ts : Types). are_ranged ts t) fit.types ∙ (ap (λ (b : Bool). b && is_ranged types (base_of t (scalar_at types t))) one ∙ two))
-      (rechecked_same a.types t (changed o (st.store at) by) st fine))
+      end_with P world (same_provided P world lacking (are_ranged a.types t) (recheck_value a.types t (change_by o (st.store at) by)) st (ap (λ (ts : Types). are_ranged ts t) fit.types ∙ (ap (λ (b : Bool). b && is_ranged types (base_of t (scalar_at types t))) one ∙ two))
+      (rechecked_same a.types t (change_by o (st.store at) by) st fine))
       (λ v st fine good. store_goes l c at v st fine is (no_procedure P c v cell.number)))))
 
   member_same : (ws : List Ty) (l : Bool) (o : Membership) (d : Place) (t : TypeNo) (c : Scalar) (e : TypedExpr) → IsCell types t c → Dx ws d (Cell c) → Ex ws e → S ws l (stmt.Membership o d e)
@@ -204,7 +204,7 @@ module _ (x : Context) (lacking : ℕ) (world : World) (sask ask : Asks) (knows 
       (λ v st fine good. store_goes l c at (with_element o (st.store at) v) st fine is (no_procedure P c (with_element o (st.store at) v) cell.number)))))
 
   halt_same : (ws : List Ty) (l : Bool) → S ws l stmt.Halt
-  halt_same ws l = from_stmt ws l stmt.Halt step.Halt stmt.outs-Halt (λ a fit st fine. stops halted st.out refl)
+  halt_same ws l = from_stmt ws l stmt.Halt step.Halt stmt.outs-Halt (λ a fit st fine. stops halt_status st.out refl)
 
   exit_same : (ws : List Ty) → S ws true stmt.Exit
   exit_same ws = from_stmt ws true stmt.Exit step.Exit stmt.outs-Exit (λ a fit st fine. leaves st fine refl)
@@ -251,7 +251,7 @@ module _ (x : Context) (lacking : ℕ) (world : World) (sask ask : Asks) (knows 
   loop_goes l (stops k out e) next = stops k out e
   loop_goes l (unfinished out) next = unfinished out
 
-  looped_same : (l : Bool) (k : ℕ) (f g : State → Outcome) → Turn true f g → Turn l (looped k f) (looped k g)
+  looped_same : (l : Bool) (k : ℕ) (f g : State → Outcome) → Turn true f g → Turn l (loop_outcome k f) (loop_outcome k g)
   looped_same l zero f g h st fine = unfinished st.out
   looped_same l (suc k) f g h st fine = loop_goes l (h st fine) (looped_same l k f g h)
 
@@ -271,7 +271,7 @@ module _ (x : Context) (lacking : ℕ) (world : World) (sask ask : Asks) (knows 
   for_steps l zero check c at by limit f g is good q h st fine = unfinished st.out
   for_steps l (suc k) check c at by limit f g is good q h st fine =
       end_then P world (h st fine) (λ st fine. end_if P world (has_passed by limit (st.store at +ℤ by)) (goes st fine) (end_with P world (q (st.store at +ℤ by) st fine) (λ v st fine any.
-      for_steps l k check c at by limit f g is good q h (stored at v st) (fine_placed P world st.store at (Cell c) (λ r. v) fine is (cell_holds P c v (λ h e. good h v e))))))
+      for_steps l k check c at by limit f g is good q h (store_number at v st) (fine_placed P world st.store at (Cell c) (λ r. v) fine is (cell_holds P c v (λ h e. good h v e))))))
 
   while_same : (ws : List Ty) (l : Bool) (e : TypedExpr) (body : List TypedStmt) → Ex ws e → Ss ws l body → S ws l (stmt.While e body)
   while_same ws l e body q m = from_stmt ws l (stmt.While e body) (step.While e body) (stmt.outs-While e body) (λ a fit st fine. while_turns l n _ _ _ _ (q a fit) (m a fit) st fine)
@@ -295,9 +295,9 @@ module _ (x : Context) (lacking : ℕ) (world : World) (sask ask : Asks) (knows 
       (λ a fit st fine. end_with P world (cells (m a fit st fine)) (λ at st fine is. end_with P world (q a fit st fine) (λ first st fine good.
       end_with P world (same_provided P world lacking (is_ranged a.types t) (as_type a.types t first) st (ap (λ (ts : Types). is_ranged ts t) fit.types ∙ some) (same_range P world {G = Any} (scalar_at a.types t) range_fault first st refl fine tt))
       (λ first st fine good. end_with P world (v a fit st fine) (λ last st fine good.
-      let fine' : IsFine P world (stored at first st).store = fine_placed P world st.store at (Cell c) (λ r. first) fine is (cell_holds P c first (no_procedure P c first cell.number)) in
-      end_if P world (has_passed by last ((stored at first st).store at)) (goes (stored at first st) fine')
-      (for_steps l n (as_type a.types t) c at by last _ _ is (λ h v e. no_procedure P c v cell.number h e) (λ v st fine. same_range P world {G = Any} (scalar_at a.types t) range_fault v st refl fine tt) (h a fit) (stored at first st) fine'))))))
+      let fine' : IsFine P world (store_number at first st).store = fine_placed P world st.store at (Cell c) (λ r. first) fine is (cell_holds P c first (no_procedure P c first cell.number)) in
+      end_if P world (has_passed by last ((store_number at first st).store at)) (goes (store_number at first st) fine')
+      (for_steps l n (as_type a.types t) c at by last _ _ is (λ h v e. no_procedure P c v cell.number h e) (λ v st fine. same_range P world {G = Any} (scalar_at a.types t) range_fault v st refl fine tt) (h a fit) (store_number at first st) fine'))))))
 
   with_same : (ws : List Ty) (l : Bool) (t : Ty) (d : Place) (body : List TypedStmt) → Dx ws d t → Ss (ws ++ t ∷ []) l body → S ws l (stmt.With d body)
   with_same ws l t d body m h = from_stmt ws l (stmt.With d body) (step.With d body) (stmt.outs-With d body)
@@ -307,7 +307,7 @@ module _ (x : Context) (lacking : ℕ) (world : World) (sask ask : Asks) (knows 
   -- ---- CASE
 
   abbrev Arms : (ws : List Ty) → Bool → List TypedArm → Type 0
-  Arms ws l ms = (v : ℤ) (o o' : Does) → Ends ws l o o' → Ends ws l (chosen v (map (strictly.arm_does lacking P sask world n function) ms) o) (chosen v (map (arm_does P ask n) ms) o')
+  Arms ws l ms = (v : ℤ) (o o' : Does) → Ends ws l o o' → Ends ws l (choose_arm v (map (strictly.arm_does lacking P sask world n function) ms) o) (choose_arm v (map (arm_does P ask n) ms) o')
 
   either_same : (ws : List Ty) (l : Bool) (b : Bool) (f g f' g' : Does) → Ends ws l f g → Ends ws l f' g' → Ends ws l (if b then f else f') (if b then g else g')
   either_same ws l true f g f' g' h k = h
@@ -315,8 +315,8 @@ module _ (x : Context) (lacking : ℕ) (world : World) (sask ask : Asks) (knows 
 
   more_arms_same : (ws : List Ty) (l : Bool) (m : TypedArm) (ms : List TypedArm) → Ss ws l m.body → Arms ws l ms → Arms ws l (m ∷ ms)
   more_arms_same ws l m ms h hs v o o' q =
-      subst (λ (y : Arm). Ends ws l (chosen v (y ∷ map (strictly.arm_does lacking P sask world n function) ms) o) (chosen v (map (arm_does P ask n) (m ∷ ms)) o')) (sym (strictly.arm_means lacking P sask world n function m (out-TypedArm m) refl))
-      (subst (λ (y : Arm). Ends ws l (chosen v (record { labels = m.labels; does = in_turn (map sdo m.body) } ∷ map (strictly.arm_does lacking P sask world n function) ms) o) (chosen v (y ∷ map (arm_does P ask n) ms) o')) (sym (arm_means P ask n m (out-TypedArm m) refl))
+      subst (λ (y : Arm). Ends ws l (choose_arm v (y ∷ map (strictly.arm_does lacking P sask world n function) ms) o) (choose_arm v (map (arm_does P ask n) (m ∷ ms)) o')) (sym (strictly.arm_means lacking P sask world n function m (out-TypedArm m) refl))
+      (subst (λ (y : Arm). Ends ws l (choose_arm v (record { labels = m.labels; does = in_turn (map sdo m.body) } ∷ map (strictly.arm_does lacking P sask world n function) ms) o) (choose_arm v (y ∷ map (arm_does P ask n) ms) o')) (sym (arm_means P ask n m (out-TypedArm m) refl))
       (either_same ws l (list_any (is_labelled v) m.labels) _ _ _ _ h (hs v o o' q)))
 
   case_same : (ws : List Ty) (l : Bool) (e : TypedExpr) (arms : List TypedArm) → Ex ws e → Arms ws l arms → S ws l (stmt.Case e arms None)

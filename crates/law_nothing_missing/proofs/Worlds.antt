@@ -4,7 +4,7 @@ use Rattle.std.specs.Prelude.{slice_get, ◌&&◌}
 use Rattle.std.proofs.lemmas.Bool.{eqb-true, eq-eqb}
 use Rattle.layout_storage.specs.Types.{Ty, Callable, Cell, Hidden, Array, Nothing, Field, Heading, row, component}
 use Rattle.def_meaning.specs.Environment.{Modules}
-use Rattle.def_meaning.specs.Store.{Location, Store, behind, placed}
+use Rattle.def_meaning.specs.Store.{Location, Store, behind, overlay}
 use Rattle.law_memory.specs.Relation.{IsProcedureValue}
 use Rattle.law_memory.proofs.Places.{behind_is, component_append}
 use Rattle.law_memory.proofs.Worlds.{placed_behind, placed_else}
@@ -86,14 +86,14 @@ pub record HoldsProcedures (p : Modules) (t : Ty) (f : Location → ℤ) : Type 
 pub record IsFine (p : Modules) (world : World) (s : Store) : Type 0 where
   pub each : (l : Location) (h : Heading) → type_at world l ≡ Some (Cell (Callable h)) → IsProcedureValue p h (s l)
 
-pub fine_placed : (p : Modules) (world : World) (s : Store) (to : Location) (t : Ty) (f : Location → ℤ) → IsFine p world s → type_at world to ≡ Some t → HoldsProcedures p t f → IsFine p world (placed to f s)
+pub fine_placed : (p : Modules) (world : World) (s : Store) (to : Location) (t : Ty) (f : Location → ℤ) → IsFine p world s → type_at world to ≡ Some t → HoldsProcedures p t f → IsFine p world (overlay to f s)
 fine_placed p world s to t f fine at new = record { each = λ l h e. go l h e (behind to l) refl }
   where
-    go : (l : Location) (h : Heading) → type_at world l ≡ Some (Cell (Callable h)) → (o : Option Location) → behind to l ≡ o → IsProcedureValue p h (placed to f s l)
+    go : (l : Location) (h : Heading) → type_at world l ≡ Some (Cell (Callable h)) → (o : Option Location) → behind to l ≡ o → IsProcedureValue p h (overlay to f s l)
     go l h e None b = subst (λ (v : ℤ). IsProcedureValue p h v) (sym (placed_else to l f s b)) (fine.each l h e)
     go l h e (Some r) b =
         let is = behind_is to l r b in
-        subst (λ (v : ℤ). IsProcedureValue p h v) (sym (ap (λ (l : Location). placed to f s l) is ∙ placed_behind to r f s))
+        subst (λ (v : ℤ). IsProcedureValue p h v) (sym (ap (λ (l : Location). overlay to f s l) is ∙ placed_behind to r f s))
         (new.each r h (sym (there_behind world to t r at) ∙ ap (type_at world) (sym is) ∙ e))
 
 behind_new : (n : ℕ) (q : Location) → behind (n ∷ []) (n ∷ q) ≡ Some q
@@ -108,21 +108,21 @@ differ : (n i : ℕ) → nat_eq n i ≡ false → n ≡ i → ⊥
 differ n i e same = cc (sym (eq-eqb n i same) ∙ e)
 
 -- an instance behind the others
-pub fine_new : (p : Modules) (world : World) (s : Store) (t : Ty) (f : Location → ℤ) → IsFine p world s → HoldsProcedures p t f → IsFine p (world ++ t ∷ []) (placed (length world ∷ []) f s)
+pub fine_new : (p : Modules) (world : World) (s : Store) (t : Ty) (f : Location → ℤ) → IsFine p world s → HoldsProcedures p t f → IsFine p (world ++ t ∷ []) (overlay (length world ∷ []) f s)
 fine_new p world s t f fine new = record { each = each }
   where
-    new_one : (q : Location) (h : Heading) → type_at (world ++ t ∷ []) (length world ∷ q) ≡ Some (Cell (Callable h)) → IsProcedureValue p h (placed (length world ∷ []) f s (length world ∷ q))
+    new_one : (q : Location) (h : Heading) → type_at (world ++ t ∷ []) (length world ∷ q) ≡ Some (Cell (Callable h)) → IsProcedureValue p h (overlay (length world ∷ []) f s (length world ∷ q))
     new_one q h e =
         subst (λ (v : ℤ). IsProcedureValue p h v) (sym (placed_behind (length world ∷ []) q f s)) (new.each q h (sym (there_new world [] t q) ∙ e))
 
-    go : (i : ℕ) (q : Location) (h : Heading) → type_at (world ++ t ∷ []) (i ∷ q) ≡ Some (Cell (Callable h)) → (b : Bool) → nat_eq (length world) i ≡ b → IsProcedureValue p h (placed (length world ∷ []) f s (i ∷ q))
+    go : (i : ℕ) (q : Location) (h : Heading) → type_at (world ++ t ∷ []) (i ∷ q) ≡ Some (Cell (Callable h)) → (b : Bool) → nat_eq (length world) i ≡ b → IsProcedureValue p h (overlay (length world ∷ []) f s (i ∷ q))
     go i q h e true b =
-        subst (λ (i : ℕ). type_at (world ++ t ∷ []) (i ∷ q) ≡ Some (Cell (Callable h)) → IsProcedureValue p h (placed (length world ∷ []) f s (i ∷ q))) (eqb-true (length world) i b) (λ e. new_one q h e) e
+        subst (λ (i : ℕ). type_at (world ++ t ∷ []) (i ∷ q) ≡ Some (Cell (Callable h)) → IsProcedureValue p h (overlay (length world ∷ []) f s (i ∷ q))) (eqb-true (length world) i b) (λ e. new_one q h e) e
     go i q h e false b =
         subst (λ (v : ℤ). IsProcedureValue p h v) (sym (placed_else (length world ∷ []) (i ∷ q) f s (behind_other (length world) i q b)))
         (fine.each (i ∷ q) h (ap (λ (o : Option Ty). component_in o q) (sym (get_old world t i (differ (length world) i b))) ∙ e))
 
-    each : (l : Location) (h : Heading) → type_at (world ++ t ∷ []) l ≡ Some (Cell (Callable h)) → IsProcedureValue p h (placed (length world ∷ []) f s l)
+    each : (l : Location) (h : Heading) → type_at (world ++ t ∷ []) l ≡ Some (Cell (Callable h)) → IsProcedureValue p h (overlay (length world ∷ []) f s l)
     each [] h e = absurd (none_some (Cell (Callable h)) e)
     each (i ∷ q) h e = go i q h e (nat_eq (length world) i) refl
 

@@ -7,16 +7,16 @@ use Rattle.typed_tree.specs.declared.statement.TypedStmt.{TypedStmt}
 use Rattle.layout_storage.specs.Types as layout
 use Rattle.layout_storage.specs.Shapes.{tree}
 use Rattle.layout_storage.specs.Frames.{formals_of, frame}
-use Rattle.layout_storage.specs.Texts.{passed}
+use Rattle.layout_storage.specs.Texts.{argument_text}
 use Rattle.def_meaning.specs.Answer.{State, Answer, Ended, StillRunning, storage_fault, Value}
 use Rattle.def_meaning.specs.Outcome.{Outcome, Exited}
 use Rattle.def_meaning.specs.Environment.{Modules, Environment, Callee, Passed, Number, Variable, Array, Text}
 use Rattle.def_meaning.specs.Expressions.{Asks}
 use Rattle.def_meaning.specs.Statements.{in_turn}
 use Rattle.def_meaning.specs.Calls as meaning
-use Rattle.def_meaning.specs.Calls.{Entered, needed, is_function, entered, environment_of}
+use Rattle.def_meaning.specs.Calls.{Entered, storage_need, is_function, enter_call, environment_of}
 use Rattle.law_nothing_missing.specs.Worlds.{World, type_at, is_cell, is_like}
-use Rattle.law_nothing_missing.specs.Expressions.{lacks, provided}
+use Rattle.law_nothing_missing.specs.Expressions.{lacks, if_provided}
 use Rattle.law_nothing_missing.specs.Statements.{does}
 
 -- ---- arguments
@@ -42,7 +42,7 @@ copy_of types f (Number v) = []
 copy_of types f (Variable l) = []
 copy_of types f (Array l high) =
     if f.is_var then [] else layout.Array (suc high) (tree types f.of) ∷ []
-copy_of types f (Text text) = layout.Array (length (passed text)) (tree types f.of) ∷ []
+copy_of types f (Text text) = layout.Array (length (argument_text text)) (tree types f.of) ∷ []
 
 abbrev pub copies_of : Types → List Formal → List Passed → World
 copies_of types [] vs = []
@@ -74,17 +74,17 @@ module _ (lacking : ℕ) where
     abbrev pub runs_with : (World → Asks) → World → Callee → List Passed → (next left : ℕ) → State
         → Answer ℤ
     runs_with ask world c vs next left st =
-        if nat_lt left (needed c.types c.routine vs)
+        if nat_lt left (storage_need c.types c.routine vs)
         then Ended storage_fault st.out
         else runs_in ask
         (world
         ++ frame c.types c.routine ∷ copies_of c.types (formals_of c.types c.routine.heading) vs)
-        c next (entered c.types c.routine next vs st.store) (left - needed c.types c.routine vs) st
+        c next (enter_call c.types c.routine next vs st.store) (left - storage_need c.types c.routine vs) st
 
     abbrev pub runs : (World → Asks) → World → Callee → List Passed → (next left : ℕ) → State
         → Answer ℤ
     runs ask world c vs next left st =
-        provided lacking
+        if_provided lacking
         (next == length world && all_suit c.types world (formals_of c.types c.routine.heading) vs)
         (runs_with ask world c vs next left) st
 

@@ -23,11 +23,11 @@ use Rattle.typed_tree.specs.Known.{made_at, scalar_at}
 use Rattle.layout_storage.specs.Shapes.{tree, elements_of}
 use Rattle.def_meaning.specs.Store.{Location}
 use Rattle.def_meaning.specs.Answer.{State, Answer, Value, Ended, ◌▷◌, empty_procedure}
-use Rattle.def_meaning.specs.Environment.{Modules, Environment, Named, At, Elements, Callee, Passed, Number, Variable, Array, Text, module_place, procedure_value, entry_of, entry_callee, module_callee, nested_in, named}
+use Rattle.def_meaning.specs.Environment.{Modules, Environment, Named, At, Elements, Callee, Passed, Number, Variable, Array, Text, module_place, procedure_value, entry_of, entry_callee, module_callee, nested_in, slot_named}
 use Rattle.def_meaning.specs.Operators.{absolute}
 use Rattle.def_meaning.specs.Calls.{is_there, is_function}
 use Rattle.def_meaning.specs.Expressions as meaning
-use Rattle.def_meaning.specs.Expressions.{Asks, Gives, Reaches, Continues, index_range, element, operated, one_by_one}
+use Rattle.def_meaning.specs.Expressions.{Asks, Gives, Reaches, Continues, index_range, element, arithmetic_result, one_by_one}
 use Rattle.law_nothing_missing.specs.Worlds.{World, type_at, is_cell}
 
 -- a call, and whether its value is wanted
@@ -82,9 +82,9 @@ module _ (lacking : ℕ) where
   abbrev pub lacks : {A : Type 0} → State → Answer A
   lacks st = Ended lacking st.out
 
-  abbrev pub provided : {A : Type 0} → Bool → (State → Answer A) → State → Answer A
-  provided true go st = go st
-  provided false go st = lacks st
+  abbrev pub if_provided : {A : Type 0} → Bool → (State → Answer A) → State → Answer A
+  if_provided true go st = go st
+  if_provided false go st = lacks st
 
   abbrev pub needs : {A B : Type 0} → Option A → (A → State → Answer B) → State → Answer B
   needs None next st = lacks st
@@ -93,10 +93,10 @@ module _ (lacking : ℕ) where
   module _ (p : Modules) (ask : Asks) (world : World) where
     -- something stands there, and a number does
     abbrev pub at_there : Location → State → Answer Location
-    at_there l st = provided (is_there (type_at world l)) (Value l) st
+    at_there l st = if_provided (is_there (type_at world l)) (Value l) st
 
     abbrev pub at_cell : Location → State → Answer Location
-    at_cell l st = provided (is_cell (type_at world l)) (Value l) st
+    at_cell l st = if_provided (is_cell (type_at world l)) (Value l) st
 
     -- what is called has a heading, and where a value is wanted, it is a function
     abbrev pub suits_call : (wanted : Bool) → Callee → Bool
@@ -104,23 +104,23 @@ module _ (lacking : ℕ) where
         is_procedure_type c.types c.routine.heading
         && (not wanted || is_function c.types c.routine)
 
-    abbrev pub asked : (wanted : Bool) → Option Callee → List (Gives Passed) → Environment → State
+    abbrev pub call_with : (wanted : Bool) → Option Callee → List (Gives Passed) → Environment → State
         → Answer ℤ
-    asked wanted None args a st = lacks st
-    asked wanted (Some c) args a st =
-        provided (suits_call wanted c) (meaning.asked p ask (Some c) args a) st
+    call_with wanted None args a st = lacks st
+    call_with wanted (Some c) args a st =
+        if_provided (suits_call wanted c) (meaning.call_with p ask (Some c) args a) st
 
     -- 0 is the empty procedure, and any other value is that of a procedure
     abbrev pub asked_value : (wanted : Bool) → ℤ → List (Gives Passed) → Environment → State
         → Answer ℤ
     asked_value wanted (pos zero) args a st = Ended empty_procedure st.out
     asked_value wanted (pos (suc k)) args a st =
-        asked wanted (entry_callee p (entry_of p (pos (suc k)))) args a st
+        call_with wanted (entry_callee p (entry_of p (pos (suc k)))) args a st
     asked_value wanted (negsuc k) args a st = lacks st
 
     -- a value is taken as one of a type that is there
     abbrev pub as_type : Types → TypeNo → ℤ → State → Answer ℤ
-    as_type types t v st = provided (is_number_type types t) (meaning.as_type types t v) st
+    as_type types t v st = if_provided (is_number_type types t) (meaning.as_type types t v) st
 
     abbrev pub argument_layer :
         Argument-F (Gives Passed) Calls Reaches Continues (Gives ℤ) (Gives Location) → Gives Passed
@@ -132,17 +132,17 @@ module _ (lacking : ℕ) where
         d a st ▷ λ l st.
         needs (index_range a.types t) (λ r st. Value (Array l (elements_of (Some r) - 1)) st) st
     argument_layer (layer.Open slot) a st =
-        needs (elements_named (named a slot)) (λ e st. Value (Array e.0 e.1) st) st
+        needs (elements_named (slot_named a slot)) (λ e st. Value (Array e.0 e.1) st) st
     argument_layer (layer.Text text) a st = Value (Text text) st
 
     abbrev pub call_layer : Call-F (Gives Passed) Calls Reaches Continues (Gives ℤ) (Gives Location)
         → Calls
     call_layer (layer.Module f args) wanted a st =
-        provided (is_module p f.home)
-        (asked wanted (module_callee p (module_place p f.home) f.number) args a) st
+        if_provided (is_module p f.home)
+        (call_with wanted (module_callee p (module_place p f.home) f.number) args a) st
     call_layer (layer.Nested f args) wanted a st =
-        provided (nat_lt f.up (length a.frames))
-        (asked wanted (nested_in a.place (slice_get p a.place) (drop f.up a.frames) f.number) args
+        if_provided (nat_lt f.up (length a.frames))
+        (call_with wanted (nested_in a.place (slice_get p a.place) (drop f.up a.frames) f.number) args
         a)
         st
     call_layer (layer.Variable t d args) wanted a st =
@@ -151,9 +151,9 @@ module _ (lacking : ℕ) where
     abbrev pub root_layer : Root → Environment → Option Location
     root_layer (root.Global v) a =
         if is_module p v.home then Some (module_place p v.home ∷ v.number ∷ []) else None
-    root_layer (root.Local slot) a = variable_of (named a slot)
-    root_layer (root.Alias slot) a = variable_of (named a slot)
-    root_layer (root.Open slot) a = first_of (elements_named (named a slot))
+    root_layer (root.Local slot) a = variable_of (slot_named a slot)
+    root_layer (root.Alias slot) a = variable_of (slot_named a slot)
+    root_layer (root.Open slot) a = first_of (elements_named (slot_named a slot))
     root_layer (root.With k) a = slice_get a.withs k
 
     abbrev pub component_layer :
@@ -164,7 +164,7 @@ module _ (lacking : ℕ) where
         needs (index_range a.types t) (λ r st. element l r.low r.high v st ▷ at_there) st
     component_layer (layer.OpenElement slot t i) l a st =
         i a st ▷ λ v st.
-        needs (elements_named (named a slot))
+        needs (elements_named (slot_named a slot))
         (λ e st. element l (pos 0) (pos e.1) v st ▷ at_there) st
 
     -- a variable, and then its components
@@ -193,7 +193,7 @@ module _ (lacking : ℕ) where
     abbrev pub link_layer : Link-F (Gives Passed) Calls Reaches Continues (Gives ℤ) (Gives Location)
         → Continues
     link_layer (layer.Arithmetic o t e) x a st =
-        e a st ▷ λ y st. provided (has_range a.types o t) (operated a.types o t x y) st
+        e a st ▷ λ y st. if_provided (has_range a.types o t) (arithmetic_result a.types o t x y) st
     link_layer other x a st = meaning.link_layer p ask (wanting_link other) x a st
 
     -- the value of a call in an expression is wanted
@@ -212,18 +212,18 @@ module _ (lacking : ℕ) where
     expr_layer (layer.Load t d) a st =
         (d a st ▷ at_cell) ▷ λ l st. Value (st.store l) st
     expr_layer (layer.Procedure f) a st =
-        provided (is_module p f.home)
+        if_provided (is_module p f.home)
         (λ st.
-        provided (is_there (module_callee p (module_place p f.home) f.number))
+        if_provided (is_there (module_callee p (module_place p f.home) f.number))
         (Value (procedure_value p f.home f.number)) st)
         st
     expr_layer (layer.High slot) a st =
-        needs (elements_named (named a slot)) (λ e st. Value (pos e.1) st) st
+        needs (elements_named (slot_named a slot)) (λ e st. Value (pos e.1) st) st
     expr_layer (layer.Abs t e) a st =
         e a st ▷ λ v st.
-        provided (is_ranged a.types t) (meaning.in_base a.types t (absolute v)) st
+        if_provided (is_ranged a.types t) (meaning.in_base a.types t (absolute v)) st
     expr_layer (layer.Val t e) a st =
-        e a st ▷ λ v st. provided (is_ranged a.types t) (meaning.as_type a.types t v) st
+        e a st ▷ λ v st. if_provided (is_ranged a.types t) (meaning.as_type a.types t v) st
     expr_layer other a st = meaning.expr_layer p ask (wanting other) a st
 
     unfoldable pub value : TypedExpr → Gives ℤ
@@ -236,7 +236,7 @@ module _ (lacking : ℕ) where
         fold-Place (Gives Passed) Calls Reaches Continues (Gives ℤ) (Gives Location) argument_layer
         call_layer component_layer link_layer expr_layer place_layer
 
-    unfoldable pub called : Call → Calls
-    called =
+    unfoldable pub call_value : Call → Calls
+    call_value =
         fold-Call (Gives Passed) Calls Reaches Continues (Gives ℤ) (Gives Location) argument_layer
         call_layer component_layer link_layer expr_layer place_layer

@@ -7,7 +7,7 @@ use Rattle.typed_tree.specs.declared.meaning.Variable.{Variable}
 use Rattle.typed_tree.specs.declared.statement.TypedStmt.TheVariants as stmt
 use Rattle.typed_tree.specs.Types.{char}
 use Rattle.typed_tree.specs.declared.typed_module.TypedModule.{TypedModule}
-use Rattle.def_meaning.specs.Answer.{halted, Ended}
+use Rattle.def_meaning.specs.Answer.{halt_status, Ended}
 use Rattle.def_meaning.specs.Runs.{run}
 use Rattle.law_modules.specs.Linked.{Program}
 use Rattle.law_simulation.specs.Modules.{AreModules, AreTypedModules}
@@ -25,7 +25,7 @@ StrictRuns =
 abbrev pub NothingLacks : Type 0
 NothingLacks =
     (p : Program) (pages : ℕ) → AreModules p → AreTypedModules p pages → (lacking n : ℕ)
-    → halted < lacking → (out : List ℕ) → strict_run lacking p pages n ≡ Ended lacking out → ⊥
+    → halt_status < lacking → (out : List ℕ) → strict_run lacking p pages n ≡ Ended lacking out → ⊥
 
 -- That number does come where something is lacking: a program that prints a variable of a module
 -- that is not there.

@@ -8,16 +8,16 @@ use Rattle.typed_tree.specs.declared.types.TypeNo.{TypeNo}
 use Rattle.typed_tree.specs.declared.known_types.Types.{Types}
 use Rattle.typed_tree.specs.Types.{char}
 use Rattle.typed_tree.specs.Known.{scalar_at}
-use Rattle.def_meaning.specs.Store.{Location, copied, placed}
-use Rattle.def_meaning.specs.Answer.{State, Answer, Value, ◌▷◌, range_fault, halted, Ended}
+use Rattle.def_meaning.specs.Store.{Location, copy_whole, overlay}
+use Rattle.def_meaning.specs.Answer.{State, Answer, Value, ◌▷◌, range_fault, halt_status, Ended}
 use Rattle.def_meaning.specs.Outcome.{Normal, Exited, Returned}
 use Rattle.def_meaning.specs.Operators.{is_true}
 use Rattle.def_meaning.specs.Environment.{Modules}
 use Rattle.def_meaning.specs.Expressions.{Asks, Gives, within, as_type}
-use Rattle.def_meaning.specs.Statements.{Does, Arm, in_turn, if_there, or_else, chosen, stored, character, while_true, until_true, looped, for_all, base_of, changed, rechecked, with_element}
+use Rattle.def_meaning.specs.Statements.{Does, Arm, in_turn, if_there, or_else, choose_arm, store_number, character, while_true, until_true, loop_outcome, for_all, base_of, change_by, recheck_value, with_element}
 use Rattle.layout_storage.specs.Types.{Ty}
 use Rattle.law_nothing_missing.specs.Worlds.{World, type_at, has_room, is_like}
-use Rattle.law_nothing_missing.specs.Expressions.{is_ranged, lacks, provided, at_cell, as_type as taken_as, value, locate, called}
+use Rattle.law_nothing_missing.specs.Expressions.{is_ranged, lacks, if_provided, at_cell, as_type as taken_as, value, locate, call_value}
 
 -- a type with a range, whose base has one
 abbrev pub are_ranged : Types → TypeNo → Bool
@@ -32,26 +32,26 @@ module _ (lacking : ℕ) (p : Modules) (ask : Asks) (world : World) (n : ℕ) (f
   -- what is copied has the components of what it is copied to
   abbrev pub copied_from : Option Ty → Location → State → Answer Location
   copied_from None l st = lacks lacking st
-  copied_from (Some t) l st = provided lacking (is_like (type_at world l) t) (Value l) st
+  copied_from (Some t) l st = if_provided lacking (is_like (type_at world l) t) (Value l) st
 
   -- so many characters have room
   abbrev pub at_room : ℕ → Location → State → Answer Location
-  at_room k l st = provided lacking (has_room (type_at world l) k) (Value l) st
+  at_room k l st = if_provided lacking (has_room (type_at world l) k) (Value l) st
 
   abbrev pub step_layer : TypedStmt-F Does Arm → Does
   step_layer (step.Assign d t e) a st =
       cell d a st ▷ λ l st.
       value lacking p ask world e a st ▷ λ v st.
-      taken_as lacking p ask world a.types t v st ▷ λ v st. Value Normal (stored l v st)
+      taken_as lacking p ask world a.types t v st ▷ λ v st. Value Normal (store_number l v st)
   step_layer (step.Copy to from t) a st =
       locate lacking p ask world to a st ▷ λ l st.
       (locate lacking p ask world from a st ▷ (copied_from (type_at world l))) ▷ λ l' st.
-      Value Normal (record st { store = copied l l' st.store })
+      Value Normal (record st { store = copy_whole l l' st.store })
   step_layer (step.CopyText d t text) a st =
       (locate lacking p ask world d a st ▷ (at_room (length text))) ▷ λ l st.
-      Value Normal (record st { store = placed l (character text) st.store })
+      Value Normal (record st { store = overlay l (character text) st.store })
   step_layer (step.Call c) a st =
-      called lacking p ask world c false a st ▷ λ v st. Value Normal st
+      call_value lacking p ask world c false a st ▷ λ v st. Value Normal st
   step_layer (step.Put e) a st =
       value lacking p ask world e a st ▷ λ v st.
       as_type a.types char v st ▷ λ v st.
@@ -59,25 +59,25 @@ module _ (lacking : ℕ) (p : Modules) (ask : Asks) (world : World) (n : ℕ) (f
   step_layer (step.Change o d t e) a st =
       cell d a st ▷ λ l st.
       value lacking p ask world e a st ▷ λ by st.
-      provided lacking (are_ranged a.types t) (rechecked a.types t (changed o (st.store l) by)) st
+      if_provided lacking (are_ranged a.types t) (recheck_value a.types t (change_by o (st.store l) by)) st
       ▷ λ v st.
-      Value Normal (stored l v st)
+      Value Normal (store_number l v st)
   step_layer (step.Membership o d e) a st =
       cell d a st ▷ λ l st.
       value lacking p ask world e a st ▷ λ x st.
       within (pos 0) (pos 31) range_fault x st ▷ λ x st.
-      Value Normal (stored l (with_element o (st.store l) x) st)
-  step_layer step.Halt a st = Ended halted st.out
+      Value Normal (store_number l (with_element o (st.store l) x) st)
+  step_layer step.Halt a st = Ended halt_status st.out
   step_layer (step.If e body others) a st =
       value lacking p ask world e a st ▷ λ v st.
       if is_true v then in_turn body a st else if_there others a st
   step_layer (step.Case e arms others) a st =
-      value lacking p ask world e a st ▷ λ v st. chosen v arms (or_else others) a st
+      value lacking p ask world e a st ▷ λ v st. choose_arm v arms (or_else others) a st
   step_layer (step.While e body) a st =
       while_true n (value lacking p ask world e a) (in_turn body a) st
   step_layer (step.Repeat body e) a st =
       until_true n (in_turn body a) (value lacking p ask world e a) st
-  step_layer (step.Loop body) a st = looped n (in_turn body a) st
+  step_layer (step.Loop body) a st = loop_outcome n (in_turn body a) st
   step_layer step.Exit a st = Value Exited st
   -- a function returns with a value
   step_layer step.Return a st =
@@ -90,9 +90,9 @@ module _ (lacking : ℕ) (p : Modules) (ask : Asks) (world : World) (n : ℕ) (f
   step_layer (step.For d t start limit by body) a st =
       cell d a st ▷ λ l st.
       value lacking p ask world start a st ▷ λ v st.
-      provided lacking (is_ranged a.types t) (as_type a.types t v) st ▷ λ v st.
+      if_provided lacking (is_ranged a.types t) (as_type a.types t v) st ▷ λ v st.
       value lacking p ask world limit a st ▷ λ last st.
-      for_all n (as_type a.types t) l by last (in_turn body a) (stored l v st)
+      for_all n (as_type a.types t) l by last (in_turn body a) (store_number l v st)
   step_layer (step.With d body) a st =
       locate lacking p ask world d a st ▷ λ l st.
       in_turn body (record a { withs = a.withs ++ l ∷ [] }) st

@@ -14,8 +14,8 @@ use Rattle.typed_tree.specs.declared.meaning.Procedure.{Procedure}
 use Rattle.typed_tree.specs.declared.shape.Made.{Made}
 use Rattle.typed_tree.specs.declared.typed_module.TypedModule.{TypedModule}
 use Rattle.typed_tree.specs.declared.types.TypeNo.{TypeNo}
-use Rattle.typed_tree.specs.Names.{found}
-use Rattle.check_scope.specs.Elaborated.{Gathers, reported}
+use Rattle.typed_tree.specs.Names.{find_name}
+use Rattle.check_scope.specs.Elaborated.{Gathers, report}
 use Rattle.check_scope.specs.Scopes.{State}
 use Rattle.check_scope.specs.declared.known.Known.{Known}
 use Rattle.check_scope.specs.declared.known.Known.TheVariants.{Headed}
@@ -24,7 +24,7 @@ use Rattle.check_type_expr.specs.Made.{next_type, with_shape}
 use Rattle.check_type_expr.specs.Headings.{heading_of, names_of}
 use Rattle.check_block.specs.declared.heading.Standing.{Standing}
 use Rattle.check_block.specs.declared.heading.Standing.TheVariants.{Free, Awaited, Taken}
-use Rattle.check_block.specs.Headings.{name_standing, nothing_made, nested_meaning, headed, module_procedure, with_new, headed_as, with_heading}
+use Rattle.check_block.specs.Headings.{name_standing, nothing_made, nested_meaning, set_heading, module_procedure, with_new, headed_as, with_heading}
 use Rattle.check_block.specs.Naming.{marked_decl, with_marks}
 use Rattle.check_block.specs.Declarations.{Course, decl_layer, with_decl, declared_block}
 use Rattle.check_body.specs.Routines.{numbered_known}
@@ -66,16 +66,16 @@ module _ (g : Gathers) (ends : List ℕ) where
 
   record Reaches (s e : Scope g.Reported) : Type 0 where
     level : e.level ≡ s.level
-    heads : (name : List ℕ) (p : Procedure) → found name s.own ≡ Some (Headed (Ok (meaning.Procedure p))) → found name e.own ≡ Some (Headed (Ok (meaning.Procedure p)))
+    heads : (name : List ℕ) (p : Procedure) → find_name name s.own ≡ Some (Headed (Ok (meaning.Procedure p))) → find_name name e.own ≡ Some (Headed (Ok (meaning.Procedure p)))
     count : length s.procedures ≤ length e.procedures
-    awaits : (name : List ℕ) (p : Procedure) → name_standing (found name e.own) ≡ Awaited p → name_standing (found name s.own) ≡ Awaited p
+    awaits : (name : List ℕ) (p : Procedure) → name_standing (find_name name e.own) ≡ Awaited p → name_standing (find_name name s.own) ≡ Awaited p
 
   reaches_by : (m : TypedModule) (s e : Scope g.Reported) → Leads m nothing_open s e → Reaches s e
   reaches_by m s e k = record {
     level = k.level;
     heads = λ name p q. k.heads name (Ok (meaning.Procedure p)) q;
     count = longer_by s.procedures e.procedures k.procedures;
-    awaits = λ name p q. sym (ap (λ (o : Option (Known g.Reported)). name_standing o) (k.awaited name (awaited_is g (found name e.own) p q))) ∙ q;
+    awaits = λ name p q. sym (ap (λ (o : Option (Known g.Reported)). name_standing o) (k.awaited name (awaited_is g (find_name name e.own) p q))) ∙ q;
   }
 
   layer_reaches : (c : Course g.Reported) (y : Decl-F Decl Block) → Reaches c.0 (decl_layer g ends c y).0
@@ -88,10 +88,10 @@ module _ (g : Gathers) (ends : List ℕ) where
 
   HeadNumber : Scope g.Reported → Scope g.Reported → List ℕ → Type 0
   HeadNumber s s' name =
-      (p : Procedure) × ((found name s'.own ≡ Some (Headed (Ok (meaning.Procedure p))))
-      × ((name_standing (found name s.own) ≡ Awaited p) ⊎ ((p.number ≡ length s.procedures) × (length s.procedures < length s'.procedures))))
+      (p : Procedure) × ((find_name name s'.own ≡ Some (Headed (Ok (meaning.Procedure p))))
+      × ((name_standing (find_name name s.own) ≡ Awaited p) ⊎ ((p.number ≡ length s.procedures) × (length s.procedures < length s'.procedures))))
 
-  new_number : (b : Bool) → b ≡ true → (s : Scope g.Reported) (name : List ℕ) (n : ℕ) (t : TypeNo) → HeadNumber s (cond b (module_procedure s name (Ok t)) (headed name (nested_meaning s.level n (Ok t)) s)) name
+  new_number : (b : Bool) → b ≡ true → (s : Scope g.Reported) (name : List ℕ) (n : ℕ) (t : TypeNo) → HeadNumber s (cond b (module_procedure s name (Ok t)) (set_heading name (nested_meaning s.level n (Ok t)) s)) name
   unfolding HeadNumber
   new_number true e s name n t = (
     record { home = s.types.home; number = length s.procedures; heading = t },
@@ -107,32 +107,32 @@ module _ (g : Gathers) (ends : List ℕ) where
   made_number s name n (Ok x) e q = new_number (s.level == 0) e (with_shape s x) name n (next_type s)
   made_number s name n (Err x) e q = absurd cc
 
-  number_by : (s : Scope g.Reported) (h : Heading) (n : ℕ) (made : Result Made g.Reported) (o : Standing) → name_standing (found h.name.name s.own) ≡ o → (s.level == 0) ≡ true → (headed_as g s h n made o).1 ≡ Ok tt → HeadNumber s (headed_as g s h n made o).0 h.name.name
+  number_by : (s : Scope g.Reported) (h : Heading) (n : ℕ) (made : Result Made g.Reported) (o : Standing) → name_standing (find_name h.name.name s.own) ≡ o → (s.level == 0) ≡ true → (headed_as g s h n made o).1 ≡ Ok tt → HeadNumber s (headed_as g s h n made o).0 h.name.name
   unfolding HeadNumber
   number_by s h n made Free e l q = made_number s h.name.name n made l q
   number_by s h n made (Awaited p) e l q = (p, (found_self h.name.name (Headed (Ok (meaning.Procedure p))) s.own, inl e))
-  number_by s h n made Taken e l q = let z : reported g {A = Unit {0}} h.name.pos rule.DeclaredTwice ≡ Ok tt = beside_right g (nothing_made made) (reported g h.name.pos rule.DeclaredTwice) q in absurd cc
+  number_by s h n made Taken e l q = let z : report g {A = Unit {0}} h.name.pos rule.DeclaredTwice ≡ Ok tt = beside_right g (nothing_made made) (report g h.name.pos rule.DeclaredTwice) q in absurd cc
 
   head_number : (s : Scope g.Reported) (h : Heading) (n : ℕ) → (s.level == 0) ≡ true → (with_heading g s n h).1 ≡ Ok tt → HeadNumber s (with_heading g s n h).0 h.name.name
   head_number s h n l q =
-      number_by s h n (heading_of g s h) (name_standing (found h.name.name s.own)) refl l
-      (beside_right g (names_of g h) (headed_as g s h n (heading_of g s h) (name_standing (found h.name.name s.own))).1 q)
+      number_by s h n (heading_of g s h) (name_standing (find_name h.name.name s.own)) refl l
+      (beside_right g (names_of g h) (headed_as g s h n (heading_of g s h) (name_standing (find_name h.name.name s.own))).1 q)
 
   -- ---- numbers of later declarations
 
   -- an awaited procedure has it, or it is none so far
   data LaterNumber (s : Scope g.Reported) (k : ℕ) : Type 0 where
     new : length s.procedures ≤ k → LaterNumber s k
-    awaited : (name : List ℕ) (p : Procedure) → name_standing (found name s.own) ≡ Awaited p → p.number ≡ k → LaterNumber s k
+    awaited : (name : List ℕ) (p : Procedure) → name_standing (find_name name s.own) ≡ Awaited p → p.number ≡ k → LaterNumber s k
 
   later_before : (s e : Scope g.Reported) (k : ℕ) → Reaches s e → LaterNumber e k → LaterNumber s k
   later_before s e k r (new h) = new (let c = r.count in omega (arith, c, h))
   later_before s e k r (awaited name p q n) = awaited name p (r.awaits name p q) n
 
-  number_is : (e : Scope g.Reported) (h : Heading) (b : Block) (p : Procedure) (k : ℕ) → found h.name.name e.own ≡ Some (Headed (Ok (meaning.Procedure p))) → number_of e.own {A = Decl} {B = Block} (layer.Procedure h b) ≡ Some k → p.number ≡ k
+  number_is : (e : Scope g.Reported) (h : Heading) (b : Block) (p : Procedure) (k : ℕ) → find_name h.name.name e.own ≡ Some (Headed (Ok (meaning.Procedure p))) → number_of e.own {A = Decl} {B = Block} (layer.Procedure h b) ≡ Some k → p.number ≡ k
   number_is e h b p k f n = same_Some p.number k (sym (ap (λ (o : Option (Known g.Reported)). number_in e.own (numbered_known o)) f) ∙ n)
 
-  head_later : (s s' : Scope g.Reported) (name : List ℕ) (k : ℕ) (p : Procedure) → p.number ≡ k → (name_standing (found name s.own) ≡ Awaited p) ⊎ ((p.number ≡ length s.procedures) × (length s.procedures < length s'.procedures)) → LaterNumber s k
+  head_later : (s s' : Scope g.Reported) (name : List ℕ) (k : ℕ) (p : Procedure) → p.number ≡ k → (name_standing (find_name name s.own) ≡ Awaited p) ⊎ ((p.number ≡ length s.procedures) × (length s.procedures < length s'.procedures)) → LaterNumber s k
   head_later s s' name k p e (inl a) = awaited name p a e
   head_later s s' name k p e (inr b) = new (let x = b.0 in omega (arith, x, e))
 
@@ -155,13 +155,13 @@ module _ (g : Gathers) (ends : List ℕ) where
 
   -- ---- each procedure has another number than those behind it
 
-  no_later : (s s' : Scope g.Reported) → Reaches s s' → AwaitsOwn s → AwaitsApart s → (name : List ℕ) (p : Procedure) → found name s'.own ≡ Some (Headed (Ok (meaning.Procedure p)))
-      → (name_standing (found name s.own) ≡ Awaited p) ⊎ ((p.number ≡ length s.procedures) × (length s.procedures < length s'.procedures)) → LaterNumber s' p.number → ⊥
+  no_later : (s s' : Scope g.Reported) → Reaches s s' → AwaitsOwn s → AwaitsApart s → (name : List ℕ) (p : Procedure) → find_name name s'.own ≡ Some (Headed (Ok (meaning.Procedure p)))
+      → (name_standing (find_name name s.own) ≡ Awaited p) ⊎ ((p.number ≡ length s.procedures) × (length s.procedures < length s'.procedures)) → LaterNumber s' p.number → ⊥
   no_later s s' r own apart name p f (inl a) (new h) = let i : p.number < length s.procedures = is_within s.procedures p.number p.heading (own name p a).1 in let c = r.count in omega (arith, i, c, h)
   no_later s s' r own apart name p f (inr b) (new h) = let x = b.0 in let y = b.1 in omega (arith, x, y, h)
   no_later s s' r own apart name p f (inl a) (awaited other q e n) =
       let same : other ≡ name = apart other name q p (r.awaits other q e) a n in
-      let z : Taken ≡ Awaited q = sym (ap (λ (o : Option (Known g.Reported)). name_standing o) f) ∙ subst (λ (i : List ℕ). name_standing (found i s'.own) ≡ Awaited q) same e in
+      let z : Taken ≡ Awaited q = sym (ap (λ (o : Option (Known g.Reported)). name_standing o) f) ∙ subst (λ (i : List ℕ). name_standing (find_name i s'.own) ≡ Awaited q) same e in
       absurd cc
   no_later s s' r own apart name p f (inr b) (awaited other q e n) =
       let i : q.number < length s.procedures = is_within s.procedures q.number q.heading (own other q (r.awaits other q e)).1 in let x = b.0 in omega (arith, i, x, n)

@@ -8,11 +8,11 @@ use Rattle.typed_tree.specs.declared.meaning.Standard.TheVariants.{Abs, Cap, Chr
 use Rattle.typed_tree.specs.Known.{range}
 use Rattle.typed_tree.specs.Types.{integer, cardinal, boolean, char, bitset}
 use Rattle.m2_tree.specs.Names.{same_name}
-use Rattle.typed_tree.specs.Names.{entered}
+use Rattle.typed_tree.specs.Names.{enter_name}
 use Rattle.check_scope.specs.declared.known.Known.{Known}
 use Rattle.check_scope.specs.declared.known.Known.TheVariants.{Declared}
 use Rattle.check_scope.specs.declared.known.Origin.TheVariants.{Here}
-use Rattle.check_definition.specs.Predeclared.{predeclared_as, with_types, truth, with_truth, with_functions, with_bounds, with_procedures, predeclared, predeclared_block}
+use Rattle.check_definition.specs.Predeclared.{predeclared_as, with_types, truth, with_truth, with_functions, with_bounds, with_procedures, predeclared_names, predeclared_block}
 use Rattle.law_simulation.specs.TreesTyped.{Context}
 use Rattle.law_well_formed.specs.Formed.{fine}
 use Rattle.law_well_formed.specs.FormedRanges.{IsNumber}
@@ -26,9 +26,9 @@ module _ (x : Context) (opens : ℕ → Bool) (T : Type 0) where
   names_by true k e es more p all q = (p, all.1)
   names_by false k e es more p all q = (all.0, q)
 
-  names_more : (name : List ℕ) (k : Known T) (es : List (List ℕ × Known T)) → KnownThere x opens 0 k → There es → There (entered name k es)
+  names_more : (name : List ℕ) (k : Known T) (es : List (List ℕ × Known T)) → KnownThere x opens 0 k → There es → There (enter_name name k es)
   names_more name k [] p all = (p, tt)
-  names_more name k (e ∷ es) p all = names_by (same_name name e.0) k e es (entered name k es) p all (names_more name k es p all.1)
+  names_more name k (e ∷ es) p all = names_by (same_name name e.0) k e es (enter_name name k es) p all (names_more name k es p all.1)
 
   more : (name : List ℕ) (m : Meaning) (ns : List (List ℕ × Known T)) → MeaningThere x opens 0 m → There ns → There (predeclared_as name m ns)
   more name m ns p k = names_more name (Declared Here (Ok m)) ns (fine m p) k
@@ -62,8 +62,8 @@ module _ (x : Context) (opens : ℕ → Bool) (T : Type 0) where
       more (codes "HALT") (meaning.Standard Halt) _ (tt, tt) (more (codes "EXCL") (meaning.Standard Excl) _ (tt, tt) (more (codes "INCL") (meaning.Standard Incl) _ (tt, tt)
       (more (codes "DEC") (meaning.Standard Dec) _ (tt, tt) (more (codes "INC") (meaning.Standard Inc) ns (tt, tt) k))))
 
-  predeclared_there : NamesThere x opens 0 (predeclared {T = T})
-  unfolding predeclared
+  predeclared_there : NamesThere x opens 0 (predeclared_names {T = T})
+  unfolding predeclared_names
   predeclared_there = procedures_there (with_bounds (with_functions (with_truth (with_types {T = T} [])))) (bounds_there (with_functions (with_truth (with_types {T = T} []))) (functions_there (with_truth (with_types {T = T} [])) (truth_there (with_types {T = T} []) (types_there [] tt))))
 
   pub around_there : BlocksThere x opens 0 (predeclared_block {T = T} ∷ [])

@@ -11,9 +11,9 @@ use Rattle.typed_tree.specs.declared.meaning.Meaning.TheVariants as meaning
 use Rattle.typed_tree.specs.declared.meaning.Procedure.{Procedure}
 use Rattle.typed_tree.specs.declared.types.TypeNo.{TypeNo}
 use Rattle.m2_tree.specs.Names.{same_name}
-use Rattle.typed_tree.specs.Names.{found, entered, place_of}
-use Rattle.check_scope.specs.Elaborated.{Gathers, reported}
-use Rattle.check_scope.specs.Scopes.{State, is_free, with_known, is_again, imported}
+use Rattle.typed_tree.specs.Names.{find_name, enter_name, place_of}
+use Rattle.check_scope.specs.Elaborated.{Gathers, report}
+use Rattle.check_scope.specs.Scopes.{State, is_free, with_known, is_again, import_name}
 use Rattle.check_scope.specs.declared.known.Origin.{Origin}
 use Rattle.check_scope.specs.declared.known.Origin.TheVariants.{Here, Module, Export}
 use Rattle.check_scope.specs.declared.known.Known.{Known}
@@ -42,7 +42,7 @@ pub record Stays {T : Type 0} (s s' : Scope T) : Type 0 where
   pub withs : s'.withs ≡ s.withs
   pub home : s'.types.home ≡ s.types.home
   pub procedures : s'.procedures ≡ s.procedures
-  pub awaited : (name : List ℕ) (p : Procedure) → name_standing (found name s'.own) ≡ Awaited p → name_standing (found name s.own) ≡ Awaited p
+  pub awaited : (name : List ℕ) (p : Procedure) → name_standing (find_name name s'.own) ≡ Awaited p → name_standing (find_name name s.own) ≡ Awaited p
 
 module _ {T : Type 0} where
   same_stays : (s : Scope T) → Stays s s
@@ -60,11 +60,11 @@ module _ {T : Type 0} where
   }
 
   -- a name that is taken is entered
-  taken_awaits : (y name : List ℕ) (k : Known T) (own : List (List ℕ × Known T)) (p : Procedure) → standing_known k ≡ Taken → name_standing (found y (entered name k own)) ≡ Awaited p → name_standing (found y own) ≡ Awaited p
+  taken_awaits : (y name : List ℕ) (k : Known T) (own : List (List ℕ × Known T)) (p : Procedure) → standing_known k ≡ Taken → name_standing (find_name y (enter_name name k own)) ≡ Awaited p → name_standing (find_name y own) ≡ Awaited p
   taken_awaits y name k own p t e = by (same_name y name) refl where
-    by : (b : Bool) → same_name y name ≡ b → name_standing (found y own) ≡ Awaited p
+    by : (b : Bool) → same_name y name ≡ b → name_standing (find_name y own) ≡ Awaited p
     by true q =
-        absurd (let z : Taken ≡ Awaited p = sym (ap (λ (o : Option (Known T)). name_standing o) (found_self name k own) ∙ t) ∙ subst (λ (n : List ℕ). name_standing (found n (entered name k own)) ≡ Awaited p) (same_is y name q) e in cc)
+        absurd (let z : Taken ≡ Awaited p = sym (ap (λ (o : Option (Known T)). name_standing o) (found_self name k own) ∙ t) ∙ subst (λ (n : List ℕ). name_standing (find_name n (enter_name name k own)) ≡ Awaited p) (same_is y name q) e in cc)
     by false q = ap (λ (o : Option (Known T)). name_standing o) (sym (found_other name k own y q)) ∙ e
 
   known_stays : (name : List ℕ) (k : Known T) (s : Scope T) → standing_known k ≡ Taken → Stays s (with_known name k s)
@@ -83,10 +83,10 @@ module _ {T : Type 0} where
   state st = st.0
 
 module _ (g : Gathers) where
-  imported_stays : (s : Scope g.Reported) (at : Pos) (name : List ℕ) (o : Origin) (m : Result Meaning g.Reported) → standing_known (Declared o m) ≡ Taken → Stays s (imported g s at name o m).0
+  imported_stays : (s : Scope g.Reported) (at : Pos) (name : List ℕ) (o : Origin) (m : Result Meaning g.Reported) → standing_known (Declared o m) ≡ Taken → Stays s (import_name g s at name o m).0
   imported_stays s at name o m t =
-      either s (is_again (found name s.own) o) (s, Ok tt) (cond (is_free (found name s.own)) (with_known name (Declared o m) s, Ok tt) (s, reported g at rule.DeclaredTwice)) (same_stays s)
-      (either s (is_free (found name s.own)) (with_known name (Declared o m) s, Ok tt) (s, reported g at rule.DeclaredTwice) (known_stays name (Declared o m) s t) (same_stays s))
+      either s (is_again (find_name name s.own) o) (s, Ok tt) (cond (is_free (find_name name s.own)) (with_known name (Declared o m) s, Ok tt) (s, report g at rule.DeclaredTwice)) (same_stays s)
+      (either s (is_free (find_name name s.own)) (with_known name (Declared o m) s, Ok tt) (s, report g at rule.DeclaredTwice) (known_stays name (Declared o m) s t) (same_stays s))
 
   module_as_stays : (s : Scope g.Reported) (name : Ident) (r : Result ℕ g.Reported) → Stays s (with_module_as g s name r).0
   module_as_stays s name (Ok k) = imported_stays s name.pos name.name (Module k) _ refl
@@ -101,7 +101,7 @@ module _ (g : Gathers) where
 
   place_stays : (s : Scope g.Reported) (name : Ident) (k : ℕ) (es : List (List ℕ × Meaning)) (o : Option ℕ) → Stays s (from_place g s name k es o).0
   place_stays s name k es None = same_stays s
-  place_stays s name k es (Some i) = taken_stays s name.pos k es i (reported_of_taken g name.pos k (found name.name s.own))
+  place_stays s name k es (Some i) = taken_stays s name.pos k es i (reported_of_taken g name.pos k (find_name name.name s.own))
 
   from_stays : (k : ℕ) (es : List (List ℕ × Meaning)) (st : State (Unit {0}) g.Reported) (name : Ident) → Stays st.0 (with_from g k es st name).0
   from_stays k es st name = place_stays st.0 name k es (place_of name.name es)
@@ -119,10 +119,10 @@ module _ (g : Gathers) where
 
 -- ---- procedures of the definition
 
-found_none : (name : List ℕ) (es : List (List ℕ × Meaning)) → has name (keys es) ≡ false → found name es ≡ None
+found_none : (name : List ℕ) (es : List (List ℕ × Meaning)) → has name (keys es) ≡ false → find_name name es ≡ None
 found_none name [] h = refl
 found_none name (e ∷ es) h = by (same_name name e.0) (has name (keys es)) h (found_none name es) where
-  by : (b c : Bool) → (b || c) ≡ false → (c ≡ false → found name es ≡ None) → cond b (Some e.1) (found name es) ≡ None
+  by : (b c : Bool) → (b || c) ≡ false → (c ≡ false → find_name name es ≡ None) → cond b (Some e.1) (find_name name es) ≡ None
   by true c h f = absurd cc
   by false c h f = f h
 
@@ -143,21 +143,21 @@ module _ (T : Type 0) where
   own_or (Some m) o = Some (Declared Here (Ok m))
   own_or None o = o
 
-  own_found : (es : List (List ℕ × Meaning)) (so : List (List ℕ × Known T)) (a : List ℕ) → Distinct es → found a (fold with_own_name so es) ≡ own_or (found a es) (found a so)
+  own_found : (es : List (List ℕ × Meaning)) (so : List (List ℕ × Known T)) (a : List ℕ) → Distinct es → find_name a (fold with_own_name so es) ≡ own_or (find_name a es) (find_name a so)
   own_found [] so a d = refl
   own_found (e ∷ es) so a d = own_found es (with_own_name so e) a d.1 ∙ by (same_name a e.0) refl where
-    by : (b : Bool) → same_name a e.0 ≡ b → own_or (found a es) (found a (entered e.0 (Declared Here (Ok e.1)) so)) ≡ own_or (cond b (Some e.1) (found a es)) (found a so)
+    by : (b : Bool) → same_name a e.0 ≡ b → own_or (find_name a es) (find_name a (enter_name e.0 (Declared Here (Ok e.1)) so)) ≡ own_or (cond b (Some e.1) (find_name a es)) (find_name a so)
     by true q =
-        ap (λ (o : Option Meaning). own_or o (found a (entered e.0 (Declared Here (Ok e.1)) so))) (found_none a es (subst (λ (n : List ℕ). has n (keys es) ≡ false) (sym (same_is a e.0 q)) d.0))
-        ∙ ap (λ (n : List ℕ). found n (entered e.0 (Declared Here (Ok e.1)) so)) (same_is a e.0 q) ∙ found_self e.0 (Declared Here (Ok e.1)) so
-    by false q = ap (λ (o : Option (Known T)). own_or (found a es) o) (found_other e.0 (Declared Here (Ok e.1)) so a q)
+        ap (λ (o : Option Meaning). own_or o (find_name a (enter_name e.0 (Declared Here (Ok e.1)) so))) (found_none a es (subst (λ (n : List ℕ). has n (keys es) ≡ false) (sym (same_is a e.0 q)) d.0))
+        ∙ ap (λ (n : List ℕ). find_name n (enter_name e.0 (Declared Here (Ok e.1)) so)) (same_is a e.0 q) ∙ found_self e.0 (Declared Here (Ok e.1)) so
+    by false q = ap (λ (o : Option (Known T)). own_or (find_name a es) o) (found_other e.0 (Declared Here (Ok e.1)) so a q)
 
   awaited_or : (o : Option Meaning) (p : Procedure) → name_standing (own_or o None) ≡ Awaited p → o ≡ Some (meaning.Procedure p)
   awaited_or (Some m) p e = ap Some (meaning_awaited m p e)
   awaited_or None p e = absurd cc
 
-  awaited_own : (es : List (List ℕ × Meaning)) (a : List ℕ) (p : Procedure) → Distinct es → name_standing (found a (own_names {T = T} es)) ≡ Awaited p → found a es ≡ Some (meaning.Procedure p)
-  awaited_own es a p d e = awaited_or (found a es) p (sym (ap (λ (o : Option (Known T)). name_standing o) (own_found es [] a d)) ∙ e)
+  awaited_own : (es : List (List ℕ × Meaning)) (a : List ℕ) (p : Procedure) → Distinct es → name_standing (find_name a (own_names {T = T} es)) ≡ Awaited p → find_name a es ≡ Some (meaning.Procedure p)
+  awaited_own es a p d e = awaited_or (find_name a es) p (sym (ap (λ (o : Option (Known T)). name_standing o) (own_found es [] a d)) ∙ e)
 
 -- what is known where a body begins, by what its definition exports
 pub record Starts {T : Type 0} (s : Scope T) (es : List (List ℕ × Meaning)) : Type 0 where
@@ -174,11 +174,11 @@ pub record Starts {T : Type 0} (s : Scope T) (es : List (List ℕ × Meaning)) :
 module _ {T : Type 0} (s : Scope T) (es : List (List ℕ × Meaning)) (h : Starts s es) where
   start_awaits : AwaitsOwn s
   start_awaits name p e =
-      let k = own_await T s.types.home (exported_headings es) es h.exports h.numbers name p (sym (ap (λ (ns : List (List ℕ × Known T)). name_standing (found name ns)) h.own) ∙ e) in
+      let k = own_await T s.types.home (exported_headings es) es h.exports h.numbers name p (sym (ap (λ (ns : List (List ℕ × Known T)). name_standing (find_name name ns)) h.own) ∙ e) in
       (k.0, ap (λ (hs : List TypeNo). slice_get hs p.number) h.procedures ∙ k.1)
 
-  start_found : (a : List ℕ) (p : Procedure) → name_standing (found a s.own) ≡ Awaited p → found a es ≡ Some (meaning.Procedure p)
-  start_found a p e = awaited_own T es a p h.once (sym (ap (λ (ns : List (List ℕ × Known T)). name_standing (found a ns)) h.own) ∙ e)
+  start_found : (a : List ℕ) (p : Procedure) → name_standing (find_name a s.own) ≡ Awaited p → find_name a es ≡ Some (meaning.Procedure p)
+  start_found a p e = awaited_own T es a p h.once (sym (ap (λ (ns : List (List ℕ × Known T)). name_standing (find_name a ns)) h.own) ∙ e)
 
   start_apart : AwaitsApart s
   start_apart a b p q e f n = h.apart a b p q (start_found a p e) (start_found b q f) n

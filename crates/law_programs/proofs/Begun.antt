@@ -15,7 +15,7 @@ use Rattle.typed_tree.specs.declared.statement.TypedStmt.{TypedStmt}
 use Rattle.typed_tree.specs.declared.table.Table.{Table}
 use Rattle.typed_tree.specs.declared.typed_module.TypedModule.{TypedModule}
 use Rattle.typed_tree.specs.declared.types.TypeNo.{TypeNo}
-use Rattle.typed_tree.specs.Names.{found}
+use Rattle.typed_tree.specs.Names.{find_name}
 use Rattle.check_scope.specs.Elaborated.{Gathers, both, beside, ◌▷◌}
 use Rattle.check_scope.specs.Scopes.{State}
 use Rattle.check_scope.specs.declared.known.Known.{Known}
@@ -29,11 +29,11 @@ use Rattle.check_block.specs.Declarations.{Course, Declared, declared_module, re
 use Rattle.check_block.specs.Headings.{name_standing}
 use Rattle.check_body.specs.Imports.{all_imports, typed_imports}
 use Rattle.check_body.specs.Own.{exported_headings, implementation_scope}
-use Rattle.check_body.specs.Routines.{unfilled, no_bodies, typed_module}
+use Rattle.check_body.specs.Routines.{empty_routine, no_bodies, typed_module}
 use Rattle.check_body.specs.declared.procedure.Walk.{Walk}
 use Rattle.check_body.specs.Elaborating.{Elaborates, statements_of}
 use Rattle.check_body.specs.Bodies.{Checked, Steps, steps, marked_by, declared_by, with_statements, bodies_checked}
-use Rattle.check_body.specs.Checked.{module_or, walked, of_body, of_implementation, of_contents, checked}
+use Rattle.check_body.specs.Checked.{module_or, walk_body, of_body, of_implementation, of_contents, body_module}
 use Rattle.law_modules.specs.WellFormed.{IsRoutine}
 use Rattle.law_well_formed.specs.Formed.{Holds, fine, broken}
 use Rattle.law_well_formed.proofs.Basics.{reported_holds}
@@ -53,9 +53,9 @@ use Rattle.law_well_formed.proofs.ModulesSteps.{declared_is, bodies_are, total, 
 use Rattle.law_well_formed.proofs.ModulesBegins.{own_await, own_formed, open_tables}
 use Rattle.law_well_formed.proofs.WholeModules.{Starts}
 
-unfilled_headings : (hs : List TypeNo) → Headings hs (map unfilled hs)
+unfilled_headings : (hs : List TypeNo) → Headings hs (map empty_routine hs)
 unfilled_headings [] n t e = absurd cc
-unfilled_headings (h ∷ hs) zero t e = (unfilled h, refl, same_Some h t e)
+unfilled_headings (h ∷ hs) zero t e = (empty_routine h, refl, same_Some h t e)
 unfilled_headings (h ∷ hs) (suc n) t e = unfilled_headings hs n t e
 
 -- what is known of a module that begins in this scope, and whose definition exports this
@@ -144,7 +144,7 @@ module _ (g : Gathers) (elaborates : Elaborates g.Reported) (forms : FormsStatem
 
     begun_awaits : AwaitsOwn s
     begun_awaits name p e =
-        let k = own_await g.Reported s.types.home (exported_headings es) es starts.exports starts.numbers name p (ap (λ (ns : List (List ℕ × Known g.Reported)). name_standing (found name ns)) (sym starts.own) ∙ e) in
+        let k = own_await g.Reported s.types.home (exported_headings es) es starts.exports starts.numbers name p (ap (λ (ns : List (List ℕ × Known g.Reported)). name_standing (find_name name ns)) (sym starts.own) ∙ e) in
         (k.0, ap (λ (hs : List TypeNo). slice_get hs p.number) starts.procedures ∙ k.1)
 
     course_ok : course.1 ≡ Ok tt
@@ -224,7 +224,7 @@ module _ (g : Gathers) where
       abbrev last : Walk g.Reported
       last = end g elaborates forms s m b
 
-      walk_is : ◌≡◌ {A = Checked g.Reported} (walked g elaborates (numbered_modules s.tables).0 (procedure_ends ds) s m b) (last, statements_of elaborates last.scope None body)
+      walk_is : ◌≡◌ {A = Checked g.Reported} (walk_body g elaborates (numbered_modules s.tables).0 (procedure_ends ds) s m b) (last, statements_of elaborates last.scope None body)
       walk_is =
           ap behind (declared_is g elaborates forms (procedure_ends ds) (imported g elaborates forms s m b) 0 ds)
           ∙ ap (λ (w : Walk g.Reported). with_statements elaborates None body w)
@@ -261,5 +261,5 @@ module _ (g : Gathers) where
           body_begun (first_scope number (tables ++ console ∷ [])) None m b tables []
           (record { tables_are = refl; outer = refl; level = refl; withs = refl; own = refl; procedures = refl; exports = tt; numbers = tt; others = k })
 
-      pub module_begun : (own : Option Table) → AreFor number own tables m.contents → Holds (λ t. BegunAt number m own (tables ++ console ∷ []) t m.contents) (checked g elaborates number m own tables)
+      pub module_begun : (own : Option Table) → AreFor number own tables m.contents → Holds (λ t. BegunAt number m own (tables ++ console ∷ []) t m.contents) (body_module g elaborates number m own tables)
       module_begun own k = contents_begun own m.contents k

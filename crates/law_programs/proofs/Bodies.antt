@@ -7,7 +7,7 @@ use Rattle.m2_tree.specs.declared.decl.Block.{Block}
 use Rattle.m2_tree.specs.declared.decl.Contents.{Contents}
 use Rattle.m2_tree.specs.declared.decl.Contents.TheVariants as contents
 use Rattle.m2_tree.specs.declared.decl.Module.{Module}
-use Rattle.m2_graph.specs.Files.{numbered}
+use Rattle.m2_graph.specs.Files.{number_files}
 use Rattle.m2_graph.specs.Graph.{IsGraph}
 use Rattle.m2_tree.specs.Names.{same_name}
 use Rattle.typed_tree.specs.declared.meaning.Meaning.{Meaning}
@@ -19,7 +19,7 @@ use Rattle.typed_tree.specs.declared.known_types.Types.{Types}
 use Rattle.typed_tree.specs.declared.typed_module.TypedModule.{TypedModule}
 use Rattle.typed_tree.specs.declared.types.TypeNo.{TypeNo}
 use Rattle.typed_tree.specs.Known.{in_list, made_in}
-use Rattle.typed_tree.specs.Names.{entered}
+use Rattle.typed_tree.specs.Names.{enter_name}
 use Rattle.check_scope.specs.Elaborated.{least}
 use Rattle.check_scope.specs.declared.known.Known.{Known}
 use Rattle.check_scope.specs.declared.known.Known.TheVariants.{Declared}
@@ -28,7 +28,7 @@ use Rattle.check_scope.specs.declared.scope.Scope.{Scope}
 use Rattle.check_definition.specs.Predeclared.{console, first_scope}
 use Rattle.check_body.specs.Own.{with_own_name, exported_variables, implementation_scope}
 use Rattle.check_body.specs.Checked.{of_implementation, of_contents}
-use Rattle.check_body.specs.Checks.{elaborated}
+use Rattle.check_body.specs.Checks.{elaborate_body}
 use Rattle.build_jobs.specs.Own.{own_table, tables_behind}
 use Rattle.build_jobs.specs.Compiling.{tables_of, typed_body}
 use Rattle.build_jobs.specs.Encoded.{needed_of}
@@ -102,9 +102,9 @@ module _ (home : ℕ) (vs : List TypeNo) {T : Type 0} where
   placed_by true k e es more p h q = (p, h.1)
   placed_by false k e es more p h q = (h.0, q)
 
-  placed_more : (name : List ℕ) (k : Known T) (es : List (List ℕ × Known T)) → KnownPlaced home vs k → NamesPlaced home vs es → NamesPlaced home vs (entered name k es)
+  placed_more : (name : List ℕ) (k : Known T) (es : List (List ℕ × Known T)) → KnownPlaced home vs k → NamesPlaced home vs es → NamesPlaced home vs (enter_name name k es)
   placed_more name k [] p h = (p, tt)
-  placed_more name k (e ∷ es) p h = placed_by (same_name name e.0) k e es (entered name k es) p h (placed_more name k es p h.1)
+  placed_more name k (e ∷ es) p h = placed_by (same_name name e.0) k e es (enter_name name k es) p h (placed_more name k es p h.1)
 
   own_placed : (es : List (List ℕ × Meaning)) (ns : List (List ℕ × Known T)) → ArePlacedBy vs es → NamesPlaced home vs ns → NamesPlaced home vs (fold with_own_name ns es)
   own_placed [] ns p h = h
@@ -210,7 +210,7 @@ module _ (trees : List Module) (files : List ℕ) (jobs : List (List ℕ)) (fit 
 
 -- ---- the bodies of a graph
 
-module _ (fs : List (List ℕ × Module)) (files : List ℕ) (jobs : List (List ℕ)) (starts : List ℕ) (graph : IsGraph (numbered 0 fs) files jobs starts) (fit : list_all fits_module (trees_of fs) ≡ true) (m : Module) (job : ℕ) where
+module _ (fs : List (List ℕ × Module)) (files : List ℕ) (jobs : List (List ℕ)) (starts : List ℕ) (graph : IsGraph (number_files 0 fs) files jobs starts) (fit : list_all fits_module (trees_of fs) ≡ true) (m : Module) (job : ℕ) where
   abbrev trees : List Module
   trees = trees_of fs
 
@@ -241,13 +241,13 @@ module _ (fs : List (List ℕ × Module)) (files : List ℕ) (jobs : List (List 
 
   module _ (t : TypedModule) (indexed : TypesIndexed t.types) where
     own_stands : (o : Option Table) → own_table m ts ≡ o → OwnNeeded trees files jobs fit job o → (b : Block) → m.contents ≡ contents.Implementation b → fits_contents (contents.Implementation b) ≡ true → AreForOwn o us
-        → of_implementation least (elaborated least) m o (us ++ console ∷ []) b ≡ Ok t → BodyStands m job ts t
+        → of_implementation least (elaborate_body least) m o (us ++ console ∷ []) b ≡ Ok t → BodyStands m job ts t
     unfolding OwnNeeded
     own_stands None q h b c e f r = absurd cc
     own_stands (Some o) q h b c e f r =
         body_stands (implementation_scope o (us ++ console ∷ [])) m b (base trees files jobs fit job us imports_needed o h f.1) o.exported (begun_ready trees files jobs fit job us imports_needed o h f.1) e job ts (Some o) t (implementation o b q c) r indexed
 
-    contents_stand : (c : Contents) → m.contents ≡ c → fits_contents c ≡ true → AreFor job (own_table m ts) us c → of_contents least (elaborated least) job m (own_table m ts) (us ++ console ∷ []) c ≡ Ok t → BodyStands m job ts t
+    contents_stand : (c : Contents) → m.contents ≡ c → fits_contents c ≡ true → AreFor job (own_table m ts) us c → of_contents least (elaborate_body least) job m (own_table m ts) (us ++ console ∷ []) c ≡ Ok t → BodyStands m job ts t
     contents_stand (contents.Definition ds) q e f r = absurd cc
     contents_stand (contents.Implementation b) q e f r = own_stands (own_table m ts) refl (own_needed trees files jobs fit job m ts they_are_needed) b q e f r
     contents_stand (contents.Program b) q e f r =
@@ -257,5 +257,5 @@ module _ (fs : List (List ℕ × Module)) (files : List ℕ) (jobs : List (List 
   bodies_stand t there r =
       let e : fits_module m ≡ true = tree_fits trees fit (slice_index_or files job 0) m there in
       let f : AreFor job (own_table m ts) us m.contents = tables_for fs files jobs starts graph m job in
-      let i : TypesIndexed t.types = holds_at (typed_body m job ts) (checked_indexed least (elaborated least) job m (own_table m ts) us (begins_with m.contents f)) t r in
+      let i : TypesIndexed t.types = holds_at (typed_body m job ts) (checked_indexed least (elaborate_body least) job m (own_table m ts) us (begins_with m.contents f)) t r in
       contents_stand t i m.contents refl e f r

@@ -12,7 +12,7 @@ use Rattle.typed_tree.specs.declared.table.Table.{Table}
 use Rattle.typed_tree.specs.declared.typed_module.Routine.{Routine}
 use Rattle.typed_tree.specs.declared.typed_module.Which.{Which}
 use Rattle.typed_tree.specs.declared.types.TypeNo.{TypeNo}
-use Rattle.typed_tree.specs.Names.{found}
+use Rattle.typed_tree.specs.Names.{find_name}
 use Rattle.check_scope.specs.Elaborated.{Gathers}
 use Rattle.check_scope.specs.declared.known.Known.{Known}
 use Rattle.check_scope.specs.declared.known.Known.TheVariants.{Headed}
@@ -121,10 +121,10 @@ module _ (g : Gathers) (elaborates : Elaborates g.Reported) (base : Types) (ends
       abbrev Heads : (n : ℕ) {xs : List (Steps g.Reported)} {ls : List ℕ} → AreSteps g elaborates ends xs ls → Type 0
       Heads n ps = HeadsIn g elaborates ends a.own a.types level n ps
 
-      head_at : (h : Heading) (n n' : ℕ) (t : TypeNo) (es : List (List ℕ × Known g.Reported)) → es ≡ a.own → n ≡ n' → found h.name.name a.own ≡ Some (Headed (Ok (meaning.LocalProcedure (record { level = level; number = n; heading = t }))))
-          → found h.name.name es ≡ Some (Headed (Ok (meaning.LocalProcedure (record { level = level; number = n'; heading = t }))))
+      head_at : (h : Heading) (n n' : ℕ) (t : TypeNo) (es : List (List ℕ × Known g.Reported)) → es ≡ a.own → n ≡ n' → find_name h.name.name a.own ≡ Some (Headed (Ok (meaning.LocalProcedure (record { level = level; number = n; heading = t }))))
+          → find_name h.name.name es ≡ Some (Headed (Ok (meaning.LocalProcedure (record { level = level; number = n'; heading = t }))))
       head_at h n n' t es e c k =
-          ap (λ (es : List (List ℕ × Known g.Reported)). found h.name.name es) e ∙ k
+          ap (λ (es : List (List ℕ × Known g.Reported)). find_name h.name.name es) e ∙ k
           ∙ ap (λ (i : ℕ). Some (Headed (Ok (meaning.LocalProcedure (record { level = level; number = i; heading = t }))))) c
 
       -- ---- which procedures stand under the numbers of the block's

@@ -13,7 +13,7 @@ use Rattle.typed_tree.specs.declared.meaning.Meaning.TheVariants as meaning
 use Rattle.typed_tree.specs.declared.table.Table.{Table}
 use Rattle.typed_tree.specs.Types.{integer, cardinal, boolean, char, bitset}
 use Rattle.m2_tree.specs.Names.{same_name}
-use Rattle.typed_tree.specs.Names.{found, entered}
+use Rattle.typed_tree.specs.Names.{find_name, enter_name}
 use Rattle.check_scope.specs.Elaborated.{Gathers}
 use Rattle.check_scope.specs.declared.known.Origin.{Origin}
 use Rattle.check_scope.specs.declared.known.Origin.TheVariants.{Here}
@@ -23,10 +23,10 @@ use Rattle.check_scope.specs.declared.known.Known.TheVariants.{Later, Ahead, Beg
 use Rattle.check_scope.specs.declared.scope.Block.{Block}
 use Rattle.check_scope.specs.declared.scope.Scope.{Scope}
 use Rattle.check_type_expr.specs.Headings.{formal_of}
-use Rattle.check_definition.specs.Predeclared.{predeclared_as, with_types, truth, with_truth, with_functions, with_bounds, with_procedures, predeclared, first_scope}
+use Rattle.check_definition.specs.Predeclared.{predeclared_as, with_types, truth, with_truth, with_functions, with_bounds, with_procedures, predeclared_names, first_scope}
 use Rattle.check_definition.specs.Export.{with_meaning, with_declared, with_known, with_export, exports}
 use Rattle.check_block.specs.declared.inner.Outside.{Outside}
-use Rattle.check_block.specs.Inner.{inwards, formal_kind, formal_meaning, Formals, with_formal, with_section, entered_procedure, split_last, popped, left_procedure}
+use Rattle.check_block.specs.Inner.{inwards, formal_kind, formal_meaning, Formals, with_formal, with_section, entered_procedure, split_last, pop_block, left_procedure}
 use Rattle.law_well_formed.specs.Formed.{Holds, fine, broken}
 use Rattle.law_well_formed.proofs.RangesDeclarations.{meant_holds}
 use Rattle.law_programs.specs.Carried.{MeaningWord, KnownWord, NamesWords, BlocksWords, ExportsWords, TablesWords, ScopeWords}
@@ -45,7 +45,7 @@ inwards_words s seen h = record {
   tables = h.tables;
 }
 
-formal_by : {T : Type 0} (b : Bool) (name : List ℕ) (k : Known T) (ns : List (List ℕ × Known T)) → KnownWord k → NamesWords ns → NamesWords (cond b ns (entered name k ns))
+formal_by : {T : Type 0} (b : Bool) (name : List ℕ) (k : Known T) (ns : List (List ℕ × Known T)) → KnownWord k → NamesWords ns → NamesWords (cond b ns (enter_name name k ns))
 formal_by true name k ns p h = h
 formal_by false name k ns p h = words_more name k ns p h
 
@@ -53,14 +53,14 @@ names_formals : {T : Type 0} (level : ℕ) (f : Result Formal T) (names : List I
 names_formals level f [] fs h = h
 names_formals level f (x ∷ xs) fs h =
     names_formals level f xs (with_formal level f fs x)
-    (formal_by (is_some (found x.name fs.0)) x.name (Declared Here (formal_meaning level (length fs.1) f)) fs.0
+    (formal_by (is_some (find_name x.name fs.0)) x.name (Declared Here (formal_meaning level (length fs.1) f)) fs.0
     (meant_holds (λ u. meaning.Local (record { level = level; number = length fs.1; kind = formal_kind u; of = u.of })) (λ u. tt) f) h)
 
-left_by : {T : Type 0} (bs : List (Block T)) → BlocksWords bs → BlocksWords (popped (split_last bs)).0 × NamesWords (popped (split_last bs)).1
+left_by : {T : Type 0} (bs : List (Block T)) → BlocksWords bs → BlocksWords (pop_block (split_last bs)).0 × NamesWords (pop_block (split_last bs)).1
 left_by [] p = (tt, tt)
 left_by (b ∷ bs) p = last b (split_last bs) p.0 (left_by bs p.1) where
-  last : {T : Type 0} (b : Block T) (o : Option (List (Block T) × Block T)) → NamesWords b.names → BlocksWords (popped o).0 × NamesWords (popped o).1
-      → BlocksWords (popped (elim o [ None ↦ Some ([], b) | Some p ↦ Some (b ∷ p.0, p.1) ])).0 × NamesWords (popped (elim o [ None ↦ Some ([], b) | Some p ↦ Some (b ∷ p.0, p.1) ])).1
+  last : {T : Type 0} (b : Block T) (o : Option (List (Block T) × Block T)) → NamesWords b.names → BlocksWords (pop_block o).0 × NamesWords (pop_block o).1
+      → BlocksWords (pop_block (elim o [ None ↦ Some ([], b) | Some p ↦ Some (b ∷ p.0, p.1) ])).0 × NamesWords (pop_block (elim o [ None ↦ Some ([], b) | Some p ↦ Some (b ∷ p.0, p.1) ])).1
   last b None p q = (tt, p)
   last b (Some x) p q = ((p, q.0), q.1)
 
@@ -103,8 +103,8 @@ module _ (T : Type 0) where
   procedures_words ns h =
       as_words (codes "HALT") (meaning.Standard Halt) (predeclared_as (codes "EXCL") (meaning.Standard Excl) (predeclared_as (codes "INCL") (meaning.Standard Incl) (predeclared_as (codes "DEC") (meaning.Standard Dec) (predeclared_as (codes "INC") (meaning.Standard Inc) ns)))) tt (as_words (codes "EXCL") (meaning.Standard Excl) (predeclared_as (codes "INCL") (meaning.Standard Incl) (predeclared_as (codes "DEC") (meaning.Standard Dec) (predeclared_as (codes "INC") (meaning.Standard Inc) ns))) tt (as_words (codes "INCL") (meaning.Standard Incl) (predeclared_as (codes "DEC") (meaning.Standard Dec) (predeclared_as (codes "INC") (meaning.Standard Inc) ns)) tt (as_words (codes "DEC") (meaning.Standard Dec) (predeclared_as (codes "INC") (meaning.Standard Inc) ns) tt (as_words (codes "INC") (meaning.Standard Inc) ns tt h))))
 
-  predeclared_words : NamesWords (predeclared {T = T})
-  unfolding predeclared
+  predeclared_words : NamesWords (predeclared_names {T = T})
+  unfolding predeclared_names
   predeclared_words =
       procedures_words (with_bounds (with_functions (with_truth (with_types [])))) (bounds_words (with_functions (with_truth (with_types [])))
       (functions_words (with_truth (with_types [])) (truth_words (with_types []) (types_words [] tt))))
@@ -118,9 +118,9 @@ exports_by : (b : Bool) (e : List ℕ × Meaning) (m : Meaning) (es more : List 
 exports_by true e m es more p h q = (p, h.1)
 exports_by false e m es more p h q = (h.0, q)
 
-exports_more : (name : List ℕ) (m : Meaning) (es : List (List ℕ × Meaning)) → MeaningWord m → ExportsWords es → ExportsWords (entered name m es)
+exports_more : (name : List ℕ) (m : Meaning) (es : List (List ℕ × Meaning)) → MeaningWord m → ExportsWords es → ExportsWords (enter_name name m es)
 exports_more name m [] p h = (p, tt)
-exports_more name m (e ∷ es) p h = exports_by (same_name name e.0) e m es (entered name m es) p h (exports_more name m es p h.1)
+exports_more name m (e ∷ es) p h = exports_by (same_name name e.0) e m es (enter_name name m es) p h (exports_more name m es p h.1)
 
 meaning_exported : {T : Type 0} (so : List (List ℕ × Meaning)) (name : List ℕ) (r : Result Meaning T) → Holds MeaningWord r → ExportsWords so → ExportsWords (with_meaning so name r)
 meaning_exported so name _ (fine m p) h = exports_more name m so p h

@@ -14,9 +14,9 @@ use Rattle.typed_tree.specs.declared.table.Table.{Table}
 use Rattle.typed_tree.specs.declared.typed_module.TypedModule.{TypedModule}
 use Rattle.typed_tree.specs.declared.types.TypeNo.{TypeNo}
 use Rattle.m2_tree.specs.Names.{same_name}
-use Rattle.typed_tree.specs.Names.{found, entered, place_of}
-use Rattle.check_scope.specs.Elaborated.{Gathers, reported}
-use Rattle.check_scope.specs.Scopes.{State, is_free, with_known, is_again, imported}
+use Rattle.typed_tree.specs.Names.{find_name, enter_name, place_of}
+use Rattle.check_scope.specs.Elaborated.{Gathers, report}
+use Rattle.check_scope.specs.Scopes.{State, is_free, with_known, is_again, import_name}
 use Rattle.check_scope.specs.declared.known.Known.{Known}
 use Rattle.check_scope.specs.declared.known.Known.TheVariants.{Later, Ahead, Begun, Headed, Declared}
 use Rattle.check_scope.specs.declared.known.Origin.{Origin}
@@ -38,9 +38,9 @@ module _ (F : Meaning → Type 0) where
   names_by true k e es more p all q = (p, all.1)
   names_by false k e es more p all q = (all.0, q)
 
-  names_more : {T : Type 0} (name : List ℕ) (k : Known T) (es : List (List ℕ × Known T)) → KnownBrought F k → NamesBrought F es → NamesBrought F (entered name k es)
+  names_more : {T : Type 0} (name : List ℕ) (k : Known T) (es : List (List ℕ × Known T)) → KnownBrought F k → NamesBrought F es → NamesBrought F (enter_name name k es)
   names_more name k [] p all = (p, tt)
-  names_more name k (e ∷ es) p all = names_by (same_name name e.0) k e es (entered name k es) p all (names_more name k es p all.1)
+  names_more name k (e ∷ es) p all = names_by (same_name name e.0) k e es (enter_name name k es) p all (names_more name k es p all.1)
 
   plain_from : {T : Type 0} (o : Origin) (r : Result Meaning T) → BroughtFrom (λ m. ⊥) o r → BroughtFrom F o r
   plain_from Here r p = p
@@ -102,7 +102,7 @@ module _ (F : Meaning → Type 0) where
 
     -- ---- imports
 
-    free_by : (s : Scope g.Reported) (at : Pos) (name : List ℕ) (k : Known g.Reported) (b : Bool) → KnownBrought F k → IsBrought s → IsBrought (cond {A = State (Unit {0}) g.Reported} b (with_known name k s, Ok tt) (s, reported g at rule.DeclaredTwice)).0
+    free_by : (s : Scope g.Reported) (at : Pos) (name : List ℕ) (k : Known g.Reported) (b : Bool) → KnownBrought F k → IsBrought s → IsBrought (cond {A = State (Unit {0}) g.Reported} b (with_known name k s, Ok tt) (s, report g at rule.DeclaredTwice)).0
     free_by s at name k true p h = known_brought s name k p h
     free_by s at name k false p h = h
 
@@ -110,8 +110,8 @@ module _ (F : Meaning → Type 0) where
     again_by s x true h p = h
     again_by s x false h p = p
 
-    imported_brought : (s : Scope g.Reported) (at : Pos) (name : List ℕ) (o : Origin) (r : Result Meaning g.Reported) → BroughtFrom F o r → IsBrought s → IsBrought (imported g s at name o r).0
-    imported_brought s at name o r p h = again_by s _ (is_again (found name s.own) o) h (free_by s at name (Declared o r) (is_free (found name s.own)) p h)
+    imported_brought : (s : Scope g.Reported) (at : Pos) (name : List ℕ) (o : Origin) (r : Result Meaning g.Reported) → BroughtFrom F o r → IsBrought s → IsBrought (import_name g s at name o r).0
+    imported_brought s at name o r p h = again_by s _ (is_again (find_name name s.own) o) h (free_by s at name (Declared o r) (is_free (find_name name s.own)) p h)
 
     module_by : (s : Scope g.Reported) (name : Ident) (o : Option ℕ) → OpensNames opens o → IsBrought s → IsBrought (with_module_as g s name (module_found g name.pos o)).0
     module_by s name None k h = h
@@ -119,7 +119,7 @@ module _ (F : Meaning → Type 0) where
 
     modules_brought : (modules : List (List ℕ × ℕ)) (names : List Ident) (st : State (Unit {0}) g.Reported) → OpensImports opens modules names → IsBrought st.0 → IsBrought (fold (with_module_name g modules) st names).0
     modules_brought modules [] st k h = h
-    modules_brought modules (x ∷ xs) st k h = modules_brought modules xs (with_module_name g modules st x) k.1 (module_by st.0 x (found x.name modules) k.0 h)
+    modules_brought modules (x ∷ xs) st k h = modules_brought modules xs (with_module_name g modules st x) k.1 (module_by st.0 x (find_name x.name modules) k.0 h)
 
     entries_brought : (at : Pos) (n : ℕ) (es : List (List ℕ × Meaning)) (st : State (Unit {0}) g.Reported) → AllExports es → IsBrought st.0 → IsBrought (fold (with_entry g at n) st es).0
     entries_brought at n [] st k h = h
@@ -131,7 +131,7 @@ module _ (F : Meaning → Type 0) where
 
     place_brought : (s : Scope g.Reported) (name : Ident) (n : ℕ) (es : List (List ℕ × Meaning)) (o : Option ℕ) → AllExports es → IsBrought s → IsBrought (from_place g s name n es o).0
     place_brought s name n es None k h = h
-    place_brought s name n es (Some i) k h = taken_brought s name.pos n es i (reported_of_taken g name.pos n (found name.name s.own)) k h
+    place_brought s name n es (Some i) k h = taken_brought s name.pos n es i (reported_of_taken g name.pos n (find_name name.name s.own)) k h
 
     from_brought : (n : ℕ) (es : List (List ℕ × Meaning)) (names : List Ident) (st : State (Unit {0}) g.Reported) → AllExports es → IsBrought st.0 → IsBrought (fold (with_from g n es) st names).0
     from_brought n es [] st k h = h
@@ -145,7 +145,7 @@ module _ (F : Meaning → Type 0) where
     module _ (made : TypedModule) (modules : List (List ℕ × ℕ)) where
       import_brought : (st : State (Unit {0}) g.Reported) (o : Option Ident) (names : List Ident) → OpensImport made opens g modules o names → IsBrought st.0 → IsBrought (with_imports g modules st o names).0
       import_brought st None names k h = modules_brought modules names st k h
-      import_brought st (Some n) names k h = from_by n.pos st names (found n.name modules) k h
+      import_brought st (Some n) names k h = from_by n.pos st names (find_name n.name modules) k h
 
       imports_brought : (is : List Import) (st : State (Unit {0}) g.Reported) → OpensAll made opens g modules is → IsBrought st.0 → IsBrought (fold (with_import g modules) st is).0
       imports_brought [] st k h = h

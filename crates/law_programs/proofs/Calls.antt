@@ -28,7 +28,7 @@ use Rattle.check_const_ops.specs.Standards.{whole_number, bound_of, converted_pa
 use Rattle.check_const_ops.specs.declared.operand.Ordinal.{Ordinal}
 use Rattle.check_const.specs.Calls.{scalar_type, unary_of, bound_by}
 use Rattle.check_operator.specs.Classes.{class_at, array_at}
-use Rattle.check_operator.specs.Values.{given_as, given, loaded_as, loaded, taken}
+use Rattle.check_operator.specs.Values.{given_as, function_result, loaded_as, variable_value, value_at_place}
 use Rattle.check_operator.specs.declared.class.Class.{Class}
 use Rattle.check_operator.specs.declared.class.Class.TheVariants as class
 use Rattle.check_operator.specs.declared.computed.Computed.{Computed}
@@ -36,7 +36,7 @@ use Rattle.check_operator.specs.declared.computed.Computed.TheVariants as value
 use Rattle.check_operator.specs.declared.computed.Designated.{Designated}
 use Rattle.check_operator.specs.declared.computed.Designated.TheVariants as designated
 use Rattle.check_call.specs.Actuals.{starts_at_zero, elements_suit_in, elements_suit, variable_passed, open_passed, text_argument, text_passed, open_value, whole_passed, simple_passed, passed_as, value_passed, actual}
-use Rattle.check_call.specs.Callees.{held_by, callee_of, call_by}
+use Rattle.check_call.specs.Callees.{callee_in_variable, callee_of, call_by}
 use Rattle.check_call.specs.Functions.{unary_takes, unary_built, unary_at, type_named, bound_at, converted_value, conversion_at, high_of}
 use Rattle.check_call.specs.declared.callee.Callee.{Callee}
 use Rattle.check_call.specs.declared.callee.Callee.TheVariants as callee
@@ -108,12 +108,12 @@ module _ (x : Context) (ws : List Ty) (h : TypesTyped x.home.types) (g : Gathers
   given_as_typed t c class.Whole e p = tt
 
   -- what a function gives
-  pub given_typed : (t : TypeNo) (c : Call) → CallTyped x ws c (Some (tree types t)) → ValueTyped x ws (given scope t (expr.Call t c))
+  pub given_typed : (t : TypeNo) (c : Call) → CallTyped x ws c (Some (tree types t)) → ValueTyped x ws (function_result scope t (expr.Call t c))
   given_typed t c p = given_as_typed t c (class_at scope t) (class_is scope types grows t) p
 
-  pub taken_typed : (at : Pos) (d : Designated) → DesignatedTyped x ws opens d → Value_ (taken g scope at d)
+  pub taken_typed : (at : Pos) (d : Designated) → DesignatedTyped x ws opens d → Value_ (value_at_place g scope at d)
   taken_typed at (designated.Value v) p = fine v p
-  taken_typed at (designated.Variable t d) p = fine (loaded scope t d) (loaded_typed t d (class_at scope t) (class_is scope types grows t) p)
+  taken_typed at (designated.Variable t d) p = fine (variable_value scope t d) (loaded_typed t d (class_at scope t) (class_is scope types grows t) p)
   taken_typed at (designated.Open t slot) p = fine value.Untaken tt
   taken_typed at (designated.Type t) p = reported_holds g at rule.WrongType
   taken_typed at (designated.Procedure f) p = fine (value.Procedure f) p
@@ -236,7 +236,7 @@ module _ (x : Context) (ws : List Ty) (h : TypesTyped x.home.types) (g : Gathers
   CalledTyped (called.Routine t c) = CalleeTyped t c
   CalledTyped (called.Standard f) = Unit {0}
 
-  held_typed : (at : Pos) (t : TypeNo) (d : Place) (c : Class) → ClassIs types t c → PlaceTyped x ws d (tree types t) → Holds CalledTyped (held_by g at t d c)
+  held_typed : (at : Pos) (t : TypeNo) (d : Place) (c : Class) → ClassIs types t c → PlaceTyped x ws d (tree types t) → Holds CalledTyped (callee_in_variable g at t d c)
   held_typed at t d class.Procedure i p = fine (called.Routine t (callee.Variable t d)) (p, i, refl)
   held_typed at t d (class.Scalar s) i p = reported_holds g at rule.WrongType
   held_typed at t d class.Set i p = reported_holds g at rule.WrongType

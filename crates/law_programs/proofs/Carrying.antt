@@ -20,9 +20,9 @@ use Rattle.typed_tree.specs.declared.types.Home.TheVariants.{Predeclared, Module
 use Rattle.typed_tree.specs.declared.types.TypeNo.{TypeNo}
 use Rattle.typed_tree.specs.Known.{made_from, in_list, scalar_at}
 use Rattle.m2_tree.specs.Names.{same_name}
-use Rattle.typed_tree.specs.Names.{found, entered}
-use Rattle.check_scope.specs.Elaborated.{Gathers, reported}
-use Rattle.check_scope.specs.Scopes.{State, is_free, with_known, unless_declared, begun, is_begun, finished, unless_marked, marked}
+use Rattle.typed_tree.specs.Names.{find_name, enter_name}
+use Rattle.check_scope.specs.Elaborated.{Gathers, report}
+use Rattle.check_scope.specs.Scopes.{State, is_free, with_known, unless_declared, begin_name, is_begun, finish_name, unless_marked, mark_name}
 use Rattle.check_scope.specs.declared.known.Known.{Known}
 use Rattle.check_scope.specs.declared.known.Known.TheVariants.{Later, Ahead, Begun, Headed, Declared}
 use Rattle.check_scope.specs.declared.known.Origin.TheVariants.{Here}
@@ -156,9 +156,9 @@ slots_by : {T : Type 0} (xs : Slots) (level : ℕ) (b : Bool) (k : Known T) (e :
 slots_by xs level true k e es more p all q = (p, all.1)
 slots_by xs level false k e es more p all q = (all.0, q)
 
-pub slots_more : {T : Type 0} (xs : Slots) (level : ℕ) (name : List ℕ) (k : Known T) (es : List (List ℕ × Known T)) → KnownSlot xs level k → NamesSlots xs level es → NamesSlots xs level (entered name k es)
+pub slots_more : {T : Type 0} (xs : Slots) (level : ℕ) (name : List ℕ) (k : Known T) (es : List (List ℕ × Known T)) → KnownSlot xs level k → NamesSlots xs level es → NamesSlots xs level (enter_name name k es)
 slots_more xs level name k [] p all = (p, tt)
-slots_more xs level name k (e ∷ es) p all = slots_by xs level (same_name name e.0) k e es (entered name k es) p all (slots_more xs level name k es p all.1)
+slots_more xs level name k (e ∷ es) p all = slots_by xs level (same_name name e.0) k e es (enter_name name k es) p all (slots_more xs level name k es p all.1)
 
 -- ---- steps
 
@@ -189,17 +189,17 @@ names_by : {T : Type 0} (home : ℕ) (vs : List TypeNo) (b : Bool) (k : Known T)
 names_by home vs true k e es more p all q = (p, all.1)
 names_by home vs false k e es more p all q = (all.0, q)
 
-names_more : {T : Type 0} (home : ℕ) (vs : List TypeNo) (name : List ℕ) (k : Known T) (es : List (List ℕ × Known T)) → KnownPlaced home vs k → NamesPlaced home vs es → NamesPlaced home vs (entered name k es)
+names_more : {T : Type 0} (home : ℕ) (vs : List TypeNo) (name : List ℕ) (k : Known T) (es : List (List ℕ × Known T)) → KnownPlaced home vs k → NamesPlaced home vs es → NamesPlaced home vs (enter_name name k es)
 names_more home vs name k [] p all = (p, tt)
-names_more home vs name k (e ∷ es) p all = names_by home vs (same_name name e.0) k e es (entered name k es) p all (names_more home vs name k es p all.1)
+names_more home vs name k (e ∷ es) p all = names_by home vs (same_name name e.0) k e es (enter_name name k es) p all (names_more home vs name k es p all.1)
 
 words_by : {T : Type 0} (b : Bool) (k : Known T) (e : List ℕ × Known T) (es more : List (List ℕ × Known T)) → KnownWord k → NamesWords (e ∷ es) → NamesWords more → NamesWords (cond b ((e.0, k) ∷ es) (e ∷ more))
 words_by true k e es more p all q = (p, all.1)
 words_by false k e es more p all q = (all.0, q)
 
-pub words_more : {T : Type 0} (name : List ℕ) (k : Known T) (es : List (List ℕ × Known T)) → KnownWord k → NamesWords es → NamesWords (entered name k es)
+pub words_more : {T : Type 0} (name : List ℕ) (k : Known T) (es : List (List ℕ × Known T)) → KnownWord k → NamesWords es → NamesWords (enter_name name k es)
 words_more name k [] p all = (p, tt)
-words_more name k (e ∷ es) p all = words_by (same_name name e.0) k e es (entered name k es) p all (words_more name k es p all.1)
+words_more name k (e ∷ es) p all = words_by (same_name name e.0) k e es (enter_name name k es) p all (words_more name k es p all.1)
 
 pub known_carries : {T : Type 0} (s : Scope T) (name : List ℕ) (k : Known T) → KnownPlaced s.types.home s.variables k → (ScopeWords s → KnownWord k) → SlotFor s k → Carries s (with_known name k s)
 known_carries s name k p w z = record {
@@ -216,29 +216,29 @@ known_carries s name k p w z = record {
 }
 
 module _ (g : Gathers) (s : Scope g.Reported) where
-  pub free_carries : (at : Pos) (name : List ℕ) (k : Known g.Reported) (b : Bool) → KnownPlaced s.types.home s.variables k → (ScopeWords s → KnownWord k) → SlotFor s k → Carries s (cond {A = State (Unit {0}) g.Reported} b (with_known name k s, Ok tt) (s, reported g at rule.DeclaredTwice)).0
+  pub free_carries : (at : Pos) (name : List ℕ) (k : Known g.Reported) (b : Bool) → KnownPlaced s.types.home s.variables k → (ScopeWords s → KnownWord k) → SlotFor s k → Carries s (cond {A = State (Unit {0}) g.Reported} b (with_known name k s, Ok tt) (s, report g at rule.DeclaredTwice)).0
   free_carries at name k true p w z = known_carries s name k p w z
   free_carries at name k false p w z = carries_refl s
 
   pub unless_carries : (name : Ident) (k : Known g.Reported) → KnownPlaced s.types.home s.variables k → (ScopeWords s → KnownWord k) → SlotFor s k → Carries s (unless_declared g s name k).0
-  unless_carries name k p w z = free_carries name.pos name.name k (is_free (found name.name s.own)) p w z
+  unless_carries name k p w z = free_carries name.pos name.name k (is_free (find_name name.name s.own)) p w z
 
-  pub begun_carries : (name : Ident) → Carries s (begun g s name).0
+  pub begun_carries : (name : Ident) → Carries s (begin_name g s name).0
   begun_carries name = unless_carries name Begun tt (λ q. tt) (λ fs l. tt)
 
 finished_by : {T : Type 0} (s : Scope T) (name : List ℕ) (k : Known T) (b : Bool) → KnownPlaced s.types.home s.variables k → (ScopeWords s → KnownWord k) → SlotFor s k → Carries s (cond b (with_known name k s) s)
 finished_by s name k true p w z = known_carries s name k p w z
 finished_by s name k false p w z = carries_refl s
 
-pub finished_carries : {T : Type 0} (s : Scope T) (name : Ident) (r : Result Meaning T) → Holds (MeaningPlaced s.types.home s.variables) r → (ScopeWords s → Holds MeaningWord r) → SlotFor s (Declared Here r) → Carries s (finished s name r)
-finished_carries s name r p w z = finished_by s name.name (Declared Here r) (is_begun (found name.name s.own)) p w z
+pub finished_carries : {T : Type 0} (s : Scope T) (name : Ident) (r : Result Meaning T) → Holds (MeaningPlaced s.types.home s.variables) r → (ScopeWords s → Holds MeaningWord r) → SlotFor s (Declared Here r) → Carries s (finish_name s name r)
+finished_carries s name r p w z = finished_by s name.name (Declared Here r) (is_begun (find_name name.name s.own)) p w z
 
 marked_by : {T : Type 0} (s : Scope T) (name : List ℕ) (k : Known T) (o : Option (Known T)) → KnownPlaced s.types.home s.variables k → (ScopeWords s → KnownWord k) → SlotFor s k → Carries s (unless_marked name k s o)
 marked_by s name k (Some x) p w z = carries_refl s
 marked_by s name k None p w z = known_carries s name k p w z
 
-pub marked_carries : {T : Type 0} (s : Scope T) (name : Ident) (k : Known T) → KnownPlaced s.types.home s.variables k → (ScopeWords s → KnownWord k) → SlotFor s k → Carries s (marked name k s)
-marked_carries s name k p w z = marked_by s name.name k (found name.name s.own) p w z
+pub marked_carries : {T : Type 0} (s : Scope T) (name : Ident) (k : Known T) → KnownPlaced s.types.home s.variables k → (ScopeWords s → KnownWord k) → SlotFor s k → Carries s (mark_name name k s)
+marked_carries s name k p w z = marked_by s name.name k (find_name name.name s.own) p w z
 
 -- ---- one type more
 
@@ -327,8 +327,8 @@ then_by a s name k true c p w z = record {
 then_by a s name k false c p w z = c
 
 pub then_finished : {T : Type 0} (a s : Scope T) (name : Ident) (r : Result Meaning T) → Carries a s → Holds (MeaningPlaced s.types.home s.variables) r → (ScopeWords s → Holds MeaningWord r)
-    → ((o : Option (List Formal)) → StandsIn o a → Holds (MeaningSlot (slots_in o s.variables) s.level) r) → Carries a (finished s name r)
-then_finished a s name r c p w z = then_by a s name.name (Declared Here r) (is_begun (found name.name s.own)) c p w z
+    → ((o : Option (List Formal)) → StandsIn o a → Holds (MeaningSlot (slots_in o s.variables) s.level) r) → Carries a (finish_name s name r)
+then_finished a s name r c p w z = then_by a s name.name (Declared Here r) (is_begun (find_name name.name s.own)) c p w z
 
 -- ---- an array that is known
 

@@ -34,7 +34,7 @@ use Rattle.check_body.specs.Routines.{typed_module}
 use Rattle.check_body.specs.declared.procedure.Walk.{Walk}
 use Rattle.check_body.specs.Elaborating.{Elaborates}
 use Rattle.check_body.specs.Bodies.{Checked, ChecksBlock, Steps, with_body, steps_layer, block_layer, steps, checks_block, checks_decl}
-use Rattle.check_body.specs.Checked.{walked, of_body, of_implementation, of_contents, checked}
+use Rattle.check_body.specs.Checked.{walk_body, of_body, of_implementation, of_contents, body_module}
 use Rattle.law_well_formed.specs.Formed.{Holds, fine, broken}
 use Rattle.law_well_formed.proofs.Basics.{then_holds, both_holds, any_holds, reported_holds}
 use Rattle.law_well_formed.proofs.ImportsWalks.{walk_keeps}
@@ -119,7 +119,7 @@ module _ (g : Gathers) where
     bodies_variables seen [] st = refl
     bodies_variables seen (d ∷ ds) st = bodies_variables seen ds (with_body (λ d. checks_decl g elaborates ends d None) seen st d) ∙ decl_variables d None (unwrap_or (slice_get seen st.1) 0) st.0
 
-    walked_variables : (modules : List (List ℕ × ℕ)) (s : Scope g.Reported) (m : Module) (b : Block) → BeginWith s.variables (walked g elaborates modules ends s m b).0.scope.variables
+    walked_variables : (modules : List (List ℕ × ℕ)) (s : Scope g.Reported) (m : Module) (b : Block) → BeginWith s.variables (walk_body g elaborates modules ends s m b).0.scope.variables
     walked_variables modules s m b =
         let ds : List Decl = (out-Block b).decls in
         let d = variables_begin s.variables modules ends s m ds ([], sym (append-nil s.variables)) in
@@ -149,7 +149,7 @@ module _ (g : Gathers) (elaborates : Elaborates g.Reported) where
   body_in base s own m b e h =
       let ends : List ℕ = procedure_ends (out-Block b).decls in
       let modules : List (List ℕ × ℕ) = (numbered_modules s.tables).0 in
-      let w : Checked g.Reported = walked g elaborates modules ends s m b in
+      let w : Checked g.Reported = walk_body g elaborates modules ends s m b in
       let keeps = walk_keeps g elaborates ends modules s m b in
       then_holds (both_holds g (walked_formed g elaborates ends base modules s m b e h) (any_holds w.1)) (λ x k.
       fine _ (module_in base s own m w.0.scope w.0.bodies x.1 k.0 (ap (λ (p : List Table × ℕ). p.0) keeps) (walked_variables g elaborates ends modules s m b)))
@@ -218,5 +218,5 @@ module _ (g : Gathers) (elaborates : Elaborates g.Reported) (types_of : ℕ → 
   contents_known own ts (contents.Program b) e f p = program_known ts b e p
 
   pub module_known : (own : Option Table) (ts : List Table) → fits_contents m.contents ≡ true → OwnFormed types_of number own → TablesFormed types_of number ts
-      → Holds (λ t. IsKnown m own number (ts ++ console ∷ []) t m.contents) (checked g elaborates number m own ts)
+      → Holds (λ t. IsKnown m own number (ts ++ console ∷ []) t m.contents) (body_module g elaborates number m own ts)
   module_known own ts e f p = contents_known own (ts ++ console ∷ []) m.contents e f (each_more (TableFormed types_of number) ts console p (console_formed types_of number))

@@ -27,16 +27,16 @@ use Rattle.typed_tree.specs.declared.meaning.Procedure.{Procedure}
 use Rattle.typed_tree.specs.declared.shape.Scalar.{Scalar as Range}
 use Rattle.typed_tree.specs.declared.typed_module.TypedModule.{TypedModule}
 use Rattle.typed_tree.specs.declared.types.TypeNo.{TypeNo}
-use Rattle.typed_tree.specs.Chains.{linked_to, linked, rooted, behind}
+use Rattle.typed_tree.specs.Chains.{linked_to, link_operand, root_place, behind}
 use Rattle.typed_tree.specs.Known.{scalar_at}
 use Rattle.typed_tree.specs.Types.{are_same, integer, cardinal, boolean, char, bitset}
 use Rattle.layout_storage.specs.Shapes.{tree, elements_of}
-use Rattle.layout_storage.specs.Texts.{passed, characters, texts_of, texts_at, texts_linked, texts_behind, texts_passed}
+use Rattle.layout_storage.specs.Texts.{argument_text, characters, texts_of, texts_at, texts_linked, texts_behind, texts_passed}
 use Rattle.layout_storage.specs.Types.{Ty, Scalar, Natural, Callable, Cell, Array, Heading, component}
 use Rattle.law_memory.specs.Relation.{heading_at}
 use Rattle.def_scheme.specs.Cells.{base_of}
 use Rattle.def_scheme.specs.Exprs.{Part, is_own, index_of, expr_layer, expr_part}
-use Rattle.def_scheme.specs.Modules.{numbered}
+use Rattle.def_scheme.specs.Modules.{numbering_of}
 use Rattle.def_scheme.specs.Signatures.{of_heading}
 use Rattle.law_simulation.specs.Scene.{IsValue, AreAmong, AreNatural, IsCell}
 use Rattle.law_simulation.specs.Frames.{Open, kind_at}
@@ -54,23 +54,23 @@ use Rattle.law_programs.proofs.Wants.{nothing, beside, made, seam, has_first, ha
 
 module _ (m : TypedModule) where
   abbrev pub IsRun : TypedExpr → Type 0
-  IsRun e = (expr_part (numbered m) e).constant ≡ false
+  IsRun e = (expr_part (numbering_of m) e).constant ≡ false
 
-  run_by : (e : TypedExpr) (y : TypedExpr-F Argument Call Component Link TypedExpr Place) → out-TypedExpr e ≡ y → (expr_layer (expr_opened (numbered m) y)).constant ≡ false → IsRun e
-  run_by e y h k = ap (λ (p : Part). p.constant) (expr_at (numbered m) e y h) ∙ k
+  run_by : (e : TypedExpr) (y : TypedExpr-F Argument Call Component Link TypedExpr Place) → out-TypedExpr e ≡ y → (expr_layer (expr_opened (numbering_of m) y)).constant ≡ false → IsRun e
+  run_by e y h k = ap (λ (p : Part). p.constant) (expr_at (numbering_of m) e y h) ∙ k
 
   -- the type that the code takes it for
   abbrev pub IsTypeOf : TypedExpr → TypeNo → Type 0
-  IsTypeOf e t = (expr_part (numbered m) e).of ≡ t
+  IsTypeOf e t = (expr_part (numbering_of m) e).of ≡ t
 
   pub type_of_load : (t : TypeNo) (d : Place) → IsTypeOf (expr.Load t d) t
-  type_of_load t d = ap (λ (p : Part). p.of) (expr_at (numbered m) (expr.Load t d) (layer.Load t d) (expr.outs-Load t d))
+  type_of_load t d = ap (λ (p : Part). p.of) (expr_at (numbering_of m) (expr.Load t d) (layer.Load t d) (expr.outs-Load t d))
 
   pub type_of_procedure : (f : Procedure) → IsTypeOf (expr.Procedure f) f.heading
-  type_of_procedure f = ap (λ (p : Part). p.of) (expr_at (numbered m) (expr.Procedure f) (layer.Procedure f) (expr.outs-Procedure f))
+  type_of_procedure f = ap (λ (p : Part). p.of) (expr_at (numbering_of m) (expr.Procedure f) (layer.Procedure f) (expr.outs-Procedure f))
 
   pub type_of_call : (t : TypeNo) (c : Call) → IsTypeOf (expr.Call t c) t
-  type_of_call t c = ap (λ (p : Part). p.of) (expr_at (numbered m) (expr.Call t c) (layer.Call t c) (expr.outs-Call t c))
+  type_of_call t c = ap (λ (p : Part). p.of) (expr_at (numbering_of m) (expr.Call t c) (layer.Call t c) (expr.outs-Call t c))
 
   pub run_load : (t : TypeNo) (d : Place) → IsRun (expr.Load t d)
   run_load t d = run_by (expr.Load t d) (layer.Load t d) (expr.outs-Load t d) refl
@@ -140,7 +140,7 @@ module _ (m : TypedModule) where
   linked_run_by (layer.High slot) e l = run_chain e (l ∷ [])
   linked_run_by (layer.Call t c) e l = run_chain e (l ∷ [])
 
-  pub run_linked : (e : TypedExpr) (l : Link) → IsRun (linked e l)
+  pub run_linked : (e : TypedExpr) (l : Link) → IsRun (link_operand e l)
   run_linked e l = linked_run_by (out-TypedExpr e) e l
 
 -- ---- chains and components
@@ -166,12 +166,12 @@ module _ (x : Context) (ws : List Ty) where
   links_more _ _ z _ _ w _ y (typed.more_links a b c t u v l ls h hs) k = typed.more_links a b z t u w l (ls ++ y ∷ []) h (links_more b c z u v w ls y hs k)
 
   -- a value of a procedure type is no chain
-  procedure_linked : (a b z : ℕ) (t w : TypeNo) (h : Heading) (e : TypedExpr) (l : Link) → IsProcedureExpr x ws a b e h → IsTypeOf m e t → scalar_at types t ≡ None → IsLink x ws b z t l w → IsExpr x ws a z (linked e l) w
+  procedure_linked : (a b z : ℕ) (t w : TypeNo) (h : Heading) (e : TypedExpr) (l : Link) → IsProcedureExpr x ws a b e h → IsTypeOf m e t → scalar_at types t ≡ None → IsLink x ws b z t l w → IsExpr x ws a z (link_operand e l) w
   procedure_linked _ _ z t w _ _ l (typed.LoadedProcedure a b u h d tr p) o n k = subst (λ (y : TypedExpr-F Argument Call Component Link TypedExpr Place). IsExpr x ws a z (linked_to y (expr.Load u d) l) w) (sym (expr.outs-Load u d)) (typed.Chain a b z t w (expr.Load u d) (l ∷ []) (typed.ProcedureValue a b t h (expr.Load u d) (typed.LoadedProcedure a b u h d tr p) o n) (one_link b z t w l k))
   procedure_linked _ _ z t w _ _ l (typed.NamedProcedure a f h known is) o n k = subst (λ (y : TypedExpr-F Argument Call Component Link TypedExpr Place). IsExpr x ws a z (linked_to y (expr.Procedure f) l) w) (sym (expr.outs-Procedure f)) (typed.Chain a a z t w (expr.Procedure f) (l ∷ []) (typed.ProcedureValue a a t h (expr.Procedure f) (typed.NamedProcedure a f h known is) o n) (one_link a z t w l k))
   procedure_linked _ _ z t w _ _ l (typed.GivenProcedure a b u h c p) o n k = subst (λ (y : TypedExpr-F Argument Call Component Link TypedExpr Place). IsExpr x ws a z (linked_to y (expr.Call u c) l) w) (sym (expr.outs-Call u c)) (typed.Chain a b z t w (expr.Call u c) (l ∷ []) (typed.ProcedureValue a b t h (expr.Call u c) (typed.GivenProcedure a b u h c p) o n) (one_link b z t w l k))
 
-  linked_is : (a b z : ℕ) (t w : TypeNo) (e : TypedExpr) (l : Link) → IsExpr x ws a b e t → IsLink x ws b z t l w → IsExpr x ws a z (linked e l) w
+  linked_is : (a b z : ℕ) (t w : TypeNo) (e : TypedExpr) (l : Link) → IsExpr x ws a b e t → IsLink x ws b z t l w → IsExpr x ws a z (link_operand e l) w
   linked_is _ _ z _ w _ l (typed.Constant a t n is) k = subst (λ (y : TypedExpr-F Argument Call Component Link TypedExpr Place). IsExpr x ws a z (linked_to y (expr.Constant t n) l) w) (sym (expr.outs-Constant t n)) (typed.Chain a a z t w (expr.Constant t n) (l ∷ []) (typed.Constant a t n is) (one_link a z t w l k))
   linked_is _ _ z _ w _ l (typed.Load a b t c d cell h) k = subst (λ (y : TypedExpr-F Argument Call Component Link TypedExpr Place). IsExpr x ws a z (linked_to y (expr.Load t d) l) w) (sym (expr.outs-Load t d)) (typed.Chain a b z t w (expr.Load t d) (l ∷ []) (typed.Load a b t c d cell h) (one_link b z t w l k))
   linked_is _ _ z _ w _ l (typed.ProcedureValue a b t h e p of none) k = procedure_linked a b z t w h e l p of none k
@@ -276,10 +276,10 @@ module _ (x : Context) (ws : List Ty) where
   pub negate_typed : (u : TypeNo) (e : TypedExpr) → ExprTyped x ws e u → ExprTyped x ws (expr.Negate e) integer
   negate_typed u e p = expr_by (expr.Negate e) (wanted_of m e) integer (wants_negate m e) (λ a k. typed.Negate a _ u e (p a k))
 
-  pub linked_typed : (e : TypedExpr) (l : Link) (t u : TypeNo) → ExprTyped x ws e t → LinkTyped t l u → ExprTyped x ws (linked e l) u
+  pub linked_typed : (e : TypedExpr) (l : Link) (t u : TypeNo) → ExprTyped x ws e t → LinkTyped t l u → ExprTyped x ws (link_operand e l) u
   linked_typed e l t u p q =
-      expr_by (linked e l) (beside (wanted_of m e) (wanted_linked m l)) u (wants_linked m e l) (λ a k.
-      subst (λ (b : ℕ). IsExpr x ws a b (linked e l) u) (seam a (texts_of e) (texts_linked l))
+      expr_by (link_operand e l) (beside (wanted_of m e) (wanted_linked m l)) u (wants_linked m e l) (λ a k.
+      subst (λ (b : ℕ). IsExpr x ws a b (link_operand e l) u) (seam a (texts_of e) (texts_linked l))
       (linked_is a _ _ t u e l (p a (has_first x a (wanted_of m e) (wanted_linked m l) k)) (q _ (has_second x a (wanted_of m e) (wanted_linked m l) k))))
 
   pub compare_typed : (u v : TypeNo) (o : Comparison) (e f : TypedExpr) → ExprTyped x ws e u → ExprTyped x ws f v → ExprTyped x ws (expr.Compare o e f) boolean
@@ -335,8 +335,8 @@ module _ (x : Context) (ws : List Ty) where
   place_by : (d : Place) (w : Wanted) (t : Ty) → wanted_at m d ≡ w → ((a : ℕ) → Has x a w → IsPlace x ws a (a + characters w.texts) d t) → PlaceTyped x ws d t
   place_by d w t q f = by_wanted (λ a b. IsPlace x ws a b d t) (wanted_at m d) w q f
 
-  pub rooted_typed : (r : Root) (t : Ty) → IsRoot x ws r t → PlaceTyped x ws (rooted r) t
-  rooted_typed r t h = place_by (rooted r) nothing t (wants_rooted m r) (λ a k. subst (λ (b : ℕ). IsPlace x ws a b (rooted r) t) (same_end a) (typed.Designator a a (rooted r) t t h (typed.no_components a t)))
+  pub rooted_typed : (r : Root) (t : Ty) → IsRoot x ws r t → PlaceTyped x ws (root_place r) t
+  rooted_typed r t h = place_by (root_place r) nothing t (wants_rooted m r) (λ a k. subst (λ (b : ℕ). IsPlace x ws a b (root_place r) t) (same_end a) (typed.Designator a a (root_place r) t t h (typed.no_components a t)))
 
   pub behind_typed : (d : Place) (k : Component) (t u : Ty) → PlaceTyped x ws d t → ComponentTyped t k u → PlaceTyped x ws (behind d k) u
   behind_typed d k t u p q =
@@ -344,11 +344,11 @@ module _ (x : Context) (ws : List Ty) where
       subst (λ (b : ℕ). IsPlace x ws a b (behind d k) u) (seam a (texts_at d) (texts_behind k))
       (behind_is a _ _ t u d k (p a (has_first x a (wanted_at m d) (wanted_behind m k) h)) (q _ (has_second x a (wanted_at m d) (wanted_behind m k) h))))
 
-  pub open_element_typed : (slot : Slot) (t w : TypeNo) (e : TypedExpr) → kind_at x.kinds slot ≡ Some (Open (tree types t)) → ExprTyped x ws e w → PlaceTyped x ws (behind (rooted (root.Open slot)) (part.OpenElement slot t e)) (tree types t)
+  pub open_element_typed : (slot : Slot) (t w : TypeNo) (e : TypedExpr) → kind_at x.kinds slot ≡ Some (Open (tree types t)) → ExprTyped x ws e w → PlaceTyped x ws (behind (root_place (root.Open slot)) (part.OpenElement slot t e)) (tree types t)
   open_element_typed slot t w e h p =
-      place_by (behind (rooted (root.Open slot)) (part.OpenElement slot t e)) (wanted_of m e) (tree types t)
-      (wants_behind m (rooted (root.Open slot)) (part.OpenElement slot t e) ∙ ap (λ (u : Wanted). beside u (wanted_behind m (part.OpenElement slot t e))) (wants_rooted m (root.Open slot)) ∙ wants_open_element m slot t e)
-      (λ a k. typed.OfOpen a _ _ (behind (rooted (root.Open slot)) (part.OpenElement slot t e)) slot t (tree types t) (tree types t) w e [] refl h refl (p a k) (typed.no_components _ (tree types t)))
+      place_by (behind (root_place (root.Open slot)) (part.OpenElement slot t e)) (wanted_of m e) (tree types t)
+      (wants_behind m (root_place (root.Open slot)) (part.OpenElement slot t e) ∙ ap (λ (u : Wanted). beside u (wanted_behind m (part.OpenElement slot t e))) (wants_rooted m (root.Open slot)) ∙ wants_open_element m slot t e)
+      (λ a k. typed.OfOpen a _ _ (behind (root_place (root.Open slot)) (part.OpenElement slot t e)) slot t (tree types t) (tree types t) w e [] refl h refl (p a k) (typed.no_components _ (tree types t)))
 
   -- ---- arguments
 
@@ -375,10 +375,10 @@ module _ (x : Context) (ws : List Ty) where
   open_typed slot is_var u h = argument_by (argument.Open slot) nothing (ByArray is_var u) (wants_open m slot) (λ a k. subst (λ (b : ℕ). IsArgument x ws a b (argument.Open slot) (ByArray is_var u)) (same_end a) (typed.ActualOpen a slot is_var u h))
 
   pub text_typed : (text : List ℕ) → list_all fits_character text ≡ true → length x.characters ≤ 2 ^ 32 → ArgumentTyped x ws (argument.Text text) (ByArray false (Cell (Natural 255)))
-  text_typed text bytes room = argument_by (argument.Text text) (made (passed text ∷ []) []) (ByArray false (Cell (Natural 255))) (wants_text m text) (λ a k.
-      let there : HasText x a (passed text) = has_text x a (passed text) k.texts.0 (passed_bytes text bytes) in
+  text_typed text bytes room = argument_by (argument.Text text) (made (argument_text text ∷ []) []) (ByArray false (Cell (Natural 255))) (wants_text m text) (λ a k.
+      let there : HasText x a (argument_text text) = has_text x a (argument_text text) k.texts.0 (passed_bytes text bytes) in
       let fits = there.fits in
-      let end : a + length (passed text) ≡ a + (length (passed text) + 0) = omega arith in
+      let end : a + length (argument_text text) ≡ a + (length (argument_text text) + 0) = omega arith in
       subst (λ (b : ℕ). IsArgument x ws a b (argument.Text text) (ByArray false (Cell (Natural 255)))) end (typed.ActualText a text there (omega (arith, fits, room))))
 
   -- for each form an argument

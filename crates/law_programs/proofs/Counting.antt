@@ -6,7 +6,7 @@ use Rattle.std.proofs.lemmas.List.Sums.{fold-append}
 use Rattle.typed_tree.specs.declared.meaning.Meaning.{Meaning}
 use Rattle.typed_tree.specs.declared.meaning.Meaning.TheVariants as meaning
 use Rattle.typed_tree.specs.declared.types.TypeNo.{TypeNo}
-use Rattle.typed_tree.specs.Names.{entered}
+use Rattle.typed_tree.specs.Names.{enter_name}
 use Rattle.check_scope.specs.Scopes.{with_known}
 use Rattle.check_scope.specs.declared.known.Origin.TheVariants.{Here}
 use Rattle.check_scope.specs.declared.known.Known.TheVariants.{Declared}
@@ -65,7 +65,7 @@ module _ {T : Type 0} where
       → Counts (with_known name (Declared Here (Ok (meaning.Variable (record { home = s.types.home; number = length s.variables; of = t })))) (with_variable_type s (Ok t)))
   variable_counts s name t b c =
       let v : Meaning = meaning.Variable (record { home = s.types.home; number = length s.variables; of = t }) in
-      let d : done (entered name (Declared Here (Ok v)) s.own) ≡ done s.own ++ v ∷ [] = next_done name (Declared Here (Ok v)) v s.own refl b c.front in
+      let d : done (enter_name name (Declared Here (Ok v)) s.own) ≡ done s.own ++ v ∷ [] = next_done name (Declared Here (Ok v)) v s.own refl b c.front in
       record {
         variables = ap (λ (ms : List Meaning). fold with_variable_of [] ms) d ∙ fold-append with_variable_of [] (done s.own) (v ∷ []) ∙ ap (λ (ts : List TypeNo). ts ++ t ∷ []) c.variables;
         procedures = subst (λ (ks : List ℕ). From 0 (length s.procedures) ks) (sym (ap numbers d ∙ (numbers_both (done s.own) (v ∷ []) ∙ append-nil (numbers (done s.own))))) c.procedures;
@@ -77,12 +77,12 @@ module _ {T : Type 0} where
       → Counts (with_known name (Declared Here (Ok (meaning.Procedure (record { home = s.types.home; number = length s.procedures; heading = t })))) (with_procedure_type s (Ok t)))
   procedure_counts s name t b c =
       let v : Meaning = meaning.Procedure (record { home = s.types.home; number = length s.procedures; heading = t }) in
-      let d : done (entered name (Declared Here (Ok v)) s.own) ≡ done s.own ++ v ∷ [] = next_done name (Declared Here (Ok v)) v s.own refl b c.front in
+      let d : done (enter_name name (Declared Here (Ok v)) s.own) ≡ done s.own ++ v ∷ [] = next_done name (Declared Here (Ok v)) v s.own refl b c.front in
       let count : length (s.procedures ++ t ∷ []) ≡ length s.procedures + 1 = length-append s.procedures (t ∷ []) in
       let one : suc (length s.procedures) ≡ length (s.procedures ++ t ∷ []) = omega (arith, count) in
       record {
         variables = ap (λ (ms : List Meaning). fold with_variable_of [] ms) d ∙ fold-append with_variable_of [] (done s.own) (v ∷ []) ∙ c.variables;
-        procedures = subst (λ (c : ℕ). From 0 c (numbers (done (entered name (Declared Here (Ok v)) s.own)))) one
+        procedures = subst (λ (c : ℕ). From 0 c (numbers (done (enter_name name (Declared Here (Ok v)) s.own)))) one
             (subst (λ (ks : List ℕ). From 0 (suc (length s.procedures)) ks) (sym (ap numbers d ∙ numbers_both (done s.own) (v ∷ []))) (from_next 0 (length s.procedures) (numbers (done s.own)) c.procedures));
         front = next_front name (Declared Here (Ok v)) s.own refl b c.front;
       }

@@ -34,9 +34,9 @@ use Rattle.typed_tree.specs.declared.meaning.Value.{Value}
 use Rattle.typed_tree.specs.declared.table.Table.{Table}
 use Rattle.typed_tree.specs.declared.known_types.Types.{Types}
 use Rattle.typed_tree.specs.Known.{scalar_at, cells_at}
-use Rattle.typed_tree.specs.Names.{found, place_of}
+use Rattle.typed_tree.specs.Names.{find_name, place_of}
 use Rattle.check_scope.specs.Elaborated.{Gathers, both}
-use Rattle.check_scope.specs.Scopes.{State, is_free, begun, is_again, imported}
+use Rattle.check_scope.specs.Scopes.{State, is_free, begin_name, is_again, import_name}
 use Rattle.check_scope.specs.declared.known.Known.TheVariants.{Later, Ahead, Headed, Declared}
 use Rattle.check_scope.specs.declared.known.Origin.{Origin}
 use Rattle.check_scope.specs.declared.known.Origin.TheVariants.{Here, Export}
@@ -48,7 +48,7 @@ use Rattle.check_type_expr.specs.declared.field.Fields.{Fields}
 use Rattle.check_type_expr.specs.Cells.{array_cells, count_at, is_index_scalar, is_index}
 use Rattle.check_type_expr.specs.Fields.{no_fields}
 use Rattle.check_type_expr.specs.Headings.{procedure_made, with_section, result_of, heading_of}
-use Rattle.check_type_expr.specs.Made.{next_type, with_shape, with_made, enumeration_constant, enumeration_scalar, too_many, listed, simple_type, simple_place, array_of, index_type, record_of, Makes, MakesFields, then_fields, type_layer, field_layer, type_of, field_list}
+use Rattle.check_type_expr.specs.Made.{next_type, with_shape, with_made, enumeration_constant, enumeration_scalar, too_many, enumerate_name, simple_type, simple_place, array_of, index_type, record_of, Makes, MakesFields, then_fields, type_layer, field_layer, type_of, field_list}
 use Rattle.check_definition.specs.Marking.{Marks, marked_later, marked_simple, then_marks, marked_in, marked_field, marked_constant, marked_type, marked_variables, marked_def}
 use Rattle.check_definition.specs.Marking as marking
 use Rattle.check_definition.specs.Declare.{constant_meaning, with_constant, brings_with, type_meaning, with_type, begun_name, variable_meaning, with_variable_type, finished_variable, with_variables, procedure_meaning, with_procedure_type, with_procedure, with_def}
@@ -56,7 +56,7 @@ use Rattle.check_definition.specs.Importing.{module_named, with_module_as, with_
 use Rattle.check_definition.specs.Compiled.{declared_in}
 use Rattle.check_block.specs.declared.heading.Standing.{Standing}
 use Rattle.check_block.specs.declared.heading.Standing.TheVariants.{Free, Awaited, Taken}
-use Rattle.check_block.specs.Headings.{name_standing, nested_meaning, headed, module_procedure, headed_as, with_heading}
+use Rattle.check_block.specs.Headings.{name_standing, nested_meaning, set_heading, module_procedure, headed_as, with_heading}
 use Rattle.check_block.specs.Naming.{marked_layer, marked_decl, with_marks, all_marked}
 use Rattle.check_block.specs.Declarations.{local_meaning, finished_local, with_locals, Course, decl_layer, with_decl, declared_block, declared_module}
 use Rattle.law_well_formed.specs.Formed.{Holds, fine, broken}
@@ -139,9 +139,9 @@ module _ (T : Type 0) where
 -- ---- types that are made
 
 module _ (g : Gathers) where
-  listed_all : (t : TypeNo) (names : List Ident) (l : Scope g.Reported × ℕ × Result (Unit {0}) g.Reported) → Carries l.0 (fold (listed g t) l names).0
+  listed_all : (t : TypeNo) (names : List Ident) (l : Scope g.Reported × ℕ × Result (Unit {0}) g.Reported) → Carries l.0 (fold (enumerate_name g t) l names).0
   listed_all t [] l = carries_refl l.0
-  listed_all t (x ∷ xs) l = carries_then (unless_carries g l.0 x (Declared Here (Ok (enumeration_constant t (pos l.1)))) (fine (enumeration_constant t (pos l.1)) tt) (λ q. fine (enumeration_constant t (pos l.1)) tt) (λ fs k. fine (enumeration_constant t (pos l.1)) tt)) (listed_all t xs (listed g t l x))
+  listed_all t (x ∷ xs) l = carries_then (unless_carries g l.0 x (Declared Here (Ok (enumeration_constant t (pos l.1)))) (fine (enumeration_constant t (pos l.1)) tt) (λ q. fine (enumeration_constant t (pos l.1)) tt) (λ fs k. fine (enumeration_constant t (pos l.1)) tt)) (listed_all t xs (enumerate_name g t l x))
 
   simple_carries : (s : Scope g.Reported) (t : Simple) → Carries s (simple_type g s t).0
   simple_carries s (simple.Named q) = carries_refl s
@@ -241,7 +241,7 @@ module _ (g : Gathers) where
 
   constant_carries : (st : State (Unit {0}) g.Reported) (c : Constant) → Goes st.0 (with_constant g st c).0
   constant_carries st c =
-      let b : Scope g.Reported = (begun g st.0 c.name).0 in
+      let b : Scope g.Reported = (begin_name g st.0 c.name).0 in
       let v : Result Value g.Reported = constant g b (part g c.value) in
       carries_then (begun_carries g st.0 c.name) (finished_carries b c.name (constant_meaning v) (meant_holds (λ u. meaning.Constant u) (λ u. tt) v) (λ q. then_holds (constants_words g b q c.value) (λ u w. fine (meaning.Constant u) w)) (λ fs l. meant_holds (λ u. meaning.Constant u) (λ u. tt) v))
 
@@ -251,7 +251,7 @@ module _ (g : Gathers) where
 
   type_decl_carries : (st : State (Unit {0}) g.Reported) (d : TypeDecl) → Goes st.0 (with_type g st d).0
   type_decl_carries st d =
-      let b : Scope g.Reported = (begun g st.0 d.name).0 in
+      let b : Scope g.Reported = (begin_name g st.0 d.name).0 in
       let t : State TypeNo g.Reported = type_of g d.of b in
       carries_then (begun_carries g st.0 d.name) (carries_then (type_of_carries d.of b) (finished_carries t.0 d.name (type_meaning t.1 (brings_with d.of)) (meant_holds (λ u. meaning.Type u (brings_with d.of)) (λ u. tt) t.1) (λ q. meant_holds (λ u. meaning.Type u (brings_with d.of)) (λ u. tt) t.1) (λ fs l. meant_holds (λ u. meaning.Type u (brings_with d.of)) (λ u. tt) t.1)))
 
@@ -344,7 +344,7 @@ module _ (g : Gathers) where
       carries_then (made_carries st.0 (heading_plain st.0 h)) (carries_then (procedure_type_carries t.0 t.1)
       (unless_carries g (with_procedure_type t.0 t.1) h.name (Declared Here (procedure_meaning t.0.types.home (length t.0.procedures) t.1)) (meant_holds (λ u. meaning.Procedure (record { home = t.0.types.home; number = length t.0.procedures; heading = u })) (λ u. tt) t.1) (λ q. meant_holds (λ u. meaning.Procedure (record { home = t.0.types.home; number = length t.0.procedures; heading = u })) (λ u. tt) t.1) (λ fs l. meant_holds (λ u. meaning.Procedure (record { home = t.0.types.home; number = length t.0.procedures; heading = u })) (λ u. tt) t.1)))
 
-  new_by : (b : Bool) (s : Scope g.Reported) (name : List ℕ) (n : ℕ) (t : Result TypeNo g.Reported) → Goes s (cond b (module_procedure s name t) (headed name (nested_meaning s.level n t) s))
+  new_by : (b : Bool) (s : Scope g.Reported) (name : List ℕ) (n : ℕ) (t : Result TypeNo g.Reported) → Goes s (cond b (module_procedure s name t) (set_heading name (nested_meaning s.level n t) s))
   new_by true s name n t =
       carries_then (procedure_type_carries s t)
       (known_carries (with_procedure_type s t) name (Headed (procedure_meaning s.types.home (length s.procedures) t)) (meant_holds (λ u. meaning.Procedure (record { home = s.types.home; number = length s.procedures; heading = u })) (λ u. tt) t) (λ q. meant_holds (λ u. meaning.Procedure (record { home = s.types.home; number = length s.procedures; heading = u })) (λ u. tt) t) (λ fs l. meant_holds (λ u. meaning.Procedure (record { home = s.types.home; number = length s.procedures; heading = u })) (λ u. tt) t))
@@ -358,7 +358,7 @@ module _ (g : Gathers) where
   heading_by s h n Taken = carries_refl s
 
   heading_carries : (s : Scope g.Reported) (h : Heading) (n : ℕ) → Goes s (with_heading g s n h).0
-  heading_carries s h n = heading_by s h n (name_standing (found h.name.name s.own))
+  heading_carries s h n = heading_by s h n (name_standing (find_name h.name.name s.own))
 
   -- ---- a declaration of a definition, and one of a block
 
@@ -456,8 +456,8 @@ module _ (g : Gathers) where
   again_by s true st p = carries_refl s
   again_by s false st p = p
 
-  imported_carries : (s : Scope g.Reported) (at : Pos) (name : List ℕ) (o : Origin) (m : Meaning) → MeaningPlaced s.types.home s.variables m → (ScopeWords s → MeaningWord m) → ((slots : Slots) → MeaningSlot slots s.level m) → Goes s (imported g s at name o (Ok m)).0
-  imported_carries s at name o m p w z = again_by s (is_again (found name s.own) o) _ (free_carries g s at name (Declared o (Ok m)) (is_free (found name s.own)) (fine m p) (λ q. fine m (w q)) (λ fs l. fine m (z (slots_in fs s.variables))))
+  imported_carries : (s : Scope g.Reported) (at : Pos) (name : List ℕ) (o : Origin) (m : Meaning) → MeaningPlaced s.types.home s.variables m → (ScopeWords s → MeaningWord m) → ((slots : Slots) → MeaningSlot slots s.level m) → Goes s (import_name g s at name o (Ok m)).0
+  imported_carries s at name o m p w z = again_by s (is_again (find_name name s.own) o) _ (free_carries g s at name (Declared o (Ok m)) (is_free (find_name name s.own)) (fine m p) (λ q. fine m (w q)) (λ fs l. fine m (z (slots_in fs s.variables))))
 
   module_carries : (s : Scope g.Reported) (name : Ident) (r : Result ℕ g.Reported) → Goes s (with_module_as g s name r).0
   module_carries s name (Ok k) = imported_carries s name.pos name.name (origin.Module k) (meaning.Module k) tt (λ q. tt) (λ slots. tt)
@@ -503,7 +503,7 @@ module _ (g : Gathers) where
 
   place_carries : (s : Scope g.Reported) (name : Ident) (k : ℕ) (es : List (List ℕ × Meaning)) (o : Option ℕ) → ExportsElsewhere s.types.home es → WordsOf s es → Goes s (from_place g s name k es o).0
   place_carries s name k es None p w = carries_refl s
-  place_carries s name k es (Some i) p w = unless_carry s name.pos k es i (reported_of_taken g name.pos k (found name.name s.own)) p w
+  place_carries s name k es (Some i) p w = unless_carry s name.pos k es i (reported_of_taken g name.pos k (find_name name.name s.own)) p w
 
   from_carries : (k : ℕ) (es : List (List ℕ × Meaning)) (names : List Ident) (st : State (Unit {0}) g.Reported) → ExportsElsewhere st.0.types.home es → WordsOf st.0 es → Goes st.0 (fold (with_from g k es) st names).0
   from_carries k es [] st p w = carries_refl st.0

@@ -15,9 +15,9 @@ use Rattle.typed_tree.specs.declared.meaning.Meaning.TheVariants as meaning
 use Rattle.typed_tree.specs.declared.table.Table.{Table}
 use Rattle.typed_tree.specs.declared.types.TypeNo.{TypeNo}
 use Rattle.m2_tree.specs.Names.{same_name}
-use Rattle.typed_tree.specs.Names.{found, entered}
-use Rattle.check_scope.specs.Elaborated.{Gathers, reported, beside}
-use Rattle.check_scope.specs.Scopes.{State, is_free, with_known, begun, is_begun, marked}
+use Rattle.typed_tree.specs.Names.{find_name, enter_name}
+use Rattle.check_scope.specs.Elaborated.{Gathers, report, beside}
+use Rattle.check_scope.specs.Scopes.{State, is_free, with_known, begin_name, is_begun, mark_name}
 use Rattle.check_scope.specs.declared.known.Origin.TheVariants.{Here}
 use Rattle.check_scope.specs.declared.known.Known.{Known}
 use Rattle.check_scope.specs.declared.known.Known.TheVariants.{Later, Ahead, Begun, Headed, Declared}
@@ -30,7 +30,7 @@ use Rattle.check_definition.specs.Importing.{with_import}
 use Rattle.check_definition.specs.Marking.{marked_later, marked_constant, marked_type, marked_variables, marked_def}
 use Rattle.check_definition.specs.Predeclared.{first_scope}
 use Rattle.law_well_formed.proofs.ImportsLists.{same_refl, same_is, or_left, or_right}
-use Rattle.law_well_formed.specs.FormedScopes.{picked}
+use Rattle.law_well_formed.specs.FormedScopes.{holds_of}
 use Rattle.law_well_formed.proofs.Names.{found_self}
 use Rattle.law_well_formed.proofs.HeadingsLists.{found_other}
 use Rattle.law_well_formed.proofs.Order.{has, mark_key, has_more, keys, keys_entered, Distinct, distinct_entered, is_taken, taken_entered, now_taken, AllTaken}
@@ -80,7 +80,7 @@ has_middle name pre post = list_any-append (λ (k : List ℕ). same_name name k)
 module _ {T : Type 0} where
   -- ---- names that are taken, and not begun, are settled
 
-  taken_settled : (o : Option (Known T)) → order.picked is_taken o ≡ true → is_begun o ≡ false → picked is_settled o ≡ true
+  taken_settled : (o : Option (Known T)) → order.picked is_taken o ≡ true → is_begun o ≡ false → holds_of is_settled o ≡ true
   taken_settled None e b = absurd cc
   taken_settled (Some Later) e b = absurd cc
   taken_settled (Some Ahead) e b = absurd cc
@@ -88,18 +88,18 @@ module _ {T : Type 0} where
   taken_settled (Some (Headed r)) e b = refl
   taken_settled (Some (Declared o r)) e b = refl
 
-  new_name : (ks : List (List ℕ)) (name : List ℕ) (own : List (List ℕ × Known T)) → AllSettled ks own → picked is_settled (found name own) ≡ false → has name ks ≡ false
+  new_name : (ks : List (List ℕ)) (name : List ℕ) (own : List (List ℕ × Known T)) → AllSettled ks own → holds_of is_settled (find_name name own) ≡ false → has name ks ≡ false
   new_name ks name own all u = by (has name ks) refl where
     by : (b : Bool) → has name ks ≡ b → b ≡ false
     by false e = refl
-    by true e = absurd (let t : picked is_settled (found name own) ≡ true = all name e in cc)
+    by true e = absurd (let t : holds_of is_settled (find_name name own) ≡ true = all name e in cc)
 
   -- ---- names that are marked
 
   later_keys : (xs : List Ident) (s : Scope T) → Once xs → AllByRecursion (λ x. has x.name (keys s.own) ≡ false) xs → keys (fold marked_later s xs).own ≡ keys s.own ++ ids xs
   later_keys [] s o n = sym (append-nil (keys s.own))
   later_keys (x ∷ xs) s o n =
-      let one : keys (marked x Later s).own ≡ keys s.own ++ x.name ∷ [] = marked_keys x Later s ∙ ap (λ (b : Bool). cond b (keys s.own) (keys s.own ++ x.name ∷ [])) n.0 in
+      let one : keys (mark_name x Later s).own ≡ keys s.own ++ x.name ∷ [] = marked_keys x Later s ∙ ap (λ (b : Bool). cond b (keys s.own) (keys s.own ++ x.name ∷ [])) n.0 in
       later_keys xs (marked_later s x) o.1 (subst (λ (ks : List (List ℕ)). AllByRecursion (λ y. has y.name ks ≡ false) xs) (sym one) (all_new xs o.0 n.1))
       ∙ (ap (λ (ks : List (List ℕ)). ks ++ ids xs) one ∙ append_assoc (keys s.own) (x.name ∷ []) (ids xs))
     where
@@ -116,24 +116,24 @@ module _ (g : Gathers) where
   begun_reported [] st e = e
   begun_reported (x ∷ xs) st e = beside_left g st.1 _ (begun_reported xs (begun_name g st x) e)
 
-  free_if : (b : Bool) (s t : Scope g.Reported) (name : Ident) → (cond {A = State (Unit {0}) g.Reported} b (t, Ok tt) (s, reported g name.pos rule.DeclaredTwice)).1 ≡ Ok tt → b ≡ true
+  free_if : (b : Bool) (s t : Scope g.Reported) (name : Ident) → (cond {A = State (Unit {0}) g.Reported} b (t, Ok tt) (s, report g name.pos rule.DeclaredTwice)).1 ≡ Ok tt → b ≡ true
   free_if true s t name e = refl
   free_if false s t name e = absurd cc
 
   abbrev AllFree : Scope g.Reported → List Ident → Type 0
-  AllFree s xs = AllByRecursion (λ x. is_free (found x.name s.own) ≡ true) xs
+  AllFree s xs = AllByRecursion (λ x. is_free (find_name x.name s.own) ≡ true) xs
 
   abbrev AllBegun : Scope g.Reported → List Ident → Type 0
-  AllBegun s xs = AllByRecursion (λ x. is_begun (found x.name s.own) ≡ true) xs
+  AllBegun s xs = AllByRecursion (λ x. is_begun (find_name x.name s.own) ≡ true) xs
 
-  not_free : (name : List ℕ) (s : Scope g.Reported) → is_free (found name (entered name Begun s.own)) ≡ true → ⊥
-  not_free name s f = let e : is_free (found name (entered name Begun s.own)) ≡ false = ap is_free (found_self name Begun s.own) in absurd cc
+  not_free : (name : List ℕ) (s : Scope g.Reported) → is_free (find_name name (enter_name name Begun s.own)) ≡ true → ⊥
+  not_free name s f = let e : is_free (find_name name (enter_name name Begun s.own)) ≡ false = ap is_free (found_self name Begun s.own) in absurd cc
 
-  free_apart : (name y : List ℕ) (s : Scope g.Reported) → is_free (found y (entered name Begun s.own)) ≡ true → same_name y name ≡ false
+  free_apart : (name y : List ℕ) (s : Scope g.Reported) → is_free (find_name y (enter_name name Begun s.own)) ≡ true → same_name y name ≡ false
   free_apart name y s f = by (same_name y name) refl where
     by : (b : Bool) → same_name y name ≡ b → b ≡ false
     by false e = refl
-    by true e = absurd (not_free name s (subst (λ (z : List ℕ). is_free (found z (entered name Begun s.own)) ≡ true) (same_is y name e) f))
+    by true e = absurd (not_free name s (subst (λ (z : List ℕ). is_free (find_name z (enter_name name Begun s.own)) ≡ true) (same_is y name e) f))
 
   free_before : (name : List ℕ) (s : Scope g.Reported) (xs : List Ident) → AllFree (with_known name Begun s) xs → AllFree s xs × (has name (ids xs) ≡ false)
   free_before name s [] p = (tt, refl)
@@ -150,8 +150,8 @@ module _ (g : Gathers) where
     free : AllFree s names
     once : Once names
 
-  begun_is : (s : Scope g.Reported) (name : Ident) → is_free (found name.name s.own) ≡ true → (begun g s name).0 ≡ with_known name.name Begun s
-  begun_is s name f = ap (λ (st : State (Unit {0}) g.Reported). st.0) (cond_true (is_free (found name.name s.own)) (with_known name.name Begun s, Ok tt) (s, reported g name.pos rule.DeclaredTwice) f)
+  begun_is : (s : Scope g.Reported) (name : Ident) → is_free (find_name name.name s.own) ≡ true → (begin_name g s name).0 ≡ with_known name.name Begun s
+  begun_is s name f = ap (λ (st : State (Unit {0}) g.Reported). st.0) (cond_true (is_free (find_name name.name s.own)) (with_known name.name Begun s, Ok tt) (s, report g name.pos rule.DeclaredTwice) f)
 
   wider : (x : List ℕ) (names : List (List ℕ)) (s b c : Scope g.Reported) → Stays (x ∷ []) s b → Stays names b c → Stays (x ∷ names) s c
   wider x names s b c p q = record {
@@ -160,21 +160,21 @@ module _ (g : Gathers) where
     done_same = q.done_same ∙ p.done_same;
     front = λ h. q.front (p.front h);
     settled = λ y h. q.settled y (p.settled y h);
-    begun = λ y h. let k = or_none (same_name y x) (has y names) h in q.begun y k.1 ∙ p.begun y (ap (λ (b : Bool). b || false) k.0);
+    begin_name = λ y h. let k = or_none (same_name y x) (has y names) h in q.begun y k.1 ∙ p.begun y (ap (λ (b : Bool). b || false) k.0);
   }
 
   started : (names : List Ident) (st : State (Unit {0}) g.Reported) → (fold (begun_name g) st names).1 ≡ Ok tt → Started st.0 (fold (begun_name g) st names).0 names
   started [] st e = record { stays = same_stays [] st.0; begun_all = tt; free = tt; once = tt }
   started (x ∷ xs) st e =
       let next : State (Unit {0}) g.Reported = begun_name g st x in
-      let ok : (begun g st.0 x).1 ≡ Ok tt = beside_right g st.1 _ (begun_reported xs next e) in
-      let f : is_free (found x.name st.0.own) ≡ true = free_if (is_free (found x.name st.0.own)) st.0 (with_known x.name Begun st.0) x ok in
+      let ok : (begin_name g st.0 x).1 ≡ Ok tt = beside_right g st.1 _ (begun_reported xs next e) in
+      let f : is_free (find_name x.name st.0.own) ≡ true = free_if (is_free (find_name x.name st.0.own)) st.0 (with_known x.name Begun st.0) x ok in
       let is : next.0 ≡ with_known x.name Begun st.0 = begun_is st.0 x f in
       let rest : Started next.0 (fold (begun_name g) next xs).0 xs = started xs next e in
       let before = free_before x.name st.0 xs (subst (λ (s : Scope g.Reported). AllFree s xs) is rest.free) in
       record {
         stays = wider x.name (ids xs) st.0 next.0 (fold (begun_name g) next xs).0 (begun_stays g st.0 x) rest.stays;
-        begun_all = (rest.stays.begun x.name before.1 ∙ (ap (λ (s : Scope g.Reported). is_begun (found x.name s.own)) is ∙ ap is_begun (found_self x.name Begun st.0.own)), rest.begun_all);
+        begun_all = (rest.stays.begun x.name before.1 ∙ (ap (λ (s : Scope g.Reported). is_begun (find_name x.name s.own)) is ∙ ap is_begun (found_self x.name Begun st.0.own)), rest.begun_all);
         free = (f, before.0);
         once = (before.1, rest.once);
       }
@@ -188,14 +188,14 @@ module _ (g : Gathers) where
     post : List (List ℕ)
     keys_are : keys s.own ≡ pre ++ (ids xs ++ post)
     distinct : Distinct s.own
-    others : (y : List ℕ) → has y (ids xs) ≡ false → is_begun (found y s.own) ≡ false
+    others : (y : List ℕ) → has y (ids xs) ≡ false → is_begun (find_name y s.own) ≡ false
     counts : Counts s
 
-  settled_more : (name : List ℕ) (k : Known g.Reported) (own : List (List ℕ × Known g.Reported)) (pre : List (List ℕ)) → is_settled k ≡ true → picked is_settled (found name own) ≡ false → AllSettled pre own → AllSettled (pre ++ name ∷ []) (entered name k own)
+  settled_more : (name : List ℕ) (k : Known g.Reported) (own : List (List ℕ × Known g.Reported)) (pre : List (List ℕ)) → is_settled k ≡ true → holds_of is_settled (find_name name own) ≡ false → AllSettled pre own → AllSettled (pre ++ name ∷ []) (enter_name name k own)
   settled_more name k own pre s u all y h = by (has y pre) refl where
-    by : (b : Bool) → has y pre ≡ b → SettledIn (entered name k own) y
+    by : (b : Bool) → has y pre ≡ b → SettledIn (enter_name name k own) y
     by true e = settled_kept y name k own u (all y e)
-    by false e = subst (λ (z : List ℕ). SettledIn (entered name k own) z) (sym (same_is y name (has_last y name pre h e))) (ap (picked is_settled) (found_self name k own) ∙ s)
+    by false e = subst (λ (z : List ℕ). SettledIn (enter_name name k own) z) (sym (same_is y name (has_last y name pre h e))) (ap (holds_of is_settled) (found_self name k own) ∙ s)
 
   begun_still : (name : List ℕ) (k : Known g.Reported) (s : Scope g.Reported) (xs : List Ident) → has name (ids xs) ≡ false → AllBegun s xs → AllBegun (with_known name k s) xs
   begun_still name k s [] h p = tt
@@ -207,18 +207,18 @@ module _ (g : Gathers) where
     abbrev known_of : Scope g.Reported → Known g.Reported
     known_of s = Declared Here (Ok (meaning.Variable (record { home = s.types.home; number = length s.variables; of = t })))
 
-    others_by : (s : Scope g.Reported) (x : Ident) (xs : List Ident) → ((y : List ℕ) → has y (ids (x ∷ xs)) ≡ false → is_begun (found y s.own) ≡ false) → (y : List ℕ) → has y (ids xs) ≡ false → is_begun (found y (entered x.name (known_of s) s.own)) ≡ false
+    others_by : (s : Scope g.Reported) (x : Ident) (xs : List Ident) → ((y : List ℕ) → has y (ids (x ∷ xs)) ≡ false → is_begun (find_name y s.own) ≡ false) → (y : List ℕ) → has y (ids xs) ≡ false → is_begun (find_name y (enter_name x.name (known_of s) s.own)) ≡ false
     others_by s x xs n y h = by (same_name y x.name) refl where
-      by : (b : Bool) → same_name y x.name ≡ b → is_begun (found y (entered x.name (known_of s) s.own)) ≡ false
-      by true e = subst (λ (z : List ℕ). is_begun (found z (entered x.name (known_of s) s.own)) ≡ false) (sym (same_is y x.name e)) (ap is_begun (found_self x.name (known_of s) s.own))
+      by : (b : Bool) → same_name y x.name ≡ b → is_begun (find_name y (enter_name x.name (known_of s) s.own)) ≡ false
+      by true e = subst (λ (z : List ℕ). is_begun (find_name z (enter_name x.name (known_of s) s.own)) ≡ false) (sym (same_is y x.name e)) (ap is_begun (found_self x.name (known_of s) s.own))
       by false e = ap is_begun (found_other x.name (known_of s) s.own y e) ∙ n y (or_both (same_name y x.name) (has y (ids xs)) e h)
 
     finish_one : (s : Scope g.Reported) (pre : List (List ℕ)) (x : Ident) (xs : List Ident) → Finishing s pre (x ∷ xs) → Finishing (finished_variable (Ok t) s x) (pre ++ x.name ∷ []) xs
     finish_one s pre x xs f =
         let to : Scope g.Reported = with_known x.name (known_of s) (with_variable_type s (Ok t)) in
-        let is : finished_variable (Ok t) s x ≡ to = cond_true (is_begun (found x.name s.own)) to (with_variable_type s (Ok t)) f.begun_all.0 in
-        let unsettled : picked is_settled (found x.name s.own) ≡ false = begun_unsettled (found x.name s.own) f.begun_all.0 in
-        let same_keys : keys (entered x.name (known_of s) s.own) ≡ keys s.own
+        let is : finished_variable (Ok t) s x ≡ to = cond_true (is_begun (find_name x.name s.own)) to (with_variable_type s (Ok t)) f.begun_all.0 in
+        let unsettled : holds_of is_settled (find_name x.name s.own) ≡ false = begun_unsettled (find_name x.name s.own) f.begun_all.0 in
+        let same_keys : keys (enter_name x.name (known_of s) s.own) ≡ keys s.own
         = keys_entered x.name (known_of s) s.own ∙ cond_true (has x.name (keys s.own)) (keys s.own) (keys s.own ++ x.name ∷ []) (ap (λ (ks : List (List ℕ)). has x.name ks) f.keys_are ∙ has_middle x.name pre (ids xs ++ f.post)) in
         let next : Finishing to (pre ++ x.name ∷ []) xs = record {
           settled = settled_more x.name (known_of s) s.own pre refl unsettled f.settled;
@@ -248,7 +248,7 @@ module _ (g : Gathers) where
     counts : Counts s
 
   all_settled : (end s s0 : Scope g.Reported) → Begins end s s0 → AllSettled (keys s0.own) s.own
-  all_settled end s s0 b y h = taken_settled (found y s.own) (b.all y h) (b.none y)
+  all_settled end s s0 b y h = taken_settled (find_name y s.own) (b.all y h) (b.none y)
 
   plain : (end s s' s0 s1 : Scope g.Reported) → Goes s s' → Ends g s s' → (AllTaken (keys s0.own) s'.own → AllTaken (keys s1.own) s'.own) → Begins end s s0 → Begins end s' s1
   plain end s s' s0 s1 k e c b = record {
@@ -291,7 +291,7 @@ module _ (g : Gathers) where
     where
       new_all : (xs : List Ident) → AllSettled (keys s0.own) st.0.own → AllFree st.0 xs → AllByRecursion (λ x. has x.name (keys s0.own) ≡ false) xs
       new_all [] s p = tt
-      new_all (x ∷ xs) s p = (new_name (keys s0.own) x.name st.0.own s (free_unsettled (found x.name st.0.own) p.0), new_all xs s p.1)
+      new_all (x ∷ xs) s p = (new_name (keys s0.own) x.name st.0.own s (free_unsettled (find_name x.name st.0.own) p.0), new_all xs s p.1)
 
       all_typed : (xs : List Ident) {a c : Scope g.Reported} → Stays [] a c → AllBegun a xs → AllBegun c xs
       all_typed [] k p = tt
@@ -329,41 +329,41 @@ module _ (g : Gathers) where
 
   -- ---- a procedure
 
-  next_procedure : (end s s0 : Scope g.Reported) (h : Heading) (x : TypeNo) → Keeps (marked h.name Ahead s0) end → is_free (found h.name.name s.own) ≡ true → Begins end s s0
-      → Begins end (with_known h.name.name (Declared Here (procedure_meaning s.types.home (length s.procedures) (Ok x))) (with_procedure_type s (Ok x))) (marked h.name Ahead s0)
+  next_procedure : (end s s0 : Scope g.Reported) (h : Heading) (x : TypeNo) → Keeps (mark_name h.name Ahead s0) end → is_free (find_name h.name.name s.own) ≡ true → Begins end s s0
+      → Begins end (with_known h.name.name (Declared Here (procedure_meaning s.types.home (length s.procedures) (Ok x))) (with_procedure_type s (Ok x))) (mark_name h.name Ahead s0)
   next_procedure end s s0 h x k f b =
       let name : List ℕ = h.name.name in
       let kn : Known g.Reported = Declared Here (procedure_meaning s.types.home (length s.procedures) (Ok x)) in
-      let u : picked is_settled (found name s.own) ≡ false = free_unsettled (found name s.own) f in
+      let u : holds_of is_settled (find_name name s.own) ≡ false = free_unsettled (find_name name s.own) f in
       let all : AllSettled (keys s0.own) s.own = all_settled end s s0 b in
-      let mine : keys (marked h.name Ahead s0).own ≡ keys s0.own ++ name ∷ [] = marked_keys h.name Ahead s0 ∙ ap (λ (c : Bool). cond c (keys s0.own) (keys s0.own ++ name ∷ [])) (new_name (keys s0.own) name s.own all u) in
+      let mine : keys (mark_name h.name Ahead s0).own ≡ keys s0.own ++ name ∷ [] = marked_keys h.name Ahead s0 ∙ ap (λ (c : Bool). cond c (keys s0.own) (keys s0.own ++ name ∷ [])) (new_name (keys s0.own) name s.own all u) in
       let whole : keys s.own ≡ keys s0.own ++ (name ∷ [] ++ (k.more ++ b.more)) =
-      behind (keys s.own) (keys (marked h.name Ahead s0).own) (keys s0.own) (name ∷ []) (k.more ++ b.more) (behind (keys s.own) (keys end.own) (keys (marked h.name Ahead s0).own) k.more b.more b.keys_are k.keys_are) mine in
+      behind (keys s.own) (keys (mark_name h.name Ahead s0).own) (keys s0.own) (name ∷ []) (k.more ++ b.more) (behind (keys s.own) (keys end.own) (keys (mark_name h.name Ahead s0).own) k.more b.more b.keys_are k.keys_are) mine in
       let m = mark_more name (has name (keys s.own)) (keys s.own) in
       record {
-        all = name_covers (entered name kn s.own) h.name Ahead (now_taken name kn s.own refl) s0 (λ y h. taken_entered y name kn s.own refl (b.all y h));
+        all = name_covers (enter_name name kn s.own) h.name Ahead (now_taken name kn s.own refl) s0 (λ y h. taken_entered y name kn s.own refl (b.all y h));
         none = λ y. by y (same_name y name) refl;
         more = b.more ++ m.0;
-        keys_are = behind (keys (entered name kn s.own)) (keys s.own) (keys end.own) b.more m.0 (keys_entered name kn s.own ∙ m.1) b.keys_are;
+        keys_are = behind (keys (enter_name name kn s.own)) (keys s.own) (keys end.own) b.more m.0 (keys_entered name kn s.own ∙ m.1) b.keys_are;
         distinct = distinct_entered name kn s.own b.distinct;
         counts = procedure_counts s name x (behind_at name s.own (keys s0.own) (k.more ++ b.more) b.distinct whole all u) b.counts;
       }
     where
-      by : (y : List ℕ) (c : Bool) → same_name y h.name.name ≡ c → is_begun (found y (entered h.name.name (Declared Here (procedure_meaning s.types.home (length s.procedures) (Ok x))) s.own)) ≡ false
-      by y true e = subst (λ (z : List ℕ). is_begun (found z (entered h.name.name (Declared Here (procedure_meaning s.types.home (length s.procedures) (Ok x))) s.own)) ≡ false) (sym (same_is y h.name.name e))
+      by : (y : List ℕ) (c : Bool) → same_name y h.name.name ≡ c → is_begun (find_name y (enter_name h.name.name (Declared Here (procedure_meaning s.types.home (length s.procedures) (Ok x))) s.own)) ≡ false
+      by y true e = subst (λ (z : List ℕ). is_begun (find_name z (enter_name h.name.name (Declared Here (procedure_meaning s.types.home (length s.procedures) (Ok x))) s.own)) ≡ false) (sym (same_is y h.name.name e))
           (ap is_begun (found_self h.name.name (Declared Here (procedure_meaning s.types.home (length s.procedures) (Ok x))) s.own))
       by y false e = ap is_begun (found_other h.name.name (Declared Here (procedure_meaning s.types.home (length s.procedures) (Ok x))) s.own y e) ∙ b.none y
 
-  declared_by : (end s s0 : Scope g.Reported) (h : Heading) (t : Result TypeNo g.Reported) → Keeps (marked h.name Ahead s0) end → Begins end s s0 → nothing_of t ≡ Ok tt → (declared_procedure g s h.name t).1 ≡ Ok tt
-      → Begins end (declared_procedure g s h.name t).0 (marked h.name Ahead s0)
+  declared_by : (end s s0 : Scope g.Reported) (h : Heading) (t : Result TypeNo g.Reported) → Keeps (mark_name h.name Ahead s0) end → Begins end s s0 → nothing_of t ≡ Ok tt → (declared_procedure g s h.name t).1 ≡ Ok tt
+      → Begins end (declared_procedure g s h.name t).0 (mark_name h.name Ahead s0)
   declared_by end s s0 h (Err z) k b e q = absurd cc
   declared_by end s s0 h (Ok x) k b e q =
       let t : Scope g.Reported = with_procedure_type s (Ok x) in
       let to : Scope g.Reported = with_known h.name.name (Declared Here (procedure_meaning s.types.home (length s.procedures) (Ok x))) t in
-      let f : is_free (found h.name.name s.own) ≡ true = free_if (is_free (found h.name.name s.own)) t to h.name q in
-      subst (λ (s : Scope g.Reported). Begins end s (marked h.name Ahead s0)) (sym (ap (λ (st : State (Unit {0}) g.Reported). st.0) (cond_true (is_free (found h.name.name s.own)) (to, Ok tt) (t, reported g h.name.pos rule.DeclaredTwice) f))) (next_procedure end s s0 h x k f b)
+      let f : is_free (find_name h.name.name s.own) ≡ true = free_if (is_free (find_name h.name.name s.own)) t to h.name q in
+      subst (λ (s : Scope g.Reported). Begins end s (mark_name h.name Ahead s0)) (sym (ap (λ (st : State (Unit {0}) g.Reported). st.0) (cond_true (is_free (find_name h.name.name s.own)) (to, Ok tt) (t, report g h.name.pos rule.DeclaredTwice) f))) (next_procedure end s s0 h x k f b)
 
-  procedure_begins : (end : Scope g.Reported) (st : State (Unit {0}) g.Reported) (s0 : Scope g.Reported) (h : Heading) → Keeps (marked h.name Ahead s0) end → (with_procedure g st h).1 ≡ Ok tt → Begins end st.0 s0 → Begins end (with_procedure g st h).0 (marked h.name Ahead s0)
+  procedure_begins : (end : Scope g.Reported) (st : State (Unit {0}) g.Reported) (s0 : Scope g.Reported) (h : Heading) → Keeps (mark_name h.name Ahead s0) end → (with_procedure g st h).1 ≡ Ok tt → Begins end st.0 s0 → Begins end (with_procedure g st h).0 (mark_name h.name Ahead s0)
   procedure_begins end st s0 h k e b =
       let t : State TypeNo g.Reported = with_made st.0 (heading_of g st.0 h) in
       let d : State (Unit {0}) g.Reported = declared_procedure g t.0 h.name t.1 in

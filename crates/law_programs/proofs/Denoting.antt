@@ -26,30 +26,30 @@ use Rattle.typed_tree.specs.declared.meaning.Value.TheVariants as value
 use Rattle.typed_tree.specs.declared.table.Table.{Table}
 use Rattle.typed_tree.specs.Types.{char}
 use Rattle.m2_tree.specs.Names.{same_name}
-use Rattle.typed_tree.specs.Names.{found, place_of}
+use Rattle.typed_tree.specs.Names.{find_name, place_of}
 use Rattle.check_scope.specs.declared.known.Known.{Known}
 use Rattle.check_scope.specs.declared.known.Known.TheVariants.{Later, Ahead, Begun, Headed, Declared}
 use Rattle.check_scope.specs.declared.scope.Block.{Block}
 use Rattle.check_scope.specs.declared.scope.Scope.{Scope}
 use Rattle.check_scope.specs.declared.meaningless.Meaningless.{Meaningless}
 use Rattle.check_scope.specs.declared.meaningless.Meaningless.TheVariants.{Broken, Headless}
-use Rattle.check_scope.specs.Elaborated.{Gathers, reported, both}
-use Rattle.check_scope.specs.Scopes.{or_outside, Sight, seen_at, in_block, nearer, known_outside, or_around, known, means_seen, means_as, opened, means_or, looked_up}
+use Rattle.check_scope.specs.Elaborated.{Gathers, report, both}
+use Rattle.check_scope.specs.Scopes.{or_outside, Sight, seen_at, in_block, nearer, known_outside, or_around, sight_of, means_seen, means_as, open_field, means_or, looked_up}
 use Rattle.check_const_ops.specs.declared.operand.Ordinal.{Ordinal}
 use Rattle.check_const_ops.specs.declared.operator.BinaryOp.{BinaryOp}
 use Rattle.check_const_ops.specs.declared.operator.BinaryOp.TheVariants as op
-use Rattle.check_const_ops.specs.Operands.{operand_of, valued}
-use Rattle.check_const_ops.specs.Operate.{combined}
+use Rattle.check_const_ops.specs.Operands.{operand_of, number_value}
+use Rattle.check_const_ops.specs.Operate.{constant_operation}
 use Rattle.check_const_ops.specs.Operators.{mul_op, add_op}
 use Rattle.check_const_ops.specs.Standards.{whole_number, bound_of, converted_part}
 use Rattle.check_const.specs.declared.denoted.Denoted.{Denoted}
 use Rattle.check_const.specs.declared.denoted.Denoted.TheVariants as denoted
 use Rattle.check_const.specs.declared.call.Sort.{Sort}
 use Rattle.check_const.specs.declared.call.Sort.TheVariants.{Unary, Bound, Conversion, Never}
-use Rattle.check_const.specs.Denote.{denoted_by, denoted_of, as_constant, of_value, component, exported_by, exported, member}
+use Rattle.check_const.specs.Denote.{denoted_by, denoted_of, as_constant, of_value, component, exported_by, export_of, member}
 use Rattle.check_const.specs.Calls.{sort_of, bound_by, type_argument}
-use Rattle.check_const.specs.Parts.{Part, Pick, Adds, sign_place, signed_first, named, field_of, constant, one, type_only, conversion, by_sort, called_as, called, factor, term, set_type}
-use Rattle.check_expr.specs.Meanings.{Meant, Picks, expr_layer, selector_layer, designator_layer, item_layer, meant, picks, head, item, part}
+use Rattle.check_const.specs.Parts.{Part, Pick, Adds, sign_place, signed_first, first_name, field_of, constant, one, type_only, conversion, by_sort, standard_call_value, call_value, factor, term, set_type}
+use Rattle.check_expr.specs.Meanings.{Meant, Picks, expr_layer, selector_layer, designator_layer, item_layer, meanings_of, picks, head, item, part}
 use Rattle.law_well_formed.specs.Formed.{Holds, fine, broken}
 use Rattle.law_well_formed.proofs.Basics.{then_holds, reported_holds, where_holds, both_holds, plain_holds, heading_means_holds, any_holds}
 use Rattle.law_programs.specs.Typing.{IsWord}
@@ -71,9 +71,9 @@ module _ {T : Type 0} where
   found_by true k o p q = p
   found_by false k o p q = q
 
-  found_words : (name : List ℕ) (es : List (List ℕ × Known T)) → NamesWords es → WordIf (found name es)
+  found_words : (name : List ℕ) (es : List (List ℕ × Known T)) → NamesWords es → WordIf (find_name name es)
   found_words name [] all = tt
-  found_words name (e ∷ es) all = found_by (same_name name e.0) e.1 (found name es) all.0 (found_words name es all.1)
+  found_words name (e ∷ es) all = found_by (same_name name e.0) e.1 (find_name name es) all.0 (found_words name es all.1)
 
   at_place : (seen p : ℕ) (es : List (List ℕ × Known T)) (n : ℕ) → NamesWords es → WordSight (option_map (λ e. (e.1, nat_lt p seen)) (slice_get es n))
   at_place seen p [] n all = tt
@@ -100,7 +100,7 @@ module _ (g : Gathers) where
   abbrev Means_ : {T : Type 0} → Result Meaning T → Type 0
   Means_ r = Holds (MeaningWord) r
 
-  declared_means : (at : Pos) (seen : Bool) (r : Result Meaning g.Reported) → Means_ r → Means_ (cond seen r (reported g at rule.Undeclared))
+  declared_means : (at : Pos) (seen : Bool) (r : Result Meaning g.Reported) → Means_ r → Means_ (cond seen r (report g at rule.Undeclared))
   declared_means at true r p = p
   declared_means at false r p = reported_holds g at rule.Undeclared
 
@@ -129,24 +129,24 @@ module _ (g : Gathers) where
   export_by true m o p q = p
   export_by false m o p q = q
 
-  export_found : (name : List ℕ) (es : List (List ℕ × Meaning)) → ExportsWords es → ExportIf (found name es)
+  export_found : (name : List ℕ) (es : List (List ℕ × Meaning)) → ExportsWords es → ExportIf (find_name name es)
   export_found name [] all = tt
-  export_found name (e ∷ es) all = export_by (same_name name e.0) e.1 (found name es) all.0 (export_found name es all.1)
+  export_found name (e ∷ es) all = export_by (same_name name e.0) e.1 (find_name name es) all.0 (export_found name es all.1)
 
   export_at : (name : List ℕ) (ts : List Table) (k : ℕ) → TablesWords ts → ExportIf (exported_by name (slice_get ts k))
   export_at name [] k all = tt
   export_at name (t ∷ ts) zero all = export_found name t.exported all.0
   export_at name (t ∷ ts) (suc k) all = export_at name ts k all.1
 
-  exported_means : (at : Pos) (o : Option Meaning) → ExportIf o → Means_ (exported g at o)
+  exported_means : (at : Pos) (o : Option Meaning) → ExportIf o → Means_ (export_of g at o)
   exported_means at None p = reported_holds g at rule.NotExported
   exported_means at (Some m) p = fine m p
 
 module _ (g : Gathers) (s : Scope g.Reported) (h : ScopeWords s) where
   name_means : (name : Ident) → Means_ g (looked_up g s name)
   name_means name =
-      field_or g (opened s.types name.name s.withs) (means_as g name.pos (known name.name s))
-      (means_words g name.pos (known name.name s) (around_words (found name.name s.own) (known_outside name.name s.outer) (found_words name.name s.own h.names) (outside_words name.name s.outer None tt h.outer)))
+      field_or g (open_field s.types name.name s.withs) (means_as g name.pos (sight_of name.name s))
+      (means_words g name.pos (sight_of name.name s) (around_words (find_name name.name s.own) (known_outside name.name s.outer) (found_words name.name s.own h.names) (outside_words name.name s.outer None tt h.outer)))
 
   member_means : (k : ℕ) (name : Ident) → Means_ g (member g s.tables k name)
   member_means k name = exported_means g name.pos (exported_by name.name (slice_get s.tables k)) (export_at g name.name s.tables k h.tables)
@@ -198,7 +198,7 @@ module _ (g : Gathers) (s : Scope g.Reported) (h : ScopeWords s) where
   denoted_words (broken (Broken e)) = broken e
   denoted_words (broken (Headless e)) = fine denoted.Procedure tt
 
-  named_words : (name : Ident) → D_ (named g s name)
+  named_words : (name : Ident) → D_ (first_name g s name)
   named_words name = denoted_words (name_means name)
 
   component_words : (at : Pos) (d : Denoted) → D_ (component g at d)
@@ -249,7 +249,7 @@ module _ (g : Gathers) (s : Scope g.Reported) (h : ScopeWords s) where
       conversion_words at (t ∷ x ∷ y ∷ xs) = reported_holds g at rule.ArgumentCount
   sorted_words at f args Never = reported_holds g at rule.NoConstant
 
-  called_as_words : (at : Pos) (d : Denoted) (args : List (Part g.Reported)) → V_ (called_as g s at d args)
+  called_as_words : (at : Pos) (d : Denoted) (args : List (Part g.Reported)) → V_ (standard_call_value g s at d args)
   called_as_words at (denoted.Standard f) args = sorted_words at f args (sort_of f)
   called_as_words at (denoted.Value v) args = reported_holds g at rule.NoConstant
   called_as_words at (denoted.Type t) args = reported_holds g at rule.NoConstant
@@ -257,7 +257,7 @@ module _ (g : Gathers) (s : Scope g.Reported) (h : ScopeWords s) where
   called_as_words at denoted.Procedure args = reported_holds g at rule.NoConstant
   called_as_words at (denoted.Module k) args = reported_holds g at rule.NoConstant
 
-  called_words : (at : Pos) (d : Result Denoted g.Reported) (args : List (Part g.Reported)) → V_ (called g s at d args)
+  called_words : (at : Pos) (d : Result Denoted g.Reported) (args : List (Part g.Reported)) → V_ (call_value g s at d args)
   called_words at d args = then_holds (any_holds d) (λ x k. called_as_words at x args)
 
   -- ---- operators
@@ -266,7 +266,7 @@ module _ (g : Gathers) (s : Scope g.Reported) (h : ScopeWords s) where
   AllT [] = Unit {0}
   AllT (x ∷ xs) = FM x.1 × AllT xs
 
-  combined_words : (o : BinaryOp) (spot at : Pos) {x : Result Value g.Reported} (at' : Pos) {y : Result Value g.Reported} → V_ x → V_ y → V_ (combined g o spot at x at' y)
+  combined_words : (o : BinaryOp) (spot at : Pos) {x : Result Value g.Reported} (at' : Pos) {y : Result Value g.Reported} → V_ x → V_ y → V_ (constant_operation g o spot at x at' y)
   combined_words o spot at at' p q = then_holds (both_holds g p q) (λ v k. binary_words g o spot at (operand_of v.0) at' (operand_of v.1) (operand_word v.0 k.0) (operand_word v.1 k.1))
 
   factors_words : (at : Pos) (rest : List (Operator MulOp × Part g.Reported)) (v : Result Value g.Reported) → V_ v → AllT rest → V_ (fold (factor g s at) v rest)
@@ -312,31 +312,31 @@ module _ (g : Gathers) (s : Scope g.Reported) (h : ScopeWords s) where
   SI = (e : Item) × PI e
 
   abbrev parts : Expr-F Expr Selector Designator Item → Expr-F (Meant g.Reported) (Picks g.Reported) (Meant g.Reported) (Adds g.Reported)
-  parts x = map-Expr Expr Selector Designator Item (Meant g.Reported) (Picks g.Reported) (Meant g.Reported) (Adds g.Reported) (meant g) (picks g) (head g) (item g) x
+  parts x = map-Expr Expr Selector Designator Item (Meant g.Reported) (Picks g.Reported) (Meant g.Reported) (Adds g.Reported) (meanings_of g) (picks g) (head g) (item g) x
 
   abbrev parts_selector : Selector-F Expr Selector Designator Item → Selector-F (Meant g.Reported) (Picks g.Reported) (Meant g.Reported) (Adds g.Reported)
-  parts_selector x = map-Selector Expr Selector Designator Item (Meant g.Reported) (Picks g.Reported) (Meant g.Reported) (Adds g.Reported) (meant g) (picks g) (head g) (item g) x
+  parts_selector x = map-Selector Expr Selector Designator Item (Meant g.Reported) (Picks g.Reported) (Meant g.Reported) (Adds g.Reported) (meanings_of g) (picks g) (head g) (item g) x
 
   abbrev parts_designator : Designator-F Expr Selector Designator Item → Designator-F (Meant g.Reported) (Picks g.Reported) (Meant g.Reported) (Adds g.Reported)
-  parts_designator x = map-Designator Expr Selector Designator Item (Meant g.Reported) (Picks g.Reported) (Meant g.Reported) (Adds g.Reported) (meant g) (picks g) (head g) (item g) x
+  parts_designator x = map-Designator Expr Selector Designator Item (Meant g.Reported) (Picks g.Reported) (Meant g.Reported) (Adds g.Reported) (meanings_of g) (picks g) (head g) (item g) x
 
   abbrev parts_item : Item-F Expr Selector Designator Item → Item-F (Meant g.Reported) (Picks g.Reported) (Meant g.Reported) (Adds g.Reported)
-  parts_item x = map-Item Expr Selector Designator Item (Meant g.Reported) (Picks g.Reported) (Meant g.Reported) (Adds g.Reported) (meant g) (picks g) (head g) (item g) x
+  parts_item x = map-Item Expr Selector Designator Item (Meant g.Reported) (Picks g.Reported) (Meant g.Reported) (Adds g.Reported) (meanings_of g) (picks g) (head g) (item g) x
 
-  at_expr : (e : Expr) (x : Expr-F Expr Selector Designator Item) → out-Expr e ≡ x → meant g e ≡ expr_layer g (parts x)
-  unfolding meant picks head item
+  at_expr : (e : Expr) (x : Expr-F Expr Selector Designator Item) → out-Expr e ≡ x → meanings_of g e ≡ expr_layer g (parts x)
+  unfolding meanings_of picks head item
   at_expr e x q = fold_out-Expr (Meant g.Reported) (Picks g.Reported) (Meant g.Reported) (Adds g.Reported) (expr_layer g) (selector_layer g) (designator_layer g) (item_layer g) e ∙ ap (λ (y : Expr-F Expr Selector Designator Item). expr_layer g (parts y)) q
 
   at_selector : (e : Selector) (x : Selector-F Expr Selector Designator Item) → out-Selector e ≡ x → picks g e ≡ selector_layer g (parts_selector x)
-  unfolding meant picks head item
+  unfolding meanings_of picks head item
   at_selector e x q = fold_out-Selector (Meant g.Reported) (Picks g.Reported) (Meant g.Reported) (Adds g.Reported) (expr_layer g) (selector_layer g) (designator_layer g) (item_layer g) e ∙ ap (λ (y : Selector-F Expr Selector Designator Item). selector_layer g (parts_selector y)) q
 
   at_designator : (e : Designator) (x : Designator-F Expr Selector Designator Item) → out-Designator e ≡ x → head g e ≡ designator_layer g (parts_designator x)
-  unfolding meant picks head item
+  unfolding meanings_of picks head item
   at_designator e x q = fold_out-Designator (Meant g.Reported) (Picks g.Reported) (Meant g.Reported) (Adds g.Reported) (expr_layer g) (selector_layer g) (designator_layer g) (item_layer g) e ∙ ap (λ (y : Designator-F Expr Selector Designator Item). designator_layer g (parts_designator y)) q
 
   at_item : (e : Item) (x : Item-F Expr Selector Designator Item) → out-Item e ≡ x → item g e ≡ item_layer g (parts_item x)
-  unfolding meant picks head item
+  unfolding meanings_of picks head item
   at_item e x q = fold_out-Item (Meant g.Reported) (Picks g.Reported) (Meant g.Reported) (Adds g.Reported) (expr_layer g) (selector_layer g) (designator_layer g) (item_layer g) e ∙ ap (λ (y : Item-F Expr Selector Designator Item). item_layer g (parts_item y)) q
 
   abbrev bare : Expr-F SE SS SD SI → Expr-F Expr Selector Designator Item
@@ -351,7 +351,7 @@ module _ (g : Gathers) (s : Scope g.Reported) (h : ScopeWords s) where
   abbrev bare_item : Item-F SE SS SD SI → Item-F Expr Selector Designator Item
   bare_item x = map-Item SE SS SD SI Expr Selector Designator Item (λ e. e.0) (λ e. e.0) (λ e. e.0) (λ e. e.0) x
 
-  all_terms : {O : Type 0} (ys : List (Operator O × SE)) → AllT (map (λ (y : Operator O × Meant g.Reported). (y.0, y.1.fixed)) (map (λ (y : Operator O × Expr). (y.0, meant g y.1)) (map (λ (a : Operator O × SE). (a.0, a.1.0)) ys)))
+  all_terms : {O : Type 0} (ys : List (Operator O × SE)) → AllT (map (λ (y : Operator O × Meant g.Reported). (y.0, y.1.fixed)) (map (λ (y : Operator O × Expr). (y.0, meanings_of g y.1)) (map (λ (a : Operator O × SE). (a.0, a.1.0)) ys)))
   all_terms [] = tt
   all_terms (y ∷ ys) = (y.1.1, all_terms ys)
 
@@ -365,18 +365,18 @@ module _ (g : Gathers) (s : Scope g.Reported) (h : ScopeWords s) where
 
   expr_words : (y : Expr-F SE SS SD SI) → FM (expr_layer g (parts (bare y))).fixed
   expr_words (layer.Number p n) = fine (denoted.Value (value.Number (pos n))) tt
-  expr_words (layer.Char p c) = fine (denoted.Value (valued (Some char) (pos c))) tt
+  expr_words (layer.Char p c) = fine (denoted.Value (number_value (Some char) (pos c))) tt
   expr_words (layer.Text p t) = fine (denoted.Value (value.Text t)) tt
   expr_words (layer.Set q p items) =
       then_holds (both_holds g (any_holds (set_type g s q)) (items_small g s (map (λ (i : Adds g.Reported). i) (map (item g) (map (λ (e : SI). e.0) items))) (Ok 0) (fine 0 (omega arith)) (all_items items))) (λ (b : Unit {0} × ℕ) k. fine (denoted.Value (value.Set b.1)) k.1)
   expr_words (layer.Not p y) = value_words (then_holds (any_holds (constant g s (part g y.0))) (λ v k. negated_words g p (operand_of v)))
   expr_words (layer.Bracketed p y) = value_words (constant_words (part g y.0) y.1)
   expr_words (layer.Use d None) = d.1
-  expr_words (layer.Use d (Some es)) = value_words (called_words (head g d.0).fixed.at ((head g d.0).fixed.denotes s) (map (λ (e : Meant g.Reported). e.fixed) (map (meant g) (map (λ (e : SE). e.0) es))))
+  expr_words (layer.Use d (Some es)) = value_words (called_words (head g d.0).fixed.at ((head g d.0).fixed.denotes s) (map (λ (e : Meant g.Reported). e.fixed) (map (meanings_of g) (map (λ (e : SE). e.0) es))))
   expr_words (layer.Term y ys) =
-      value_words (factors_words (part g y.0).at (map (λ (z : Operator MulOp × Meant g.Reported). (z.0, z.1.fixed)) (map (λ (z : Operator MulOp × Expr). (z.0, meant g z.1)) (map (λ (a : Operator MulOp × SE). (a.0, a.1.0)) ys))) (constant g s (part g y.0)) (constant_words (part g y.0) y.1) (all_terms ys))
+      value_words (factors_words (part g y.0).at (map (λ (z : Operator MulOp × Meant g.Reported). (z.0, z.1.fixed)) (map (λ (z : Operator MulOp × Expr). (z.0, meanings_of g z.1)) (map (λ (a : Operator MulOp × SE). (a.0, a.1.0)) ys))) (constant g s (part g y.0)) (constant_words (part g y.0) y.1) (all_terms ys))
   expr_words (layer.Sum o y ys) =
-      value_words (terms_words (sign_place o (part g y.0).at) (map (λ (z : Operator AddOp × Meant g.Reported). (z.0, z.1.fixed)) (map (λ (z : Operator AddOp × Expr). (z.0, meant g z.1)) (map (λ (a : Operator AddOp × SE). (a.0, a.1.0)) ys))) (signed_first g o (constant g s (part g y.0))) (first_words o (constant_words (part g y.0) y.1)) (all_terms ys))
+      value_words (terms_words (sign_place o (part g y.0).at) (map (λ (z : Operator AddOp × Meant g.Reported). (z.0, z.1.fixed)) (map (λ (z : Operator AddOp × Expr). (z.0, meanings_of g z.1)) (map (λ (a : Operator AddOp × SE). (a.0, a.1.0)) ys))) (signed_first g o (constant g s (part g y.0))) (first_words o (constant_words (part g y.0) y.1)) (all_terms ys))
   expr_words (layer.Relation a o b) = value_words (combined_words (op.Relation o.op) o.pos (part g a.0).at (part g b.0).at (constant_words (part g a.0) a.1) (constant_words (part g b.0) b.1))
 
   selector_words : (y : Selector-F SE SS SD SI) → FP (selector_layer g (parts_selector (bare_selector y))).fixed
@@ -384,7 +384,7 @@ module _ (g : Gathers) (s : Scope g.Reported) (h : ScopeWords s) where
   selector_words (layer.Index p e) = λ d q. then_holds q (λ z k. component_words p z)
 
   designator_words : (y : Designator-F SE SS SD SI) → FM (designator_layer g (parts_designator (bare_designator y))).fixed
-  designator_words y = picks_words (map (λ (e : Picks g.Reported). e.fixed) (map (picks g) (map (λ (e : SS). e.0) y.selectors))) (named g s y.name) (named_words y.name) (all_picks y.selectors)
+  designator_words y = picks_words (map (λ (e : Picks g.Reported). e.fixed) (map (picks g) (map (λ (e : SS). e.0) y.selectors))) (first_name g s y.name) (named_words y.name) (all_picks y.selectors)
 
   -- ---- the induction
 

@@ -9,7 +9,7 @@ use Rattle.std.proofs.lemmas.Option.{same_Some, none-some}
 use Rattle.std.proofs.lemmas.List.Sorted.{sum_by_pushed, sum_by-IsPermutation, IsPermutation-refl}
 use Rattle.m2_tree.specs.declared.decl.Module.{Module}
 use Rattle.graph_walk.specs.Links.{times}
-use Rattle.m2_graph.specs.Files.{numbered}
+use Rattle.m2_graph.specs.Files.{number_files}
 use Rattle.m2_graph.specs.Graph.{CompileEach}
 use Rattle.m2_graph.specs.Jobs.{number_of}
 
@@ -49,7 +49,7 @@ first_is k (x ∷ xs) (suc j) le e = by (x == k) refl (λ few. first_is k xs j f
 -- ---- the files as they are given
 
 abbrev givens : ℕ → List (List ℕ × Module) → List ℕ
-givens n fs = map (λ f. f.given) (numbered n fs)
+givens n fs = map (λ f. f.given) (number_files n fs)
 
 none_below : (k n : ℕ) (fs : List (List ℕ × Module)) → k < n → times (givens n fs) k ≡ 0
 none_below k n [] l = refl
@@ -66,7 +66,7 @@ one_given k n (f ∷ fs) = elim (cases_eq n k) [
 
 -- ---- jobs
 
-module _ (fs : List (List ℕ × Module)) (numbers : List ℕ) (each : CompileEach (numbered 0 fs) numbers) where
+module _ (fs : List (List ℕ × Module)) (numbers : List ℕ) (each : CompileEach (number_files 0 fs) numbers) where
   -- a job is the one of its file
   pub job_of : (j k : ℕ) → slice_get numbers j ≡ Some k → number_of numbers k ≡ Some j
   job_of j k e = first_is k numbers j (let same = times_permuted k (givens 0 fs) numbers each in omega (arith, same, one_given k 0 fs)) e

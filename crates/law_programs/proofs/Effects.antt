@@ -46,14 +46,14 @@ use Rattle.check_operator.specs.declared.computed.Designated.TheVariants as desi
 use Rattle.check_operator.specs.declared.places.Accepted.{Accepted}
 use Rattle.check_operator.specs.declared.places.Accepted.TheVariants as accepted
 use Rattle.check_call.specs.Callees.{proper_with, proper_of, call_by}
-use Rattle.check_call.specs.Effects.{target_of, target_at, stored, assigned_to, assigned, changed_as, changed, untyped, known_amount, amount, change_by, set_as, set_variable, element_known, element, membership_of}
+use Rattle.check_call.specs.Effects.{target_of, target_at, store_statement, assignment_to, assignment_of, change_target_as, change_target, type_of_number, known_amount, amount, change_by, set_as, set_variable, element_known, element, membership_of}
 use Rattle.check_call.specs.declared.callee.Callee.{Callee}
 use Rattle.check_call.specs.declared.callee.Called.{Called}
 use Rattle.check_call.specs.declared.callee.Called.TheVariants as called
 use Rattle.check_call.specs.declared.effect.Target.{Target}
 use Rattle.check_call.specs.declared.effect.Target.TheVariants as target
-use Rattle.check_expr.specs.Meanings.{Meant, formals_of, value_of, looked_at, actuals}
-use Rattle.check_expr.specs.Effects.{call_done, routine_done, changed_in, changed_by, set_in, member_by, halted, put_by, standard_done, done_as, done_by}
+use Rattle.check_expr.specs.Meanings.{Meant, formals_of, value_of, breaches_in_all, actuals}
+use Rattle.check_expr.specs.Effects.{call_done, routine_done, change_target_in, change_statement, set_in, member_by, halt_statement, put_by, standard_done, callee_statement, call_statement}
 use Rattle.layout_storage.specs.Types.{Ty, Natural, Callable, Cell, Array}
 use Rattle.layout_storage.specs.Shapes.{tree, elements_of}
 use Rattle.def_scheme.specs.Cells.{base_of}
@@ -177,18 +177,18 @@ module _ (g : Gathers) (x : Context) (ws : List Ty) (opens : ℕ → Bool) (s : 
   accepted_in number t at v class.Procedure k p = value_accepted number t at v p
   accepted_in number t at v class.Whole k p = whole_accepted number t at v p
 
-  stored_typed : (t : TypeNo) (d : Place) (a : Accepted) → PlaceTyped x ws d (tree types t) → AcceptedTyped t a → StmtTyped x result ws looped (stored t d a)
+  stored_typed : (t : TypeNo) (d : Place) (a : Accepted) → PlaceTyped x ws d (tree types t) → AcceptedTyped t a → StmtTyped x result ws looped (store_statement t d a)
   stored_typed t d (accepted.Value e) p (SuitsCell c q) = assign_typed x result ws looped d t c.cell e c.is (subst (λ (u : Ty). PlaceTyped x ws d u) c.is.is p) q
   stored_typed t d (accepted.Value e) p (SuitsProcedure i q) =
       let tr : tree types t ≡ Cell (Callable i.heading) = routine_tree types h.all t i in assign_procedure_typed x result ws looped d t i.heading e tr i.none (subst (λ (u : Ty). PlaceTyped x ws d u) tr p) q
   stored_typed t d (accepted.Whole from) p q = copy_typed x result ws looped d from t (tree_plain types h.all.ranged t) p q
   stored_typed t d (accepted.Text text) p q = copy_text_typed x result ws looped d t q.count text q.is q.room q.bytes p
 
-  assigned_to_typed : (a : Target) (at : Pos) (v : Computed) → TargetTyped a → ValueTyped x ws v → Stmt_ (assigned_to g s.types a at v)
+  assigned_to_typed : (a : Target) (at : Pos) (v : Computed) → TargetTyped a → ValueTyped x ws v → Stmt_ (assignment_to g s.types a at v)
   assigned_to_typed target.Open at v p q = reported_holds g at rule.NotAssignable
-  assigned_to_typed (target.Variable t d) at v p q = then_holds (accepted_in rule.NotAssignable t at v (class_at s.types t) (class_of t) q) (λ a k. fine (stored t d a) (stored_typed t d a p k))
+  assigned_to_typed (target.Variable t d) at v p q = then_holds (accepted_in rule.NotAssignable t at v (class_at s.types t) (class_of t) q) (λ a k. fine (store_statement t d a) (stored_typed t d a p k))
 
-  pub assignment_typed : (d : Meant g.Reported) (at : Pos) (y : Meant g.Reported) → FM g x ws opens s h d → FM g x ws opens s h y → Stmt_ (assigned g s.types (target_at g d.fixed.at (d.means s)) at (value_of g s y))
+  pub assignment_typed : (d : Meant g.Reported) (at : Pos) (y : Meant g.Reported) → FM g x ws opens s h d → FM g x ws opens s h y → Stmt_ (assignment_of g s.types (target_at g d.fixed.at (d.means s)) at (value_of g s y))
   assignment_typed d at y p q =
       then_holds (both_holds g (then_holds (sort_holds g d.fixed.at rule.WrongType p) (λ e k. target_of_typed d.fixed.at e k)) (value_typed g x ws opens s h y q)) (λ v k. assigned_to_typed v.0 at v.1 k.0 k.1)
 
@@ -200,13 +200,13 @@ module _ (g : Gathers) (x : Context) (ws : List Ty) (opens : ℕ → Bool) (s : 
     at : scalar_at types v.0 ≡ Some range
     place : PlaceTyped x ws v.1 (tree types v.0)
 
-  changed_as_typed : (at : Pos) (t : TypeNo) (d : Place) (c : Class) → ClassIs types t c → PlaceTyped x ws d (tree types t) → Holds VariableTyped (changed_as g at t d c)
+  changed_as_typed : (at : Pos) (t : TypeNo) (d : Place) (c : Class) → ClassIs types t c → PlaceTyped x ws d (tree types t) → Holds VariableTyped (change_target_as g at t d c)
   changed_as_typed at t d (class.Scalar r) k p = fine (t, d) (record { range = r; at = k; place = p })
   changed_as_typed at t d class.Set k p = reported_holds g at rule.NoVariable
   changed_as_typed at t d class.Procedure k p = reported_holds g at rule.NoVariable
   changed_as_typed at t d class.Whole k p = reported_holds g at rule.NoVariable
 
-  changed_typed : (at : Pos) (d : Designated) → DesignatedTyped x ws opens d → Holds VariableTyped (changed g s.types at d)
+  changed_typed : (at : Pos) (d : Designated) → DesignatedTyped x ws opens d → Holds VariableTyped (change_target g s.types at d)
   changed_typed at (designated.Variable t d) p = changed_as_typed at t d (class_at s.types t) (class_of t) p
   changed_typed at (designated.Value v) p = reported_holds g at rule.NoVariable
   changed_typed at (designated.Open t slot) p = reported_holds g at rule.NoVariable
@@ -216,11 +216,11 @@ module _ (g : Gathers) (x : Context) (ws : List Ty) (opens : ℕ → Bool) (s : 
   changed_typed at (designated.Standard f) p = reported_holds g at rule.NoVariable
   changed_typed at (designated.Module k) p = reported_holds g at rule.NoVariable
 
-  untyped_typed : (a : Ordinal) → SortRanged types a.sort a.number → Some_ (expr.Constant (untyped a.number a.sort) a.number)
-  untyped_typed a p = record { of = untyped a.number a.sort; typed = made.constant_typed x ws (untyped a.number a.sort) a.number (untyped_value types a.sort a.number p) }
+  untyped_typed : (a : Ordinal) → SortRanged types a.sort a.number → Some_ (expr.Constant (type_of_number a.number a.sort) a.number)
+  untyped_typed a p = record { of = type_of_number a.number a.sort; typed = made.constant_typed x ws (type_of_number a.number a.sort) a.number (untyped_value types a.sort a.number p) }
 
   known_if : (at : Pos) (a : Ordinal) (b : Bool) → SortRanged types a.sort a.number → Holds Some_ (known_amount g at (cond b (Some a) None))
-  known_if at a true p = fine (expr.Constant (untyped a.number a.sort) a.number) (untyped_typed a p)
+  known_if at a true p = fine (expr.Constant (type_of_number a.number a.sort) a.number) (untyped_typed a p)
   known_if at a false p = reported_holds g at rule.WrongArgument
 
   known_typed : (at : Pos) (o : Option Operand) → OperandRanged types o → Holds Some_ (known_amount g at (if_number (scalar_part o)))
@@ -260,11 +260,11 @@ module _ (g : Gathers) (x : Context) (ws : List Ty) (opens : ℕ → Bool) (s : 
   one_typed : Some_ (expr.Constant cardinal (pos 1))
   one_typed = record { of = cardinal; typed = made.constant_typed x ws cardinal (pos 1) (omega (arith, ints), omega (arith, ints)) }
 
-  changed_in_typed : (v : Meant g.Reported) → Known_ v → Holds VariableTyped (changed_in g s v)
+  changed_in_typed : (v : Meant g.Reported) → Known_ v → Holds VariableTyped (change_target_in g s v)
   changed_in_typed v p = then_holds (sort_holds g v.fixed.at rule.NoVariable p) (λ d k. changed_typed v.fixed.at d k)
 
-  changed_by_typed : (at : Pos) (o : Change) (args : List (Meant g.Reported)) → AllKnown args → Stmt_ (changed_by g s at o args)
-  changed_by_typed at o [] all = reported_beside_holds g at rule.ArgumentCount (looked_at g s [])
+  changed_by_typed : (at : Pos) (o : Change) (args : List (Meant g.Reported)) → AllKnown args → Stmt_ (change_statement g s at o args)
+  changed_by_typed at o [] all = reported_beside_holds g at rule.ArgumentCount (breaches_in_all g s [])
   changed_by_typed at o (v ∷ []) all = change_by_typed o (changed_in_typed v all.0) (fine (expr.Constant cardinal (pos 1)) one_typed)
   changed_by_typed at o (v ∷ n ∷ []) all = change_by_typed o (changed_in_typed v all.0) (then_holds (value_of_typed n all.1.0) (λ y k. amount_typed n.fixed.at y k))
   changed_by_typed at o (v ∷ n ∷ y ∷ ys) all = reported_beside_holds g at rule.ArgumentCount _
@@ -291,7 +291,7 @@ module _ (g : Gathers) (x : Context) (ws : List Ty) (opens : ℕ → Bool) (s : 
   set_typed at (designated.Module k) p = reported_holds g at rule.NoVariable
 
   element_if : (at : Pos) (a : Ordinal) (b : Bool) → SortRanged types a.sort a.number → Holds Some_ (element_known g at (cond b (Some a) None))
-  element_if at a true p = where_not g (is_between (pos 0) a.number (pos 31)) at rule.OutOfRange (λ k. fine (expr.Constant (untyped a.number a.sort) a.number) (untyped_typed a p))
+  element_if at a true p = where_not g (is_between (pos 0) a.number (pos 31)) at rule.OutOfRange (λ k. fine (expr.Constant (type_of_number a.number a.sort) a.number) (untyped_typed a p))
   element_if at a false p = reported_holds g at rule.WrongArgument
 
   element_part : (at : Pos) (o : Option Operand) → OperandRanged types o → Holds Some_ (element_known g at (if_number (scalar_part o)))
@@ -318,19 +318,19 @@ module _ (g : Gathers) (x : Context) (ws : List Ty) (opens : ℕ → Bool) (s : 
   set_in_typed v p = then_holds (sort_holds g v.fixed.at rule.NoVariable p) (λ d k. set_typed v.fixed.at d k)
 
   member_by_typed : (at : Pos) (o : Membership) (args : List (Meant g.Reported)) → AllKnown args → Stmt_ (member_by g s at o args)
-  member_by_typed at o [] all = reported_beside_holds g at rule.ArgumentCount (looked_at g s [])
+  member_by_typed at o [] all = reported_beside_holds g at rule.ArgumentCount (breaches_in_all g s [])
   member_by_typed at o (v ∷ []) all = reported_beside_holds g at rule.ArgumentCount _
   member_by_typed at o (v ∷ n ∷ []) all = membership_typed o (set_in_typed v all.0) (then_holds (value_of_typed n all.1.0) (λ y k. element_typed n.fixed.at y k))
   member_by_typed at o (v ∷ n ∷ y ∷ ys) all = reported_beside_holds g at rule.ArgumentCount _
 
   -- ---- HALT and Put
 
-  halted_typed : (at : Pos) (args : List (Meant g.Reported)) → Stmt_ (halted g s at args)
+  halted_typed : (at : Pos) (args : List (Meant g.Reported)) → Stmt_ (halt_statement g s at args)
   halted_typed at [] = fine step.Halt (halt_typed x result ws looped)
   halted_typed at (y ∷ ys) = reported_beside_holds g at rule.ArgumentCount _
 
   put_by_typed : (at : Pos) (args : List (Meant g.Reported)) → AllKnown args → Stmt_ (put_by g s at args)
-  put_by_typed at [] all = reported_beside_holds g at rule.ArgumentCount (looked_at g s [])
+  put_by_typed at [] all = reported_beside_holds g at rule.ArgumentCount (breaches_in_all g s [])
   put_by_typed at (y ∷ []) all = then_holds (value_of_typed y all.0) (λ v k. then_holds (given rule.WrongArgument char y.fixed.at v k) (λ e q. fine (step.Put e) (put_typed x result ws looped e q)))
   put_by_typed at (y ∷ z ∷ zs) all = reported_beside_holds g at rule.ArgumentCount _
 
@@ -361,25 +361,25 @@ module _ (g : Gathers) (x : Context) (ws : List Ty) (opens : ℕ → Bool) (s : 
         (call_typed x result ws looped (call_by gs c) (subst (λ (r : Gives). CallTyped x ws (call_by gs c) r) (ap (λ (o : Option TypeNo). option_map (tree types) o) q) (call_made g x ws opens s h at t c args there all k e gs p))))
 
     by_count : (k : Signature) (q : Bool) → (length k.formals == length args) ≡ q → signature_at s.types t ≡ Some k → k.result ≡ None
-        → Stmt_ (ahead g (reported_where g {A = Unit {0}} (not q) at rule.ArgumentCount (Ok (tt {0}))) (looked_at g s args) (λ fine. call_done c (actuals g s k.formals args)))
+        → Stmt_ (ahead g (reported_where g {A = Unit {0}} (not q) at rule.ArgumentCount (Ok (tt {0}))) (breaches_in_all g s args) (λ fine. call_done c (actuals g s k.formals args)))
     by_count k true count e q = proper_call k e q (eqb-true (length k.formals) (length args) count)
-    by_count k false count e q = refused_holds g _ (looked_at g s args)
+    by_count k false count e q = refused_holds g _ (breaches_in_all g s args)
 
     by_result : (k : Signature) (o : Option TypeNo) → k.result ≡ o → signature_at s.types t ≡ Some k
-        → Stmt_ (ahead g (proper_with g at (length k.formals) (length args) o) (looked_at g s args) (λ fine. call_done c (actuals g s k.formals args)))
+        → Stmt_ (ahead g (proper_with g at (length k.formals) (length args) o) (breaches_in_all g s args) (λ fine. call_done c (actuals g s k.formals args)))
     by_result k None q e = by_count k (length k.formals == length args) refl e q
-    by_result k (Some r) q e = refused_holds g _ (looked_at g s args)
+    by_result k (Some r) q e = refused_holds g _ (breaches_in_all g s args)
 
-    by_signature : (o : Option Signature) → signature_at s.types t ≡ o → Stmt_ (ahead g (proper_of g at o (length args)) (looked_at g s args) (λ fine. call_done c (actuals g s (formals_of o) args)))
-    by_signature None e = refused_holds g _ (looked_at g s args)
+    by_signature : (o : Option Signature) → signature_at s.types t ≡ o → Stmt_ (ahead g (proper_of g at o (length args)) (breaches_in_all g s args) (λ fine. call_done c (actuals g s (formals_of o) args)))
+    by_signature None e = refused_holds g _ (breaches_in_all g s args)
     by_signature (Some k) e = by_result k k.result refl e
 
     routine_typed : Stmt_ (routine_done g s at t c args)
     routine_typed = by_signature (signature_at s.types t) refl
 
-  done_as_typed : (at : Pos) (args : List (Meant g.Reported)) (y : Called) → CalledTyped x ws h.all g opens s.types h.types y → AllKnown args → Stmt_ (done_as g s at args y)
+  done_as_typed : (at : Pos) (args : List (Meant g.Reported)) (y : Called) → CalledTyped x ws h.all g opens s.types h.types y → AllKnown args → Stmt_ (callee_statement g s at args y)
   done_as_typed at args (called.Routine t c) p all = routine_typed at t c args p all
   done_as_typed at args (called.Standard f) p all = standard_typed at args f all
 
-  pub done_typed : (d : Meant g.Reported) (args : List (Meant g.Reported)) → Known_ d → AllKnown args → Stmt_ (done_by g s d args)
-  done_typed d args p all = ahead_holds g (looked_at g s args) (then_holds (of_heading_holds p) (λ e k. callee_typed x ws h.all g opens s.types h.types d.fixed.at e k)) (λ y k. done_as_typed d.fixed.at args y k all)
+  pub done_typed : (d : Meant g.Reported) (args : List (Meant g.Reported)) → Known_ d → AllKnown args → Stmt_ (call_statement g s d args)
+  done_typed d args p all = ahead_holds g (breaches_in_all g s args) (then_holds (of_heading_holds p) (λ e k. callee_typed x ws h.all g opens s.types h.types d.fixed.at e k)) (λ y k. done_as_typed d.fixed.at args y k all)

@@ -10,7 +10,7 @@ use Rattle.typed_tree.specs.declared.known_types.Types.{Types}
 use Rattle.typed_tree.specs.declared.meaning.Meaning.TheVariants as meaning
 use Rattle.typed_tree.specs.declared.shape.Formal.{Formal}
 use Rattle.m2_tree.specs.Names.{same_name}
-use Rattle.typed_tree.specs.Names.{found, entered}
+use Rattle.typed_tree.specs.Names.{find_name, enter_name}
 use Rattle.check_scope.specs.Elaborated.{Gathers}
 use Rattle.check_scope.specs.declared.known.Known.{Known}
 use Rattle.check_scope.specs.declared.known.Known.TheVariants.{Declared}
@@ -29,11 +29,11 @@ use Rattle.law_programs.specs.TypingBodies.{KnownLocal, NamesLocal, IsFresh, Sco
 -- ---- names
 
 module _ {T : Type 0} where
-  entered_local_by : (b : Bool) (name : List ℕ) (k : Known T) (e : List ℕ × Known T) (es : List (List ℕ × Known T)) → KnownLocal k → NamesLocal (e ∷ es) → NamesLocal (entered name k es) → NamesLocal (cond b ((e.0, k) ∷ es) (e ∷ entered name k es))
+  entered_local_by : (b : Bool) (name : List ℕ) (k : Known T) (e : List ℕ × Known T) (es : List (List ℕ × Known T)) → KnownLocal k → NamesLocal (e ∷ es) → NamesLocal (enter_name name k es) → NamesLocal (cond b ((e.0, k) ∷ es) (e ∷ enter_name name k es))
   entered_local_by true name k e es p h q = (p, h.1)
   entered_local_by false name k e es p h q = (h.0, q)
 
-  pub entered_local : (name : List ℕ) (k : Known T) (es : List (List ℕ × Known T)) → KnownLocal k → NamesLocal es → NamesLocal (entered name k es)
+  pub entered_local : (name : List ℕ) (k : Known T) (es : List (List ℕ × Known T)) → KnownLocal k → NamesLocal es → NamesLocal (enter_name name k es)
   entered_local name k [] p h = (p, tt)
   entered_local name k (e ∷ es) p h = entered_local_by (same_name name e.0) name k e es p h (entered_local name k es p h.1)
 
@@ -42,7 +42,7 @@ module _ {T : Type 0} where
   formal_local : (level n : ℕ) (f : Result Formal T) → KnownLocal (Declared Here (formal_meaning level n f))
   formal_local level n f = then_holds (any_holds f) (λ x k. fine (meaning.Local (record { level = level; number = n; kind = formal_kind x; of = x.of })) tt)
 
-  unless_by : (b : Bool) (name : List ℕ) (k : Known T) (es : List (List ℕ × Known T)) → KnownLocal k → NamesLocal es → NamesLocal (cond b es (entered name k es))
+  unless_by : (b : Bool) (name : List ℕ) (k : Known T) (es : List (List ℕ × Known T)) → KnownLocal k → NamesLocal es → NamesLocal (cond b es (enter_name name k es))
   unless_by true name k es p q = q
   unless_by false name k es p q = entered_local name k es p q
 
@@ -62,7 +62,7 @@ module _ {T : Type 0} where
   names_so level f [] so fs h = h
   names_so level f (x ∷ xs) so fs h =
       names_so level f xs (with_formal level f so x) (with_one fs f) (record {
-        locals = unless_by (is_some (found x.name so.0)) x.name (Declared Here (formal_meaning level (length so.1) f)) so.0 (formal_local level (length so.1) f) h.locals;
+        locals = unless_by (is_some (find_name x.name so.0)) x.name (Declared Here (formal_meaning level (length so.1) f)) so.0 (formal_local level (length so.1) f) h.locals;
         count = one_counts f level x so fs h.count;
       })
 

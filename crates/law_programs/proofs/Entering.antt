@@ -12,13 +12,13 @@ use Rattle.m2_tree.specs.declared.decl.Section.{Section}
 use Rattle.typed_tree.specs.declared.meaning.Meaning.TheVariants as meaning
 use Rattle.typed_tree.specs.declared.shape.Formal.{Formal}
 use Rattle.typed_tree.specs.declared.types.TypeNo.{TypeNo}
-use Rattle.typed_tree.specs.Names.{found, entered}
+use Rattle.typed_tree.specs.Names.{find_name, enter_name}
 use Rattle.check_scope.specs.Elaborated.{Gathers, ◌▷◌}
 use Rattle.check_scope.specs.declared.known.Known.{Known}
 use Rattle.check_scope.specs.declared.known.Known.TheVariants.{Declared}
 use Rattle.check_scope.specs.declared.known.Origin.TheVariants.{Here}
 use Rattle.check_scope.specs.declared.scope.Scope.{Scope}
-use Rattle.check_type_expr.specs.Headings.{formal_of, repeated, joined_formals, with_section}
+use Rattle.check_type_expr.specs.Headings.{formal_of, formal_for_each, joined_formals, with_section}
 use Rattle.check_type_expr.specs.Named.{named_type}
 use Rattle.check_block.specs.Inner.{inwards, formal_kind, formal_meaning, Formals, with_formal, with_section as entered_section, formals_in, entered_procedure}
 use Rattle.law_well_formed.specs.Formed.{fine}
@@ -63,7 +63,7 @@ module _ (g : Gathers) (s : Scope g.Reported) where
     types : fs.1 ≡ map of_formal gs
     names : NamesSlots (map formal_slot gs) s.level fs.0
 
-  unless_by : (b : Bool) (slots : Slots) (name : List ℕ) (k : Known g.Reported) (ns : List (List ℕ × Known g.Reported)) → KnownSlot slots s.level k → NamesSlots slots s.level ns → NamesSlots slots s.level (cond b ns (entered name k ns))
+  unless_by : (b : Bool) (slots : Slots) (name : List ℕ) (k : Known g.Reported) (ns : List (List ℕ × Known g.Reported)) → KnownSlot slots s.level k → NamesSlots slots s.level ns → NamesSlots slots s.level (cond b ns (enter_name name k ns))
   unless_by true slots name k ns p q = q
   unless_by false slots name k ns p q = slots_more slots s.level name k ns p q
 
@@ -75,15 +75,15 @@ module _ (g : Gathers) (s : Scope g.Reported) where
       let at : slice_get slots (length fs.1) ≡ Some (formal_slot a) = ap (λ (us : Slots). slice_get us (length fs.1)) more ∙ ap (λ (n : ℕ). slice_get (map formal_slot gs ++ formal_slot a ∷ []) n) count ∙ get_last (map formal_slot gs) (formal_slot a) in
       record {
         types = ap (λ (ts : List TypeNo). ts ++ a.of ∷ []) h.types ∙ sym (map_both of_formal gs (a ∷ []));
-        names = unless_by (is_some (found x.name fs.0)) slots x.name (Declared Here (formal_meaning s.level (length fs.1) (Ok a))) fs.0
+        names = unless_by (is_some (find_name x.name fs.0)) slots x.name (Declared Here (formal_meaning s.level (length fs.1) (Ok a))) fs.0
             (fine (meaning.Local (record { level = s.level; number = length fs.1; kind = formal_kind a; of = a.of })) (refl, at))
             (slots_stay (map formal_slot gs) slots s.level (λ n t e. subst (λ (us : Slots). slice_get us n ≡ Some t) (sym more) (get_more (map formal_slot gs) (formal_slot a ∷ []) n t e)) fs.0 h.names);
       }
 
-  names_entered : (a : Formal) (names : List Ident) (gs : List Formal) (fs : Formals g.Reported) → Entered gs fs → Entered (gs ++ repeated a names) (fold (with_formal s.level (Ok a)) fs names)
+  names_entered : (a : Formal) (names : List Ident) (gs : List Formal) (fs : Formals g.Reported) → Entered gs fs → Entered (gs ++ formal_for_each a names) (fold (with_formal s.level (Ok a)) fs names)
   names_entered a [] gs fs h = subst (λ (hs : List Formal). Entered hs fs) (sym (append-nil gs)) h
   names_entered a (x ∷ xs) gs fs h =
-      subst (λ (hs : List Formal). Entered hs (fold (with_formal s.level (Ok a)) (with_formal s.level (Ok a) fs x) xs)) (append_assoc gs (a ∷ []) (repeated a xs))
+      subst (λ (hs : List Formal). Entered hs (fold (with_formal s.level (Ok a)) (with_formal s.level (Ok a) fs x) xs)) (append_assoc gs (a ∷ []) (formal_for_each a xs))
       (names_entered a xs (gs ++ a ∷ []) (with_formal s.level (Ok a) fs x) (one_entered a gs fs x h))
 
   abbrev the_ok : List Formal → Result (List Formal) g.Reported
@@ -99,9 +99,9 @@ module _ (g : Gathers) (s : Scope g.Reported) where
         let broken : joined_formals g st (formal_of g s x.is_var x.of) x.names ≡ Err d = ap (λ (r : Result (List Formal) g.Reported). joined_formals g r (formal_of g s x.is_var x.of) x.names) e ∙ ap (λ (r : Result Formal g.Reported). joined_formals g (Ok gs) r x.names) p in
         absurd (not_broken xs (with_section g s st x) d hs broken q)
     by (Ok a) p on =
-        let next : joined_formals g st (formal_of g s x.is_var x.of) x.names ≡ Ok (gs ++ repeated a x.names) = ap (λ (r : Result (List Formal) g.Reported). joined_formals g r (formal_of g s x.is_var x.of) x.names) e ∙ ap (λ (r : Result Formal g.Reported). joined_formals g (Ok gs) r x.names) p in
-        on (gs ++ repeated a x.names) next
-        (subst (λ (r : Result Formal g.Reported). Entered (gs ++ repeated a x.names) (fold (with_formal s.level r) fs x.names)) (sym p) (names_entered a x.names gs fs h)) q
+        let next : joined_formals g st (formal_of g s x.is_var x.of) x.names ≡ Ok (gs ++ formal_for_each a x.names) = ap (λ (r : Result (List Formal) g.Reported). joined_formals g r (formal_of g s x.is_var x.of) x.names) e ∙ ap (λ (r : Result Formal g.Reported). joined_formals g (Ok gs) r x.names) p in
+        on (gs ++ formal_for_each a x.names) next
+        (subst (λ (r : Result Formal g.Reported). Entered (gs ++ formal_for_each a x.names) (fold (with_formal s.level r) fs x.names)) (sym p) (names_entered a x.names gs fs h)) q
 
   pub formals_entered : (xs : List Section) (hs : List Formal) → fold (with_section g s) (Ok []) xs ≡ Ok hs → ((formals_in g s xs).1 ≡ map of_formal hs) × NamesSlots (map formal_slot hs) s.level (formals_in g s xs).0
   formals_entered xs hs q =
@@ -143,9 +143,9 @@ module _ (g : Gathers) (a b : Scope g.Reported) (same : (q : Qualified) (t : Typ
         let broken : joined_formals g st (formal_of g a x.is_var x.of) x.names ≡ Err c = ap (λ (r : Result (List Formal) g.Reported). joined_formals g r (formal_of g a x.is_var x.of) x.names) e ∙ ap (λ (r : Result Formal g.Reported). joined_formals g (Ok gs) r x.names) p in
         absurd (not_broken g a xs (with_section g a st x) c fs broken q)
     by (Ok y) p on =
-        let one : joined_formals g st (formal_of g a x.is_var x.of) x.names ≡ Ok (gs ++ repeated y x.names) = ap (λ (r : Result (List Formal) g.Reported). joined_formals g r (formal_of g a x.is_var x.of) x.names) e ∙ ap (λ (r : Result Formal g.Reported). joined_formals g (Ok gs) r x.names) p in
-        let two : joined_formals g ts (formal_of g b x.is_var x.of) x.names ≡ Ok (gs ++ repeated y x.names) = ap (λ (r : Result (List Formal) g.Reported). joined_formals g r (formal_of g b x.is_var x.of) x.names) d ∙ ap (λ (r : Result Formal g.Reported). joined_formals g (Ok gs) r x.names) (formal_stays x.is_var x.of y p) in
-        on (gs ++ repeated y x.names) one two q
+        let one : joined_formals g st (formal_of g a x.is_var x.of) x.names ≡ Ok (gs ++ formal_for_each y x.names) = ap (λ (r : Result (List Formal) g.Reported). joined_formals g r (formal_of g a x.is_var x.of) x.names) e ∙ ap (λ (r : Result Formal g.Reported). joined_formals g (Ok gs) r x.names) p in
+        let two : joined_formals g ts (formal_of g b x.is_var x.of) x.names ≡ Ok (gs ++ formal_for_each y x.names) = ap (λ (r : Result (List Formal) g.Reported). joined_formals g r (formal_of g b x.is_var x.of) x.names) d ∙ ap (λ (r : Result Formal g.Reported). joined_formals g (Ok gs) r x.names) (formal_stays x.is_var x.of y p) in
+        on (gs ++ formal_for_each y x.names) one two q
 
   pub formals_stay : (xs : List Section) (fs : List Formal) → fold (with_section g a) (Ok []) xs ≡ Ok fs → fold (with_section g b) (Ok []) xs ≡ Ok fs
   formals_stay xs fs q = sections_stay xs (Ok []) (Ok []) [] fs refl refl q

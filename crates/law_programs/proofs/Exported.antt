@@ -7,7 +7,7 @@ use Rattle.typed_tree.specs.declared.meaning.Meaning.TheVariants as meaning
 use Rattle.typed_tree.specs.declared.meaning.Procedure.{Procedure}
 use Rattle.typed_tree.specs.declared.types.TypeNo.{TypeNo}
 use Rattle.m2_tree.specs.Names.{same_name}
-use Rattle.typed_tree.specs.Names.{found, entered}
+use Rattle.typed_tree.specs.Names.{find_name, enter_name}
 use Rattle.check_scope.specs.declared.known.Origin.TheVariants.{Here, Module, Export}
 use Rattle.check_scope.specs.declared.known.Known.{Known}
 use Rattle.check_scope.specs.declared.known.Known.TheVariants.{Later, Ahead, Begun, Headed, Declared}
@@ -43,16 +43,16 @@ new_by true xs ys zs e k = absurd cc
 new_by false xs ys zs e k = k
 
 -- a new name goes to the end
-entered_new : {V : Type 0} (name : List ℕ) (v : V) (es : List (List ℕ × V)) → has name (keys es) ≡ false → entered name v es ≡ es ++ (name, v) ∷ []
+entered_new : {V : Type 0} (name : List ℕ) (v : V) (es : List (List ℕ × V)) → has name (keys es) ≡ false → enter_name name v es ≡ es ++ (name, v) ∷ []
 entered_new name v [] h = refl
 entered_new name v (e ∷ es) h =
     let k = or_none (same_name name e.0) (has name (keys es)) h in
-    new_by (same_name name e.0) ((e.0, v) ∷ es) (e ∷ entered name v es) (e ∷ (es ++ (name, v) ∷ [])) k.0 (ap (λ xs. e ∷ xs) (entered_new name v es k.1))
+    new_by (same_name name e.0) ((e.0, v) ∷ es) (e ∷ enter_name name v es) (e ∷ (es ++ (name, v) ∷ [])) k.0 (ap (λ xs. e ∷ xs) (entered_new name v es k.1))
 
-meaning_counted : (so : List (List ℕ × Meaning)) (name : List ℕ) (m : Meaning) → has name (keys so) ≡ false → counted_in (entered name m so) ≡ counted_in so ++ counted m
+meaning_counted : (so : List (List ℕ × Meaning)) (name : List ℕ) (m : Meaning) → has name (keys so) ≡ false → counted_in (enter_name name m so) ≡ counted_in so ++ counted m
 meaning_counted so name m h = ap counted_in (entered_new name m so h) ∙ counted_push so (name, m)
 
-entered_apart : (so : List (List ℕ × Meaning)) (name : List ℕ) (m : Meaning) (x : List ℕ) → has x (keys so) ≡ false → same_name x name ≡ false → has x (keys (entered name m so)) ≡ false
+entered_apart : (so : List (List ℕ × Meaning)) (name : List ℕ) (m : Meaning) (x : List ℕ) → has x (keys so) ≡ false → same_name x name ≡ false → has x (keys (enter_name name m so)) ≡ false
 entered_apart so name m x h e = ap (λ (ks : List (List ℕ)). has x ks) (keys_entered name m so) ∙ still_apart x name (has name (keys so)) (keys so) h e
 
 module _ {T : Type 0} where
@@ -148,7 +148,7 @@ module _ (home : ℕ) (vs : List TypeNo) where
   abbrev EachPlaced : List (List ℕ × Meaning) → Type 0
   EachPlaced es = AllByRecursion (λ e. MeaningPlaced home vs e.1) es
 
-  meaning_placed : (so : List (List ℕ × Meaning)) (name : List ℕ) (m : Meaning) → MeaningPlaced home vs m → EachPlaced so → EachPlaced (entered name m so)
+  meaning_placed : (so : List (List ℕ × Meaning)) (name : List ℕ) (m : Meaning) → MeaningPlaced home vs m → EachPlaced so → EachPlaced (enter_name name m so)
   meaning_placed so name m p all = each_entered (λ (e : List ℕ × Meaning). MeaningPlaced home vs e.1) name m so (λ other e. p) all
 
   module _ {T : Type 0} where
@@ -218,15 +218,15 @@ found_rest : (b : Bool) (m x : Meaning) (o : Option Meaning) → b ≡ false →
 found_rest true m x o e h = absurd cc
 found_rest false m x o e h = h
 
-least_number : (es : List (List ℕ × Meaning)) (n c : ℕ) → From n c (numbers (counted_in es)) → (b : List ℕ) (q : Procedure) → found b es ≡ Some (meaning.Procedure q) → n ≤ q.number
+least_number : (es : List (List ℕ × Meaning)) (n c : ℕ) → From n c (numbers (counted_in es)) → (b : List ℕ) (q : Procedure) → find_name b es ≡ Some (meaning.Procedure q) → n ≤ q.number
 unfolding Rest
 least_number [] n c f b q e = absurd cc
 least_number (x ∷ es) n c f b q e = by (λ k g r. least_number es k c g b q r) (same_name b x.0) refl where
-  by : ((k : ℕ) → From k c (numbers (counted_in es)) → found b es ≡ Some (meaning.Procedure q) → k ≤ q.number) → (i : Bool) → same_name b x.0 ≡ i → n ≤ q.number
-  by on true s = let k = (first_from x.1 q (counted_in es) n c (found_first (same_name b x.0) x.1 (meaning.Procedure q) (found b es) s e) f).0 in omega (arith, k)
+  by : ((k : ℕ) → From k c (numbers (counted_in es)) → find_name b es ≡ Some (meaning.Procedure q) → k ≤ q.number) → (i : Bool) → same_name b x.0 ≡ i → n ≤ q.number
+  by on true s = let k = (first_from x.1 q (counted_in es) n c (found_first (same_name b x.0) x.1 (meaning.Procedure q) (find_name b es) s e) f).0 in omega (arith, k)
   by on false s =
       let r = rest_from x.1 (counted_in es) n c f in
-      let l : r.0 ≤ q.number = on r.0 r.1.1 (found_rest (same_name b x.0) x.1 (meaning.Procedure q) (found b es) s e) in
+      let l : r.0 ≤ q.number = on r.0 r.1.1 (found_rest (same_name b x.0) x.1 (meaning.Procedure q) (find_name b es) s e) in
       let h : n ≤ r.0 = r.1.0 in
       omega (arith, l, h)
 
@@ -235,20 +235,20 @@ unfolding Rest
 all_apart [] n c f a b p q e h s = absurd cc
 all_apart (x ∷ es) n c f a b p q e h s = by (λ k g u v. all_apart es k c g a b p q u v s) (same_name a x.0) (same_name b x.0) refl refl where
   -- the first of two is this one, and the second stands behind it
-  behind : (a b : List ℕ) (p q : Procedure) → same_name a x.0 ≡ true → same_name b x.0 ≡ false → found a (x ∷ es) ≡ Some (meaning.Procedure p) → found b (x ∷ es) ≡ Some (meaning.Procedure q) → p.number ≡ q.number → ⊥
+  behind : (a b : List ℕ) (p q : Procedure) → same_name a x.0 ≡ true → same_name b x.0 ≡ false → find_name a (x ∷ es) ≡ Some (meaning.Procedure p) → find_name b (x ∷ es) ≡ Some (meaning.Procedure q) → p.number ≡ q.number → ⊥
   behind a b p q i j e h s =
-      let k = first_from x.1 p (counted_in es) n c (found_first (same_name a x.0) x.1 (meaning.Procedure p) (found a es) i e) f in
-      let l : suc n ≤ q.number = least_number es (suc n) c k.1 b q (found_rest (same_name b x.0) x.1 (meaning.Procedure q) (found b es) j h) in
+      let k = first_from x.1 p (counted_in es) n c (found_first (same_name a x.0) x.1 (meaning.Procedure p) (find_name a es) i e) f in
+      let l : suc n ≤ q.number = least_number es (suc n) c k.1 b q (found_rest (same_name b x.0) x.1 (meaning.Procedure q) (find_name b es) j h) in
       let z : p.number ≡ n = k.0 in
       omega (arith, l, z, s)
 
-  by : ((k : ℕ) → From k c (numbers (counted_in es)) → found a es ≡ Some (meaning.Procedure p) → found b es ≡ Some (meaning.Procedure q) → a ≡ b) → (i j : Bool) → same_name a x.0 ≡ i → same_name b x.0 ≡ j → a ≡ b
+  by : ((k : ℕ) → From k c (numbers (counted_in es)) → find_name a es ≡ Some (meaning.Procedure p) → find_name b es ≡ Some (meaning.Procedure q) → a ≡ b) → (i j : Bool) → same_name a x.0 ≡ i → same_name b x.0 ≡ j → a ≡ b
   by on true true i j = same_is a x.0 i ∙ sym (same_is b x.0 j)
   by on true false i j = absurd (behind a b p q i j e h s)
   by on false true i j = absurd (behind b a q p j i h e (sym s))
   by on false false i j =
       let r = rest_from x.1 (counted_in es) n c f in
-      on r.0 r.1.1 (found_rest (same_name a x.0) x.1 (meaning.Procedure p) (found a es) i e) (found_rest (same_name b x.0) x.1 (meaning.Procedure q) (found b es) j h)
+      on r.0 r.1.1 (found_rest (same_name a x.0) x.1 (meaning.Procedure p) (find_name a es) i e) (found_rest (same_name b x.0) x.1 (meaning.Procedure q) (find_name b es) j h)
 
 pub exports_apart : {T : Type 0} (s : Scope T) → Counts s → Distinct s.own → ProceduresApart (exports s.own)
 exports_apart s c d =

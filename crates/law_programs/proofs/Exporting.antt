@@ -4,7 +4,7 @@ use Rattle.std.specs.List.{fold}
 use Rattle.typed_tree.specs.declared.meaning.Meaning.{Meaning}
 use Rattle.typed_tree.specs.declared.table.Table.{Table}
 use Rattle.m2_tree.specs.Names.{same_name}
-use Rattle.typed_tree.specs.Names.{entered}
+use Rattle.typed_tree.specs.Names.{enter_name}
 use Rattle.check_scope.specs.declared.known.Origin.{Origin}
 use Rattle.check_scope.specs.declared.known.Origin.TheVariants.{Here}
 use Rattle.check_scope.specs.declared.known.Origin.TheVariants as origin
@@ -25,9 +25,9 @@ free_by : (b : Bool) (e : List ℕ × Meaning) (m : Meaning) (es more : List (Li
 free_by true e m es more p h q = (p, h.1)
 free_by false e m es more p h q = (h.0, q)
 
-free_more : (name : List ℕ) (m : Meaning) (es : List (List ℕ × Meaning)) → MeaningSlot [] 0 m → ExportsFree es → ExportsFree (entered name m es)
+free_more : (name : List ℕ) (m : Meaning) (es : List (List ℕ × Meaning)) → MeaningSlot [] 0 m → ExportsFree es → ExportsFree (enter_name name m es)
 free_more name m [] p h = (p, tt)
-free_more name m (e ∷ es) p h = free_by (same_name name e.0) e m es (entered name m es) p h (free_more name m es p h.1)
+free_more name m (e ∷ es) p h = free_by (same_name name e.0) e m es (enter_name name m es) p h (free_more name m es p h.1)
 
 meaning_free : {T : Type 0} (so : List (List ℕ × Meaning)) (name : List ℕ) (r : Result Meaning T) → Holds (MeaningSlot [] 0) r → ExportsFree so → ExportsFree (with_meaning so name r)
 meaning_free so name _ (fine m p) h = free_more name m so p h

@@ -3,7 +3,7 @@ use Rattle.std.proofs.Common.{◌≡◌, ◌⊎◌, inl, inr, ℕ, zero, suc, �
 use Rattle.std.specs.Prelude.{slice_get, map, codes}
 use Rattle.std.specs.List.{AllByRecursion, list_any, list_all}
 use Rattle.m2_tree.specs.declared.decl.Module.{Module}
-use Rattle.m2_graph.specs.Files.{numbered}
+use Rattle.m2_graph.specs.Files.{number_files}
 use Rattle.m2_graph.specs.Graph.{IsGraph, CompileEach}
 use Rattle.typed_tree.specs.declared.meaning.Meaning.{Meaning}
 use Rattle.typed_tree.specs.declared.meaning.Meaning.TheVariants as meaning
@@ -81,7 +81,7 @@ none_around m level w e = ap (λ (o : Option Which). kinds_around m level o) e �
   by zero = refl
   by (suc k) = by k
 
-module _ (fs : List (List ℕ × Module)) (files : List ℕ) (jobs : List (List ℕ)) (starts : List ℕ) (graph : IsGraph (numbered 0 fs) files jobs starts) (each : CompileEach (numbered 0 fs) files) (fit : list_all fits_module (trees_of fs) ≡ true)
+module _ (fs : List (List ℕ × Module)) (files : List ℕ) (jobs : List (List ℕ)) (starts : List ℕ) (graph : IsGraph (number_files 0 fs) files jobs starts) (each : CompileEach (number_files 0 fs) files) (fit : list_all fits_module (trees_of fs) ≡ true)
     (p : Program) (bodies : AreBodiesIn (trees_of fs) files jobs starts p) (pages place : ℕ) (m : TypedModule) (there : slice_get p place ≡ Some m) (b : IsBodyOf (trees_of fs) files jobs m) where
   abbrev trees : List Module
   trees = trees_of fs
@@ -222,5 +222,5 @@ module _ (fs : List (List ℕ × Module)) (files : List ℕ) (jobs : List (List 
           let d : IsDefined trees files jobs fit u.number u = defined_by trees files jobs fit u.number u made.1 in
           let stand : ExportsStand u.number u.exported = (tables_stand trees files jobs fit u.number u made.1).exports in
           exports_stand u.exported table.exports
-          (if_ok (λ (t : Table). AreNumberedBy (exported_headings t.exported) t.exported) (types.compiled least u.number d.tree (tables_of (needed_of trees files jobs u.number))) u (tables_number least u.number d.tree (tables_of (needed_of trees files jobs u.number))) d.compiled_to)
+          (if_ok (λ (t : Table). AreNumberedBy (exported_headings t.exported) t.exported) (types.definition_table least u.number d.tree (tables_of (needed_of trees files jobs u.number))) u (tables_number least u.number d.tree (tables_of (needed_of trees files jobs u.number))) d.compiled_to)
           stand.variables (formed.exports alone (only_has (its_types fs files jobs starts graph each fit) (suc u.number) u formed)).0 (formed.exports m.types has).1 stand.words

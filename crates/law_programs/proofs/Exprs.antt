@@ -19,7 +19,7 @@ use Rattle.m2_tree.specs.declared.expr.Designator.{Designator, Designator-F, rol
 use Rattle.def_grammar.specs.Rule.{expr_rule, term_rule, factor_rule}
 use Rattle.def_grammar.specs.Grammar.{El, token, ast, both, either, maybe, list}
 use Rattle.def_grammar.specs.Ebnf.{grammar}
-use Rattle.def_grammar.specs.Trees.{literal_said, related, sum_of, product_of, added, multiplied, relation_of, factor_of, ident_of, with_first, if_any, selected, joined}
+use Rattle.def_grammar.specs.Trees.{literal_said, relation_or_operand, sum_of, product_of, add_operand, multiply_operand, relation_of, factor_of, ident_of, with_first, if_any, selectors_of, flatten_lists}
 use Rattle.law_well_formed.specs.FormedRanges.{itself, both_fit, fits_layer}
 use Rattle.law_programs.specs.Typing.{fits_whole, fits_picked, fits_head, fits_selector, fits_designator, fits_item}
 use Rattle.law_well_formed.specs.FormedFits.{lexeme_fits}
@@ -60,28 +60,28 @@ literal_fits p (lexeme.Text q) h = made (expr.Text p q) (layer.Text p q) (outs-T
 literal_fits p (lexeme.Symbol s) h = made (expr.Number p 0) (layer.Number p 0) (outs-Number p 0)
 literal_fits p lexeme.End h = made (expr.Number p 0) (layer.Number p 0) (outs-Number p 0)
 
-factors_fit : (ps : El (list (both token (ast factor_rule)))) → FitsEl (list (both token (ast factor_rule))) ps → True (list_all both_fit (map (λ q. (q.0, fits_whole q.1)) (map multiplied ps)))
+factors_fit : (ps : El (list (both token (ast factor_rule)))) → FitsEl (list (both token (ast factor_rule))) ps → True (list_all both_fit (map (λ q. (q.0, fits_whole q.1)) (map multiply_operand ps)))
 factors_fit [] h = refl
-factors_fit (p ∷ ps) h = both_true (fits_whole p.1) (list_all both_fit (map (λ q. (q.0, fits_whole q.1)) (map multiplied ps))) h.0.1 (factors_fit ps h.1)
+factors_fit (p ∷ ps) h = both_true (fits_whole p.1) (list_all both_fit (map (λ q. (q.0, fits_whole q.1)) (map multiply_operand ps))) h.0.1 (factors_fit ps h.1)
 
-terms_fit : (ps : El (list (both token (ast term_rule)))) → FitsEl (list (both token (ast term_rule))) ps → True (list_all both_fit (map (λ q. (q.0, fits_whole q.1)) (map added ps)))
+terms_fit : (ps : El (list (both token (ast term_rule)))) → FitsEl (list (both token (ast term_rule))) ps → True (list_all both_fit (map (λ q. (q.0, fits_whole q.1)) (map add_operand ps)))
 terms_fit [] h = refl
-terms_fit (p ∷ ps) h = both_true (fits_whole p.1) (list_all both_fit (map (λ q. (q.0, fits_whole q.1)) (map added ps))) h.0.1 (terms_fit ps h.1)
+terms_fit (p ∷ ps) h = both_true (fits_whole p.1) (list_all both_fit (map (λ q. (q.0, fits_whole q.1)) (map add_operand ps))) h.0.1 (terms_fit ps h.1)
 
-pub product_fits : (a : Expr) (ps : El (list (both token (ast factor_rule)))) → True (fits_whole a) → FitsEl (list (both token (ast factor_rule))) ps → True (fits_whole (product_of a (map multiplied ps)))
+pub product_fits : (a : Expr) (ps : El (list (both token (ast factor_rule)))) → True (fits_whole a) → FitsEl (list (both token (ast factor_rule))) ps → True (fits_whole (product_of a (map multiply_operand ps)))
 product_fits a [] h hs = h
 product_fits a (p ∷ ps) h hs =
-    made (expr.Term a (map multiplied (p ∷ ps))) (layer.Term a (map multiplied (p ∷ ps))) (outs-Term a (map multiplied (p ∷ ps))) ∙ both_true (fits_whole a) (list_all both_fit (map (λ q. (q.0, fits_whole q.1)) (map multiplied (p ∷ ps)))) h (factors_fit (p ∷ ps) hs)
+    made (expr.Term a (map multiply_operand (p ∷ ps))) (layer.Term a (map multiply_operand (p ∷ ps))) (outs-Term a (map multiply_operand (p ∷ ps))) ∙ both_true (fits_whole a) (list_all both_fit (map (λ q. (q.0, fits_whole q.1)) (map multiply_operand (p ∷ ps)))) h (factors_fit (p ∷ ps) hs)
 
-signed_fits : (s : Option (Operator Sign)) (a : Expr) (ps : El (list (both token (ast term_rule)))) → True (fits_whole a) → FitsEl (list (both token (ast term_rule))) ps → True (fits_whole (expr.Sum s a (map added ps)))
-signed_fits s a ps h hs = made (expr.Sum s a (map added ps)) (layer.Sum s a (map added ps)) (outs-Sum s a (map added ps)) ∙ both_true (fits_whole a) (list_all both_fit (map (λ q. (q.0, fits_whole q.1)) (map added ps))) h (terms_fit ps hs)
+signed_fits : (s : Option (Operator Sign)) (a : Expr) (ps : El (list (both token (ast term_rule)))) → True (fits_whole a) → FitsEl (list (both token (ast term_rule))) ps → True (fits_whole (expr.Sum s a (map add_operand ps)))
+signed_fits s a ps h hs = made (expr.Sum s a (map add_operand ps)) (layer.Sum s a (map add_operand ps)) (outs-Sum s a (map add_operand ps)) ∙ both_true (fits_whole a) (list_all both_fit (map (λ q. (q.0, fits_whole q.1)) (map add_operand ps))) h (terms_fit ps hs)
 
-pub sum_fits : (s : Option (Operator Sign)) (a : Expr) (ps : El (list (both token (ast term_rule)))) → True (fits_whole a) → FitsEl (list (both token (ast term_rule))) ps → True (fits_whole (sum_of s a (map added ps)))
+pub sum_fits : (s : Option (Operator Sign)) (a : Expr) (ps : El (list (both token (ast term_rule)))) → True (fits_whole a) → FitsEl (list (both token (ast term_rule))) ps → True (fits_whole (sum_of s a (map add_operand ps)))
 sum_fits None a [] h hs = h
 sum_fits None a (p ∷ ps) h hs = signed_fits None a (p ∷ ps) h hs
 sum_fits (Some s) a ps h hs = signed_fits (Some s) a ps h hs
 
-pub relation_fits : (a : Expr) (p : El (maybe (both token (ast expr_rule)))) → True (fits_whole a) → FitsEl (maybe (both token (ast expr_rule))) p → True (fits_whole (related a p))
+pub relation_fits : (a : Expr) (p : El (maybe (both token (ast expr_rule)))) → True (fits_whole a) → FitsEl (maybe (both token (ast expr_rule))) p → True (fits_whole (relation_or_operand a p))
 relation_fits a None h q = h
 relation_fits a (Some p) h q = made (expr.Relation a (relation_of p.0) p.1) (layer.Relation a (relation_of p.0) p.1) (outs-Relation a (relation_of p.0) p.1) ∙ both_true (fits_whole a) (fits_whole p.1) h q.1
 
@@ -110,11 +110,11 @@ indices_fit p (e ∷ es) h =
 abbrev pub Picked : Type 0
 Picked = El (list (either (both token token) (both token (both (ast expr_rule) (list (ast expr_rule))))))
 
-pub selectors_fit : (xs : Picked) → FitsEl (list (either (both token token) (both token (both (ast expr_rule) (list (ast expr_rule)))))) xs → True (list_all fits_picked (joined (map selected xs)))
+pub selectors_fit : (xs : Picked) → FitsEl (list (either (both token token) (both token (both (ast expr_rule) (list (ast expr_rule)))))) xs → True (list_all fits_picked (flatten_lists (map selectors_of xs)))
 selectors_fit [] h = refl
 selectors_fit (inl p ∷ xs) h =
-    both_true (fits_picked (pick.Field p.0.pos (ident_of p.1))) (list_all fits_picked (joined (map selected xs))) (picked_made (pick.Field p.0.pos (ident_of p.1)) (layer.Field p.0.pos (ident_of p.1)) (outs-Field p.0.pos (ident_of p.1))) (selectors_fit xs h.1)
-selectors_fit (inr p ∷ xs) h = appended fits_picked (selected (inr p)) (joined (map selected xs)) (indices_fit p.0.pos (with_first p.1) h.0.1) (selectors_fit xs h.1)
+    both_true (fits_picked (pick.Field p.0.pos (ident_of p.1))) (list_all fits_picked (flatten_lists (map selectors_of xs))) (picked_made (pick.Field p.0.pos (ident_of p.1)) (layer.Field p.0.pos (ident_of p.1)) (outs-Field p.0.pos (ident_of p.1))) (selectors_fit xs h.1)
+selectors_fit (inr p ∷ xs) h = appended fits_picked (selectors_of (inr p)) (flatten_lists (map selectors_of xs)) (indices_fit p.0.pos (with_first p.1) h.0.1) (selectors_fit xs h.1)
 
 pub arguments_fit : (x : El (maybe (both (ast expr_rule) (list (ast expr_rule))))) → FitsEl (maybe (both (ast expr_rule) (list (ast expr_rule)))) x → True (list_all fits_whole (if_any x))
 arguments_fit None h = refl

@@ -12,10 +12,10 @@ use Rattle.m2_tree.specs.declared.name.Ident.{Ident}
 use Rattle.m2_tree.specs.declared.decl.Contents.{Contents}
 use Rattle.m2_tree.specs.declared.decl.Contents.TheVariants as contents
 use Rattle.m2_tree.specs.declared.decl.Module.{Module}
-use Rattle.m2_graph.specs.Files.{File, numbered, trees}
+use Rattle.m2_graph.specs.Files.{File, number_files, trees}
 use Rattle.m2_graph.specs.Graph.{IsGraph, CompileEach}
 use Rattle.m2_tree.specs.Names.{same_name, is_console}
-use Rattle.m2_graph.specs.Imports.{imported, is_definition, is_definition_part, is_program, is_program_part, is_implementation, implements, definition_of}
+use Rattle.m2_graph.specs.Imports.{imports_of, is_definition, is_definition_part, is_program, is_program_part, is_implementation, implements, definition_of}
 use Rattle.m2_graph.specs.Jobs.{number_of}
 use Rattle.law_graph.specs.Started.{at_places, names_of, is_named, AreApart, definition_imported, all_imported, AreStarted}
 use Rattle.law_graph.proofs.Lists.{some_at, among-permutation}
@@ -28,7 +28,7 @@ use Rattle.typed_tree.specs.declared.table.Table.{Table}
 use Rattle.typed_tree.specs.declared.typed_module.Imported.{Imported}
 use Rattle.typed_tree.specs.declared.typed_module.TypedModule.{TypedModule}
 use Rattle.check_scope.specs.Elaborated.{least}
-use Rattle.check_body.specs.Checks.{elaborated}
+use Rattle.check_body.specs.Checks.{elaborate_body}
 use Rattle.law_modules.specs.Linked.{Program}
 use Rattle.law_simulation.specs.Knows.{IsCoherent}
 use Rattle.law_modules.specs.Ranges.{AreRanged}
@@ -119,12 +119,12 @@ neither false false e = (refl, refl)
 
 -- ---- files as they were given
 
-numbered_get : (n : ℕ) (fs : List (List ℕ × Module)) (k : ℕ) (m : Module) → slice_get (given_trees fs) k ≡ Some m → (f : File) × (slice_get (numbered n fs) k ≡ Some f) × (f.given ≡ n + k) × (f.tree ≡ m)
+numbered_get : (n : ℕ) (fs : List (List ℕ × Module)) (k : ℕ) (m : Module) → slice_get (given_trees fs) k ≡ Some m → (f : File) × (slice_get (number_files n fs) k ≡ Some f) × (f.given ≡ n + k) × (f.tree ≡ m)
 numbered_get n [] k m e = absurd (none-some m e)
 numbered_get n (p ∷ fs) zero m e = (record { name = p.0; tree = p.1; given = n }, refl, omega arith, same_Some p.1 m e)
 numbered_get n (p ∷ fs) (suc k) m e = let r = numbered_get (n + 1) fs k m e in let g : r.0.given ≡ (n + 1) + k = r.2 in (r.0, r.1, omega (arith, g), r.3)
 
-module _ (fs : List (List ℕ × Module)) (files : List ℕ) (jobs : List (List ℕ)) (starts : List ℕ) (graph : IsGraph (numbered 0 fs) files jobs starts) (each : CompileEach (numbered 0 fs) files) (fit : list_all fits_module (given_trees fs) ≡ true) where
+module _ (fs : List (List ℕ × Module)) (files : List ℕ) (jobs : List (List ℕ)) (starts : List ℕ) (graph : IsGraph (number_files 0 fs) files jobs starts) (each : CompileEach (number_files 0 fs) files) (fit : list_all fits_module (given_trees fs) ≡ true) where
   abbrev ms : List Module
   ms = given_trees fs
 
@@ -145,7 +145,7 @@ module _ (fs : List (List ℕ × Module)) (files : List ℕ) (jobs : List (List 
   stands : (k : ℕ) (m : Module) → slice_get ms k ≡ Some m → Stands k m
   stands k m e =
       let r = numbered_get 0 fs k m e in
-      let a = among-permutation (numbered 0 fs) ordered r.0 graph.1.same (k, r.1) in
+      let a = among-permutation (number_files 0 fs) ordered r.0 graph.1.same (k, r.1) in
       let g : r.0.given ≡ 0 + k = r.2 in
       record { place = a.0; file = r.0; there = a.1; given = omega (arith, g); tree = r.3 }
 
@@ -205,7 +205,7 @@ module _ (fs : List (List ℕ × Module)) (files : List ℕ) (jobs : List (List 
   module_stands : (t : TypedModule) (b : IsBodyOf ms files jobs t) → StandsOnImports b.tree (own_table b.tree (tables_of (needed_of ms files jobs b.job))) t
   module_stands t b =
       if_ok (StandsOnImports b.tree (own_table b.tree (tables_of (needed_of ms files jobs b.job)))) (typed_body b.tree b.job (tables_of (needed_of ms files jobs b.job))) t
-      (modules_stand least (elaborated least) b.job b.tree (own_table b.tree (tables_of (needed_of ms files jobs b.job))) (tables_behind (own_table b.tree (tables_of (needed_of ms files jobs b.job))) (tables_of (needed_of ms files jobs b.job)))) b.typed
+      (modules_stand least (elaborate_body least) b.job b.tree (own_table b.tree (tables_of (needed_of ms files jobs b.job))) (tables_behind (own_table b.tree (tables_of (needed_of ms files jobs b.job))) (tables_of (needed_of ms files jobs b.job)))) b.typed
 
   here : (s : ℕ) (ss : List ℕ) (m : Module) → slice_get ms s ≡ Some m → at_places ms (s ∷ ss) ≡ m ∷ at_places ms ss
   here s ss m e = ap (λ (o : Option Module). cons_option o (at_places ms ss)) e
@@ -274,15 +274,15 @@ module _ (fs : List (List ℕ × Module)) (files : List ℕ) (jobs : List (List 
           let known = table_named ms files jobs fit o.number o d in
           let i = pick_any (λ (e : List ℕ × ℕ). is_imported d.tree e.0 ≡ true) (λ (e : List ℕ × ℕ). same_name e.0 name) o.imports known.imports e in
           let imports : is_imported d.tree name ≡ true = subst (λ (n : List ℕ). is_imported d.tree n ≡ true) ((bytes_decides i.0.0 name).0 i.1.1) i.1.0 in
-          let one : definition_imported ms (definition_of ms d.tree.name.name) ≡ imported d.tree = one_definition fs files jobs starts graph d.tree (slice_index_or files o.number 0, d.is_tree) d.definition in
+          let one : definition_imported ms (definition_of ms d.tree.name.name) ≡ imports_of d.tree = one_definition fs files jobs starts graph d.tree (slice_index_or files o.number 0, d.is_tree) d.definition in
           let named : d.tree.name.name ≡ m.name.name = sym known.name ∙ k.1 in
-          let same : imported d.tree ≡ definitions = sym one ∙ ap (λ (n : List ℕ). definition_imported ms (definition_of ms n)) named in
-          among name instance (imported d.tree) (subst (λ (xs : List Ident). All IsClosed xs) (sym same) (all_left IsClosed definitions (imported m) c.closed)) imports
+          let same : imports_of d.tree ≡ definitions = sym one ∙ ap (λ (n : List ℕ). definition_imported ms (definition_of ms n)) named in
+          among name instance (imports_of d.tree) (subst (λ (xs : List Ident). All IsClosed xs) (sym same) (all_left IsClosed definitions (imports_of m) c.closed)) imports
 
       one_import : (i : Imported) → IsImport m (own_table m tables) i → is_named whole i.name ≡ true
       one_import i is = elim (either (is_imported_by (own_table m tables) i.name) (is_imported m i.name) is.known) [
         | inl e ↦ by_own (own_table m tables) refl i.name is.instance e
-        | inr e ↦ among i.name is.instance (imported m) (all_right IsClosed definitions (imported m) c.closed) e
+        | inr e ↦ among i.name is.instance (imports_of m) (all_right IsClosed definitions (imports_of m) c.closed) e
       ]
 
       import_named : (k : ℕ) (i : Imported) → slice_get t.imports k ≡ Some i → is_named whole i.name ≡ true

@@ -10,7 +10,7 @@ use Rattle.m2_tree.specs.declared.decl.Block.{Block, Block-F, roll-Block, out-ro
 use Rattle.def_grammar.specs.Rule.{decl_rule, module_rule}
 use Rattle.def_grammar.specs.Grammar.{El}
 use Rattle.def_grammar.specs.Ebnf.{grammar}
-use Rattle.def_grammar.specs.Trees.{decl_of, module_of, held_by, heading_of, is_there}
+use Rattle.def_grammar.specs.Trees.{decl_of, module_of, contents_with, heading_of, is_there}
 use Rattle.law_well_formed.specs.FormedRanges.{itself, fits_constant, fits_type_decl, fits_variables, fits_def}
 use Rattle.law_well_formed.proofs.Folds.{all_true}
 use Rattle.law_well_formed.proofs.Spelled.{PartFits, MaybeFits}
@@ -46,7 +46,7 @@ decl_fits (inl (inr (inl ts))) b h = made (decl.Types ts) (layer.Types ts) (outs
 decl_fits (inl (inr (inr vs))) b h = made (decl.Variables vs) (layer.Variables vs) (outs-Variables vs) ∙ all_true fits_variables vs b
 decl_fits (inr p) b h = made (decl.Procedure (heading_of p.0 p.1.0) p.1.1) (layer.Procedure (heading_of p.0 p.1.0) p.1.1) (outs-Procedure (heading_of p.0 p.1.0) p.1.1) ∙ h.1.1
 
-held_fits : (b : Bool) (x : Block) → True (fits_whole_block x) → True (fits_contents (held_by b x))
+held_fits : (b : Bool) (x : Block) → True (fits_whole_block x) → True (fits_contents (contents_with b x))
 held_fits true x h = h
 held_fits false x h = h
 

@@ -32,7 +32,7 @@ use Rattle.check_definition.specs.Declare.{with_def}
 use Rattle.check_definition.specs.Export.{imported_modules}
 use Rattle.check_definition.specs.Compiled as types
 use Rattle.check_body.specs.Own.{exported_variables}
-use Rattle.check_body.specs.Checks.{elaborated}
+use Rattle.check_body.specs.Checks.{elaborate_body}
 use Rattle.def_meaning.specs.Environment.{module_place}
 use Rattle.law_modules.specs.Linked.{Program}
 use Rattle.law_simulation.specs.Knows.{Knows, IsCoherent}
@@ -49,8 +49,8 @@ use Rattle.law_well_formed.proofs.Gathered.{each_more}
 use Rattle.build_jobs.specs.declared.outcome.Compiled.{Compiled}
 use Rattle.build_jobs.specs.declared.outcome.Compiled.TheVariants.{Defined, Blocked}
 use Rattle.build_jobs.specs.Own.{own_table, tables_behind}
-use Rattle.build_jobs.specs.Compiling.{is_sound, tables_of, of_definition, of_fit, of_checked, of_contents, typed_body, compiled}
-use Rattle.build_jobs.specs.Jobs.{compiled_in}
+use Rattle.build_jobs.specs.Compiling.{is_sound, tables_of, of_definition, of_fit, of_checked, of_contents, typed_body, compilation_of}
+use Rattle.build_jobs.specs.Jobs.{compile_in_place}
 use Rattle.build_jobs.specs.Encoded.{needed_of}
 use Rattle.law_programs.specs.FormedReach.{result_of, types_of}
 use Rattle.law_programs.proofs.Reach.{tree_fits, IsNeeded, own_formed, behind_formed, known_below, tables_needed, tables_same}
@@ -147,7 +147,7 @@ module _ (trees : List Module) (files : List ℕ) (jobs : List (List ℕ)) (fit 
     pub is_tree : slice_get trees (slice_index_or files job 0) ≡ Some tree
     pub definition : is_definition tree ≡ true
     pub part : is_program tree ≡ false
-    pub compiled_to : types.compiled least job tree (needed job) ≡ Ok t
+    pub compiled_to : types.definition_table least job tree (needed job) ≡ Ok t
 
   no_fit : (t : Table) (b : TypedModule) (o : Option Pos) → of_fit b o ≡ Defined t → ⊥
   no_fit t b None e = absurd cc
@@ -163,18 +163,18 @@ module _ (trees : List Module) (files : List ℕ) (jobs : List (List ℕ)) (fit 
 
   module _ (job : ℕ) (t : Table) where
     from_contents : (m : Module) → slice_get trees (slice_index_or files job 0) ≡ Some m → (c : Contents) → m.contents ≡ c → of_contents m job (needed job) c ≡ Defined t → IsDefined job t
-    from_contents m there (contents.Definition ds) is e = record { tree = m; is_tree = there; definition = ap is_definition_part is; part = ap is_program_part is; compiled_to = definition_ok t (types.compiled least job m (needed job)) e }
+    from_contents m there (contents.Definition ds) is e = record { tree = m; is_tree = there; definition = ap is_definition_part is; part = ap is_program_part is; compiled_to = definition_ok t (types.definition_table least job m (needed job)) e }
     from_contents m there (contents.Implementation b) is e = absurd (no_body t (typed_body m job (needed job)) e)
     from_contents m there (contents.Program b) is e = absurd (no_body t (typed_body m job (needed job)) e)
 
-    from_compiled : (m : Module) → slice_get trees (slice_index_or files job 0) ≡ Some m → compiled m job (needed_of trees files jobs job) ≡ Defined t → IsDefined job t
-    unfolding compiled
+    from_compiled : (m : Module) → slice_get trees (slice_index_or files job 0) ≡ Some m → compilation_of m job (needed_of trees files jobs job) ≡ Defined t → IsDefined job t
+    unfolding compilation_of
     from_compiled m there e = by (list_all is_sound (needed_of trees files jobs job)) e where
       by : (b : Bool) → cond b (of_contents m job (needed job) m.contents) Blocked ≡ Defined t → IsDefined job t
       by true e = from_contents m there m.contents refl e
       by false e = absurd cc
 
-    from_tree : (o : Option Module) → slice_get trees (slice_index_or files job 0) ≡ o → compiled_in o job (needed_of trees files jobs job) ≡ Defined t → IsDefined job t
+    from_tree : (o : Option Module) → slice_get trees (slice_index_or files job 0) ≡ o → compile_in_place o job (needed_of trees files jobs job) ≡ Defined t → IsDefined job t
     from_tree None there e = absurd cc
     from_tree (Some m) there e = from_compiled m there e
 
@@ -213,7 +213,7 @@ module _ (trees : List Module) (files : List ℕ) (jobs : List (List ℕ)) (fit 
       holds_ok (contents_listed least d.tree IsMade job (needed job ++ console ∷ []) (with_console (needed job) (made_of job l (needed job) (tables_needed trees files jobs fit job))) d.tree.contents) t d.compiled_to
 
   pub table_named : (job : ℕ) (t : Table) (d : IsDefined job t) → NamesImports d.tree job t
-  table_named job t d = if_ok (NamesImports d.tree job) (types.compiled least job d.tree (needed job)) t (tables_named least job d.tree (needed job)) d.compiled_to
+  table_named job t d = if_ok (NamesImports d.tree job) (types.definition_table least job d.tree (needed job)) t (tables_named least job d.tree (needed job)) d.compiled_to
 
   -- ---- the bodies of a program
 
@@ -272,7 +272,7 @@ module _ (trees : List Module) (files : List ℕ) (jobs : List (List ℕ)) (fit 
       let all = tables_needed trees files jobs fit b.job in
       let own : Option Table = own_table b.tree (needed b.job) in
       part_by b.tree b.job b.is_job t b.is_tree b.tree.contents refl
-      (holds_ok (module_known least (elaborated least) its_types b.job b.tree own (tables_behind own (needed b.job)) (tree_fits trees fit (slice_index_or files b.job 0) b.tree b.is_tree)
+      (holds_ok (module_known least (elaborate_body least) its_types b.job b.tree own (tables_behind own (needed b.job)) (tree_fits trees fit (slice_index_or files b.job 0) b.tree b.is_tree)
       (own_formed trees files jobs fit b.job (known_below trees files jobs fit b.job) b.tree (needed b.job) all) (behind_formed trees files jobs fit b.job (known_below trees files jobs fit b.job) own (needed b.job) all)) t b.typed)
 
   -- ---- numbers and names

@@ -20,9 +20,9 @@ use Rattle.typed_tree.specs.declared.meaning.Value.{Value}
 use Rattle.typed_tree.specs.declared.shape.Made.{Made}
 use Rattle.typed_tree.specs.declared.types.TypeNo.{TypeNo}
 use Rattle.m2_tree.specs.Names.{same_name}
-use Rattle.typed_tree.specs.Names.{found, place_of}
-use Rattle.check_scope.specs.Elaborated.{Gathers, reported}
-use Rattle.check_scope.specs.Scopes.{State, is_free, with_known, unless_declared, begun, is_begun, finished, is_again, imported, unless_marked, marked}
+use Rattle.typed_tree.specs.Names.{find_name, place_of}
+use Rattle.check_scope.specs.Elaborated.{Gathers, report}
+use Rattle.check_scope.specs.Scopes.{State, is_free, with_known, unless_declared, begin_name, is_begun, finish_name, is_again, import_name, unless_marked, mark_name}
 use Rattle.check_scope.specs.declared.known.Origin.{Origin}
 use Rattle.check_scope.specs.declared.known.Origin.TheVariants.{Here, Module, Export}
 use Rattle.check_scope.specs.declared.known.Known.{Known}
@@ -32,13 +32,13 @@ use Rattle.check_const.specs.Parts.{constant}
 use Rattle.check_expr.specs.Meanings.{part}
 use Rattle.check_type_expr.specs.declared.field.Fields.{Fields}
 use Rattle.check_type_expr.specs.Fields.{no_fields}
-use Rattle.check_type_expr.specs.Made.{next_type, with_shape, with_made, enumeration_scalar, too_many, listed, simple_type, index_type, Makes, MakesFields, then_fields, type_layer, type_of, field_list}
+use Rattle.check_type_expr.specs.Made.{next_type, with_shape, with_made, enumeration_scalar, too_many, enumerate_name, simple_type, index_type, Makes, MakesFields, then_fields, type_layer, type_of, field_list}
 use Rattle.check_definition.specs.Declare.{constant_meaning, with_constant, type_meaning, brings_with, with_type}
 use Rattle.check_definition.specs.Importing.{module_named, with_module_as, with_module_name, with_entry, brings_in, reported_of_taken, unless_taken, from_place, with_from, exports_of, from_module, with_imports, with_import}
 use Rattle.check_definition.specs.Marking.{Marks, marked_later, marked_simple, then_marks, marked_in, marked_field, marked_constant, marked_type, marked_variables, marked_def}
 use Rattle.check_definition.specs.Marking as marking
 use Rattle.law_well_formed.proofs.ImportsLists.{same_is}
-use Rattle.law_well_formed.specs.FormedScopes.{picked}
+use Rattle.law_well_formed.specs.FormedScopes.{holds_of}
 use Rattle.law_well_formed.proofs.Names.{found_self}
 use Rattle.law_well_formed.proofs.HeadingsLists.{found_other}
 use Rattle.law_well_formed.proofs.Order.{has}
@@ -54,7 +54,7 @@ pub record Stays {T : Type 0} (names : List (List ℕ)) (s s' : Scope T) : Type 
   pub done_same : done s'.own ≡ done s.own
   pub front : InFront s.own → InFront s'.own
   pub settled : (y : List ℕ) → SettledIn s.own y → SettledIn s'.own y
-  pub begun : (y : List ℕ) → has y names ≡ false → is_begun (found y s'.own) ≡ is_begun (found y s.own)
+  pub begin_name : (y : List ℕ) → has y names ≡ false → is_begun (find_name y s'.own) ≡ is_begun (find_name y s.own)
 
 or_none : (a b : Bool) → (a || b) ≡ false → (a ≡ false) × (b ≡ false)
 or_none true b h = absurd cc
@@ -62,7 +62,7 @@ or_none false b h = (refl, h)
 
 module _ {T : Type 0} where
   pub same_stays : (names : List (List ℕ)) (s : Scope T) → Stays names s s
-  same_stays names s = record { variables = refl; procedures = refl; done_same = refl; front = λ p. p; settled = λ y h. h; begun = λ y h. refl }
+  same_stays names s = record { variables = refl; procedures = refl; done_same = refl; front = λ p. p; settled = λ y h. h; begin_name = λ y h. refl }
 
   infixl 10 ◌⨾◌
   pub ◌⨾◌ : {names : List (List ℕ)} {a b c : Scope T} → Stays names b c → Stays names a b → Stays names a c
@@ -72,32 +72,32 @@ module _ {T : Type 0} where
     done_same = q.done_same ∙ p.done_same;
     front = λ h. q.front (p.front h);
     settled = λ y h. q.settled y (p.settled y h);
-    begun = λ y h. q.begun y h ∙ p.begun y h;
+    begin_name = λ y h. q.begun y h ∙ p.begun y h;
   }
 
   pub stays_for : (names : List (List ℕ)) {a b : Scope T} → Stays [] a b → Stays names a b
-  stays_for names p = record { variables = p.variables; procedures = p.procedures; done_same = p.done_same; front = p.front; settled = p.settled; begun = λ y h. p.begun y refl }
+  stays_for names p = record { variables = p.variables; procedures = p.procedures; done_same = p.done_same; front = p.front; settled = p.settled; begin_name = λ y h. p.begun y refl }
 
   -- ---- a name is entered
 
-  pub known_stays : (name : List ℕ) (k : Known T) (s : Scope T) → counted_of k ≡ [] → is_begun (Some k) ≡ false → picked is_settled (found name s.own) ≡ false → is_begun (found name s.own) ≡ false → Stays [] s (with_known name k s)
+  pub known_stays : (name : List ℕ) (k : Known T) (s : Scope T) → counted_of k ≡ [] → is_begun (Some k) ≡ false → holds_of is_settled (find_name name s.own) ≡ false → is_begun (find_name name s.own) ≡ false → Stays [] s (with_known name k s)
   known_stays name k s n b u v = record {
     variables = refl;
     procedures = refl;
     done_same = other_done name k s.own n u;
     front = λ p. other_front name k s.own n u p;
     settled = λ y h. settled_kept y name k s.own u h;
-    begun = λ y h. begun_kept y name k s.own b v;
+    begin_name = λ y h. begun_kept y name k s.own b v;
   }
 
-  own_stays : (name : List ℕ) (k : Known T) (s : Scope T) → counted_of k ≡ [] → picked is_settled (found name s.own) ≡ false → Stays (name ∷ []) s (with_known name k s)
+  own_stays : (name : List ℕ) (k : Known T) (s : Scope T) → counted_of k ≡ [] → holds_of is_settled (find_name name s.own) ≡ false → Stays (name ∷ []) s (with_known name k s)
   own_stays name k s n u = record {
     variables = refl;
     procedures = refl;
     done_same = other_done name k s.own n u;
     front = λ p. other_front name k s.own n u p;
     settled = λ y h. settled_kept y name k s.own u h;
-    begun = λ y h. ap is_begun (found_other name k s.own y (or_none (same_name y name) false h).0);
+    begin_name = λ y h. ap is_begun (found_other name k s.own y (or_none (same_name y name) false h).0);
   }
 
   either : (names : List (List ℕ)) (s : Scope T) (b : Bool) {A : Type 0} (x y : State A T) → (b ≡ true → Stays names s x.0) → Stays names s y.0 → Stays names s (cond b x y).0
@@ -108,8 +108,8 @@ module _ {T : Type 0} where
   either_scope names s true x y p q = p refl
   either_scope names s false x y p q = q
 
-  free_stays : (name : List ℕ) (k : Known T) (s : Scope T) → counted_of k ≡ [] → is_begun (Some k) ≡ false → is_free (found name s.own) ≡ true → Stays [] s (with_known name k s)
-  free_stays name k s n b f = known_stays name k s n b (free_unsettled (found name s.own) f) (free_unbegun (found name s.own) f)
+  free_stays : (name : List ℕ) (k : Known T) (s : Scope T) → counted_of k ≡ [] → is_begun (Some k) ≡ false → is_free (find_name name s.own) ≡ true → Stays [] s (with_known name k s)
+  free_stays name k s n b f = known_stays name k s n b (free_unsettled (find_name name s.own) f) (free_unbegun (find_name name s.own) f)
 
   module _ (names : List (List ℕ)) {A X : Type 0} (at : A → Scope T) (f : A → X → A) (k : (a : A) (x : X) → Stays names (at a) (at (f a x))) where
     pub fold_stays : (xs : List X) (a : A) → Stays names (at a) (at (fold f a xs))
@@ -122,21 +122,21 @@ module _ {T : Type 0} where
   abbrev same : Scope T → Scope T
   same s = s
 
-  finished_stays : (s : Scope T) (name : Ident) (m : Result Meaning T) → counted_if m ≡ [] → Stays (name.name ∷ []) s (finished s name m)
+  finished_stays : (s : Scope T) (name : Ident) (m : Result Meaning T) → counted_if m ≡ [] → Stays (name.name ∷ []) s (finish_name s name m)
   finished_stays s name m n =
-      either_scope (name.name ∷ []) s (is_begun (found name.name s.own)) (with_known name.name (Declared Here m) s) s (λ e. own_stays name.name (Declared Here m) s n (begun_unsettled (found name.name s.own) e)) (same_stays (name.name ∷ []) s)
+      either_scope (name.name ∷ []) s (is_begun (find_name name.name s.own)) (with_known name.name (Declared Here m) s) s (λ e. own_stays name.name (Declared Here m) s n (begun_unsettled (find_name name.name s.own) e)) (same_stays (name.name ∷ []) s)
 
   -- it is begun no more
-  finished_ends : (s : Scope T) (name : Ident) (m : Result Meaning T) → is_begun (found name.name (finished s name m).own) ≡ false
-  finished_ends s name m = by (is_begun (found name.name s.own)) refl where
-    by : (b : Bool) → is_begun (found name.name s.own) ≡ b → is_begun (found name.name (cond b (with_known name.name (Declared Here m) s) s).own) ≡ false
+  finished_ends : (s : Scope T) (name : Ident) (m : Result Meaning T) → is_begun (find_name name.name (finish_name s name m).own) ≡ false
+  finished_ends s name m = by (is_begun (find_name name.name s.own)) refl where
+    by : (b : Bool) → is_begun (find_name name.name s.own) ≡ b → is_begun (find_name name.name (cond b (with_known name.name (Declared Here m) s) s).own) ≡ false
     by true e = ap is_begun (found_self name.name (Declared Here m) s.own)
     by false e = e
 
   -- ---- types that are made
 
   shape_stays : (s : Scope T) (m : Made) → Stays [] s (with_shape s m)
-  shape_stays s m = record { variables = refl; procedures = refl; done_same = refl; front = λ p. p; settled = λ y h. h; begun = λ y h. refl }
+  shape_stays s m = record { variables = refl; procedures = refl; done_same = refl; front = λ p. p; settled = λ y h. h; begin_name = λ y h. refl }
 
   pub made_stays : (s : Scope T) (r : Result Made T) → Stays [] s (with_made s r).0
   made_stays s (Ok m) = shape_stays s m
@@ -144,12 +144,12 @@ module _ {T : Type 0} where
 
   -- ---- marks
 
-  unless_marked_stays : (name : List ℕ) (k : Known T) (s : Scope T) (o : Option (Known T)) → found name s.own ≡ o → counted_of k ≡ [] → is_begun (Some k) ≡ false → Stays [] s (unless_marked name k s o)
+  unless_marked_stays : (name : List ℕ) (k : Known T) (s : Scope T) (o : Option (Known T)) → find_name name s.own ≡ o → counted_of k ≡ [] → is_begun (Some k) ≡ false → Stays [] s (unless_marked name k s o)
   unless_marked_stays name k s (Some x) e n b = same_stays [] s
-  unless_marked_stays name k s None e n b = known_stays name k s n b (ap (picked is_settled) e) (ap is_begun e)
+  unless_marked_stays name k s None e n b = known_stays name k s n b (ap (holds_of is_settled) e) (ap is_begun e)
 
-  pub marked_stays : (name : Ident) (k : Known T) (s : Scope T) → counted_of k ≡ [] → is_begun (Some k) ≡ false → Stays [] s (marked name k s)
-  marked_stays name k s n b = unless_marked_stays name.name k s (found name.name s.own) refl n b
+  pub marked_stays : (name : Ident) (k : Known T) (s : Scope T) → counted_of k ≡ [] → is_begun (Some k) ≡ false → Stays [] s (mark_name name k s)
+  marked_stays name k s n b = unless_marked_stays name.name k s (find_name name.name s.own) refl n b
 
   later_stays : (names : List Ident) (s : Scope T) → Stays [] s (fold marked_later s names)
   later_stays names s = fold_stays [] same marked_later (λ s x. marked_stays x Later s refl refl) names s
@@ -204,7 +204,7 @@ module _ (T : Type 0) where
 
   pub def_marks : (s : Scope T) (d : Def) → Stays [] s (marked_def s d)
   def_marks s (def.Constants cs) = fold_stays [] same marked_constant (λ s c. marked_stays c.name Later s refl refl) cs s
-  def_marks s (def.Types ts) = fold_stays [] same marked_type (λ s t. marked_in_stays t.of (marked t.name Later s) ⨾ marked_stays t.name Later s refl refl) ts s
+  def_marks s (def.Types ts) = fold_stays [] same marked_type (λ s t. marked_in_stays t.of (mark_name t.name Later s) ⨾ marked_stays t.name Later s refl refl) ts s
   def_marks s (def.Variables vs) = fold_stays [] same marked_variables (λ s v. marked_in_stays v.of (fold marked_later s v.names) ⨾ later_stays v.names s) vs s
   def_marks s (def.Procedure h) = marked_stays h.name Ahead s refl refl
 
@@ -213,18 +213,18 @@ module _ (T : Type 0) where
 
 module _ (g : Gathers) where
   unless_stays : (s : Scope g.Reported) (name : Ident) (k : Known g.Reported) → counted_of k ≡ [] → is_begun (Some k) ≡ false → Stays [] s (unless_declared g s name k).0
-  unless_stays s name k n b = either [] s (is_free (found name.name s.own)) (with_known name.name k s, Ok tt) (s, reported g name.pos rule.DeclaredTwice) (λ e. free_stays name.name k s n b e) (same_stays [] s)
+  unless_stays s name k n b = either [] s (is_free (find_name name.name s.own)) (with_known name.name k s, Ok tt) (s, report g name.pos rule.DeclaredTwice) (λ e. free_stays name.name k s n b e) (same_stays [] s)
 
-  pub begun_stays : (s : Scope g.Reported) (name : Ident) → Stays (name.name ∷ []) s (begun g s name).0
+  pub begun_stays : (s : Scope g.Reported) (name : Ident) → Stays (name.name ∷ []) s (begin_name g s name).0
   begun_stays s name =
-      either (name.name ∷ []) s (is_free (found name.name s.own)) (with_known name.name Begun s, Ok tt) (s, reported g name.pos rule.DeclaredTwice) (λ e. own_stays name.name Begun s refl (free_unsettled (found name.name s.own) e)) (same_stays (name.name ∷ []) s)
+      either (name.name ∷ []) s (is_free (find_name name.name s.own)) (with_known name.name Begun s, Ok tt) (s, report g name.pos rule.DeclaredTwice) (λ e. own_stays name.name Begun s refl (free_unsettled (find_name name.name s.own) e)) (same_stays (name.name ∷ []) s)
 
-  listed_stays : (t : TypeNo) (l : Scope g.Reported × ℕ × Result (Unit {0}) g.Reported) (x : Ident) → Stays [] l.0 (listed g t l x).0
+  listed_stays : (t : TypeNo) (l : Scope g.Reported × ℕ × Result (Unit {0}) g.Reported) (x : Ident) → Stays [] l.0 (enumerate_name g t l x).0
   listed_stays t l x = unless_stays l.0 x _ refl refl
 
   simple_stays : (s : Scope g.Reported) (t : Simple) → Stays [] s (simple_type g s t).0
   simple_stays s (simple.Named q) = same_stays [] s
-  simple_stays s (simple.Enumeration at names) = fold_stays [] (λ (l : Scope g.Reported × ℕ × Result (Unit {0}) g.Reported). l.0) (listed g (next_type s)) (listed_stays (next_type s)) names (with_shape s (enumeration_scalar (next_type s) names), 0, too_many g names) ⨾ shape_stays s (enumeration_scalar (next_type s) names)
+  simple_stays s (simple.Enumeration at names) = fold_stays [] (λ (l : Scope g.Reported × ℕ × Result (Unit {0}) g.Reported). l.0) (enumerate_name g (next_type s)) (listed_stays (next_type s)) names (with_shape s (enumeration_scalar (next_type s) names), 0, too_many g names) ⨾ shape_stays s (enumeration_scalar (next_type s) names)
   simple_stays s (simple.Subrange o at low high) = made_stays s _
 
   abbrev StayingMakes : Makes g → Type 0
@@ -284,24 +284,24 @@ module _ (g : Gathers) where
 
   constant_stays : (st : State (Unit {0}) g.Reported) (c : Constant) → Stays (c.name.name ∷ []) st.0 (with_constant g st c).0
   constant_stays st c =
-      let b = begun g st.0 c.name in
+      let b = begin_name g st.0 c.name in
       finished_stays b.0 c.name (constant_meaning (constant g b.0 (part g c.value))) (constant_none (constant g b.0 (part g c.value))) ⨾ begun_stays st.0 c.name
 
   type_decl_stays : (st : State (Unit {0}) g.Reported) (d : TypeDecl) → Stays (d.name.name ∷ []) st.0 (with_type g st d).0
   type_decl_stays st d =
-      let b = begun g st.0 d.name in
+      let b = begin_name g st.0 d.name in
       let t = type_of g d.of b.0 in
       finished_stays t.0 d.name (type_meaning t.1 (brings_with d.of)) (type_none t.1 (brings_with d.of)) ⨾ (stays_for (d.name.name ∷ []) (type_of_stays d.of b.0) ⨾ begun_stays st.0 d.name)
 
   -- ---- no declaration is left begun
 
   abbrev pub NoneBegun : {T : Type 0} → Scope T → Type 0
-  NoneBegun s = (y : List ℕ) → is_begun (found y s.own) ≡ false
+  NoneBegun s = (y : List ℕ) → is_begun (find_name y s.own) ≡ false
 
-  none_again : (name : List ℕ) (s s' : Scope g.Reported) → Stays (name ∷ []) s s' → is_begun (found name s'.own) ≡ false → NoneBegun s → NoneBegun s'
+  none_again : (name : List ℕ) (s s' : Scope g.Reported) → Stays (name ∷ []) s s' → is_begun (find_name name s'.own) ≡ false → NoneBegun s → NoneBegun s'
   none_again name s s' k e n y = by (same_name y name) refl where
-    by : (b : Bool) → same_name y name ≡ b → is_begun (found y s'.own) ≡ false
-    by true q = subst (λ (z : List ℕ). is_begun (found z s'.own) ≡ false) (sym (same_is y name q)) e
+    by : (b : Bool) → same_name y name ≡ b → is_begun (find_name y s'.own) ≡ false
+    by true q = subst (λ (z : List ℕ). is_begun (find_name z s'.own) ≡ false) (sym (same_is y name q)) e
     by false q = k.begun y (ap (λ (b : Bool). b || false) q) ∙ n y
 
   -- a step after which none is left so, if none was before
@@ -329,13 +329,13 @@ module _ (g : Gathers) where
 
   constant_ends : (st : State (Unit {0}) g.Reported) (c : Constant) → Ends st.0 (with_constant g st c).0
   constant_ends st c =
-      let b = begun g st.0 c.name in
+      let b = begin_name g st.0 c.name in
       let k = constant_stays st c in
       ends_by (c.name.name ∷ []) st.0 (with_constant g st c).0 k (none_again c.name.name st.0 (with_constant g st c).0 k (finished_ends b.0 c.name (constant_meaning (constant g b.0 (part g c.value)))))
 
   type_decl_ends : (st : State (Unit {0}) g.Reported) (d : TypeDecl) → Ends st.0 (with_type g st d).0
   type_decl_ends st d =
-      let b = begun g st.0 d.name in
+      let b = begin_name g st.0 d.name in
       let t = type_of g d.of b.0 in
       let k = type_decl_stays st d in
       ends_by (d.name.name ∷ []) st.0 (with_type g st d).0 k (none_again d.name.name st.0 (with_type g st d).0 k (finished_ends t.0 d.name (type_meaning t.1 (brings_with d.of))))
@@ -354,10 +354,10 @@ module _ (g : Gathers) where
   again_by s true st p = same_stays [] s
   again_by s false st p = p
 
-  imported_stays : (s : Scope g.Reported) (at : Pos) (name : List ℕ) (o : Origin) (m : Result Meaning g.Reported) → counted_of (Declared o m) ≡ [] → Stays [] s (imported g s at name o m).0
+  imported_stays : (s : Scope g.Reported) (at : Pos) (name : List ℕ) (o : Origin) (m : Result Meaning g.Reported) → counted_of (Declared o m) ≡ [] → Stays [] s (import_name g s at name o m).0
   imported_stays s at name o m n =
-      again_by s (is_again (found name s.own) o) _
-      (either [] s (is_free (found name s.own)) (with_known name (Declared o m) s, Ok tt) (s, reported g at rule.DeclaredTwice) (λ e. free_stays name (Declared o m) s n refl e) (same_stays [] s))
+      again_by s (is_again (find_name name s.own) o) _
+      (either [] s (is_free (find_name name s.own)) (with_known name (Declared o m) s, Ok tt) (s, report g at rule.DeclaredTwice) (λ e. free_stays name (Declared o m) s n refl e) (same_stays [] s))
 
   module_as_stays : (s : Scope g.Reported) (name : Ident) (r : Result ℕ g.Reported) → Stays [] s (with_module_as g s name r).0
   module_as_stays s name (Ok k) = imported_stays s name.pos name.name (Module k) _ refl
@@ -372,7 +372,7 @@ module _ (g : Gathers) where
 
   place_stays : (s : Scope g.Reported) (name : Ident) (k : ℕ) (es : List (List ℕ × Meaning)) (o : Option ℕ) → Stays [] s (from_place g s name k es o).0
   place_stays s name k es None = same_stays [] s
-  place_stays s name k es (Some i) = taken_stays s name.pos k es i (reported_of_taken g name.pos k (found name.name s.own))
+  place_stays s name k es (Some i) = taken_stays s name.pos k es i (reported_of_taken g name.pos k (find_name name.name s.own))
 
   from_stays : (k : ℕ) (es : List (List ℕ × Meaning)) (st : State (Unit {0}) g.Reported) (name : Ident) → Stays [] st.0 (with_from g k es st name).0
   from_stays k es st name = place_stays st.0 name k es (place_of name.name es)

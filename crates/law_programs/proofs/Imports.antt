@@ -9,7 +9,7 @@ use Rattle.typed_tree.specs.declared.table.Table.{Table}
 use Rattle.typed_tree.specs.declared.known_types.Types.{Types}
 use Rattle.typed_tree.specs.declared.typed_module.Imported.{Imported}
 use Rattle.m2_tree.specs.Names.{same_name, is_console}
-use Rattle.typed_tree.specs.Names.{found, entered}
+use Rattle.typed_tree.specs.Names.{find_name, enter_name}
 use Rattle.check_definition.specs.Importing.{numbered_modules}
 use Rattle.check_definition.specs.Export.{with_table_if, with_place_if, with_imported, with_imports_of, with_import_of, imported_modules}
 use Rattle.check_body.specs.Own.{exported_variables}
@@ -25,7 +25,7 @@ got F (y ∷ xs) h zero x e = let same : y ≡ x = cc in subst F same h.0
 got F (y ∷ xs) h (suc k) x e = got F xs h.1 k x e
 
 -- the module that is found under a name has this name
-named_at : (tables : List Table) (name : List ℕ) (k : ℕ) → found name (numbered_modules tables).0 ≡ Some k → (t : Table) → slice_get tables k ≡ Some t → t.name ≡ name
+named_at : (tables : List Table) (name : List ℕ) (k : ℕ) → find_name name (numbered_modules tables).0 ≡ Some k → (t : Table) → slice_get tables k ≡ Some t → t.name ≡ name
 named_at tables name k h t e =
     let f = found_each (IsPlaced tables) name (numbered_modules tables).0 k (numbered_placed tables) h in
     let same : t ≡ f.2.0 = same_Some t f.2.0 (sym e ∙ f.2.1) in
@@ -69,28 +69,28 @@ module _ (IsMade : Table → Type 0) where
     | inr m ↦ inr (record { table = t; made = m; number_is = refl; name_is = refl })
   ]
 
-  entry_more : (name : List ℕ) (number : ℕ) (es : List (List ℕ × ℕ)) → IsListed name number → AreListed es → AreListed (entered name number es)
+  entry_more : (name : List ℕ) (number : ℕ) (es : List (List ℕ × ℕ)) → IsListed name number → AreListed es → AreListed (enter_name name number es)
   entry_more name number es p all = each_entered (λ (e : List ℕ × ℕ). IsListed e.0 e.1) name number es (λ other e. subst (λ (n : List ℕ). IsListed n number) (same_is name other e) p) all
 
   copies : (es so : List (List ℕ × ℕ)) → AreListed es → AreListed so → AreListed (fold with_import_copy so es)
   copies [] so p all = all
-  copies (e ∷ es) so p all = copies es (entered e.0 e.1 so) p.1 (entry_more e.0 e.1 so p.0 all)
+  copies (e ∷ es) so p all = copies es (enter_name e.0 e.1 so) p.1 (entry_more e.0 e.1 so p.0 all)
 
   -- ---- the modules that imports name
 
   module _ (tables : List Table) (made : AreMade tables) where
-    table_listed : (so : List (List ℕ × ℕ)) (name : List ℕ) (k : ℕ) → found name (numbered_modules tables).0 ≡ Some k → (o : Option Table) → slice_get tables k ≡ o → AreListed so → AreListed (with_table_if so name o)
+    table_listed : (so : List (List ℕ × ℕ)) (name : List ℕ) (k : ℕ) → find_name name (numbered_modules tables).0 ≡ Some k → (o : Option Table) → slice_get tables k ≡ o → AreListed so → AreListed (with_table_if so name o)
     table_listed so name k h None e all = all
     table_listed so name k h (Some t) e all =
         let named : t.name ≡ name = named_at tables name k h t e in
         entry_more name t.number so (subst (λ (n : List ℕ). IsListed n t.number) named (listed_of t (got (λ (u : Table). (is_console u.name ≡ true) ⊎ IsMade u) tables made k t e))) all
 
-    place_listed : (so : List (List ℕ × ℕ)) (name : List ℕ) (o : Option ℕ) → found name (numbered_modules tables).0 ≡ o → AreListed so → AreListed (with_place_if tables so name o)
+    place_listed : (so : List (List ℕ × ℕ)) (name : List ℕ) (o : Option ℕ) → find_name name (numbered_modules tables).0 ≡ o → AreListed so → AreListed (with_place_if tables so name o)
     place_listed so name None h all = all
     place_listed so name (Some k) h all = table_listed so name k h (slice_get tables k) refl all
 
     name_listed : (so : List (List ℕ × ℕ)) (x : Ident) → AreListed so → AreListed (with_imported (numbered_modules tables).0 tables so x)
-    name_listed so x all = place_listed so x.name (found x.name (numbered_modules tables).0) refl all
+    name_listed so x all = place_listed so x.name (find_name x.name (numbered_modules tables).0) refl all
 
     names_listed : (xs : List Ident) (so : List (List ℕ × ℕ)) → AreListed so → AreListed (fold (with_imported (numbered_modules tables).0 tables) so xs)
     names_listed [] so all = all
@@ -140,7 +140,7 @@ module _ (IsMade : Table → Type 0) where
 
       modules_of : (es : List (List ℕ × ℕ)) (so : List Imported) → AreListed es → AreImports types so → AreImports types (fold (with_module_of (numbered_modules tables).0 tables) so es)
       modules_of [] so p all = all
-      modules_of (e ∷ es) so p all = modules_of es (with_module_of (numbered_modules tables).0 tables so e) p.1 (place_of so e p.0 (found e.0 (numbered_modules tables).0) all)
+      modules_of (e ∷ es) so p all = modules_of es (with_module_of (numbered_modules tables).0 tables so e) p.1 (place_of so e p.0 (find_name e.0 (numbered_modules tables).0) all)
 
       pub typed_are : (own : Option Table) → OwnListed own → (is : List Import) → AreImports types (typed_imports (numbered_modules tables).0 tables (all_imports (numbered_modules tables).0 tables own is))
       typed_are own o is = modules_of (all_imports (numbered_modules tables).0 tables own is) [] (imports_listed is (definition_imports own) (own_listed own o)) tt

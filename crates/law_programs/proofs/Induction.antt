@@ -24,13 +24,13 @@ use Rattle.check_scope.specs.declared.scope.Scope.{Scope}
 use Rattle.check_const.specs.Denote.{member}
 use Rattle.check_block.specs.Naming.{marked_layer, marked_decl, with_marks}
 use Rattle.check_block.specs.Nesting as nesting
-use Rattle.check_block.specs.Nesting.{joined, within_decl, within}
+use Rattle.check_block.specs.Nesting.{append_names, within_decl, within}
 use Rattle.check_block.specs.Declarations.{Course, Declared, decl_layer, with_decl, all_declared, declared_block}
 use Rattle.check_body.specs.Routines.{numbered_known}
 use Rattle.check_body.specs.declared.procedure.Walk.{Walk}
 use Rattle.check_body.specs.Elaborating.{Elaborates, statements_of}
 use Rattle.check_body.specs.Bodies.{ChecksBlock, Steps, marked_by, declared_by, steps_layer, block_layer, steps, checks_block}
-use Rattle.check_body.specs.Checks.{elaborated}
+use Rattle.check_body.specs.Checks.{elaborate_body}
 use Rattle.law_simulation.specs.Passing.{Result as Gives}
 use Rattle.law_simulation.specs.TreesTyped.{Context}
 use Rattle.law_well_formed.specs.Formed.{Holds, fine}
@@ -66,7 +66,7 @@ use Rattle.law_programs.proofs.BodiesBlocks.{StepTyped, AllTyped, StepAgrees, St
 
 -- ---- the statements of a body
 
-pub elaborated_typed : (g : Gathers) → TypesStatements g (elaborated g)
+pub elaborated_typed : (g : Gathers) → TypesStatements g (elaborate_body g)
 elaborated_typed g x opens s h ranged withs returns result r body fit =
     statements_typed g (λ x ws opens s h e f. meant_typed g x ws opens s h e f) (λ x ws opens s h d f. head_typed g x ws opens s h d f) x [] opens s h ranged (ap (λ (ws : List _). length ws) (sym withs))
     (record { gives = returns; in_loop = false }) result r body fit
@@ -357,7 +357,7 @@ module _ (g : Gathers) (elaborates : Elaborates g.Reported) (forms : FormsStatem
     total [] = []
     total (x ∷ xs) = within_decl x.0 ++ total xs
 
-    total_is : (so : List ℕ) (xs : List SD) → fold joined so (map within_decl (decls_of xs)) ≡ so ++ total xs
+    total_is : (so : List ℕ) (xs : List SD) → fold append_names so (map within_decl (decls_of xs)) ≡ so ++ total xs
     total_is so [] = sym (append-nil so)
     total_is so (x ∷ xs) = total_is (so ++ within_decl x.0) xs ∙ append_assoc so (within_decl x.0) (total xs)
 
@@ -414,7 +414,7 @@ module _ (g : Gathers) (elaborates : Elaborates g.Reported) (forms : FormsStatem
     }
 
     block_at : (xs : List SD) (body : Option (List Stmt)) → Fit xs → fits_body body ≡ true
-        → TypedBlock g base ends (block_layer g elaborates ends (record { decls = map steps_of (decls_of xs); body = body })) (fold joined [] (map within_decl (decls_of xs)))
+        → TypedBlock g base ends (block_layer g elaborates ends (record { decls = map steps_of (decls_of xs); body = body })) (fold append_names [] (map within_decl (decls_of xs)))
     block_at xs body e f =
         subst (λ (ks : List ℕ). TypedBlock g base ends (block_layer g elaborates ends (record { decls = map steps_of (decls_of xs); body = body })) ks) (sym (total_is [] xs))
         (of_steps (map steps_of (decls_of xs)) body (total xs) (are_steps xs e) (they_are_typed xs e) (declares xs e) f)

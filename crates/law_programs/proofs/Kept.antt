@@ -22,9 +22,9 @@ use Rattle.typed_tree.specs.declared.types.TypeNo.{TypeNo}
 use Rattle.typed_tree.specs.declared.shape.Made.{Made}
 use Rattle.typed_tree.specs.declared.meaning.Meaning.{Meaning}
 use Rattle.typed_tree.specs.declared.meaning.Meaning.TheVariants as meaning
-use Rattle.typed_tree.specs.Names.{found, place_of}
-use Rattle.check_scope.specs.Elaborated.{Gathers, reported}
-use Rattle.check_scope.specs.Scopes.{State, is_free, with_known, is_again, imported, begun, finished, unless_marked, marked}
+use Rattle.typed_tree.specs.Names.{find_name, place_of}
+use Rattle.check_scope.specs.Elaborated.{Gathers, report}
+use Rattle.check_scope.specs.Scopes.{State, is_free, with_known, is_again, import_name, begin_name, finish_name, unless_marked, mark_name}
 use Rattle.check_scope.specs.declared.known.Known.{Known}
 use Rattle.check_scope.specs.declared.known.Known.TheVariants.{Later, Ahead, Begun, Headed, Declared}
 use Rattle.check_scope.specs.declared.known.Origin.{Origin}
@@ -36,14 +36,14 @@ use Rattle.check_expr.specs.Meanings.{part}
 use Rattle.check_type_expr.specs.declared.field.Fields.{Fields}
 use Rattle.check_type_expr.specs.Fields.{no_fields}
 use Rattle.check_type_expr.specs.Headings.{heading_of}
-use Rattle.check_type_expr.specs.Made.{next_type, with_shape, with_made, too_many, enumeration_constant, enumeration_scalar, listed, simple_type, index_type, Makes, MakesFields, then_fields, type_layer, field_layer, type_of, field_list}
+use Rattle.check_type_expr.specs.Made.{next_type, with_shape, with_made, too_many, enumeration_constant, enumeration_scalar, enumerate_name, simple_type, index_type, Makes, MakesFields, then_fields, type_layer, field_layer, type_of, field_list}
 use Rattle.check_definition.specs.Marking.{Marks, marked_later, marked_simple, then_marks, marked_in, marked_field, marked_constant, marked_type, marked_variables}
 use Rattle.check_definition.specs.Marking as marking
 use Rattle.check_definition.specs.Importing.{module_named, with_module_as, with_module_name, with_entry, brings_in, reported_of_taken, unless_taken, from_place, with_from, exports_of, from_module, with_imports, with_import}
 use Rattle.check_definition.specs.Declare.{constant_meaning, with_constant, brings_with, type_meaning, with_type, begun_name, variable_meaning, with_variable_type, finished_variable, with_variables, procedure_meaning, with_procedure_type}
 use Rattle.check_block.specs.declared.heading.Standing.{Standing}
 use Rattle.check_block.specs.declared.heading.Standing.TheVariants.{Free, Awaited, Taken}
-use Rattle.check_block.specs.Headings.{name_standing, nested_meaning, module_procedure, headed, headed_as}
+use Rattle.check_block.specs.Headings.{name_standing, nested_meaning, module_procedure, set_heading, headed_as}
 use Rattle.check_block.specs.Naming.{marked_layer, marked_decl, with_marks, all_marked}
 use Rattle.check_block.specs.Declarations.{Course, local_meaning, finished_local, with_locals, decl_layer, with_decl, declared_block, declared_module}
 use Rattle.law_well_formed.proofs.Named.{unless_as, finished_as}
@@ -55,8 +55,8 @@ module _ (g : Gathers) (P : Scope g.Reported → Type 0) (named : (s : Scope g.R
   marked_by s name k (Some x) h = h
   marked_by s name k None h = named s name k h
 
-  marked_keeps : (s : Scope g.Reported) (name : Ident) (k : Known g.Reported) → P s → P (marked name k s)
-  marked_keeps s name k h = marked_by s name.name k (found name.name s.own) h
+  marked_keeps : (s : Scope g.Reported) (name : Ident) (k : Known g.Reported) → P s → P (mark_name name k s)
+  marked_keeps s name k h = marked_by s name.name k (find_name name.name s.own) h
 
   later_all : (names : List Ident) (s : Scope g.Reported) → P s → P (fold marked_later s names)
   later_all [] s h = h
@@ -145,7 +145,7 @@ module _ (g : Gathers) (P : Scope g.Reported → Type 0) (named : (s : Scope g.R
 
   -- ---- imports
 
-  free_keeps : (s : Scope g.Reported) (at : Pos) (name : List ℕ) (k : Known g.Reported) (b : Bool) → P s → P (cond {A = State (Unit {0}) g.Reported} b (with_known name k s, Ok tt) (s, reported g at rule.DeclaredTwice)).0
+  free_keeps : (s : Scope g.Reported) (at : Pos) (name : List ℕ) (k : Known g.Reported) (b : Bool) → P s → P (cond {A = State (Unit {0}) g.Reported} b (with_known name k s, Ok tt) (s, report g at rule.DeclaredTwice)).0
   free_keeps s at name k true h = named s name k h
   free_keeps s at name k false h = h
 
@@ -153,8 +153,8 @@ module _ (g : Gathers) (P : Scope g.Reported → Type 0) (named : (s : Scope g.R
   again_keeps s x true h p = h
   again_keeps s x false h p = p
 
-  imported_keeps : (s : Scope g.Reported) (at : Pos) (name : List ℕ) (o : Origin) (m : Result Meaning g.Reported) → P s → P (imported g s at name o m).0
-  imported_keeps s at name o m h = again_keeps s _ (is_again (found name s.own) o) h (free_keeps s at name (Declared o m) (is_free (found name s.own)) h)
+  imported_keeps : (s : Scope g.Reported) (at : Pos) (name : List ℕ) (o : Origin) (m : Result Meaning g.Reported) → P s → P (import_name g s at name o m).0
+  imported_keeps s at name o m h = again_keeps s _ (is_again (find_name name s.own) o) h (free_keeps s at name (Declared o m) (is_free (find_name name s.own)) h)
 
   module_as_keeps : (s : Scope g.Reported) (name : Ident) (r : Result ℕ g.Reported) → P s → P (with_module_as g s name r).0
   module_as_keeps s name (Ok k) h = imported_keeps s name.pos name.name (origin.Module k) (Ok (meaning.Module k)) h
@@ -174,7 +174,7 @@ module _ (g : Gathers) (P : Scope g.Reported → Type 0) (named : (s : Scope g.R
 
   place_keeps : (s : Scope g.Reported) (name : Ident) (k : ℕ) (es : List (List ℕ × Meaning)) (o : Option ℕ) → P s → P (from_place g s name k es o).0
   place_keeps s name k es None h = h
-  place_keeps s name k es (Some i) h = taken_keeps s name.pos k es i (reported_of_taken g name.pos k (found name.name s.own)) h
+  place_keeps s name k es (Some i) h = taken_keeps s name.pos k es i (reported_of_taken g name.pos k (find_name name.name s.own)) h
 
   from_keeps : (k : ℕ) (es : List (List ℕ × Meaning)) (names : List Ident) (st : State (Unit {0}) g.Reported) → P st.0 → P (fold (with_from g k es) st names).0
   from_keeps k es [] st h = h
@@ -199,11 +199,11 @@ module _ (g : Gathers) (P : Scope g.Reported → Type 0) (named : (s : Scope g.R
     made_keeps s (Ok m) h = shaped s m h
     made_keeps s (Err e) h = h
 
-    listed_all : (t : TypeNo) (names : List Ident) (l : Scope g.Reported × ℕ × Result (Unit {0}) g.Reported) → P l.0 → P (fold (listed g t) l names).0
+    listed_all : (t : TypeNo) (names : List Ident) (l : Scope g.Reported × ℕ × Result (Unit {0}) g.Reported) → P l.0 → P (fold (enumerate_name g t) l names).0
     listed_all t [] l h = h
     listed_all t (x ∷ xs) l h =
         let m : Known g.Reported = Declared Here (Ok (enumeration_constant t (pos l.1))) in
-        listed_all t xs (listed g t l x) (unless_as g P l.0 x m h (named l.0 x.name m h))
+        listed_all t xs (enumerate_name g t l x) (unless_as g P l.0 x m h (named l.0 x.name m h))
 
     simple_keeps : (s : Scope g.Reported) (t : Simple) → P s → P (simple_type g s t).0
     simple_keeps s (simple.Named q) h = h
@@ -274,10 +274,10 @@ module _ (g : Gathers) (P : Scope g.Reported → Type 0) (named : (s : Scope g.R
     -- ---- declarations
 
     module _ (varied : (s : Scope g.Reported) (t : Result TypeNo g.Reported) → P s → P (with_variable_type s t)) (headed_keeps : (s : Scope g.Reported) (t : Result TypeNo g.Reported) → P s → P (with_procedure_type s t)) where
-      finished_keeps : (s : Scope g.Reported) (name : Ident) (m : Result Meaning g.Reported) → P s → P (finished s name m)
+      finished_keeps : (s : Scope g.Reported) (name : Ident) (m : Result Meaning g.Reported) → P s → P (finish_name s name m)
       finished_keeps s name m h = finished_as P s name m h (named s name.name (Declared Here m) h)
 
-      begun_keeps : (s : Scope g.Reported) (name : Ident) → P s → P (begun g s name).0
+      begun_keeps : (s : Scope g.Reported) (name : Ident) → P s → P (begin_name g s name).0
       begun_keeps s name h = unless_as g P s name Begun h (named s name.name Begun h)
 
       begun_all : (names : List Ident) (st : State (Unit {0}) g.Reported) → P st.0 → P (fold (begun_name g) st names).0
@@ -287,13 +287,13 @@ module _ (g : Gathers) (P : Scope g.Reported → Type 0) (named : (s : Scope g.R
       constants_keep : (cs : List Constant) (st : State (Unit {0}) g.Reported) → P st.0 → P (fold (with_constant g) st cs).0
       constants_keep [] st h = h
       constants_keep (c ∷ cs) st h =
-          let b : State (Unit {0}) g.Reported = begun g st.0 c.name in
+          let b : State (Unit {0}) g.Reported = begin_name g st.0 c.name in
           constants_keep cs (with_constant g st c) (finished_keeps b.0 c.name (constant_meaning (constant g b.0 (part g c.value))) (begun_keeps st.0 c.name h))
 
       types_keep : (ts : List TypeDecl) (st : State (Unit {0}) g.Reported) → P st.0 → P (fold (with_type g) st ts).0
       types_keep [] st h = h
       types_keep (d ∷ ts) st h =
-          let b : State (Unit {0}) g.Reported = begun g st.0 d.name in
+          let b : State (Unit {0}) g.Reported = begin_name g st.0 d.name in
           let t : State TypeNo g.Reported = type_of g d.of b.0 in
           types_keep ts (with_type g st d) (finished_keeps t.0 d.name (type_meaning t.1 (brings_with d.of)) (type_of_keeps d.of b.0 (begun_keeps st.0 d.name h)))
 
@@ -324,7 +324,7 @@ module _ (g : Gathers) (P : Scope g.Reported → Type 0) (named : (s : Scope g.R
       variables_by true st vs h = variables_keep vs st h
       variables_by false st vs h = locals_keep vs st h
 
-      new_by : (b : Bool) (s : Scope g.Reported) (name : List ℕ) (n : ℕ) (t : Result TypeNo g.Reported) → P s → P (cond b (module_procedure s name t) (headed name (nested_meaning s.level n t) s))
+      new_by : (b : Bool) (s : Scope g.Reported) (name : List ℕ) (n : ℕ) (t : Result TypeNo g.Reported) → P s → P (cond b (module_procedure s name t) (set_heading name (nested_meaning s.level n t) s))
       new_by true s name n t h = named (with_procedure_type s t) name (Headed (procedure_meaning s.types.home (length s.procedures) t)) (headed_keeps s t h)
       new_by false s name n t h = named s name (Headed (nested_meaning s.level n t)) h
 
@@ -338,7 +338,7 @@ module _ (g : Gathers) (P : Scope g.Reported → Type 0) (named : (s : Scope g.R
       layer_keeps ends c (dlayer.Constants cs) h = constants_keep cs (c.0, c.1) h
       layer_keeps ends c (dlayer.Types ts) h = types_keep ts (c.0, c.1) h
       layer_keeps ends c (dlayer.Variables vs) h = variables_by (c.0.level == 0) (c.0, c.1) vs h
-      layer_keeps ends c (dlayer.Procedure x b) h = heading_by c.0 x c.2 (name_standing (found x.name.name c.0.own)) h
+      layer_keeps ends c (dlayer.Procedure x b) h = heading_by c.0 x c.2 (name_standing (find_name x.name.name c.0.own)) h
 
       decls_keep : (ends : List ℕ) (ds : List Decl) (c : Course g.Reported) → P c.0 → P (fold (with_decl g ends) c ds).0
       decls_keep ends [] c h = h

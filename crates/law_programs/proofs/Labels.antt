@@ -12,7 +12,7 @@ use Rattle.typed_tree.specs.declared.types.TypeNo.{TypeNo}
 use Rattle.typed_tree.specs.Types.{are_same, is_numeric}
 use Rattle.check_scope.specs.declared.meaningless.Meaningless.{Meaningless}
 use Rattle.check_scope.specs.declared.meaningless.Meaningless.TheVariants.{Broken, Headless}
-use Rattle.check_scope.specs.Elaborated.{Gathers, reported, reported_where, beside}
+use Rattle.check_scope.specs.Elaborated.{Gathers, report, reported_where, beside}
 use Rattle.check_scope.specs.declared.scope.Scope.{Scope}
 use Rattle.check_const_ops.specs.declared.operand.Operand.{Operand}
 use Rattle.check_const_ops.specs.declared.operand.Operand.TheVariants as operand
@@ -26,7 +26,7 @@ use Rattle.check_operator.specs.declared.computed.Computed.{Computed}
 use Rattle.check_operator.specs.declared.computed.Computed.TheVariants as value
 use Rattle.check_operator.specs.declared.computed.Designated.{Designated}
 use Rattle.check_operator.specs.declared.computed.Designated.TheVariants as designated
-use Rattle.check_expr.specs.Meanings.{Meant, meant}
+use Rattle.check_expr.specs.Meanings.{Meant, meanings_of}
 use Rattle.layout_storage.specs.Types.{Ty}
 use Rattle.law_simulation.specs.Scene.{IsLabel, AreLabels}
 use Rattle.law_simulation.specs.TreesTyped.{Context}
@@ -38,7 +38,7 @@ use Rattle.law_programs.specs.Typing.{ValueTyped, DesignatedTyped, IsTyped, Expr
 use Rattle.law_programs.proofs.Operators.{where_not}
 use Rattle.check_stmt_parts.specs.Lists.{with_next}
 use Rattle.check_stmt_parts.specs.Simple.{meant_if}
-use Rattle.check_stmt_parts.specs.Labels.{ordinal_in, of_type, no_constant, value_bound, variable_bound, bound_by, bound_in, bound_of, is_of_base, number_fits, suits_base, bound_suits, single, ordered_if, are_ordered, spanned, label_between, Labels, with_label, item_label, with_item, labels_in}
+use Rattle.check_stmt_parts.specs.Labels.{ordinal_in, of_type, no_constant, value_bound, variable_bound, bound_by, bound_in, bound_of, is_of_base, number_fits, suits_base, bound_suits, single, ordered_if, are_ordered, label_range, label_between, Labels, with_label, item_label, with_item, labels_in}
 use Rattle.law_programs.specs.TypingStmts.{fits_if, fits_label}
 use Rattle.law_programs.proofs.StmtsSteps.{small}
 
@@ -77,7 +77,7 @@ module _ (g : Gathers) (x : Context) (ws : List Ty) (opens : ℕ → Bool) (s : 
   ordinal_typed at (Some (operand.Set bits)) p = reported_holds g at rule.WrongType
   ordinal_typed at (Some (operand.Scalar a)) p = fine a p
 
-  reported_label : (label : Pos) → Holds (λ (a : Ordinal). ⊥) (reported g {A = Ordinal} label rule.WrongLabel)
+  reported_label : (label : Pos) → Holds (λ (a : Ordinal). ⊥) (report g {A = Ordinal} label rule.WrongLabel)
   reported_label label = reported_holds g label rule.WrongLabel
 
   none_typed : (alike : Bool) (label at : Pos) → Holds InSort (no_constant g alike label at)
@@ -166,7 +166,7 @@ module _ (g : Gathers) (x : Context) (ws : List Ty) (opens : ℕ → Bool) (s : 
   two_ordinals : (a b : Ordinal) → Holds {A = Ordinal × Ordinal} {T = g.Reported} (λ v. v ≡ (a, b)) (Ok (a, b))
   two_ordinals a b = fine (a, b) refl
 
-  spanned_typed : (base : TypeNo) (at : Pos) {a : Result Ordinal g.Reported} (at' : Pos) {b : Result Ordinal g.Reported} → Holds InSort a → Holds InSort b → Holds IsLabel (spanned g (Some base) at a at' b)
+  spanned_typed : (base : TypeNo) (at : Pos) {a : Result Ordinal g.Reported} (at' : Pos) {b : Result Ordinal g.Reported} → Holds InSort a → Holds InSort b → Holds IsLabel (label_range g (Some base) at a at' b)
   spanned_typed base at at' (fine a p) (fine b q) =
       then_holds (both_holds g (two_ordinals a b) (third_typed base at at' a b)) (λ v k.
       fine (record { low = v.0.0.number; high = v.0.1.number })
@@ -204,14 +204,14 @@ module _ (g : Gathers) (x : Context) (ws : List Ty) (opens : ℕ → Bool) (s : 
 
     item_typed : (base : TypeNo) (i : Item) → fits_label i ≡ true → Holds IsLabel (item_label g s (Some base) i)
     item_typed base i f =
-        between_typed base (meant g (out-Item i).low) (meant_if g (out-Item i).high) (exprs x ws opens s h (out-Item i).low (both_left (fits_whole (out-Item i).low) (fits_if (out-Item i).high) f))
+        between_typed base (meanings_of g (out-Item i).low) (meant_if g (out-Item i).high) (exprs x ws opens s h (out-Item i).low (both_left (fits_whole (out-Item i).low) (fits_if (out-Item i).high) f))
         (high_known (out-Item i).high (both_right (fits_whole (out-Item i).low) (fits_if (out-Item i).high) f))
 
     from_labels : (base : TypeNo) (is : List Item) (st : Labels g.Reported) → list_all fits_label is ≡ true → Holds AreLabels st.1 → Holds AreLabels (fold (with_item g s (Some base)) st is).1
     from_labels base [] st f p = p
     from_labels base (i ∷ is) st f p =
         from_labels base is (with_item g s (Some base) st i) (both_right (fits_label i) (list_all fits_label is) f)
-        (with_typed (meant g (out-Item i).low).fixed.at st (item_label g s (Some base) i) p (item_typed base i (both_left (fits_label i) (list_all fits_label is) f)))
+        (with_typed (meanings_of g (out-Item i).low).fixed.at st (item_label g s (Some base) i) p (item_typed base i (both_left (fits_label i) (list_all fits_label is) f)))
 
     pub labels_typed : (base : TypeNo) (ranges : List (ℤ × ℤ)) (is : List Item) → list_all fits_label is ≡ true → Holds AreLabels (labels_in g s (Some base) ranges is).1
     labels_typed base ranges is f = from_labels base is (ranges, Ok []) f (fine [] tt)

@@ -10,15 +10,15 @@ use Rattle.m2_tree.specs.declared.decl.TypeExpr.{TypeExpr, TypeExpr-F, out-TypeE
 use Rattle.m2_tree.specs.declared.decl.TypeExpr.TheOpen as layer
 use Rattle.m2_tree.specs.declared.decl.Field.{Field, Field-F, out-Field, roll-Field, out-roll-Field, map-Field, fold_out-Field}
 use Rattle.typed_tree.specs.declared.types.TypeNo.{TypeNo}
-use Rattle.check_scope.specs.Elaborated.{Gathers, reported}
-use Rattle.check_scope.specs.Scopes.{State, is_free, with_known, unless_declared, begun, is_begun, finished, unless_marked, marked}
+use Rattle.check_scope.specs.Elaborated.{Gathers, report}
+use Rattle.check_scope.specs.Scopes.{State, is_free, with_known, unless_declared, begin_name, is_begun, finish_name, unless_marked, mark_name}
 use Rattle.check_scope.specs.declared.known.Known.{Known}
 use Rattle.check_scope.specs.declared.known.Known.TheVariants.{Later, Ahead, Begun, Headed, Declared}
 use Rattle.check_scope.specs.declared.known.Origin.TheVariants.{Here, Module, Export}
 use Rattle.check_scope.specs.declared.scope.Scope.{Scope}
 use Rattle.check_type_expr.specs.declared.field.Fields.{Fields}
 use Rattle.check_type_expr.specs.Fields.{no_fields}
-use Rattle.check_type_expr.specs.Made.{next_type, with_shape, with_made, enumeration_constant, enumeration_scalar, too_many, listed, simple_type, index_type, Makes, MakesFields, then_fields, type_layer, field_layer, type_of, field_list}
+use Rattle.check_type_expr.specs.Made.{next_type, with_shape, with_made, enumeration_constant, enumeration_scalar, too_many, enumerate_name, simple_type, index_type, Makes, MakesFields, then_fields, type_layer, field_layer, type_of, field_list}
 use Rattle.check_definition.specs.Marking.{Marks, marked_constant, marked_type, marked_variables, marked_later, marked_simple, then_marks, marked_in, marked_field}
 use Rattle.check_definition.specs.Marking as marking
 use Rattle.law_well_formed.specs.Formed.{Holds, fine, broken}
@@ -37,14 +37,14 @@ use Rattle.typed_tree.specs.declared.meaning.Procedure.{Procedure}
 use Rattle.typed_tree.specs.declared.meaning.Value.{Value}
 use Rattle.typed_tree.specs.declared.shape.Made.{Made}
 use Rattle.m2_tree.specs.Names.{same_name}
-use Rattle.typed_tree.specs.Names.{found}
+use Rattle.typed_tree.specs.Names.{find_name}
 use Rattle.check_const.specs.Parts.{constant}
 use Rattle.check_expr.specs.Meanings.{part}
 use Rattle.check_type_expr.specs.Headings.{heading_of}
 use Rattle.check_definition.specs.Declare.{constant_meaning, with_constant, brings_with, type_meaning, with_type, begun_name, with_variable_type, with_variables}
 use Rattle.check_block.specs.declared.heading.Standing.{Standing}
 use Rattle.check_block.specs.declared.heading.Standing.TheVariants.{Free, Awaited, Taken}
-use Rattle.check_block.specs.Headings.{standing_of, standing_elaborated, name_standing, nested_meaning, headed, module_procedure, with_new, headed_as}
+use Rattle.check_block.specs.Headings.{standing_of, standing_elaborated, name_standing, nested_meaning, set_heading, module_procedure, with_new, headed_as}
 use Rattle.check_block.specs.Naming.{marked_layer, marked_decl, with_marks}
 use Rattle.check_block.specs.Declarations.{local_meaning, finished_local, with_locals, Course, decl_layer, with_decl}
 use Rattle.law_well_formed.proofs.NumbersDeclarations.{decl_grows, layer_marks}
@@ -65,29 +65,29 @@ known_stays : {T : Type 0} (s : Scope T) (name : List ℕ) (k : Known T) → (Na
 known_stays s name k p = record { locals = λ h. entered_local name k s.own (p h) h }
 
 module _ (g : Gathers) (s : Scope g.Reported) (name : Ident) where
-  unless_by : (b : Bool) (k : Known g.Reported) → (NamesLocal s.own → KnownLocal k) → Stays s (cond {A = State (Unit {0}) g.Reported} b (with_known name.name k s, Ok tt) (s, reported g name.pos rule.DeclaredTwice)).0
+  unless_by : (b : Bool) (k : Known g.Reported) → (NamesLocal s.own → KnownLocal k) → Stays s (cond {A = State (Unit {0}) g.Reported} b (with_known name.name k s, Ok tt) (s, report g name.pos rule.DeclaredTwice)).0
   unless_by true k p = known_stays s name.name k p
   unless_by false k p = stays_refl s
 
   unless_stays : (k : Known g.Reported) → (NamesLocal s.own → KnownLocal k) → Stays s (unless_declared g s name k).0
-  unless_stays k p = unless_by (is_free (found name.name s.own)) k p
+  unless_stays k p = unless_by (is_free (find_name name.name s.own)) k p
 
-  begun_stays : Stays s (begun g s name).0
+  begun_stays : Stays s (begin_name g s name).0
   begun_stays = unless_stays Begun (λ h. tt)
 
 finished_by : {T : Type 0} (s : Scope T) (name : List ℕ) (k : Known T) (b : Bool) → (NamesLocal s.own → KnownLocal k) → Stays s (cond b (with_known name k s) s)
 finished_by s name k true p = known_stays s name k p
 finished_by s name k false p = stays_refl s
 
-finished_stays : {T : Type 0} (s : Scope T) (name : Ident) (r : Result Meaning T) → (NamesLocal s.own → Holds MeaningLocal r) → Stays s (finished s name r)
-finished_stays s name r p = finished_by s name.name (Declared Here r) (is_begun (found name.name s.own)) p
+finished_stays : {T : Type 0} (s : Scope T) (name : Ident) (r : Result Meaning T) → (NamesLocal s.own → Holds MeaningLocal r) → Stays s (finish_name s name r)
+finished_stays s name r p = finished_by s name.name (Declared Here r) (is_begun (find_name name.name s.own)) p
 
 marked_by : {T : Type 0} (s : Scope T) (name : List ℕ) (k : Known T) (o : Option (Known T)) → KnownLocal k → Stays s (unless_marked name k s o)
 marked_by s name k (Some x) p = stays_refl s
 marked_by s name k None p = known_stays s name k (λ h. p)
 
-marked_stays : {T : Type 0} (s : Scope T) (name : Ident) (k : Known T) → KnownLocal k → Stays s (marked name k s)
-marked_stays s name k p = marked_by s name.name k (found name.name s.own) p
+marked_stays : {T : Type 0} (s : Scope T) (name : Ident) (k : Known T) → KnownLocal k → Stays s (mark_name name k s)
+marked_stays s name k p = marked_by s name.name k (find_name name.name s.own) p
 
 shape_stays : {T : Type 0} (s : Scope T) (x : Made) → Stays s (with_shape s x)
 shape_stays s x = record { locals = λ h. h }
@@ -165,9 +165,9 @@ module _ (T : Type 0) where
 -- ---- types that are made
 
 module _ (g : Gathers) where
-  listed_all : (t : TypeNo) (names : List Ident) (l : Scope g.Reported × ℕ × Result (Unit {0}) g.Reported) → Stays l.0 (fold (listed g t) l names).0
+  listed_all : (t : TypeNo) (names : List Ident) (l : Scope g.Reported × ℕ × Result (Unit {0}) g.Reported) → Stays l.0 (fold (enumerate_name g t) l names).0
   listed_all t [] l = stays_refl l.0
-  listed_all t (x ∷ xs) l = stays_then (unless_stays g l.0 x (Declared Here (Ok (enumeration_constant t (pos l.1)))) (λ h. fine (enumeration_constant t (pos l.1)) tt)) (listed_all t xs (listed g t l x))
+  listed_all t (x ∷ xs) l = stays_then (unless_stays g l.0 x (Declared Here (Ok (enumeration_constant t (pos l.1)))) (λ h. fine (enumeration_constant t (pos l.1)) tt)) (listed_all t xs (enumerate_name g t l x))
 
   simple_grows : (s : Scope g.Reported) (t : Simple) → Stays s (simple_type g s t).0
   simple_grows s (simple.Named q) = stays_refl s
@@ -241,7 +241,7 @@ module _ (g : Gathers) where
 
   constant_stays : (st : State (Unit {0}) g.Reported) (c : Constant) → Goes st.0 (with_constant g st c).0
   constant_stays st c =
-      let b : Scope g.Reported = (begun g st.0 c.name).0 in
+      let b : Scope g.Reported = (begin_name g st.0 c.name).0 in
       let v : Result Value g.Reported = constant g b (part g c.value) in
       stays_then (begun_stays g st.0 c.name)
       (finished_stays b c.name (constant_meaning v) (λ h. then_holds (any_holds v) (λ x k. fine (meaning.Constant x) tt)))
@@ -252,7 +252,7 @@ module _ (g : Gathers) where
 
   type_stays : (st : State (Unit {0}) g.Reported) (d : TypeDecl) → Goes st.0 (with_type g st d).0
   type_stays st d =
-      let b : Scope g.Reported = (begun g st.0 d.name).0 in
+      let b : Scope g.Reported = (begin_name g st.0 d.name).0 in
       let t : State TypeNo g.Reported = type_of g d.of b in
       stays_then (begun_stays g st.0 d.name) (stays_then (type_of_stays g d.of b)
       (finished_stays t.0 d.name (type_meaning t.1 (brings_with d.of)) (λ h. then_holds (any_holds t.1) (λ x k. fine (meaning.Type x (brings_with d.of)) tt))))
@@ -302,11 +302,11 @@ module _ (g : Gathers) where
 
   -- ---- headings
 
-  nested_stays : (s : Scope g.Reported) (name : List ℕ) (n : ℕ) (t : Result TypeNo g.Reported) → Goes s (headed name (nested_meaning s.level n t) s)
+  nested_stays : (s : Scope g.Reported) (name : List ℕ) (n : ℕ) (t : Result TypeNo g.Reported) → Goes s (set_heading name (nested_meaning s.level n t) s)
   nested_stays s name n t =
       known_stays s name (Headed (nested_meaning s.level n t)) (λ h. then_holds (any_holds t) (λ x k. fine (meaning.LocalProcedure (record { level = s.level; number = n; heading = x })) tt))
 
-  new_by : (b : Bool) → b ≡ false → (s : Scope g.Reported) (name : List ℕ) (n : ℕ) (t : Result TypeNo g.Reported) → Goes s (cond b (module_procedure s name t) (headed name (nested_meaning s.level n t) s))
+  new_by : (b : Bool) → b ≡ false → (s : Scope g.Reported) (name : List ℕ) (n : ℕ) (t : Result TypeNo g.Reported) → Goes s (cond b (module_procedure s name t) (set_heading name (nested_meaning s.level n t) s))
   new_by true e s name n t = absurd cc
   new_by false e s name n t = nested_stays s name n t
 
@@ -324,9 +324,9 @@ module _ (g : Gathers) where
   if_by true k o p q = p
   if_by false k o p q = q
 
-  found_local : (name : List ℕ) (es : List (List ℕ × Known g.Reported)) → NamesLocal es → If (found name es)
+  found_local : (name : List ℕ) (es : List (List ℕ × Known g.Reported)) → NamesLocal es → If (find_name name es)
   found_local name [] h = tt
-  found_local name (e ∷ es) h = if_by (same_name name e.0) e.1 (found name es) h.0 (found_local name es h.1)
+  found_local name (e ∷ es) h = if_by (same_name name e.0) e.1 (find_name name es) h.0 (found_local name es h.1)
 
   none_of : (p : Procedure) (m : Meaning) → standing_of m ≡ Awaited p → MeaningLocal m → ⊥
   none_of p (meaning.Procedure q) e h = h
@@ -354,10 +354,10 @@ module _ (g : Gathers) where
   none_awaited p (Some (Declared (Module k) r)) e h = absurd cc
   none_awaited p (Some (Declared (Export k) r)) e h = absurd cc
 
-  heading_by : (s : Scope g.Reported) (h : Heading) (n : ℕ) (made : Result Made g.Reported) (o : Standing) → name_standing (found h.name.name s.own) ≡ o → (s.level == 0) ≡ false → Goes s (headed_as g s h n made o).0
+  heading_by : (s : Scope g.Reported) (h : Heading) (n : ℕ) (made : Result Made g.Reported) (o : Standing) → name_standing (find_name h.name.name s.own) ≡ o → (s.level == 0) ≡ false → Goes s (headed_as g s h n made o).0
   heading_by s h n made Free e l = new_stays s h.name.name n made l
   heading_by s h n made (Awaited p) e l =
-      known_stays s h.name.name (Headed (Ok (meaning.Procedure p))) (λ k. absurd (none_awaited p (found h.name.name s.own) e (found_local h.name.name s.own k)))
+      known_stays s h.name.name (Headed (Ok (meaning.Procedure p))) (λ k. absurd (none_awaited p (find_name h.name.name s.own) e (found_local h.name.name s.own k)))
   heading_by s h n made Taken e l = stays_refl s
 
   -- ---- marks
@@ -386,7 +386,7 @@ module _ (g : Gathers) where
   layer_stays ends c (dlayer.Constants cs) l = constants_stay cs (c.0, c.1)
   layer_stays ends c (dlayer.Types ts) l = types_stay ts (c.0, c.1)
   layer_stays ends c (dlayer.Variables vs) l = variables_by (c.0.level == 0) l (c.0, c.1) vs
-  layer_stays ends c (dlayer.Procedure h b) l = heading_by c.0 h c.2 (heading_of g c.0 h) (name_standing (found h.name.name c.0.own)) refl l
+  layer_stays ends c (dlayer.Procedure h b) l = heading_by c.0 h c.2 (heading_of g c.0 h) (name_standing (find_name h.name.name c.0.own)) refl l
 
   all_marks : (ds : List Decl) (st : Scope g.Reported × List ℕ) → Goes st.0 (fold (with_marks marked_decl) st ds).0
   all_marks [] st = stays_refl st.0

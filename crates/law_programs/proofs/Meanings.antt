@@ -34,7 +34,7 @@ use Rattle.typed_tree.specs.declared.meaning.Value.TheVariants as constant_value
 use Rattle.typed_tree.specs.declared.shape.Formal.{Formal}
 use Rattle.typed_tree.specs.declared.shape.Signature.{Signature}
 use Rattle.typed_tree.specs.declared.types.TypeNo.{TypeNo}
-use Rattle.typed_tree.specs.Chains.{rooted}
+use Rattle.typed_tree.specs.Chains.{root_place}
 use Rattle.typed_tree.specs.Types.{char}
 use Rattle.check_scope.specs.declared.meaningless.Meaningless.{Meaningless}
 use Rattle.check_scope.specs.Elaborated.{Gathers, reported_where, ahead, of_sort, of_heading, ◌▷◌}
@@ -43,12 +43,12 @@ use Rattle.check_const.specs.Denote.{as_constant as constant_of}
 use Rattle.check_const.specs.Parts.{Part, Pick, Adds, sign_place, set_type}
 use Rattle.check_const.specs.declared.denoted.Denoted.{Denoted}
 use Rattle.check_const.specs.declared.denoted.Denoted.TheVariants as denoted
-use Rattle.check_const_ops.specs.Operands.{letter, valued}
+use Rattle.check_const_ops.specs.Operands.{letter, number_value}
 use Rattle.check_const_ops.specs.Operators.{mul_op, add_op}
 use Rattle.check_const_ops.specs.declared.operator.BinaryOp.TheVariants as op
 use Rattle.check_operator.specs.Classes.{signature_at}
 use Rattle.check_operator.specs.Selection.{field}
-use Rattle.check_operator.specs.Values.{slot_of, local_by, designated_by, given}
+use Rattle.check_operator.specs.Values.{slot_of, local_by, designated_by, function_result}
 use Rattle.check_operator.specs.declared.computed.Computed.{Computed}
 use Rattle.check_operator.specs.declared.computed.Computed.TheVariants as value
 use Rattle.check_operator.specs.declared.computed.Designated.{Designated}
@@ -62,7 +62,7 @@ use Rattle.check_call.specs.declared.callee.Called.TheVariants as called
 use Rattle.check_call.specs.declared.standard.Form.{Form}
 use Rattle.check_call.specs.declared.standard.Form.TheVariants as form
 use Rattle.check_call.specs.declared.standard.Unary.{Unary}
-use Rattle.check_expr.specs.Meanings.{Meant, Picks, of_computed, signed_first, named, field_of, formals_of, passed_for, argument_by, call_given, as_constant, value_of, looked_at, with_actual, actuals, routine_called, unary, bound, conversion, high, by_form, called_as, called_by, factor, term, relation, expr_layer, selector_layer, designator_layer, item_layer, meant, picks, head, item}
+use Rattle.check_expr.specs.Meanings.{Meant, Picks, of_computed, signed_first, first_name, field_of, formals_of, passed_for, argument_by, call_given, as_constant, value_of, breaches_in_all, with_actual, actuals, routine_called, unary, bound, conversion, high, by_form, callee_value, call_in_expression, factor, term, relation, expr_layer, selector_layer, designator_layer, item_layer, meanings_of, picks, head, item}
 use Rattle.layout_storage.specs.Shapes.{tree}
 use Rattle.layout_storage.specs.Types.{Ty}
 use Rattle.law_simulation.specs.Frames.{kind_at}
@@ -147,17 +147,17 @@ module _ (g : Gathers) (x : Context) (ws : List Ty) (opens : ℕ → Bool) (s : 
   pub by_meaning : (at : Pos) (y : Meaning) → MeaningTyped x ws opens s.level y → Designated_ (designated_by g s.level at y)
   by_meaning at (meaning.Constant v) p = fine (designated.Value (value.Constant v)) p
   by_meaning at (meaning.Type t n) p = fine (designated.Type t) tt
-  by_meaning at (meaning.Variable v) p = fine (designated.Variable v.of (rooted (root.Global v))) (made.rooted_typed x ws (root.Global v) (tree types v.of) (GlobalRoot v (tree types v.of) p))
+  by_meaning at (meaning.Variable v) p = fine (designated.Variable v.of (root_place (root.Global v))) (made.rooted_typed x ws (root.Global v) (tree types v.of) (GlobalRoot v (tree types v.of) p))
   by_meaning at (meaning.Local v) p = fine (local_by s.level v v.kind) (local_typed v v.kind p)
   by_meaning at (meaning.Field f) p =
-      fine _ (made.behind_typed x ws (rooted (root.With f.with)) (part.Field f.whole f.number) (tree types f.whole) (tree types f.of) (made.rooted_typed x ws (root.With f.with) (tree types f.whole) (WithRoot f.with (tree types f.whole) p.0)) (made.field_typed x ws f.whole f.number (tree types f.of) p.1))
+      fine _ (made.behind_typed x ws (root_place (root.With f.with)) (part.Field f.whole f.number) (tree types f.whole) (tree types f.of) (made.rooted_typed x ws (root.With f.with) (tree types f.whole) (WithRoot f.with (tree types f.whole) p.0)) (made.field_typed x ws f.whole f.number (tree types f.of) p.1))
   by_meaning at (meaning.Procedure f) p = fine (designated.Procedure f) p
   by_meaning at (meaning.LocalProcedure f) p = fine _ p
   by_meaning at meaning.Ahead p = reported_holds g at rule.Undeclared
   by_meaning at (meaning.Standard f) p = fine (designated.Standard f) tt
   by_meaning at (meaning.Module k) p = fine (designated.Module k) p
 
-  named_typed : (name : Ident) → Designated_ (named g s name)
+  named_typed : (name : Ident) → Designated_ (first_name g s name)
   named_typed name = then_holds (h.names name) (λ y p. plain_holds (by_meaning name.pos y p))
 
   component_typed : (at : Pos) (name : Ident) (d : Designated) → DesignatedTyped x ws opens d → Designated_ (field g s.types at name d)
@@ -210,21 +210,21 @@ module _ (g : Gathers) (x : Context) (ws : List Ty) (opens : ℕ → Bool) (s : 
     given_call : (k : Signature) (r : TypeNo) → signature_at s.types t ≡ Some k → k.result ≡ Some r → length k.formals ≡ length args → Value_ (call_given g s.types r c (actuals g s k.formals args))
     given_call k r e q count =
         then_holds (actuals_typed args k.formals count (h.formals t k e) all) (λ gs p.
-        fine (given s.types r (expr.Call r (call_by gs c)))
+        fine (function_result s.types r (expr.Call r (call_by gs c)))
         (given_typed x ws h.all g opens s.types h.types r (call_by gs c) (subst (CallTyped x ws (call_by gs c)) (ap (option_map (tree types)) q) (call_made k e gs p))))
 
     by_count : (k : Signature) (r : TypeNo) (q : Bool) → (length k.formals == length args) ≡ q → signature_at s.types t ≡ Some k → k.result ≡ Some r
-        → Value_ (ahead g (reported_where g {A = Unit {0}} (not q) at rule.ArgumentCount (Ok (tt {0})) ▷ λ fine. Ok r) (looked_at g s args) (λ r. call_given g s.types r c (actuals g s k.formals args)))
+        → Value_ (ahead g (reported_where g {A = Unit {0}} (not q) at rule.ArgumentCount (Ok (tt {0})) ▷ λ fine. Ok r) (breaches_in_all g s args) (λ r. call_given g s.types r c (actuals g s k.formals args)))
     by_count k r true count e q = given_call k r e q (eqb-true (length k.formals) (length args) count)
-    by_count k r false count e q = refused_holds g _ (looked_at g s args)
+    by_count k r false count e q = refused_holds g _ (breaches_in_all g s args)
 
     by_result : (k : Signature) (o : Option TypeNo) → k.result ≡ o → signature_at s.types t ≡ Some k
-        → Value_ (ahead g (function_with g at (length k.formals) (length args) o) (looked_at g s args) (λ r. call_given g s.types r c (actuals g s k.formals args)))
-    by_result k None q e = refused_holds g _ (looked_at g s args)
+        → Value_ (ahead g (function_with g at (length k.formals) (length args) o) (breaches_in_all g s args) (λ r. call_given g s.types r c (actuals g s k.formals args)))
+    by_result k None q e = refused_holds g _ (breaches_in_all g s args)
     by_result k (Some r) q e = by_count k r (length k.formals == length args) refl e q
 
-    by_signature : (o : Option Signature) → signature_at s.types t ≡ o → Value_ (ahead g (function_of g at o (length args)) (looked_at g s args) (λ r. call_given g s.types r c (actuals g s (formals_of o) args)))
-    by_signature None e = refused_holds g _ (looked_at g s args)
+    by_signature : (o : Option Signature) → signature_at s.types t ≡ o → Value_ (ahead g (function_of g at o (length args)) (breaches_in_all g s args) (λ r. call_given g s.types r c (actuals g s (formals_of o) args)))
+    by_signature None e = refused_holds g _ (breaches_in_all g s args)
     by_signature (Some k) e = by_result k k.result refl e
 
     routine_typed : Value_ (routine_called g s at t c args)
@@ -233,7 +233,7 @@ module _ (g : Gathers) (x : Context) (ws : List Ty) (opens : ℕ → Bool) (s : 
   -- ---- standard functions
 
   unary_all : (at : Pos) (f : Standard) (u : Unary) (args : List (Meant g.Reported)) → AllM args → Value_ (unary g s at f u args)
-  unary_all at f u [] all = reported_beside_holds g at rule.ArgumentCount (looked_at g s [])
+  unary_all at f u [] all = reported_beside_holds g at rule.ArgumentCount (breaches_in_all g s [])
   unary_all at f u (y ∷ []) all = then_holds (value_typed y all.0) (λ v p. unary_typed x ws h.all g opens s.types h.types f u y.fixed.at v p)
   unary_all at f u (y ∷ z ∷ ys) all = reported_beside_holds g at rule.ArgumentCount _
 
@@ -241,18 +241,18 @@ module _ (g : Gathers) (x : Context) (ws : List Ty) (opens : ℕ → Bool) (s : 
   named_type at d = then_holds (any_holds d) (λ y k. type_is x ws h.all g opens s.types h.types at y)
 
   bound_all : (at : Pos) (f : Standard) (args : List (Meant g.Reported)) → Value_ (bound g s at f args)
-  bound_all at f [] = reported_beside_holds g at rule.ArgumentCount (looked_at g s [])
+  bound_all at f [] = reported_beside_holds g at rule.ArgumentCount (breaches_in_all g s [])
   bound_all at f (y ∷ []) = bound_typed x ws h.all g opens s.types h.types f (named_type y.fixed.at (of_sort g y.fixed.at rule.NoType (y.means s)))
   bound_all at f (y ∷ z ∷ ys) = reported_beside_holds g at rule.ArgumentCount _
 
   conversion_all : (at : Pos) (args : List (Meant g.Reported)) → AllM args → Value_ (conversion g s at args)
-  conversion_all at [] all = reported_beside_holds g at rule.ArgumentCount (looked_at g s [])
+  conversion_all at [] all = reported_beside_holds g at rule.ArgumentCount (breaches_in_all g s [])
   conversion_all at (t ∷ []) all = reported_beside_holds g at rule.ArgumentCount _
   conversion_all at (t ∷ y ∷ []) all = conversion_typed x ws h.all g opens s.types h.types y.fixed.at (named_type t.fixed.at (of_sort g t.fixed.at rule.NoType (t.means s))) (value_typed y all.1.0)
   conversion_all at (t ∷ y ∷ z ∷ ys) all = reported_beside_holds g at rule.ArgumentCount _
 
   high_all : (at : Pos) (args : List (Meant g.Reported)) → AllM args → Value_ (high g s at args)
-  high_all at [] all = reported_beside_holds g at rule.ArgumentCount (looked_at g s [])
+  high_all at [] all = reported_beside_holds g at rule.ArgumentCount (breaches_in_all g s [])
   high_all at (y ∷ []) all = then_holds (sort_holds g y.fixed.at rule.WrongArgument all.0) (λ d p. high_typed x ws h.all g opens s.types h.types y.fixed.at d p)
   high_all at (y ∷ z ∷ ys) all = reported_beside_holds g at rule.ArgumentCount _
 
@@ -263,12 +263,12 @@ module _ (g : Gathers) (x : Context) (ws : List Ty) (opens : ℕ → Bool) (s : 
   form_typed at f args form.High all = high_all at args all
   form_typed at f args form.Proper all = reported_beside_holds g at rule.WrongType _
 
-  called_as_typed : (at : Pos) (args : List (Meant g.Reported)) (y : Called) → CalledTyped x ws h.all g opens s.types h.types y → AllM args → Value_ (called_as g s at args y)
+  called_as_typed : (at : Pos) (args : List (Meant g.Reported)) (y : Called) → CalledTyped x ws h.all g opens s.types h.types y → AllM args → Value_ (callee_value g s at args y)
   called_as_typed at args (called.Routine t c) p all = routine_typed at t c args p all
   called_as_typed at args (called.Standard f) p all = form_typed at f args (standard_form f) all
 
-  called_typed : (at : Pos) {d : Result Designated (Meaningless g.Reported)} (args : List (Meant g.Reported)) → Designated_ d → AllM args → Value_ (called_by g s at d args)
-  called_typed at args p all = ahead_holds g (looked_at g s args) (then_holds (of_heading_holds p) (λ d k. callee_typed x ws h.all g opens s.types h.types at d k)) (λ y k. called_as_typed at args y k all)
+  called_typed : (at : Pos) {d : Result Designated (Meaningless g.Reported)} (args : List (Meant g.Reported)) → Designated_ d → AllM args → Value_ (call_in_expression g s at d args)
+  called_typed at args p all = ahead_holds g (breaches_in_all g s args) (then_holds (of_heading_holds p) (λ d k. callee_typed x ws h.all g opens s.types h.types at d k)) (λ y k. called_as_typed at args y k all)
 
   -- ---- operators
 
@@ -294,7 +294,7 @@ module _ (g : Gathers) (x : Context) (ws : List Ty) (opens : ℕ → Bool) (s : 
   -- ---- a layer, each part of which has its meaning
 
   abbrev PE : Expr → Type 0
-  PE e = fits_whole e ≡ true → FM (meant g e)
+  PE e = fits_whole e ≡ true → FM (meanings_of g e)
 
   abbrev PS : Selector → Type 0
   PS e = fits_picked e ≡ true → FP (picks g e)
@@ -318,31 +318,31 @@ module _ (g : Gathers) (x : Context) (ws : List Ty) (opens : ℕ → Bool) (s : 
   SI = (e : Item) × PI e
 
   abbrev opened : Expr-F Expr Selector Designator Item → Expr-F (Meant g.Reported) (Picks g.Reported) (Meant g.Reported) (Adds g.Reported)
-  opened x = map-Expr Expr Selector Designator Item (Meant g.Reported) (Picks g.Reported) (Meant g.Reported) (Adds g.Reported) (meant g) (picks g) (head g) (item g) x
+  opened x = map-Expr Expr Selector Designator Item (Meant g.Reported) (Picks g.Reported) (Meant g.Reported) (Adds g.Reported) (meanings_of g) (picks g) (head g) (item g) x
 
   abbrev opened_selector : Selector-F Expr Selector Designator Item → Selector-F (Meant g.Reported) (Picks g.Reported) (Meant g.Reported) (Adds g.Reported)
-  opened_selector x = map-Selector Expr Selector Designator Item (Meant g.Reported) (Picks g.Reported) (Meant g.Reported) (Adds g.Reported) (meant g) (picks g) (head g) (item g) x
+  opened_selector x = map-Selector Expr Selector Designator Item (Meant g.Reported) (Picks g.Reported) (Meant g.Reported) (Adds g.Reported) (meanings_of g) (picks g) (head g) (item g) x
 
   abbrev opened_designator : Designator-F Expr Selector Designator Item → Designator-F (Meant g.Reported) (Picks g.Reported) (Meant g.Reported) (Adds g.Reported)
-  opened_designator x = map-Designator Expr Selector Designator Item (Meant g.Reported) (Picks g.Reported) (Meant g.Reported) (Adds g.Reported) (meant g) (picks g) (head g) (item g) x
+  opened_designator x = map-Designator Expr Selector Designator Item (Meant g.Reported) (Picks g.Reported) (Meant g.Reported) (Adds g.Reported) (meanings_of g) (picks g) (head g) (item g) x
 
   abbrev opened_item : Item-F Expr Selector Designator Item → Item-F (Meant g.Reported) (Picks g.Reported) (Meant g.Reported) (Adds g.Reported)
-  opened_item x = map-Item Expr Selector Designator Item (Meant g.Reported) (Picks g.Reported) (Meant g.Reported) (Adds g.Reported) (meant g) (picks g) (head g) (item g) x
+  opened_item x = map-Item Expr Selector Designator Item (Meant g.Reported) (Picks g.Reported) (Meant g.Reported) (Adds g.Reported) (meanings_of g) (picks g) (head g) (item g) x
 
-  at_expr : (e : Expr) (x : Expr-F Expr Selector Designator Item) → out-Expr e ≡ x → meant g e ≡ expr_layer g (opened x)
-  unfolding meant picks head item
+  at_expr : (e : Expr) (x : Expr-F Expr Selector Designator Item) → out-Expr e ≡ x → meanings_of g e ≡ expr_layer g (opened x)
+  unfolding meanings_of picks head item
   at_expr e x q = fold_out-Expr (Meant g.Reported) (Picks g.Reported) (Meant g.Reported) (Adds g.Reported) (expr_layer g) (selector_layer g) (designator_layer g) (item_layer g) e ∙ ap (λ (y : Expr-F Expr Selector Designator Item). expr_layer g (opened y)) q
 
   at_selector : (e : Selector) (x : Selector-F Expr Selector Designator Item) → out-Selector e ≡ x → picks g e ≡ selector_layer g (opened_selector x)
-  unfolding meant picks head item
+  unfolding meanings_of picks head item
   at_selector e x q = fold_out-Selector (Meant g.Reported) (Picks g.Reported) (Meant g.Reported) (Adds g.Reported) (expr_layer g) (selector_layer g) (designator_layer g) (item_layer g) e ∙ ap (λ (y : Selector-F Expr Selector Designator Item). selector_layer g (opened_selector y)) q
 
   at_designator : (e : Designator) (x : Designator-F Expr Selector Designator Item) → out-Designator e ≡ x → head g e ≡ designator_layer g (opened_designator x)
-  unfolding meant picks head item
+  unfolding meanings_of picks head item
   at_designator e x q = fold_out-Designator (Meant g.Reported) (Picks g.Reported) (Meant g.Reported) (Adds g.Reported) (expr_layer g) (selector_layer g) (designator_layer g) (item_layer g) e ∙ ap (λ (y : Designator-F Expr Selector Designator Item). designator_layer g (opened_designator y)) q
 
   at_item : (e : Item) (x : Item-F Expr Selector Designator Item) → out-Item e ≡ x → item g e ≡ item_layer g (opened_item x)
-  unfolding meant picks head item
+  unfolding meanings_of picks head item
   at_item e x q = fold_out-Item (Meant g.Reported) (Picks g.Reported) (Meant g.Reported) (Adds g.Reported) (expr_layer g) (selector_layer g) (designator_layer g) (item_layer g) e ∙ ap (λ (y : Item-F Expr Selector Designator Item). item_layer g (opened_item y)) q
 
   -- what fits
@@ -389,11 +389,11 @@ module _ (g : Gathers) (x : Context) (ws : List Ty) (opens : ℕ → Bool) (s : 
   bared ys = map (λ (e : SE). e.0) ys
 
   all_terms : {O : Type 0} (ys : List (Operator O × SE)) → list_all (λ (b : Operator O × Bool). b.1) (map (λ (y : Operator O × Expr). (y.0, fits_whole y.1)) (map (λ (a : Operator O × SE). (a.0, a.1.0)) ys)) ≡ true
-      → AllT (map (λ (y : Operator O × Expr). (y.0, meant g y.1)) (map (λ (a : Operator O × SE). (a.0, a.1.0)) ys))
+      → AllT (map (λ (y : Operator O × Expr). (y.0, meanings_of g y.1)) (map (λ (a : Operator O × SE). (a.0, a.1.0)) ys))
   all_terms [] e = tt
   all_terms (y ∷ ys) e = (y.1.1 (both_left (fits_whole y.1.0) _ e), all_terms ys (both_right (fits_whole y.1.0) _ e))
 
-  all_args : (ys : List SE) → list_all itself (map fits_whole (bared ys)) ≡ true → AllM (map (meant g) (bared ys))
+  all_args : (ys : List SE) → list_all itself (map fits_whole (bared ys)) ≡ true → AllM (map (meanings_of g) (bared ys))
   all_args [] e = tt
   all_args (y ∷ ys) e = (y.1 (both_left (fits_whole y.0) (list_all itself (map fits_whole (bared ys))) e), all_args ys (both_right (fits_whole y.0) (list_all itself (map fits_whole (bared ys))) e))
 
@@ -405,34 +405,34 @@ module _ (g : Gathers) (x : Context) (ws : List Ty) (opens : ℕ → Bool) (s : 
   all_items [] = tt
   all_items (y ∷ ys) = (y.1, all_items ys)
 
-  first_of : (y : SE) (rest : Bool) → (fits_whole y.0 && rest) ≡ true → Value_ (value_of g s (meant g y.0))
-  first_of y rest e = value_typed (meant g y.0) (y.1 (both_left (fits_whole y.0) rest e))
+  first_of : (y : SE) (rest : Bool) → (fits_whole y.0 && rest) ≡ true → Value_ (value_of g s (meanings_of g y.0))
+  first_of y rest e = value_typed (meanings_of g y.0) (y.1 (both_left (fits_whole y.0) rest e))
 
   expr_typed : (y : Expr-F SE SS SD SI) → fits_layer (fitting (bare y)) ≡ true → FM (expr_layer g (opened (bare y)))
   expr_typed (layer.Number p n) e = constant_meant (expr_layer g (opened (bare (layer.Number p n)))).fixed (fine (denoted.Value (constant_value.Number (pos n))) ((omega (arith, ints), from_le (pos n) (pos 4294967295) e), tt))
-  expr_typed (layer.Char p c) e = constant_meant (expr_layer g (opened (bare (layer.Char p c)))).fixed (fine (denoted.Value (valued (Some char) (pos c))) (char_ranged g types (pos c) (omega (arith, ints)) (from_le (pos c) (pos 255) e), tt))
+  expr_typed (layer.Char p c) e = constant_meant (expr_layer g (opened (bare (layer.Char p c)))).fixed (fine (denoted.Value (number_value (Some char) (pos c))) (char_ranged g types (pos c) (omega (arith, ints)) (from_le (pos c) (pos 255) e), tt))
   expr_typed (layer.Text p t) e = constant_meant (expr_layer g (opened (bare (layer.Text p t)))).fixed (fine (denoted.Value (constant_value.Text t)) (e, tt))
   expr_typed (layer.Set q p items) e =
       constant_meant (expr_layer g (opened (bare (layer.Set q p items)))).fixed
       (then_holds (both_holds g (any_holds (set_type g s q)) (items_small g s (map (λ (i : Adds g.Reported). i) (map (item g) (map (λ (e : SI). e.0) items))) (Ok 0) (fine 0 (omega arith)) (all_items items)))
       (λ (b : Unit {0} × ℕ) k. fine (denoted.Value (constant_value.Set b.1)) (tt, k.1)))
-  expr_typed (layer.Not p y) e = computed_typed (negated_typed x ws h.all g p (value_typed (meant g y.0) (y.1 e)))
-  expr_typed (layer.Bracketed p y) e = computed_typed (value_typed (meant g y.0) (y.1 e))
+  expr_typed (layer.Not p y) e = computed_typed (negated_typed x ws h.all g p (value_typed (meanings_of g y.0) (y.1 e)))
+  expr_typed (layer.Bracketed p y) e = computed_typed (value_typed (meanings_of g y.0) (y.1 e))
   expr_typed (layer.Use d None) e = d.1 (both_left (fits_head d.0) true e)
   expr_typed (layer.Use d (Some es)) e =
-      computed_typed (called_typed (head g d.0).fixed.at (map (meant g) (bared es)) (d.1 (both_left (fits_head d.0) (list_all itself (map fits_whole (bared es))) e)) (all_args es (both_right (fits_head d.0) (list_all itself (map fits_whole (bared es))) e)))
+      computed_typed (called_typed (head g d.0).fixed.at (map (meanings_of g) (bared es)) (d.1 (both_left (fits_head d.0) (list_all itself (map fits_whole (bared es))) e)) (all_args es (both_right (fits_head d.0) (list_all itself (map fits_whole (bared es))) e)))
   expr_typed (layer.Term y ys) e =
-      computed_typed (factors_typed (meant g y.0).fixed.at (map (λ (z : Operator MulOp × Expr). (z.0, meant g z.1)) (map (λ (a : Operator MulOp × SE). (a.0, a.1.0)) ys)) (value_of g s (meant g y.0)) (first_of y _ e) (all_terms ys (both_right (fits_whole y.0) _ e)))
+      computed_typed (factors_typed (meanings_of g y.0).fixed.at (map (λ (z : Operator MulOp × Expr). (z.0, meanings_of g z.1)) (map (λ (a : Operator MulOp × SE). (a.0, a.1.0)) ys)) (value_of g s (meanings_of g y.0)) (first_of y _ e) (all_terms ys (both_right (fits_whole y.0) _ e)))
   expr_typed (layer.Sum o y ys) e =
-      computed_typed (terms_typed (sign_place o (meant g y.0).fixed.at) (map (λ (z : Operator AddOp × Expr). (z.0, meant g z.1)) (map (λ (a : Operator AddOp × SE). (a.0, a.1.0)) ys)) (signed_first g o (value_of g s (meant g y.0))) (first_typed o (first_of y _ e)) (all_terms ys (both_right (fits_whole y.0) _ e)))
-  expr_typed (layer.Relation a o b) e = computed_typed (relation_typed (meant g a.0) o (meant g b.0) (a.1 (both_left (fits_whole a.0) (fits_whole b.0) e)) (b.1 (both_right (fits_whole a.0) (fits_whole b.0) e)))
+      computed_typed (terms_typed (sign_place o (meanings_of g y.0).fixed.at) (map (λ (z : Operator AddOp × Expr). (z.0, meanings_of g z.1)) (map (λ (a : Operator AddOp × SE). (a.0, a.1.0)) ys)) (signed_first g o (value_of g s (meanings_of g y.0))) (first_typed o (first_of y _ e)) (all_terms ys (both_right (fits_whole y.0) _ e)))
+  expr_typed (layer.Relation a o b) e = computed_typed (relation_typed (meanings_of g a.0) o (meanings_of g b.0) (a.1 (both_left (fits_whole a.0) (fits_whole b.0) e)) (b.1 (both_right (fits_whole a.0) (fits_whole b.0) e)))
 
   selector_typed : (y : Selector-F SE SS SD SI) → fits_selector (fitting_selector (bare_selector y)) ≡ true → FP (selector_layer g (opened_selector (bare_selector y)))
   selector_typed (layer.Field p name) e = λ d q. plain_holds (then_holds (sort_holds g p rule.WrongType q) (λ z k. field_of_typed p name z k))
-  selector_typed (layer.Index p y) e = λ d q. plain_holds (indexed_typed x ws h.all g s.types h.types opens p (meant g y.0).fixed.at (sort_holds g p rule.WrongType q) (value_typed (meant g y.0) (y.1 e)))
+  selector_typed (layer.Index p y) e = λ d q. plain_holds (indexed_typed x ws h.all g s.types h.types opens p (meanings_of g y.0).fixed.at (sort_holds g p rule.WrongType q) (value_typed (meanings_of g y.0) (y.1 e)))
 
   designator_typed : (y : Designator-F SE SS SD SI) → fits_designator (fitting_designator (bare_designator y)) ≡ true → FM (designator_layer g (opened_designator (bare_designator y)))
-  designator_typed y e = picks_typed (map (picks g) (map (λ (e : SS). e.0) y.selectors)) (named g s y.name) (named_typed y.name) (all_picks y.selectors e)
+  designator_typed y e = picks_typed (map (picks g) (map (λ (e : SS). e.0) y.selectors)) (first_name g s y.name) (named_typed y.name) (all_picks y.selectors e)
 
   -- ---- the induction
 

@@ -32,11 +32,11 @@ use Rattle.check_block.specs.Naming.{with_marks}
 use Rattle.check_block.specs.Nesting as nesting
 use Rattle.check_block.specs.Nesting.{within_decl, within, ends_from, with_procedure_ends, with_decl_ends, procedure_ends}
 use Rattle.check_block.specs.Declarations.{Declared, all_declared, declared_block, reported_of_lack}
-use Rattle.check_body.specs.Routines.{unfilled, no_bodies}
+use Rattle.check_body.specs.Routines.{empty_routine, no_bodies}
 use Rattle.check_body.specs.declared.procedure.Walk.{Walk}
 use Rattle.check_body.specs.Elaborating.{Elaborates, statements_of}
 use Rattle.check_body.specs.Bodies.{Steps, marked_by, declared_by, steps}
-use Rattle.check_body.specs.Checks.{elaborated}
+use Rattle.check_body.specs.Checks.{elaborate_body}
 use Rattle.law_well_formed.specs.Formed.{Holds}
 use Rattle.law_well_formed.proofs.Basics.{holds_weaker}
 use Rattle.law_well_formed.specs.FormedScopes.{Leads}
@@ -113,15 +113,15 @@ ends_more so (d ∷ ds) =
 
 -- ---- procedures whose bodies are not checked yet
 
-unfilled_headings : (hs : List TypeNo) → Headings hs (map unfilled hs)
+unfilled_headings : (hs : List TypeNo) → Headings hs (map empty_routine hs)
 unfilled_headings [] n t e = absurd cc
-unfilled_headings (h ∷ hs) zero t e = (unfilled h, refl, same_Some h t e)
+unfilled_headings (h ∷ hs) zero t e = (empty_routine h, refl, same_Some h t e)
 unfilled_headings (h ∷ hs) (suc n) t e = unfilled_headings hs n t e
 
-unfilled_bodies : (z : Stage) (hs : List TypeNo) → AllBodies z (map unfilled hs)
+unfilled_bodies : (z : Stage) (hs : List TypeNo) → AllBodies z (map empty_routine hs)
 unfilled_bodies z [] n r e = absurd cc
 unfilled_bodies z (h ∷ hs) zero r e =
-    subst (λ (x : Routine). BodyTyped z x) (same_Some (unfilled h) r e) (row_typed (stands z (kinds_of z.home.types (unfilled h) ∷ environment_of z.home (unfilled h))) (result_of z.home.types h) [] false [] tt)
+    subst (λ (x : Routine). BodyTyped z x) (same_Some (empty_routine h) r e) (row_typed (stands z (kinds_of z.home.types (empty_routine h) ∷ environment_of z.home (empty_routine h))) (result_of z.home.types h) [] false [] tt)
 unfilled_bodies z (h ∷ hs) (suc n) r e = unfilled_bodies z hs n r e
 
 module _ (g : Gathers) (elaborates : Elaborates g.Reported) (forms : FormsStatements g elaborates) (writes : TypesStatements g elaborates) (base : Types) (words : WordsStay g) (ends : List ℕ) (keeps : LocalsStay g) (headings : HeadingsAgree g) where
@@ -323,10 +323,10 @@ modules_typed g base modules s m b fit begins ok z staged has ss e =
     let st : State (Unit {0}) g.Reported = fold (with_import g modules) (s, Ok tt) m.imports in
     let d : Declared g.Reported = declared_block g ends st 0 ds in
     let first : Walk g.Reported = record { scope = d.0; so_far = beside g d.1 (reported_of_lack g m.name.pos d.0); bodies = no_bodies d.0.procedures } in
-    let f = sym (fits_at_block g (elaborated g) (elaborated_formed g) (elaborated_typed g) base words ends b (out-Block b) refl) ∙ fit in
+    let f = sym (fits_at_block g (elaborate_body g) (elaborated_formed g) (elaborated_typed g) base words ends b (out-Block b) refl) ∙ fit in
     let parts = list_all itself (map fits_inside ds) in
-    subst (λ (w : Walk g.Reported). w.so_far ≡ Ok tt → HasModule g base z d.0 w → statements_of (elaborated g) w.scope None (out-Block b).body ≡ Ok ss → AreBodiesTyped z ss)
-    (sym (bodies_are g (elaborated g) (elaborated_formed g) ends None d.2 first ds))
-    (λ o h q. module_typed g (elaborated g) (elaborated_formed g) (elaborated_typed g) base words ends keeps headings st (reported_of_lack g m.name.pos) ds (both_left parts (fits_body (out-Block b).body) f) refl (out-Block b).body
+    subst (λ (w : Walk g.Reported). w.so_far ≡ Ok tt → HasModule g base z d.0 w → statements_of (elaborate_body g) w.scope None (out-Block b).body ≡ Ok ss → AreBodiesTyped z ss)
+    (sym (bodies_are g (elaborate_body g) (elaborated_formed g) ends None d.2 first ds))
+    (λ o h q. module_typed g (elaborate_body g) (elaborated_formed g) (elaborated_typed g) base words ends keeps headings st (reported_of_lack g m.name.pos) ds (both_left parts (fits_body (out-Block b).body) f) refl (out-Block b).body
     (both_right parts (fits_body (out-Block b).body) f) begins o z staged h ss q)
     ok has e

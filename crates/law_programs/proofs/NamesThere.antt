@@ -11,7 +11,7 @@ use Rattle.m2_tree.specs.declared.decl.Block.{Block, out-Block}
 use Rattle.m2_tree.specs.declared.decl.Contents.{Contents}
 use Rattle.m2_tree.specs.declared.decl.Contents.TheVariants as contents
 use Rattle.m2_tree.specs.declared.decl.Module.{Module as Tree}
-use Rattle.m2_graph.specs.Files.{numbered}
+use Rattle.m2_graph.specs.Files.{number_files}
 use Rattle.m2_graph.specs.Graph.{IsGraph, CompileEach}
 use Rattle.typed_tree.specs.declared.meaning.Meaning.{Meaning}
 use Rattle.typed_tree.specs.declared.meaning.Meaning.TheVariants as meaning
@@ -22,7 +22,7 @@ use Rattle.typed_tree.specs.declared.typed_module.Imported.{Imported}
 use Rattle.typed_tree.specs.declared.typed_module.Routine.{Routine}
 use Rattle.typed_tree.specs.declared.typed_module.TypedModule.{TypedModule}
 use Rattle.m2_tree.specs.Names.{same_name}
-use Rattle.typed_tree.specs.Names.{found}
+use Rattle.typed_tree.specs.Names.{find_name}
 use Rattle.m2_rule.specs.declared.breach.Breach.{Breach}
 use Rattle.check_scope.specs.declared.known.Known.{Known}
 use Rattle.check_scope.specs.declared.known.Known.TheVariants.{Later, Ahead, Begun, Headed, Declared}
@@ -31,14 +31,14 @@ use Rattle.check_scope.specs.declared.known.Origin.TheVariants.{Here, Module, Ex
 use Rattle.check_scope.specs.declared.scope.Block.{Block as Around}
 use Rattle.check_scope.specs.declared.scope.Scope.{Scope}
 use Rattle.check_scope.specs.Elaborated.{least}
-use Rattle.check_const.specs.Denote.{exported_by, exported, member}
+use Rattle.check_const.specs.Denote.{exported_by, export_of, member}
 use Rattle.layout_storage.specs.Types.{Hidden}
 use Rattle.layout_storage.specs.Texts.{characters, module_texts}
 use Rattle.check_definition.specs.Predeclared.{console, first_scope}
 use Rattle.check_definition.specs.Importing.{numbered_modules, exports_of}
 use Rattle.check_block.specs.Nesting.{procedure_ends}
 use Rattle.check_body.specs.Own.{implementation_scope}
-use Rattle.check_body.specs.Checks.{elaborated}
+use Rattle.check_body.specs.Checks.{elaborate_body}
 use Rattle.def_meaning.specs.Environment.{module_place}
 use Rattle.law_modules.specs.WellFormed.{IsProcedure}
 use Rattle.law_modules.specs.Linked.{Program}
@@ -82,7 +82,7 @@ imported_if : (a b : Bool) → a ≡ false → (a || b) ≡ true → b ≡ true
 imported_if true b e h = absurd cc
 imported_if false b e h = h
 
-module _ (fs : List (List ℕ × Tree)) (files : List ℕ) (jobs : List (List ℕ)) (starts : List ℕ) (graph : IsGraph (numbered 0 fs) files jobs starts) (each : CompileEach (numbered 0 fs) files) (fit : list_all fits_module (trees_of fs) ≡ true)
+module _ (fs : List (List ℕ × Tree)) (files : List ℕ) (jobs : List (List ℕ)) (starts : List ℕ) (graph : IsGraph (number_files 0 fs) files jobs starts) (each : CompileEach (number_files 0 fs) files) (fit : list_all fits_module (trees_of fs) ≡ true)
     (p : Program) (bodies : AreBodiesIn (trees_of fs) files jobs starts p) (pages place : ℕ) (m : TypedModule) (there : slice_get p place ≡ Some m) (b : IsBodyOf (trees_of fs) files jobs m) where
   abbrev trees : List Tree
   trees = trees_of fs
@@ -180,7 +180,7 @@ module _ (fs : List (List ℕ × Tree)) (files : List ℕ) (jobs : List (List �
   all_else (e ∷ es) h = (h.0.1, all_else es h.1)
 
   -- the tables of its imports are those of other modules
-  tables_by : (c : Contents) → AreFor b.job own imported c → BegunAt least (elaborated least) (elaborated_formed least) b.job b.tree own ts m c → AreTables m.types.home imported
+  tables_by : (c : Contents) → AreFor b.job own imported c → BegunAt least (elaborate_body least) (elaborated_formed least) b.job b.tree own ts m c → AreTables m.types.home imported
   tables_by (contents.Definition defs) k h = absurd h
   tables_by (contents.Program block) k h = subst (λ (n : ℕ). AreTables n imported) h.home k
   tables_by (contents.Implementation block) k h =
@@ -204,15 +204,15 @@ module _ (fs : List (List ℕ × Tree)) (files : List ℕ) (jobs : List (List �
   exports_at : (n : ℕ) → opens n ≡ true → AllStand (exports_of (slice_get ts n))
   exports_at n h = exports_by n (slice_get ts n) refl h
 
-  found_by : (at : Pos) (c : Bool) (v : Meaning) (o : Option Meaning) → MeaningThere x opens 0 v → Holds (MeaningThere x opens 0) (exported least at o) → Holds (MeaningThere x opens 0) (exported least at (cond c (Some v) o))
+  found_by : (at : Pos) (c : Bool) (v : Meaning) (o : Option Meaning) → MeaningThere x opens 0 v → Holds (MeaningThere x opens 0) (export_of least at o) → Holds (MeaningThere x opens 0) (export_of least at (cond c (Some v) o))
   found_by at true v o h k = fine v h
   found_by at false v o h k = k
 
-  found_there : (at : Pos) (name : List ℕ) (es : List (List ℕ × Meaning)) → AllStand es → Holds (MeaningThere x opens 0) (exported least at (found name es))
+  found_there : (at : Pos) (name : List ℕ) (es : List (List ℕ × Meaning)) → AllStand es → Holds (MeaningThere x opens 0) (export_of least at (find_name name es))
   found_there at name [] k = reported_holds least at rule.NotExported
-  found_there at name (e ∷ es) k = found_by at (same_name name e.0) e.1 (found name es) k.0.0 (found_there at name es k.1)
+  found_there at name (e ∷ es) k = found_by at (same_name name e.0) e.1 (find_name name es) k.0.0 (found_there at name es k.1)
 
-  member_by : (name : Ident) (o : Option Table) → AllStand (exports_of o) → Holds (MeaningThere x opens 0) (exported least name.pos (exported_by name.name o))
+  member_by : (name : Ident) (o : Option Table) → AllStand (exports_of o) → Holds (MeaningThere x opens 0) (export_of least name.pos (exported_by name.name o))
   member_by name None k = reported_holds least name.pos rule.NotExported
   member_by name (Some u) k = found_there name.pos name.name u.exported k
 
@@ -248,14 +248,14 @@ module _ (fs : List (List ℕ × Tree)) (files : List ℕ) (jobs : List (List �
   program_named : (block : Block) → b.tree.contents ≡ contents.Program block → NamesStand x opens (first_scope b.job ts) b.tree block
   program_named block e =
       let h : HasBegun least (first_scope b.job ts) b.tree block [] m
-      = subst (λ (c : Contents). BegunAt least (elaborated least) (elaborated_formed least) b.job b.tree own ts m c) e (begun fs files jobs starts graph each fit m b) in
+      = subst (λ (c : Contents). BegunAt least (elaborate_body least) (elaborated_formed least) b.job b.tree own ts m c) e (begun fs files jobs starts graph each fit m b) in
       names_stand (first_scope b.job ts) block [] refl (record { tables_are = refl; outermost = refl; names = tt }) h
 
   implementation_named : (o : Table) (block : Block) → own ≡ Some o → b.tree.contents ≡ contents.Implementation block → NamesStand x opens (implementation_scope o ts) b.tree block
   implementation_named o block q e =
-      let found = subst (λ (c : Contents). BegunAt least (elaborated least) (elaborated_formed least) b.job b.tree own ts m c) e (begun fs files jobs starts graph each fit m b) in
+      let find_name = subst (λ (c : Contents). BegunAt least (elaborate_body least) (elaborated_formed least) b.job b.tree own ts m c) e (begun fs files jobs starts graph each fit m b) in
       let h : HasBegun least (implementation_scope o ts) b.tree block o.exported m
-      = subst (λ (u : Table). HasBegun least (implementation_scope u ts) b.tree block u.exported m) (same_Some found.0 o (sym found.1 ∙ q)) found.2 in
+      = subst (λ (u : Table). HasBegun least (implementation_scope u ts) b.tree block u.exported m) (same_Some find_name.0 o (sym find_name.1 ∙ q)) find_name.2 in
       let k : AreForOwn (Some o) imported
       = subst (λ (w : Option Table). AreForOwn w imported) q (subst (λ (c : Contents). AreFor b.job own imported c) e (for_it fs files jobs starts graph each fit m b)) in
       names_stand (implementation_scope o ts) block o.exported refl

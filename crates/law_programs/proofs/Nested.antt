@@ -12,7 +12,7 @@ use Rattle.typed_tree.specs.declared.typed_module.Routine.{Routine}
 use Rattle.typed_tree.specs.declared.typed_module.Which.{Which}
 use Rattle.typed_tree.specs.declared.typed_module.Which.TheVariants as which
 use Rattle.typed_tree.specs.declared.types.TypeNo.{TypeNo}
-use Rattle.typed_tree.specs.Names.{found}
+use Rattle.typed_tree.specs.Names.{find_name}
 use Rattle.typed_tree.specs.Types.{integer}
 use Rattle.check_scope.specs.Elaborated.{Gathers}
 use Rattle.check_scope.specs.declared.known.Known.{Known}
@@ -22,7 +22,7 @@ use Rattle.layout_storage.specs.Shapes.{tree}
 use Rattle.check_block.specs.Inner.{inwards}
 use Rattle.check_body.specs.declared.routine.Bodies.{Bodies}
 use Rattle.check_body.specs.declared.routine.Numbered.{Numbered}
-use Rattle.check_body.specs.Routines.{numbered_known, unfilled, routine}
+use Rattle.check_body.specs.Routines.{numbered_known, empty_routine, routine}
 use Rattle.check_body.specs.declared.procedure.Walk.{Walk}
 use Rattle.check_body.specs.Elaborating.{Elaborates}
 use Rattle.check_body.specs.Inside.{which_of, with_routine}
@@ -77,13 +77,13 @@ module _ (g : Gathers) (elaborates : Elaborates g.Reported) (base : Types) (word
       record { ranged = left_ranged o last.scope e.ranged; ordered = left_ordered base o last.scope e.ordered; words = words.left o last.scope e.words }
 
   module _ (level : (w.scope.level == 0) ≡ false) (deep : 1 < length w.scope.outer) (is_deep : IsDeep w) (l : ℕ) (t : TypeNo)
-      (head : found h.name.name w.scope.own ≡ Some (Headed (Ok (meaning.LocalProcedure (record { level = l; number = length w.bodies.locals; heading = t })))))
+      (head : find_name h.name.name w.scope.own ≡ Some (Headed (Ok (meaning.LocalProcedure (record { level = l; number = length w.bodies.locals; heading = t })))))
       (numbers : AreNumbered ends (length w.bodies.locals + 1) ks) (ok : behind.so_far ≡ Ok tt) where
-    first_locals : first.bodies.locals ≡ w.bodies.locals ++ unfilled integer ∷ []
+    first_locals : first.bodies.locals ≡ w.bodies.locals ++ empty_routine integer ∷ []
     first_locals = begun_locals (w.scope.level == 0) level w.bodies
 
     first_length : length first.bodies.locals ≡ length w.bodies.locals + 1
-    first_length = ap (λ (rs : List Routine). length rs) first_locals ∙ length-append w.bodies.locals (unfilled integer ∷ [])
+    first_length = ap (λ (rs : List Routine). length rs) first_locals ∙ length-append w.bodies.locals (empty_routine integer ∷ [])
 
     outer_length : length first.scope.outer ≡ length w.scope.outer + 1
     outer_length = length-append w.scope.outer (around_it g elaborates ends h block ks f around seen w ∷ [])

@@ -27,7 +27,7 @@ use Rattle.typed_tree.specs.declared.shape.Scalar.{Scalar as Range}
 use Rattle.typed_tree.specs.declared.shape.Signature.{Signature}
 use Rattle.typed_tree.specs.declared.typed_module.TypedModule.{TypedModule}
 use Rattle.typed_tree.specs.declared.types.TypeNo.{TypeNo}
-use Rattle.typed_tree.specs.Chains.{linked, behind}
+use Rattle.typed_tree.specs.Chains.{link_operand, behind}
 use Rattle.typed_tree.specs.Known.{scalar_at}
 use Rattle.typed_tree.specs.Names.{place_of}
 use Rattle.typed_tree.specs.Types.{are_same, is_integer, is_numeric, integer, cardinal, boolean, char, bitset}
@@ -45,9 +45,9 @@ use Rattle.check_const_ops.specs.declared.operator.BinaryOp.TheVariants.{Plus, M
 use Rattle.check_operator.specs.Agreement.{is_alike, formal_agrees, formals_agree, result_agrees, signatures_agree, headings_agree}
 use Rattle.check_operator.specs.Classes.{class_at, signature_at, array_at}
 use Rattle.check_operator.specs.Sides.{known_of, constant_side, side_of, sort_of, or_cardinal, run_of}
-use Rattle.check_operator.specs.Signs.{signed_scalar, signed_value, signed, negated_value, negated}
-use Rattle.check_operator.specs.Operations.{of_value, truth_of, step_of, set_step_of, relation_step, equality_of, is_in, fitting_of, divisor_of, fitting_both, stepped, on_amounts, element_fits, member, set_built, on_sets, on_procedures, with_scalar, set_in, with_set, partner_of, routine_of, with_partner, between, folded, by_known, combined}
-use Rattle.check_operator.specs.Selection.{typed_field, field_named, record_field, field, array_indexed, indices, asked, picked, indexed}
+use Rattle.check_operator.specs.Signs.{signed_scalar, signed_value, with_sign, negated_value, negation}
+use Rattle.check_operator.specs.Operations.{of_value, truth_of, step_of, set_step_of, relation_step, equality_of, is_in, fitting_of, divisor_of, fitting_both, step_or_refusal, on_amounts, element_fits, member, set_built, on_sets, on_procedures, with_scalar, set_in, with_set, partner_of, routine_of, with_partner, between, constant_result, by_known, operation_between}
+use Rattle.check_operator.specs.Selection.{typed_field, field_named, record_field, field, array_indexed, indices, index_type, element_of_array, element_at_index}
 use Rattle.check_operator.specs.Suits.{scalar_suited, set_suited, procedure_suited, value_in, value_suited}
 use Rattle.check_operator.specs.declared.class.Class.{Class}
 use Rattle.check_operator.specs.declared.class.Class.TheVariants as class
@@ -351,7 +351,7 @@ module _ (x : Context) (ws : List Ty) (h : TypesTyped x.home.types) where
     signed_value_typed o at (value.Whole t d) p = reported_holds g at rule.WrongType
     signed_value_typed o at value.Untaken p = reported_holds g at rule.WrongType
 
-    pub signed_typed : (o : Sign) (at : Pos) {v : Result Computed g.Reported} → Value_ v → Value_ (signed g o at v)
+    pub signed_typed : (o : Sign) (at : Pos) {v : Result Computed g.Reported} → Value_ v → Value_ (with_sign g o at v)
     signed_typed o at p = then_holds p (λ v k. signed_value_typed o at v k)
 
     negated_value_typed : (at : Pos) (v : Computed) → ValueTyped x ws v → Value_ (negated_value g at v)
@@ -364,43 +364,43 @@ module _ (x : Context) (ws : List Ty) (h : TypesTyped x.home.types) where
     negated_value_typed at (value.Whole t d) p = reported_holds g at rule.WrongType
     negated_value_typed at value.Untaken p = reported_holds g at rule.WrongType
 
-    pub negated_typed : (at : Pos) {v : Result Computed g.Reported} → Value_ v → Value_ (negated g at v)
+    pub negated_typed : (at : Pos) {v : Result Computed g.Reported} → Value_ v → Value_ (negation g at v)
     negated_typed at p = then_holds p (λ v k. negated_value_typed at v k)
 
     -- ---- operators on scalars
 
     module _ (w : TypeNo) (e f : TypedExpr) (p : AmongTyped w e) (q : AmongTyped w f) where
-      arithmetic_typed : (l : Link) → IsNumeric w → made.LinkTyped x ws p.of l w → ValueTyped x ws (value.Scalar w w (linked e l))
-      arithmetic_typed l n k = scalar_typed w w (linked e l) (made.linked_typed x ws e l p.of w p.typed k) n.base (made.run_linked m e l)
+      arithmetic_typed : (l : Link) → IsNumeric w → made.LinkTyped x ws p.of l w → ValueTyped x ws (value.Scalar w w (link_operand e l))
+      arithmetic_typed l n k = scalar_typed w w (link_operand e l) (made.linked_typed x ws e l p.of w p.typed k) n.base (made.run_linked m e l)
 
       compared_typed : (o : Comparison) → ValueTyped x ws (truth_of (expr.Compare o e f))
       compared_typed o = truth_typed (expr.Compare o e f) (made.compare_typed x ws p.of q.of o e f p.typed q.typed) (made.run_compare m o e f)
 
-      sum_made : is_numeric w ≡ true → ValueTyped x ws (value.Scalar w w (linked e (link.Arithmetic arithmetic.Add w f)))
+      sum_made : is_numeric w ≡ true → ValueTyped x ws (value.Scalar w w (link_operand e (link.Arithmetic arithmetic.Add w f)))
       sum_made k = let n = numeric_is w k in arithmetic_typed (link.Arithmetic arithmetic.Add w f) n (made.sum_typed x ws p.of q.of w f q.typed (base_ranged w w n.base))
 
-      difference_made : is_numeric w ≡ true → ValueTyped x ws (value.Scalar w w (linked e (link.Arithmetic arithmetic.Subtract w f)))
+      difference_made : is_numeric w ≡ true → ValueTyped x ws (value.Scalar w w (link_operand e (link.Arithmetic arithmetic.Subtract w f)))
       difference_made k = let n = numeric_is w k in arithmetic_typed (link.Arithmetic arithmetic.Subtract w f) n (made.difference_typed x ws p.of q.of w f q.typed (base_ranged w w n.base))
 
-      product_made : is_numeric w ≡ true → ValueTyped x ws (value.Scalar w w (linked e (link.Arithmetic arithmetic.Multiply w f)))
+      product_made : is_numeric w ≡ true → ValueTyped x ws (value.Scalar w w (link_operand e (link.Arithmetic arithmetic.Multiply w f)))
       product_made k = let n = numeric_is w k in arithmetic_typed (link.Arithmetic arithmetic.Multiply w f) n (made.product_typed x ws p.of q.of w f q.typed (base_ranged w w n.base))
 
-      quotient_made : is_numeric w ≡ true → ValueTyped x ws (value.Scalar w w (linked e (link.Arithmetic arithmetic.Divide w f)))
+      quotient_made : is_numeric w ≡ true → ValueTyped x ws (value.Scalar w w (link_operand e (link.Arithmetic arithmetic.Divide w f)))
       quotient_made k = let n = numeric_is w k in arithmetic_typed (link.Arithmetic arithmetic.Divide w f) n (made.quotient_typed x ws p.of q.of w f q.typed p.among n.nought)
 
-      remainder_made : is_numeric w ≡ true → ValueTyped x ws (value.Scalar w w (linked e (link.Arithmetic arithmetic.Remainder w f)))
+      remainder_made : is_numeric w ≡ true → ValueTyped x ws (value.Scalar w w (link_operand e (link.Arithmetic arithmetic.Remainder w f)))
       remainder_made k = let n = numeric_is w k in arithmetic_typed (link.Arithmetic arithmetic.Remainder w f) n (made.remainder_typed x ws p.of q.of w f q.typed q.among n.nought)
 
       truth_among : (u : TypeNo) → are_same w boolean ≡ true → AreAmong types u w → AreAmong types u boolean
       truth_among u k a = subst (λ (z : TypeNo). AreAmong types u z) (same_types w boolean k) a
 
-      and_made : are_same w boolean ≡ true → ValueTyped x ws (truth_of (linked e (link.And f)))
-      and_made k = truth_typed (linked e (link.And f)) (made.linked_typed x ws e (link.And f) p.of boolean p.typed (made.and_typed x ws p.of q.of f q.typed (truth_among p.of k p.among) (truth_among q.of k q.among))) (made.run_linked m e (link.And f))
+      and_made : are_same w boolean ≡ true → ValueTyped x ws (truth_of (link_operand e (link.And f)))
+      and_made k = truth_typed (link_operand e (link.And f)) (made.linked_typed x ws e (link.And f) p.of boolean p.typed (made.and_typed x ws p.of q.of f q.typed (truth_among p.of k p.among) (truth_among q.of k q.among))) (made.run_linked m e (link.And f))
 
-      or_made : are_same w boolean ≡ true → ValueTyped x ws (truth_of (linked e (link.Or f)))
-      or_made k = truth_typed (linked e (link.Or f)) (made.linked_typed x ws e (link.Or f) p.of boolean p.typed (made.or_typed x ws p.of q.of f q.typed (truth_among p.of k p.among) (truth_among q.of k q.among))) (made.run_linked m e (link.Or f))
+      or_made : are_same w boolean ≡ true → ValueTyped x ws (truth_of (link_operand e (link.Or f)))
+      or_made k = truth_typed (link_operand e (link.Or f)) (made.linked_typed x ws e (link.Or f) p.of boolean p.typed (made.or_typed x ws p.of q.of f q.typed (truth_among p.of k p.among) (truth_among q.of k q.among))) (made.run_linked m e (link.Or f))
 
-    relation_typed : (at : Pos) (w : TypeNo) (a b : Amount) (r : RelOp) → AmongTyped w (run_of w a) → AmongTyped w (run_of w b) → Value_ (stepped g at (Some w) a b (relation_step r))
+    relation_typed : (at : Pos) (w : TypeNo) (a b : Amount) (r : RelOp) → AmongTyped w (run_of w a) → AmongTyped w (run_of w b) → Value_ (step_or_refusal g at (Some w) a b (relation_step r))
     relation_typed at w a b rel.Equal p q = fine _ (compared_typed w (run_of w a) (run_of w b) p q _)
     relation_typed at w a b rel.Unequal p q = fine _ (compared_typed w (run_of w a) (run_of w b) p q _)
     relation_typed at w a b rel.Less p q = fine _ (compared_typed w (run_of w a) (run_of w b) p q _)
@@ -409,7 +409,7 @@ module _ (x : Context) (ws : List Ty) (h : TypesTyped x.home.types) where
     relation_typed at w a b rel.AtLeast p q = fine _ (compared_typed w (run_of w a) (run_of w b) p q _)
     relation_typed at w a b rel.In p q = reported_holds g at rule.WrongType
 
-    stepped_typed : (op : BinaryOp) (at : Pos) (w : TypeNo) (a b : Amount) → takes op (Some w) ≡ true → AmongTyped w (run_of w a) → AmongTyped w (run_of w b) → Value_ (stepped g at (Some w) a b (step_of op))
+    stepped_typed : (op : BinaryOp) (at : Pos) (w : TypeNo) (a b : Amount) → takes op (Some w) ≡ true → AmongTyped w (run_of w a) → AmongTyped w (run_of w b) → Value_ (step_or_refusal g at (Some w) a b (step_of op))
     stepped_typed Plus at w a b k p q = fine _ (sum_made w (run_of w a) (run_of w b) p q k)
     stepped_typed Minus at w a b k p q = fine _ (difference_made w (run_of w a) (run_of w b) p q k)
     stepped_typed Times at w a b k p q = fine _ (product_made w (run_of w a) (run_of w b) p q k)
@@ -546,7 +546,7 @@ module _ (x : Context) (ws : List Ty) (h : TypesTyped x.home.types) where
     operand_is (value.Whole t d) a e = absurd cc
     operand_is value.Untaken a e = absurd cc
 
-    folded_typed : (op : BinaryOp) (spot at : Pos) (v : Computed) (a : Operand) (at' : Pos) (u : Computed) (b : Operand) → known_of v ≡ Some a → known_of u ≡ Some b → ValueTyped x ws v → ValueTyped x ws u → Value_ (folded g op spot at a at' b)
+    folded_typed : (op : BinaryOp) (spot at : Pos) (v : Computed) (a : Operand) (at' : Pos) (u : Computed) (b : Operand) → known_of v ≡ Some a → known_of u ≡ Some b → ValueTyped x ws v → ValueTyped x ws u → Value_ (constant_result g op spot at a at' b)
     folded_typed op spot at v a at' u b e f p q =
         let i : IsOperand v a = operand_is v a e in
         let j : IsOperand u b = operand_is u b f in
@@ -597,7 +597,7 @@ module _ (x : Context) (ws : List Ty) (h : TypesTyped x.home.types) where
       by_known_typed op spot at v at' u (Some a) None e f p q = between_typed op spot at (side_of v) at' (side_of u) (inr (side_sorted u f)) (side_typed v p) (side_typed u q)
       by_known_typed op spot at v at' u (Some a) (Some b) e f p q = folded_typed op spot at v a at' u b e f p q
 
-      pub combined_typed : (op : BinaryOp) (spot at : Pos) {v : Result Computed g.Reported} (at' : Pos) {u : Result Computed g.Reported} → Value_ v → Value_ u → Value_ (combined g scope op spot at v at' u)
+      pub combined_typed : (op : BinaryOp) (spot at : Pos) {v : Result Computed g.Reported} (at' : Pos) {u : Result Computed g.Reported} → Value_ v → Value_ u → Value_ (operation_between g scope op spot at v at' u)
       combined_typed op spot at at' p q = then_holds (both_holds g p q) (λ v k. by_known_typed op spot at v.0 at' v.1 (known_of v.0) (known_of v.1) refl refl k.0 k.1)
 
       -- ---- what places take
@@ -746,11 +746,11 @@ module _ (x : Context) (ws : List Ty) (h : TypesTyped x.home.types) where
         indices_typed at (designated.Standard f) p = reported_holds g at rule.WrongType
         indices_typed at (designated.Module k) p = reported_holds g at rule.WrongType
 
-        picked_typed : (t : TypeNo) (e : TypedExpr) (a : Subscripted) → GivenTyped x ws e t → SubscriptedTyped a → DesignatedTyped x ws opens (picked e a)
+        picked_typed : (t : TypeNo) (e : TypedExpr) (a : Subscripted) → GivenTyped x ws e t → SubscriptedTyped a → DesignatedTyped x ws opens (element_of_array e a)
         picked_typed t e (indexes.Array u i z d) p q = made.behind_typed x ws d (part.Element u e) (tree types u) (tree types z) q.0 (made.element_typed x ws u p.of q.1.range (tree types z) e q.1.index q.1.elements p.typed)
         picked_typed t e (indexes.Open u slot) p q = made.open_element_typed x ws slot u p.of e q p.typed
 
-        pub indexed_typed : (at : Pos) {d : Result Designated g.Reported} (at' : Pos) {v : Result Computed g.Reported} → Designated_ d → Value_ v → Designated_ (indexed g scope (d ▷ indices g scope at) at' v)
+        pub indexed_typed : (at : Pos) {d : Result Designated g.Reported} (at' : Pos) {v : Result Computed g.Reported} → Designated_ d → Value_ v → Designated_ (element_at_index g scope (d ▷ indices g scope at) at' v)
         indexed_typed at at' p q =
             then_holds (both_holds g (then_holds p (λ d k. indices_typed at d k)) q)
-            (λ v k. then_holds (suited_typed rule.NotAssignable (asked v.0) at' v.1 k.1) (λ e j. fine (picked e v.0) (picked_typed (asked v.0) e v.0 j k.0)))
+            (λ v k. then_holds (suited_typed rule.NotAssignable (index_type v.0) at' v.1 k.1) (λ e j. fine (element_of_array e v.0) (picked_typed (index_type v.0) e v.0 j k.0)))

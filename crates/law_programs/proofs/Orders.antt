@@ -32,13 +32,13 @@ use Rattle.check_block.specs.Nesting.{procedure_ends}
 use Rattle.check_body.specs.declared.routine.Bodies.{Bodies}
 use Rattle.check_body.specs.declared.routine.Numbered.{Numbered}
 use Rattle.check_body.specs.Own.{implementation_scope}
-use Rattle.check_body.specs.Routines.{unfilled, no_bodies, filled, routine, typed_module}
+use Rattle.check_body.specs.Routines.{empty_routine, no_bodies, put_routine, routine, typed_module}
 use Rattle.check_body.specs.declared.procedure.Walk.{Walk}
 use Rattle.check_body.specs.Elaborating.{Elaborates}
 use Rattle.check_body.specs.Inside.{which_of, begun_procedure, with_routine}
 use Rattle.check_body.specs.Bodies.{Checked, Checks, ChecksBlock, Steps, checked_by, with_body, procedure_checked, steps_layer, block_layer, steps, checks_block, checks_decl}
-use Rattle.check_body.specs.Checked.{begun_module, module_or, walked, of_body, of_implementation, of_contents}
-use Rattle.check_body.specs.Checks.{elaborated, checked}
+use Rattle.check_body.specs.Checked.{begun_module, module_or, walk_body, of_body, of_implementation, of_contents}
+use Rattle.check_body.specs.Checks.{elaborate_body, body_module}
 use Rattle.law_well_formed.specs.Formed.{Holds, fine, broken}
 use Rattle.law_well_formed.proofs.Basics.{reported_holds}
 use Rattle.law_well_formed.proofs.Places.{set_other}
@@ -88,9 +88,9 @@ all_push order which_is x empty [] all (suc n) r e = absurd cc
 all_push order which_is x empty (y ∷ rs) all zero r e = all zero r e
 all_push order which_is x empty (y ∷ rs) all (suc n) r e = all_push order (λ k. which_is (suc k)) x empty rs (λ k q z. all (suc k) q z) n r e
 
-all_unfilled : (order : List Which) (which_is : ℕ → Which) (hs : List TypeNo) → AllStand order which_is (map unfilled hs)
+all_unfilled : (order : List Which) (which_is : ℕ → Which) (hs : List TypeNo) → AllStand order which_is (map empty_routine hs)
 all_unfilled order which_is [] n r e = absurd cc
-all_unfilled order which_is (h ∷ hs) zero r e = inr (ap (λ (y : Routine). y.body) (sym (same_Some (unfilled h) r e)))
+all_unfilled order which_is (h ∷ hs) zero r e = inr (ap (λ (y : Routine). y.body) (sym (same_Some (empty_routine h) r e)))
 all_unfilled order which_is (h ∷ hs) (suc n) r e = all_unfilled order (λ k. which_is (suc k)) hs n r e
 
 -- ---- what becomes of the procedures in a walk
@@ -98,11 +98,11 @@ all_unfilled order which_is (h ∷ hs) (suc n) r e = all_unfilled order (λ k. w
 no_bodies_stand : (hs : List TypeNo) → BodiesStand (no_bodies hs)
 no_bodies_stand hs = (all_unfilled [] which.Module hs, λ n r e. absurd cc)
 
-begun_stand : (b : Bool) (rs : Bodies) → BodiesStand rs → BodiesStand (cond b rs (record rs { locals = rs.locals ++ unfilled integer ∷ [] }))
+begun_stand : (b : Bool) (rs : Bodies) → BodiesStand rs → BodiesStand (cond b rs (record rs { locals = rs.locals ++ empty_routine integer ∷ [] }))
 begun_stand true rs all = all
-begun_stand false rs all = (all.0, all_push rs.order which.Local (unfilled integer) refl rs.locals all.1)
+begun_stand false rs all = (all.0, all_push rs.order which.Local (empty_routine integer) refl rs.locals all.1)
 
-filled_stand : (rs : Bodies) (w : Which) (r : Routine) → BodiesStand rs → BodiesStand (filled rs w r)
+filled_stand : (rs : Bodies) (w : Which) (r : Routine) → BodiesStand rs → BodiesStand (put_routine rs w r)
 filled_stand rs (which.Module k) r all = (all_set rs.order which.Module (λ n i. refl) rs.procedures k r all.0, all_on rs.order (which.Module k ∷ []) which.Local rs.locals all.1)
 filled_stand rs (which.Local k) r all = (all_on rs.order (which.Local k ∷ []) which.Module rs.procedures all.0, all_set rs.order which.Local (λ n i. refl) rs.locals k r all.1)
 
@@ -218,7 +218,7 @@ ordered_of m rs p q o all (which.Module n) r e = subst (λ (vs : List Which). St
 ordered_of m rs p q o all (which.Local n) r e = subst (λ (vs : List Which). Stands vs (which.Local n) r) (sym o) (all.1 n r (ap (λ (xs : List Routine). slice_get xs n) (sym q) ∙ e))
 
 module _ (g : Gathers) (elaborates : Elaborates g.Reported) where
-  walk_ordered : (modules : List (List ℕ × ℕ)) (ends : List ℕ) (s : Scope g.Reported) (m : Module) (b : Block) → BodiesStand (walked g elaborates modules ends s m b).0.bodies
+  walk_ordered : (modules : List (List ℕ × ℕ)) (ends : List ℕ) (s : Scope g.Reported) (m : Module) (b : Block) → BodiesStand (walk_body g elaborates modules ends s m b).0.bodies
   walk_ordered modules ends s m b =
       let w = begun_module g modules ends s m (out-Block b).decls in
       fold_orders (checks_decl g elaborates ends) None w.1 (out-Block b).decls (each_decl g elaborates ends (out-Block b).decls) (w.0, 0) (no_bodies_stand w.0.scope.procedures)
@@ -232,7 +232,7 @@ module _ (g : Gathers) (elaborates : Elaborates g.Reported) where
   body_ordered s own m b =
       let modules = (numbered_modules s.tables).0 in
       let ends = procedure_ends (out-Block b).decls in
-      result_ordered modules own m (walked g elaborates modules ends s m b) (walk_ordered modules ends s m b)
+      result_ordered modules own m (walk_body g elaborates modules ends s m b) (walk_ordered modules ends s m b)
 
   implementation_ordered : (m : Module) (own : Option Table) (tables : List Table) (b : Block) → Holds AreOrdered (of_implementation g elaborates m own tables b)
   implementation_ordered m None tables b = reported_holds g m.name.pos rule.LonelyModule
@@ -243,5 +243,5 @@ module _ (g : Gathers) (elaborates : Elaborates g.Reported) where
   contents_ordered number m own tables (contents.Implementation b) = implementation_ordered m own tables b
   contents_ordered number m own tables (contents.Program b) = body_ordered (first_scope number tables) None m b
 
-pub bodies_ordered : (g : Gathers) (number : ℕ) (m : Module) (own : Option Table) (tables : List Table) → Holds AreOrdered (checked g number m own tables)
-bodies_ordered g number m own tables = contents_ordered g (elaborated g) number m own (tables ++ console ∷ []) m.contents
+pub bodies_ordered : (g : Gathers) (number : ℕ) (m : Module) (own : Option Table) (tables : List Table) → Holds AreOrdered (body_module g number m own tables)
+bodies_ordered g number m own tables = contents_ordered g (elaborate_body g) number m own (tables ++ console ∷ []) m.contents

@@ -15,7 +15,7 @@ use Rattle.typed_tree.specs.declared.typed_module.Routine.{Routine}
 use Rattle.typed_tree.specs.declared.typed_module.Which.{Which}
 use Rattle.typed_tree.specs.declared.typed_module.Which.TheVariants as which
 use Rattle.typed_tree.specs.declared.types.TypeNo.{TypeNo}
-use Rattle.typed_tree.specs.Names.{found}
+use Rattle.typed_tree.specs.Names.{find_name}
 use Rattle.check_scope.specs.Elaborated.{Gathers}
 use Rattle.check_scope.specs.declared.known.Known.{Known}
 use Rattle.check_scope.specs.declared.known.Known.TheVariants.{Headed}
@@ -26,7 +26,7 @@ use Rattle.layout_storage.specs.Shapes.{tree}
 use Rattle.check_block.specs.Inner.{inwards}
 use Rattle.check_body.specs.declared.routine.Bodies.{Bodies}
 use Rattle.check_body.specs.declared.routine.Numbered.{Numbered}
-use Rattle.check_body.specs.Routines.{numbered_known, filled, routine}
+use Rattle.check_body.specs.Routines.{numbered_known, put_routine, routine}
 use Rattle.check_body.specs.declared.procedure.Walk.{Walk}
 use Rattle.check_body.specs.Elaborating.{Elaborates}
 use Rattle.check_body.specs.Inside.{which_of, with_routine}
@@ -91,7 +91,7 @@ module _ (g : Gathers) (elaborates : Elaborates g.Reported) (base : Types) (word
   first_bodies : first.bodies ≡ w.bodies
   first_bodies = begun_module_locals (w.scope.level == 0) level w.bodies
 
-  module _ (p : Procedure) (head : found h.name.name w.scope.own ≡ Some (Headed (Ok (meaning.Procedure p)))) (numbers : AreNumbered ends (length w.bodies.locals) ks) (ok : behind.so_far ≡ Ok tt) where
+  module _ (p : Procedure) (head : find_name h.name.name w.scope.own ≡ Some (Headed (Ok (meaning.Procedure p)))) (numbers : AreNumbered ends (length w.bodies.locals) ks) (ok : behind.so_far ≡ Ok tt) where
     outer_length : length first.scope.outer ≡ length w.scope.outer + 1
     outer_length = length-append w.scope.outer (around_it g elaborates ends h block ks f None seen w ∷ [])
 
@@ -115,7 +115,7 @@ module _ (g : Gathers) (elaborates : Elaborates g.Reported) (base : Types) (word
     own_is : own ≡ Some (which.Module p.number)
     own_is = ap (λ (o : Option (Known g.Reported)). which_of (numbered_known o)) head
 
-    bodies_are : behind.bodies ≡ filled last.bodies (which.Module p.number) new
+    bodies_are : behind.bodies ≡ put_routine last.bodies (which.Module p.number) new
     bodies_are =
         ap (λ (o : Option (Known g.Reported)). with_routine last.scope h.name None (entry g elaborates ends h block ks f None seen w).1.formals (numbered_known o) (inner g elaborates ends h block ks f None seen w).1 last.bodies) head
         ∙ ap (λ (r : Result (List TypedStmt) g.Reported). with_routine last.scope h.name None (entry g elaborates ends h block ks f None seen w).1.formals (Some numbered) r last.bodies) (body_ok g elaborates ends h block ks f None seen w ok).1
@@ -240,7 +240,7 @@ module _ (g : Gathers) (elaborates : Elaborates g.Reported) (base : Types) (word
   step_other n (types_step ts) b k o seen w i s u q = refl
   step_other n (variables_step vs) b k o seen w i s u q = refl
   step_other n (procedure_step h block ks f) b k o seen w i s u q =
-      procedure_other g elaborates base words ends h block ks f b.1 seen w s.outermost s.single k.0 (ap (λ (es : List (List ℕ × Known g.Reported)). found h.name.name es) s.names ∙ k.1.0) (subst (λ (j : ℕ). AreNumbered ends j ks) s.count u) q n
+      procedure_other g elaborates base words ends h block ks f b.1 seen w s.outermost s.single k.0 (ap (λ (es : List (List ℕ × Known g.Reported)). find_name h.name.name es) s.names ∙ k.1.0) (subst (λ (j : ℕ). AreNumbered ends j ks) s.count u) q n
       (λ e. o (ap (λ (j : ℕ). Some j) e))
 
   step_count : {x : Steps g.Reported} {ks : List ℕ} (p : IsStep g elaborates ends x ks) (seen : ℕ) (w : Walk g.Reported) (n : ℕ) → StandsAt w n → length (checked_by x None seen w).bodies.locals ≡ length w.bodies.locals + count p
@@ -268,7 +268,7 @@ module _ (g : Gathers) (elaborates : Elaborates g.Reported) (base : Types) (word
     step_to (types_step ts) b seen w n s kept k u agrees q known serves hs there = none_to z w
     step_to (variables_step vs) b seen w n s kept k u agrees q known serves hs there = none_to z w
     step_to (procedure_step h block ks f) b seen w n s kept k u agrees q known serves hs there =
-        let head = ap (λ (es : List (List ℕ × Known g.Reported)). found h.name.name es) s.names ∙ k.1.0 in
+        let head = ap (λ (es : List (List ℕ × Known g.Reported)). find_name h.name.name es) s.names ∙ k.1.0 in
         let numbers = subst (λ (i : ℕ). AreNumbered ends i ks) s.count u in
         let own = subst (λ (es : List (List ℕ × Known g.Reported)). NamesThere (stands z []) z.opens 0 es) (sym s.names) names in
         let old = hs k.0.number k.0.heading k.1.1.0.1 in

@@ -19,9 +19,9 @@ use Rattle.typed_tree.specs.declared.shape.Made.{Made}
 use Rattle.typed_tree.specs.declared.meaning.Meaning.{Meaning}
 use Rattle.typed_tree.specs.declared.meaning.Meaning.TheVariants as meaning
 use Rattle.typed_tree.specs.declared.meaning.LocalKind.TheVariants as kind
-use Rattle.typed_tree.specs.Names.{found}
+use Rattle.typed_tree.specs.Names.{find_name}
 use Rattle.check_scope.specs.Elaborated.{Gathers, ◌▷◌}
-use Rattle.check_scope.specs.Scopes.{State, with_known, begun, finished, unless_marked, marked}
+use Rattle.check_scope.specs.Scopes.{State, with_known, begin_name, finish_name, unless_marked, mark_name}
 use Rattle.check_scope.specs.declared.known.Known.{Known}
 use Rattle.check_scope.specs.declared.known.Known.TheVariants.{Later, Ahead, Begun, Headed, Declared}
 use Rattle.check_scope.specs.declared.known.Origin.{Origin}
@@ -32,13 +32,13 @@ use Rattle.check_expr.specs.Meanings.{part}
 use Rattle.check_type_expr.specs.declared.field.Fields.{Fields}
 use Rattle.check_type_expr.specs.Fields.{no_fields}
 use Rattle.check_type_expr.specs.Headings.{heading_of}
-use Rattle.check_type_expr.specs.Made.{next_type, with_shape, with_made, too_many, enumeration_constant, enumeration_scalar, listed, simple_type, index_type, Makes, MakesFields, then_fields, type_layer, field_layer, type_of, field_list}
+use Rattle.check_type_expr.specs.Made.{next_type, with_shape, with_made, too_many, enumeration_constant, enumeration_scalar, enumerate_name, simple_type, index_type, Makes, MakesFields, then_fields, type_layer, field_layer, type_of, field_list}
 use Rattle.check_definition.specs.Marking.{Marks, marked_later, marked_simple, then_marks, marked_in, marked_field, marked_constant, marked_type, marked_variables}
 use Rattle.check_definition.specs.Marking as marking
 use Rattle.check_definition.specs.Declare.{constant_meaning, with_constant, brings_with, type_meaning, with_type, begun_name, variable_meaning, with_variable_type, finished_variable, with_variables, procedure_meaning, with_procedure_type}
 use Rattle.check_block.specs.declared.heading.Standing.{Standing}
 use Rattle.check_block.specs.declared.heading.Standing.TheVariants.{Free, Awaited, Taken}
-use Rattle.check_block.specs.Headings.{name_standing, nested_meaning, module_procedure, headed, headed_as}
+use Rattle.check_block.specs.Headings.{name_standing, nested_meaning, module_procedure, set_heading, headed_as}
 use Rattle.check_block.specs.Naming.{marked_layer, marked_decl, with_marks, all_marked}
 use Rattle.check_block.specs.Declarations.{Course, local_meaning, finished_local, with_locals, decl_layer, with_decl, declared_block}
 use Rattle.law_well_formed.specs.Formed.{Holds, fine, broken}
@@ -90,8 +90,8 @@ module _ (g : Gathers) (P : Scope g.Reported → Type 0) (named : (s : Scope g.R
   marked_by s name k (Some x) q h = h
   marked_by s name k None q h = named s name k q h
 
-  marked_keeps : (s : Scope g.Reported) (name : Ident) (k : Known g.Reported) → IsPlain k → P s → P (marked name k s)
-  marked_keeps s name k q h = marked_by s name.name k (found name.name s.own) q h
+  marked_keeps : (s : Scope g.Reported) (name : Ident) (k : Known g.Reported) → IsPlain k → P s → P (mark_name name k s)
+  marked_keeps s name k q h = marked_by s name.name k (find_name name.name s.own) q h
 
   later_all : (names : List Ident) (s : Scope g.Reported) → P s → P (fold marked_later s names)
   later_all [] s h = h
@@ -185,11 +185,11 @@ module _ (g : Gathers) (P : Scope g.Reported → Type 0) (named : (s : Scope g.R
     made_keeps s (Ok m) h = shaped s m h
     made_keeps s (Err e) h = h
 
-    listed_all : (t : TypeNo) (names : List Ident) (l : Scope g.Reported × ℕ × Result (Unit {0}) g.Reported) → P l.0 → P (fold (listed g t) l names).0
+    listed_all : (t : TypeNo) (names : List Ident) (l : Scope g.Reported × ℕ × Result (Unit {0}) g.Reported) → P l.0 → P (fold (enumerate_name g t) l names).0
     listed_all t [] l h = h
     listed_all t (x ∷ xs) l h =
         let m : Known g.Reported = Declared Here (Ok (enumeration_constant t (pos l.1))) in
-        listed_all t xs (listed g t l x) (unless_as g P l.0 x m h (named l.0 x.name m (fine (enumeration_constant t (pos l.1)) tt) h))
+        listed_all t xs (enumerate_name g t l x) (unless_as g P l.0 x m h (named l.0 x.name m (fine (enumeration_constant t (pos l.1)) tt) h))
 
     simple_keeps : (s : Scope g.Reported) (t : Simple) → P s → P (simple_type g s t).0
     simple_keeps s (simple.Named q) h = h
@@ -260,10 +260,10 @@ module _ (g : Gathers) (P : Scope g.Reported → Type 0) (named : (s : Scope g.R
     -- ---- declarations
 
     module _ (varied : (s : Scope g.Reported) (t : Result TypeNo g.Reported) → P s → P (with_variable_type s t)) (headed_keeps : (s : Scope g.Reported) (t : Result TypeNo g.Reported) → P s → P (with_procedure_type s t)) where
-      finished_keeps : (s : Scope g.Reported) (name : Ident) (m : Result Meaning g.Reported) → Holds IsOuter m → P s → P (finished s name m)
+      finished_keeps : (s : Scope g.Reported) (name : Ident) (m : Result Meaning g.Reported) → Holds IsOuter m → P s → P (finish_name s name m)
       finished_keeps s name m q h = finished_as P s name m h (named s name.name (Declared Here m) q h)
 
-      begun_keeps : (s : Scope g.Reported) (name : Ident) → P s → P (begun g s name).0
+      begun_keeps : (s : Scope g.Reported) (name : Ident) → P s → P (begin_name g s name).0
       begun_keeps s name h = unless_as g P s name Begun h (named s name.name Begun tt h)
 
       begun_all : (names : List Ident) (st : State (Unit {0}) g.Reported) → P st.0 → P (fold (begun_name g) st names).0
@@ -273,13 +273,13 @@ module _ (g : Gathers) (P : Scope g.Reported → Type 0) (named : (s : Scope g.R
       constants_keep : (cs : List Constant) (st : State (Unit {0}) g.Reported) → P st.0 → P (fold (with_constant g) st cs).0
       constants_keep [] st h = h
       constants_keep (c ∷ cs) st h =
-          let b : State (Unit {0}) g.Reported = begun g st.0 c.name in
+          let b : State (Unit {0}) g.Reported = begin_name g st.0 c.name in
           constants_keep cs (with_constant g st c) (finished_keeps b.0 c.name (constant_meaning (constant g b.0 (part g c.value))) (outer_by (constant g b.0 (part g c.value)) (λ v. meaning.Constant v) (λ v. tt)) (begun_keeps st.0 c.name h))
 
       types_keep : (ts : List TypeDecl) (st : State (Unit {0}) g.Reported) → P st.0 → P (fold (with_type g) st ts).0
       types_keep [] st h = h
       types_keep (d ∷ ts) st h =
-          let b : State (Unit {0}) g.Reported = begun g st.0 d.name in
+          let b : State (Unit {0}) g.Reported = begin_name g st.0 d.name in
           let t : State TypeNo g.Reported = type_of g d.of b.0 in
           types_keep ts (with_type g st d) (finished_keeps t.0 d.name (type_meaning t.1 (brings_with d.of)) (outer_by t.1 (λ v. meaning.Type v (brings_with d.of)) (λ v. tt)) (type_of_keeps d.of b.0 (begun_keeps st.0 d.name h)))
 
@@ -310,7 +310,7 @@ module _ (g : Gathers) (P : Scope g.Reported → Type 0) (named : (s : Scope g.R
       variables_by true st vs h = variables_keep vs st h
       variables_by false st vs h = locals_keep vs st h
 
-      new_by : (b : Bool) (s : Scope g.Reported) (name : List ℕ) (n : ℕ) (t : Result TypeNo g.Reported) → b ≡ true → P s → P (cond b (module_procedure s name t) (headed name (nested_meaning s.level n t) s))
+      new_by : (b : Bool) (s : Scope g.Reported) (name : List ℕ) (n : ℕ) (t : Result TypeNo g.Reported) → b ≡ true → P s → P (cond b (module_procedure s name t) (set_heading name (nested_meaning s.level n t) s))
       new_by true s name n t e h = named (with_procedure_type s t) name (Headed (procedure_meaning s.types.home (length s.procedures) t)) (outer_by t (λ v. meaning.Procedure (record { home = s.types.home; number = length s.procedures; heading = v })) (λ v. tt)) (headed_keeps s t h)
       new_by false s name n t e h = absurd cc
 
@@ -326,7 +326,7 @@ module _ (g : Gathers) (P : Scope g.Reported → Type 0) (named : (s : Scope g.R
       layer_keeps ends c (dlayer.Constants cs) h = constants_keep cs (c.0, c.1) h
       layer_keeps ends c (dlayer.Types ts) h = types_keep ts (c.0, c.1) h
       layer_keeps ends c (dlayer.Variables vs) h = variables_by (c.0.level == 0) (c.0, c.1) vs h
-      layer_keeps ends c (dlayer.Procedure x b) h = heading_by c.0 x c.2 (name_standing (found x.name.name c.0.own)) h
+      layer_keeps ends c (dlayer.Procedure x b) h = heading_by c.0 x c.2 (name_standing (find_name x.name.name c.0.own)) h
 
       decls_keep : (ends : List ℕ) (ds : List Decl) (c : Course g.Reported) → P c.0 → P (fold (with_decl g ends) c ds).0
       decls_keep ends [] c h = h

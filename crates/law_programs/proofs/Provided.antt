@@ -15,7 +15,7 @@ use Rattle.typed_tree.specs.declared.typed_module.Which.TheVariants as which
 use Rattle.layout_storage.specs.Texts.{Texts, characters, body_texts, routine_texts, which_texts, routines_texts, module_texts, is_which, texts_before}
 use Rattle.def_scheme.specs.Functions.{routine_of}
 use Rattle.def_scheme.specs.Modules.{all_characters}
-use Rattle.def_scheme.specs.Signatures.{Signature, Signatures, needed, same_result, is_same, is_among, of_step, of_routine}
+use Rattle.def_scheme.specs.Signatures.{Signature, Signatures, signatures_needed, same_result, is_same, is_among, of_step, of_routine}
 use Rattle.law_modules.specs.Linked.{Program, text}
 use Rattle.law_modules.proofs.Stores.{text_length}
 use Rattle.law_simulation.specs.Frames.{Kinds, kinds_of}
@@ -25,7 +25,7 @@ use Rattle.law_simulation.specs.Modules.{IsTypedModule}
 use Rattle.law_programs.specs.Wanted.{TextStands, TextsStand, AreNeeded, Has}
 use Rattle.law_programs.specs.Asked.{wanted_by}
 use Rattle.law_programs.specs.TypingBodies.{Stage, stands, AreBodiesTyped}
-use Rattle.law_programs.specs.TypingWants.{AreOrdered, IsProvided, AreProvided, placed}
+use Rattle.law_programs.specs.TypingWants.{AreOrdered, IsProvided, AreProvided, stage_at}
 
 -- ---- texts
 
@@ -108,7 +108,7 @@ among_all f [] n x e s h = absurd cc
 among_all f (y ∷ xs) zero x e s h = among_first (f y) (flat_map f xs) s (ap (λ (ss : Signatures). is_among ss s) (ap f (same_Some y x e)) ∙ h)
 among_all f (y ∷ xs) (suc n) x e s h = among_second (f y) (flat_map f xs) s (among_all f xs n x e s h)
 
-are_needed : (x : Context) (ss : Signatures) → AreAmong ss (needed x.home) → AreNeeded x ss
+are_needed : (x : Context) (ss : Signatures) → AreAmong ss (signatures_needed x.home) → AreNeeded x ss
 are_needed x [] k = tt
 are_needed x (s ∷ ss) k = (k s (or_left (is_same s s) (is_among ss s) (is_itself s)), are_needed x ss (λ z e. k z (or_right (is_same z s) (is_among ss z) e)))
 
@@ -122,11 +122,11 @@ module _ (m : TypedModule) where
   abbrev outer_calls : Signatures
   outer_calls = flat_map (of_routine m) m.procedures
 
-  body_among : AreAmong own_calls (needed m)
+  body_among : AreAmong own_calls (signatures_needed m)
   body_among s e = among_second outer_calls (local_calls ++ own_calls) s (among_second local_calls own_calls s e)
 
   -- the calls of a procedure, behind its own type
-  routine_among : (w : Which) (r : Routine) → routine_of m w ≡ Some r → AreAmong (flat_map (of_step m) r.body) (needed m)
+  routine_among : (w : Which) (r : Routine) → routine_of m w ≡ Some r → AreAmong (flat_map (of_step m) r.body) (signatures_needed m)
   routine_among (which.Module n) r e s h =
       among_first outer_calls (local_calls ++ own_calls) s (among_all (of_routine m) m.procedures n r e s (or_right _ (is_among (flat_map (of_step m) r.body) s) h))
   routine_among (which.Local n) r e s h =
@@ -165,7 +165,7 @@ module _ (z : Stage) (ordered : AreOrdered z.home) where
 
 -- ---- modules
 
-module _ (p : Program) (pages place : ℕ) (m : TypedModule) (opens : ℕ → Bool) (typed : AreBodiesTyped (placed p pages place m opens) m.body) (provided : AreProvided (placed p pages place m opens)) where
+module _ (p : Program) (pages place : ℕ) (m : TypedModule) (opens : ℕ → Bool) (typed : AreBodiesTyped (stage_at p pages place m opens) m.body) (provided : AreProvided (stage_at p pages place m opens)) where
   pub module_typed : IsTypedModule p pages place m
   module_typed = record {
     procedures = λ w r is. (text_of m w + characters (body_texts r.body), typed.procedures w r is (text_of m w) (provided.procedures w r is (kinds_of m.types r ∷ environment_of m r)));

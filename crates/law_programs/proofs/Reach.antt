@@ -9,7 +9,7 @@ use Rattle.m2_tree.specs.declared.decl.Contents.{Contents}
 use Rattle.m2_tree.specs.declared.decl.Contents.TheVariants as contents
 use Rattle.m2_tree.specs.declared.decl.Module.{Module}
 use Rattle.pool_board.specs.Graph.{prerequisites_of}
-use Rattle.pool_board.specs.Results.{results_below, picked, with_item}
+use Rattle.pool_board.specs.Results.{results_below, items_at, with_item}
 use Rattle.m2_tree.specs.Names.{same_name}
 use Rattle.typed_tree.specs.declared.shape.Made.{Made}
 use Rattle.typed_tree.specs.declared.table.ModuleTypes.{ModuleTypes}
@@ -20,7 +20,7 @@ use Rattle.check_scope.specs.Elaborated.{least}
 use Rattle.layout_storage.specs.Layouts.{too_large}
 use Rattle.check_definition.specs.Compiled as types
 use Rattle.check_body.specs.Own.{types_made_in}
-use Rattle.check_body.specs.Checks.{elaborated}
+use Rattle.check_body.specs.Checks.{elaborate_body}
 use Rattle.law_well_formed.specs.Formed.{Holds, fine, broken}
 use Rattle.law_modules.specs.Ranges.{AreRanged}
 use Rattle.law_well_formed.specs.Ordered.{AreOrdered}
@@ -31,8 +31,8 @@ use Rattle.law_well_formed.proofs.KnownWalks.{checked_formed}
 use Rattle.build_jobs.specs.declared.outcome.Compiled.{Compiled}
 use Rattle.build_jobs.specs.declared.outcome.Compiled.TheVariants.{Defined, Built, Refused, Blocked}
 use Rattle.build_jobs.specs.Own.{own_table, tables_behind}
-use Rattle.build_jobs.specs.Compiling.{is_sound, table_in, tables_of, of_definition, of_fit, of_checked, of_contents, typed_body, compiled}
-use Rattle.build_jobs.specs.Jobs.{compiled_in, compiled_at}
+use Rattle.build_jobs.specs.Compiling.{is_sound, table_in, tables_of, of_definition, of_fit, of_checked, of_contents, typed_body, compilation_of}
+use Rattle.build_jobs.specs.Jobs.{compile_in_place, compile_at}
 use Rattle.build_jobs.specs.Encoded.{needed_of}
 use Rattle.law_programs.specs.FormedReach.{result_of, made_by, types_of}
 
@@ -88,7 +88,7 @@ module _ (trees : List Module) (files : List ℕ) (jobs : List (List ℕ)) (fit 
   -- ---- results of jobs
 
   abbrev below : ℕ → List Compiled
-  below n = results_below jobs (compiled_at trees files) n
+  below n = results_below jobs (compile_at trees files) n
 
   many : (n : ℕ) → length (below n) ≡ n
   many zero = refl
@@ -131,9 +131,9 @@ module _ (trees : List Module) (files : List ℕ) (jobs : List (List ℕ)) (fit 
     with_picked p xs None e h = h
     with_picked p xs (Some x) e h = with_one x (tables_of xs) (table_needed p x e) h
 
-    all_needed : (ps : List ℕ) → AllByRecursion IsNeeded (tables_of (picked (below n) ps))
+    all_needed : (ps : List ℕ) → AllByRecursion IsNeeded (tables_of (items_at (below n) ps))
     all_needed [] = tt
-    all_needed (p ∷ ps) = with_picked p (picked (below n) ps) (slice_get (below n) p) refl (all_needed ps)
+    all_needed (p ∷ ps) = with_picked p (items_at (below n) ps) (slice_get (below n) p) refl (all_needed ps)
 
     all_formed : (ts : List Table) → AllByRecursion IsNeeded ts → TablesFormed its_types n ts
     all_formed [] h = tt
@@ -154,24 +154,24 @@ module _ (trees : List Module) (files : List ℕ) (jobs : List (List ℕ)) (fit 
     no_body t (Err f) e = absurd cc
 
     from_contents : (m : Module) (ts : List Table) → fits_contents m.contents ≡ true → TablesFormed its_types n ts → (t : Table) → (t.number ≡ n → types_made_in n t.reached ≡ its_types n) → (c : Contents) → of_contents m n ts c ≡ Defined t → IsFormedAt n t
-    from_contents m ts f p t k (contents.Definition ds) e = result_formed t (types.compiled least n m ts) (tables_formed least its_types n m ts f p) k e
+    from_contents m ts f p t k (contents.Definition ds) e = result_formed t (types.definition_table least n m ts) (tables_formed least its_types n m ts f p) k e
     from_contents m ts f p t k (contents.Implementation b) e = absurd (no_body t (typed_body m n ts) e)
     from_contents m ts f p t k (contents.Program b) e = absurd (no_body t (typed_body m n ts) e)
 
-    from_compiled : (m : Module) → fits_contents m.contents ≡ true → (outs : List Compiled) → TablesFormed its_types n (tables_of outs) → (t : Table) → (t.number ≡ n → types_made_in n t.reached ≡ its_types n) → compiled m n outs ≡ Defined t → IsFormedAt n t
-    unfolding compiled
+    from_compiled : (m : Module) → fits_contents m.contents ≡ true → (outs : List Compiled) → TablesFormed its_types n (tables_of outs) → (t : Table) → (t.number ≡ n → types_made_in n t.reached ≡ its_types n) → compilation_of m n outs ≡ Defined t → IsFormedAt n t
+    unfolding compilation_of
     from_compiled m f outs p t k e = by (list_all is_sound outs) e where
       by : (b : Bool) → cond b (of_contents m n (tables_of outs) m.contents) Blocked ≡ Defined t → IsFormedAt n t
       by true e = from_contents m (tables_of outs) f p t k m.contents e
       by false e = absurd cc
 
-    from_tree : (place : ℕ) (o : Option Module) → slice_get trees place ≡ o → (outs : List Compiled) → TablesFormed its_types n (tables_of outs) → (t : Table) → (t.number ≡ n → types_made_in n t.reached ≡ its_types n) → compiled_in o n outs ≡ Defined t → IsFormedAt n t
+    from_tree : (place : ℕ) (o : Option Module) → slice_get trees place ≡ o → (outs : List Compiled) → TablesFormed its_types n (tables_of outs) → (t : Table) → (t.number ≡ n → types_made_in n t.reached ≡ its_types n) → compile_in_place o n outs ≡ Defined t → IsFormedAt n t
     from_tree place None there outs p t k e = absurd cc
     from_tree place (Some m) there outs p t k e = from_compiled m (tree_fits trees fit place m there) outs p t k e
 
     fact_next : Fact n
     fact_next t e =
-        from_tree (slice_index_or files n 0) (slice_get trees (slice_index_or files n 0)) refl (picked (below n) (prerequisites_of jobs n)) (all_formed (tables_of (picked (below n) (prerequisites_of jobs n))) (all_needed (prerequisites_of jobs n))) t
+        from_tree (slice_index_or files n 0) (slice_get trees (slice_index_or files n 0)) refl (items_at (below n) (prerequisites_of jobs n)) (all_formed (tables_of (items_at (below n) (prerequisites_of jobs n))) (all_needed (prerequisites_of jobs n))) t
         (λ q. ap (λ (k : ℕ). types_made_in k t.reached) (sym q) ∙ (own_types_are n t e q ∙ ap its_types q)) e
 
     -- ---- a body
@@ -189,11 +189,11 @@ module _ (trees : List Module) (files : List ℕ) (jobs : List (List ℕ)) (fit 
     behind_formed (Some t) [] h = tt
     behind_formed (Some t) (u ∷ ts) h = all_formed ts h.1
 
-    body_formed : (m : Module) → fits_module m ≡ true → Holds (λ t. AreRanged t.types × AreOrdered t.types) (typed_body m n (tables_of (picked (below n) (prerequisites_of jobs n))))
+    body_formed : (m : Module) → fits_module m ≡ true → Holds (λ t. AreRanged t.types × AreOrdered t.types) (typed_body m n (tables_of (items_at (below n) (prerequisites_of jobs n))))
     body_formed m f =
-        let ts : List Table = tables_of (picked (below n) (prerequisites_of jobs n)) in
+        let ts : List Table = tables_of (items_at (below n) (prerequisites_of jobs n)) in
         let h : AllByRecursion IsNeeded ts = all_needed (prerequisites_of jobs n) in
-        checked_formed least (elaborated least) its_types n m (own_table m ts) (tables_behind (own_table m ts) ts) f (own_formed m ts h) (behind_formed (own_table m ts) ts h)
+        checked_formed least (elaborate_body least) its_types n m (own_table m ts) (tables_behind (own_table m ts) ts) f (own_formed m ts h) (behind_formed (own_table m ts) ts h)
 
   -- ---- all jobs
 

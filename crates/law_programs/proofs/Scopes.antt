@@ -20,9 +20,9 @@ use Rattle.typed_tree.specs.declared.types.Home.TheVariants as home
 use Rattle.typed_tree.specs.declared.types.TypeNo.{TypeNo}
 use Rattle.typed_tree.specs.Known.{made_at}
 use Rattle.m2_tree.specs.Names.{same_name}
-use Rattle.typed_tree.specs.Names.{found, place_of}
-use Rattle.check_scope.specs.Elaborated.{Gathers, reported}
-use Rattle.check_scope.specs.Scopes.{or_outside, Sight, seen_at, in_block, nearer, known_outside, or_around, known, means_seen, means_as, opened, means_or}
+use Rattle.typed_tree.specs.Names.{find_name, place_of}
+use Rattle.check_scope.specs.Elaborated.{Gathers, report}
+use Rattle.check_scope.specs.Scopes.{or_outside, Sight, seen_at, in_block, nearer, known_outside, or_around, sight_of, means_seen, means_as, open_field, means_or}
 use Rattle.check_scope.specs.declared.known.Known.{Known}
 use Rattle.check_scope.specs.declared.known.Known.TheVariants.{Later, Ahead, Begun, Headed, Declared}
 use Rattle.check_scope.specs.declared.scope.Block.{Block}
@@ -78,9 +78,9 @@ module _ (x : Context) (opens : ℕ → Bool) (level : ℕ) {T : Type 0} where
   found_by true k o p q = p
   found_by false k o p q = q
 
-  found_there : (name : List ℕ) (es : List (List ℕ × Known T)) → NamesThere x opens level es → ThereIf (found name es)
+  found_there : (name : List ℕ) (es : List (List ℕ × Known T)) → NamesThere x opens level es → ThereIf (find_name name es)
   found_there name [] all = tt
-  found_there name (e ∷ es) all = found_by (same_name name e.0) e.1 (found name es) all.0 (found_there name es all.1)
+  found_there name (e ∷ es) all = found_by (same_name name e.0) e.1 (find_name name es) all.0 (found_there name es all.1)
 
   at_place : (seen p : ℕ) (es : List (List ℕ × Known T)) (n : ℕ) → NamesThere x opens level es → ThereSight (option_map (λ e. (e.1, nat_lt p seen)) (slice_get es n))
   at_place seen p [] n all = tt
@@ -112,7 +112,7 @@ module _ (x : Context) (opens : ℕ → Bool) (g : Gathers) where
     abbrev Means_ : {T : Type 0} → Result Meaning T → Type 0
     Means_ r = Holds (MeaningTyped x [] opens level) r
 
-    declared_means : (at : Pos) (seen : Bool) (r : Result Meaning g.Reported) → Means_ r → Means_ (cond seen r (reported g at rule.Undeclared))
+    declared_means : (at : Pos) (seen : Bool) (r : Result Meaning g.Reported) → Means_ r → Means_ (cond seen r (report g at rule.Undeclared))
     declared_means at true r p = p
     declared_means at false r p = reported_holds g at rule.Undeclared
 
@@ -137,8 +137,8 @@ module _ (x : Context) (opens : ℕ → Bool) (g : Gathers) where
     types = types;
     formals = formals_known s.types order;
     names = λ name.
-        subst (λ (ws : List OpenedRecord). Means_ s.level (means_or (opened s.types name.name ws) (means_as g name.pos (known name.name s)))) (sym withs)
-        (means_there s.level name.pos (known name.name s)
-        (around_there x opens s.level (found name.name s.own) (known_outside name.name s.outer) (found_there x opens s.level name.name s.own own) (outside_there x opens s.level name.name s.outer None tt outer)));
+        subst (λ (ws : List OpenedRecord). Means_ s.level (means_or (open_field s.types name.name ws) (means_as g name.pos (sight_of name.name s)))) (sym withs)
+        (means_there s.level name.pos (sight_of name.name s)
+        (around_there x opens s.level (find_name name.name s.own) (known_outside name.name s.outer) (found_there x opens s.level name.name s.own own) (outside_there x opens s.level name.name s.outer None tt outer)));
     members = λ k name e. holds_weaker (λ m q. q.0) (members k name e);
   }

@@ -16,9 +16,9 @@ use Rattle.typed_tree.specs.declared.shape.Formal.{Formal}
 use Rattle.typed_tree.specs.declared.typed_module.Routine.{Routine}
 use Rattle.typed_tree.specs.declared.types.TypeNo.{TypeNo}
 use Rattle.m2_tree.specs.Names.{same_name}
-use Rattle.typed_tree.specs.Names.{found, place_of}
-use Rattle.check_scope.specs.Elaborated.{Gathers, reported}
-use Rattle.check_scope.specs.Scopes.{or_outside, Sight, seen_at, in_block, nearer, known_outside, or_around, known, means_seen, means_as, opened, means_or, looked_up}
+use Rattle.typed_tree.specs.Names.{find_name, place_of}
+use Rattle.check_scope.specs.Elaborated.{Gathers, report}
+use Rattle.check_scope.specs.Scopes.{or_outside, Sight, seen_at, in_block, nearer, known_outside, or_around, sight_of, means_seen, means_as, open_field, means_or, looked_up}
 use Rattle.check_scope.specs.declared.known.Known.{Known}
 use Rattle.check_scope.specs.declared.known.Known.TheVariants.{Later, Ahead, Begun, Headed, Declared}
 use Rattle.check_scope.specs.declared.scope.Block.{Block}
@@ -66,9 +66,9 @@ module _ (P : Meaning → Type 0) (ahead : P meaning.Ahead) where
     found_by true k o p q = p
     found_by false k o p q = q
 
-    found_has : (name : List ℕ) (es : List (List ℕ × Known T)) → NamesHave es → HasIf (found name es)
+    found_has : (name : List ℕ) (es : List (List ℕ × Known T)) → NamesHave es → HasIf (find_name name es)
     found_has name [] all = tt
-    found_has name (e ∷ es) all = found_by (same_name name e.0) e.1 (found name es) all.0 (found_has name es all.1)
+    found_has name (e ∷ es) all = found_by (same_name name e.0) e.1 (find_name name es) all.0 (found_has name es all.1)
 
     at_place : (seen p : ℕ) (es : List (List ℕ × Known T)) (n : ℕ) → NamesHave es → SightHas (option_map (λ e. (e.1, nat_lt p seen)) (slice_get es n))
     at_place seen p [] n all = tt
@@ -92,7 +92,7 @@ module _ (P : Meaning → Type 0) (ahead : P meaning.Ahead) where
     around_has (Some k) far p q = p
 
   module _ (g : Gathers) where
-    declared_has : (at : Pos) (seen : Bool) (r : Result Meaning g.Reported) → Holds P r → Holds P (cond seen r (reported g at rule.Undeclared))
+    declared_has : (at : Pos) (seen : Bool) (r : Result Meaning g.Reported) → Holds P r → Holds P (cond seen r (report g at rule.Undeclared))
     declared_has at true r p = p
     declared_has at false r p = reported_holds g at rule.Undeclared
 
@@ -109,8 +109,8 @@ module _ (P : Meaning → Type 0) (ahead : P meaning.Ahead) where
 
     looked_has : (s : Scope g.Reported) → s.withs ≡ [] → NamesHave s.own → BlocksHave s.outer → (name : Ident) → Holds P (looked_up g s name)
     looked_has s e own outer name =
-        subst (λ (ws : List OpenedRecord). Holds P (means_or (opened s.types name.name ws) (means_as g name.pos (known name.name s)))) (sym e)
-        (sight_has name.pos (known name.name s) (around_has (found name.name s.own) (known_outside name.name s.outer) (found_has name.name s.own own) (outside_has name.name s.outer None tt outer)))
+        subst (λ (ws : List OpenedRecord). Holds P (means_or (open_field s.types name.name ws) (means_as g name.pos (sight_of name.name s)))) (sym e)
+        (sight_has name.pos (sight_of name.name s) (around_has (find_name name.name s.own) (known_outside name.name s.outer) (found_has name.name s.own own) (outside_has name.name s.outer None tt outer)))
 
 -- ---- from a block to what stands in it
 
@@ -192,10 +192,10 @@ module _ (x : Context) (opens : ℕ → Bool) (ks : Kinds) where
   meaning_within : (level : ℕ) (kss : List Kinds) (m : Meaning) → MeaningIn x opens level kss m → MeaningIn within opens level kss m
   meaning_within level kss (meaning.Constant v) p = p
   meaning_within level kss (meaning.Type t n) p = tt
-  meaning_within level kss (meaning.Variable v) p = record { known = p.known; type = p.type; there = p.there }
+  meaning_within level kss (meaning.Variable v) p = record { sight_of = p.known; type = p.type; there = p.there }
   meaning_within level kss (meaning.Local v) p = p
   meaning_within level kss (meaning.Field f) p = p
-  meaning_within level kss (meaning.Procedure f) p = record { known = p.known; home = p.home; there = p.there; routine = p.routine; is = p.is; outermost = p.outermost; forms = p.forms; result = p.result; heading = p.heading }
+  meaning_within level kss (meaning.Procedure f) p = record { sight_of = p.known; home = p.home; there = p.there; routine = p.routine; is = p.is; outermost = p.outermost; forms = p.forms; result = p.result; heading = p.heading }
   meaning_within level kss (meaning.LocalProcedure f) p = (p.0, p.1, record { there = p.2.there; routine = p.2.routine; is = p.2.is; kinds = p.2.kinds; forms = p.2.forms; result = p.2.result; heading = p.2.heading })
   meaning_within level kss meaning.Ahead p = tt
   meaning_within level kss (meaning.Standard f) p = tt

@@ -17,7 +17,7 @@ use Rattle.typed_tree.specs.declared.statement.TypedStmt.TheVariants as step
 use Rattle.typed_tree.specs.declared.types.TypeNo.{TypeNo}
 use Rattle.check_scope.specs.Elaborated.{Gathers, both}
 use Rattle.check_scope.specs.declared.scope.Scope.{Scope}
-use Rattle.check_expr.specs.Meanings.{meant, head, value_of}
+use Rattle.check_expr.specs.Meanings.{meanings_of, head, value_of}
 use Rattle.layout_storage.specs.Types.{Ty}
 use Rattle.layout_storage.specs.Shapes.{tree}
 use Rattle.law_simulation.specs.Scene.{AreLabels}
@@ -31,8 +31,8 @@ use Rattle.law_programs.specs.Typing.{fits_whole, fits_head, PlaceTyped, ValueTy
 use Rattle.law_programs.proofs.Operators.{SomeTyped}
 use Rattle.law_programs.proofs.Meanings.{AllM, value_typed}
 use Rattle.check_stmt_parts.specs.declared.around.Around.{Around}
-use Rattle.check_stmt_parts.specs.Lists.{with_next, chosen, chosen_else, base_in, cased, armed, repeated_while, repeated_until, looped, within}
-use Rattle.check_stmt_parts.specs.Simple.{condition, meant_if, in_loop, opened}
+use Rattle.check_stmt_parts.specs.Lists.{with_next, if_statement, chosen_else, base_in, case_statement, arm_of, repeated_while, repeated_until, loop_statement, within}
+use Rattle.check_stmt_parts.specs.Simple.{condition, meant_if, in_loop, into_record}
 use Rattle.check_stmt.specs.Statements.{Elaborates, ElaboratesRest, ElaboratesArm, Arms, args_meant, with_stmt, all_of, all_if, with_arm, arms_of, stmt_layer, rest_layer, arm_layer, stmt, rest, arm, with_written, statements}
 use Rattle.law_programs.specs.TypingStmts.{fits_if, all_fit, fits_step, fits_label, fits_stmt_layer, fits_rest_layer, fits_arm_layer, fits_rest, fits_stmt, fits_arm, StmtTyped, StmtsTyped, AreReturned, StatementsAreTyped}
 use Rattle.law_programs.proofs.StmtsConstructs.{TestTyped, EachTyped, each_more, all_typed, ArmTyped, ArmsTyped, arms_more, if_typed, if_else_typed, case_typed, case_else_typed, while_typed, repeat_typed, loop_typed, with_typed}
@@ -126,7 +126,7 @@ module _ (g : Gathers) (exprs : ExpressionsAreTyped g) (heads : DesignatorsAreTy
     chosen_as c body None p q r = if_typed x result ws a.in_loop c body p q
     chosen_as c body (Some others) p q r = if_else_typed x result ws a.in_loop c body others p q r
 
-    chosen_typed : {c : Result TypedExpr g.Reported} {body : Result (List TypedStmt) g.Reported} {follow : Result (Option (List TypedStmt)) g.Reported} → Test_ c → Stmts_ ws a body → Others_ ws a follow → Stmt_ ws a (chosen g c body follow)
+    chosen_typed : {c : Result TypedExpr g.Reported} {body : Result (List TypedStmt) g.Reported} {follow : Result (Option (List TypedStmt)) g.Reported} → Test_ c → Stmts_ ws a body → Others_ ws a follow → Stmt_ ws a (if_statement g c body follow)
     chosen_typed p q r = then_holds (both_holds g p (both_holds g q r)) (λ v k. fine (step.If v.0 v.1.0 v.1.1) (chosen_as v.0 v.1.0 v.1.1 k.0 k.1.0 k.1.1))
 
     chosen_else_typed : {r : Result TypedStmt g.Reported} → Stmt_ ws a r → Others_ ws a (chosen_else r)
@@ -146,7 +146,7 @@ module _ (g : Gathers) (exprs : ExpressionsAreTyped g) (heads : DesignatorsAreTy
     no_selector d = broken d
 
     -- arms without a selector are looked at, but there is no statement
-    cased_typed : {c : Result (TypeNo × TypedExpr) g.Reported} (arms : List (ElaboratesArm g.Reported)) {otherwise : Result (Option (List TypedStmt)) g.Reported} → Holds SelectorTyped c → AllA arms → Others_ ws a otherwise → Stmt_ ws a (cased g c (arms_of g s a (base_in c) arms) otherwise)
+    cased_typed : {c : Result (TypeNo × TypedExpr) g.Reported} (arms : List (ElaboratesArm g.Reported)) {otherwise : Result (Option (List TypedStmt)) g.Reported} → Holds SelectorTyped c → AllA arms → Others_ ws a otherwise → Stmt_ ws a (case_statement g c (arms_of g s a (base_in c) arms) otherwise)
     cased_typed arms (fine z j) all r = then_holds (both_holds g (the_selector z j) (both_holds g (all_arms z.0 arms all) r)) (λ v k. fine (step.Case v.0.1 v.1.0 v.1.1) (cased_as v.0.1 v.1.0 v.1.1 k.0 k.1.0 k.1.1))
     cased_typed arms {otherwise = otherwise} (broken d) all r = then_holds (both_holds g (no_selector d) (any_holds (both g (arms_of g s a None arms) otherwise))) (λ v k. absurd k.0)
 
@@ -156,7 +156,7 @@ module _ (g : Gathers) (exprs : ExpressionsAreTyped g) (heads : DesignatorsAreTy
     until_all : {c : Result TypedExpr g.Reported} {body : Result (List TypedStmt) g.Reported} → Stmts_ ws a body → Test_ c → Stmt_ ws a (repeated_until g body c)
     until_all q p = then_holds (both_holds g q p) (λ v k. fine (step.Repeat v.0 v.1) (repeat_typed x result ws a.in_loop v.0 v.1 k.0 k.1))
 
-    looped_typed : {body : Result (List TypedStmt) g.Reported} → Stmts_ ws (in_loop a) body → Stmt_ ws a (looped body)
+    looped_typed : {body : Result (List TypedStmt) g.Reported} → Stmts_ ws (in_loop a) body → Stmt_ ws a (loop_statement body)
     looped_typed p = then_holds p (λ v k. fine (step.Loop v) (loop_typed x result ws a.in_loop v k))
 
     within_all : (t : Ty) (d : Place) {body : Result (List TypedStmt) g.Reported} → PlaceTyped x ws d t → Stmts_ (ws ++ t ∷ []) a body → Stmt_ ws a (within d body)
@@ -164,7 +164,7 @@ module _ (g : Gathers) (exprs : ExpressionsAreTyped g) (heads : DesignatorsAreTy
 
     -- ---- parts
 
-    args_all : (ys : List Expr) → list_all fits_whole ys ≡ true → AllM g x ws opens s h.typed (map (meant g) ys)
+    args_all : (ys : List Expr) → list_all fits_whole ys ≡ true → AllM g x ws opens s h.typed (map (meanings_of g) ys)
     args_all [] f = tt
     args_all (y ∷ ys) f = (exprs x ws opens s h.typed y (both_left (fits_whole y) (list_all fits_whole ys) f), args_all ys (both_right (fits_whole y) (list_all fits_whole ys) f))
 
@@ -174,12 +174,12 @@ module _ (g : Gathers) (exprs : ExpressionsAreTyped g) (heads : DesignatorsAreTy
 
     value_if : (o : Option Expr) → fits_if o ≡ true → ValueIf g x ws opens s h.typed result (meant_if g o)
     value_if None f = tt
-    value_if (Some y) f = value_typed g x ws opens s h.typed (meant g y) (exprs x ws opens s h.typed y f)
+    value_if (Some y) f = value_typed g x ws opens s h.typed (meanings_of g y) (exprs x ws opens s h.typed y f)
 
-    test_typed : (y : Expr) → fits_whole y ≡ true → Test_ (condition g s (meant g y))
-    test_typed y f = condition_typed g x ws opens s h.typed (meant g y).fixed.at (value_typed g x ws opens s h.typed (meant g y) (exprs x ws opens s h.typed y f))
+    test_typed : (y : Expr) → fits_whole y ≡ true → Test_ (condition g s (meanings_of g y))
+    test_typed y f = condition_typed g x ws opens s h.typed (meanings_of g y).fixed.at (value_typed g x ws opens s h.typed (meanings_of g y) (exprs x ws opens s h.typed y f))
 
-  inner_scope : (ws : List Ty) (s : Scope g.Reported) (t : TypeNo) → In ws s → In (ws ++ tree types t ∷ []) (opened s t)
+  inner_scope : (ws : List Ty) (s : Scope g.Reported) (t : TypeNo) → In ws s → In (ws ++ tree types t ∷ []) (into_record s t)
   inner_scope ws s t h = record {
     typed = within_typed g x ws opens s h.typed h.count t;
     ranged = within_ranged s t h.ranged;
@@ -287,12 +287,12 @@ module _ (g : Gathers) (exprs : ExpressionsAreTyped g) (heads : DesignatorsAreTy
   abbrev FitsLayer : Stmt-F SR SS SA → Type 0
   FitsLayer y = fits_stmt_layer (fit_stmt (bare_stmt y)) ≡ true
 
-  value_typed_of : (ws : List Ty) (s : Scope g.Reported) (h : In ws s) (y : Expr) → fits_whole y ≡ true → Holds (ValueTyped x ws) (value_of g s (meant g y))
-  value_typed_of ws s h y f = value_typed g x ws opens s h.typed (meant g y) (exprs x ws opens s h.typed y f)
+  value_typed_of : (ws : List Ty) (s : Scope g.Reported) (h : In ws s) (y : Expr) → fits_whole y ≡ true → Holds (ValueTyped x ws) (value_of g s (meanings_of g y))
+  value_typed_of ws s h y f = value_typed g x ws opens s h.typed (meanings_of g y) (exprs x ws opens s h.typed y f)
 
   stmt_layer_typed : (y : Stmt-F SR SS SA) → FitsLayer y → TypedElaborates (stmt_layer g (opened_stmt (bare_stmt y)))
   stmt_layer_typed (layer.Assign d e) f = λ ws s h a r.
-      assignment_typed g x ws opens s h.typed result a.in_loop (head g d) (meant g e).fixed.at (meant g e) (heads x ws opens s h.typed d (both_left (fits_head d) (fits_whole e) f)) (exprs x ws opens s h.typed e (both_right (fits_head d) (fits_whole e) f))
+      assignment_typed g x ws opens s h.typed result a.in_loop (head g d) (meanings_of g e).fixed.at (meanings_of g e) (heads x ws opens s h.typed d (both_left (fits_head d) (fits_whole e) f)) (exprs x ws opens s h.typed e (both_right (fits_head d) (fits_whole e) f))
   stmt_layer_typed (layer.Call d args) f = λ ws s h a r.
       done_typed g x ws opens s h.typed result a.in_loop (head g d) (args_meant g args) (heads x ws opens s h.typed d (both_left (fits_head d) (all_fit args) f)) (args_typed ws s h a r args (both_right (fits_head d) (all_fit args) f))
   stmt_layer_typed (layer.If c body follow) f = λ ws s h a r.
@@ -301,11 +301,11 @@ module _ (g : Gathers) (exprs : ExpressionsAreTyped g) (heads : DesignatorsAreTy
       (follow.1 (both_right (list_all itself (fits_of body)) (fits_rest follow.0) k) ws s h a r)
   stmt_layer_typed (layer.Case e arms None) f = λ ws s h a r.
       let k = both_right (fits_whole e) (list_all itself (arms_fit arms) && true) f in
-      cased_typed ws s h a r (arms_elaborated arms) (selected_typed g x ws opens s h.typed (meant g e) (value_typed_of ws s h e (both_left (fits_whole e) (list_all itself (arms_fit arms) && true) f)))
+      cased_typed ws s h a r (arms_elaborated arms) (selected_typed g x ws opens s h.typed (meanings_of g e) (value_typed_of ws s h e (both_left (fits_whole e) (list_all itself (arms_fit arms) && true) f)))
       (armed_all arms (both_left (list_all itself (arms_fit arms)) true k)) (fine None tt)
   stmt_layer_typed (layer.Case e arms (Some body)) f = λ ws s h a r.
       let k = both_right (fits_whole e) (list_all itself (arms_fit arms) && list_all itself (fits_of body)) f in
-      cased_typed ws s h a r (arms_elaborated arms) (selected_typed g x ws opens s h.typed (meant g e) (value_typed_of ws s h e (both_left (fits_whole e) (list_all itself (arms_fit arms) && list_all itself (fits_of body)) f)))
+      cased_typed ws s h a r (arms_elaborated arms) (selected_typed g x ws opens s h.typed (meanings_of g e) (value_typed_of ws s h e (both_left (fits_whole e) (list_all itself (arms_fit arms) && list_all itself (fits_of body)) f)))
       (armed_all arms (both_left (list_all itself (arms_fit arms)) (list_all itself (fits_of body)) k))
       (standing_typed ws s h a r (elaborates_of body) (elaborated body (both_right (list_all itself (arms_fit arms)) (list_all itself (fits_of body)) k)))
   stmt_layer_typed (layer.While c body) f = λ ws s h a r.
@@ -319,12 +319,12 @@ module _ (g : Gathers) (exprs : ExpressionsAreTyped g) (heads : DesignatorsAreTy
       let k = both_right (fits_whole start) (fits_whole limit && (fits_step by && list_all itself (fits_of body))) f in
       let j = both_right (fits_whole limit) (fits_step by && list_all itself (fits_of body)) k in
       repeated_for_typed g x ws opens s h.typed h.ranged result a.in_loop
-      (course_typed g x ws opens s h.typed h.ranged name (meant g start) (meant g limit) by (both_left (fits_step by) (list_all itself (fits_of body)) j)
+      (course_typed g x ws opens s h.typed h.ranged name (meanings_of g start) (meanings_of g limit) by (both_left (fits_step by) (list_all itself (fits_of body)) j)
       (value_typed_of ws s h start (both_left (fits_whole start) (fits_whole limit && (fits_step by && list_all itself (fits_of body))) f)) (value_typed_of ws s h limit (both_left (fits_whole limit) (fits_step by && list_all itself (fits_of body)) k)))
       (body_typed body (both_right (fits_step by) (list_all itself (fits_of body)) j) ws s h a r)
   stmt_layer_typed (layer.With d body) f = λ ws s h a r.
       ahead_holds g _ (record_typed g x ws opens s h.typed (head g d) (heads x ws opens s h.typed d (both_left (fits_head d) (list_all itself (fits_of body)) f))) (λ z j.
-      within_all ws s h a r (tree types z.0) z.1 j (body_typed body (both_right (fits_head d) (list_all itself (fits_of body)) f) (ws ++ tree types z.0 ∷ []) (opened s z.0) (inner_scope ws s z.0 h) a r))
+      within_all ws s h a r (tree types z.0) z.1 j (body_typed body (both_right (fits_head d) (list_all itself (fits_of body)) f) (ws ++ tree types z.0 ∷ []) (into_record s z.0) (inner_scope ws s z.0 h) a r))
 
   rest_layer_typed : (y : Rest-F SR SS SA) → fits_rest_layer (fit_rest (bare_rest y)) ≡ true → TypedRest (rest_layer g (opened_rest (bare_rest y)))
   rest_layer_typed (layer.Elsif c body follow) f = λ ws s h a r.
@@ -335,7 +335,7 @@ module _ (g : Gathers) (exprs : ExpressionsAreTyped g) (heads : DesignatorsAreTy
   rest_layer_typed (layer.Else None) f = λ ws s h a r. fine None tt
   rest_layer_typed (layer.Else (Some body)) f = λ ws s h a r. standing_typed ws s h a r (elaborates_of body) (elaborated body f)
 
-  armed_typed : (ws : List Ty) (a : Around g.Reported) {labels : Result (List Label) g.Reported} {body : Result (List TypedStmt) g.Reported} → Holds AreLabels labels → Stmts_ ws a body → Arm_ ws a (armed g labels body)
+  armed_typed : (ws : List Ty) (a : Around g.Reported) {labels : Result (List Label) g.Reported} {body : Result (List TypedStmt) g.Reported} → Holds AreLabels labels → Stmts_ ws a body → Arm_ ws a (arm_of g labels body)
   armed_typed ws a p q = then_holds (both_holds g p q) (λ v k. fine (record { labels = v.0; body = v.1 }) (record { labels = k.0; body = k.1 }))
 
   arm_layer_typed : (y : Arm-F SR SS SA) → fits_arm_layer (fit_arm (bare_arm y)) ≡ true → TypedArms (arm_layer g (opened_arm (bare_arm y)))

@@ -14,7 +14,7 @@ use Rattle.typed_tree.specs.declared.statement.TypedStmt.TheVariants as stmt
 use Rattle.typed_tree.specs.declared.typed_module.TypedModule.{TypedModule}
 use Rattle.typed_tree.specs.declared.types.TypeNo.{TypeNo}
 use Rattle.typed_tree.specs.declared.known_types.Types.{Types}
-use Rattle.typed_tree.specs.Chains.{rooted}
+use Rattle.typed_tree.specs.Chains.{root_place}
 use Rattle.typed_tree.specs.Types.{boolean, char, bitset}
 use Rattle.typed_tree.specs.Known.{scalar_at}
 use Rattle.layout_storage.specs.Types.{Ty, Scalar, Natural, Callable, Cell, Array, Heading, IsPlain}
@@ -228,13 +228,13 @@ module _ (x : Context) (result : Gives) where
       stmt_of ws l (stmt.With d body) (wanted_at m d) (all_in m body) (wants_with m d body) (λ a b c i j h k. typed.With ws l a b c t d body (place_to ws d t p a b i h) (row_to (ws ++ t ∷ []) l body q b c j k))
 
   -- the control variable asks for nothing
-  for_wants : (r : Root) (t : TypeNo) (start limit : TypedExpr) (by : ℤ) (body : List TypedStmt) → wanted_in m (stmt.For (rooted r) t start limit by body) ≡ beside (wanted_of m start) (beside (wanted_of m limit) (all_in m body))
-  for_wants r t start limit by body = wants_for m (rooted r) t start limit by body ∙ ap (λ (w : Wanted). beside w (beside (wanted_of m start) (beside (wanted_of m limit) (all_in m body)))) (wants_rooted m r)
+  for_wants : (r : Root) (t : TypeNo) (start limit : TypedExpr) (by : ℤ) (body : List TypedStmt) → wanted_in m (stmt.For (root_place r) t start limit by body) ≡ beside (wanted_of m start) (beside (wanted_of m limit) (all_in m body))
+  for_wants r t start limit by body = wants_for m (root_place r) t start limit by body ∙ ap (λ (w : Wanted). beside w (beside (wanted_of m start) (beside (wanted_of m limit) (all_in m body)))) (wants_rooted m r)
 
-  pub for_typed : (ws : List Ty) (l : Bool) (r : Root) (t u : TypeNo) (c : Scalar) (start limit : TypedExpr) (by : ℤ) (body : List TypedStmt) → IsCell types t c → (scalar_at types t ≡ None → ⊥) → IsControl x (rooted r) (Cell c)
-      → negsuc 2147483647 ≤ℤ by → by ≤ℤ pos 4294967295 → GivenTyped x ws start t → ExprTyped x ws limit u → EachTyped ws l body → StmtTyped x result ws l (stmt.For (rooted r) t start limit by body)
+  pub for_typed : (ws : List Ty) (l : Bool) (r : Root) (t u : TypeNo) (c : Scalar) (start limit : TypedExpr) (by : ℤ) (body : List TypedStmt) → IsCell types t c → (scalar_at types t ≡ None → ⊥) → IsControl x (root_place r) (Cell c)
+      → negsuc 2147483647 ≤ℤ by → by ≤ℤ pos 4294967295 → GivenTyped x ws start t → ExprTyped x ws limit u → EachTyped ws l body → StmtTyped x result ws l (stmt.For (root_place r) t start limit by body)
   for_typed ws l r t u c start limit by body cell ranged control low high p q s =
-      stmt_of ws l (stmt.For (rooted r) t start limit by body) (wanted_of m start) (beside (wanted_of m limit) (all_in m body)) (for_wants r t start limit by body) (λ a b z i j h k.
-      typed.For ws l a b (b + characters (texts_of limit)) z (rooted r) t u c start limit by body cell ranged control low high (given_to ws start t p a b i h)
+      stmt_of ws l (stmt.For (root_place r) t start limit by body) (wanted_of m start) (beside (wanted_of m limit) (all_in m body)) (for_wants r t start limit by body) (λ a b z i j h k.
+      typed.For ws l a b (b + characters (texts_of limit)) z (root_place r) t u c start limit by body cell ranged control low high (given_to ws start t p a b i h)
       (expr_to ws limit u q b _ refl (has_first x b (wanted_of m limit) (all_in m body) k))
       (row_to ws l body s _ z (seam b (texts_of limit) (all_in m body).texts ∙ j) (has_second x b (wanted_of m limit) (all_in m body) k)))

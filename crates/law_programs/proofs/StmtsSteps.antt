@@ -19,7 +19,7 @@ use Rattle.typed_tree.specs.declared.meaning.Meaning.TheVariants as meaning
 use Rattle.typed_tree.specs.declared.statement.TypedStmt.{TypedStmt}
 use Rattle.typed_tree.specs.declared.statement.TypedStmt.TheVariants as step
 use Rattle.typed_tree.specs.declared.types.TypeNo.{TypeNo}
-use Rattle.typed_tree.specs.Chains.{rooted}
+use Rattle.typed_tree.specs.Chains.{root_place}
 use Rattle.typed_tree.specs.Types.{are_same, is_numeric, integer, cardinal, boolean}
 use Rattle.check_scope.specs.Elaborated.{Gathers, reported_where, both, ◌▷◌}
 use Rattle.check_scope.specs.declared.scope.Scope.{Scope}
@@ -42,8 +42,8 @@ use Rattle.check_operator.specs.declared.side.Amount.{Amount}
 use Rattle.check_operator.specs.declared.side.Amount.TheVariants.{Known, Run}
 use Rattle.check_operator.specs.declared.side.Side.{Side}
 use Rattle.check_operator.specs.declared.side.Side.TheVariants as side
-use Rattle.check_call.specs.Effects.{untyped}
-use Rattle.check_expr.specs.Meanings.{Meant, meant, value_of}
+use Rattle.check_call.specs.Effects.{type_of_number}
+use Rattle.check_expr.specs.Meanings.{Meant, meanings_of, value_of}
 use Rattle.layout_storage.specs.Types.{Ty, Scalar, Cell}
 use Rattle.layout_storage.specs.Shapes.{tree}
 use Rattle.law_simulation.specs.Scene.{IsValue, AreAmong, IsCell}
@@ -63,8 +63,8 @@ use Rattle.law_programs.specs.Typing.{HasBase, kind_of, PlaceTyped, GivenTyped, 
 use Rattle.law_programs.proofs.Known.{ClassIs, class_is, routine_tree, ranged_cell, has_base, among_base, number_value}
 use Rattle.law_programs.proofs.Constructs as made
 use Rattle.law_programs.proofs.Operators.{where_not, AmountTyped, SideTyped, SomeTyped, side_typed, suited_typed, IsSuited, SuitsCell, SuitsProcedure, place_suited_typed}
-use Rattle.check_stmt_parts.specs.Simple.{meant_if, exited, given_back, returned, selector_amount, selector_of, selected, record_by, record_of}
-use Rattle.check_stmt_parts.specs.Control.{controlled_as, controlled, is_own, control_by, control_of, start_at, limit_number, limit_by, limit_at, is_zero, step_number, step_of, type_of, base_of, course, course_of, repeated_for}
+use Rattle.check_stmt_parts.specs.Simple.{meant_if, exit_statement, given_back, return_statement, selector_amount, selector_of, case_selector, record_by, record_of}
+use Rattle.check_stmt_parts.specs.Control.{controlled_as, control_variable, is_own, control_by, control_of, start_at, limit_number, limit_by, limit_at, is_zero, step_number, step_of, type_of, base_of, course, course_of, repeated_for}
 use Rattle.check_stmt_parts.specs.declared.around.Around.{Around}
 use Rattle.check_stmt_parts.specs.declared.control.Control.{Control}
 use Rattle.check_stmt_parts.specs.declared.control.Course.{Course}
@@ -78,7 +78,7 @@ small types is None n p = p
 small types is (Some t) n p = let r = range_at types is t p.range p.at in (through (negsuc 2147483647) p.range.low n r.low p.low, through n p.range.high (pos 4294967295) p.high r.high)
 
 -- a number without a type is an INTEGER where it is negative
-pub untyped_value : (types : Types) (sort : Option TypeNo) (n : ℤ) → SortRanged types sort n → IsValue types (untyped n sort) n
+pub untyped_value : (types : Types) (sort : Option TypeNo) (n : ℤ) → SortRanged types sort n → IsValue types (type_of_number n sort) n
 untyped_value types (Some t) n p = number_value types t t n p
 untyped_value types None n p = by (int_lt n (pos 0)) refl where
   by : (b : Bool) → int_lt n (pos 0) ≡ b → IsValue types (cond b integer cardinal) n
@@ -145,7 +145,7 @@ module _ (g : Gathers) (x : Context) (ws : List Ty) (opens : ℕ → Bool) (s : 
   SelectorTyped r = SomeTyped x ws h.all r.1
 
   selector_amount_typed : (a : Amount) → AmountTyped x ws h.all a → SelectorTyped (selector_amount a)
-  selector_amount_typed (Known a) p = record { of = untyped a.number a.sort; typed = made.constant_typed x ws (untyped a.number a.sort) a.number (untyped_value types a.sort a.number p) }
+  selector_amount_typed (Known a) p = record { of = type_of_number a.number a.sort; typed = made.constant_typed x ws (type_of_number a.number a.sort) a.number (untyped_value types a.sort a.number p) }
   selector_amount_typed (Run b e) p = record { of = p.of; typed = p.scalar.typed }
 
   selector_typed : (at : Pos) (o : Option Side) → SideTyped x ws h.all o → Holds SelectorTyped (selector_of g at o)
@@ -155,7 +155,7 @@ module _ (g : Gathers) (x : Context) (ws : List Ty) (opens : ℕ → Bool) (s : 
   selector_typed at (Some (side.Routine t e)) p = reported_holds g at rule.WrongType
   selector_typed at (Some (side.Procedure f)) p = reported_holds g at rule.WrongType
 
-  pub selected_typed : (y : Meant g.Reported) → Value_ (value_of g s y) → Holds SelectorTyped (selected g s y)
+  pub selected_typed : (y : Meant g.Reported) → Value_ (value_of g s y) → Holds SelectorTyped (case_selector g s y)
   selected_typed y p = then_holds p (λ v k. selector_typed y.fixed.at (side_of v) (side_typed x ws h.all v k))
 
   -- ---- EXIT and RETURN
@@ -165,7 +165,7 @@ module _ (g : Gathers) (x : Context) (ws : List Ty) (opens : ℕ → Bool) (s : 
     exited_as at true = fine step.Exit (exit_typed x result ws)
     exited_as at false = reported_holds g at rule.LonelyExit
 
-    pub exited_typed : (at : Pos) (a : Around g.Reported) → Holds (StmtTyped x result ws a.in_loop) (exited g at a)
+    pub exited_typed : (at : Pos) (a : Around g.Reported) → Holds (StmtTyped x result ws a.in_loop) (exit_statement g at a)
     exited_typed at a = exited_as at a.in_loop
 
     given_as : (looped : Bool) (t : TypeNo) (y : TypedExpr) → result ≡ Some (tree types t) → IsSuited x ws h.all t y → StmtTyped x result ws looped (step.Give t y)
@@ -182,7 +182,7 @@ module _ (g : Gathers) (x : Context) (ws : List Ty) (opens : ℕ → Bool) (s : 
     ValueIf None = Unit {0}
     ValueIf (Some y) = Value_ (value_of g s y)
 
-    pub returned_typed : (at : Pos) (looped : Bool) (o : Option (Result TypeNo g.Reported)) (y : Option (Meant g.Reported)) → AreReturned types o result → ValueIf y → Holds (StmtTyped x result ws looped) (returned g s at o y)
+    pub returned_typed : (at : Pos) (looped : Bool) (o : Option (Result TypeNo g.Reported)) (y : Option (Meant g.Reported)) → AreReturned types o result → ValueIf y → Holds (StmtTyped x result ws looped) (return_statement g s at o y)
     returned_typed at looped None None e p = fine step.Return (return_typed x result ws looped e)
     returned_typed at looped None (Some y) e p = reported_beside_holds g at rule.WrongReturn _
     returned_typed at looped (Some t) None e p = reported_holds g at rule.WrongReturn
@@ -192,22 +192,22 @@ module _ (g : Gathers) (x : Context) (ws : List Ty) (opens : ℕ → Bool) (s : 
 
   pub record ControlTyped (c : Control) : Type 0 where
     pub root : Root
-    pub place : c.place ≡ rooted root
+    pub place : c.place ≡ root_place root
     pub cell : Scalar
     pub one : IsCell types c.of cell
     pub base : HasBase types c.of c.base
-    pub control : IsControl x (rooted root) (Cell cell)
+    pub control : IsControl x (root_place root) (Cell cell)
 
-  controlled_as_typed : (at : Pos) (t : TypeNo) (r : Root) (c : Class) → ClassIs types t c → IsControl x (rooted r) (tree types t) → Holds ControlTyped (controlled_as g at t (rooted r) c)
+  controlled_as_typed : (at : Pos) (t : TypeNo) (r : Root) (c : Class) → ClassIs types t c → IsControl x (root_place r) (tree types t) → Holds ControlTyped (controlled_as g at t (root_place r) c)
   controlled_as_typed at t r (class.Scalar k) e p =
       let one = ranged_cell types h.all t k e in
-      fine (record { of = t; base = k.base; place = rooted r })
-      (record { root = r; place = refl; cell = one.cell; one = one.is; base = has_base types h.all t k e; control = subst (λ (u : Ty). IsControl x (rooted r) u) one.is.is p })
+      fine (record { of = t; base = k.base; place = root_place r })
+      (record { root = r; place = refl; cell = one.cell; one = one.is; base = has_base types h.all t k e; control = subst (λ (u : Ty). IsControl x (root_place r) u) one.is.is p })
   controlled_as_typed at t r class.Set e p = reported_holds g at rule.WrongControl
   controlled_as_typed at t r class.Procedure e p = reported_holds g at rule.WrongControl
   controlled_as_typed at t r class.Whole e p = reported_holds g at rule.WrongControl
 
-  controlled_typed : (at : Pos) (t : TypeNo) (r : Root) → IsControl x (rooted r) (tree types t) → Holds ControlTyped (controlled g s.types at t (rooted r))
+  controlled_typed : (at : Pos) (t : TypeNo) (r : Root) → IsControl x (root_place r) (tree types t) → Holds ControlTyped (control_variable g s.types at t (root_place r))
   controlled_typed at t r p = controlled_as_typed at t r (class_at s.types t) (class_is s.types types h.types t) p
 
   own_kind : (t : TypeNo) (k : LocalKind) → is_own k ≡ true → kind_of types t k ≡ Kept (tree types t)
@@ -219,11 +219,11 @@ module _ (g : Gathers) (x : Context) (ws : List Ty) (opens : ℕ → Bool) (s : 
   control_by_typed : (at : Pos) (y : Meaning) → MeaningTyped x ws opens s.level y → Holds ControlTyped (control_by g s at y)
   control_by_typed at (meaning.Constant v) p = reported_holds g at rule.WrongControl
   control_by_typed at (meaning.Type t n) p = reported_holds g at rule.WrongControl
-  control_by_typed at (meaning.Variable v) p = where_not g (v.home == s.types.home) at rule.WrongControl (λ e. controlled_typed at v.of (root.Global v) (OfModule (rooted (root.Global v)) v (tree types v.of) refl refl p))
+  control_by_typed at (meaning.Variable v) p = where_not g (v.home == s.types.home) at rule.WrongControl (λ e. controlled_typed at v.of (root.Global v) (OfModule (root_place (root.Global v)) v (tree types v.of) refl refl p))
   control_by_typed at (meaning.Local v) p =
       where_not g (is_own v.kind && (v.level == s.level)) at rule.WrongControl (λ e.
       controlled_typed at v.of (root.Local (slot_of s.level v))
-      (OfFrame (rooted (root.Local (slot_of s.level v))) (slot_of s.level v) (tree types v.of) refl refl (p ∙ ap (λ k. Some k) (own_kind v.of v.kind (both_left (is_own v.kind) (v.level == s.level) e)))))
+      (OfFrame (root_place (root.Local (slot_of s.level v))) (slot_of s.level v) (tree types v.of) refl refl (p ∙ ap (λ k. Some k) (own_kind v.of v.kind (both_left (is_own v.kind) (v.level == s.level) e)))))
   control_by_typed at (meaning.Field f) p = reported_holds g at rule.WrongControl
   control_by_typed at (meaning.Procedure f) p = reported_holds g at rule.WrongControl
   control_by_typed at (meaning.LocalProcedure f) p = reported_holds g at rule.WrongControl
@@ -273,9 +273,9 @@ module _ (g : Gathers) (x : Context) (ws : List Ty) (opens : ℕ → Bool) (s : 
     step_part at (Some (operand.Set bits)) p = reported_holds g at rule.WrongType
     step_part at (Some (operand.Scalar a)) p = step_if at a (is_number a.sort) p
 
-    step_constant : (e : Expr) → fits e ≡ true → Holds InWord (step_of g s (Some (meant g e)))
+    step_constant : (e : Expr) → fits e ≡ true → Holds InWord (step_of g s (Some (meanings_of g e)))
     step_constant e f =
-        then_holds (constants_ranged g s ranged e f) (λ v k. step_part (meant g e).fixed.at (operand_of v) (operand_ranged s.types v k))
+        then_holds (constants_ranged g s ranged e f) (λ v k. step_part (meanings_of g e).fixed.at (operand_of v) (operand_ranged s.types v k))
 
     pub step_typed : (o : Option Expr) → fits_step o ≡ true → Holds InWord (step_of g s (meant_if g o))
     step_typed None f = fine (pos 1) (omega (arith, ints), omega (arith, ints))

@@ -48,20 +48,20 @@ module _ (m : TypedModule) where
   -- ---- rows of parts
 
   abbrev pub all_in : List TypedStmt → Wanted
-  all_in ss = made (texts.joined (map texts_in ss)) (signed.joined (map (of_step m) ss))
+  all_in ss = made (texts.concatenation (map texts_in ss)) (signed.concatenation (map (of_step m) ss))
 
   abbrev pub all_armed : List TypedArm → Wanted
-  all_armed ms = made (texts.joined (map texts_armed ms)) (signed.joined (map (of_arm m) ms))
+  all_armed ms = made (texts.concatenation (map texts_armed ms)) (signed.concatenation (map (of_arm m) ms))
 
   abbrev pub all_else : Option (List TypedStmt) → Wanted
   all_else None = nothing
   all_else (Some ss) = all_in ss
 
-  texts_by : (ss : List TypedStmt) → body_texts ss ≡ texts.joined (map texts_in ss)
+  texts_by : (ss : List TypedStmt) → body_texts ss ≡ texts.concatenation (map texts_in ss)
   texts_by [] = refl
   texts_by (s ∷ ss) = ap (λ (us : Texts). texts_in s ++ us) (texts_by ss)
 
-  signed_by : (ss : List TypedStmt) → flat_map (of_step m) ss ≡ signed.joined (map (of_step m) ss)
+  signed_by : (ss : List TypedStmt) → flat_map (of_step m) ss ≡ signed.concatenation (map (of_step m) ss)
   signed_by [] = refl
   signed_by (s ∷ ss) = ap (λ (us : Signatures). of_step m s ++ us) (signed_by ss)
 

@@ -31,8 +31,8 @@ use Rattle.law_well_formed.proofs.Gathered.{each_more}
 use Rattle.law_well_formed.proofs.KnownBegins.{console_formed, first_has}
 use Rattle.build_jobs.specs.declared.outcome.Compiled.{Compiled}
 use Rattle.build_jobs.specs.declared.outcome.Compiled.TheVariants.{Defined, Blocked}
-use Rattle.build_jobs.specs.Compiling.{is_sound, tables_of, of_definition, of_fit, of_checked, of_contents, typed_body, compiled}
-use Rattle.build_jobs.specs.Jobs.{compiled_in}
+use Rattle.build_jobs.specs.Compiling.{is_sound, tables_of, of_definition, of_fit, of_checked, of_contents, typed_body, compilation_of}
+use Rattle.build_jobs.specs.Jobs.{compile_in_place}
 use Rattle.build_jobs.specs.Encoded.{needed_of}
 use Rattle.law_programs.specs.FormedReach.{result_of, types_of}
 use Rattle.law_programs.proofs.Reach.{IsNeeded, known_below, tables_needed}
@@ -95,7 +95,7 @@ module _ (made_of : ℕ → List Made) (n : ℕ) (m : Module) (ts : List Table) 
   contents_stand t (contents.Implementation b) e own numbered = absurd cc
   contents_stand t (contents.Program b) e own numbered = absurd cc
 
-  result_stands : (t : Table) (r : Result Table Breach) → r ≡ types.compiled least n m ts → IfOk r (λ t. AreExports n t.exported) → IfOk r (λ t. AreNumberedBy (exported_headings t.exported) t.exported) → of_definition r ≡ Defined t → TableStands n t
+  result_stands : (t : Table) (r : Result Table Breach) → r ≡ types.definition_table least n m ts → IfOk r (λ t. AreExports n t.exported) → IfOk r (λ t. AreNumberedBy (exported_headings t.exported) t.exported) → of_definition r ≡ Defined t → TableStands n t
   result_stands t (Ok u) q own numbered e = let same : u ≡ t = cc in subst (λ (t : Table). TableStands n t) same (contents_stand u m.contents (sym q) own numbered)
   result_stands t (Err f) q own numbered e = absurd cc
 
@@ -147,18 +147,18 @@ module _ (trees : List Module) (files : List ℕ) (jobs : List (List ℕ)) (fit 
 
     from_contents : (m : Module) (t : Table) (c : Contents) → of_contents m n needed c ≡ Defined t → TableStands n t
     from_contents m t (contents.Definition ds) e =
-        result_stands made_of n m needed (all_are_formed needed they_are_needed) (all_are_others needed they_are_needed) t (types.compiled least n m needed) refl (tables_export least n m needed) (tables_number least n m needed) e
+        result_stands made_of n m needed (all_are_formed needed they_are_needed) (all_are_others needed they_are_needed) t (types.definition_table least n m needed) refl (tables_export least n m needed) (tables_number least n m needed) e
     from_contents m t (contents.Implementation b) e = absurd (no_body t (typed_body m n needed) e)
     from_contents m t (contents.Program b) e = absurd (no_body t (typed_body m n needed) e)
 
-    from_compiled : (m : Module) (t : Table) → compiled m n (needed_of trees files jobs n) ≡ Defined t → TableStands n t
-    unfolding compiled
+    from_compiled : (m : Module) (t : Table) → compilation_of m n (needed_of trees files jobs n) ≡ Defined t → TableStands n t
+    unfolding compilation_of
     from_compiled m t e = by (list_all is_sound (needed_of trees files jobs n)) e where
       by : (b : Bool) → cond b (of_contents m n needed m.contents) Blocked ≡ Defined t → TableStands n t
       by true e = from_contents m t m.contents e
       by false e = absurd cc
 
-    from_tree : (t : Table) (o : Option Module) → compiled_in o n (needed_of trees files jobs n) ≡ Defined t → TableStands n t
+    from_tree : (t : Table) (o : Option Module) → compile_in_place o n (needed_of trees files jobs n) ≡ Defined t → TableStands n t
     from_tree t None e = absurd cc
     from_tree t (Some m) e = from_compiled m t e
 

@@ -2,7 +2,7 @@
 use Rattle.std.proofs.Common.{◌≡◌, ℕ, zero, suc, ◌<◌, true, List, [], ◌∷◌, get_or, pos, refl, arith}
 use Rattle.std.specs.List.{list_all}
 use Rattle.std.proofs.lemmas.Int.{ints}
-use Rattle.layout_storage.specs.Texts.{passed}
+use Rattle.layout_storage.specs.Texts.{argument_text}
 use Rattle.law_well_formed.specs.FormedRanges.{fits_character}
 use Rattle.law_well_formed.proofs.RangesTypes.{both_left, both_right}
 use Rattle.law_well_formed.proofs.Subranges.{from_le}
@@ -20,7 +20,7 @@ bytes_small [] e j = omega arith
 bytes_small (c ∷ cs) e zero = byte_small c (both_left (fits_character c) (list_all fits_character cs) e)
 bytes_small (c ∷ cs) e (suc j) = bytes_small cs (both_right (fits_character c) (list_all fits_character cs) e) j
 
-pub passed_bytes : (cs : List ℕ) → list_all fits_character cs ≡ true → list_all fits_character (passed cs) ≡ true
+pub passed_bytes : (cs : List ℕ) → list_all fits_character cs ≡ true → list_all fits_character (argument_text cs) ≡ true
 passed_bytes [] e = refl
 passed_bytes (c ∷ cs) e = e
 

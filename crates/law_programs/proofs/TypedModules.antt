@@ -4,7 +4,7 @@ use Rattle.std.specs.Prelude.{◌*◌, ◌^◌, ◌<◌, All, slice_get, slice_i
 use Rattle.std.specs.List.{AllByRecursion, list_all}
 use Rattle.m2_tree.specs.declared.decl.Block.{Block}
 use Rattle.m2_tree.specs.declared.decl.Module.{Module}
-use Rattle.m2_graph.specs.Files.{numbered}
+use Rattle.m2_graph.specs.Files.{number_files}
 use Rattle.m2_graph.specs.Graph.{IsGraph, CompileEach}
 use Rattle.typed_tree.specs.declared.table.Table.{Table}
 use Rattle.typed_tree.specs.declared.typed_module.TypedModule.{TypedModule}
@@ -28,7 +28,7 @@ use Rattle.law_programs.specs.Carried.{NamesPlaced, NamesSlots}
 use Rattle.law_programs.specs.Names.{HasInstance}
 use Rattle.law_programs.specs.TypingBodies.{fits_whole_block, Stage, HasModule, NamesThere, AreBodiesTyped}
 use Rattle.law_programs.proofs.Modules.{modules_typed}
-use Rattle.law_programs.specs.TypingWants.{AreOrdered, placed}
+use Rattle.law_programs.specs.TypingWants.{AreOrdered, stage_at}
 use Rattle.law_programs.proofs.Orders.{bodies_ordered}
 use Rattle.law_programs.proofs.Provided.{bodies_provided, module_typed}
 use Rattle.law_programs.proofs.ModuleTexts.{module_bytes}
@@ -93,7 +93,7 @@ module _ (p : Program) (pages place : ℕ) (m : TypedModule) (there : slice_get 
   x = placed_at p pages place m
 
   abbrev z : Stage
-  z = placed p pages place m opens
+  z = stage_at p pages place m opens
 
   module _ (own : HasInstance x) (stand : NamesStand x opens st.scope tree st.block) (fits : fits_contents tree.contents ≡ true) where
     abbrev behind : Scope least.Reported
@@ -126,7 +126,7 @@ module _ (p : Program) (pages place : ℕ) (m : TypedModule) (there : slice_get 
 
 -- ---- the modules of a graph
 
-module _ (fs : List (List ℕ × Module)) (files : List ℕ) (jobs : List (List ℕ)) (starts : List ℕ) (graph : IsGraph (numbered 0 fs) files jobs starts) (each : CompileEach (numbered 0 fs) files) (fit : list_all fits_module (trees_of fs) ≡ true) (whole : list_all (λ m. fits_contents m.contents) (trees_of fs) ≡ true) where
+module _ (fs : List (List ℕ × Module)) (files : List ℕ) (jobs : List (List ℕ)) (starts : List ℕ) (graph : IsGraph (number_files 0 fs) files jobs starts) (each : CompileEach (number_files 0 fs) files) (fit : list_all fits_module (trees_of fs) ≡ true) (whole : list_all (λ m. fits_contents m.contents) (trees_of fs) ≡ true) where
   module _ (p : Program) (b : AreBodiesIn (trees_of fs) files jobs starts p) (pages : ℕ) (room : bytes_in p + 4096 ≤ 65536 * pages) (most : pages ≤ 1024) where
     abbrev Body : TypedModule → Type 0
     Body m = IsBodyOf (trees_of fs) files jobs m
@@ -158,7 +158,7 @@ module _ (fs : List (List ℕ × Module)) (files : List ℕ) (jobs : List (List 
         let st : BodyStands o.tree o.job (tables o) m = bodies_stand fs files jobs starts graph fit o.tree o.job m o.is_tree o.typed in
         let stand : NamesStand (placed_at p pages place m) (is_open (tables_by o.tree (tables o)) m.imports) st.scope o.tree st.block = names_begun m o named st.scope st.block st.begun in
         let typed = bodies_typed p pages place m e o.tree o.job (tables o) st named.own stand (passes_at (λ (t : Module). fits_contents t.contents) (trees_of fs) whole (slice_index_or files o.job 0) o.tree o.is_tree) (texts_room p pages place m e room most) in
-        let z : Stage = placed p pages place m (opens p pages place m e o.tree o.job (tables o) st) in
+        let z : Stage = stage_at p pages place m (opens p pages place m e o.tree o.job (tables o) st) in
         let provided = bodies_provided z (ordered m o) in
         record {
           typed = module_typed p pages place m (opens p pages place m e o.tree o.job (tables o) st) typed provided;

@@ -10,7 +10,7 @@ use Rattle.typed_tree.specs.declared.computed.TypedExpr.{TypedExpr}
 use Rattle.typed_tree.specs.declared.statement.TypedArm.{TypedArm}
 use Rattle.typed_tree.specs.declared.statement.TypedStmt.{TypedStmt}
 use Rattle.typed_tree.specs.declared.types.TypeNo.{TypeNo}
-use Rattle.layout_storage.specs.Texts.{passed}
+use Rattle.layout_storage.specs.Texts.{argument_text}
 use Rattle.layout_storage.specs.Types.{Ty, Cell, Callable, Heading}
 use Rattle.layout_storage.specs.Shapes.{tree}
 use Rattle.law_simulation.specs.Passing.{Form, Forms, Result, forms_of}
@@ -119,7 +119,7 @@ module _ (x : Context) where
     argument_small ws _ _ _ _ (typed.ActualCopy a b d t h) = place_small ws a b d t h
     argument_small ws _ _ _ _ (typed.ActualArray a b t r u is_var d range narrow array h) = place_small ws a b d (tree x.home.types t) h
     argument_small ws _ _ _ _ (typed.ActualOpen a slot is_var u there) = nothing_there a
-    argument_small ws _ _ _ _ (typed.ActualText a text has below) = text_small a (passed text) has
+    argument_small ws _ _ _ _ (typed.ActualText a text has below) = text_small a (argument_text text) has
 
   -- ---- statements
 

@@ -11,9 +11,9 @@ use Rattle.m2_tree.specs.declared.decl.Contents.{Contents}
 use Rattle.m2_tree.specs.declared.decl.Contents.TheVariants as contents
 use Rattle.m2_tree.specs.declared.decl.Module.{Module}
 use Rattle.pool_board.specs.Graph.{prerequisites_of}
-use Rattle.pool_board.specs.Results.{results_below, picked, with_item}
+use Rattle.pool_board.specs.Results.{results_below, items_at, with_item}
 use Rattle.pool_board.proofs.Resulting.{results-length}
-use Rattle.m2_graph.specs.Files.{numbered, trees}
+use Rattle.m2_graph.specs.Files.{number_files, trees}
 use Rattle.m2_graph.specs.Graph.{IsGraph}
 use Rattle.m2_graph.specs.Order.{IsJob}
 use Rattle.m2_tree.specs.Names.{is_console, same_name}
@@ -44,8 +44,8 @@ use Rattle.law_well_formed.proofs.WholeModules.{modules_formed}
 use Rattle.build_jobs.specs.declared.outcome.Compiled.{Compiled}
 use Rattle.build_jobs.specs.declared.outcome.Compiled.TheVariants.{Defined, Built, Refused, Blocked}
 use Rattle.build_jobs.specs.Own.{own_table, tables_behind}
-use Rattle.build_jobs.specs.Compiling.{is_sound, table_in, tables_of, of_definition, of_fit, of_checked, of_contents, typed_body, compiled}
-use Rattle.build_jobs.specs.Jobs.{compiled_in, compiled_at}
+use Rattle.build_jobs.specs.Compiling.{is_sound, table_in, tables_of, of_definition, of_fit, of_checked, of_contents, typed_body, compilation_of}
+use Rattle.build_jobs.specs.Jobs.{compile_in_place, compile_at}
 use Rattle.build_jobs.specs.Encoded.{needed_of}
 use Rattle.law_programs.specs.FormedPrograms.{trees_of}
 
@@ -106,7 +106,7 @@ rows_once modules order (n ∷ nodes) [] x i = absurd x
 rows_once modules order (n ∷ nodes) (j ∷ js) x zero = subst (λ (row : List ℕ). Once row) (sym x.0) (left_once _ (λ k. false))
 rows_once modules order (n ∷ nodes) (j ∷ js) x (suc i) = rows_once modules order nodes js x.1 i
 
-module _ (fs : List (List ℕ × Module)) (files : List ℕ) (jobs : List (List ℕ)) (starts : List ℕ) (graph : IsGraph (numbered 0 fs) files jobs starts) where
+module _ (fs : List (List ℕ × Module)) (files : List ℕ) (jobs : List (List ℕ)) (starts : List ℕ) (graph : IsGraph (number_files 0 fs) files jobs starts) where
   -- ---- tables
 
   -- of a definition: what it exports is its own, and numbered in order
@@ -152,31 +152,31 @@ module _ (fs : List (List ℕ × Module)) (files : List ℕ) (jobs : List (List 
 
   from_contents : (m : Module) (job : ℕ) (tables : List Table) (t : Table) → is_console m.name.name ≡ false → (c : Contents) → of_contents m job tables c ≡ Defined t → IsOf job t
   from_contents m job tables t free (contents.Definition ds) e =
-      result_of m job t (types.compiled least job m tables) free (tables_named least job m tables) (tables_export least job m tables) (tables_number least job m tables) e
+      result_of m job t (types.definition_table least job m tables) free (tables_named least job m tables) (tables_export least job m tables) (tables_number least job m tables) e
   from_contents m job tables t free (contents.Implementation b) e = absurd (no_body t (typed_body m job tables) e)
   from_contents m job tables t free (contents.Program b) e = absurd (no_body t (typed_body m job tables) e)
 
-  from_compiled : (m : Module) (job : ℕ) (outs : List Compiled) (t : Table) → is_console m.name.name ≡ false → compiled m job outs ≡ Defined t → IsOf job t
-  unfolding compiled
+  from_compiled : (m : Module) (job : ℕ) (outs : List Compiled) (t : Table) → is_console m.name.name ≡ false → compilation_of m job outs ≡ Defined t → IsOf job t
+  unfolding compilation_of
   from_compiled m job outs t free e = by (list_all is_sound outs) e where
     by : (b : Bool) → cond b (of_contents m job (tables_of outs) m.contents) Blocked ≡ Defined t → IsOf job t
     by true e = from_contents m job (tables_of outs) t free m.contents e
     by false e = absurd cc
 
-  from_tree : (place job : ℕ) (outs : List Compiled) (t : Table) (o : Option Module) → slice_get (trees_of fs) place ≡ o → compiled_in o job outs ≡ Defined t → IsOf job t
+  from_tree : (place job : ℕ) (outs : List Compiled) (t : Table) (o : Option Module) → slice_get (trees_of fs) place ≡ o → compile_in_place o job outs ≡ Defined t → IsOf job t
   from_tree place job outs t None there e = absurd cc
   from_tree place job outs t (Some m) there e = from_compiled m job outs t (not_console m place there) e
 
   -- ---- results of jobs
 
   abbrev below : ℕ → List Compiled
-  below n = results_below jobs (compiled_at (trees_of fs) files) n
+  below n = results_below jobs (compile_at (trees_of fs) files) n
 
   abbrev one : ℕ → Compiled
-  one n = compiled_at (trees_of fs) files n (picked (below n) (prerequisites_of jobs n))
+  one n = compile_at (trees_of fs) files n (items_at (below n) (prerequisites_of jobs n))
 
   many : (n : ℕ) → length (below n) ≡ n
-  many n = results-length jobs (compiled_at (trees_of fs) files) n
+  many n = results-length jobs (compile_at (trees_of fs) files) n
 
   at_below : (n j : ℕ) → j < n → slice_get (below n) j ≡ Some (one j)
   at_below zero j l = absurd (omega (arith, l))
@@ -190,7 +190,7 @@ module _ (fs : List (List ℕ × Module)) (files : List ℕ) (jobs : List (List 
 
   table_below : (n p : ℕ) (x : Compiled) → slice_get (below n) p ≡ Some x → (t : Table) → x ≡ Defined t → IsOf p t
   table_below n p x e t is =
-      from_tree (slice_index_or files p 0) p (picked (below p) (prerequisites_of jobs p)) t (slice_get (trees_of fs) (slice_index_or files p 0)) refl
+      from_tree (slice_index_or files p 0) p (items_at (below p) (prerequisites_of jobs p)) t (slice_get (trees_of fs) (slice_index_or files p 0)) refl
       (same_Some (one p) x (sym (at_below n p (is_within n p x e)) ∙ e) ∙ is)
 
   -- ---- what a job needs
@@ -238,11 +238,11 @@ module _ (fs : List (List ℕ × Module)) (files : List ℕ) (jobs : List (List 
     with_one p ps ts Blocked l g h k = (later p ps ts k.0, k.1)
 
     with_picked : (p : ℕ) (ps : List ℕ) (xs : List Compiled) (o : Option Compiled) → ((x : Compiled) → o ≡ Some x → (p < job) × ((t : Table) → x ≡ Defined t → IsOf p t)) → has ps p ≡ false
-        → AllStand ps (tables_of (picked xs ps)) × Apart (tables_of (picked xs ps)) → AllStand (p ∷ ps) (tables_of (with_item o (picked xs ps))) × Apart (tables_of (with_item o (picked xs ps)))
-    with_picked p ps xs None g h k = (later p ps (tables_of (picked xs ps)) k.0, k.1)
-    with_picked p ps xs (Some x) g h k = let d = g x refl in with_one p ps (tables_of (picked xs ps)) x d.0 d.1 h k
+        → AllStand ps (tables_of (items_at xs ps)) × Apart (tables_of (items_at xs ps)) → AllStand (p ∷ ps) (tables_of (with_item o (items_at xs ps))) × Apart (tables_of (with_item o (items_at xs ps)))
+    with_picked p ps xs None g h k = (later p ps (tables_of (items_at xs ps)) k.0, k.1)
+    with_picked p ps xs (Some x) g h k = let d = g x refl in with_one p ps (tables_of (items_at xs ps)) x d.0 d.1 h k
 
-    picked_stand : (ps : List ℕ) → Once ps → AllStand ps (tables_of (picked (below job) ps)) × Apart (tables_of (picked (below job) ps))
+    picked_stand : (ps : List ℕ) → Once ps → AllStand ps (tables_of (items_at (below job) ps)) × Apart (tables_of (items_at (below job) ps))
     picked_stand [] once = (tt, tt)
     picked_stand (p ∷ ps) once = with_picked p ps (below job) (slice_get (below job) p) (λ x e. (is_within job p x e, table_below job p x e)) once.0 (picked_stand ps once.1)
 

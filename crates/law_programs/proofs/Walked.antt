@@ -25,7 +25,7 @@ use Rattle.check_body.specs.declared.procedure.Walk.{Walk}
 use Rattle.check_body.specs.Elaborating.{Elaborates}
 use Rattle.check_body.specs.Bodies.{Checked, ChecksBlock, Steps, marked_by, with_body, begun_from, steps_layer, block_layer, steps, checks_block, checks_decl}
 use Rattle.check_body.specs.Checked.{of_body}
-use Rattle.check_body.specs.Checks.{elaborated}
+use Rattle.check_body.specs.Checks.{elaborate_body}
 use Rattle.law_well_formed.specs.FormedScopes.{Leads}
 use Rattle.law_well_formed.proofs.ImportsWalks.{walk_keeps}
 use Rattle.law_well_formed.specs.FormedBodies.{Keeps}
@@ -136,24 +136,24 @@ module _ (s : Scope least.Reported) (m : Module) (b : Block) where
   abbrev start : Walk least.Reported
   start = begun_from d (no_bodies d.0.procedures)
 
-  abbrev ps : AreSteps least (elaborated least) ends (map (steps least (elaborated least) ends) (decls_in b)) (total least (elaborated least) (elaborated_formed least) ends (decls_in b))
-  ps = are_steps least (elaborated least) (elaborated_formed least) ends (decls_in b)
+  abbrev ps : AreSteps least (elaborate_body least) ends (map (steps least (elaborate_body least) ends) (decls_in b)) (total least (elaborate_body least) (elaborated_formed least) ends (decls_in b))
+  ps = are_steps least (elaborate_body least) (elaborated_formed least) ends (decls_in b)
 
   declared_ok : w.0.so_far ≡ Ok tt → d.1 ≡ Ok tt
   declared_ok e =
-      checked_reported least (elaborated least) ends None d.2 ps (start, 0) (sym (ap (λ (w : Walk least.Reported). w.so_far) (bodies_are least (elaborated least) (elaborated_formed least) ends None d.2 start (decls_in b))) ∙ e)
+      checked_reported least (elaborate_body least) ends None d.2 ps (start, 0) (sym (ap (λ (w : Walk least.Reported). w.so_far) (bodies_are least (elaborate_body least) (elaborated_formed least) ends None d.2 start (decls_in b))) ∙ e)
 
   walk_grows : Keeps d.0 w.0.scope
   walk_grows =
-      subst (λ (w : Walk least.Reported). Keeps d.0 w.scope) (sym (bodies_are least (elaborated least) (elaborated_formed least) ends None d.2 start (decls_in b))) (all_keep least (elaborated least) ends None d.2 ps (start, 0))
+      subst (λ (w : Walk least.Reported). Keeps d.0 w.scope) (sym (bodies_are least (elaborate_body least) (elaborated_formed least) ends None d.2 start (decls_in b))) (all_keep least (elaborate_body least) ends None d.2 ps (start, 0))
 
   block_outer : (st : State (Unit {0}) least.Reported) → (declared_block least ends st 0 (decls_in b)).0.outer ≡ st.0.outer
   block_outer st =
-      let marks : Scope least.Reported × List ℕ = fold (with_marks marked_by) (st.0, []) (map (steps least (elaborated least) ends) (decls_in b)) in
+      let marks : Scope least.Reported × List ℕ = fold (with_marks marked_by) (st.0, []) (map (steps least (elaborate_body least) ends) (decls_in b)) in
       let other : TypedModule = nothing_at marks.0.types.home in
-      let one : Leads other nothing_open st.0 marks.0 = all_marks least (elaborated least) ends other nothing_open ps (st.0, []) in
-      let two = all_lead least (elaborated least) ends other nothing_open ps (marks.0, st.1, 0) (no_home marks.0.types.home) in
-      ap (λ (d : Declared least.Reported). d.0.outer) (declared_is least (elaborated least) (elaborated_formed least) ends st 0 (decls_in b)) ∙ (two.outer ∙ one.outer)
+      let one : Leads other nothing_open st.0 marks.0 = all_marks least (elaborate_body least) ends other nothing_open ps (st.0, []) in
+      let two = all_lead least (elaborate_body least) ends other nothing_open ps (marks.0, st.1, 0) (no_home marks.0.types.home) in
+      ap (λ (d : Declared least.Reported). d.0.outer) (declared_is least (elaborate_body least) (elaborated_formed least) ends st 0 (decls_in b)) ∙ (two.outer ∙ one.outer)
 
   module _ (base : Types) (es : List (List ℕ × Meaning)) (ready : Ready base es s) (fit : fits_block b ≡ true) where
     carried : Carries s d.0
@@ -163,7 +163,7 @@ module _ (s : Scope least.Reported) (m : Module) (b : Block) where
     outer_is = let k : Stays s (imported_in s m) = import_stays least (modules_in s) m.imports (s, Ok tt) in block_outer (fold (with_import least (modules_in s)) (s, Ok tt) m.imports) ∙ k.outer
 
     walk_formed : w.0.so_far ≡ Ok tt → ScopeFormed base w.0.scope
-    walk_formed e = holds_at w.0.so_far (walked_formed least (elaborated least) ends base (modules_in s) s m b fit ready.formed) tt e
+    walk_formed e = holds_at w.0.so_far (walked_formed least (elaborate_body least) ends base (modules_in s) s m b fit ready.formed) tt e
 
     types_typed : w.0.so_far ≡ Ok tt → TypesIndexed w.0.scope.types → TypesTyped w.0.scope.types
     types_typed e i =
@@ -188,11 +188,11 @@ module _ (s : Scope least.Reported) (m : Module) (b : Block) where
           reported = e;
           body = q;
           types = refl;
-          variables = bodies_variables least (elaborated least) ends d.2 (decls_in b) (start, 0);
+          variables = bodies_variables least (elaborate_body least) ends d.2 (decls_in b) (start, 0);
           procedures = refl;
           locals = refl;
           order = refl;
-          home = ap (λ (p : List Table × ℕ). p.1) (walk_keeps least (elaborated least) ends (modules_in s) s m b);
+          home = ap (λ (p : List Table × ℕ). p.1) (walk_keeps least (elaborate_body least) ends (modules_in s) s m b);
           same_home = carried.home;
           grows = λ u x q. walk_grows.types u x q;
           level = carried.level ∙ ready.starts.level;
@@ -209,7 +209,7 @@ module _ (s : Scope least.Reported) (m : Module) (b : Block) where
           typed = types_typed e i;
         }
 
-    pub body_stands : (job : ℕ) (ts : List Table) (own : Option Table) (t : TypedModule) → BeginsIn m job ts s b → of_body least (elaborated least) s own m b ≡ Ok t → TypesIndexed t.types → BodyStands m job ts t
+    pub body_stands : (job : ℕ) (ts : List Table) (own : Option Table) (t : TypedModule) → BeginsIn m job ts s b → of_body least (elaborate_body least) s own m b ≡ Ok t → TypesIndexed t.types → BodyStands m job ts t
     body_stands job ts own t begun e i =
         let k = parts_of least w.0.so_far w.1 (λ ys. typed_module w.0.scope (modules_in s) own m w.0.bodies ys) t e in
         subst (λ (t : TypedModule). BodyStands m job ts t) k.1.1.1

@@ -34,7 +34,7 @@ use Rattle.check_body.specs.declared.procedure.Walk.{Walk}
 use Rattle.check_body.specs.Elaborating.{Elaborates}
 use Rattle.check_body.specs.Inside.{which_of, begun_procedure}
 use Rattle.check_body.specs.Bodies.{ChecksBlock, Steps, marked_by, declared_by, checked_by, with_body, begun_from, procedure_checked, steps_layer, block_layer, steps, checks_block, checks_decl}
-use Rattle.check_body.specs.Checked.{walked, of_body, of_contents, checked}
+use Rattle.check_body.specs.Checked.{walk_body, of_body, of_contents, body_module}
 use Rattle.law_well_formed.specs.Formed.{Holds, fine}
 use Rattle.law_well_formed.proofs.Basics.{then_holds, reported_holds, any_holds}
 use Rattle.law_programs.specs.Carried.{ShapeIndexed, AllIndexed, TypesIndexed, TablesElsewhere, ReachedIndexed, TablesIndexed, implementation_types, BodyBegins}
@@ -179,7 +179,7 @@ module _ (g : Gathers) (elaborates : Elaborates g.Reported) (ends : List ℕ) wh
   all_decls [] around = tt
   all_decls (d ∷ ds) around = (decl_indexed d around, all_decls ds around)
 
-  walked_indexed : (modules : List (List ℕ × ℕ)) (s : Scope g.Reported) (m : Module) (b : Block) → TablesElsewhere s.types.home s.tables → TypesIndexed s.types → WalkIndexed (walked g elaborates modules ends s m b).0
+  walked_indexed : (modules : List (List ℕ × ℕ)) (s : Scope g.Reported) (m : Module) (b : Block) → TablesElsewhere s.types.home s.tables → TypesIndexed s.types → WalkIndexed (walk_body g elaborates modules ends s m b).0
   walked_indexed modules s m b e p =
       let ds : List Decl = (out-Block b).decls in
       let d : Declared g.Reported = declared_module g modules ends s m ds in
@@ -198,7 +198,7 @@ module _ (g : Gathers) (elaborates : Elaborates g.Reported) where
   contents_indexed number m (Some t) ts (contents.Implementation b) p = body_indexed (implementation_scope t ts) (Some t) m b p.1 p.0
   contents_indexed number m own ts (contents.Program b) p = body_indexed (first_scope number ts) None m b p.1 p.0
 
-  pub checked_indexed : (number : ℕ) (m : Module) (own : Option Table) (ts : List Table) → BodyBegins number own (ts ++ console ∷ []) m.contents → Holds ModuleIndexed (checked g elaborates number m own ts)
+  pub checked_indexed : (number : ℕ) (m : Module) (own : Option Table) (ts : List Table) → BodyBegins number own (ts ++ console ∷ []) m.contents → Holds ModuleIndexed (body_module g elaborates number m own ts)
   checked_indexed number m own ts p = contents_indexed number m own (ts ++ console ∷ []) m.contents p
 
 -- ---- where an implementation begins

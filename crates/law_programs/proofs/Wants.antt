@@ -24,8 +24,8 @@ use Rattle.typed_tree.specs.declared.computed.TypedExpr.TheVariants as expr
 use Rattle.typed_tree.specs.declared.meaning.Procedure.{Procedure}
 use Rattle.typed_tree.specs.declared.typed_module.TypedModule.{TypedModule}
 use Rattle.typed_tree.specs.declared.types.TypeNo.{TypeNo}
-use Rattle.typed_tree.specs.Chains.{linked_to, linked, rooted, behind}
-use Rattle.layout_storage.specs.Texts.{Texts, passed, characters, texts_of, texts_at, texts_called, texts_linked, texts_behind, texts_passed}
+use Rattle.typed_tree.specs.Chains.{linked_to, link_operand, root_place, behind}
+use Rattle.layout_storage.specs.Texts.{Texts, argument_text, characters, texts_of, texts_at, texts_called, texts_linked, texts_behind, texts_passed}
 use Rattle.layout_storage.specs.Texts as texts
 use Rattle.def_scheme.specs.Exprs.{is_own}
 use Rattle.def_scheme.specs.Signatures.{Signatures, of_heading, of_expr, of_place, of_call}
@@ -149,21 +149,21 @@ module _ (m : TypedModule) where
   -- ---- rows of parts
 
   abbrev pub all_linked : List Link → Wanted
-  all_linked ls = made (texts.joined (map texts_linked ls)) (signed.joined (map (of_link m) ls))
+  all_linked ls = made (texts.concatenation (map texts_linked ls)) (signed.concatenation (map (of_link m) ls))
 
   abbrev pub all_behind : List Component → Wanted
-  all_behind cs = made (texts.joined (map texts_behind cs)) (signed.joined (map (of_component m) cs))
+  all_behind cs = made (texts.concatenation (map texts_behind cs)) (signed.concatenation (map (of_component m) cs))
 
   abbrev pub all_passed : List Argument → Wanted
-  all_passed gs = made (texts.joined (map texts_passed gs)) (signed.joined (map (of_argument m) gs))
+  all_passed gs = made (texts.concatenation (map texts_passed gs)) (signed.concatenation (map (of_argument m) gs))
 
-  texts_last : {A : Type 0} (f : A → Texts) (xs : List A) (y : A) → texts.joined (map f (xs ++ y ∷ [])) ≡ texts.joined (map f xs) ++ f y
+  texts_last : {A : Type 0} (f : A → Texts) (xs : List A) (y : A) → texts.concatenation (map f (xs ++ y ∷ [])) ≡ texts.concatenation (map f xs) ++ f y
   texts_last f [] y = append-nil (f y)
-  texts_last f (z ∷ xs) y = ap (λ (us : Texts). f z ++ us) (texts_last f xs y) ∙ sym (append_assoc (f z) (texts.joined (map f xs)) (f y))
+  texts_last f (z ∷ xs) y = ap (λ (us : Texts). f z ++ us) (texts_last f xs y) ∙ sym (append_assoc (f z) (texts.concatenation (map f xs)) (f y))
 
-  signed_last : {A : Type 0} (f : A → Signatures) (xs : List A) (y : A) → signed.joined (map f (xs ++ y ∷ [])) ≡ signed.joined (map f xs) ++ f y
+  signed_last : {A : Type 0} (f : A → Signatures) (xs : List A) (y : A) → signed.concatenation (map f (xs ++ y ∷ [])) ≡ signed.concatenation (map f xs) ++ f y
   signed_last f [] y = append-nil (f y)
-  signed_last f (z ∷ xs) y = ap (λ (us : Signatures). f z ++ us) (signed_last f xs y) ∙ sym (append_assoc (f z) (signed.joined (map f xs)) (f y))
+  signed_last f (z ∷ xs) y = ap (λ (us : Signatures). f z ++ us) (signed_last f xs y) ∙ sym (append_assoc (f z) (signed.concatenation (map f xs)) (f y))
 
   pub linked_last : (ls : List Link) (l : Link) → all_linked (ls ++ l ∷ []) ≡ beside (all_linked ls) (wanted_linked m l)
   linked_last ls l = made_same _ _ _ _ (texts_last texts_linked ls l) (signed_last (of_link m) ls l)
@@ -257,7 +257,7 @@ module _ (m : TypedModule) where
   linked_by e (layer.High slot) l h = one_linked e l
   linked_by e (layer.Call t c) l h = one_linked e l
 
-  pub wants_linked : (e : TypedExpr) (l : Link) → wanted_of m (linked e l) ≡ beside (wanted_of m e) (wanted_linked m l)
+  pub wants_linked : (e : TypedExpr) (l : Link) → wanted_of m (link_operand e l) ≡ beside (wanted_of m e) (wanted_linked m l)
   wants_linked e l = linked_by e (out-TypedExpr e) l refl
 
   -- ---- operators
@@ -279,8 +279,8 @@ module _ (m : TypedModule) where
   pub wants_place : (d : Place) → wanted_at m d ≡ all_behind d.components
   wants_place d = place_wants d (out-Place d) refl
 
-  pub wants_rooted : (r : Root) → wanted_at m (rooted r) ≡ nothing
-  wants_rooted r = wants_place (rooted r)
+  pub wants_rooted : (r : Root) → wanted_at m (root_place r) ≡ nothing
+  wants_rooted r = wants_place (root_place r)
 
   pub wants_behind : (d : Place) (c : Component) → wanted_at m (behind d c) ≡ beside (wanted_at m d) (wanted_behind m c)
   wants_behind d c = wants_place (behind d c) ∙ behind_last d.components c ∙ ap (λ (w : Wanted). beside w (wanted_behind m c)) (sym (wants_place d))
@@ -301,7 +301,7 @@ module _ (m : TypedModule) where
   through_table f = made [] (if is_own m f.home then [] else of_heading m.types f.heading ∷ [])
 
   pub wants_module : (f : Procedure) (gs : List Argument) → wanted_called m (call.Module f gs) ≡ beside (all_passed gs) (through_table f)
-  wants_module f gs = call_wants (call.Module f gs) (layer.Module f gs) (call.outs-Module f gs) ∙ made_same _ _ _ _ (sym (append-nil (texts.joined (map texts_passed gs)))) refl
+  wants_module f gs = call_wants (call.Module f gs) (layer.Module f gs) (call.outs-Module f gs) ∙ made_same _ _ _ _ (sym (append-nil (texts.concatenation (map texts_passed gs)))) refl
 
   pub wants_nested : (f : LocalProcedure) (gs : List Argument) → wanted_called m (call.Nested f gs) ≡ all_passed gs
   wants_nested f gs = call_wants (call.Nested f gs) (layer.Nested f gs) (call.outs-Nested f gs)
@@ -312,7 +312,7 @@ module _ (m : TypedModule) where
 
   pub wants_variable : (t : TypeNo) (d : Place) (gs : List Argument) → wanted_called m (call.Variable t d gs) ≡ beside (wanted_at m d) (beside (all_passed gs) (by_heading t))
   wants_variable t d gs =
-      call_wants (call.Variable t d gs) (layer.Variable t d gs) (call.outs-Variable t d gs) ∙ made_same _ _ _ _ (ap (λ (us : Texts). texts_at d ++ us) (sym (append-nil (texts.joined (map texts_passed gs))))) refl
+      call_wants (call.Variable t d gs) (layer.Variable t d gs) (call.outs-Variable t d gs) ∙ made_same _ _ _ _ (ap (λ (us : Texts). texts_at d ++ us) (sym (append-nil (texts.concatenation (map texts_passed gs))))) refl
 
   pub wants_value : (t : TypeNo) (e : TypedExpr) → wanted_passed m (argument.Value t e) ≡ wanted_of m e
   wants_value t e = argument_wants (argument.Value t e) (layer.Value t e) (argument.outs-Value t e)
@@ -326,5 +326,5 @@ module _ (m : TypedModule) where
   pub wants_open : (slot : Slot) → wanted_passed m (argument.Open slot) ≡ nothing
   wants_open slot = argument_wants (argument.Open slot) (layer.Open slot) (argument.outs-Open slot)
 
-  pub wants_text : (text : List ℕ) → wanted_passed m (argument.Text text) ≡ made (passed text ∷ []) []
+  pub wants_text : (text : List ℕ) → wanted_passed m (argument.Text text) ≡ made (argument_text text ∷ []) []
   wants_text text = argument_wants (argument.Text text) (layer.Text text) (argument.outs-Text text)

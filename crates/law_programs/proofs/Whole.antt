@@ -9,7 +9,7 @@ use Rattle.m2_tree.specs.declared.decl.Def.{Def}
 use Rattle.m2_tree.specs.declared.decl.Contents.{Contents}
 use Rattle.m2_tree.specs.declared.decl.Contents.TheVariants as contents
 use Rattle.m2_tree.specs.declared.decl.Module.{Module}
-use Rattle.m2_graph.specs.Files.{numbered}
+use Rattle.m2_graph.specs.Files.{number_files}
 use Rattle.m2_graph.specs.Graph.{IsGraph, CompileEach}
 use Rattle.m2_graph.specs.Imports.{is_program, is_program_part}
 use Rattle.typed_tree.specs.declared.shape.Made.{Made}
@@ -28,7 +28,7 @@ use Rattle.check_definition.specs.Export.{imported_modules}
 use Rattle.check_definition.specs.Compiled as types
 use Rattle.check_body.specs.Imports.{all_imports}
 use Rattle.check_body.specs.Own.{exported_headings}
-use Rattle.check_body.specs.Checks.{elaborated}
+use Rattle.check_body.specs.Checks.{elaborate_body}
 use Rattle.def_meaning.specs.Environment.{module_place}
 use Rattle.law_modules.specs.WellFormed.{IsRoutine}
 use Rattle.law_modules.specs.Linked.{Program}
@@ -90,7 +90,7 @@ module _ (g : Gathers) (m : Module) where
     contents_listed tables made (contents.Implementation b) = reported_holds g m.name.pos rule.LonelyModule
     contents_listed tables made (contents.Program b) = reported_holds g m.name.pos rule.LonelyModule
 
-module _ (fs : List (List ℕ × Module)) (files : List ℕ) (jobs : List (List ℕ)) (starts : List ℕ) (graph : IsGraph (numbered 0 fs) files jobs starts) (each : CompileEach (numbered 0 fs) files) (fit : list_all fits_module (trees_of fs) ≡ true) where
+module _ (fs : List (List ℕ × Module)) (files : List ℕ) (jobs : List (List ℕ)) (starts : List ℕ) (graph : IsGraph (number_files 0 fs) files jobs starts) (each : CompileEach (number_files 0 fs) files) (fit : list_all fits_module (trees_of fs) ≡ true) where
   abbrev trees : List Module
   trees = trees_of fs
 
@@ -167,12 +167,12 @@ module _ (fs : List (List ℕ × Module)) (files : List ℕ) (jobs : List (List 
     pub for_it : AreFor b.job own imported b.tree.contents
     for_it = for_body fs files jobs starts graph b.tree b.job
 
-    pub begun : BegunAt least (elaborated least) (elaborated_formed least) b.job b.tree own ts t b.tree.contents
-    begun = holds_ok (module_begun least (elaborated least) (elaborated_formed least) b.job b.tree imported own for_it) t b.typed
+    pub begun : BegunAt least (elaborate_body least) (elaborated_formed least) b.job b.tree own ts t b.tree.contents
+    begun = holds_ok (module_begun least (elaborate_body least) (elaborated_formed least) b.job b.tree imported own for_it) t b.typed
 
     known : IsKnown b.tree own b.job ts t b.tree.contents
     known =
-        holds_ok (module_known least (elaborated least) its_types b.job b.tree own imported (tree_fits trees fit (slice_index_or files b.job 0) b.tree b.is_tree)
+        holds_ok (module_known least (elaborate_body least) its_types b.job b.tree own imported (tree_fits trees fit (slice_index_or files b.job 0) b.tree b.is_tree)
         (own_formed trees files jobs fit b.job (known_below trees files jobs fit b.job) b.tree (needed b.job) (tables_needed trees files jobs fit b.job)) (behind_formed trees files jobs fit b.job (known_below trees files jobs fit b.job) own (needed b.job) (tables_needed trees files jobs fit b.job))) t b.typed
 
     nested : AreNested t
@@ -193,7 +193,7 @@ module _ (fs : List (List ℕ × Module)) (files : List ℕ) (jobs : List (List 
       kind = kind;
     }
 
-    part_by : (c : Contents) → b.tree.contents ≡ c → IsKnown b.tree own b.job ts t c → BegunAt least (elaborated least) (elaborated_formed least) b.job b.tree own ts t c → IsPart t b.tree b.job ts
+    part_by : (c : Contents) → b.tree.contents ≡ c → IsKnown b.tree own b.job ts t c → BegunAt least (elaborate_body least) (elaborated_formed least) b.job b.tree own ts t c → IsPart t b.tree b.job ts
     part_by (contents.Definition defs) is k h = absurd k
     part_by (contents.Program body) is k h = part_from None b.job tt k (inl (ap is_program_part is, k.home_is))
     part_by (contents.Implementation body) is k h =

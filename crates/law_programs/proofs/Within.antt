@@ -10,7 +10,7 @@ use Rattle.typed_tree.specs.declared.meaning.OpenedField.{OpenedField}
 use Rattle.typed_tree.specs.declared.types.TypeNo.{TypeNo}
 use Rattle.typed_tree.specs.Names.{place_of}
 use Rattle.check_scope.specs.Elaborated.{Gathers}
-use Rattle.check_scope.specs.Scopes.{or_outside, fields_at, field_of, field_numbered, field_in, opened as opened_fields, means_or, means_as, known}
+use Rattle.check_scope.specs.Scopes.{or_outside, fields_at, field_of, field_numbered, field_in, open_field as opened_fields, means_or, means_as, sight_of}
 use Rattle.check_scope.specs.declared.scope.OpenedRecord.{OpenedRecord}
 use Rattle.check_scope.specs.declared.scope.Scope.{Scope}
 use Rattle.layout_storage.specs.Types.{Ty, row, component}
@@ -21,7 +21,7 @@ use Rattle.law_well_formed.proofs.Basics.{holds_weaker}
 use Rattle.law_well_formed.specs.FormedRanges.{ScopeRanged}
 use Rattle.law_programs.specs.Typing.{MeaningTyped, IsTyped}
 use Rattle.law_programs.proofs.Known.{fields_known, record_is}
-use Rattle.check_stmt_parts.specs.Simple.{opened}
+use Rattle.check_stmt_parts.specs.Simple.{into_record}
 
 -- ---- lists
 
@@ -106,23 +106,23 @@ module _ (g : Gathers) (x : Context) (ws : List Ty) (opens : ℕ → Bool) (s : 
   name_typed None far m p q = holds_weaker (meaning_within x ws opens s.level (tree x.home.types t)) q
   name_typed (Some f) far m p q = fine (meaning.Field f) p
 
-  pub within_typed : IsTyped g x inner opens (opened s t)
+  pub within_typed : IsTyped g x inner opens (into_record s t)
   within_typed = record {
     all = h.all;
     room = h.room;
     types = h.types;
     formals = h.formals;
     names = λ name.
-        subst (λ (o : Option OpenedField). Holds (MeaningTyped x inner opens s.level) (means_or o (means_as g name.pos (known name.name s)))) (sym (opened_more s.types name.name s.withs r))
-        (name_typed (field_in s.types name.name r) (opened_fields s.types name.name s.withs) (means_as g name.pos (known name.name s)) (fields_typed name.name (fields_at s.types t) refl) (h.names name));
+        subst (λ (o : Option OpenedField). Holds (MeaningTyped x inner opens s.level) (means_or o (means_as g name.pos (sight_of name.name s)))) (sym (opened_more s.types name.name s.withs r))
+        (name_typed (field_in s.types name.name r) (opened_fields s.types name.name s.withs) (means_as g name.pos (sight_of name.name s)) (fields_typed name.name (fields_at s.types t) refl) (h.names name));
     members = λ k name q. holds_weaker (meaning_within x ws opens s.level (tree x.home.types t)) (h.members k name q);
   }
 
-  pub within_count : length inner ≡ length (opened s t).withs
+  pub within_count : length inner ≡ length (into_record s t).withs
   within_count =
       let a = length-append ws (tree x.home.types t ∷ []) in
       let b = length-append s.withs (r ∷ []) in
       omega (arith, a, b, count)
 
-pub within_ranged : {T : Type 0} (s : Scope T) (t : TypeNo) → ScopeRanged s → ScopeRanged (opened s t)
+pub within_ranged : {T : Type 0} (s : Scope T) (t : TypeNo) → ScopeRanged s → ScopeRanged (into_record s t)
 within_ranged s t h = record { types = h.types; own = h.own; others = h.others; names = h.names; outer = h.outer; tables = h.tables }

@@ -23,14 +23,14 @@ use Rattle.check_const_ops.specs.declared.operand.Operand.{Operand}
 use Rattle.check_const_ops.specs.declared.operand.Operand.TheVariants as operands
 use Rattle.check_const_ops.specs.declared.operator.BinaryOp.{BinaryOp}
 use Rattle.check_const_ops.specs.declared.operator.BinaryOp.TheVariants.{Plus, Minus, Times, Over, Div, Mod, And, Or, Relation}
-use Rattle.check_const_ops.specs.Operands.{operand_of, letter, letter_operand, valued, truth}
-use Rattle.check_const_ops.specs.Numbers.{number_at, evaluated, quotient, remainder}
+use Rattle.check_const_ops.specs.Operands.{operand_of, letter, letter_operand, number_value, truth}
+use Rattle.check_const_ops.specs.Numbers.{number_at, whole_arithmetic, quotient, remainder}
 use Rattle.check_const_ops.specs.Common.{common}
 use Rattle.check_const_ops.specs.Sets.{without, set_related, on_sets, member, place, up_to, with_span, element, single}
-use Rattle.check_const_ops.specs.Operate.{applied, operated, on_scalars, binary, signed_scalar, signed_value, negated_value}
+use Rattle.check_const_ops.specs.Operate.{ordinal_result, ordinal_operation, on_scalars, binary, signed_scalar, signed_value, negated_value}
 use Rattle.check_const_ops.specs.Standards.{scalar_part, whole_number, absolute_part, capital_part, character_part, odd_part, ordinal_part}
 use Rattle.check_const.specs.Calls.{unary_of, bound_by}
-use Rattle.check_const.specs.Parts.{Part, Adds, joined_bits, constant, added, with_item}
+use Rattle.check_const.specs.Parts.{Part, Adds, joined_bits, constant, element_or_range, with_item}
 use Rattle.law_well_formed.specs.Formed.{Holds, fine, broken}
 use Rattle.law_well_formed.proofs.Basics.{then_holds, reported_holds, where_holds, both_holds, any_holds}
 use Rattle.law_programs.specs.Typing.{IsWord}
@@ -81,20 +81,20 @@ module _ (g : Gathers) where
   abbrev pub W_ : Result Value g.Reported → Type 0
   W_ r = Holds IsWord r
 
-  pub valued_word : (sort : Option TypeNo) (n : ℤ) → IsWord (valued sort n)
+  pub valued_word : (sort : Option TypeNo) (n : ℤ) → IsWord (number_value sort n)
   valued_word None n = tt
   valued_word (Some t) n = tt
 
   number_words : (at : Pos) (sort : Option TypeNo) (n : ℤ) → W_ (number_at g at sort n)
-  number_words at sort n = where_holds g _ at rule.OutOfRange (fine (valued sort n) (valued_word sort n))
+  number_words at sort n = where_holds g _ at rule.OutOfRange (fine (number_value sort n) (valued_word sort n))
 
   truth_words : (b : Bool) → W_ (Ok (truth b))
   truth_words b = fine (truth b) tt
 
-  applied_words : (op : BinaryOp) (spot : Pos) (sort : Option TypeNo) (x y : ℤ) → W_ (applied g op spot sort x y)
-  applied_words Plus spot sort x y = number_words spot sort (evaluated Plus x y)
-  applied_words Minus spot sort x y = number_words spot sort (evaluated Minus x y)
-  applied_words Times spot sort x y = number_words spot sort (evaluated Times x y)
+  applied_words : (op : BinaryOp) (spot : Pos) (sort : Option TypeNo) (x y : ℤ) → W_ (ordinal_result g op spot sort x y)
+  applied_words Plus spot sort x y = number_words spot sort (whole_arithmetic Plus x y)
+  applied_words Minus spot sort x y = number_words spot sort (whole_arithmetic Minus x y)
+  applied_words Times spot sort x y = number_words spot sort (whole_arithmetic Times x y)
   applied_words Over spot sort x y = reported_holds g spot rule.WrongType
   applied_words Div spot sort x y = number_words spot sort (quotient x y)
   applied_words Mod spot sort x y = number_words spot sort (remainder x y)
@@ -102,7 +102,7 @@ module _ (g : Gathers) where
   applied_words Or spot sort x y = truth_words _
   applied_words (Relation r) spot sort x y = truth_words _
 
-  operated_words : (op : BinaryOp) (spot : Pos) (sort : Option TypeNo) (at : Pos) (a : Ordinal) (at' : Pos) (b : Ordinal) → W_ (operated g op spot sort at a at' b)
+  operated_words : (op : BinaryOp) (spot : Pos) (sort : Option TypeNo) (at : Pos) (a : Ordinal) (at' : Pos) (b : Ordinal) → W_ (ordinal_operation g op spot sort at a at' b)
   operated_words op spot sort at a at' b = where_holds g _ spot rule.WrongType (then_holds (any_holds _) (λ x k. applied_words op spot sort a.number b.number))
 
   scalars_words : (op : BinaryOp) (spot at : Pos) (a : Ordinal) (at' : Pos) (b : Ordinal) (o : Option (Option TypeNo)) → W_ (on_scalars g op spot at a at' b o)
@@ -156,8 +156,8 @@ module _ (g : Gathers) where
   binary_words op spot at None at' y p q = reported_holds g spot rule.WrongType
 
   signed_scalar_words : (o : Sign) (spot : Pos) (a : Ordinal) → W_ (signed_scalar g o spot a)
-  signed_scalar_words sign.Plus spot a = where_holds g _ spot rule.WrongType (fine (valued a.sort a.number) (valued_word a.sort a.number))
-  signed_scalar_words sign.Minus spot a = where_holds g _ spot rule.WrongType (number_words spot a.sort (evaluated Minus (pos 0) a.number))
+  signed_scalar_words sign.Plus spot a = where_holds g _ spot rule.WrongType (fine (number_value a.sort a.number) (valued_word a.sort a.number))
+  signed_scalar_words sign.Minus spot a = where_holds g _ spot rule.WrongType (number_words spot a.sort (whole_arithmetic Minus (pos 0) a.number))
 
   pub signed_words : (o : Sign) (spot : Pos) (x : Option Operand) → W_ (signed_value g o spot x)
   signed_words o spot None = reported_holds g spot rule.WrongType
@@ -237,7 +237,7 @@ module _ (g : Gathers) where
   single_small : (at : Pos) (v : Value) → B_ (single g at v)
   single_small at v = then_holds (any_holds (element g at v)) (λ a k. then_holds (any_holds _) (λ f j. fine (with_span 0 a.number a.number) (span_small a.number a.number)))
 
-  pub added_small : (s : Scope g.Reported) (low : Part g.Reported) (high : Option (Part g.Reported)) → B_ (added g s low high)
+  pub added_small : (s : Scope g.Reported) (low : Part g.Reported) (high : Option (Part g.Reported)) → B_ (element_or_range g s low high)
   added_small s low None = then_holds (any_holds (constant g s low)) (λ v k. single_small low.at v)
   added_small s low (Some high) = then_holds (any_holds _) (λ (p : (Ordinal × Ordinal) × Unit {0}) k. fine (with_span 0 p.0.0.number p.0.1.number) (span_small p.0.0.number p.0.1.number))
 

@@ -44,7 +44,7 @@ use Rattle.check_block.specs.declared.inner.Outside.{Outside}
 use Rattle.check_block.specs.Inner.{inwards, entered_procedure, left_procedure}
 use Rattle.check_body.specs.Own.{implementation_scope}
 use Rattle.check_body.specs.Elaborating.{Elaborates}
-use Rattle.check_body.specs.Checked.{checked}
+use Rattle.check_body.specs.Checked.{body_module}
 use Rattle.law_well_formed.specs.Formed.{Holds}
 use Rattle.law_well_formed.specs.FormedRanges.{first_types}
 use Rattle.law_programs.specs.Typing.{IsWord, IsIndexed}
@@ -370,7 +370,7 @@ BodiesCarry g =
     (elaborates : Elaborates g.Reported) (number : ℕ) (m : Module) (own : Option Table)
     (tables : List Table)
     → BodyBegins number own (tables ++ console ∷ []) m.contents
-    → Holds (λ t. TypesIndexed t.types) (checked g elaborates number m own tables)
+    → Holds (λ t. TypesIndexed t.types) (body_module g elaborates number m own tables)
 
 -- An implementation begins with such types, if those that its definition and the other tables reach
 -- are such types.

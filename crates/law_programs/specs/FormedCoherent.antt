@@ -2,7 +2,7 @@
 use Rattle.std.specs.Prelude.{◌≡◌, ℕ, ◌<◌, true, List, [], ◌∷◌, length, map, Ok, Some, slice_get, slice_index_or}
 use Rattle.std.specs.List.{AllByRecursion, list_all}
 use Rattle.m2_tree.specs.declared.decl.Module.{Module}
-use Rattle.m2_graph.specs.Files.{numbered}
+use Rattle.m2_graph.specs.Files.{number_files}
 use Rattle.m2_graph.specs.Graph.{IsGraph, CompileEach}
 use Rattle.m2_graph.specs.Imports.{is_program}
 use Rattle.m2_graph.specs.Jobs.{number_of}
@@ -88,8 +88,8 @@ ProgramsAreCoherent =
 abbrev pub GraphsAreWhole : Type 0
 GraphsAreWhole =
     (fs : List (List ℕ × Module)) (files : List ℕ) (jobs : List (List ℕ)) (starts : List ℕ)
-    → IsGraph (numbered 0 fs) files jobs starts
-    → CompileEach (numbered 0 fs) files
+    → IsGraph (number_files 0 fs) files jobs starts
+    → CompileEach (number_files 0 fs) files
     → list_all fits_module (trees_of fs) ≡ true
     → (p : Program)
     → AreBodiesIn (trees_of fs) files jobs starts p
@@ -99,8 +99,8 @@ GraphsAreWhole =
 abbrev pub GraphsAreCoherent : Type 0
 GraphsAreCoherent =
     (fs : List (List ℕ × Module)) (files : List ℕ) (jobs : List (List ℕ)) (starts : List ℕ)
-    → IsGraph (numbered 0 fs) files jobs starts
-    → CompileEach (numbered 0 fs) files
+    → IsGraph (number_files 0 fs) files jobs starts
+    → CompileEach (number_files 0 fs) files
     → list_all fits_module (trees_of fs) ≡ true
     → (p : Program)
     → AreBodiesIn (trees_of fs) files jobs starts p

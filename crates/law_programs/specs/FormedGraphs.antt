@@ -2,7 +2,7 @@
 use Rattle.std.specs.Prelude.{◌≡◌, ℕ, ◌+◌, ◌*◌, ◌≤◌, true, List, None}
 use Rattle.std.specs.List.{AllByRecursion, list_all}
 use Rattle.m2_tree.specs.declared.decl.Module.{Module}
-use Rattle.m2_graph.specs.Files.{numbered}
+use Rattle.m2_graph.specs.Files.{number_files}
 use Rattle.m2_graph.specs.Graph.{IsGraph, CompileEach}
 use Rattle.typed_tree.specs.declared.typed_module.TypedModule.{TypedModule}
 use Rattle.layout_storage.specs.Layouts.{too_large}
@@ -21,8 +21,8 @@ pub record IsFit (m : TypedModule) : Type 0 where
 abbrev pub GraphsAreModules : Type 0
 GraphsAreModules =
     (fs : List (List ℕ × Module)) (files : List ℕ) (jobs : List (List ℕ)) (starts : List ℕ)
-    → IsGraph (numbered 0 fs) files jobs starts
-    → CompileEach (numbered 0 fs) files
+    → IsGraph (number_files 0 fs) files jobs starts
+    → CompileEach (number_files 0 fs) files
     → list_all fits_module (trees_of fs) ≡ true
     → list_all (λ m. fits_contents m.contents) (trees_of fs) ≡ true
     → (p : Program)

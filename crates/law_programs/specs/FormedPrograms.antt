@@ -3,7 +3,7 @@ use Rattle.std.specs.Prelude.{◌≡◌, ℕ, ◌≤◌, true, List, map}
 use Rattle.m2_tree.specs.declared.decl.Module.{Module}
 use Rattle.wasm_tree.specs.Validity.{IsValid, AreDistinct}
 use Rattle.wasm_binary.specs.Binary.{module_fits}
-use Rattle.m2_graph.specs.Files.{numbered}
+use Rattle.m2_graph.specs.Files.{number_files}
 use Rattle.m2_graph.specs.Graph.{IsGraph}
 use Rattle.typed_tree.specs.declared.typed_module.TypedModule.{TypedModule}
 use Rattle.def_scheme.specs.Modules.{typed_module, typed_link}
@@ -21,7 +21,7 @@ trees_of fs = map (λ f. f.1) fs
 -- to, is as the fact says.
 abbrev pub JobsMake : (TypedModule → Type 0) → Type 0
 JobsMake P = (fs : List (List ℕ × Module)) (files : List ℕ) (jobs : List (List ℕ)) (starts : List ℕ)
-    → IsGraph (numbered 0 fs) files jobs starts → (m : Module) (job : ℕ)
+    → IsGraph (number_files 0 fs) files jobs starts → (m : Module) (job : ℕ)
     → Holds P (typed_body m job (tables_of (needed_of (trees_of fs) files jobs job)))
 
 abbrev pub ProgramsAreFormed : Type 0

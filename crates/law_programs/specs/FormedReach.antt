@@ -13,13 +13,13 @@ use Rattle.law_well_formed.specs.FormedKnown.{fits_module, TableFormed}
 use Rattle.build_jobs.specs.declared.outcome.Compiled.{Compiled}
 use Rattle.build_jobs.specs.declared.outcome.Compiled.TheVariants.{Defined, Built, Refused, Blocked}
 use Rattle.build_jobs.specs.Compiling.{tables_of, typed_body}
-use Rattle.build_jobs.specs.Jobs.{compiled_at}
+use Rattle.build_jobs.specs.Jobs.{compile_at}
 use Rattle.build_jobs.specs.Encoded.{needed_of}
 
 module _ (trees : List Module) (files : List ℕ) (jobs : List (List ℕ)) where
   -- what becomes of a job
   abbrev pub result_of : ℕ → Compiled
-  result_of job = compiled_at trees files job (needed_of trees files jobs job)
+  result_of job = compile_at trees files job (needed_of trees files jobs job)
 
   abbrev pub made_by : Compiled → List Made
   made_by (Defined t) = types_made_in t.number t.reached

@@ -37,13 +37,13 @@ use Rattle.check_operator.specs.declared.computed.Computed.{Computed}
 use Rattle.check_operator.specs.declared.computed.Computed.TheVariants as value
 use Rattle.check_operator.specs.declared.computed.Designated.{Designated}
 use Rattle.check_operator.specs.declared.computed.Designated.TheVariants as designated
-use Rattle.check_expr.specs.Meanings.{meant, head}
+use Rattle.check_expr.specs.Meanings.{meanings_of, head}
 use Rattle.layout_storage.specs.Texts.{characters, texts_of, texts_at, texts_called, texts_passed}
 use Rattle.layout_storage.specs.Types.{Ty, Heading, component}
 use Rattle.layout_storage.specs.Shapes.{shape_tree, known_trees, tree}
 use Rattle.law_memory.specs.Relation.{heading_at}
 use Rattle.def_scheme.specs.Exprs.{expr_part}
-use Rattle.def_scheme.specs.Modules.{numbered}
+use Rattle.def_scheme.specs.Modules.{numbering_of}
 use Rattle.law_simulation.specs.Frames.{Kind, Kept, Alias, Open, kind_at}
 use Rattle.law_simulation.specs.Passing.{Form, Result as Gives}
 use Rattle.law_simulation.specs.TreesTyped.{Context, IsVariable, IsNamed, IsInner, IsTaken, IsExpr, IsProcedureExpr, IsPlace, IsCall, IsArgument}
@@ -153,7 +153,7 @@ module _ (x : Context) (ws : List Ty) where
   pub record ScalarTyped (t base : TypeNo) (e : TypedExpr) : Type 0 where
     pub typed : ExprTyped e t
     pub based : HasBase x.home.types t base
-    pub run : (expr_part (numbered x.home) e).constant ≡ false
+    pub run : (expr_part (numbering_of x.home) e).constant ≡ false
 
   -- a value of 32 bits
   pub record WordTyped (e : TypedExpr) : Type 0 where
@@ -171,7 +171,7 @@ module _ (x : Context) (ws : List Ty) where
   pub record RoutineTyped (t : TypeNo) (e : TypedExpr) : Type 0 where
     pub heading : Heading
     pub is : heading_at x.home.types t ≡ Some heading
-    pub of : (expr_part (numbered x.home) e).of ≡ t
+    pub of : (expr_part (numbering_of x.home) e).of ≡ t
     pub word : scalar_at x.home.types t ≡ None
     pub typed : ProcedureTyped e heading
 
@@ -242,7 +242,7 @@ pub record IsTyped (g : Gathers) (x : Context) (ws : List Ty) (opens : ℕ → B
 abbrev pub ExpressionsAreTyped : Gathers → Type 0
 ExpressionsAreTyped g =
     (x : Context) (ws : List Ty) (opens : ℕ → Bool) (s : Scope g.Reported) → IsTyped g x ws opens s
-    → (e : Expr) → fits_whole e ≡ true → Holds (DesignatedTyped x ws opens) ((meant g e).means s)
+    → (e : Expr) → fits_whole e ≡ true → Holds (DesignatedTyped x ws opens) ((meanings_of g e).means s)
 
 -- and of a designator
 abbrev pub DesignatorsAreTyped : Gathers → Type 0

@@ -23,7 +23,7 @@ use Rattle.typed_tree.specs.declared.typed_module.Which.{Which}
 use Rattle.typed_tree.specs.declared.typed_module.Which.TheVariants as which
 use Rattle.typed_tree.specs.declared.types.TypeNo.{TypeNo}
 use Rattle.typed_tree.specs.Known.{made_at}
-use Rattle.typed_tree.specs.Names.{found}
+use Rattle.typed_tree.specs.Names.{find_name}
 use Rattle.check_scope.specs.Elaborated.{Gathers}
 use Rattle.check_scope.specs.Scopes.{State}
 use Rattle.check_scope.specs.declared.known.Known.{Known}
@@ -51,8 +51,8 @@ use Rattle.check_body.specs.declared.procedure.Walk.{Walk}
 use Rattle.check_body.specs.Elaborating.{Elaborates}
 use Rattle.check_body.specs.Inside.{returns_of}
 use Rattle.check_body.specs.Bodies.{ChecksBlock, checks_block}
-use Rattle.check_body.specs.Checked.{walked}
-use Rattle.check_body.specs.Checks.{elaborated}
+use Rattle.check_body.specs.Checked.{walk_body}
+use Rattle.check_body.specs.Checks.{elaborate_body}
 use Rattle.law_simulation.specs.Frames.{Kinds, Kept, formal_kind, kinds_of}
 use Rattle.law_simulation.specs.Passing.{Result as Gives, result_of}
 use Rattle.law_simulation.specs.TreesTyped.{Context, kinds_around}
@@ -320,7 +320,7 @@ pub record TypedBlock (g : Gathers) (base : Types) (ends : List ℕ) (block : Ch
 -- the bodies of the procedures in a procedure's block are typed, and so is its own
 abbrev pub BlocksAreTyped : Gathers → Type 0
 BlocksAreTyped g = (base : Types) (ends : List ℕ) (b : Block) → fits_whole_block b ≡ true
-    → TypedBlock g base ends (checks_block g (elaborated g) ends b) (within b)
+    → TypedBlock g base ends (checks_block g (elaborate_body g) ends b) (within b)
 
 -- ---- modules
 
@@ -338,7 +338,7 @@ module _ {T : Type 0} (own : List (List ℕ × Known T)) where
   number_of (layer.Constants cs) = None
   number_of (layer.Types ts) = None
   number_of (layer.Variables vs) = None
-  number_of (layer.Procedure h b) = number_in (numbered_known (found h.name.name own))
+  number_of (layer.Procedure h b) = number_in (numbered_known (find_name h.name.name own))
 
   abbrev pub OtherThan : Option ℕ → List Decl → Type 0
   OtherThan n [] = Unit {0}
@@ -353,14 +353,14 @@ module _ {T : Type 0} (own : List (List ℕ × Known T)) where
 -- procedures of the module's own definition that await their headings have its numbers
 abbrev pub AwaitsOwn : {T : Type 0} → Scope T → Type 0
 AwaitsOwn s =
-    (name : List ℕ) (p : Procedure) → name_standing (found name s.own) ≡ Awaited p
+    (name : List ℕ) (p : Procedure) → name_standing (find_name name s.own) ≡ Awaited p
     → (p.home ≡ s.types.home) × (slice_get s.procedures p.number ≡ Some p.heading)
 
 -- and each has another number
 abbrev pub AwaitsApart : {T : Type 0} → Scope T → Type 0
 AwaitsApart s =
-    (a b : List ℕ) (p q : Procedure) → name_standing (found a s.own) ≡ Awaited p
-    → name_standing (found b s.own) ≡ Awaited q → p.number ≡ q.number → a ≡ b
+    (a b : List ℕ) (p q : Procedure) → name_standing (find_name a s.own) ≡ Awaited p
+    → name_standing (find_name b s.own) ≡ Awaited q → p.number ≡ q.number → a ≡ b
 
 -- Behind its imports, a module stands in no procedure and in no WITH, and procedures of its
 -- definition have its numbers.
@@ -397,6 +397,6 @@ ModulesAreTyped g =
     → ModuleBegins (fold (with_import g modules) (s, Ok tt) m.imports).0
     → let ds = (out-Block b).decls in
     let d = declared_module g modules (procedure_ends ds) s m ds in
-    let w = walked g (elaborated g) modules (procedure_ends ds) s m b in
+    let w = walk_body g (elaborate_body g) modules (procedure_ends ds) s m b in
     w.0.so_far ≡ Ok tt → (z : Stage) → StageTyped z → HasModule g base z d.0 w.0
     → (body : List TypedStmt) → w.1 ≡ Ok body → AreBodiesTyped z body

@@ -2,7 +2,7 @@
 use Rattle.std.specs.Prelude.{◌≡◌, ℕ, ◌+◌, ◌*◌, ◌≤◌, true, List}
 use Rattle.std.specs.List.{list_all}
 use Rattle.m2_tree.specs.declared.decl.Module.{Module}
-use Rattle.m2_graph.specs.Files.{numbered}
+use Rattle.m2_graph.specs.Files.{number_files}
 use Rattle.m2_graph.specs.Graph.{IsGraph, CompileEach}
 use Rattle.law_modules.specs.Linked.{Program, bytes_in}
 use Rattle.law_well_formed.specs.FormedKnown.{fits_module}
@@ -15,8 +15,8 @@ use Rattle.law_simulation.specs.Modules.{AreTypedModules}
 abbrev pub GraphsAreTyped : Type 0
 GraphsAreTyped =
     (fs : List (List ℕ × Module)) (files : List ℕ) (jobs : List (List ℕ)) (starts : List ℕ)
-    → IsGraph (numbered 0 fs) files jobs starts
-    → CompileEach (numbered 0 fs) files
+    → IsGraph (number_files 0 fs) files jobs starts
+    → CompileEach (number_files 0 fs) files
     → list_all fits_module (trees_of fs) ≡ true
     → list_all (λ m. fits_contents m.contents) (trees_of fs) ≡ true
     → (p : Program)

@@ -6,7 +6,7 @@ use Rattle.m2_tree.specs.declared.name.Ident.{Ident}
 use Rattle.m2_tree.specs.declared.decl.Block.{Block, out-Block}
 use Rattle.m2_tree.specs.declared.decl.Contents.TheVariants as contents
 use Rattle.m2_tree.specs.declared.decl.Module.{Module}
-use Rattle.m2_graph.specs.Files.{numbered}
+use Rattle.m2_graph.specs.Files.{number_files}
 use Rattle.m2_graph.specs.Graph.{IsGraph, CompileEach}
 use Rattle.typed_tree.specs.declared.table.Table.{Table}
 use Rattle.typed_tree.specs.declared.typed_module.Imported.{Imported}
@@ -100,8 +100,8 @@ placed_at p pages place m = context p (ground p pages).base (ground p pages).tex
 abbrev pub NamesAreThere : Type 0
 NamesAreThere =
     (fs : List (List ℕ × Module)) (files : List ℕ) (jobs : List (List ℕ)) (starts : List ℕ)
-    → IsGraph (numbered 0 fs) files jobs starts
-    → CompileEach (numbered 0 fs) files
+    → IsGraph (number_files 0 fs) files jobs starts
+    → CompileEach (number_files 0 fs) files
     → list_all fits_module (trees_of fs) ≡ true
     → (p : Program)
     → AreBodiesIn (trees_of fs) files jobs starts p

@@ -5,7 +5,7 @@ use Rattle.m2_tree.specs.declared.decl.Block.{Block, out-Block}
 use Rattle.m2_tree.specs.declared.decl.Contents.TheVariants as contents
 use Rattle.m2_tree.specs.declared.decl.Decl.{Decl}
 use Rattle.m2_tree.specs.declared.decl.Module.{Module}
-use Rattle.m2_graph.specs.Files.{numbered}
+use Rattle.m2_graph.specs.Files.{number_files}
 use Rattle.m2_graph.specs.Graph.{IsGraph}
 use Rattle.typed_tree.specs.declared.known_types.Types.{Types}
 use Rattle.typed_tree.specs.declared.shape.Made.{Made}
@@ -16,7 +16,7 @@ use Rattle.typed_tree.specs.declared.table.Table.{Table}
 use Rattle.typed_tree.specs.declared.typed_module.TypedModule.{TypedModule}
 use Rattle.typed_tree.specs.declared.types.TypeNo.{TypeNo}
 use Rattle.typed_tree.specs.Known.{made_at}
-use Rattle.typed_tree.specs.Names.{found}
+use Rattle.typed_tree.specs.Names.{find_name}
 use Rattle.check_scope.specs.Elaborated.{least}
 use Rattle.check_scope.specs.declared.scope.Scope.{Scope}
 use Rattle.check_definition.specs.Importing.{numbered_modules, with_import}
@@ -25,8 +25,8 @@ use Rattle.check_block.specs.Nesting.{procedure_ends}
 use Rattle.check_block.specs.Declarations.{Declared, declared_module}
 use Rattle.check_body.specs.Own.{exported_variables, exported_headings, implementation_scope}
 use Rattle.check_body.specs.Bodies.{Checked}
-use Rattle.check_body.specs.Checked.{walked}
-use Rattle.check_body.specs.Checks.{elaborated}
+use Rattle.check_body.specs.Checked.{walk_body}
+use Rattle.check_body.specs.Checks.{elaborate_body}
 use Rattle.build_jobs.specs.declared.outcome.Compiled.TheVariants.{Defined}
 use Rattle.build_jobs.specs.Own.{own_table, tables_behind}
 use Rattle.build_jobs.specs.Compiling.{tables_of, typed_body}
@@ -61,8 +61,8 @@ ArePlacedBy vs es = AllByRecursion (λ e. IsPlaced vs e.1) es
 -- no two procedures that are exported have one number
 abbrev pub ProceduresApart : List (List ℕ × Meaning) → Type 0
 ProceduresApart es =
-    (a b : List ℕ) (p q : Procedure) → found a es ≡ Some (meaning.Procedure p)
-    → found b es ≡ Some (meaning.Procedure q) → p.number ≡ q.number → a ≡ b
+    (a b : List ℕ) (p q : Procedure) → find_name a es ≡ Some (meaning.Procedure p)
+    → find_name b es ≡ Some (meaning.Procedure q) → p.number ≡ q.number → a ≡ b
 
 -- What a definition exports is its own, each name once. Variables and procedures are numbered by
 -- their places, constants are words, and no variable is one of a procedure.
@@ -114,7 +114,7 @@ declared_in s m b =
 
 -- and the bodies
 abbrev pub walked_in : Scope least.Reported → Module → Block → Checked least.Reported
-walked_in s m b = walked least (elaborated least) (modules_in s) (procedure_ends (decls_in b)) s m b
+walked_in s m b = walk_body least (elaborate_body least) (modules_in s) (procedure_ends (decls_in b)) s m b
 
 -- A body begins in this scope, with this block, and comes to this module. No rule is broken. The
 -- types of the block's end are those of the module. The block's names stand under their numbers,
@@ -160,7 +160,7 @@ TablesStand =
 abbrev pub BodiesStand : Type 0
 BodiesStand =
     (fs : List (List ℕ × Module)) (files : List ℕ) (jobs : List (List ℕ)) (starts : List ℕ)
-    → IsGraph (numbered 0 fs) files jobs starts
+    → IsGraph (number_files 0 fs) files jobs starts
     → list_all fits_module (trees_of fs) ≡ true
     → (m : Module) (job : ℕ) (t : TypedModule)
     → slice_get (trees_of fs) (slice_index_or files job 0) ≡ Some m

@@ -11,7 +11,7 @@ use Rattle.typed_tree.specs.declared.typed_module.TypedModule.{TypedModule}
 use Rattle.check_scope.specs.Elaborated.{Gathers}
 use Rattle.layout_storage.specs.Texts.{characters, routines_texts, is_which}
 use Rattle.def_scheme.specs.Functions.{routine_of}
-use Rattle.check_body.specs.Checks.{checked}
+use Rattle.check_body.specs.Checks.{body_module}
 use Rattle.law_modules.specs.Linked.{Program, text}
 use Rattle.law_simulation.specs.Frames.{Kinds}
 use Rattle.law_simulation.specs.RunsPrograms.{ground}
@@ -34,7 +34,7 @@ AreOrdered m =
 abbrev pub BodiesAreOrdered : Gathers → Type 0
 BodiesAreOrdered g =
     (number : ℕ) (m : Module) (own : Option Table) (tables : List Table)
-    → Holds AreOrdered (checked g number m own tables)
+    → Holds AreOrdered (body_module g number m own tables)
 
 -- ---- what bodies ask for
 
@@ -57,9 +57,9 @@ BodiesAreProvided =
 -- ---- modules
 
 -- the module at its place in a linked program
-abbrev pub placed : (p : Program) → (pages place : ℕ) → (m : TypedModule) → (opens : ℕ → Bool)
+abbrev pub stage_at : (p : Program) → (pages place : ℕ) → (m : TypedModule) → (opens : ℕ → Bool)
     → Stage
-placed p pages place m opens = record {
+stage_at p pages place m opens = record {
   p = p;
   base = (ground p pages).base;
   texts = (ground p pages).texts;
@@ -73,6 +73,6 @@ placed p pages place m opens = record {
 abbrev pub BodiesMakeModules : Type 0
 BodiesMakeModules =
     (p : Program) (pages place : ℕ) (m : TypedModule) (opens : ℕ → Bool)
-    → AreBodiesTyped (placed p pages place m opens) m.body
+    → AreBodiesTyped (stage_at p pages place m opens) m.body
     → AreOrdered m
     → IsTypedModule p pages place m × All (λ b. b < 256) (text m)

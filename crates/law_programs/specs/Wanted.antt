@@ -8,7 +8,7 @@ use Rattle.typed_tree.specs.declared.computed.Place.{Place}
 use Rattle.typed_tree.specs.declared.computed.TypedExpr.{TypedExpr}
 use Rattle.typed_tree.specs.declared.typed_module.TypedModule.{TypedModule}
 use Rattle.layout_storage.specs.Texts.{Texts, texts_of, texts_at, texts_called, texts_linked, texts_behind, texts_passed}
-use Rattle.def_scheme.specs.Signatures.{Signatures, needed, is_among, of_expr, of_place, of_call, argument_layer, call_layer, component_layer, link_layer, expr_layer, place_layer}
+use Rattle.def_scheme.specs.Signatures.{Signatures, signatures_needed, is_among, of_expr, of_place, of_call, argument_layer, call_layer, component_layer, link_layer, expr_layer, place_layer}
 use Rattle.law_simulation.specs.TreesTyped.{Context}
 
 -- ---- the types of calls through the table, in the parts that have no name in the scheme
@@ -69,7 +69,7 @@ TextsStand x at (t ∷ ts) = TextStands x at t × TextsStand x (at + length t) t
 -- the module has the types of all these calls
 abbrev pub AreNeeded : Context → Signatures → Type 0
 AreNeeded x [] = Unit {0}
-AreNeeded x (s ∷ ss) = (is_among (needed x.home) s ≡ true) × AreNeeded x ss
+AreNeeded x (s ∷ ss) = (is_among (signatures_needed x.home) s ≡ true) × AreNeeded x ss
 
 -- what a tree asks for is there, with its texts from an offset on
 pub record Has (x : Context) (at : ℕ) (w : Wanted) : Type 0 where

@@ -12,9 +12,9 @@ use Rattle.def_meaning.specs.Answer.{State as Source, Answer, Ended, StillRunnin
 use Rattle.def_meaning.specs.Outcome.{Outcome, Normal}
 use Rattle.def_meaning.specs.Answer as answer
 use Rattle.def_meaning.specs.Expressions.{Gives}
-use Rattle.def_meaning.specs.Statements.{stored as stores}
+use Rattle.def_meaning.specs.Statements.{store_number as stores}
 use Rattle.def_scheme.specs.Coded.{Coded, Counts, ◌⨾◌}
-use Rattle.def_scheme.specs.Cells.{loaded, stored}
+use Rattle.def_scheme.specs.Cells.{load_code, store_code}
 use Rattle.def_scheme.specs.Exprs.{global_code}
 use Rattle.law_simulation.specs.Scene.{Scene, runs, place, HasHelpers, AreSmall, IsCell, IsGlobal, Stands, Into, GivesNumber, GivesPlace, Grows, HasLocals, inside, Agrees, Locates, Ends, Executes}
 use Rattle.law_simulation.proofs.Parts.{into_then, grows_more, grows_same, has_before, free_after, IsPlain}
@@ -32,13 +32,13 @@ module _ (k : Scene) (has : HasHelpers k) (small : AreSmall k.setting.home.types
   }
 
   -- what it holds
-  pub load_agrees : (t : TypeNo) (c : Scalar) (d after : Coded) (found : Gives Location) → IsCell k.setting.home.types t c → Locates k (Cell c) d found → IsPlain k after (loaded k.setting.home.types t)
+  pub load_agrees : (t : TypeNo) (c : Scalar) (d after : Coded) (found : Gives Location) → IsCell k.setting.home.types t c → Locates k (Cell c) d found → IsPlain k after (load_code k.setting.home.types t)
       → Agrees k t (d ⨾ after) (λ a s. found a s ▷ λ l s. answer.Value (s.store l) s)
   load_agrees t c d after found cell hd plainly = record {
     grows = λ e c. subst (λ (p : List Instr × Counts). Grows c p.1) (sym (plainly e (d (inside k e) c).1)) (hd.grows e c);
     gives = λ e counts free full s st h rest stack.
         let first = d (inside k e) counts in
-        let list : List Instr = loaded k.setting.home.types t in
+        let list : List Instr = load_code k.setting.home.types t in
         let found_is : Source → Answer ℤ = λ s. (found k.around s ▷ (λ l s. answer.Value (s.store l) s)) in
         subst (λ (p : List Instr × Counts). Into (GivesNumber k t (runs k rest) stack) (runs k ((first.0 ++ p.0) ++ rest) st stack) (found_is s)) (sym (plainly e first.1))
         (subst (λ (code : List Instr). Into (GivesNumber k t (runs k rest) stack) (runs k code st stack) (found_is s)) (sym (append_assoc first.0 list rest))
@@ -57,7 +57,7 @@ module _ (k : Scene) (has : HasHelpers k) (small : AreSmall k.setting.home.types
 
     -- the address stands below the value
     pub assign_executes : (t : TypeNo) (c : Scalar) (d e after : Coded) (found : Gives Location) (value : Gives ℤ) → IsCell k.setting.home.types t c → Locates k (Cell c) d found → Agrees k t e value
-        → IsPlain k after (stored k.setting.home.types t) → Executes k function (d ⨾ e ⨾ after) (λ a s. found a s ▷ λ l s. value a s ▷ λ v s. answer.Value Normal (stores l v s))
+        → IsPlain k after (store_code k.setting.home.types t) → Executes k function (d ⨾ e ⨾ after) (λ a s. found a s ▷ λ l s. value a s ▷ λ v s. answer.Value Normal (stores l v s))
     assign_executes t c d e after found value cell hd he plainly = record {
       grows = λ x counts.
           let middle = (d (inside k x) counts).1 in
@@ -66,7 +66,7 @@ module _ (k : Scene) (has : HasHelpers k) (small : AreSmall k.setting.home.types
       goes = λ x counts free full s st h rest stack.
           let first = d (inside k x) counts in
           let second = e (inside k x) first.1 in
-          let list : List Instr = stored k.setting.home.types t in
+          let list : List Instr = store_code k.setting.home.types t in
           let outcome : Source → Outcome = λ s. (found k.around s ▷ (λ l s. value k.around s ▷ λ v s. answer.Value Normal (stores l v s))) in
           let full' : HasLocals k second.1 = subst (λ (p : List Instr × Counts). HasLocals k p.1) (plainly x second.1) full in
           subst (λ (p : List Instr × Counts). Ends k function x stack (λ st. runs k rest st stack) (runs k ((first.0 ++ (second.0 ++ p.0)) ++ rest) st stack) (outcome s)) (sym (plainly x second.1))

@@ -8,14 +8,14 @@ use Rattle.wasm_tree.specs.declared.instr.Instr.TheVariants as instr
 use Rattle.wasm_tree.specs.declared.instr.StoreWidth.TheVariants as width
 use Rattle.wasm_tree.specs.declared.store.Value.{Value}
 use Rattle.wasm_tree.specs.declared.store.Value.TheVariants.{I32, I64}
-use Rattle.wasm_tree.specs.Machine.{pasted}
+use Rattle.wasm_tree.specs.Machine.{paste_items}
 use Rattle.law_effect.specs.Bytes.{cleared_bytes}
 use Rattle.law_effect.proofs.Bytes.{cleared_length, length-pasted}
 use Rattle.law_effect.specs.Effect.{State as Target, Effect, Ended}
 use Rattle.law_effect.proofs.Steps.{i32_runs, get_runs, tee_runs, store_runs}
 use Rattle.layout_storage.specs.Types.{Ty, Hidden, row, component, IsFit}
 use Rattle.layout_storage.specs.Sizes.{size, offset}
-use Rattle.def_meaning.specs.Store.{Location, Store, placed, fresh}
+use Rattle.def_meaning.specs.Store.{Location, Store, overlay, fresh}
 use Rattle.def_meaning.specs.Environment.{Named, At, Elements, Frames}
 use Rattle.law_memory.specs.Cells.{stored_in}
 use Rattle.law_memory.specs.Relation.{Holds, Keeps}
@@ -25,7 +25,7 @@ use Rattle.law_memory.proofs.Places.{component_append, offset_append}
 use Rattle.law_memory.proofs.Worlds.{lies, component_old, offset_old, component_new, in_world, row_size}
 use Rattle.law_memory.proofs.Frames.{holds_hidden}
 use Rattle.law_memory.proofs.Assigns.{begins_frame}
-use Rattle.def_scheme.specs.Coded.{raised}
+use Rattle.def_scheme.specs.Coded.{raise_address}
 use Rattle.def_scheme.specs.Functions.{enter_code, limit_check}
 use Rattle.law_simulation.specs.Scene.{Scene, IsSet, calls, runs}
 use Rattle.law_simulation.proofs.Places.{raised_runs}
@@ -56,7 +56,7 @@ module _ (k : Scene) (set : IsSet k) (has : HasLimit k) (top : ℕ) (F : Ty) (gi
   -- the frame is there, with fresh variables
   pub record FrameDone (rest : List Instr) (r : Effect) : Type 0 where
     pub st' : Target
-    pub stage : OnStage k set has (length world) top F given out first two (world ++ F ∷ []) (placed (length world ∷ []) (λ r k. 0) x) (placed (length world ∷ []) (fresh F) s) st'
+    pub stage : OnStage k set has (length world) top F given out first two (world ++ F ∷ []) (overlay (length world ∷ []) (λ r k. 0) x) (overlay (length world ∷ []) (fresh F) s) st'
     pub run : r ≡ runs k rest st' []
 
   begin_path : (st : Target) → Start k top given out world x s st → (rest : List Instr)
@@ -65,7 +65,7 @@ module _ (k : Scene) (set : IsSet k) (has : HasLimit k) (top : ℕ) (F : Ty) (gi
   begin_path st g rest =
       let room = g.holds.room in let long = g.long in let small = has.small in let count = g.count in
       let after : List Instr = instr.LocalGet 0 ∷ instr.I32Const (size F) ∷ instr.Call 3 ∷ rest in
-      get_runs k.modules k.fixed k.turns (calls k) k.own (raised (size F) ++ (instr.LocalTee top ∷ (limit_check ++ after))) st 0 (I32 T) [] g.at
+      get_runs k.modules k.fixed k.turns (calls k) k.own (raise_address (size F) ++ (instr.LocalTee top ∷ (limit_check ++ after))) st 0 (I32 T) [] g.at
       ∙ raised_runs k set.helpers set.small set.room T (size F) (T + size F) (instr.LocalTee top ∷ (limit_check ++ after)) st [] refl (omega (arith, room, long, small, least))
       ∙ tee_runs k.modules k.fixed k.turns (calls k) k.own (limit_check ++ after) st top (I32 (T + size F)) [] (omega (arith, count, two))
       ∙ limit_run k set has (length world) top F given out first two (T + size F) (record st { locals = slice_set st.locals top (I32 (T + size F)) }) after [] g.shown
@@ -112,7 +112,7 @@ module _ (k : Scene) (set : IsSet k) (has : HasLimit k) (top : ℕ) (F : Ty) (gi
 -- the link is stored at the frame's address
 module _ (k : Scene) (set : IsSet k) (has : HasLimit k) (root top : ℕ) (ks : Kinds) (given : List Value) (out : List ℕ) (first : 0 < top) (two : suc top < k.locals) where
   pub link_step : (world : List Ty) (x : Location → ℕ → ℕ) (s : Store) (st : Target) (n : ℕ) (rest : List Instr) → 1 < top → slice_get given 1 ≡ Some (I64 n) → OnStage k set has root top (frame_kinds ks) given out first two world x s st
-      → (m' : List ℕ) × OnStage k set has root top (frame_kinds ks) given out first two world (placed (root ∷ 0 ∷ 0 ∷ []) (λ r k. get_or (to_le_bytes w64 n) k 0) x) s (record st { bytes = m' })
+      → (m' : List ℕ) × OnStage k set has root top (frame_kinds ks) given out first two world (overlay (root ∷ 0 ∷ 0 ∷ []) (λ r k. get_or (to_le_bytes w64 n) k 0) x) s (record st { bytes = m' })
       × (runs k ((instr.LocalGet 0 ∷ instr.LocalGet 1 ∷ instr.Store width.Eight ∷ []) ++ rest) st [] ≡ runs k rest (record st { bytes = m' }) [])
   unfolding component offset size
   link_step world x s st n rest less e g =
@@ -123,12 +123,12 @@ module _ (k : Scene) (set : IsSet k) (has : HasLimit k) (root top : ℕ) (ks : K
       let at = offset_append (row world) (frame_kinds ks) (root ∷ []) (0 ∷ 0 ∷ []) g.own in
       let same : offset (row world) here ≡ a = omega (arith, at) in
       let fits : offset (row world) here + 8 ≤ length st.bytes = lies k.program world x s st.bytes g.holds here (Hidden 8) type in
-      let m' : List ℕ = pasted st.bytes a ys in
+      let m' : List ℕ = paste_items st.bytes a ys in
       let eight : length ys ≡ 8 = refl in
       let room : a + length ys ≤ length st.bytes = omega (arith, fits, same, eight) in (
         m',
         record {
-          holds = subst (λ (a : ℕ). Holds k.program world (placed here (λ r k. get_or ys k 0) x) s (pasted st.bytes a ys)) same (holds_hidden k.program world x s st.bytes g.holds here 8 ys type refl (λ j l. eight_small n j (omega (arith, l, eight))));
+          holds = subst (λ (a : ℕ). Holds k.program world (overlay here (λ r k. get_or ys k 0) x) s (paste_items st.bytes a ys)) same (holds_hidden k.program world x s st.bytes g.holds here 8 ys type refl (λ j l. eight_small n j (omega (arith, l, eight))));
           long = length-pasted st.bytes a ys room ∙ g.long;
           own = g.own;
           below = g.below;

@@ -6,7 +6,7 @@ use Rattle.wasm_tree.specs.declared.instr.Instr.TheVariants as instr
 use Rattle.wasm_tree.specs.declared.module.WModule.{WModule}
 use Rattle.wasm_tree.specs.declared.store.Value.{Value}
 use Rattle.wasm_tree.specs.Machine.{Typed, agree, callee_in}
-use Rattle.law_effect.specs.Effect.{Fixed, nested, store_of}
+use Rattle.law_effect.specs.Effect.{Fixed, nest_calls, store_of}
 use Rattle.typed_tree.specs.declared.computed.LocalProcedure.{LocalProcedure}
 use Rattle.typed_tree.specs.declared.meaning.Procedure.{Procedure}
 use Rattle.typed_tree.specs.declared.meaning.Variable.{Variable}
@@ -23,10 +23,10 @@ use Rattle.def_meaning.specs.Calls.{is_there}
 use Rattle.law_memory.specs.Relation.{NamesProcedure}
 use Rattle.law_memory.proofs.Procedures.{entry_there}
 use Rattle.law_memory.proofs.Worlds.{component_old, offset_old, in_world}
-use Rattle.def_scheme.specs.Coded.{body_index, raised}
+use Rattle.def_scheme.specs.Coded.{body_index, raise_address}
 use Rattle.def_scheme.specs.Exprs.{is_own, all_arguments, has_result, slots_global, slot_number, indirect, module_call, nested_call}
 use Rattle.def_scheme.specs.Functions.{numbers_of, setting}
-use Rattle.def_scheme.specs.Modules.{numbered}
+use Rattle.def_scheme.specs.Modules.{numbering_of}
 use Rattle.def_scheme.specs.Signatures.{Signature, signature, of_heading, type_of}
 use Rattle.law_simulation.specs.Begun.{calling}
 use Rattle.law_simulation.specs.Scene.{Scene, IsSet, IsGlobal}
@@ -149,7 +149,7 @@ module _ (modules : List WModule) (fx : Fixed) (serves : (k f : ℕ) → Bool) (
           ∙ ap (λ (b : Bool). signature (all_arguments (formals_of m.types f.heading)) b) (has_it h.home.types h.routine.heading ∙ ap (λ (r : Result). is_there r) h.result ∙ sym (has_it m.types f.heading))
 
       module_calls : (f : Procedure) (c : IsCallable x f) (b : Bool) → is_own m f.home ≡ b
-          → IsCallOf K (if b then instr.Call (suc body_index + f.number) ∷ [] else (instr.GlobalGet (slots_global m f.home) ∷ (raised (slot_number f) ++ indirect (numbered m) m.types f.heading ∷ [])))
+          → IsCallOf K (if b then instr.Call (suc body_index + f.number) ∷ [] else (instr.GlobalGet (slots_global m f.home) ∷ (raise_address (slot_number f) ++ indirect (numbering_of m) m.types f.heading ∷ [])))
           (suc (module_place p f.home)) (6 + f.number) (routine_typed c.named.home (which.Module f.number) c.named.routine)
       module_calls f c true e =
           let h = c.named in
@@ -161,16 +161,16 @@ module _ (modules : List WModule) (fx : Fixed) (serves : (k f : ℕ) → Bool) (
           let s : Signature = of_heading m.types f.heading in
           let t : Typed = routine_typed h.home (which.Module f.number) h.routine in
           let there = linked (module_place p f.home) h.home h.there in
-          table_calls K set (slots_global m f.home) q.slot (slot_number f) (numbered m s.arguments s.result) (suc (module_place p f.home)) (6 + f.number) t q.there q.small q.filled (there.functions (which.Module f.number) h.routine h.is)
+          table_calls K set (slots_global m f.home) q.slot (slot_number f) (numbering_of m s.arguments s.result) (suc (module_place p f.home)) (6 + f.number) t q.there q.small q.filled (there.functions (which.Module f.number) h.routine h.is)
           (ap (λ o. agree o (Some t.type)) (g.types s (c.signed e)) ∙ ap (λ (s' : Signature). agree (Some (type_of s)) (Some (type_of s'))) (same_type f h) ∙ agrees_itself (type_of s))
 
-      asked : (c : Callee) (kss kss' : List Kinds) (fs fs' : Forms) (r r' : Result) (j i : ℕ) (t : Typed) → kss ≡ kss' → fs ≡ fs' → r ≡ r' → DoesAsked p base texts limit (nested modules fx serves extra n d) (calling p n d) c kss fs r j i t → DoesAsked p base texts limit (nested modules fx serves extra n d) (calling p n d) c kss' fs' r' j i t
+      asked : (c : Callee) (kss kss' : List Kinds) (fs fs' : Forms) (r r' : Result) (j i : ℕ) (t : Typed) → kss ≡ kss' → fs ≡ fs' → r ≡ r' → DoesAsked p base texts limit (nest_calls modules fx serves extra n d) (calling p n d) c kss fs r j i t → DoesAsked p base texts limit (nest_calls modules fx serves extra n d) (calling p n d) c kss' fs' r' j i t
       asked c kss kss' fs fs' r r' j i t e e' e'' h =
-          subst (λ (kss : List Kinds). DoesAsked p base texts limit (nested modules fx serves extra n d) (calling p n d) c kss fs' r' j i t) e
-          (subst (λ (fs : Forms). DoesAsked p base texts limit (nested modules fx serves extra n d) (calling p n d) c kss fs r' j i t) e'
-          (subst (λ (r : Result). DoesAsked p base texts limit (nested modules fx serves extra n d) (calling p n d) c kss fs r j i t) e'' h))
+          subst (λ (kss : List Kinds). DoesAsked p base texts limit (nest_calls modules fx serves extra n d) (calling p n d) c kss fs' r' j i t) e
+          (subst (λ (fs : Forms). DoesAsked p base texts limit (nest_calls modules fx serves extra n d) (calling p n d) c kss fs r' j i t) e'
+          (subst (λ (r : Result). DoesAsked p base texts limit (nest_calls modules fx serves extra n d) (calling p n d) c kss fs r j i t) e'' h))
 
-      module_here : (f : Procedure) → IsCallable x f → (c : Callee) × (module_callee p (module_place p f.home) f.number ≡ Some c) × (c.frames ≡ []) × IsCalled x (calling p n d) K c [] f.heading (module_call (numbered m) m f) 0
+      module_here : (f : Procedure) → IsCallable x f → (c : Callee) × (module_callee p (module_place p f.home) f.number ≡ Some c) × (c.frames ≡ []) × IsCalled x (calling p n d) K c [] f.heading (module_call (numbering_of m) m f) 0
       module_here f c =
           let h = c.named in
           let o : Spot p = spot_of f h in
@@ -193,7 +193,7 @@ module _ (modules : List WModule) (fx : Fixed) (serves : (k f : ℕ) → Bool) (
 
       -- ---- procedures of procedures
 
-      inner_here : (f : LocalProcedure) → IsInner x f → (c : Callee) × (nested_in place (slice_get p place) (drop f.up a.frames) f.number ≡ Some c) × (c.frames ≡ drop f.up a.frames) × IsCalled x (calling p n d) K c (drop f.up kinds) f.heading (nested_call (numbered m) m f) 1
+      inner_here : (f : LocalProcedure) → IsInner x f → (c : Callee) × (nested_in place (slice_get p place) (drop f.up a.frames) f.number ≡ Some c) × (c.frames ≡ drop f.up a.frames) × IsCalled x (calling p n d) K c (drop f.up kinds) f.heading (nested_call (numbering_of m) m f) 1
       inner_here f h =
           let nss : Frames = drop f.up a.frames in
           let w : Which = which.Local f.number in
@@ -275,7 +275,7 @@ module _ (modules : List WModule) (fx : Fixed) (serves : (k f : ℕ) → Bool) (
         slots = slot_here;
         texts = text_here;
         modules = module_here;
-        nested = inner_here;
+        nest_calls = inner_here;
         callees = callee_here;
         signed = λ t s. g.types (of_heading m.types t) s;
       }

@@ -10,10 +10,10 @@ use Rattle.def_meaning.specs.Answer.{State}
 use Rattle.def_meaning.specs.Outcome.{Outcome}
 use Rattle.def_meaning.specs.Runs.{data_size, storage, body_frame}
 use Rattle.def_scheme.specs.Modules.{slots}
-use Rattle.law_effect.specs.Effect.{Calling, nested}
+use Rattle.law_effect.specs.Effect.{Calling, nest_calls}
 use Rattle.law_modules.specs.Linked.{Program, all, bytes_in}
 use Rattle.law_simulation.specs.Bodies.{Ground, BodyDoes, AllDo, statements_do}
-use Rattle.law_simulation.specs.RunsPrograms.{body_typed, bodies_at, fixed, ground, module_type, BodiesDo}
+use Rattle.law_simulation.specs.RunsPrograms.{body_typed, bodies_at, fixtures_of, ground, module_type, BodiesDo}
 use Rattle.law_simulation.proofs.Grounds.{top_is}
 use Rattle.law_simulation.proofs.RunsPrograms.{program_behaves}
 use Rattle.law_simulation.specs.BodiesPrograms.{serving, more_turns, IsTypedProgram, TypedPrograms}
@@ -52,11 +52,11 @@ module _ (p : Program) (pages : ℕ) (room : bytes_in p + body_frame ≤ 65536 *
   bodies_do : BodiesDo p pages serving more_turns
   bodies_do n =
       let t = typed n in
-      all_from (ground p pages) (nested (all p pages) (fixed p pages) serving more_turns n (suc n)) (statements_do p pages n) 0 3 1 1 p refl
+      all_from (ground p pages) (nest_calls (all p pages) (fixtures_of p pages) serving more_turns n (suc n)) (statements_do p pages n) 0 3 1 1 p refl
       (λ i m at.
       let same : i + 0 ≡ i = omega arith in
-      subst (λ (k : ℕ). BodyDoes (ground p pages) (nested (all p pages) (fixed p pages) serving more_turns n (suc n)) (statements_do p pages n k m) (suc k) 5 (body_typed m)) (sym same)
-      (typed_bodies (all p pages) (fixed p pages) serving more_turns n (65536 * pages) p pages (ground p pages).base (ground p pages).texts count enough t.linked t.procedures i m (t.bodies i m at) refl refl))
+      subst (λ (k : ℕ). BodyDoes (ground p pages) (nest_calls (all p pages) (fixtures_of p pages) serving more_turns n (suc n)) (statements_do p pages n k m) (suc k) 5 (body_typed m)) (sym same)
+      (typed_bodies (all p pages) (fixtures_of p pages) serving more_turns n (65536 * pages) p pages (ground p pages).base (ground p pages).texts count enough t.linked t.procedures i m (t.bodies i m at) refl refl))
 
 pub typed_programs : TypedPrograms
 typed_programs p pages linkable sound room typed = program_behaves p pages linkable sound serving more_turns refl (bodies_do p pages room typed)

@@ -20,7 +20,7 @@ use Rattle.def_meaning.specs.Outcome.{Normal}
 use Rattle.def_meaning.specs.Answer as answer
 use Rattle.def_meaning.specs.Environment.{Modules, Callee, Passed, Number, Variable, Array as Whole, Text}
 use Rattle.def_meaning.specs.Expressions.{Asks, Gives, all_given}
-use Rattle.def_scheme.specs.Coded.{Coded, Counts, ◌⨾◌, all_coded, raised}
+use Rattle.def_scheme.specs.Coded.{Coded, Counts, ◌⨾◌, all_coded, raise_address}
 use Rattle.law_simulation.specs.Scene.{Scene, IsSet, IsCell, calls, runs, Stands, Into, GivesNumber, Grows, IsFree, HasLocals, inside, Agrees, Ends, Executes}
 use Rattle.law_simulation.proofs.Parts.{into_then, grows_more, grows_same, has_before, free_after, IsPlain}
 use Rattle.law_simulation.proofs.Places.{raised_runs}
@@ -194,10 +194,10 @@ direct_calls k g j f t at_g is st rest stack args many =
 -- through the table
 pub table_calls : (k : Scene) → IsSet k → (global slot n type j f : ℕ) (t : Typed) → ((bytes : List ℕ) → global_at (store_of k.fixed bytes) k.own global ≡ Some (I32 slot)) → slot + n < 2 ^ 32
     → ((bytes : List ℕ) → callee_in (store_of k.fixed bytes) k.own (slot + n) ≡ Some (Own j f)) → own_function k.modules j f ≡ Some t → agree (type_at k.modules k.own type) (Some t.type) ≡ true
-    → IsCallOf k (instr.GlobalGet global ∷ (raised n ++ instr.CallIndirect type ∷ [])) j f t
+    → IsCallOf k (instr.GlobalGet global ∷ (raise_address n ++ instr.CallIndirect type ∷ [])) j f t
 table_calls k set global slot n type j f t at_global small at_slot is agreed st rest stack args many =
     let typed : agree (type_at k.modules k.own type) (option_and_then (λ (t : Typed). Some t.type) (own_function k.modules j f)) ≡ true = ap (λ (o : Option Typed). agree (type_at k.modules k.own type) (option_and_then (λ (t : Typed). Some t.type) o)) is ∙ agreed in
-    global_runs k.modules k.fixed k.turns (calls k) k.own (raised n ++ (instr.CallIndirect type ∷ rest)) st global (I32 slot) (stack ++ args) (at_global st.bytes)
+    global_runs k.modules k.fixed k.turns (calls k) k.own (raise_address n ++ (instr.CallIndirect type ∷ rest)) st global (I32 slot) (stack ++ args) (at_global st.bytes)
     ∙ raised_runs k set.helpers set.small set.room slot n (slot + n) (instr.CallIndirect type ∷ rest) st (stack ++ args) refl small
     ∙ indirect_runs k.modules k.fixed k.turns (calls k) k.own rest st type (slot + n) (Own j f) (stack ++ args) (at_slot st.bytes) typed
     ∙ ap (λ (e : Effect). then_run e (runs k rest)) (own_does k.modules k.fixed k.turns (calls k) k.own rest st j f t (stack ++ args) stack args is (split_end_at stack args (length t.type.params) (sym many)))

@@ -19,15 +19,15 @@ use Rattle.layout_storage.specs.Shapes.{tree, elements_of}
 use Rattle.def_meaning.specs.Store.{Location}
 use Rattle.def_meaning.specs.Answer.{State as Source, Answer, ◌▷◌}
 use Rattle.def_meaning.specs.Answer as answer
-use Rattle.def_meaning.specs.Environment.{Named, At, Elements, Frames, named, or_empty, location_of, high_of}
+use Rattle.def_meaning.specs.Environment.{Named, At, Elements, Frames, slot_named, or_empty, location_of, high_of}
 use Rattle.def_meaning.specs.Expressions.{Gives, element}
 use Rattle.law_memory.specs.Cells.{stored_in}
 use Rattle.law_memory.specs.Relation.{Keeps}
 use Rattle.law_memory.proofs.Places.{component_append, offset_append}
 use Rattle.law_memory.proofs.Frames.{alias_parts, link_parts}
-use Rattle.def_scheme.specs.Coded.{Coded, plain, ◌⨾◌, with_setting, wrapped, raised, check}
+use Rattle.def_scheme.specs.Coded.{Coded, plain, ◌⨾◌, with_setting, wrap_word, raise_address, check}
 use Rattle.def_scheme.specs.Cells.{load_scalar, word as word_cell}
-use Rattle.def_scheme.specs.Exprs.{outwards, frame_code, frame_at, slot_path, slot_code, kept_address, open_address, high_code, open_element_code, scaled}
+use Rattle.def_scheme.specs.Exprs.{outwards, frame_code, frame_at, slot_path, slot_code, kept_address, open_address, high_code, open_element_code, scale_index}
 use Rattle.law_simulation.specs.Scene.{Scene, IsSet, IsSmall, calls, runs, place, word, Stands, Into, GivesNumber, GivesPlace, inside, Agrees, Locates, Reaches}
 use Rattle.law_simulation.proofs.Parts.{into_then, grows_same}
 use Rattle.law_simulation.proofs.Relations.{wrapped_runs}
@@ -72,7 +72,7 @@ module _ (world : List Ty) (x : Location → ℕ → ℕ) where
     pub frame : slice_get frames up ≡ Some (frame_kinds kinds)
     pub there : slice_get kinds number ≡ Some kind
     pub name : Named
-    pub named : slice_get (or_empty (slice_get nss up)) number ≡ Some name
+    pub slot_named : slice_get (or_empty (slice_get nss up)) number ≡ Some name
     pub is : IsNamed world x root number kind name
 
   pub found : (kss : List Kinds) (frames : List Ty) (nss : Frames) (roots : List ℕ) → IsChain world x kss nss roots → AreFrames kss frames → (up number : ℕ) (kind : Kind) → slice_get (or_none (slice_get kss up)) number ≡ Some kind
@@ -81,10 +81,10 @@ module _ (world : List Ty) (x : Location → ℕ → ℕ) where
   found _ [] _ _ (chain_more ks kss ns nss root roots type names link chain) known up number kind e = absurd known
   found _ (t ∷ ts) _ _ (chain_more ks kss ns nss root roots type names link chain) known zero number kind e =
       let p = named_at root 0 ks ns names number kind e in
-      record { root = root; kinds = ks; at = refl; type = type; frame = ap Some known.0; there = e; name = p.0; named = p.1; is = subst (λ (j : ℕ). IsNamed world x root j kind p.0) (omega arith) p.2 }
+      record { root = root; kinds = ks; at = refl; type = type; frame = ap Some known.0; there = e; name = p.0; slot_named = p.1; is = subst (λ (j : ℕ). IsNamed world x root j kind p.0) (omega arith) p.2 }
   found _ (t ∷ ts) _ _ (chain_more ks kss ns nss root roots type names link chain) known (suc up) number kind e =
       let p = found kss ts nss roots chain known.1 up number kind e in
-      record { root = p.root; kinds = p.kinds; at = p.at; type = p.type; frame = p.frame; there = p.there; name = p.name; named = p.named; is = p.is }
+      record { root = p.root; kinds = p.kinds; at = p.at; type = p.type; frame = p.frame; there = p.there; name = p.name; slot_named = p.named; is = p.is }
 
 module _ (k : Scene) (set : IsSet k) where
   pub place_fits : (s : Source) (st : Target) → Stands k s st → (l : Location) (t : Ty) → component (row k.world) l ≡ Some t → place k l < 2 ^ 32
@@ -102,8 +102,8 @@ module _ (k : Scene) (set : IsSet k) where
       let p = link_parts k.program k.world k.hidden s.store st.bytes h.holds r (map kind_tree ks) n type link (omega (arith, small)) in
       let same : n % 2 ^ 32 ≡ n = omega (arith, small) in
       let below : List Instr = outwards up ++ rest in
-      load_runs k.modules k.fixed k.turns (calls k) k.own (wrapped ∷ below) st load.I64 (place k (r ∷ [])) p.0 stack (set.helpers.memory st.bytes) p.1
-      ∙ ap (λ (i : ℕ). runs k (wrapped ∷ below) st (stack ++ I64 i ∷ [])) p.2
+      load_runs k.modules k.fixed k.turns (calls k) k.own (wrap_word ∷ below) st load.I64 (place k (r ∷ [])) p.0 stack (set.helpers.memory st.bytes) p.1
+      ∙ ap (λ (i : ℕ). runs k (wrap_word ∷ below) st (stack ++ I64 i ∷ [])) p.2
       ∙ wrapped_runs k set.helpers set.small n below st stack
       ∙ ap (λ (i : ℕ). runs k below st (stack ++ I32 i ∷ [])) same
       ∙ outwards_runs up (ks' ∷ kss) (ns' ∷ nss) r' to roots (chain_more ks' kss ns' nss r' roots type' names' link' chain) e s st h rest stack
@@ -136,8 +136,8 @@ module _ (k : Scene) (set : IsSet k) where
           let path : ℕ = slot_path k.setting slot p in
           let path_is : path ≡ offset (frame_kinds here.kinds) (suc slot.number ∷ p) = ap (λ (o : Option Ty). offset (frame_at o) (suc slot.number ∷ p)) here.frame in
           let joined : place k (here.root ∷ []) + path ≡ place k (cell p) = ap (λ (i : ℕ). place k (here.root ∷ []) + i) path_is ∙ sym (offset_append (row k.world) (frame_kinds here.kinds) (here.root ∷ []) (suc slot.number ∷ p) here.type) in
-          ap (λ (code : List Instr). runs k code st stack) (append_assoc (frame_code slot.up) (raised path) rest)
-          ∙ frame_runs slot.up here.root here.at s st h (raised path ++ rest) stack
+          ap (λ (code : List Instr). runs k code st stack) (append_assoc (frame_code slot.up) (raise_address path) rest)
+          ∙ frame_runs slot.up here.root here.at s st h (raise_address path ++ rest) stack
           ∙ raised_runs k set.helpers set.small set.room (place k (here.root ∷ [])) path (place k (cell p)) rest st stack joined (place_fits s st h (cell p) u (cell_type p u e))
 
       -- a number of 32 bits that is kept in the frame
@@ -157,8 +157,8 @@ module _ (k : Scene) (set : IsSet k) where
       address_runs p n e keeps small exit s st h rest stack =
           let same : n % 2 ^ 32 ≡ n = omega (arith, small) in
           let code : List Instr = slot_code (inside k exit) slot p in
-          ap (λ (c : List Instr). runs k c st stack) (split code (load_scalar word_cell) (wrapped ∷ []) rest)
-          ∙ word_runs p n e keeps small exit s st h (wrapped ∷ rest) stack
+          ap (λ (c : List Instr). runs k c st stack) (split code (load_scalar word_cell) (wrap_word ∷ []) rest)
+          ∙ word_runs p n e keeps small exit s st h (wrap_word ∷ rest) stack
           ∙ wrapped_runs k set.helpers set.small n rest st stack
           ∙ ap (λ (i : ℕ). runs k rest st (stack ++ I32 i ∷ [])) same
         where
@@ -190,9 +190,9 @@ module _ (world : List Ty) (x : Location → ℕ → ℕ) (root v : ℕ) (t : Ty
 
 module _ (k : Scene) (set : IsSet k) (kss : List Kinds) (has : HasFrames k kss) (slot : Slot) where
   abbrev name_here : Option Named
-  name_here = named k.around slot
+  name_here = slot_named k.around slot
 
-  pub kept_locates : (t : Ty) → kind_at kss slot ≡ Some (Kept t) → Locates k t (with_setting (λ s. plain (slot_code s slot []))) (λ a s. answer.Value (location_of (named a slot)) s)
+  pub kept_locates : (t : Ty) → kind_at kss slot ≡ Some (Kept t) → Locates k t (with_setting (λ s. plain (slot_code s slot []))) (λ a s. answer.Value (location_of (slot_named a slot)) s)
   unfolding component
   kept_locates t there = record {
     grows = λ e c. grows_same c;
@@ -214,7 +214,7 @@ module _ (k : Scene) (set : IsSet k) (kss : List Kinds) (has : HasFrames k kss) 
       let f = here k set kss has slot (Alias t) there in
       subst (λ (o : Option Named). IsAlias k.world k.hidden f.root slot.number t (location_of o)) (sym f.named) (alias_is k.world k.hidden f.root slot.number t f.name f.is)
 
-  pub alias_locates : (t : Ty) → kind_at kss slot ≡ Some (Alias t) → Locates k t (with_setting (λ s. plain (kept_address s slot []))) (λ a s. answer.Value (location_of (named a slot)) s)
+  pub alias_locates : (t : Ty) → kind_at kss slot ≡ Some (Alias t) → Locates k t (with_setting (λ s. plain (kept_address s slot []))) (λ a s. answer.Value (location_of (slot_named a slot)) s)
   unfolding component
   alias_locates t there = record {
     grows = λ e c. grows_same c;
@@ -238,7 +238,7 @@ module _ (k : Scene) (set : IsSet k) (kss : List Kinds) (has : HasFrames k kss) 
   abbrev pub open_type : Ty → Ty
   open_type t = Array (suc (high_of name_here)) t
 
-  pub open_locates : (t : Ty) → kind_at kss slot ≡ Some (Open t) → Locates k (open_type t) (with_setting (λ s. plain (open_address s slot))) (λ a s. answer.Value (location_of (named a slot)) s)
+  pub open_locates : (t : Ty) → kind_at kss slot ≡ Some (Open t) → Locates k (open_type t) (with_setting (λ s. plain (open_address s slot))) (λ a s. answer.Value (location_of (slot_named a slot)) s)
   unfolding component
   open_locates t there = record {
     grows = λ e c. grows_same c;
@@ -262,7 +262,7 @@ module _ (k : Scene) (set : IsSet k) (kss : List Kinds) (has : HasFrames k kss) 
   pub high_small : (t : Ty) → kind_at kss slot ≡ Some (Open t) → high_of name_here < 2 ^ 32
   high_small t there = (array_here t there).2
 
-  pub high_agrees : (t : Ty) → kind_at kss slot ≡ Some (Open t) → Agrees k cardinal (with_setting (λ s. plain (high_code s slot))) (λ a s. answer.Value (pos (high_of (named a slot))) s)
+  pub high_agrees : (t : Ty) → kind_at kss slot ≡ Some (Open t) → Agrees k cardinal (with_setting (λ s. plain (high_code s slot))) (λ a s. answer.Value (pos (high_of (slot_named a slot))) s)
   high_agrees t there = record {
     grows = λ e c. grows_same c;
     gives = λ e c free full s st h rest stack.
@@ -282,7 +282,7 @@ module _ (k : Scene) (set : IsSet k) (kss : List Kinds) (has : HasFrames k kss) 
   range_here = record { low = pos 0; high = pos (high_of name_here); base = cardinal }
 
   pub open_reaches : (t i : TypeNo) → kind_at kss slot ≡ Some (Open (tree k.setting.home.types t)) → (index : Coded) (value : Gives ℤ) → Agrees k i index value
-      → Reaches k (open_type (tree k.setting.home.types t)) (tree k.setting.home.types t) (index ⨾ with_setting (λ s. plain (open_element_code s slot t))) (λ l a s. value a s ▷ λ v s. element l (pos 0) (pos (high_of (named a slot))) v s)
+      → Reaches k (open_type (tree k.setting.home.types t)) (tree k.setting.home.types t) (index ⨾ with_setting (λ s. plain (open_element_code s slot t))) (λ l a s. value a s ▷ λ v s. element l (pos 0) (pos (high_of (slot_named a slot))) v s)
   open_reaches t i there index value ha = record {
     grows = λ e c. ha.grows e c;
     gives = λ e c free full l type some s st h rest stack.
@@ -293,15 +293,15 @@ module _ (k : Scene) (set : IsSet k) (kss : List Kinds) (has : HasFrames k kss) 
         let list : List Instr = open_element_code (inside k e) slot t in
         let next : ℤ → Source → Answer Location = λ v s. element l (pos 0) (pos high) v s in
         let below : List Value = stack ++ I32 (place k l) ∷ [] in
-        let after : List Instr = scaled (size u) ++ rest in
+        let after : List Instr = scale_index (size u) ++ rest in
         let checking : List Instr = instr.I64Const 3 ∷ instr.Call check ∷ after in
         let as_word : high ≡ word (pos high) = omega (arith, ints, less) in
         let sm : IsSmall range_here = record { low = omega (arith, ints); high = omega (arith, ints, less); some = omega (arith, ints) } in
         let many : suc high ≡ elements_of (Some range_here) = omega (arith, ints) in
         let array : component (row k.world) l ≡ Some (Array (elements_of (Some range_here)) u) = subst (λ (n : ℕ). component (row k.world) l ≡ Some (Array n u)) many type in
         let same : (v : ℤ) (s' : Source) (st' : Target) → Stands k s' st' → runs k (list ++ rest) st' (below ++ I64 (word v) ∷ []) ≡ runs k (located k set.helpers set.small set.room range_here (size u) ++ rest) st' (below ++ I64 (word v) ∷ []) = λ v s' st' h'.
-        i64_runs k.modules k.fixed k.turns (calls k) k.own ((high_code (inside k e) slot ++ (instr.I64Const 3 ∷ instr.Call check ∷ scaled (size u))) ++ rest) st' 0 (below ++ I64 (word v) ∷ [])
-        ∙ ap (λ (code : List Instr). runs k code st' ((below ++ I64 (word v) ∷ []) ++ I64 0 ∷ [])) (append_assoc (high_code (inside k e) slot) (instr.I64Const 3 ∷ instr.Call check ∷ scaled (size u)) rest)
+        i64_runs k.modules k.fixed k.turns (calls k) k.own ((high_code (inside k e) slot ++ (instr.I64Const 3 ∷ instr.Call check ∷ scale_index (size u))) ++ rest) st' 0 (below ++ I64 (word v) ∷ [])
+        ∙ ap (λ (code : List Instr). runs k code st' ((below ++ I64 (word v) ∷ []) ++ I64 0 ∷ [])) (append_assoc (high_code (inside k e) slot) (instr.I64Const 3 ∷ instr.Call check ∷ scale_index (size u)) rest)
         ∙ high_runs u there e s' st' h' checking ((below ++ I64 (word v) ∷ []) ++ I64 0 ∷ [])
         ∙ ap (λ (i : ℕ). runs k checking st' (((below ++ I64 (word v) ∷ []) ++ I64 0 ∷ []) ++ I64 i ∷ [])) as_word
         ∙ sym (i64_runs k.modules k.fixed k.turns (calls k) k.own (instr.I64Const (word (pos high)) ∷ checking) st' (word (pos 0)) (below ++ I64 (word v) ∷ [])

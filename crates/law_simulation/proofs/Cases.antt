@@ -21,7 +21,7 @@ use Rattle.def_meaning.specs.Answer as answer
 use Rattle.def_meaning.specs.Operators.{is_between}
 use Rattle.def_meaning.specs.Expressions.{Gives}
 use Rattle.def_meaning.specs.Statements as meaning
-use Rattle.def_meaning.specs.Statements.{Does, is_labelled, chosen}
+use Rattle.def_meaning.specs.Statements.{Does, is_labelled, choose_arm}
 use Rattle.def_scheme.specs.Coded.{Coded, Counts, plain, ◌⨾◌, all_coded, with_number, number_local, number, operation, relation}
 use Rattle.def_scheme.specs.Steps as code
 use Rattle.def_scheme.specs.Steps.{label_code, tests_code, arm_code, chain_code}
@@ -109,7 +109,7 @@ module _ (k : Scene) (has : HasHelpers k) (small : AreSmall k.setting.home.types
     arms_grow _ _ (more_arms labels x xs d ys hl hx hs) c = grows_more (hx.grows (inner + 1) c) (arms_grow xs ys hs (x (inside k (inner + 1)) c).1)
 
     arms_go : (xs : List code.Arm) (ys : List meaning.Arm) → AreArms k function xs ys → (c : Counts) → IsFree k c → HasLocals k (arms_code xs (inside k inner) c).1 → (s : Source) (st : Target) → Stands k s st
-        → Chosen (runs k (arms_code xs (inside k inner) c).0 st stack) (chosen v ys other k.around s)
+        → Chosen (runs k (arms_code xs (inside k inner) c).0 st stack) (choose_arm v ys other k.around s)
     arms_go [] [] no_arms c free full s st h =
         through_block k function label rest stack (runs k (otherwise (inside k inner) c).0 st stack) (other k.around s)
         (subst (λ (x : ℕ). Ends k function x stack (λ st. FellThrough st stack) (runs k (otherwise (inside k inner) c).0 st stack) (other k.around s)) same (alone k function otherwise other ho inner c free full s st h stack))
@@ -127,23 +127,23 @@ module _ (k : Scene) (has : HasHelpers k) (small : AreSmall k.setting.home.types
         subst (λ (e : ℕ). Ends k function e stack (λ st. runs k (instr.Br 1 ∷ []) st stack) (runs k after st stack) (d k.around s)) (omega (arith, same))
         (hx.goes (inner + 1) c free (has_before k (arms_grow xs ys hs first.1) full) s st h (instr.Br 1 ∷ []) stack)
         in
-        let next : Chosen (runs k others st stack) (chosen v ys other k.around s) = arms_go xs ys hs first.1 (free_after k (hx.grows (inner + 1) c) free) full s st h in
-        subst (λ (r : Effect). Chosen r ((if list_any (is_labelled v) labels then d else chosen v ys other) k.around s)) (sym path) (either others after d ys s st here next (list_any (is_labelled v) labels))
+        let next : Chosen (runs k others st stack) (choose_arm v ys other k.around s) = arms_go xs ys hs first.1 (free_after k (hx.grows (inner + 1) c) free) full s st h in
+        subst (λ (r : Effect). Chosen r ((if list_any (is_labelled v) labels then d else choose_arm v ys other) k.around s)) (sym path) (either others after d ys s st here next (list_any (is_labelled v) labels))
       where
         either : (others after : List Instr) (d : Does) (ys : List meaning.Arm) (s : Source) (st : Target)
-            → Ends k function (suc (suc label)) stack (λ st. runs k (instr.Br 1 ∷ []) st stack) (runs k after st stack) (d k.around s) → Chosen (runs k others st stack) (chosen v ys other k.around s)
-            → (b : Bool) → Chosen (arm_left others (then_run (out_of 0 (length stack) (Branched (if b then 0 else 1) st stack)) (runs k after))) ((if b then d else chosen v ys other) k.around s)
+            → Ends k function (suc (suc label)) stack (λ st. runs k (instr.Br 1 ∷ []) st stack) (runs k after st stack) (d k.around s) → Chosen (runs k others st stack) (choose_arm v ys other k.around s)
+            → (b : Bool) → Chosen (arm_left others (then_run (out_of 0 (length stack) (Branched (if b then 0 else 1) st stack)) (runs k after))) ((if b then d else choose_arm v ys other) k.around s)
         either others after d ys s st here next true =
             subst (λ (r : Effect). Chosen (arm_left others (then_run r (runs k after))) (d k.around s)) (sym (label_here st stack FellThrough)) (arm_ends others (runs k after st stack) (d k.around s) here)
         either others after d ys s st here next false =
-            subst (λ (r : Effect). Chosen (then_run r (runs k others)) (chosen v ys other k.around s)) (sym (label_here st stack FellThrough)) next
+            subst (λ (r : Effect). Chosen (then_run r (runs k others)) (choose_arm v ys other k.around s)) (sym (label_here st stack FellThrough)) next
 
   pub chain_goes : (xs : List code.Arm) (ys : List meaning.Arm) (otherwise : Coded) (other : Does) → AreArms k function xs ys → Executes k function otherwise other
       → (e : ℕ) (c : Counts) → IsFree k c → HasLocals k (chain_code n xs otherwise (inside k e) c).1 → (s : Source) (st : Target) → Stands k s st → (rest : List Instr) (stack : List Value)
-      → Ends k function e stack (λ st. runs k rest st stack) (runs k ((chain_code n xs otherwise (inside k e) c).0 ++ rest) st stack) (chosen v ys other k.around s)
+      → Ends k function e stack (λ st. runs k rest st stack) (runs k ((chain_code n xs otherwise (inside k e) c).0 ++ rest) st stack) (choose_arm v ys other k.around s)
   chain_goes xs ys otherwise other hs ho e c free full s st h rest stack =
       let list : List Instr = ((all_coded (map (arm_code n) xs) ⨾ otherwise) (inside k (e + 1)) c).0 in
-      subst (λ (r : Effect). Ends k function e stack (λ st. runs k rest st stack) r (chosen v ys other k.around s)) (sym (block_runs k.modules k.fixed k.turns (calls k) k.own rest st None list stack))
+      subst (λ (r : Effect). Ends k function e stack (λ st. runs k rest st stack) r (choose_arm v ys other k.around s)) (sym (block_runs k.modules k.fixed k.turns (calls k) k.own rest st None list stack))
       (arms_go e (e + 1) (omega arith) rest stack otherwise other ho xs ys hs c free full s st h)
 
 module _ (k : Scene) (has : HasHelpers k) (small : AreSmall k.setting.home.types) (function : Bool) (xs : List code.Arm) (ys : List meaning.Arm) (otherwise : Coded) (other : Does)
@@ -152,8 +152,8 @@ module _ (k : Scene) (has : HasHelpers k) (small : AreSmall k.setting.home.types
   abbrev kept_chain : Coded
   kept_chain = with_number (λ n. plain (instr.LocalSet n ∷ []) ⨾ chain_code n xs otherwise)
 
-  pub case_executes : (t : TypeNo) (x : Coded) (value : Gives ℤ) → Agrees k t x value → Executes k function (x ⨾ kept_chain) (λ a s. value a s ▷ λ v s. chosen v ys other a s)
-  case_executes t x value hx = with_executes k function t x kept_chain value (λ v a s. chosen v ys other a s) hx (record {
+  pub case_executes : (t : TypeNo) (x : Coded) (value : Gives ℤ) → Agrees k t x value → Executes k function (x ⨾ kept_chain) (λ a s. value a s ▷ λ v s. choose_arm v ys other a s)
+  case_executes t x value hx = with_executes k function t x kept_chain value (λ v a s. choose_arm v ys other a s) hx (record {
     grows = λ e c.
         let g = growing (number_local k.setting c.numbers) e (record c { numbers = suc c.numbers }) in
         record { numbers = omega (arith, g.numbers); addresses = omega (arith, g.addresses) };
@@ -166,8 +166,8 @@ module _ (k : Scene) (has : HasHelpers k) (small : AreSmall k.setting.home.types
         let g = growing n e after in
         let less : n < k.locals = omega (arith, g.numbers, full.numbers) in
         let set : Target = record st { locals = slice_set st.locals n kept_value } in
-        subst (λ (r : Effect). Ends k function e stack (λ st. runs k rest st stack) r (chosen v ys other k.around s)) (sym (set_runs_here k n kept_value (inner.0 ++ rest) s st stack less h))
-        (ends_forgets k function n kept_value new e stack (λ st. runs k rest st stack) (runs k (inner.0 ++ rest) set stack) (chosen v ys other k.around s)
+        subst (λ (r : Effect). Ends k function e stack (λ st. runs k rest st stack) r (choose_arm v ys other k.around s)) (sym (set_runs_here k n kept_value (inner.0 ++ rest) s st stack less h))
+        (ends_forgets k function n kept_value new e stack (λ st. runs k rest st stack) (runs k (inner.0 ++ rest) set stack) (choose_arm v ys other k.around s)
         (chain_goes (keeping k n kept_value) (helpers_beside k n kept_value has) small function n v (narrow k has small t v is) (kept_itself k n kept_value) xs ys otherwise other (arms n kept_value new) (ho n kept_value new) e after
         (free_beside k n kept_value c refl free) (has_beside k n kept_value inner.1 full) s set (set_keeps k n kept_value new less s st h) rest stack));
   })

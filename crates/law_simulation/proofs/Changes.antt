@@ -32,10 +32,10 @@ use Rattle.def_meaning.specs.Answer as answer
 use Rattle.def_meaning.specs.Operators.{is_between, bits, without, single}
 use Rattle.def_meaning.specs.Expressions.{Gives, within, within_range, as_type, in_base}
 use Rattle.def_meaning.specs.Statements as meaning
-use Rattle.def_meaning.specs.Statements.{Does, rechecked, with_element, stored as stores}
-use Rattle.def_scheme.specs.Coded.{Coded, Counts, plain, ◌⨾◌, with_number, with_setting, operation, checked}
-use Rattle.def_scheme.specs.Cells.{loaded, stored, in_type, base_in, base_of, check_changed}
-use Rattle.def_scheme.specs.Steps.{change_operation, changed, change_code, member_operation, with_member, member_code}
+use Rattle.def_meaning.specs.Statements.{Does, recheck_value, with_element, store_number as stores}
+use Rattle.def_scheme.specs.Coded.{Coded, Counts, plain, ◌⨾◌, with_number, with_setting, operation, check_code}
+use Rattle.def_scheme.specs.Cells.{load_code, store_code, in_type, base_in, base_of, check_changed}
+use Rattle.def_scheme.specs.Steps.{change_operation, change_instructions, change_code, member_operation, with_member, member_code}
 use Rattle.law_simulation.specs.Scene.{Scene, calls, runs, place, HasHelpers, IsIn, IsValue, AreSmall, IsCell, word, Stands, keeping, Into, GivesNumber, IsFree, HasLocals, inside, Agrees, AgreesBeside, Locates, Ends, Executes}
 use Rattle.law_simulation.proofs.Words.{IsWide, sum_word, difference_word}
 use Rattle.law_simulation.proofs.Parts.{into_then, grows_more}
@@ -90,7 +90,7 @@ module _ (k : Scene) (has : HasHelpers k) (small : AreSmall k.setting.home.types
 
   -- the result is one of the base type, and then one of the type
   changed_gives : (t : TypeNo) → (scalar_at types t ≡ None → ⊥) → (scalar_at types (base_of types t) ≡ None → ⊥) → (v : ℤ) → IsWide v → (s : Source) (st : Target) → Stands k s st → (rest : List Instr) (stack : List Value)
-      → Into (GivesNumber k t (runs k rest) stack) (runs k (check_changed types t ++ rest) st (stack ++ I64 (word v) ∷ [])) (rechecked types t v s)
+      → Into (GivesNumber k t (runs k rest) stack) (runs k (check_changed types t ++ rest) st (stack ++ I64 (word v) ∷ [])) (recheck_value types t v s)
   changed_gives t some based v hv s st h rest stack =
       let base : TypeNo = base_of types t in
       let first : List Instr = in_type types base 2 in
@@ -109,7 +109,7 @@ module _ (k : Scene) (has : HasHelpers k) (small : AreSmall k.setting.home.types
       by false e v is s st h = range_gives k has small t (scalar_at types t) refl 1 (omega arith) (omega arith) v (wide v (narrow k has small (base_of types t) v is)) (λ e. absurd (some e)) s st h rest stack
 
   operation_of : (o : Change) (x y : ℤ) → IsNarrow x → IsNarrow y → (rest : List Instr) (st : Target) (stack : List Value)
-      → runs k (change_operation o ∷ rest) st ((stack ++ I64 (word x) ∷ []) ++ I64 (word y) ∷ []) ≡ runs k rest st (stack ++ I64 (word (meaning.changed o x y)) ∷ [])
+      → runs k (change_operation o ∷ rest) st ((stack ++ I64 (word x) ∷ []) ++ I64 (word y) ∷ []) ≡ runs k rest st (stack ++ I64 (word (meaning.change_by o x y)) ∷ [])
   operation_of change.Increase x y hx hy rest st stack =
       let a = hx.low in let b = hx.high in let c = hy.low in let d = hy.high in
       operation_runs k has small Add (word x) (word y) (word (x +ℤ y)) rest st stack (ap Some (sum_word x y (wide x hx) (wide y hy) (record { low = omega (arith, ints); high = omega (arith, ints) })))
@@ -117,13 +117,13 @@ module _ (k : Scene) (has : HasHelpers k) (small : AreSmall k.setting.home.types
       let a = hx.low in let b = hx.high in let c = hy.low in let d = hy.high in
       operation_runs k has small Sub (word x) (word y) (word (x -ℤ y)) rest st stack (ap Some (difference_word x y (wide x hx) (wide y hy) (record { low = omega (arith, ints); high = omega (arith, ints) })))
 
-  wide_of : (o : Change) (x y : ℤ) → IsNarrow x → IsNarrow y → IsWide (meaning.changed o x y)
+  wide_of : (o : Change) (x y : ℤ) → IsNarrow x → IsNarrow y → IsWide (meaning.change_by o x y)
   wide_of change.Increase x y hx hy = let a = hx.low in let b = hx.high in let c = hy.low in let d = hy.high in record { low = omega (arith, ints); high = omega (arith, ints) }
   wide_of change.Decrease x y hx hy = let a = hx.low in let b = hx.high in let c = hy.low in let d = hy.high in record { low = omega (arith, ints); high = omega (arith, ints) }
 
   -- the address, and what the variable holds
   read_again_runs : (t : TypeNo) (c : Scalar) → IsCell types t c → (l : Location) → component (row k.world) l ≡ Some (Cell c) → (w : ℕ) → k.kept w ≡ Some (I32 (place k l)) → (s : Source) (st : Target) → Stands k s st → (rest : List Instr) (stack : List Value)
-      → GivesNumber k t (runs k rest) (stack ++ I32 (place k l) ∷ []) (s.store l) s (runs k (instr.LocalGet w ∷ instr.LocalGet w ∷ (loaded types t ++ rest)) st stack)
+      → GivesNumber k t (runs k rest) (stack ++ I32 (place k l) ∷ []) (s.store l) s (runs k (instr.LocalGet w ∷ instr.LocalGet w ∷ (load_code types t ++ rest)) st stack)
   read_again_runs t c cell l type w at s st h rest stack =
       let a : Value = I32 (place k l) in
       let there = h.kept w a at in
@@ -133,37 +133,37 @@ module _ (k : Scene) (has : HasHelpers k) (small : AreSmall k.setting.home.types
         stands = p.stands;
         is = p.is;
         run =
-            get_runs k.modules k.fixed k.turns (calls k) k.own (instr.LocalGet w ∷ (loaded types t ++ rest)) st w a stack there
-            ∙ get_runs k.modules k.fixed k.turns (calls k) k.own (loaded types t ++ rest) st w a (stack ++ a ∷ []) there
+            get_runs k.modules k.fixed k.turns (calls k) k.own (instr.LocalGet w ∷ (load_code types t ++ rest)) st w a stack there
+            ∙ get_runs k.modules k.fixed k.turns (calls k) k.own (load_code types t ++ rest) st w a (stack ++ a ∷ []) there
             ∙ p.run;
       }
 
   -- a value is stored at the address
   stored_ends : (t : TypeNo) (c : Scalar) → IsCell types t c → (l : Location) → component (row k.world) l ≡ Some (Cell c) → (v : ℤ) → IsValue types t v → (e : ℕ) (s : Source) (st : Target) → Stands k s st → (rest : List Instr) (stack : List Value)
-      → Ends k function e stack (λ st. runs k rest st stack) (runs k (stored types t ++ rest) st ((stack ++ I32 (place k l) ∷ []) ++ I64 (word v) ∷ [])) (answer.Value Normal (stores l v s))
+      → Ends k function e stack (λ st. runs k rest st stack) (runs k (store_code types t ++ rest) st ((stack ++ I32 (place k l) ∷ []) ++ I64 (word v) ∷ [])) (answer.Value Normal (stores l v s))
   stored_ends t c cell l type v is e s st h rest stack =
       let p = stored_goes k has small room t c cell l v is type s st h rest stack in record { st = p.st; stands = p.stands; run = p.run }
 
   change_goes : (o : Change) (t : TypeNo) (c : Scalar) → IsCell types t c → (scalar_at types t ≡ None → ⊥) → (scalar_at types (base_of types t) ≡ None → ⊥) → (l : Location) → component (row k.world) l ≡ Some (Cell c)
       → (y : ℤ) → IsNarrow y → (w n : ℕ) → k.kept w ≡ Some (I32 (place k l)) → k.kept n ≡ Some (I64 (word y)) → (e : ℕ) (s : Source) (st : Target) → Stands k s st → (rest : List Instr) (stack : List Value)
-      → Ends k function e stack (λ st. runs k rest st stack) (runs k (changed o w n types t ++ rest) st stack) (rechecked types t (meaning.changed o (s.store l) y) s ▷ λ v s. answer.Value Normal (stores l v s))
+      → Ends k function e stack (λ st. runs k rest st stack) (runs k (change_instructions o w n types t ++ rest) st stack) (recheck_value types t (meaning.change_by o (s.store l) y) s ▷ λ v s. answer.Value Normal (stores l v s))
   change_goes o t c cell some based l type y hy w n at_w at_n e s st h rest stack =
       let check : List Instr = check_changed types t in
-      let store : List Instr = stored types t in
+      let store : List Instr = store_code types t in
       let after : List Instr = instr.LocalGet n ∷ change_operation o ∷ (check ++ (store ++ rest)) in
       let p = read_again_runs t c cell l type w at_w s st h after stack in
       let below : List Value = stack ++ I32 (place k l) ∷ [] in
       let hx = narrow k has small t (s.store l) p.is in
-      let v : ℤ = meaning.changed o (s.store l) y in
-      let path : runs k (changed o w n types t ++ rest) st stack ≡ runs k (check ++ (store ++ rest)) p.st (below ++ I64 (word v) ∷ []) =
+      let v : ℤ = meaning.change_by o (s.store l) y in
+      let path : runs k (change_instructions o w n types t ++ rest) st stack ≡ runs k (check ++ (store ++ rest)) p.st (below ++ I64 (word v) ∷ []) =
       ap (λ (c : List Instr). runs k (instr.LocalGet w ∷ instr.LocalGet w ∷ c) st stack)
-      (append_assoc (loaded types t) (instr.LocalGet n ∷ change_operation o ∷ (check ++ store)) rest ∙ ap (λ (c : List Instr). loaded types t ++ (instr.LocalGet n ∷ change_operation o ∷ c)) (append_assoc check store rest))
+      (append_assoc (load_code types t) (instr.LocalGet n ∷ change_operation o ∷ (check ++ store)) rest ∙ ap (λ (c : List Instr). load_code types t ++ (instr.LocalGet n ∷ change_operation o ∷ c)) (append_assoc check store rest))
       ∙ p.run
       ∙ get_runs k.modules k.fixed k.turns (calls k) k.own (change_operation o ∷ (check ++ (store ++ rest))) p.st n (I64 (word y)) (below ++ I64 (word (s.store l)) ∷ []) (p.stands.kept n (I64 (word y)) at_n)
       ∙ operation_of o (s.store l) y hx hy (check ++ (store ++ rest)) p.st below
       in
-      subst (λ (r : Effect). Ends k function e stack (λ st. runs k rest st stack) r (rechecked types t v s ▷ λ v s. answer.Value Normal (stores l v s))) (sym path)
-      (ends_with k function e stack below (λ st. runs k rest st stack) t (runs k (store ++ rest)) (runs k (check ++ (store ++ rest)) p.st (below ++ I64 (word v) ∷ [])) (rechecked types t v s) (λ v s. answer.Value Normal (stores l v s))
+      subst (λ (r : Effect). Ends k function e stack (λ st. runs k rest st stack) r (recheck_value types t v s ▷ λ v s. answer.Value Normal (stores l v s))) (sym path)
+      (ends_with k function e stack below (λ st. runs k rest st stack) t (runs k (store ++ rest)) (runs k (check ++ (store ++ rest)) p.st (below ++ I64 (word v) ∷ [])) (recheck_value types t v s) (λ v s. answer.Value Normal (stores l v s))
       (changed_gives t some based v (wide_of o (s.store l) y hx hy) s p.st p.stands (store ++ rest) below)
       (λ v is s st h. stored_ends t c cell l type v is e s st h rest stack))
 
@@ -197,7 +197,7 @@ module _ (k : Scene) (has : HasHelpers k) (small : AreSmall k.setting.home.types
       → Ends k function e stack (λ st. runs k rest st stack) (runs k (with_member o w n types ++ rest) st stack) (answer.Value Normal (stores l (with_element o (s.store l) x) s))
   member_goes o c cell l type x low high w n at_w at_n e s st h rest stack =
       let member_list : List Instr = member_operation o in
-      let store : List Instr = stored types bitset in
+      let store : List Instr = store_code types bitset in
       let joined : List Instr = member_list ++ (store ++ rest) in
       let after : List Instr = instr.I64Const 1 ∷ instr.LocalGet n ∷ operation Shl ∷ joined in
       let p = read_again_runs bitset c cell l type w at_w s st h after stack in
@@ -205,8 +205,8 @@ module _ (k : Scene) (has : HasHelpers k) (small : AreSmall k.setting.home.types
       let set : List Value = below ++ I64 (word (s.store l)) ∷ [] in
       let path : runs k (with_member o w n types ++ rest) st stack ≡ runs k (store ++ rest) p.st (below ++ I64 (word (with_element o (s.store l) x)) ∷ []) =
       ap (λ (c : List Instr). runs k (instr.LocalGet w ∷ instr.LocalGet w ∷ c) st stack)
-      (append_assoc (loaded types bitset) (instr.I64Const 1 ∷ instr.LocalGet n ∷ operation Shl ∷ (member_list ++ store)) rest
-      ∙ ap (λ (c : List Instr). loaded types bitset ++ (instr.I64Const 1 ∷ instr.LocalGet n ∷ operation Shl ∷ c)) (append_assoc member_list store rest))
+      (append_assoc (load_code types bitset) (instr.I64Const 1 ∷ instr.LocalGet n ∷ operation Shl ∷ (member_list ++ store)) rest
+      ∙ ap (λ (c : List Instr). load_code types bitset ++ (instr.I64Const 1 ∷ instr.LocalGet n ∷ operation Shl ∷ c)) (append_assoc member_list store rest))
       ∙ p.run
       ∙ i64_runs k.modules k.fixed k.turns (calls k) k.own (instr.LocalGet n ∷ operation Shl ∷ joined) p.st 1 set
       ∙ get_runs k.modules k.fixed k.turns (calls k) k.own (operation Shl ∷ joined) p.st n (I64 (word x)) (set ++ I64 1 ∷ []) (p.stands.kept n (I64 (word x)) at_n)
@@ -224,19 +224,19 @@ module _ (k : Scene) (has : HasHelpers k) (small : AreSmall k.setting.home.types
   both w l n y = keeping (keeping k w (I32 (place k l))) n (I64 (word y))
 
   abbrev changing : Change → TypeNo → (w : ℕ) → Coded → Coded
-  changing o t w x = x ⨾ with_number (λ n. plain (instr.LocalSet n ∷ []) ⨾ with_setting (λ s. plain (changed o w n s.home.types t)))
+  changing o t w x = x ⨾ with_number (λ n. plain (instr.LocalSet n ∷ []) ⨾ with_setting (λ s. plain (change_instructions o w n s.home.types t)))
 
   pub change_executes : (o : Change) (t u : TypeNo) (c : Scalar) (d x : Coded) (found : Gives Location) (value : Gives ℤ) → IsCell k.setting.home.types t c
       → (scalar_at k.setting.home.types t ≡ None → ⊥) → (scalar_at k.setting.home.types (base_of k.setting.home.types t) ≡ None → ⊥)
       → Locates k (Cell c) d found → Agrees k u x value → AgreesBeside k u x value
-      → Executes k function (change_code o d t x) (λ a s. found a s ▷ λ l s. value a s ▷ λ y s. rechecked k.setting.home.types t (meaning.changed o (s.store l) y) s ▷ λ v s. answer.Value Normal (stores l v s))
+      → Executes k function (change_code o d t x) (λ a s. found a s ▷ λ l s. value a s ▷ λ y s. recheck_value k.setting.home.types t (meaning.change_by o (s.store l) y) s ▷ λ v s. answer.Value Normal (stores l v s))
   change_executes o t u c d x found value cell some based hd hx beside =
       address_kept k function (Cell c) d found (λ w. changing o t w x) next hd
-      (λ w e c. grows_more (hx.grows e c) (number_grows k function (λ n. changed o w n k.setting.home.types t) (λ n. with_setting (λ s. plain (changed o w n s.home.types t))) (λ n e c. refl) e (x (inside k e) c).1))
+      (λ w e c. grows_more (hx.grows e c) (number_grows k function (λ n. change_instructions o w n k.setting.home.types t) (λ n. with_setting (λ s. plain (change_instructions o w n s.home.types t))) (λ n e c. refl) e (x (inside k e) c).1))
       (λ w l new type some_place. goes w l new type)
     where
       then_stored : Location → ℤ → Source → Outcome
-      then_stored l y s = rechecked k.setting.home.types t (meaning.changed o (s.store l) y) s ▷ λ v s. answer.Value Normal (stores l v s)
+      then_stored l y s = recheck_value k.setting.home.types t (meaning.change_by o (s.store l) y) s ▷ λ v s. answer.Value Normal (stores l v s)
 
       next : Location → Does
       next l a s = value a s ▷ (then_stored l)
@@ -244,8 +244,8 @@ module _ (k : Scene) (has : HasHelpers k) (small : AreSmall k.setting.home.types
       goes : (w : ℕ) (l : Location) → k.kept w ≡ None → component (row k.world) l ≡ Some (Cell c) → Executes (keeping k w (I32 (place k l))) function (changing o t w x) (next l)
       goes w l new type =
           let here : Scene = keeping k w (I32 (place k l)) in
-          let list : ℕ → List Instr = λ n. changed o w n k.setting.home.types t in
-          let code : ℕ → Coded = λ n. with_setting (λ s. plain (changed o w n s.home.types t)) in
+          let list : ℕ → List Instr = λ n. change_instructions o w n k.setting.home.types t in
+          let code : ℕ → Coded = λ n. with_setting (λ s. plain (change_instructions o w n s.home.types t)) in
           with_executes here function u x (with_number (λ n. plain (instr.LocalSet n ∷ []) ⨾ code n)) value (λ y a s. then_stored l y s) (beside w (I32 (place k l)) new) (record {
             grows = λ e c. number_grows here function list code (λ n e c. refl) e c;
             goes = λ e counts free full y is s st h rest stack.
@@ -257,7 +257,7 @@ module _ (k : Scene) (has : HasHelpers k) (small : AreSmall k.setting.home.types
           })
 
   abbrev including : Membership → (w : ℕ) → Coded
-  including o w = plain (checked (pos 0) (pos 31) 1) ⨾ with_number (λ n. plain (instr.LocalSet n ∷ []) ⨾ with_setting (λ s. plain (with_member o w n s.home.types)))
+  including o w = plain (check_code (pos 0) (pos 31) 1) ⨾ with_number (λ n. plain (instr.LocalSet n ∷ []) ⨾ with_setting (λ s. plain (with_member o w n s.home.types)))
 
   module _ (o : Membership) (u : TypeNo) (c : Scalar) (cell : IsCell k.setting.home.types bitset c) (x : Coded) (value : Gives ℤ) (beside : AgreesBeside k u x value) where
     abbrev put_in : Location → ℤ → Source → Outcome
@@ -281,8 +281,8 @@ module _ (k : Scene) (has : HasHelpers k) (small : AreSmall k.setting.home.types
 
       put_decided : (e : ℕ) (counts : Counts) → IsFree here counts → HasLocals here (kept_code (inside here e) counts).1 → (y : ℤ) → (s : Source) (st : Target) → Stands here s st → (rest : List Instr) (stack : List Value)
           → IsNarrow y → (b : Bool) → is_between (pos 0) y (pos 31) ≡ b
-          → Into (GivesNumber here u (runs here ((kept_code (inside here e) counts).0 ++ rest)) stack) (runs here (checked (pos 0) (pos 31) 1 ++ ((kept_code (inside here e) counts).0 ++ rest)) st (stack ++ I64 (word y) ∷ [])) (if b then answer.Value y s else Ended range_fault s.out)
-          → Ends here function e stack (λ st. runs here rest st stack) (runs here (checked (pos 0) (pos 31) 1 ++ ((kept_code (inside here e) counts).0 ++ rest)) st (stack ++ I64 (word y) ∷ [])) ((if b then answer.Value y s else Ended range_fault s.out) ▷ (put_in l))
+          → Into (GivesNumber here u (runs here ((kept_code (inside here e) counts).0 ++ rest)) stack) (runs here (check_code (pos 0) (pos 31) 1 ++ ((kept_code (inside here e) counts).0 ++ rest)) st (stack ++ I64 (word y) ∷ [])) (if b then answer.Value y s else Ended range_fault s.out)
+          → Ends here function e stack (λ st. runs here rest st stack) (runs here (check_code (pos 0) (pos 31) 1 ++ ((kept_code (inside here e) counts).0 ++ rest)) st (stack ++ I64 (word y) ∷ [])) ((if b then answer.Value y s else Ended range_fault s.out) ▷ (put_in l))
       put_decided e counts free full y s st h rest stack ny false same p = p
       put_decided e counts free full y s st h rest stack ny true same p =
           let q = between_in (pos 0) (pos 31) y same in

@@ -16,7 +16,7 @@ use Rattle.def_meaning.specs.Answer.{State as Source, Answer}
 use Rattle.def_meaning.specs.Answer as answer
 use Rattle.def_meaning.specs.Operators.{is_between}
 use Rattle.def_meaning.specs.Expressions.{within}
-use Rattle.def_scheme.specs.Coded.{checked}
+use Rattle.def_scheme.specs.Coded.{check_code}
 use Rattle.def_scheme.specs.Helpers.{check_typed}
 use Rattle.law_memory.specs.Called.{stopped_by}
 use Rattle.law_memory.proofs.Helpers.{check_called}
@@ -38,7 +38,7 @@ module _ (k : Scene) (has : HasHelpers k) where
 
   -- of any word
   word_checked : (low high : ℤ) (n j : ℕ) → 1 ≤ j → j ≤ 255 → (rest : List Instr) (st : Target) (stack : List Value)
-      → runs k (checked low high j ++ rest) st (stack ++ I64 n ∷ []) ≡ tested (is_less w64 n (word low)) (is_less w64 (word high) n) j st.out (runs k rest st (stack ++ I64 n ∷ []))
+      → runs k (check_code low high j ++ rest) st (stack ++ I64 n ∷ []) ≡ tested (is_less w64 n (word low)) (is_less w64 (word high) n) j st.out (runs k rest st (stack ++ I64 n ∷ []))
   word_checked low high n j least most rest st stack =
       let s1 = stack ++ I64 n ∷ [] in
       let s2 = s1 ++ I64 (word low) ∷ [] in
@@ -55,7 +55,7 @@ module _ (k : Scene) (has : HasHelpers k) where
       ∙ tested_on (is_less w64 n (word low)) (is_less w64 (word high) n) j st.out st (stack ++ I64 n ∷ []) (runs k rest)
 
   check_runs : (low high v : ℤ) (j : ℕ) → IsWide low → IsWide high → IsWide v → 1 ≤ j → j ≤ 255 → (rest : List Instr) (st : Target) (stack : List Value)
-      → runs k (checked low high j ++ rest) st (stack ++ I64 (word v) ∷ []) ≡ tested (int_lt v low) (int_lt high v) j st.out (runs k rest st (stack ++ I64 (word v) ∷ []))
+      → runs k (check_code low high j ++ rest) st (stack ++ I64 (word v) ∷ []) ≡ tested (int_lt v low) (int_lt high v) j st.out (runs k rest st (stack ++ I64 (word v) ∷ []))
   check_runs low high v j hl hh hv least most rest st stack =
       word_checked low high (word v) j least most rest st stack
       ∙ ap (λ (b : Bool). tested b (is_less w64 (word high) (word v)) j st.out (runs k rest st (stack ++ I64 (word v) ∷ []))) (less_is v low hv hl)
@@ -63,7 +63,7 @@ module _ (k : Scene) (has : HasHelpers k) where
 
   -- a word below the lower bound
   pub below_fails : (low high : ℤ) (n j : ℕ) → IsWide low → cast_signed w64 n <ℤ low → 1 ≤ j → j ≤ 255 → (rest : List Instr) (st : Target) (stack : List Value)
-      → runs k (checked low high j ++ rest) st (stack ++ I64 n ∷ []) ≡ does.Ended j st.out
+      → runs k (check_code low high j ++ rest) st (stack ++ I64 n ∷ []) ≡ does.Ended j st.out
   below_fails low high n j hl below least most rest st stack =
       let is : is_less w64 n (word low) ≡ true = ap (λ (z : ℤ). int_lt (cast_signed w64 n) z) (signed low hl) ∙ less_true (cast_signed w64 n) low below in
       word_checked low high n j least most rest st stack ∙ ap (λ (b : Bool). tested b (is_less w64 (word high) n) j st.out (runs k rest st (stack ++ I64 n ∷ []))) is
@@ -71,7 +71,7 @@ module _ (k : Scene) (has : HasHelpers k) where
   -- a value that is within bounds is one of a type
   pub checked_gives : (u : TypeNo) (low high v : ℤ) (j : ℕ) → IsWide low → IsWide high → IsWide v → 1 ≤ j → j ≤ 255 → (is_between low v high ≡ true → IsValue k.setting.home.types u v)
       → (s : Source) (st : Target) → Stands k s st → (rest : List Instr) (stack : List Value)
-      → Into (GivesNumber k u (runs k rest) stack) (runs k (checked low high j ++ rest) st (stack ++ I64 (word v) ∷ [])) (within low high j v s)
+      → Into (GivesNumber k u (runs k rest) stack) (runs k (check_code low high j ++ rest) st (stack ++ I64 (word v) ∷ [])) (within low high j v s)
   checked_gives u low high v j hl hh hv least most is s st h rest stack =
       subst (λ (r : Effect). Into (GivesNumber k u (runs k rest) stack) r (within low high j v s)) (sym (check_runs low high v j hl hh hv least most rest st stack))
       (subst (λ (b : Bool). Into (GivesNumber k u (runs k rest) stack) after (if b then answer.Value v s else answer.Ended j s.out)) (sym (between_is low v high)) (by (int_lt v low) (int_lt high v) refl refl))

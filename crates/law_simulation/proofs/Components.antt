@@ -27,14 +27,14 @@ use Rattle.law_memory.proofs.Places.{component_append, offset_append}
 use Rattle.def_meaning.specs.Store.{Location}
 use Rattle.def_meaning.specs.Answer.{State as Source, Answer, Ended, ◌▷◌, index_fault}
 use Rattle.def_meaning.specs.Answer as answer
-use Rattle.def_meaning.specs.Environment.{or_root, named, location_of}
+use Rattle.def_meaning.specs.Environment.{or_root, slot_named, location_of}
 use Rattle.def_meaning.specs.Operators.{is_between}
 use Rattle.def_meaning.specs.Expressions as meaning
 use Rattle.def_meaning.specs.Expressions.{Gives, one_by_one, element, element_in}
-use Rattle.def_scheme.specs.Coded.{Coded, Counts, plain, ◌⨾◌, all_coded, with_setting, raised, number, operation, wrapped, checked}
+use Rattle.def_scheme.specs.Coded.{Coded, Counts, plain, ◌⨾◌, all_coded, with_setting, raise_address, number, operation, wrap_word, check_code}
 use Rattle.def_scheme.specs.Cells.{is_nought, in_range}
 use Rattle.def_scheme.specs.Exprs as code
-use Rattle.def_scheme.specs.Exprs.{slot_code, slot_path, with_code, from_lower, scaled, element_code, element_tree}
+use Rattle.def_scheme.specs.Exprs.{slot_code, slot_path, with_code, from_lower, scale_index, element_code, element_tree}
 use Rattle.law_simulation.specs.Scene.{Scene, calls, runs, place, HasHelpers, IsValue, IsSmall, AreSmall, word, Stands, Into, GivesNumber, GivesPlace, Grows, HasLocals, inside, IsWith, IsOwn, Agrees, Locates, Reaches}
 use Rattle.law_simulation.specs.Laws.{AreReached, no_components, more_components}
 use Rattle.law_simulation.proofs.Words.{IsWide}
@@ -101,7 +101,7 @@ module _ (k : Scene) (has : HasHelpers k) (small : AreSmall k.setting.home.types
 
   -- ---- fields
 
-  pub field_reaches : (t u : Ty) (j : ℕ) (code : Coded) → component t (j ∷ []) ≡ Some u → IsPlain k code (raised (offset t (j ∷ []))) → Reaches k t u code (λ l a s. answer.Value (l ++ j ∷ []) s)
+  pub field_reaches : (t u : Ty) (j : ℕ) (code : Coded) → component t (j ∷ []) ≡ Some u → IsPlain k code (raise_address (offset t (j ∷ []))) → Reaches k t u code (λ l a s. answer.Value (l ++ j ∷ []) s)
   field_reaches t u j code there plainly = record {
     grows = λ e c. subst (λ (p : List Instr × Counts). Grows c p.1) (sym (plainly e c)) (grows_same c);
     gives = λ e c free full l type some s st h rest stack.
@@ -136,13 +136,13 @@ module _ (k : Scene) (has : HasHelpers k) (small : AreSmall k.setting.home.types
       ∙ operation_runs k has small Sub (word v) (word r.low) (unsigned_abs (v -ℤ r.low)) rest st stack (ap Some (from_low r.low v wl w l (omega (arith, ints, l, h, below, above))))
 
   scaled_runs : (a m bytes b : ℕ) → a + m * bytes ≡ b → b < 2 ^ 32 → (rest : List Instr) (st : Target) (stack : List Value)
-      → runs k (scaled bytes ++ rest) st ((stack ++ I32 a ∷ []) ++ I64 m ∷ []) ≡ runs k rest st (stack ++ I32 b ∷ [])
+      → runs k (scale_index bytes ++ rest) st ((stack ++ I32 a ∷ []) ++ I64 m ∷ []) ≡ runs k rest st (stack ++ I32 b ∷ [])
   scaled_runs a m bytes b e less rest st stack =
       let whole : m * bytes % 2 ^ 64 ≡ m * bytes = omega (arith, e, less) in
       let half : m * bytes % 2 ^ 32 ≡ m * bytes = omega (arith, e, less) in
       let sum : (a + m * bytes) % 2 ^ 32 ≡ b = omega (arith, e, less) in
-      i64_runs k.modules k.fixed k.turns (calls k) k.own (operation Mul ∷ wrapped ∷ instr.Numeric numeric.I32Add ∷ rest) st bytes ((stack ++ I32 a ∷ []) ++ I64 m ∷ [])
-      ∙ operation_runs k has small Mul m bytes (m * bytes) (wrapped ∷ instr.Numeric numeric.I32Add ∷ rest) st (stack ++ I32 a ∷ []) (ap Some whole)
+      i64_runs k.modules k.fixed k.turns (calls k) k.own (operation Mul ∷ wrap_word ∷ instr.Numeric numeric.I32Add ∷ rest) st bytes ((stack ++ I32 a ∷ []) ++ I64 m ∷ [])
+      ∙ operation_runs k has small Mul m bytes (m * bytes) (wrap_word ∷ instr.Numeric numeric.I32Add ∷ rest) st (stack ++ I32 a ∷ []) (ap Some whole)
       ∙ wrapped_runs k has small (m * bytes) (instr.Numeric numeric.I32Add ∷ rest) st (stack ++ I32 a ∷ [])
       ∙ ap (λ (n : ℕ). runs k (instr.Numeric numeric.I32Add ∷ rest) st ((stack ++ I32 a ∷ []) ++ I32 n ∷ [])) half
       ∙ number_runs k.modules k.fixed k.turns (calls k) k.own rest st numeric.I32Add ((stack ++ I32 a ∷ []) ++ I32 (m * bytes) ∷ []) stack (I32 ((a + m * bytes) % 2 ^ 32)) (two_32 stack a (m * bytes) (λ i j. I32 ((i + j) % 2 ^ 32)))
@@ -150,7 +150,7 @@ module _ (k : Scene) (has : HasHelpers k) (small : AreSmall k.setting.home.types
 
   -- the code behind the index
   abbrev pub located : Range → (bytes : ℕ) → List Instr
-  located r bytes = checked r.low r.high 3 ++ (from_lower (Some r) ++ scaled bytes)
+  located r bytes = check_code r.low r.high 3 ++ (from_lower (Some r) ++ scale_index bytes)
 
   pub element_gives : (i : TypeNo) (r : Range) (u : Ty) → IsSmall r → (l : Location) → component (row k.world) l ≡ Some (Array (elements_of (Some r)) u) → (v : ℤ) → IsValue types i v
       → (s : Source) (st : Target) → Stands k s st → (rest : List Instr) (stack : List Value)
@@ -161,20 +161,20 @@ module _ (k : Scene) (has : HasHelpers k) (small : AreSmall k.setting.home.types
       below = stack ++ I32 (place k l) ∷ []
 
       after : List Instr
-      after = (from_lower (Some r) ++ scaled (size u)) ++ rest
+      after = (from_lower (Some r) ++ scale_index (size u)) ++ rest
 
       bound : (z : ℤ) → r.low ≤ℤ z → z ≤ℤ r.high → IsWide z
       bound z a b = let c = sm.low in let d = sm.high in record { low = omega (arith, ints, a, c); high = omega (arith, ints, b, d) }
 
       -- the check
-      gives : Into (GivesNumber k i (runs k after) below) (runs k (checked r.low r.high 3 ++ after) st (below ++ I64 (word v) ∷ [])) (meaning.within r.low r.high 3 v s)
+      gives : Into (GivesNumber k i (runs k after) below) (runs k (check_code r.low r.high 3 ++ after) st (below ++ I64 (word v) ∷ [])) (meaning.within r.low r.high 3 v s)
       gives =
           let order = sm.some in
           checked_gives k has i r.low r.high v 3 (bound r.low (omega (arith, ints)) order) (bound r.high order (omega (arith, ints))) (wide v (narrow k has small i v is)) (omega arith) (omega arith) (λ e. is) s st h after below
 
       decided : (b : Bool) → is_between r.low v r.high ≡ b
-          → Into (GivesNumber k i (runs k after) below) (runs k (checked r.low r.high 3 ++ after) st (below ++ I64 (word v) ∷ [])) (if b then answer.Value v s else Ended index_fault s.out)
-          → Into (GivesPlace k u (runs k rest) stack) (runs k (checked r.low r.high 3 ++ after) st (below ++ I64 (word v) ∷ [])) (if b then answer.Value (l ++ unsigned_abs (v -ℤ r.low) ∷ []) s else Ended index_fault s.out)
+          → Into (GivesNumber k i (runs k after) below) (runs k (check_code r.low r.high 3 ++ after) st (below ++ I64 (word v) ∷ [])) (if b then answer.Value v s else Ended index_fault s.out)
+          → Into (GivesPlace k u (runs k rest) stack) (runs k (check_code r.low r.high 3 ++ after) st (below ++ I64 (word v) ∷ [])) (if b then answer.Value (l ++ unsigned_abs (v -ℤ r.low) ∷ []) s else Ended index_fault s.out)
       decided false e p = p
       decided true e p =
           let q = between_in r.low r.high v e in
@@ -191,15 +191,15 @@ module _ (k : Scene) (has : HasHelpers k) (small : AreSmall k.setting.home.types
             some = some_more l m;
             run =
                 p.run
-                ∙ ap (λ (c : List Instr). runs k c p.st (below ++ I64 (word v) ∷ [])) (append_assoc (from_lower (Some r)) (scaled (size u)) rest)
-                ∙ lower_runs r v sm q.0 q.1 (scaled (size u) ++ rest) p.st below (is_nought r.low) refl
+                ∙ ap (λ (c : List Instr). runs k c p.st (below ++ I64 (word v) ∷ [])) (append_assoc (from_lower (Some r)) (scale_index (size u)) rest)
+                ∙ lower_runs r v sm q.0 q.1 (scale_index (size u) ++ rest) p.st below (is_nought r.low) refl
                 ∙ scaled_runs (place k l) m (size u) (place k to) at less rest p.st stack;
           }
 
       by : (b : Bool) → is_between r.low v r.high ≡ b → Into (GivesPlace k u (runs k rest) stack) (runs k (located r (size u) ++ rest) st (below ++ I64 (word v) ∷ [])) (element l r.low r.high v s)
       by b e =
-          subst (λ (b : Bool). Into (GivesPlace k u (runs k rest) stack) (runs k (checked r.low r.high 3 ++ after) st (below ++ I64 (word v) ∷ [])) (if b then answer.Value (l ++ unsigned_abs (v -ℤ r.low) ∷ []) s else Ended index_fault s.out)) (sym e)
-          (decided b e (subst (λ (b : Bool). Into (GivesNumber k i (runs k after) below) (runs k (checked r.low r.high 3 ++ after) st (below ++ I64 (word v) ∷ [])) (if b then answer.Value v s else Ended index_fault s.out)) e gives))
+          subst (λ (b : Bool). Into (GivesPlace k u (runs k rest) stack) (runs k (check_code r.low r.high 3 ++ after) st (below ++ I64 (word v) ∷ [])) (if b then answer.Value (l ++ unsigned_abs (v -ℤ r.low) ∷ []) s else Ended index_fault s.out)) (sym e)
+          (decided b e (subst (λ (b : Bool). Into (GivesNumber k i (runs k after) below) (runs k (check_code r.low r.high 3 ++ after) st (below ++ I64 (word v) ∷ [])) (if b then answer.Value v s else Ended index_fault s.out)) e gives))
 
   pub element_reaches : (t i : TypeNo) (r : Range) (u : Ty) (index after : Coded) (value : Gives ℤ) → code.index_of types t ≡ Some r → tree types t ≡ Array (elements_of (Some r)) u → Agrees k i index value
       → IsPlain k after (element_code types t) → Reaches k (tree types t) u (index ⨾ after) (λ l a s. value a s ▷ λ v s. element_in l (meaning.index_range types t) v s)
@@ -211,7 +211,7 @@ module _ (k : Scene) (has : HasHelpers k) (small : AreSmall k.setting.home.types
         let next : ℤ → Source → Answer Location = λ v s. element_in l (meaning.index_range types t) v s in
         let below : List Value = stack ++ I32 (place k l) ∷ [] in
         let is : component (row k.world) l ≡ Some (Array (elements_of (Some r)) u) = type ∙ ap Some array in
-        let listed : list ≡ located r (size u) = ap (λ (o : Option Range). in_range o 3 ++ (from_lower o ++ scaled (size (element_tree (tree types t))))) range ∙ ap (λ (t : Ty). checked r.low r.high 3 ++ (from_lower (Some r) ++ scaled (size (element_tree t)))) array in
+        let listed : list ≡ located r (size u) = ap (λ (o : Option Range). in_range o 3 ++ (from_lower o ++ scale_index (size (element_tree (tree types t))))) range ∙ ap (λ (t : Ty). check_code r.low r.high 3 ++ (from_lower (Some r) ++ scale_index (size (element_tree t)))) array in
         let ranged : Some r ≡ meaning.index_range types t = sym range ∙ same_index types t in
         subst (λ (p : List Instr × Counts). Into (GivesPlace k u (runs k rest) stack) (runs k ((first.0 ++ p.0) ++ rest) st below) (value k.around s ▷ next)) (sym (plainly e first.1))
         (subst (λ (code : List Instr). Into (GivesPlace k u (runs k rest) stack) (runs k code st below) (value k.around s ▷ next)) (sym (append_assoc first.0 list rest))
@@ -226,19 +226,19 @@ module _ (k : Scene) (has : HasHelpers k) (small : AreSmall k.setting.home.types
 -- ---- roots and what is behind them
 
 pub own_locates : (k : Scene) → HasHelpers k → AreSmall k.setting.home.types → k.limit < 2 ^ 32 → (i : ℕ) (l : Location) (t : Ty) → IsOwn k i l t
-    → Locates k t (with_setting (λ s. plain (slot_code s (record { up = 0; number = i }) []))) (λ a s. answer.Value (location_of (named a (record { up = 0; number = i }))) s)
+    → Locates k t (with_setting (λ s. plain (slot_code s (record { up = 0; number = i }) []))) (λ a s. answer.Value (location_of (slot_named a (record { up = 0; number = i }))) s)
 own_locates k has small room i l t is = record {
   grows = λ e c. grows_same c;
   gives = λ e c free full s st h rest stack.
       let path : ℕ = slot_path k.setting (record { up = 0; number = i }) [] in
-      subst (λ (to : Location). Into (GivesPlace k t (runs k rest) stack) (runs k ((instr.LocalGet 0 ∷ raised path) ++ rest) st stack) (answer.Value to s)) (sym is.is)
+      subst (λ (to : Location). Into (GivesPlace k t (runs k rest) stack) (runs k ((instr.LocalGet 0 ∷ raise_address path) ++ rest) st stack) (answer.Value to s)) (sym is.is)
       (record {
         st = st;
         stands = h;
         type = is.type;
         some = is.some;
         run =
-            get_runs k.modules k.fixed k.turns (calls k) k.own (raised path ++ rest) st 0 (I32 is.frame) stack (h.kept 0 (I32 is.frame) is.kept)
+            get_runs k.modules k.fixed k.turns (calls k) k.own (raise_address path ++ rest) st 0 (I32 is.frame) stack (h.kept 0 (I32 is.frame) is.kept)
             ∙ raised_runs k has small room is.frame path (place k l) rest st stack is.at (let p = place_small k has small room s st h l t is.type in omega (arith, p));
       });
 }

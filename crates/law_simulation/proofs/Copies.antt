@@ -16,7 +16,7 @@ use Rattle.layout_storage.specs.Types.{Ty, Scalar, Natural, Cell, Hidden, Array,
 use Rattle.layout_storage.specs.Sizes.{size, offset}
 use Rattle.layout_storage.specs.Shapes.{tree}
 use Rattle.def_meaning.specs.Environment.{Modules}
-use Rattle.def_meaning.specs.Store.{Location, Store, behind, copied, placed}
+use Rattle.def_meaning.specs.Store.{Location, Store, behind, copy_whole, overlay}
 use Rattle.def_meaning.specs.Answer.{State as Source, ◌▷◌}
 use Rattle.def_meaning.specs.Outcome.{Outcome, Normal}
 use Rattle.def_meaning.specs.Answer as answer
@@ -28,7 +28,7 @@ use Rattle.law_memory.proofs.Places.{AreApart, apart, behind_is, component_appen
 use Rattle.law_memory.proofs.Worlds.{lies, holds_placed, plain_hidden}
 use Rattle.law_memory.proofs.Assigns.{assigns_whole}
 use Rattle.law_memory.proofs.Helpers.{copy_called, fill_called}
-use Rattle.def_scheme.specs.Coded.{Coded, Counts, plain, ◌⨾◌, with_setting, with_address, raised, address_local}
+use Rattle.def_scheme.specs.Coded.{Coded, Counts, plain, ◌⨾◌, with_setting, with_address, raise_address, address_local}
 use Rattle.def_scheme.specs.Helpers.{copy_code, fill_code, helper}
 use Rattle.def_scheme.specs.Exprs.{text_code}
 use Rattle.def_scheme.specs.Steps.{text_copied}
@@ -142,7 +142,7 @@ module _ (k : Scene) (set : IsSet k) where
   -- ---- a whole copy
 
   copy_goes : (t : Ty) → IsPlain t → (to from : Location) → component (row k.world) to ≡ Some t → component (row k.world) from ≡ Some t → (s : Source) (st : Target) → Stands k s st → (rest : List Instr) (stack : List Value)
-      → GoesTo k (λ st. runs k rest st stack) (record s { store = copied to from s.store }) (runs k (instr.I32Const (size t) ∷ instr.Call 2 ∷ rest) st ((stack ++ I32 (place k to) ∷ []) ++ I32 (place k from) ∷ []))
+      → GoesTo k (λ st. runs k rest st stack) (record s { store = copy_whole to from s.store }) (runs k (instr.I32Const (size t) ∷ instr.Call 2 ∷ rest) st ((stack ++ I32 (place k to) ∷ []) ++ I32 (place k from) ∷ []))
   copy_goes t whole to from at_to at_from s st h rest stack =
       let a = lies k.program k.world k.hidden s.store st.bytes h.holds to t at_to in
       let b = lies k.program k.world k.hidden s.store st.bytes h.holds from t at_from in
@@ -163,7 +163,7 @@ module _ (k : Scene) (set : IsSet k) where
 
   copy_executes : (function : Bool) (t : Ty) (d e after : Coded) (to from : Gives Location) → IsPlain t → Locates k t d to → Locates k t e from
       → ((x : ℕ) (c : Counts) → after (inside k x) c ≡ (instr.I32Const (size t) ∷ instr.Call 2 ∷ [], c))
-      → Executes k function (d ⨾ e ⨾ after) (λ a s. to a s ▷ λ l s. from a s ▷ λ l' s. answer.Value Normal (record s { store = copied l l' s.store }))
+      → Executes k function (d ⨾ e ⨾ after) (λ a s. to a s ▷ λ l s. from a s ▷ λ l' s. answer.Value Normal (record s { store = copy_whole l l' s.store }))
   copy_executes function t d e after to from whole hd he plainly = record {
     grows = λ x c. subst (λ (p : List Instr × Counts). Grows c p.1) (sym (plainly x (e (inside k x) (d (inside k x) c).1).1)) (grows_more (hd.grows x c) (he.grows x (d (inside k x) c).1));
     goes = λ x c free full s st h rest stack.
@@ -171,14 +171,14 @@ module _ (k : Scene) (set : IsSet k) where
         let second = e (inside k x) first.1 in
         let list : List Instr = instr.I32Const (size t) ∷ instr.Call 2 ∷ [] in
         let on : Target → Effect = λ st. runs k rest st stack in
-        let next : Location → Source → Outcome = λ l s. (from k.around s ▷ (λ l' s. answer.Value Normal (record s { store = copied l l' s.store }))) in
+        let next : Location → Source → Outcome = λ l s. (from k.around s ▷ (λ l' s. answer.Value Normal (record s { store = copy_whole l l' s.store }))) in
         let full2 : HasLocals k second.1 = subst (λ (p : List Instr × Counts). HasLocals k p.1) (plainly x second.1) full in
         subst (λ (p : List Instr × Counts). Ends k function x stack on (runs k ((first.0 ++ (second.0 ++ p.0)) ++ rest) st stack) (to k.around s ▷ next)) (sym (plainly x second.1))
         (subst (λ (code : List Instr). Ends k function x stack on (runs k code st stack) (to k.around s ▷ next)) (sym (three first.0 second.0 list rest))
         (ends_from k function x stack stack on t (runs k (second.0 ++ (list ++ rest))) (runs k (first.0 ++ (second.0 ++ (list ++ rest))) st stack) (to k.around s) next
         (hd.gives x c free (has_before k (he.grows x first.1) full2) s st h (second.0 ++ (list ++ rest)) stack)
         (λ l type some s' st' h'.
-        ends_from k function x stack (stack ++ I32 (place k l) ∷ []) on t (runs k (list ++ rest)) (runs k (second.0 ++ (list ++ rest)) st' (stack ++ I32 (place k l) ∷ [])) (from k.around s') (λ l' s. answer.Value Normal (record s { store = copied l l' s.store }))
+        ends_from k function x stack (stack ++ I32 (place k l) ∷ []) on t (runs k (list ++ rest)) (runs k (second.0 ++ (list ++ rest)) st' (stack ++ I32 (place k l) ∷ [])) (from k.around s') (λ l' s. answer.Value Normal (record s { store = copy_whole l l' s.store }))
         (he.gives x first.1 (free_after k (hd.grows x c) free) full2 s' st' h' (list ++ rest) (stack ++ I32 (place k l) ∷ []))
         (λ l' type' some' s'' st'' h''. copy_goes t whole l l' type type' s'' st'' h'' rest stack))));
   }
@@ -205,21 +205,21 @@ module _ (k : Scene) (set : IsSet k) (at : ℕ) (text : List ℕ) (is : IsText k
   string_path a w more st rest stack inner room source small long =
       let has = set.helpers in
       let teed : Target = record st { locals = slice_set st.locals w (I32 a) } in
-      let copied : Target = record teed { bytes = copied_bytes bytes a (is.base + at) st.bytes } in
+      let copy_whole : Target = record teed { bytes = copied_bytes bytes a (is.base + at) st.bytes } in
       let filling : List Instr = instr.I32Const more ∷ instr.Call 3 ∷ rest in
-      let behind : List Instr = instr.LocalGet w ∷ (raised bytes ++ filling) in
-      let same_length : length copied.bytes ≡ length st.bytes = copied_length bytes a (is.base + at) st.bytes (omega (arith, room)) in
+      let behind : List Instr = instr.LocalGet w ∷ (raise_address bytes ++ filling) in
+      let same_length : length copy_whole.bytes ≡ length st.bytes = copied_length bytes a (is.base + at) st.bytes (omega (arith, room)) in
       tee_runs k.modules k.fixed k.turns (calls k) k.own (text_code at ++ (instr.I32Const bytes ∷ instr.Call 2 ∷ behind)) st w (I32 a) stack inner
-      ∙ global_runs k.modules k.fixed k.turns (calls k) k.own (raised at ++ (instr.I32Const bytes ∷ instr.Call 2 ∷ behind)) teed 2 (I32 is.base) (stack ++ I32 a ∷ []) (is.there st.bytes)
+      ∙ global_runs k.modules k.fixed k.turns (calls k) k.own (raise_address at ++ (instr.I32Const bytes ∷ instr.Call 2 ∷ behind)) teed 2 (I32 is.base) (stack ++ I32 a ∷ []) (is.there st.bytes)
       ∙ raised_runs k has set.small set.room is.base at (is.base + at) (instr.I32Const bytes ∷ instr.Call 2 ∷ behind) teed (stack ++ I32 a ∷ []) refl (omega (arith, source, long))
       ∙ i32_runs k.modules k.fixed k.turns (calls k) k.own (instr.Call 2 ∷ behind) teed bytes ((stack ++ I32 a ∷ []) ++ I32 (is.base + at) ∷ [])
       ∙ ap (runs k (instr.Call 2 ∷ behind) teed) (three_pushed k set stack (I32 a) (I32 (is.base + at)) (I32 bytes))
       ∙ copy_here k set a (is.base + at) bytes teed behind stack (omega (arith, room)) (omega (arith, source)) small long
-      ∙ get_runs k.modules k.fixed k.turns (calls k) k.own (raised bytes ++ filling) copied w (I32 a) stack (get_set st.locals w (I32 a) inner)
-      ∙ raised_runs k has set.small set.room a bytes (a + bytes) filling copied stack refl (omega (arith, room, long))
-      ∙ i32_runs k.modules k.fixed k.turns (calls k) k.own (instr.Call 3 ∷ rest) copied more (stack ++ I32 (a + bytes) ∷ [])
-      ∙ ap (runs k (instr.Call 3 ∷ rest) copied) (two_pushed k set stack (I32 (a + bytes)) (I32 more))
-      ∙ fill_here k set (a + bytes) more copied rest stack (omega (arith, room, same_length)) (omega (arith, long, same_length))
+      ∙ get_runs k.modules k.fixed k.turns (calls k) k.own (raise_address bytes ++ filling) copy_whole w (I32 a) stack (get_set st.locals w (I32 a) inner)
+      ∙ raised_runs k has set.small set.room a bytes (a + bytes) filling copy_whole stack refl (omega (arith, room, long))
+      ∙ i32_runs k.modules k.fixed k.turns (calls k) k.own (instr.Call 3 ∷ rest) copy_whole more (stack ++ I32 (a + bytes) ∷ [])
+      ∙ ap (runs k (instr.Call 3 ∷ rest) copy_whole) (two_pushed k set stack (I32 (a + bytes)) (I32 more))
+      ∙ fill_here k set (a + bytes) more copy_whole rest stack (omega (arith, room, same_length)) (omega (arith, long, same_length))
 
   -- what stands in the array then
   string_bytes : (a more : ℕ) (m : List ℕ) → a + (bytes + more) ≤ length m → (is.base + (at + bytes) ≤ a) ⊎ (a + (bytes + more) ≤ is.base + at) → ((j : ℕ) → j < bytes → byte (is.base + at + j) m ≡ get_or text j 0)
@@ -277,7 +277,7 @@ module _ (k : Scene) (set : IsSet k) (at : ℕ) (text : List ℕ) (is : IsText k
       ap (λ (i : ℕ). byte i st.bytes) e ∙ h.holds.hidden is.room is.bytes (at + j) is.type (omega (arith, fits, less)) ∙ is.same j less
 
   string_goes : (n : ℕ) → bytes ≤ n → (l : Location) → component (row k.world) l ≡ Some (characters_of n) → (w : ℕ) → w < k.locals → k.kept w ≡ None → (s : Source) (st : Target) → Stands k s st → (rest : List Instr) (stack : List Value)
-      → GoesTo k (λ st. runs k rest st stack) (record s { store = placed l (character text) s.store }) (runs k (instr.LocalTee w ∷ (text_copied at bytes (size (characters_of n) - bytes) w ++ rest)) st (stack ++ I32 (place k l) ∷ []))
+      → GoesTo k (λ st. runs k rest st stack) (record s { store = overlay l (character text) s.store }) (runs k (instr.LocalTee w ∷ (text_copied at bytes (size (characters_of n) - bytes) w ++ rest)) st (stack ++ I32 (place k l) ∷ []))
   unfolding size
   string_goes n fewer l type w inner new s st h rest stack =
       let a : ℕ = place k l in
@@ -302,14 +302,14 @@ module _ (k : Scene) (set : IsSet k) (at : ℕ) (text : List ℕ) (is : IsText k
       let shown : Shows k.program whole a (character text) m' = text_shows k.program n a text m' (λ j less. string_bytes a more st.bytes room beside (text_there s st h) j (omega (arith, less, all))) is.small in
       record {
         st = written a w more st;
-        stands = forgets k w (I32 a) new (record s { store = placed l (character text) s.store }) (written a w more st) (stands_bytes k w (I32 a) (record st { locals = slice_set st.locals w (I32 a) }) m' s (placed l (character text) s.store)
+        stands = forgets k w (I32 a) new (record s { store = overlay l (character text) s.store }) (written a w more st) (stands_bytes k w (I32 a) (record st { locals = slice_set st.locals w (I32 a) }) m' s (overlay l (character text) s.store)
             (set_keeps k w (I32 a) new inner s st h) (holds_placed k.program k.world k.hidden s.store st.bytes h.holds l whole (character text) m' (char_scalar tt) type only l2 small' shown) l2);
         run = string_path a w more st rest stack (let count = h.count in omega (arith, inner, count)) room source h.holds.bytes (long_enough k set s st h);
       }
 
   string_executes : (function : Bool) (n : ℕ) → bytes ≤ n → (d : Coded) (to : Gives Location) (f : ℕ → Coded) → Locates k (characters_of n) d to
       → ((w x : ℕ) (c : Counts) → f w (inside k x) c ≡ (instr.LocalTee w ∷ text_copied at bytes (size (characters_of n) - bytes) w, c))
-      → Executes k function (d ⨾ with_address f) (λ a s. to a s ▷ λ l s. answer.Value Normal (record s { store = placed l (character text) s.store }))
+      → Executes k function (d ⨾ with_address f) (λ a s. to a s ▷ λ l s. answer.Value Normal (record s { store = overlay l (character text) s.store }))
   string_executes function n fewer d to f hd plainly = record {
     grows = λ x c.
         let middle = (d (inside k x) c).1 in
@@ -329,7 +329,7 @@ module _ (k : Scene) (set : IsSet k) (at : ℕ) (text : List ℕ) (is : IsText k
         let new : k.kept w ≡ None = free_here.addresses w (omega arith) (omega (arith, fewer')) in
         let full_here : HasLocals k middle = record { numbers = full'.numbers; addresses = omega (arith, fewer') } in
         let on : Target → Effect = λ st. runs k rest st stack in
-        let next : Location → Source → Outcome = λ l s. answer.Value Normal (record s { store = placed l (character text) s.store }) in
+        let next : Location → Source → Outcome = λ l s. answer.Value Normal (record s { store = overlay l (character text) s.store }) in
         subst (λ (p : List Instr × Counts). Ends k function x stack on (runs k ((first.0 ++ p.0) ++ rest) st stack) (to k.around s ▷ next)) (sym (plainly w x after))
         (subst (λ (code : List Instr). Ends k function x stack on (runs k code st stack) (to k.around s ▷ next)) (sym (append_assoc first.0 list rest))
         (ends_from k function x stack stack on (characters_of n) (runs k (list ++ rest)) (runs k (first.0 ++ (list ++ rest)) st stack) (to k.around s) next

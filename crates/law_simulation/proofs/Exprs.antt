@@ -42,20 +42,20 @@ use Rattle.layout_storage.specs.Types.{Ty, Scalar, Natural, Callable, Cell, Arra
 use Rattle.layout_storage.specs.Sizes.{size, offset}
 use Rattle.layout_storage.specs.Shapes.{tree, elements_of}
 use Rattle.layout_storage.specs.Frames.{formals_of}
-use Rattle.layout_storage.specs.Texts.{passed}
+use Rattle.layout_storage.specs.Texts.{argument_text}
 use Rattle.def_meaning.specs.Store.{Location}
 use Rattle.def_meaning.specs.Answer.{State as Source, Value, ◌▷◌}
-use Rattle.def_meaning.specs.Environment.{Modules, Callee, Frames, Passed, Number, Array as Whole, entry_of, entry_callee, module_place, nested_in, named, high_of}
+use Rattle.def_meaning.specs.Environment.{Modules, Callee, Frames, Passed, Number, Array as Whole, entry_of, entry_callee, module_place, nested_in, slot_named, high_of}
 use Rattle.def_meaning.specs.Expressions as meaning
-use Rattle.def_meaning.specs.Expressions.{Asks, Gives, Reaches as Reached, Continues, value, locate, called}
-use Rattle.def_scheme.specs.Coded.{Coded, top_local, plain, ◌⨾◌, all_coded, with_setting, with_number, number, operation, extended, wrapped, relation, checked, raised}
+use Rattle.def_meaning.specs.Expressions.{Asks, Gives, Reaches as Reached, Continues, value, locate, call_value}
+use Rattle.def_scheme.specs.Coded.{Coded, top_local, plain, ◌⨾◌, all_coded, with_setting, with_number, number, operation, extend_word, wrap_word, relation, check_code, raise_address}
 use Rattle.def_scheme.specs.Cells as cells
 use Rattle.def_scheme.specs.Cells.{base_of, in_type, check_taken, is_free}
 use Rattle.def_scheme.specs.Exprs as code
 use Rattle.law_memory.specs.Relation.{NamesProcedure, heading_at, value_number}
-use Rattle.def_scheme.specs.Exprs.{Part, Linked, Numbered, behind, computed, linked, chain_type, chain_code, all_arguments, has_result, expr_part, place_code, call_code, index_of}
-use Rattle.def_scheme.specs.Modules.{numbered}
-use Rattle.def_scheme.specs.Signatures.{needed, of_heading, is_among, type_of}
+use Rattle.def_scheme.specs.Exprs.{Part, Linked, Numbered, behind, part_of, link_of, chain_type, chain_code, all_arguments, has_result, expr_part, place_code, call_code, index_of}
+use Rattle.def_scheme.specs.Modules.{numbering_of}
+use Rattle.def_scheme.specs.Signatures.{signatures_needed, of_heading, is_among, type_of}
 use Rattle.law_simulation.specs.Scene.{Scene, calls as scene_calls, place as scene_place, IsValue, AreAmong, AreNatural, IsCell, runs, inside, keeping, Into, GivesNumber, Agrees, GoesOn, Reaches, Locates}
 use Rattle.law_simulation.specs.Laws.{AreLinked, no_links as none_linked, more_links as more_linked, AreReached, no_components as none_reached, more_components as more_reached}
 use Rattle.law_simulation.proofs.Laws as laws
@@ -94,7 +94,7 @@ goes_among k t u w x f among h = record { grows = h.grows; gives = λ e c free f
 
 module _ (x : Context) (ask : Asks) where
   abbrev pub N : Numbered
-  N = numbered x.home
+  N = numbering_of x.home
 
   abbrev pub P : Modules
   P = x.p
@@ -201,8 +201,8 @@ module _ (x : Context) (ask : Asks) where
     load_made : (a b : ℕ) (t : TypeNo) (c : Scalar) (d : Place) → IsCell x.home.types t c → Placed a b d (Cell c) → Expr a b (expr.Load t d) t
     load_made a b t c d cell m = from_expr ws a b t (expr.Load t d) (layer.Load t d) (expr.outs-Load t d) (record {
       of = refl;
-      placed = behind m.placed (λ types. cells.loaded types t);
-      pins = pins_then m.pins (pins_setting (λ s. pins_plain b (cells.loaded s.home.types t)));
+      placed = behind m.placed (λ types. cells.load_code types t);
+      pins = pins_then m.pins (pins_setting (λ s. pins_plain b (cells.load_code s.home.types t)));
       agrees = λ k fit. laws.loads k fit.set P ask t c m.placed (locate P ask d) (here ws k fit (λ m. IsCell m.types t c) cell) (m.locates k fit);
     })
 
@@ -217,8 +217,8 @@ module _ (x : Context) (ask : Asks) where
 
     loaded_made : (a b : ℕ) (t : TypeNo) (h : Heading) (d : Place) → tree x.home.types t ≡ Cell (Callable h) → Placed a b d (Cell (Callable h)) → Held a b (expr.Load t d) h
     loaded_made a b t h d type m = from_held ws a b h (expr.Load t d) (layer.Load t d) (expr.outs-Load t d) (record {
-      placed = behind m.placed (λ types. cells.loaded types t);
-      pins = pins_then m.pins (pins_setting (λ s. pins_plain b (cells.loaded s.home.types t)));
+      placed = behind m.placed (λ types. cells.load_code types t);
+      pins = pins_then m.pins (pins_setting (λ s. pins_plain b (cells.load_code s.home.types t)));
       agrees = λ k fit. held_loads k fit.set P ask t h m.placed (locate P ask d) (here ws k fit (λ m. tree m.types t ≡ Cell (Callable h)) type) (m.locates k fit);
     })
 
@@ -233,11 +233,11 @@ module _ (x : Context) (ask : Asks) where
           (λ slot names. held_procedures k fit.set ask f h slot names) (fit.slots f is) (named_procedure f h is e);
     })
 
-    result_made : (a b : ℕ) (t : TypeNo) (h : Heading) (c : Call) → MadeCall ws a b (Some (Cell (Callable h))) (call_code N c) (called P ask c) → Held a b (expr.Call t c) h
+    result_made : (a b : ℕ) (t : TypeNo) (h : Heading) (c : Call) → MadeCall ws a b (Some (Cell (Callable h))) (call_code N c) (call_value P ask c) → Held a b (expr.Call t c) h
     result_made a b t h c m = from_held ws a b h (expr.Call t c) (layer.Call t c) (expr.outs-Call t c) (record {
       placed = m.placed;
       pins = m.pins;
-      agrees = λ k fit. held_results k h m.placed (called P ask c) (m.calls k fit);
+      agrees = λ k fit. held_results k h m.placed (call_value P ask c) (m.calls k fit);
     })
 
     plus_made : (a b : ℕ) (t u : TypeNo) (e : TypedExpr) → Expr a b e u → AreAmong x.home.types u t → Expr a b (expr.Plus t e) t
@@ -259,8 +259,8 @@ module _ (x : Context) (ask : Asks) where
     compare_made : (a b c : ℕ) (u v : TypeNo) (o : Comparison) (e f : TypedExpr) → Expr a b e u → Expr b c f v → Expr a c (expr.Compare o e f) boolean
     compare_made a b c u v o e f m n = from_expr ws a c boolean (expr.Compare o e f) (layer.Compare o e f) (expr.outs-Compare o e f) (record {
       of = refl;
-      placed = code.two m.placed n.placed (relation (code.relation_of o) ∷ extended ∷ []);
-      pins = pins_then m.pins (pins_then n.pins (pins_plain c (relation (code.relation_of o) ∷ extended ∷ [])));
+      placed = code.two m.placed n.placed (relation (code.relation_of o) ∷ extend_word ∷ []);
+      pins = pins_then m.pins (pins_then n.pins (pins_plain c (relation (code.relation_of o) ∷ extend_word ∷ [])));
       agrees = λ k fit. laws.relations k fit.set P ask o (as_part (expr_part N e) m.placed) (as_part (expr_part N f) n.placed) (value P ask e) (value P ask f) (m.agrees k fit) (n.agrees k fit);
     })
 
@@ -269,7 +269,7 @@ module _ (x : Context) (ask : Asks) where
       of = refl;
       placed = m.placed ⨾ plain code.empty_code;
       pins = pins_then m.pins (pins_plain b code.empty_code);
-      agrees = λ k fit. laws.negations k fit.set P ask (computed boolean m.placed) (value P ask e) (agrees_as m boolean h k fit);
+      agrees = λ k fit. laws.negations k fit.set P ask (part_of boolean m.placed) (value P ask e) (agrees_as m boolean h k fit);
     })
 
     include_pins : (a b c : ℕ) (o : Inclusion) (y y' z z' : Coded) → Pins a b y y' → Pins b c z z' → Pins a c (code.include_code o y z) (code.include_code o y' z')
@@ -281,16 +281,16 @@ module _ (x : Context) (ask : Asks) where
       of = refl;
       placed = code.include_code o m.placed n.placed;
       pins = include_pins a b c o (expr_part N e).code m.placed (expr_part N f).code n.placed m.pins n.pins;
-      agrees = λ k fit. laws.inclusions k fit.set P ask o (computed bitset m.placed) (computed bitset n.placed) (value P ask e) (value P ask f) (agrees_as m bitset h k fit) (agrees_as n bitset g k fit);
+      agrees = λ k fit. laws.inclusions k fit.set P ask o (part_of bitset m.placed) (part_of bitset n.placed) (value P ask e) (value P ask f) (agrees_as m bitset h k fit) (agrees_as n bitset g k fit);
     })
 
     in_made : (a b c : ℕ) (u v : TypeNo) (e f : TypedExpr) → Expr a b e u → Expr b c f v → AreAmong x.home.types v bitset → Expr a c (expr.In e f) boolean
     in_made a b c u v e f m n g = from_expr ws a c boolean (expr.In e f) (layer.In e f) (expr.outs-In e f) (record {
       of = refl;
       placed = code.in_code m.placed n.placed;
-      pins = pins_then m.pins (pins_then (pins_plain b (checked (pos 0) (pos 31) 1))
+      pins = pins_then m.pins (pins_then (pins_plain b (check_code (pos 0) (pos 31) 1))
           (pins_number (λ t. pins_then (pins_plain b (instr.LocalSet t ∷ [])) (pins_then n.pins (pins_plain c (instr.LocalGet t ∷ operation ShrU ∷ instr.I64Const 1 ∷ operation AndOp ∷ []))))));
-      agrees = λ k fit. laws.members k fit.set P ask (as_part (expr_part N e) m.placed) (computed bitset n.placed) (value P ask e) (value P ask f) (m.agrees k fit) (agrees_as n bitset g k fit) (beside_as n bitset g k fit);
+      agrees = λ k fit. laws.members k fit.set P ask (as_part (expr_part N e) m.placed) (part_of bitset n.placed) (value P ask e) (value P ask f) (m.agrees k fit) (agrees_as n bitset g k fit) (beside_as n bitset g k fit);
     })
 
     abs_pins : (a b : ℕ) (i : Bool) (y y' : Coded) → Pins a b y y' → Pins a b (if i then y ⨾ with_number (λ n. plain (code.absolute_code n)) else y) (if i then y' ⨾ with_number (λ n. plain (code.absolute_code n)) else y')
@@ -310,14 +310,14 @@ module _ (x : Context) (ask : Asks) where
       of = refl;
       placed = m.placed ⨾ with_number (λ t. plain (code.capital_code t));
       pins = pins_then m.pins (pins_number (λ t. pins_plain b (code.capital_code t)));
-      agrees = λ k fit. laws.capitals k fit.set P ask (computed char m.placed) (value P ask e) (agrees_as m char h k fit);
+      agrees = λ k fit. laws.capitals k fit.set P ask (part_of char m.placed) (value P ask e) (agrees_as m char h k fit);
     })
 
     chr_made : (a b : ℕ) (u : TypeNo) (e : TypedExpr) → Expr a b e u → Expr a b (expr.Chr e) char
     chr_made a b u e m = from_expr ws a b char (expr.Chr e) (layer.Chr e) (expr.outs-Chr e) (record {
       of = refl;
-      placed = m.placed ⨾ plain (checked (pos 0) (pos 255) 1);
-      pins = pins_then m.pins (pins_plain b (checked (pos 0) (pos 255) 1));
+      placed = m.placed ⨾ plain (check_code (pos 0) (pos 255) 1);
+      pins = pins_then m.pins (pins_plain b (check_code (pos 0) (pos 255) 1));
       agrees = λ k fit. laws.characters k fit.set P ask (as_part (expr_part N e) m.placed) (value P ask e) (m.agrees k fit);
     })
 
@@ -355,12 +355,12 @@ module _ (x : Context) (ask : Asks) where
       agrees = λ k fit. high_agrees k fit.set x.kinds fit.frames slot t there;
     })
 
-    function_made : (a b : ℕ) (t : TypeNo) (r : Scalar) (c : Call) → MadeCall ws a b (Some (tree x.home.types t)) (call_code N c) (called P ask c) → IsCell x.home.types t r → Expr a b (expr.Call t c) t
+    function_made : (a b : ℕ) (t : TypeNo) (r : Scalar) (c : Call) → MadeCall ws a b (Some (tree x.home.types t)) (call_code N c) (call_value P ask c) → IsCell x.home.types t r → Expr a b (expr.Call t c) t
     function_made a b t r c m cell = from_expr ws a b t (expr.Call t c) (layer.Call t c) (expr.outs-Call t c) (record {
       of = refl;
       placed = m.placed;
       pins = m.pins;
-      agrees = λ k fit. call_agrees k t r m.placed (called P ask c) (here ws k fit (λ h. IsCell h.types t r) cell) (here ws k fit (λ h. Calls k (Some (tree h.types t)) m.placed (called P ask c)) (m.calls k fit));
+      agrees = λ k fit. call_agrees k t r m.placed (call_value P ask c) (here ws k fit (λ h. IsCell h.types t r) cell) (here ws k fit (λ h. Calls k (Some (tree h.types t)) m.placed (call_value P ask c)) (m.calls k fit));
     })
 
   -- ---- operators of chains
@@ -377,7 +377,7 @@ module _ (x : Context) (ask : Asks) where
     pub placed : List Linked
     pub same : (t : TypeNo) → chain_type t placed ≡ chain_type t ls
     pub pins : Pins a b (chain_code ls) (chain_code placed)
-    pub linked : (k : Scene) → Fits x ask ws k → AreLinked k t placed fs
+    pub link_of : (k : Scene) → Fits x ask ws k → AreLinked k t placed fs
 
   module _ (ws : List Ty) where
     abbrev pub LinkOf : (a b : ℕ) → TypeNo → Link → TypeNo → Type 0
@@ -420,18 +420,18 @@ module _ (x : Context) (ask : Asks) where
     and_made a b t u e m h g = from_link ws a b t boolean (link.And e) (layer.And e) (link.outs-And e) (record {
       of = refl;
       placed = code.and_code m.placed;
-      pins = pins_then (pins_plain a (wrapped ∷ [])) (pins_within 1 (λ c. code.chosen_number c (instr.I64Const 0 ∷ []) ∷ []) m.pins);
+      pins = pins_then (pins_plain a (wrap_word ∷ [])) (pins_within 1 (λ c. code.chosen_number c (instr.I64Const 0 ∷ []) ∷ []) m.pins);
       goes = λ k fit. goes_among k t boolean boolean (code.and_code m.placed) (meaning.link_layer P ask (layer.And (value P ask e))) (here ws k fit (λ m. AreAmong m.types t boolean) h)
-          (laws.conjunctions k fit.set P ask (computed boolean m.placed) (value P ask e) (agrees_as m boolean g k fit));
+          (laws.conjunctions k fit.set P ask (part_of boolean m.placed) (value P ask e) (agrees_as m boolean g k fit));
     })
 
     or_made : (a b : ℕ) (t u : TypeNo) (e : TypedExpr) → Expr ws a b e u → AreAmong x.home.types t boolean → AreAmong x.home.types u boolean → LinkOf a b t (link.Or e) boolean
     or_made a b t u e m h g = from_link ws a b t boolean (link.Or e) (layer.Or e) (link.outs-Or e) (record {
       of = refl;
       placed = code.or_code m.placed;
-      pins = pins_then (pins_plain a (wrapped ∷ [])) (pins_within 1 (λ c. code.chosen_number (instr.I64Const 1 ∷ []) c ∷ []) m.pins);
+      pins = pins_then (pins_plain a (wrap_word ∷ [])) (pins_within 1 (λ c. code.chosen_number (instr.I64Const 1 ∷ []) c ∷ []) m.pins);
       goes = λ k fit. goes_among k t boolean boolean (code.or_code m.placed) (meaning.link_layer P ask (layer.Or (value P ask e))) (here ws k fit (λ m. AreAmong m.types t boolean) h)
-          (laws.disjunctions k fit.set P ask (computed boolean m.placed) (value P ask e) (agrees_as m boolean g k fit));
+          (laws.disjunctions k fit.set P ask (part_of boolean m.placed) (value P ask e) (agrees_as m boolean g k fit));
     })
 
     combine_made : (a b : ℕ) (t u : TypeNo) (o : SetOperator) (e : TypedExpr) → Expr ws a b e u → AreAmong x.home.types t bitset → AreAmong x.home.types u bitset → LinkOf a b t (link.Combine o e) bitset
@@ -440,11 +440,11 @@ module _ (x : Context) (ask : Asks) where
       placed = m.placed ⨾ plain (code.set_code o);
       pins = pins_then m.pins (pins_plain b (code.set_code o));
       goes = λ k fit. goes_among k t bitset bitset (m.placed ⨾ plain (code.set_code o)) (meaning.link_layer P ask (layer.Combine o (value P ask e))) (here ws k fit (λ m. AreAmong m.types t bitset) h)
-          (laws.combinations k fit.set P ask o (computed bitset m.placed) (value P ask e) (agrees_as m bitset g k fit));
+          (laws.combinations k fit.set P ask o (part_of bitset m.placed) (value P ask e) (agrees_as m bitset g k fit));
     })
 
     no_links_made : (a : ℕ) (t : TypeNo) → MadeLinks ws a a t t [] []
-    no_links_made a t = record { of = refl; placed = []; same = λ t. refl; pins = pins_plain a []; linked = λ k fit. none_linked t }
+    no_links_made a t = record { of = refl; placed = []; same = λ t. refl; pins = pins_plain a []; link_of = λ k fit. none_linked t }
 
     more_links_made : (a b c : ℕ) (t u v : TypeNo) (l : Linked) (ls : List Linked) (f : Continues) (fs : List Continues) → MadeLink ws a b t u l f → MadeLinks ws b c u v ls fs → MadeLinks ws a c t v (l ∷ ls) (f ∷ fs)
     more_links_made a b c t u v l ls f fs m ms = record {
@@ -452,7 +452,7 @@ module _ (x : Context) (ask : Asks) where
       placed = record l { code = m.placed } ∷ ms.placed;
       same = λ t. ms.same l.of;
       pins = pins_then m.pins ms.pins;
-      linked = λ k fit. more_linked t (record l { code = m.placed }) ms.placed f fs (m.goes k fit) (subst (λ (w : TypeNo). AreLinked k w ms.placed fs) (sym m.of) (ms.linked k fit));
+      link_of = λ k fit. more_linked t (record l { code = m.placed }) ms.placed f fs (m.goes k fit) (subst (λ (w : TypeNo). AreLinked k w ms.placed fs) (sym m.of) (ms.linked k fit));
     }
 
     chain_made : (a b c : ℕ) (u t : TypeNo) (e : TypedExpr) (ls : List Link) → Expr ws a b e u → MadeLinks ws b c u t (map (link_part N) ls) (map (link_value P ask) ls) → Expr ws a c (expr.Chain e ls) t
@@ -490,7 +490,7 @@ module _ (x : Context) (ask : Asks) where
     field_made : (a : ℕ) (t : TypeNo) (j : ℕ) (u : Ty) → component (tree x.home.types t) (j ∷ []) ≡ Some u → MadeReach ws a a (tree x.home.types t) u (component_code N (component'.Field t j)) (component_value P ask (component'.Field t j))
     field_made a t j u there = from_component a a (tree x.home.types t) u (component'.Field t j) (layer.Field t j) (component'.outs-Field t j) (record {
       placed = code.component_layer (layer.Field t j);
-      pins = pins_setting (λ s. pins_plain a (raised (offset (tree s.home.types t) (j ∷ []))));
+      pins = pins_setting (λ s. pins_plain a (raise_address (offset (tree s.home.types t) (j ∷ []))));
       reaches = λ k fit. subst (λ (m : TypedModule). Reaches k (tree m.types t) u (code.component_layer (layer.Field t j)) (meaning.component_layer P ask (layer.Field t j))) (sym fit.home)
           (laws.fields k fit.set P ask t j u (here ws k fit (λ m. component (tree m.types t) (j ∷ []) ≡ Some u) there));
     })
@@ -547,7 +547,7 @@ module _ (x : Context) (ask : Asks) where
           locates = λ k fit.
               let there' = here ws k fit (λ h. kind_at x.kinds slot ≡ Some (Open (tree h.types t))) there in
               let u : Ty = tree k.setting.home.types t in
-              let whole : Ty = Array (suc (high_of (named k.around slot))) u in
+              let whole : Ty = Array (suc (high_of (slot_named k.around slot))) u in
               let rest = here ws k fit (λ h. AreReached k (tree h.types t) v ms.placed (map (component_value P ask) cs)) (ms.reached k fit) in
               laws.designators k P ask (root.Open slot) whole v (one ∷ ms.placed) (meaning.component_layer P ask (layer.OpenElement slot t (value P ask i)) ∷ map (component_value P ask) cs)
               (open_locates k fit.set x.kinds fit.frames slot u there')
@@ -584,7 +584,7 @@ module _ (x : Context) (ask : Asks) where
       (λ (h : AreAmong k.setting.home.types part.of t). among_agrees k fit.set.helpers fit.set.small part.of t m.placed (value P ask e) (m.agrees k fit) h)
       (λ (h : (w : TypeNo) × (n : ℤ) × (e ≡ expr.Constant w n) × IsValue k.setting.home.types t n).
       constant_given k part.of t m.placed (value P ask e) h.1 (λ s. ap (λ (e : TypedExpr). value P ask e k.around s) h.2 ∙ ap (λ (f : Gives ℤ). f k.around s) (expr_means P ask (expr.Constant h.0 h.1) (layer.Constant h.0 h.1) (expr.outs-Constant h.0 h.1))) h.3 (m.agrees k fit))
-      (is'.free (subst (λ (h : TypedModule). is_free k.setting.home.types t (expr_part (numbered h) e).constant part.of ≡ true) fit.home q)))
+      (is'.free (subst (λ (h : TypedModule). is_free k.setting.home.types t (expr_part (numbering_of h) e).constant part.of ≡ true) fit.home q)))
       is'.unranged
 
   pub given_held : (ws : List Ty) (a b : ℕ) (t : TypeNo) (h : Heading) (e : TypedExpr) → (m : Held ws a b e h) → scalar_at x.home.types t ≡ None → (k : Scene) → Fits x ask ws k
@@ -626,26 +626,26 @@ module _ (x : Context) (ask : Asks) where
 
     name_made : (a b : ℕ) (d : Place) (t : Ty) → Placed ws a b d t → MadeArgument ws a b (ByName t) (argument_code N (argument.Place d)) (argument_value P ask (argument.Place d))
     name_made a b d t m = from_argument a b (ByName t) (argument.Place d) (layer.Place d) (argument.outs-Place d) (record {
-      placed = m.placed ⨾ plain (extended ∷ []);
-      pins = pins_then m.pins (pins_plain b (extended ∷ []));
+      placed = m.placed ⨾ plain (extend_word ∷ []);
+      pins = pins_then m.pins (pins_plain b (extend_word ∷ []));
       passes = λ k fit. name_passes k fit.set t m.placed (locate P ask d) (m.locates k fit);
     })
 
     copy_made : (a b : ℕ) (d : Place) (t : Ty) → Placed ws a b d t → MadeArgument ws a b (ByCopy t) (argument_code N (argument.Place d)) (argument_value P ask (argument.Place d))
     copy_made a b d t m = from_argument a b (ByCopy t) (argument.Place d) (layer.Place d) (argument.outs-Place d) (record {
-      placed = m.placed ⨾ plain (extended ∷ []);
-      pins = pins_then m.pins (pins_plain b (extended ∷ []));
+      placed = m.placed ⨾ plain (extend_word ∷ []);
+      pins = pins_then m.pins (pins_plain b (extend_word ∷ []));
       passes = λ k fit. copy_passes k fit.set t m.placed (locate P ask d) (m.locates k fit);
     })
 
     array_made : (a b : ℕ) (t : TypeNo) (r : Range) (u : Ty) (is_var : Bool) (d : Place) → index_of x.home.types t ≡ Some r → (r.high -ℤ r.low) ≤ℤ pos 4294967295 → tree x.home.types t ≡ Array (elements_of (Some r)) u → Placed ws a b d (tree x.home.types t)
         → MadeArgument ws a b (ByArray is_var u) (argument_code N (argument.Array t d)) (argument_value P ask (argument.Array t d))
     array_made a b t r u is_var d range narrow array m = from_argument a b (ByArray is_var u) (argument.Array t d) (layer.Array t d) (argument.outs-Array t d) (record {
-      placed = behind m.placed (λ types. extended ∷ instr.I64Const (code.high_index types t) ∷ []);
-      pins = pins_then m.pins (pins_setting (λ s. pins_plain b (extended ∷ instr.I64Const (code.high_index s.home.types t) ∷ [])));
+      placed = behind m.placed (λ types. extend_word ∷ instr.I64Const (code.high_index types t) ∷ []);
+      pins = pins_then m.pins (pins_setting (λ s. pins_plain b (extend_word ∷ instr.I64Const (code.high_index s.home.types t) ∷ [])));
       passes = λ k fit.
           let same : code.high_index k.setting.home.types t ≡ meaning.high_index k.around.types t = ap (λ (o : Option Range). elements_of o - 1) (same_index k.setting.home.types t) ∙ ap (λ (types : Types). meaning.high_index types t) (sym fit.set.types) in
-          passes_alike k (ByArray is_var u) (behind m.placed (λ types. extended ∷ instr.I64Const (code.high_index types t) ∷ [])) (λ s st. locate P ask d s st ▷ λ l st. Value (Whole l (code.high_index k.setting.home.types t)) st) (meaning.argument_layer P ask (layer.Array t (locate P ask d)))
+          passes_alike k (ByArray is_var u) (behind m.placed (λ types. extend_word ∷ instr.I64Const (code.high_index types t) ∷ [])) (λ s st. locate P ask d s st ▷ λ l st. Value (Whole l (code.high_index k.setting.home.types t)) st) (meaning.argument_layer P ask (layer.Array t (locate P ask d)))
           (λ st. ap (λ (n : ℕ). (locate P ask d k.around st ▷ λ l st. Value (Whole l n) st)) same)
           (array_passes k fit.set is_var t r u m.placed (locate P ask d) (here ws k fit (λ h. index_of h.types t ≡ Some r) range) narrow (here ws k fit (λ h. tree h.types t ≡ Array (elements_of (Some r)) u) array)
           (here ws k fit (λ h. Locates k (tree h.types t) m.placed (locate P ask d)) (m.locates k fit)));
@@ -653,16 +653,16 @@ module _ (x : Context) (ask : Asks) where
 
     whole_made : (a : ℕ) (slot : Slot) (is_var : Bool) (u : Ty) → kind_at x.kinds slot ≡ Some (Open u) → MadeArgument ws a a (ByArray is_var u) (argument_code N (argument.Open slot)) (argument_value P ask (argument.Open slot))
     whole_made a slot is_var u there = from_argument a a (ByArray is_var u) (argument.Open slot) (layer.Open slot) (argument.outs-Open slot) (record {
-      placed = with_setting (λ s. plain (code.open_address s slot ++ (extended ∷ code.high_code s slot)));
-      pins = pins_setting (λ s. pins_plain a (code.open_address s slot ++ (extended ∷ code.high_code s slot)));
+      placed = with_setting (λ s. plain (code.open_address s slot ++ (extend_word ∷ code.high_code s slot)));
+      pins = pins_setting (λ s. pins_plain a (code.open_address s slot ++ (extend_word ∷ code.high_code s slot)));
       passes = λ k fit. open_passes k fit.set is_var x.kinds fit.frames slot u there;
     })
 
-    text_made : (a : ℕ) (text : List ℕ) → typed.HasText x a (passed text) → length (passed text) ≤ 2 ^ 32 → MadeArgument ws a (a + length (passed text)) (ByArray false (Cell (Natural 255))) (argument_code N (argument.Text text)) (argument_value P ask (argument.Text text))
-    text_made a text has below = from_argument a (a + length (passed text)) (ByArray false (Cell (Natural 255))) (argument.Text text) (layer.Text text) (argument.outs-Text text) (record {
-      placed = plain (code.text_code a ++ (extended ∷ instr.I64Const (length (passed text) - 1) ∷ []));
-      pins = pins_text a (length (passed text)) (λ at. plain (code.text_code at ++ (extended ∷ instr.I64Const (length (passed text) - 1) ∷ []))) (pins_plain (a + length (passed text)) (code.text_code a ++ (extended ∷ instr.I64Const (length (passed text) - 1) ∷ [])));
-      passes = λ k fit. text_passes k fit.set a text (fit.texts a (passed text) has) below;
+    text_made : (a : ℕ) (text : List ℕ) → typed.HasText x a (argument_text text) → length (argument_text text) ≤ 2 ^ 32 → MadeArgument ws a (a + length (argument_text text)) (ByArray false (Cell (Natural 255))) (argument_code N (argument.Text text)) (argument_value P ask (argument.Text text))
+    text_made a text has below = from_argument a (a + length (argument_text text)) (ByArray false (Cell (Natural 255))) (argument.Text text) (layer.Text text) (argument.outs-Text text) (record {
+      placed = plain (code.text_code a ++ (extend_word ∷ instr.I64Const (length (argument_text text) - 1) ∷ []));
+      pins = pins_text a (length (argument_text text)) (λ at. plain (code.text_code at ++ (extend_word ∷ instr.I64Const (length (argument_text text) - 1) ∷ []))) (pins_plain (a + length (argument_text text)) (code.text_code a ++ (extend_word ∷ instr.I64Const (length (argument_text text) - 1) ∷ [])));
+      passes = λ k fit. text_passes k fit.set a text (fit.texts a (argument_text text) has) below;
     })
 
     -- all of them
@@ -707,15 +707,15 @@ module _ (x : Context) (ask : Asks) where
 
   module _ (ws : List Ty) where
     from_call : (a b : ℕ) (r : Result) (e : Call) (y : Call-F Argument Call Component Link TypedExpr Place) → out-Call e ≡ y
-        → MadeCall ws a b r (code.call_layer N (call_opened N y)) (meaning.call_layer P ask (call_meant P ask y)) → MadeCall ws a b r (call_code N e) (called P ask e)
+        → MadeCall ws a b r (code.call_layer N (call_opened N y)) (meaning.call_layer P ask (call_meant P ask y)) → MadeCall ws a b r (call_code N e) (call_value P ask e)
     from_call a b r e y h m =
-        subst (λ (c : Coded). MadeCall ws a b r c (called P ask e)) (sym (call_at N e y h))
+        subst (λ (c : Coded). MadeCall ws a b r c (call_value P ask e)) (sym (call_at N e y h))
         (subst (λ (g : Gives ℤ). MadeCall ws a b r (code.call_layer N (call_opened N y)) g) (sym (call_means P ask e y h)) m)
 
     abbrev ArgumentsOf : (a b : ℕ) → List Argument → Forms → Type 0
     ArgumentsOf a b args fs = MadeArguments ws a b fs (map (argument_code N) args) (map (argument_value P ask) args)
 
-    module_made : (a b : ℕ) (f : Procedure) (args : List Argument) → IsCallable x f → ArgumentsOf a b args (forms_of x.home.types f.heading) → MadeCall ws a b (result_of x.home.types f.heading) (call_code N (call.Module f args)) (called P ask (call.Module f args))
+    module_made : (a b : ℕ) (f : Procedure) (args : List Argument) → IsCallable x f → ArgumentsOf a b args (forms_of x.home.types f.heading) → MadeCall ws a b (result_of x.home.types f.heading) (call_code N (call.Module f args)) (call_value P ask (call.Module f args))
     module_made a b f args known m = from_call a b (result_of x.home.types f.heading) (call.Module f args) (layer.Module f args) (call.outs-Module f args) (record {
       placed = code.top_code ⨾ (all_coded m.placed ⨾ with_setting (λ s. plain (code.module_call N s.home f)));
       pins = pins_then (pins_setting (λ s. pins_plain a (instr.LocalGet (top_local s) ∷ []))) (pins_then m.pins (pins_setting (λ s. pins_plain b (code.module_call N s.home f))));
@@ -725,15 +725,15 @@ module _ (x : Context) (ask : Asks) where
           let gs : List (Gives Passed) = map (argument_value P ask) args in
           let forms : Forms = forms_of x.home.types f.heading in
           let chain : IsChain k.world k.hidden [] q.0.frames [] = subst (λ (nss : Frames). IsChain k.world k.hidden [] nss []) (sym q.2) chain_end in
-          calls_alike k (result_of x.home.types f.heading) (code.top_code ⨾ (all_coded m.placed ⨾ with_setting (λ s. plain (code.module_call N s.home f)))) (λ s st. meaning.asked P ask (Some q.0) gs s st) (meaning.call_layer P ask (layer.Module f gs))
-          (λ st. ap (λ (o : Option Callee). meaning.asked P ask o gs k.around st) (sym q.1))
+          calls_alike k (result_of x.home.types f.heading) (code.top_code ⨾ (all_coded m.placed ⨾ with_setting (λ s. plain (code.module_call N s.home f)))) (λ s st. meaning.call_with P ask (Some q.0) gs s st) (meaning.call_layer P ask (layer.Module f gs))
+          (λ st. ap (λ (o : Option Callee). meaning.call_with P ask o gs k.around st) (sym q.1))
           (front_calls k x.base x.texts fit.top P ask q.0 [] [] chain forms (result_of x.home.types f.heading) g.own g.function g.typed g.does (code.module_call N k.setting.home f) (λ s st h. g.is_call st) g.count
           m.placed gs (m.passed_all k fit) (with_setting (λ s. plain (code.module_call N s.home f))) (λ e c. refl)
           (instr.LocalGet (top_local k.setting) ∷ []) (λ s st h rest stack. get_runs k.modules k.fixed k.turns (scene_calls k) k.own rest st (top_local k.setting) (I32 (size (row k.world))) stack (h.kept (top_local k.setting) (I32 (size (row k.world))) fit.top.kept))
           code.top_code (λ e c. refl));
     })
 
-    nested_made : (a b : ℕ) (f : LocalProcedure) (args : List Argument) → IsInner x f → ArgumentsOf a b args (forms_of x.home.types f.heading) → MadeCall ws a b (result_of x.home.types f.heading) (call_code N (call.Nested f args)) (called P ask (call.Nested f args))
+    nested_made : (a b : ℕ) (f : LocalProcedure) (args : List Argument) → IsInner x f → ArgumentsOf a b args (forms_of x.home.types f.heading) → MadeCall ws a b (result_of x.home.types f.heading) (call_code N (call.Nested f args)) (call_value P ask (call.Nested f args))
     nested_made a b f args inner m = from_call a b (result_of x.home.types f.heading) (call.Nested f args) (layer.Nested f args) (call.outs-Nested f args) (record {
       placed = (code.top_code ⨾ plain (code.link_code N f.up)) ⨾ (all_coded m.placed ⨾ with_setting (λ s. plain (code.nested_call N s.home f)));
       pins = pins_left a b (code.call_layer N (layer.Nested f (map (argument_code N) args))) code.top_code (plain (code.link_code N f.up)) (all_coded m.placed ⨾ with_setting (λ s. plain (code.nested_call N s.home f))) (pins_then (pins_setting (λ s. pins_plain a (instr.LocalGet (top_local s) ∷ []))) (pins_then (pins_plain a (code.link_code N f.up)) (pins_then m.pins (pins_setting (λ s. pins_plain b (code.nested_call N s.home f))))));
@@ -750,26 +750,26 @@ module _ (x : Context) (ask : Asks) where
           let address : ℕ = scene_place k (first.0 ∷ []) in
           let front : List Operand = I32 (size (row k.world)) ∷ links k.world (drop f.up roots) in
           let list : List Instr = instr.LocalGet (top_local k.setting) ∷ code.link_code N f.up in
-          calls_alike k (result_of x.home.types f.heading) ((code.top_code ⨾ plain (code.link_code N f.up)) ⨾ (all_coded m.placed ⨾ with_setting (λ s. plain (code.nested_call N s.home f)))) (λ s st. meaning.asked P ask (Some q.0) gs s st) (meaning.call_layer P ask (layer.Nested f gs))
-          (λ st. ap (λ (o : Option Callee). meaning.asked P ask o gs k.around st) (sym (ap (λ (n : ℕ). nested_in n (slice_get P n) (drop f.up k.around.frames) f.number) fit.place ∙ q.1)))
+          calls_alike k (result_of x.home.types f.heading) ((code.top_code ⨾ plain (code.link_code N f.up)) ⨾ (all_coded m.placed ⨾ with_setting (λ s. plain (code.nested_call N s.home f)))) (λ s st. meaning.call_with P ask (Some q.0) gs s st) (meaning.call_layer P ask (layer.Nested f gs))
+          (λ st. ap (λ (o : Option Callee). meaning.call_with P ask o gs k.around st) (sym (ap (λ (n : ℕ). nested_in n (slice_get P n) (drop f.up k.around.frames) f.number) fit.place ∙ q.1)))
           (front_calls k x.base x.texts fit.top P ask q.0 (drop f.up x.kinds) (drop f.up roots) chain forms (result_of x.home.types f.heading) g.own g.function g.typed g.does (code.nested_call N k.setting.home f) (λ s st h. g.is_call st) (omega (arith, count, one))
           m.placed gs (m.passed_all k fit) (with_setting (λ s. plain (code.nested_call N s.home f))) (λ e c. refl)
           list
           (λ s st h rest stack.
           get_runs k.modules k.fixed k.turns (scene_calls k) k.own (code.link_code N f.up ++ rest) st (top_local k.setting) (I32 (size (row k.world))) stack (h.kept (top_local k.setting) (I32 (size (row k.world))) fit.top.kept)
-          ∙ ap (λ (l : List Instr). runs k l st (stack ++ I32 (size (row k.world)) ∷ [])) (append_assoc (code.frame_code f.up) (extended ∷ []) rest)
-          ∙ frame_runs k fit.set x.kinds fit.frames f.up first.0 first.2 s st h (extended ∷ rest) (stack ++ I32 (size (row k.world)) ∷ [])
+          ∙ ap (λ (l : List Instr). runs k l st (stack ++ I32 (size (row k.world)) ∷ [])) (append_assoc (code.frame_code f.up) (extend_word ∷ []) rest)
+          ∙ frame_runs k fit.set x.kinds fit.frames f.up first.0 first.2 s st h (extend_word ∷ rest) (stack ++ I32 (size (row k.world)) ∷ [])
           ∙ extended_runs k fit.set.helpers fit.set.small address rest st (stack ++ I32 (size (row k.world)) ∷ [])
           ∙ ap (runs k rest st) (append_assoc stack (I32 (size (row k.world)) ∷ []) (I64 address ∷ []) ∙ ap (λ (rs : List ℕ). stack ++ I32 (size (row k.world)) ∷ links k.world rs) (sym first.3)))
           (code.top_code ⨾ plain (code.link_code N f.up)) (λ e c. refl));
     })
 
-    variable_made : (a b c : ℕ) (t : TypeNo) (h : Heading) (d : Place) (args : List Argument) → heading_at x.home.types t ≡ Some h → tree x.home.types t ≡ Cell (Callable h) → Placed ws a b d (Cell (Callable h)) → is_among (needed x.home) (of_heading x.home.types t) ≡ true
-        → ArgumentsOf b c args (forms_of x.home.types t) → MadeCall ws a c (result_of x.home.types t) (call_code N (call.Variable t d args)) (called P ask (call.Variable t d args))
+    variable_made : (a b c : ℕ) (t : TypeNo) (h : Heading) (d : Place) (args : List Argument) → heading_at x.home.types t ≡ Some h → tree x.home.types t ≡ Cell (Callable h) → Placed ws a b d (Cell (Callable h)) → is_among (signatures_needed x.home) (of_heading x.home.types t) ≡ true
+        → ArgumentsOf b c args (forms_of x.home.types t) → MadeCall ws a c (result_of x.home.types t) (call_code N (call.Variable t d args)) (call_value P ask (call.Variable t d args))
     variable_made a b c t h d args is type m signed ms = from_call a c (result_of x.home.types t) (call.Variable t d args) (layer.Variable t d args) (call.outs-Variable t d args) (record {
       placed = held_call N t (code.loaded_from m.placed t) ms.placed;
-      pins = pins_then (pins_then m.pins (pins_setting (λ s. pins_plain b (cells.loaded s.home.types t)))) (pins_then (pins_plain b (checked (pos 1) (pos 4294967295) 7))
-          (pins_number (λ n. pins_then (pins_plain b (instr.LocalSet n ∷ [])) (pins_then (pins_setting (λ s. pins_plain b (instr.LocalGet (top_local s) ∷ []))) (pins_then ms.pins (pins_setting (λ s. pins_plain c (instr.LocalGet n ∷ wrapped ∷ code.indirect N s.home.types t ∷ []))))))));
+      pins = pins_then (pins_then m.pins (pins_setting (λ s. pins_plain b (cells.load_code s.home.types t)))) (pins_then (pins_plain b (check_code (pos 1) (pos 4294967295) 7))
+          (pins_number (λ n. pins_then (pins_plain b (instr.LocalSet n ∷ [])) (pins_then (pins_setting (λ s. pins_plain b (instr.LocalGet (top_local s) ∷ []))) (pins_then ms.pins (pins_setting (λ s. pins_plain c (instr.LocalGet n ∷ wrap_word ∷ code.indirect N s.home.types t ∷ []))))))));
       calls = λ k fit.
           let gs : List (Gives Passed) = map (argument_value P ask) args in
           let list : Coded = held_call N t (code.loaded_from m.placed t) ms.placed in
@@ -840,7 +840,7 @@ module _ (x : Context) (ask : Asks) where
     component_made ws _ _ _ _ _ (typed.FieldOf a t j u there) = field_made ws a t j u there
     component_made ws _ _ _ _ _ (typed.ElementOf a b t w r u i range array h) = element_made ws a b t w r u i range array (expr_made ws a b i w h)
 
-    pub call_made : (ws : List Ty) (a b : ℕ) (c : Call) (r : Result) → typed.IsCall x ws a b c r → MadeCall ws a b r (call_code N c) (called P ask c)
+    pub call_made : (ws : List Ty) (a b : ℕ) (c : Call) (r : Result) → typed.IsCall x ws a b c r → MadeCall ws a b r (call_code N c) (call_value P ask c)
     call_made ws _ _ _ _ (typed.OfModule a b f args known hs) = module_made ws a b f args known (arguments_made ws a b args (forms_of x.home.types f.heading) hs)
     call_made ws _ _ _ _ (typed.OfProcedure a b f args known hs) = nested_made ws a b f args known.inner (arguments_made ws a b args (forms_of x.home.types f.heading) hs)
     call_made ws _ _ _ _ (typed.OfVariable a b c t h d args is type g signed hs) = variable_made ws a b c t h d args is type (place_made ws a b d (Cell (Callable h)) g) signed (arguments_made ws b c args (forms_of x.home.types t) hs)

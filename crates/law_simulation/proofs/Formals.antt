@@ -10,8 +10,8 @@ use Rattle.law_effect.specs.Effect.{State as Target, Effect, Ended}
 use Rattle.law_effect.proofs.Steps.{get_runs}
 use Rattle.layout_storage.specs.Types.{Ty, Natural, Cell, Hidden, Array, row, component, IsPlain}
 use Rattle.layout_storage.specs.Sizes.{Four, size, offset}
-use Rattle.layout_storage.specs.Texts.{passed}
-use Rattle.def_meaning.specs.Store.{Location, Store, placed}
+use Rattle.layout_storage.specs.Texts.{argument_text}
+use Rattle.def_meaning.specs.Store.{Location, Store, overlay}
 use Rattle.def_meaning.specs.Statements.{character}
 use Rattle.def_meaning.specs.Environment.{Modules, Named, At, Elements, Passed, Number, Variable, Array as Whole, Text}
 use Rattle.def_meaning.specs.Calls.{Entered, with_passed}
@@ -64,13 +64,13 @@ module _ (base more : List Ty) (x x' : Location → ℕ → ℕ) (older : (i : �
   passed_lift program (ByArray is_var t) (Number v) vs h = absurd h
   passed_lift program (ByArray is_var t) (Variable l) vs h = absurd h
   passed_lift program (ByArray is_var t) (Whole l high) vs h = let p = place_more base more l (Array (suc high) t) h.0 h.1 in (p.0, h.1, h.2, h.3 ∙ ap (λ (a : ℕ). I64 a ∷ I64 high ∷ []) (sym p.1))
-  passed_lift program (ByArray is_var t) (Text text) vs h = (h.0, h.1, h.2, placed_lift (passed text) h.2 h.3, h.4)
+  passed_lift program (ByArray is_var t) (Text text) vs h = (h.0, h.1, h.2, placed_lift (argument_text text) h.2 h.3, h.4)
 
-some_length : (text : List ℕ) → suc (length (passed text) - 1) ≡ length (passed text)
+some_length : (text : List ℕ) → suc (length (argument_text text) - 1) ≡ length (argument_text text)
 some_length [] = omega arith
 some_length (c ∷ text) = omega arith
 
-same_character : (text : List ℕ) (j : ℕ) → get_or (passed text) j 0 ≡ get_or text j 0
+same_character : (text : List ℕ) (j : ℕ) → get_or (argument_text text) j 0 ≡ get_or text j 0
 same_character [] zero = refl
 same_character [] (suc j) = refl
 same_character (c ∷ text) j = refl
@@ -144,8 +144,8 @@ module _ (k : Scene) (set : IsSet k) (has : HasLimit k) (root top : ℕ) (F : Ty
   }
 
   -- and the characters of a string
-  text_source : (world : List Ty) (x : Location → ℕ → ℕ) (s : Store) (st : Target) → Staged world x s st → (text : List ℕ) (a : ℕ) → IsPlaced world x (passed text) a
-      → IsSource k set has root top F given out first two world st.bytes a (Array (length (passed text)) (Cell (Natural 255))) (character text)
+  text_source : (world : List Ty) (x : Location → ℕ → ℕ) (s : Store) (st : Target) → Staged world x s st → (text : List ℕ) (a : ℕ) → IsPlaced world x (argument_text text) a
+      → IsSource k set has root top F given out first two world st.bytes a (Array (length (argument_text text)) (Cell (Natural 255))) (character text)
   unfolding size
   text_source world x s st g text a h =
       let within = inside (row world) (Hidden h.bytes) h.room h.type in
@@ -153,7 +153,7 @@ module _ (k : Scene) (set : IsSet k) (has : HasLimit k) (root top : ℕ) (F : Ty
       let is = h.is in
       record {
         fits = omega (arith, within, fits, is);
-        shows = λ m' moved. text_shows k.program (length (passed text)) (size (row world)) text m'
+        shows = λ m' moved. text_shows k.program (length (argument_text text)) (size (row world)) text m'
             (λ j less. moved j (omega (arith, less)) ∙ ap (λ (i : ℕ). byte i st.bytes) (at_room j is) ∙ g.holds.hidden h.room h.bytes (h.at + j) h.type (omega (arith, less, fits)) ∙ h.same j less ∙ same_character text j)
             (λ j. subst (λ (n : ℕ). n < 256) (same_character text j) (h.small j));
       }
@@ -183,16 +183,16 @@ module _ (k : Scene) (set : IsSet k) (has : HasLimit k) (root top : ℕ) (F : Ty
 
     copy_form : (t : Ty) (f : Location → ℤ) (n high : ℕ) → IsPlain t → i + 2 ≤ top → slice_get given i ≡ Some (I64 n) → slice_get given (suc i) ≡ Some (I64 high) → high < 2 ^ 32 → IsSource k set has root top F given out first two world st.bytes n (Array (suc high) t) f
         → component F (suc v ∷ []) ≡ Some (row (Hidden 4 ∷ Hidden 4 ∷ [])) → (p : Passed) → copy_of (ByArray false t) p ≡ Array (suc high) t ∷ []
-        → (with_passed false root e p) ≡ record { names = e.names ++ Elements (e.next ∷ []) high ∷ []; next = suc e.next; store = placed (e.next ∷ []) f e.store }
+        → (with_passed false root e p) ≡ record { names = e.names ++ Elements (e.next ∷ []) high ∷ []; next = suc e.next; store = overlay (e.next ∷ []) f e.store }
         → FormGoes world x e (ByArray false t) p rest (runs k (form_kept top F v i (ByArray false t) ++ rest) st [])
     copy_form t f n high whole less e0 e1 small source type p copy entered =
         ⊎_elim
-        (λ (d : (size (row world) + size (Array (suc high) t) ≤ k.limit) × OpenDone k set has root top F given out first two (world ++ Array (suc high) t ∷ []) (placed (length world ∷ []) (λ r k. 0) x) (placed (length world ∷ []) f e.store) v (size (row world)) high x rest (runs k (form_kept top F v i (ByArray false t) ++ rest) st [])).
+        (λ (d : (size (row world) + size (Array (suc high) t) ≤ k.limit) × OpenDone k set has root top F given out first two (world ++ Array (suc high) t ∷ []) (overlay (length world ∷ []) (λ r k. 0) x) (overlay (length world ∷ []) f e.store) v (size (row world)) high x rest (runs k (form_kept top F v i (ByArray false t) ++ rest) st [])).
         inl (record {
           x' = d.1.x';
           st' = d.1.st';
           stage = subst (λ (c : List Ty). Staged (world ++ c) d.1.x' (with_passed false root e p).store d.1.st') (sym copy)
-              (subst (λ (s : Store). Staged (world ++ Array (suc high) t ∷ []) d.1.x' s d.1.st') (sym (ap (λ (e' : Entered). e'.store) entered ∙ ap (λ (n : ℕ). placed (n ∷ []) f e.store) newest)) d.1.stage);
+              (subst (λ (s : Store). Staged (world ++ Array (suc high) t ∷ []) d.1.x' s d.1.st') (sym (ap (λ (e' : Entered). e'.store) entered ∙ ap (λ (n : ℕ). overlay (n ∷ []) f e.store) newest)) d.1.stage);
           same = d.1.same;
           name = Elements (e.next ∷ []) high;
           names = ap (λ (e' : Entered). e'.names) entered;
@@ -225,7 +225,7 @@ module _ (k : Scene) (set : IsSet k) (has : HasLimit k) (root top : ℕ) (F : Ty
         let at' = subst At' h.2 at in
         let less' : i + 1 ≤ top = subst (λ (vs : List Value). i + length vs ≤ top) h.2 less in
         let n : ℕ = offset (row world) l in
-        let x1 : Location → ℕ → ℕ = placed (root ∷ suc v ∷ []) (λ r k. get_or (stored_in Four n) k 0) x in
+        let x1 : Location → ℕ → ℕ = overlay (root ∷ suc v ∷ []) (λ r k. get_or (stored_in Four n) k 0) x in
         let small : n < 2 ^ 32 = below_32 world x e.store st g l t h.0 in
         let p = hidden_step k set has root top F given out first two world x e.store st v [] n (instr.LocalGet i ∷ []) rest g type small
         (λ after stack. get_runs k.modules k.fixed k.turns (calls k) k.own after st i (I64 n) stack (g.kept i posi (omega (arith, less')) ∙ given_one i (I64 n) [] at')) in
@@ -246,12 +246,12 @@ module _ (k : Scene) (set : IsSet k) (has : HasLimit k) (root top : ℕ) (F : Ty
     form_step (ByArray false t) (Text text) vs ok h at less type =
         let at' = subst At' h.4 at in
         let less' : i + 2 ≤ top = subst (λ (vs : List Value). i + length vs ≤ top) h.4 less in
-        let high : ℕ = length (passed text) - 1 in
+        let high : ℕ = length (argument_text text) - 1 in
         let a : ℕ = h.2 in
-        let count : suc high ≡ length (passed text) = some_length text in
+        let count : suc high ≡ length (argument_text text) = some_length text in
         let below = h.3.below in
         let source = subst (λ (n : ℕ). IsSource k set has root top F given out first two world st.bytes a (Array n t) (character text)) (sym count)
-        (subst (λ (t : Ty). IsSource k set has root top F given out first two world st.bytes a (Array (length (passed text)) t) (character text)) (sym h.1) (text_source world x e.store st g text a h.3)) in
+        (subst (λ (t : Ty). IsSource k set has root top F given out first two world st.bytes a (Array (length (argument_text text)) t) (character text)) (sym h.1) (text_source world x e.store st g text a h.3)) in
         copy_form t (character text) a high ok less' (given_one i (I64 a) (I64 high ∷ []) at') (given_two i (I64 a) (I64 high) at') (omega (arith, below, count)) source type (Text text) (ap (λ (n : ℕ). Array n t ∷ []) (sym count)) refl
     form_step (ByArray true t) (Text text) vs ok h at less type = absurd (true_false h.0)
       where

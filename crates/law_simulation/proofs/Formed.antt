@@ -11,7 +11,7 @@ use Rattle.layout_storage.specs.Types.{Ty, Cell, Hidden, Array, Nothing, Field, 
 use Rattle.layout_storage.specs.Sizes.{size}
 use Rattle.layout_storage.specs.Shapes.{tree}
 use Rattle.layout_storage.specs.Frames.{formals_of, formal_tree, frame}
-use Rattle.layout_storage.specs.Texts.{passed}
+use Rattle.layout_storage.specs.Texts.{argument_text}
 use Rattle.def_meaning.specs.Store.{Location}
 use Rattle.def_meaning.specs.Environment.{Modules, Passed, Number, Variable, Array as Whole, Text}
 use Rattle.def_meaning.specs.Calls.{Entered, with_passed, with_all, copy_size, copies_size}
@@ -90,7 +90,7 @@ abbrev bytes_of : (o is_var : Bool) → Ty → Passed → ℕ
 bytes_of o v t (Number n) = 0
 bytes_of o v t (Variable l) = 0
 bytes_of o v t (Whole l high) = if v then 0 else suc high * size t
-bytes_of o v t (Text text) = length (passed text) * size t
+bytes_of o v t (Text text) = length (argument_text text) * size t
 
 no_bytes : size (row []) ≡ 0
 unfolding size
@@ -151,7 +151,7 @@ bytes_are program world x true true t (Text text) vs h = absurd (true_false h.0)
   where
     true_false : true ≡ false → ⊥
     true_false e = cc e
-bytes_are program world x true false t (Text text) vs h = one_row (length (passed text)) t
+bytes_are program world x true false t (Text text) vs h = one_row (length (argument_text text)) t
 bytes_are program world x false true t (Text text) vs h = absurd h
 bytes_are program world x false false t (Text text) vs h = absurd (value_text program world x t text vs h)
 

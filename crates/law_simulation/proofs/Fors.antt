@@ -21,9 +21,9 @@ use Rattle.def_meaning.specs.Answer.{State as Source, Answer, Ended, ◌▷◌}
 use Rattle.def_meaning.specs.Outcome.{Outcome, Normal, Exited, Returned, sequence}
 use Rattle.def_meaning.specs.Answer as answer
 use Rattle.def_meaning.specs.Expressions.{Gives, as_type}
-use Rattle.def_meaning.specs.Statements.{Does, has_passed, for_turns, for_all, stored as stores}
+use Rattle.def_meaning.specs.Statements.{Does, has_passed, for_turns, for_all, store_number as stores}
 use Rattle.def_scheme.specs.Coded.{Coded, Counts, Setting, plain, ◌⨾◌, within, with_number, with_setting, number_local, number, operation, relation}
-use Rattle.def_scheme.specs.Cells.{loaded, stored, in_type}
+use Rattle.def_scheme.specs.Cells.{load_code, store_code, in_type}
 use Rattle.def_scheme.specs.Steps.{passes, block, loop, for_turn}
 use Rattle.def_scheme.specs.Exprs.{behind}
 use Rattle.law_simulation.specs.Scene.{Scene, calls, runs, place, HasHelpers, IsValue, AreSmall, IsCell, word, Stands, keeping, IsThere, Into, GivesNumber, IsGrowing, IsFree, HasLocals, inside, Agrees, Ends, Executes}
@@ -54,7 +54,7 @@ module _ (k : Scene) (has : HasHelpers k) (small : AreSmall k.setting.home.types
   LeavesAddress list = (s : Source) (st : Target) → Stands k s st → (rest : List Instr) (stack : List Value) → runs k (list ++ rest) st stack ≡ runs k rest st (stack ++ I32 (place k l) ∷ [])
 
   abbrev value_code : List Instr → List Instr
-  value_code list = list ++ loaded k.setting.home.types t
+  value_code list = list ++ load_code k.setting.home.types t
 
   read_gives : (list : List Instr) → LeavesAddress list → (s : Source) (st : Target) → Stands k s st → (rest : List Instr) (stack : List Value)
       → GivesNumber k t (runs k rest) stack (s.store l) s (runs k (value_code list ++ rest) st stack)
@@ -64,7 +64,7 @@ module _ (k : Scene) (has : HasHelpers k) (small : AreSmall k.setting.home.types
         st = p.st;
         stands = p.stands;
         is = p.is;
-        run = ap (λ (c : List Instr). runs k c st stack) (append_assoc list (loaded k.setting.home.types t) rest) ∙ at s st h (loaded k.setting.home.types t ++ rest) stack ∙ p.run;
+        run = ap (λ (c : List Instr). runs k c st stack) (append_assoc list (load_code k.setting.home.types t) rest) ∙ at s st h (load_code k.setting.home.types t ++ rest) stack ∙ p.run;
       }
 
   wide_step : (v : ℤ) → IsNarrow v → IsWide (v +ℤ by)
@@ -88,7 +88,7 @@ module _ (k : Scene) (has : HasHelpers k) (small : AreSmall k.setting.home.types
   leaves label stack st = Branched label st stack
 
   abbrev stores_code : List Instr
-  stores_code = stored k.setting.home.types t ++ instr.Br 0 ∷ []
+  stores_code = store_code k.setting.home.types t ++ instr.Br 0 ∷ []
 
   abbrev next_code : List Instr → List Instr
   next_code list = list ++ (value_code list ++ (number by ∷ operation Add ∷ (in_type k.setting.home.types t 1 ++ stores_code)))
@@ -212,8 +212,8 @@ module _ (k : Scene) (has : HasHelpers k) (small : AreSmall k.setting.home.types
 
   abbrev behind_bound : ℕ → Coded
   behind_bound n =
-      (plain (instr.LocalSet n ∷ []) ⨾ with_setting (λ s. plain (stored s.home.types t)))
-      ⨾ within 1 block (behind variable (λ types. loaded types t) ⨾ plain (instr.LocalGet n ∷ relation (passes by) ∷ instr.BrIf 0 ∷ []) ⨾ within 1 loop (for_turn variable t by n y))
+      (plain (instr.LocalSet n ∷ []) ⨾ with_setting (λ s. plain (store_code s.home.types t)))
+      ⨾ within 1 block (behind variable (λ types. load_code types t) ⨾ plain (instr.LocalGet n ∷ relation (passes by) ∷ instr.BrIf 0 ∷ []) ⨾ within 1 loop (for_turn variable t by n y))
 
   pub for_executes : Executes k function (variable ⨾ start ⨾ bound ⨾ with_number behind_bound)
       (λ a s. first a s ▷ λ v s. last a s ▷ λ x s. for_all k.turns (as_type types t) l by x (step a) (stores l v s))
@@ -230,7 +230,7 @@ module _ (k : Scene) (has : HasHelpers k) (small : AreSmall k.setting.home.types
         let after : Counts = record m.1 { numbers = suc m.1.numbers } in
         let inner : ℕ = e + 1 + 1 in
         let body = y (inside k inner) after in
-        let store : List Instr = stored types t in
+        let store : List Instr = store_code types t in
         let turning : List Instr = at (inside k inner) in
         let opens : List Instr = at (inside k (e + 1)) in
         let a : Value = I32 (place k l) in
@@ -241,8 +241,8 @@ module _ (k : Scene) (has : HasHelpers k) (small : AreSmall k.setting.home.types
         let full_m : HasLocals k m.1 = record { numbers = omega (arith, full_after.numbers); addresses = full_after.addresses } in
         let less : n < k.locals = omega (arith, full_after.numbers) in
         let new : k.kept n ≡ None = free_m.numbers n (omega arith) in
-        let turn_list : List Instr = (turning ++ loaded types t) ++ ((number by ∷ operation Add ∷ instr.LocalGet n ∷ relation (passes by) ∷ instr.BrIf 1 ∷ []) ++ (turning ++ ((turning ++ loaded types t) ++ (number by ∷ operation Add ∷ (in_type types t 1 ++ (store ++ instr.Br 0 ∷ [])))))) in
-        let block_list : List Instr = (opens ++ loaded types t) ++ ((instr.LocalGet n ∷ relation (passes by) ∷ instr.BrIf 0 ∷ []) ++ instr.Loop None (body.0 ++ turn_list) ∷ []) in
+        let turn_list : List Instr = (turning ++ load_code types t) ++ ((number by ∷ operation Add ∷ instr.LocalGet n ∷ relation (passes by) ∷ instr.BrIf 1 ∷ []) ++ (turning ++ ((turning ++ load_code types t) ++ (number by ∷ operation Add ∷ (in_type types t 1 ++ (store ++ instr.Br 0 ∷ [])))))) in
+        let block_list : List Instr = (opens ++ load_code types t) ++ ((instr.LocalGet n ∷ relation (passes by) ∷ instr.BrIf 0 ∷ []) ++ instr.Loop None (body.0 ++ turn_list) ∷ []) in
         let ending : List Instr = instr.Block None block_list ∷ [] in
         let tail : List Instr = (instr.LocalSet n ∷ store) ++ ending in
         let last_code : List Instr = instr.LocalSet n ∷ (store ++ (instr.Block None block_list ∷ rest)) in

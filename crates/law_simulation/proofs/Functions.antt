@@ -14,8 +14,8 @@ use Rattle.layout_storage.specs.Texts.{characters, texts_before}
 use Rattle.def_scheme.specs.Exprs.{has_result}
 use Rattle.def_scheme.specs.Addresses.{addresses_in}
 use Rattle.def_scheme.specs.Functions.{numbers_of, frames_around, functions_from, routine_function}
-use Rattle.def_scheme.specs.Signatures.{so_many, results_of, needed, of_routine}
-use Rattle.def_scheme.specs.Modules.{functions, numbered, typed_module}
+use Rattle.def_scheme.specs.Signatures.{so_many, results_of, signatures_needed, of_routine}
+use Rattle.def_scheme.specs.Modules.{functions, numbering_of, typed_module}
 use Rattle.law_modules.specs.Linked.{Program, all, count}
 use Rattle.law_modules.proofs.Own.{Within, typed_in, of_own, of_nested, routine_known, routine_signature}
 use Rattle.law_simulation.specs.ProceduresLaws.{IsFunction, coded_body}
@@ -27,13 +27,13 @@ typed_by x t = record { type = t; function = x }
 
 -- ---- lists
 
-routine_at : (m : TypedModule) (w : ℕ → Which) (a : ℕ) (rs : List Routine) (j : ℕ) (r : Routine) → slice_get rs j ≡ Some r → slice_get (functions_from (numbered m) m w a rs) j ≡ Some (routine_function (numbered m) m (w (a + j)) r)
+routine_at : (m : TypedModule) (w : ℕ → Which) (a : ℕ) (rs : List Routine) (j : ℕ) (r : Routine) → slice_get rs j ≡ Some r → slice_get (functions_from (numbering_of m) m w a rs) j ≡ Some (routine_function (numbering_of m) m (w (a + j)) r)
 routine_at m w a [] j r h = absurd cc
 routine_at m w a (x ∷ rs) zero r h =
-    let e : x ≡ r = cc in ap (λ (y : Routine). Some (routine_function (numbered m) m (w a) y)) e ∙ ap (λ (i : ℕ). Some (routine_function (numbered m) m (w i) r)) (omega arith)
-routine_at m w a (x ∷ rs) (suc j) r h = routine_at m w (suc a) rs j r h ∙ ap (λ (i : ℕ). Some (routine_function (numbered m) m (w i) r)) (omega arith)
+    let e : x ≡ r = cc in ap (λ (y : Routine). Some (routine_function (numbering_of m) m (w a) y)) e ∙ ap (λ (i : ℕ). Some (routine_function (numbering_of m) m (w i) r)) (omega arith)
+routine_at m w a (x ∷ rs) (suc j) r h = routine_at m w (suc a) rs j r h ∙ ap (λ (i : ℕ). Some (routine_function (numbering_of m) m (w i) r)) (omega arith)
 
-routines_length : (m : TypedModule) (w : ℕ → Which) (a : ℕ) (rs : List Routine) → length (functions_from (numbered m) m w a rs) ≡ length rs
+routines_length : (m : TypedModule) (w : ℕ → Which) (a : ℕ) (rs : List Routine) → length (functions_from (numbering_of m) m w a rs) ≡ length rs
 routines_length m w a [] = refl
 routines_length m w a (x ∷ rs) = ap suc (routines_length m w (suc a) rs)
 
@@ -59,28 +59,28 @@ results_length false = refl
 
 module _ (m : TypedModule) where
   abbrev own : List Function
-  own = functions_from (numbered m) m which.Module 0 m.procedures
+  own = functions_from (numbering_of m) m which.Module 0 m.procedures
 
   abbrev nested : List Function
-  nested = functions_from (numbered m) m which.Local 0 m.locals
+  nested = functions_from (numbering_of m) m which.Local 0 m.locals
 
-  known_function : (w : Which) (r : Routine) (f : ℕ) → Within (needed m) (of_routine m r) → slice_get (functions m) f ≡ Some (routine_function (numbered m) m w r) → function_in f (Some (typed_module m)) ≡ Some (routine_typed m w r)
+  known_function : (w : Which) (r : Routine) (f : ℕ) → Within (signatures_needed m) (of_routine m r) → slice_get (functions m) f ≡ Some (routine_function (numbering_of m) m w r) → function_in f (Some (typed_module m)) ≡ Some (routine_typed m w r)
   known_function w r f h e =
       ap (λ (o : Option Function). option_and_then (λ (x : Function). option_and_then (λ (t : FuncType). Some (typed_by x t)) (slice_get (typed_module m).types x.type_index)) o) e
-      ∙ ap (λ (o : Option FuncType). option_and_then (λ (t : FuncType). Some (typed_by (routine_function (numbered m) m w r) t)) o) (typed_in m (routine_signature m r) (routine_known m r h))
+      ∙ ap (λ (o : Option FuncType). option_and_then (λ (t : FuncType). Some (typed_by (routine_function (numbering_of m) m w r) t)) o) (typed_in m (routine_signature m r) (routine_known m r h))
 
   six : (k : ℕ) → slice_get (functions m) (6 + k) ≡ slice_get (own ++ nested) k
   six k = let i : 6 + k ≡ suc (suc (suc (suc (suc (suc k))))) = omega arith in ap (slice_get (functions m)) i
 
-  own_there : (j : ℕ) (r : Routine) → slice_get m.procedures j ≡ Some r → slice_get (functions m) (6 + j) ≡ Some (routine_function (numbered m) m (which.Module j) r)
-  own_there j r h = six j ∙ front_at own nested j _ (routine_at m which.Module 0 m.procedures j r h ∙ ap (λ (i : ℕ). Some (routine_function (numbered m) m (which.Module i) r)) (omega arith))
+  own_there : (j : ℕ) (r : Routine) → slice_get m.procedures j ≡ Some r → slice_get (functions m) (6 + j) ≡ Some (routine_function (numbering_of m) m (which.Module j) r)
+  own_there j r h = six j ∙ front_at own nested j _ (routine_at m which.Module 0 m.procedures j r h ∙ ap (λ (i : ℕ). Some (routine_function (numbering_of m) m (which.Module i) r)) (omega arith))
 
-  nested_there : (j : ℕ) (r : Routine) → slice_get m.locals j ≡ Some r → slice_get (functions m) (6 + (length m.procedures + j)) ≡ Some (routine_function (numbered m) m (which.Local j) r)
+  nested_there : (j : ℕ) (r : Routine) → slice_get m.locals j ≡ Some r → slice_get (functions m) (6 + (length m.procedures + j)) ≡ Some (routine_function (numbering_of m) m (which.Local j) r)
   nested_there j r h =
       six (length m.procedures + j)
       ∙ behind_at own nested (length m.procedures) j (routines_length m which.Module 0 m.procedures)
       ∙ routine_at m which.Local 0 m.locals j r h
-      ∙ ap (λ (i : ℕ). Some (routine_function (numbered m) m (which.Local i) r)) (omega arith)
+      ∙ ap (λ (i : ℕ). Some (routine_function (numbering_of m) m (which.Local i) r)) (omega arith)
 
   pub count_is : count m ≡ 6 + (length m.procedures + length m.locals)
   count_is =
@@ -90,8 +90,8 @@ module _ (m : TypedModule) where
       omega (arith, a, b, c)
 
   -- it is the scheme's
-  pub is_function : (w : Which) (r : Routine) → (coded_body (numbered m) m r (frames_around m r.level r.around) (characters (texts_before m w m.order))).1.addresses ≡ addresses_in r.body
-      → IsFunction (numbered m) m r (frames_around m r.level r.around) (characters (texts_before m w m.order)) (routine_typed m w r)
+  pub is_function : (w : Which) (r : Routine) → (coded_body (numbering_of m) m r (frames_around m r.level r.around) (characters (texts_before m w m.order))).1.addresses ≡ addresses_in r.body
+      → IsFunction (numbering_of m) m r (frames_around m r.level r.around) (characters (texts_before m w m.order)) (routine_typed m w r)
   is_function w r h = record {
     params = ap suc (many_length (numbers_of m.types r));
     results = results_length (has_result m.types r.heading);

@@ -25,7 +25,7 @@ use Rattle.law_modules.specs.Linked.{Program, names, imported_names, variables, 
 use Rattle.law_modules.proofs.Stores.{slot_is, text_is}
 use Rattle.law_modules.proofs.Placed.{own_place}
 use Rattle.law_modules.proofs.Numbers.{position_at, mapped_at}
-use Rattle.law_simulation.specs.RunsPrograms.{module_type, fixed}
+use Rattle.law_simulation.specs.RunsPrograms.{module_type, fixtures_of}
 use Rattle.law_simulation.proofs.Grounds.{top_is}
 use Rattle.law_simulation.specs.Knows.{known_variables, imported_variables, IsKnown, Knows, IsCoherent}
 use Rattle.law_simulation.proofs.LinkedPlaces.{global_in, base_is}
@@ -142,9 +142,9 @@ module _ (p : Program) (pages place : ℕ) (distinct : AreDistinct (names p)) (m
 
   -- a global of the module is this one of link
   pub global_at_place : (bytes : List ℕ) (g a : ℕ) (v : Value) → slice_get (0 ∷ base_at p m.name ∷ text_at p m.name ∷ tab_at p m.name ∷ imported_places p (imported_names m)) g ≡ Some a → slice_get (link_values p pages) a ≡ Some v
-      → global_at (store_of (fixed p pages) bytes) (suc place) g ≡ Some v
+      → global_at (store_of (fixtures_of p pages) bytes) (suc place) g ≡ Some v
   global_at_place bytes g a v e f =
-      ap (λ (j : ℕ). global_at (store_of (fixed p pages) bytes) (suc j) g) (sym here.long)
+      ap (λ (j : ℕ). global_at (store_of (fixtures_of p pages) bytes) (suc j) g) (sym here.long)
       ∙ global_in p pages here.before here.rest m here.is bytes g
       ∙ ap (λ (o : Option ℕ). option_and_then (λ (a : ℕ). slice_get (link_values p pages) a) o) e
       ∙ f
@@ -161,14 +161,14 @@ module _ (p : Program) (pages place : ℕ) (distinct : AreDistinct (names p)) (m
 
   -- ---- variables
 
-  pub base_own : (bytes : List ℕ) (home : ℕ) → is_own m home ≡ true → global_at (store_of (fixed p pages) bytes) (suc place) (base_global m home) ≡ Some (I32 (bytes_in here.before))
+  pub base_own : (bytes : List ℕ) (home : ℕ) → is_own m home ≡ true → global_at (store_of (fixtures_of p pages) bytes) (suc place) (base_global m home) ≡ Some (I32 (bytes_in here.before))
   base_own bytes home e =
-      ap (λ (b : Bool). global_at (store_of (fixed p pages) bytes) (suc place) (if b then 1 else 4 + 2 * import_place m home)) e
+      ap (λ (b : Bool). global_at (store_of (fixtures_of p pages) bytes) (suc place) (if b then 1 else 4 + 2 * import_place m home)) e
       ∙ global_at_place bytes 1 (base_at p m.name) (I32 (bytes_in here.before)) refl (base_value p pages distinct here.before here.rest m here.is)
 
-  pub base_imported : (bytes : List ℕ) (home : ℕ) → is_own m home ≡ false → (i : Import m home) → global_at (store_of (fixed p pages) bytes) (suc place) (base_global m home) ≡ Some (I32 (bytes_in (its_place home i).before))
+  pub base_imported : (bytes : List ℕ) (home : ℕ) → is_own m home ≡ false → (i : Import m home) → global_at (store_of (fixtures_of p pages) bytes) (suc place) (base_global m home) ≡ Some (I32 (bytes_in (its_place home i).before))
   base_imported bytes home e i =
-      ap (λ (b : Bool). global_at (store_of (fixed p pages) bytes) (suc place) (if b then 1 else 4 + 2 * import_place m home)) e
+      ap (λ (b : Bool). global_at (store_of (fixtures_of p pages) bytes) (suc place) (if b then 1 else 4 + 2 * import_place m home)) e
       ∙ global_at_place bytes (4 + 2 * import_place m home) (base_at p (known home i).home.name) (I32 (bytes_in (its_place home i).before))
       (ap (slice_get (0 ∷ base_at p m.name ∷ text_at p m.name ∷ tab_at p m.name ∷ imported_places p (imported_names m))) (let j : 4 + 2 * import_place m home ≡ suc (suc (suc (suc (2 * import_place m home)))) = omega arith in j)
       ∙ imported_base p (imported_names m) (import_place m home) (known home i).home.name (name_there home i))

@@ -25,7 +25,7 @@ use Rattle.def_meaning.specs.Environment.{Callee, Frames, Passed, entry_of, entr
 use Rattle.def_meaning.specs.Operators.{is_between}
 use Rattle.def_meaning.specs.Expressions.{Asks, Gives, all_given, asked_if}
 use Rattle.law_memory.specs.Relation.{IsProcedureValue, Empty, Full, heading_at}
-use Rattle.def_scheme.specs.Coded.{Coded, Counts, plain, ◌⨾◌, all_coded, with_number, top_local, number_local, checked, wrapped}
+use Rattle.def_scheme.specs.Coded.{Coded, Counts, plain, ◌⨾◌, all_coded, with_number, top_local, number_local, check_code, wrap_word}
 use Rattle.def_scheme.specs.Exprs.{Numbered, all_arguments, has_result, top_code, value_call}
 use Rattle.def_scheme.specs.Signatures.{of_heading, type_of}
 use Rattle.law_simulation.specs.Scene.{Scene, IsSet, calls, runs, word, Stands, keeping, Into, GivesNumber, Grows, IsGrowing, IsFree, HasLocals, inside}
@@ -85,7 +85,7 @@ module _ (k : Scene) (set : IsSet k) (ask : Asks) (numbered : Numbered) (base : 
 
     -- the code of the call
     abbrev list : List Instr
-    list = instr.LocalGet w ∷ wrapped ∷ instr.CallIndirect index ∷ []
+    list = instr.LocalGet w ∷ wrap_word ∷ instr.CallIndirect index ∷ []
 
     same_type : type_of (of_heading k.setting.home.types t) ≡ q.typed.type
     same_type = type_same k.setting.home.types t h is ∙ sym q.type
@@ -99,7 +99,7 @@ module _ (k : Scene) (set : IsSet k) (ask : Asks) (numbered : Numbered) (base : 
         ∙ ap (λ (o : Option FuncType). agree o (Some q.typed.type)) (at_index ∙ ap Some same_type)
         ∙ agrees_itself q.typed.type
         in
-        kept_runs k w v (wrapped ∷ instr.CallIndirect index ∷ rest) s st (stack ++ args) stands
+        kept_runs k w v (wrap_word ∷ instr.CallIndirect index ∷ rest) s st (stack ++ args) stands
         ∙ wrapped_runs k set.helpers set.small (word (pos n)) (instr.CallIndirect index ∷ rest) st (stack ++ args)
         ∙ ap (λ (i : ℕ). runs k (instr.CallIndirect index ∷ rest) st ((stack ++ args) ++ I32 i ∷ [])) low
         ∙ indirect_runs k.modules k.fixed k.turns (calls k) k.own rest st index n (Own q.own q.function) (stack ++ args) (q.filled st.bytes) typed
@@ -131,7 +131,7 @@ module _ (k : Scene) (set : IsSet k) (ask : Asks) (numbered : Numbered) (base : 
     kept_code = with_number (λ w. plain (instr.LocalSet w ∷ []) ⨾ top_code ⨾ all_coded xs ⨾ value_call numbered w t)
 
     abbrev behind_it : Coded
-    behind_it = plain (checked (pos 1) (pos 4294967295) 7) ⨾ kept_code
+    behind_it = plain (check_code (pos 1) (pos 4294967295) 7) ⨾ kept_code
 
     kept_grows : (e : ℕ) (c : Counts) → Grows c (kept_code (inside k e) c).1
     kept_grows e c = let g = growing e (record c { numbers = suc c.numbers }) in record { numbers = omega (arith, g.numbers); addresses = omega (arith, g.addresses) }
@@ -168,8 +168,8 @@ module _ (k : Scene) (set : IsSet k) (ask : Asks) (numbered : Numbered) (base : 
         let low : pos 1 ≤ℤ pos n = omega (arith, ints, some) in
         let high : pos n ≤ℤ pos 4294967295 = omega (arith, ints, small) in
         let code : List Instr = (kept_code (inside k e) c).0 ++ rest in
-        let got : GivesNumber k bitset (runs k code) stack (pos n) s (runs k (checked (pos 1) (pos 4294967295) 7 ++ code) st (stack ++ I64 (word (pos n)) ∷ [])) =
-        subst (λ (b : Bool). Into (GivesNumber k bitset (runs k code) stack) (runs k (checked (pos 1) (pos 4294967295) 7 ++ code) st (stack ++ I64 (word (pos n)) ∷ [])) (if b then answer.Value (pos n) s else Ended 7 s.out)) (inner (pos 1) (pos n) (pos 4294967295) low high)
+        let got : GivesNumber k bitset (runs k code) stack (pos n) s (runs k (check_code (pos 1) (pos 4294967295) 7 ++ code) st (stack ++ I64 (word (pos n)) ∷ [])) =
+        subst (λ (b : Bool). Into (GivesNumber k bitset (runs k code) stack) (runs k (check_code (pos 1) (pos 4294967295) 7 ++ code) st (stack ++ I64 (word (pos n)) ∷ [])) (if b then answer.Value (pos n) s else Ended 7 s.out)) (inner (pos 1) (pos n) (pos 4294967295) low high)
         (checked_gives k set.helpers bitset (pos 1) (pos 4294967295) (pos n) 7 (wide 1 (omega arith)) (wide 4294967295 (omega arith)) (wide n small) (omega arith) (omega arith) (λ o. bit_set n small) s st stands code stack)
         in
         subst (λ (r : Effect). Into (GivesResult k result (runs k rest) stack) r (next (pos n) s)) (sym got.run) (full_goes n q e c free full s got.st got.stands rest stack)

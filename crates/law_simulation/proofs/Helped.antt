@@ -7,8 +7,8 @@ use Rattle.wasm_tree.specs.declared.module.Function.{Function}
 use Rattle.wasm_tree.specs.declared.module.WModule.{WModule}
 use Rattle.wasm_tree.specs.declared.store.Callee.TheVariants.{Own}
 use Rattle.wasm_tree.specs.declared.store.Value.{Value}
-use Rattle.wasm_tree.specs.Machine.{Typed, own_function, callee_at, entered}
-use Rattle.law_effect.specs.Effect.{StillRunning, store_of, effect, nested, calling, State as Target}
+use Rattle.wasm_tree.specs.Machine.{Typed, own_function, callee_at, enter_function}
+use Rattle.law_effect.specs.Effect.{StillRunning, store_of, effect, nest_calls, calling, State as Target}
 use Rattle.typed_tree.specs.declared.typed_module.TypedModule.{TypedModule}
 use Rattle.layout_storage.specs.Types.{Ty}
 use Rattle.def_meaning.specs.Store.{Location}
@@ -18,7 +18,7 @@ use Rattle.law_modules.proofs.Placed.{enough}
 use Rattle.law_simulation.specs.Scene.{Scene, HasHelpers}
 use Rattle.law_simulation.specs.Stage.{HasLimit}
 use Rattle.law_simulation.specs.Knot.{core}
-use Rattle.law_simulation.specs.RunsPrograms.{fixed}
+use Rattle.law_simulation.specs.RunsPrograms.{fixtures_of}
 use Rattle.law_simulation.specs.BodiesPrograms.{serving, more_turns}
 use Rattle.law_simulation.proofs.LinkedPlaces.{own, module_there, callee_there, put_there, stop_there, memory_there, limit_there}
 
@@ -44,19 +44,19 @@ module _ (p : Program) (pages : ℕ) (before rest : Program) (m : TypedModule) (
   five : 5 < count m
   five = let h = enough m in omega (arith, h)
 
-  at : (bytes : List ℕ) (j : ℕ) → j < 5 → callee_at (store_of (fixed p pages) bytes) me (suc (suc j)) ≡ Some (Own me j)
+  at : (bytes : List ℕ) (j : ℕ) → j < 5 → callee_at (store_of (fixtures_of p pages) bytes) me (suc (suc j)) ≡ Some (Own me j)
   at bytes j h = callee_there p pages before rest m is bytes j (let few = five in omega (arith, h, few))
 
   module _ (base : List Ty) (texts : Location → ℕ → ℕ) (place n d : ℕ) where
     abbrev pub here : Scene
-    here = core (all p pages) (fixed p pages) serving more_turns n (65536 * pages) p base texts me place m d
+    here = core (all p pages) (fixtures_of p pages) serving more_turns n (65536 * pages) p base texts me place m d
 
-    serve : (e : ℕ) (f : ℕ) → f < 5 → (t : Typed) (args : List Value) (bytes out : List ℕ) → nested (all p pages) (fixed p pages) serving more_turns n e me f t args bytes out ≡ calling (all p pages) (fixed p pages) more_turns n (suc (suc n)) me f t args bytes out
-    unfolding nested
-    serve zero f h t args bytes out = ap (λ (b : Bool). if b then calling (all p pages) (fixed p pages) more_turns n (suc (suc n)) me f t args bytes out else StillRunning out) (serves_five (length before) f h)
+    serve : (e : ℕ) (f : ℕ) → f < 5 → (t : Typed) (args : List Value) (bytes out : List ℕ) → nest_calls (all p pages) (fixtures_of p pages) serving more_turns n e me f t args bytes out ≡ calling (all p pages) (fixtures_of p pages) more_turns n (suc (suc n)) me f t args bytes out
+    unfolding nest_calls
+    serve zero f h t args bytes out = ap (λ (b : Bool). if b then calling (all p pages) (fixtures_of p pages) more_turns n (suc (suc n)) me f t args bytes out else StillRunning out) (serves_five (length before) f h)
     serve (suc e) f h t args bytes out =
-        let start : Target = record { locals = (entered me t args).locals; bytes = bytes; out = out } in
-        ap (λ (b : Bool). if b then calling (all p pages) (fixed p pages) more_turns n (suc (suc n)) me f t args bytes out else effect (all p pages) (fixed p pages) (n + more_turns me f) (nested (all p pages) (fixed p pages) serving more_turns n e) me t.function.body.code start [])
+        let start : Target = record { locals = (enter_function me t args).locals; bytes = bytes; out = out } in
+        ap (λ (b : Bool). if b then calling (all p pages) (fixtures_of p pages) more_turns n (suc (suc n)) me f t args bytes out else effect (all p pages) (fixtures_of p pages) (n + more_turns me f) (nest_calls (all p pages) (fixtures_of p pages) serving more_turns n e) me t.function.body.code start [])
         (serves_five (length before) f h)
 
     pub has_helpers : HasHelpers here

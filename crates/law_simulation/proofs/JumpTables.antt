@@ -18,8 +18,8 @@ use Rattle.def_meaning.specs.Answer.{State as Source, ◌▷◌}
 use Rattle.def_meaning.specs.Operators.{is_between}
 use Rattle.def_meaning.specs.Expressions.{Gives}
 use Rattle.def_meaning.specs.Statements as meaning
-use Rattle.def_meaning.specs.Statements.{Does, chosen}
-use Rattle.def_scheme.specs.Coded.{Coded, Counts, plain, ◌⨾◌, with_number, number_local, number, operation, relation, wrapped}
+use Rattle.def_meaning.specs.Statements.{Does, choose_arm}
+use Rattle.def_scheme.specs.Coded.{Coded, Counts, plain, ◌⨾◌, with_number, number_local, number, operation, relation, wrap_word}
 use Rattle.def_scheme.specs.Steps as code
 use Rattle.def_scheme.specs.Steps.{all_labels, least_of, greatest_of, span_of, is_dense, target, targets, from_least, dispatch, table_code, chain_code, all_values}
 use Rattle.law_simulation.specs.Scene.{Scene, calls, runs, HasHelpers, AreSmall, AreLabels, word, Stands, keeping, IsGrowing, inside, Agrees, Ends, Executes}
@@ -103,7 +103,7 @@ module _ (k : Scene) (has : HasHelpers k) (small : AreSmall k.setting.home.types
     table = targets xs low (suc most)
 
     abbrev jump : List Instr
-    jump = from_least n low ++ (wrapped ∷ instr.BrTable table (length xs) ∷ [])
+    jump = from_least n low ++ (wrap_word ∷ instr.BrTable table (length xs) ∷ [])
 
     dispatch_runs : (s : Source) (st : Target) → Stands k s st → (stack : List Value) → runs k (dispatch n xs low (suc most)) st stack ≡ Branched (target xs v) st stack
     dispatch_runs s st h stack =
@@ -132,7 +132,7 @@ module _ (k : Scene) (has : HasHelpers k) (small : AreSmall k.setting.home.types
             let few : suc most ≤ 1024 = dense_span (length xs) (all_labels xs) dense in
             let whole : from low v % 2 ^ 32 ≡ from low v = omega (arith, close, few) in
             ap (λ (b : Bool). then_run (if truth b == 0 then FellThrough st stack else Branched (length xs) st stack) (runs k jump)) (le-ltb most (from low v) close)
-            ∙ from_runs low (wrapped ∷ instr.BrTable table (length xs) ∷ []) s st h stack
+            ∙ from_runs low (wrap_word ∷ instr.BrTable table (length xs) ∷ []) s st h stack
             ∙ wrapped_runs k has small (from low v) (instr.BrTable table (length xs) ∷ []) st stack
             ∙ br_table_runs k.modules k.fixed k.turns (calls k) k.own [] st table (length xs) (from low v % 2 ^ 32) stack
             ∙ ap (λ (j : ℕ). Branched (slice_index_or table j (length xs)) st stack) whole
@@ -150,8 +150,8 @@ module _ (k : Scene) (has : HasHelpers k) (small : AreSmall k.setting.home.types
   abbrev kept_table : Coded
   kept_table = with_number (λ n. plain (instr.LocalSet n ∷ []) ⨾ table_code n xs otherwise)
 
-  table_executes : (t : TypeNo) (x : Coded) (value : Gives ℤ) → Agrees k t x value → Executes k function (x ⨾ kept_table) (λ a s. value a s ▷ λ v s. chosen v ys other a s)
-  table_executes t x value hx = with_executes k function t x kept_table value (λ v a s. chosen v ys other a s) hx (record {
+  table_executes : (t : TypeNo) (x : Coded) (value : Gives ℤ) → Agrees k t x value → Executes k function (x ⨾ kept_table) (λ a s. value a s ▷ λ v s. choose_arm v ys other a s)
+  table_executes t x value hx = with_executes k function t x kept_table value (λ v a s. choose_arm v ys other a s) hx (record {
     grows = λ e c.
         let g = growing (number_local k.setting c.numbers) e (record c { numbers = suc c.numbers }) in
         record { numbers = omega (arith, g.numbers); addresses = omega (arith, g.addresses) };
@@ -167,8 +167,8 @@ module _ (k : Scene) (has : HasHelpers k) (small : AreSmall k.setting.home.types
         let beside : Scene = keeping k n kept_value in
         let stands : Stands beside s set = set_keeps k n kept_value new less s st h in
         let are = arms n kept_value new in
-        subst (λ (r : Effect). Ends k function e stack (λ st. runs k rest st stack) r (chosen v ys other k.around s)) (sym (set_runs_here k n kept_value (inner.0 ++ rest) s st stack less h))
-        (ends_forgets k function n kept_value new e stack (λ st. runs k rest st stack) (runs k (inner.0 ++ rest) set stack) (chosen v ys other k.around s)
+        subst (λ (r : Effect). Ends k function e stack (λ st. runs k rest st stack) r (choose_arm v ys other k.around s)) (sym (set_runs_here k n kept_value (inner.0 ++ rest) s st stack less h))
+        (ends_forgets k function n kept_value new e stack (λ st. runs k rest st stack) (runs k (inner.0 ++ rest) set stack) (choose_arm v ys other k.around s)
         (table_goes beside function e stack s set stands xs ys otherwise other are (ho n kept_value new) v (dispatch n xs (least_of (all_labels xs)) (span_of (all_labels xs))) after
         (free_beside k n kept_value c refl free) (has_beside k n kept_value inner.1 full)
         (dispatch_runs beside (helpers_beside k n kept_value has) small function n v (narrow k has small t v is) (kept_itself k n kept_value) xs (arms_labels beside function xs ys are) dense s set stands stack) rest));
@@ -176,5 +176,5 @@ module _ (k : Scene) (has : HasHelpers k) (small : AreSmall k.setting.home.types
 
 pub table_cases : TableCases
 table_cases k set function x value xs ys otherwise other dense hx growing arms ho =
-    subst (λ (b : Bool). Executes k function (x.code ⨾ with_number (λ n. plain (instr.LocalSet n ∷ []) ⨾ (if b then table_code n xs otherwise else chain_code n xs otherwise))) (λ a s. value a s ▷ λ v s. chosen v ys other a s))
+    subst (λ (b : Bool). Executes k function (x.code ⨾ with_number (λ n. plain (instr.LocalSet n ∷ []) ⨾ (if b then table_code n xs otherwise else chain_code n xs otherwise))) (λ a s. value a s ▷ λ v s. choose_arm v ys other a s))
     (sym dense) (table_executes k set.helpers set.small function xs ys otherwise other dense growing arms ho x.of x.code value hx)

@@ -10,7 +10,7 @@ use Rattle.def_meaning.specs.Answer.{State as Source, Ended, StillRunning}
 use Rattle.def_meaning.specs.Outcome.{Outcome, Normal, Exited, Returned}
 use Rattle.def_meaning.specs.Answer as answer
 use Rattle.def_meaning.specs.Statements as meaning
-use Rattle.def_meaning.specs.Statements.{Does, is_labelled, chosen}
+use Rattle.def_meaning.specs.Statements.{Does, is_labelled, choose_arm}
 use Rattle.def_scheme.specs.Coded.{Coded, Counts}
 use Rattle.def_scheme.specs.Steps as code
 use Rattle.def_scheme.specs.Steps.{jump_arms, target}
@@ -134,11 +134,11 @@ module _ (k : Scene) (function : Bool) (e : ℕ) (stack : List Value) (s : Sourc
           by later true = subst IsSettled (sym (past_all ys (d k.around s))) tt
           by later false = later
 
-      settled_is : (xs : List code.Arm) (ys : List meaning.Arm) → AreArms k function xs ys → settled (all_passed ys (To (target xs v))) ≡ chosen v ys other k.around s
+      settled_is : (xs : List code.Arm) (ys : List meaning.Arm) → AreArms k function xs ys → settled (all_passed ys (To (target xs v))) ≡ choose_arm v ys other k.around s
       settled_is [] [] no_arms = refl
       settled_is _ _ (more_arms labels x xs d ys hl hx hs) = by (settled_is xs ys hs) (list_any (is_labelled v) labels)
         where
-          by : settled (all_passed ys (To (target xs v))) ≡ chosen v ys other k.around s → (b : Bool) → settled (all_passed ys (passed (d k.around s) (To (if b then 0 else suc (target xs v))))) ≡ (if b then d else chosen v ys other) k.around s
+          by : settled (all_passed ys (To (target xs v))) ≡ choose_arm v ys other k.around s → (b : Bool) → settled (all_passed ys (passed (d k.around s) (To (if b then 0 else suc (target xs v))))) ≡ (if b then d else choose_arm v ys other) k.around s
           by later true = ap settled (past_all ys (d k.around s))
           by later false = later
 
@@ -169,7 +169,7 @@ module _ (k : Scene) (function : Bool) (e : ℕ) (stack : List Value) (s : Sourc
       → runs k inner st stack ≡ Branched (target xs v) st stack → (rest : List Instr)
       → (let j = jump_arms xs (λ setting c. (inner, c)) (inside k e) c in
       let o = otherwise (inside k (e + 1)) j.1 in
-      Ends k function e stack (λ st. runs k rest st stack) (runs k (instr.Block None (instr.Block None j.0 ∷ o.0) ∷ rest) st stack) (chosen v ys other k.around s))
+      Ends k function e stack (λ st. runs k rest st stack) (runs k (instr.Block None (instr.Block None j.0 ∷ o.0) ∷ rest) st stack) (choose_arm v ys other k.around s))
   table_goes xs ys otherwise other hs ho v inner c free full jump rest =
       let plainly : Coded = λ setting c. (inner, c) in
       let j = jump_arms xs plainly (inside k e) c in
@@ -184,6 +184,6 @@ module _ (k : Scene) (function : Bool) (e : ℕ) (stack : List Value) (s : Sourc
       block_runs k.modules k.fixed k.turns (calls k) k.own rest st None (instr.Block None j.0 ∷ o.0) stack
       ∙ ap (λ (r : Effect). then_run (out_of 0 (length stack) r) (runs k rest)) (block_runs k.modules k.fixed k.turns (calls k) k.own o.0 st None j.0 stack)
       in
-      subst (λ (r : Effect). Ends k function e stack (λ st. runs k rest st stack) r (chosen v ys other k.around s)) (sym path)
+      subst (λ (r : Effect). Ends k function e stack (λ st. runs k rest st stack) r (choose_arm v ys other k.around s)) (sym path)
       (subst (λ (x : Outcome). Ends k function e stack (λ st. runs k rest st stack) (out_of_all other rest o.0 (runs k j.0 st stack)) x) (settled_is other v xs ys hs)
       (ends_all other rest o.0 (runs k j.0 st stack) (all_passed ys (To (target xs v))) (is_settled other v xs ys hs) pends last))

@@ -13,12 +13,12 @@ use Rattle.typed_tree.specs.declared.known_types.Types.{Types}
 use Rattle.typed_tree.specs.Types.{are_same, integer, cardinal, boolean, char, bitset}
 use Rattle.def_meaning.specs.Answer.{State as Source, Answer, Value, ◌▷◌, range_fault, overflow}
 use Rattle.def_meaning.specs.Outcome.{Normal}
-use Rattle.def_meaning.specs.Expressions.{Gives, Continues, Reaches as Reached, root_layer, component_layer, element_in, index_range, one_by_one, within, within_range, divided, ordinal, as_type, in_base, link_layer}
+use Rattle.def_meaning.specs.Expressions.{Gives, Continues, Reaches as Reached, root_layer, component_layer, element_in, index_range, one_by_one, within, within_range, division_by, ordinal, as_type, in_base, link_layer}
 use Rattle.def_meaning.specs.Environment.{Environment, module_place}
 use Rattle.def_meaning.specs.Store.{Location}
-use Rattle.def_meaning.specs.Operators.{truth, compared, is_true, absolute, capital, odd, quotient, remainder, bits, without, combined, has}
-use Rattle.def_meaning.specs.Statements.{Does, changed, rechecked, for_all, chosen, stored}
-use Rattle.def_scheme.specs.Coded.{Coded, plain, ◌⨾◌, all_coded, raised, with_setting, with_number, wrapped, number, operation, checked, relation, extended}
+use Rattle.def_meaning.specs.Operators.{truth, comparison_holds, is_true, absolute, capital, odd, quotient, remainder, bits, without, set_operation, has}
+use Rattle.def_meaning.specs.Statements.{Does, change_by, recheck_value, for_all, choose_arm, store_number}
+use Rattle.def_scheme.specs.Coded.{Coded, plain, ◌⨾◌, all_coded, raise_address, with_setting, with_number, wrap_word, number, operation, check_code, relation, extend_word}
 use Rattle.layout_storage.specs.Types.{Ty}
 use Rattle.layout_storage.specs.Sizes.{offset}
 use Rattle.layout_storage.specs.Shapes.{tree}
@@ -84,12 +84,12 @@ products k set p ask t w y value ha some =
 
 pub quotients : Quotients
 quotients k set p ask t w y value ha among nought =
-    second_goes k set.helpers set.small t y.of w y.code (with_setting (λ s. plain (arithmetic_code s.home.types op.Divide w))) (instr.Call 5 ∷ []) value (λ x u a s. divided quotient x u s) ha (λ e c. refl)
+    second_goes k set.helpers set.small t y.of w y.code (with_setting (λ s. plain (arithmetic_code s.home.types op.Divide w))) (instr.Call 5 ∷ []) value (λ x u a s. division_by quotient x u s) ha (λ e c. refl)
     (quotient_makes k set.helpers set.small t y.of w among nought)
 
 pub remainders : Remainders
 remainders k set p ask t w y value ha among nought =
-    second_goes k set.helpers set.small t y.of w y.code (with_setting (λ s. plain (arithmetic_code s.home.types op.Remainder w))) (instr.Call 6 ∷ []) value (λ x u a s. divided remainder x u s) ha (λ e c. refl)
+    second_goes k set.helpers set.small t y.of w y.code (with_setting (λ s. plain (arithmetic_code s.home.types op.Remainder w))) (instr.Call 6 ∷ []) value (λ x u a s. division_by remainder x u s) ha (λ e c. refl)
     (remainder_makes k set.helpers set.small t y.of w among nought)
 
 pub conjunctions : Conjunctions
@@ -100,14 +100,14 @@ disjunctions k set p ask y value ha = or_goes k set.helpers set.small y.code val
 
 pub relations : Relations
 relations k set p ask o x y first second hx hy =
-    let list : List Instr = relation (relation_of o) ∷ extended ∷ [] in
-    let both : ℤ → ℤ → Environment → Source → Answer ℤ = λ v w a s. Value (truth (compared o v w)) s in
+    let list : List Instr = relation (relation_of o) ∷ extend_word ∷ [] in
+    let both : ℤ → ℤ → Environment → Source → Answer ℤ = λ v w a s. Value (truth (comparison_holds o v w)) s in
     then_agrees k x.of boolean x.code (y.code ⨾ plain list) first (λ v a s. second a s ▷ λ w s. both v w a s) hx
     (second_goes k set.helpers set.small x.of y.of boolean y.code (plain list) list second both hy (λ e c. refl) (compare_makes k set.helpers set.small x.of y.of o))
 
 pub combinations : Combinations
 combinations k set p ask o y value ha =
-    second_goes k set.helpers set.small bitset bitset bitset y.code (plain (set_code o)) (set_code o) value (λ x u a s. Value (combined o x u) s) ha (λ e c. refl) (combine_makes k set.helpers set.small o)
+    second_goes k set.helpers set.small bitset bitset bitset y.code (plain (set_code o)) (set_code o) value (λ x u a s. Value (set_operation o x u) s) ha (λ e c. refl) (combine_makes k set.helpers set.small o)
 
 pub inclusions : Inclusions
 inclusions k set p ask inclusion.Within x y first second hx hy =
@@ -173,7 +173,7 @@ plainly_agrees : (k : Scene) (t u : TypeNo) (x after : Coded) (list : List Instr
 plainly_agrees k t u x after list value next hx is go = then_agrees k t u x after value next hx (plain_goes k t u after list next is go)
 
 pub characters : Characters
-characters k set p ask x value hx = plainly_agrees k x.of char x.code (plain (checked (pos 0) (pos 255) 1)) (checked (pos 0) (pos 255) 1) value (λ v a s. within (pos 0) (pos 255) range_fault v s) hx (λ e c. refl) (chr_goes k set.helpers set.small x.of)
+characters k set p ask x value hx = plainly_agrees k x.of char x.code (plain (check_code (pos 0) (pos 255) 1)) (check_code (pos 0) (pos 255) 1) value (λ v a s. within (pos 0) (pos 255) range_fault v s) hx (λ e c. refl) (chr_goes k set.helpers set.small x.of)
 
 pub parities : Parities
 parities k set p ask x value hx =
@@ -205,7 +205,7 @@ opened k p ask j l t is = with_locates k j l t is
 
 pub fields : Fields
 fields k set p ask t j u there =
-    field_reaches k set.helpers set.small set.room (tree k.setting.home.types t) u j (with_setting (λ s. plain (raised (offset (tree s.home.types t) (j ∷ []))))) there (λ e c. refl)
+    field_reaches k set.helpers set.small set.room (tree k.setting.home.types t) u j (with_setting (λ s. plain (raise_address (offset (tree s.home.types t) (j ∷ []))))) there (λ e c. refl)
 
 pub elements : Elements
 elements k set p ask t r u i value range array hi =
@@ -224,11 +224,11 @@ pub designators : Designators
 designators k p ask r t u cs rs hr hs = root_then k t u (root_code r) (all_coded cs) (λ a s. Value (root_layer p ask r a) s) (one_by_one rs) hr (all_reach k t u cs rs hs)
 
 pub loads : Loads
-loads k set p ask t c d found cell hd = load_agrees k set.helpers set.small set.room t c d (with_setting (λ s. plain (cells.loaded s.home.types t))) found cell hd (λ e counts. refl)
+loads k set p ask t c d found cell hd = load_agrees k set.helpers set.small set.room t c d (with_setting (λ s. plain (cells.load_code s.home.types t))) found cell hd (λ e counts. refl)
 
 pub assigns : Assigns
 assigns k set function t c d e found value cell hd he =
-    assign_executes k set.helpers set.small set.room function t c d e (with_setting (λ s. plain (cells.stored s.home.types t))) found value cell hd he (λ x counts. refl)
+    assign_executes k set.helpers set.small set.room function t c d e (with_setting (λ s. plain (cells.store_code s.home.types t))) found value cell hd he (λ x counts. refl)
 
 executes_alike : (k : Scene) (function : Bool) (code : Coded) (f g : Does) → ((s : Source) → f k.around s ≡ g k.around s) → Executes k function code f → Executes k function code g
 executes_alike k function code f g same h = record {
@@ -238,7 +238,7 @@ executes_alike k function code f g same h = record {
 
 pub changes : Changes
 changes k set function o t c d x found value cell some based hd hx beside =
-    let here : Types → Does = λ types a s. (found a s ▷ (λ l s. value a s ▷ λ y s. rechecked types t (changed o (s.store l) y) s ▷ λ v s. Value Normal (stored l v s))) in
+    let here : Types → Does = λ types a s. (found a s ▷ (λ l s. value a s ▷ λ y s. recheck_value types t (change_by o (s.store l) y) s ▷ λ v s. Value Normal (store_number l v s))) in
     executes_alike k function (change_code o d t x.code) (here k.setting.home.types) (λ a s. here a.types a s) (λ s. ap (λ (types : Types). here types k.around s) (sym set.types))
     (change_executes k set.helpers set.small set.room function o t x.of c d x.code found value cell some based hd hx beside)
 
@@ -259,16 +259,16 @@ returns k = return_executes k false refl
 
 pub lone_ifs : LoneIfs
 lone_ifs k set function e value x step he hx =
-    let chosen : ℤ → Does = λ v a s. if is_true v then step a s else Value Normal s in
-    with_executes k function boolean e (plain (wrapped ∷ []) ⨾ if_only x) value chosen he (if_only_executes k function set.helpers set.small x step hx)
+    let choose_arm : ℤ → Does = λ v a s. if is_true v then step a s else Value Normal s in
+    with_executes k function boolean e (plain (wrap_word ∷ []) ⨾ if_only x) value choose_arm he (if_only_executes k function set.helpers set.small x step hx)
 
 pub rows : Rows
 rows k function x y step next hx hy = then_executes k function x y step next hx hy
 
 pub ifs : Ifs
 ifs k set function e value x y step other he hx hy =
-    let chosen : ℤ → Does = λ v a s. if is_true v then step a s else other a s in
-    with_executes k function boolean e (plain (wrapped ∷ []) ⨾ if_else x y) value chosen he (if_else_executes k function set.helpers set.small x y step other hx hy)
+    let choose_arm : ℤ → Does = λ v a s. if is_true v then step a s else other a s in
+    with_executes k function boolean e (plain (wrap_word ∷ []) ⨾ if_else x y) value choose_arm he (if_else_executes k function set.helpers set.small x y step other hx hy)
 
 pub withs : Withs
 withs k function t d x found step hd growing hx =
@@ -279,7 +279,7 @@ whiles k set function e value x step he hx = while_executes k function set.helpe
 
 pub cases : Cases
 cases k set function x value xs ys otherwise other sparse hx growing arms ho =
-    subst (λ (b : Bool). Executes k function (x.code ⨾ with_number (λ n. plain (instr.LocalSet n ∷ []) ⨾ (if b then table_code n xs otherwise else tests_chain n xs otherwise))) (λ a s. value a s ▷ λ v s. chosen v ys other a s))
+    subst (λ (b : Bool). Executes k function (x.code ⨾ with_number (λ n. plain (instr.LocalSet n ∷ []) ⨾ (if b then table_code n xs otherwise else tests_chain n xs otherwise))) (λ a s. value a s ▷ λ v s. choose_arm v ys other a s))
     (sym sparse) (case_executes k set.helpers set.small function xs ys otherwise other growing arms ho x.of x.code value hx)
 
 pub unlabelled : Unlabelled
@@ -287,7 +287,7 @@ unlabelled k set function = unlabelled_executes k function set.helpers
 
 pub fors : Fors
 fors k set function t c l at start bound step_by x first last step cell some type there low high hstart hbound growing hx =
-    let here : Types → Does = λ types a s. (first a s ▷ (λ v s. last a s ▷ λ limit s. for_all k.turns (as_type types t) l step_by limit (step a) (stored l v s))) in
+    let here : Types → Does = λ types a s. (first a s ▷ (λ v s. last a s ▷ λ limit s. for_all k.turns (as_type types t) l step_by limit (step a) (store_number l v s))) in
     executes_alike k function (for_code (with_setting (λ s. plain (at s))) t start bound step_by x) (here k.setting.home.types) (λ a s. here a.types a s) (λ s. ap (λ (types : Types). here types k.around s) (sym set.types))
     (for_executes k set.helpers set.small set.room function t bound.of c cell some l type step_by (record { low = low; high = high }) at there
     (behind start.code (λ types. cells.check_taken types t start.constant start.of)) bound.code x first last step hstart hbound growing hx)

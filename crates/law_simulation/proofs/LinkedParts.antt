@@ -10,7 +10,7 @@ use Rattle.typed_tree.specs.declared.typed_module.TypedModule.{TypedModule}
 use Rattle.layout_storage.specs.Types.{Ty}
 use Rattle.layout_storage.specs.Texts.{characters, routines_texts}
 use Rattle.def_scheme.specs.Functions.{routine_of, routine_at, around_in, own_frame, frames_around}
-use Rattle.def_scheme.specs.Modules.{numbered}
+use Rattle.def_scheme.specs.Modules.{numbering_of}
 use Rattle.law_modules.proofs.Own.{of_own, of_nested, at_place}
 use Rattle.law_modules.proofs.Functions.{routine_addresses, module_addresses}
 use Rattle.def_scheme.specs.Addresses.{addresses_in}
@@ -20,7 +20,7 @@ use Rattle.law_simulation.specs.Scene.{HasHelpers}
 use Rattle.law_simulation.specs.Stage.{HasLimit}
 use Rattle.law_simulation.specs.ProceduresLaws.{coded_body, is_inner}
 use Rattle.law_simulation.specs.Knot.{core}
-use Rattle.law_simulation.specs.RunsPrograms.{ground, fixed}
+use Rattle.law_simulation.specs.RunsPrograms.{ground, fixtures_of}
 use Rattle.law_simulation.specs.TreesTyped.{own_kinds, kinds_around}
 use Rattle.law_simulation.specs.BodiesPrograms.{serving, more_turns}
 use Rattle.law_simulation.specs.Linked.{Spot, function_of, text_of}
@@ -73,21 +73,21 @@ module _ (p : Program) (pages : ℕ) (most : pages ≤ 1024) (distinct : AreDist
     abbrev h : Split p place m
     h = here p pages place distinct m (modules place m there).coherent
 
-    pub helpers_here : (d : ℕ) → HasHelpers (core (all p pages) (fixed p pages) serving more_turns n (65536 * pages) p (ground p pages).base (ground p pages).texts (suc place) place m d)
+    pub helpers_here : (d : ℕ) → HasHelpers (core (all p pages) (fixtures_of p pages) serving more_turns n (65536 * pages) p (ground p pages).base (ground p pages).texts (suc place) place m d)
     helpers_here d =
-        subst (λ (j : ℕ). HasHelpers (core (all p pages) (fixed p pages) serving more_turns n (65536 * pages) p (ground p pages).base (ground p pages).texts (suc j) place m d)) h.long
+        subst (λ (j : ℕ). HasHelpers (core (all p pages) (fixtures_of p pages) serving more_turns n (65536 * pages) p (ground p pages).base (ground p pages).texts (suc j) place m d)) h.long
         (has_helpers p pages h.before h.rest m h.is (ground p pages).base (ground p pages).texts place n d)
 
-    pub limit_here : (d : ℕ) → HasLimit (core (all p pages) (fixed p pages) serving more_turns n (65536 * pages) p (ground p pages).base (ground p pages).texts (suc place) place m d)
+    pub limit_here : (d : ℕ) → HasLimit (core (all p pages) (fixtures_of p pages) serving more_turns n (65536 * pages) p (ground p pages).base (ground p pages).texts (suc place) place m d)
     limit_here d =
-        subst (λ (j : ℕ). HasLimit (core (all p pages) (fixed p pages) serving more_turns n (65536 * pages) p (ground p pages).base (ground p pages).texts (suc j) place m d)) h.long
+        subst (λ (j : ℕ). HasLimit (core (all p pages) (fixtures_of p pages) serving more_turns n (65536 * pages) p (ground p pages).base (ground p pages).texts (suc j) place m d)) h.long
         (has_limit p pages h.before h.rest m h.is (ground p pages).base (ground p pages).texts place n d most)
 
   -- what is known of a procedure of either list
   record Known (m : TypedModule) (w : Which) (r : Routine) : Type 0 where
     room : HasRoom m r
     linked : nat_lt 1 r.level ≡ is_inner (kinds_around m r.level r.around)
-    addresses : (coded_body (numbered m) m r (frames_around m r.level r.around) (text_of m w)).1.addresses ≡ addresses_in r.body
+    addresses : (coded_body (numbering_of m) m r (frames_around m r.level r.around) (text_of m w)).1.addresses ≡ addresses_in r.body
 
   known : (place : ℕ) (m : TypedModule) (there : slice_get p place ≡ Some m) (w : Which) (r : Routine) → routine_of m w ≡ Some r → Known m w r
   known place m there (which.Module j) r e =
@@ -108,7 +108,7 @@ module _ (p : Program) (pages : ℕ) (most : pages ≤ 1024) (distinct : AreDist
   no_helper m (which.Local j) = le-ltb (6 + (length m.procedures + j)) 5 (omega arith)
 
   module _ (typed : AreTypedModules p pages) where
-    pub typed_routine : (o : Spot p) → IsTypedRoutine (all p pages) (fixed p pages) serving more_turns n (65536 * pages) p (ground p pages).base (ground p pages).texts o
+    pub typed_routine : (o : Spot p) → IsTypedRoutine (all p pages) (fixtures_of p pages) serving more_turns n (65536 * pages) p (ground p pages).base (ground p pages).texts o
     typed_routine o =
         let k = known o.place o.home o.there o.at o.routine o.is in
         let is = modules o.place o.home o.there in
@@ -131,7 +131,7 @@ module _ (p : Program) (pages : ℕ) (most : pages ≤ 1024) (distinct : AreDist
           typed = t.1;
         }
 
-    pub typed_main : (place : ℕ) (m : TypedModule) → slice_get p place ≡ Some m → IsTypedMain (all p pages) (fixed p pages) serving more_turns n (65536 * pages) p (ground p pages).base (ground p pages).texts place m
+    pub typed_main : (place : ℕ) (m : TypedModule) → slice_get p place ≡ Some m → IsTypedMain (all p pages) (fixtures_of p pages) serving more_turns n (65536 * pages) p (ground p pages).base (ground p pages).texts place m
     typed_main place m there =
         let is = modules place m there in
         let t = (typed place m there).body in record {

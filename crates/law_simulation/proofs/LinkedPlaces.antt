@@ -11,10 +11,10 @@ use Rattle.law_effect.specs.Effect.{store_of}
 use Rattle.typed_tree.specs.declared.typed_module.TypedModule.{TypedModule}
 use Rattle.layout_storage.specs.Texts.{characters, module_texts}
 use Rattle.def_scheme.specs.Modules.{slots, typed_module}
-use Rattle.law_modules.specs.Linked.{Program, all, variables, count, values, own_from, somes_from, owns, filled, module_instance, instances, link_values, slots_in, bytes_in}
+use Rattle.law_modules.specs.Linked.{Program, all, variables, count, values, own_from, somes_from, owns, table_slots, module_instance, instances, link_values, slots_in, bytes_in}
 use Rattle.law_modules.proofs.Stores.{counts, somes_length}
 use Rattle.law_modules.proofs.Placed.{number_at}
-use Rattle.law_simulation.specs.RunsPrograms.{fixed}
+use Rattle.law_simulation.specs.RunsPrograms.{fixtures_of}
 
 -- ---- lists
 
@@ -56,13 +56,13 @@ owns_at k (x ∷ before) rest m j h =
     ∙ ap (λ (n : ℕ). Some (Own n j)) (omega arith)
 
 -- and its slots
-pub filled_at : (a : ℕ) (before rest : Program) (m : TypedModule) (j : ℕ) → j < slots m → slice_get (filled a (before ++ m ∷ rest)) (slots_in before + j) ≡ Some (Some (a + counts before + 5 + j))
+pub filled_at : (a : ℕ) (before rest : Program) (m : TypedModule) (j : ℕ) → j < slots m → slice_get (table_slots a (before ++ m ∷ rest)) (slots_in before + j) ≡ Some (Some (a + counts before + 5 + j))
 filled_at a [] rest m j h =
-    front_at (somes_from (a + 5) (slots m)) (filled (a + count m) rest) (0 + j) (Some (a + 0 + 5 + j))
+    front_at (somes_from (a + 5) (slots m)) (table_slots (a + count m) rest) (0 + j) (Some (a + 0 + 5 + j))
     (ap (slice_get (somes_from (a + 5) (slots m))) (let i : 0 + j ≡ j = omega arith in i) ∙ some_at (a + 5) (slots m) j h ∙ ap (λ (n : ℕ). Some (Some n)) (omega arith))
 filled_at a (x ∷ before) rest m j h =
-    ap (slice_get (filled a (x ∷ before ++ m ∷ rest))) (let i : slots x + slots_in before + j ≡ slots x + (slots_in before + j) = omega arith in i)
-    ∙ behind_at (somes_from (a + 5) (slots x)) (filled (a + count x) (before ++ m ∷ rest)) (slots x) (slots_in before + j) (somes_length (a + 5) (slots x))
+    ap (slice_get (table_slots a (x ∷ before ++ m ∷ rest))) (let i : slots x + slots_in before + j ≡ slots x + (slots_in before + j) = omega arith in i)
+    ∙ behind_at (somes_from (a + 5) (slots x)) (table_slots (a + count x) (before ++ m ∷ rest)) (slots x) (slots_in before + j) (somes_length (a + 5) (slots x))
     ∙ filled_at (a + count x) before rest m j h
     ∙ ap (λ (n : ℕ). Some (Some n)) (omega arith)
 
@@ -90,14 +90,14 @@ module _ (p : Program) (pages : ℕ) (before rest : Program) (m : TypedModule) (
   abbrev pub instance : Instance
   instance = module_instance p (3 + counts before) m
 
-  pub instance_there : (bytes : List ℕ) → slice_get (store_of (fixed p pages) bytes).instances own ≡ Some instance
+  pub instance_there : (bytes : List ℕ) → slice_get (store_of (fixtures_of p pages) bytes).instances own ≡ Some instance
   instance_there bytes = ap (λ (q : Program). slice_get (instances p 3 q) (length before)) is ∙ instances_at p 3 before rest m
 
   pub module_there : slice_get (all p pages) own ≡ Some (typed_module m)
   module_there = ap (λ (q : Program). slice_get (map typed_module q) (length before)) is ∙ modules_at before rest m
 
   -- function j of the module, after the two of the host
-  pub callee_there : (bytes : List ℕ) (j : ℕ) → j < count m → callee_at (store_of (fixed p pages) bytes) own (suc (suc j)) ≡ Some (Own own j)
+  pub callee_there : (bytes : List ℕ) (j : ℕ) → j < count m → callee_at (store_of (fixtures_of p pages) bytes) own (suc (suc j)) ≡ Some (Own own j)
   callee_there bytes j less =
       ap (λ (o : Option Instance). option_and_then (λ (i : Instance). option_and_then (λ (a : ℕ). slice_get (Put ∷ Stop ∷ Own 0 0 ∷ owns 1 p) a) (slice_get i.functions (suc (suc j)))) o) (instance_there bytes)
       ∙ ap (λ (o : Option ℕ). option_and_then (λ (a : ℕ). slice_get (Put ∷ Stop ∷ Own 0 0 ∷ owns 1 p) a) o) (number_at (3 + counts before) (count m) j less)
@@ -106,20 +106,20 @@ module _ (p : Program) (pages : ℕ) (before rest : Program) (m : TypedModule) (
       ∙ owns_at 1 before rest m j less
       ∙ ap (λ (n : ℕ). Some (Own n j)) (let i : 1 + length before ≡ suc (length before) = omega arith in i)
 
-  pub put_there : (bytes : List ℕ) → callee_at (store_of (fixed p pages) bytes) own 0 ≡ Some Put
+  pub put_there : (bytes : List ℕ) → callee_at (store_of (fixtures_of p pages) bytes) own 0 ≡ Some Put
   put_there bytes = ap (λ (o : Option Instance). option_and_then (λ (i : Instance). option_and_then (λ (a : ℕ). slice_get (Put ∷ Stop ∷ Own 0 0 ∷ owns 1 p) a) (slice_get i.functions 0)) o) (instance_there bytes)
 
-  pub stop_there : (bytes : List ℕ) → callee_at (store_of (fixed p pages) bytes) own 1 ≡ Some Stop
+  pub stop_there : (bytes : List ℕ) → callee_at (store_of (fixtures_of p pages) bytes) own 1 ≡ Some Stop
   stop_there bytes = ap (λ (o : Option Instance). option_and_then (λ (i : Instance). option_and_then (λ (a : ℕ). slice_get (Put ∷ Stop ∷ Own 0 0 ∷ owns 1 p) a) (slice_get i.functions 1)) o) (instance_there bytes)
 
-  pub memory_there : (bytes : List ℕ) → memory_of (store_of (fixed p pages) bytes) own ≡ Some (0, record { bytes = bytes; max = (fixed p pages).max })
+  pub memory_there : (bytes : List ℕ) → memory_of (store_of (fixtures_of p pages) bytes) own ≡ Some (0, record { bytes = bytes; max = (fixtures_of p pages).max })
   memory_there bytes = ap (λ (o : Option Instance). memory_in o) (instance_there bytes)
     where
       memory_in : Option Instance → Option (ℕ × Memory)
-      memory_in o = option_and_then (λ (i : Instance). option_and_then (λ (a : ℕ). option_and_then (λ (x : Memory). Some (a, x)) (slice_get (store_of (fixed p pages) bytes).memories a)) (slice_get i.memories 0)) o
+      memory_in o = option_and_then (λ (i : Instance). option_and_then (λ (a : ℕ). option_and_then (λ (x : Memory). Some (a, x)) (slice_get (store_of (fixtures_of p pages) bytes).memories a)) (slice_get i.memories 0)) o
 
-  pub global_in : (bytes : List ℕ) (g : ℕ) → global_at (store_of (fixed p pages) bytes) own g ≡ option_and_then (λ (a : ℕ). slice_get (link_values p pages) a) (slice_get instance.globals g)
+  pub global_in : (bytes : List ℕ) (g : ℕ) → global_at (store_of (fixtures_of p pages) bytes) own g ≡ option_and_then (λ (a : ℕ). slice_get (link_values p pages) a) (slice_get instance.globals g)
   global_in bytes g = ap (λ (o : Option Instance). option_and_then (λ (i : Instance). option_and_then (λ (a : ℕ). slice_get (link_values p pages) a) (slice_get i.globals g)) o) (instance_there bytes)
 
-  pub limit_there : (bytes : List ℕ) → global_at (store_of (fixed p pages) bytes) own 0 ≡ Some (I32 (65536 * pages))
+  pub limit_there : (bytes : List ℕ) → global_at (store_of (fixtures_of p pages) bytes) own 0 ≡ Some (I32 (65536 * pages))
   limit_there bytes = global_in bytes 0

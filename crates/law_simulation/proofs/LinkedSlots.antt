@@ -18,7 +18,7 @@ use Rattle.def_scheme.specs.Exprs.{is_own, import_place, slots_global}
 use Rattle.def_scheme.specs.Modules.{slots}
 use Rattle.law_modules.specs.Linked.{Program, names, imported_names, variables, text, image, base_at, text_at, tab_at, imported_places, slots_in, bytes_in}
 use Rattle.law_modules.proofs.Stores.{text_length}
-use Rattle.law_simulation.specs.RunsPrograms.{module_type, first_bytes, ground, fixed}
+use Rattle.law_simulation.specs.RunsPrograms.{module_type, first_bytes, ground, fixtures_of}
 use Rattle.law_simulation.proofs.Grounds.{top_is}
 use Rattle.law_simulation.specs.Knows.{IsCoherent}
 use Rattle.law_simulation.proofs.Globals.{Split, Import, imported_tab, tab_value, component_module, offset_module, here, global_at_place, known, name_there, its_place}
@@ -111,16 +111,16 @@ module _ (p : Program) (pages place : ℕ) (distinct : AreDistinct (names p)) (m
   within : place < length p
   within = slice_get_within p place m coherent.there
 
-  pub tab_own : (bytes : List ℕ) (home : ℕ) → is_own m home ≡ true → global_at (store_of (fixed p pages) bytes) (suc place) (slots_global m home) ≡ Some (I32 (1 + slots_in h.before))
+  pub tab_own : (bytes : List ℕ) (home : ℕ) → is_own m home ≡ true → global_at (store_of (fixtures_of p pages) bytes) (suc place) (slots_global m home) ≡ Some (I32 (1 + slots_in h.before))
   tab_own bytes home e =
-      ap (λ (b : Bool). global_at (store_of (fixed p pages) bytes) (suc place) (if b then 3 else 5 + 2 * import_place m home)) e
+      ap (λ (b : Bool). global_at (store_of (fixtures_of p pages) bytes) (suc place) (if b then 3 else 5 + 2 * import_place m home)) e
       ∙ global_at_place p pages place distinct m coherent bytes 3 (tab_at p m.name) (I32 (1 + slots_in h.before)) refl (tab_value p pages distinct h.before h.rest m h.is)
 
-  pub tab_imported : (bytes : List ℕ) (home : ℕ) → is_own m home ≡ false → (i : Import m home) → global_at (store_of (fixed p pages) bytes) (suc place) (slots_global m home) ≡ Some (I32 (1 + slots_in (its_place p pages place distinct m coherent home i).before))
+  pub tab_imported : (bytes : List ℕ) (home : ℕ) → is_own m home ≡ false → (i : Import m home) → global_at (store_of (fixtures_of p pages) bytes) (suc place) (slots_global m home) ≡ Some (I32 (1 + slots_in (its_place p pages place distinct m coherent home i).before))
   tab_imported bytes home e i =
       let s = its_place p pages place distinct m coherent home i in
       let k = known p pages place distinct m coherent home i in
-      ap (λ (b : Bool). global_at (store_of (fixed p pages) bytes) (suc place) (if b then 3 else 5 + 2 * import_place m home)) e
+      ap (λ (b : Bool). global_at (store_of (fixtures_of p pages) bytes) (suc place) (if b then 3 else 5 + 2 * import_place m home)) e
       ∙ global_at_place p pages place distinct m coherent bytes (5 + 2 * import_place m home) (tab_at p k.home.name) (I32 (1 + slots_in s.before))
       (ap (slice_get (0 ∷ base_at p m.name ∷ text_at p m.name ∷ tab_at p m.name ∷ imported_places p (imported_names m))) (let j : 5 + 2 * import_place m home ≡ suc (suc (suc (suc (suc (2 * import_place m home))))) = omega arith in j)
       ∙ imported_tab p (imported_names m) (import_place m home) k.home.name (name_there p pages place distinct m coherent home i))
@@ -128,7 +128,7 @@ module _ (p : Program) (pages place : ℕ) (distinct : AreDistinct (names p)) (m
 
   -- the same, by the module that is there
   pub tab_elsewhere : (bytes : List ℕ) (home : ℕ) → is_own m home ≡ false → (i : Import m home) → (other : TypedModule) (found : slice_get p (module_place p home) ≡ Some other) (coherent' : IsCoherent p (module_place p home) other)
-      → global_at (store_of (fixed p pages) bytes) (suc place) (slots_global m home) ≡ Some (I32 (1 + slots_in (here p pages (module_place p home) distinct other coherent').before))
+      → global_at (store_of (fixtures_of p pages) bytes) (suc place) (slots_global m home) ≡ Some (I32 (1 + slots_in (here p pages (module_place p home) distinct other coherent').before))
   tab_elsewhere bytes home e i other found coherent' =
       let s = its_place p pages place distinct m coherent home i in
       let t = here p pages (module_place p home) distinct other coherent' in

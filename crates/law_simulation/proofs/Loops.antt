@@ -15,7 +15,7 @@ use Rattle.def_meaning.specs.Outcome.{Outcome, Normal, Exited, Returned, sequenc
 use Rattle.def_meaning.specs.Answer as answer
 use Rattle.def_meaning.specs.Operators.{is_true}
 use Rattle.def_meaning.specs.Expressions.{Gives}
-use Rattle.def_meaning.specs.Statements.{Does, until_true, looped, loop_left}
+use Rattle.def_meaning.specs.Statements.{Does, until_true, loop_outcome, loop_left}
 use Rattle.def_scheme.specs.Coded.{Coded, Counts, plain, ◌⨾◌, within, is_zero}
 use Rattle.def_scheme.specs.Steps.{block_loop, loop, leaving}
 use Rattle.law_simulation.specs.Begun.{while_begun}
@@ -242,12 +242,12 @@ module _ (k : Scene) (function : Bool) (has : HasHelpers k) (small : AreSmall k.
       body_loops j r (Ended i out) next p h = ap (again exit loop_code stack j) p
       body_loops j r (answer.StillRunning out) next p h = ap (again exit loop_code stack j) p
 
-      loop_turns : (j : ℕ) (s : Source) (st : Target) → Stands k s st → Ends k function (suc exit) stack (leaves 0 stack) (turns j (runs k loop_code) st stack) (looped j (step k.around) s)
+      loop_turns : (j : ℕ) (s : Source) (st : Target) → Stands k s st → Ends k function (suc exit) stack (leaves 0 stack) (turns j (runs k loop_code) st stack) (loop_outcome j (step k.around) s)
       loop_turns zero s st h = ap StillRunning h.out
       loop_turns (suc j) s st h =
-          body_loops j (runs k loop_code st stack) (step k.around s) (looped j (step k.around)) (hy.goes 1 c free full s st h (instr.Br 0 ∷ []) stack) (λ s' st' h'. loop_turns j s' st' h')
+          body_loops j (runs k loop_code st stack) (step k.around s) (loop_outcome j (step k.around)) (hy.goes 1 c free full s st h (instr.Br 0 ∷ []) stack) (λ s' st' h'. loop_turns j s' st' h')
 
-    pub loop_executes : Executes k function (leaving 1 block_loop loop_coded) (λ a s. looped k.turns (step a) s)
+    pub loop_executes : Executes k function (leaving 1 block_loop loop_coded) (λ a s. loop_outcome k.turns (step a) s)
     loop_executes = record {
       grows = λ e c. hy.grows 1 c;
       goes = λ e c free full s st h rest stack.
@@ -256,6 +256,6 @@ module _ (k : Scene) (function : Bool) (has : HasHelpers k) (small : AreSmall k.
           block_runs k.modules k.fixed k.turns (calls k) k.own rest st None (instr.Loop None body_code ∷ []) stack
           ∙ ap (λ (r : Effect). then_run (out_of 0 (length stack) r) (runs k rest)) (loop_runs k.modules k.fixed k.turns (calls k) k.own [] st None body_code stack)
           in
-          subst (λ (r : Effect). Ends k function e stack (λ st. runs k rest st stack) r (looped k.turns (step k.around) s)) (sym path)
-          (after_loop e rest stack (turns k.turns (runs k body_code) st stack) (looped k.turns (step k.around) s) (loop_turns e c free full stack k.turns s st h));
+          subst (λ (r : Effect). Ends k function e stack (λ st. runs k rest st stack) r (loop_outcome k.turns (step k.around) s)) (sym path)
+          (after_loop e rest stack (turns k.turns (runs k body_code) st stack) (loop_outcome k.turns (step k.around) s) (loop_turns e c free full stack k.turns s st h));
     }

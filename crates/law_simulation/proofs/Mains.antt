@@ -12,7 +12,7 @@ use Rattle.law_effect.proofs.Steps.{split_end_at}
 use Rattle.typed_tree.specs.declared.typed_module.TypedModule.{TypedModule}
 use Rattle.layout_storage.specs.Types.{Ty, Scalar, Hidden, Cell, Field, row, component, IsFit}
 use Rattle.layout_storage.specs.Sizes.{size, offset}
-use Rattle.def_meaning.specs.Store.{Location, placed, fresh}
+use Rattle.def_meaning.specs.Store.{Location, overlay, fresh}
 use Rattle.def_meaning.specs.Answer.{State as Source, StillRunning}
 use Rattle.def_meaning.specs.Outcome.{Outcome, Normal, Exited, Returned}
 use Rattle.def_meaning.specs.Answer as answer
@@ -65,7 +65,7 @@ row_cell [] c e = cc e
 row_cell (u ∷ us) c e = cc e
 
 -- so it leaves the store alone
-holds_same : (program : Modules) (base : List Ty) (x : Location → ℕ → ℕ) (f s : Location → ℤ) (m : List ℕ) → Holds program (base ++ body_row ∷ []) x (placed (length base ∷ []) f s) m → Holds program (base ++ body_row ∷ []) x s m
+holds_same : (program : Modules) (base : List Ty) (x : Location → ℕ → ℕ) (f s : Location → ℤ) (m : List ℕ) → Holds program (base ++ body_row ∷ []) x (overlay (length base ∷ []) f s) m → Holds program (base ++ body_row ∷ []) x s m
 holds_same program base x f s m h = record {
   bytes = h.bytes;
   room = h.room;

@@ -9,7 +9,7 @@ use Rattle.wasm_tree.specs.declared.instr.Operation.{Operation}
 use Rattle.wasm_tree.specs.declared.instr.Operation.TheVariants.{Add, Sub}
 use Rattle.wasm_tree.specs.declared.store.Value.{Value}
 use Rattle.wasm_tree.specs.declared.store.Value.TheVariants.{I64}
-use Rattle.wasm_tree.specs.Numbers.{operated as made}
+use Rattle.wasm_tree.specs.Numbers.{operation_result as made}
 use Rattle.law_effect.specs.Effect.{State as Target, Effect}
 use Rattle.law_effect.proofs.Steps.{i64_runs, number_runs, two_64}
 use Rattle.typed_tree.specs.declared.types.TypeNo.{TypeNo}

@@ -10,7 +10,7 @@ use Rattle.wasm_tree.specs.declared.instr.Operation.TheVariants.{Add}
 use Rattle.wasm_tree.specs.declared.store.Value.{Value}
 use Rattle.wasm_tree.specs.declared.store.Value.TheVariants.{I32, I64}
 use Rattle.wasm_tree.specs.Machine.{bytes_at}
-use Rattle.wasm_tree.specs.Numbers.{load_size, loaded as loads}
+use Rattle.wasm_tree.specs.Numbers.{load_size, load_number as loads}
 use Rattle.law_effect.specs.Effect.{State as Target}
 use Rattle.law_effect.proofs.Steps.{i32_runs, i64_runs, number_runs, load_runs, global_runs, two_32}
 use Rattle.typed_tree.specs.declared.types.TypeNo.{TypeNo}
@@ -25,8 +25,8 @@ use Rattle.law_memory.specs.Relation.{Says}
 use Rattle.law_memory.proofs.Cells.{fetch_parts}
 use Rattle.law_memory.proofs.Places.{inside}
 use Rattle.law_memory.proofs.Worlds.{lies}
-use Rattle.def_scheme.specs.Coded.{raised, number, operation}
-use Rattle.def_scheme.specs.Cells.{load_scalar, load_room, load_of, is_nought, loaded, load_tree}
+use Rattle.def_scheme.specs.Coded.{raise_address, number, operation}
+use Rattle.def_scheme.specs.Cells.{load_scalar, load_room, load_of, is_nought, load_code, load_tree}
 use Rattle.def_scheme.specs.Exprs.{global_code, base_global, variables_row}
 use Rattle.law_simulation.specs.Scene.{Scene, calls, runs, place, HasHelpers, AreSmall, IsCell, IsGlobal, word, Stands, GivesNumber, GivesPlace}
 use Rattle.law_simulation.proofs.Operators.{operation_runs}
@@ -37,7 +37,7 @@ module _ (k : Scene) (has : HasHelpers k) (small : AreSmall k.setting.home.types
   place_small s st h l t e = let i = inside (row k.world) t l e in omega (arith, i, h.holds.room, h.long, room)
 
   -- an address is raised
-  pub raised_runs : (a n b : ℕ) (rest : List Instr) (st : Target) (stack : List Value) → a + n ≡ b → b < 2 ^ 32 → runs k (raised n ++ rest) st (stack ++ I32 a ∷ []) ≡ runs k rest st (stack ++ I32 b ∷ [])
+  pub raised_runs : (a n b : ℕ) (rest : List Instr) (st : Target) (stack : List Value) → a + n ≡ b → b < 2 ^ 32 → runs k (raise_address n ++ rest) st (stack ++ I32 a ∷ []) ≡ runs k rest st (stack ++ I32 b ∷ [])
   raised_runs a n b rest st stack e less =
       let f : (a + n) % 2 ^ 32 ≡ b = omega (arith, e, less) in
       i32_runs k.modules k.fixed k.turns (calls k) k.own (instr.Numeric numeric.I32Add ∷ rest) st n (stack ++ I32 a ∷ [])
@@ -55,7 +55,7 @@ module _ (k : Scene) (has : HasHelpers k) (small : AreSmall k.setting.home.types
   nought_word l e = grind (arith, e)
 
   abbrev Fetched : Scalar → (a : ℕ) → (v : ℤ) → Target → Type 0
-  Fetched c a v st = (bytes : List ℕ) × (bytes_at (load_size (cells.load_of c)) a st.bytes ≡ Some bytes) × (cells.raised c (loads (cells.load_of c) bytes) ≡ word v)
+  Fetched c a v st = (bytes : List ℕ) × (bytes_at (load_size (cells.load_of c)) a st.bytes ≡ Some bytes) × (cells.raise_cell c (loads (cells.load_of c) bytes) ≡ word v)
 
   abbrev FetchedPlain : Scalar → (a : ℕ) → (v : ℤ) → Target → Type 0
   FetchedPlain c a v st = (bytes : List ℕ) × (bytes_at (load_size (load_of c)) a st.bytes ≡ Some bytes) × (loads (load_of c) bytes ≡ word v)
@@ -106,7 +106,7 @@ module _ (k : Scene) (has : HasHelpers k) (small : AreSmall k.setting.home.types
 
   -- a scalar variable is loaded
   pub cell_runs : (t : TypeNo) (c : Scalar) → tree k.setting.home.types t ≡ Cell c → IsScalar c → (l : Location) (s : Source) (st : Target) → Stands k s st → component (row k.world) l ≡ Some (Cell c)
-      → (rest : List Instr) (stack : List Value) → runs k (loaded k.setting.home.types t ++ rest) st (stack ++ I32 (place k l) ∷ []) ≡ runs k rest st (stack ++ I64 (word (s.store l)) ∷ [])
+      → (rest : List Instr) (stack : List Value) → runs k (load_code k.setting.home.types t ++ rest) st (stack ++ I32 (place k l) ∷ []) ≡ runs k rest st (stack ++ I64 (word (s.store l)) ∷ [])
   unfolding size
   cell_runs t c is scalar l s st h type rest stack =
       let says = h.holds.cells l c type in
@@ -114,7 +114,7 @@ module _ (k : Scene) (has : HasHelpers k) (small : AreSmall k.setting.home.types
       ∙ scalar_runs c (place k l) (s.store l) rest st stack scalar h.holds.bytes (lies k.program k.world k.hidden s.store st.bytes h.holds l (Cell c) type) (subst (λ (a : ℕ). Says k.program c a (s.store l) st.bytes) (omega arith) says)
 
   pub loaded_gives : (t : TypeNo) (c : Scalar) → IsCell k.setting.home.types t c → (l : Location) (s : Source) (st : Target) → Stands k s st → component (row k.world) l ≡ Some (Cell c)
-      → (rest : List Instr) (stack : List Value) → GivesNumber k t (runs k rest) stack (s.store l) s (runs k (loaded k.setting.home.types t ++ rest) st (stack ++ I32 (place k l) ∷ []))
+      → (rest : List Instr) (stack : List Value) → GivesNumber k t (runs k rest) stack (s.store l) s (runs k (load_code k.setting.home.types t ++ rest) st (stack ++ I32 (place k l) ∷ []))
   loaded_gives t c cell l s st h type rest stack = record {
     st = st;
     stands = h;
@@ -127,7 +127,7 @@ module _ (k : Scene) (has : HasHelpers k) (small : AreSmall k.setting.home.types
   pub global_there : (v : Variable) (l : Location) (t : Ty) → IsGlobal k v l t → (s : Source) (st : Target) → Stands k s st → (rest : List Instr) (stack : List Value)
       → runs k (global_code k.setting.home v ++ rest) st stack ≡ runs k rest st (stack ++ I32 (place k l) ∷ [])
   global_there v l t is s st h rest stack =
-      global_runs k.modules k.fixed k.turns (calls k) k.own (raised (offset (variables_row k.setting.home v.home) (v.number ∷ [])) ++ rest) st (base_global k.setting.home v.home) (I32 is.base) stack (is.there st.bytes)
+      global_runs k.modules k.fixed k.turns (calls k) k.own (raise_address (offset (variables_row k.setting.home v.home) (v.number ∷ [])) ++ rest) st (base_global k.setting.home v.home) (I32 is.base) stack (is.there st.bytes)
       ∙ raised_runs is.base (offset (variables_row k.setting.home v.home) (v.number ∷ [])) (place k l) rest st stack is.at (let p = place_small s st h l t is.type in omega (arith, p))
 
   pub global_gives : (v : Variable) (l : Location) (t : Ty) → IsGlobal k v l t → (s : Source) (st : Target) → Stands k s st → (rest : List Instr) (stack : List Value)

@@ -9,8 +9,8 @@ use Rattle.wasm_tree.specs.declared.store.Callee.{Callee}
 use Rattle.wasm_tree.specs.declared.store.Callee.TheVariants.{Put, Stop, Own}
 use Rattle.wasm_tree.specs.declared.store.Store.{Store}
 use Rattle.wasm_tree.specs.declared.store.Value.{Value}
-use Rattle.wasm_tree.specs.Numbers.{stored}
-use Rattle.wasm_tree.specs.Machine.{Label, Activation, Config, Going, Over, Trapped, Progress, trapped, or_trap, split_last, split_end, topmost, top_i32, top_i64, calculated, callee_at, callee_in, global_at, memory_of, own_function, type_at, callee_type, agree, entered, stopped, called, called_as, pushed, returned, inside, kept, found, branched, branched_if, with_local, bytes_at, loads, stores, results_of, side, begun_layer, ended, next, reduce, run}
+use Rattle.wasm_tree.specs.Numbers.{store_bytes}
+use Rattle.wasm_tree.specs.Machine.{Label, Activation, Config, Going, Over, Trapped, Progress, trap_now, or_trap, split_last, split_end, topmost, top_i32, top_i64, calculation, callee_at, callee_in, global_at, memory_of, own_function, type_at, callee_type, agree, enter_function, stop_with, call_function, call_typed, push_value, return_to, inside, keep_operands, branch_to, branch_by, branched_if, with_local, bytes_at, loads, stores, results_of, side, begun_layer, end_block, next, reduce, run}
 use Rattle.law_effect.proofs.Reaching.{run-add}
 use Rattle.def_meaning.specs.Later.{Begins}
 use Rattle.def_meaning.proofs.After.{begins_more, joined}
@@ -31,32 +31,32 @@ if_few true p q h k = h
 if_few false p q h k = k
 
 module _ (modules : List WModule) (st : Store) (callers : List Activation) where
-  returned_few : (vs : List Value) → PrintsFew (returned st callers vs)
+  returned_few : (vs : List Value) → PrintsFew (return_to st callers vs)
   returned_few vs = go (split_last callers)
     where
       go : (p : Option (List Activation × Activation)) → PrintsFew (elim p as (λ _. Progress) [ None ↦ (Over 0, []) | Some p ↦ (Going st (record p.1 { stack = p.1.stack ++ vs }) p.0, []) ])
       go None = nothing
       go (Some p) = nothing
 
-  found_few : (a : Activation) (l : Option (List Label × Label)) → PrintsFew (found st a callers l)
-  found_few a None = trap_few (split_end a.arity a.stack) (λ p. returned st callers p.1) (λ p. returned_few p.1)
-  found_few a (Some l) = trap_few (split_end l.1.arity a.stack) (λ p. (Going st (record a { labels = l.0; rest = l.1.again; stack = kept l.1.height p }) callers, [])) (λ p. nothing)
+  found_few : (a : Activation) (l : Option (List Label × Label)) → PrintsFew (branch_to st a callers l)
+  found_few a None = trap_few (split_end a.arity a.stack) (λ p. return_to st callers p.1) (λ p. returned_few p.1)
+  found_few a (Some l) = trap_few (split_end l.1.arity a.stack) (λ p. (Going st (record a { labels = l.0; rest = l.1.again; stack = keep_operands l.1.height p }) callers, [])) (λ p. nothing)
 
-  branched_few : (a : Activation) (l : ℕ) → PrintsFew (branched st a callers l)
-  branched_few a l = if_few (nat_le l (length a.labels)) (found st a callers (split_last (take (length a.labels - l) a.labels))) trapped (found_few a (split_last (take (length a.labels - l) a.labels))) nothing
+  branched_few : (a : Activation) (l : ℕ) → PrintsFew (branch_by st a callers l)
+  branched_few a l = if_few (nat_le l (length a.labels)) (branch_to st a callers (split_last (take (length a.labels - l) a.labels))) trap_now (found_few a (split_last (take (length a.labels - l) a.labels))) nothing
 
-  called_few : (a : Activation) (c : Callee) → PrintsFew (called modules st a callers c)
+  called_few : (a : Activation) (c : Callee) → PrintsFew (call_function modules st a callers c)
   called_few a Put = trap_few (top_i64 a.stack) _ (λ p. one _)
-  called_few a Stop = trap_few (top_i64 a.stack) (λ p. (stopped p.1, [])) (λ p. nothing)
+  called_few a Stop = trap_few (top_i64 a.stack) (λ p. (stop_with p.1, [])) (λ p. nothing)
   called_few a (Own m f) =
-      trap_few (own_function modules m f) (λ t. or_trap (split_end (length t.type.params) a.stack) (λ p. (Going st (entered m t p.1) (callers ++ record a { stack = p.0 } ∷ []), [])))
-      (λ t. trap_few (split_end (length t.type.params) a.stack) (λ p. (Going st (entered m t p.1) (callers ++ record a { stack = p.0 } ∷ []), [])) (λ p. nothing))
+      trap_few (own_function modules m f) (λ t. or_trap (split_end (length t.type.params) a.stack) (λ p. (Going st (enter_function m t p.1) (callers ++ record a { stack = p.0 } ∷ []), [])))
+      (λ t. trap_few (split_end (length t.type.params) a.stack) (λ p. (Going st (enter_function m t p.1) (callers ++ record a { stack = p.0 } ∷ []), [])) (λ p. nothing))
 
-  called_as_few : (a : Activation) (asked : Option FuncType) (c : Callee) → PrintsFew (called_as modules st a callers asked c)
-  called_as_few a asked c = if_few (agree asked (callee_type modules c)) (called modules st a callers c) trapped (called_few a c) nothing
+  called_as_few : (a : Activation) (asked : Option FuncType) (c : Callee) → PrintsFew (call_typed modules st a callers asked c)
+  called_as_few a asked c = if_few (agree asked (callee_type modules c)) (call_function modules st a callers c) trap_now (called_few a c) nothing
 
   local_few : (a : Activation) (x : ℕ) (v : Value) → PrintsFew (with_local st a callers x v)
-  local_few a x v = if_few (nat_lt x (length a.locals)) _ trapped nothing nothing
+  local_few a x v = if_few (nat_lt x (length a.locals)) _ trap_now nothing nothing
 
   begun_few : (a : Activation) (i : Instr) (l : layer.Instr-F Instr) → PrintsFew (begun_layer modules st a callers i l)
   begun_few a i layer.Unreachable = nothing
@@ -66,31 +66,31 @@ module _ (modules : List WModule) (st : Store) (callers : List Activation) where
   begun_few a i (layer.Br x) = branched_few a x
   begun_few a i (layer.BrIf x) =
       trap_few (top_i32 a.stack) (λ p. branched_if st (record a { stack = p.0 }) callers x p.1)
-      (λ p. if_few (p.1 == 0) (Going st (record a { stack = p.0 }) callers, []) (branched st (record a { stack = p.0 }) callers x) nothing (branched_few (record a { stack = p.0 }) x))
+      (λ p. if_few (p.1 == 0) (Going st (record a { stack = p.0 }) callers, []) (branch_by st (record a { stack = p.0 }) callers x) nothing (branched_few (record a { stack = p.0 }) x))
   begun_few a i (layer.BrTable xs x) =
-      trap_few (top_i32 a.stack) (λ p. branched st (record a { stack = p.0 }) callers (slice_index_or xs p.1 x)) (λ p. branched_few (record a { stack = p.0 }) (slice_index_or xs p.1 x))
+      trap_few (top_i32 a.stack) (λ p. branch_by st (record a { stack = p.0 }) callers (slice_index_or xs p.1 x)) (λ p. branched_few (record a { stack = p.0 }) (slice_index_or xs p.1 x))
   begun_few a i layer.Return = found_few a None
-  begun_few a i (layer.Call x) = trap_few (callee_at st a.instance x) (called modules st a callers) (λ c. called_few a c)
+  begun_few a i (layer.Call x) = trap_few (callee_at st a.instance x) (call_function modules st a callers) (λ c. called_few a c)
   begun_few a i (layer.CallIndirect x) =
-      trap_few (top_i32 a.stack) (λ p. or_trap (callee_in st a.instance p.1) (called_as modules st (record a { stack = p.0 }) callers (type_at modules a.instance x)))
-      (λ p. trap_few (callee_in st a.instance p.1) (called_as modules st (record a { stack = p.0 }) callers (type_at modules a.instance x)) (λ c. called_as_few (record a { stack = p.0 }) (type_at modules a.instance x) c))
+      trap_few (top_i32 a.stack) (λ p. or_trap (callee_in st a.instance p.1) (call_typed modules st (record a { stack = p.0 }) callers (type_at modules a.instance x)))
+      (λ p. trap_few (callee_in st a.instance p.1) (call_typed modules st (record a { stack = p.0 }) callers (type_at modules a.instance x)) (λ c. called_as_few (record a { stack = p.0 }) (type_at modules a.instance x) c))
   begun_few a i layer.Drop = trap_few (split_last a.stack) (λ p. (Going st (record a { stack = p.0 }) callers, [])) (λ p. nothing)
-  begun_few a i (layer.LocalGet x) = trap_few (slice_get a.locals x) (pushed st a callers) (λ v. nothing)
+  begun_few a i (layer.LocalGet x) = trap_few (slice_get a.locals x) (push_value st a callers) (λ v. nothing)
   begun_few a i (layer.LocalSet x) = trap_few (split_last a.stack) (λ p. with_local st (record a { stack = p.0 }) callers x p.1) (λ p. local_few (record a { stack = p.0 }) x p.1)
   begun_few a i (layer.LocalTee x) = trap_few (topmost a.stack) (with_local st a callers x) (λ v. local_few a x v)
-  begun_few a i (layer.GlobalGet g) = trap_few (global_at st a.instance g) (pushed st a callers) (λ v. nothing)
+  begun_few a i (layer.GlobalGet g) = trap_few (global_at st a.instance g) (push_value st a callers) (λ v. nothing)
   begun_few a i (layer.Load kind) =
       trap_few (top_i32 a.stack) (λ p. or_trap (memory_of st a.instance) (loads st (record a { stack = p.0 }) callers kind p.1))
       (λ p. trap_few (memory_of st a.instance) (loads st (record a { stack = p.0 }) callers kind p.1) (λ m. trap_few (bytes_at _ p.1 m.1.bytes) _ (λ bytes. nothing)))
   begun_few a i (layer.Store width) =
-      trap_few (top_i64 a.stack) (λ v. or_trap (top_i32 v.0) (λ p. or_trap (memory_of st a.instance) (stores st (record a { stack = p.0 }) callers p.1 (stored width v.1))))
-      (λ v. trap_few (top_i32 v.0) (λ p. or_trap (memory_of st a.instance) (stores st (record a { stack = p.0 }) callers p.1 (stored width v.1)))
-      (λ p. trap_few (memory_of st a.instance) (stores st (record a { stack = p.0 }) callers p.1 (stored width v.1)) (λ m. if_few _ _ trapped nothing nothing)))
+      trap_few (top_i64 a.stack) (λ v. or_trap (top_i32 v.0) (λ p. or_trap (memory_of st a.instance) (stores st (record a { stack = p.0 }) callers p.1 (store_bytes width v.1))))
+      (λ v. trap_few (top_i32 v.0) (λ p. or_trap (memory_of st a.instance) (stores st (record a { stack = p.0 }) callers p.1 (store_bytes width v.1)))
+      (λ p. trap_few (memory_of st a.instance) (stores st (record a { stack = p.0 }) callers p.1 (store_bytes width v.1)) (λ m. if_few _ _ trap_now nothing nothing)))
   begun_few a i (layer.I32Const n) = nothing
   begun_few a i (layer.I64Const n) = nothing
-  begun_few a i (layer.Numeric o) = trap_few (calculated o a.stack) (λ p. pushed st (record a { stack = p.0 }) callers p.1) (λ p. nothing)
+  begun_few a i (layer.Numeric o) = trap_few (calculation o a.stack) (λ p. push_value st (record a { stack = p.0 }) callers p.1) (λ p. nothing)
 
-  ended_few : (a : Activation) (l : Option (List Label × Label)) → PrintsFew (ended st a callers l)
+  ended_few : (a : Activation) (l : Option (List Label × Label)) → PrintsFew (end_block st a callers l)
   ended_few a None = found_few a None
   ended_few a (Some l) = nothing
 

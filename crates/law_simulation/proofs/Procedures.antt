@@ -18,11 +18,11 @@ use Rattle.def_meaning.specs.Outcome.{Outcome, Normal, Returned}
 use Rattle.def_meaning.specs.Answer as answer
 use Rattle.def_meaning.specs.Environment.{Number}
 use Rattle.def_meaning.specs.Expressions.{as_type, within_range}
-use Rattle.def_meaning.specs.Statements.{stored as stores}
+use Rattle.def_meaning.specs.Statements.{store_number as stores}
 use Rattle.law_memory.specs.Relation.{Means, IsProcedureValue, Full}
 use Rattle.law_memory.proofs.Procedures.{callable_scalar}
 use Rattle.law_memory.proofs.Worlds.{same_cell}
-use Rattle.def_scheme.specs.Cells.{is_free, in_type, in_range, check_taken, loaded, stored}
+use Rattle.def_scheme.specs.Cells.{is_free, in_type, in_range, check_taken, load_code, store_code}
 use Rattle.law_simulation.specs.Scene.{Scene, IsResult, IsIn, calls, runs, place, word, Stands, Into, GivesNumber, GivesPlace, inside, Ends}
 use Rattle.law_simulation.proofs.Words.{IsWide}
 use Rattle.law_simulation.proofs.Parts.{into_then, grows_more, grows_same, has_before, free_after}
@@ -41,7 +41,7 @@ held_loads k set p ask t h d found is hd = record {
   grows = λ e c. hd.grows e c;
   gives = λ e c free full s st stands rest stack.
       let first = d (inside k e) c in
-      let list : List Instr = loaded k.setting.home.types t in
+      let list : List Instr = load_code k.setting.home.types t in
       subst (λ (code : List Instr). Into (GivesHeld k h (runs k rest) stack) (runs k code st stack) (found k.around s ▷ λ l s. answer.Value (s.store l) s)) (sym (append_assoc first.0 list rest))
       (into_then (GivesPlace k (Cell (Callable h)) (runs k (list ++ rest)) stack) (GivesHeld k h (runs k rest) stack) (runs k (first.0 ++ (list ++ rest)) st stack) (found k.around s) (λ l s. answer.Value (s.store l) s)
       (hd.gives e c free full s st stands (list ++ rest) stack)
@@ -164,7 +164,7 @@ held_assigns k set function t h d e found value is hd he = record {
   goes = λ x counts free full s st stands rest stack.
       let first = d (inside k x) counts in
       let second = e (inside k x) first.1 in
-      let list : List Instr = stored k.setting.home.types t in
+      let list : List Instr = store_code k.setting.home.types t in
       let next : Location → Source → Outcome = λ l s. (value k.around s ▷ (λ v s. answer.Value Normal (stores l v s))) in
       subst (λ (code : List Instr). Ends k function x stack (λ st. runs k rest st stack) (runs k code st stack) (found k.around s ▷ next)) (sym (append_assoc first.0 (second.0 ++ list) rest ∙ ap (λ (c : List Instr). first.0 ++ c) (append_assoc second.0 list rest)))
       (ends_at k set.helpers set.small set.room function x stack (λ st. runs k rest st stack) (Cell (Callable h)) (runs k (second.0 ++ (list ++ rest))) (runs k (first.0 ++ (second.0 ++ (list ++ rest))) st stack) (found k.around s) next

@@ -19,7 +19,7 @@ use Rattle.typed_tree.specs.Known.{scalar_at}
 use Rattle.def_meaning.specs.Answer.{Ended, divisor_fault}
 use Rattle.def_meaning.specs.Answer as answer
 use Rattle.def_meaning.specs.Operators.{quotient, remainder}
-use Rattle.def_meaning.specs.Expressions.{divided}
+use Rattle.def_meaning.specs.Expressions.{division_by}
 use Rattle.wasm_tree.specs.declared.kinds.ValueType.TheVariants as kind
 use Rattle.law_effect.proofs.Steps.{split_end_at}
 use Rattle.def_scheme.specs.Helpers.{divisor_checked, div_rest, mod_typed, helper}
@@ -131,9 +131,9 @@ module _ (k : Scene) (has : HasHelpers k) (small : AreSmall k.setting.home.types
   divided_makes : (t u w : TypeNo) (f : ℕ) (made : ℕ → ℕ → ℕ) (of : ℤ → ℤ → ℤ) → Called f made
       → ((x : ℤ) (b : ℕ) → IsNarrow x → IsNarrow (pos (suc b)) → made (word x) (word (pos (suc b))) ≡ word (of x (pos (suc b))))
       → ((x : ℤ) (b : ℕ) → IsValue types t x → IsValue types u (pos (suc b)) → IsValue types w (of x (pos (suc b))))
-      → Makes k has small t u w (instr.Call f ∷ []) (λ x y s. divided of x y s)
+      → Makes k has small t u w (instr.Call f ∷ []) (λ x y s. division_by of x y s)
   divided_makes t u w f made of call is_word in_type x hx y hy s st h rest stack =
-      subst (λ (r : Effect). Into (GivesNumber k w (runs k rest) stack) r (divided of x y s)) (sym path) (by y hy)
+      subst (λ (r : Effect). Into (GivesNumber k w (runs k rest) stack) r (division_by of x y s)) (sym path) (by y hy)
     where
       on : ℤ → Effect
       on y = runs k rest st (stack ++ I64 (made (word x) (word y)) ∷ [])
@@ -149,7 +149,7 @@ module _ (k : Scene) (has : HasHelpers k) (small : AreSmall k.setting.home.types
           call (word x) (word y) st rest stack
           ∙ ap₂ (λ (a b : Bool). tested a b st.out (on y)) (less_is y (pos 1) wide_y (bound 1 (omega arith))) (less_is (pos 4294967295) y (bound 4294967295 (omega arith)) wide_y)
 
-      by : (y : ℤ) → IsValue types u y → Into (GivesNumber k w (runs k rest) stack) (tested (int_lt y (pos 1)) (int_lt (pos 4294967295) y) st.out (on y)) (divided of x y s)
+      by : (y : ℤ) → IsValue types u y → Into (GivesNumber k w (runs k rest) stack) (tested (int_lt y (pos 1)) (int_lt (pos 4294967295) y) st.out (on y)) (division_by of x y s)
       by (negsuc n) hy = ap (effects.Ended 4) h.out
       by (pos zero) hy = ap (effects.Ended 4) h.out
       by (pos (suc n)) hy =
@@ -164,10 +164,10 @@ module _ (k : Scene) (has : HasHelpers k) (small : AreSmall k.setting.home.types
                 ∙ ap (λ (i : ℕ). runs k rest st (stack ++ I64 i ∷ [])) (is_word x n (narrow k has small t x hx) (narrow k has small u (pos (suc n)) hy));
           })
 
-  pub quotient_makes : (t u w : TypeNo) → AreAmong types t w → IsValue types w (pos 0) → Makes k has small t u w (instr.Call 5 ∷ []) (λ x y s. divided quotient x y s)
+  pub quotient_makes : (t u w : TypeNo) → AreAmong types t w → IsValue types w (pos 0) → Makes k has small t u w (instr.Call 5 ∷ []) (λ x y s. division_by quotient x y s)
   quotient_makes t u w among nought =
       divided_makes t u w 5 divided_down quotient div_here quotient_word (λ x b hx hy. quotient_in (scalar_at types w) x b (among x hx) nought)
 
-  pub remainder_makes : (t u w : TypeNo) → AreAmong types u w → IsValue types w (pos 0) → Makes k has small t u w (instr.Call 6 ∷ []) (λ x y s. divided remainder x y s)
+  pub remainder_makes : (t u w : TypeNo) → AreAmong types u w → IsValue types w (pos 0) → Makes k has small t u w (instr.Call 6 ∷ []) (λ x y s. division_by remainder x y s)
   remainder_makes t u w among nought =
       divided_makes t u w 6 modulo remainder mod_here remainder_word (λ x b hx hy. remainder_in (scalar_at types w) x b (among (pos (suc b)) hy) nought)

@@ -13,7 +13,7 @@ use Rattle.wasm_tree.specs.declared.instr.Relation.{Relation}
 use Rattle.wasm_tree.specs.declared.store.Value.{Value}
 use Rattle.wasm_tree.specs.declared.store.Value.TheVariants.{I32, I64}
 use Rattle.wasm_tree.specs.Numbers.{truth, compares}
-use Rattle.law_effect.specs.Effect.{State as Target, Effect, FellThrough, Does, then_run, out_of, exec, picked}
+use Rattle.law_effect.specs.Effect.{State as Target, Effect, FellThrough, Does, then_run, out_of, exec, pick_branch}
 use Rattle.law_effect.specs.Effect as effects
 use Rattle.law_effect.proofs.Steps.{i64_runs, number_runs, one_32, one_64, two_64, if_runs}
 use Rattle.typed_tree.specs.declared.types.TypeNo.{TypeNo}
@@ -23,9 +23,9 @@ use Rattle.typed_tree.specs.Types.{boolean}
 use Rattle.def_meaning.specs.Answer.{State as Source, Answer, Ended, StillRunning}
 use Rattle.def_meaning.specs.Answer as answer
 use Rattle.def_meaning.specs.Operators as of
-use Rattle.def_meaning.specs.Operators.{compared, is_true}
+use Rattle.def_meaning.specs.Operators.{comparison_holds, is_true}
 use Rattle.def_meaning.specs.Expressions.{Gives}
-use Rattle.def_scheme.specs.Coded.{Coded, Counts, relation, extended, is_zero, wrapped}
+use Rattle.def_scheme.specs.Coded.{Coded, Counts, relation, extend_word, is_zero, wrap_word}
 use Rattle.def_scheme.specs.Exprs.{relation_of, empty_code, and_code, or_code, chosen_number}
 use Rattle.law_simulation.specs.Scene.{Scene, calls, runs, HasHelpers, IsValue, AreSmall, word, Stands, Into, GivesNumber, IsFree, HasLocals, inside, Agrees, GoesOn}
 use Rattle.law_simulation.proofs.Parts.{Goes}
@@ -53,7 +53,7 @@ equal_is x y hx hy = by (int_le x y && int_le y x) refl
     by true e = eq-eqb (word x) (word y) (ap word (both_ways x y e))
     by false e = ne_eqb (word x) (word y) (apart e)
 
-pub compared_is : (o : Comparison) (x y : ℤ) → IsWide x → IsWide y → compares w64 (relation_of o) (word x) (word y) ≡ compared o x y
+pub compared_is : (o : Comparison) (x y : ℤ) → IsWide x → IsWide y → compares w64 (relation_of o) (word x) (word y) ≡ comparison_holds o x y
 compared_is compare.Equal x y hx hy = equal_is x y hx hy
 compared_is compare.Unequal x y hx hy = ap not (equal_is x y hx hy)
 compared_is compare.Less x y hx hy = less_is x y hx hy
@@ -82,10 +82,10 @@ module _ (k : Scene) (has : HasHelpers k) (small : AreSmall k.setting.home.types
     run = e ∙ ap (λ (n : ℕ). runs k rest st (stack ++ I64 n ∷ [])) (truth_word b);
   }
 
-  pub extended_runs : (n : ℕ) (rest : List Instr) (st : Target) (stack : List Value) → runs k (extended ∷ rest) st (stack ++ I32 n ∷ []) ≡ runs k rest st (stack ++ I64 n ∷ [])
+  pub extended_runs : (n : ℕ) (rest : List Instr) (st : Target) (stack : List Value) → runs k (extend_word ∷ rest) st (stack ++ I32 n ∷ []) ≡ runs k rest st (stack ++ I64 n ∷ [])
   extended_runs n rest st stack = number_runs k.modules k.fixed k.turns (calls k) k.own rest st numeric.I64ExtendI32U (stack ++ I32 n ∷ []) stack (I64 n) (one_32 stack n I64)
 
-  pub wrapped_runs : (n : ℕ) (rest : List Instr) (st : Target) (stack : List Value) → runs k (wrapped ∷ rest) st (stack ++ I64 n ∷ []) ≡ runs k rest st (stack ++ I32 (n % 2 ^ 32) ∷ [])
+  pub wrapped_runs : (n : ℕ) (rest : List Instr) (st : Target) (stack : List Value) → runs k (wrap_word ∷ rest) st (stack ++ I64 n ∷ []) ≡ runs k rest st (stack ++ I32 (n % 2 ^ 32) ∷ [])
   wrapped_runs n rest st stack = number_runs k.modules k.fixed k.turns (calls k) k.own rest st numeric.I32WrapI64 (stack ++ I64 n ∷ []) stack (I32 (n % 2 ^ 32)) (one_64 stack n (λ i. I32 (i % 2 ^ 32)))
 
   pub relation_runs : (r : Relation) (i j : ℕ) (rest : List Instr) (st : Target) (stack : List Value)
@@ -94,11 +94,11 @@ module _ (k : Scene) (has : HasHelpers k) (small : AreSmall k.setting.home.types
       number_runs k.modules k.fixed k.turns (calls k) k.own rest st (numeric.I64Relation r) ((stack ++ I64 i ∷ []) ++ I64 j ∷ []) stack (I32 (truth (compares w64 r i j)))
       (two_64 stack i j (λ n m. Some (I32 (truth (compares w64 r n m)))))
 
-  pub compare_makes : (t u : TypeNo) (o : Comparison) → Makes k has small t u boolean (relation (relation_of o) ∷ extended ∷ []) (λ x y s. answer.Value (of.truth (compared o x y)) s)
+  pub compare_makes : (t u : TypeNo) (o : Comparison) → Makes k has small t u boolean (relation (relation_of o) ∷ extend_word ∷ []) (λ x y s. answer.Value (of.truth (comparison_holds o x y)) s)
   compare_makes t u o x hx y hy s st h rest stack =
       let nx = narrow k has small t x hx in let ny = narrow k has small u y hy in
-      truth_gives (compared o x y) s st h rest stack _
-      (relation_runs (relation_of o) (word x) (word y) (extended ∷ rest) st stack
+      truth_gives (comparison_holds o x y) s st h rest stack _
+      (relation_runs (relation_of o) (word x) (word y) (extend_word ∷ rest) st stack
       ∙ extended_runs (truth (compares w64 (relation_of o) (word x) (word y))) rest st stack
       ∙ ap (λ (b : Bool). runs k rest st (stack ++ I64 (truth b) ∷ [])) (compared_is o x y (wide x nx) (wide y ny)))
 
@@ -115,7 +115,7 @@ module _ (k : Scene) (has : HasHelpers k) (small : AreSmall k.setting.home.types
   pub not_goes : Goes k boolean boolean empty_code (λ v s. answer.Value (of.truth (not (is_true v))) s)
   not_goes v is s st h rest stack =
       truth_gives (not (is_true v)) s st h rest stack _
-      (zero_runs (word v) (extended ∷ rest) st stack ∙ extended_runs (truth (word v == 0)) rest st stack
+      (zero_runs (word v) (extend_word ∷ rest) st stack ∙ extended_runs (truth (word v == 0)) rest st stack
       ∙ ap (λ (b : Bool). runs k rest st (stack ++ I64 (truth b) ∷ [])) (is_zero_true v is.0 (wide v (narrow k has small boolean v is))))
 
   -- ---- AND and OR: the second operand stands in one side of an if
@@ -178,7 +178,7 @@ module _ (k : Scene) (has : HasHelpers k) (small : AreSmall k.setting.home.types
       where
         by : (ex : ℕ) (c : Counts) → IsFree k c → HasLocals k (y (inside k (ex + 1)) c).1 → (v : ℤ) → IsValue k.setting.home.types boolean v
             → (s : Source) (st : Target) → Stands k s st → (rest : List Instr) (stack : List Value) (b : Bool) → is_true v ≡ b
-            → Into (Numbers boolean rest stack) (runs k (wrapped ∷ chosen_number (y (inside k (ex + 1)) c).0 (instr.I64Const 0 ∷ []) ∷ rest) st (stack ++ I64 (word v) ∷ [])) (if b then value k.around s else answer.Value (of.truth false) s)
+            → Into (Numbers boolean rest stack) (runs k (wrap_word ∷ chosen_number (y (inside k (ex + 1)) c).0 (instr.I64Const 0 ∷ []) ∷ rest) st (stack ++ I64 (word v) ∷ [])) (if b then value k.around s else answer.Value (of.truth false) s)
         by ex c free full v is s st h rest stack true e =
             let code : List Instr = (y (inside k (ex + 1)) c).0 in
             let other : List Instr = instr.I64Const 0 ∷ [] in
@@ -203,7 +203,7 @@ module _ (k : Scene) (has : HasHelpers k) (small : AreSmall k.setting.home.types
       where
         by : (ex : ℕ) (c : Counts) → IsFree k c → HasLocals k (y (inside k (ex + 1)) c).1 → (v : ℤ) → IsValue k.setting.home.types boolean v
             → (s : Source) (st : Target) → Stands k s st → (rest : List Instr) (stack : List Value) (b : Bool) → is_true v ≡ b
-            → Into (Numbers boolean rest stack) (runs k (wrapped ∷ chosen_number (instr.I64Const 1 ∷ []) (y (inside k (ex + 1)) c).0 ∷ rest) st (stack ++ I64 (word v) ∷ [])) (if b then answer.Value (of.truth true) s else value k.around s)
+            → Into (Numbers boolean rest stack) (runs k (wrap_word ∷ chosen_number (instr.I64Const 1 ∷ []) (y (inside k (ex + 1)) c).0 ∷ rest) st (stack ++ I64 (word v) ∷ [])) (if b then answer.Value (of.truth true) s else value k.around s)
         by ex c free full v is s st h rest stack true e =
             let code : List Instr = (y (inside k (ex + 1)) c).0 in
             let other : List Instr = instr.I64Const 1 ∷ [] in

@@ -5,7 +5,7 @@ use Rattle.std.specs.Int.{w64, to_le_bytes}
 use Rattle.std.proofs.lemmas.Bool.{ne_eqb}
 use Rattle.layout_storage.specs.Types.{Ty, row, component}
 use Rattle.layout_storage.specs.Sizes.{Four, size, offset}
-use Rattle.def_meaning.specs.Store.{Location, behind, placed}
+use Rattle.def_meaning.specs.Store.{Location, behind, overlay}
 use Rattle.law_memory.specs.Cells.{stored_in}
 use Rattle.law_memory.specs.Relation.{Keeps}
 use Rattle.law_memory.proofs.Worlds.{placed_behind, placed_else, component_old, offset_old}
@@ -33,24 +33,24 @@ unfolding behind
 other_root root i q p ne = ap (λ (b : Bool). if b then behind q p else None) (ne_eqb root i ne)
 
 -- a write to the hidden room of variable v, or of a newer instance
-pub same_placed : (root v : ℕ) (q : Location) (f x : Location → ℕ → ℕ) → SameBelow root v x (placed (root ∷ suc v ∷ q) f x)
+pub same_placed : (root v : ℕ) (q : Location) (f x : Location → ℕ → ℕ) → SameBelow root v x (overlay (root ∷ suc v ∷ q) f x)
 same_placed root v q f x = record {
   older = λ i p k h. ap (λ (g : ℕ → ℕ). g k) (placed_else (root ∷ suc v ∷ q) (i ∷ p) f x (other_root root i (suc v ∷ q) p (λ e. omega (arith, h, e))));
   own = λ j r k h. ap (λ (g : ℕ → ℕ). g k) (placed_else (root ∷ suc v ∷ q) (root ∷ j ∷ r) f x (other_variable root (suc v) j q r (λ e. omega (arith, h, e))));
 }
 
-pub same_newer : (root v next : ℕ) (f x : Location → ℕ → ℕ) → root < next → SameBelow root v x (placed (next ∷ []) f x)
+pub same_newer : (root v next : ℕ) (f x : Location → ℕ → ℕ) → root < next → SameBelow root v x (overlay (next ∷ []) f x)
 same_newer root v next f x less = record {
   older = λ i p k h. ap (λ (g : ℕ → ℕ). g k) (placed_else (next ∷ []) (i ∷ p) f x (other_root next i [] p (λ e. omega (arith, h, e, less))));
   own = λ j r k h. ap (λ (g : ℕ → ℕ). g k) (placed_else (next ∷ []) (root ∷ j ∷ r) f x (other_root next root [] (j ∷ r) (λ e. omega (arith, e, less))));
 }
 
 -- the link of the frame is written before all formals
-pub older_placed : (root : ℕ) (q : Location) (f x : Location → ℕ → ℕ) (i : ℕ) (p : Location) (k : ℕ) → i < root → placed (root ∷ q) f x (i ∷ p) k ≡ x (i ∷ p) k
+pub older_placed : (root : ℕ) (q : Location) (f x : Location → ℕ → ℕ) (i : ℕ) (p : Location) (k : ℕ) → i < root → overlay (root ∷ q) f x (i ∷ p) k ≡ x (i ∷ p) k
 older_placed root q f x i p k h = ap (λ (g : ℕ → ℕ). g k) (placed_else (root ∷ q) (i ∷ p) f x (other_root root i q p (λ e. omega (arith, h, e))))
 
-pub keeps_placed : (to : Location) (ys : List ℕ) (x : Location → ℕ → ℕ) → Keeps (placed to (λ r k. get_or ys k 0) x) to ys
-keeps_placed to ys x k h = ap (λ (l : Location). placed to (λ r k. get_or ys k 0) x l k) (sym (append-nil to)) ∙ ap (λ (g : ℕ → ℕ). g k) (placed_behind to [] (λ r k. get_or ys k 0) x)
+pub keeps_placed : (to : Location) (ys : List ℕ) (x : Location → ℕ → ℕ) → Keeps (overlay to (λ r k. get_or ys k 0) x) to ys
+keeps_placed to ys x k h = ap (λ (l : Location). overlay to (λ r k. get_or ys k 0) x l k) (sym (append-nil to)) ∙ ap (λ (g : ℕ → ℕ). g k) (placed_behind to [] (λ r k. get_or ys k 0) x)
 
 pub keeps_then : (x x' : Location → ℕ → ℕ) (l : Location) (ys : List ℕ) → ((k : ℕ) → x' l k ≡ x l k) → Keeps x l ys → Keeps x' l ys
 keeps_then x x' l ys e h k less = e k ∙ h k less

@@ -20,13 +20,13 @@ use Rattle.layout_storage.specs.Types.{Ty, row, component, IsFit}
 use Rattle.layout_storage.specs.Sizes.{size, offset}
 use Rattle.layout_storage.specs.Frames.{formals_of, frame}
 use Rattle.layout_storage.specs.Shapes.{tree}
-use Rattle.def_meaning.specs.Store.{Location, Store, placed, fresh}
+use Rattle.def_meaning.specs.Store.{Location, Store, overlay, fresh}
 use Rattle.def_meaning.specs.Answer as answer
 use Rattle.def_meaning.specs.Answer.{State as Source, Answer, StillRunning}
 use Rattle.def_meaning.specs.Outcome.{Outcome, Normal, Exited}
 use Rattle.def_meaning.specs.Outcome as outcome
 use Rattle.def_meaning.specs.Environment.{Modules, Environment, Named, Frames, Passed}
-use Rattle.def_meaning.specs.Calls.{Entered, with_all, is_function, is_there as there_meaning, result, entered, environment_of, variables_from, needed}
+use Rattle.def_meaning.specs.Calls.{Entered, with_all, is_function, is_there as there_meaning, result, enter_call, environment_of, variables_from, storage_need}
 use Rattle.def_meaning.specs.Expressions.{Asks}
 use Rattle.law_memory.specs.Relation.{Holds}
 use Rattle.law_memory.proofs.Worlds.{row_size, call_ends, offset_old}
@@ -302,13 +302,13 @@ module _ (k : Scene) (p : Modules) (ask asks : Asks) (called : Calling) (numbere
     world1 = world ++ F ∷ []
 
     abbrev store1 : Store
-    store1 = placed (root ∷ []) (fresh F) s.store
+    store1 = overlay (root ∷ []) (fresh F) s.store
 
     abbrev Staged : (Location → ℕ → ℕ) → Target → Type 0
     Staged y st = OnStage K0 (set_at [] (λ l j. 0) 0 nowhere refl) (limit_at [] (λ l j. 0) 0 nowhere) root top F args s.out posi two world1 y store1 st
 
     abbrev x1 : Location → ℕ → ℕ
-    x1 = placed (root ∷ []) (λ q j. 0) x
+    x1 = overlay (root ∷ []) (λ q j. 0) x
 
     older1 : (i : ℕ) (q : Location) (j : ℕ) → i < length world → x1 (i ∷ q) j ≡ x (i ∷ q) j
     older1 i q j less = older_placed root [] (λ q j. 0) x i q j less
@@ -341,7 +341,7 @@ module _ (k : Scene) (p : Modules) (ask asks : Asks) (called : Calling) (numbere
         let more : 1 < top = omega (arith, one) in
         let step = link_step K0 (set_at [] (λ l j. 0) 0 nowhere refl) (limit_at [] (λ l j. 0) 0 nowhere) root top kinds args s.out posi two world1 x1 store1 st n rest more at g in
         record {
-          y = placed (root ∷ 0 ∷ 0 ∷ []) (λ q j. get_or (to_le_bytes w64 n) j 0) x1;
+          y = overlay (root ∷ 0 ∷ 0 ∷ []) (λ q j. get_or (to_le_bytes w64 n) j 0) x1;
           m' = step.0;
           stage = step.1;
           older = λ i q j less. older_placed root (0 ∷ 0 ∷ []) (λ q j. get_or (to_le_bytes w64 n) j 0) x1 i q j less ∙ older1 i q j less;
@@ -362,7 +362,7 @@ module _ (k : Scene) (p : Modules) (ask asks : Asks) (called : Calling) (numbere
     world2 = world1 ++ copies
 
     abbrev need : ℕ
-    need = needed m.types r vs
+    need = storage_need m.types r vs
 
     sizes : size (row world2) ≡ size (row world) + need
     sizes =
@@ -373,9 +373,9 @@ module _ (k : Scene) (p : Modules) (ask asks : Asks) (called : Calling) (numbere
         omega (arith, a, b, c, d)
 
     -- what the language makes of the formals
-    entered_is : entered m.types r root vs s.store ≡ e1
+    entered_is : enter_call m.types r root vs s.store ≡ e1
     entered_is =
-        ap (λ (u : Ty). with_all root (formals_of m.types r.heading) vs (record { names = []; next = suc root; store = placed (root ∷ []) (fresh u) s.store })) (frame_is m.types r)
+        ap (λ (u : Ty). with_all root (formals_of m.types r.heading) vs (record { names = []; next = suc root; store = overlay (root ∷ []) (fresh u) s.store })) (frame_is m.types r)
         ∙ all_names m.types root (formals_of m.types r.heading) vs e0
 
     abbrev body_around : Environment
@@ -535,6 +535,6 @@ routine_does k p ask asks called numbered m place r outer text kss base texts f 
     (subst (λ (R : Effect). on (arity (result_of m.types r.heading)) R) (sym (enters args bytes s.out))
     (subst (λ (a : Answer ℤ). Into (CallGives k.program world x k.limit (result_of m.types r.heading) locals below) (back (arity (result_of m.types r.heading)) locals below (runs k t.function.body.code (record { locals = args ++ flat_map zeros t.function.body.locals; bytes = bytes; out = s.out }) [])) a) (sym (asked vs (length world) left s))
     (subst (λ (e : Entered). Into (CallGives k.program world x k.limit (result_of m.types r.heading) locals below) (back (arity (result_of m.types r.heading)) locals below (runs k t.function.body.code (record { locals = args ++ flat_map zeros t.function.body.locals; bytes = bytes; out = s.out }) []))
-    (if nat_lt left (needed m.types r vs) then answer.Ended 8 s.out else result (is_function m.types r) (body_does p k.turns ask r.body (environment_of (callee_of place m r nss) (length world) e (left - needed m.types r vs)) (record s { store = e.store }))))
+    (if nat_lt left (storage_need m.types r vs) then answer.Ended 8 s.out else result (is_function m.types r) (body_does p k.turns ask r.body (environment_of (callee_of place m r nss) (length world) e (left - storage_need m.types r vs)) (record s { store = e.store }))))
     (sym (entered_is k p ask asks called numbered m place r outer text kss base texts f t proc fn body nss world x based roots chain s bytes holds long vs values passed left whole locals below))
     (goes_on k p ask asks called numbered m place r outer text kss base texts f t proc fn body nss world x based roots chain s bytes holds long vs values passed left whole locals below))))

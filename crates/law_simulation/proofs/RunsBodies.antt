@@ -3,10 +3,10 @@ use Rattle.std.proofs.Common.{◌≡◌, ℕ, zero, suc, ◌+◌, ◌-◌, Bool,
 use Rattle.wasm_tree.specs.declared.module.WModule.{WModule}
 use Rattle.wasm_tree.specs.declared.store.Value.{Value}
 use Rattle.wasm_tree.specs.declared.store.Value.TheVariants.{I32}
-use Rattle.wasm_tree.specs.Machine.{Config, Going, Over, Trapped, Progress, Typed, entered}
+use Rattle.wasm_tree.specs.Machine.{Config, Going, Over, Trapped, Progress, Typed, enter_function}
 use Rattle.wasm_tree.specs.Machine as machine
-use Rattle.law_effect.specs.Effect.{State as Target, store_of, Effect, FellThrough, Branched, Returned, Ended, Traps, StillRunning, Calling, back, effect, calling, nested, then_run}
-use Rattle.law_effect.specs.Laws.{Reaches, GoesOn, RunLeads, comes, shown, IsOver}
+use Rattle.law_effect.specs.Effect.{State as Target, store_of, Effect, FellThrough, Branched, Returned, Ended, Traps, StillRunning, Calling, back, effect, calling, nest_calls, then_run}
+use Rattle.law_effect.specs.Laws.{Reaches, GoesOn, RunLeads, comes, output_shown, IsOver}
 use Rattle.law_effect.proofs.Follows.{nested_runs}
 use Rattle.law_effect.proofs.Whole.{nested_only, nested_prints}
 use Rattle.layout_storage.specs.Types.{row}
@@ -17,7 +17,7 @@ use Rattle.def_meaning.specs.Outcome as outcome
 use Rattle.def_meaning.specs.Answer as answer
 use Rattle.def_meaning.specs.Environment.{Modules}
 use Rattle.def_meaning.specs.Runs.{storage, body_frame, first_state, then_body}
-use Rattle.def_meaning.specs.Later.{Begins, printed}
+use Rattle.def_meaning.specs.Later.{Begins, output_of}
 use Rattle.def_meaning.specs.Whiles.{run_with}
 use Rattle.def_meaning.proofs.After.{After, open_yet}
 use Rattle.def_meaning.proofs.After as further
@@ -95,7 +95,7 @@ abbrev second_of : Option Progress → List ℕ
 second_of None = []
 second_of (Some x) = x.1
 
-shown_is : (e : Effect) (k : ℕ) (out : List ℕ) → comes 0 e ≡ Some (Over k, out) → shown e ≡ out
+shown_is : (e : Effect) (k : ℕ) (out : List ℕ) → comes 0 e ≡ Some (Over k, out) → output_shown e ≡ out
 shown_is (FellThrough st stack) k out h = ap second_of h
 shown_is (Branched zero st stack) k out h = ap second_of h
 shown_is (Branched (suc l) st stack) k out h = ap second_of h
@@ -104,12 +104,12 @@ shown_is (Ended j last) k out h = ap second_of h
 shown_is (Traps last) k out h = ap second_of h
 shown_is (StillRunning last) k out h = absurd (cc h)
 
-same_shown : (e : Effect) (o : Outcome) → RunSame e o → shown e ≡ printed o
+same_shown : (e : Effect) (o : Outcome) → RunSame e o → output_shown e ≡ output_of o
 same_shown e (answer.Value Normal s) h = absurd h
 same_shown e (answer.Value Exited s) h = absurd h
 same_shown e (answer.Value (outcome.Returned v) s) h = absurd h
 same_shown e (answer.Ended k out) h = shown_is e k out h
-same_shown e (answer.StillRunning out) h = ap shown h
+same_shown e (answer.StillRunning out) h = ap output_shown h
 
 running_comes : (e : Effect) (out : List ℕ) (x : Progress) → e ≡ StillRunning out → comes 0 e ≡ Some x → ⊥
 running_comes e out x is h = none_some (sym (ap (comes 0) is) ∙ h)
@@ -147,7 +147,7 @@ goes_yet last (further.same x b) is = (last, is)
 goes_yet last (open_yet first x b c) is = (first, refl)
 
 -- the machine prints what the program does
-prints_there : (modules : List WModule) (least : ℕ) (c : Config) (e : Effect) (o : Outcome) → RunSame e o → RunLeads modules least 0 c e → (m : ℕ) × ((machine.run modules m c).1 ≡ printed o)
+prints_there : (modules : List WModule) (least : ℕ) (c : Config) (e : Effect) (o : Outcome) → RunSame e o → RunLeads modules least 0 c e → (m : ℕ) × ((machine.run modules m c).1 ≡ output_of o)
 prints_there modules least c e (answer.Value Normal s) h leads = absurd h
 prints_there modules least c e (answer.Value Exited s) h leads = absurd h
 prints_there modules least c e (answer.Value (outcome.Returned v) s) h leads = absurd h
@@ -155,7 +155,7 @@ prints_there modules least c e (answer.Ended k out) h leads = let w = comes_ther
 prints_there modules least c e (answer.StillRunning out) h leads = let w = goes_still modules least c e out leads h in (w.count, ap (λ (x : Progress). x.1) w.path)
 
 pub bodies_behave : BodiesBehave
-unfolding run_with nested
+unfolding run_with nest_calls
 bodies_behave p pages g modules fx serves extra m f index type bs none there all bytes held = record {
   ends = λ n k out is. comes_there modules (suc n) c k out (does (suc n)) (leads (suc n)) (stopped_is (does (suc n)) (run p (suc n) pages) k out (same (suc n)) (still k out (run_behind p pages n) is));
   goes_on = λ on j over.
@@ -173,8 +173,8 @@ bodies_behave p pages g modules fx serves extra m f index type bs none there all
       let last = prints_there modules (suc n) c (does (suc n)) (run p (suc n) pages) (same (suc n)) (leads (suc n)) in
       let printed_first : (machine.run modules w.count c).1 ≡ first.0 = ap (λ (x : Progress). x.1) w.path in
       let before : Begins (machine.run modules w.count c).1 out = subst (λ (xs : List ℕ). Begins xs out) (sym printed_first)
-      (subst (λ (o : Outcome). Begins (printed o) out) first.1 (subst (λ (o : Outcome). Begins (printed (run p n pages)) (printed o)) is (goes_on (run_before p pages n)))) in
-      let later : Begins out (machine.run modules last.0 c).1 = subst (Begins out) (sym last.1) (subst (λ (o : Outcome). Begins (printed o) (printed (run p (suc n) pages))) is (goes_on (run_behind p pages n))) in
+      (subst (λ (o : Outcome). Begins (output_of o) out) first.1 (subst (λ (o : Outcome). Begins (output_of (run p n pages)) (output_of o)) is (goes_on (run_before p pages n)))) in
+      let later : Begins out (machine.run modules last.0 c).1 = subst (Begins out) (sym last.1) (subst (λ (o : Outcome). Begins (output_of o) (output_of (run p (suc n) pages))) is (goes_on (run_behind p pages n))) in
       let m = printed_between modules c w.count last.0 out before later in
       let enough = w.enough in
       let after_first = m.1 in
@@ -185,21 +185,21 @@ bodies_behave p pages g modules fx serves extra m f index type bs none there all
     t = run_typed index (size (row g.base)) type bs
 
     c : Config
-    c = Going (store_of fx bytes) (entered m t []) []
+    c = Going (store_of fx bytes) (enter_function m t []) []
 
     does : ℕ → Effect
-    does n = nested modules fx serves extra n (suc (suc n)) m f t [] bytes []
+    does n = nest_calls modules fx serves extra n (suc (suc n)) m f t [] bytes []
 
     begin : Target
     begin = record { locals = []; bytes = bytes; out = [] }
 
-    does_is : (n : ℕ) → does n ≡ bodies_do (nested modules fx serves extra n (suc n)) (size (row g.base)) bs begin []
+    does_is : (n : ℕ) → does n ≡ bodies_do (nest_calls modules fx serves extra n (suc n)) (size (row g.base)) bs begin []
     does_is n =
-        ap (λ (b : Bool). if b then calling modules fx extra n (suc (suc n)) m f t [] bytes [] else effect modules fx (n + extra m f) (nested modules fx serves extra n (suc n)) m t.function.body.code begin []) none
-        ∙ bodies_called modules fx (n + extra m f) (nested modules fx serves extra n (suc n)) m (size (row g.base)) type bs there begin []
+        ap (λ (b : Bool). if b then calling modules fx extra n (suc (suc n)) m f t [] bytes [] else effect modules fx (n + extra m f) (nest_calls modules fx serves extra n (suc n)) m t.function.body.code begin []) none
+        ∙ bodies_called modules fx (n + extra m f) (nest_calls modules fx serves extra n (suc n)) m (size (row g.base)) type bs there begin []
 
     same : (n : ℕ) → RunSame (does n) (run p n pages)
-    same n = subst (λ (e : Effect). RunSame e (run p n pages)) (sym (does_is n)) (bodies_same p pages n g (nested modules fx serves extra n (suc n)) 0 p bs (all n) (first_state p) begin held refl)
+    same n = subst (λ (e : Effect). RunSame e (run p n pages)) (sym (does_is n)) (bodies_same p pages n g (nest_calls modules fx serves extra n (suc n)) 0 p bs (all n) (first_state p) begin held refl)
 
     leads : (n : ℕ) → RunLeads modules n 0 c (does n)
     leads n = nested_runs modules fx serves extra n (suc n) m f (omega arith) none t bytes

@@ -10,7 +10,7 @@ use Rattle.wasm_tree.specs.declared.instr.Operation.{Operation}
 use Rattle.wasm_tree.specs.declared.instr.Operation.TheVariants.{And, Or, Xor, ShrU}
 use Rattle.wasm_tree.specs.declared.store.Value.{Value}
 use Rattle.wasm_tree.specs.declared.store.Value.TheVariants.{I64}
-use Rattle.wasm_tree.specs.Numbers.{truth, operated as made}
+use Rattle.wasm_tree.specs.Numbers.{truth, operation_result as made}
 use Rattle.law_effect.specs.Effect.{State as Target, Effect}
 use Rattle.law_effect.proofs.Steps.{i64_runs}
 use Rattle.typed_tree.specs.declared.types.TypeNo.{TypeNo}
@@ -20,9 +20,9 @@ use Rattle.typed_tree.specs.Types.{boolean, bitset}
 use Rattle.def_meaning.specs.Answer.{State as Source, Answer, Ended, ◌▷◌, range_fault}
 use Rattle.def_meaning.specs.Answer as answer
 use Rattle.def_meaning.specs.Operators as of
-use Rattle.def_meaning.specs.Operators.{is_between, bits, without, combined, has}
+use Rattle.def_meaning.specs.Operators.{is_between, bits, without, set_operation, has}
 use Rattle.def_meaning.specs.Expressions.{Gives, within}
-use Rattle.def_scheme.specs.Coded.{Coded, Counts, plain, ◌⨾◌, with_number, operation, checked}
+use Rattle.def_scheme.specs.Coded.{Coded, Counts, plain, ◌⨾◌, with_number, operation, check_code}
 use Rattle.def_scheme.specs.Exprs.{complement, set_code, empty_code}
 use Rattle.law_simulation.specs.Scene.{Scene, calls, runs, HasHelpers, IsValue, AreSmall, word, Stands, keeping, Into, GivesNumber, IsFree, HasLocals, inside, Agrees, AgreesBeside, GoesOn}
 use Rattle.law_simulation.proofs.Parts.{Goes}
@@ -81,7 +81,7 @@ module _ (k : Scene) (has_helpers : HasHelpers k) (small : AreSmall k.setting.ho
   one_set x y hx hy o n e less s st h rest stack =
       set_gives n less s st h rest stack _ (as_bits x y hx hy (operation o ∷ rest) st stack ∙ operation_runs k has_helpers small o (bits x) (bits y) n rest st stack e)
 
-  pub combine_makes : (o : SetOperator) → Makes k has_helpers small bitset bitset bitset (set_code o) (λ x y s. answer.Value (combined o x y) s)
+  pub combine_makes : (o : SetOperator) → Makes k has_helpers small bitset bitset bitset (set_code o) (λ x y s. answer.Value (set_operation o x y) s)
   combine_makes sets.Union x hx y hy s st h rest stack =
       one_set x y hx hy Or (bit_or (bits x) (bits y)) refl (or_lt 32 (bits x) (bits y) (set_small x hx.0 hx.1) (set_small y hy.0 hy.1)) s st h rest stack
   combine_makes sets.Intersection x hx y hy s st h rest stack =
@@ -145,7 +145,7 @@ module _ (k : Scene) (has_helpers : HasHelpers k) (small : AreSmall k.setting.ho
 
   module _ (y : Coded) (second : Gives ℤ) (hy : Agrees k bitset y second) (beside : AgreesBeside k bitset y second) where
     abbrev pub has_code : Coded
-    has_code = plain (checked (pos 0) (pos 31) 1) ⨾ with_number (λ n. plain (instr.LocalSet n ∷ []) ⨾ y ⨾ plain (instr.LocalGet n ∷ shifted))
+    has_code = plain (check_code (pos 0) (pos 31) 1) ⨾ with_number (λ n. plain (instr.LocalSet n ∷ []) ⨾ y ⨾ plain (instr.LocalGet n ∷ shifted))
 
     abbrev has_element : ℤ → Source → Answer ℤ
     has_element x s = second k.around s ▷ λ y s. answer.Value (of.truth (has y x)) s
@@ -169,11 +169,11 @@ module _ (k : Scene) (has_helpers : HasHelpers k) (small : AreSmall k.setting.ho
             let code : List Instr = (with_number (λ n. plain (instr.LocalSet n ∷ []) ⨾ y ⨾ plain (instr.LocalGet n ∷ shifted)) (inside k e) c).0 in
             let p = checked_gives k has_helpers t (pos 0) (pos 31) x 1 (record { low = omega (arith, ints); high = omega (arith, ints) }) (record { low = omega (arith, ints); high = omega (arith, ints) })
             (wide x (narrow k has_helpers small t x is)) (omega arith) (omega arith) (λ q. is) s st h (code ++ rest) stack in
-            decided b same (subst (λ (b : Bool). Into (GivesNumber k t (runs k (code ++ rest)) stack) (runs k (checked (pos 0) (pos 31) 1 ++ (code ++ rest)) st (stack ++ I64 (word x) ∷ [])) (if b then answer.Value x s else Ended range_fault s.out)) same p)
+            decided b same (subst (λ (b : Bool). Into (GivesNumber k t (runs k (code ++ rest)) stack) (runs k (check_code (pos 0) (pos 31) 1 ++ (code ++ rest)) st (stack ++ I64 (word x) ∷ [])) (if b then answer.Value x s else Ended range_fault s.out)) same p)
           where
             decided : (b : Bool) → is_between (pos 0) x (pos 31) ≡ b
                 → Into (GivesNumber k t (runs k ((with_number (λ n. plain (instr.LocalSet n ∷ []) ⨾ y ⨾ plain (instr.LocalGet n ∷ shifted)) (inside k e) c).0 ++ rest)) stack)
-                (runs k (checked (pos 0) (pos 31) 1 ++ ((with_number (λ n. plain (instr.LocalSet n ∷ []) ⨾ y ⨾ plain (instr.LocalGet n ∷ shifted)) (inside k e) c).0 ++ rest)) st (stack ++ I64 (word x) ∷ [])) (if b then answer.Value x s else Ended range_fault s.out)
+                (runs k (check_code (pos 0) (pos 31) 1 ++ ((with_number (λ n. plain (instr.LocalSet n ∷ []) ⨾ y ⨾ plain (instr.LocalGet n ∷ shifted)) (inside k e) c).0 ++ rest)) st (stack ++ I64 (word x) ∷ [])) (if b then answer.Value x s else Ended range_fault s.out)
                 → Into (GivesNumber k boolean (runs k rest) stack) (runs k ((has_code (inside k e) c).0 ++ rest) st (stack ++ I64 (word x) ∷ [])) ((if b then answer.Value x s else Ended range_fault s.out) ▷ has_element)
             decided true same p =
                 let q = between_in (pos 0) (pos 31) x same in

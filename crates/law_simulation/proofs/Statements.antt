@@ -7,7 +7,7 @@ use Rattle.wasm_tree.specs.declared.instr.Instr.{Instr}
 use Rattle.wasm_tree.specs.declared.instr.Instr.TheVariants as instr
 use Rattle.wasm_tree.specs.declared.store.Value.{Value}
 use Rattle.wasm_tree.specs.declared.store.Value.TheVariants.{I64}
-use Rattle.law_effect.specs.Effect.{State as Target, Effect, FellThrough, Branched, Returned, StillRunning, Does as Effects, then_run, out_of, turn, turns, exec, picked}
+use Rattle.law_effect.specs.Effect.{State as Target, Effect, FellThrough, Branched, Returned, StillRunning, Does as Effects, then_run, out_of, turn, turns, exec, pick_branch}
 use Rattle.law_effect.specs.Effect as effects
 use Rattle.law_effect.proofs.Steps.{i64_runs, if_runs, if_one_runs, br_runs, return_runs, put_runs, stop_runs}
 use Rattle.typed_tree.specs.declared.types.TypeNo.{TypeNo}
@@ -19,8 +19,8 @@ use Rattle.def_meaning.specs.Answer as answer
 use Rattle.def_meaning.specs.Operators.{is_true}
 use Rattle.def_meaning.specs.Expressions.{Gives}
 use Rattle.def_meaning.specs.Statements.{Does, in_turn}
-use Rattle.def_scheme.specs.Coded.{Coded, Counts, plain, nothing, ◌⨾◌, all_coded, within, wrapped, fault}
-use Rattle.law_simulation.specs.Scene.{Scene, calls, runs, HasHelpers, IsValue, AreSmall, word, Stands, Into, GivesNumber, Grows, IsFree, HasLocals, inside, Agrees, returned, Ends, Executes}
+use Rattle.def_scheme.specs.Coded.{Coded, Counts, plain, nothing, ◌⨾◌, all_coded, within, wrap_word, fault}
+use Rattle.law_simulation.specs.Scene.{Scene, calls, runs, HasHelpers, IsValue, AreSmall, word, Stands, Into, GivesNumber, Grows, IsFree, HasLocals, inside, Agrees, stack_after_return, Ends, Executes}
 use Rattle.def_scheme.specs.Steps.{if_else}
 use Rattle.law_simulation.proofs.Relations.{wrapped_runs, chosen_by}
 use Rattle.law_simulation.proofs.Parts.{grows_more, grows_same, has_before, free_after}
@@ -111,7 +111,7 @@ module _ (k : Scene) (function : Bool) where
       below = stack;
       st = st;
       stands = (h, λ gives. absurd (true_false (sym gives ∙ proper)));
-      run = return_runs k.modules k.fixed k.turns (calls k) k.own rest st stack ∙ ap (λ (b : Bool). Returned st (returned b stack (pos 0))) (sym proper);
+      run = return_runs k.modules k.fixed k.turns (calls k) k.own rest st stack ∙ ap (λ (b : Bool). Returned st (stack_after_return b stack (pos 0))) (sym proper);
     };
   }
     where
@@ -211,10 +211,10 @@ module _ (k : Scene) (function : Bool) where
 
     if_only_goes : (x : Coded) (step : Does) → Executes k function x step → (exit : ℕ) (c : Counts) → IsFree k c → HasLocals k (x (inside k (exit + 1)) c).1 → (v : ℤ) → IsValue k.setting.home.types boolean v
         → (s : Source) (st : Target) → Stands k s st → (rest : List Instr) (stack : List Value) (b : Bool) → is_true v ≡ b
-        → Ends k function exit stack (behind rest stack) (runs k (wrapped ∷ chosen (x (inside k (exit + 1)) c).0 ∷ rest) st (stack ++ I64 (word v) ∷ [])) (if b then step k.around s else answer.Value Normal s)
+        → Ends k function exit stack (behind rest stack) (runs k (wrap_word ∷ chosen (x (inside k (exit + 1)) c).0 ∷ rest) st (stack ++ I64 (word v) ∷ [])) (if b then step k.around s else answer.Value Normal s)
     if_only_goes x step hx exit c free full v is s st h rest stack b e =
         let code : List Instr = (x (inside k (exit + 1)) c).0 in
-        let path : runs k (wrapped ∷ chosen code ∷ rest) st (stack ++ I64 (word v) ∷ []) ≡ out_block rest stack (one_side (not b) code st stack) =
+        let path : runs k (wrap_word ∷ chosen code ∷ rest) st (stack ++ I64 (word v) ∷ []) ≡ out_block rest stack (one_side (not b) code st stack) =
         wrapped_runs k has small (word v) (chosen code ∷ rest) st stack
         ∙ if_one_runs k.modules k.fixed k.turns (calls k) k.own rest st None code stack (word v % 2 ^ 32)
         ∙ ap (λ (b : Bool). out_block rest stack (one_side b code st stack)) (chosen_by k has small v is.0 is.1 ∙ ap not e)
@@ -225,7 +225,7 @@ module _ (k : Scene) (function : Bool) where
         by true = through_block exit rest stack (runs k (x (inside k (exit + 1)) c).0 st stack) (step k.around s) (alone_inside x step hx exit 1 (suc exit) (omega arith) c free full s st h stack)
         by false = record { st = st; stands = h; run = refl }
 
-    pub if_only_executes : (x : Coded) (step : Does) → Executes k function x step → ExecutesWith boolean (plain (wrapped ∷ []) ⨾ within 1 (λ code. chosen code ∷ []) x) (λ v a s. if is_true v then step a s else answer.Value Normal s)
+    pub if_only_executes : (x : Coded) (step : Does) → Executes k function x step → ExecutesWith boolean (plain (wrap_word ∷ []) ⨾ within 1 (λ code. chosen code ∷ []) x) (λ v a s. if is_true v then step a s else answer.Value Normal s)
     if_only_executes x step hx = record {
       grows = λ e c. hx.grows (e + 1) c;
       goes = λ e c free full v is s st h rest stack. if_only_goes x step hx e c free full v is s st h rest stack (is_true v) refl;
@@ -238,13 +238,13 @@ module _ (k : Scene) (function : Bool) where
     abbrev two_sides : (b : Bool) → List Instr → List Instr → Target → List Value → Effect
     two_sides b code other st stack = exec (if b then map (effects.does k.modules k.fixed k.turns (calls k) k.own) other else map (effects.does k.modules k.fixed k.turns (calls k) k.own) code) st stack
 
-    pub if_else_executes : (x y : Coded) (step other : Does) → Executes k function x step → Executes k function y other → ExecutesWith boolean (plain (wrapped ∷ []) ⨾ if_else x y) (λ v a s. if is_true v then step a s else other a s)
+    pub if_else_executes : (x y : Coded) (step other : Does) → Executes k function x step → Executes k function y other → ExecutesWith boolean (plain (wrap_word ∷ []) ⨾ if_else x y) (λ v a s. if is_true v then step a s else other a s)
     if_else_executes x y step other hx hy = record {
       grows = λ e c. grows_more (hx.grows (suc e) c) (hy.grows (suc e) (x (inside k (suc e)) c).1);
       goes = λ e c free full v is s st h rest stack.
           let first = x (inside k (suc e)) c in
           let second = y (inside k (suc e)) first.1 in
-          let path : runs k (wrapped ∷ chosen_both first.0 second.0 ∷ rest) st (stack ++ I64 (word v) ∷ []) ≡ out_block rest stack (two_sides (not (is_true v)) first.0 second.0 st stack) =
+          let path : runs k (wrap_word ∷ chosen_both first.0 second.0 ∷ rest) st (stack ++ I64 (word v) ∷ []) ≡ out_block rest stack (two_sides (not (is_true v)) first.0 second.0 st stack) =
           wrapped_runs k has small (word v) (chosen_both first.0 second.0 ∷ rest) st stack
           ∙ if_runs k.modules k.fixed k.turns (calls k) k.own rest st None first.0 second.0 stack (word v % 2 ^ 32)
           ∙ ap (λ (b : Bool). out_block rest stack (two_sides b first.0 second.0 st stack)) (chosen_by k has small v is.0 is.1)

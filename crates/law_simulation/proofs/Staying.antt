@@ -5,7 +5,7 @@ use Rattle.def_meaning.specs.Answer.{State, Answer, Value, Ended, StillRunning, 
 use Rattle.def_meaning.specs.Outcome.{Outcome, Normal, Exited, Returned, sequence}
 use Rattle.def_meaning.specs.Environment.{Environment}
 use Rattle.def_meaning.specs.Operators.{is_true}
-use Rattle.def_meaning.specs.Statements.{Does, stored, loop_left, looped, until_true, has_passed, for_turns, for_all}
+use Rattle.def_meaning.specs.Statements.{Does, store_number, loop_left, loop_outcome, until_true, has_passed, for_turns, for_all}
 use Rattle.law_simulation.specs.Begun.{while_begun}
 
 abbrev pub is_left : Outcome → Bool
@@ -46,9 +46,9 @@ loop_stays (Value (Returned v) s) next g = refl
 loop_stays (Ended k out) next g = refl
 loop_stays (StillRunning out) next g = refl
 
-pub looped_stays : (n : ℕ) (body : State → Outcome) → Stay (looped n body)
+pub looped_stays : (n : ℕ) (body : State → Outcome) → Stay (loop_outcome n body)
 looped_stays zero body s = refl
-looped_stays (suc n) body s = loop_stays (body s) (looped n body) (looped_stays n body)
+looped_stays (suc n) body s = loop_stays (body s) (loop_outcome n body) (looped_stays n body)
 
 pub while_stays : (n : ℕ) (test : State → Answer ℤ) (body : State → Outcome) → Stay body → Stay (while_begun n test body)
 while_stays zero test body h s = refl
@@ -65,10 +65,10 @@ until_stays (suc n) body test h s =
 turns_stay : (n : ℕ) (check : ℤ → State → Answer ℤ) (l : Location) (by limit : ℤ) (body : State → Outcome) → Stay body → Stay (for_turns n check l by limit body)
 turns_stay zero check l by limit body h s = refl
 turns_stay (suc n) check l by limit body h s =
-    let on : State → Outcome = λ s. if has_passed by limit (s.store l +ℤ by) then Value Normal s else (check (s.store l +ℤ by) s ▷ (λ v s. for_turns n check l by limit body (stored l v s))) in
+    let on : State → Outcome = λ s. if has_passed by limit (s.store l +ℤ by) then Value Normal s else (check (s.store l +ℤ by) s ▷ (λ v s. for_turns n check l by limit body (store_number l v s))) in
     then_stays (body s) on (h s)
-    (λ s. if_stays (has_passed by limit (s.store l +ℤ by)) (Value Normal s) (check (s.store l +ℤ by) s ▷ λ v s. for_turns n check l by limit body (stored l v s)) refl
-    (with_stays (check (s.store l +ℤ by) s) (λ v s. for_turns n check l by limit body (stored l v s)) (λ v s. turns_stay n check l by limit body h (stored l v s))))
+    (λ s. if_stays (has_passed by limit (s.store l +ℤ by)) (Value Normal s) (check (s.store l +ℤ by) s ▷ λ v s. for_turns n check l by limit body (store_number l v s)) refl
+    (with_stays (check (s.store l +ℤ by) s) (λ v s. for_turns n check l by limit body (store_number l v s)) (λ v s. turns_stay n check l by limit body h (store_number l v s))))
 
 pub for_stays : (n : ℕ) (check : ℤ → State → Answer ℤ) (l : Location) (by limit : ℤ) (body : State → Outcome) → Stay body → Stay (for_all n check l by limit body)
 for_stays n check l by limit body h s = if_stays (has_passed by limit (s.store l)) (Value Normal s) (for_turns n check l by limit body s) refl (turns_stay n check l by limit body h s)

@@ -14,11 +14,11 @@ use Rattle.wasm_tree.specs.Numbers.{truth, compares}
 use Rattle.std.specs.Int.{w32}
 use Rattle.law_effect.specs.Bytes.{copied_bytes, AreMoved}
 use Rattle.law_effect.proofs.Bytes.{copied_length, copied_small, copied_only, copied_moved}
-use Rattle.law_effect.specs.Effect.{State as Target, Effect, Ended, then_run, out_of, exec, picked, does}
+use Rattle.law_effect.specs.Effect.{State as Target, Effect, Ended, then_run, out_of, exec, pick_branch, does}
 use Rattle.law_effect.proofs.Steps.{i32_runs, i64_runs, get_runs, set_runs, tee_runs, global_runs, number_runs, two_32, if_one_runs, stop_runs}
 use Rattle.layout_storage.specs.Types.{Ty, Scalar, Natural, Cell, Hidden, Array, row, component, IsPlain, IsScalar, IsOf}
 use Rattle.layout_storage.specs.Sizes.{Four, size, offset}
-use Rattle.def_meaning.specs.Store.{Location, Store, assigned, copied, placed}
+use Rattle.def_meaning.specs.Store.{Location, Store, assign_number, copy_whole, overlay}
 use Rattle.law_memory.specs.Cells as cells
 use Rattle.law_memory.specs.Cells.{stored_in}
 use Rattle.law_memory.specs.Relation.{Means, Holds, Shows, Keeps}
@@ -27,7 +27,7 @@ use Rattle.law_memory.proofs.Places.{component_append, offset_append}
 use Rattle.law_memory.proofs.Worlds.{lies, holds_assigned, holds_pushed, component_old, offset_old, row_size, plain_hidden, placed_else}
 use Rattle.law_memory.proofs.Frames.{holds_hidden}
 use Rattle.law_memory.proofs.Assigns.{assigns_whole}
-use Rattle.def_scheme.specs.Coded.{raised, operation, wrapped, extended, fault}
+use Rattle.def_scheme.specs.Coded.{raise_address, operation, wrap_word, extend_word, fault}
 use Rattle.def_scheme.specs.Cells.{store_scalar, word as word_cell}
 use Rattle.def_scheme.specs.Functions.{limit_check, formal_address, word_kept, bytes_code, open_copied}
 use Rattle.law_simulation.specs.Scene.{Scene, IsSet, calls, runs, word}
@@ -66,12 +66,12 @@ module _ (k : Scene) (set : IsSet k) (has : HasLimit k) (root top : ℕ) (F : Ty
       (type, sym (offset_append (row world) F (root ∷ []) q g.own), lies k.program world x s st.bytes g.holds (root ∷ q) t type)
 
   pub base_run : (world : List Ty) (x : Location → ℕ → ℕ) (s : Store) (st : Target) (q : Location) (t : Ty) (rest : List Instr) (stack : List Value) → OnStage world x s st → component F q ≡ Some t
-      → runs k ((instr.LocalGet 0 ∷ raised (offset F q)) ++ rest) st stack ≡ runs k rest st (stack ++ I32 (offset (row world) (root ∷ q)) ∷ [])
+      → runs k ((instr.LocalGet 0 ∷ raise_address (offset F q)) ++ rest) st stack ≡ runs k rest st (stack ++ I32 (offset (row world) (root ∷ q)) ∷ [])
   base_run world x s st q t rest stack g e =
       let p = own_place world x s st q t g e in
       let fits = p.2 in
       let long = g.long in let small = has.small in
-      get_runs k.modules k.fixed k.turns (calls k) k.own (raised (offset F q) ++ rest) st 0 (I32 (offset (row world) (root ∷ []))) stack g.at
+      get_runs k.modules k.fixed k.turns (calls k) k.own (raise_address (offset F q) ++ rest) st 0 (I32 (offset (row world) (root ∷ []))) stack g.at
       ∙ raised_runs k set.helpers set.small set.room (offset (row world) (root ∷ [])) (offset F q) (offset (row world) (root ∷ q)) rest st stack p.1 (omega (arith, fits, long, small))
 
   given_run : (world : List Ty) (x : Location → ℕ → ℕ) (s : Store) (st : Target) (i : ℕ) (w : Value) (rest : List Instr) (stack : List Value) → OnStage world x s st → 0 < i → i < top → slice_get given i ≡ Some w
@@ -79,7 +79,7 @@ module _ (k : Scene) (set : IsSet k) (has : HasLimit k) (root top : ℕ) (F : Ty
   given_run world x s st i w rest stack g posi less e = get_runs k.modules k.fixed k.turns (calls k) k.own rest st i w stack (g.kept i posi less ∙ e)
 
   -- an address that is passed as a number of 64 bits
-  wrap_run : (a : ℕ) (st : Target) (rest : List Instr) (stack : List Value) → a < 2 ^ 32 → runs k (wrapped ∷ rest) st (stack ++ I64 a ∷ []) ≡ runs k rest st (stack ++ I32 a ∷ [])
+  wrap_run : (a : ℕ) (st : Target) (rest : List Instr) (stack : List Value) → a < 2 ^ 32 → runs k (wrap_word ∷ rest) st (stack ++ I64 a ∷ []) ≡ runs k rest st (stack ++ I32 a ∷ [])
   wrap_run a st rest stack small = let e : a % 2 ^ 32 ≡ a = omega (arith, small) in wrapped_runs k set.helpers set.small a rest st stack ∙ ap (λ (i : ℕ). runs k rest st (stack ++ I32 i ∷ [])) e
 
   number_wide : (c : Scalar) (v : ℤ) → IsScalar c → IsOf c v → IsWide v
@@ -88,13 +88,13 @@ module _ (k : Scene) (set : IsSet k) (has : HasLimit k) (root top : ℕ) (F : Ty
   -- ---- a number
 
   pub number_step : (world : List Ty) (x : Location → ℕ → ℕ) (s : Store) (st : Target) (v i : ℕ) (c : Scalar) (z : ℤ) (rest : List Instr) → 0 < i → OnStage world x s st → i < top → slice_get given i ≡ Some (I64 (word z)) → IsScalar c → IsOf c z → Means k.program c z → component F (suc v ∷ []) ≡ Some (Cell c)
-      → (m' : List ℕ) × OnStage world x (assigned (root ∷ suc v ∷ []) z s) (record st { bytes = m' }) × (runs k ((formal_address F v [] ++ (instr.LocalGet i ∷ store_scalar c)) ++ rest) st [] ≡ runs k rest (record st { bytes = m' }) [])
+      → (m' : List ℕ) × OnStage world x (assign_number (root ∷ suc v ∷ []) z s) (record st { bytes = m' }) × (runs k ((formal_address F v [] ++ (instr.LocalGet i ∷ store_scalar c)) ++ rest) st [] ≡ runs k rest (record st { bytes = m' }) [])
   unfolding size
   number_step world x s st v i c z rest posi g less e ok is means type =
       let p = own_place world x s st (suc v ∷ []) (Cell c) g type in
       let a : ℕ = offset (row world) (root ∷ suc v ∷ []) in (
         cells.put c a (word z) st.bytes,
-        stage_bytes world x x s (assigned (root ∷ suc v ∷ []) z s) st (cells.put c a (word z) st.bytes) g (holds_assigned k.program world x s st.bytes g.holds (root ∷ suc v ∷ []) c z ok is means p.0) (length-put c a (word z) st.bytes p.2),
+        stage_bytes world x x s (assign_number (root ∷ suc v ∷ []) z s) st (cells.put c a (word z) st.bytes) g (holds_assigned k.program world x s st.bytes g.holds (root ∷ suc v ∷ []) c z ok is means p.0) (length-put c a (word z) st.bytes p.2),
         base_run world x s st (suc v ∷ []) (Cell c) ((instr.LocalGet i ∷ store_scalar c) ++ rest) [] g type
             ∙ given_run world x s st i (I64 (word z)) (store_scalar c ++ rest) (I32 a ∷ []) g posi less e
             ∙ scalar_stores k set.helpers set.small set.room c z a rest st [] (number_wide c z ok is) p.2,
@@ -103,8 +103,8 @@ module _ (k : Scene) (set : IsSet k) (has : HasLimit k) (root top : ℕ) (F : Ty
   -- ---- a whole array or record
 
   pub copy_step : (world : List Ty) (x : Location → ℕ → ℕ) (s : Store) (st : Target) (v i : ℕ) (t : Ty) (l : Location) (rest : List Instr) → 0 < i → OnStage world x s st → i < top → slice_get given i ≡ Some (I64 (offset (row world) l)) → IsPlain t → component (row world) l ≡ Some t → component F (suc v ∷ []) ≡ Some t
-      → (m' : List ℕ) × OnStage world x (copied (root ∷ suc v ∷ []) l s) (record st { bytes = m' })
-      × (runs k ((formal_address F v [] ++ (instr.LocalGet i ∷ wrapped ∷ instr.I32Const (size t) ∷ instr.Call 2 ∷ [])) ++ rest) st [] ≡ runs k rest (record st { bytes = m' }) [])
+      → (m' : List ℕ) × OnStage world x (copy_whole (root ∷ suc v ∷ []) l s) (record st { bytes = m' })
+      × (runs k ((formal_address F v [] ++ (instr.LocalGet i ∷ wrap_word ∷ instr.I32Const (size t) ∷ instr.Call 2 ∷ [])) ++ rest) st [] ≡ runs k rest (record st { bytes = m' }) [])
   copy_step world x s st v i t l rest posi g less e whole source type =
       let p = own_place world x s st (suc v ∷ []) t g type in
       let a : ℕ = offset (row world) (root ∷ suc v ∷ []) in
@@ -114,9 +114,9 @@ module _ (k : Scene) (set : IsSet k) (has : HasLimit k) (root top : ℕ) (F : Ty
       let long = g.long in let small = has.small in
       let after : List Instr = instr.I32Const (size t) ∷ instr.Call 2 ∷ rest in (
         copied_bytes (size t) a b st.bytes,
-        stage_bytes world x x s (copied (root ∷ suc v ∷ []) l s) st (copied_bytes (size t) a b st.bytes) g (assigns_whole k.program world x s st.bytes g.holds (root ∷ suc v ∷ []) l t whole p.0 source) (copied_length (size t) a b st.bytes p.2),
-        base_run world x s st (suc v ∷ []) t (instr.LocalGet i ∷ wrapped ∷ after) [] g type
-            ∙ given_run world x s st i (I64 b) (wrapped ∷ after) (I32 a ∷ []) g posi less e
+        stage_bytes world x x s (copy_whole (root ∷ suc v ∷ []) l s) st (copied_bytes (size t) a b st.bytes) g (assigns_whole k.program world x s st.bytes g.holds (root ∷ suc v ∷ []) l t whole p.0 source) (copied_length (size t) a b st.bytes p.2),
+        base_run world x s st (suc v ∷ []) t (instr.LocalGet i ∷ wrap_word ∷ after) [] g type
+            ∙ given_run world x s st i (I64 b) (wrap_word ∷ after) (I32 a ∷ []) g posi less e
             ∙ wrap_run b st after (I32 a ∷ []) (omega (arith, from, long, small))
             ∙ i32_runs k.modules k.fixed k.turns (calls k) k.own (instr.Call 2 ∷ rest) st (size t) (I32 a ∷ I32 b ∷ [])
             ∙ copy_here k set a b (size t) st rest [] to from g.holds.bytes (omega (arith, long, small)),
@@ -126,7 +126,7 @@ module _ (k : Scene) (set : IsSet k) (has : HasLimit k) (root top : ℕ) (F : Ty
 
   pub hidden_step : (world : List Ty) (x : Location → ℕ → ℕ) (s : Store) (st : Target) (v : ℕ) (q : Location) (n : ℕ) (value rest : List Instr) → OnStage world x s st → component F (suc v ∷ q) ≡ Some (Hidden 4) → n < 2 ^ 32
       → ((after : List Instr) (stack : List Value) → runs k (value ++ after) st stack ≡ runs k after st (stack ++ I64 n ∷ []))
-      → (m' : List ℕ) × OnStage world (placed (root ∷ suc v ∷ q) (λ r k. get_or (stored_in Four n) k 0) x) s (record st { bytes = m' }) × (runs k (word_kept F v q value ++ rest) st [] ≡ runs k rest (record st { bytes = m' }) [])
+      → (m' : List ℕ) × OnStage world (overlay (root ∷ suc v ∷ q) (λ r k. get_or (stored_in Four n) k 0) x) s (record st { bytes = m' }) × (runs k (word_kept F v q value ++ rest) st [] ≡ runs k rest (record st { bytes = m' }) [])
   unfolding size
   hidden_step world x s st v q n value rest g type small gets =
       let p = own_place world x s st (suc v ∷ q) (Hidden 4) g type in
@@ -135,7 +135,7 @@ module _ (k : Scene) (set : IsSet k) (has : HasLimit k) (root top : ℕ) (F : Ty
       let as_word : n ≡ word (pos n) = omega (arith, ints, small) in
       let wide : IsWide (pos n) = record { low = omega (arith, ints); high = omega (arith, ints, small) } in (
         m',
-        stage_bytes world x (placed (root ∷ suc v ∷ q) (λ r k. get_or (stored_in Four n) k 0) x) s s st m' g (holds_hidden k.program world x s st.bytes g.holds (root ∷ suc v ∷ q) 4 (stored_in Four n) p.0 refl (λ j l. four_small n j small l)) (length-put (Natural 4294967295) a n st.bytes p.2),
+        stage_bytes world x (overlay (root ∷ suc v ∷ q) (λ r k. get_or (stored_in Four n) k 0) x) s s st m' g (holds_hidden k.program world x s st.bytes g.holds (root ∷ suc v ∷ q) 4 (stored_in Four n) p.0 refl (λ j l. four_small n j small l)) (length-put (Natural 4294967295) a n st.bytes p.2),
         base_run world x s st (suc v ∷ q) (Hidden 4) ((value ++ store_scalar word_cell) ++ rest) [] g type
             ∙ ap (λ (code : List Instr). runs k code st (I32 a ∷ [])) (append_assoc value (store_scalar word_cell) rest)
             ∙ gets (store_scalar word_cell ++ rest) (I32 a ∷ [])
@@ -159,7 +159,7 @@ module _ (k : Scene) (set : IsSet k) (has : HasLimit k) (root top : ℕ) (F : Ty
           ∙ stop_runs k.modules k.fixed k.turns (calls k) k.own (instr.Unreachable ∷ []) st 1 8 stack (set.helpers.stop st.bytes)
           ∙ ap (λ (o : List ℕ). Ended 8 o) shown
 
-      by : (b : Bool) → then_run (out_of 0 (length stack) (exec (picked (truth b) (map (does k.modules k.fixed k.turns (calls k) k.own) (fault 8)) None) st stack)) (runs k rest) ≡ (if b then Ended 8 out else runs k rest st stack)
+      by : (b : Bool) → then_run (out_of 0 (length stack) (exec (pick_branch (truth b) (map (does k.modules k.fixed k.turns (calls k) k.own) (fault 8)) None) st stack)) (runs k rest) ≡ (if b then Ended 8 out else runs k rest st stack)
       by true = ap (λ (r : Effect). then_run (out_of 0 (length stack) r) (runs k rest)) stopped
       by false = refl
 
@@ -194,11 +194,11 @@ module _ (k : Scene) (set : IsSet k) (has : HasLimit k) (root top : ℕ) (F : Ty
       let a : (h + 1) % 2 ^ 64 ≡ suc h = omega (arith, small) in
       let b : suc h * el % 2 ^ 64 ≡ suc h * el = omega (arith, fits) in
       let c : suc h * el % 2 ^ 32 ≡ suc h * el = omega (arith, fits) in
-      get_runs k.modules k.fixed k.turns (calls k) k.own (instr.I64Const 1 ∷ operation Add ∷ instr.I64Const el ∷ operation Mul ∷ wrapped ∷ rest) st (suc i) (I64 h) stack e
-      ∙ i64_runs k.modules k.fixed k.turns (calls k) k.own (operation Add ∷ instr.I64Const el ∷ operation Mul ∷ wrapped ∷ rest) st 1 (stack ++ I64 h ∷ [])
-      ∙ operation_runs k set.helpers set.small Add h 1 (suc h) (instr.I64Const el ∷ operation Mul ∷ wrapped ∷ rest) st stack (ap Some a)
-      ∙ i64_runs k.modules k.fixed k.turns (calls k) k.own (operation Mul ∷ wrapped ∷ rest) st el (stack ++ I64 (suc h) ∷ [])
-      ∙ operation_runs k set.helpers set.small Mul (suc h) el (suc h * el) (wrapped ∷ rest) st stack (ap Some b)
+      get_runs k.modules k.fixed k.turns (calls k) k.own (instr.I64Const 1 ∷ operation Add ∷ instr.I64Const el ∷ operation Mul ∷ wrap_word ∷ rest) st (suc i) (I64 h) stack e
+      ∙ i64_runs k.modules k.fixed k.turns (calls k) k.own (operation Add ∷ instr.I64Const el ∷ operation Mul ∷ wrap_word ∷ rest) st 1 (stack ++ I64 h ∷ [])
+      ∙ operation_runs k set.helpers set.small Add h 1 (suc h) (instr.I64Const el ∷ operation Mul ∷ wrap_word ∷ rest) st stack (ap Some a)
+      ∙ i64_runs k.modules k.fixed k.turns (calls k) k.own (operation Mul ∷ wrap_word ∷ rest) st el (stack ++ I64 (suc h) ∷ [])
+      ∙ operation_runs k set.helpers set.small Mul (suc h) el (suc h * el) (wrap_word ∷ rest) st stack (ap Some b)
       ∙ wrapped_runs k set.helpers set.small (suc h * el) rest st stack
       ∙ ap (λ (i : ℕ). runs k rest st (stack ++ I32 i ∷ [])) c
 
@@ -232,7 +232,7 @@ module _ (k : Scene) (set : IsSet k) (has : HasLimit k) (root top : ℕ) (F : Ty
 
   -- the copy is made: before its address and HIGH are written
   copied_stage : (world : List Ty) (x : Location → ℕ → ℕ) (s : Store) (st : Target) (t : Ty) (n : ℕ) (f : Location → ℤ) → OnStage world x s st → IsPlain t → IsSource world st.bytes n t f → size (row world) + size t ≤ k.limit
-      → OnStage (world ++ t ∷ []) (placed (length world ∷ []) (λ r k. 0) x) (placed (length world ∷ []) f s) (record st { locals = taken_locals st.locals (size (row world)) (size (row world) + size t); bytes = copied_bytes (size t) (size (row world)) n st.bytes })
+      → OnStage (world ++ t ∷ []) (overlay (length world ∷ []) (λ r k. 0) x) (overlay (length world ∷ []) f s) (record st { locals = taken_locals st.locals (size (row world)) (size (row world) + size t); bytes = copied_bytes (size t) (size (row world)) n st.bytes })
   copied_stage world x s st t n f g whole source room =
       let T : ℕ = size (row world) in
       let long = g.long in
@@ -256,7 +256,7 @@ module _ (k : Scene) (set : IsSet k) (has : HasLimit k) (root top : ℕ) (F : Ty
       }
 
   abbrev hides : (v : ℕ) (q : Location) (n : ℕ) (x : Location → ℕ → ℕ) → Location → ℕ → ℕ
-  hides v q n x = placed (root ∷ suc v ∷ q) (λ r k. get_or (stored_in Four n) k 0) x
+  hides v q n x = overlay (root ∷ suc v ∷ q) (λ r k. get_or (stored_in Four n) k 0) x
 
   -- what is written of an open array: its address and HIGH
   pub record OpenDone (world : List Ty) (x : Location → ℕ → ℕ) (s : Store) (v : ℕ) (address high : ℕ) (below : Location → ℕ → ℕ) (rest : List Instr) (r : Effect) : Type 0 where
@@ -304,7 +304,7 @@ module _ (k : Scene) (set : IsSet k) (has : HasLimit k) (root top : ℕ) (F : Ty
 
   abbrev pub CopyGoes : (world : List Ty) (x : Location → ℕ → ℕ) (s : Store) (v n high : ℕ) (t : Ty) (f : Location → ℤ) (rest : List Instr) (r : Effect) → Type 0
   CopyGoes world x s v n high t f rest r =
-      ((size (row world) + size (Array (suc high) t) ≤ k.limit) × OpenDone (world ++ Array (suc high) t ∷ []) (placed (length world ∷ []) (λ r k. 0) x) (placed (length world ∷ []) f s) v (size (row world)) high x rest r)
+      ((size (row world) + size (Array (suc high) t) ≤ k.limit) × OpenDone (world ++ Array (suc high) t ∷ []) (overlay (length world ∷ []) (λ r k. 0) x) (overlay (length world ∷ []) f s) v (size (row world)) high x rest r)
       ⊎ ((k.limit < size (row world) + size (Array (suc high) t)) × (r ≡ Ended 8 out))
 
   -- else the elements are copied behind the other instances, or there is no room
@@ -320,12 +320,12 @@ module _ (k : Scene) (set : IsSet k) (has : HasLimit k) (root top : ℕ) (F : Ty
       let t' = open_parts v type in
       let fits : T + B ≤ length st.bytes = omega (arith, room, long, is) in
       let from : n + B ≤ length st.bytes = omega (arith, within, holds_room, is) in
-      let d = words_step (world ++ A ∷ []) (placed (length world ∷ []) (λ r k. 0) x) (placed (length world ∷ []) f s) st0 v T high (instr.LocalGet (suc top) ∷ extended ∷ []) (instr.LocalGet (suc i) ∷ []) rest g0 t'.0 t'.1 (omega (arith, holds_room, long, least)) small
-      (λ after stack. get_runs k.modules k.fixed k.turns (calls k) k.own (extended ∷ after) st0 (suc top) (I32 T) stack (taken_p st.locals T (T + size A) g.count) ∙ extended_runs k set.helpers set.small T after st0 stack)
+      let d = words_step (world ++ A ∷ []) (overlay (length world ∷ []) (λ r k. 0) x) (overlay (length world ∷ []) f s) st0 v T high (instr.LocalGet (suc top) ∷ extend_word ∷ []) (instr.LocalGet (suc i) ∷ []) rest g0 t'.0 t'.1 (omega (arith, holds_room, long, least)) small
+      (λ after stack. get_runs k.modules k.fixed k.turns (calls k) k.own (extend_word ∷ after) st0 (suc top) (I32 T) stack (taken_p st.locals T (T + size A) g.count) ∙ extended_runs k set.helpers set.small T after st0 stack)
       (λ m after stack. get_runs k.modules k.fixed k.turns (calls k) k.own after (record st0 { bytes = m }) (suc i) (I64 high) stack (taken_else st.locals T (T + size A) (suc i) less ∙ g.kept (suc i) (omega arith) less ∙ e')) in
       let copying : runs k code4 st2 [] ≡ runs k (words ++ rest) (record st2 { bytes = copied_bytes B T n st.bytes }) [] =
-      get_runs k.modules k.fixed k.turns (calls k) k.own (instr.LocalGet i ∷ wrapped ∷ (bytes_code (suc i) (size t) ++ (instr.Call 2 ∷ (words ++ rest)))) st2 (suc top) (I32 T) [] (taken_p st.locals T (T + B) g.count)
-      ∙ get_runs k.modules k.fixed k.turns (calls k) k.own (wrapped ∷ (bytes_code (suc i) (size t) ++ (instr.Call 2 ∷ (words ++ rest)))) st2 i (I64 n) (I32 T ∷ []) (taken_else st.locals T (T + B) i (omega (arith, less)) ∙ g.kept i posi (omega (arith, less)) ∙ e)
+      get_runs k.modules k.fixed k.turns (calls k) k.own (instr.LocalGet i ∷ wrap_word ∷ (bytes_code (suc i) (size t) ++ (instr.Call 2 ∷ (words ++ rest)))) st2 (suc top) (I32 T) [] (taken_p st.locals T (T + B) g.count)
+      ∙ get_runs k.modules k.fixed k.turns (calls k) k.own (wrap_word ∷ (bytes_code (suc i) (size t) ++ (instr.Call 2 ∷ (words ++ rest)))) st2 i (I64 n) (I32 T ∷ []) (taken_else st.locals T (T + B) i (omega (arith, less)) ∙ g.kept i posi (omega (arith, less)) ∙ e)
       ∙ wrap_run n st2 (bytes_code (suc i) (size t) ++ (instr.Call 2 ∷ (words ++ rest))) (I32 T ∷ []) (omega (arith, within, holds_room, long, least))
       ∙ bytes_run i high (size t) st2 (instr.Call 2 ∷ (words ++ rest)) (I32 T ∷ I32 n ∷ []) (taken_else st.locals T (T + B) (suc i) less ∙ g.kept (suc i) (omega arith) less ∙ e') small (omega (arith, within, holds_room, long, least, is))
       ∙ copy_here k set T n B st2 (words ++ rest) [] fits from g.holds.bytes (omega (arith, long, least)) in
@@ -335,7 +335,7 @@ module _ (k : Scene) (set : IsSet k) (has : HasLimit k) (root top : ℕ) (F : Ty
           x' = d.x';
           st' = d.st';
           stage = d.stage;
-          same = same_trans root v x (placed (length world ∷ []) (λ r k. 0) x) d.x' (same_newer root v (length world) (λ r k. 0) x g.below) d.same;
+          same = same_trans root v x (overlay (length world ∷ []) (λ r k. 0) x) d.x' (same_newer root v (length world) (λ r k. 0) x g.below) d.same;
           address_kept = d.address_kept;
           high_kept = d.high_kept;
           run =
@@ -372,10 +372,10 @@ module _ (k : Scene) (set : IsSet k) (has : HasLimit k) (root top : ℕ) (F : Ty
       within = source.fits
 
       words : List Instr
-      words = word_kept F v (0 ∷ []) (instr.LocalGet (suc top) ∷ extended ∷ []) ++ word_kept F v (1 ∷ []) (instr.LocalGet (suc i) ∷ [])
+      words = word_kept F v (0 ∷ []) (instr.LocalGet (suc top) ∷ extend_word ∷ []) ++ word_kept F v (1 ∷ []) (instr.LocalGet (suc i) ∷ [])
 
       code4 : List Instr
-      code4 = instr.LocalGet (suc top) ∷ instr.LocalGet i ∷ wrapped ∷ (bytes_code (suc i) (size t) ++ (instr.Call 2 ∷ (words ++ rest)))
+      code4 = instr.LocalGet (suc top) ∷ instr.LocalGet i ∷ wrap_word ∷ (bytes_code (suc i) (size t) ++ (instr.Call 2 ∷ (words ++ rest)))
 
       st2 : Target
       st2 = record st { locals = taken_locals st.locals T (T + B) }

@@ -15,10 +15,10 @@ use Rattle.law_effect.specs.Effect.{store_of}
 use Rattle.typed_tree.specs.declared.typed_module.TypedModule.{TypedModule}
 use Rattle.def_scheme.specs.Modules.{slots, part_of, typed_module, calls_from}
 use Rattle.law_memory.specs.Bodies.{BodyAt, IsThere, AreThere, bodies_code}
-use Rattle.law_modules.specs.Linked.{Program, all, count, values, own_from, somes_from, owns, filled, link_values, slots_in}
+use Rattle.law_modules.specs.Linked.{Program, all, count, values, own_from, somes_from, owns, table_slots, link_values, slots_in}
 use Rattle.law_modules.proofs.Stores.{counts, global_place, slot_is, slots_more}
 use Rattle.law_modules.proofs.Placed.{enough}
-use Rattle.law_simulation.specs.RunsPrograms.{body_typed, bodies_at, fixed}
+use Rattle.law_simulation.specs.RunsPrograms.{body_typed, bodies_at, fixtures_of}
 
 -- ---- link's code
 
@@ -66,11 +66,11 @@ owns_at k (x ∷ before) rest m =
     ∙ ap (λ (j : ℕ). Some (Own j 5)) (omega arith)
 
 -- and its slot
-filled_at : (a : ℕ) (before rest : Program) (m : TypedModule) → slice_get (filled a (before ++ m ∷ rest)) (slots_in before) ≡ Some (Some (a + counts before + 5))
+filled_at : (a : ℕ) (before rest : Program) (m : TypedModule) → slice_get (table_slots a (before ++ m ∷ rest)) (slots_in before) ≡ Some (Some (a + counts before + 5))
 filled_at a [] rest m = ap (λ (n : ℕ). Some (Some n)) (omega arith)
 filled_at a (x ∷ before) rest m =
-    ap (slice_get (filled a (x ∷ before ++ m ∷ rest))) refl
-    ∙ get_behind (somes_from (a + 5) (slots x)) (filled (a + count x) (before ++ m ∷ rest)) (slots x) (slots_in before) (some_length (a + 5) (slots x))
+    ap (slice_get (table_slots a (x ∷ before ++ m ∷ rest))) refl
+    ∙ get_behind (somes_from (a + 5) (slots x)) (table_slots (a + count x) (before ++ m ∷ rest)) (slots x) (slots_in before) (some_length (a + 5) (slots x))
     ∙ filled_at (a + count x) before rest m
     ∙ ap (λ (n : ℕ). Some (Some n)) (omega arith)
 
@@ -85,20 +85,20 @@ module _ (p : Program) (pages : ℕ) where
     within : length before < length p
     within = let a = length-append before (m ∷ rest) in let b = ap (λ (ms : Program). length ms) is in omega (arith, a, b)
 
-    slot_there : (bytes : List ℕ) → global_at (store_of (fixed p pages) bytes) 0 (suc (2 + 3 * length before)) ≡ Some (I32 (1 + slots_in before))
+    slot_there : (bytes : List ℕ) → global_at (store_of (fixtures_of p pages) bytes) 0 (suc (2 + 3 * length before)) ≡ Some (I32 (1 + slots_in before))
     slot_there bytes =
         let k : ℕ = suc (2 + 3 * length before) in
         ap (option_and_then (λ (a : ℕ). slice_get (link_values p pages) a)) (global_place k p (omega (arith, within)))
         ∙ ap (λ (ms : Program). slice_get (values 0 1 ms) (2 + 3 * length before)) is
         ∙ slot_is 0 1 before rest m
 
-    callee_there : (bytes : List ℕ) → callee_in (store_of (fixed p pages) bytes) 0 (suc (slots_in before)) ≡ Some (Own (1 + length before) 5)
+    callee_there : (bytes : List ℕ) → callee_in (store_of (fixtures_of p pages) bytes) 0 (suc (slots_in before)) ≡ Some (Own (1 + length before) 5)
     callee_there bytes =
         let spare : List (Option ℕ) = replicate (slots_in []) None in
-        let found : slice_get (filled 3 p ++ spare) (slots_in before) ≡ Some (Some (3 + counts before + 5)) =
-        get_front (filled 3 p) spare (slots_in before) (Some (3 + counts before + 5)) (ap (λ (ms : Program). slice_get (filled 3 ms) (slots_in before)) is ∙ filled_at 3 before rest m)
+        let found : slice_get (table_slots 3 p ++ spare) (slots_in before) ≡ Some (Some (3 + counts before + 5)) =
+        get_front (table_slots 3 p) spare (slots_in before) (Some (3 + counts before + 5)) (ap (λ (ms : Program). slice_get (table_slots 3 ms) (slots_in before)) is ∙ filled_at 3 before rest m)
         in
-        ap (λ (o : Option (Option ℕ)). option_and_then (λ (a : ℕ). slice_get (Put ∷ Stop ∷ Own 0 0 ∷ owns 1 p) a) (machine.filled o)) found
+        ap (λ (o : Option (Option ℕ)). option_and_then (λ (a : ℕ). slice_get (Put ∷ Stop ∷ Own 0 0 ∷ owns 1 p) a) (machine.function_in_slot o)) found
         ∙ ap (λ (a : ℕ). slice_get (Put ∷ Stop ∷ Own 0 0 ∷ owns 1 p) a) (let i : 3 + counts before + 5 ≡ suc (suc (suc (counts before + 5))) = omega arith in i)
         ∙ ap (λ (ms : Program). slice_get (owns 1 ms) (counts before + 5)) is
         ∙ owns_at 1 before rest m
@@ -111,10 +111,10 @@ module _ (p : Program) (pages : ℕ) where
         own_in o = option_and_then (λ (tree : WModule). option_and_then (λ (function : Function). option_and_then (λ t. Some (record { type = t; function = function })) (slice_get tree.types function.type_index))
             (slice_get tree.functions 5)) o
 
-    body_there : (b : BodyAt) → b ≡ record { global = 3 + 3 * length before; slot = 1 + slots_in before; own = 1 + length before; function = 5; typed = body_typed m } → IsThere (all p pages) (fixed p pages) 0 1 b
-    body_there b e = subst (IsThere (all p pages) (fixed p pages) 0 1) (sym e) (record {
-      slot = λ bytes. let i : 3 + 3 * length before ≡ suc (2 + 3 * length before) = omega arith in ap (global_at (store_of (fixed p pages) bytes) 0) i ∙ slot_there bytes;
-      callee = λ bytes. let i : 1 + slots_in before ≡ suc (slots_in before) = omega arith in ap (callee_in (store_of (fixed p pages) bytes) 0) i ∙ callee_there bytes;
+    body_there : (b : BodyAt) → b ≡ record { global = 3 + 3 * length before; slot = 1 + slots_in before; own = 1 + length before; function = 5; typed = body_typed m } → IsThere (all p pages) (fixtures_of p pages) 0 1 b
+    body_there b e = subst (IsThere (all p pages) (fixtures_of p pages) 0 1) (sym e) (record {
+      slot = λ bytes. let i : 3 + 3 * length before ≡ suc (2 + 3 * length before) = omega arith in ap (global_at (store_of (fixtures_of p pages) bytes) 0) i ∙ slot_there bytes;
+      callee = λ bytes. let i : 1 + slots_in before ≡ suc (slots_in before) = omega arith in ap (callee_in (store_of (fixtures_of p pages) bytes) 0) i ∙ callee_there bytes;
       typed = let i : 1 + length before ≡ suc (length before) = omega arith in ap (λ (j : ℕ). own_function (all p pages) j 5) i ∙ typed_there;
       agrees = refl;
       is_body = refl;
@@ -128,7 +128,7 @@ module _ (p : Program) (pages : ℕ) where
       at : (g slot own : ℕ) → BodyAt
       at g slot own = record { global = g; slot = slot; own = own; function = 5; typed = body_typed m }
 
-  all_there : (before rest : Program) (g slot own : ℕ) → g ≡ 3 + 3 * length before → slot ≡ 1 + slots_in before → own ≡ 1 + length before → p ≡ before ++ rest → AreThere (all p pages) (fixed p pages) 0 1 (bodies_at g slot own rest)
+  all_there : (before rest : Program) (g slot own : ℕ) → g ≡ 3 + 3 * length before → slot ≡ 1 + slots_in before → own ≡ 1 + length before → p ≡ before ++ rest → AreThere (all p pages) (fixtures_of p pages) 0 1 (bodies_at g slot own rest)
   all_there before [] g slot own a b c is = tt
   all_there before (m ∷ rest) g slot own a b c is =
       let long = length-append before (m ∷ []) in
@@ -137,5 +137,5 @@ module _ (p : Program) (pages : ℕ) where
         all_there (before ++ m ∷ []) rest (g + 3) (slot + slots m) (own + 1) (omega (arith, a, long)) (omega (arith, b, more)) (omega (arith, c, long)) (is ∙ sym (append_assoc before (m ∷ []) rest)),
       )
 
-  pub bodies_there : AreThere (all p pages) (fixed p pages) 0 1 (bodies_at 3 1 1 p)
+  pub bodies_there : AreThere (all p pages) (fixtures_of p pages) 0 1 (bodies_at 3 1 1 p)
   bodies_there = all_there [] p 3 1 1 refl refl refl refl

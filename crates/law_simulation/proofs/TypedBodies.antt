@@ -18,7 +18,7 @@ use Rattle.def_scheme.specs.Coded.{Coded, Setting}
 use Rattle.def_scheme.specs.Addresses.{addresses_in}
 use Rattle.def_scheme.specs.Exprs.{has_result}
 use Rattle.def_scheme.specs.Functions.{frames_around, numbers_of, setting, from_text}
-use Rattle.def_scheme.specs.Modules.{numbered}
+use Rattle.def_scheme.specs.Modules.{numbering_of}
 use Rattle.def_scheme.specs.Steps.{body_code}
 use Rattle.law_simulation.specs.Begun.{body_does, calling}
 use Rattle.law_simulation.specs.Scene.{Scene, Executes}
@@ -64,7 +64,7 @@ module _ (modules : List WModule) (fx : Fixed) (serves : (k f : ℕ) → Bool) (
   outermost : (o : Spot p) (number : ℕ) → o.at ≡ which.Module number → environment_of o.home o.routine ≡ []
   outermost o number e = (typed o).outermost number e
 
-  function_there : (o : Spot p) → IsFunction (numbered o.home) o.home o.routine (frames_around o.home o.routine.level o.routine.around) (text_of o.home o.at) (routine_typed o.home o.at o.routine)
+  function_there : (o : Spot p) → IsFunction (numbering_of o.home) o.home o.routine (frames_around o.home o.routine.level o.routine.around) (text_of o.home o.at) (routine_typed o.home o.at o.routine)
   function_there o = record {
     params = ap suc (many_length (numbers_of o.home.types o.routine));
     results = results_length (has_result o.home.types o.routine.heading);
@@ -74,7 +74,7 @@ module _ (modules : List WModule) (fx : Fixed) (serves : (k f : ℕ) → Bool) (
   }
 
   body_there : (o : Spot p) (d : ℕ) → AllDo modules fx serves extra n limit p base texts (Spot p) part_of d
-      → DoesBody (core modules fx serves extra n limit p base texts (suc o.place) o.place o.home d) p (calling p n d) (numbered o.home) o.home o.place o.routine (frames_around o.home o.routine.level o.routine.around) (text_of o.home o.at) (environment_of o.home o.routine) base texts
+      → DoesBody (core modules fx serves extra n limit p base texts (suc o.place) o.place o.home d) p (calling p n d) (numbering_of o.home) o.home o.place o.routine (frames_around o.home o.routine.level o.routine.around) (text_of o.home o.at) (environment_of o.home o.routine) base texts
   body_there o d all =
       let m : TypedModule = o.home in
       let r : Routine = o.routine in
@@ -86,9 +86,9 @@ module _ (modules : List WModule) (fx : Fixed) (serves : (k f : ℕ) → Bool) (
       let q = bodies x (calling p n d) result n (text_of m o.at) t.to r.body t.typed in
       record {
         placed = counted q.0 t.to;
-        same = counted_same (text_of m o.at) t.to (body_code (numbered m) r.body) q.0 (setting m (frame m.types r ∷ outer) (top_of m r) (addresses_in r.body)) q.1;
+        same = counted_same (text_of m o.at) t.to (body_code (numbering_of m) r.body) q.0 (setting m (frame m.types r ∷ outer) (top_of m r) (addresses_in r.body)) q.1;
         executes = λ world y root a types place none set has top.
-            let K : Scene = body_scene (core modules fx serves extra n limit p base texts (suc o.place) o.place m d) m r outer (locals_in (numbered m) m r outer (text_of m o.at)) world y root a in
+            let K : Scene = body_scene (core modules fx serves extra n limit p base texts (suc o.place) o.place m d) m r outer (locals_in (numbering_of m) m r outer (text_of m o.at)) world y root a in
             let fits : Fits x (calling p n d) [] K = fits_here modules fx serves extra n limit p base texts linked levels outermost d all o.place m o.there kinds a (frame m.types r ∷ outer) (top_of m r) (addresses_in r.body) world y K.locals K.result K.kept set top place none has in
             let suits : Suits x (calling p n d) result n [] K = record { fits = fits; turns = refl; typed = refl } in
             subst (λ (b : Bool). Executes K b (counted q.0 t.to) (body_does p n (calling p n d) r.body)) (function_it m.types r)
@@ -115,7 +115,7 @@ module _ (modules : List WModule) (fx : Fixed) (serves : (k f : ℕ) → Bool) (
         code = refl;
         addresses = t.addresses;
         placed = counted q.0 t.to;
-        same = counted_same text t.to (body_code (numbered m) m.body) q.0 (setting m (body_row ∷ []) 1 (addresses_in m.body)) q.1;
+        same = counted_same text t.to (body_code (numbering_of m) m.body) q.0 (setting m (body_row ∷ []) 1 (addresses_in m.body)) q.1;
         executes = λ set has top.
             let fits : Fits x (calling p n n) [] K = fits_here modules fx serves extra n limit p base texts linked levels outermost n all place m t.there [] a (body_row ∷ []) 1 (addresses_in m.body) K.world K.hidden K.locals K.result K.kept set top refl refl has in
             let suits : Suits x (calling p n n) None n [] K = record { fits = fits; turns = refl; typed = refl } in

@@ -25,7 +25,7 @@ use Rattle.def_meaning.specs.Answer as answer
 use Rattle.def_meaning.specs.Operators as of
 use Rattle.def_meaning.specs.Operators.{is_between, absolute, capital, odd}
 use Rattle.def_meaning.specs.Expressions.{Gives, within, within_range, ordinal}
-use Rattle.def_scheme.specs.Coded.{Coded, operation, relation, checked}
+use Rattle.def_scheme.specs.Coded.{Coded, operation, relation, check_code}
 use Rattle.def_scheme.specs.Cells.{in_range, base_of}
 use Rattle.def_scheme.specs.Exprs.{absolute_code, capital_code, chosen_number, ord_check}
 use Rattle.law_simulation.specs.Scene.{Scene, calls, runs, HasHelpers, IsIn, IsValue, AreSmall, AreAmong, AreNatural, word, Stands, keeping, Into, GivesNumber, Agrees}
@@ -102,7 +102,7 @@ module _ (k : Scene) (has : HasHelpers k) (small : AreSmall k.setting.home.types
       (i64_runs k.modules k.fixed k.turns (calls k) k.own (operation And ∷ rest) st 1 (stack ++ I64 (word v) ∷ [])
       ∙ operation_runs k has small And (word v) 1 (truth (odd v)) rest st stack (ap Some (odd_is v (wide v (narrow k has small t v is)))))
 
-  pub chr_goes : (t : TypeNo) → Goes k t char (checked (pos 0) (pos 255) 1) (λ v s. within (pos 0) (pos 255) range_fault v s)
+  pub chr_goes : (t : TypeNo) → Goes k t char (check_code (pos 0) (pos 255) 1) (λ v s. within (pos 0) (pos 255) range_fault v s)
   chr_goes t v is s st h rest stack =
       checked_gives k has char (pos 0) (pos 255) v 1 (record { low = omega (arith, ints); high = omega (arith, ints) }) (record { low = omega (arith, ints); high = omega (arith, ints) })
       (wide v (narrow k has small t v is)) (omega arith) (omega arith) (λ e. between_in (pos 0) (pos 255) v e) s st h rest stack
@@ -124,12 +124,12 @@ module _ (k : Scene) (has : HasHelpers k) (small : AreSmall k.setting.home.types
   ord_goes t among natural v is s st h rest stack = by (are_same (base_of types t) integer) refl
     where
       by : (b : Bool) → are_same (base_of types t) integer ≡ b
-          → Into (GivesNumber k cardinal (runs k rest) stack) (runs k ((if b then checked (pos 0) (pos 2147483647) 1 else []) ++ rest) st (stack ++ I64 (word v) ∷ [])) (ordinal v s)
+          → Into (GivesNumber k cardinal (runs k rest) stack) (runs k ((if b then check_code (pos 0) (pos 2147483647) 1 else []) ++ rest) st (stack ++ I64 (word v) ∷ [])) (ordinal v s)
       by true e =
           let based : IsIn (scalar_at types integer) v = subst (λ (o : Option Range). IsIn o v) (as_integer types (base_of types t) e) (among v is) in
           let high = based.1 in
           let same : within (pos 0) (pos 2147483647) range_fault v s ≡ ordinal v s = (let b : is_between (pos 0) v (pos 2147483647) ≡ not (int_lt v (pos 0)) = grind (arith, high) in ap (λ (b : Bool). if b then answer.Value v s else Ended range_fault s.out) b ∙ either (int_lt v (pos 0))) in
-          subst (λ (a : Answer ℤ). Into (GivesNumber k cardinal (runs k rest) stack) (runs k (checked (pos 0) (pos 2147483647) 1 ++ rest) st (stack ++ I64 (word v) ∷ [])) a) same
+          subst (λ (a : Answer ℤ). Into (GivesNumber k cardinal (runs k rest) stack) (runs k (check_code (pos 0) (pos 2147483647) 1 ++ rest) st (stack ++ I64 (word v) ∷ [])) a) same
           (checked_gives k has cardinal (pos 0) (pos 2147483647) v 1 (record { low = omega (arith, ints); high = omega (arith, ints) }) (record { low = omega (arith, ints); high = omega (arith, ints) })
           (wide v (narrow k has small t v is)) (omega arith) (omega arith) (λ e. let p = between_in (pos 0) (pos 2147483647) v e in let a = p.0 in let b = p.1 in (a, omega (arith, ints))) s st h rest stack)
         where
@@ -222,9 +222,9 @@ module _ (k : Scene) (has : HasHelpers k) (small : AreSmall k.setting.home.types
     abbrev opposite : List Instr
     opposite = instr.I64Const 0 ∷ instr.LocalGet n ∷ operation Sub ∷ []
 
-    abs_runs : (rest : List Instr) → runs k (absolute_code n ++ rest) st (stack ++ value ∷ []) ≡ runs k (checked (pos 0) (pos 2147483647) 2 ++ rest) set (stack ++ I64 (word (absolute v)) ∷ [])
+    abs_runs : (rest : List Instr) → runs k (absolute_code n ++ rest) st (stack ++ value ∷ []) ≡ runs k (check_code (pos 0) (pos 2147483647) 2 ++ rest) set (stack ++ I64 (word (absolute v)) ∷ [])
     abs_runs rest =
-        let check : List Instr = checked (pos 0) (pos 2147483647) 2 ++ rest in
+        let check : List Instr = check_code (pos 0) (pos 2147483647) 2 ++ rest in
         begins (instr.I64Const 0 ∷ relation LtS ∷ chosen_number opposite same ∷ check)
         ∙ i64_runs k.modules k.fixed k.turns (calls k) k.own (relation LtS ∷ chosen_number opposite same ∷ check) set 0 (stack ++ value ∷ [])
         ∙ relation_runs k has small LtS (word v) 0 (chosen_number opposite same ∷ check) set stack

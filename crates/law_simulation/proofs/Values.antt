@@ -24,7 +24,7 @@ use Rattle.def_meaning.specs.Expressions.{Gives, as_type, within_range}
 use Rattle.law_memory.specs.Relation.{Means}
 use Rattle.law_memory.proofs.Procedures.{number_means}
 use Rattle.law_memory.proofs.Worlds.{same_cell}
-use Rattle.def_scheme.specs.Coded.{Coded, with_setting, plain, ◌⨾◌, operation, extended}
+use Rattle.def_scheme.specs.Coded.{Coded, with_setting, plain, ◌⨾◌, operation, extend_word}
 use Rattle.def_scheme.specs.Cells.{is_free, in_type, in_range, check_taken}
 use Rattle.def_scheme.specs.Exprs.{Part, slot_number, slots_global, procedure_code}
 use Rattle.law_simulation.specs.Scene.{Scene, IsSet, IsResult, calls, runs, IsIn, IsValue, AreAmong, word, Into, GivesNumber, inside, Agrees}
@@ -94,7 +94,7 @@ procedure_runs k set p f has st rest stack =
     let small = has.small in
     let inside_64 : (has.slot + slot_number f) % 2 ^ 64 ≡ n = omega (arith, small) in
     let as_word : n ≡ word (pos n) = omega (arith, ints, small) in
-    global_runs k.modules k.fixed k.turns (calls k) k.own (extended ∷ instr.I64Const (slot_number f) ∷ operation Add ∷ rest) st (slots_global k.setting.home f.home) (I32 has.slot) stack (has.there st.bytes)
+    global_runs k.modules k.fixed k.turns (calls k) k.own (extend_word ∷ instr.I64Const (slot_number f) ∷ operation Add ∷ rest) st (slots_global k.setting.home f.home) (I32 has.slot) stack (has.there st.bytes)
     ∙ extended_runs k set.helpers set.small has.slot (instr.I64Const (slot_number f) ∷ operation Add ∷ rest) st stack
     ∙ i64_runs k.modules k.fixed k.turns (calls k) k.own (operation Add ∷ rest) st (slot_number f) (stack ++ I64 has.slot ∷ [])
     ∙ operation_runs k set.helpers set.small Add has.slot (slot_number f) n rest st stack (ap Some inside_64)

@@ -5,7 +5,7 @@ use Rattle.wasm_tree.specs.Machine.{Config, Over, run}
 use Rattle.law_effect.specs.Laws.{IsOver}
 use Rattle.def_meaning.specs.Answer.{Ended, StillRunning}
 use Rattle.def_meaning.specs.Outcome.{Outcome}
-use Rattle.def_meaning.specs.Later.{printed}
+use Rattle.def_meaning.specs.Later.{output_of}
 
 -- The program's run with each bound, and the machine's run from a configuration.
 pub record Behaves (modules : List WModule) (c : Config) (program : ℕ → Outcome) : Type 0 where
@@ -21,7 +21,7 @@ pub record Behaves (modules : List WModule) (c : Config) (program : ℕ → Outc
       → (n : ℕ) × (k : ℕ) × (d ≡ Over k) × (program n ≡ Ended k out)
   -- what the machine has printed is a beginning of what the program prints
   pub prints : (m : ℕ)
-      → (n : ℕ) × (rest : List ℕ) × (printed (program n) ≡ (run modules m c).1 ++ rest)
+      → (n : ℕ) × (rest : List ℕ) × (output_of (program n) ≡ (run modules m c).1 ++ rest)
   -- what the program has printed while it runs is what the machine has printed at some time
   pub prints_also : (n : ℕ) (out : List ℕ) → program n ≡ StillRunning out
       → (m : ℕ) × (n ≤ m) × ((run modules m c).1 ≡ out)

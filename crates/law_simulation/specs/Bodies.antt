@@ -4,8 +4,8 @@ use Rattle.std.specs.Prelude.{◌≡◌, ℕ, suc, ◌-◌, Bool, false, List, [
 use Rattle.wasm_tree.specs.declared.module.WModule.{WModule}
 use Rattle.wasm_tree.specs.declared.store.Value.{Value}
 use Rattle.wasm_tree.specs.declared.store.Value.TheVariants.{I32}
-use Rattle.wasm_tree.specs.Machine.{Typed, Going, entered}
-use Rattle.law_effect.specs.Effect.{Fixed, store_of, Effect, FellThrough, StillRunning, Calling, back, nested}
+use Rattle.wasm_tree.specs.Machine.{Typed, Going, enter_function}
+use Rattle.law_effect.specs.Effect.{Fixed, store_of, Effect, FellThrough, StillRunning, Calling, back, nest_calls}
 use Rattle.law_effect.specs.Effect as effects
 use Rattle.typed_tree.specs.declared.typed_module.TypedModule.{TypedModule}
 use Rattle.layout_storage.specs.Types.{Ty, row}
@@ -85,9 +85,9 @@ BodiesBehave =
     → serves m f ≡ false
     → AreThere modules fx m type bs
     → ((n : ℕ)
-    → AllDo g (nested modules fx serves extra n (suc n)) (statements_do p pages n) 0 p bs)
+    → AllDo g (nest_calls modules fx serves extra n (suc n)) (statements_do p pages n) 0 p bs)
     → (bytes : List ℕ)
     → IsHeld g (first_state p) bytes
     → Behaves modules
-    (Going (store_of fx bytes) (entered m (run_typed index (size (row g.base)) type bs) []) [])
+    (Going (store_of fx bytes) (enter_function m (run_typed index (size (row g.base)) type bs) []) [])
     (run p pages)

@@ -2,7 +2,7 @@
 -- and its modules linked.
 use Rattle.std.specs.Prelude.{◌≡◌, ℕ, suc, ◌+◌, ◌-◌, Bool, false, List, [], ◌∷◌, length, None, Some, slice_get}
 use Rattle.wasm_tree.specs.declared.module.WModule.{WModule}
-use Rattle.law_effect.specs.Effect.{Fixed, nested}
+use Rattle.law_effect.specs.Effect.{Fixed, nest_calls}
 use Rattle.typed_tree.specs.declared.typed_module.Which.TheVariants as which
 use Rattle.typed_tree.specs.declared.typed_module.TypedModule.{TypedModule}
 use Rattle.layout_storage.specs.Types.{Ty, row}
@@ -13,7 +13,7 @@ use Rattle.def_meaning.specs.Environment.{Modules}
 use Rattle.def_meaning.specs.Runs.{storage, body_frame}
 use Rattle.def_scheme.specs.Addresses.{addresses_in}
 use Rattle.def_scheme.specs.Functions.{frames_around}
-use Rattle.def_scheme.specs.Modules.{numbered}
+use Rattle.def_scheme.specs.Modules.{numbering_of}
 use Rattle.law_simulation.specs.Begun.{calling}
 use Rattle.law_simulation.specs.Scene.{HasHelpers, AreSmall}
 use Rattle.law_simulation.specs.Frames.{kinds_of}
@@ -44,7 +44,7 @@ module _ (modules : List WModule) (fx : Fixed) (serves : (k f : ℕ) → Bool) (
         (environment_of o.home o.routine)
     -- a procedure of the module itself stands in no other
     pub outermost : (number : ℕ) → o.at ≡ which.Module number → environment_of o.home o.routine ≡ []
-    pub addresses : (coded_body (numbered o.home) o.home o.routine
+    pub addresses : (coded_body (numbering_of o.home) o.home o.routine
         (frames_around o.home o.routine.level o.routine.around) (text_of o.home o.at)).1.addresses
         ≡ addresses_in o.routine.body
     pub ours : serves (suc o.place) (function_of o.home o.at) ≡ false
@@ -108,5 +108,5 @@ TypedBodies =
     → serves (suc place) 5 ≡ false
     → extra (suc place) 5 ≡ 0
     → BodyDoes (record { program = p; base = base; texts = texts; limit = limit })
-    (nested modules fx serves extra n (suc n)) (statements_do p pages n place m) (suc place) 5
+    (nest_calls modules fx serves extra n (suc n)) (statements_do p pages n place m) (suc place) 5
     (body_typed m)

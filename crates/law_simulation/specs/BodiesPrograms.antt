@@ -6,7 +6,7 @@ use Rattle.typed_tree.specs.declared.typed_module.TypedModule.{TypedModule}
 use Rattle.def_meaning.specs.Runs.{body_frame, run}
 use Rattle.law_modules.specs.Linked.{Program, IsLinkable, all, bytes_in}
 use Rattle.law_simulation.specs.Behaves.{Behaves}
-use Rattle.law_simulation.specs.RunsPrograms.{IsSound, fixed, ground}
+use Rattle.law_simulation.specs.RunsPrograms.{IsSound, fixtures_of, ground}
 use Rattle.law_simulation.specs.BodiesLaws.{AreLinked, AreTyped, IsTypedMain}
 
 -- link is the module 0, and in all others the first five functions serve the module: calls of them
@@ -21,13 +21,13 @@ more_turns k f = if serving k f then 2 ^ 32 else 0
 
 -- what is known of a program whose loops make at most so many turns, and whose calls nest so deep
 pub record IsTypedProgram (p : Program) (pages n : ℕ) : Type 0 where
-  pub linked : AreLinked (all p pages) (fixed p pages) serving more_turns n (65536 * pages) p
+  pub linked : AreLinked (all p pages) (fixtures_of p pages) serving more_turns n (65536 * pages) p
       (ground p pages).base (ground p pages).texts
-  pub procedures : AreTyped (all p pages) (fixed p pages) serving more_turns n (65536 * pages) p
+  pub procedures : AreTyped (all p pages) (fixtures_of p pages) serving more_turns n (65536 * pages) p
       (ground p pages).base (ground p pages).texts
   pub bodies : (place : ℕ) (m : TypedModule)
       → slice_get p place ≡ Some m
-      → IsTypedMain (all p pages) (fixed p pages) serving more_turns n (65536 * pages) p
+      → IsTypedMain (all p pages) (fixtures_of p pages) serving more_turns n (65536 * pages) p
       (ground p pages).base (ground p pages).texts place m
 
 -- the modules link, and do what the program does, where its data and a body's frame have room

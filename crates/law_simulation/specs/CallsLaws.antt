@@ -14,10 +14,10 @@ use Rattle.typed_tree.specs.Known.{scalar_at}
 use Rattle.layout_storage.specs.Types.{Ty, Scalar, Natural, Cell, Hidden, Array, row, component, IsPlain}
 use Rattle.layout_storage.specs.Sizes.{size}
 use Rattle.layout_storage.specs.Shapes.{tree}
-use Rattle.def_meaning.specs.Store.{Location, copied, placed}
+use Rattle.def_meaning.specs.Store.{Location, copy_whole, overlay}
 use Rattle.def_meaning.specs.Answer.{Value, ◌▷◌}
 use Rattle.def_meaning.specs.Outcome.{Normal, Returned}
-use Rattle.def_meaning.specs.Environment.{Modules, procedure_value, named, high_of}
+use Rattle.def_meaning.specs.Environment.{Modules, procedure_value, slot_named, high_of}
 use Rattle.def_meaning.specs.Expressions as meaning
 use Rattle.def_meaning.specs.Expressions.{Asks, Gives as Given, as_type}
 use Rattle.def_meaning.specs.Statements.{character}
@@ -72,7 +72,7 @@ Copies =
     → Executes k function
     (d ⨾ behind e (λ types. instr.I32Const (size (tree types t)) ∷ instr.Call copy ∷ [])) (λ a s.
     to a s ▷ λ l s.
-    from a s ▷ λ l' s. Value Normal (record s { store = copied l l' s.store }))
+    from a s ▷ λ l' s. Value Normal (record s { store = copy_whole l l' s.store }))
 
 -- the characters of a text of the module stand behind one another in its hidden room, from this
 -- place on
@@ -103,7 +103,7 @@ Strings =
     plain (instr.LocalTee w ∷ []) ⨾ with_setting (λ s.
     plain (text_copied at (length text) (size (tree s.home.types t) - length text) w))))
     (λ a s.
-    to a s ▷ λ l s. Value Normal (record s { store = placed l (character text) s.store }))
+    to a s ▷ λ l s. Value Normal (record s { store = overlay l (character text) s.store }))
 
 -- RETURN with a value
 abbrev pub Gives : Type 0
@@ -149,7 +149,7 @@ OpenArrays =
     → HasFrames k kss
     → (slot : Slot) (t : Ty)
     → kind_at kss slot ≡ Some (Open t)
-    → Locates k (Array (suc (high_of (named k.around slot))) t) (code.root_layer (root.Open slot))
+    → Locates k (Array (suc (high_of (slot_named k.around slot))) t) (code.root_layer (root.Open slot))
     (λ a s. Value (meaning.root_layer p ask (root.Open slot) a) s)
 
 abbrev pub OpenElements : Type 0
@@ -162,7 +162,7 @@ OpenElements =
     → kind_at kss slot ≡ Some (Open (tree k.setting.home.types t))
     → (i : Part) (value : Given ℤ)
     → Agrees k i.of i.code value
-    → Reaches k (Array (suc (high_of (named k.around slot))) (tree k.setting.home.types t))
+    → Reaches k (Array (suc (high_of (slot_named k.around slot))) (tree k.setting.home.types t))
     (tree k.setting.home.types t) (code.component_layer (layer.OpenElement slot t i))
     (meaning.component_layer p ask (layer.OpenElement slot t value))
 

@@ -12,8 +12,8 @@ use Rattle.def_meaning.specs.Store.{Location}
 use Rattle.def_meaning.specs.Environment.{Callee, module_place, module_callee, nested_in}
 use Rattle.def_meaning.specs.Expressions.{Asks}
 use Rattle.def_scheme.specs.Exprs.{all_arguments, has_result, module_call, nested_call}
-use Rattle.def_scheme.specs.Modules.{numbered}
-use Rattle.def_scheme.specs.Signatures.{needed, of_heading, is_among, type_of}
+use Rattle.def_scheme.specs.Modules.{numbering_of}
+use Rattle.def_scheme.specs.Signatures.{signatures_needed, of_heading, is_among, type_of}
 use Rattle.law_simulation.specs.Scene.{Scene, IsSet, IsGlobal, IsWith, calls}
 use Rattle.law_simulation.specs.Held.{HasCallees}
 use Rattle.law_simulation.specs.CallsLaws.{HasSlot, IsText}
@@ -51,19 +51,19 @@ pub record Fits (x : Context) (ask : Asks) (ws : List Ty) (k : Scene) : Type 0 w
       → (c : Callee)
       × (module_callee x.p (module_place x.p f.home) f.number ≡ Some c)
       × (c.frames ≡ [])
-      × IsCalled x ask k c [] f.heading (module_call (numbered x.home) k.setting.home f) 0
+      × IsCalled x ask k c [] f.heading (module_call (numbering_of x.home) k.setting.home f) 0
   pub nested : (f : LocalProcedure)
       → IsInner x f
       → (c : Callee)
       × (nested_in x.place (slice_get x.p x.place) (drop f.up k.around.frames) f.number ≡ Some c)
       × (c.frames ≡ drop f.up k.around.frames)
       × IsCalled x ask k c (drop f.up x.kinds) f.heading
-      (nested_call (numbered x.home) k.setting.home f) 1
+      (nested_call (numbering_of x.home) k.setting.home f) 1
   -- the procedures of all modules stand in the table, and the types of the functions that it calls
   -- under their numbers
   pub callees : HasCallees k ask x.base x.texts
   pub signed : (t : TypeNo)
-      → is_among (needed x.home) (of_heading x.home.types t) ≡ true
+      → is_among (signatures_needed x.home) (of_heading x.home.types t) ≡ true
       → type_at k.modules k.own
-      (numbered x.home (all_arguments (formals_of x.home.types t)) (has_result x.home.types t))
+      (numbering_of x.home (all_arguments (formals_of x.home.types t)) (has_result x.home.types t))
       ≡ Some (type_of (of_heading x.home.types t))

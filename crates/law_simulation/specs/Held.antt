@@ -22,9 +22,9 @@ use Rattle.def_meaning.specs.Environment.{Modules, Callee, Passed, Number, modul
 use Rattle.def_meaning.specs.Calls.{is_there}
 use Rattle.def_meaning.specs.Expressions as meaning
 use Rattle.def_meaning.specs.Expressions.{Asks, Gives, as_type, asked_if}
-use Rattle.def_meaning.specs.Statements.{stored}
+use Rattle.def_meaning.specs.Statements.{store_number}
 use Rattle.law_memory.specs.Relation.{NamesProcedure, IsProcedureValue, heading_at, value_number}
-use Rattle.def_scheme.specs.Coded.{Coded, Counts, plain, ◌⨾◌, all_coded, with_number, with_setting, checked}
+use Rattle.def_scheme.specs.Coded.{Coded, Counts, plain, ◌⨾◌, all_coded, with_number, with_setting, check_code}
 use Rattle.def_scheme.specs.Cells as cells
 use Rattle.def_scheme.specs.Cells.{check_taken}
 use Rattle.def_scheme.specs.Exprs as code
@@ -122,8 +122,8 @@ HeldAssigns =
     → tree k.setting.home.types t ≡ Cell (Callable h)
     → Locates k (Cell (Callable h)) d found
     → AgreesHeld k h e value
-    → Executes k function (d ⨾ e ⨾ with_setting (λ s. plain (cells.stored s.home.types t))) (λ a s.
-    found a s ▷ λ l s. value a s ▷ λ v s. answer.Value Normal (stored l v s))
+    → Executes k function (d ⨾ e ⨾ with_setting (λ s. plain (cells.store_code s.home.types t))) (λ a s.
+    found a s ▷ λ l s. value a s ▷ λ v s. answer.Value Normal (store_number l v s))
 
 -- for a value formal
 abbrev pub HeldPasses : Type 0
@@ -168,7 +168,7 @@ module _ (k : Scene) (ask : Asks) (base : List Ty) (texts : Location → ℕ →
 -- the number is checked and kept, then come the arguments, and then the call through the table
 abbrev pub held_call : Numbered → TypeNo → Coded → List Coded → Coded
 held_call numbered t x xs =
-    x ⨾ plain (checked (pos 1) (pos 4294967295) 7) ⨾ with_number (λ n.
+    x ⨾ plain (check_code (pos 1) (pos 4294967295) 7) ⨾ with_number (λ n.
     plain (instr.LocalSet n ∷ []) ⨾ top_code ⨾ all_coded xs ⨾ value_call numbered n t)
 
 -- where the module has the type of the functions with this heading

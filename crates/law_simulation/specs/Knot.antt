@@ -2,14 +2,14 @@
 use Rattle.std.specs.Prelude.{◌≡◌, ℕ, Bool, false, List, [], None}
 use Rattle.wasm_tree.specs.declared.module.WModule.{WModule}
 use Rattle.wasm_tree.specs.Machine.{Typed}
-use Rattle.law_effect.specs.Effect.{Fixed, nested}
+use Rattle.law_effect.specs.Effect.{Fixed, nest_calls}
 use Rattle.typed_tree.specs.declared.typed_module.Routine.{Routine}
 use Rattle.typed_tree.specs.declared.typed_module.TypedModule.{TypedModule}
 use Rattle.layout_storage.specs.Types.{Ty}
 use Rattle.def_meaning.specs.Store.{Location}
 use Rattle.def_meaning.specs.Environment.{Modules, Environment, Frames}
 use Rattle.def_scheme.specs.Functions.{setting}
-use Rattle.def_scheme.specs.Modules.{numbered}
+use Rattle.def_scheme.specs.Modules.{numbering_of}
 use Rattle.law_simulation.specs.Begun.{calling}
 use Rattle.law_simulation.specs.Scene.{Scene}
 use Rattle.law_simulation.specs.Frames.{Kinds}
@@ -42,7 +42,7 @@ module _ (modules : List WModule) (fx : Fixed) (serves : (k f : ℕ) → Bool) (
     own = own;
     extra = extra;
     turns = n;
-    functions = nested modules fx serves extra n d;
+    functions = nest_calls modules fx serves extra n d;
     program = p;
     result = None;
     around = nowhere place m;
@@ -57,7 +57,7 @@ module _ (modules : List WModule) (fx : Fixed) (serves : (k f : ℕ) → Bool) (
   abbrev pub PartDoes : (d : ℕ) → Part → Type 0
   PartDoes d o =
       (nss : Frames)
-      → DoesAsked p base texts limit (nested modules fx serves extra n d) (calling p n d)
+      → DoesAsked p base texts limit (nest_calls modules fx serves extra n d) (calling p n d)
       (callee_of o.place o.home o.routine nss) o.kinds (forms_of o.home.types o.routine.heading)
       (result_of o.home.types o.routine.heading) o.own o.function o.typed
 
@@ -71,14 +71,14 @@ module _ (modules : List WModule) (fx : Fixed) (serves : (k f : ℕ) → Bool) (
       pub procedure : (d : ℕ)
           → IsProcedure (core (part i).own (part i).place (part i).home d) (part i).home
           (part i).routine (part i).outer (part i).kinds
-      pub function : IsFunction (numbered (part i).home) (part i).home (part i).routine
+      pub function : IsFunction (numbering_of (part i).home) (part i).home (part i).routine
           (part i).outer (part i).text (part i).typed
       pub ours : serves (part i).own (part i).function ≡ false
       pub bound : extra (part i).own (part i).function ≡ 0
       pub body : (d : ℕ)
           → AllDo d
           → DoesBody (core (part i).own (part i).place (part i).home d) p (calling p n d)
-          (numbered (part i).home) (part i).home (part i).place (part i).routine (part i).outer
+          (numbering_of (part i).home) (part i).home (part i).place (part i).routine (part i).outer
           (part i).text (part i).kinds base texts
 
     abbrev pub Knot : Type 0

@@ -19,7 +19,7 @@ use Rattle.typed_tree.specs.Known.{scalar_at}
 use Rattle.layout_storage.specs.Types.{Ty, Scalar, Cell, Array, row, component}
 use Rattle.layout_storage.specs.Shapes.{tree, elements_of}
 use Rattle.def_meaning.specs.Store.{Location}
-use Rattle.def_meaning.specs.Answer.{range_fault, halted, Ended, ◌▷◌}
+use Rattle.def_meaning.specs.Answer.{range_fault, halt_status, Ended, ◌▷◌}
 use Rattle.def_meaning.specs.Outcome.{Normal, Exited, Returned, sequence}
 use Rattle.def_meaning.specs.Answer as answer
 use Rattle.def_meaning.specs.Environment.{Modules, module_place}
@@ -27,11 +27,11 @@ use Rattle.def_meaning.specs.Operators.{is_true}
 use Rattle.def_meaning.specs.Expressions as meaning
 use Rattle.def_meaning.specs.Expressions.{within as bounded, as_type, Asks, Gives, Continues, one_by_one}
 use Rattle.def_meaning.specs.Statements as statements
-use Rattle.def_meaning.specs.Statements.{Does, changed, rechecked, with_element, for_all, stored, until_true, looped}
+use Rattle.def_meaning.specs.Statements.{Does, change_by, recheck_value, with_element, for_all, store_number, until_true, loop_outcome}
 use Rattle.wasm_tree.specs.declared.instr.Instr.{Instr}
 use Rattle.wasm_tree.specs.declared.instr.Instr.TheVariants as instr
 use Rattle.wasm_tree.specs.declared.store.Value.{Value}
-use Rattle.def_scheme.specs.Coded.{Coded, Setting, plain, ◌⨾◌, all_coded, with_address, within, with_setting, is_zero, wrapped, put, fault}
+use Rattle.def_scheme.specs.Coded.{Coded, Setting, plain, ◌⨾◌, all_coded, with_address, within, with_setting, is_zero, wrap_word, put, fault}
 use Rattle.def_scheme.specs.Cells as cells
 use Rattle.def_scheme.specs.Cells.{base_of}
 use Rattle.def_scheme.specs.Exprs as code
@@ -364,8 +364,8 @@ Assigns =
     → IsCell k.setting.home.types t c
     → Locates k (Cell c) d found
     → Agrees k t e value
-    → Executes k function (d ⨾ e ⨾ with_setting (λ s. plain (cells.stored s.home.types t))) (λ a s.
-    found a s ▷ λ l s. value a s ▷ λ v s. answer.Value Normal (stored l v s))
+    → Executes k function (d ⨾ e ⨾ with_setting (λ s. plain (cells.store_code s.home.types t))) (λ a s.
+    found a s ▷ λ l s. value a s ▷ λ v s. answer.Value Normal (store_number l v s))
 
 -- INC and DEC of a scalar variable, whose base is a scalar type, too
 abbrev pub Changes : Type 0
@@ -383,7 +383,7 @@ Changes =
     → Executes k function (change_code o d t x.code) (λ a s.
     found a s ▷ λ l s.
     value a s ▷ λ by s.
-    rechecked a.types t (changed o (s.store l) by) s ▷ λ v s. answer.Value Normal (stored l v s))
+    recheck_value a.types t (change_by o (s.store l) by) s ▷ λ v s. answer.Value Normal (store_number l v s))
 
 -- INCL and EXCL
 abbrev pub Memberships : Type 0
@@ -400,7 +400,7 @@ Memberships =
     found a s ▷ λ l s.
     value a s ▷ λ x s.
     bounded (pos 0) (pos 31) range_fault x s ▷ λ x s.
-    answer.Value Normal (stored l (with_element o (s.store l) x) s))
+    answer.Value Normal (store_number l (with_element o (s.store l) x) s))
 
 -- a byte is printed
 abbrev pub Puts : Type 0
@@ -415,7 +415,7 @@ Puts =
 abbrev pub Halts : Type 0
 Halts =
     (k : Scene) → IsSet k → (function : Bool)
-    → Executes k function (plain (fault 9)) (λ a s. Ended halted s.out)
+    → Executes k function (plain (fault 9)) (λ a s. Ended halt_status s.out)
 
 abbrev pub Exits : Type 0
 Exits =
@@ -441,7 +441,7 @@ Ifs =
     → Agrees k boolean e value
     → Executes k function x step
     → Executes k function y other
-    → Executes k function (e ⨾ plain (wrapped ∷ []) ⨾ if_else x y) (λ a s.
+    → Executes k function (e ⨾ plain (wrap_word ∷ []) ⨾ if_else x y) (λ a s.
     value a s ▷ λ v s. if is_true v then step a s else other a s)
 
 abbrev pub LoneIfs : Type 0
@@ -451,7 +451,7 @@ LoneIfs =
     → (function : Bool) (e : Coded) (value : Gives ℤ) (x : Coded) (step : Does)
     → Agrees k boolean e value
     → Executes k function x step
-    → Executes k function (e ⨾ plain (wrapped ∷ []) ⨾ if_only x) (λ a s.
+    → Executes k function (e ⨾ plain (wrap_word ∷ []) ⨾ if_only x) (λ a s.
     value a s ▷ λ v s. if is_true v then step a s else answer.Value Normal s)
 
 -- the record is found once, and the body runs where its address is kept
@@ -500,7 +500,7 @@ Cases =
     → ((n : ℕ) (v : Value) → k.kept n ≡ None → AreArms (keeping k n v) function xs ys)
     → ((n : ℕ) (v : Value) → k.kept n ≡ None → Executes (keeping k n v) function otherwise other)
     → Executes k function (steps.case_code x.code xs otherwise) (λ a s.
-    value a s ▷ λ v s. statements.chosen v ys other a s)
+    value a s ▷ λ v s. statements.choose_arm v ys other a s)
 
 -- without ELSE there is a fault where no label is that of the value
 abbrev pub Unlabelled : Type 0
@@ -530,7 +530,7 @@ Fors =
     → Executes k function (for_code (with_setting (λ s. plain (at s))) t start bound by x) (λ a s.
     first a s ▷ λ v s.
     last a s ▷ λ limit s.
-    for_all k.turns (as_type a.types t) l by limit (step a) (stored l v s))
+    for_all k.turns (as_type a.types t) l by limit (step a) (store_number l v s))
 
 abbrev pub Repeats : Type 0
 Repeats =
@@ -549,4 +549,4 @@ Loops =
     → (function : Bool) (x : Coded) (step : Does)
     → Executes k function x step
     → Executes k function (leaving 1 block_loop (x ⨾ plain (instr.Br 0 ∷ []))) (λ a s.
-    looped k.turns (step a) s)
+    loop_outcome k.turns (step a) s)

@@ -20,8 +20,8 @@ use Rattle.law_memory.specs.Relation.{value_number}
 use Rattle.def_scheme.specs.Coded.{body_index}
 use Rattle.def_scheme.specs.Exprs.{base_global, slots_global, text_global, variables_row, slot_number, has_result}
 use Rattle.def_scheme.specs.Functions.{routine_of, frames_around, numbers_of, routine_function}
-use Rattle.def_scheme.specs.Modules.{numbered, all_characters}
-use Rattle.def_scheme.specs.Signatures.{Signature, signature, needed, is_among, type_of}
+use Rattle.def_scheme.specs.Modules.{numbering_of, all_characters}
+use Rattle.def_scheme.specs.Signatures.{Signature, signature, signatures_needed, is_among, type_of}
 use Rattle.law_simulation.specs.Frames.{Kinds}
 use Rattle.law_simulation.specs.TreesTyped.{Context, IsVariable, IsNamed, kinds_around}
 use Rattle.law_simulation.specs.Knot.{Part}
@@ -50,7 +50,7 @@ called_by m (which.Local n) = suc body_index + (length m.procedures + n)
 abbrev pub routine_typed : TypedModule → Which → Routine → Typed
 routine_typed m w r = record {
   type = type_of (signature (numbers_of m.types r) (has_result m.types r.heading));
-  function = routine_function (numbered m) m w r;
+  function = routine_function (numbering_of m) m w r;
 }
 
 abbrev pub environment_of : TypedModule → Routine → List Kinds
@@ -143,8 +143,8 @@ module _ (p : Modules) (base : List Ty) (texts : Location → ℕ → ℕ) where
           → slice_get home.procedures number ≡ Some r → HasEntry to number
       pub characters : HasTexts
       -- the types of the functions that it calls stand under their numbers
-      pub types : (s : Signature) → is_among (needed m) s ≡ true
-          → type_at modules (suc place) (numbered m s.arguments s.result) ≡ Some (type_of s)
+      pub types : (s : Signature) → is_among (signatures_needed m) s ≡ true
+          → type_at modules (suc place) (numbering_of m s.arguments s.result) ≡ Some (type_of s)
       -- the functions of its procedures
       pub called : (w : Which) (r : Routine)
           → routine_of m w ≡ Some r

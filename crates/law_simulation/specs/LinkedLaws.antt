@@ -8,7 +8,7 @@ use Rattle.typed_tree.specs.declared.typed_module.TypedModule.{TypedModule}
 use Rattle.def_meaning.specs.Runs.{run}
 use Rattle.law_modules.specs.Linked.{Program, names, all, slots_in, bytes_in, IsLinkable}
 use Rattle.law_simulation.specs.Behaves.{Behaves}
-use Rattle.law_simulation.specs.RunsPrograms.{ground, fixed}
+use Rattle.law_simulation.specs.RunsPrograms.{ground, fixtures_of}
 use Rattle.law_simulation.specs.Linked.{IsLinked}
 use Rattle.law_simulation.specs.Knows.{IsCoherent}
 use Rattle.law_simulation.specs.Modules.{AreModules, AreTypedModules}
@@ -22,7 +22,7 @@ ModulesLinked =
     → ((place : ℕ) (m : TypedModule) → slice_get p place ≡ Some m → IsCoherent p place m)
     → (place : ℕ) (m : TypedModule)
     → slice_get p place ≡ Some m
-    → IsLinked p (ground p pages).base (ground p pages).texts (all p pages) (fixed p pages) place m
+    → IsLinked p (ground p pages).base (ground p pages).texts (all p pages) (fixtures_of p pages) place m
 
 -- there is room for the data and the least stack, and the modules are as the checker leaves them
 abbrev pub TypedBehave : Type 0

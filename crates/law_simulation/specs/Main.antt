@@ -3,18 +3,18 @@ use Rattle.std.specs.Prelude.{◌≡◌, ℕ, suc, ◌+◌, ◌-◌, Bool, false
 use Rattle.wasm_tree.specs.declared.instr.Instr.{Instr}
 use Rattle.wasm_tree.specs.declared.module.WModule.{WModule}
 use Rattle.wasm_tree.specs.Machine.{Typed}
-use Rattle.law_effect.specs.Effect.{Fixed, nested}
+use Rattle.law_effect.specs.Effect.{Fixed, nest_calls}
 use Rattle.typed_tree.specs.declared.typed_module.TypedModule.{TypedModule}
 use Rattle.layout_storage.specs.Types.{Ty, row, frame_of}
 use Rattle.layout_storage.specs.Sizes.{size, offset}
-use Rattle.def_meaning.specs.Store.{Location, placed}
+use Rattle.def_meaning.specs.Store.{Location, overlay}
 use Rattle.def_meaning.specs.Environment.{Modules, Environment}
 use Rattle.def_meaning.specs.Expressions.{Asks}
 use Rattle.def_meaning.specs.Runs.{body_environment, body_frame, storage}
 use Rattle.def_scheme.specs.Coded.{Coded, Counts}
 use Rattle.def_scheme.specs.Addresses.{addresses_in}
-use Rattle.def_scheme.specs.Functions.{setting, from_text, locals_of, enter_code, coded}
-use Rattle.def_scheme.specs.Modules.{numbered}
+use Rattle.def_scheme.specs.Functions.{setting, from_text, locals_of, enter_code, function_code}
+use Rattle.def_scheme.specs.Modules.{numbering_of}
 use Rattle.law_simulation.specs.Begun.{body_does, calling}
 use Rattle.law_simulation.specs.Bodies.{BodyDoes, statements_do}
 use Rattle.law_simulation.specs.Scene.{Scene, HasHelpers, AreSmall, IsSet, Executes}
@@ -31,7 +31,7 @@ abbrev pub body_row : Ty
 body_row = frame_of []
 
 abbrev pub coded_main : TypedModule → (text : ℕ) → List Instr × Counts
-coded_main m text = coded (numbered m) m (body_row ∷ []) 1 text m.body
+coded_main m text = function_code (numbering_of m) m (body_row ∷ []) 1 text m.body
 
 abbrev pub locals_main : TypedModule → (text : ℕ) → ℕ
 locals_main m text = 1 + (2 + (coded_main m text).1.addresses + (coded_main m text).1.numbers)
@@ -43,7 +43,7 @@ main_scene k m text base texts a = record k {
   around = a;
   setting = setting m (body_row ∷ []) 1 (addresses_in m.body);
   world = base ++ body_row ∷ [];
-  hidden = placed (length base ∷ []) (λ q j. 0) texts;
+  hidden = overlay (length base ∷ []) (λ q j. 0) texts;
   locals = locals_main m text;
   kept = kept_in (offset (row (base ++ body_row ∷ [])) (length base ∷ []))
       (size (row (base ++ body_row ∷ []))) 1;
@@ -59,13 +59,13 @@ pub record IsMain (k : Scene) (p : Modules) (ask : Asks) (m : TypedModule) (plac
   pub code : t.function.body.code ≡ enter_code 1 (size body_row) ++ ((coded_main m text).0 ++ [])
   pub addresses : (coded_main m text).1.addresses ≡ addresses_in m.body
   -- the code with its texts where they are
-  pub placed : Coded
-  pub same : placed (setting m (body_row ∷ []) 1 (addresses_in m.body)) (from_text text)
+  pub overlay : Coded
+  pub same : overlay (setting m (body_row ∷ []) 1 (addresses_in m.body)) (from_text text)
       ≡ coded_main m text
   pub executes : IsSet (main_scene k m text base texts (body_environment p place m left))
       → HasFrames (main_scene k m text base texts (body_environment p place m left)) []
       → HasTop (main_scene k m text base texts (body_environment p place m left)) base texts
-      → Executes (main_scene k m text base texts (body_environment p place m left)) false placed
+      → Executes (main_scene k m text base texts (body_environment p place m left)) false overlay
       (body_does p k.turns ask m.body)
 
 -- The function of a body does what its statements do.
@@ -81,4 +81,4 @@ MainDoes =
     → IsMain (core modules fx serves extra n limit p base texts own place m n) p (calling p n n) m
     place text base texts (storage p pages - body_frame) t
     → BodyDoes (record { program = p; base = base; texts = texts; limit = limit })
-    (nested modules fx serves extra n (suc n)) (statements_do p pages n place m) own f t
+    (nest_calls modules fx serves extra n (suc n)) (statements_do p pages n place m) own f t

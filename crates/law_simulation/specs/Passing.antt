@@ -18,7 +18,7 @@ use Rattle.layout_storage.specs.Types.{Passing, Ty, Scalar, Natural, Cell, Hidde
 use Rattle.layout_storage.specs.Sizes.{size, offset}
 use Rattle.layout_storage.specs.Shapes.{tree}
 use Rattle.layout_storage.specs.Frames.{formals_of}
-use Rattle.layout_storage.specs.Texts.{passed}
+use Rattle.layout_storage.specs.Texts.{argument_text}
 use Rattle.def_meaning.specs.Store.{Location}
 use Rattle.def_meaning.specs.Answer.{State as Source}
 use Rattle.def_meaning.specs.Environment.{Modules, Callee, Passed, Number, Variable, Array as Whole, Text}
@@ -146,8 +146,8 @@ module _ (p : Modules) (world : List Ty) (x : Location → ℕ → ℕ) where
       (component (row world) l ≡ Some (Array (suc high) t)) × (0 < length l) × (high < 2 ^ 32)
       × (vs ≡ I64 (offset (row world) l) ∷ I64 high ∷ [])
   IsPassed (ByArray is_var t) (Text text) vs =
-      (is_var ≡ false) × (t ≡ Cell (Natural 255)) × (a : ℕ) × IsPlaced world x (passed text) a
-      × (vs ≡ I64 a ∷ I64 (length (passed text) - 1) ∷ [])
+      (is_var ≡ false) × (t ≡ Cell (Natural 255)) × (a : ℕ) × IsPlaced world x (argument_text text) a
+      × (vs ≡ I64 a ∷ I64 (length (argument_text text) - 1) ∷ [])
 
   pub data ArePassed : Forms → List Passed → List Value → Type 0 where
     none_passed : ArePassed [] [] []

@@ -21,7 +21,7 @@ use Rattle.def_meaning.specs.Expressions.{Asks}
 use Rattle.def_scheme.specs.Coded.{Coded, Counts}
 use Rattle.def_scheme.specs.Exprs.{Numbered, has_result}
 use Rattle.def_scheme.specs.Addresses.{addresses_in}
-use Rattle.def_scheme.specs.Functions.{numbers_of, prologue, setting, from_text, locals_of, coded, end_code}
+use Rattle.def_scheme.specs.Functions.{numbers_of, prologue, setting, from_text, locals_of, function_code, end_code}
 use Rattle.law_simulation.specs.Begun.{body_does, runs as asked_runs}
 use Rattle.law_simulation.specs.Scene.{Scene, HasHelpers, AreSmall, IsSet, Executes, runs}
 use Rattle.law_simulation.specs.Frames.{Kinds, kinds_of, AreFrames, HasFrames}
@@ -71,7 +71,7 @@ pub record IsProcedure (k : Scene) (m : TypedModule) (r : Routine) (outer : List
 abbrev pub coded_body : Numbered → TypedModule → Routine → (outer : List Ty) → (text : ℕ)
     → List Instr × Counts
 coded_body numbered m r outer text =
-    coded numbered m (frame m.types r ∷ outer) (top_of m r) text r.body
+    function_code numbered m (frame m.types r ∷ outer) (top_of m r) text r.body
 
 -- so many locals: the arguments, two for addresses of the storage, and those that the body asks for
 abbrev pub locals_in : Numbered → TypedModule → Routine → (outer : List Ty) → (text : ℕ) → ℕ

@@ -4,7 +4,7 @@ use Rattle.std.specs.Prelude.{◌≡◌, ℕ, suc, ◌+◌, ◌*◌, ◌-◌, �
 use Rattle.wasm_tree.specs.Machine.{Config, Typed}
 use Rattle.wasm_tree.specs.Linking.{link}
 use Rattle.law_effect.specs.Bytes.{byte}
-use Rattle.law_effect.specs.Effect.{Fixed, nested}
+use Rattle.law_effect.specs.Effect.{Fixed, nest_calls}
 use Rattle.typed_tree.specs.declared.typed_module.TypedModule.{TypedModule}
 use Rattle.layout_storage.specs.Types.{Ty, Hidden, row, IsFit}
 use Rattle.layout_storage.specs.Sizes.{offset}
@@ -13,7 +13,7 @@ use Rattle.layout_storage.specs.Frames.{module_row}
 use Rattle.layout_storage.specs.Texts.{characters, module_texts}
 use Rattle.def_meaning.specs.Runs.{run}
 use Rattle.def_scheme.specs.Functions.{module_function}
-use Rattle.def_scheme.specs.Modules.{numbered, slots}
+use Rattle.def_scheme.specs.Modules.{numbering_of, slots}
 use Rattle.law_memory.specs.Bodies.{BodyAt, body_type}
 use Rattle.law_modules.specs.Linked.{Program, IsLinkable, all, bytes_in, image, linked_store, text}
 use Rattle.law_simulation.specs.Behaves.{Behaves}
@@ -45,7 +45,7 @@ pub record IsSound (m : TypedModule) : Type 0 where
 -- ---- the table
 
 abbrev pub body_typed : TypedModule → Typed
-body_typed m = record { type = body_type; function = module_function (numbered m) m }
+body_typed m = record { type = body_type; function = module_function (numbering_of m) m }
 
 -- the bodies of modules, of which the first has this global of link, this slot and this number
 abbrev pub bodies_at : (global slot own : ℕ) → Program → List BodyAt
@@ -55,8 +55,8 @@ bodies_at global slot own (m ∷ ms) =
     ∷ bodies_at (global + 3) (slot + slots m) (own + 1) ms
 
 -- what a run does not change
-abbrev pub fixed : Program → (pages : ℕ) → Fixed
-fixed p pages = record {
+abbrev pub fixtures_of : Program → (pages : ℕ) → Fixed
+fixtures_of p pages = record {
   functions = (linked_store p pages).functions;
   tables = (linked_store p pages).tables;
   globals = (linked_store p pages).globals;
@@ -71,7 +71,7 @@ abbrev pub BodiesDo : Program → (pages : ℕ) → (serves : (k f : ℕ) → Bo
     → Type 0
 BodiesDo p pages serves extra =
     (n : ℕ)
-    → AllDo (ground p pages) (nested (all p pages) (fixed p pages) serves extra n (suc n))
+    → AllDo (ground p pages) (nest_calls (all p pages) (fixtures_of p pages) serves extra n (suc n))
     (statements_do p pages n) 0 p (bodies_at 3 1 1 p)
 
 -- the modules link, and do what the program does

@@ -24,7 +24,7 @@ use Rattle.def_meaning.specs.Store.{Location}
 use Rattle.def_meaning.specs.Answer.{State as Source, Answer, Ended}
 use Rattle.def_meaning.specs.Outcome.{Outcome, Normal, Exited, Returned}
 use Rattle.def_meaning.specs.Answer as answer
-use Rattle.def_meaning.specs.Environment.{Modules, Environment, named, location_of}
+use Rattle.def_meaning.specs.Environment.{Modules, Environment, slot_named, location_of}
 use Rattle.def_meaning.specs.Expressions.{Gives}
 use Rattle.def_meaning.specs.Statements.{Does}
 use Rattle.law_memory.specs.Relation.{Means, IsNumber, Holds}
@@ -163,7 +163,7 @@ pub record IsGlobal (k : Scene) (v : Variable) (l : Location) (t : Ty) : Type 0 
 pub record IsOwn (k : Scene) (i : ℕ) (l : Location) (t : Ty) : Type 0 where
   pub frame : ℕ
   pub kept : k.kept 0 ≡ Some (I32 frame)
-  pub is : location_of (named k.around (record { up = 0; number = i })) ≡ l
+  pub is : location_of (slot_named k.around (record { up = 0; number = i })) ≡ l
   pub at : frame + slot_path k.setting (record { up = 0; number = i }) [] ≡ place k l
   pub type : component (row k.world) l ≡ Some t
   pub some : 0 < length l
@@ -336,15 +336,15 @@ pub record GoesTo (k : Scene) (on : Target → Effect) (s : Source) (r : Effect)
   pub run : r ≡ on st
 
 -- the function returns: the result of a function is the last operand
-abbrev pub returned : (function : Bool) (below : List Value) → ℤ → List Value
-returned true below v = below ++ I64 (word v) ∷ []
-returned false below v = below
+abbrev pub stack_after_return : (function : Bool) (below : List Value) → ℤ → List Value
+stack_after_return true below v = below ++ I64 (word v) ∷ []
+stack_after_return false below v = below
 
 pub record Returns (k : Scene) (function : Bool) (v : ℤ) (s : Source) (r : Effect) : Type 0 where
   pub below : List Value
   pub st : Target
   pub stands : Stands k s st × (function ≡ true → IsResult k.program k.result v)
-  pub run : r ≡ does.Returned st (returned function below v)
+  pub run : r ≡ does.Returned st (stack_after_return function below v)
 
 -- What is on goes on, EXIT branches to its label, RETURN returns, and all else ends alike.
 abbrev pub Ends : (k : Scene) (function : Bool) (exit : ℕ) (stack : List Value)

@@ -8,12 +8,12 @@ use Rattle.wasm_tree.specs.Machine.{global_at}
 use Rattle.law_effect.specs.Effect.{State as Target, store_of}
 use Rattle.layout_storage.specs.Types.{Ty, Cell, Array, row, component, IsScalar, IsPlain}
 use Rattle.layout_storage.specs.Sizes.{size, offset}
-use Rattle.layout_storage.specs.Texts.{passed}
+use Rattle.layout_storage.specs.Texts.{argument_text}
 use Rattle.def_meaning.specs.Store.{Location, Store}
 use Rattle.def_meaning.specs.Environment.{Passed, Array as Whole, Text}
 use Rattle.def_meaning.specs.Calls.{Entered, with_passed}
 use Rattle.law_memory.specs.Relation.{Holds}
-use Rattle.def_scheme.specs.Coded.{copy, wrapped}
+use Rattle.def_scheme.specs.Coded.{copy, wrap_word}
 use Rattle.def_scheme.specs.Cells.{store_scalar}
 use Rattle.def_scheme.specs.Functions.{formal_address, word_kept, open_copied}
 use Rattle.law_simulation.specs.Scene.{Scene}
@@ -43,7 +43,7 @@ AreForms (f ∷ fs) = IsForm f × AreForms fs
 -- the instances that are made for copies of open arrays
 abbrev pub copy_of : Form → Passed → List Ty
 copy_of (ByArray false t) (Whole l high) = Array (suc high) t ∷ []
-copy_of (ByArray false t) (Text text) = Array (length (passed text)) t ∷ []
+copy_of (ByArray false t) (Text text) = Array (length (argument_text text)) t ∷ []
 copy_of f p = []
 
 abbrev pub copies_of : Forms → List Passed → List Ty
@@ -67,7 +67,7 @@ with_forms root (f ∷ fs) (p ∷ ps) e = with_forms root fs ps (with_passed (is
 abbrev pub form_kept : (top : ℕ) → Ty → (v x : ℕ) → Form → List Instr
 form_kept top f v x (ByNumber c) = formal_address f v [] ++ (LocalGet x ∷ store_scalar c)
 form_kept top f v x (ByCopy t) =
-    formal_address f v [] ++ (LocalGet x ∷ wrapped ∷ I32Const (size t) ∷ Call copy ∷ [])
+    formal_address f v [] ++ (LocalGet x ∷ wrap_word ∷ I32Const (size t) ∷ Call copy ∷ [])
 form_kept top f v x (ByName t) = word_kept f v [] (LocalGet x ∷ [])
 form_kept top f v x (ByArray true t) =
     word_kept f v (0 ∷ []) (LocalGet x ∷ []) ++ word_kept f v (1 ∷ []) (LocalGet (suc x) ∷ [])

@@ -9,7 +9,7 @@ use Rattle.def_meaning.specs.Calls.{is_there}
 use Rattle.def_meaning.specs.Expressions.{Asks}
 use Rattle.def_scheme.specs.Coded.{Coded}
 use Rattle.def_scheme.specs.Steps.{body_code}
-use Rattle.def_scheme.specs.Modules.{numbered}
+use Rattle.def_scheme.specs.Modules.{numbering_of}
 use Rattle.law_simulation.specs.Begun.{body_does}
 use Rattle.law_simulation.specs.Scene.{Scene, Executes}
 use Rattle.law_simulation.specs.Passing.{Result}
@@ -32,7 +32,7 @@ Bodies =
     (x : Context) (ask : Asks) (result : Result) (n a b : ℕ) (body : List TypedStmt)
     → AreStmts x result [] false a b body
     → (placed : Coded)
-    × Pins a b (body_code (numbered x.home) body) placed
+    × Pins a b (body_code (numbering_of x.home) body) placed
     × ((k : Scene) → Suits x ask result n [] k
     → Executes k (is_there result) placed (body_does x.p n ask body))
 

@@ -25,4 +25,4 @@ TableCases =
     → ((n : ℕ) (v : Value) → k.kept n ≡ None → AreArms (keeping k n v) function xs ys)
     → ((n : ℕ) (v : Value) → k.kept n ≡ None → Executes (keeping k n v) function otherwise other)
     → Executes k function (steps.case_code x.code xs otherwise) (λ a s.
-    value a s ▷ λ v s. statements.chosen v ys other a s)
+    value a s ▷ λ v s. statements.choose_arm v ys other a s)

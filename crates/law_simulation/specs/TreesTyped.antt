@@ -33,15 +33,15 @@ use Rattle.typed_tree.specs.Types.{are_same, integer, cardinal, boolean, char, b
 use Rattle.typed_tree.specs.Known.{scalar_at}
 use Rattle.layout_storage.specs.Types.{Ty, Scalar, Natural, Callable, Cell, Array, Heading, row, component}
 use Rattle.layout_storage.specs.Shapes.{tree, elements_of}
-use Rattle.layout_storage.specs.Texts.{passed}
+use Rattle.layout_storage.specs.Texts.{argument_text}
 use Rattle.def_meaning.specs.Store.{Location}
 use Rattle.def_meaning.specs.Environment.{Modules, module_place}
 use Rattle.law_memory.specs.Relation.{heading_at}
 use Rattle.def_scheme.specs.Cells.{base_of, is_free}
 use Rattle.def_scheme.specs.Exprs.{is_own, variables_row, index_of, expr_part}
 use Rattle.def_scheme.specs.Functions.{routine_at, around_in}
-use Rattle.def_scheme.specs.Modules.{numbered}
-use Rattle.def_scheme.specs.Signatures.{needed, of_heading, is_among}
+use Rattle.def_scheme.specs.Modules.{numbering_of}
+use Rattle.def_scheme.specs.Signatures.{signatures_needed, of_heading, is_among}
 use Rattle.law_simulation.specs.Scene.{IsValue, AreAmong, AreNatural, IsCell}
 use Rattle.law_simulation.specs.Frames.{Kinds, Kept, Alias, Open, kind_at, kinds_of}
 use Rattle.law_simulation.specs.Passing.{Form, ByNumber, ByCopy, ByName, ByArray, Forms, Result, forms_of, result_of}
@@ -93,7 +93,7 @@ pub record IsNamed (x : Context) (f : Procedure) : Type 0 where
 pub record IsCallable (x : Context) (f : Procedure) : Type 0 where
   pub named : IsNamed x f
   pub signed : is_own x.home f.home ≡ false
-      → is_among (needed x.home) (of_heading x.home.types f.heading) ≡ true
+      → is_among (signatures_needed x.home) (of_heading x.home.types f.heading) ≡ true
   pub shape : Heading
   pub headed : heading_at x.home.types f.heading ≡ Some shape
 
@@ -123,7 +123,7 @@ pub record HasText (x : Context) (at : ℕ) (text : List ℕ) : Type 0 where
 -- where no check is made, each value of one type is one of the other, or the expression is a
 -- constant of it
 pub record IsTaken (m : TypedModule) (t : TypeNo) (e : TypedExpr) (of : TypeNo) : Type 0 where
-  pub free : is_free m.types t (expr_part (numbered m) e).constant of ≡ true
+  pub free : is_free m.types t (expr_part (numbering_of m) e).constant of ≡ true
       → AreAmong m.types of t
       ⊎ ((w : TypeNo) × (n : ℤ) × (e ≡ expr.Constant w n) × IsValue m.types t n)
   pub unranged : scalar_at m.types t ≡ None → AreAmong m.types of t
@@ -150,7 +150,7 @@ module _ (x : Context) where
           → IsPlace ws a b d (Cell c) → IsExpr ws a b (expr.Load t d) t
       ProcedureValue :
           (a b : ℕ) (t : TypeNo) (h : Heading) (e : TypedExpr) → IsProcedureExpr ws a b e h
-          → (expr_part (numbered x.home) e).of ≡ t → scalar_at types t ≡ None → IsExpr ws a b e t
+          → (expr_part (numbering_of x.home) e).of ≡ t → scalar_at types t ≡ None → IsExpr ws a b e t
       Plus : (a b : ℕ) (t u : TypeNo) (e : TypedExpr) → IsExpr ws a b e u → AreAmong types u t
           → IsExpr ws a b (expr.Plus t e) t
       Negate : (a b : ℕ) (u : TypeNo) (e : TypedExpr) → IsExpr ws a b e u
@@ -277,7 +277,7 @@ module _ (x : Context) where
           → heading_at types t ≡ Some h
           → tree types t ≡ Cell (Callable h)
           → IsPlace ws a b d (Cell (Callable h))
-          → is_among (needed x.home) (of_heading types t) ≡ true
+          → is_among (signatures_needed x.home) (of_heading types t) ≡ true
           → AreArguments ws b c args (forms_of types t)
           → IsCall ws a c (call.Variable t d args) (result_of types t)
 
@@ -313,7 +313,7 @@ module _ (x : Context) where
           → kind_at x.kinds slot ≡ Some (Open u)
           → IsArgument ws a a (argument.Open slot) (ByArray is_var u)
       ActualText : (a : ℕ) (text : List ℕ)
-          → HasText x a (passed text)
-          → length (passed text) ≤ 2 ^ 32
-          → IsArgument ws a (a + length (passed text)) (argument.Text text)
+          → HasText x a (argument_text text)
+          → length (argument_text text) ≤ 2 ^ 32
+          → IsArgument ws a (a + length (argument_text text)) (argument.Text text)
           (ByArray false (Cell (Natural 255)))

@@ -22,8 +22,8 @@ use Rattle.check_operator.specs.Classes.{signature_at}
 use Rattle.check_call.specs.declared.callee.Callee.{Callee}
 use Rattle.check_call.specs.declared.callee.Called.{Called}
 use Rattle.check_call.specs.Callees.{callee_of, proper_with, proper_of, call_by}
-use Rattle.check_expr.specs.Meanings.{meant, head, looked_at, actuals, formals_of}
-use Rattle.check_expr.specs.Effects.{call_done, done_as, done_by}
+use Rattle.check_expr.specs.Meanings.{meanings_of, head, breaches_in_all, actuals, formals_of}
+use Rattle.check_expr.specs.Effects.{call_done, callee_statement, call_statement}
 use Rattle.def_typing.specs.Shapes.{IsMade}
 use Rattle.def_typing.specs.Operators.{◌!◌}
 use Rattle.def_typing.specs.Things.{Thing, Standing}
@@ -90,7 +90,7 @@ module _ (g : Gathers) (j : Judges g) (lawful : Lawful g j) (names : Ident → S
   none_only at f w n (rules.misamounts t z y) = absurd (no_standard s.types w)
   none_only at f w n (rules.no_character z y) = absurd (no_standard s.types w)
 
-  no_action : {x : Thing} {h : TypeNo} {xs : List Expr} (at : Pos) → Heads s.types x h → ((n : ℕ) → IsProper s.types x n → ⊥) → ((y : Expr) → Among y xs → Found y) → So at x xs (reported_beside g at rule.WrongType (looked_at g s (map (meant g) xs)))
+  no_action : {x : Thing} {h : TypeNo} {xs : List Expr} (at : Pos) → Heads s.types x h → ((n : ℕ) → IsProper s.types x n → ⊥) → ((y : Expr) → Among y xs → Found y) → So at x xs (reported_beside g at rule.WrongType (breaches_in_all g s (map (meanings_of g) xs)))
   no_action at w n h = refused_action g j lawful names exports s at rule.WrongType (λ a. let q = acts_proper w a in n q.0 q.1) (rules.no_procedure (not_headless s.types w) n) (λ f m. none_only at f w n m) h
 
   count_wrong : {x : Thing} {h : TypeNo} {p : Signature} {xs : List Expr} (at : Pos) (f : Breach) → Heads s.types x h → IsMade s.types h (shape.Procedure p) → p.result ≡ None → (length p.formals ≡ length xs → ⊥) → M at x xs f → f ≡ at ! rule.ArgumentCount
@@ -125,16 +125,16 @@ module _ (g : Gathers) (j : Judges g) (lawful : Lawful g j) (names : Ident → S
   passed_length no_more = refl
   passed_length (one_more m p r) = ap suc (passed_length r)
 
-  counted_by : {x : Thing} {h : TypeNo} {p : Signature} (at : Pos) (xs : List Expr) (c : Callee) (b : Bool) → (length p.formals == length (map (meant g) xs)) ≡ b → Heads s.types x h → IsMade s.types h (shape.Procedure p) → p.result ≡ None
+  counted_by : {x : Thing} {h : TypeNo} {p : Signature} (at : Pos) (xs : List Expr) (c : Callee) (b : Bool) → (length p.formals == length (map (meanings_of g) xs)) ≡ b → Heads s.types x h → IsMade s.types h (shape.Procedure p) → p.result ≡ None
       → ((y : Expr) → Among y xs → IsPlain y) → ((y : Expr) → Among y xs → Found y)
-      → So at x xs (ahead g (reported_where g (not b) at rule.ArgumentCount (Ok tt)) (looked_at g s (map (meant g) xs)) (λ (u : Unit {0}). call_done c (actuals g s p.formals (map (meant g) xs))))
+      → So at x xs (ahead g (reported_where g (not b) at rule.ArgumentCount (Ok tt)) (breaches_in_all g s (map (meanings_of g) xs)) (λ (u : Unit {0}). call_done c (actuals g s p.formals (map (meanings_of g) xs))))
   counted_by {x = x} {p = p} at xs c false e w m r i h = refused_action g j lawful names exports s at rule.ArgumentCount (λ a. not_equal (passed_length (passed_by w m a))) (rules.wrong_count (proper (heading_of s.types w m) r) (λ i. not_equal (sym (proper_count w m i).0))) (λ f z. count_wrong at f w m r not_equal z) h
     where
       differ : (a b : ℕ) → (a == b) ≡ false → a ≡ b → ⊥
       differ a b e q = absurd (grind (arith, nat_tests))
 
       not_equal : length p.formals ≡ length xs → ⊥
-      not_equal q = differ (length p.formals) (length (map (meant g) xs)) e (q ∙ sym (length-map xs (meant g)))
+      not_equal q = differ (length p.formals) (length (map (meanings_of g) xs)) e (q ∙ sym (length-map xs (meanings_of g)))
   counted_by {x = x} {p = p} at xs c true e w m r i h = exact g j lawful E {M = λ u. Unit {0} × ArePassed s.types names exports p.formals xs} {B = λ f. ⊥ ⊎ (Any xs f ⊎ W p.formals xs f)}
       (λ u z. acts (heading_of s.types w m) r z.1) (λ u z. (tt, passed_by w m z)) (λ f z. elim z [ inl b ↦ absurd b | inr v ↦ elim v [ inl a ↦ inr a | inr q ↦ inl (wrong_right at f w m r equal q) ] ])
       (λ f z. elim z [ inl q ↦ inr (inr (count_right at f w m r equal q)) | inr a ↦ inr (inl a) ])
@@ -144,16 +144,16 @@ module _ (g : Gathers) (j : Judges g) (lawful : Lawful g j) (names : Ident → S
       same a b e = grind (arith, nat_tests)
 
       equal : length p.formals ≡ length xs
-      equal = same (length p.formals) (length (map (meant g) xs)) e ∙ length-map xs (meant g)
+      equal = same (length p.formals) (length (map (meanings_of g) xs)) e ∙ length-map xs (meanings_of g)
 
   result_by : {x : Thing} {h : TypeNo} {p : Signature} (at : Pos) (xs : List Expr) (c : Callee) (r : Option TypeNo) → p.result ≡ r → Heads s.types x h → IsMade s.types h (shape.Procedure p)
       → ((y : Expr) → Among y xs → IsPlain y) → ((y : Expr) → Among y xs → Found y)
-      → So at x xs (ahead g (proper_with g at (length p.formals) (length (map (meant g) xs)) r) (looked_at g s (map (meant g) xs)) (λ (u : Unit {0}). call_done c (actuals g s p.formals (map (meant g) xs))))
+      → So at x xs (ahead g (proper_with g at (length p.formals) (length (map (meanings_of g) xs)) r) (breaches_in_all g s (map (meanings_of g) xs)) (λ (u : Unit {0}). call_done c (actuals g s p.formals (map (meanings_of g) xs))))
   result_by at xs c None e w m i h = counted_by at xs c _ refl w m e i h
   result_by at xs c (Some t) e w m i h = no_action at w (λ n q. none_is_some g j lawful names exports s (proper_count w m q).1 e) h
 
   routine_by : {x : Thing} {h : TypeNo} (at : Pos) (xs : List Expr) (c : Callee) (o : Option Signature) → SignatureIs s.types h o → Heads s.types x h → ((y : Expr) → Among y xs → IsPlain y) → ((y : Expr) → Among y xs → Found y)
-      → So at x xs (ahead g (proper_of g at o (length (map (meant g) xs))) (looked_at g s (map (meant g) xs)) (λ (u : Unit {0}). call_done c (actuals g s (formals_of o) (map (meant g) xs))))
+      → So at x xs (ahead g (proper_of g at o (length (map (meanings_of g) xs))) (breaches_in_all g s (map (meanings_of g) xs)) (λ (u : Unit {0}). call_done c (actuals g s (formals_of o) (map (meanings_of g) xs))))
   routine_by at xs c _ (no_signature n) w i h = no_action at w (λ k q. unproper w n q) h
   routine_by at xs c _ (has_signature p m) w i h = result_by at xs c p.result refl w m i h
 
@@ -182,7 +182,7 @@ module _ (g : Gathers) (j : Judges g) (lawful : Lawful g j) (names : Ident → S
   inactive at f n (rules.misamounts {p = p} t z y) = absurd (n (may_standard p))
   inactive at f n (rules.no_character z y) = absurd (n (may_standard _))
 
-  act : (at : Pos) (xs : List Expr) (c : Called) (x : Thing) → IsCallee g j lawful names exports s c x → ((y : Expr) → Among y xs → IsPlain y) → ((y : Expr) → Among y xs → Found y) → So at x xs (done_as g s at (map (meant g) xs) c)
+  act : (at : Pos) (xs : List Expr) (c : Called) (x : Thing) → IsCallee g j lawful names exports s c x → ((y : Expr) → Among y xs → IsPlain y) → ((y : Expr) → Among y xs → Found y) → So at x xs (callee_statement g s at (map (meanings_of g) xs) c)
   act at xs _ x (callee_routine {h = h} c w) i q = routine_by at xs c (signature_at s.types h) (signature_there s.types h) w i q
   act at xs _ _ (callee_standard p) i q = standard_acts g j lawful names exports s p at xs i q
 
@@ -202,8 +202,8 @@ module _ (g : Gathers) (j : Judges g) (lawful : Lawful g j) (names : Ident → S
     Fails d xs f = ((BD d f ⊎ ((x : Thing) × D d x × NoCall g j lawful names exports s (out-Designator d).name.pos x f)) ⊎ ((y : Thing) × IsCalled d y × M (out-Designator d).name.pos y xs f)) ⊎ Any xs f
 
     pub action_answers : (d : Designator) (xs : List Expr) → ArePlainSelectors (out-Designator d).selectors → ArePlain xs
-        → Answers g j E {A = TypedStmt} {K = Unit {0}} (λ v u. Unit {0}) (λ u. IsAction s.types names exports d xs) (BrokenAction s.types names exports d xs) (done_by g s (head g d) (map (meant g) xs))
-    action_answers d xs i a = subst (λ (t : Pos). Answers g j E {A = TypedStmt} {K = Unit {0}} (λ v u. Unit {0}) (λ u. IsAction s.types names exports d xs) (BrokenAction s.types names exports d xs) (ahead g (of_heading ((head g d).means s) ▷ callee_of g s.types t) (looked_at g s (map (meant g) xs)) (done_as g s t (map (meant g) xs)))) (sym (head_at g d))
+        → Answers g j E {A = TypedStmt} {K = Unit {0}} (λ v u. Unit {0}) (λ u. IsAction s.types names exports d xs) (BrokenAction s.types names exports d xs) (call_statement g s (head g d) (map (meanings_of g) xs))
+    action_answers d xs i a = subst (λ (t : Pos). Answers g j E {A = TypedStmt} {K = Unit {0}} (λ v u. Unit {0}) (λ u. IsAction s.types names exports d xs) (BrokenAction s.types names exports d xs) (ahead g (of_heading ((head g d).means s) ▷ callee_of g s.types t) (breaches_in_all g s (map (meanings_of g) xs)) (callee_statement g s t (map (meanings_of g) xs)))) (sym (head_at g d))
         (exact g j lawful E {M = λ u. (y : Thing) × IsCalled d y × A y xs} {B = Fails d xs} (λ u z. is_action (subst (D d) (sym z.1.2.1) z.1.1) z.2) (λ u z. parted z) (λ f z. into f z) (λ f z. out f z)
         (ahead_answers g j lawful E {N = λ y u. A y xs} {D = λ y f. M (out-Designator d).name.pos y xs f}
         (heading_answers g j lawful E {N = λ x y. May x × (y ≡ x)} {D = λ x f. NoCall g j lawful names exports s (out-Designator d).name.pos x f} (designator_found g j lawful names exports s knows d i) (callee_answers g j lawful names exports s (out-Designator d).name.pos) (λ y m. no_call_of g j lawful names exports s (λ h w. elim w [ ]) (λ p q. absurd cc) m.0) (λ f z. z.1.0 refl))

@@ -21,17 +21,17 @@ use Rattle.typed_tree.specs.Types.{are_same, boolean, char}
 use Rattle.m2_rule.specs.declared.breach.Breach.{Breach}
 use Rattle.check_scope.specs.declared.meaningless.Meaningless.{Meaningless}
 use Rattle.check_scope.specs.declared.scope.Scope.{Scope}
-use Rattle.check_scope.specs.Elaborated.{Gathers, reported, reported_where, ◌▷◌}
+use Rattle.check_scope.specs.Elaborated.{Gathers, report, reported_where, ◌▷◌}
 use Rattle.check_operator.specs.declared.class.Class.{Class}
 use Rattle.check_operator.specs.declared.computed.Computed.{Computed}
 use Rattle.check_operator.specs.declared.computed.Designated.{Designated}
 use Rattle.check_operator.specs.declared.places.Accepted.{Accepted}
 use Rattle.check_operator.specs.declared.places.Accepted.TheVariants as accepted
-use Rattle.check_operator.specs.Suits.{text_within, text_fits_in, text_fits, whole_suited, suited_in, suited, value_suited}
+use Rattle.check_operator.specs.Suits.{text_within, text_fits_in, text_fits, whole_suited, suited_in, value_for_place, value_suited}
 use Rattle.check_call.specs.declared.effect.Target.{Target}
 use Rattle.check_call.specs.declared.effect.Target.TheVariants as target
-use Rattle.check_call.specs.Effects.{target_of, target_at, stored, assigned_to, assigned}
-use Rattle.check_expr.specs.Meanings.{meant, head, value_of}
+use Rattle.check_call.specs.Effects.{target_of, target_at, store_statement, assignment_to, assignment_of}
+use Rattle.check_expr.specs.Meanings.{meanings_of, head, value_of}
 use Rattle.def_typing.specs.Shapes.{shape_at, IsMade}
 use Rattle.def_typing.specs.Operators.{◌!◌, Kind, Scalar, Set, Text, Routine, Procedure, Whole, operand}
 use Rattle.def_typing.specs.Operators as kinds
@@ -122,7 +122,7 @@ module _ (g : Gathers) (j : Judges g) (lawful : Lawful g j) (O : Breach → Type
   Taking t k r = Checks g j lawful O (MayTake types t k) (λ f. Untaken types at k (AVariable t) f) r
 
   module _ (t : TypeNo) (structured : content types t ≡ Whole t) (unmade : (k : Kind) → Compatible types t k → ⊥) where
-    take_stops : {k : Kind} → (MayTake types t k → ⊥) → Taking t k (reported g at rule.NotAssignable)
+    take_stops : {k : Kind} → (MayTake types t k → ⊥) → Taking t k (report g at rule.NotAssignable)
     take_stops {k = k} n = stopped g j lawful O at rule.NotAssignable n (of_whole structured n) (λ f m. one m)
       where
         one : {f : Breach} → Untaken types at k (AVariable t) f → f ≡ at ! rule.NotAssignable
@@ -196,7 +196,7 @@ module _ (g : Gathers) (j : Judges g) (lawful : Lawful g j) (O : Breach → Type
   takes_by t (Some shape.Set) e i = simple_takes t (λ q. let z = sym (ap (content_of t) e) ∙ q in absurd cc) i
   takes_by t (Some (shape.Procedure h)) e i = simple_takes t (λ q. let z = sym (ap (content_of t) e) ∙ q in absurd cc) i
 
-  variable_takes : (t : TypeNo) {x : Computed} {k : Kind} → IsKind x k → Taking t k (suited g rule.NotAssignable types t at x)
+  variable_takes : (t : TypeNo) {x : Computed} {k : Kind} → IsKind x k → Taking t k (value_for_place g rule.NotAssignable types t at x)
   variable_takes t {x = x} {k = k} i = subst (λ (c : Class). Taking t k (suited_in g rule.NotAssignable types t at x c)) (sym (class_is types t)) (takes_by t (shape_at types t) refl i)
 
   -- ---- the left side
@@ -211,8 +211,8 @@ module _ (g : Gathers) (j : Judges g) (lawful : Lawful g j) (O : Breach → Type
   abbrev pub Refuses : Thing × Kind → Breach → Type 0
   Refuses p f = Untaken types at p.1 p.0 f
 
-  stores : (a : Target) (x : Thing) (v : Computed) (k : Kind) → IsTargetOf a x → IsKind v k → Checks g j lawful O {A = TypedStmt} (Takes (x, k)) (Refuses (x, k)) (assigned_to g types a at v)
-  stores _ _ v k (target_variable t d) i = checks_as g j lawful O (λ m. (t, refl, m)) (λ m. subst (λ (t : TypeNo). MayTake types t k) (sym (same m.1)) m.2) (λ f z. z) (λ f z. z) (map_checks g j lawful O (λ a. stored t d a) (variable_takes t i))
+  stores : (a : Target) (x : Thing) (v : Computed) (k : Kind) → IsTargetOf a x → IsKind v k → Checks g j lawful O {A = TypedStmt} (Takes (x, k)) (Refuses (x, k)) (assignment_to g types a at v)
+  stores _ _ v k (target_variable t d) i = checks_as g j lawful O (λ m. (t, refl, m)) (λ m. subst (λ (t : TypeNo). MayTake types t k) (sym (same m.1)) m.2) (λ f z. z) (λ f z. z) (map_checks g j lawful O (λ a. store_statement t d a) (variable_takes t i))
     where
       same : {t u : TypeNo} → AVariable t ≡ AVariable u → t ≡ u
       same {t = t} e = ap (λ z. elim z [ AVariable y ↦ y | AValue k ↦ t | AType y ↦ t | AnOpenArray y ↦ t | AProcedure y ↦ t | ANested y ↦ t | AStandard f ↦ t | AModule k ↦ t | Headless ↦ t ]) e
@@ -227,7 +227,7 @@ module _ (g : Gathers) (j : Judges g) (lawful : Lawful g j) (O : Breach → Type
   abbrev TargetSo : Pos → Thing → Result Target g.Reported → Type 0
   TargetSo spot x r = Answers g j O IsTargetOf (λ y. IsTarget x × (y ≡ x)) (NoTarget spot x) r
 
-  missed : {x : Thing} (spot : Pos) → (IsTarget x → ⊥) → TargetSo spot x (reported g spot rule.WrongType)
+  missed : {x : Thing} (spot : Pos) → (IsTarget x → ⊥) → TargetSo spot x (report g spot rule.WrongType)
   missed spot n = declined g j lawful O spot rule.WrongType (λ y m. n m.0) (n, refl) (λ f z. z.1)
 
   targets : (spot : Pos) (a : Designated) (x : Thing) → IsThing a x → TargetSo spot x (target_of g spot a)
@@ -242,7 +242,7 @@ module _ (g : Gathers) (j : Judges g) (lawful : Lawful g j) (O : Breach → Type
 
   -- both sides
   pub sides_check : {S : Thing → Type 0} {B C : Breach → Type 0} {M : Kind → Type 0} {d : Result Designated (Meaningless g.Reported)} {v : Result Computed g.Reported} (spot : Pos) → Finds g j lawful O S B d → Answers g j O IsKind M C v
-      → Checks g j lawful O ((p : Thing × Kind) × (((x : Thing) × S x × (IsTarget x × (p.0 ≡ x))) × M p.1) × Takes p) (λ f. ((B f ⊎ ((x : Thing) × S x × NoTarget spot x f)) ⊎ C f) ⊎ ((p : Thing × Kind) × (((x : Thing) × S x × (IsTarget x × (p.0 ≡ x))) × M p.1) × Refuses p f)) (assigned g types (target_at g spot d) at v)
+      → Checks g j lawful O ((p : Thing × Kind) × (((x : Thing) × S x × (IsTarget x × (p.0 ≡ x))) × M p.1) × Takes p) (λ f. ((B f ⊎ ((x : Thing) × S x × NoTarget spot x f)) ⊎ C f) ⊎ ((p : Thing × Kind) × (((x : Thing) × S x × (IsTarget x × (p.0 ≡ x))) × M p.1) × Refuses p f)) (assignment_of g types (target_at g spot d) at v)
   sides_check spot h a = then_check g j lawful O {P = Takes} {D = Refuses} (both_answer g j lawful O (sort_answers g j lawful O {N = λ x y. IsTarget x × (y ≡ x)} {D = NoTarget spot} spot rule.WrongType h (targets spot) (missed spot (λ m. elim m [ ]))) a)
       (λ v p i. stores v.0 p.0 v.1 p.1 i.0 i.1)
 
@@ -258,8 +258,8 @@ module _ (g : Gathers) (j : Judges g) (lawful : Lawful g j) (names : Ident → S
   abbrev V : Expr → Breach → Type 0
   V = BrokenAsValue s.types names exports
 
-  pub condition_answers : (e : Expr) → IsPlain e → Answers g j E {A = TypedExpr} {K = Unit {0}} (λ v u. Unit {0}) (λ u. IsCondition s.types names exports e) (BrokenCondition s.types names exports e) (value_of g s (meant g e) ▷ value_suited g rule.WrongType s.types boolean (meant g e).fixed.at)
-  condition_answers e i = checks_answer g j lawful E (subst (λ (t : Pos). Checks g j lawful E {A = TypedExpr} (IsCondition s.types names exports e) (BrokenCondition s.types names exports e) (value_of g s (meant g e) ▷ value_suited g rule.WrongType s.types boolean t)) (sym (at_is g i))
+  pub condition_answers : (e : Expr) → IsPlain e → Answers g j E {A = TypedExpr} {K = Unit {0}} (λ v u. Unit {0}) (λ u. IsCondition s.types names exports e) (BrokenCondition s.types names exports e) (value_of g s (meanings_of g e) ▷ value_suited g rule.WrongType s.types boolean (meanings_of g e).fixed.at)
+  condition_answers e i = checks_answer g j lawful E (subst (λ (t : Pos). Checks g j lawful E {A = TypedExpr} (IsCondition s.types names exports e) (BrokenCondition s.types names exports e) (value_of g s (meanings_of g e) ▷ value_suited g rule.WrongType s.types boolean t)) (sym (at_is g i))
       (checks_as g j lawful E (λ m. is_condition m.1 m.2) parted (λ f b. elim b [ inl v ↦ in_condition v | inr m ↦ no_boolean m.1 m.2 ]) out
       (then_check g j lawful E {P = λ k. IsAssignable s.types boolean (operand k)} {D = λ k f. Misassigned s.types boolean (first e) rule.WrongType (operand k) f} (exactly g j lawful names exports s knows e i) (λ v k q. value_suits s.types boolean g j lawful E rule.WrongType (first e) q))))
     where
@@ -283,10 +283,10 @@ module _ (g : Gathers) (j : Judges g) (lawful : Lawful g j) (names : Ident → S
   SidesFail d e f = ((BD d f ⊎ ((x : Thing) × D d x × ((IsTarget x → ⊥) × (f ≡ (out-Designator d).name.pos ! rule.WrongType)))) ⊎ V e f) ⊎ ((p : Thing × Kind) × (((x : Thing) × D d x × (IsTarget x × (p.0 ≡ x))) × H e p.1) × Untaken s.types (first e) p.1 p.0 f)
 
   pub assignment_answers : (d : Designator) (e : Expr) → ArePlainSelectors (out-Designator d).selectors → IsPlain e
-      → Answers g j E {A = TypedStmt} {K = Unit {0}} (λ v u. Unit {0}) (λ u. Assigns s.types names exports d e) (BrokenAssignment s.types names exports d e) (assigned g s.types (target_at g (head g d).fixed.at ((head g d).means s)) (meant g e).fixed.at (value_of g s (meant g e)))
+      → Answers g j E {A = TypedStmt} {K = Unit {0}} (λ v u. Unit {0}) (λ u. Assigns s.types names exports d e) (BrokenAssignment s.types names exports d e) (assignment_of g s.types (target_at g (head g d).fixed.at ((head g d).means s)) (meanings_of g e).fixed.at (value_of g s (meanings_of g e)))
   assignment_answers d e i k = checks_answer g j lawful E
-      (subst (λ (t : Pos). Checks g j lawful E {A = TypedStmt} (Assigns s.types names exports d e) (BrokenAssignment s.types names exports d e) (assigned g s.types (target_at g t ((head g d).means s)) (meant g e).fixed.at (value_of g s (meant g e)))) (sym (head_at g d))
-      (subst (λ (t : Pos). Checks g j lawful E {A = TypedStmt} (Assigns s.types names exports d e) (BrokenAssignment s.types names exports d e) (assigned g s.types (target_at g (out-Designator d).name.pos ((head g d).means s)) t (value_of g s (meant g e)))) (sym (at_is g k))
+      (subst (λ (t : Pos). Checks g j lawful E {A = TypedStmt} (Assigns s.types names exports d e) (BrokenAssignment s.types names exports d e) (assignment_of g s.types (target_at g t ((head g d).means s)) (meanings_of g e).fixed.at (value_of g s (meanings_of g e)))) (sym (head_at g d))
+      (subst (λ (t : Pos). Checks g j lawful E {A = TypedStmt} (Assigns s.types names exports d e) (BrokenAssignment s.types names exports d e) (assignment_of g s.types (target_at g (out-Designator d).name.pos ((head g d).means s)) t (value_of g s (meanings_of g e)))) (sym (at_is g k))
       (checks_as g j lawful E made parted into out (sides_check g j lawful E s.types (first e) (out-Designator d).name.pos (designator_found g j lawful names exports s knows d i) (exactly g j lawful names exports s knows e k)))))
     where
       made : Sides d e → Assigns s.types names exports d e

@@ -6,13 +6,13 @@ use Rattle.m2_rule.specs.declared.breach.Breach.{Breach}
 use Rattle.m2_rule.specs.declared.rule.Rule.TheVariants as rule
 use Rattle.m2_tree.specs.declared.name.Ident.{Ident}
 use Rattle.typed_tree.specs.declared.known_types.Types.{Types}
-use Rattle.typed_tree.specs.Names.{found}
+use Rattle.typed_tree.specs.Names.{find_name}
 use Rattle.check_scope.specs.declared.known.Known.{Known}
 use Rattle.check_scope.specs.declared.known.Known.TheVariants as known
 use Rattle.check_scope.specs.declared.known.Origin.TheVariants.{Here}
 use Rattle.check_scope.specs.declared.scope.Scope.{Scope}
-use Rattle.check_scope.specs.Elaborated.{Gathers, reported}
-use Rattle.check_scope.specs.Scopes.{State, is_free, is_begun, with_known, begun, finished}
+use Rattle.check_scope.specs.Elaborated.{Gathers, report}
+use Rattle.check_scope.specs.Scopes.{State, is_free, is_begun, with_known, begin_name, finish_name}
 use Rattle.typed_tree.specs.declared.meaning.Meaning.{Meaning}
 use Rattle.check_definition.specs.Declare.{begun_name}
 use Rattle.check_block.specs.Headings.{name_standing}
@@ -68,7 +68,7 @@ pub clash : {b : Bool} → b ≡ true → b ≡ false → ⊥
 clash e f = let z : true ≡ false = sym e ∙ f in absurd cc
 
 module _ (g : Gathers) (j : Judges g) (lawful : Lawful g j) (exports : ℕ → Ident → Standing) (outside : Ident → Standing) (start : Scope g.Reported) (taken : List ℕ → Bool) (nested : Bool) (block : List Declaration)
-    (takes : (n : List ℕ) → TakenAs g j (taken n) (found n start.own)) where
+    (takes : (n : List ℕ) → TakenAs g j (taken n) (find_name n start.own)) where
   abbrev KA : List Declared → (List ℕ → Type 0) → List ℕ → Option (Known g.Reported) → Type 0
   KA = KnownAs g j exports outside start taken nested block
 
@@ -94,7 +94,7 @@ module _ (g : Gathers) (j : Judges g) (lawful : Lawful g j) (exports : ℕ → I
     taken_by true q c (is_taken s) e = (includes n (inl q), subst Settled (sym e) (refl, refl, s))
     taken_by false q c t e = absurd (c q a)
 
-    outer_taken : {k : Option (Known g.Reported)} → (taken n ≡ false → AnyDeclares block n → ⊥) → k ≡ found n start.own → Th n × Settled k
+    outer_taken : {k : Option (Known g.Reported)} → (taken n ≡ false → AnyDeclares block n → ⊥) → k ≡ find_name n start.own → Th n × Settled k
     outer_taken c e = taken_by (taken n) refl c (takes n) e
 
     pub free_decided : {k : Option (Known g.Reported)} → KA front Th n k → Decided (Th n) (not (is_free k))
@@ -141,7 +141,7 @@ module _ (g : Gathers) (j : Judges g) (lawful : Lawful g j) (exports : ℕ → I
     any_here : {s : Scope g.Reported} → KB front (d ∷ ds) Th s → AnyDeclares block x.name
     any_here k = k.in_block x.name (d, here, named)
 
-    begins : {s : Scope g.Reported} → KB front (d ∷ ds) Th s → (b : Bool) → Decided (Th x.name) (not b) → Begins (cond b (with_known x.name known.Begun s, Ok tt) (s, reported g x.pos rule.DeclaredTwice))
+    begins : {s : Scope g.Reported} → KB front (d ∷ ds) Th s → (b : Bool) → Decided (Th x.name) (not b) → Begins (cond b (with_known x.name known.Begun s, Ok tt) (s, report g x.pos rule.DeclaredTwice))
     begins {s = s} k true (fails_it h) = let q = first_time front Th k.includes x.name (any_here k) (k.own x.name) h in (
       record {
         same = record { withs = k.same.withs; outer = k.same.outer; types = k.same.types; tables = k.same.tables; level = k.same.level };
@@ -158,8 +158,8 @@ module _ (g : Gathers) (j : Judges g) (lawful : Lawful g j) (exports : ℕ → I
       tells (g.one (x.pos ! rule.DeclaredTwice)) (accounts_as g j lawful O (λ f e. (h, e)) (λ f z. z.1) (accounts_one g j lawful O (x.pos ! rule.DeclaredTwice))),
     )
 
-    pub begin_one : {s : Scope g.Reported} → KB front (d ∷ ds) Th s → Begins (begun g s x)
-    begin_one {s = s} k = begins k (is_free (found x.name s.own)) (free_decided front Th k.includes x.name (any_here k) (k.own x.name))
+    pub begin_one : {s : Scope g.Reported} → KB front (d ∷ ds) Th s → Begins (begin_name g s x)
+    begin_one {s = s} k = begins k (is_free (find_name x.name s.own)) (free_decided front Th k.includes x.name (any_here k) (k.own x.name))
 
   pub begin_all : (O : Breach → Type 0) (front : List Declared) (d : Declaration) (ds : List Declaration) → in_front_of d ≡ Undeclared → (xs : List Ident) (Th : List ℕ → Type 0) → ((x : Ident) → Among x xs → Declares d x.name) → {s : Scope g.Reported} {r : Result (Unit {0}) g.Reported} {B : Breach → Type 0} → KB front (d ∷ ds) Th s → Tells g j lawful O B r
       → KB front (d ∷ ds) (Adding xs Th) (fold (begun_name g) (s, r) xs).0 × Tells g j lawful O (λ f. B f ⊎ Twice Th xs f) (fold (begun_name g) (s, r) xs).1
@@ -177,10 +177,10 @@ module _ (g : Gathers) (j : Judges g) (lawful : Lawful g j) (exports : ℕ → I
 
     pub record KnowsMid (done : List ℕ → Type 0) (s : Scope g.Reported) : Type 0 where
       pub same : SameScope (types_behind start.types (d ∷ front)) s
-      pub own : (n : List ℕ) → MidAs done n (found n s.own)
+      pub own : (n : List ℕ) → MidAs done n (find_name n s.own)
 
     pub mid_begins : {s t : Scope g.Reported} {rest : List Declaration} → KB front rest Th s → SameScope (types_behind start.types (d ∷ front)) t → t.own ≡ s.own → KnowsMid (λ n. ⊥) t
-    mid_begins k same e = record { same = same; own = λ n. is_other (λ t c z. z) (subst (λ (own : List (List ℕ × Known g.Reported)). KA front Th n (found n own)) (sym e) (k.own n)) }
+    mid_begins k same e = record { same = same; own = λ n. is_other (λ t c z. z) (subst (λ (own : List (List ℕ × Known g.Reported)). KA front Th n (find_name n own)) (sym e) (k.own n)) }
 
     mid_one : {P Q : List ℕ → Type 0} {n : List ℕ} {k : Option (Known g.Reported)} → (P n → Q n) → (Q n → P n) → MidAs P n k → MidAs Q n k
     mid_one pq qp (is_done k t c w s) = is_done k t c (pq w) s
@@ -211,14 +211,14 @@ module _ (g : Gathers) (j : Judges g) (lawful : Lawful g j) (exports : ℕ → I
         own = entered_all (λ n o. MidAs Done n o) x.name (known.Declared Here m) s.own (is_done (known.Declared Here m) t c (inl refl) say) (λ n z. mid_more (λ e. absurd (z e)) (k.own n));
       }
 
-      ends : {s : Scope g.Reported} {k : Option (Known g.Reported)} → KnowsMid done s → found x.name s.own ≡ k → MidAs done x.name k → Ends (finished s x m)
+      ends : {s : Scope g.Reported} {k : Option (Known g.Reported)} → KnowsMid done s → find_name x.name s.own ≡ k → MidAs done x.name k → Ends (finish_name s x m)
       ends k e (is_done w t c z q) = unchanged k (λ u v. z) _ (ap (λ (o : Option (Known g.Reported)). is_begun o) e ∙ q.not_begun)
       ends k e (is_other o (outer c q)) = unchanged k (λ t u. absurd (c t a)) _ (ap (λ (o : Option (Known g.Reported)). is_begun o) e ∙ (outer_taken front Th includes x.name a c q).1.1)
       ends k e (is_other o (ahead d t i c h)) = absurd (h th)
       ends k e (is_other o (reading d t i c h q)) = changed k t c _ (ap (λ (o : Option (Known g.Reported)). is_begun o) e)
       ends k e (is_other o (behind w t i q)) = unchanged k (λ t c. absurd (c (any_named i))) _ (ap (λ (o : Option (Known g.Reported)). is_begun o) e ∙ q.not_begun)
 
-      pub finish_one : {s : Scope g.Reported} → KnowsMid done s → Ends (finished s x m)
+      pub finish_one : {s : Scope g.Reported} → KnowsMid done s → Ends (finish_name s x m)
       finish_one {s = s} k = ends k refl (k.own x.name)
 
     -- behind the declaration

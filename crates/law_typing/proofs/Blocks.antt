@@ -13,10 +13,10 @@ use Rattle.typed_tree.specs.declared.types.TypeNo.{TypeNo}
 use Rattle.typed_tree.specs.declared.meaning.LocalKind.TheVariants as kind
 use Rattle.typed_tree.specs.declared.meaning.Meaning.{Meaning}
 use Rattle.typed_tree.specs.declared.meaning.Meaning.TheVariants as meaning
-use Rattle.typed_tree.specs.Names.{found}
+use Rattle.typed_tree.specs.Names.{find_name}
 use Rattle.check_scope.specs.declared.scope.Scope.{Scope}
 use Rattle.check_scope.specs.Elaborated.{Gathers, beside, ◌▷◌}
-use Rattle.check_scope.specs.Scopes.{State, begun, finished}
+use Rattle.check_scope.specs.Scopes.{State, begin_name, finish_name}
 use Rattle.check_const.specs.Parts.{constant}
 use Rattle.check_expr.specs.Meanings.{part}
 use Rattle.check_type_expr.specs.Made.{nothing_of, type_of}
@@ -30,13 +30,13 @@ use Rattle.m2_tree.specs.declared.decl.Section.{Section}
 use Rattle.m2_tree.specs.declared.decl.Heading.{Heading}
 use Rattle.typed_tree.specs.declared.shape.Made.{Made}
 use Rattle.typed_tree.specs.declared.known_types.Types.{Types}
-use Rattle.typed_tree.specs.Names.{entered}
+use Rattle.typed_tree.specs.Names.{enter_name}
 use Rattle.typed_tree.specs.Types.{integer}
 use Rattle.check_scope.specs.declared.known.Known.{Known}
 use Rattle.check_scope.specs.declared.known.Origin.TheVariants.{Here}
 use Rattle.check_scope.specs.declared.known.Known.TheVariants as known
 use Rattle.check_scope.specs.Scopes.{with_known}
-use Rattle.check_scope.specs.Elaborated.{reported}
+use Rattle.check_scope.specs.Elaborated.{report}
 use Rattle.check_definition.specs.Declare.{with_procedure_type}
 use Rattle.check_type_expr.specs.declared.field.Fields.{Fields}
 use Rattle.std.specs.Option.{is_some}
@@ -66,7 +66,7 @@ use Rattle.law_typing.proofs.TypeReading.{MadeType, with_made_types, no_types, n
 use Rattle.law_typing.proofs.Marking.{block_begins}
 
 module _ (g : Gathers) (j : Judges g) (lawful : Lawful g j) (exports : ℕ → Ident → Standing) (outside : Ident → Standing) (start : Scope g.Reported) (taken : List ℕ → Bool) (nested : Bool) (block : List Declaration)
-    (takes : (n : List ℕ) → TakenAs g j (taken n) (found n start.own)) (knows : Knows g j outside exports start) (no_withs : start.withs ≡ []) where
+    (takes : (n : List ℕ) → TakenAs g j (taken n) (find_name n start.own)) (knows : Knows g j outside exports start) (no_withs : start.withs ≡ []) where
   abbrev KB : List Resolved → List Declaration → (List ℕ → Type 0) → Scope g.Reported → Type 0
   KB = KnowsBlock g j exports outside start taken nested block
 
@@ -168,7 +168,7 @@ module _ (g : Gathers) (j : Judges g) (lawful : Lawful g j) (exports : ℕ → I
       begun_same : {ms : List Made} → d.makes ≡ ms → {t : Scope g.Reported} → t ≡ with_made_types s ms → Same g j exports outside start taken nested block (T (d ∷ front)) t
       begun_same {ms = ms} q e = subst (λ (t : Scope g.Reported). Same g j exports outside start taken nested block (T (d ∷ front)) t) (sym e) (record { withs = k.same.withs; outer = k.same.outer; types = ap (λ (t : Types). with_types t ms) k.same.types ∙ ap (λ (ns : List Made). with_types (T front) ns) (sym q); tables = k.same.tables; level = k.same.level })
 
-      one_finished : (x : Ident) → Among x (names_of d.what) → {m : Result Meaning g.Reported} → Saying g j exports outside start taken nested block front d (known.Declared Here m) → (done : List ℕ → Type 0) {t : Scope g.Reported} → Mid done t → Mid (λ n. (x.name ≡ n) ⊎ done n) (finished t x m)
+      one_finished : (x : Ident) → Among x (names_of d.what) → {m : Result Meaning g.Reported} → Saying g j exports outside start taken nested block front d (known.Declared Here m) → (done : List ℕ → Type 0) {t : Scope g.Reported} → Mid done t → Mid (λ n. (x.name ≡ n) ⊎ done n) (finish_name t x m)
       one_finished x a {m = m} say done q = finish_one g j lawful exports outside start taken nested block takes front d ds Begun k.includes x (k.in_block x.name (d.what, here, named x a)) (adding_name (names_of d.what) (Th front) x.name x a refl) m say done q
 
       ended : {t : Scope g.Reported} → Mid (Declares d.what) t → KB (d ∷ front) ds (Th (d ∷ front)) t
@@ -228,7 +228,7 @@ module _ (g : Gathers) (j : Judges g) (lawful : Lawful g j) (exports : ℕ → I
     declare_constant k t = let b = begin_one g j lawful exports outside start taken nested block takes (O front) front (OfConstant c) ds refl (Th front) c.name (c.name, here, refl) k in
         let h = constant_exact b.0 in (
           ended front (plain_one (OfConstant c)) ds refl refl refl b.0 (mid_as g j lawful exports outside start taken nested block takes front (plain_one (OfConstant c)) ds (Adding (c.name ∷ []) (Th front)) (λ n z. only_name z) (λ n z. name_only z)
-              (one_finished front (plain_one (OfConstant c)) ds refl refl refl b.0 c.name here (says_it front (plain_one (OfConstant c)) ds refl refl refl b.0 said_constant (λ v. meaning.Constant v) (λ v. refl) (λ v. refl) (λ v. refl) (λ v. refl) h) (λ n. ⊥) (begun_mid front (plain_one (OfConstant c)) ds refl refl refl b.0 (begun_same front (plain_one (OfConstant c)) ds refl refl refl b.0 refl (no_made (begun g _ c.name).0)) refl))),
+              (one_finished front (plain_one (OfConstant c)) ds refl refl refl b.0 c.name here (says_it front (plain_one (OfConstant c)) ds refl refl refl b.0 said_constant (λ v. meaning.Constant v) (λ v. refl) (λ v. refl) (λ v. refl) (λ v. refl) h) (λ n. ⊥) (begun_mid front (plain_one (OfConstant c)) ds refl refl refl b.0 (begun_same front (plain_one (OfConstant c)) ds refl refl refl b.0 refl (no_made (begin_name g _ c.name).0)) refl))),
           told_one front (plain_one (OfConstant c)) ds refl refl refl refl t b.1 (telling front (plain_one (OfConstant c)) ds refl refl refl b.0 said_constant h),
         )
 
@@ -249,7 +249,7 @@ module _ (g : Gathers) (j : Judges g) (lawful : Lawful g j) (exports : ℕ → I
         (subst (λ (types : Types). Answers g j (Repeats g j names s) (λ a k. k ≡ (read.ms, a)) (λ (k : MadeType). IsTypeOf names exports types d.of k.0 k.1) (BrokenType names exports types d.of) q.1) k.same.types (read.exact names (Read front one ds refl refl refl k all))))
 
     type_ended : {r b : Result (Unit {0}) g.Reported} → Told front r → Tells g j lawful (O front) (λ f. Th front d.name.name × (f ≡ d.name.pos ! rule.DeclaredTwice)) b
-        → Stepped front one ds (finished q.0 d.name (type_meaning q.1 (brings_with d.of)), beside g r (beside g b (nothing_of q.1)))
+        → Stepped front one ds (finish_name q.0 d.name (type_meaning q.1 (brings_with d.of)), beside g r (beside g b (nothing_of q.1)))
     type_ended t w = let h = type_exact in (
       ended front one ds refl refl refl k (mid_as g j lawful exports outside start taken nested block takes front one ds (Adding (d.name ∷ []) (Th front)) (λ n z. only_name z) (λ n z. name_only z)
           (one_finished front one ds refl refl refl k d.name here (says_it front one ds refl refl refl k (said_type read.ms) (λ t. meaning.Type t (brings_with d.of)) (λ t. refl) (λ t. refl) (λ t. refl) (λ t. refl) h) (λ n. ⊥)
@@ -262,8 +262,8 @@ module _ (g : Gathers) (j : Judges g) (lawful : Lawful g j) (exports : ℕ → I
 
   declare_type : (front : List Resolved) (d : TypeDecl) (ds : List Declaration) → IsPlainType d.of → {s : Scope g.Reported} {r : Result (Unit {0}) g.Reported} → KB front (OfType d ∷ ds) (Th front) s → Told front r → One front (OfType d) ds (with_type g (s, r) d)
   declare_type front d ds i {s = s} k t = let b = begin_one g j lawful exports outside start taken nested block takes (O front) front (OfType d) ds refl (Th front) d.name (d.name, here, refl) k in
-      let read = type_read g j lawful exports i (begun g s d.name).0 b.0.same.withs in
-      (typed_one (OfType d) read.ms, refl, type_ended front d ds b.0 (type_of g d.of (begun g s d.name).0) read t b.1)
+      let read = type_read g j lawful exports i (begin_name g s d.name).0 b.0.same.withs in
+      (typed_one (OfType d) read.ms, refl, type_ended front d ds b.0 (type_of g d.of (begin_name g s d.name).0) read t b.1)
 
   -- ---- variables
 
@@ -288,7 +288,7 @@ module _ (g : Gathers) (j : Judges g) (lawful : Lawful g j) (exports : ℕ → I
 
     -- one variable after another
     finish_each : (made : Scope g.Reported → TypeNo → Meaning) → ((t : Scope g.Reported) (a : TypeNo) → (said_variables read.ms a).1 ≡ standing (made t a)) → ((t : Scope g.Reported) (a : TypeNo) → standing_of (made t a) ≡ place.Taken) → OwnMade made → (xs : List Ident) → ((x : Ident) → Among x xs → Among x v.names) → (done : List ℕ → Type 0) {t : Scope g.Reported} → MidOf done t
-        → MidOf (Adding xs done) (fold (λ t x. finished (with_variable_type t q.1) x (q.1 ▷ λ a. Ok (made t a))) t xs)
+        → MidOf (Adding xs done) (fold (λ t x. finish_name (with_variable_type t q.1) x (q.1 ▷ λ a. Ok (made t a))) t xs)
     finish_each made i z w [] a done m = m
     finish_each made i z w (x ∷ xs) a done {t = t} m = finish_each made i z w xs (λ y n. a y (later n)) (λ n. (x.name ≡ n) ⊎ done n)
         (one_finished front many ds refl refl refl k x (a x here) (says_it front many ds refl refl refl k (said_variables read.ms) (made t) (i t) (λ u. refl) (z t) (w t m.same.types m.same.level) variables_exact) done (typed_mid q.1 m))
@@ -297,7 +297,7 @@ module _ (g : Gathers) (j : Judges g) (lawful : Lawful g j) (exports : ℕ → I
     names_done n h = elim (added v.names (λ n. ⊥) n h) [ inl w ↦ w | inr z ↦ absurd z ]
 
     variables_ended : (made : Scope g.Reported → TypeNo → Meaning) → ((t : Scope g.Reported) (a : TypeNo) → (said_variables read.ms a).1 ≡ standing (made t a)) → ((t : Scope g.Reported) (a : TypeNo) → standing_of (made t a) ≡ place.Taken) → OwnMade made
-        → KB (many ∷ front) ds (Th (many ∷ front)) (fold (λ t x. finished (with_variable_type t q.1) x (q.1 ▷ λ a. Ok (made t a))) q.0 v.names)
+        → KB (many ∷ front) ds (Th (many ∷ front)) (fold (λ t x. finish_name (with_variable_type t q.1) x (q.1 ▷ λ a. Ok (made t a))) q.0 v.names)
     variables_ended made i z w = ended front many ds refl refl refl k (mid_as g j lawful exports outside start taken nested block takes front many ds (Adding v.names (Th front)) names_done (λ n h. adding_name v.names (λ n. ⊥) n h.0 h.1 h.2)
         (finish_each made i z w v.names (λ x m. m) (λ n. ⊥) (begun_mid front many ds refl refl refl k (begun_same front many ds refl refl refl k refl read.is) (ap (λ (u : Scope g.Reported). u.own) read.is))))
 
@@ -341,7 +341,7 @@ module _ (g : Gathers) (j : Judges g) (lawful : Lawful g j) (exports : ℕ → I
   -- ---- names of formals
 
   abbrev HasField : Fields → List ℕ → Type 0
-  HasField fs n = is_some (found n fs.names) ≡ true
+  HasField fs n = is_some (find_name n fs.names) ≡ true
 
   module _ (Q : Breach → Type 0) where
     -- names that are there
@@ -349,10 +349,10 @@ module _ (g : Gathers) (j : Judges g) (lawful : Lawful g j) (exports : ℕ → I
       into : (n : List ℕ) → There n → HasField fs n
       from : (n : List ℕ) → HasField fs n → There n
 
-    field_more : {There : List ℕ → Type 0} {fs : Fields} (x : Ident) (cells : ℕ) → Lists There fs → Lists (λ n. (x.name ≡ n) ⊎ There n) (record { names = entered x.name integer fs.names; cells = cells })
+    field_more : {There : List ℕ → Type 0} {fs : Fields} (x : Ident) (cells : ℕ) → Lists There fs → Lists (λ n. (x.name ≡ n) ⊎ There n) (record { names = enter_name x.name integer fs.names; cells = cells })
     field_more {There = There} {fs = fs} x cells l = record { into = λ n. (all n).0; from = λ n. (all n).1 }
       where
-        all : (n : List ℕ) → ((x.name ≡ n) ⊎ There n → is_some (found n (entered x.name integer fs.names)) ≡ true) × (is_some (found n (entered x.name integer fs.names)) ≡ true → (x.name ≡ n) ⊎ There n)
+        all : (n : List ℕ) → ((x.name ≡ n) ⊎ There n → is_some (find_name n (enter_name x.name integer fs.names)) ≡ true) × (is_some (find_name n (enter_name x.name integer fs.names)) ≡ true → (x.name ≡ n) ⊎ There n)
         all = entered_all (λ n o. ((x.name ≡ n) ⊎ There n → is_some o ≡ true) × (is_some o ≡ true → (x.name ≡ n) ⊎ There n)) x.name integer fs.names ((λ z. refl), (λ e. inl refl)) (λ n c. ((λ z. elim z [ inl e ↦ absurd (c e) | inr t ↦ l.into n t ]), (λ e. inr (l.from n e))))
 
     field_same : {There : List ℕ → Type 0} {fs : Fields} (x : Ident) → HasField fs x.name → Lists There fs → Lists (λ n. (x.name ≡ n) ⊎ There n) fs
@@ -364,14 +364,14 @@ module _ (g : Gathers) (j : Judges g) (lawful : Lawful g j) (exports : ℕ → I
     abbrev NamedField : (List ℕ → Type 0) → Ident → Fields × Result (Unit {0}) g.Reported → Type 0
     NamedField There x q = Lists (λ n. (x.name ≡ n) ⊎ There n) q.0 × Tell (λ f. There x.name × (f ≡ x.pos ! rule.DeclaredTwice)) q.1
 
-    field_by : {There : List ℕ → Type 0} (fs : Fields) (x : Ident) (b : Bool) → is_some (found x.name fs.names) ≡ b → Lists There fs → NamedField There x (cond b (fs, reported g x.pos rule.DeclaredTwice) (record { names = entered x.name integer fs.names; cells = plus fs.cells 0 }, Ok tt))
+    field_by : {There : List ℕ → Type 0} (fs : Fields) (x : Ident) (b : Bool) → is_some (find_name x.name fs.names) ≡ b → Lists There fs → NamedField There x (cond b (fs, report g x.pos rule.DeclaredTwice) (record { names = enter_name x.name integer fs.names; cells = plus fs.cells 0 }, Ok tt))
     field_by fs x true e l = (field_same x e l, tells (g.one (x.pos ! rule.DeclaredTwice)) (accounts_as g j lawful Q (λ f q. (l.from x.name e, q)) (λ f z. z.1) (accounts_one g j lawful Q (x.pos ! rule.DeclaredTwice))))
     field_by fs x false e l = (field_more x (plus fs.cells 0) l, silent (λ f z. clash (l.into x.name z.0) e))
 
     names_tell : (xs : List Ident) {There : List ℕ → Type 0} {fs : Fields} {r : Result (Unit {0}) g.Reported} {B : Breach → Type 0} → Lists There fs → Tell B r
         → Lists (Adding xs There) (fold (with_name g integer 0) (fs, r) xs).0 × Tell (λ f. B f ⊎ Twice There xs f) (fold (with_name g integer 0) (fs, r) xs).1
     names_tell [] l t = (l, tells_as g j lawful Q (λ f b. inl b) (λ f z. elim z [ inl b ↦ b | inr b ↦ absurd b ]) t)
-    names_tell (x ∷ xs) {fs = fs} l t = let q = field_by fs x (is_some (found x.name fs.names)) refl l in let z = names_tell xs q.0 (beside_tells g j lawful Q t q.1) in
+    names_tell (x ∷ xs) {fs = fs} l t = let q = field_by fs x (is_some (find_name x.name fs.names)) refl l in let z = names_tell xs q.0 (beside_tells g j lawful Q t q.1) in
         (z.0, tells_as g j lawful Q (λ f z. elim z [ inl y ↦ elim y [ inl b ↦ inl b | inr w ↦ inr (inl w) ] | inr b ↦ inr (inr b) ]) (λ f z. elim z [ inl b ↦ inl (inl b) | inr y ↦ elim y [ inl w ↦ inl (inr w) | inr b ↦ inr b ] ]) z.1)
 
     twice_join : (There : List ℕ → Type 0) (xs ys : List Ident) (f : Breach) → Twice There xs f ⊎ Twice (Adding xs There) ys f → Twice There (xs ++ ys) f
@@ -442,7 +442,7 @@ module _ (g : Gathers) (j : Judges g) (lawful : Lawful g j) (exports : ℕ → I
           same = record { withs = same.withs; outer = same.outer; types = same.types; tables = same.tables; level = same.level };
           own = entered_all (λ n o. MidAs g j lawful exports outside start taken nested block takes front (heading_with ms) ds (λ n. (h.name.name ≡ n) ⊎ Th front n) (Declares (OfProcedure h)) n o) h.name.name m t.own
               (is_done m (no_taken (taken h.name.name) refl) (λ a. new (inr a)) (h.name, here, refl) say)
-              (λ n c. is_other (λ u w z. c (declared_name z)) (subst (λ (own : List (List ℕ × Known g.Reported)). KnownAs g j exports outside start taken nested block front (λ n. (h.name.name ≡ n) ⊎ Th front n) n (found n own)) (sym e) (widen g j lawful exports outside start taken nested block takes h.name (λ q. absurd (c q)) (k.own n))));
+              (λ n c. is_other (λ u w z. c (declared_name z)) (subst (λ (own : List (List ℕ × Known g.Reported)). KnownAs g j exports outside start taken nested block front (λ n. (h.name.name ≡ n) ⊎ Th front n) n (find_name n own)) (sym e) (widen g j lawful exports outside start taken nested block takes h.name (λ q. absurd (c q)) (k.own n))));
         })
       where
         no_taken : (b : Bool) → taken h.name.name ≡ b → taken h.name.name ≡ false
@@ -509,7 +509,7 @@ module _ (g : Gathers) (j : Judges g) (lawful : Lawful g j) (exports : ℕ → I
         back f (inr (inl (inr t))) = absurd t
         back f (inr (inr y)) = inr y
 
-    told_taken : {r b v : Result (Unit {0}) g.Reported} → Th front h.name.name → Told front r → Tells g j lawful (O front) (λ f. Twice (λ n. ⊥) (names_in h.formals) f) b → Tells g j lawful (O front) (Mis front (OfProcedure h)) v → Told (heading_with [] ∷ front) (beside g r (beside g b (beside g v (reported g h.name.pos rule.DeclaredTwice))))
+    told_taken : {r b v : Result (Unit {0}) g.Reported} → Th front h.name.name → Told front r → Tells g j lawful (O front) (λ f. Twice (λ n. ⊥) (names_in h.formals) f) b → Tells g j lawful (O front) (Mis front (OfProcedure h)) v → Told (heading_with [] ∷ front) (beside g r (beside g b (beside g v (report g h.name.pos rule.DeclaredTwice))))
     told_taken th a b c = told_parts (heading_with []) (λ f z. to f z) (λ f z. back f z) (beside_tells g j lawful (O front) (told_here a) (beside_tells g j lawful (O front) b (beside_tells g j lawful (O front) c
         (tells (g.one (h.name.pos ! rule.DeclaredTwice)) (accounts_one g j lawful (O front) (h.name.pos ! rule.DeclaredTwice))))))
       where
@@ -592,7 +592,7 @@ module _ (g : Gathers) (j : Judges g) (lawful : Lawful g j) (exports : ℕ → I
         let z = all_ran ds (λ c m. i c (later m)) q.0 _ q.2.0 q.2.1 in
         (z.0, z.1 ∙ ap (λ (xs : List Declaration). xs ++ declarations_of ds) q.1 ∙ append_assoc (in_order front) (declared_by (out-Decl d)) (declarations_of ds), z.2)
 
-module _ (g : Gathers) (j : Judges g) (lawful : Lawful g j) (exports : ℕ → Ident → Standing) (outside : Ident → Standing) (start : Scope g.Reported) (taken : List ℕ → Bool) (knows : Knows g j outside exports start) (no_withs : start.withs ≡ []) (takes : (n : List ℕ) → TakenAs g j (taken n) (found n start.own)) (ends : List ℕ) (first : ℕ) (ds : List Decl) (plain : ArePlainDecls ds) where
+module _ (g : Gathers) (j : Judges g) (lawful : Lawful g j) (exports : ℕ → Ident → Standing) (outside : Ident → Standing) (start : Scope g.Reported) (taken : List ℕ → Bool) (knows : Knows g j outside exports start) (no_withs : start.withs ≡ []) (takes : (n : List ℕ) → TakenAs g j (taken n) (find_name n start.own)) (ends : List ℕ) (first : ℕ) (ds : List Decl) (plain : ArePlainDecls ds) where
   abbrev block : List Declaration
   block = declarations_of ds
 
@@ -610,7 +610,7 @@ module _ (g : Gathers) (j : Judges g) (lawful : Lawful g j) (exports : ℕ → I
   block_answers = record {
     whole = all_of_it.0;
     in_text = all_of_it.1;
-    reported = reports all_of_it.2.1;
+    report = reports all_of_it.2.1;
     types = all_of_it.2.0.same.types;
     stand = (standings g j exports outside start taken (is_nested start) block knows no_withs all_of_it.2.0, all_stand g j exports outside start taken (is_nested start) block knows no_withs all_of_it.2.0);
     owned = λ outers own owns all. owning g j exports outside start taken (is_nested start) block knows no_withs all_of_it.2.0 outers owns own all;

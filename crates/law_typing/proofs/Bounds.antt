@@ -13,13 +13,13 @@ use Rattle.typed_tree.specs.declared.shape.Shape.TheVariants as shape
 use Rattle.typed_tree.specs.declared.known_types.Types.{Types}
 use Rattle.check_scope.specs.declared.meaningless.Meaningless.{Meaningless}
 use Rattle.check_scope.specs.declared.scope.Scope.{Scope}
-use Rattle.check_scope.specs.Elaborated.{Gathers, reported}
+use Rattle.check_scope.specs.Elaborated.{Gathers, report}
 use Rattle.check_const_ops.specs.declared.operand.Operand.{Operand}
 use Rattle.check_const_ops.specs.declared.operand.Ordinal.{Ordinal}
 use Rattle.check_operator.specs.declared.class.Class.{Class}
 use Rattle.check_operator.specs.declared.computed.Computed.{Computed}
 use Rattle.check_operator.specs.declared.computed.Designated.{Designated}
-use Rattle.check_expr.specs.Meanings.{meant}
+use Rattle.check_expr.specs.Meanings.{meanings_of}
 use Rattle.check_stmt_parts.specs.Labels.{suits_selector, ordinal_in, no_constant, value_bound, variable_bound, bound_by, bound_in, bound_of}
 use Rattle.def_typing.specs.Shapes.{shape_at}
 use Rattle.def_typing.specs.Amounts.{Constant, Value}
@@ -28,7 +28,7 @@ use Rattle.def_typing.specs.Things.{Thing, AValue, AVariable, Headless, Standing
 use Rattle.def_typing.specs.Parts.{first}
 use Rattle.def_typing.specs.Expressions.{Stands, Broken}
 use Rattle.def_typing.specs.Cases as rules
-use Rattle.def_typing.specs.Cases.{IsConstantThing, IsNoValue, IsNoConstant, held, SuitsSelector, IsBound, is_bound, Misbounds, IsLabelBound, is_label_bound, BrokenLabelBound, in_bound, at_bound}
+use Rattle.def_typing.specs.Cases.{IsConstantThing, IsNoValue, IsNoConstant, run_time_kind, SuitsSelector, IsBound, is_bound, Misbounds, IsLabelBound, is_label_bound, BrokenLabelBound, in_bound, at_bound}
 use Rattle.law_typing.specs.Judging.{Judges, Answers, means, refuses}
 use Rattle.law_typing.specs.Exact.{kind_of, IsKind, kind_constant, kind_scalar, kind_set, kind_routine, kind_procedure, kind_whole, kind_untaken, IsThing, thing_value, thing_variable, thing_open, thing_type, thing_procedure, thing_nested, thing_standard, thing_module, Knows, Repeats, IsPlain}
 use Rattle.law_typing.proofs.Combining.{Lawful, Decided, holds, fails_it, decided_as, accounts_as, declined, exact, Checks, passes, stops, stopped, where_checks, both_checks, map_checks, Finds, finds, finds_headless, finds_nothing}
@@ -84,7 +84,7 @@ module _ (g : Gathers) (j : Judges g) (lawful : Lawful g j) (O : Breach → Type
       none (rules.no_constant i) = i.not_constant c
       none (rules.other_type i n) = i.not_constant c
 
-  no_bound : {k : Kind} → IsConstantThing (AValue k) → ((sort : Option TypeNo) (n : ℤ) → IsBound (AValue k) sort n → ⊥) → BoundSo (AValue k) (reported g at rule.WrongType)
+  no_bound : {k : Kind} → IsConstantThing (AValue k) → ((sort : Option TypeNo) (n : ℤ) → IsBound (AValue k) sort n → ⊥) → BoundSo (AValue k) (report g at rule.WrongType)
   no_bound {k = k} c n = declined g j lawful O at rule.WrongType (λ p m. n p.0 p.1 m) (rules.no_number c n) (λ f z. one z)
     where
       one : {f : Breach} → Mis (AValue k) f → f ≡ at ! rule.WrongType
@@ -103,15 +103,15 @@ module _ (g : Gathers) (j : Judges g) (lawful : Lawful g j) (O : Breach → Type
   refused q n to from (passes a p m) = absurd (q p)
   refused q n to from (stops r c m) = refuses r (accounts_as g j lawful O to from c) n
 
-  varies : {x : Thing} (b : Bool) → IsNoConstant x → ((p : Option TypeNo × ℤ) → IsBound x p.0 p.1 → ⊥) → Decided (SuitsSelector base (held types x)) b → BoundSo x (no_constant g b label at)
-  varies {x = x} b i n d = refused {P = SuitsSelector base (held types x) × ⊥} {B = λ f. ((SuitsSelector base (held types x) → ⊥) × (f ≡ at ! rule.WrongType)) ⊎ (f ≡ label ! rule.WrongLabel)} (λ p. p.1) n (λ f z. into f z) (λ f z. out z)
+  varies : {x : Thing} (b : Bool) → IsNoConstant x → ((p : Option TypeNo × ℤ) → IsBound x p.0 p.1 → ⊥) → Decided (SuitsSelector base (run_time_kind types x)) b → BoundSo x (no_constant g b label at)
+  varies {x = x} b i n d = refused {P = SuitsSelector base (run_time_kind types x) × ⊥} {B = λ f. ((SuitsSelector base (run_time_kind types x) → ⊥) × (f ≡ at ! rule.WrongType)) ⊎ (f ≡ label ! rule.WrongLabel)} (λ p. p.1) n (λ f z. into f z) (λ f z. out z)
       (map_checks g j lawful O (λ (p : Unit {0} × Ordinal). p.1) (both_checks g j lawful O (where_checks g j lawful O tt b at rule.WrongType d) (stopped g j lawful O {P = ⊥} {B = λ f. f ≡ label ! rule.WrongLabel} label rule.WrongLabel (λ p. p) refl (λ f e. e))))
     where
-      into : (f : Breach) → ((SuitsSelector base (held types x) → ⊥) × (f ≡ at ! rule.WrongType)) ⊎ (f ≡ label ! rule.WrongLabel) → Mis x f
+      into : (f : Breach) → ((SuitsSelector base (run_time_kind types x) → ⊥) × (f ≡ at ! rule.WrongType)) ⊎ (f ≡ label ! rule.WrongLabel) → Mis x f
       into f (inl (m, e)) = subst (Mis x) (sym e) (rules.other_type i m)
       into f (inr e) = subst (Mis x) (sym e) (rules.no_constant i)
 
-      out : {f : Breach} → Mis x f → ((SuitsSelector base (held types x) → ⊥) × (f ≡ at ! rule.WrongType)) ⊎ (f ≡ label ! rule.WrongLabel)
+      out : {f : Breach} → Mis x f → ((SuitsSelector base (run_time_kind types x) → ⊥) × (f ≡ at ! rule.WrongType)) ⊎ (f ≡ label ! rule.WrongLabel)
       out (rules.no_number c m) = absurd (i.not_constant c)
       out (rules.no_value v) = absurd (i.not_refused v)
       out (rules.no_constant q) = inr refl
@@ -144,7 +144,7 @@ module _ (g : Gathers) (j : Judges g) (lawful : Lawful g j) (O : Breach → Type
   variable_by t (Some (shape.Procedure p)) e = variable_varies t false (not_held t _ e (λ u q. absurd cc))
   variable_by t (Some (shape.Open u)) e = variable_varies t false (not_held t _ e (λ u q. absurd cc))
 
-  no_value_bound : {x : Thing} → IsNoValue x → (IsConstantThing x → ⊥) → ((p : Option TypeNo × ℤ) → IsBound x p.0 p.1 → ⊥) → BoundSo x (reported g at rule.NoProcedureValue)
+  no_value_bound : {x : Thing} → IsNoValue x → (IsConstantThing x → ⊥) → ((p : Option TypeNo × ℤ) → IsBound x p.0 p.1 → ⊥) → BoundSo x (report g at rule.NoProcedureValue)
   no_value_bound {x = x} v c n = declined g j lawful O at rule.NoProcedureValue n (rules.no_value v) (λ f z. one z)
     where
       one : {f : Breach} → Mis x f → f ≡ at ! rule.NoProcedureValue
@@ -153,8 +153,8 @@ module _ (g : Gathers) (j : Judges g) (lawful : Lawful g j) (O : Breach → Type
       one (rules.no_constant i) = absurd (i.not_refused v)
       one (rules.other_type i m) = absurd (i.not_refused v)
 
-  other_varies : {x : Thing} → IsNoConstant x → ((p : Option TypeNo × ℤ) → IsBound x p.0 p.1 → ⊥) → ((t : TypeNo) → held types x ≡ Scalar (Value t) → ⊥) → BoundSo x (no_constant g false label at)
-  other_varies {x = x} i n q = varies false i n (none_suits base (held types x) q)
+  other_varies : {x : Thing} → IsNoConstant x → ((p : Option TypeNo × ℤ) → IsBound x p.0 p.1 → ⊥) → ((t : TypeNo) → run_time_kind types x ≡ Scalar (Value t) → ⊥) → BoundSo x (no_constant g false label at)
+  other_varies {x = x} i n q = varies false i n (none_suits base (run_time_kind types x) q)
 
   bounds : (a : Designated) (x : Thing) → IsThing a x → BoundSo x (bound_by g types base label at a)
   bounds _ _ (thing_value i) = value_bounds i
@@ -193,8 +193,8 @@ renamed (refuses r c n) = refuses r c n
 
 module _ (g : Gathers) (j : Judges g) (lawful : Lawful g j) (names : Ident → Standing) (exports : ℕ → Ident → Standing) (s : Scope g.Reported) (knows : Knows g j names exports s) where
   pub ordinal_answers : (base : Option TypeNo) (label : Pos) (e : Expr) → IsPlain e
-      → Answers g j (Repeats g j names s) IsOrdinal (λ p. IsLabelBound s.types names exports e p.0 p.1) (BrokenLabelBound s.types names exports base label e) (bound_of g s base label (meant g e))
-  ordinal_answers base label e i = subst (λ (at : Pos). Answers g j (Repeats g j names s) IsOrdinal (λ p. IsLabelBound s.types names exports e p.0 p.1) (BrokenLabelBound s.types names exports base label e) (bound_in g s.types base label at ((meant g e).means s))) (sym (at_is g i))
+      → Answers g j (Repeats g j names s) IsOrdinal (λ p. IsLabelBound s.types names exports e p.0 p.1) (BrokenLabelBound s.types names exports base label e) (bound_of g s base label (meanings_of g e))
+  ordinal_answers base label e i = subst (λ (at : Pos). Answers g j (Repeats g j names s) IsOrdinal (λ p. IsLabelBound s.types names exports e p.0 p.1) (BrokenLabelBound s.types names exports base label e) (bound_in g s.types base label at ((meanings_of g e).means s))) (sym (at_is g i))
       (exact g j lawful (Repeats g j names s) (λ p z. is_label_bound z.1 z.2) (λ p z. parts z) (λ f z. elim z [ inl b ↦ in_bound b | inr q ↦ at_bound q.1 q.2 ]) out (bound_found g j lawful (Repeats g j names s) s.types base label (first e) (found g j lawful names exports s knows i)))
     where
       parts : {sort : Option TypeNo} {n : ℤ} → IsLabelBound s.types names exports e sort n → (x : Thing) × Stands s.types names exports e x × IsBound x sort n
@@ -205,5 +205,5 @@ module _ (g : Gathers) (j : Judges g) (lawful : Lawful g j) (names : Ident → S
       out f (at_bound {x = x} m b) = inr (x, m, b)
 
   pub bound_answers : (base : Option TypeNo) (label : Pos) (e : Expr) → IsPlain e
-      → Answers g j (Repeats g j names s) IsNumbered (λ p. IsLabelBound s.types names exports e p.0 p.1) (BrokenLabelBound s.types names exports base label e) (bound_of g s base label (meant g e))
+      → Answers g j (Repeats g j names s) IsNumbered (λ p. IsLabelBound s.types names exports e p.0 p.1) (BrokenLabelBound s.types names exports base label e) (bound_of g s base label (meanings_of g e))
   bound_answers base label e i = renamed (ordinal_answers base label e i)

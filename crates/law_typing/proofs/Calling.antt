@@ -15,7 +15,7 @@ use Rattle.typed_tree.specs.declared.shape.Shape.TheVariants as shape
 use Rattle.typed_tree.specs.Types.{cardinal}
 use Rattle.m2_rule.specs.declared.breach.Breach.{Breach}
 use Rattle.check_scope.specs.declared.scope.Scope.{Scope}
-use Rattle.check_scope.specs.Elaborated.{Gathers, reported, reported_beside, of_sort, ◌▷◌}
+use Rattle.check_scope.specs.Elaborated.{Gathers, report, reported_beside, of_sort, ◌▷◌}
 use Rattle.check_const.specs.Calls.{bound_by, scalar_type}
 use Rattle.check_operator.specs.declared.computed.Computed.{Computed}
 use Rattle.check_operator.specs.declared.computed.Computed.TheVariants as computed
@@ -24,7 +24,7 @@ use Rattle.check_call.specs.declared.callee.Called.TheVariants as called
 use Rattle.check_call.specs.declared.standard.Unary.{Unary}
 use Rattle.check_call.specs.Functions.{type_named, bound_at, conversion_at, converted_value, high_of, unary_at}
 use Rattle.check_expr.specs.Meanings as meanings
-use Rattle.check_expr.specs.Meanings.{meant, value_of, miscounted, looked_at, with_actual, actuals, call_given, formals_of, routine_called, scalar_named, called_as, called_by}
+use Rattle.check_expr.specs.Meanings.{meanings_of, value_of, wrong_count, breaches_in_all, with_actual, actuals, call_given, formals_of, routine_called, scalar_named, callee_value, call_in_expression}
 use Rattle.def_typing.specs.Shapes.{shape_at, IsMade}
 use Rattle.def_typing.specs.Amounts.{Constant, Value}
 use Rattle.def_typing.specs.Operators.{◌!◌, Kind, Scalar, operand, Misapplied}
@@ -136,7 +136,7 @@ module _ (g : Gathers) (j : Judges g) (lawful : Lawful g j) (names : Ident → S
 
   -- a call that is refused, with what is broken in the arguments
   pub refused_call : {x : Thing} {xs : List Expr} (at : Pos) (refused : Rule) → ((k : Kind) → C x xs k → ⊥) → M at x xs (at ! refused) → ((f : Breach) → M at x xs f → f ≡ at ! refused) → ((y : Expr) → Among y xs → Found y)
-      → CallsSo at x xs (reported_beside g at refused (looked_at g s (map (meant g) xs)))
+      → CallsSo at x xs (reported_beside g at refused (breaches_in_all g s (map (meanings_of g) xs)))
   refused_call {x = x} {xs = xs} at refused n m only h = exact g j lawful E (λ k c. c) (λ k c. c) (λ f b. elim b [ inl e ↦ inl (subst (M at x xs) (sym e) m) | inr a ↦ inr a ]) (λ f b. elim b [ inl q ↦ inl (only f q) | inr a ↦ inr a ])
       (declined_beside g j lawful E at refused n (look_tells g j lawful names exports s xs h))
 
@@ -150,7 +150,7 @@ module _ (g : Gathers) (j : Judges g) (lawful : Lawful g j) (names : Ident → S
   count_only at f e q (rules.misconverted m z h w) = absurd (q (some_same _ _ (sym e)))
   count_only at _ e q (rules.no_open_array m z w) = absurd (q (some_same _ _ (sym e)))
 
-  miscounted_calls : {p : Standard} {xs : List Expr} {n : ℕ} (at : Pos) → arity p ≡ Some n → (n ≡ length xs → ⊥) → ((y : Expr) → Among y xs → Found y) → CallsSo at (AStandard p) xs (miscounted g s at (map (meant g) xs))
+  miscounted_calls : {p : Standard} {xs : List Expr} {n : ℕ} (at : Pos) → arity p ≡ Some n → (n ≡ length xs → ⊥) → ((y : Expr) → Among y xs → Found y) → CallsSo at (AStandard p) xs (wrong_count g s at (map (meanings_of g) xs))
   miscounted_calls at e q h = refused_call at rule.ArgumentCount (λ k c. q (some_same _ _ (sym e ∙ standard_calls c))) (rules.wrong_count (standard e) q) (λ f m. count_only at f e q m) h
 
   proper_only : {p : Standard} {xs : List Expr} (at : Pos) (f : Breach) → arity p ≡ None → M at (AStandard p) xs f → f ≡ at ! rule.WrongType
@@ -163,7 +163,7 @@ module _ (g : Gathers) (j : Judges g) (lawful : Lawful g j) (names : Ident → S
   proper_only at f e (rules.misconverted m z h w) = absurd cc
   proper_only at _ e (rules.no_open_array m z w) = absurd cc
 
-  proper_calls : {p : Standard} {xs : List Expr} (at : Pos) → arity p ≡ None → ((y : Expr) → Among y xs → Found y) → CallsSo at (AStandard p) xs (reported_beside g at rule.WrongType (looked_at g s (map (meant g) xs)))
+  proper_calls : {p : Standard} {xs : List Expr} (at : Pos) → arity p ≡ None → ((y : Expr) → Among y xs → Found y) → CallsSo at (AStandard p) xs (reported_beside g at rule.WrongType (breaches_in_all g s (map (meanings_of g) xs)))
   proper_calls at e h = refused_call at rule.WrongType (λ k c. let z = sym e ∙ standard_calls c in absurd cc) (rules.no_function (λ q. absurd cc) (λ n i. let z = sym e ∙ standard_function i in absurd cc)) (λ f m. proper_only at f e m) h
 
   -- ---- functions of one value
@@ -208,13 +208,13 @@ module _ (g : Gathers) (j : Judges g) (lawful : Lawful g j) (names : Ident → S
   any_one f (x, here, b) = b
   any_one f (x, later m, b) = elim m [ ]
 
-  one_called : {p : Standard} {u : Unary} {x : Expr} (at : Pos) → UnaryIs p u → IsPlain x → Found x → CallsSo at (AStandard p) (x ∷ []) (value_of g s (meant g x) ▷ unary_at g p u (meant g x).fixed.at)
-  one_called {p = p} {u = u} {x = x} at w i h = subst (λ (q : Pos). CallsSo at (AStandard p) (x ∷ []) (value_of g s (meant g x) ▷ unary_at g p u q)) (sym (at_is g i))
+  one_called : {p : Standard} {u : Unary} {x : Expr} (at : Pos) → UnaryIs p u → IsPlain x → Found x → CallsSo at (AStandard p) (x ∷ []) (value_of g s (meanings_of g x) ▷ unary_at g p u (meanings_of g x).fixed.at)
+  one_called {p = p} {u = u} {x = x} at w i h = subst (λ (q : Pos). CallsSo at (AStandard p) (x ∷ []) (value_of g s (meanings_of g x) ▷ unary_at g p u q)) (sym (at_is g i))
       (exact g j lawful E {M = λ l. (k : Kind) × H x k × Applies p (operand k) l} (λ k m. rules.of_one m.1 m.2) (λ k m. one_calls w m) (λ f b. fails_one at f w b) (λ f b. elim b [ inl m ↦ one_fails at f w m | inr a ↦ inl (broken (any_one f a)) ])
       (then_answer g j lawful E {N = λ k l. Applies p (operand k) l} {D = λ k f. Misapplied (MayApply p (operand k)) (Applies p (operand k)) (first x) rule.WrongArgument f} (valued g j lawful names exports s i h) (λ v k q. one_answers g j lawful E (first x) w q)))
 
   -- by the number of arguments
-  unary_calls : {p : Standard} {u : Unary} (at : Pos) (xs : List Expr) → UnaryIs p u → ((y : Expr) → Among y xs → IsPlain y) → ((y : Expr) → Among y xs → Found y) → CallsSo at (AStandard p) xs (meanings.unary g s at p u (map (meant g) xs))
+  unary_calls : {p : Standard} {u : Unary} (at : Pos) (xs : List Expr) → UnaryIs p u → ((y : Expr) → Among y xs → IsPlain y) → ((y : Expr) → Among y xs → Found y) → CallsSo at (AStandard p) xs (meanings.unary g s at p u (map (meanings_of g) xs))
   unary_calls at [] w i h = miscounted_calls at (of_one_arity (unary_one w)) (λ e. absurd cc) h
   unary_calls at (x ∷ []) w i h = one_called at w (i x here) (h x here)
   unary_calls at (x ∷ y ∷ xs) w i h = miscounted_calls at (of_one_arity (unary_one w)) (λ e. omega (arith, e)) h
@@ -230,7 +230,7 @@ module _ (g : Gathers) (j : Judges g) (lawful : Lawful g j) (names : Ident → S
   abbrev ScalarSo : Pos → Thing → Result (TypeNo × Range) g.Reported → Type 0
   ScalarSo at y r = Answers g j E IsOfRange (NamesScalar s.types y) (NoScalar at y) r
 
-  no_scalar : {y : Thing} (at : Pos) → ((r : Range) → NamesScalar s.types y r → ⊥) → ScalarSo at y (reported g at rule.NoType)
+  no_scalar : {y : Thing} (at : Pos) → ((r : Range) → NamesScalar s.types y r → ⊥) → ScalarSo at y (report g at rule.NoType)
   no_scalar at n = declined g j lawful E at rule.NoType n (n, refl) (λ f z. z.1)
 
   abbrev range_in : Range → Shape → Range
@@ -268,8 +268,8 @@ module _ (g : Gathers) (j : Judges g) (lawful : Lawful g j) (names : Ident → S
   abbrev NameFails : Expr → Breach → Type 0
   NameFails x f = B x f ⊎ ((y : Thing) × S x y × NoScalar (first x) y f)
 
-  scalar_answers : {x : Expr} → IsPlain x → Found x → Answers g j E IsOfRange (NamesIt x) (NameFails x) (scalar_named g s (meant g x))
-  scalar_answers {x = x} i h = subst (λ (at : Pos). Answers g j E IsOfRange (NamesIt x) (NameFails x) (of_sort g at rule.NoType ((meant g x).means s) ▷ type_named g s.types at)) (sym (at_is g i))
+  scalar_answers : {x : Expr} → IsPlain x → Found x → Answers g j E IsOfRange (NamesIt x) (NameFails x) (scalar_named g s (meanings_of g x))
+  scalar_answers {x = x} i h = subst (λ (at : Pos). Answers g j E IsOfRange (NamesIt x) (NameFails x) (of_sort g at rule.NoType ((meanings_of g x).means s) ▷ type_named g s.types at)) (sym (at_is g i))
       (sort_answers g j lawful E (first x) rule.NoType h (type_answers (first x)) (no_scalar (first x) (λ r n. elim n [ ])))
 
   -- MAX and MIN
@@ -338,12 +338,12 @@ module _ (g : Gathers) (j : Judges g) (lawful : Lawful g j) (names : Ident → S
   fails_bound {x = x} at f w (inl b) = inr (x, here, b)
   fails_bound {p = p} {x = x} at f w (inr (y, m, (z, e))) = inl (subst (M at (AStandard p) (x ∷ [])) (sym e) (rules.no_type (type_of_bound w) m z))
 
-  bound_called : {p : Standard} {x : Expr} (at : Pos) → IsBound p → IsPlain x → Found x → CallsSo at (AStandard p) (x ∷ []) (bound_at p (scalar_named g s (meant g x)))
+  bound_called : {p : Standard} {x : Expr} (at : Pos) → IsBound p → IsPlain x → Found x → CallsSo at (AStandard p) (x ∷ []) (bound_at p (scalar_named g s (meanings_of g x)))
   bound_called {p = p} {x = x} at w i h = exact g j lawful E {M = λ l. (r : Range) × NamesIt x r × BoundedBy p r l} {B = λ f. NameFails x f ⊎ ((r : Range) × NamesIt x r × ⊥)} calls_bound (λ l m. bound_calls_by w m)
       (λ f b. elim b [ inl c ↦ fails_bound at f w c | inr c ↦ absurd c.2 ]) (λ f b. elim b [ inl m ↦ inl (bound_fails at f w m) | inr a ↦ inl (inl (any_one f a)) ])
       (then_answer g j lawful E {N = BoundedBy p} {D = λ r f. ⊥} (scalar_answers i h) (λ q r e. bounded_by q r w e))
 
-  bound_calls : {p : Standard} (at : Pos) (xs : List Expr) → IsBound p → ((y : Expr) → Among y xs → IsPlain y) → ((y : Expr) → Among y xs → Found y) → CallsSo at (AStandard p) xs (meanings.bound g s at p (map (meant g) xs))
+  bound_calls : {p : Standard} (at : Pos) (xs : List Expr) → IsBound p → ((y : Expr) → Among y xs → IsPlain y) → ((y : Expr) → Among y xs → Found y) → CallsSo at (AStandard p) xs (meanings.bound g s at p (map (meanings_of g) xs))
   bound_calls at [] w i h = miscounted_calls at (bound_one w) (λ e. absurd cc) h
   bound_calls at (x ∷ []) w i h = bound_called at w (i x here) (h x here)
   bound_calls at (x ∷ y ∷ xs) w i h = miscounted_calls at (bound_one w) (λ e. omega (arith, e)) h
@@ -385,13 +385,13 @@ module _ (g : Gathers) (j : Judges g) (lawful : Lawful g j) (names : Ident → S
   any_val f (x, later here, b) = inl (inr (broken b))
   any_val f (x, later (later m), b) = elim m [ ]
 
-  val_called : {t x : Expr} (at : Pos) → IsPlain t → IsPlain x → Found t → Found x → CallsSo at (AStandard Val) (t ∷ x ∷ []) (conversion_at g (scalar_named g s (meant g t)) (meant g x).fixed.at (value_of g s (meant g x)))
-  val_called {t = t} {x = x} at i k h q = subst (λ (p : Pos). CallsSo at (AStandard Val) (t ∷ x ∷ []) (conversion_at g (scalar_named g s (meant g t)) p (value_of g s (meant g x)))) (sym (at_is g k))
+  val_called : {t x : Expr} (at : Pos) → IsPlain t → IsPlain x → Found t → Found x → CallsSo at (AStandard Val) (t ∷ x ∷ []) (conversion_at g (scalar_named g s (meanings_of g t)) (meanings_of g x).fixed.at (value_of g s (meanings_of g x)))
+  val_called {t = t} {x = x} at i k h q = subst (λ (p : Pos). CallsSo at (AStandard Val) (t ∷ x ∷ []) (conversion_at g (scalar_named g s (meanings_of g t)) p (value_of g s (meanings_of g x)))) (sym (at_is g k))
       (exact g j lawful E calls_val (λ l m. val_calls_by m) (fails_val at) (λ f b. elim b [ inl m ↦ val_fails at f m | inr a ↦ any_val f a ])
       (then_answer g j lawful E {N = λ p l. Converts p.0 (operand p.1) l} {D = ConvertFails x} (both_answer g j lawful E (scalar_answers i h) (valued g j lawful names exports s k q))
       (λ v p w. subst (λ (r : Range). Answers g j E IsKind (Converts r (operand p.1)) (ConvertFails x (r, p.1)) (converted_value g v.0.0 v.0.1 (first x) v.1)) w.0 (converted_answers g j lawful E (first x) v.0.0 v.0.1 w.1))))
 
-  val_calls : (at : Pos) (xs : List Expr) → ((y : Expr) → Among y xs → IsPlain y) → ((y : Expr) → Among y xs → Found y) → CallsSo at (AStandard Val) xs (meanings.conversion g s at (map (meant g) xs))
+  val_calls : (at : Pos) (xs : List Expr) → ((y : Expr) → Among y xs → IsPlain y) → ((y : Expr) → Among y xs → Found y) → CallsSo at (AStandard Val) xs (meanings.conversion g s at (map (meanings_of g) xs))
   val_calls at [] i h = miscounted_calls {p = Val} at refl (λ e. absurd cc) h
   val_calls at (t ∷ []) i h = miscounted_calls {p = Val} at refl (λ e. omega (arith, e)) h
   val_calls at (t ∷ x ∷ []) i h = val_called at (i t here) (i x (later here)) (h t here) (h x (later here))
@@ -407,10 +407,10 @@ module _ (g : Gathers) (j : Judges g) (lawful : Lawful g j) (names : Ident → S
   abbrev HighSo : Pos → Thing → Result Computed g.Reported → Type 0
   HighSo at y r = Answers g j E IsKind (HighOf y) (HighFails at y) r
 
-  no_high : {y : Thing} (at : Pos) → ((t : TypeNo) → y ≡ AnOpenArray t → ⊥) → ((h : Breach) → Mistaken at y h → ⊥) → HighSo at y (reported g at rule.WrongArgument)
+  no_high : {y : Thing} (at : Pos) → ((t : TypeNo) → y ≡ AnOpenArray t → ⊥) → ((h : Breach) → Mistaken at y h → ⊥) → HighSo at y (report g at rule.WrongArgument)
   no_high at n m = declined g j lawful E at rule.WrongArgument (λ l z. n z.0 z.1) (inr (n, m, refl)) (λ f z. elim z [ inl q ↦ absurd (m f q) | inr q ↦ q.2 ])
 
-  mistaken_high : {y : Thing} (at : Pos) (refused : Rule) → ((t : TypeNo) → y ≡ AnOpenArray t → ⊥) → Mistaken at y (at ! refused) → ((h : Breach) → Mistaken at y h → h ≡ at ! refused) → HighSo at y (reported g at refused)
+  mistaken_high : {y : Thing} (at : Pos) (refused : Rule) → ((t : TypeNo) → y ≡ AnOpenArray t → ⊥) → Mistaken at y (at ! refused) → ((h : Breach) → Mistaken at y h → h ≡ at ! refused) → HighSo at y (report g at refused)
   mistaken_high at refused n m only = declined g j lawful E at refused (λ l z. n z.0 z.1) (inl m) (λ f z. elim z [ inl q ↦ only f q | inr q ↦ absurd (q.1 (at ! refused) m) ])
 
   high_answers : (at : Pos) (a : Designated) (y : Thing) → IsThing a y → HighSo at y (high_of g at a)
@@ -450,19 +450,19 @@ module _ (g : Gathers) (j : Judges g) (lawful : Lawful g j) (names : Ident → S
   fails_high at f (inr (y, m, inl z)) = inl (rules.no_value rules.of_high m z)
   fails_high {x = x} at f (inr (y, m, inr (z, q, e))) = inl (subst (M at (AStandard High) (x ∷ [])) (sym e) (rules.no_open_array m z q))
 
-  high_called : {x : Expr} (at : Pos) → IsPlain x → Found x → CallsSo at (AStandard High) (x ∷ []) (of_sort g (meant g x).fixed.at rule.WrongArgument ((meant g x).means s) ▷ high_of g (meant g x).fixed.at)
-  high_called {x = x} at i h = subst (λ (p : Pos). CallsSo at (AStandard High) (x ∷ []) (of_sort g p rule.WrongArgument ((meant g x).means s) ▷ high_of g p)) (sym (at_is g i))
+  high_called : {x : Expr} (at : Pos) → IsPlain x → Found x → CallsSo at (AStandard High) (x ∷ []) (of_sort g (meanings_of g x).fixed.at rule.WrongArgument ((meanings_of g x).means s) ▷ high_of g (meanings_of g x).fixed.at)
+  high_called {x = x} at i h = subst (λ (p : Pos). CallsSo at (AStandard High) (x ∷ []) (of_sort g p rule.WrongArgument ((meanings_of g x).means s) ▷ high_of g p)) (sym (at_is g i))
       (exact g j lawful E calls_high (λ l m. high_calls_by m) (fails_high at) (λ f b. elim b [ inl m ↦ high_fails at f m | inr a ↦ inl (any_one f a) ])
       (sort_answers g j lawful E (first x) rule.WrongArgument h (high_answers (first x)) (no_high (first x) (λ t e. absurd cc) (λ h m. m))))
 
-  high_calls : (at : Pos) (xs : List Expr) → ((y : Expr) → Among y xs → IsPlain y) → ((y : Expr) → Among y xs → Found y) → CallsSo at (AStandard High) xs (meanings.high g s at (map (meant g) xs))
+  high_calls : (at : Pos) (xs : List Expr) → ((y : Expr) → Among y xs → IsPlain y) → ((y : Expr) → Among y xs → Found y) → CallsSo at (AStandard High) xs (meanings.high g s at (map (meanings_of g) xs))
   high_calls at [] i h = miscounted_calls {p = High} at refl (λ e. absurd cc) h
   high_calls at (x ∷ []) i h = high_called at (i x here) (h x here)
   high_calls at (x ∷ y ∷ xs) i h = miscounted_calls {p = High} at refl (λ e. omega (arith, e)) h
 
   -- ---- all standard procedures
 
-  pub standard_answers : (p : Standard) (at : Pos) (xs : List Expr) → ((y : Expr) → Among y xs → IsPlain y) → ((y : Expr) → Among y xs → Found y) → CallsSo at (AStandard p) xs (called_as g s at (map (meant g) xs) (called.Standard p))
+  pub standard_answers : (p : Standard) (at : Pos) (xs : List Expr) → ((y : Expr) → Among y xs → IsPlain y) → ((y : Expr) → Among y xs → Found y) → CallsSo at (AStandard p) xs (callee_value g s at (map (meanings_of g) xs) (called.Standard p))
   standard_answers Abs at xs i h = unary_calls at xs is_abs i h
   standard_answers Cap at xs i h = unary_calls at xs is_cap i h
   standard_answers Chr at xs i h = unary_calls at xs is_chr i h

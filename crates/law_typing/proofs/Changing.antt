@@ -25,7 +25,7 @@ use Rattle.typed_tree.specs.declared.shape.Shape.TheVariants as shape
 use Rattle.typed_tree.specs.declared.known_types.Types.{Types}
 use Rattle.typed_tree.specs.Types.{is_numeric, cardinal, char}
 use Rattle.check_scope.specs.declared.scope.Scope.{Scope}
-use Rattle.check_scope.specs.Elaborated.{Gathers, reported, reported_where, reported_beside, of_sort, ◌▷◌}
+use Rattle.check_scope.specs.Elaborated.{Gathers, report, reported_where, reported_beside, of_sort, ◌▷◌}
 use Rattle.check_const_ops.specs.declared.operand.Operand.{Operand}
 use Rattle.check_const_ops.specs.declared.operand.Ordinal.{Ordinal}
 use Rattle.check_const_ops.specs.Operands.{is_number}
@@ -34,9 +34,9 @@ use Rattle.check_const_ops.specs.Standards.{scalar_part, if_number}
 use Rattle.check_operator.specs.declared.class.Class.{Class}
 use Rattle.check_operator.specs.declared.computed.Computed.{Computed}
 use Rattle.check_operator.specs.declared.computed.Designated.{Designated}
-use Rattle.check_call.specs.Effects.{changed_as, changed, known_amount, amount, change_by, set_as, set_variable, element_known, element, put}
-use Rattle.check_expr.specs.Meanings.{meant, value_of, looked_at, miscounted}
-use Rattle.check_expr.specs.Effects.{changed_in, changed_by, set_in, member_by, halted, put_by, function_done, standard_done}
+use Rattle.check_call.specs.Effects.{change_target_as, change_target, known_amount, amount, change_by, set_as, set_variable, element_known, element, put}
+use Rattle.check_expr.specs.Meanings.{meanings_of, value_of, breaches_in_all, wrong_count}
+use Rattle.check_expr.specs.Effects.{change_target_in, change_statement, set_in, member_by, halt_statement, put_by, function_done, standard_done}
 use Rattle.def_typing.specs.Shapes.{shape_at, IsMade}
 use Rattle.def_typing.specs.Amounts.{Constant, Value, IsNumber, Within}
 use Rattle.def_typing.specs.Operators.{◌!◌, Kind, Scalar, IsElement, constant_element, some_element, operand}
@@ -112,7 +112,7 @@ module _ (g : Gathers) (j : Judges g) (lawful : Lawful g j) (O : Breach → Type
   abbrev ChangesSo : {A : Type 0} → Thing → Result A g.Reported → Type 0
   ChangesSo x r = Checks g j lawful O (MayChange types p x) (NoChange x) r
 
-  pub unchanged : {A : Type 0} {x : Thing} → (MayChange types p x → ⊥) → ChangesSo {A = A} x (reported g at rule.NoVariable)
+  pub unchanged : {A : Type 0} {x : Thing} → (MayChange types p x → ⊥) → ChangesSo {A = A} x (report g at rule.NoVariable)
   unchanged n = stopped g j lawful O at rule.NoVariable n (n, refl) (λ f z. z.1)
 
   pub may_change : {A : Type 0} {x : Thing} (a : A) → MayChange types p x → ChangesSo x (Ok a)
@@ -124,7 +124,7 @@ module _ (g : Gathers) (j : Judges g) (lawful : Lawful g j) (O : Breach → Type
   no_shape : (t : TypeNo) {z : Shape} → shape_at types t ≡ None → IsMade types t z → ⊥
   no_shape t e m = let q = sym e ∙ m in absurd cc
 
-  scalar_by : (i : IsCounting p) (t : TypeNo) (d : Place) (z : Option Shape) → shape_at types t ≡ z → ChangesSo (AVariable t) (changed_as g at t d (class_of z))
+  scalar_by : (i : IsCounting p) (t : TypeNo) (d : Place) (z : Option Shape) → shape_at types t ≡ z → ChangesSo (AVariable t) (change_target_as g at t d (class_of z))
   scalar_by i t d None e = unchanged (λ m. no_shape t e (scalar_change types i m).1)
   scalar_by i t d (Some (shape.Scalar r)) e = may_change (t, d) (a_scalar i e)
   scalar_by i t d (Some shape.Set) e = unchanged (no_scalar i e (λ r q. absurd cc))
@@ -133,8 +133,8 @@ module _ (g : Gathers) (j : Judges g) (lawful : Lawful g j) (O : Breach → Type
   scalar_by i t d (Some (shape.Procedure h)) e = unchanged (no_scalar i e (λ r q. absurd cc))
   scalar_by i t d (Some (shape.Open u)) e = unchanged (no_scalar i e (λ r q. absurd cc))
 
-  pub changed_checks : IsCounting p → (a : Designated) (x : Thing) → IsThing a x → ChangesSo x (changed g types at a)
-  changed_checks i _ _ (thing_variable t d) = subst (λ (c : Class). ChangesSo (AVariable t) (changed_as g at t d c)) (sym (class_is types t)) (scalar_by i t d (shape_at types t) refl)
+  pub changed_checks : IsCounting p → (a : Designated) (x : Thing) → IsThing a x → ChangesSo x (change_target g types at a)
+  changed_checks i _ _ (thing_variable t d) = subst (λ (c : Class). ChangesSo (AVariable t) (change_target_as g at t d c)) (sym (class_is types t)) (scalar_by i t d (shape_at types t) refl)
   changed_checks i _ _ (thing_value k) = unchanged (λ m. elim m [ ])
   changed_checks i _ _ (thing_open t d) = unchanged (λ m. elim m [ ])
   changed_checks i _ _ (thing_type t) = unchanged (λ m. elim m [ ])
@@ -178,7 +178,7 @@ module _ (g : Gathers) (j : Judges g) (lawful : Lawful g j) (O : Breach → Type
   in_set_of i (a_number c m) = absurd (apart c i)
   in_set_of i (an_element c m s) = s
 
-  no_amount : {k : Kind} → (MayConvert k → ⊥) → AmountSo k (reported g at rule.WrongArgument)
+  no_amount : {k : Kind} → (MayConvert k → ⊥) → AmountSo k (report g at rule.WrongArgument)
   no_amount {k = k} n = stopped g j lawful O at rule.WrongArgument (λ m. n (is_number_of m)) (no_number n) (λ f z. one z)
     where
       one : {f : Breach} → Misamounts p at k f → f ≡ at ! rule.WrongArgument
@@ -216,7 +216,7 @@ module _ (g : Gathers) (j : Judges g) (lawful : Lawful g j) (O : Breach → Type
   amount_checks i kind_untaken = no_amount (λ m. m)
 
   -- INCL and EXCL
-  out_of_set : {k : Kind} → IsSetting p → MayConvert k → (InSet k → ⊥) → AmountSo k (reported g at rule.OutOfRange)
+  out_of_set : {k : Kind} → IsSetting p → MayConvert k → (InSet k → ⊥) → AmountSo k (report g at rule.OutOfRange)
   out_of_set {k = k} i m n = stopped g j lawful O at rule.OutOfRange (λ a. n (in_set_of i a)) (no_element i m n) (λ f z. one z)
     where
       one : {f : Breach} → Misamounts p at k f → f ≡ at ! rule.OutOfRange
@@ -287,7 +287,7 @@ module _ (g : Gathers) (j : Judges g) (lawful : Lawful g j) (names : Ident → S
   ActsSo at x xs r = Answers g j E {A = TypedStmt} {K = Unit {0}} (λ a u. Unit {0}) (λ u. A x xs) (λ f. M at x xs f ⊎ Any xs f) r
 
   pub refused_action : {x : Thing} {xs : List Expr} (at : Pos) (refused : Rule) → (A x xs → ⊥) → M at x xs (at ! refused) → ((f : Breach) → M at x xs f → f ≡ at ! refused) → ((y : Expr) → Among y xs → Found y)
-      → ActsSo at x xs (reported_beside g at refused (looked_at g s (map (meant g) xs)))
+      → ActsSo at x xs (reported_beside g at refused (breaches_in_all g s (map (meanings_of g) xs)))
   refused_action {x = x} {xs = xs} at refused n m only h = exact g j lawful E {M = λ u. ⊥} (λ k c. absurd c) (λ k c. n c) (λ f b. elim b [ inl e ↦ inl (subst (M at x xs) (sym e) m) | inr a ↦ inr a ]) (λ f b. elim b [ inl q ↦ inl (only f q) | inr a ↦ inr a ])
       (declined_beside g j lawful E at refused (λ u c. c) (look_tells g j lawful names exports s xs h))
 
@@ -317,7 +317,7 @@ module _ (g : Gathers) (j : Judges g) (lawful : Lawful g j) (names : Ident → S
   count_only {n = n} at f c q m = elim (miscounts at f q m) [ inl h ↦ absurd (h n c) | inr h ↦ h.2 ]
 
   -- another count
-  miscounted_action : {p : Standard} {xs : List Expr} {n : ℕ} (at : Pos) → HasCount p n → (HasCount p (length xs) → ⊥) → ((y : Expr) → Among y xs → Found y) → ActsSo at (AStandard p) xs (miscounted g s at (map (meant g) xs))
+  miscounted_action : {p : Standard} {xs : List Expr} {n : ℕ} (at : Pos) → HasCount p n → (HasCount p (length xs) → ⊥) → ((y : Expr) → Among y xs → Found y) → ActsSo at (AStandard p) xs (wrong_count g s at (map (meanings_of g) xs))
   miscounted_action at c q h = refused_action at rule.ArgumentCount (λ a. q (acts_count a)) (rules.wrong_count (standard c) (λ i. q (standard_count i))) (λ f m. count_only at f c q m) h
 
   function_only : {p : Standard} {xs : List Expr} (at : Pos) (f : Breach) → ((n : ℕ) → HasCount p n → ⊥) → M at (AStandard p) xs f → f ≡ at ! rule.WrongType
@@ -330,7 +330,7 @@ module _ (g : Gathers) (j : Judges g) (lawful : Lawful g j) (names : Ident → S
   function_only at f q (rules.no_character m z) = absurd (q 1 to_put)
 
   -- functions are no statements
-  function_action : {p : Standard} {xs : List Expr} (at : Pos) → ((n : ℕ) → HasCount p n → ⊥) → ((y : Expr) → Among y xs → Found y) → ActsSo at (AStandard p) xs (function_done g s at (map (meant g) xs))
+  function_action : {p : Standard} {xs : List Expr} (at : Pos) → ((n : ℕ) → HasCount p n → ⊥) → ((y : Expr) → Among y xs → Found y) → ActsSo at (AStandard p) xs (function_done g s at (map (meanings_of g) xs))
   function_action {xs = xs} at q h = refused_action at rule.WrongType (λ a. q (length xs) (acts_count a)) (rules.no_procedure (λ e. absurd cc) (λ n i. q n (standard_count i))) (λ f m. function_only at f q m) h
 
   -- ---- the arguments
@@ -347,20 +347,20 @@ module _ (g : Gathers) (j : Judges g) (lawful : Lawful g j) (names : Ident → S
   abbrev AmountFails : Standard → Expr → Breach → Type 0
   AmountFails p e f = V e f ⊎ ((k : Kind) × H e k × Misamounts p (first e) (operand k) f)
 
-  counted_variable : {p : Standard} {v : Expr} → IsCounting p → IsPlain v → Found v → Checks g j lawful E {A = TypeNo × Place} (Variable p v) (VariableFails p v) (changed_in g s (meant g v))
-  counted_variable {p = p} {v = v} c i h = subst (λ (at : Pos). Checks g j lawful E {A = TypeNo × Place} (Variable p v) (VariableFails p v) (of_sort g at rule.NoVariable ((meant g v).means s) ▷ changed g s.types at)) (sym (at_is g i))
+  counted_variable : {p : Standard} {v : Expr} → IsCounting p → IsPlain v → Found v → Checks g j lawful E {A = TypeNo × Place} (Variable p v) (VariableFails p v) (change_target_in g s (meanings_of g v))
+  counted_variable {p = p} {v = v} c i h = subst (λ (at : Pos). Checks g j lawful E {A = TypeNo × Place} (Variable p v) (VariableFails p v) (of_sort g at rule.NoVariable ((meanings_of g v).means s) ▷ change_target g s.types at)) (sym (at_is g i))
       (sort_checks g j lawful E (first v) rule.NoVariable h (changed_checks g j lawful E s.types p (first v) c) (unchanged g j lawful E s.types p (first v) (λ m. elim m [ ])))
 
-  set_variable_checks : {p : Standard} {v : Expr} → IsSetting p → IsPlain v → Found v → Checks g j lawful E {A = Place} (Variable p v) (VariableFails p v) (set_in g s (meant g v))
-  set_variable_checks {p = p} {v = v} c i h = subst (λ (at : Pos). Checks g j lawful E {A = Place} (Variable p v) (VariableFails p v) (of_sort g at rule.NoVariable ((meant g v).means s) ▷ set_variable g s.types at)) (sym (at_is g i))
+  set_variable_checks : {p : Standard} {v : Expr} → IsSetting p → IsPlain v → Found v → Checks g j lawful E {A = Place} (Variable p v) (VariableFails p v) (set_in g s (meanings_of g v))
+  set_variable_checks {p = p} {v = v} c i h = subst (λ (at : Pos). Checks g j lawful E {A = Place} (Variable p v) (VariableFails p v) (of_sort g at rule.NoVariable ((meanings_of g v).means s) ▷ set_variable g s.types at)) (sym (at_is g i))
       (sort_checks g j lawful E (first v) rule.NoVariable h (set_checks g j lawful E s.types p (first v) c) (unchanged g j lawful E s.types p (first v) (λ m. elim m [ ])))
 
-  amount_of : {p : Standard} {e : Expr} → IsCounting p → IsPlain e → Found e → Checks g j lawful E {A = TypedExpr} (Amount p e) (AmountFails p e) (value_of g s (meant g e) ▷ amount g (meant g e).fixed.at)
-  amount_of {p = p} {e = e} c i h = subst (λ (at : Pos). Checks g j lawful E {A = TypedExpr} (Amount p e) (AmountFails p e) (value_of g s (meant g e) ▷ amount g at)) (sym (at_is g i))
+  amount_of : {p : Standard} {e : Expr} → IsCounting p → IsPlain e → Found e → Checks g j lawful E {A = TypedExpr} (Amount p e) (AmountFails p e) (value_of g s (meanings_of g e) ▷ amount g (meanings_of g e).fixed.at)
+  amount_of {p = p} {e = e} c i h = subst (λ (at : Pos). Checks g j lawful E {A = TypedExpr} (Amount p e) (AmountFails p e) (value_of g s (meanings_of g e) ▷ amount g at)) (sym (at_is g i))
       (then_check g j lawful E {P = λ k. IsAmount p (operand k)} {D = λ k f. Misamounts p (first e) (operand k) f} (valued g j lawful names exports s i h) (λ v k q. amount_checks g j lawful E s.types p (first e) c q))
 
-  element_of : {p : Standard} {e : Expr} → IsSetting p → IsPlain e → Found e → Checks g j lawful E {A = TypedExpr} (Amount p e) (AmountFails p e) (value_of g s (meant g e) ▷ element g (meant g e).fixed.at)
-  element_of {p = p} {e = e} c i h = subst (λ (at : Pos). Checks g j lawful E {A = TypedExpr} (Amount p e) (AmountFails p e) (value_of g s (meant g e) ▷ element g at)) (sym (at_is g i))
+  element_of : {p : Standard} {e : Expr} → IsSetting p → IsPlain e → Found e → Checks g j lawful E {A = TypedExpr} (Amount p e) (AmountFails p e) (value_of g s (meanings_of g e) ▷ element g (meanings_of g e).fixed.at)
+  element_of {p = p} {e = e} c i h = subst (λ (at : Pos). Checks g j lawful E {A = TypedExpr} (Amount p e) (AmountFails p e) (value_of g s (meanings_of g e) ▷ element g at)) (sym (at_is g i))
       (then_check g j lawful E {P = λ k. IsAmount p (operand k)} {D = λ k f. Misamounts p (first e) (operand k) f} (valued g j lawful names exports s i h) (λ v k q. element_checks g j lawful E s.types p (first e) c q))
 
   -- ---- INC and DEC by 1
@@ -389,7 +389,7 @@ module _ (g : Gathers) (j : Judges g) (lawful : Lawful g j) (names : Ident → S
   any_one f (v, here, b) = b
   any_one f (v, later m, b) = elim m [ ]
 
-  one_action : {p : Standard} {v : Expr} (at : Pos) (o : Change) → IsCounting p → IsPlain v → Found v → ActsSo at (AStandard p) (v ∷ []) (change_by g o (changed_in g s (meant g v)) (Ok (expr.Constant cardinal (pos 1))))
+  one_action : {p : Standard} {v : Expr} (at : Pos) (o : Change) → IsCounting p → IsPlain v → Found v → ActsSo at (AStandard p) (v ∷ []) (change_by g o (change_target_in g s (meanings_of g v)) (Ok (expr.Constant cardinal (pos 1))))
   one_action {p = p} {v = v} at o c i h = exact g j lawful E {M = λ u. Variable p v × Unit {0}} {B = λ f. VariableFails p v f ⊎ ⊥} (λ u z. counts c z.0.1 z.0.2) (λ u z. (one_out z c, tt)) (λ f z. one_in at f c z)
       (λ f z. elim z [ inl m ↦ one_fails at f c m | inr a ↦ inl (inl (any_one f a)) ])
       (checks_answer g j lawful E (map_checks g j lawful E (λ (q : (TypeNo × Place) × TypedExpr). statement.Change o q.0.1 q.0.0 q.1) (both_checks g j lawful E (counted_variable c i h) (passes (expr.Constant cardinal (pos 1)) tt (λ f b. b)))))
@@ -428,7 +428,7 @@ module _ (g : Gathers) (j : Judges g) (lawful : Lawful g j) (names : Ident → S
   two_action {p = p} {v = v} {e = e} at c i t h = exact g j lawful E {M = λ u. Variable p v × Amount p e} {B = λ f. VariableFails p v f ⊎ AmountFails p e f} (λ u z. changes z.0.1 z.0.2 z.1.1 z.1.2) (λ u z. two_out z) (λ f z. two_in at f i t z)
       (λ f z. elim z [ inl m ↦ two_fails at f c m | inr a ↦ any_two f a ]) (checks_answer g j lawful E h)
 
-  change_action : {p : Standard} (at : Pos) (o : Change) (xs : List Expr) → IsCounting p → ((y : Expr) → Among y xs → IsPlain y) → ((y : Expr) → Among y xs → Found y) → ActsSo at (AStandard p) xs (changed_by g s at o (map (meant g) xs))
+  change_action : {p : Standard} (at : Pos) (o : Change) (xs : List Expr) → IsCounting p → ((y : Expr) → Among y xs → IsPlain y) → ((y : Expr) → Among y xs → Found y) → ActsSo at (AStandard p) xs (change_statement g s at o (map (meanings_of g) xs))
   change_action at o [] c i h = miscounted_action at (counting_one c) (λ q. no_zero c q) h
     where
       no_zero : {p : Standard} → IsCounting p → HasCount p 0 → ⊥
@@ -443,7 +443,7 @@ module _ (g : Gathers) (j : Judges g) (lawful : Lawful g j) (names : Ident → S
       too_many by_inc q = elim q [ ]
       too_many by_dec q = elim q [ ]
 
-  set_action : {p : Standard} (at : Pos) (o : Membership) (xs : List Expr) → IsSetting p → ((y : Expr) → Among y xs → IsPlain y) → ((y : Expr) → Among y xs → Found y) → ActsSo at (AStandard p) xs (member_by g s at o (map (meant g) xs))
+  set_action : {p : Standard} (at : Pos) (o : Membership) (xs : List Expr) → IsSetting p → ((y : Expr) → Among y xs → IsPlain y) → ((y : Expr) → Among y xs → Found y) → ActsSo at (AStandard p) xs (member_by g s at o (map (meanings_of g) xs))
   set_action at o [] c i h = miscounted_action at (setting_two c) (λ q. no_zero c q) h
     where
       no_zero : {p : Standard} → IsSetting p → HasCount p 0 → ⊥
@@ -472,7 +472,7 @@ module _ (g : Gathers) (j : Judges g) (lawful : Lawful g j) (names : Ident → S
   no_halt at f (rules.no_value (an_amount t) m z) = elim t [ ]
   no_halt at f (rules.misamounts t m z) = elim t [ ]
 
-  halt_action : (at : Pos) (xs : List Expr) → ((y : Expr) → Among y xs → Found y) → ActsSo at (AStandard Halt) xs (halted g s at (map (meant g) xs))
+  halt_action : (at : Pos) (xs : List Expr) → ((y : Expr) → Among y xs → Found y) → ActsSo at (AStandard Halt) xs (halt_statement g s at (map (meanings_of g) xs))
   halt_action at [] h = checks_answer g j lawful E (passes statement.Halt halts (λ f z. elim z [ inl m ↦ no_halt at f m | inr a ↦ elim a.1 [ ] ]))
   halt_action at (x ∷ xs) h = miscounted_action at to_halt (λ q. elim q [ ]) h
 
@@ -502,9 +502,9 @@ module _ (g : Gathers) (j : Judges g) (lawful : Lawful g j) (names : Ident → S
   put_in at f (inl (mistaken m z)) = inl (rules.no_value of_put m z)
   put_in at f (inr (k, m, z)) = inl (rules.no_character m z)
 
-  put_action : (at : Pos) (xs : List Expr) → ((y : Expr) → Among y xs → IsPlain y) → ((y : Expr) → Among y xs → Found y) → ActsSo at (AStandard Put) xs (put_by g s at (map (meant g) xs))
+  put_action : (at : Pos) (xs : List Expr) → ((y : Expr) → Among y xs → IsPlain y) → ((y : Expr) → Among y xs → Found y) → ActsSo at (AStandard Put) xs (put_by g s at (map (meanings_of g) xs))
   put_action at [] i h = miscounted_action at to_put (λ q. elim q [ ]) h
-  put_action at (e ∷ []) i h = subst (λ (p : Pos). ActsSo at (AStandard Put) (e ∷ []) (value_of g s (meant g e) ▷ put g s.types p)) (sym (at_is g (i e here)))
+  put_action at (e ∷ []) i h = subst (λ (p : Pos). ActsSo at (AStandard Put) (e ∷ []) (value_of g s (meanings_of g e) ▷ put g s.types p)) (sym (at_is g (i e here)))
       (exact g j lawful E {M = λ u. PutOf e} {B = PutFails e} (λ u z. puts z.1 z.2) (λ u z. put_out z) (λ f z. put_in at f z) (λ f z. elim z [ inl m ↦ put_fails at f m | inr a ↦ inl (broken (any_one f a)) ])
       (checks_answer g j lawful E (then_check g j lawful E {P = λ k. IsAssignable s.types char (operand k)} {D = λ k f. Misassigned s.types char (first e) rule.WrongArgument (operand k) f} (valued g j lawful names exports s (i e here) (h e here))
       (λ v k q. map_checks g j lawful E (λ x. statement.Put x) (value_suits s.types char g j lawful E rule.WrongArgument (first e) q)))))
@@ -512,7 +512,7 @@ module _ (g : Gathers) (j : Judges g) (lawful : Lawful g j) (names : Ident → S
 
   -- ---- all of them
 
-  pub standard_acts : (p : Standard) (at : Pos) (xs : List Expr) → ((y : Expr) → Among y xs → IsPlain y) → ((y : Expr) → Among y xs → Found y) → ActsSo at (AStandard p) xs (standard_done g s at (map (meant g) xs) p)
+  pub standard_acts : (p : Standard) (at : Pos) (xs : List Expr) → ((y : Expr) → Among y xs → IsPlain y) → ((y : Expr) → Among y xs → Found y) → ActsSo at (AStandard p) xs (standard_done g s at (map (meanings_of g) xs) p)
   standard_acts Abs at xs i h = function_action at (λ n c. elim c [ ]) h
   standard_acts Cap at xs i h = function_action at (λ n c. elim c [ ]) h
   standard_acts Chr at xs i h = function_action at (λ n c. elim c [ ]) h

@@ -19,7 +19,7 @@ use Rattle.typed_tree.specs.declared.statement.TypedArm.{TypedArm}
 use Rattle.check_scope.specs.declared.scope.Scope.{Scope}
 use Rattle.check_scope.specs.Elaborated.{Gathers}
 use Rattle.check_stmt_parts.specs.declared.around.Around.{Around}
-use Rattle.check_stmt_parts.specs.Lists.{base_in, cased}
+use Rattle.check_stmt_parts.specs.Lists.{base_in, case_statement}
 use Rattle.check_stmt.specs.Statements.{Elaborates, ElaboratesRest, ElaboratesArm, with_arm, arms_of, all_of, stmt_layer, rest_layer, arm_layer, stmt, rest, arm}
 use Rattle.def_typing.specs.Things.{Standing}
 use Rattle.def_typing.specs.Parts.{Among, here, later}
@@ -195,7 +195,7 @@ module _ (g : Gathers) (j : Judges g) (lawful : Lawful g j) (exports : ℕ → I
 
     pub case_checks : {r : Result (TypeNo × TypedExpr) g.Reported} {o : Result (Option (List TypedStmt)) g.Reported} → Answers g j (Repeats g j w.names s) (λ (v : TypeNo × TypedExpr) (t : TypeNo). v.0 ≡ t) Selector NoSelector r
         → ArePlainLabels (labels_of xs) → ((x : Arm) → Among x xs → BodySo x) → Checks g j lawful U {A = Option (List TypedStmt)} Else ElseBreaks o
-        → CaseSo (cased g r (arms_of g s a (base_in r) (map (arm g) xs)) o)
+        → CaseSo (case_statement g r (arms_of g s a (base_in r) (map (arm g) xs)) o)
     case_checks (means v t i m u n) p h o = checks_as g j lawful U
         (λ z. rules.selection (subst Selector (sym i) m) z.1.0.0 z.1.0.1 z.1.1)
         (λ z. let q = case_parts z in (tt, (subst (λ (base : TypeNo). Arms (Some base) [] xs) (u q.0 q.1 ∙ sym i) q.2.0, q.2.1)))

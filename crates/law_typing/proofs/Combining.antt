@@ -6,7 +6,7 @@ use Rattle.m2_tree.specs.declared.pos.Pos.{Pos}
 use Rattle.m2_rule.specs.declared.breach.Breach.{Breach}
 use Rattle.check_scope.specs.declared.meaningless.Meaningless.{Meaningless}
 use Rattle.check_scope.specs.declared.meaningless.Meaningless.TheVariants as meaningless
-use Rattle.check_scope.specs.Elaborated.{Gathers, reported, reported_where, both, beside, reported_beside, refusal_beside, ahead, of_sort, of_heading, plain, ◌▷◌}
+use Rattle.check_scope.specs.Elaborated.{Gathers, report, reported_where, both, beside, reported_beside, refusal_beside, ahead, of_sort, of_heading, plain, ◌▷◌}
 use Rattle.check_operator.specs.declared.computed.Computed.{Computed}
 use Rattle.check_operator.specs.declared.computed.Designated.{Designated}
 use Rattle.check_operator.specs.declared.computed.Designated.TheVariants as designated
@@ -59,7 +59,7 @@ module _ (g : Gathers) (j : Judges g) (l : Lawful g j) (O : Breach → Type 0) w
   pub fine : {A K : Type 0} {Is : A → K → Type 0} (a : A) (k : K) → Is a k → Answers g j O Is (λ l. l ≡ k) (λ f. ⊥) (Ok a)
   fine a k i = means a k i refl (λ l e. e) (λ f b. b)
 
-  pub declined : {A K : Type 0} {Is : A → K → Type 0} {M : K → Type 0} {B : Breach → Type 0} (at : Pos) (broken : Rule) → ((k : K) → M k → ⊥) → B (at ! broken) → ((f : Breach) → B f → f ≡ at ! broken) → Answers g j O Is M B (reported g at broken)
+  pub declined : {A K : Type 0} {Is : A → K → Type 0} {M : K → Type 0} {B : Breach → Type 0} (at : Pos) (broken : Rule) → ((k : K) → M k → ⊥) → B (at ! broken) → ((f : Breach) → B f → f ≡ at ! broken) → Answers g j O Is M B (report g at broken)
   declined {B = B} at broken n b only = refuses (g.one (at ! broken)) (accounts_as (λ f e. subst B (sym e) b) only (accounts_one (at ! broken))) n
 
   -- the same with other words
@@ -106,7 +106,7 @@ module _ (g : Gathers) (j : Judges g) (l : Lawful g j) (O : Breach → Type 0) w
   pub no_check : {A P : Type 0} {B : Breach → Type 0} (a : A) → P → ((f : Breach) → B f → ⊥) → Checks P B (Ok a)
   no_check a p n = passes a p n
 
-  pub stopped : {A P : Type 0} {B : Breach → Type 0} (at : Pos) (broken : Rule) → (P → ⊥) → B (at ! broken) → ((f : Breach) → B f → f ≡ at ! broken) → Checks {A = A} P B (reported g at broken)
+  pub stopped : {A P : Type 0} {B : Breach → Type 0} (at : Pos) (broken : Rule) → (P → ⊥) → B (at ! broken) → ((f : Breach) → B f → f ≡ at ! broken) → Checks {A = A} P B (report g at broken)
   stopped {B = B} at broken n b only = stops (g.one (at ! broken)) (accounts_as (λ f e. subst B (sym e) b) only (accounts_one (at ! broken))) n
 
   pub where_checks : {A P : Type 0} (a : A) (b : Bool) (at : Pos) (broken : Rule) → Decided P b → Checks {A = A} P (λ f. (P → ⊥) × (f ≡ at ! broken)) (reported_where g (not b) at broken (Ok a))
@@ -198,7 +198,7 @@ module _ (g : Gathers) (j : Judges g) (l : Lawful g j) (O : Breach → Type 0) w
 
   -- a rule that looks at what sort of thing it is
   pub sort_answers : {A K : Type 0} {Is : A → K → Type 0} {S : Thing → Type 0} {N : Thing → K → Type 0} {B : Breach → Type 0} {D : Thing → Breach → Type 0} {d : Result Designated (Meaningless g.Reported)} {h : Designated → Result A g.Reported} (at : Pos) (broken : Rule)
-      → Finds S B d → ((a : Designated) (x : Thing) → IsThing a x → Answers g j O Is (N x) (D x) (h a)) → Answers g j O Is (N Headless) (D Headless) (reported g at broken)
+      → Finds S B d → ((a : Designated) (x : Thing) → IsThing a x → Answers g j O Is (N x) (D x) (h a)) → Answers g j O Is (N Headless) (D Headless) (report g at broken)
       → Answers g j O Is (λ k. (x : Thing) × S x × N x k) (λ f. B f ⊎ ((x : Thing) × S x × D x f)) (of_sort g at broken d ▷ h)
   sort_answers {N = N} {D = D} at broken (finds a x i s u n) next without = exact (λ l y. (x, s, y)) (λ l y. subst (λ x. N x l) (u y.0 y.1) y.2) (λ f y. inr (x, s, y))
       (λ f y. elim y [ inl c ↦ absurd (n f c) | inr e ↦ subst (λ x. D x f) (u e.0 e.1) e.2 ]) (next a x i)
@@ -219,7 +219,7 @@ module _ (g : Gathers) (j : Judges g) (l : Lawful g j) (O : Breach → Type 0) w
 
   -- the same of conditions
   pub sort_checks : {A : Type 0} {S : Thing → Type 0} {P : Thing → Type 0} {B : Breach → Type 0} {D : Thing → Breach → Type 0} {d : Result Designated (Meaningless g.Reported)} {h : Designated → Result A g.Reported} (at : Pos) (broken : Rule)
-      → Finds S B d → ((a : Designated) (x : Thing) → IsThing a x → Checks (P x) (D x) (h a)) → Checks {A = A} (P Headless) (D Headless) (reported g at broken)
+      → Finds S B d → ((a : Designated) (x : Thing) → IsThing a x → Checks (P x) (D x) (h a)) → Checks {A = A} (P Headless) (D Headless) (report g at broken)
       → Checks ((x : Thing) × S x × P x) (λ f. B f ⊎ ((x : Thing) × S x × D x f)) (of_sort g at broken d ▷ h)
   sort_checks {P = P} {D = D} at broken (finds a x i s u n) next without = checks_as (λ y. (x, s, y)) (λ y. subst P (u y.0 y.1) y.2) (λ f y. inr (x, s, y))
       (λ f y. elim y [ inl c ↦ absurd (n f c) | inr e ↦ subst (λ x. D x f) (u e.0 e.1) e.2 ]) (next a x i)

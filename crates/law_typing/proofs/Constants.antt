@@ -26,18 +26,18 @@ use Rattle.typed_tree.specs.Types.{are_same, bitset, char}
 use Rattle.m2_rule.specs.declared.breach.Breach.{Breach}
 use Rattle.check_scope.specs.declared.meaningless.Meaningless.{Meaningless}
 use Rattle.check_scope.specs.declared.scope.Scope.{Scope}
-use Rattle.check_scope.specs.Elaborated.{Gathers, reported, of_sort, ◌▷◌}
+use Rattle.check_scope.specs.Elaborated.{Gathers, report, of_sort, ◌▷◌}
 use Rattle.check_scope.specs.Scopes.{looked_up}
 use Rattle.check_const_ops.specs.declared.operator.BinaryOp.TheVariants as op
-use Rattle.check_const_ops.specs.Operands.{valued}
+use Rattle.check_const_ops.specs.Operands.{number_value}
 use Rattle.check_const_ops.specs.Operate as operate
-use Rattle.check_const_ops.specs.Sets.{is_element, spanned, with_span}
+use Rattle.check_const_ops.specs.Sets.{is_element, span_of, with_span}
 use Rattle.check_const.specs.declared.denoted.Denoted.{Denoted}
 use Rattle.check_const.specs.declared.denoted.Denoted.TheVariants as denoted
 use Rattle.check_const.specs.Denote.{as_constant, of_value, is_bitset}
 use Rattle.check_const.specs.Parts as constants
 use Rattle.check_const.specs.Parts.{Adds as ItemAdds}
-use Rattle.check_expr.specs.Meanings.{Meant, Picks, meant, picks, head, item, expr_layer, selector_layer, designator_layer, item_layer}
+use Rattle.check_expr.specs.Meanings.{Meant, Picks, meanings_of, picks, head, item, expr_layer, selector_layer, designator_layer, item_layer}
 use Rattle.def_typing.specs.Amounts.{Constant, GoTogether, Within}
 use Rattle.def_typing.specs.Operators.{◌!◌, Kind, Scalar, Set, Text, operand, Makes, Misused, Misapplied, MaySign, SignMakes, Negates}
 use Rattle.def_typing.specs.Things.{Thing, AValue, AVariable, AnOpenArray, AType, AProcedure, ANested, AStandard, AModule, Headless, Standing, Known, Ahead, Undeclared, NotExported, Unknown, Misnamed, undeclared}
@@ -70,18 +70,18 @@ module _ (g : Gathers) (j : Judges g) (lawful : Lawful g j) (names : Ident → S
   Fails = FixedFails s.types names exports
 
   abbrev pub FixedFound : Expr → Type 0
-  FixedFound e = Answers g j O IsFixed (F e) (B e) ((meant g e).fixed.denotes s)
+  FixedFound e = Answers g j O IsFixed (F e) (B e) ((meanings_of g e).fixed.denotes s)
 
   -- what is broken in an expression that has to be constant
   abbrev pub ConstBroken : Expr → Breach → Type 0
   ConstBroken e f = B e f ⊎ ((x : Fixed) × F e x × (((k : Kind) → x ≡ AConstant k → ⊥) × (f ≡ first e ! rule.NoConstant)))
 
   abbrev ConstValued : Expr → Type 0
-  ConstValued e = Answers g j O IsConst (λ k. F e (AConstant k)) (ConstBroken e) (constants.constant g s (meant g e).fixed)
+  ConstValued e = Answers g j O IsConst (λ k. F e (AConstant k)) (ConstBroken e) (constants.constant g s (meanings_of g e).fixed)
 
   const_valued : {e : Expr} → IsCallFree e → FixedFound e → ConstValued e
   const_valued {e = e} i h = exact g j lawful O {M = λ k. (x : Fixed) × F e x × (x ≡ AConstant k)} {B = ConstBroken e} (λ k m. subst (F e) m.2 m.1) (λ k m. (AConstant k, m, refl)) (λ f b. b) (λ f b. b)
-      (subst (λ (at : Pos). Answers g j O IsConst (λ k. (x : Fixed) × F e x × (x ≡ AConstant k)) (ConstBroken e) ((meant g e).fixed.denotes s ▷ as_constant g at)) (sym (free_at g i))
+      (subst (λ (at : Pos). Answers g j O IsConst (λ k. (x : Fixed) × F e x × (x ≡ AConstant k)) (ConstBroken e) ((meanings_of g e).fixed.denotes s ▷ as_constant g at)) (sym (free_at g i))
       (then_answer g j lawful O {N = λ x k. x ≡ AConstant k} {D = λ x f. ((k : Kind) → x ≡ AConstant k → ⊥) × (f ≡ first e ! rule.NoConstant)} h (as_constant_answers g j lawful O (first e))))
 
   -- ---- layers
@@ -126,7 +126,7 @@ module _ (g : Gathers) (j : Judges g) (lawful : Lawful g j) (names : Ident → S
       none f (inr (x, rules.an_inner i, b)) = elim i [ ]
 
   character_fixed : {e : Expr} (at : Pos) (c : ℕ) → out-Expr e ≡ layer.Char at c → FixedFound e
-  character_fixed at c h = literal_fixed (layer.Char at c) (valued (Some char) (pos c)) h refl rules.fixed_character one none
+  character_fixed at c h = literal_fixed (layer.Char at c) (number_value (Some char) (pos c)) h refl rules.fixed_character one none
     where
       one : (x : Fixed) → R (layer.Char at c) x → x ≡ AConstant (Scalar (Constant (Some char) (pos c)))
       one _ rules.fixed_character = refl
@@ -162,7 +162,7 @@ module _ (g : Gathers) (j : Judges g) (lawful : Lawful g j) (names : Ident → S
       out f (inr (x, rules.an_inner i, b)) = elim i [ ]
 
   not_fixed : {e : Expr} (at : Pos) (x : Expr) → out-Expr e ≡ layer.Not at x → IsCallFree x → FixedFound x → FixedFound e
-  not_fixed at x h i q = const_layer (layer.Not at x) (operate.negated g at (constants.constant g s (meant g x).fixed)) h refl (λ k m. rules.fixed_negated m.1 m.2) reads into out
+  not_fixed at x h i q = const_layer (layer.Not at x) (operate.negation g at (constants.constant g s (meanings_of g x).fixed)) h refl (λ k m. rules.fixed_negated m.1 m.2) reads into out
       (then_answer g j lawful O {N = Negates} {D = λ a f. ((k : Kind) → Negates a k → ⊥) × (f ≡ at ! rule.WrongType)} (const_valued i q) (λ v k i. const_negated g j lawful O at i))
     where
       reads : (y : Fixed) → R (layer.Not at x) y → (k : Kind) × ((a : Kind) × F x (AConstant a) × Negates a k) × (y ≡ AConstant k)
@@ -178,7 +178,7 @@ module _ (g : Gathers) (j : Judges g) (lawful : Lawful g j) (names : Ident → S
       out f (inr (y, (rules.an_inner parts.in_not), b)) = inl (inl b)
 
   brackets_fixed : {e : Expr} (at : Pos) (x : Expr) → out-Expr e ≡ layer.Bracketed at x → IsCallFree x → FixedFound x → FixedFound e
-  brackets_fixed at x h i q = const_layer (layer.Bracketed at x) (constants.constant g s (meant g x).fixed) h refl (λ k m. rules.fixed_brackets m) reads (λ f b. part_broken (rules.an_inner parts.in_brackets) b) out (const_valued i q)
+  brackets_fixed at x h i q = const_layer (layer.Bracketed at x) (constants.constant g s (meanings_of g x).fixed) h refl (λ k m. rules.fixed_brackets m) reads (λ f b. part_broken (rules.an_inner parts.in_brackets) b) out (const_valued i q)
     where
       reads : (y : Fixed) → R (layer.Bracketed at x) y → (k : Kind) × F x (AConstant k) × (y ≡ AConstant k)
       reads _ (rules.fixed_brackets {k = k} m) = (k, m, refl)
@@ -188,10 +188,10 @@ module _ (g : Gathers) (j : Judges g) (lawful : Lawful g j) (names : Ident → S
       out f (inr (y, (rules.an_inner parts.in_brackets), b)) = inl b
 
   relation_fixed : {e : Expr} (a : Expr) (o : Operator RelOp) (b : Expr) → out-Expr e ≡ layer.Relation a o b → IsCallFree a → IsCallFree b → FixedFound a → FixedFound b → FixedFound e
-  relation_fixed a o b h i k p q = const_layer (layer.Relation a o b) (operate.combined g (op.Relation o.op) o.pos (meant g a).fixed.at (constants.constant g s (meant g a).fixed) (meant g b).fixed.at (constants.constant g s (meant g b).fixed)) h refl
+  relation_fixed a o b h i k p q = const_layer (layer.Relation a o b) (operate.constant_operation g (op.Relation o.op) o.pos (meanings_of g a).fixed.at (constants.constant g s (meanings_of g a).fixed) (meanings_of g b).fixed.at (constants.constant g s (meanings_of g b).fixed)) h refl
       (λ l m. rules.fixed_relation m.1.0 m.1.1 m.2) reads into out
-      (subst (λ (t : Pos). Answers g j O IsConst Related Breaks (operate.combined g (op.Relation o.op) o.pos t (constants.constant g s (meant g a).fixed) (meant g b).fixed.at (constants.constant g s (meant g b).fixed))) (sym (free_at g i))
-      (subst (λ (t : Pos). Answers g j O IsConst Related Breaks (operate.combined g (op.Relation o.op) o.pos (first a) (constants.constant g s (meant g a).fixed) t (constants.constant g s (meant g b).fixed))) (sym (free_at g k))
+      (subst (λ (t : Pos). Answers g j O IsConst Related Breaks (operate.constant_operation g (op.Relation o.op) o.pos t (constants.constant g s (meanings_of g a).fixed) (meanings_of g b).fixed.at (constants.constant g s (meanings_of g b).fixed))) (sym (free_at g i))
+      (subst (λ (t : Pos). Answers g j O IsConst Related Breaks (operate.constant_operation g (op.Relation o.op) o.pos (first a) (constants.constant g s (meanings_of g a).fixed) t (constants.constant g s (meanings_of g b).fixed))) (sym (free_at g k))
       (then_answer g j lawful O {N = λ c l. Makes s.types (op.Relation o.op) (operand c.0) (operand c.1) l} {D = λ c f. Misused s.types (op.Relation o.op) o.pos (first a) (first b) (operand c.0) (operand c.1) f}
       (both_answer g j lawful O (const_valued i p) (const_valued k q)) (λ v c w. const_operated g j lawful O s.types (op.Relation o.op) o.pos (first a) (first b) w.0 w.1))))
     where
@@ -219,15 +219,15 @@ module _ (g : Gathers) (j : Judges g) (lawful : Lawful g j) (names : Ident → S
   -- ---- operators one after another
 
   abbrev step : Pos → Result ConstantValue g.Reported → Operand → Result ConstantValue g.Reported
-  step left v x = operate.combined g x.op x.spot left v (meant g x.of).fixed.at (constants.constant g s (meant g x.of).fixed)
+  step left v x = operate.constant_operation g x.op x.spot left v (meanings_of g x.of).fixed.at (constants.constant g s (meanings_of g x.of).fixed)
 
   fold_factors : (left : Pos) (rest : List (Operator MulOp × Expr)) (v : Result ConstantValue g.Reported)
-      → fold (constants.factor g s left) v (map (λ (x : Operator MulOp × Meant g.Reported). (x.0, x.1.fixed)) (map (λ (x : Operator MulOp × Expr). (x.0, meant g x.1)) rest)) ≡ fold (step left) v (factors rest)
+      → fold (constants.factor g s left) v (map (λ (x : Operator MulOp × Meant g.Reported). (x.0, x.1.fixed)) (map (λ (x : Operator MulOp × Expr). (x.0, meanings_of g x.1)) rest)) ≡ fold (step left) v (factors rest)
   fold_factors left [] v = refl
   fold_factors left (x ∷ xs) v = fold_factors left xs _
 
   fold_addends : (left : Pos) (rest : List (Operator AddOp × Expr)) (v : Result ConstantValue g.Reported)
-      → fold (constants.term g s left) v (map (λ (x : Operator AddOp × Meant g.Reported). (x.0, x.1.fixed)) (map (λ (x : Operator AddOp × Expr). (x.0, meant g x.1)) rest)) ≡ fold (step left) v (addends rest)
+      → fold (constants.term g s left) v (map (λ (x : Operator AddOp × Meant g.Reported). (x.0, x.1.fixed)) (map (λ (x : Operator AddOp × Expr). (x.0, meanings_of g x.1)) rest)) ≡ fold (step left) v (addends rest)
   fold_addends left [] v = refl
   fold_addends left (x ∷ xs) v = fold_addends left xs _
 
@@ -247,7 +247,7 @@ module _ (g : Gathers) (j : Judges g) (lawful : Lawful g j) (names : Ident → S
   StepFails P Q left x f = (Q f ⊎ ConstBroken x.of f) ⊎ ((k : Kind × Kind) × (P k.0 × F x.of (AConstant k.1)) × Misused s.types x.op x.spot left (first x.of) (operand k.0) (operand k.1) f)
 
   step_answers : {P : Kind → Type 0} {Q : Breach → Type 0} {v : Result ConstantValue g.Reported} (left : Pos) (x : Operand) → IsCallFree x.of → FixedFound x.of → Answers g j O IsConst P Q v → Answers g j O IsConst (Stepped P x) (StepFails P Q left x) (step left v x)
-  step_answers {P = P} {Q = Q} {v = v} left x i h a = subst (λ (at : Pos). Answers g j O IsConst (Stepped P x) (StepFails P Q left x) (operate.combined g x.op x.spot left v at (constants.constant g s (meant g x.of).fixed))) (sym (free_at g i))
+  step_answers {P = P} {Q = Q} {v = v} left x i h a = subst (λ (at : Pos). Answers g j O IsConst (Stepped P x) (StepFails P Q left x) (operate.constant_operation g x.op x.spot left v at (constants.constant g s (meanings_of g x.of).fixed))) (sym (free_at g i))
       (then_answer g j lawful O {N = λ k c. Makes s.types x.op (operand k.0) (operand k.1) c} {D = λ k f. Misused s.types x.op x.spot left (first x.of) (operand k.0) (operand k.1) f}
       (both_answer g j lawful O a (const_valued i h)) (λ p k i. const_operated g j lawful O s.types x.op x.spot left (first x.of) i.0 i.1))
 
@@ -289,8 +289,8 @@ module _ (g : Gathers) (j : Judges g) (lawful : Lawful g j) (names : Ident → S
       (chain_answers xs {P = Stepped P x} {Q = StepFails P Q left x} left (λ y m. i y (later m)) (λ y m. h y (later m)) (step_answers left x (i x here) (h x here) a))
 
   term_fixed : {e : Expr} (x : Expr) (rest : List (Operator MulOp × Expr)) → out-Expr e ≡ layer.Term x rest → IsCallFree x → FixedFound x → ((y : Operand) → Among y (factors rest) → IsCallFree y.of) → ((y : Operand) → Among y (factors rest) → FixedFound y.of) → FixedFound e
-  term_fixed x rest h i q k p = const_layer (layer.Term x rest) (fold (step (first x)) (constants.constant g s (meant g x).fixed) (factors rest)) h
-      (ap (λ (r : Result ConstantValue g.Reported). of_value r) (fold_factors (meant g x).fixed.at rest (constants.constant g s (meant g x).fixed) ∙ ap (λ (t : Pos). fold (step t) (constants.constant g s (meant g x).fixed) (factors rest)) (free_at g i)))
+  term_fixed x rest h i q k p = const_layer (layer.Term x rest) (fold (step (first x)) (constants.constant g s (meanings_of g x).fixed) (factors rest)) h
+      (ap (λ (r : Result ConstantValue g.Reported). of_value r) (fold_factors (meanings_of g x).fixed.at rest (constants.constant g s (meanings_of g x).fixed) ∙ ap (λ (t : Pos). fold (step t) (constants.constant g s (meanings_of g x).fixed) (factors rest)) (free_at g i)))
       (λ k m. rules.fixed_term m.1 m.2) reads into out (chain_answers (factors rest) (first x) k p (const_valued i q))
     where
       reads : (y : Fixed) → R (layer.Term x rest) y → (k : Kind) × ((a : Kind) × F x (AConstant a) × Chained a (factors rest) k) × (y ≡ AConstant k)
@@ -309,8 +309,8 @@ module _ (g : Gathers) (j : Judges g) (lawful : Lawful g j) (names : Ident → S
       out f (inr (_, rules.an_inner (parts.other_factor {x = y} a), b)) = inr (inl (y, a, inl b))
 
   sum_fixed : {e : Expr} (x : Expr) (rest : List (Operator AddOp × Expr)) → out-Expr e ≡ layer.Sum None x rest → IsCallFree x → FixedFound x → ((y : Operand) → Among y (addends rest) → IsCallFree y.of) → ((y : Operand) → Among y (addends rest) → FixedFound y.of) → FixedFound e
-  sum_fixed x rest h i q k p = const_layer (layer.Sum None x rest) (fold (step (first x)) (constants.constant g s (meant g x).fixed) (addends rest)) h
-      (ap (λ (r : Result ConstantValue g.Reported). of_value r) (fold_addends (meant g x).fixed.at rest (constants.constant g s (meant g x).fixed) ∙ ap (λ (t : Pos). fold (step t) (constants.constant g s (meant g x).fixed) (addends rest)) (free_at g i)))
+  sum_fixed x rest h i q k p = const_layer (layer.Sum None x rest) (fold (step (first x)) (constants.constant g s (meanings_of g x).fixed) (addends rest)) h
+      (ap (λ (r : Result ConstantValue g.Reported). of_value r) (fold_addends (meanings_of g x).fixed.at rest (constants.constant g s (meanings_of g x).fixed) ∙ ap (λ (t : Pos). fold (step t) (constants.constant g s (meanings_of g x).fixed) (addends rest)) (free_at g i)))
       (λ k m. rules.fixed_sum m.1 m.2) reads into out (chain_answers (addends rest) (first x) k p (const_valued i q))
     where
       reads : (y : Fixed) → R (layer.Sum None x rest) y → (k : Kind) × ((a : Kind) × F x (AConstant a) × Chained a (addends rest) k) × (y ≡ AConstant k)
@@ -335,8 +335,8 @@ module _ (g : Gathers) (j : Judges g) (lawful : Lawful g j) (names : Ident → S
   SignFails sign x f = ConstBroken x f ⊎ ((a : Kind) × F x (AConstant a) × Misapplied (MaySign sign.op (operand a)) (SignMakes sign.op (operand a)) sign.pos rule.WrongType f)
 
   signed_fixed : {e : Expr} (sign : Operator Sign) (x : Expr) (rest : List (Operator AddOp × Expr)) → out-Expr e ≡ layer.Sum (Some sign) x rest → IsCallFree x → FixedFound x → ((y : Operand) → Among y (addends rest) → IsCallFree y.of) → ((y : Operand) → Among y (addends rest) → FixedFound y.of) → FixedFound e
-  signed_fixed sign x rest h i q k p = const_layer (layer.Sum (Some sign) x rest) (fold (step sign.pos) (operate.signed g sign.op sign.pos (constants.constant g s (meant g x).fixed)) (addends rest)) h
-      (ap (λ (r : Result ConstantValue g.Reported). of_value r) (fold_addends sign.pos rest (operate.signed g sign.op sign.pos (constants.constant g s (meant g x).fixed))))
+  signed_fixed sign x rest h i q k p = const_layer (layer.Sum (Some sign) x rest) (fold (step sign.pos) (operate.with_sign g sign.op sign.pos (constants.constant g s (meanings_of g x).fixed)) (addends rest)) h
+      (ap (λ (r : Result ConstantValue g.Reported). of_value r) (fold_addends sign.pos rest (operate.with_sign g sign.op sign.pos (constants.constant g s (meanings_of g x).fixed))))
       (λ k m. rules.fixed_signed_sum m.1.1 m.1.2 m.2) reads into out
       (chain_answers (addends rest) sign.pos k p (then_answer g j lawful O {N = λ a b. SignMakes sign.op (operand a) b} {D = λ a f. Misapplied (MaySign sign.op (operand a)) (SignMakes sign.op (operand a)) sign.pos rule.WrongType f}
       (const_valued i q) (λ v c w. const_signed g j lawful O sign.op sign.pos w)))
@@ -369,8 +369,8 @@ module _ (g : Gathers) (j : Judges g) (lawful : Lawful g j) (names : Ident → S
   abbrev NumberFails : Expr → Breach → Type 0
   NumberFails x f = ConstBroken x f ⊎ ((k : Kind) × F x (AConstant k) × NoNumber g j lawful O (first x) k f)
 
-  number_at : {x : Expr} → IsCallFree x → FixedFound x → Answers g j O IsOrdinal (Number x) (NumberFails x) (constants.element_of g (meant g x).fixed.at (constants.constant g s (meant g x).fixed))
-  number_at {x = x} i h = subst (λ (at : Pos). Answers g j O IsOrdinal (Number x) (NumberFails x) (constants.element_of g at (constants.constant g s (meant g x).fixed))) (sym (free_at g i))
+  number_at : {x : Expr} → IsCallFree x → FixedFound x → Answers g j O IsOrdinal (Number x) (NumberFails x) (constants.element_of g (meanings_of g x).fixed.at (constants.constant g s (meanings_of g x).fixed))
+  number_at {x = x} i h = subst (λ (at : Pos). Answers g j O IsOrdinal (Number x) (NumberFails x) (constants.element_of g at (constants.constant g s (meanings_of g x).fixed))) (sym (free_at g i))
       (then_answer g j lawful O {N = NumberOf} {D = NoNumber g j lawful O (first x)} (const_valued i h) (number_answers g j lawful O (first x)))
 
   has_it : {x : Expr} (p : Option TypeNo × ℤ) → Number x p → HasNumber s.types names exports x p.0 p.1
@@ -401,11 +401,11 @@ module _ (g : Gathers) (j : Judges g) (lawful : Lawful g j) (names : Ident → S
   same_some {x = x} {y = y} e q = some_same x y (sym e ∙ q)
 
   abbrev opened_item : L → Item-F (Meant g.Reported) (Picks g.Reported) (Meant g.Reported) (ItemAdds g.Reported)
-  opened_item l = map-Item Expr Selector Designator Item (Meant g.Reported) (Picks g.Reported) (Meant g.Reported) (ItemAdds g.Reported) (meant g) (picks g) (head g) (item g) l
+  opened_item l = map-Item Expr Selector Designator Item (Meant g.Reported) (Picks g.Reported) (Meant g.Reported) (ItemAdds g.Reported) (meanings_of g) (picks g) (head g) (item g) l
 
-  single_answers : (l : L) → IsCallFree l.low → FixedFound l.low → l.high ≡ None → Answers g j O IsSame (Adds s.types names exports l) (ItemBreaks l) (constants.single_of g (meant g l.low).fixed.at (constants.constant g s (meant g l.low).fixed))
-  single_answers l i h e = subst (Answers g j O IsSame (Adds s.types names exports l) (ItemBreaks l)) (sym (single_is (meant g l.low).fixed.at (constants.constant g s (meant g l.low).fixed)))
-      (subst (λ (at : Pos). Answers g j O IsSame (Adds s.types names exports l) (ItemBreaks l) (constants.element_of g (meant g l.low).fixed.at (constants.constant g s (meant g l.low).fixed) ▷ λ a. is_element g at a ▷ λ fine. Ok (with_span 0 a.number a.number))) (sym (free_at g i))
+  single_answers : (l : L) → IsCallFree l.low → FixedFound l.low → l.high ≡ None → Answers g j O IsSame (Adds s.types names exports l) (ItemBreaks l) (constants.single_of g (meanings_of g l.low).fixed.at (constants.constant g s (meanings_of g l.low).fixed))
+  single_answers l i h e = subst (Answers g j O IsSame (Adds s.types names exports l) (ItemBreaks l)) (sym (single_is (meanings_of g l.low).fixed.at (constants.constant g s (meanings_of g l.low).fixed)))
+      (subst (λ (at : Pos). Answers g j O IsSame (Adds s.types names exports l) (ItemBreaks l) (constants.element_of g (meanings_of g l.low).fixed.at (constants.constant g s (meanings_of g l.low).fixed) ▷ λ a. is_element g at a ▷ λ fine. Ok (with_span 0 a.number a.number))) (sym (free_at g i))
       (exact g j lawful O into out fails_in fails_out (one_answers g j lawful O (first l.low) (first l.low) (number_at i h) (number_at i h))))
     where
       into : (bits : ℕ) → (p : Option TypeNo × ℤ) × Number l.low p × (Within (pos 0) p.1 (pos 31) × (bits ≡ with_span 0 p.1 p.1)) → Adds s.types names exports l bits
@@ -449,10 +449,10 @@ module _ (g : Gathers) (j : Judges g) (lawful : Lawful g j) (names : Ident → S
   RangeBreaks l high f = (NumberFails l.low f ⊎ NumberFails high f) ⊎ ((OutOfSet l.low f ⊎ OutOfSet high f) ⊎ Disordered l high f)
 
   abbrev spanned_at : L → Expr → Pos → Pos → Result ℕ g.Reported
-  spanned_at l high at at' = spanned g at (constants.element_of g (meant g l.low).fixed.at (constants.constant g s (meant g l.low).fixed)) at' (constants.element_of g (meant g high).fixed.at (constants.constant g s (meant g high).fixed))
+  spanned_at l high at at' = span_of g at (constants.element_of g (meanings_of g l.low).fixed.at (constants.constant g s (meanings_of g l.low).fixed)) at' (constants.element_of g (meanings_of g high).fixed.at (constants.constant g s (meanings_of g high).fixed))
 
-  range_item_answers : (l : L) (high : Expr) → IsCallFree l.low → FixedFound l.low → IsCallFree high → FixedFound high → l.high ≡ Some high → Answers g j O IsSame (Adds s.types names exports l) (ItemBreaks l) (spanned_at l high (meant g l.low).fixed.at (meant g high).fixed.at)
-  range_item_answers l high i h k q e = subst (λ (at : Pos). Answers g j O IsSame (Adds s.types names exports l) (ItemBreaks l) (spanned_at l high at (meant g high).fixed.at)) (sym (free_at g i))
+  range_item_answers : (l : L) (high : Expr) → IsCallFree l.low → FixedFound l.low → IsCallFree high → FixedFound high → l.high ≡ Some high → Answers g j O IsSame (Adds s.types names exports l) (ItemBreaks l) (spanned_at l high (meanings_of g l.low).fixed.at (meanings_of g high).fixed.at)
+  range_item_answers l high i h k q e = subst (λ (at : Pos). Answers g j O IsSame (Adds s.types names exports l) (ItemBreaks l) (spanned_at l high at (meanings_of g high).fixed.at)) (sym (free_at g i))
       (subst (λ (at : Pos). Answers g j O IsSame (Adds s.types names exports l) (ItemBreaks l) (spanned_at l high (first l.low) at)) (sym (free_at g k))
       (exact g j lawful O into (λ bits a. out a) fails_in (λ f b. fails_out b) (range_answers g j lawful O (first l.low) (first high) (number_at i h) (number_at k q))))
     where
@@ -502,7 +502,7 @@ module _ (g : Gathers) (j : Judges g) (lawful : Lawful g j) (names : Ident → S
   -- ---- the elements of a set
 
   item_is : (i : Item) → item g i ≡ item_layer g (opened_item (out-Item i))
-  unfolding meant picks head item
+  unfolding meanings_of picks head item
   item_is i = fold_out-Item (Meant g.Reported) (Picks g.Reported) (Meant g.Reported) (ItemAdds g.Reported) (expr_layer g) (selector_layer g) (designator_layer g) (item_layer g) i
 
   item_at : (i : Item) (o : Option Expr) → (out-Item i).high ≡ o → item g i s ≡ item_layer g (opened_item (record { low = (out-Item i).low; high = o })) s
@@ -557,7 +557,7 @@ module _ (g : Gathers) (j : Judges g) (lawful : Lawful g j) (names : Ident → S
   abbrev SetType : Pos → Standing → Result (Unit {0}) g.Reported → Type 0
   SetType at st r = Checks g j lawful O {A = Unit {0}} (st ≡ Known (AType bitset)) (Misset at st) r
 
-  no_set : {at : Pos} (x : Thing) → (x ≡ AType bitset → ⊥) → SetType at (Known x) (reported g at rule.NoType)
+  no_set : {at : Pos} (x : Thing) → (x ≡ AType bitset → ⊥) → SetType at (Known x) (report g at rule.NoType)
   no_set {at = at} x n = stopped g j lawful O at rule.NoType (λ e. n (known_same e)) (rules.other_sort n) (λ f m. one m)
     where
       known_same : {x y : Thing} → Known x ≡ Known y → x ≡ y
@@ -567,7 +567,7 @@ module _ (g : Gathers) (j : Judges g) (lawful : Lawful g j) (names : Ident → S
       one (rules.no_name m) = elim m.misnamed [ ]
       one (rules.other_sort n) = refl
 
-  set_local : {at : Pos} (t : TypeNo) (k : LocalKind) → SetType at (of_local t k) (reported g at rule.NoType)
+  set_local : {at : Pos} (t : TypeNo) (k : LocalKind) → SetType at (of_local t k) (report g at rule.NoType)
   set_local t local.Variable = no_set (AVariable t) (λ e. absurd cc)
   set_local t local.Value = no_set (AVariable t) (λ e. absurd cc)
   set_local t local.Alias = no_set (AVariable t) (λ e. absurd cc)
@@ -576,7 +576,7 @@ module _ (g : Gathers) (j : Judges g) (lawful : Lawful g j) (names : Ident → S
   type_same : {t u : TypeNo} → AType t ≡ AType u → t ≡ u
   type_same {t = t} e = ap (λ z. elim z [ AType y ↦ y | AValue k ↦ t | AVariable y ↦ t | AnOpenArray y ↦ t | AProcedure y ↦ t | ANested y ↦ t | AStandard f ↦ t | AModule k ↦ t | Headless ↦ t ]) e
 
-  set_type_by : {at : Pos} (t : TypeNo) (b : Bool) → Decided (t ≡ bitset) b → SetType at (Known (AType t)) (cond (not b) (reported g at rule.NoType) (Ok tt))
+  set_type_by : {at : Pos} (t : TypeNo) (b : Bool) → Decided (t ≡ bitset) b → SetType at (Known (AType t)) (cond (not b) (report g at rule.NoType) (Ok tt))
   set_type_by {at = at} t _ (holds e) = passes tt (ap (λ (t : TypeNo). Known (AType t)) e) (λ f m. none m)
     where
       none : {f : Breach} → Misset at (Known (AType t)) f → ⊥
@@ -704,7 +704,7 @@ module _ (g : Gathers) (j : Judges g) (lawful : Lawful g j) (names : Ident → S
     fixed_item (one_free_range {high = high} l e k r) i here = subst (Answers g j O IsSame (Adds s.types names exports (out-Item i)) (ItemBreaks (out-Item i))) (sym (item_at i (Some high) e)) (range_item_answers (out-Item i) high l (fixed l) k (fixed k) e)
     fixed_item (one_free_range l e k r) i (later m) = fixed_item r i m
 
-  pub exactly_fixed : (e : Expr) → IsCallFree e → Answers g j O IsConst (λ k. F e (AConstant k)) (BrokenAsConstant s.types names exports e) (constants.constant g s (meant g e).fixed)
+  pub exactly_fixed : (e : Expr) → IsCallFree e → Answers g j O IsConst (λ k. F e (AConstant k)) (BrokenAsConstant s.types names exports e) (constants.constant g s (meanings_of g e).fixed)
   exactly_fixed e i = exact g j lawful O (λ k m. m) (λ k m. m) into out (const_valued i (fixed i))
     where
       into : (f : Breach) → ConstBroken e f → BrokenAsConstant s.types names exports e f

@@ -9,7 +9,7 @@ use Rattle.typed_tree.specs.declared.meaning.Meaning.{Meaning}
 use Rattle.typed_tree.specs.declared.meaning.Meaning.TheVariants as meaning
 use Rattle.typed_tree.specs.declared.table.Table.{Table}
 use Rattle.typed_tree.specs.declared.known_types.Types.{Types}
-use Rattle.typed_tree.specs.Names.{found}
+use Rattle.typed_tree.specs.Names.{find_name}
 use Rattle.check_scope.specs.declared.known.Known.{Known}
 use Rattle.check_scope.specs.declared.known.Known.TheVariants as known
 use Rattle.check_scope.specs.declared.meaningless.Meaningless.{Meaningless}
@@ -18,7 +18,7 @@ use Rattle.check_scope.specs.declared.scope.Block.{Block}
 use Rattle.check_scope.specs.declared.scope.OpenedRecord.{OpenedRecord}
 use Rattle.check_scope.specs.declared.scope.Scope.{Scope}
 use Rattle.check_scope.specs.Elaborated.{Gathers}
-use Rattle.check_scope.specs.Scopes.{looked_up, known_outside, or_around, means_seen, means_as, means_or, opened, is_free, is_begun}
+use Rattle.check_scope.specs.Scopes.{looked_up, known_outside, or_around, means_seen, means_as, means_or, open_field, is_free, is_begun}
 use Rattle.check_const.specs.Denote.{exported_by}
 use Rattle.check_block.specs.Headings.{standing_known}
 use Rattle.check_block.specs.declared.heading.Standing.TheVariants as place
@@ -84,7 +84,7 @@ module _ (g : Gathers) (j : Judges g) (exports : ℕ → Ident → Standing) (ou
 
   -- what the scope has of a name, if these declarations stand in front and these names are there
   pub data KnownAs (front : List Declared) (Th : List ℕ → Type 0) (n : List ℕ) : Option (Known g.Reported) → Type 0 where
-    outer : {k : Option (Known g.Reported)} → (taken n ≡ false → AnyDeclares block n → ⊥) → k ≡ found n start.own → KnownAs front Th n k
+    outer : {k : Option (Known g.Reported)} → (taken n ≡ false → AnyDeclares block n → ⊥) → k ≡ find_name n start.own → KnownAs front Th n k
     ahead : (d : Declaration) → taken n ≡ false → IsFirst n d block → (IsThere front n → ⊥) → (Th n → ⊥) → KnownAs front Th n (Some (mark_of d))
     reading : (d : Declaration) → taken n ≡ false → IsFirst n d block → (IsThere front n → ⊥) → Th n → in_front_of d ≡ Undeclared → KnownAs front Th n (Some known.Begun)
     behind : {d : Declared} {before : List Declared} (k : Known g.Reported) → taken n ≡ false → IsNamed n d before front → Saying before d k → KnownAs front Th n (Some k)
@@ -104,7 +104,7 @@ module _ (g : Gathers) (j : Judges g) (exports : ℕ → Ident → Standing) (ou
     pub in_block : (n : List ℕ) → AnyDeclares rest n → AnyDeclares block n
     pub left : (n : List ℕ) (d : Declaration) → IsFirst n d block → (IsThere front n → ⊥) → IsFirst n d rest
     pub includes : (n : List ℕ) → There start.types exports outside taken nested block front n → Th n
-    pub own : (n : List ℕ) → KnownAs front Th n (found n s.own)
+    pub own : (n : List ℕ) → KnownAs front Th n (find_name n s.own)
 
   in_more : {n : List ℕ} {d : Declared} {before front : List Declared} {f : Breach} → IsNamed n d before front → Elsewhere (d ∷ before) f → Elsewhere front f
   in_more i (inl o) = inl o
@@ -121,15 +121,15 @@ module _ (g : Gathers) (j : Judges g) (exports : ℕ → Ident → Standing) (ou
     abbrev looked : Option (Known g.Reported) → Ident → Result Meaning (Meaningless g.Reported)
     looked k name = means_as g name.pos (or_around k (known_outside name.name start.outer))
 
-    looked_same : {types : Types} {s : Scope g.Reported} → Same types s → (name : Ident) → looked_up g s name ≡ looked (found name.name s.own) name
+    looked_same : {types : Types} {s : Scope g.Reported} → Same types s → (name : Ident) → looked_up g s name ≡ looked (find_name name.name s.own) name
     looked_same {s = s} e name =
-        ap (λ (ws : List OpenedRecord). means_or (opened s.types name.name ws) (means_as g name.pos (or_around (found name.name s.own) (known_outside name.name s.outer)))) e.withs
-        ∙ ap (λ (outer : List (Block g.Reported)). means_as g name.pos (or_around (found name.name s.own) (known_outside name.name outer))) e.outer
+        ap (λ (ws : List OpenedRecord). means_or (open_field s.types name.name ws) (means_as g name.pos (or_around (find_name name.name s.own) (known_outside name.name s.outer)))) e.withs
+        ∙ ap (λ (outer : List (Block g.Reported)). means_as g name.pos (or_around (find_name name.name s.own) (known_outside name.name outer))) e.outer
 
-    looked_first : (name : Ident) → looked_up g start name ≡ looked (found name.name start.own) name
-    looked_first name = ap (λ (ws : List OpenedRecord). means_or (opened start.types name.name ws) (means_as g name.pos (or_around (found name.name start.own) (known_outside name.name start.outer)))) no_withs
+    looked_first : (name : Ident) → looked_up g start name ≡ looked (find_name name.name start.own) name
+    looked_first name = ap (λ (ws : List OpenedRecord). means_or (open_field start.types name.name ws) (means_as g name.pos (or_around (find_name name.name start.own) (known_outside name.name start.outer)))) no_withs
 
-    outer_seen : (name : Ident) {k : Option (Known g.Reported)} → k ≡ found name.name start.own → Sees g j name.pos (outside name) (looked k name)
+    outer_seen : (name : Ident) {k : Option (Known g.Reported)} → k ≡ find_name name.name start.own → Sees g j name.pos (outside name) (looked k name)
     outer_seen name e = subst (λ (k : Option (Known g.Reported)). Sees g j name.pos (outside name) (looked k name)) (sym e) (subst (λ (r : Result Meaning (Meaningless g.Reported)). Sees g j name.pos (outside name) r) (looked_first name) (knows.of_names name))
 
     mark_seen : (name : Ident) (d : Declaration) → Sees g j name.pos (in_front_of d) (looked (Some (mark_of d)) name)

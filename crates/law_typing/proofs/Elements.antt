@@ -13,7 +13,7 @@ use Rattle.check_const_ops.specs.Operands.{is_number}
 use Rattle.check_const_ops.specs.Numbers.{is_between}
 use Rattle.check_const_ops.specs.Common.{common}
 use Rattle.check_const_ops.specs.Standards.{scalar_part, if_number}
-use Rattle.check_const_ops.specs.Sets.{numbered, element, is_element, has_none, in_set, related, related_bounds, spanned, with_span}
+use Rattle.check_const_ops.specs.Sets.{ordinal_or_refusal, element, is_element, has_none, in_set, alike_in_order, related_bounds, span_of, with_span}
 use Rattle.def_typing.specs.Amounts.{Constant, IsNumber, GoTogether, Within}
 use Rattle.def_typing.specs.Operators.{◌!◌, Kind, Scalar, operand}
 use Rattle.law_typing.specs.Exact.{IsConst, is_const}
@@ -45,11 +45,11 @@ module _ (g : Gathers) (j : Judges g) (lawful : Lawful g j) (O : Breach → Type
   abbrev NumberIn : Kind → Option TypeNo × ℤ → Type 0
   NumberIn c p = (c ≡ Scalar (Constant p.0 p.1)) × IsNumber p.0
 
-  numbers_by : (at : Pos) (a : Ordinal) (b : Bool) → Decided (IsNumber a.sort) b → Answers g j O IsOrdinal (NumberIn (Scalar (Constant a.sort a.number))) (λ f. ((p : Option TypeNo × ℤ) → NumberIn (Scalar (Constant a.sort a.number)) p → ⊥) × (f ≡ at ! rule.WrongType)) (numbered g at (cond b (Some a) None))
+  numbers_by : (at : Pos) (a : Ordinal) (b : Bool) → Decided (IsNumber a.sort) b → Answers g j O IsOrdinal (NumberIn (Scalar (Constant a.sort a.number))) (λ f. ((p : Option TypeNo × ℤ) → NumberIn (Scalar (Constant a.sort a.number)) p → ⊥) × (f ≡ at ! rule.WrongType)) (ordinal_or_refusal g at (cond b (Some a) None))
   numbers_by at a _ (holds n) = means a (a.sort, a.number) (is_ordinal a) (refl, n) (λ p m. sym (ap (amount_in p) m.0)) (λ f z. z.0 (a.sort, a.number) (refl, n))
   numbers_by at a _ (fails_it n) = declined g j lawful O at rule.WrongType (λ p m. n (subst IsNumber (sym (ap (λ (k : Kind). (amount_in p k).0) m.0)) m.1)) ((λ p m. n (subst IsNumber (sym (ap (λ (k : Kind). (amount_in p k).0) m.0)) m.1)), refl) (λ f z. z.1)
 
-  numbers_known : (at : Pos) {p : Option Side} {c : Kind} → IsConstantOperand p c → Answers g j O IsOrdinal (NumberIn c) (λ f. ((q : Option TypeNo × ℤ) → NumberIn c q → ⊥) × (f ≡ at ! rule.WrongType)) (numbered g at (if_number (scalar_part p)))
+  numbers_known : (at : Pos) {p : Option Side} {c : Kind} → IsConstantOperand p c → Answers g j O IsOrdinal (NumberIn c) (λ f. ((q : Option TypeNo × ℤ) → NumberIn c q → ⊥) × (f ≡ at ! rule.WrongType)) (ordinal_or_refusal g at (if_number (scalar_part p)))
   numbers_known at (constant_scalar a) = numbers_by at a (is_number a.sort) (number_decided a.sort)
   numbers_known at (constant_set bits) = declined g j lawful O at rule.WrongType (λ p m. let e = m.0 in absurd cc) ((λ p m. let e = m.0 in absurd cc), refl) (λ f z. z.1)
   numbers_known at (constant_text text) = declined g j lawful O at rule.WrongType (λ p m. let e = m.0 in absurd cc) ((λ p m. let e = m.0 in absurd cc), refl) (λ f z. z.1)
@@ -91,7 +91,7 @@ module _ (g : Gathers) (j : Judges g) (lawful : Lawful g j) (O : Breach → Type
   ordered_by at at' a b _ true e (together u t only) = stopped g j lawful O at rule.EmptyRange (λ p. p.1 e) (inr ((u, t), (e, refl))) (λ f z. elim z [ inl y ↦ absurd (y.0 u t) | inr y ↦ y.1.1 ])
   ordered_by at at' a b _ false e (together u t only) = passes tt ((u, t), (λ q. let clash : true ≡ false = sym q ∙ e in absurd cc)) (λ f z. elim z [ inl y ↦ y.0 u t | inr y ↦ let clash : true ≡ false = sym y.1.0 ∙ e in absurd cc ])
 
-  ordered_checks : (at at' : Pos) (a b : Ordinal) (p q : Option TypeNo × ℤ) → IsOrdinal a p → IsOrdinal b q → Checks g j lawful O (Ordered (p, q)) (NotOrdered at at' (p, q)) (related g at at' a b)
+  ordered_checks : (at at' : Pos) (a b : Ordinal) (p q : Option TypeNo × ℤ) → IsOrdinal a p → IsOrdinal b q → Checks g j lawful O (Ordered (p, q)) (NotOrdered at at' (p, q)) (alike_in_order g at at' a b)
   ordered_checks at at' _ _ _ _ (is_ordinal a) (is_ordinal b) = ordered_by at at' a b (common a.sort b.sort) (int_lt b.number a.number) refl (common_is a.sort b.sort)
 
   module _ {M N : Option TypeNo × ℤ → Type 0} {B C : Breach → Type 0} {a b : Result Ordinal g.Reported} (at at' : Pos) (low : Answers g j O IsOrdinal M B a) (high : Answers g j O IsOrdinal N C b) where
@@ -137,7 +137,7 @@ module _ (g : Gathers) (j : Judges g) (lawful : Lawful g j) (O : Breach → Type
     abbrev Both : Type 0
     Both = ((Option TypeNo × ℤ) × (Option TypeNo × ℤ)) × Unit {0}
 
-    pub range_answers : Answers g j O IsSame RangeOf RangeFails (spanned g at a at' b)
+    pub range_answers : Answers g j O IsSame RangeOf RangeFails (span_of g at a at' b)
     range_answers = exact g j lawful O {M = λ bits. (k : Both) × ((M k.0.0 × N k.0.1) × Bounded) × (bits ≡ with_span 0 k.0.0.1 k.0.1.1)} {B = λ f. ((B f ⊎ C f) ⊎ Unbounded f) ⊎ ((k : Both) × ((M k.0.0 × N k.0.1) × Bounded) × ⊥)}
         (λ bits z. into bits z) (λ bits z. out bits z) (λ f z. fails_in f z) (λ f z. fails_out f z)
         (then_answer g j lawful O {N = λ k bits. bits ≡ with_span 0 k.0.0.1 k.0.1.1} {D = λ k f. ⊥} (both_answer g j lawful O (both_answer g j lawful O low high) (checks_answer bounds_check))

@@ -27,9 +27,9 @@ use Rattle.check_operator.specs.declared.computed.Computed.{Computed}
 use Rattle.check_operator.specs.declared.computed.Computed.TheVariants as computed
 use Rattle.check_operator.specs.declared.computed.Designated.{Designated}
 use Rattle.check_operator.specs.declared.computed.Designated.TheVariants as designated
-use Rattle.check_operator.specs.Operations.{combined}
-use Rattle.check_operator.specs.Signs.{negated, signed}
-use Rattle.check_expr.specs.Meanings.{Meant, Picks, meant, picks, head, value_of, of_computed, factor, term as addend, index_at, called_by, expr_layer}
+use Rattle.check_operator.specs.Operations.{operation_between}
+use Rattle.check_operator.specs.Signs.{negation, with_sign}
+use Rattle.check_expr.specs.Meanings.{Meant, Picks, meanings_of, picks, head, value_of, of_computed, factor, term as addend, index_at, call_in_expression, expr_layer}
 use Rattle.def_typing.specs.Amounts.{Constant}
 use Rattle.def_typing.specs.Operators.{◌!◌, Kind, Scalar, Text, operand, Makes, Misused, Misapplied, MaySign, SignMakes, Negates}
 use Rattle.def_typing.specs.Things.{Thing, AValue, Standing, Known, Misnamed, Picks as PicksName, Indexes}
@@ -164,7 +164,7 @@ module _ (g : Gathers) (j : Judges g) (lawful : Lawful g j) (names : Ident → S
   -- ---- NOT and brackets
 
   not_found : {e : Expr} (at : Pos) (x : Expr) → out-Expr e ≡ layer.Not at x → IsPlain x → Found x → Found e
-  not_found at x h i q = value_layer g j lawful names exports s (layer.Not at x) (negated g at (value_of g s (meant g x))) h refl
+  not_found at x h i q = value_layer g j lawful names exports s (layer.Not at x) (negation g at (value_of g s (meanings_of g x))) h refl
       (λ k m. rules.negated m.1 m.2) reads into out
       (then_answer g j lawful E {N = Negates} {D = λ a f. ((k : Kind) → Negates a k → ⊥) × (f ≡ at ! rule.WrongType)} (valued g j lawful names exports s i q) (λ v k i. negated_answers g j lawful E at i))
     where
@@ -181,7 +181,7 @@ module _ (g : Gathers) (j : Judges g) (lawful : Lawful g j) (names : Ident → S
       out f (inr (y, an_operand (rules.an_inner parts.in_not), b)) = inl (rules.broken b)
 
   brackets_found : {e : Expr} (at : Pos) (x : Expr) → out-Expr e ≡ layer.Bracketed at x → IsPlain x → Found x → Found e
-  brackets_found at x h i q = value_layer g j lawful names exports s (layer.Bracketed at x) (value_of g s (meant g x)) h refl (λ k m. rules.bracketed m) reads (λ f b. operand_broken g j lawful names exports s (rules.an_inner parts.in_brackets) b) out (valued g j lawful names exports s i q)
+  brackets_found at x h i q = value_layer g j lawful names exports s (layer.Bracketed at x) (value_of g s (meanings_of g x)) h refl (λ k m. rules.bracketed m) reads (λ f b. operand_broken g j lawful names exports s (rules.an_inner parts.in_brackets) b) out (valued g j lawful names exports s i q)
     where
       reads : (y : Thing) → R (layer.Bracketed at x) y → (k : Kind) × H x k × (y ≡ AValue k)
       reads _ (rules.bracketed {k = k} m) = (k, m, refl)
@@ -193,10 +193,10 @@ module _ (g : Gathers) (j : Judges g) (lawful : Lawful g j) (names : Ident → S
   -- ---- relations
 
   relation_found : {e : Expr} (a : Expr) (o : Operator RelOp) (b : Expr) → out-Expr e ≡ layer.Relation a o b → IsPlain a → IsPlain b → Found a → Found b → Found e
-  relation_found a o b h i k p q = value_layer g j lawful names exports s (layer.Relation a o b) (combined g s.types (op.Relation o.op) o.pos (meant g a).fixed.at (value_of g s (meant g a)) (meant g b).fixed.at (value_of g s (meant g b))) h refl
+  relation_found a o b h i k p q = value_layer g j lawful names exports s (layer.Relation a o b) (operation_between g s.types (op.Relation o.op) o.pos (meanings_of g a).fixed.at (value_of g s (meanings_of g a)) (meanings_of g b).fixed.at (value_of g s (meanings_of g b))) h refl
       (λ l m. rules.relation m.1.0 m.1.1 m.2) reads into out
-      (subst (λ (t : Pos). Answers g j E IsKind Related Fails' (combined g s.types (op.Relation o.op) o.pos t (value_of g s (meant g a)) (meant g b).fixed.at (value_of g s (meant g b)))) (sym (at_is g i))
-      (subst (λ (t : Pos). Answers g j E IsKind Related Fails' (combined g s.types (op.Relation o.op) o.pos (first a) (value_of g s (meant g a)) t (value_of g s (meant g b)))) (sym (at_is g k))
+      (subst (λ (t : Pos). Answers g j E IsKind Related Fails' (operation_between g s.types (op.Relation o.op) o.pos t (value_of g s (meanings_of g a)) (meanings_of g b).fixed.at (value_of g s (meanings_of g b)))) (sym (at_is g i))
+      (subst (λ (t : Pos). Answers g j E IsKind Related Fails' (operation_between g s.types (op.Relation o.op) o.pos (first a) (value_of g s (meanings_of g a)) t (value_of g s (meanings_of g b)))) (sym (at_is g k))
       (then_answer g j lawful E {N = λ c l. Makes s.types (op.Relation o.op) (operand c.0) (operand c.1) l} {D = λ c f. Misused s.types (op.Relation o.op) o.pos (first a) (first b) (operand c.0) (operand c.1) f}
       (both_answer g j lawful E (valued g j lawful names exports s i p) (valued g j lawful names exports s k q)) (λ v c w. operated_answers g j lawful E s.types (op.Relation o.op) o.pos (first a) (first b) w.0 w.1))))
     where
@@ -224,13 +224,13 @@ module _ (g : Gathers) (j : Judges g) (lawful : Lawful g j) (names : Ident → S
   -- ---- operators one after another
 
   abbrev step : Pos → Result Computed g.Reported → Operand → Result Computed g.Reported
-  step left v x = combined g s.types x.op x.spot left v (meant g x.of).fixed.at (value_of g s (meant g x.of))
+  step left v x = operation_between g s.types x.op x.spot left v (meanings_of g x.of).fixed.at (value_of g s (meanings_of g x.of))
 
-  fold_factors : (left : Pos) (rest : List (Operator MulOp × Expr)) (v : Result Computed g.Reported) → fold (factor g s left) v (map (λ (x : Operator MulOp × Expr). (x.0, meant g x.1)) rest) ≡ fold (step left) v (factors rest)
+  fold_factors : (left : Pos) (rest : List (Operator MulOp × Expr)) (v : Result Computed g.Reported) → fold (factor g s left) v (map (λ (x : Operator MulOp × Expr). (x.0, meanings_of g x.1)) rest) ≡ fold (step left) v (factors rest)
   fold_factors left [] v = refl
   fold_factors left (x ∷ xs) v = fold_factors left xs _
 
-  fold_addends : (left : Pos) (rest : List (Operator AddOp × Expr)) (v : Result Computed g.Reported) → fold (addend g s left) v (map (λ (x : Operator AddOp × Expr). (x.0, meant g x.1)) rest) ≡ fold (step left) v (addends rest)
+  fold_addends : (left : Pos) (rest : List (Operator AddOp × Expr)) (v : Result Computed g.Reported) → fold (addend g s left) v (map (λ (x : Operator AddOp × Expr). (x.0, meanings_of g x.1)) rest) ≡ fold (step left) v (addends rest)
   fold_addends left [] v = refl
   fold_addends left (x ∷ xs) v = fold_addends left xs _
 
@@ -250,7 +250,7 @@ module _ (g : Gathers) (j : Judges g) (lawful : Lawful g j) (names : Ident → S
   StepFails P Q left x f = (Q f ⊎ V x.of f) ⊎ ((k : Kind × Kind) × (P k.0 × H x.of k.1) × Misused s.types x.op x.spot left (first x.of) (operand k.0) (operand k.1) f)
 
   step_answers : {P : Kind → Type 0} {Q : Breach → Type 0} {v : Result Computed g.Reported} (left : Pos) (x : Operand) → IsPlain x.of → Found x.of → Answers g j E IsKind P Q v → Answers g j E IsKind (Stepped P x) (StepFails P Q left x) (step left v x)
-  step_answers {P = P} {Q = Q} {v = v} left x i h a = subst (λ (at : Pos). Answers g j E IsKind (Stepped P x) (StepFails P Q left x) (combined g s.types x.op x.spot left v at (value_of g s (meant g x.of)))) (sym (at_is g i))
+  step_answers {P = P} {Q = Q} {v = v} left x i h a = subst (λ (at : Pos). Answers g j E IsKind (Stepped P x) (StepFails P Q left x) (operation_between g s.types x.op x.spot left v at (value_of g s (meanings_of g x.of)))) (sym (at_is g i))
       (then_answer g j lawful E {N = λ k c. Makes s.types x.op (operand k.0) (operand k.1) c} {D = λ k f. Misused s.types x.op x.spot left (first x.of) (operand k.0) (operand k.1) f}
       (both_answer g j lawful E a (valued g j lawful names exports s i h)) (λ p k i. operated_answers g j lawful E s.types x.op x.spot left (first x.of) i.0 i.1))
 
@@ -292,8 +292,8 @@ module _ (g : Gathers) (j : Judges g) (lawful : Lawful g j) (names : Ident → S
       (chain_answers xs {P = Stepped P x} {Q = StepFails P Q left x} left (λ y m. i y (later m)) (λ y m. h y (later m)) (step_answers left x (i x here) (h x here) a))
 
   term_found : {e : Expr} (x : Expr) (rest : List (Operator MulOp × Expr)) → out-Expr e ≡ layer.Term x rest → IsPlain x → Found x → ((y : Operand) → Among y (factors rest) → IsPlain y.of) → ((y : Operand) → Among y (factors rest) → Found y.of) → Found e
-  term_found x rest h i q k p = value_layer g j lawful names exports s (layer.Term x rest) (fold (step (first x)) (value_of g s (meant g x)) (factors rest)) h
-      (ap (λ (r : Result Computed g.Reported). of_computed r) (fold_factors (meant g x).fixed.at rest (value_of g s (meant g x)) ∙ ap (λ (t : Pos). fold (step t) (value_of g s (meant g x)) (factors rest)) (at_is g i)))
+  term_found x rest h i q k p = value_layer g j lawful names exports s (layer.Term x rest) (fold (step (first x)) (value_of g s (meanings_of g x)) (factors rest)) h
+      (ap (λ (r : Result Computed g.Reported). of_computed r) (fold_factors (meanings_of g x).fixed.at rest (value_of g s (meanings_of g x)) ∙ ap (λ (t : Pos). fold (step t) (value_of g s (meanings_of g x)) (factors rest)) (at_is g i)))
       (λ k m. rules.term m.1 m.2) reads into out (chain_answers (factors rest) (first x) k p (valued g j lawful names exports s i q))
     where
       reads : (y : Thing) → R (layer.Term x rest) y → (k : Kind) × ((a : Kind) × H x a × Chained a (factors rest) k) × (y ≡ AValue k)
@@ -312,8 +312,8 @@ module _ (g : Gathers) (j : Judges g) (lawful : Lawful g j) (names : Ident → S
       out f (inr (_, an_operand (rules.an_inner (parts.other_factor {x = y} a)), b)) = inr (inl (y, a, rules.broken b))
 
   sum_found : {e : Expr} (x : Expr) (rest : List (Operator AddOp × Expr)) → out-Expr e ≡ layer.Sum None x rest → IsPlain x → Found x → ((y : Operand) → Among y (addends rest) → IsPlain y.of) → ((y : Operand) → Among y (addends rest) → Found y.of) → Found e
-  sum_found x rest h i q k p = value_layer g j lawful names exports s (layer.Sum None x rest) (fold (step (first x)) (value_of g s (meant g x)) (addends rest)) h
-      (ap (λ (r : Result Computed g.Reported). of_computed r) (fold_addends (meant g x).fixed.at rest (value_of g s (meant g x)) ∙ ap (λ (t : Pos). fold (step t) (value_of g s (meant g x)) (addends rest)) (at_is g i)))
+  sum_found x rest h i q k p = value_layer g j lawful names exports s (layer.Sum None x rest) (fold (step (first x)) (value_of g s (meanings_of g x)) (addends rest)) h
+      (ap (λ (r : Result Computed g.Reported). of_computed r) (fold_addends (meanings_of g x).fixed.at rest (value_of g s (meanings_of g x)) ∙ ap (λ (t : Pos). fold (step t) (value_of g s (meanings_of g x)) (addends rest)) (at_is g i)))
       (λ k m. rules.sum m.1 m.2) reads into out (chain_answers (addends rest) (first x) k p (valued g j lawful names exports s i q))
     where
       reads : (y : Thing) → R (layer.Sum None x rest) y → (k : Kind) × ((a : Kind) × H x a × Chained a (addends rest) k) × (y ≡ AValue k)
@@ -338,8 +338,8 @@ module _ (g : Gathers) (j : Judges g) (lawful : Lawful g j) (names : Ident → S
   SignFails sign x f = V x f ⊎ ((a : Kind) × H x a × Misapplied (MaySign sign.op (operand a)) (SignMakes sign.op (operand a)) sign.pos rule.WrongType f)
 
   signed_found : {e : Expr} (sign : Operator Sign) (x : Expr) (rest : List (Operator AddOp × Expr)) → out-Expr e ≡ layer.Sum (Some sign) x rest → IsPlain x → Found x → ((y : Operand) → Among y (addends rest) → IsPlain y.of) → ((y : Operand) → Among y (addends rest) → Found y.of) → Found e
-  signed_found sign x rest h i q k p = value_layer g j lawful names exports s (layer.Sum (Some sign) x rest) (fold (step sign.pos) (signed g sign.op sign.pos (value_of g s (meant g x))) (addends rest)) h
-      (ap (λ (r : Result Computed g.Reported). of_computed r) (fold_addends sign.pos rest (signed g sign.op sign.pos (value_of g s (meant g x)))))
+  signed_found sign x rest h i q k p = value_layer g j lawful names exports s (layer.Sum (Some sign) x rest) (fold (step sign.pos) (with_sign g sign.op sign.pos (value_of g s (meanings_of g x))) (addends rest)) h
+      (ap (λ (r : Result Computed g.Reported). of_computed r) (fold_addends sign.pos rest (with_sign g sign.op sign.pos (value_of g s (meanings_of g x)))))
       (λ k m. rules.signed_sum m.1.1 m.1.2 m.2) reads into out
       (chain_answers (addends rest) sign.pos k p (then_answer g j lawful E {N = λ a b. SignMakes sign.op (operand a) b} {D = λ a f. Misapplied (MaySign sign.op (operand a)) (SignMakes sign.op (operand a)) sign.pos rule.WrongType f}
       (valued g j lawful names exports s i q) (λ v c w. signed_answers g j lawful E sign.op sign.pos w)))
@@ -437,7 +437,7 @@ module _ (g : Gathers) (j : Judges g) (lawful : Lawful g j) (names : Ident → S
       → Finds g j lawful E (SelectedOf P y) (OneFails P Q y) ((picks g y).picks s d)
   index_one {P = P} {Q = Q} {d = d} y at e h i q a = subst (Finds g j lawful E (SelectedOf P y) (OneFails P Q y)) (sym (ap (λ (m : Picks g.Reported). m.picks s d) (picks_is g y (layer.Index at e) h)))
       (finds_as g j lawful E made by_made into out
-      (subst (λ (t : Pos). Finds g j lawful E Made Fails' (index_at g s.types at d t (value_of g s (meant g e)))) (sym (at_is g i)) (index_finds g j lawful names exports s knows at (first e) a (valued g j lawful names exports s i q))))
+      (subst (λ (t : Pos). Finds g j lawful E Made Fails' (index_at g s.types at d t (value_of g s (meanings_of g e)))) (sym (at_is g i)) (index_finds g j lawful names exports s knows at (first e) a (valued g j lawful names exports s i q))))
     where
       Made : Thing → Type 0
       Made z = (p : (TypeNo × TypeNo) × Kind) × IndexOf P e p × ElementOf g j lawful names exports s knows at p z
@@ -552,8 +552,8 @@ module _ (g : Gathers) (j : Judges g) (lawful : Lawful g j) (names : Ident → S
   CallBreaks d args f = (DesignatorFails d f ⊎ ((x : Thing) × Denotes s.types names exports d x × Miscalled s.types names exports (out-Designator d).name.pos x args f)) ⊎ AnyBroken g j lawful names exports s args f
 
   call_found : {e : Expr} (d : Designator) (args : List Expr) → out-Expr e ≡ layer.Use d (Some args) → ArePlainSelectors (out-Designator d).selectors → ((e : Expr) → IndexIn (out-Designator d).selectors e → Found e) → ((x : Expr) → Among x args → IsPlain x) → ((x : Expr) → Among x args → Found x) → Found e
-  call_found d args h i q p a = value_layer g j lawful names exports s (layer.Use d (Some args)) (called_by g s (head g d).fixed.at ((head g d).means s) (map (meant g) args)) h refl (λ k m. rules.called m.1 m.2) reads into out
-      (subst (λ (t : Pos). Answers g j E IsKind (CallOf d args) (CallBreaks d args) (called_by g s t ((head g d).means s) (map (meant g) args))) (sym (head_at g d)) (calls_answer g j lawful names exports s (out-Designator d).name.pos args (denoted_finds d i q) p a))
+  call_found d args h i q p a = value_layer g j lawful names exports s (layer.Use d (Some args)) (call_in_expression g s (head g d).fixed.at ((head g d).means s) (map (meanings_of g) args)) h refl (λ k m. rules.called m.1 m.2) reads into out
+      (subst (λ (t : Pos). Answers g j E IsKind (CallOf d args) (CallBreaks d args) (call_in_expression g s t ((head g d).means s) (map (meanings_of g) args))) (sym (head_at g d)) (calls_answer g j lawful names exports s (out-Designator d).name.pos args (denoted_finds d i q) p a))
     where
       reads : (y : Thing) → R (layer.Use d (Some args)) y → (k : Kind) × CallOf d args k × (y ≡ AValue k)
       reads _ (rules.called {x = x} {k = k} m c) = (k, (x, m, c), refl)

@@ -14,7 +14,7 @@ use Rattle.check_scope.specs.declared.scope.Scope.{Scope}
 use Rattle.check_scope.specs.Elaborated.{Gathers}
 use Rattle.check_operator.specs.declared.computed.Computed.{Computed}
 use Rattle.check_operator.specs.declared.computed.Designated.{Designated}
-use Rattle.check_expr.specs.Meanings.{Meant, meant, value_of, taken_at, of_computed, expr_layer, looked_at, with_look}
+use Rattle.check_expr.specs.Meanings.{Meant, meanings_of, value_of, value_standing, of_computed, expr_layer, breaches_in_all, with_look}
 use Rattle.def_typing.specs.Operators.{Kind}
 use Rattle.def_typing.specs.Things.{Thing, AValue, Standing, Taken, Mistaken}
 use Rattle.def_typing.specs.Parts.{first, Among, here, later}
@@ -42,10 +42,10 @@ module _ (g : Gathers) (j : Judges g) (lawful : Lawful g j) (names : Ident → S
   IsBrokenValue = BrokenAsValue s.types names exports
 
   abbrev pub IsFound : Expr → Type 0
-  IsFound e = Finds g j lawful Elsewhere (StandsFor e) (IsBroken e) ((meant g e).means s)
+  IsFound e = Finds g j lawful Elsewhere (StandsFor e) (IsBroken e) ((meanings_of g e).means s)
 
   abbrev pub IsValued : Expr → Type 0
-  IsValued e = Answers g j Elsewhere IsKind (HasKind e) (IsBrokenValue e) (value_of g s (meant g e))
+  IsValued e = Answers g j Elsewhere IsKind (HasKind e) (IsBrokenValue e) (value_of g s (meanings_of g e))
 
   -- ---- by layers
 
@@ -88,7 +88,7 @@ module _ (g : Gathers) (j : Judges g) (lawful : Lawful g j) (names : Ident → S
 
   pub valued : {e : Expr} → IsPlain e → IsFound e → IsValued e
   valued {e = e} i h = exact g j lawful Elsewhere (λ k m. taken m.1 m.2) (λ k m. has_by m) (λ f b. elim b [ inl x ↦ broken x | inr x ↦ mistaken x.1 x.2 ]) broken_value_by
-      (subst (λ (at : Pos). Answers g j Elsewhere IsKind (λ k. (x : Thing) × StandsFor e x × Taken s.types x k) (λ f. IsBroken e f ⊎ ((x : Thing) × StandsFor e x × Mistaken (first e) x f)) (taken_at g s.types at ((meant g e).means s)))
+      (subst (λ (at : Pos). Answers g j Elsewhere IsKind (λ k. (x : Thing) × StandsFor e x × Taken s.types x k) (λ f. IsBroken e f ⊎ ((x : Thing) × StandsFor e x × Mistaken (first e) x f)) (value_standing g s.types at ((meanings_of g e).means s)))
       (sym (at_is g i)) (value_answers g j lawful Elsewhere s.types (first e) h))
 
   -- an operand's refusals are its layer's
@@ -101,7 +101,7 @@ module _ (g : Gathers) (j : Judges g) (lawful : Lawful g j) (names : Ident → S
   abbrev pub AnyBroken : List Expr → Breach → Type 0
   AnyBroken xs f = (x : Expr) × Among x xs × IsBroken x f
 
-  look_from : {B : Breach → Type 0} (xs : List Expr) (so : Result (Unit {0}) g.Reported) → ((x : Expr) → Among x xs → IsFound x) → Tells g j lawful Elsewhere B so → Tells g j lawful Elsewhere (λ f. B f ⊎ AnyBroken xs f) (fold (with_look g s) so (map (meant g) xs))
+  look_from : {B : Breach → Type 0} (xs : List Expr) (so : Result (Unit {0}) g.Reported) → ((x : Expr) → Among x xs → IsFound x) → Tells g j lawful Elsewhere B so → Tells g j lawful Elsewhere (λ f. B f ⊎ AnyBroken xs f) (fold (with_look g s) so (map (meanings_of g) xs))
   look_from [] so h t = tells_as g j lawful Elsewhere (λ f b. inl b) (λ f b. elim b [ inl x ↦ x | inr x ↦ elim x.1 [ ] ]) t
   look_from {B = B} (x ∷ xs) so h t = tells_as g j lawful Elsewhere {C = λ f. B f ⊎ AnyBroken (x ∷ xs) f} (λ f b. elim b [ inl c ↦ elim c [ inl d ↦ inl d | inr d ↦ inr (x, here, d) ] | inr c ↦ inr (c.0, later c.1, c.2) ]) (λ f b. apart f b)
       (look_from {B = λ f. B f ⊎ IsBroken x f} xs _ (λ z m. h z (later m)) (beside_tells g j lawful Elsewhere t (heading_tells g j lawful Elsewhere (h x here))))
@@ -114,5 +114,5 @@ module _ (g : Gathers) (j : Judges g) (lawful : Lawful g j) (names : Ident → S
       apart f (inl b) = inl (inl b)
       apart f (inr (z, m, b)) = among f m b
 
-  pub look_tells : (xs : List Expr) → ((x : Expr) → Among x xs → IsFound x) → Tells g j lawful Elsewhere (AnyBroken xs) (looked_at g s (map (meant g) xs))
+  pub look_tells : (xs : List Expr) → ((x : Expr) → Among x xs → IsFound x) → Tells g j lawful Elsewhere (AnyBroken xs) (breaches_in_all g s (map (meanings_of g) xs))
   look_tells xs h = tells_as g j lawful Elsewhere (λ f b. elim b [ inl x ↦ absurd x | inr x ↦ x ]) (λ f b. inr b) (look_from {B = λ f. ⊥} xs (Ok tt) h (silent (λ f b. b)))

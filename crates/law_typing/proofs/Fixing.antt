@@ -30,7 +30,7 @@ use Rattle.check_const_ops.specs.Operands.{operand_of}
 use Rattle.check_const_ops.specs.Operate as operate
 use Rattle.check_const.specs.declared.denoted.Denoted.{Denoted}
 use Rattle.check_const.specs.declared.denoted.Denoted.TheVariants as denoted
-use Rattle.check_const.specs.Denote.{denoted_by, denoted_of, as_constant, of_value, component, exported, exported_by}
+use Rattle.check_const.specs.Denote.{denoted_by, denoted_of, as_constant, of_value, component, export_of, exported_by}
 use Rattle.check_const.specs.Parts as constants
 use Rattle.check_operator.specs.Operations.{of_value as computed_of}
 use Rattle.check_expr.specs.Meanings.{Meant, Picks, picks, head, selector_layer}
@@ -158,7 +158,7 @@ module _ (g : Gathers) (j : Judges g) (lawful : Lawful g j) (names : Ident → S
   pub name_fixes : (name : Ident) → NamedSo name.pos (names name) (denoted_of (looked_up g s name))
   name_fixes name = seen_fixes name (names name) (looked_up g s name) refl refl (knows.of_names name)
 
-  export_fixes : (at : Pos) (st : Standing) (m : Option Meaning) → Exports g j st m → NamedSo at st (exported g at m ▷ λ m. Ok (denoted_by m))
+  export_fixes : (at : Pos) (st : Standing) (m : Option Meaning) → Exports g j st m → NamedSo at st (export_of g at m ▷ λ m. Ok (denoted_by m))
   export_fixes at _ _ (has_exported m) = fixes_meaning m
   export_fixes at _ _ has_nothing = declined g j lawful E at rule.NotExported (λ x z. z) (record { not_ahead = λ z. absurd cc; misnamed = not_exported }) only_not_exported
 

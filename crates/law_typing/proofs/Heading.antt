@@ -25,7 +25,7 @@ use Rattle.typed_tree.specs.Known.{made_in, predeclared_scalar, is_result, is_re
 use Rattle.check_scope.specs.declared.scope.Scope.{Scope}
 use Rattle.check_scope.specs.Elaborated.{Gathers}
 use Rattle.check_type_expr.specs.Named.{first_place, first_of}
-use Rattle.check_type_expr.specs.Headings.{formal_of, result_in, result_of, repeated, with_section, heading_of, with_parameter, procedure_type, procedure_made}
+use Rattle.check_type_expr.specs.Headings.{formal_of, result_in, result_of, formal_for_each, with_section, heading_of, with_parameter, procedure_type, procedure_made}
 use Rattle.def_typing.specs.Shapes.{predeclared_shape, shape_at, IsMade}
 use Rattle.def_typing.specs.Operators.{◌!◌}
 use Rattle.def_typing.specs.Things.{Standing}
@@ -133,16 +133,16 @@ module _ (g : Gathers) (j : Judges g) (lawful : Lawful g j) (names : Ident → S
 
   one_section : (x : Section) {M : List Formal → Type 0} {B : Breach → Type 0} {so : Result (List Formal) g.Reported} → Answers g j R IsList M B so
       → Answers g j R IsList (One M x) (λ f. B f ⊎ BN x.of.of f) (with_section g s so x)
-  one_section x {M = M} {B = B} h = exact g j lawful R {M = λ fs. (k : List Formal × Formal) × (M k.0 × FormalIs x k.1) × (fs ≡ k.0 ++ repeated k.1 x.names)} {B = λ f. (B f ⊎ BN x.of.of f) ⊎ ((k : List Formal × Formal) × (M k.0 × FormalIs x k.1) × ⊥)}
+  one_section x {M = M} {B = B} h = exact g j lawful R {M = λ fs. (k : List Formal × Formal) × (M k.0 × FormalIs x k.1) × (fs ≡ k.0 ++ formal_for_each k.1 x.names)} {B = λ f. (B f ⊎ BN x.of.of f) ⊎ ((k : List Formal × Formal) × (M k.0 × FormalIs x k.1) × ⊥)}
       (λ fs z. into z) (λ fs z. ((z.0, record { is_var = x.is_var; is_open = x.of.is_open; of = z.2.0 }), (z.1, (z.2.0, z.2.1, refl)), z.2.2))
       (λ f z. elim z [ inl y ↦ y | inr q ↦ absurd q.2 ]) (λ f z. inl z)
-      (then_answer g j lawful R {N = λ k fs. fs ≡ k.0 ++ repeated k.1 x.names} {D = λ k f. ⊥} (both_answer g j lawful R h (formal_answers x)) (λ p k i. made p k i))
+      (then_answer g j lawful R {N = λ k fs. fs ≡ k.0 ++ formal_for_each k.1 x.names} {D = λ k f. ⊥} (both_answer g j lawful R h (formal_answers x)) (λ p k i. made p k i))
     where
-      into : {fs : List Formal} → (k : List Formal × Formal) × (M k.0 × FormalIs x k.1) × (fs ≡ k.0 ++ repeated k.1 x.names) → One M x fs
-      into (k, (m, (t, n, e)), q) = (k.0, m, (t, n, q ∙ ap (λ (f : Formal). k.0 ++ repeated f x.names) e))
+      into : {fs : List Formal} → (k : List Formal × Formal) × (M k.0 × FormalIs x k.1) × (fs ≡ k.0 ++ formal_for_each k.1 x.names) → One M x fs
+      into (k, (m, (t, n, e)), q) = (k.0, m, (t, n, q ∙ ap (λ (f : Formal). k.0 ++ formal_for_each f x.names) e))
 
-      made : (p k : List Formal × Formal) → (p.0 ≡ k.0) × (p.1 ≡ k.1) → Answers g j R IsList (λ fs. fs ≡ k.0 ++ repeated k.1 x.names) (λ f. ⊥) (Ok (p.0 ++ repeated p.1 x.names))
-      made p k i = means (p.0 ++ repeated p.1 x.names) (k.0 ++ repeated k.1 x.names) (ap (λ (a : List Formal). a ++ repeated p.1 x.names) i.0 ∙ ap (λ (f : Formal). k.0 ++ repeated f x.names) i.1) refl (λ l e. e) (λ f z. z)
+      made : (p k : List Formal × Formal) → (p.0 ≡ k.0) × (p.1 ≡ k.1) → Answers g j R IsList (λ fs. fs ≡ k.0 ++ formal_for_each k.1 x.names) (λ f. ⊥) (Ok (p.0 ++ formal_for_each p.1 x.names))
+      made p k i = means (p.0 ++ formal_for_each p.1 x.names) (k.0 ++ formal_for_each k.1 x.names) (ap (λ (a : List Formal). a ++ formal_for_each p.1 x.names) i.0 ∙ ap (λ (f : Formal). k.0 ++ formal_for_each f x.names) i.1) refl (λ l e. e) (λ f z. z)
 
   formals_from : (xs : List Section) {M : List Formal → Type 0} {B : Breach → Type 0} {so : Result (List Formal) g.Reported} → Answers g j R IsList M B so
       → Answers g j R IsList (Joined M xs) (λ f. B f ⊎ AnyBroken xs f) (fold (with_section g s) so xs)

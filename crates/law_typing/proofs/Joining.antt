@@ -15,7 +15,7 @@ use Rattle.typed_tree.specs.declared.meaning.Value.{Value as ConstantValue}
 use Rattle.typed_tree.specs.declared.meaning.Value.TheVariants as value
 use Rattle.typed_tree.specs.Types.{are_same, boolean}
 use Rattle.m2_rule.specs.declared.breach.Breach.{Breach}
-use Rattle.check_scope.specs.Elaborated.{Gathers, reported, reported_where, ◌▷◌}
+use Rattle.check_scope.specs.Elaborated.{Gathers, report, reported_where, ◌▷◌}
 use Rattle.check_const_ops.specs.declared.operand.Ordinal.{Ordinal}
 use Rattle.check_const_ops.specs.declared.operand.Operand.{Operand}
 use Rattle.check_const_ops.specs.declared.operand.Operand.TheVariants as operands
@@ -34,7 +34,7 @@ use Rattle.check_operator.specs.declared.operate.SetStep.{SetStep}
 use Rattle.check_operator.specs.declared.operate.SetStep.TheVariants as set_step
 use Rattle.check_operator.specs.Sides.{side_of, known_of}
 use Rattle.check_operator.specs.Operations as elaborated
-use Rattle.check_operator.specs.Operations.{equality_of, set_step_of, is_in, on_procedures, between, by_known, operated, element_fits, of_value}
+use Rattle.check_operator.specs.Operations.{equality_of, set_step_of, is_in, on_procedures, between, by_known, operation_on, element_fits, of_value}
 use Rattle.def_typing.specs.Shapes.{Agree}
 use Rattle.def_typing.specs.Amounts as k
 use Rattle.def_typing.specs.Amounts.{Amount, Constant, Value, IsNumber, Fits, IsComputed, Gives, truth}
@@ -351,7 +351,7 @@ module _ (g : Gathers) (j : Judges g) (lawful : Lawful g j) (O : Breach → Type
   abbrev pub Joins : Kind → Kind → Result Computed g.Reported → Type 0
   Joins a b r = Answers g j O IsKind (Makes types op a b) (Misused types op spot left right a b) r
 
-  pub no_joining : {a b : Kind} → (AreOperands types op a b → ⊥) → Joins a b (reported g spot rule.WrongType)
+  pub no_joining : {a b : Kind} → (AreOperands types op a b → ⊥) → Joins a b (report g spot rule.WrongType)
   no_joining n = declined g j lawful O spot rule.WrongType (λ c m. n (operands_of types op m)) (rules.unfit n) (λ f m. only_unfit types op spot left right f n m)
 
   pub scalars_join : {a b : Amount} {r : Result Computed g.Reported} → Answers g j O IsScalar (Gives op a b) (Wrongly op spot left right a b) r → Joins (Scalar a) (Scalar b) r
@@ -374,7 +374,7 @@ module _ (g : Gathers) (j : Judges g) (lawful : Lawful g j) (O : Breach → Type
       one (inl (e, n, q)) = absurd (combines_only n m)
       one (inr (w, r, q)) = q ∙ ap (λ (x : Bool). Scalar (truth x)) (relates_one m r)
 
-  no_sets_join : {m n : Option ℕ} → (IsCombining op → ⊥) → (IsSetRelation op → ⊥) → Joins (Set m) (Set n) (reported g spot rule.WrongType)
+  no_sets_join : {m n : Option ℕ} → (IsCombining op → ⊥) → (IsSetRelation op → ⊥) → Joins (Set m) (Set n) (report g spot rule.WrongType)
   no_sets_join c r = no_joining (λ o. elim (sets_only types op o) [ inl x ↦ c x | inr x ↦ r x ])
 
   -- computed sets
@@ -415,7 +415,7 @@ module _ (g : Gathers) (j : Judges g) (lawful : Lawful g j) (O : Breach → Type
   pub constant_member_joins : (a : Ordinal) (bits : ℕ) → Joins (Scalar (Constant a.sort a.number)) (Set (Some bits)) (of_value (sets.member g op spot left a bits))
   constant_member_joins a bits = by_op op refl
     where
-      not_in : (IsMembership op → ⊥) → Joins (Scalar (Constant a.sort a.number)) (Set (Some bits)) (reported g spot rule.WrongType)
+      not_in : (IsMembership op → ⊥) → Joins (Scalar (Constant a.sort a.number)) (Set (Some bits)) (report g spot rule.WrongType)
       not_in n = no_joining (λ o. n (members_only types op o).0)
 
       is_member : IsMembership op → Joins (Scalar (Constant a.sort a.number)) (Set (Some bits)) (of_value (sets.member_of g spot left a bits))
@@ -442,7 +442,7 @@ module _ (g : Gathers) (j : Judges g) (lawful : Lawful g j) (O : Breach → Type
   pub constant_sets_join : (a b : ℕ) → Joins (Set (Some a)) (Set (Some b)) (of_value (sets.on_sets g op spot a b))
   constant_sets_join a b = by_op op refl
     where
-      neither : (IsCombining op → ⊥) → (IsSetRelation op → ⊥) → Joins (Set (Some a)) (Set (Some b)) (reported g spot rule.WrongType)
+      neither : (IsCombining op → ⊥) → (IsSetRelation op → ⊥) → Joins (Set (Some a)) (Set (Some b)) (report g spot rule.WrongType)
       neither c r = no_sets_join c r
 
       combining_by : {o : BinaryOp} {c : ℕ} → op ≡ o → Combines o a b c → Joins (Set (Some a)) (Set (Some b)) (Ok (computed.Constant (value.Set c)))
@@ -474,7 +474,7 @@ module _ (g : Gathers) (j : Judges g) (lawful : Lawful g j) (O : Breach → Type
   procedures_join x y _ p (equality c e) (fails_it n) = no_joining (λ o. n (procedures_only types op p o).1)
   procedures_join x y _ p (no_equality n) d = no_joining (λ o. n (procedures_only types op p o).0)
 
-  no_partner : {a b : Kind} → IsProcedural a → (AreRoutines types a b → ⊥) → Joins a b (reported g spot rule.WrongType)
+  no_partner : {a b : Kind} → IsProcedural a → (AreRoutines types a b → ⊥) → Joins a b (report g spot rule.WrongType)
   no_partner p n = no_joining (λ o. n (procedures_only types op p o).1)
 
   -- ---- values of which one is no constant
@@ -563,5 +563,5 @@ module _ (g : Gathers) (j : Judges g) (lawful : Lawful g j) (O : Breach → Type
   by_known_answers x y (known_set a) (known_set b) s t = constant_sets_join a b
 
   -- what an operator makes of two operands
-  pub operated_answers : {x y : Computed} {a b : Kind} → IsKind x a → IsKind y b → Joins (operand a) (operand b) (operated g types op spot left x right y)
+  pub operated_answers : {x y : Computed} {a b : Kind} → IsKind x a → IsKind y b → Joins (operand a) (operand b) (operation_on g types op spot left x right y)
   operated_answers {x = x} {y = y} i m = by_known_answers x y (known_is i) (known_is m) (side_is i) (side_is m)

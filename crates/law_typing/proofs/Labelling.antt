@@ -14,9 +14,9 @@ use Rattle.check_scope.specs.Elaborated.{Gathers, reported_where, beside}
 use Rattle.check_const_ops.specs.declared.operand.Ordinal.{Ordinal}
 use Rattle.check_const_ops.specs.Numbers.{fits}
 use Rattle.check_const_ops.specs.Common.{common}
-use Rattle.check_expr.specs.Meanings.{meant}
+use Rattle.check_expr.specs.Meanings.{meanings_of}
 use Rattle.check_stmt_parts.specs.Simple.{meant_if}
-use Rattle.check_stmt_parts.specs.Labels.{bound_of, is_of_base, number_fits, suits_base, bound_suits, single, ordered_if, are_ordered, spanned, label_between, item_label}
+use Rattle.check_stmt_parts.specs.Labels.{bound_of, is_of_base, number_fits, suits_base, bound_suits, single, ordered_if, are_ordered, label_range, label_between, item_label}
 use Rattle.def_typing.specs.Amounts.{Constant, IsWhole, whole, GoTogether, same_type, number_right, InRange, Suits, has_type, not_asked, takes_type}
 use Rattle.def_typing.specs.Operators.{◌!◌}
 use Rattle.def_typing.specs.Things.{Standing}
@@ -158,7 +158,7 @@ module _ (g : Gathers) (j : Judges g) (lawful : Lawful g j) (O : Breach → Type
     abbrev Both : Type 0
     Both = (Number × Number) × Unit {0}
 
-    pub range_answers : Answers g j O IsSpan RangeIs RangeFails (spanned g base at a at' b)
+    pub range_answers : Answers g j O IsSpan RangeIs RangeFails (label_range g base at a at' b)
     range_answers = exact g j lawful O {M = λ x. (k : Both) × ((M k.0.0 × N k.0.1) × Fitting) × (x ≡ (k.0.0.1, k.0.1.1))} {B = λ f. ((B f ⊎ C f) ⊎ Unfit f) ⊎ ((k : Both) × ((M k.0.0 × N k.0.1) × Fitting) × ⊥)}
         (λ x z. into x z) (λ x z. out x z) (λ f z. fails_in f z) (λ f z. fails_out f z)
         (then_answer g j lawful O {N = λ k x. x ≡ (k.0.0.1, k.0.1.1)} {D = λ k f. ⊥} (both_answer g j lawful O (both_answer g j lawful O low high) (checks_answer g j lawful O all_fit)) (λ x k i. span_answers x.0.0 x.0.1 k.0.0 k.0.1 i.0.0 i.0.1))
@@ -278,11 +278,11 @@ module _ (g : Gathers) (j : Judges g) (lawful : Lawful g j) (names : Ident → S
     broken_two {f = f} (rules.misfits {sort = sort} {n = n} (high_bound e) b m) = inr (inl (inr ((sort, n), subst (λ (x : Expr). Bound x (sort, n)) (same_high e) b, subst (λ (x : Expr). Misfits (first x) base sort n f) (same_high e) m)))
     broken_two (rules.empty {s = s'} {t = t} {n = n} {m = m} e b c o) = inr (inr (((s', n), (t, m)), (b, subst (λ (x : Expr). Bound x (t, m)) (same_high e) c), (o, refl)))
 
-  label_by : IsPlain (out-Item i).low → (high : Option Expr) → (out-Item i).high ≡ high → ((e : Expr) → high ≡ Some e → IsPlain e) → LabelSo (label_between g s base (meant g (out-Item i).low) (meant_if g high))
-  label_by p None h q = subst (λ (at : Pos). LabelSo (single g base at (bound_of g s base at (meant g (out-Item i).low)))) (sym (at_is g p))
+  label_by : IsPlain (out-Item i).low → (high : Option Expr) → (out-Item i).high ≡ high → ((e : Expr) → high ≡ Some e → IsPlain e) → LabelSo (label_between g s base (meanings_of g (out-Item i).low) (meant_if g high))
+  label_by p None h q = subst (λ (at : Pos). LabelSo (single g base at (bound_of g s base at (meanings_of g (out-Item i).low)))) (sym (at_is g p))
       (exact g j lawful O (one_label h) (λ x z. label_one h z) one_broken (λ f z. broken_one h z) (single_answers g j lawful O {N = Bound (out-Item i).low} {C = BrokenBound (out-Item i).low} base at at (ordinal_answers g j lawful names exports s knows base at (out-Item i).low p) (ordinal_answers g j lawful names exports s knows base at (out-Item i).low p)))
-  label_by p (Some high) h q = subst (λ (at : Pos). LabelSo (spanned g base at (bound_of g s base at (meant g (out-Item i).low)) (meant g high).fixed.at (bound_of g s base at (meant g high)))) (sym (at_is g p))
-      (subst (λ (at' : Pos). LabelSo (spanned g base at (bound_of g s base at (meant g (out-Item i).low)) at' (bound_of g s base at (meant g high)))) (sym (at_is g (q high refl)))
+  label_by p (Some high) h q = subst (λ (at : Pos). LabelSo (label_range g base at (bound_of g s base at (meanings_of g (out-Item i).low)) (meanings_of g high).fixed.at (bound_of g s base at (meanings_of g high)))) (sym (at_is g p))
+      (subst (λ (at' : Pos). LabelSo (label_range g base at (bound_of g s base at (meanings_of g (out-Item i).low)) at' (bound_of g s base at (meanings_of g high)))) (sym (at_is g (q high refl)))
       (exact g j lawful O (two_label high h) (λ x z. label_two high h z) (two_broken high h) (λ f z. broken_two high h z) (range_answers g j lawful O base at (first high) (ordinal_answers g j lawful names exports s knows base at (out-Item i).low p) (ordinal_answers g j lawful names exports s knows base at high (q high refl)))))
 
   pub label_answers : IsPlain (out-Item i).low → ((e : Expr) → (out-Item i).high ≡ Some e → IsPlain e) → LabelSo (item_label g s base i)

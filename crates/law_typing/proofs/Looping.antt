@@ -21,10 +21,10 @@ use Rattle.typed_tree.specs.declared.shape.Shape.TheVariants as shape
 use Rattle.check_scope.specs.declared.meaningless.Meaningless.{Meaningless}
 use Rattle.check_scope.specs.declared.scope.Scope.{Scope}
 use Rattle.check_scope.specs.Scopes.{looked_up}
-use Rattle.check_scope.specs.Elaborated.{Gathers, reported, reported_where, of_sort, ◌▷◌}
+use Rattle.check_scope.specs.Elaborated.{Gathers, report, reported_where, of_sort, ◌▷◌}
 use Rattle.check_const_ops.specs.declared.operand.Ordinal.{Ordinal}
 use Rattle.check_const_ops.specs.Numbers.{fits}
-use Rattle.check_const_ops.specs.Sets.{numbered}
+use Rattle.check_const_ops.specs.Sets.{ordinal_or_refusal}
 use Rattle.check_const_ops.specs.Standards.{whole_number}
 use Rattle.check_const.specs.Parts.{constant}
 use Rattle.check_operator.specs.declared.class.Class.{Class}
@@ -33,11 +33,11 @@ use Rattle.check_operator.specs.declared.side.Amount.TheVariants.{Known as Known
 use Rattle.check_operator.specs.declared.side.Side.{Side}
 use Rattle.check_operator.specs.Sides.{side_of}
 use Rattle.check_operator.specs.Suits.{sort_suits, bases_suit, value_suited}
-use Rattle.check_expr.specs.Meanings.{meant, value_of}
+use Rattle.check_expr.specs.Meanings.{meanings_of, value_of}
 use Rattle.check_stmt_parts.specs.declared.control.Control.{Control}
 use Rattle.check_stmt_parts.specs.declared.control.Course.{Course}
 use Rattle.check_stmt_parts.specs.Simple.{meant_if}
-use Rattle.check_stmt_parts.specs.Control.{controlled_as, controlled, is_own, control_by, control_of, start_at, limit_number, limit_by, limit_at, is_zero, step_number, step_by, step_of, type_of, base_of, course_of}
+use Rattle.check_stmt_parts.specs.Control.{controlled_as, control_variable, is_own, control_by, control_of, start_at, limit_number, limit_by, limit_at, is_zero, step_number, step_by, step_of, type_of, base_of, course_of}
 use Rattle.def_typing.specs.Shapes.{shape_at, IsMade}
 use Rattle.def_typing.specs.Amounts.{Constant, Value, IsNumber, InRange, Suits, has_type, is_value, takes_type}
 use Rattle.def_typing.specs.Amounts as amounts
@@ -67,7 +67,7 @@ module _ (g : Gathers) (j : Judges g) (lawful : Lawful g j) (O : Breach → Type
   abbrev LimitSo : Kind → Result TypedExpr g.Reported → Type 0
   LimitSo k r = Checks g j lawful O (IsLimit base k) (λ f. Mislimits base at k f) r
 
-  limit_not : {k : Kind} → (SuitsLimit base k → ⊥) → LimitSo k (reported g at rule.NotAssignable)
+  limit_not : {k : Kind} → (SuitsLimit base k → ⊥) → LimitSo k (report g at rule.NotAssignable)
   limit_not {k = k} n = stopped g j lawful O at rule.NotAssignable (λ m. n m.suits) (no_limit n) (λ f z. one z)
     where
       one : {f : Breach} → Mislimits base at k f → f ≡ at ! rule.NotAssignable
@@ -81,7 +81,7 @@ module _ (g : Gathers) (j : Judges g) (lawful : Lawful g j) (O : Breach → Type
       none (no_limit q) = q s
       none (not_in_base c q) = q i
 
-  limit_beyond : {k : Kind} → SuitsLimit base k → (IsOfBase base k → ⊥) → LimitSo k (reported g at rule.OutOfRange)
+  limit_beyond : {k : Kind} → SuitsLimit base k → (IsOfBase base k → ⊥) → LimitSo k (report g at rule.OutOfRange)
   limit_beyond {k = k} s n = stopped g j lawful O at rule.OutOfRange (λ m. n m.in_base) (not_in_base s n) (λ f z. one z)
     where
       one : {f : Breach} → Mislimits base at k f → f ≡ at ! rule.OutOfRange
@@ -168,7 +168,7 @@ module _ (g : Gathers) (j : Judges g) (lawful : Lawful g j) (O : Breach → Type
   nonzero : (a : Ordinal) (p : Option TypeNo × ℤ) → IsOrdinal a p → Checks g j lawful O {A = ℤ} (p.1 ≡ pos 0 → ⊥) (λ f. (p.1 ≡ pos 0) × (f ≡ at ! rule.ZeroStep)) (reported_where g (is_zero a.number) at rule.ZeroStep (Ok a.number))
   nonzero _ _ (is_ordinal a) = zero_by a.number (is_zero a.number) (zero_decided a.number)
 
-  step_is : (o : Option Ordinal) → (numbered g at o ▷ λ a. reported_where g (is_zero a.number) at rule.ZeroStep (Ok a.number)) ≡ step_number g at o
+  step_is : (o : Option Ordinal) → (ordinal_or_refusal g at o ▷ λ a. reported_where g (is_zero a.number) at rule.ZeroStep (Ok a.number)) ≡ step_number g at o
   step_is None = refl
   step_is (Some a) = refl
 
@@ -205,7 +205,7 @@ module _ (g : Gathers) (j : Judges g) (lawful : Lawful g j) (names : Ident → S
   misnamed_known : {name : Ident} {x : Thing} {f : Breach} → names name ≡ Known x → Misnamed name.pos (names name) f → ⊥
   misnamed_known {name = name} {f = f} e m = elim (subst (λ (st : Standing). Misnamed name.pos st f) e m) [ ]
 
-  wrong_control : {x : Thing} (name : Ident) → names name ≡ Known x → ((t : TypeNo) (r : Range) → C name t r → ⊥) → ControlSo name (reported g name.pos rule.WrongControl)
+  wrong_control : {x : Thing} (name : Ident) → names name ≡ Known x → ((t : TypeNo) (r : Range) → C name t r → ⊥) → ControlSo name (report g name.pos rule.WrongControl)
   wrong_control name e n = declined g j lawful E name.pos rule.WrongControl (λ p m. n p.0 p.1 m) (no_control e n) (λ f z. one z)
     where
       one : {f : Breach} → BC name f → f ≡ name.pos ! rule.WrongControl
@@ -240,12 +240,12 @@ module _ (g : Gathers) (j : Judges g) (lawful : Lawful g j) (names : Ident → S
   control_shape name t d (Some (shape.Procedure p)) e o h = wrong_control name e (no_scalar _ e h (λ r q. absurd cc))
   control_shape name t d (Some (shape.Open u)) e o h = wrong_control name e (no_scalar _ e h (λ r q. absurd cc))
 
-  variable_control : (name : Ident) (t : TypeNo) (d : Place) (b : Bool) → names name ≡ Known (AVariable t) → own name ≡ b → ControlSo name (reported_where g (not b) name.pos rule.WrongControl (controlled g s.types name.pos t d))
+  variable_control : (name : Ident) (t : TypeNo) (d : Place) (b : Bool) → names name ≡ Known (AVariable t) → own name ≡ b → ControlSo name (reported_where g (not b) name.pos rule.WrongControl (control_variable g s.types name.pos t d))
   variable_control name t d true e o = subst (λ (c : Class). ControlSo name (controlled_as g name.pos t d c)) (sym (class_is s.types t)) (control_shape name t d (shape_at s.types t) e o refl)
   variable_control name t d false e o = wrong_control name e (not_own o)
 
   local_control : (name : Ident) (t : TypeNo) (d : Place) (k : LocalKind) (same : Bool) → names name ≡ of_local t k → own name ≡ (is_own k && same)
-      → ControlSo name (reported_where g (not (is_own k && same)) name.pos rule.WrongControl (controlled g s.types name.pos t d))
+      → ControlSo name (reported_where g (not (is_own k && same)) name.pos rule.WrongControl (control_variable g s.types name.pos t d))
   local_control name t d local.Variable same e o = variable_control name t d same e o
   local_control name t d local.Value same e o = variable_control name t d false e o
   local_control name t d local.Alias same e o = variable_control name t d false e o
@@ -331,8 +331,8 @@ module _ (g : Gathers) (j : Judges g) (lawful : Lawful g j) (names : Ident → S
     mapped h c (means a k i m u n) = means (h a) k (c a k i) m u n
     mapped h c (refuses r a n) = refuses r a n
 
-    start_checks : (name : Ident) (e : Expr) → IsPlain e → Checks g j lawful E {A = TypedExpr} (Starts name e) (StartFails name e) (start_at g s.types (meant g e).fixed.at (type_of (control_of g s name)) (value_of g s (meant g e)))
-    start_checks name e i = subst (λ (at : Pos). Checks g j lawful E {A = TypedExpr} (Starts name e) (StartFails name e) (start_at g s.types at (type_of (control_of g s name)) (value_of g s (meant g e)))) (sym (at_is g i))
+    start_checks : (name : Ident) (e : Expr) → IsPlain e → Checks g j lawful E {A = TypedExpr} (Starts name e) (StartFails name e) (start_at g s.types (meanings_of g e).fixed.at (type_of (control_of g s name)) (value_of g s (meanings_of g e)))
+    start_checks name e i = subst (λ (at : Pos). Checks g j lawful E {A = TypedExpr} (Starts name e) (StartFails name e) (start_at g s.types at (type_of (control_of g s name)) (value_of g s (meanings_of g e)))) (sym (at_is g i))
         (then_check g j lawful E {P = λ q. IsAssignable s.types q.0.0 (operand q.1)} {D = λ q f. Misassigned s.types q.0.0 (first e) rule.NotAssignable (operand q.1) f}
         (both_answer g j lawful E (mapped {Is' = λ t p. t ≡ p.0} (λ c. c.of) (λ c p z. z.0) (control_answers name)) (exactly g j lawful names exports s knows e i))
         (λ v q m. subst (λ (u : TypeNo). Checks g j lawful E (IsAssignable s.types u (operand q.1)) (Misassigned s.types u (first e) rule.NotAssignable (operand q.1)) (value_suited g rule.NotAssignable s.types v.0 (first e) v.1)) m.0
@@ -345,8 +345,8 @@ module _ (g : Gathers) (j : Judges g) (lawful : Lawful g j) (names : Ident → S
     abbrev LimitFails : Ident → Expr → Breach → Type 0
     LimitFails name e f = (BC name f ⊎ V e f) ⊎ ((q : (TypeNo × Range) × Kind) × (C name q.0.0 q.0.1 × H e q.1) × Mislimits q.0.1.base (first e) (operand q.1) f)
 
-    limit_checks : (name : Ident) (e : Expr) → IsPlain e → Checks g j lawful E {A = TypedExpr} (Limits name e) (LimitFails name e) (limit_at g (meant g e).fixed.at (base_of (control_of g s name)) (value_of g s (meant g e)))
-    limit_checks name e i = subst (λ (at : Pos). Checks g j lawful E {A = TypedExpr} (Limits name e) (LimitFails name e) (limit_at g at (base_of (control_of g s name)) (value_of g s (meant g e)))) (sym (at_is g i))
+    limit_checks : (name : Ident) (e : Expr) → IsPlain e → Checks g j lawful E {A = TypedExpr} (Limits name e) (LimitFails name e) (limit_at g (meanings_of g e).fixed.at (base_of (control_of g s name)) (value_of g s (meanings_of g e)))
+    limit_checks name e i = subst (λ (at : Pos). Checks g j lawful E {A = TypedExpr} (Limits name e) (LimitFails name e) (limit_at g at (base_of (control_of g s name)) (value_of g s (meanings_of g e)))) (sym (at_is g i))
         (then_check g j lawful E {P = λ q. IsLimit q.0.1.base (operand q.1)} {D = λ q f. Mislimits q.0.1.base (first e) (operand q.1) f}
         (both_answer g j lawful E (mapped {Is' = λ b p. b ≡ p.1.base} (λ c. c.base) (λ c p z. z.1) (control_answers name)) (exactly g j lawful names exports s knows e i))
         (λ v q m. subst (λ (u : TypeNo). Checks g j lawful E (IsLimit u (operand q.1)) (Mislimits u (first e) (operand q.1)) (limit_by g v.0 (first e) (side_of v.1))) m.0
@@ -362,7 +362,7 @@ module _ (g : Gathers) (j : Judges g) (lawful : Lawful g j) (names : Ident → S
 
     step_answer : (step : Option Expr) → ((e : Expr) → step ≡ Some e → IsCallFree e) → Checks g j lawful E {A = ℤ} (Steps step) (StepBreaks step) (step_of g s (meant_if g step))
     step_answer None i = passes (pos 1) by_one (λ f z. elim z [ ])
-    step_answer (Some e) i = subst (λ (at : Pos). Checks g j lawful E {A = ℤ} (Steps (Some e)) (StepBreaks (Some e)) (constant g s (meant g e).fixed ▷ step_by g at)) (sym (free_at g (i e refl)))
+    step_answer (Some e) i = subst (λ (at : Pos). Checks g j lawful E {A = ℤ} (Steps (Some e)) (StepBreaks (Some e)) (constant g s (meanings_of g e).fixed ▷ step_by g at)) (sym (free_at g (i e refl)))
         (checks_as g j lawful E (λ z. by_constant z.1 z.2) step_parts (λ f z. elim z [ inl b ↦ breaks_constant b | inr q ↦ breaks_step q.1 q.2 ]) broken_parts
         (then_check g j lawful E {P = λ k. IsStep (operand k)} {D = λ k f. Missteps (first e) (operand k) f} (exactly_fixed g j lawful names exports s knows e (i e refl)) (λ v k q. step_checks g j lawful E (first e) q)))
       where
@@ -416,7 +416,7 @@ module _ (g : Gathers) (j : Judges g) (lawful : Lawful g j) (names : Ident → S
     breaks_out f (rules.wrong_step h m) = inr (inr (breaks_step h m))
 
     pub run_answers : (name : Ident) (start limit : Expr) (step : Option Expr) → IsPlain start → IsPlain limit → ((e : Expr) → step ≡ Some e → IsCallFree e)
-        → Answers g j E {A = Course} {K = Unit {0}} (λ v u. Unit {0}) (λ u. R name start limit step) (BR name start limit step) (course_of g s name (meant g start) (meant g limit) (meant_if g step))
+        → Answers g j E {A = Course} {K = Unit {0}} (λ v u. Unit {0}) (λ u. R name start limit step) (BR name start limit step) (course_of g s name (meanings_of g start) (meanings_of g limit) (meant_if g step))
     run_answers name start limit step i k c = checks_answer g j lawful E (checks_as g j lawful E run_in run_out breaks_in breaks_out
         (map_checks g j lawful E (λ (p : (Control × TypedExpr) × (TypedExpr × ℤ)). let q : Course = record { control = p.0.0; start = p.0.1; limit = p.1.0; by = p.1.1 } in q)
         (both_checks g j lawful E (both_checks g j lawful E (control_checks name) (start_checks name start i)) (both_checks g j lawful E (limit_checks name limit k) (step_answer step c)))))

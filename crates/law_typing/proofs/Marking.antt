@@ -14,12 +14,12 @@ use Rattle.m2_tree.specs.declared.decl.TypeExpr.TheOpen as layer
 use Rattle.m2_tree.specs.declared.decl.Decl.{Decl, Decl-F, out-Decl}
 use Rattle.m2_tree.specs.declared.decl.Decl.TheOpen as decl
 use Rattle.m2_tree.specs.declared.decl.Block.{Block}
-use Rattle.typed_tree.specs.Names.{found}
+use Rattle.typed_tree.specs.Names.{find_name}
 use Rattle.check_scope.specs.declared.known.Known.{Known}
 use Rattle.check_scope.specs.declared.known.Known.TheVariants as known
 use Rattle.check_scope.specs.declared.scope.Scope.{Scope}
 use Rattle.check_scope.specs.Elaborated.{Gathers}
-use Rattle.check_scope.specs.Scopes.{unless_marked, marked}
+use Rattle.check_scope.specs.Scopes.{unless_marked, mark_name}
 use Rattle.check_definition.specs.Marking as marking
 use Rattle.check_definition.specs.Marking.{Marks, marked_later, marked_in, marked_field, marked_constant, marked_type, marked_variables}
 use Rattle.check_block.specs.Naming.{marked_layer, marked_decl, with_marks, all_marked}
@@ -109,7 +109,7 @@ module _ {T : Type 0} where
   named_marks e (plain_array {of = of} {at = at} {index = x} h i k) s = ap (λ (m : Marks T). m s) (marks_at e (layer.Array at x of) h) ∙ ap (λ (t : Scope T). marked_in of t) (simple_marks x i s) ∙ named_marks of k s
 
 module _ (g : Gathers) (j : Judges g) (exports : ℕ → Ident → Standing) (outside : Ident → Standing) (start : Scope g.Reported) (taken : List ℕ → Bool) (nested : Bool) (block : List Declaration)
-    (takes : (n : List ℕ) → TakenAs g j (taken n) (found n start.own)) where
+    (takes : (n : List ℕ) → TakenAs g j (taken n) (find_name n start.own)) where
   abbrev K : Type 0
   K = Known g.Reported
 
@@ -124,13 +124,13 @@ module _ (g : Gathers) (j : Judges g) (exports : ℕ → Ident → Standing) (ou
   Unmarked M n = (k : K) → M n k → ⊥
 
   data MarkedAs (M : MarkedNames) (n : List ℕ) : Option K → Type 0 where
-    at_start : {k : Option K} → taken n ≡ true → k ≡ found n start.own → MarkedAs M n k
+    at_start : {k : Option K} → taken n ≡ true → k ≡ find_name n start.own → MarkedAs M n k
     is_marked : {k : K} → taken n ≡ false → M n k → MarkedAs M n (Some k)
     is_unmarked : taken n ≡ false → Unmarked M n → MarkedAs M n None
 
   record Marking (M : MarkedNames) (s : Scope g.Reported) : Type 0 where
     same : SameScope s
-    marks : (n : List ℕ) → MarkedAs M n (found n s.own)
+    marks : (n : List ℕ) → MarkedAs M n (find_name n s.own)
 
   marked_one : {P Q : MarkedNames} {n : List ℕ} {k : Option K} → ((k : K) → P n k → Q n k) → ((k : K) → Q n k → P n k) → MarkedAs P n k → MarkedAs Q n k
   marked_one pq qp (at_start t e) = at_start t e
@@ -166,7 +166,7 @@ module _ (g : Gathers) (j : Judges g) (exports : ℕ → Ident → Standing) (ou
       marks = entered_all (λ n o. MarkedAs Next n o) x.name l s.own (is_marked t (inr (c, refl, refl))) (λ n z. mark_more (λ e. absurd (z e)) (m.marks n));
     }
 
-    mark_one : {s : Scope g.Reported} → Marking M s → Marking Next (marked x l s)
+    mark_one : {s : Scope g.Reported} → Marking M s → Marking Next (mark_name x l s)
     mark_one {s = s} m = marks_by m (m.marks x.name)
 
   -- ---- names of one declaration
@@ -197,7 +197,7 @@ module _ (g : Gathers) (j : Judges g) (exports : ℕ → Ident → Standing) (ou
   abbrev With : MarkedNames → Declaration → MarkedNames
   With M d = Names M (names_of d) (mark_of d)
 
-  one_with : (d : Declaration) (x : Ident) → names_of d ≡ x ∷ [] → (M : MarkedNames) (s : Scope g.Reported) → Marking M s → Marking (With M d) (marked x (mark_of d) s)
+  one_with : (d : Declaration) (x : Ident) → names_of d ≡ x ∷ [] → (M : MarkedNames) (s : Scope g.Reported) → Marking M s → Marking (With M d) (mark_name x (mark_of d) s)
   one_with d x e M s m = marking_as (λ n k z. to n k z) (λ n k z. from n k z) (mark_one M x (mark_of d) m)
     where
       to : (n : List ℕ) (k : K) → Next M x (mark_of d) n k → With M d n k
@@ -216,7 +216,7 @@ module _ (g : Gathers) (j : Judges g) (exports : ℕ → Ident → Standing) (ou
   constant_marks c M s m = one_with (OfConstant c) c.name refl M s m
 
   type_marks : (d : TypeDecl) → IsPlainType d.of → (M : MarkedNames) (s : Scope g.Reported) → Marking M s → Marking (With M (OfType d)) (marked_type s d)
-  type_marks d i M s m = subst (Marking (With M (OfType d))) (sym (named_marks d.of i (marked d.name known.Later s))) (one_with (OfType d) d.name refl M s m)
+  type_marks d i M s m = subst (Marking (With M (OfType d))) (sym (named_marks d.of i (mark_name d.name known.Later s))) (one_with (OfType d) d.name refl M s m)
 
   variable_marks : (v : Variables) → IsPlainType v.of → (M : MarkedNames) (s : Scope g.Reported) → Marking M s → Marking (With M (OfVariables v)) (marked_variables s v)
   variable_marks v i M s m = subst (Marking (With M (OfVariables v))) (sym (named_marks v.of i (fold marked_later s v.names))) (mark_names v.names M m)
@@ -276,12 +276,12 @@ module _ (g : Gathers) (j : Judges g) (exports : ℕ → Ident → Standing) (ou
   abbrev Nothing : MarkedNames
   Nothing n k = ⊥
 
-  start_marks : (n : List ℕ) (t : Bool) → taken n ≡ t → (o : Option K) → o ≡ found n start.own → TakenAs g j t o → MarkedAs Nothing n o
+  start_marks : (n : List ℕ) (t : Bool) → taken n ≡ t → (o : Option K) → o ≡ find_name n start.own → TakenAs g j t o → MarkedAs Nothing n o
   start_marks n true q o e t = at_start q e
   start_marks n false q _ e not_taken = is_unmarked q (λ k z. z)
 
   begins : start.withs ≡ [] → Marking Nothing start
-  begins e = record { same = record { withs = e; outer = refl; types = refl; tables = refl; level = refl }; marks = λ n. start_marks n (taken n) refl (found n start.own) refl (takes n) }
+  begins e = record { same = record { withs = e; outer = refl; types = refl; tables = refl; level = refl }; marks = λ n. start_marks n (taken n) refl (find_name n start.own) refl (takes n) }
 
   abbrev Th : List ℕ → Type 0
   Th n = There start.types exports outside taken nested block [] n

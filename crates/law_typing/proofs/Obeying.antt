@@ -17,12 +17,12 @@ use Rattle.typed_tree.specs.declared.computed.TypedExpr.{TypedExpr}
 use Rattle.typed_tree.specs.declared.statement.TypedStmt.{TypedStmt}
 use Rattle.typed_tree.specs.declared.statement.TypedStmt.TheVariants as typed
 use Rattle.check_scope.specs.declared.scope.Scope.{Scope}
-use Rattle.check_scope.specs.Elaborated.{Gathers, reported, reported_where, of_sort, ahead, ◌▷◌}
-use Rattle.check_expr.specs.Meanings.{meant, head}
+use Rattle.check_scope.specs.Elaborated.{Gathers, report, reported_where, of_sort, ahead, ◌▷◌}
+use Rattle.check_expr.specs.Meanings.{meanings_of, head}
 use Rattle.check_stmt_parts.specs.declared.around.Around.{Around}
 use Rattle.check_stmt_parts.specs.declared.control.Course.{Course}
 use Rattle.check_stmt_parts.specs.Lists.{within, reported_in}
-use Rattle.check_stmt_parts.specs.Simple.{in_loop, exited, condition, record_by, record_of, opened_type, opened, opened_if}
+use Rattle.check_stmt_parts.specs.Simple.{in_loop, exit_statement, condition, record_by, record_of, opened_type, into_record, opened_if}
 use Rattle.check_stmt.specs.Statements.{Elaborates, ElaboratesRest, ElaboratesArm, with_stmt, all_of, stmt_layer, rest_layer, arm_layer, stmt, rest, arm}
 use Rattle.typed_tree.specs.declared.known_types.Types.{Types}
 use Rattle.typed_tree.specs.declared.computed.Place.{Place}
@@ -307,14 +307,14 @@ module _ (g : Gathers) (j : Judges g) (lawful : Lawful g j) (exports : ℕ → I
     list_checks : (xs : List Stmt) → ((x : Stmt) → Among x xs → StmtSo x (stmt g x s a)) → ListSo xs (all_of g s a (map (stmt g) xs))
     list_checks xs h = checks_as g j lawful (O w s a) (λ p. p.1) (λ p. (tt, p)) (λ f b. elim b [ inl z ↦ absurd z | inr z ↦ z ]) (λ f b. inr b) (list_from xs h {P = Unit {0}} {B = λ f. ⊥} (Ok []) (passes [] tt (λ f b. b)))
 
-    condition_checks : (k : Known w s a) (c : Expr) → IsPlain c → Checks g j lawful (O w s a) {A = TypedExpr} (IsCondition s.types w.names exports c) (BrokenCondition s.types w.names exports c) (condition g s (meant g c))
+    condition_checks : (k : Known w s a) (c : Expr) → IsPlain c → Checks g j lawful (O w s a) {A = TypedExpr} (IsCondition s.types w.names exports c) (BrokenCondition s.types w.names exports c) (condition g s (meanings_of g c))
     condition_checks k c i = unit_checks g j lawful {M = λ u. IsCondition s.types w.names exports c} (λ f o. inl o) (condition_answers g j lawful w.names exports s k.of_names c i)
 
     call_layer : (k : Known w s a) (d : Designator) (args : Option (List Expr)) → ArePlainSelectors (out-Designator d).selectors → ArePlain (arguments args) → LayerSo (layer.Call d args) (stmt_layer g (opened_stmt g (layer.Call d args)) s a)
     call_layer k d None p q = checks_as g j lawful (O w s a) call (action_of s.types exports) (λ f b. rules.in_call b) (broken_action s.types exports) (unit_checks g j lawful {M = λ u. IsAction s.types w.names exports d []} (λ f o. inl o) (action_answers g j lawful w.names exports s k.of_names d [] p q))
     call_layer k d (Some args) p q = checks_as g j lawful (O w s a) call (action_of s.types exports) (λ f b. rules.in_call b) (broken_action s.types exports) (unit_checks g j lawful {M = λ u. IsAction s.types w.names exports d args} (λ f o. inl o) (action_answers g j lawful w.names exports s k.of_names d args p q))
 
-    exit_layer : (k : Known w s a) (at : Pos) → LayerSo (layer.Exit at) (exited g at a)
+    exit_layer : (k : Known w s a) (at : Pos) → LayerSo (layer.Exit at) (exit_statement g at a)
     exit_layer k at = checks_as g j lawful (O w s a) (λ m. exit (subst IsExit (sym k.of_loop) m)) (λ m. subst IsExit k.of_loop (exit_of s.types exports m)) (λ f b. rules.at_exit (subst (λ (l : Bool). BrokenExit at l f) (sym k.of_loop) b)) (λ f b. subst (λ (l : Bool). BrokenExit at l f) k.of_loop (exit_out s.types exports f b))
         (unit_checks g j lawful {M = λ u. IsExit a.in_loop} (λ f o. o) (exit_answers g j lawful (O w s a) at a))
 
@@ -332,7 +332,7 @@ module _ (g : Gathers) (j : Judges g) (lawful : Lawful g j) (exports : ℕ → I
     abbrev RecordSo : Thing → Result (TypeNo × Place) g.Reported → Type 0
     RecordSo x r = Answers g j U (λ v t. v.0 ≡ t) (RecordIs s.types exports x) (NoRecord s.types exports (out-Designator d).name.pos x) r
 
-    no_record_there : {x : Thing} → ((t : TypeNo) (fields : List (List ℕ × TypeNo)) → x ≡ AVariable t → IsMade s.types t (shape.Record fields) → ⊥) → RecordSo x (reported g (out-Designator d).name.pos rule.WrongType)
+    no_record_there : {x : Thing} → ((t : TypeNo) (fields : List (List ℕ × TypeNo)) → x ≡ AVariable t → IsMade s.types t (shape.Record fields) → ⊥) → RecordSo x (report g (out-Designator d).name.pos rule.WrongType)
     no_record_there n = declined g j lawful U (out-Designator d).name.pos rule.WrongType (λ t m. n t m.0 m.1 m.2) (n, refl) (λ f z. z.1)
 
     abbrev type_in : TypeNo → Thing → TypeNo
@@ -395,8 +395,8 @@ module _ (g : Gathers) (j : Judges g) (lawful : Lawful g j) (exports : ℕ → I
     abbrev Tell : Result (List TypedStmt) g.Reported → Type 0
     Tell r = Tells g j lawful U (Inside s.types exports w d body) (reported_in r)
 
-    inside_checks : Bodies → (t : TypeNo) (fields : List (List ℕ × TypeNo)) → IsMade s.types t (shape.Record fields) → Checks g j lawful U {A = List TypedStmt} (AllObey s.types exports (inside_with fields w) body) (AnyBroken s.types exports (inside_with fields w) body) (all_of g (opened s t) a (map (stmt g) body))
-    inside_checks h t fields m = more_checks g j lawful (λ f o. elim o [ inl z ↦ inl (repeats_inside g j s t fields m w.names exports w.own f z) | inr z ↦ inr z ]) (h (inside_with fields w) (opened s t) (spot_inside g j s t fields m k))
+    inside_checks : Bodies → (t : TypeNo) (fields : List (List ℕ × TypeNo)) → IsMade s.types t (shape.Record fields) → Checks g j lawful U {A = List TypedStmt} (AllObey s.types exports (inside_with fields w) body) (AnyBroken s.types exports (inside_with fields w) body) (all_of g (into_record s t) a (map (stmt g) body))
+    inside_checks h t fields m = more_checks g j lawful (λ f o. elim o [ inl z ↦ inl (repeats_inside g j s t fields m w.names exports w.own f z) | inr z ↦ inr z ]) (h (inside_with fields w) (into_record s t) (spot_inside g j s t fields m k))
 
     made_by : {t : TypeNo} {fields : List (List ℕ × TypeNo)} → LeadsToRecord s.types exports w.names d t fields → IsMade s.types t (shape.Record fields)
     made_by (leads e l m) = m
@@ -429,10 +429,10 @@ module _ (g : Gathers) (j : Judges g) (lawful : Lawful g j) (exports : ℕ → I
     body_fails f l n b = elim (with_out s.types exports f b) [ inl z ↦ absurd (n f z) | inr z ↦ into_one f l z ]
 
     with_layer : Bodies → {r : Result (TypeNo × Place) g.Reported} → RecordAnswers r
-        → LayerSo w s a (layer.With d body) (ahead g r (reported_in (all_of g (opened_if s (opened_type g s d)) a (map (stmt g) body))) (λ v. within v.1 (all_of g (opened s v.0) a (map (stmt g) body))))
+        → LayerSo w s a (layer.With d body) (ahead g r (reported_in (all_of g (opened_if s (opened_type g s d)) a (map (stmt g) body))) (λ v. within v.1 (all_of g (into_record s v.0) a (map (stmt g) body))))
     with_layer h (means v t i (x, m, (fields, e, q)) u n) = let there = record_fits m e in let l = denotes_record g j lawful w.names exports s k.of_names there q in
         checks_as g j lawful U (λ b. with_record there q b) (right_body l) (λ f b. with_in s.types exports f (inr (inl (t, fields, l, b)))) (λ f b. body_fails f l n b)
-        (map_checks g j lawful U (λ (b : List TypedStmt). typed.With v.1 b) (subst (λ (z : TypeNo). Checks g j lawful U {A = List TypedStmt} (AllObey s.types exports (inside_with fields w) body) (AnyBroken s.types exports (inside_with fields w) body) (all_of g (opened s z) a (map (stmt g) body))) (sym i) (inside_checks h t fields q)))
+        (map_checks g j lawful U (λ (b : List TypedStmt). typed.With v.1 b) (subst (λ (z : TypeNo). Checks g j lawful U {A = List TypedStmt} (AllObey s.types exports (inside_with fields w) body) (AnyBroken s.types exports (inside_with fields w) body) (all_of g (into_record s z) a (map (stmt g) body))) (sym i) (inside_checks h t fields q)))
     with_layer h (refuses r c n) = checks_as g j lawful U {P = ⊥} (λ z. absurd z) (none_right n) (λ f b. with_in s.types exports f b) (λ f b. with_out s.types exports f b)
         (unit_checks g j lawful {M = λ u. ⊥} (λ f o. o) (refusal_tells g j lawful U {A = TypedStmt} {K = Unit {0}} {Is = λ v u. Unit {0}} c (λ u z. z) (behind_tells h (opened_is g j lawful w.names exports s k.of_names d))))
 

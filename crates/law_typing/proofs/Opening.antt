@@ -19,7 +19,7 @@ use Rattle.check_scope.specs.declared.scope.Scope.{Scope}
 use Rattle.check_scope.specs.Elaborated.{Gathers}
 use Rattle.check_operator.specs.declared.computed.Designated.{Designated}
 use Rattle.check_operator.specs.declared.computed.Designated.TheVariants as designated
-use Rattle.check_stmt_parts.specs.Simple.{known_of, element_in, element_of, led_by, led, record_led_to, opened_type}
+use Rattle.check_stmt_parts.specs.Simple.{known_of, element_in, element_of, led_by, component_behind, record_led_to, opened_type}
 use Rattle.def_typing.specs.Shapes.{shape_at, IsMade}
 use Rattle.def_typing.specs.Things.{Thing, AVariable, AnOpenArray, Headless, Standing, Known, Picks, Indexes, of_array, of_open}
 use Rattle.typed_tree.specs.Types.{cardinal}
@@ -77,7 +77,7 @@ module _ (g : Gathers) (j : Judges g) (lawful : Lawful g j) (names : Ident → S
   led_with z None = None
   led_with z (Some d) = led_by g s d z
 
-  led_is : (o : Option Designated) (c : Selector) → led_with (out-Selector c) o ≡ led g s o c
+  led_is : (o : Option Designated) (c : Selector) → led_with (out-Selector c) o ≡ component_behind g s o c
   led_is None c = refl
   led_is (Some d) c = refl
 
@@ -141,7 +141,7 @@ module _ (g : Gathers) (j : Judges g) (lawful : Lawful g j) (names : Ident → S
   split_leads S {cs = cs} {x = x} {z = z} q h m (by_field {y = y} w p l) = subst (λ (q : Selector-F Expr Selector Designator Item). (y : Thing) × Stepped q S y × L y cs z) (sym w ∙ h) (y, (x, m, p), l)
   split_leads S {cs = cs} {x = x} {z = z} q h m (by_index {i = i} {t = t} w p l) = subst (λ (q : Selector-F Expr Selector Designator Item). (y : Thing) × Stepped q S y × L y cs z) (sym w ∙ h) (AVariable t, (x, i, t, m, p, refl), l)
 
-  selectors_lead : (cs : List Selector) (S : Thing → Type 0) {o : Option Designated} → Leading S o → Leading (λ z. (x : Thing) × S x × L x cs z) (fold (led g s) o cs)
+  selectors_lead : (cs : List Selector) (S : Thing → Type 0) {o : Option Designated} → Leading S o → Leading (λ z. (x : Thing) × S x × L x cs z) (fold (component_behind g s) o cs)
   selectors_lead [] S h = leading_as (λ x m. (x, m, nowhere_else)) (λ z q. subst S (at_end q.2) q.1) h
   selectors_lead (c ∷ cs) S {o = o} h = leading_as (λ z q. join_leads S (out-Selector c) refl q.1 q.2) (λ z q. split_leads S (out-Selector c) refl q.1 q.2)
       (selectors_lead cs (Stepped (out-Selector c) S) (subst (Leading (Stepped (out-Selector c) S)) (led_is o c) (steps S (out-Selector c) h)))

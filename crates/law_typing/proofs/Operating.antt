@@ -8,18 +8,18 @@ use Rattle.typed_tree.specs.declared.computed.TypedExpr.{TypedExpr}
 use Rattle.typed_tree.specs.declared.meaning.Value.{Value as ConstantValue}
 use Rattle.typed_tree.specs.Types.{boolean}
 use Rattle.m2_rule.specs.declared.breach.Breach.{Breach}
-use Rattle.check_scope.specs.Elaborated.{Gathers, reported, reported_where, ◌▷◌}
+use Rattle.check_scope.specs.Elaborated.{Gathers, report, reported_where, ◌▷◌}
 use Rattle.check_const_ops.specs.declared.operand.Ordinal.{Ordinal}
 use Rattle.check_const_ops.specs.declared.operator.BinaryOp.{BinaryOp}
 use Rattle.check_const_ops.specs.declared.operator.BinaryOp.TheVariants.{Plus, Minus, Times, Over, Div, Mod, And, Or, Relation}
-use Rattle.check_const_ops.specs.Operands.{valued}
+use Rattle.check_const_ops.specs.Operands.{number_value}
 use Rattle.check_const_ops.specs.Numbers.{fits, number_at}
-use Rattle.check_const_ops.specs.Operate.{takes, fitting, applied, on_scalars}
+use Rattle.check_const_ops.specs.Operate.{takes, fitting, ordinal_result, on_scalars}
 use Rattle.check_operator.specs.declared.computed.Computed.{Computed}
 use Rattle.check_operator.specs.declared.computed.Computed.TheVariants as computed
 use Rattle.check_operator.specs.declared.side.Amount.{Amount as Sided}
 use Rattle.check_operator.specs.declared.side.Amount.TheVariants.{Known, Run}
-use Rattle.check_operator.specs.Operations.{fitting_both, fitting_of, divisor_of, stepped, on_amounts, of_value, step_of}
+use Rattle.check_operator.specs.Operations.{fitting_both, fitting_of, divisor_of, step_or_refusal, on_amounts, of_value, step_of}
 use Rattle.def_typing.specs.Amounts as k
 use Rattle.def_typing.specs.Amounts.{Amount, Constant, Value, IsWhole, IsNumber, InRange, Suits, GoTogether, IsArithmetic, IsLogical, IsComparison, IsDivision, BelowOne, Evaluates, Says, Takes, Fits, AreRight, Yields, IsComputed, Gives, truth}
 use Rattle.m2_rule.specs.declared.rule.Rule.{Rule}
@@ -47,7 +47,7 @@ pub data IsAmount : ConstantValue → Amount → Type 0 where
 abbrev pub IsScalar : Computed → Amount → Type 0
 IsScalar v a = IsKind v (Scalar a)
 
-pub valued_is : (sort : Option TypeNo) (n : ℤ) → IsAmount (valued sort n) (Constant sort n)
+pub valued_is : (sort : Option TypeNo) (n : ℤ) → IsAmount (number_value sort n) (Constant sort n)
 valued_is None n = of_literals n
 valued_is (Some t) n = of_scalar (record { of = t; base = t; number = n })
 
@@ -213,23 +213,23 @@ module _ (g : Gathers) (j : Judges g) (lawful : Lawful g j) (O : Breach → Type
       (λ l m. subst (Constantly op sort x y) (sym m.1) (a_number a ev m.0)) (λ l m. of_number l m)
       (λ f b. elim b [ inl c ↦ (z, a, ev, c.0, c.1) | inr c ↦ absurd c.1 ])
       (λ f o. inl (subst (λ (w : ℤ). InRange sort w → ⊥) (evaluates_one ev o.2) o.3, o.4))
-      (where_answers g j lawful O (fits sort z) spot rule.OutOfRange (range_decided z n) (λ r. fine g j lawful O (valued sort z) (Constant sort z) (valued_is sort z)))
+      (where_answers g j lawful O (fits sort z) spot rule.OutOfRange (range_decided z n) (λ r. fine g j lawful O (number_value sort z) (Constant sort z) (valued_is sort z)))
     where
       of_number : (l : Amount) → Constantly op sort x y l → InRange sort z × (l ≡ Constant sort z)
       of_number _ (a_number b e r) = let same = evaluates_one ev e in (subst (InRange sort) same r, ap (Constant sort) same)
       of_number _ (a_truth s) = absurd (says_nothing a s)
 
   truth_answers : {op : BinaryOp} (spot : Pos) {sort : Option TypeNo} {x y : ℤ} {b : Bool} → (IsArithmetic op → ⊥) → Says op x y b
-      → Answers g j O IsAmount (Constantly op sort x y) (Overflow op spot sort x y) (Ok (valued (Some boolean) (cond b (pos 1) (pos 0))))
+      → Answers g j O IsAmount (Constantly op sort x y) (Overflow op spot sort x y) (Ok (number_value (Some boolean) (cond b (pos 1) (pos 0))))
   truth_answers {op = op} spot {sort = sort} {x = x} {y = y} {b = b} n says = exact g j lawful O {N = Constantly op sort x y} {C = Overflow op spot sort x y}
       (λ l m. subst (Constantly op sort x y) (sym m) (a_truth says)) (λ l m. of_truth_of l m) (λ f b. absurd b) (λ f o. absurd (n o.1))
-      (fine g j lawful O (valued (Some boolean) (cond b (pos 1) (pos 0))) (truth b) (valued_is (Some boolean) (cond b (pos 1) (pos 0))))
+      (fine g j lawful O (number_value (Some boolean) (cond b (pos 1) (pos 0))) (truth b) (valued_is (Some boolean) (cond b (pos 1) (pos 0))))
     where
       of_truth_of : (l : Amount) → Constantly op sort x y l → l ≡ truth b
       of_truth_of _ (a_number a e r) = absurd (n a)
       of_truth_of _ (a_truth s) = ap truth (says_one says s)
 
-  applied_answers : (op : BinaryOp) (spot : Pos) (sort : Option TypeNo) (x y : ℤ) → Takes op sort → Answers g j O IsAmount (Constantly op sort x y) (Overflow op spot sort x y) (applied g op spot sort x y)
+  applied_answers : (op : BinaryOp) (spot : Pos) (sort : Option TypeNo) (x y : ℤ) → Takes op sort → Answers g j O IsAmount (Constantly op sort x y) (Overflow op spot sort x y) (ordinal_result g op spot sort x y)
   applied_answers Plus spot sort x y t = arithmetic_answers spot k.plus (takes_number k.plus t) k.sum_is
   applied_answers Minus spot sort x y t = arithmetic_answers spot k.minus (takes_number k.minus t) k.difference_is
   applied_answers Times spot sort x y t = arithmetic_answers spot k.times (takes_number k.times t) k.product_is
@@ -248,7 +248,7 @@ module _ (g : Gathers) (j : Judges g) (lawful : Lawful g j) (O : Breach → Type
   built_answers : {op : BinaryOp} {t : TypeNo} (u : TypeNo) (e : TypedExpr) → Yields op t u → ((w : TypeNo) → Yields op t w → w ≡ u) → Answers g j O IsScalar (Computes op t) (λ f. ⊥) (Ok (computed.Scalar u u e))
   built_answers {op = op} {t = t} u e y one = exact g j lawful O {N = Computes op t} (λ l m. (u, y, m)) (λ l m. m.2 ∙ ap Value (one m.0 m.1)) (λ f b. b) (λ f b. absurd b) (fine g j lawful O (computed.Scalar u u e) (Value u) (kind_scalar u u e))
 
-  stepped_answers : (op : BinaryOp) (spot : Pos) (t : TypeNo) (p q : Sided) → Takes op (Some t) → Answers g j O IsScalar (Computes op t) (λ f. ⊥) (stepped g spot (Some t) p q (step_of op))
+  stepped_answers : (op : BinaryOp) (spot : Pos) (t : TypeNo) (p q : Sided) → Takes op (Some t) → Answers g j O IsScalar (Computes op t) (λ f. ⊥) (step_or_refusal g spot (Some t) p q (step_of op))
   stepped_answers Plus spot t p q h = built_answers t _ (k.own_type k.plus) (λ w. own k.plus)
   stepped_answers Minus spot t p q h = built_answers t _ (k.own_type k.minus) (λ w. own k.minus)
   stepped_answers Times spot t p q h = built_answers t _ (k.own_type k.times) (λ w. own k.times)
@@ -268,7 +268,7 @@ module _ (g : Gathers) (j : Judges g) (lawful : Lawful g j) (O : Breach → Type
   -- ---- both together
 
   module _ (op : BinaryOp) (spot left right : Pos) where
-    unfit_answers : {A : Type 0} {Is : A → Amount → Type 0} (a b : Amount) → ((s : Option TypeNo) → GoTogether (k.sort_of a) (k.sort_of b) s → ⊥) → Answers g j O Is (Gives op a b) (Wrongly op spot left right a b) (reported g spot rule.WrongType)
+    unfit_answers : {A : Type 0} {Is : A → Amount → Type 0} (a b : Amount) → ((s : Option TypeNo) → GoTogether (k.sort_of a) (k.sort_of b) s → ⊥) → Answers g j O Is (Gives op a b) (Wrongly op spot left right a b) (report g spot rule.WrongType)
     unfit_answers a b n = declined g j lawful O spot rule.WrongType (λ l m. right_not (gives_right m).1) (unfit (λ s h. n s h.together)) (λ f m. wrongly_so f m)
       where
         right_not : {s : Option TypeNo} → AreRight op a b s → ⊥

@@ -16,7 +16,7 @@ use Rattle.typed_tree.specs.Known.{scalar_at}
 use Rattle.typed_tree.specs.Types.{are_same, char}
 use Rattle.m2_rule.specs.declared.breach.Breach.{Breach}
 use Rattle.check_scope.specs.declared.meaningless.Meaningless.{Meaningless}
-use Rattle.check_scope.specs.Elaborated.{Gathers, reported, reported_where}
+use Rattle.check_scope.specs.Elaborated.{Gathers, report, reported_where}
 use Rattle.check_operator.specs.declared.class.Class.{Class}
 use Rattle.check_operator.specs.declared.computed.Computed.{Computed}
 use Rattle.check_operator.specs.declared.computed.Designated.{Designated}
@@ -132,7 +132,7 @@ module _ (g : Gathers) (j : Judges g) (lawful : Lawful g j) (O : Breach → Type
   var_passes : {o : Bool} {t : TypeNo} {x : Thing} (e : Argument) → Accepts types (var o t) x → Passes (var o t) x (Ok e)
   var_passes e a = passes e (record { accepted = a; unrefused = var_unrefused a }) (λ f m. var_unrefused a at f m)
 
-  var_stops : {o : Bool} {t : TypeNo} {x : Thing} → (Accepts types (var o t) x → ⊥) → Passes (var o t) x (reported g at rule.NoVariable)
+  var_stops : {o : Bool} {t : TypeNo} {x : Thing} → (Accepts types (var o t) x → ⊥) → Passes (var o t) x (report g at rule.NoVariable)
   var_stops {o = o} {t = t} {x = x} n = stopped g j lawful O at rule.NoVariable (λ p. n p.accepted) (no_variable n) (λ f m. one m)
     where
       one : {f : Breach} → Mispassed types at (var o t) x f → f ≡ at ! rule.NoVariable
@@ -182,7 +182,7 @@ module _ (g : Gathers) (j : Judges g) (lawful : Lawful g j) (O : Breach → Type
   value_passes : {t : TypeNo} {x : Thing} (e : Argument) → IsValue x → Accepts types (open_value_formal t) x → Passes (open_value_formal t) x (Ok e)
   value_passes e p a = passes e (record { accepted = a; unrefused = value_unrefused p a }) (λ f m. value_unrefused p a at f m)
 
-  value_stops : {t : TypeNo} {x : Thing} → IsValue x → (Accepts types (open_value_formal t) x → ⊥) → Passes (open_value_formal t) x (reported g at rule.WrongArgument)
+  value_stops : {t : TypeNo} {x : Thing} → IsValue x → (Accepts types (open_value_formal t) x → ⊥) → Passes (open_value_formal t) x (report g at rule.WrongArgument)
   value_stops {t = t} {x = x} p n = stopped g j lawful O at rule.WrongArgument (λ a. n a.accepted) (wrong_argument p.0 p.1 n) (λ f m. one m)
     where
       one : {f : Breach} → Mispassed types at (open_value_formal t) x f → f ≡ at ! rule.WrongArgument
@@ -224,7 +224,7 @@ module _ (g : Gathers) (j : Judges g) (lawful : Lawful g j) (O : Breach → Type
   unvalued_one _ t x _ broken n only (out_of_range k p c q) = absurd (n k p)
 
   unvalued : {o : Bool} {t : TypeNo} {x : Thing} (broken : Rule) → ((k : Kind) → Taken types x k → ⊥) → (Accepts types (record { is_var = false; is_open = o; of = t }) x → ⊥) → Mistaken at x (at ! broken) → ((f : Breach) → Mistaken at x f → f ≡ at ! broken)
-      → Passes (record { is_var = false; is_open = o; of = t }) x (reported g at broken)
+      → Passes (record { is_var = false; is_open = o; of = t }) x (report g at broken)
   unvalued {o = o} {t = t} {x = x} broken n a m only = stopped g j lawful O at broken (λ p. a p.accepted) (no_value m) (λ f m. unvalued_one o t x f broken n only m)
 
   unopened : (t : TypeNo) (x : Thing) → ((u : TypeNo) → x ≡ AVariable u → ⊥) → ((u : TypeNo) → x ≡ AnOpenArray u → ⊥) → ((k : Kind) → x ≡ AValue k → ⊥) → Accepts types (open_value_formal t) x → ⊥
@@ -253,7 +253,7 @@ module _ (g : Gathers) (j : Judges g) (lawful : Lawful g j) (O : Breach → Type
     whole_unrefused p a at _ (wrong_argument k q n) = n a
     whole_unrefused p a at _ (out_of_range k q c o) = unmade (operand k) c
 
-    whole_stops : {x : Thing} → IsValue x → (x ≡ AVariable t → ⊥) → Passes (value_formal t) x (reported g at rule.WrongArgument)
+    whole_stops : {x : Thing} → IsValue x → (x ≡ AVariable t → ⊥) → Passes (value_formal t) x (report g at rule.WrongArgument)
     whole_stops {x = x} p n = stopped g j lawful O at rule.WrongArgument (λ a. n (whole_accepts a.accepted)) (wrong_argument p.0 p.1 (λ a. n (whole_accepts a))) (λ f m. one m)
       where
         one : {f : Breach} → Mispassed types at (value_formal t) x f → f ≡ at ! rule.WrongArgument

@@ -9,7 +9,7 @@ use Rattle.m2_tree.specs.declared.expr.Designator.{Designator, out-Designator, f
 use Rattle.m2_tree.specs.declared.expr.Item.{Item}
 use Rattle.check_scope.specs.Elaborated.{Gathers}
 use Rattle.check_const.specs.Parts.{Adds}
-use Rattle.check_expr.specs.Meanings.{Meant, Picks, expr_layer, selector_layer, designator_layer, item_layer, meant, picks, head, item}
+use Rattle.check_expr.specs.Meanings.{Meant, Picks, expr_layer, selector_layer, designator_layer, item_layer, meanings_of, picks, head, item}
 use Rattle.def_typing.specs.Parts.{first, first_layer}
 use Rattle.law_typing.specs.Exact.{IsPlain, plain_number, plain_character, plain_string, plain_set, plain_name, plain_call, plain_not, plain_brackets, plain_term, plain_sum, plain_relation, IsCallFree, free_number, free_character, free_string, free_set, free_name, free_not, free_brackets, free_term, free_sum, free_relation}
 
@@ -17,21 +17,21 @@ use Rattle.law_typing.specs.Exact.{IsPlain, plain_number, plain_character, plain
 
 module _ (g : Gathers) where
   abbrev pub opened : Expr-F Expr Selector Designator Item → Expr-F (Meant g.Reported) (Picks g.Reported) (Meant g.Reported) (Adds g.Reported)
-  opened x = map-Expr Expr Selector Designator Item (Meant g.Reported) (Picks g.Reported) (Meant g.Reported) (Adds g.Reported) (meant g) (picks g) (head g) (item g) x
+  opened x = map-Expr Expr Selector Designator Item (Meant g.Reported) (Picks g.Reported) (Meant g.Reported) (Adds g.Reported) (meanings_of g) (picks g) (head g) (item g) x
 
   abbrev pub opened_selector : Selector-F Expr Selector Designator Item → Selector-F (Meant g.Reported) (Picks g.Reported) (Meant g.Reported) (Adds g.Reported)
-  opened_selector x = map-Selector Expr Selector Designator Item (Meant g.Reported) (Picks g.Reported) (Meant g.Reported) (Adds g.Reported) (meant g) (picks g) (head g) (item g) x
+  opened_selector x = map-Selector Expr Selector Designator Item (Meant g.Reported) (Picks g.Reported) (Meant g.Reported) (Adds g.Reported) (meanings_of g) (picks g) (head g) (item g) x
 
-  pub meant_is : (e : Expr) (y : Expr-F Expr Selector Designator Item) → out-Expr e ≡ y → meant g e ≡ expr_layer g (opened y)
-  unfolding meant picks head item
+  pub meant_is : (e : Expr) (y : Expr-F Expr Selector Designator Item) → out-Expr e ≡ y → meanings_of g e ≡ expr_layer g (opened y)
+  unfolding meanings_of picks head item
   meant_is e y h = fold_out-Expr (Meant g.Reported) (Picks g.Reported) (Meant g.Reported) (Adds g.Reported) (expr_layer g) (selector_layer g) (designator_layer g) (item_layer g) e ∙ ap (λ (y : Expr-F Expr Selector Designator Item). expr_layer g (opened y)) h
 
   pub picks_is : (x : Selector) (y : Selector-F Expr Selector Designator Item) → out-Selector x ≡ y → picks g x ≡ selector_layer g (opened_selector y)
-  unfolding meant picks head item
+  unfolding meanings_of picks head item
   picks_is x y h = fold_out-Selector (Meant g.Reported) (Picks g.Reported) (Meant g.Reported) (Adds g.Reported) (expr_layer g) (selector_layer g) (designator_layer g) (item_layer g) x ∙ ap (λ (y : Selector-F Expr Selector Designator Item). selector_layer g (opened_selector y)) h
 
   pub head_is : (d : Designator) → head g d ≡ designator_layer g (record { name = (out-Designator d).name; selectors = map (picks g) (out-Designator d).selectors })
-  unfolding meant picks head item
+  unfolding meanings_of picks head item
   head_is d = fold_out-Designator (Meant g.Reported) (Picks g.Reported) (Meant g.Reported) (Adds g.Reported) (expr_layer g) (selector_layer g) (designator_layer g) (item_layer g) d
 
 -- ---- first tokens
@@ -81,14 +81,14 @@ pub first_is : (e : Expr) (y : Expr-F Expr Selector Designator Item) → out-Exp
 first_is e y h = first_by y e h ∙ layer_same y
 
 module _ (g : Gathers) where
-  layer_at : (e : Expr) (y : Expr-F Expr Selector Designator Item) → out-Expr e ≡ y → (expr_layer g (opened g y)).fixed.at ≡ first_of y → (meant g e).fixed.at ≡ first e
+  layer_at : (e : Expr) (y : Expr-F Expr Selector Designator Item) → out-Expr e ≡ y → (expr_layer g (opened g y)).fixed.at ≡ first_of y → (meanings_of g e).fixed.at ≡ first e
   layer_at e y h p = ap (λ (m : Meant g.Reported). m.fixed.at) (meant_is g e y h) ∙ p ∙ sym (first_is e y h)
 
   pub head_at : (d : Designator) → (head g d).fixed.at ≡ (out-Designator d).name.pos
   head_at d = ap (λ (m : Meant g.Reported). m.fixed.at) (head_is g d)
 
   -- the elaboration has the same places
-  pub at_is : {e : Expr} → IsPlain e → (meant g e).fixed.at ≡ first e
+  pub at_is : {e : Expr} → IsPlain e → (meanings_of g e).fixed.at ≡ first e
   at_is {e = e} (plain_number {at = at} {n = n} h) = layer_at e (layer.Number at n) h refl
   at_is {e = e} (plain_character {at = at} {c = c} h) = layer_at e (layer.Char at c) h refl
   at_is {e = e} (plain_string {at = at} {text = text} h) = layer_at e (layer.Text at text) h refl
@@ -103,7 +103,7 @@ module _ (g : Gathers) where
   at_is {e = e} (plain_sum {sign = Some sign} {x = x} {rest = rest} h i o) = layer_at e (layer.Sum (Some sign) x rest) h refl
   at_is {e = e} (plain_relation {a = a} {b = b} {o = o} h i k) = layer_at e (layer.Relation a o b) h (at_is i)
 
-  pub free_at : {e : Expr} → IsCallFree e → (meant g e).fixed.at ≡ first e
+  pub free_at : {e : Expr} → IsCallFree e → (meanings_of g e).fixed.at ≡ first e
   free_at {e = e} (free_number {at = at} {n = n} h) = layer_at e (layer.Number at n) h refl
   free_at {e = e} (free_character {at = at} {c = c} h) = layer_at e (layer.Char at c) h refl
   free_at {e = e} (free_string {at = at} {text = text} h) = layer_at e (layer.Text at text) h refl

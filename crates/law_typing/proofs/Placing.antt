@@ -15,7 +15,7 @@ use Rattle.typed_tree.specs.declared.known_types.Types.{Types}
 use Rattle.typed_tree.specs.Types.{are_same}
 use Rattle.m2_rule.specs.declared.breach.Breach.{Breach}
 use Rattle.check_scope.specs.declared.meaningless.Meaningless.{Meaningless}
-use Rattle.check_scope.specs.Elaborated.{Gathers, reported, reported_where}
+use Rattle.check_scope.specs.Elaborated.{Gathers, report, reported_where}
 use Rattle.check_const_ops.specs.Numbers.{is_between}
 use Rattle.check_operator.specs.declared.class.Class.{Class}
 use Rattle.check_operator.specs.declared.computed.Computed.{Computed}
@@ -27,8 +27,8 @@ use Rattle.check_operator.specs.Classes.{class_at}
 use Rattle.check_operator.specs.Agreement.{headings_agree}
 use Rattle.check_operator.specs.Sides.{side_of}
 use Rattle.check_operator.specs.Suits.{bases_suit, sort_suits, value_in, value_suited}
-use Rattle.check_operator.specs.Values.{given_as, given as elaborated_given, loaded_as, taken}
-use Rattle.check_expr.specs.Meanings.{taken_at}
+use Rattle.check_operator.specs.Values.{given_as, function_result as elaborated_given, loaded_as, value_at_place}
+use Rattle.check_expr.specs.Meanings.{value_standing}
 use Rattle.def_typing.specs.Shapes.{shape_at, IsMade, Agree, agree}
 use Rattle.def_typing.specs.Amounts.{Amount, Constant, sort_of, IsWhole, Within}
 use Rattle.def_typing.specs.Operators.{◌!◌, Kind, Scalar, Set, Routine, Procedure, Untaken, operand}
@@ -105,7 +105,7 @@ module _ (types : Types) (t : TypeNo) where
     abbrev pub Suited : Kind → Result TypedExpr g.Reported → Type 0
     Suited c r = Checks g j lawful O (IsAssignable types t c) (Misassigned types t at broken c) r
 
-    suits_not : {c : Kind} → (Compatible types t c → ⊥) → Suited c (reported g at broken)
+    suits_not : {c : Kind} → (Compatible types t c → ⊥) → Suited c (report g at broken)
     suits_not {c = c} n = stopped g j lawful O at broken (λ a. n a.compatible) (incompatible n) (λ f m. one m)
       where
         one : {f : Breach} → Misassigned types t at broken c f → f ≡ at ! broken
@@ -119,7 +119,7 @@ module _ (types : Types) (t : TypeNo) where
         none (incompatible i) = i m
         none (out_of_range i o) = n o
 
-    suits_beyond : {c : Kind} → Compatible types t c → OutOfType types t c → Suited c (reported g at rule.OutOfRange)
+    suits_beyond : {c : Kind} → Compatible types t c → OutOfType types t c → Suited c (report g at rule.OutOfRange)
     suits_beyond {c = c} m o = stopped g j lawful O at rule.OutOfRange (λ a. a.in_type o) (out_of_range m o) (λ f x. one x)
       where
         one : {f : Breach} → Misassigned types t at broken c f → f ≡ at ! rule.OutOfRange
@@ -214,7 +214,7 @@ pub given_is : (types : Types) (t : TypeNo) (e : TypedExpr) → IsKind (elaborat
 given_is types t e = subst (λ (s : Class). IsKind (given_as t e s) (result_kind types t)) (sym (class_is types t)) (given_by t e (shape_at types t))
 
 module _ (g : Gathers) (j : Judges g) (lawful : Lawful g j) (O : Breach → Type 0) (types : Types) (at : Pos) where
-  pub taken_answers : (a : Designated) (x : Thing) → IsThing a x → Answers g j O IsKind (Taken types x) (Mistaken at x) (taken g types at a)
+  pub taken_answers : (a : Designated) (x : Thing) → IsThing a x → Answers g j O IsKind (Taken types x) (Mistaken at x) (value_at_place g types at a)
   taken_answers _ _ (thing_value {v = v} {k = k} i) = means v k i refl (λ l e. e) (λ f m. m)
   taken_answers _ _ (thing_variable t d) = means (loaded_as t d (class_at types t)) (content types t) (loaded_is types t d) refl (λ l e. e) (λ f m. m)
   taken_answers _ _ (thing_open t s) = means computed.Untaken Untaken kind_untaken refl (λ l e. e) (λ f m. m)
@@ -225,5 +225,5 @@ module _ (g : Gathers) (j : Judges g) (lawful : Lawful g j) (O : Breach → Type
   taken_answers _ _ (thing_module k) = declined g j lawful O at rule.WrongType (λ k m. m) refl (λ f m. m)
 
   pub value_answers : {S : Thing → Type 0} {B : Breach → Type 0} {d : Result Designated (Meaningless g.Reported)} → Finds g j lawful O S B d
-      → Answers g j O IsKind (λ k. (x : Thing) × S x × Taken types x k) (λ f. B f ⊎ ((x : Thing) × S x × Mistaken at x f)) (taken_at g types at d)
+      → Answers g j O IsKind (λ k. (x : Thing) × S x × Taken types x k) (λ f. B f ⊎ ((x : Thing) × S x × Mistaken at x f)) (value_standing g types at d)
   value_answers h = heading_answers g j lawful O h taken_answers (λ k m. m) (λ f m. m)

@@ -9,11 +9,11 @@ use Rattle.typed_tree.specs.declared.types.TypeNo.{TypeNo}
 use Rattle.typed_tree.specs.declared.statement.TypedStmt.{TypedStmt}
 use Rattle.typed_tree.specs.declared.statement.TypedStmt.TheVariants as statement
 use Rattle.check_scope.specs.declared.scope.Scope.{Scope}
-use Rattle.check_scope.specs.Elaborated.{Gathers, reported, reported_beside, ◌▷◌}
+use Rattle.check_scope.specs.Elaborated.{Gathers, report, reported_beside, ◌▷◌}
 use Rattle.check_operator.specs.Suits.{value_suited}
-use Rattle.check_expr.specs.Meanings.{meant, value_of}
+use Rattle.check_expr.specs.Meanings.{meanings_of, value_of}
 use Rattle.check_stmt_parts.specs.declared.around.Around.{Around}
-use Rattle.check_stmt_parts.specs.Simple.{meant_if, exited, given_back, returned}
+use Rattle.check_stmt_parts.specs.Simple.{meant_if, exit_statement, given_back, return_statement}
 use Rattle.def_typing.specs.Operators.{◌!◌, Kind, operand}
 use Rattle.def_typing.specs.Things.{Standing, IsAssignable, Misassigned}
 use Rattle.def_typing.specs.Parts.{first}
@@ -39,7 +39,7 @@ module _ (g : Gathers) (j : Judges g) (lawful : Lawful g j) (O : Breach → Type
   value_tells (means a k i m u n) = silent n
   value_tells (refuses r a n) = tells r a
 
-  pub exit_answers : (at : Pos) (w : Around g.Reported) → Answers g j O {A = TypedStmt} {K = Unit {0}} (λ v u. Unit {0}) (λ u. IsExit w.in_loop) (BrokenExit at w.in_loop) (exited g at w)
+  pub exit_answers : (at : Pos) (w : Around g.Reported) → Answers g j O {A = TypedStmt} {K = Unit {0}} (λ v u. Unit {0}) (λ u. IsExit w.in_loop) (BrokenExit at w.in_loop) (exit_statement g at w)
   exit_answers at w = by w.in_loop
     where
       none : (f : Breach) → BrokenExit at true f → ⊥
@@ -48,7 +48,7 @@ module _ (g : Gathers) (j : Judges g) (lawful : Lawful g j) (O : Breach → Type
       one : (f : Breach) → BrokenExit at false f → f ≡ at ! rule.LonelyExit
       one _ no_loop = refl
 
-      by : (b : Bool) → Answers g j O {A = TypedStmt} {K = Unit {0}} (λ v u. Unit {0}) (λ u. IsExit b) (BrokenExit at b) (exited g at (record { gives = w.gives; in_loop = b }))
+      by : (b : Bool) → Answers g j O {A = TypedStmt} {K = Unit {0}} (λ v u. Unit {0}) (λ u. IsExit b) (BrokenExit at b) (exit_statement g at (record { gives = w.gives; in_loop = b }))
       by true = checks_answer g j lawful O (passes statement.Exit is_exit none)
       by false = checks_answer g j lawful O (stopped g j lawful O at rule.LonelyExit (λ m. elim m [ ]) no_loop one)
 
@@ -72,10 +72,10 @@ module _ (g : Gathers) (j : Judges g) (lawful : Lawful g j) (names : Ident → S
     abbrev So : Pos → Giving → Option Expr → Result TypedStmt g.Reported → Type 0
     So at w e r = Answers g j E {A = TypedStmt} {K = Unit {0}} (λ v u. Unit {0}) (λ u. R w e) (BR at w e) r
 
-    valued : (e : Expr) → IsPlain e → Answers g j E IsKind (H e) (V e) (value_of g s (meant g e))
+    valued : (e : Expr) → IsPlain e → Answers g j E IsKind (H e) (V e) (value_of g s (meanings_of g e))
     valued e i = repeats_more (λ f o. inl o) (exactly g j lawful names exports s knows e i)
 
-    no_value_there : (at : Pos) (w : Giving) → IsFunction w → So at w None (reported g at rule.WrongReturn)
+    no_value_there : (at : Pos) (w : Giving) → IsFunction w → So at w None (report g at rule.WrongReturn)
     no_value_there at w i = declined g j lawful E at rule.WrongReturn (λ k m. nothing i m) (rules.no_value i) (λ f z. one z)
       where
         nothing : {w : Giving} → IsFunction w → R w None → ⊥
@@ -84,7 +84,7 @@ module _ (g : Gathers) (j : Judges g) (lawful : Lawful g j) (names : Ident → S
         one : {w : Giving} {f : Breach} → BR at w None f → f ≡ at ! rule.WrongReturn
         one (rules.no_value i) = refl
 
-    no_value_asked : (at : Pos) (e : Expr) → IsPlain e → So at Nothing (Some e) (reported_beside g at rule.WrongReturn (value_of g s (meant g e) ▷ λ v. Ok tt))
+    no_value_asked : (at : Pos) (e : Expr) → IsPlain e → So at Nothing (Some e) (reported_beside g at rule.WrongReturn (value_of g s (meanings_of g e) ▷ λ v. Ok tt))
     no_value_asked at e i = exact g j lawful E {M = λ u. ⊥} (λ k c. absurd c) (λ k m. elim m [ ]) (λ f z. into f z) (λ f z. out f z) (declined_beside g j lawful E at rule.WrongReturn (λ u c. c) (value_tells g j lawful E (valued e i)))
       where
         into : (f : Breach) → (f ≡ at ! rule.WrongReturn) ⊎ V e f → BR at Nothing (Some e) f
@@ -105,8 +105,8 @@ module _ (g : Gathers) (j : Judges g) (lawful : Lawful g j) (names : Ident → S
     abbrev GivenFails : Giving → Expr → Breach → Type 0
     GivenFails w e f = (⊥ ⊎ V e f) ⊎ ((p : TypeNo × Kind) × ((w ≡ AResult p.0) × H e p.1) × Misassigned s.types p.0 (first e) rule.NotAssignable (operand p.1) f)
 
-    value_given : (at : Pos) (w : Giving) (q : Result TypeNo g.Reported) (e : Expr) → IsFunction w → TypeIs w q → IsPlain e → So at w (Some e) (given_back g s.types q (meant g e).fixed.at (value_of g s (meant g e)))
-    value_given at w q e c t i = subst (λ (spot : Pos). So at w (Some e) (given_back g s.types q spot (value_of g s (meant g e)))) (sym (at_is g i))
+    value_given : (at : Pos) (w : Giving) (q : Result TypeNo g.Reported) (e : Expr) → IsFunction w → TypeIs w q → IsPlain e → So at w (Some e) (given_back g s.types q (meanings_of g e).fixed.at (value_of g s (meanings_of g e)))
+    value_given at w q e c t i = subst (λ (spot : Pos). So at w (Some e) (given_back g s.types q spot (value_of g s (meanings_of g e)))) (sym (at_is g i))
         (exact g j lawful E {M = λ u. Given w e} {B = GivenFails w e} (λ u z. into_return z) (λ u z. out_return z) (λ f z. into f z) (λ f z. out c f z)
         (checks_answer g j lawful E (then_check g j lawful E {P = λ p. IsAssignable s.types p.0 (operand p.1)} {D = λ p f. Misassigned s.types p.0 (first e) rule.NotAssignable (operand p.1) f} (both_answer g j lawful E t (valued e i))
         (λ v p m. subst (λ (u : TypeNo). Checks g j lawful E (IsAssignable s.types u (operand p.1)) (Misassigned s.types u (first e) rule.NotAssignable (operand p.1)) (value_suited g rule.NotAssignable s.types v.0 (first e) v.1 ▷ λ x. Ok (statement.Give v.0 x))) m.0
@@ -133,7 +133,7 @@ given_type t (AResult u) = u
 given_type t other = t
 
 module _ (g : Gathers) (j : Judges g) (lawful : Lawful g j) (names : Ident → Standing) (exports : ℕ → Ident → Standing) (s : Scope g.Reported) (knows : Knows g j names exports s) where
-  pub return_answers : (at : Pos) (w : Giving) (result : Option (Result TypeNo g.Reported)) (e : Option Expr) → KnowsResult g j w result → ((x : Expr) → e ≡ Some x → IsPlain x) → So g j lawful names exports s knows result at w e (returned g s at result (meant_if g e))
+  pub return_answers : (at : Pos) (w : Giving) (result : Option (Result TypeNo g.Reported)) (e : Option Expr) → KnowsResult g j w result → ((x : Expr) → e ≡ Some x → IsPlain x) → So g j lawful names exports s knows result at w e (return_statement g s at result (meant_if g e))
   return_answers at _ _ None knows_nothing i = checks_answer g j lawful _ (passes statement.Return ends (λ f z. none f z))
     where
       none : (f : Breach) → BrokenReturn s.types names exports at Nothing None f → ⊥

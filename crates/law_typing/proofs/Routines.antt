@@ -21,7 +21,7 @@ use Rattle.typed_tree.specs.declared.known_types.Types.{Types}
 use Rattle.m2_rule.specs.declared.breach.Breach.{Breach}
 use Rattle.check_scope.specs.declared.meaningless.Meaningless.{Meaningless}
 use Rattle.check_scope.specs.declared.scope.Scope.{Scope}
-use Rattle.check_scope.specs.Elaborated.{Gathers, reported, reported_where, ahead, ◌▷◌}
+use Rattle.check_scope.specs.Elaborated.{Gathers, report, reported_where, ahead, ◌▷◌}
 use Rattle.check_operator.specs.declared.class.Class.{Class}
 use Rattle.check_operator.specs.declared.computed.Computed.{Computed}
 use Rattle.check_operator.specs.declared.computed.Designated.{Designated}
@@ -29,8 +29,8 @@ use Rattle.check_operator.specs.Classes.{signature_at}
 use Rattle.check_call.specs.declared.callee.Callee.{Callee}
 use Rattle.check_call.specs.declared.callee.Called.{Called}
 use Rattle.check_call.specs.declared.callee.Called.TheVariants as called
-use Rattle.check_call.specs.Callees.{held_by, callee_of, function_with, function_of, call_by}
-use Rattle.check_expr.specs.Meanings.{meant, looked_at, with_actual, actuals, argument_by, call_given, formals_of, called_as, called_by}
+use Rattle.check_call.specs.Callees.{callee_in_variable, callee_of, function_with, function_of, call_by}
+use Rattle.check_expr.specs.Meanings.{meanings_of, breaches_in_all, with_actual, actuals, argument_by, call_given, formals_of, callee_value, call_in_expression}
 use Rattle.def_typing.specs.Shapes.{shape_at, IsMade}
 use Rattle.def_typing.specs.Operators.{◌!◌, Kind}
 use Rattle.def_typing.specs.Things.{Thing, AValue, AVariable, AnOpenArray, AType, AProcedure, ANested, AStandard, AModule, Headless, Standing}
@@ -130,11 +130,11 @@ module _ (g : Gathers) (j : Judges g) (lawful : Lawful g j) (names : Ident → S
   passed_parts : {f : Formal} {fs : List Formal} {x : Expr} {xs : List Expr} → Passed (f ∷ fs) (x ∷ xs) → FirstPassed f x × Passed fs xs
   passed_parts (one_more {x = y} m p r) = ((y, m, p), r)
 
-  one_passes : (f : Formal) (x : Expr) → IsPlain x → Found x → Checks g j lawful E (FirstPassed f x) (FirstWrong f x) (argument_by g s.types (Some f) (meant g x).fixed.at ((meant g x).means s))
-  one_passes f x i h = subst (λ (p : Pos). Checks g j lawful E (FirstPassed f x) (FirstWrong f x) (argument_by g s.types (Some f) p ((meant g x).means s))) (sym (at_is g i)) (argument_passes g j lawful E s.types (first x) f h)
+  one_passes : (f : Formal) (x : Expr) → IsPlain x → Found x → Checks g j lawful E (FirstPassed f x) (FirstWrong f x) (argument_by g s.types (Some f) (meanings_of g x).fixed.at ((meanings_of g x).means s))
+  one_passes f x i h = subst (λ (p : Pos). Checks g j lawful E (FirstPassed f x) (FirstWrong f x) (argument_by g s.types (Some f) p ((meanings_of g x).means s))) (sym (at_is g i)) (argument_passes g j lawful E s.types (first x) f h)
 
   pub all_pass : (fs : List Formal) (xs : List Expr) {P : Type 0} {B : Breach → Type 0} (so : Result (List Argument) g.Reported) → length fs ≡ length xs → ((y : Expr) → Among y xs → IsPlain y) → ((y : Expr) → Among y xs → Found y) → Checks g j lawful E P B so
-      → PassesAll P B fs xs ((fold (with_actual g s) (fs, so) (map (meant g) xs)).1)
+      → PassesAll P B fs xs ((fold (with_actual g s) (fs, so) (map (meanings_of g) xs)).1)
   all_pass [] [] so e i h c = checks_as g j lawful E (λ p. (p, no_more)) (λ p. p.0) (λ f b. inl b) (λ f b. elim b [ inl z ↦ z | inr z ↦ elim z [ inl a ↦ elim a.1 [ ] | inr w ↦ elim w.3 [ ] ] ]) c
   all_pass [] (x ∷ xs) so e i h c = absurd cc
   all_pass (f ∷ fs) [] so e i h c = absurd cc
@@ -205,16 +205,16 @@ module _ (g : Gathers) (j : Judges g) (lawful : Lawful g j) (names : Ident → S
   pub none_is_some : {t : TypeNo} {r : Option TypeNo} → r ≡ None → r ≡ Some t → ⊥
   none_is_some e q = let z = sym e ∙ q in absurd cc
 
-  counted_by : {x : Thing} {h t : TypeNo} {p : Signature} (at : Pos) (xs : List Expr) (c : Callee) (b : Bool) → (length p.formals == length (map (meant g) xs)) ≡ b → Heads s.types x h → IsMade s.types h (shape.Procedure p) → p.result ≡ Some t
+  counted_by : {x : Thing} {h t : TypeNo} {p : Signature} (at : Pos) (xs : List Expr) (c : Callee) (b : Bool) → (length p.formals == length (map (meanings_of g) xs)) ≡ b → Heads s.types x h → IsMade s.types h (shape.Procedure p) → p.result ≡ Some t
       → ((y : Expr) → Among y xs → IsPlain y) → ((y : Expr) → Among y xs → Found y)
-      → So at x xs (ahead g (reported_where g (not b) at rule.ArgumentCount (Ok tt) ▷ λ (u : Unit {0}). Ok t) (looked_at g s (map (meant g) xs)) (λ t. call_given g s.types t c (actuals g s p.formals (map (meant g) xs))))
+      → So at x xs (ahead g (reported_where g (not b) at rule.ArgumentCount (Ok tt) ▷ λ (u : Unit {0}). Ok t) (breaches_in_all g s (map (meanings_of g) xs)) (λ t. call_given g s.types t c (actuals g s p.formals (map (meanings_of g) xs))))
   counted_by {x = x} {t = t} {p = p} at xs c false e w m r i h = refused_call g j lawful names exports s at rule.ArgumentCount (λ k z. clash (function_calls w m r z).0) (rules.wrong_count (declared (heading_of s.types w m) r) not_equal) (λ f z. count_wrong at f w m r not_equal z) h
     where
-      same_length : length (map (meant g) xs) ≡ length xs
-      same_length = length-map xs (meant g)
+      same_length : length (map (meanings_of g) xs) ≡ length xs
+      same_length = length-map xs (meanings_of g)
 
       not_equal : length p.formals ≡ length xs → ⊥
-      not_equal q = differ (length p.formals) (length (map (meant g) xs)) e (q ∙ sym same_length)
+      not_equal q = differ (length p.formals) (length (map (meanings_of g) xs)) e (q ∙ sym same_length)
         where
           differ : (a b : ℕ) → (a == b) ≡ false → a ≡ b → ⊥
           differ a b e q = absurd (grind (arith, nat_tests))
@@ -233,14 +233,14 @@ module _ (g : Gathers) (j : Judges g) (lawful : Lawful g j) (names : Ident → S
       (λ v a. means _ (result_kind s.types t) (given_is s.types t (expr.Call t (call_by v c))) refl (λ l q. q) (λ f b. b)))
     where
       equal : length p.formals ≡ length xs
-      equal = same (length p.formals) (length (map (meant g) xs)) e ∙ length-map xs (meant g)
+      equal = same (length p.formals) (length (map (meanings_of g) xs)) e ∙ length-map xs (meanings_of g)
         where
           same : (a b : ℕ) → (a == b) ≡ true → a ≡ b
           same a b e = grind (arith, nat_tests)
 
   result_by : {x : Thing} {h : TypeNo} {p : Signature} (at : Pos) (xs : List Expr) (c : Callee) (r : Option TypeNo) → p.result ≡ r → Heads s.types x h → IsMade s.types h (shape.Procedure p)
       → ((y : Expr) → Among y xs → IsPlain y) → ((y : Expr) → Among y xs → Found y)
-      → So at x xs (ahead g (function_with g at (length p.formals) (length (map (meant g) xs)) r) (looked_at g s (map (meant g) xs)) (λ t. call_given g s.types t c (actuals g s p.formals (map (meant g) xs))))
+      → So at x xs (ahead g (function_with g at (length p.formals) (length (map (meanings_of g) xs)) r) (breaches_in_all g s (map (meanings_of g) xs)) (λ t. call_given g s.types t c (actuals g s p.formals (map (meanings_of g) xs))))
   result_by {x = x} at xs c None e w m i h = refused_call g j lawful names exports s at rule.WrongType (λ k z. let q = called_function w z in proper q.0 q.1) (rules.no_function (not_headless s.types w) proper) (λ f z. no_function_only at f w proper z) h
     where
       proper : (n : ℕ) → IsFunctionOf s.types x n → ⊥
@@ -248,11 +248,11 @@ module _ (g : Gathers) (j : Judges g) (lawful : Lawful g j) (names : Ident → S
   result_by at xs c (Some t) e w m i h = counted_by at xs c _ refl w m e i h
 
   routine_by : {x : Thing} {h : TypeNo} (at : Pos) (xs : List Expr) (c : Callee) (o : Option Signature) → SignatureIs s.types h o → Heads s.types x h → ((y : Expr) → Among y xs → IsPlain y) → ((y : Expr) → Among y xs → Found y)
-      → So at x xs (ahead g (function_of g at o (length (map (meant g) xs))) (looked_at g s (map (meant g) xs)) (λ t. call_given g s.types t c (actuals g s (formals_of o) (map (meant g) xs))))
+      → So at x xs (ahead g (function_of g at o (length (map (meanings_of g) xs))) (breaches_in_all g s (map (meanings_of g) xs)) (λ t. call_given g s.types t c (actuals g s (formals_of o) (map (meanings_of g) xs))))
   routine_by {x = x} at xs c _ (no_signature n) w i h = refused_call g j lawful names exports s at rule.WrongType (λ k z. let q = called_function w z in no_signature_calls w n q.1) (rules.no_function (not_headless s.types w) (λ q z. no_signature_calls w n z)) (λ f z. no_function_only at f w (λ q z. no_signature_calls w n z) z) h
   routine_by at xs c _ (has_signature p m) w i h = result_by at xs c p.result refl w m i h
 
-  routine_calls : {x : Thing} {h : TypeNo} (at : Pos) (xs : List Expr) (c : Callee) → Heads s.types x h → ((y : Expr) → Among y xs → IsPlain y) → ((y : Expr) → Among y xs → Found y) → So at x xs (called_as g s at (map (meant g) xs) (called.Routine h c))
+  routine_calls : {x : Thing} {h : TypeNo} (at : Pos) (xs : List Expr) (c : Callee) → Heads s.types x h → ((y : Expr) → Among y xs → IsPlain y) → ((y : Expr) → Among y xs → Found y) → So at x xs (callee_value g s at (map (meanings_of g) xs) (called.Routine h c))
   routine_calls {h = h} at xs c w i h' = routine_by at xs c (signature_at s.types h) (signature_there s.types h) w i h'
 
   -- ---- what is called
@@ -271,7 +271,7 @@ module _ (g : Gathers) (j : Judges g) (lawful : Lawful g j) (names : Ident → S
   abbrev CalleeSo : Pos → Thing → Result Called g.Reported → Type 0
   CalleeSo at x r = Answers g j E IsCallee (λ y. MayCall x × (y ≡ x)) (NoCall at x) r
 
-  no_callee : {x : Thing} (at : Pos) → (MayCall x → ⊥) → (x ≡ Headless → ⊥) → CalleeSo at x (reported g at rule.WrongType)
+  no_callee : {x : Thing} (at : Pos) → (MayCall x → ⊥) → (x ≡ Headless → ⊥) → CalleeSo at x (report g at rule.WrongType)
   no_callee at n q = declined g j lawful E at rule.WrongType (λ y m. n m.0) (n, (q, refl)) (λ f z. z.1.1)
 
   a_callee : {x : Thing} {c : Called} (at : Pos) → IsCallee c x → MayCall x → CalleeSo at x (Ok c)
@@ -284,7 +284,7 @@ module _ (g : Gathers) (j : Judges g) (lawful : Lawful g j) (names : Ident → S
   no_call_of n q (may_routine {h = h} w) = n h w
   no_call_of n q (may_standard p) = q p refl
 
-  held_callee : (at : Pos) (t : TypeNo) (d : Place) (z : Option Shape) → shape_at s.types t ≡ z → CalleeSo at (AVariable t) (held_by g at t d (class_of z))
+  held_callee : (at : Pos) (t : TypeNo) (d : Place) (z : Option Shape) → shape_at s.types t ≡ z → CalleeSo at (AVariable t) (callee_in_variable g at t d (class_of z))
   held_callee at t d None e = no_callee at (not_made None e (λ p q. absurd cc)) (λ q. absurd cc)
   held_callee at t d (Some (shape.Procedure p)) e = a_callee at (callee_routine _ (heads_variable t e)) (may_routine (heads_variable t e))
   held_callee at t d (Some (shape.Scalar r)) e = no_callee at (not_made _ e (λ p q. absurd cc)) (λ q. absurd cc)
@@ -297,7 +297,7 @@ module _ (g : Gathers) (j : Judges g) (lawful : Lawful g j) (names : Ident → S
   callee_answers at _ _ (thing_procedure p) = a_callee at (callee_routine _ (heads_procedure p.heading)) (may_routine (heads_procedure p.heading))
   callee_answers at _ _ (thing_nested p) = a_callee at (callee_routine _ (heads_nested p.heading)) (may_routine (heads_nested p.heading))
   callee_answers at _ _ (thing_standard p) = a_callee at (callee_standard p) (may_standard p)
-  callee_answers at _ _ (thing_variable t d) = subst (λ (c : Class). CalleeSo at (AVariable t) (held_by g at t d c)) (sym (class_is s.types t)) (held_callee at t d (shape_at s.types t) refl)
+  callee_answers at _ _ (thing_variable t d) = subst (λ (c : Class). CalleeSo at (AVariable t) (callee_in_variable g at t d c)) (sym (class_is s.types t)) (held_callee at t d (shape_at s.types t) refl)
   callee_answers at _ _ (thing_value i) = no_callee at (no_call_of (λ h w. elim w [ ]) (λ p q. absurd cc)) (λ q. absurd cc)
   callee_answers at _ _ (thing_open t d) = no_callee at (no_call_of (λ h w. elim w [ ]) (λ p q. absurd cc)) (λ q. absurd cc)
   callee_answers at _ _ (thing_type t) = no_callee at (no_call_of (λ h w. elim w [ ]) (λ p q. absurd cc)) (λ q. absurd cc)
@@ -349,13 +349,13 @@ module _ (g : Gathers) (j : Judges g) (lawful : Lawful g j) (names : Ident → S
   uncalled at f n (rules.misconverted m z q r) = absurd (n (may_standard _))
   uncalled at _ n (rules.no_open_array m z q) = absurd (n (may_standard _))
 
-  called_answer : (at : Pos) (xs : List Expr) (c : Called) (x : Thing) → IsCallee c x → ((y : Expr) → Among y xs → IsPlain y) → ((y : Expr) → Among y xs → Found y) → So at x xs (called_as g s at (map (meant g) xs) c)
+  called_answer : (at : Pos) (xs : List Expr) (c : Called) (x : Thing) → IsCallee c x → ((y : Expr) → Among y xs → IsPlain y) → ((y : Expr) → Among y xs → Found y) → So at x xs (callee_value g s at (map (meanings_of g) xs) c)
   called_answer at xs _ x (callee_routine c w) i h = routine_calls at xs c w i h
   called_answer at xs _ _ (callee_standard p) i h = standard_answers g j lawful names exports s p at xs i h
 
   -- a call of what a designator stands for
   pub calls_answer : {D : Thing → Type 0} {F : Breach → Type 0} {d : Result Designated (Meaningless g.Reported)} (at : Pos) (xs : List Expr) → Finds g j lawful E D F d → ((y : Expr) → Among y xs → IsPlain y) → ((y : Expr) → Among y xs → Found y)
-      → Answers g j E IsKind (λ k. (x : Thing) × D x × C x xs k) (λ f. (F f ⊎ ((x : Thing) × D x × M at x xs f)) ⊎ Any xs f) (called_by g s at d (map (meant g) xs))
+      → Answers g j E IsKind (λ k. (x : Thing) × D x × C x xs k) (λ f. (F f ⊎ ((x : Thing) × D x × M at x xs f)) ⊎ Any xs f) (call_in_expression g s at d (map (meanings_of g) xs))
   calls_answer {D = D} {F = F} at xs h i q = exact g j lawful E
       {M = λ k. (y : Thing) × ((x : Thing) × D x × (MayCall x × (y ≡ x))) × C y xs k}
       {N = λ k. (x : Thing) × D x × C x xs k}

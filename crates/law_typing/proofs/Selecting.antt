@@ -17,22 +17,22 @@ use Rattle.typed_tree.specs.declared.meaning.Meaning.TheVariants as meaning
 use Rattle.typed_tree.specs.declared.shape.Shape.{Shape}
 use Rattle.typed_tree.specs.declared.shape.Shape.TheVariants as shape
 use Rattle.typed_tree.specs.Chains.{behind}
-use Rattle.typed_tree.specs.Names.{found}
+use Rattle.typed_tree.specs.Names.{find_name}
 use Rattle.typed_tree.specs.Types.{cardinal}
 use Rattle.m2_rule.specs.declared.breach.Breach.{Breach}
 use Rattle.check_scope.specs.declared.meaningless.Meaningless.{Meaningless}
 use Rattle.check_scope.specs.declared.scope.Scope.{Scope}
-use Rattle.check_scope.specs.Elaborated.{Gathers, reported, plain, ◌▷◌}
+use Rattle.check_scope.specs.Elaborated.{Gathers, report, plain, ◌▷◌}
 use Rattle.check_scope.specs.Scopes.{looked_up}
-use Rattle.check_const.specs.Denote.{exported, exported_by}
+use Rattle.check_const.specs.Denote.{export_of, exported_by}
 use Rattle.check_operator.specs.declared.computed.Computed.{Computed}
 use Rattle.check_operator.specs.declared.computed.Designated.{Designated}
 use Rattle.check_operator.specs.declared.computed.Designated.TheVariants as designated
 use Rattle.check_operator.specs.declared.select.Subscripted.{Subscripted}
 use Rattle.check_operator.specs.declared.select.Subscripted.TheVariants as indexes
-use Rattle.check_operator.specs.Selection.{numbered_field, field_named, record_field, component, array_indexed, indices, asked, picked, with_index}
+use Rattle.check_operator.specs.Selection.{numbered_field, field_named, record_field, component, array_indexed, indices, index_type, element_of_array, with_index}
 use Rattle.check_operator.specs.Values.{designated_by, local_by}
-use Rattle.check_expr.specs.Meanings.{named, field_of, field_at, index_at}
+use Rattle.check_expr.specs.Meanings.{first_name, field_of, field_at, index_at}
 use Rattle.def_typing.specs.Shapes.{shape_at, IsMade}
 use Rattle.def_typing.specs.Operators.{◌!◌, Kind, operand}
 use Rattle.def_typing.specs.Things.{Thing, AValue, AVariable, AnOpenArray, AType, AProcedure, ANested, AStandard, AModule, Headless, Standing, Known, Ahead, Undeclared, NotExported, Unknown, Misnamed, undeclared, not_yet, not_exported, IsAssignable, Misassigned, Picks, of_module, of_record, Indexes, of_array, of_open}
@@ -87,7 +87,7 @@ module _ (g : Gathers) (j : Judges g) (lawful : Lawful g j) (O : Breach → Type
   designated_answers (meaning.Standard f) = names_it (thing_standard f)
   designated_answers (meaning.Module k) = names_it (thing_module k)
 
-  pub exported_answers : (s : Standing) (m : Option Meaning) → Exports g j s m → Named s (exported g at m ▷ designated_by g level at)
+  pub exported_answers : (s : Standing) (m : Option Meaning) → Exports g j s m → Named s (export_of g at m ▷ designated_by g level at)
   exported_answers _ _ (has_exported m) = designated_answers m
   exported_answers _ _ has_nothing = declined g j lawful O at rule.NotExported (λ x e. absurd cc) not_exported only_not_exported
 
@@ -105,7 +105,7 @@ module _ (g : Gathers) (j : Judges g) (lawful : Lawful g j) (names : Ident → S
   seen_finds name _ _ e q (sees_headless r) = finds_headless r (λ f m. of_heading e q m) refl (λ y x. sym (known_one x)) (λ f m. elim m [ ])
   seen_finds name _ _ e q (sees_unknown r) = finds_nothing r (record { only = λ f m. inr (of_declaration e q m); each = λ f m. elim m [ ] }) (λ y x. absurd cc)
 
-  pub named_finds : (name : Ident) → FindsIt (names name) name.pos (named g s name)
+  pub named_finds : (name : Ident) → FindsIt (names name) name.pos (first_name g s name)
   named_finds name = seen_finds name (names name) (looked_up g s name) refl refl (knows.of_names name)
 
   -- ---- fields
@@ -120,7 +120,7 @@ module _ (g : Gathers) (j : Judges g) (lawful : Lawful g j) (names : Ident → S
     abbrev PicksSo : Thing → Result Designated g.Reported → Type 0
     PicksSo x r = Answers g j R IsThing (PicksIt x) (FieldFails x) r
 
-    no_field : {x : Thing} → ((st : Standing) → Picks s.types exports name x st → ⊥) → PicksSo x (reported g at rule.WrongType)
+    no_field : {x : Thing} → ((st : Standing) → Picks s.types exports name x st → ⊥) → PicksSo x (report g at rule.WrongType)
     no_field n = declined g j lawful R at rule.WrongType (λ y p. n (Known y) p) (inl (n, refl)) (λ f z. elim z [ inl w ↦ w.1 | inr w ↦ absurd (n w.0 w.1) ])
 
     -- if one standing is picked
@@ -135,22 +135,22 @@ module _ (g : Gathers) (j : Judges g) (lawful : Lawful g j) (names : Ident → S
     fields_in fs (shape.Record hs) = hs
     fields_in fs other = fs
 
-    record_one : {t : TypeNo} {fs : List (List ℕ × TypeNo)} → IsMade s.types t (shape.Record fs) → (u : Standing) → Picks s.types exports name (AVariable t) u → u ≡ things.field_of (found name.name fs)
-    record_one {t = t} {fs = fs} m _ (of_record q) = ap (λ (hs : List (List ℕ × TypeNo)). things.field_of (found name.name hs)) (ap (fields_in fs) (one_made s.types t q m))
+    record_one : {t : TypeNo} {fs : List (List ℕ × TypeNo)} → IsMade s.types t (shape.Record fs) → (u : Standing) → Picks s.types exports name (AVariable t) u → u ≡ things.field_of (find_name name.name fs)
+    record_one {t = t} {fs = fs} m _ (of_record q) = ap (λ (hs : List (List ℕ × TypeNo)). things.field_of (find_name name.name hs)) (ap (fields_in fs) (one_made s.types t q m))
 
     not_record : {t : TypeNo} (z : Option Shape) → shape_at s.types t ≡ z → ((fs : List (List ℕ × TypeNo)) → z ≡ Some (shape.Record fs) → ⊥) → (st : Standing) → Picks s.types exports name (AVariable t) st → ⊥
     not_record z e n _ (of_record m) = n _ (sym e ∙ m)
 
     field_by : (t : TypeNo) (d : Place) (fs : List (List ℕ × TypeNo)) (o : Option (ℕ × TypeNo)) → FieldIs name.name fs o
-        → Answers g j R IsThing (λ y. things.field_of (found name.name fs) ≡ Known y) (Misnamed name.pos (things.field_of (found name.name fs))) (field_named g name.pos o ▷ λ f. Ok (designated.Variable f.1 (behind d (part.Field t f.0))))
+        → Answers g j R IsThing (λ y. things.field_of (find_name name.name fs) ≡ Known y) (Misnamed name.pos (things.field_of (find_name name.name fs))) (field_named g name.pos o ▷ λ f. Ok (designated.Variable f.1 (behind d (part.Field t f.0))))
     field_by t d fs _ (field_there n u e) = subst (λ (o : Option TypeNo). Answers g j R IsThing (λ y. things.field_of o ≡ Known y) (Misnamed name.pos (things.field_of o)) (Ok (designated.Variable u (behind d (part.Field t n))))) (sym e)
         (names_it g j lawful R s.level name.pos (thing_variable u _))
-    field_by t d fs _ (field_nowhere e) = subst (λ (o : Option TypeNo). Answers g j R IsThing (λ y. things.field_of o ≡ Known y) (Misnamed name.pos (things.field_of o)) (reported g name.pos rule.Undeclared)) (sym e)
+    field_by t d fs _ (field_nowhere e) = subst (λ (o : Option TypeNo). Answers g j R IsThing (λ y. things.field_of o ≡ Known y) (Misnamed name.pos (things.field_of o)) (report g name.pos rule.Undeclared)) (sym e)
         (declined g j lawful R name.pos rule.Undeclared (λ x q. absurd cc) undeclared (only_undeclared g j lawful R s.level name.pos))
 
     component_by : (t : TypeNo) (d : Place) (z : Option Shape) → shape_at s.types t ≡ z → PicksSo (AVariable t) (record_field g at name (fields_of z) ▷ λ f. Ok (designated.Variable f.1 (behind d (part.Field t f.0))))
     component_by t d None e = no_field (not_record None e (λ fs q. absurd cc))
-    component_by t d (Some (shape.Record fs)) e = picks_one (things.field_of (found name.name fs)) (of_record e) (record_one e) (field_by t d fs (numbered_field name.name fs) (field_is name.name fs))
+    component_by t d (Some (shape.Record fs)) e = picks_one (things.field_of (find_name name.name fs)) (of_record e) (record_one e) (field_by t d fs (numbered_field name.name fs) (field_is name.name fs))
     component_by t d (Some (shape.Scalar r)) e = no_field (not_record _ e (λ fs q. absurd cc))
     component_by t d (Some shape.Set) e = no_field (not_record _ e (λ fs q. absurd cc))
     component_by t d (Some (shape.Array i u)) e = no_field (not_record _ e (λ fs q. absurd cc))
@@ -188,7 +188,7 @@ module _ (g : Gathers) (j : Judges g) (lawful : Lawful g j) (names : Ident → S
     abbrev IndexesSo : Thing → Result Subscripted g.Reported → Type 0
     IndexesSo x r = Answers g j R IsIndexed (λ p. Indexes s.types x p.0 p.1) (NoElements x) r
 
-    no_elements : {x : Thing} → ((i t : TypeNo) → Indexes s.types x i t → ⊥) → IndexesSo x (reported g at rule.WrongType)
+    no_elements : {x : Thing} → ((i t : TypeNo) → Indexes s.types x i t → ⊥) → IndexesSo x (report g at rule.WrongType)
     no_elements n = declined g j lawful R at rule.WrongType (λ p q. n p.0 p.1 q) (n, refl) (λ f z. z.1)
 
     abbrev index_in : TypeNo × TypeNo → Shape → TypeNo × TypeNo
@@ -223,11 +223,11 @@ module _ (g : Gathers) (j : Judges g) (lawful : Lawful g j) (names : Ident → S
     indices_answers _ _ (thing_standard p) = no_elements (λ i t q. elim q [ ])
     indices_answers _ _ (thing_module k) = no_elements (λ i t q. elim q [ ])
 
-    picked_is : {a : Subscripted} {p : TypeNo × TypeNo} (x : TypedExpr) → IsIndexed a p → IsThing (picked x a) (AVariable p.1)
+    picked_is : {a : Subscripted} {p : TypeNo × TypeNo} (x : TypedExpr) → IsIndexed a p → IsThing (element_of_array x a) (AVariable p.1)
     picked_is x (indexed_array t i e d) = thing_variable e _
     picked_is x (indexed_open e u) = thing_variable e _
 
-    asked_is : {a : Subscripted} {p : TypeNo × TypeNo} → IsIndexed a p → p.0 ≡ asked a
+    asked_is : {a : Subscripted} {p : TypeNo × TypeNo} → IsIndexed a p → p.0 ≡ index_type a
     asked_is (indexed_array t i e d) = refl
     asked_is (indexed_open e u) = refl
 
@@ -239,11 +239,11 @@ module _ (g : Gathers) (j : Judges g) (lawful : Lawful g j) (names : Ident → S
     IndexFails spot p f = Misassigned s.types p.0.0 spot rule.NotAssignable (operand p.1) f
 
     index_answers : (spot : Pos) (a : Subscripted) (p : TypeNo × TypeNo) (x : Computed) (c : Kind) → IsIndexed a p → IsKind x c → Answers g j R IsThing (ElementOf (p, c)) (IndexFails spot (p, c)) (with_index g s.types spot a x)
-    index_answers spot a p x c i k = exact g j lawful R {M = λ y. IsAssignable s.types (asked a) (operand c) × (y ≡ AVariable p.1)} {B = λ f. Misassigned s.types (asked a) spot rule.NotAssignable (operand c) f ⊎ (IsAssignable s.types (asked a) (operand c) × ⊥)}
+    index_answers spot a p x c i k = exact g j lawful R {M = λ y. IsAssignable s.types (index_type a) (operand c) × (y ≡ AVariable p.1)} {B = λ f. Misassigned s.types (index_type a) spot rule.NotAssignable (operand c) f ⊎ (IsAssignable s.types (index_type a) (operand c) × ⊥)}
         (λ y m. (subst (λ (t : TypeNo). IsAssignable s.types t (operand c)) (sym (asked_is i)) m.0, m.1)) (λ y m. (subst (λ (t : TypeNo). IsAssignable s.types t (operand c)) (asked_is i) m.0, m.1))
         (λ f z. elim z [ inl w ↦ subst (λ (t : TypeNo). Misassigned s.types t spot rule.NotAssignable (operand c) f) (sym (asked_is i)) w | inr w ↦ absurd w.1 ])
         (λ f w. inl (subst (λ (t : TypeNo). Misassigned s.types t spot rule.NotAssignable (operand c) f) (asked_is i) w))
-        (then_checked g j lawful R (value_suits s.types (asked a) g j lawful R rule.NotAssignable spot k) (λ e m. means (picked e a) (AVariable p.1) (picked_is e i) refl (λ y q. q) (λ f b. b)))
+        (then_checked g j lawful R (value_suits s.types (index_type a) g j lawful R rule.NotAssignable spot k) (λ e m. means (element_of_array e a) (AVariable p.1) (picked_is e i) refl (λ y q. q) (λ f b. b)))
 
     pub index_finds : {S : Thing → Type 0} {B : Breach → Type 0} {M : Kind → Type 0} {C : Breach → Type 0} {d : Result Designated (Meaningless g.Reported)} {x : Result Computed g.Reported} (spot : Pos) → Finds g j lawful R S B d → Answers g j R IsKind M C x
         → Finds g j lawful R (λ y. (p : (TypeNo × TypeNo) × Kind) × (((z : Thing) × S z × Indexes s.types z p.0.0 p.0.1) × M p.1) × ElementOf p y)

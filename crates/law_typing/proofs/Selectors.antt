@@ -10,13 +10,13 @@ use Rattle.typed_tree.specs.declared.types.TypeNo.{TypeNo}
 use Rattle.typed_tree.specs.declared.computed.TypedExpr.{TypedExpr}
 use Rattle.typed_tree.specs.Types.{integer, cardinal}
 use Rattle.check_scope.specs.declared.scope.Scope.{Scope}
-use Rattle.check_scope.specs.Elaborated.{Gathers, reported, ◌▷◌}
+use Rattle.check_scope.specs.Elaborated.{Gathers, report, ◌▷◌}
 use Rattle.check_operator.specs.declared.side.Amount.TheVariants.{Known as KnownSide, Run}
 use Rattle.check_operator.specs.declared.side.Side.{Side}
 use Rattle.check_operator.specs.Sides.{side_of}
-use Rattle.check_call.specs.Effects.{untyped}
-use Rattle.check_expr.specs.Meanings.{meant, value_of}
-use Rattle.check_stmt_parts.specs.Simple.{selector_amount, selector_of, selected}
+use Rattle.check_call.specs.Effects.{type_of_number}
+use Rattle.check_expr.specs.Meanings.{meanings_of, value_of}
+use Rattle.check_stmt_parts.specs.Simple.{selector_amount, selector_of, case_selector}
 use Rattle.def_typing.specs.Amounts.{Amount, Constant, Value}
 use Rattle.def_typing.specs.Operators.{◌!◌, Kind, Scalar, operand}
 use Rattle.def_typing.specs.Things.{Standing}
@@ -34,7 +34,7 @@ number_in : (n : ℤ) (b : Bool) → int_lt n (pos 0) ≡ b → SelectsIn (Const
 number_in n true e = negative e
 number_in n false e = not_negative e
 
-constant_in : (n : ℤ) (sort : Option TypeNo) → SelectsIn (Constant sort n) (untyped n sort)
+constant_in : (n : ℤ) (sort : Option TypeNo) → SelectsIn (Constant sort n) (type_of_number n sort)
 constant_in n None = number_in n (int_lt n (pos 0)) refl
 constant_in n (Some t) = constant_type
 
@@ -60,7 +60,7 @@ module _ (g : Gathers) (j : Judges g) (lawful : Lawful g j) (O : Breach → Type
   abbrev SelectorSo : Kind → Result (TypeNo × TypedExpr) g.Reported → Type 0
   SelectorSo c r = Answers g j O (λ v t. v.0 ≡ t) (Selecting c) (NoScalar c) r
 
-  no_selector : {c : Kind} → ((a : Amount) → c ≡ Scalar a → ⊥) → SelectorSo c (reported g at rule.WrongType)
+  no_selector : {c : Kind} → ((a : Amount) → c ≡ Scalar a → ⊥) → SelectorSo c (report g at rule.WrongType)
   no_selector n = declined g j lawful O at rule.WrongType (λ t m. n m.0 m.1) (n, refl) (λ f z. z.1)
 
   a_selector : (a : Amount) (v : TypeNo × TypedExpr) → SelectsIn a v.0 → SelectorSo (Scalar a) (Ok v)
@@ -80,8 +80,8 @@ module _ (g : Gathers) (j : Judges g) (lawful : Lawful g j) (names : Ident → S
   abbrev E : Breach → Type 0
   E = Repeats g j names s
 
-  pub selector_answers : (e : Expr) → IsPlain e → Answers g j E (λ (v : TypeNo × TypedExpr) (t : TypeNo). v.0 ≡ t) (IsSelector s.types names exports e) (BrokenSelector s.types names exports e) (selected g s (meant g e))
-  selector_answers e i = subst (λ (at : Pos). Answers g j E (λ (v : TypeNo × TypedExpr) (t : TypeNo). v.0 ≡ t) (IsSelector s.types names exports e) (BrokenSelector s.types names exports e) (value_of g s (meant g e) ▷ λ v. selector_of g at (side_of v))) (sym (at_is g i))
+  pub selector_answers : (e : Expr) → IsPlain e → Answers g j E (λ (v : TypeNo × TypedExpr) (t : TypeNo). v.0 ≡ t) (IsSelector s.types names exports e) (BrokenSelector s.types names exports e) (case_selector g s (meanings_of g e))
+  selector_answers e i = subst (λ (at : Pos). Answers g j E (λ (v : TypeNo × TypedExpr) (t : TypeNo). v.0 ≡ t) (IsSelector s.types names exports e) (BrokenSelector s.types names exports e) (value_of g s (meanings_of g e) ▷ λ v. selector_of g at (side_of v))) (sym (at_is g i))
       (exact g j lawful E (λ t m. is_selector m.1 m.2.1 m.2.2) parts into out
       (then_answer g j lawful E {N = λ k t. Selecting g j lawful E (first e) (operand k) t} {D = λ k f. NoScalar g j lawful E (first e) (operand k) f} (exactly g j lawful names exports s knows e i) (λ v k q. side_selects g j lawful E (first e) (side_is q))))
     where

@@ -16,12 +16,12 @@ use Rattle.typed_tree.specs.declared.meaning.Value.TheVariants as value
 use Rattle.typed_tree.specs.declared.shape.Scalar.{Scalar as Range}
 use Rattle.typed_tree.specs.Types.{are_same, is_numeric, integer, cardinal, boolean, char}
 use Rattle.m2_rule.specs.declared.breach.Breach.{Breach}
-use Rattle.check_scope.specs.Elaborated.{Gathers, reported, reported_where}
+use Rattle.check_scope.specs.Elaborated.{Gathers, report, reported_where}
 use Rattle.check_const_ops.specs.declared.operand.Ordinal.{Ordinal}
 use Rattle.check_const_ops.specs.declared.operand.Operand.{Operand}
 use Rattle.check_const_ops.specs.declared.operand.Operand.TheVariants as operands
 use Rattle.check_const_ops.specs.declared.operator.BinaryOp.TheVariants.{Minus}
-use Rattle.check_const_ops.specs.Operands.{operand_of, valued, is_number, is_truth, truth as constant_truth}
+use Rattle.check_const_ops.specs.Operands.{operand_of, number_value, is_number, is_truth, truth as constant_truth}
 use Rattle.check_const_ops.specs.Numbers.{fits, is_between, number_at, evaluated_at}
 use Rattle.check_const_ops.specs.Operate as constants
 use Rattle.check_const_ops.specs.Standards.{scalar_part, if_number, absolute_part, capital_part, character_part, odd_part, ordinal_part, converted_part, is_char, upper, bound_of}
@@ -61,9 +61,9 @@ constant_is (value.Scalar s) = constant_scalar (record { sort = Some s.base; num
 constant_is (value.Set bits) = constant_set bits
 constant_is (value.Text text) = text_constant text
 
-pub valued_kind : (sort : Option TypeNo) (n : ℤ) → IsKind (computed.Constant (valued sort n)) (Scalar (Constant sort n))
+pub valued_kind : (sort : Option TypeNo) (n : ℤ) → IsKind (computed.Constant (number_value sort n)) (Scalar (Constant sort n))
 valued_kind None n = kind_constant (value.Number n)
-valued_kind (Some t) n = kind_constant (valued (Some t) n)
+valued_kind (Some t) n = kind_constant (number_value (Some t) n)
 
 pub of_where : (g : Gathers) (b : Bool) (at : Pos) (broken : Rule) (r : Result ConstantValue g.Reported) → reported_where g b at broken (of_value r) ≡ of_value (reported_where g b at broken r)
 of_where g true at broken r = refl
@@ -83,14 +83,14 @@ module _ (g : Gathers) (j : Judges g) (lawful : Lawful g j) (O : Breach → Type
         none (unsuited n) = n t
         none (makes_nothing s n) = n c m
 
-    pub suits_not : (May → ⊥) → ((l : Kind) → M l → May) → Applied (reported g at broken)
+    pub suits_not : (May → ⊥) → ((l : Kind) → M l → May) → Applied (report g at broken)
     suits_not n may = declined g j lawful O at broken (λ l m. n (may l m)) (unsuited n) (λ f x. one x)
       where
         one : {f : Breach} → Misapplied May M at broken f → f ≡ at ! broken
         one (unsuited m) = refl
         one (makes_nothing t m) = absurd (n t)
 
-    pub reaches_out : May → ((l : Kind) → M l → ⊥) → Applied (reported g at rule.OutOfRange)
+    pub reaches_out : May → ((l : Kind) → M l → ⊥) → Applied (report g at rule.OutOfRange)
     reaches_out t n = declined g j lawful O at rule.OutOfRange n (makes_nothing t n) (λ f x. one x)
       where
         one : {f : Breach} → Misapplied May M at broken f → f ≡ at ! rule.OutOfRange
@@ -107,7 +107,7 @@ module _ (g : Gathers) (j : Judges g) (lawful : Lawful g j) (O : Breach → Type
 
     -- a constant of this value, if it is in the range of its type
     pub number_made : (sort : Option TypeNo) (n : ℤ) → IsNumber sort → May → (InRange sort n → M (Scalar (Constant sort n))) → ((l : Kind) → M l → InRange sort n × (l ≡ Scalar (Constant sort n))) → Applied (of_value (number_at g at sort n))
-    number_made sort n w t m only = subst Applied (of_where g (not (fits sort n)) at rule.OutOfRange (Ok (valued sort n)))
+    number_made sort n w t m only = subst Applied (of_where g (not (fits sort n)) at rule.OutOfRange (Ok (number_value sort n)))
         (where_made (fits sort n) (range_decided n w) t _ (Scalar (Constant sort n)) (valued_kind sort n) m only)
 
 -- ---- signs
@@ -145,12 +145,12 @@ module _ (g : Gathers) (j : Judges g) (lawful : Lawful g j) (O : Breach → Type
   abbrev pub Signed : Sign → Pos → Kind → Result Computed g.Reported → Type 0
   Signed o spot c r = Applied g j lawful O spot rule.WrongType (MaySign o c) (SignMakes o c) r
 
-  no_sign : {o : Sign} {c : Kind} (spot : Pos) → (MaySign o c → ⊥) → Signed o spot c (reported g spot rule.WrongType)
+  no_sign : {o : Sign} {c : Kind} (spot : Pos) → (MaySign o c → ⊥) → Signed o spot c (report g spot rule.WrongType)
   no_sign {o = o} {c = c} spot n = suits_not g j lawful O spot rule.WrongType (MaySign o c) (SignMakes o c) n (λ l m. sign_taken m)
 
   sign_constant : (o : Sign) (spot : Pos) (sort : Option TypeNo) (n : ℤ) → Signed o spot (Scalar (Constant sort n)) (of_value (constants.signed_scalar g o spot (record { sort = sort; number = n })))
   sign_constant sign.Plus spot sort n = let c = Scalar (Constant sort n) in
-      subst (Signed sign.Plus spot c) (of_where g (not (is_number sort)) spot rule.WrongType (Ok (valued sort n)))
+      subst (Signed sign.Plus spot c) (of_where g (not (is_number sort)) spot rule.WrongType (Ok (number_value sort n)))
       (where_suits g j lawful O spot rule.WrongType (MaySign sign.Plus c) (SignMakes sign.Plus c) (is_number sort) (plus_decided sort) (λ l m. sign_taken m)
       (λ t. makes g j lawful O spot rule.WrongType (MaySign sign.Plus c) (SignMakes sign.Plus c) t _ c (valued_kind sort n) (rules.signed t k.plus_is) (λ l m. plus_makes m)))
   sign_constant sign.Minus spot sort n = let c = Scalar (Constant sort n) in
@@ -190,7 +190,7 @@ module _ (g : Gathers) (j : Judges g) (lawful : Lawful g j) (O : Breach → Type
   abbrev pub Negated : Kind → Result Computed g.Reported → Type 0
   Negated c r = Answers g j O IsKind (Negates c) (λ f. ((l : Kind) → Negates c l → ⊥) × (f ≡ at ! rule.WrongType)) r
 
-  not_negated : {c : Kind} → ((l : Kind) → Negates c l → ⊥) → Negated c (reported g at rule.WrongType)
+  not_negated : {c : Kind} → ((l : Kind) → Negates c l → ⊥) → Negated c (report g at rule.WrongType)
   not_negated n = declined g j lawful O at rule.WrongType n (n, refl) (λ f x. x.1)
 
   negated_by : {P : Type 0} {c m : Kind} {v : Computed} (b : Bool) → Decided P b → IsKind v m → (P → Negates c m) → ((l : Kind) → Negates c l → P × (l ≡ m)) → Negated c (reported_where g (not b) at rule.WrongType (Ok v))
@@ -291,7 +291,7 @@ module _ (g : Gathers) (j : Judges g) (lawful : Lawful g j) (O : Breach → Type
     abbrev pub OfOne : Kind → Result Computed g.Reported → Type 0
     OfOne c r = Applied g j lawful O at rule.WrongArgument (MayApply f c) (Applies f c) r
 
-    no_argument : {c : Kind} → (MayApply f c → ⊥) → OfOne c (reported g at rule.WrongArgument)
+    no_argument : {c : Kind} → (MayApply f c → ⊥) → OfOne c (report g at rule.WrongArgument)
     no_argument {c = c} n = suits_not g j lawful O at rule.WrongArgument (MayApply f c) (Applies f c) n (λ l m. applied_takes m)
 
     one_makes : {a b : Amount} {v : Computed} → TakesOne f (sort_of a) → IsKind v (Scalar b) → Computes f a b → ((l : Kind) → Applies f (Scalar a) l → l ≡ Scalar b) → OfOne (Scalar a) (Ok v)
@@ -301,7 +301,7 @@ module _ (g : Gathers) (j : Judges g) (lawful : Lawful g j) (O : Breach → Type
     where_one {a = a} b d h = where_suits g j lawful O at rule.WrongArgument (MayApply f (Scalar a)) (Applies f (Scalar a)) b d (λ l m. applied_takes m) h
 
     -- the test on numbers stands inside what it guards
-    if_taken : (part : Option Ordinal → Result ConstantValue g.Reported) (a : Ordinal) (b : Bool) → Decided (TakesOne f a.sort) b → of_value (part None) ≡ reported g at rule.WrongArgument
+    if_taken : (part : Option Ordinal → Result ConstantValue g.Reported) (a : Ordinal) (b : Bool) → Decided (TakesOne f a.sort) b → of_value (part None) ≡ report g at rule.WrongArgument
         → (TakesOne f a.sort → OfOne (Scalar (Constant a.sort a.number)) (of_value (part (Some a)))) → OfOne (Scalar (Constant a.sort a.number)) (of_value (part (cond b (Some a) None)))
     if_taken part a _ (holds t) e h = h t
     if_taken part a _ (fails_it n) e h = subst (OfOne (Scalar (Constant a.sort a.number))) (sym e) (no_argument n)
@@ -319,13 +319,13 @@ module _ (g : Gathers) (j : Judges g) (lawful : Lawful g j) (O : Breach → Type
   abs_known (constant_text text) = no_argument Abs (λ m. m)
 
   cap_known : {p : Option Operand} {c : Kind} → IsConstantOperand p c → OfOne Cap c (of_value (capital_part g at (scalar_part p)))
-  cap_known (constant_scalar a) = subst (OfOne Cap (Scalar (Constant a.sort a.number))) (of_where g (not (is_char a.sort)) at rule.WrongArgument (Ok (valued (Some char) (upper a.number))))
+  cap_known (constant_scalar a) = subst (OfOne Cap (Scalar (Constant a.sort a.number))) (of_where g (not (is_char a.sort)) at rule.WrongArgument (Ok (number_value (Some char) (upper a.number))))
       (where_one Cap (is_char a.sort) (char_decided a.sort) (λ t. one_makes Cap t (valued_kind (Some char) (upper a.number)) functions.cap_constant (λ l m. cap_makes m)))
   cap_known (constant_set bits) = no_argument Cap (λ m. m)
   cap_known (constant_text text) = no_argument Cap (λ m. m)
 
   chr_by : (a : Ordinal) → TakesOne Chr a.sort → OfOne Chr (Scalar (Constant a.sort a.number)) (of_value (character_part g at (Some a)))
-  chr_by a t = let c = Scalar (Constant a.sort a.number) in subst (OfOne Chr c) (of_where g (not (is_between (pos 0) a.number (pos 255))) at rule.OutOfRange (Ok (valued (Some char) a.number)))
+  chr_by a t = let c = Scalar (Constant a.sort a.number) in subst (OfOne Chr c) (of_where g (not (is_between (pos 0) a.number (pos 255))) at rule.OutOfRange (Ok (number_value (Some char) a.number)))
       (where_made g j lawful O at rule.WrongArgument (MayApply Chr c) (Applies Chr c) (is_between (pos 0) a.number (pos 255)) (within_decided (pos 0) a.number (pos 255)) t _ (Scalar (Constant (Some char) a.number)) (valued_kind (Some char) a.number)
       (λ w. functions.applied t (functions.chr_constant w)) (λ l m. chr_makes m))
 
@@ -341,7 +341,7 @@ module _ (g : Gathers) (j : Judges g) (lawful : Lawful g j) (O : Breach → Type
   odd_known (constant_text text) = no_argument Odd (λ m. m)
 
   ord_known : {p : Option Operand} {c : Kind} → IsConstantOperand p c → OfOne Ord c (of_value (ordinal_part g at (scalar_part p)))
-  ord_known (constant_scalar a) = let c = Scalar (Constant a.sort a.number) in subst (OfOne Ord c) (of_where g (not (fits (Some cardinal) a.number)) at rule.OutOfRange (Ok (valued (Some cardinal) a.number)))
+  ord_known (constant_scalar a) = let c = Scalar (Constant a.sort a.number) in subst (OfOne Ord c) (of_where g (not (fits (Some cardinal) a.number)) at rule.OutOfRange (Ok (number_value (Some cardinal) a.number)))
       (where_made g j lawful O at rule.WrongArgument (MayApply Ord c) (Applies Ord c) (fits (Some cardinal) a.number) (range_decided a.number (k.whole k.is_cardinal)) functions.ord_takes _ (Scalar (Constant (Some cardinal) a.number)) (valued_kind (Some cardinal) a.number)
       (λ r. functions.applied functions.ord_takes (functions.ord_constant r)) (λ l m. ord_makes m))
   ord_known (constant_set bits) = no_argument Ord (λ m. m)
@@ -386,7 +386,7 @@ module _ (g : Gathers) (j : Judges g) (lawful : Lawful g j) (O : Breach → Type
   abbrev pub Converted : Kind → Result Computed g.Reported → Type 0
   Converted c v = Applied g j lawful O at rule.WrongArgument (MayConvert c) (Converts r c) v
 
-  no_conversion : {c : Kind} → (MayConvert c → ⊥) → Converted c (reported g at rule.WrongArgument)
+  no_conversion : {c : Kind} → (MayConvert c → ⊥) → Converted c (report g at rule.WrongArgument)
   no_conversion {c = c} n = suits_not g j lawful O at rule.WrongArgument (MayConvert c) (Converts r c) n (λ l m. converts_taken m)
 
   convert_by : (a : Ordinal) (b : Bool) → Decided (IsNumber a.sort) b → Converted (Scalar (Constant a.sort a.number)) (of_value (converted_part g t r at (cond b (Some a) None)))

@@ -24,7 +24,7 @@ use Rattle.check_const_ops.specs.Common.{common}
 use Rattle.check_const.specs.Parts.{constant}
 use Rattle.check_expr.specs.Meanings.{part}
 use Rattle.check_type_expr.specs.Named.{first_of}
-use Rattle.check_type_expr.specs.Subranges.{ordinal_in, bound_of, ordered, base_of, fits_at, between, unnamed, is_of_base, is_of, ordered_if, are_bounds, under}
+use Rattle.check_type_expr.specs.Subranges.{ordinal_in, bound_of, bounds_in_order, base_of, fits_at, between, subrange_between, is_of_base, is_of, ordered_if, are_bounds, under}
 use Rattle.check_type_expr.specs.Made.{scalar_or, scalar_named, subrange}
 use Rattle.def_typing.specs.Shapes.{shape_at, IsMade}
 use Rattle.def_typing.specs.Amounts as amounts
@@ -148,7 +148,7 @@ module _ (g : Gathers) (j : Judges g) (lawful : Lawful g j) (O : Breach → Type
     fit_tests spot base (Some u) k w = passes tt has_type (λ f z. z.0 has_type)
     fit_tests spot base None k w = where_checks g j lawful O tt (fits (Some base) k) spot rule.OutOfRange (suits_decided k (w refl))
 
-    all_tests : (base : TypeNo) → (s ≡ None → IsWhole base) → (t ≡ None → IsWhole base) → Tests g j lawful O (Fine lim base) (NotFine at at' lim base) (beside g (ordered g at n m) (beside g (fits_at g at base s n) (fits_at g at' base t m)))
+    all_tests : (base : TypeNo) → (s ≡ None → IsWhole base) → (t ≡ None → IsWhole base) → Tests g j lawful O (Fine lim base) (NotFine at at' lim base) (beside g (bounds_in_order g at n m) (beside g (fits_at g at base s n) (fits_at g at' base t m)))
     all_tests base w v = checks_as g j lawful O (λ p. record { upward = p.0; low_suits = p.1.0; high_suits = p.1.1 }) (λ q. (q.upward, (q.low_suits, q.high_suits))) (λ f z. z) (λ f z. z)
         (beside_checks g j lawful O (order_tests (int_lt m n) refl) (beside_checks g j lawful O (fit_tests at base s n w) (fit_tests at' base t m v)))
 
@@ -201,7 +201,7 @@ module _ (g : Gathers) (j : Judges g) (lawful : Lawful g j) (O : Breach → Type
     abbrev UnnamedFails : Breach → Type 0
     UnnamedFails f = (B f ⊎ C f) ⊎ ((q : Limits) × (M q.0 × N q.1) × NotBased at at' q f)
 
-    pub unnamed_answers : Answers g j O IsRange UnnamedIs UnnamedFails (unnamed g at a at' b)
+    pub unnamed_answers : Answers g j O IsRange UnnamedIs UnnamedFails (subrange_between g at a at' b)
     unnamed_answers = then_answer g j lawful O {N = Based} {D = NotBased at at'} (both_answer g j lawful O low high) (λ x q i. between_answers at at' x.0 x.1 q.0 q.1 i.0 i.1)
 
   abbrev Downward : Pos → Limits → Breach → Type 0
@@ -462,11 +462,11 @@ module _ (g : Gathers) (j : Judges g) (lawful : Lawful g j) (names : Ident → S
     SubSo q r = Answers g j R (λ (a r : Range). a ≡ r) (Sub q) (BrokenSub q) r
 
     abbrev by_places : Option Qualified → Pos → Pos → Result Range g.Reported
-    by_places None at at' = unnamed g at (bound_of g at (constant g s (part g low))) at' (bound_of g at' (constant g s (part g high)))
+    by_places None at at' = subrange_between g at (bound_of g at (constant g s (part g low))) at' (bound_of g at' (constant g s (part g high)))
     by_places (Some q) at at' = under g (scalar_named g s q) at (bound_of g at (constant g s (part g low))) at' (bound_of g at' (constant g s (part g high)))
 
     sub_by : (q : Option Qualified) (at at' : Pos) → first low ≡ at → first high ≡ at' → SubSo q (by_places q at at')
-    sub_by None at at' e f = subst (λ (x : Pos). SubSo None (unnamed g x (bound_of g x (constant g s (part g low))) at' (bound_of g at' (constant g s (part g high))))) e (subst (λ (y : Pos). SubSo None (unnamed g (first low) (bound_of g (first low) (constant g s (part g low))) y (bound_of g y (constant g s (part g high))))) f
+    sub_by None at at' e f = subst (λ (x : Pos). SubSo None (subrange_between g x (bound_of g x (constant g s (part g low))) at' (bound_of g at' (constant g s (part g high))))) e (subst (λ (y : Pos). SubSo None (subrange_between g (first low) (bound_of g (first low) (constant g s (part g low))) y (bound_of g y (constant g s (part g high))))) f
         (exact g j lawful R free_in (λ r z. free_out z) free_broken (λ f z. broken_free z) (unnamed_answers g j lawful R (first low) (first high) (bound_is low i) (bound_is high k))))
     sub_by (Some q) at at' e f = subst (λ (x : Pos). SubSo (Some q) (under g (scalar_named g s q) x (bound_of g x (constant g s (part g low))) at' (bound_of g at' (constant g s (part g high))))) e (subst (λ (y : Pos). SubSo (Some q) (under g (scalar_named g s q) (first low) (bound_of g (first low) (constant g s (part g low))) y (bound_of g y (constant g s (part g high))))) f
         (exact g j lawful R (held_in q) (λ r z. held_out q z) (held_broken q) (λ f z. broken_held q z) (under_answers g j lawful R (first low) (first high) (range_named q) (bound_is low i) (bound_is high k))))

@@ -14,9 +14,9 @@ use Rattle.typed_tree.specs.declared.meaning.Meaning.TheVariants as meaning
 use Rattle.check_scope.specs.declared.meaningless.Meaningless.{Meaningless}
 use Rattle.check_scope.specs.declared.meaningless.Meaningless.TheVariants as meaningless
 use Rattle.check_scope.specs.declared.scope.Scope.{Scope}
-use Rattle.check_scope.specs.Elaborated.{Gathers, reported, of_sort, ◌▷◌}
+use Rattle.check_scope.specs.Elaborated.{Gathers, report, of_sort, ◌▷◌}
 use Rattle.check_scope.specs.Scopes.{looked_up}
-use Rattle.check_const.specs.Denote.{exported_by, exported, member}
+use Rattle.check_const.specs.Denote.{exported_by, export_of, member}
 use Rattle.check_type_expr.specs.Named.{type_meant, in_module, of_module, named_type}
 use Rattle.def_typing.specs.Operators.{◌!◌}
 use Rattle.def_typing.specs.Things.{Thing, AValue, AVariable, AnOpenArray, AType, AProcedure, ANested, AStandard, AModule, Headless, Standing, Known, Ahead, Undeclared, NotExported, Unknown, Misnamed, undeclared, not_exported}
@@ -55,7 +55,7 @@ module _ (g : Gathers) (j : Judges g) (lawful : Lawful g j) (O : Breach → Type
     abbrev TypeSo : Standing → Result TypeNo g.Reported → Type 0
     TypeSo st r = Answers g j O (λ (t u : TypeNo). t ≡ u) (λ t. st ≡ Known (AType t)) (Misses IsType spot at st) r
 
-    other_type : (x : Thing) → (IsType x → ⊥) → TypeSo (Known x) (reported g spot rule.NoType)
+    other_type : (x : Thing) → (IsType x → ⊥) → TypeSo (Known x) (report g spot rule.NoType)
     other_type x n = declined g j lawful O spot rule.NoType (λ t e. n (t, known_one e)) (other_sort n) (λ f m. one m)
       where
         one : {f : Breach} → Misses IsType spot at (Known x) f → f ≡ spot ! rule.NoType
@@ -69,14 +69,14 @@ module _ (g : Gathers) (j : Judges g) (lawful : Lawful g j) (O : Breach → Type
         none (no_name m) = elim m.misnamed [ ]
         none (other_sort z) = z (t, refl)
 
-    ahead_type : TypeSo Ahead (reported g spot rule.NoType)
+    ahead_type : TypeSo Ahead (report g spot rule.NoType)
     ahead_type = declined g j lawful O spot rule.NoType (λ t e. absurd cc) a_procedure (λ f m. one m)
       where
         one : {f : Breach} → Misses IsType spot at Ahead f → f ≡ spot ! rule.NoType
         one (no_name m) = absurd (m.not_ahead refl)
         one a_procedure = refl
 
-    local_type : (t : TypeNo) (k : LocalKind) → TypeSo (of_local t k) (reported g spot rule.NoType)
+    local_type : (t : TypeNo) (k : LocalKind) → TypeSo (of_local t k) (report g spot rule.NoType)
     local_type t local.Variable = other_type (AVariable t) (λ q. let e = q.1 in absurd cc)
     local_type t local.Value = other_type (AVariable t) (λ q. let e = q.1 in absurd cc)
     local_type t local.Alias = other_type (AVariable t) (λ q. let e = q.1 in absurd cc)
@@ -94,7 +94,7 @@ module _ (g : Gathers) (j : Judges g) (lawful : Lawful g j) (O : Breach → Type
     type_by (meaning.Standard p) = other_type (AStandard p) (λ q. let e = q.1 in absurd cc)
     type_by (meaning.Module k) = other_type (AModule k) (λ q. let e = q.1 in absurd cc)
 
-    type_exported : (st : Standing) (m : Option Meaning) → Exports g j st m → TypeSo st (exported g at m ▷ type_meant g spot)
+    type_exported : (st : Standing) (m : Option Meaning) → Exports g j st m → TypeSo st (export_of g at m ▷ type_meant g spot)
     type_exported _ _ (has_exported m) = type_by m
     type_exported _ _ has_nothing = declined g j lawful O at rule.NotExported (λ t e. absurd cc) (no_name (record { not_ahead = λ e. absurd cc; misnamed = not_exported })) (λ f m. one m)
       where
@@ -112,7 +112,7 @@ module _ (g : Gathers) (j : Judges g) (lawful : Lawful g j) (names : Ident → S
   misses_unknown : {Fits : Thing → Type 0} {at : Pos} {f : Breach} → Misses Fits at at Unknown f → ⊥
   misses_unknown (no_name m) = elim m.misnamed [ ]
 
-  undeclared_name : {A K : Type 0} {Is : A → K → Type 0} {M : K → Type 0} {Fits : Thing → Type 0} (at : Pos) → ((k : K) → M k → ⊥) → Answers g j R Is M (Misses Fits at at Undeclared) (reported g at rule.Undeclared)
+  undeclared_name : {A K : Type 0} {Is : A → K → Type 0} {M : K → Type 0} {Fits : Thing → Type 0} (at : Pos) → ((k : K) → M k → ⊥) → Answers g j R Is M (Misses Fits at at Undeclared) (report g at rule.Undeclared)
   undeclared_name at n = declined g j lawful R at rule.Undeclared n (no_name (record { not_ahead = λ e. absurd cc; misnamed = undeclared })) (λ f m. misses_undeclared m)
 
   unknown_name : {A K : Type 0} {Is : A → K → Type 0} {M : K → Type 0} {Fits : Thing → Type 0} (name : Ident) (r : g.Reported) → names name ≡ Unknown → looked_up g s name ≡ Err (meaningless.Broken r) → ((k : K) → M k → ⊥) → Answers g j R {A = A} Is M (Misses Fits name.pos name.pos Unknown) (Err r)
@@ -137,7 +137,7 @@ module _ (g : Gathers) (j : Judges g) (lawful : Lawful g j) (names : Ident → S
     abbrev MemberSo : Standing → Result TypeNo g.Reported → Type 0
     MemberSo st r = Answers g j R (λ (t u : TypeNo). t ≡ u) (MemberIs st) (MemberFails st) r
 
-    other_module : (x : Thing) → (IsModule x → ⊥) → MemberSo (Known x) (reported g home.pos rule.NoType)
+    other_module : (x : Thing) → (IsModule x → ⊥) → MemberSo (Known x) (report g home.pos rule.NoType)
     other_module x n = declined g j lawful R home.pos rule.NoType (λ t z. n (z.0, known_one z.1)) (inl (other_sort n)) (λ f z. one z)
       where
         one : {f : Breach} → MemberFails (Known x) f → f ≡ home.pos ! rule.NoType
@@ -145,7 +145,7 @@ module _ (g : Gathers) (j : Judges g) (lawful : Lawful g j) (names : Ident → S
         one (inl (other_sort z)) = refl
         one (inr z) = absurd (n (z.0, known_one z.1))
 
-    ahead_module : MemberSo Ahead (reported g home.pos rule.NoType)
+    ahead_module : MemberSo Ahead (report g home.pos rule.NoType)
     ahead_module = declined g j lawful R home.pos rule.NoType (λ t z. let e = z.1 in absurd cc) (inl a_procedure) (λ f z. one z)
       where
         one : {f : Breach} → MemberFails Ahead f → f ≡ home.pos ! rule.NoType
@@ -153,7 +153,7 @@ module _ (g : Gathers) (j : Judges g) (lawful : Lawful g j) (names : Ident → S
         one (inl a_procedure) = refl
         one (inr z) = let e = z.1 in absurd cc
 
-    local_module : (t : TypeNo) (k : LocalKind) → MemberSo (of_local t k) (reported g home.pos rule.NoType)
+    local_module : (t : TypeNo) (k : LocalKind) → MemberSo (of_local t k) (report g home.pos rule.NoType)
     local_module t local.Variable = other_module (AVariable t) (λ q. let e = q.1 in absurd cc)
     local_module t local.Value = other_module (AVariable t) (λ q. let e = q.1 in absurd cc)
     local_module t local.Alias = other_module (AVariable t) (λ q. let e = q.1 in absurd cc)

@@ -2,13 +2,13 @@
 use Rattle.std.proofs.Common.{◌≡◌, ℕ, List, [], ◌∷◌, Option, Result, Ok, Err, inl, inr, refl, sym, ap, subst, ◌∙◌, arith, zero, suc, Bool, true, false, cond, Some, None, ◌++◌, ◌⊎◌}
 use Rattle.std.specs.Prelude.{nat_lt, int_lt, not, unsigned_abs, ◌-ℤ◌, ◌+◌, ◌*◌}
 use Rattle.std.proofs.lemmas.Bool.Decides.{nat_tests}
-use Rattle.check_type_expr.specs.Cells.{counted, count_of, count_at, array_cells, is_index_scalar, is_index as is_index_of}
+use Rattle.check_type_expr.specs.Cells.{count_up, count_of, count_at, array_cells, is_index_scalar, is_index as is_index_of}
 use Rattle.m2_rule.specs.declared.rule.Rule.TheVariants as rule
 use Rattle.typed_tree.specs.declared.meaning.Meaning.{Meaning}
 use Rattle.check_scope.specs.declared.meaningless.Meaningless.{Meaningless}
 use Rattle.check_scope.specs.declared.scope.OpenedRecord.{OpenedRecord}
-use Rattle.check_scope.specs.Scopes.{known, means_as, means_or, looked_up, opened as opened_fields}
-use Rattle.check_scope.specs.Elaborated.{reported, reported_where, ◌▷◌}
+use Rattle.check_scope.specs.Scopes.{sight_of, means_as, means_or, looked_up, open_field as opened_fields}
+use Rattle.check_scope.specs.Elaborated.{report, reported_where, ◌▷◌}
 use Rattle.def_typing.specs.Amounts.{IsWhole}
 use Rattle.def_typing.specs.Operators.{◌!◌}
 use Rattle.def_typing.specs.Shapes.{shape_at, IsMade}
@@ -201,7 +201,7 @@ counted_size : (b : Bool) (d c : ℕ) → nat_lt 131072 d ≡ b → SizeIs (cond
 counted_size true d c h = large_size d c h
 counted_size false d c h = size_same refl
 
-range_size : (b : Bool) (d c : ℕ) → SizeIs (cond b 0 (counted d) * c) (cond b 0 (d + 1) * c)
+range_size : (b : Bool) (d c : ℕ) → SizeIs (cond b 0 (count_up d) * c) (cond b 0 (d + 1) * c)
 range_size true d c = size_same refl
 range_size false d c = counted_size (nat_lt 131072 d) d c refl
 
@@ -248,8 +248,8 @@ assoc_made own ms ns rest = append_assoc (own ++ ms) ns rest ∙ append_assoc ow
 module _ (g : Gathers) (j : Judges g) (lawful : Lawful g j) (exports : ℕ → Ident → Standing) (s : Scope g.Reported) (no_withs : s.withs ≡ []) where
   -- the types that are made tell nothing of names
   looked_more : (ms : List Made) (name : Ident) → looked_up g (with_made_types s ms) name ≡ looked_up g s name
-  looked_more ms name = ap (λ (ws : List OpenedRecord). means_or (opened_fields (with_types s.types ms) name.name ws) (means_as g name.pos (known name.name s))) no_withs
-      ∙ sym (ap (λ (ws : List OpenedRecord). means_or (opened_fields s.types name.name ws) (means_as g name.pos (known name.name s))) no_withs)
+  looked_more ms name = ap (λ (ws : List OpenedRecord). means_or (opened_fields (with_types s.types ms) name.name ws) (means_as g name.pos (sight_of name.name s))) no_withs
+      ∙ sym (ap (λ (ws : List OpenedRecord). means_or (opened_fields s.types name.name ws) (means_as g name.pos (sight_of name.name s))) no_withs)
 
   knows_more : (ms : List Made) {names : Ident → Standing} → Knows g j names exports s → Knows g j names exports (with_made_types s ms)
   knows_more ms {names = names} k = record { of_names = λ name. subst (λ (r : Result Meaning (Meaningless g.Reported)). Sees g j name.pos (names name) r) (sym (looked_more ms name)) (k.of_names name); of_modules = k.of_modules }
@@ -331,7 +331,7 @@ module _ (g : Gathers) (j : Judges g) (lawful : Lawful g j) (exports : ℕ → I
       small_array : nat_lt 131072 size ≡ false → SizeSo (Ok (array_made types a b))
       small_array e = means (array_made types a b) (array_made types a b) refl (e, refl) (λ m z. z.1) (λ f z. let w : true ≡ false = sym z.0 ∙ e in absurd cc)
 
-      large_array : nat_lt 131072 size ≡ true → SizeSo (reported g at rule.LargeType)
+      large_array : nat_lt 131072 size ≡ true → SizeSo (report g at rule.LargeType)
       large_array e = declined g j lawful R at rule.LargeType (λ m z. let w : true ≡ false = sym e ∙ z.0 in absurd cc) (e, refl) (λ f z. z.1)
 
       sized_by : (n : ℕ) → SizeIs n size → (l : Bool) → nat_lt 131072 n ≡ l → SizeSo (reported_where g l at rule.LargeType (Ok n) ▷ λ n. Ok (record { shape = shape.Array a b; cells = n }))

@@ -57,15 +57,15 @@ use Rattle.check_operator.specs.declared.computed.Designated.{Designated}
 use Rattle.check_operator.specs.declared.computed.Designated.TheVariants as designated
 use Rattle.check_const.specs.Parts.{constant}
 use Rattle.check_operator.specs.Suits.{value_suited}
-use Rattle.check_call.specs.Effects.{target_at, assigned}
+use Rattle.check_call.specs.Effects.{target_at, assignment_of}
 use Rattle.typed_tree.specs.declared.statement.TypedStmt.{TypedStmt}
 use Rattle.typed_tree.specs.Types.{boolean}
 use Rattle.def_typing.specs.Constants.{IsBound, AConstant, Fixes, BrokenAsConstant}
-use Rattle.check_expr.specs.Effects.{done_by}
+use Rattle.check_expr.specs.Effects.{call_statement}
 use Rattle.def_typing.specs.Actions.{IsAction, BrokenAction}
 use Rattle.def_typing.specs.Assignments.{Assigns, BrokenAssignment, IsCondition, BrokenCondition}
 use Rattle.check_stmt_parts.specs.declared.around.Around.{Around}
-use Rattle.check_stmt_parts.specs.Simple.{meant_if, exited, returned, selected}
+use Rattle.check_stmt_parts.specs.Simple.{meant_if, exit_statement, return_statement, case_selector}
 use Rattle.def_typing.specs.Returns.{Giving, Nothing, AResult, AnyResult, Returns, BrokenReturn, IsExit, BrokenExit}
 use Rattle.check_stmt_parts.specs.declared.control.Course.{Course}
 use Rattle.check_stmt_parts.specs.Control.{is_own, course_of}
@@ -84,14 +84,14 @@ use Rattle.typed_tree.specs.declared.shape.Made.{Made}
 use Rattle.typed_tree.specs.declared.shape.Signature.{Signature}
 use Rattle.check_type_expr.specs.Headings.{heading_of}
 use Rattle.def_typing.specs.Headings.{procedure_made, IsHeading, BrokenHeading}
-use Rattle.typed_tree.specs.Names.{found}
+use Rattle.typed_tree.specs.Names.{find_name}
 use Rattle.check_block.specs.Declarations.{declared_block}
 use Rattle.check_block.specs.Headings.{standing_from}
 use Rattle.check_block.specs.declared.heading.Standing.TheVariants as heading
 use Rattle.def_typing.specs.Declarations.{Declared as Resolved, declarations_of, in_order, types_behind, AllStand, IsOwn, BrokenIn}
 use Rattle.check_stmt.specs.Statements.{stmt}
 use Rattle.def_typing.specs.Statements.{arguments, labels_of, Spot, Obeys, Broken}
-use Rattle.check_expr.specs.Meanings.{meant, head, part, value_of}
+use Rattle.check_expr.specs.Meanings.{meanings_of, head, part, value_of}
 use Rattle.def_typing.specs.Amounts.{Constant, Value}
 use Rattle.def_typing.specs.Operators.{◌!◌, Kind, Scalar, Set, Text, Routine, Procedure, Whole, Untaken}
 use Rattle.def_typing.specs.Things.{Thing, AValue, AVariable, AnOpenArray, AType, AProcedure, ANested, AStandard, AModule, Headless, Standing, Known, Ahead, Undeclared, NotExported, Unknown}
@@ -213,7 +213,7 @@ module _ (g : Gathers) (j : Judges g) where
       → Scope g.Reported → Expr → Type 0
   IsExact names exports s e =
       Answers g j (Repeats names s) IsKind (Has s.types names exports e)
-      (BrokenAsValue s.types names exports e) (value_of g s (meant g e))
+      (BrokenAsValue s.types names exports e) (value_of g s (meanings_of g e))
 
 -- ---- expressions in whose braces nothing is called
 
@@ -452,8 +452,8 @@ ConditionsAreExact g j =
     → Knows g j names exports s → (e : Expr) → IsPlain e
     → Answers g j (Repeats g j names s) {A = TypedExpr} {K = Unit {0}} (λ v u. Unit {0})
     (λ u. IsCondition s.types names exports e) (BrokenCondition s.types names exports e)
-    (value_of g s (meant g e)
-    ▷ value_suited g rule.WrongType s.types boolean (meant g e).fixed.at)
+    (value_of g s (meanings_of g e)
+    ▷ value_suited g rule.WrongType s.types boolean (meanings_of g e).fixed.at)
 
 -- Assignments are answered exactly.
 abbrev pub AssignmentsAreExact : (g : Gathers) → Judges g → Type 0
@@ -463,8 +463,8 @@ AssignmentsAreExact g j =
     → ArePlainSelectors (out-Designator d).selectors → IsPlain e
     → Answers g j (Repeats g j names s) {A = TypedStmt} {K = Unit {0}} (λ v u. Unit {0})
     (λ u. Assigns s.types names exports d e) (BrokenAssignment s.types names exports d e)
-    (assigned g s.types (target_at g (head g d).fixed.at ((head g d).means s))
-    (meant g e).fixed.at (value_of g s (meant g e)))
+    (assignment_of g s.types (target_at g (head g d).fixed.at ((head g d).means s))
+    (meanings_of g e).fixed.at (value_of g s (meanings_of g e)))
 
 -- Calls as statements are answered exactly.
 abbrev pub ActionsAreExact : (g : Gathers) → Judges g → Type 0
@@ -474,7 +474,7 @@ ActionsAreExact g j =
     → ArePlainSelectors (out-Designator d).selectors → ArePlain args
     → Answers g j (Repeats g j names s) {A = TypedStmt} {K = Unit {0}} (λ v u. Unit {0})
     (λ u. IsAction s.types names exports d args) (BrokenAction s.types names exports d args)
-    (done_by g s (head g d) (map (meant g) args))
+    (call_statement g s (head g d) (map (meanings_of g) args))
 
 -- RETURN is answered exactly.
 abbrev pub ReturnsAreExact : (g : Gathers) → Judges g → Type 0
@@ -486,14 +486,14 @@ ReturnsAreExact g j =
     → ((x : Expr) → e ≡ Some x → IsPlain x)
     → Answers g j (RepeatsResult g j names s result) {A = TypedStmt} {K = Unit {0}}
     (λ v u. Unit {0}) (λ u. Returns s.types names exports w e)
-    (BrokenReturn s.types names exports at w e) (returned g s at result (meant_if g e))
+    (BrokenReturn s.types names exports at w e) (return_statement g s at result (meant_if g e))
 
 -- EXIT is answered exactly.
 abbrev pub ExitsAreExact : (g : Gathers) → Judges g → Type 0
 ExitsAreExact g j =
     (at : Pos) (w : Around g.Reported)
     → Answers g j (λ f. ⊥) {A = TypedStmt} {K = Unit {0}} (λ v u. Unit {0})
-    (λ u. IsExit w.in_loop) (BrokenExit at w.in_loop) (exited g at w)
+    (λ u. IsExit w.in_loop) (BrokenExit at w.in_loop) (exit_statement g at w)
 
 -- What stands before the statements of a FOR is answered exactly.
 abbrev pub RunsAreExact : (g : Gathers) → Judges g → Type 0
@@ -506,7 +506,7 @@ RunsAreExact g j =
     → Answers g j (Repeats g j names s) {A = Course} {K = Unit {0}} (λ v u. Unit {0})
     (λ u. Runs s.types names exports own name start limit step)
     (BrokenRun s.types names exports own name start limit step)
-    (course_of g s name (meant g start) (meant g limit) (meant_if g step))
+    (course_of g s name (meanings_of g start) (meanings_of g limit) (meant_if g step))
 
 -- The selector of a CASE is answered exactly, with its base type.
 abbrev pub SelectorsAreExact : (g : Gathers) → Judges g → Type 0
@@ -515,7 +515,7 @@ SelectorsAreExact g j =
     → Knows g j names exports s → (e : Expr) → IsPlain e
     → Answers g j (Repeats g j names s) (λ (v : TypeNo × TypedExpr) (t : TypeNo). v.0 ≡ t)
     (IsSelector s.types names exports e) (BrokenSelector s.types names exports e)
-    (selected g s (meant g e))
+    (case_selector g s (meanings_of g e))
 
 -- Each bound of a label is answered exactly, whether the base type of the selector is known or not.
 abbrev pub BoundsAreExact : (g : Gathers) → Judges g → Type 0
@@ -525,7 +525,7 @@ BoundsAreExact g j =
     → Answers g j (Repeats g j names s)
     (λ (a : Ordinal) (p : Option TypeNo × ℤ). (a.sort ≡ p.0) × (a.number ≡ p.1))
     (λ p. IsLabelBound s.types names exports e p.0 p.1)
-    (BrokenLabelBound s.types names exports base label e) (bound_of g s base label (meant g e))
+    (BrokenLabelBound s.types names exports base label e) (bound_of g s base label (meanings_of g e))
 
 -- Names of types are answered exactly.
 abbrev pub TypeNamesAreExact : (g : Gathers) → Judges g → Type 0
@@ -569,7 +569,7 @@ BlocksAreExact g j =
     (exports : ℕ → Ident → Standing) (outside : Ident → Standing) (s : Scope g.Reported)
     (taken : List ℕ → Bool)
     → Knows g j outside exports s → s.withs ≡ []
-    → ((n : List ℕ) → TakenAs g j (taken n) (found n s.own)) → (ends : List ℕ) (first : ℕ)
+    → ((n : List ℕ) → TakenAs g j (taken n) (find_name n s.own)) → (ends : List ℕ) (first : ℕ)
     (ds : List Decl) → ArePlainDecls ds → IsBlockExact g j exports outside s taken ends first ds
 
 -- For each scope there are standings that it knows, and variables that are own ones.

@@ -15,7 +15,7 @@ use Rattle.typed_tree.specs.Known.{made_at, is_result_shape, is_result_made, is_
 use Rattle.typed_tree.specs.declared.meaning.Meaning.{Meaning}
 use Rattle.check_scope.specs.declared.meaningless.Meaningless.{Meaningless}
 use Rattle.check_scope.specs.declared.meaningless.Meaningless.TheVariants.{Broken, Headless}
-use Rattle.check_scope.specs.Elaborated.{Gathers, reported, reported_where, both, refusal_beside, reported_beside, ahead, of_sort, of_heading, plain, ◌▷◌}
+use Rattle.check_scope.specs.Elaborated.{Gathers, report, reported_where, both, refusal_beside, reported_beside, ahead, of_sort, of_heading, plain, ◌▷◌}
 use Rattle.check_scope.specs.Scopes.{heading_means}
 use Rattle.check_operator.specs.declared.class.Class.{Class}
 use Rattle.check_operator.specs.declared.class.Class.TheVariants as class
@@ -34,7 +34,7 @@ holds_weaker k (fine x p) = fine x (k x p)
 holds_weaker k (broken e) = broken e
 
 module _ (g : Gathers) where
-  pub reported_holds : {A : Type 0} {P : A → Type 0} (at : Pos) (n : Rule) → Holds P (reported g {A = A} at n)
+  pub reported_holds : {A : Type 0} {P : A → Type 0} (at : Pos) (n : Rule) → Holds P (report g {A = A} at n)
   reported_holds at n = broken _
 
   pub where_holds : {A : Type 0} {P : A → Type 0} (q : Bool) (at : Pos) (n : Rule) {r : Result A g.Reported} → Holds P r → Holds P (reported_where g q at n r)

@@ -14,7 +14,7 @@ use Rattle.typed_tree.specs.declared.typed_module.TypedModule.{TypedModule}
 use Rattle.typed_tree.specs.declared.typed_module.Which.{Which}
 use Rattle.typed_tree.specs.declared.types.TypeNo.{TypeNo}
 use Rattle.typed_tree.specs.Known.{made_at}
-use Rattle.typed_tree.specs.Names.{found}
+use Rattle.typed_tree.specs.Names.{find_name}
 use Rattle.check_scope.specs.Elaborated.{Gathers}
 use Rattle.check_scope.specs.declared.known.Known.{Known}
 use Rattle.check_scope.specs.declared.known.Known.TheVariants.{Headed}
@@ -99,10 +99,10 @@ module _ (g : Gathers) (elaborates : Elaborates g.Reported) (ends : List ℕ) (a
     abbrev pub RoutinesAt : List Routine → (n : ℕ) {xs : List (Steps g.Reported)} {ls : List ℕ} (ps : AreSteps g elaborates ends xs ls) → HeadsAt n ps → Type 0
     RoutinesAt rs n ps k = RoutinesIn g elaborates ends own types level rs n ps k
 
-    head_at : (h : Heading) (n n' : ℕ) (t : TypeNo) (es : List (List ℕ × Known g.Reported)) → es ≡ own → n ≡ n' → found h.name.name own ≡ Some (Headed (Ok (meaning.LocalProcedure (record { level = level; number = n; heading = t }))))
-        → found h.name.name es ≡ Some (Headed (Ok (meaning.LocalProcedure (record { level = level; number = n'; heading = t }))))
+    head_at : (h : Heading) (n n' : ℕ) (t : TypeNo) (es : List (List ℕ × Known g.Reported)) → es ≡ own → n ≡ n' → find_name h.name.name own ≡ Some (Headed (Ok (meaning.LocalProcedure (record { level = level; number = n; heading = t }))))
+        → find_name h.name.name es ≡ Some (Headed (Ok (meaning.LocalProcedure (record { level = level; number = n'; heading = t }))))
     head_at h n n' t es e c k =
-        ap (λ (es : List (List ℕ × Known g.Reported)). found h.name.name es) e ∙ k
+        ap (λ (es : List (List ℕ × Known g.Reported)). find_name h.name.name es) e ∙ k
         ∙ ap (λ (i : ℕ). Some (Headed (Ok (meaning.LocalProcedure (record { level = level; number = i; heading = t }))))) c
 
     module _ (h : Heading) (block : ChecksBlock g.Reported) (ks : List ℕ) (f : FormedBlock g ends block ks) (seen : ℕ) (w : Walk g.Reported) (n : ℕ) (here : Here w n (length ks ∷ ks)) where

@@ -19,7 +19,7 @@ use Rattle.typed_tree.specs.declared.types.TypeNo.{TypeNo}
 use Rattle.typed_tree.specs.Types.{is_numeric, cardinal}
 use Rattle.check_scope.specs.Elaborated.{Gathers}
 use Rattle.check_operator.specs.Classes.{class_at}
-use Rattle.check_operator.specs.Values.{given_as, given, loaded_as, loaded, taken}
+use Rattle.check_operator.specs.Values.{given_as, function_result, loaded_as, variable_value, value_at_place}
 use Rattle.check_operator.specs.declared.class.Class.{Class}
 use Rattle.check_operator.specs.declared.class.Class.TheVariants as class
 use Rattle.check_operator.specs.declared.computed.Computed.{Computed}
@@ -27,7 +27,7 @@ use Rattle.check_operator.specs.declared.computed.Computed.TheVariants as value
 use Rattle.check_operator.specs.declared.computed.Designated.{Designated}
 use Rattle.check_operator.specs.declared.computed.Designated.TheVariants as designated
 use Rattle.check_call.specs.Actuals.{variable_passed, open_passed, text_argument, text_passed, open_value, whole_passed, simple_passed, passed_as, value_passed, actual}
-use Rattle.check_call.specs.Callees.{held_by, callee_of, call_by}
+use Rattle.check_call.specs.Callees.{callee_in_variable, callee_of, call_by}
 use Rattle.check_call.specs.Functions.{unary_takes, unary_built, unary_at, bound_at, converted_value, conversion_at, high_of}
 use Rattle.check_call.specs.declared.callee.Callee.{Callee}
 use Rattle.check_call.specs.declared.callee.Callee.TheVariants as callee
@@ -57,12 +57,12 @@ module _ (g : Gathers) (m : TypedModule) (w : ℕ) (opens : ℕ → Bool) (types
   given_as_formed t e class.Procedure p = p
   given_as_formed t e class.Whole p = tt
 
-  pub given_formed : (t : TypeNo) (e : TypedExpr) → IsExpr m w e → FormedValue m w (given types t e)
+  pub given_formed : (t : TypeNo) (e : TypedExpr) → IsExpr m w e → FormedValue m w (function_result types t e)
   given_formed t e p = given_as_formed t e (class_at types t) p
 
-  pub taken_formed : (at : Pos) (d : Designated) → FormedDesignated m opens w d → Holds (FormedValue m w) (taken g types at d)
+  pub taken_formed : (at : Pos) (d : Designated) → FormedDesignated m opens w d → Holds (FormedValue m w) (value_at_place g types at d)
   taken_formed at (designated.Value x) p = fine x p
-  taken_formed at (designated.Variable t d) p = fine (loaded types t d) (loaded_as_formed t d (class_at types t) (scalar_kept types m.types grows t) p)
+  taken_formed at (designated.Variable t d) p = fine (variable_value types t d) (loaded_as_formed t d (class_at types t) (scalar_kept types m.types grows t) p)
   taken_formed at (designated.Open t slot) p = fine value.Untaken tt
   taken_formed at (designated.Type t) p = reported_holds g at rule.WrongType
   taken_formed at (designated.Procedure f) p = fine (value.Procedure f) p
@@ -165,7 +165,7 @@ module _ (g : Gathers) (m : TypedModule) (w : ℕ) (opens : ℕ → Bool) (types
   FormedCalled (called.Routine h c) = FormedCallee h c
   FormedCalled (called.Standard f) = Unit {0}
 
-  held_formed : (at : Pos) (t : TypeNo) (d : Place) (c : Class) → (is_whole c ≡ false → IsScalar m.types t) → IsPlace m w d → Holds FormedCalled (held_by g at t d c)
+  held_formed : (at : Pos) (t : TypeNo) (d : Place) (c : Class) → (is_whole c ≡ false → IsScalar m.types t) → IsPlace m w d → Holds FormedCalled (callee_in_variable g at t d c)
   held_formed at t d class.Procedure k p = fine (called.Routine t (callee.Variable t d)) (k refl, p, refl)
   held_formed at t d (class.Scalar s) k p = reported_holds g at rule.WrongType
   held_formed at t d class.Set k p = reported_holds g at rule.WrongType

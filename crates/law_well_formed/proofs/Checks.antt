@@ -16,7 +16,7 @@ use Rattle.typed_tree.specs.declared.typed_module.Which.{Which}
 use Rattle.typed_tree.specs.declared.typed_module.Which.TheVariants as which
 use Rattle.typed_tree.specs.declared.types.TypeNo.{TypeNo}
 use Rattle.typed_tree.specs.Known.{made_at}
-use Rattle.typed_tree.specs.Names.{found}
+use Rattle.typed_tree.specs.Names.{find_name}
 use Rattle.typed_tree.specs.Types.{integer}
 use Rattle.check_scope.specs.Elaborated.{Gathers}
 use Rattle.check_scope.specs.declared.known.Known.{Known}
@@ -25,10 +25,10 @@ use Rattle.check_scope.specs.declared.scope.Block.{Block}
 use Rattle.check_scope.specs.declared.scope.Scope.{Scope}
 use Rattle.check_type_expr.specs.Headings.{result_of}
 use Rattle.def_scheme.specs.Exprs.{is_there, result_made, has_result}
-use Rattle.check_block.specs.Inner.{inwards, split_last, popped}
+use Rattle.check_block.specs.Inner.{inwards, split_last, pop_block}
 use Rattle.check_body.specs.declared.routine.Bodies.{Bodies}
 use Rattle.check_body.specs.declared.routine.Numbered.{Numbered}
-use Rattle.check_body.specs.Routines.{numbered_known, unfilled, filled, routine}
+use Rattle.check_body.specs.Routines.{numbered_known, empty_routine, put_routine, routine}
 use Rattle.law_modules.specs.WellFormed.{IsRoutine, AreStmts, IsBody}
 use Rattle.law_well_formed.specs.Formed.{Holds, fine, broken}
 use Rattle.law_well_formed.specs.FormedScopes.{AreFormedNames, Leads}
@@ -88,19 +88,19 @@ placed (suc n) (suc k) h = next (placed n k (omega (arith, h))) where
 
 -- ---- procedures in procedures
 
-pub begun_locals : (b : Bool) → b ≡ false → (rs : Bodies) → (cond b rs (record rs { locals = rs.locals ++ unfilled integer ∷ [] })).locals ≡ rs.locals ++ unfilled integer ∷ []
+pub begun_locals : (b : Bool) → b ≡ false → (rs : Bodies) → (cond b rs (record rs { locals = rs.locals ++ empty_routine integer ∷ [] })).locals ≡ rs.locals ++ empty_routine integer ∷ []
 begun_locals true e rs = absurd cc
 begun_locals false e rs = refl
 
-pub begun_module_locals : (b : Bool) → b ≡ true → (rs : Bodies) → (cond b rs (record rs { locals = rs.locals ++ unfilled integer ∷ [] })) ≡ rs
+pub begun_module_locals : (b : Bool) → b ≡ true → (rs : Bodies) → (cond b rs (record rs { locals = rs.locals ++ empty_routine integer ∷ [] })) ≡ rs
 begun_module_locals true e rs = refl
 begun_module_locals false e rs = absurd cc
 
-begun_procedures : (b : Bool) (rs : Bodies) → (cond b rs (record rs { locals = rs.locals ++ unfilled integer ∷ [] })).procedures ≡ rs.procedures
+begun_procedures : (b : Bool) (rs : Bodies) → (cond b rs (record rs { locals = rs.locals ++ empty_routine integer ∷ [] })).procedures ≡ rs.procedures
 begun_procedures true rs = refl
 begun_procedures false rs = refl
 
-filled_count : (rs : Bodies) (w : Which) (r : Routine) → length (filled rs w r).locals ≡ length rs.locals
+filled_count : (rs : Bodies) (w : Which) (r : Routine) → length (put_routine rs w r).locals ≡ length rs.locals
 filled_count rs (which.Module n) r = refl
 filled_count rs (which.Local n) r = set_length rs.locals n r
 
@@ -153,8 +153,8 @@ module _ (g : Gathers) (elaborates : Elaborates g.Reported) (ends : List ℕ) (h
   abbrev pub around_it : Block g.Reported
   around_it = record { names = w.scope.own; seen = seen }
 
-  pub taken : popped (split_last inner.0.scope.outer) ≡ (w.scope.outer, w.scope.own)
-  taken = ap (λ (bs : List (Block g.Reported)). popped (split_last bs)) inside.outer ∙ ap (λ (o : Option (List (Block g.Reported) × Block g.Reported)). popped o) (split_more w.scope.outer around_it)
+  pub taken : pop_block (split_last inner.0.scope.outer) ≡ (w.scope.outer, w.scope.own)
+  taken = ap (λ (bs : List (Block g.Reported)). pop_block (split_last bs)) inside.outer ∙ ap (λ (o : Option (List (Block g.Reported) × Block g.Reported)). pop_block o) (split_more w.scope.outer around_it)
 
   pub procedure_own : ended.scope.own ≡ w.scope.own
   procedure_own = ap (λ (p : List (Block g.Reported) × List (List ℕ × Known g.Reported)). p.1) taken
@@ -191,16 +191,16 @@ module _ (g : Gathers) (elaborates : Elaborates g.Reported) (ends : List ℕ) (h
   -- ---- in a procedure
 
   module _ (level : (w.scope.level == 0) ≡ false) where
-    entry_locals : entry.0.bodies.locals ≡ w.bodies.locals ++ unfilled integer ∷ []
+    entry_locals : entry.0.bodies.locals ≡ w.bodies.locals ++ empty_routine integer ∷ []
     entry_locals = begun_locals (w.scope.level == 0) level w.bodies
 
     entry_length : length entry.0.bodies.locals ≡ length w.bodies.locals + 1
-    entry_length = ap (λ (rs : List Routine). length rs) entry_locals ∙ length-append w.bodies.locals (unfilled integer ∷ [])
+    entry_length = ap (λ (rs : List Routine). length rs) entry_locals ∙ length-append w.bodies.locals (empty_routine integer ∷ [])
 
     pub nested_count : 0 < length w.scope.outer → length ended.bodies.locals ≡ length w.bodies.locals + length (length ks ∷ ks)
     nested_count deep = let a = inner_count deep in let b = entry_length in omega (arith, a, b)
 
-    module _ (deep : 1 < length w.scope.outer) (l : ℕ) (t : TypeNo) (head : found h.name.name w.scope.own ≡ Some (Headed (Ok (meaning.LocalProcedure (record { level = l; number = length w.bodies.locals; heading = t })))))
+    module _ (deep : 1 < length w.scope.outer) (l : ℕ) (t : TypeNo) (head : find_name h.name.name w.scope.own ≡ Some (Headed (Ok (meaning.LocalProcedure (record { level = l; number = length w.bodies.locals; heading = t })))))
         (numbers : AreNumbered ends (length w.bodies.locals + 1) ks) (ok : ended.so_far ≡ Ok tt) where
       outer_length : length entry.0.scope.outer ≡ length w.scope.outer + 1
       outer_length = length-append w.scope.outer (around_it ∷ [])
@@ -219,7 +219,7 @@ module _ (g : Gathers) (elaborates : Elaborates g.Reported) (ends : List ℕ) (h
       abbrev new : Routine
       new = routine inner.0.scope h.name numbered around entry.1.formals (body_ok ok).0
 
-      bodies_are : ended.bodies ≡ filled inner.0.bodies (which.Local (length w.bodies.locals)) new
+      bodies_are : ended.bodies ≡ put_routine inner.0.bodies (which.Local (length w.bodies.locals)) new
       bodies_are =
           ap (λ (o : Option (Known g.Reported)). with_routine inner.0.scope h.name around entry.1.formals (numbered_known o) inner.1 inner.0.bodies) head
           ∙ ap (λ (r : Result (List TypedStmt) g.Reported). with_routine inner.0.scope h.name around entry.1.formals (Some numbered) r inner.0.bodies) (body_ok ok).1
@@ -266,7 +266,7 @@ module _ (g : Gathers) (elaborates : Elaborates g.Reported) (ends : List ℕ) (h
             get_other n (λ z. omega (arith, z, e))
             ∙ inner_adds.below n (let a = entry_length in omega (arith, a, e))
             ∙ ap (λ (rs : List Routine). slice_get rs n) entry_locals
-            ∙ before_end w.bodies.locals (unfilled integer ∷ []) n e;
+            ∙ before_end w.bodies.locals (empty_routine integer ∷ []) n e;
         nested = λ n a b. nested_at n b (placed (length w.bodies.locals) n a);
       }
 

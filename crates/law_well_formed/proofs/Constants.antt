@@ -29,26 +29,26 @@ use Rattle.typed_tree.specs.declared.known_types.Types.{Types}
 use Rattle.typed_tree.specs.Types.{char}
 use Rattle.typed_tree.specs.Known.{scalar_at}
 use Rattle.m2_tree.specs.Names.{same_name}
-use Rattle.typed_tree.specs.Names.{found, place_of}
+use Rattle.typed_tree.specs.Names.{find_name, place_of}
 use Rattle.check_scope.specs.declared.known.Known.{Known}
 use Rattle.check_scope.specs.declared.known.Known.TheVariants.{Later, Ahead, Begun, Headed, Declared}
 use Rattle.check_scope.specs.declared.scope.Block.{Block}
 use Rattle.check_scope.specs.declared.scope.Scope.{Scope}
 use Rattle.check_scope.specs.declared.meaningless.Meaningless.{Meaningless}
 use Rattle.check_scope.specs.declared.meaningless.Meaningless.TheVariants.{Broken, Headless}
-use Rattle.check_scope.specs.Elaborated.{Gathers, reported, both}
-use Rattle.check_scope.specs.Scopes.{or_outside, Sight, seen_at, in_block, nearer, known_outside, or_around, known, means_seen, means_as, opened, means_or, looked_up}
+use Rattle.check_scope.specs.Elaborated.{Gathers, report, both}
+use Rattle.check_scope.specs.Scopes.{or_outside, Sight, seen_at, in_block, nearer, known_outside, or_around, sight_of, means_seen, means_as, open_field, means_or, looked_up}
 use Rattle.check_const_ops.specs.Operators.{mul_op, add_op}
 use Rattle.check_const_ops.specs.declared.operator.BinaryOp.TheVariants as op
-use Rattle.check_const_ops.specs.Operands.{valued}
+use Rattle.check_const_ops.specs.Operands.{number_value}
 use Rattle.check_const.specs.declared.denoted.Denoted.{Denoted}
 use Rattle.check_const.specs.declared.denoted.Denoted.TheVariants as denoted
 use Rattle.check_const.specs.declared.call.Sort.{Sort}
 use Rattle.check_const.specs.declared.call.Sort.TheVariants.{Unary, Bound, Conversion, Never}
-use Rattle.check_const.specs.Denote.{denoted_by, denoted_of, as_constant, of_value, component, exported_by, exported, member}
+use Rattle.check_const.specs.Denote.{denoted_by, denoted_of, as_constant, of_value, component, exported_by, export_of, member}
 use Rattle.check_const.specs.Calls.{sort_of, scalar_type, named_scalar, type_argument}
-use Rattle.check_const.specs.Parts.{Part, Pick, Adds, sign_place, signed_first, named, field_of, constant, one, type_only, conversion, by_sort, called_as, called, factor, term}
-use Rattle.check_expr.specs.Meanings.{Meant, Picks, expr_layer, selector_layer, designator_layer, item_layer, meant, picks, head, item, part}
+use Rattle.check_const.specs.Parts.{Part, Pick, Adds, sign_place, signed_first, first_name, field_of, constant, one, type_only, conversion, by_sort, standard_call_value, call_value, factor, term}
+use Rattle.check_expr.specs.Meanings.{Meant, Picks, expr_layer, selector_layer, designator_layer, item_layer, meanings_of, picks, head, item, part}
 use Rattle.law_well_formed.specs.Formed.{Holds, fine, broken}
 use Rattle.law_well_formed.proofs.Basics.{then_holds, reported_holds, plain_holds, heading_means_holds, any_holds}
 use Rattle.law_well_formed.specs.FormedRanges.{itself, fits_layer, fits_selector, fits_designator, fits_item, fits, ValueRanged, MeaningRanged, KnownRanged, NamesRanged, BlocksRanged, ExportsRanged, TablesRanged, ScopeRanged}
@@ -71,9 +71,9 @@ module _ (types : Types) {T : Type 0} where
   found_by true k o p q = p
   found_by false k o p q = q
 
-  found_ranged : (name : List ℕ) (es : List (List ℕ × Known T)) → NamesRanged types es → RangedIf (found name es)
+  found_ranged : (name : List ℕ) (es : List (List ℕ × Known T)) → NamesRanged types es → RangedIf (find_name name es)
   found_ranged name [] all = tt
-  found_ranged name (e ∷ es) all = found_by (same_name name e.0) e.1 (found name es) all.0 (found_ranged name es all.1)
+  found_ranged name (e ∷ es) all = found_by (same_name name e.0) e.1 (find_name name es) all.0 (found_ranged name es all.1)
 
   at_place : (seen p : ℕ) (es : List (List ℕ × Known T)) (n : ℕ) → NamesRanged types es → RangedSight (option_map (λ e. (e.1, nat_lt p seen)) (slice_get es n))
   at_place seen p [] n all = tt
@@ -100,7 +100,7 @@ module _ (g : Gathers) (types : Types) where
   abbrev Means_ : {T : Type 0} → Result Meaning T → Type 0
   Means_ r = Holds (MeaningRanged types) r
 
-  declared_means : (at : Pos) (seen : Bool) (r : Result Meaning g.Reported) → Means_ r → Means_ (cond seen r (reported g at rule.Undeclared))
+  declared_means : (at : Pos) (seen : Bool) (r : Result Meaning g.Reported) → Means_ r → Means_ (cond seen r (report g at rule.Undeclared))
   declared_means at true r p = p
   declared_means at false r p = reported_holds g at rule.Undeclared
 
@@ -129,24 +129,24 @@ module _ (g : Gathers) (types : Types) where
   export_by true m o p q = p
   export_by false m o p q = q
 
-  export_found : (name : List ℕ) (es : List (List ℕ × Meaning)) → ExportsRanged types es → ExportIf (found name es)
+  export_found : (name : List ℕ) (es : List (List ℕ × Meaning)) → ExportsRanged types es → ExportIf (find_name name es)
   export_found name [] all = tt
-  export_found name (e ∷ es) all = export_by (same_name name e.0) e.1 (found name es) all.0 (export_found name es all.1)
+  export_found name (e ∷ es) all = export_by (same_name name e.0) e.1 (find_name name es) all.0 (export_found name es all.1)
 
   export_at : (name : List ℕ) (ts : List Table) (k : ℕ) → TablesRanged types ts → ExportIf (exported_by name (slice_get ts k))
   export_at name [] k all = tt
   export_at name (t ∷ ts) zero all = export_found name t.exported all.0
   export_at name (t ∷ ts) (suc k) all = export_at name ts k all.1
 
-  exported_means : (at : Pos) (o : Option Meaning) → ExportIf o → Means_ (exported g at o)
+  exported_means : (at : Pos) (o : Option Meaning) → ExportIf o → Means_ (export_of g at o)
   exported_means at None p = reported_holds g at rule.NotExported
   exported_means at (Some m) p = fine m p
 
 module _ (g : Gathers) (s : Scope g.Reported) (h : ScopeRanged s) where
   name_means : (name : Ident) → Means_ g s.types (looked_up g s name)
   name_means name =
-      field_or g s.types (opened s.types name.name s.withs) (means_as g name.pos (known name.name s))
-      (means_ranged g s.types name.pos (known name.name s) (around_ranged s.types (found name.name s.own) (known_outside name.name s.outer) (found_ranged s.types name.name s.own h.names) (outside_ranged s.types name.name s.outer None tt h.outer)))
+      field_or g s.types (open_field s.types name.name s.withs) (means_as g name.pos (sight_of name.name s))
+      (means_ranged g s.types name.pos (sight_of name.name s) (around_ranged s.types (find_name name.name s.own) (known_outside name.name s.outer) (found_ranged s.types name.name s.own h.names) (outside_ranged s.types name.name s.outer None tt h.outer)))
 
   member_means : (k : ℕ) (name : Ident) → Means_ g s.types (member g s.tables k name)
   member_means k name = exported_means g s.types name.pos (exported_by name.name (slice_get s.tables k)) (export_at g s.types name.name s.tables k h.tables)
@@ -198,7 +198,7 @@ module _ (g : Gathers) (s : Scope g.Reported) (h : ScopeRanged s) where
   denoted_ranged (broken (Broken e)) = broken e
   denoted_ranged (broken (Headless e)) = fine denoted.Procedure tt
 
-  named_ranged : (name : Ident) → D_ (named g s name)
+  named_ranged : (name : Ident) → D_ (first_name g s name)
   named_ranged name = denoted_ranged (name_means name)
 
   component_ranged : (at : Pos) (d : Denoted) → D_ (component g at d)
@@ -266,7 +266,7 @@ module _ (g : Gathers) (s : Scope g.Reported) (h : ScopeRanged s) where
   sort_ranged at f args Conversion all = conversion_ranged at args
   sort_ranged at f args Never all = reported_holds g at rule.NoConstant
 
-  called_as_ranged : (at : Pos) (d : Denoted) (args : List (Part g.Reported)) → AllM args → V_ (called_as g s at d args)
+  called_as_ranged : (at : Pos) (d : Denoted) (args : List (Part g.Reported)) → AllM args → V_ (standard_call_value g s at d args)
   called_as_ranged at (denoted.Standard f) args all = sort_ranged at f args (sort_of f) all
   called_as_ranged at (denoted.Value v) args all = reported_holds g at rule.NoConstant
   called_as_ranged at (denoted.Type t) args all = reported_holds g at rule.NoConstant
@@ -274,7 +274,7 @@ module _ (g : Gathers) (s : Scope g.Reported) (h : ScopeRanged s) where
   called_as_ranged at denoted.Procedure args all = reported_holds g at rule.NoConstant
   called_as_ranged at (denoted.Module k) args all = reported_holds g at rule.NoConstant
 
-  called_ranged : (at : Pos) (d : Result Denoted g.Reported) (args : List (Part g.Reported)) → AllM args → V_ (called g s at d args)
+  called_ranged : (at : Pos) (d : Result Denoted g.Reported) (args : List (Part g.Reported)) → AllM args → V_ (call_value g s at d args)
   called_ranged at d args all = then_holds (any_holds d) (λ x k. called_as_ranged at x args all)
 
   -- ---- operators
@@ -322,24 +322,24 @@ module _ (g : Gathers) (s : Scope g.Reported) (h : ScopeRanged s) where
   SI = (e : Item) × PI e
 
   abbrev parts : Expr-F Expr Selector Designator Item → Expr-F (Meant g.Reported) (Picks g.Reported) (Meant g.Reported) (Adds g.Reported)
-  parts x = map-Expr Expr Selector Designator Item (Meant g.Reported) (Picks g.Reported) (Meant g.Reported) (Adds g.Reported) (meant g) (picks g) (head g) (item g) x
+  parts x = map-Expr Expr Selector Designator Item (Meant g.Reported) (Picks g.Reported) (Meant g.Reported) (Adds g.Reported) (meanings_of g) (picks g) (head g) (item g) x
 
   abbrev parts_selector : Selector-F Expr Selector Designator Item → Selector-F (Meant g.Reported) (Picks g.Reported) (Meant g.Reported) (Adds g.Reported)
-  parts_selector x = map-Selector Expr Selector Designator Item (Meant g.Reported) (Picks g.Reported) (Meant g.Reported) (Adds g.Reported) (meant g) (picks g) (head g) (item g) x
+  parts_selector x = map-Selector Expr Selector Designator Item (Meant g.Reported) (Picks g.Reported) (Meant g.Reported) (Adds g.Reported) (meanings_of g) (picks g) (head g) (item g) x
 
   abbrev parts_designator : Designator-F Expr Selector Designator Item → Designator-F (Meant g.Reported) (Picks g.Reported) (Meant g.Reported) (Adds g.Reported)
-  parts_designator x = map-Designator Expr Selector Designator Item (Meant g.Reported) (Picks g.Reported) (Meant g.Reported) (Adds g.Reported) (meant g) (picks g) (head g) (item g) x
+  parts_designator x = map-Designator Expr Selector Designator Item (Meant g.Reported) (Picks g.Reported) (Meant g.Reported) (Adds g.Reported) (meanings_of g) (picks g) (head g) (item g) x
 
-  at_expr : (e : Expr) (x : Expr-F Expr Selector Designator Item) → out-Expr e ≡ x → meant g e ≡ expr_layer g (parts x)
-  unfolding meant picks head item
+  at_expr : (e : Expr) (x : Expr-F Expr Selector Designator Item) → out-Expr e ≡ x → meanings_of g e ≡ expr_layer g (parts x)
+  unfolding meanings_of picks head item
   at_expr e x q = fold_out-Expr (Meant g.Reported) (Picks g.Reported) (Meant g.Reported) (Adds g.Reported) (expr_layer g) (selector_layer g) (designator_layer g) (item_layer g) e ∙ ap (λ (y : Expr-F Expr Selector Designator Item). expr_layer g (parts y)) q
 
   at_selector : (e : Selector) (x : Selector-F Expr Selector Designator Item) → out-Selector e ≡ x → picks g e ≡ selector_layer g (parts_selector x)
-  unfolding meant picks head item
+  unfolding meanings_of picks head item
   at_selector e x q = fold_out-Selector (Meant g.Reported) (Picks g.Reported) (Meant g.Reported) (Adds g.Reported) (expr_layer g) (selector_layer g) (designator_layer g) (item_layer g) e ∙ ap (λ (y : Selector-F Expr Selector Designator Item). selector_layer g (parts_selector y)) q
 
   at_designator : (e : Designator) (x : Designator-F Expr Selector Designator Item) → out-Designator e ≡ x → head g e ≡ designator_layer g (parts_designator x)
-  unfolding meant picks head item
+  unfolding meanings_of picks head item
   at_designator e x q = fold_out-Designator (Meant g.Reported) (Picks g.Reported) (Meant g.Reported) (Adds g.Reported) (expr_layer g) (selector_layer g) (designator_layer g) (item_layer g) e ∙ ap (λ (y : Designator-F Expr Selector Designator Item). designator_layer g (parts_designator y)) q
 
   abbrev fits_s : Selector → Bool
@@ -367,7 +367,7 @@ module _ (g : Gathers) (s : Scope g.Reported) (h : ScopeRanged s) where
   abbrev bare_designator : Designator-F SE SS SD SI → Designator-F Expr Selector Designator Item
   bare_designator x = map-Designator SE SS SD SI Expr Selector Designator Item (λ e. e.0) (λ e. e.0) (λ e. e.0) (λ e. e.0) x
 
-  all_args : (xs : List SE) → list_all itself (map fits (map (λ (e : SE). e.0) xs)) ≡ true → AllM (map (λ (e : Meant g.Reported). e.fixed) (map (meant g) (map (λ (e : SE). e.0) xs)))
+  all_args : (xs : List SE) → list_all itself (map fits (map (λ (e : SE). e.0) xs)) ≡ true → AllM (map (λ (e : Meant g.Reported). e.fixed) (map (meanings_of g) (map (λ (e : SE). e.0) xs)))
   all_args [] e = tt
   all_args (x ∷ xs) e = (x.1 (both_left (fits x.0) (list_all itself (map fits (map (λ (e : SE). e.0) xs))) e), all_args xs (both_right (fits x.0) (list_all itself (map fits (map (λ (e : SE). e.0) xs))) e))
 
@@ -380,18 +380,18 @@ module _ (g : Gathers) (s : Scope g.Reported) (h : ScopeRanged s) where
 
   expr_ranged : (y : Expr-F SE SS SD SI) → fits_layer (elaborated (bare y)) ≡ true → FM (expr_layer g (parts (bare y))).fixed
   expr_ranged (layer.Number p n) e = fine (denoted.Value (value.Number (pos n))) (omega (arith, ints), from_le (pos n) (pos 4294967295) e)
-  expr_ranged (layer.Char p c) e = fine (denoted.Value (valued (Some char) (pos c))) (char_ranged g s.types (pos c) (omega (arith, ints)) (from_le (pos c) (pos 255) e))
+  expr_ranged (layer.Char p c) e = fine (denoted.Value (number_value (Some char) (pos c))) (char_ranged g s.types (pos c) (omega (arith, ints)) (from_le (pos c) (pos 255) e))
   expr_ranged (layer.Text p t) e = fine (denoted.Value (value.Text t)) e
   expr_ranged (layer.Set q p items) e = then_holds (any_holds (both g _ _)) (λ x k. fine (denoted.Value (value.Set x.1)) tt)
   expr_ranged (layer.Not p x) e = value_ranged (negated_ranged g s.types p (constant g s (part g x.0)))
   expr_ranged (layer.Bracketed p x) e = value_ranged (constant_ranged (part g x.0) (x.1 e))
   expr_ranged (layer.Use d None) e = d.1
   expr_ranged (layer.Use d (Some es)) e =
-      value_ranged (called_ranged (head g d.0).fixed.at ((head g d.0).fixed.denotes s) (map (λ (e : Meant g.Reported). e.fixed) (map (meant g) (map (λ (e : SE). e.0) es))) (all_args es (both_right (fits_d d.0) (list_all itself (map fits (map (λ (e : SE). e.0) es))) e)))
+      value_ranged (called_ranged (head g d.0).fixed.at ((head g d.0).fixed.denotes s) (map (λ (e : Meant g.Reported). e.fixed) (map (meanings_of g) (map (λ (e : SE). e.0) es))) (all_args es (both_right (fits_d d.0) (list_all itself (map fits (map (λ (e : SE). e.0) es))) e)))
   expr_ranged (layer.Term x xs) e =
-      value_ranged (factors_ranged (part g x.0).at (map (λ (x : Operator MulOp × Meant g.Reported). (x.0, x.1.fixed)) (map (λ (x : Operator MulOp × Expr). (x.0, meant g x.1)) (map (λ (a : Operator MulOp × SE). (a.0, a.1.0)) xs))) (constant g s (part g x.0)) (first_of x _ e))
+      value_ranged (factors_ranged (part g x.0).at (map (λ (x : Operator MulOp × Meant g.Reported). (x.0, x.1.fixed)) (map (λ (x : Operator MulOp × Expr). (x.0, meanings_of g x.1)) (map (λ (a : Operator MulOp × SE). (a.0, a.1.0)) xs))) (constant g s (part g x.0)) (first_of x _ e))
   expr_ranged (layer.Sum o x xs) e =
-      value_ranged (terms_ranged (sign_place o (part g x.0).at) (map (λ (x : Operator AddOp × Meant g.Reported). (x.0, x.1.fixed)) (map (λ (x : Operator AddOp × Expr). (x.0, meant g x.1)) (map (λ (a : Operator AddOp × SE). (a.0, a.1.0)) xs))) (signed_first g o (constant g s (part g x.0))) (first_ranged o (first_of x _ e)))
+      value_ranged (terms_ranged (sign_place o (part g x.0).at) (map (λ (x : Operator AddOp × Meant g.Reported). (x.0, x.1.fixed)) (map (λ (x : Operator AddOp × Expr). (x.0, meanings_of g x.1)) (map (λ (a : Operator AddOp × SE). (a.0, a.1.0)) xs))) (signed_first g o (constant g s (part g x.0))) (first_ranged o (first_of x _ e)))
   expr_ranged (layer.Relation a o b) e = value_ranged (combined_ranged g s.types (op.Relation o.op) o.pos (part g a.0).at (constant g s (part g a.0)) (part g b.0).at (constant g s (part g b.0)))
 
   selector_ranged : (y : Selector-F SE SS SD SI) → FP (selector_layer g (parts_selector (bare_selector y))).fixed
@@ -399,7 +399,7 @@ module _ (g : Gathers) (s : Scope g.Reported) (h : ScopeRanged s) where
   selector_ranged (layer.Index p e) = λ d q. then_holds q (λ x k. component_ranged p x)
 
   designator_ranged : (y : Designator-F SE SS SD SI) → FM (designator_layer g (parts_designator (bare_designator y))).fixed
-  designator_ranged y = picks_ranged (map (λ (e : Picks g.Reported). e.fixed) (map (picks g) (map (λ (e : SS). e.0) y.selectors))) (named g s y.name) (named_ranged y.name) (all_picks y.selectors)
+  designator_ranged y = picks_ranged (map (λ (e : Picks g.Reported). e.fixed) (map (picks g) (map (λ (e : SS). e.0) y.selectors))) (first_name g s y.name) (named_ranged y.name) (all_picks y.selectors)
 
   -- ---- the induction
 

@@ -12,7 +12,7 @@ use Rattle.typed_tree.specs.declared.meaning.Meaning.TheVariants as meaning
 use Rattle.typed_tree.specs.declared.meaning.LocalVariable.{LocalVariable}
 use Rattle.typed_tree.specs.declared.shape.Formal.{Formal}
 use Rattle.typed_tree.specs.declared.types.TypeNo.{TypeNo}
-use Rattle.typed_tree.specs.Names.{found, entered}
+use Rattle.typed_tree.specs.Names.{find_name, enter_name}
 use Rattle.check_scope.specs.Elaborated.{Gathers}
 use Rattle.check_scope.specs.declared.known.Known.{Known}
 use Rattle.check_scope.specs.declared.known.Known.TheVariants.{Later, Ahead, Begun, Headed, Declared}
@@ -95,7 +95,7 @@ module _ (level home : ℕ) (procedures : List TypeNo) where
       subst (λ (k : ℕ). slice_get more k ≡ Some f) (sym (e ∙ counted fs)) (get_last fs f),
     )
 
-  unless_by : {T : Type 0} (fs : List Formal) (b : Bool) (name : List ℕ) (k : Known T) (es : List (List ℕ × Known T)) → KnownNumbered fs (lists (types_of fs)) k → Numbered fs es → Numbered fs (cond b es (entered name k es))
+  unless_by : {T : Type 0} (fs : List Formal) (b : Bool) (name : List ℕ) (k : Known T) (es : List (List ℕ × Known T)) → KnownNumbered fs (lists (types_of fs)) k → Numbered fs es → Numbered fs (cond b es (enter_name name k es))
   unless_by fs true name k es p q = q
   unless_by fs false name k es p q = names_entered fs (lists (types_of fs)) name k es p q
 
@@ -105,13 +105,13 @@ module _ (level home : ℕ) (procedures : List TypeNo) where
     names : Numbered fs so.0
 
   one_begun : {T : Type 0} (f : Result Formal T) (x : Ident) (fs : List Formal) (so : Formals T) → SoFar fs so → SoFar (with_one fs f) (with_formal level f so x)
-  one_begun (Err e) x fs so h = record { same = h.same; names = unless_by fs (is_some (found x.name so.0)) x.name (Declared Here (Err e)) so.0 (broken e) h.names }
+  one_begun (Err e) x fs so h = record { same = h.same; names = unless_by fs (is_some (find_name x.name so.0)) x.name (Declared Here (Err e)) so.0 (broken e) h.names }
   one_begun (Ok f) x fs so h =
       let v : LocalVariable = record { level = level; number = length so.1; kind = formal_kind f; of = f.of } in
       let last = last_at fs f (length so.1) (ap (λ (ts : List TypeNo). length ts) h.same) in
       record {
         same = ap (λ (ts : List TypeNo). ts ++ f.of ∷ []) h.same ∙ sym (mapped fs f);
-        names = unless_by (fs ++ f ∷ []) (is_some (found x.name so.0)) x.name (Declared Here (Ok (meaning.Local v))) so.0
+        names = unless_by (fs ++ f ∷ []) (is_some (find_name x.name so.0)) x.name (Declared Here (Ok (meaning.Local v))) so.0
             (fine (meaning.Local v) (record { level = refl; there = last.0; placed = inl (record { formal = f; there = last.1; same_kind = refl; of = refl }) }))
             (names_still fs f so.0 h.names);
       }

@@ -15,7 +15,7 @@ use Rattle.check_scope.specs.declared.known.Origin.TheVariants as origin
 use Rattle.check_scope.specs.declared.known.Known.{Known}
 use Rattle.check_scope.specs.declared.known.Known.TheVariants.{Later, Ahead, Begun, Headed, Declared}
 use Rattle.check_scope.specs.declared.scope.Scope.{Scope}
-use Rattle.check_definition.specs.Compiled.{table_or, declared_in, of_definition, of_contents, compiled}
+use Rattle.check_definition.specs.Compiled.{table_or, declared_in, of_definition, of_contents, definition_table}
 use Rattle.check_definition.specs.Declare.{with_def}
 use Rattle.check_definition.specs.Export.{with_meaning, with_declared, with_known, with_export, exports}
 use Rattle.check_definition.specs.Importing.{numbered_modules, with_import}
@@ -72,5 +72,5 @@ module _ (g : Gathers) (home : ℕ) (m : Module) where
   contents_export tables (contents.Implementation b) = tt
   contents_export tables (contents.Program b) = tt
 
-pub tables_export : (g : Gathers) (home : ℕ) (m : Module) (tables : List Table) → IfOk (compiled g home m tables) (λ t. AreExports home t.exported)
+pub tables_export : (g : Gathers) (home : ℕ) (m : Module) (tables : List Table) → IfOk (definition_table g home m tables) (λ t. AreExports home t.exported)
 tables_export g home m tables = contents_export g home m (tables ++ console ∷ []) m.contents

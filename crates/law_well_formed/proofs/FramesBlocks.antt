@@ -15,7 +15,7 @@ use Rattle.typed_tree.specs.declared.typed_module.Routine.{Routine}
 use Rattle.typed_tree.specs.declared.typed_module.TypedModule.{TypedModule}
 use Rattle.typed_tree.specs.declared.typed_module.Which.{Which}
 use Rattle.typed_tree.specs.declared.types.TypeNo.{TypeNo}
-use Rattle.typed_tree.specs.Names.{found}
+use Rattle.typed_tree.specs.Names.{find_name}
 use Rattle.check_scope.specs.Elaborated.{Gathers}
 use Rattle.check_scope.specs.declared.known.Known.{Known}
 use Rattle.check_scope.specs.declared.known.Known.TheVariants.{Headed}
@@ -23,7 +23,7 @@ use Rattle.check_scope.specs.declared.scope.Block.{Block as Around}
 use Rattle.check_scope.specs.declared.scope.Scope.{Scope}
 use Rattle.check_block.specs.Naming.{with_marks}
 use Rattle.check_block.specs.Nesting as nesting
-use Rattle.check_block.specs.Nesting.{joined, within_decl, within}
+use Rattle.check_block.specs.Nesting.{append_names, within_decl, within}
 use Rattle.check_block.specs.Declarations.{Course}
 use Rattle.check_body.specs.declared.procedure.Walk.{Walk}
 use Rattle.check_body.specs.Elaborating.{Elaborates}
@@ -77,10 +77,10 @@ module _ (g : Gathers) (elaborates : Elaborates g.Reported) (ends : List ℕ) (a
     abbrev HereAt : Walk g.Reported → ℕ → List ℕ → Type 0
     HereAt w n ls = Here g elaborates ends around own types level w n ls
 
-    head_at : (h : Heading) (n n' : ℕ) (t : TypeNo) (es : List (List ℕ × Known g.Reported)) → es ≡ own → n ≡ n' → found h.name.name own ≡ Some (Headed (Ok (meaning.LocalProcedure (record { level = level; number = n; heading = t }))))
-        → found h.name.name es ≡ Some (Headed (Ok (meaning.LocalProcedure (record { level = level; number = n'; heading = t }))))
+    head_at : (h : Heading) (n n' : ℕ) (t : TypeNo) (es : List (List ℕ × Known g.Reported)) → es ≡ own → n ≡ n' → find_name h.name.name own ≡ Some (Headed (Ok (meaning.LocalProcedure (record { level = level; number = n; heading = t }))))
+        → find_name h.name.name es ≡ Some (Headed (Ok (meaning.LocalProcedure (record { level = level; number = n'; heading = t }))))
     head_at h n n' t es e c k =
-        ap (λ (es : List (List ℕ × Known g.Reported)). found h.name.name es) e ∙ k
+        ap (λ (es : List (List ℕ × Known g.Reported)). find_name h.name.name es) e ∙ k
         ∙ ap (λ (i : ℕ). Some (Headed (Ok (meaning.LocalProcedure (record { level = level; number = i; heading = t }))))) c
 
     step_nests : {x : Steps g.Reported} {ks : List ℕ} (p : IsStep g elaborates ends x ks) → StepNests g elaborates ends p → (seen : ℕ) (w : Walk g.Reported) (n : ℕ) → HereAt w n ks → IsDeep w → HeadAt g elaborates ends around own types level n p
@@ -247,7 +247,7 @@ module _ (g : Gathers) (elaborates : Elaborates g.Reported) (forms : FormsStatem
   total [] = []
   total (x ∷ xs) = within_decl x.0 ++ total xs
 
-  total_is : (so : List ℕ) (xs : List SD) → fold joined so (map within_decl (map (λ (x : SD). x.0) xs)) ≡ so ++ total xs
+  total_is : (so : List ℕ) (xs : List SD) → fold append_names so (map within_decl (map (λ (x : SD). x.0) xs)) ≡ so ++ total xs
   total_is so [] = sym (append-nil so)
   total_is so (x ∷ xs) = total_is (so ++ within_decl x.0) xs ∙ append_assoc so (within_decl x.0) (total xs)
 
@@ -266,7 +266,7 @@ module _ (g : Gathers) (elaborates : Elaborates g.Reported) (forms : FormsStatem
   step_at (layer.Variables vs) = record { step = variables_step vs; nests = tt }
   step_at (layer.Procedure h b) = record { step = procedure_step h (block_of b.0) (within b.0) (blocks_formed g elaborates forms ends b.0); nests = b.1 }
 
-  block_at : (xs : List SD) (body : Option (List Stmt)) → NestedBlock g ends (block_layer g elaborates ends (record { decls = map steps_of (map (λ (x : SD). x.0) xs); body = body })) (fold joined [] (map within_decl (map (λ (x : SD). x.0) xs)))
+  block_at : (xs : List SD) (body : Option (List Stmt)) → NestedBlock g ends (block_layer g elaborates ends (record { decls = map steps_of (map (λ (x : SD). x.0) xs); body = body })) (fold append_names [] (map within_decl (map (λ (x : SD). x.0) xs)))
   block_at xs body =
       subst (λ (ks : List ℕ). NestedBlock g ends (block_layer g elaborates ends (record { decls = map steps_of (map (λ (x : SD). x.0) xs); body = body })) ks) (sym (total_is [] xs))
       (of_steps (map steps_of (map (λ (x : SD). x.0) xs)) body (total xs) (are_steps xs) (they_nest xs))

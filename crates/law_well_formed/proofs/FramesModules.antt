@@ -17,7 +17,7 @@ use Rattle.typed_tree.specs.declared.typed_module.Routine.{Routine}
 use Rattle.typed_tree.specs.declared.typed_module.TypedModule.{TypedModule}
 use Rattle.typed_tree.specs.declared.typed_module.Which.TheVariants as which
 use Rattle.typed_tree.specs.declared.types.TypeNo.{TypeNo}
-use Rattle.typed_tree.specs.Names.{found}
+use Rattle.typed_tree.specs.Names.{find_name}
 use Rattle.check_scope.specs.Elaborated.{Gathers, both, beside, ◌▷◌}
 use Rattle.check_scope.specs.Scopes.{State}
 use Rattle.check_scope.specs.declared.known.Known.{Known}
@@ -31,12 +31,12 @@ use Rattle.check_block.specs.Declarations.{Course, Declared, reported_of_lack}
 use Rattle.check_block.specs.Headings.{name_standing}
 use Rattle.check_body.specs.Imports.{all_imports, typed_imports}
 use Rattle.check_body.specs.Own.{exported_headings, implementation_scope}
-use Rattle.check_body.specs.Routines.{unfilled, no_bodies, typed_module}
+use Rattle.check_body.specs.Routines.{empty_routine, no_bodies, typed_module}
 use Rattle.check_body.specs.declared.procedure.Walk.{Walk}
 use Rattle.check_body.specs.Elaborating.{Elaborates, statements_of}
 use Rattle.check_body.specs.Bodies.{Checked, Steps, steps, marked_by, declared_by, with_statements, bodies_checked}
-use Rattle.check_body.specs.Checked.{module_or, walked, of_body, of_implementation, of_contents}
-use Rattle.check_body.specs.Checks.{elaborated, checked}
+use Rattle.check_body.specs.Checked.{module_or, walk_body, of_body, of_implementation, of_contents}
+use Rattle.check_body.specs.Checks.{elaborate_body, body_module}
 use Rattle.law_well_formed.specs.Formed.{Holds, fine, broken}
 use Rattle.law_well_formed.proofs.Basics.{reported_holds}
 use Rattle.law_well_formed.specs.FormedScopes.{Leads}
@@ -70,19 +70,19 @@ all_places P xs k = all_each P xs (each_place P xs k)
 
 -- ---- procedures whose bodies are not checked yet
 
-unfilled_outermost : (hs : List TypeNo) → AreOutermost (map unfilled hs)
+unfilled_outermost : (hs : List TypeNo) → AreOutermost (map empty_routine hs)
 unfilled_outermost [] n r e = absurd cc
-unfilled_outermost (h ∷ hs) zero r e = ap (λ (x : Routine). x.level) (sym (same_Some (unfilled h) r e))
+unfilled_outermost (h ∷ hs) zero r e = ap (λ (x : Routine). x.level) (sym (same_Some (empty_routine h) r e))
 unfilled_outermost (h ∷ hs) (suc n) r e = unfilled_outermost hs n r e
 
-unfilled_apart : (hs : List TypeNo) → AreApart None (map unfilled hs)
+unfilled_apart : (hs : List TypeNo) → AreApart None (map empty_routine hs)
 unfilled_apart [] n r e = absurd cc
-unfilled_apart (h ∷ hs) zero r e = ap (λ (x : Routine). x.around) (sym (same_Some (unfilled h) r e))
+unfilled_apart (h ∷ hs) zero r e = ap (λ (x : Routine). x.around) (sym (same_Some (empty_routine h) r e))
 unfilled_apart (h ∷ hs) (suc n) r e = unfilled_apart hs n r e
 
-unfilled_headings : (hs : List TypeNo) → Headings hs (map unfilled hs)
+unfilled_headings : (hs : List TypeNo) → Headings hs (map empty_routine hs)
 unfilled_headings [] n t e = absurd cc
-unfilled_headings (h ∷ hs) zero t e = (unfilled h, refl, same_Some h t e)
+unfilled_headings (h ∷ hs) zero t e = (empty_routine h, refl, same_Some h t e)
 unfilled_headings (h ∷ hs) (suc n) t e = unfilled_headings hs n t e
 
 module _ (g : Gathers) (elaborates : Elaborates g.Reported) (forms : FormsStatements g elaborates) (s : Scope g.Reported) (m : Module) (decls : List Decl) (body : Option (List Stmt)) (ends : List ℕ) (counted : ends ≡ procedure_ends decls) where
@@ -157,7 +157,7 @@ module _ (g : Gathers) (elaborates : Elaborates g.Reported) (forms : FormsStatem
 
     begun_awaits : AwaitsOwn s
     begun_awaits name p e =
-        let k = own_await g.Reported s.types.home (exported_headings es) es starts.exports starts.numbers name p (ap (λ (ns : List (List ℕ × Known g.Reported)). name_standing (found name ns)) (sym starts.own) ∙ e) in
+        let k = own_await g.Reported s.types.home (exported_headings es) es starts.exports starts.numbers name p (ap (λ (ns : List (List ℕ × Known g.Reported)). name_standing (find_name name ns)) (sym starts.own) ∙ e) in
         (k.0, ap (λ (hs : List TypeNo). slice_get hs p.number) starts.procedures ∙ k.1)
 
     course_ok : course.1 ≡ Ok tt
@@ -228,7 +228,7 @@ module _ (g : Gathers) where
     abbrev last : Walk g.Reported
     last = end g elaborates forms s m ds body (procedure_ends ds) refl
 
-    walk_is : ◌≡◌ {A = Checked g.Reported} (walked g elaborates (numbered_modules s.tables).0 (procedure_ends ds) s m b) (last, statements_of elaborates last.scope None body)
+    walk_is : ◌≡◌ {A = Checked g.Reported} (walk_body g elaborates (numbered_modules s.tables).0 (procedure_ends ds) s m b) (last, statements_of elaborates last.scope None body)
     walk_is =
         ap behind (declared_is g elaborates forms (procedure_ends ds) (imported g elaborates forms s m ds body (procedure_ends ds) refl) 0 ds)
         ∙ ap (λ (w : Walk g.Reported). with_statements elaborates None body w)
@@ -254,5 +254,5 @@ module _ (g : Gathers) where
         of_body_nested elaborates forms (first_scope number (tables ++ console ∷ [])) None m b tables []
         (record { tables_are = refl; outer = refl; level = refl; withs = refl; own = refl; procedures = refl; exports = tt; numbers = tt; others = k })
 
-pub modules_nested : (g : Gathers) (number : ℕ) (m : Module) (own : Option Table) (tables : List Table) → AreFor number own tables m.contents → Holds AreNested (checked g number m own tables)
-modules_nested g number m own tables k = contents_nested g (elaborated g) (elaborated_formed g) number m tables own m.contents k
+pub modules_nested : (g : Gathers) (number : ℕ) (m : Module) (own : Option Table) (tables : List Table) → AreFor number own tables m.contents → Holds AreNested (body_module g number m own tables)
+modules_nested g number m own tables k = contents_nested g (elaborate_body g) (elaborated_formed g) number m tables own m.contents k

@@ -17,7 +17,7 @@ use Rattle.typed_tree.specs.declared.typed_module.Routine.{Routine}
 use Rattle.typed_tree.specs.declared.typed_module.Which.{Which}
 use Rattle.typed_tree.specs.declared.typed_module.Which.TheVariants as which
 use Rattle.typed_tree.specs.declared.types.TypeNo.{TypeNo}
-use Rattle.typed_tree.specs.Names.{found}
+use Rattle.typed_tree.specs.Names.{find_name}
 use Rattle.check_scope.specs.Elaborated.{Gathers}
 use Rattle.check_scope.specs.declared.known.Known.{Known}
 use Rattle.check_scope.specs.declared.known.Known.TheVariants.{Headed}
@@ -27,7 +27,7 @@ use Rattle.check_block.specs.Nesting as nesting
 use Rattle.check_block.specs.Nesting.{within_decl, within, ends_from, with_procedure_ends, with_decl_ends}
 use Rattle.check_body.specs.declared.routine.Bodies.{Bodies}
 use Rattle.check_body.specs.declared.routine.Numbered.{Numbered}
-use Rattle.check_body.specs.Routines.{numbered_known, filled, routine}
+use Rattle.check_body.specs.Routines.{numbered_known, put_routine, routine}
 use Rattle.check_body.specs.declared.procedure.Walk.{Walk}
 use Rattle.check_body.specs.Elaborating.{Elaborates}
 use Rattle.check_body.specs.Inside.{which_of, with_routine}
@@ -90,7 +90,7 @@ module _ (g : Gathers) (elaborates : Elaborates g.Reported) (ends : List ℕ) (h
   first_deep : IsDeep first
   first_deep = let e = first_outer in omega (arith, e)
 
-  module _ (p : Procedure) (head : found h.name.name w.scope.own ≡ Some (Headed (Ok (meaning.Procedure p)))) (numbers : AreNumbered ends (length w.bodies.locals) ks) (ok : behind.so_far ≡ Ok tt) where
+  module _ (p : Procedure) (head : find_name h.name.name w.scope.own ≡ Some (Headed (Ok (meaning.Procedure p)))) (numbers : AreNumbered ends (length w.bodies.locals) ks) (ok : behind.so_far ≡ Ok tt) where
     begins : Begins ends first ks
     begins = record {
       level = nonzero (length w.scope.outer) (omega (arith, single));
@@ -108,7 +108,7 @@ module _ (g : Gathers) (elaborates : Elaborates g.Reported) (ends : List ℕ) (h
     own_is : own ≡ Some (which.Module p.number)
     own_is = ap (λ (o : Option (Known g.Reported)). which_of (numbered_known o)) head
 
-    bodies_are : behind.bodies ≡ filled last.bodies (which.Module p.number) new
+    bodies_are : behind.bodies ≡ put_routine last.bodies (which.Module p.number) new
     bodies_are =
         ap (λ (o : Option (Known g.Reported)). with_routine last.scope h.name around (entry g elaborates ends h block ks f around seen w).1.formals (numbered_known o) (inner g elaborates ends h block ks f around seen w).1 last.bodies) head
         ∙ ap (λ (r : Result (List TypedStmt) g.Reported). with_routine last.scope h.name around (entry g elaborates ends h block ks f around seen w).1.formals (Some numbered) r last.bodies) (body_ok g elaborates ends h block ks f around seen w ok).1
@@ -172,7 +172,7 @@ module _ (g : Gathers) (elaborates : Elaborates g.Reported) (ends : List ℕ) (a
   step_nested (types_step ts) b seen w n s k u q = nested_none w
   step_nested (variables_step vs) b seen w n s k u q = nested_none w
   step_nested (procedure_step h block ks f) b seen w n s k u q =
-      let head = ap (λ (es : List (List ℕ × Known g.Reported)). found h.name.name es) s.names ∙ k.1.0 in
+      let head = ap (λ (es : List (List ℕ × Known g.Reported)). find_name h.name.name es) s.names ∙ k.1.0 in
       let numbers = subst (λ (i : ℕ). AreNumbered ends i ks) s.count u in
       record {
         nests = module_nests g elaborates ends h block ks f b around seen w s.outermost s.single k.0 head numbers q procs k.1.1.0.1;

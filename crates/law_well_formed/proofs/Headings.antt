@@ -25,25 +25,25 @@ use Rattle.typed_tree.specs.declared.types.Home.{Home}
 use Rattle.typed_tree.specs.declared.types.Home.TheVariants.{Predeclared, Module}
 use Rattle.typed_tree.specs.declared.types.TypeNo.{TypeNo}
 use Rattle.typed_tree.specs.Known.{made_in, made_at, in_list, is_result_made, is_result_from, is_result}
-use Rattle.typed_tree.specs.Names.{found}
-use Rattle.check_scope.specs.Elaborated.{Gathers, reported, reported_where, both, ◌▷◌}
+use Rattle.typed_tree.specs.Names.{find_name}
+use Rattle.check_scope.specs.Elaborated.{Gathers, report, reported_where, both, ◌▷◌}
 use Rattle.check_scope.specs.Scopes.{State}
 use Rattle.check_scope.specs.declared.known.Known.{Known}
 use Rattle.check_scope.specs.declared.known.Known.TheVariants.{Headed}
 use Rattle.check_scope.specs.declared.scope.Scope.{Scope}
-use Rattle.check_type_expr.specs.Headings.{formal_of, result_in, result_of, repeated, with_section, heading_of, names_of}
+use Rattle.check_type_expr.specs.Headings.{formal_of, result_in, result_of, formal_for_each, with_section, heading_of, names_of}
 use Rattle.check_type_expr.specs.Made.{next_type, with_shape}
 use Rattle.check_type_expr.specs.Named.{first_of, named_type}
 use Rattle.check_block.specs.declared.heading.Standing.{Standing}
 use Rattle.check_block.specs.declared.heading.Standing.TheVariants.{Free, Awaited, Taken}
 use Rattle.check_block.specs.Agreeing.{signature_in, signature_of, agree}
-use Rattle.check_block.specs.Headings.{name_standing, nested_meaning, headed, module_procedure, nothing_made, headed_as}
+use Rattle.check_block.specs.Headings.{name_standing, nested_meaning, set_heading, module_procedure, nothing_made, headed_as}
 use Rattle.check_block.specs.Declarations.{Course, with_procedure, decl_layer, with_decl}
 use Rattle.check_block.specs.Inner.{inwards}
 use Rattle.law_well_formed.proofs.Names.{get_last, found_self}
 use Rattle.law_well_formed.proofs.ScopesDeclarations.{beside_right, decl_reported, head_reported}
 use Rattle.law_well_formed.specs.FormedNumbers.{with_one, with_names, with_formals_of, all_formals}
-use Rattle.law_well_formed.specs.FormedHeadings.{declared_by, all, begun, end, seen, IsBehind, heading_in, HeadingStands, HeadingsStay}
+use Rattle.law_well_formed.specs.FormedHeadings.{declared_by, all, course_begin, end, names_before, IsBehind, heading_in, HeadingStands, HeadingsStay}
 use Rattle.law_well_formed.proofs.Agreeing.{agreed_made}
 use Rattle.law_well_formed.proofs.HeadingsSteps.{Keeps}
 use Rattle.law_well_formed.proofs.Resolving.{declared_append, block_changes, to_last, named_stays}
@@ -70,17 +70,17 @@ module _ (g : Gathers) (s inner : Scope g.Reported) (stays : (q : Qualified) (t 
       let t = then_ok g (named_type g s f.of) (λ t. Ok (record { is_var = is_var; is_open = f.is_open; of = t })) x e in
       ap (λ (r : Result TypeNo g.Reported). r ▷ λ t. Ok (record { is_var = is_var; is_open = f.is_open; of = t })) (stays f.of t.0 t.1.0) ∙ t.1.1
 
-  repeated_all : (f : Formal) (fs : List Formal) (names : List Ident) → fold (λ so x. with_one {T = g.Reported} so (Ok f)) fs names ≡ fs ++ repeated f names
+  repeated_all : (f : Formal) (fs : List Formal) (names : List Ident) → fold (λ so x. with_one {T = g.Reported} so (Ok f)) fs names ≡ fs ++ formal_for_each f names
   repeated_all f fs [] = sym (append-nil fs)
-  repeated_all f fs (x ∷ xs) = repeated_all f (fs ++ f ∷ []) xs ∙ append_assoc fs (f ∷ []) (repeated f xs)
+  repeated_all f fs (x ∷ xs) = repeated_all f (fs ++ f ∷ []) xs ∙ append_assoc fs (f ∷ []) (formal_for_each f xs)
 
   sections_stay : (xs : List Section) (so : Result (List Formal) g.Reported) (fs : List Formal) → fold (with_section g s) so xs ≡ Ok fs → (first : List Formal) × ((so ≡ Ok first) × (fs ≡ fold (with_formals_of g inner) first xs))
   sections_stay [] so fs e = (fs, (e, refl))
   sections_stay (x ∷ xs) so fs e =
       let more = sections_stay xs (with_section g s so x) fs e in
       let f = formal_of g s x.is_var x.of in
-      let joined = both_ok g so f (λ p. Ok (p.0 ++ repeated p.1 x.names)) more.0 more.1.0 in
-      let is : joined.0 ++ repeated joined.1 x.names ≡ more.0 = ok_same (joined.0 ++ repeated joined.1 x.names) more.0 joined.2.2 in
+      let joined = both_ok g so f (λ p. Ok (p.0 ++ formal_for_each p.1 x.names)) more.0 more.1.0 in
+      let is : joined.0 ++ formal_for_each joined.1 x.names ≡ more.0 = ok_same (joined.0 ++ formal_for_each joined.1 x.names) more.0 joined.2.2 in
       let formal : formal_of g inner x.is_var x.of ≡ Ok joined.1 = formal_stays x.is_var x.of joined.1 joined.2.1 in
       let next : with_formals_of g inner joined.0 x ≡ more.0 =
       ap (λ (r : Result Formal g.Reported). with_names r joined.0 x.names) formal ∙ (repeated_all joined.1 joined.0 x.names ∙ is)
@@ -152,7 +152,7 @@ module _ (g : Gathers) where
   -- a procedure, whose type has this signature
   record Leaves (s : Scope g.Reported) (name : List ℕ) (sig : Signature) : Type 0 where
     means : Meaning
-    named : found name s.own ≡ Some (Headed (Ok means))
+    named : find_name name s.own ≡ Some (Headed (Ok means))
     heading : TypeNo
     is : heading_in means ≡ Some heading
     made : Made
@@ -165,7 +165,7 @@ module _ (g : Gathers) where
       ∙ get_last s.types.own x
 
   new_by : (b : Bool) (s : Scope g.Reported) (name : List ℕ) (n : ℕ) (t : TypeNo) (x : Made) (sig : Signature) → made_at s.types t ≡ Some x → x.shape ≡ shape.Procedure sig
-      → Leaves (cond b (module_procedure s name (Ok t)) (headed name (nested_meaning s.level n (Ok t)) s)) name sig
+      → Leaves (cond b (module_procedure s name (Ok t)) (set_heading name (nested_meaning s.level n (Ok t)) s)) name sig
   new_by true s name n t x sig e k =
       let m : Meaning = meaning.Procedure (record { home = s.types.home; number = length s.procedures; heading = t }) in
       record { means = m; named = found_self name (Headed (Ok m)) s.own; heading = t; is = refl; made = x; there = e; shape = k }
@@ -187,14 +187,14 @@ module _ (g : Gathers) where
       let m : Meaning = meaning.Procedure p in
       record { means = m; named = found_self h.name.name (Headed (Ok m)) s.own; heading = p.heading; is = refl; made = y.0; there = y.1.0; shape = y.1.1 }
   left_by s h n (Err x) sig (Awaited p) k e = absurd cc
-  left_by s h n made sig Taken k e = let z : reported g {A = Unit {0}} h.name.pos rule.DeclaredTwice ≡ Ok tt = beside_right g (nothing_made made) (reported g h.name.pos rule.DeclaredTwice) e in absurd cc
+  left_by s h n made sig Taken k e = let z : report g {A = Unit {0}} h.name.pos rule.DeclaredTwice ≡ Ok tt = beside_right g (nothing_made made) (report g h.name.pos rule.DeclaredTwice) e in absurd cc
 
   -- a heading that breaks no rule is made
   made_by : (s : Scope g.Reported) (h : Heading) (n : ℕ) (made : Result Made g.Reported) (o : Standing) → (headed_as g s h n made o).1 ≡ Ok tt → (x : Made) × (made ≡ Ok x)
   made_by s h n (Ok x) o e = (x, refl)
   made_by s h n (Err x) Free e = absurd cc
   made_by s h n (Err x) (Awaited p) e = absurd cc
-  made_by s h n (Err x) Taken e = let z : reported g {A = Unit {0}} h.name.pos rule.DeclaredTwice ≡ Ok tt = beside_right g (nothing_made (Err x)) (reported g h.name.pos rule.DeclaredTwice) e in absurd cc
+  made_by s h n (Err x) Taken e = let z : report g {A = Unit {0}} h.name.pos rule.DeclaredTwice ≡ Ok tt = beside_right g (nothing_made (Err x)) (report g h.name.pos rule.DeclaredTwice) e in absurd cc
 
   reported_back : (ends : List ℕ) (ds : List Decl) (c : Course g.Reported) → (declared_by g ends c ds).1 ≡ Ok tt → c.1 ≡ Ok tt
   reported_back ends [] c e = e
@@ -204,15 +204,15 @@ module _ (g : Gathers) where
 
   module _ (ends : List ℕ) (a : Scope g.Reported) (first : ℕ) (before : List Decl) (d : Decl) (rest : List Decl) (no_withs : a.withs ≡ []) where
     abbrev here : Course g.Reported
-    here = declared_by g ends (begun g ends a first before d rest) before
+    here = declared_by g ends (course_begin g ends a first before d rest) before
 
     abbrev last : Scope g.Reported
     last = end g ends a first before d rest
 
     abbrev n : ℕ
-    n = seen g ends a first before d rest
+    n = names_before g ends a first before d rest
 
-    module _ (fine : (declared_by g ends (begun g ends a first before d rest) (all g ends a first before d rest)).1 ≡ Ok tt)
+    module _ (fine : (declared_by g ends (course_begin g ends a first before d rest) (all g ends a first before d rest)).1 ≡ Ok tt)
         (w : Scope g.Reported) (behind : IsBehind last w) (types : (t : TypeNo) (x : Made) → made_at last.types t ≡ Some x → made_at w.types t ≡ Some x)
         (h : Heading) (b : Block) (is : out-Decl d ≡ layer.Procedure h b) where
       stays : (q : Qualified) (t : TypeNo) → named_type g here.0 q ≡ Ok t → named_type g (inwards w n) q ≡ Ok t
@@ -227,11 +227,11 @@ module _ (g : Gathers) where
       step_is : with_decl g ends here d ≡ stepped
       step_is = ap (λ (y : Decl-F Decl Block). decl_layer g ends here y) is
 
-      through : declared_by g ends (begun g ends a first before d rest) (all g ends a first before d rest) ≡ declared_by g ends stepped rest
-      through = declared_append g ends (begun g ends a first before d rest) before (d ∷ rest) ∙ ap (λ (c : Course g.Reported). declared_by g ends c rest) step_is
+      through : declared_by g ends (course_begin g ends a first before d rest) (all g ends a first before d rest) ≡ declared_by g ends stepped rest
+      through = declared_append g ends (course_begin g ends a first before d rest) before (d ∷ rest) ∙ ap (λ (c : Course g.Reported). declared_by g ends c rest) step_is
 
       abbrev headed_here : State (Unit {0}) g.Reported
-      headed_here = headed_as g here.0 h here.2 (heading_of g here.0 h) (name_standing (found h.name.name here.0.own))
+      headed_here = headed_as g here.0 h here.2 (heading_of g here.0 h) (name_standing (find_name h.name.name here.0.own))
 
       step_fine : headed_here.1 ≡ Ok tt
       step_fine = beside_right g (names_of g h) headed_here.1 (head_reported g ends here h (reported_back ends rest stepped (sym (ap (λ (c : Course g.Reported). c.1) through) ∙ fine)))
@@ -241,14 +241,14 @@ module _ (g : Gathers) where
 
       pub heading_stands : HeadingStands g w n h
       heading_stands =
-          let x = made_by here.0 h here.2 (heading_of g here.0 h) (name_standing (found h.name.name here.0.own)) step_fine in
+          let x = made_by here.0 h here.2 (heading_of g here.0 h) (name_standing (find_name h.name.name here.0.own)) step_fine in
           let signed = heading_signed g here.0 (inwards w n) stays grown h x.0 x.1 in
           let sig : Signature = record { formals = all_formals g (inwards w n) h.formals; result = signed.result } in
           let same : (y : Made) → heading_of g here.0 h ≡ Ok y → y.shape ≡ shape.Procedure sig = λ y e. (let z : x.0 ≡ y = ok_made x.0 y (sym x.1 ∙ e) in ap (λ (m : Made). m.shape) (sym z) ∙ signed.shape) in
-          let leaves = left_by here.0 h here.2 (heading_of g here.0 h) sig (name_standing (found h.name.name here.0.own)) same step_fine in
+          let leaves = left_by here.0 h here.2 (heading_of g here.0 h) sig (name_standing (find_name h.name.name here.0.own)) same step_fine in
           record {
             means = leaves.means;
-            named = ap (λ (es : List (List ℕ × Known g.Reported)). found h.name.name es) behind.own ∙ to_end.settled h.name.name (Headed (Ok leaves.means)) refl leaves.named;
+            named = ap (λ (es : List (List ℕ × Known g.Reported)). find_name h.name.name es) behind.own ∙ to_end.settled h.name.name (Headed (Ok leaves.means)) refl leaves.named;
             heading = leaves.heading;
             is = leaves.is;
             made = leaves.made;

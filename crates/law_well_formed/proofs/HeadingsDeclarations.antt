@@ -14,9 +14,9 @@ use Rattle.typed_tree.specs.declared.meaning.Procedure.{Procedure}
 use Rattle.typed_tree.specs.declared.meaning.Value.{Value}
 use Rattle.typed_tree.specs.declared.shape.Made.{Made}
 use Rattle.typed_tree.specs.declared.types.TypeNo.{TypeNo}
-use Rattle.typed_tree.specs.Names.{found}
+use Rattle.typed_tree.specs.Names.{find_name}
 use Rattle.check_scope.specs.Elaborated.{Gathers}
-use Rattle.check_scope.specs.Scopes.{State, begun, marked}
+use Rattle.check_scope.specs.Scopes.{State, begin_name, mark_name}
 use Rattle.check_scope.specs.declared.known.Known.{Known}
 use Rattle.check_scope.specs.declared.known.Known.TheVariants.{Later, Ahead, Begun, Headed, Declared}
 use Rattle.check_scope.specs.declared.known.Origin.{Origin}
@@ -30,10 +30,10 @@ use Rattle.check_definition.specs.Declare.{constant_meaning, with_constant, brin
 use Rattle.check_definition.specs.Marking.{Marks, marked_later, marked_in, marked_constant, marked_type, marked_variables}
 use Rattle.check_block.specs.declared.heading.Standing.{Standing}
 use Rattle.check_block.specs.declared.heading.Standing.TheVariants.{Free, Awaited, Taken}
-use Rattle.check_block.specs.Headings.{name_standing, nested_meaning, headed, module_procedure, with_new, headed_as, with_heading}
+use Rattle.check_block.specs.Headings.{name_standing, nested_meaning, set_heading, module_procedure, with_new, headed_as, with_heading}
 use Rattle.check_block.specs.Naming.{marked_layer, marked_decl}
 use Rattle.check_block.specs.Declarations.{finished_local, with_locals, Course, is_awaited, decl_layer, with_decl}
-use Rattle.law_well_formed.specs.FormedScopes.{picked}
+use Rattle.law_well_formed.specs.FormedScopes.{holds_of}
 use Rattle.law_well_formed.proofs.HeadingsSteps.{is_settled, marked_refl, marked_then, name_marked, MarksAll, Changes, changes_refl, changes_then, changes_first, changes_second, known_changes, begun_changes, finished_changes, same_changes, shape_changes}
 use Rattle.law_well_formed.proofs.HeadingsTypeExprs.{later_all, type_marked, type_changed}
 
@@ -52,7 +52,7 @@ not_free Here (Err x) e = absurd cc
 not_free (Module k) r e = absurd cc
 not_free (Export k) r e = absurd cc
 
-free_standing : {T : Type 0} (o : Option (Known T)) → name_standing o ≡ Free → picked is_settled o ≡ false
+free_standing : {T : Type 0} (o : Option (Known T)) → name_standing o ≡ Free → holds_of is_settled o ≡ false
 free_standing None e = refl
 free_standing (Some Later) e = refl
 free_standing (Some Ahead) e = refl
@@ -60,7 +60,7 @@ free_standing (Some Begun) e = absurd cc
 free_standing (Some (Headed r)) e = absurd cc
 free_standing (Some (Declared o r)) e = absurd (not_free o r e)
 
-awaited_standing : {T : Type 0} (o : Option (Known T)) (p : Procedure) → name_standing o ≡ Awaited p → picked is_settled o ≡ false
+awaited_standing : {T : Type 0} (o : Option (Known T)) (p : Procedure) → name_standing o ≡ Awaited p → holds_of is_settled o ≡ false
 awaited_standing None p e = absurd cc
 awaited_standing (Some Later) p e = absurd cc
 awaited_standing (Some Ahead) p e = absurd cc
@@ -102,7 +102,7 @@ module _ (g : Gathers) where
 
   constant_changes : (st : State (Unit {0}) g.Reported) (c : Constant) → Changes (λ z. marked_constant z c) st.0 (with_constant g st c).0
   constant_changes st c =
-      let b : Scope g.Reported = (begun g st.0 c.name).0 in
+      let b : Scope g.Reported = (begin_name g st.0 c.name).0 in
       let v : Result Value g.Reported = constant g b (part g c.value) in
       changes_then (begun_changes g st.0 c.name Later) (finished_changes b c.name Later (constant_meaning v))
 
@@ -114,7 +114,7 @@ module _ (g : Gathers) where
 
   type_changes : (st : State (Unit {0}) g.Reported) (d : TypeDecl) → Changes (λ z. marked_type z d) st.0 (with_type g st d).0
   type_changes st d =
-      let b : Scope g.Reported = (begun g st.0 d.name).0 in
+      let b : Scope g.Reported = (begin_name g st.0 d.name).0 in
       let t : State TypeNo g.Reported = type_of g d.of b in
       changes_then (changes_first (λ z. marked_later z d.name) (marked_in d.of) (type_marked g.Reported d.of) (begun_changes g st.0 d.name Later))
       (changes_then (changes_second (λ z. marked_later z d.name) (marked_in d.of) (type_changed g d.of b))
@@ -180,7 +180,7 @@ module _ (g : Gathers) where
 
   -- ---- headings
 
-  headed_changes : (s : Scope g.Reported) (h : Heading) (r : Result Meaning g.Reported) → picked is_settled (found h.name.name s.own) ≡ false → Changes (λ z. marked h.name Ahead z) s (headed h.name.name r s)
+  headed_changes : (s : Scope g.Reported) (h : Heading) (r : Result Meaning g.Reported) → holds_of is_settled (find_name h.name.name s.own) ≡ false → Changes (λ z. mark_name h.name Ahead z) s (set_heading h.name.name r s)
   headed_changes s h r e = known_changes s h.name Ahead (Headed r) e
 
   procedure_type_changes : (marks : Marks g.Reported) (s : Scope g.Reported) (t : Result TypeNo g.Reported) → Changes marks s (with_procedure_type s t)
@@ -191,27 +191,27 @@ module _ (g : Gathers) where
   procedure_type_own s (Ok t) = refl
   procedure_type_own s (Err e) = refl
 
-  module_procedure_changes : (s : Scope g.Reported) (h : Heading) (t : Result TypeNo g.Reported) → picked is_settled (found h.name.name s.own) ≡ false → Changes (λ z. marked h.name Ahead z) s (module_procedure s h.name.name t)
+  module_procedure_changes : (s : Scope g.Reported) (h : Heading) (t : Result TypeNo g.Reported) → holds_of is_settled (find_name h.name.name s.own) ≡ false → Changes (λ z. mark_name h.name Ahead z) s (module_procedure s h.name.name t)
   module_procedure_changes s h t e =
       changes_then (procedure_type_changes _ s t)
-      (headed_changes (with_procedure_type s t) h (procedure_meaning s.types.home (length s.procedures) t) (ap (λ (es : List (List ℕ × Known g.Reported)). picked is_settled (found h.name.name es)) (procedure_type_own s t) ∙ e))
+      (headed_changes (with_procedure_type s t) h (procedure_meaning s.types.home (length s.procedures) t) (ap (λ (es : List (List ℕ × Known g.Reported)). holds_of is_settled (find_name h.name.name es)) (procedure_type_own s t) ∙ e))
 
-  new_by : (b : Bool) (s : Scope g.Reported) (h : Heading) (n : ℕ) (t : Result TypeNo g.Reported) → picked is_settled (found h.name.name s.own) ≡ false
-      → Changes (λ z. marked h.name Ahead z) s (cond b (module_procedure s h.name.name t) (headed h.name.name (nested_meaning s.level n t) s))
+  new_by : (b : Bool) (s : Scope g.Reported) (h : Heading) (n : ℕ) (t : Result TypeNo g.Reported) → holds_of is_settled (find_name h.name.name s.own) ≡ false
+      → Changes (λ z. mark_name h.name Ahead z) s (cond b (module_procedure s h.name.name t) (set_heading h.name.name (nested_meaning s.level n t) s))
   new_by true s h n t e = module_procedure_changes s h t e
   new_by false s h n t e = headed_changes s h (nested_meaning s.level n t) e
 
-  new_changes : (s : Scope g.Reported) (h : Heading) (n : ℕ) (made : Result Made g.Reported) → picked is_settled (found h.name.name s.own) ≡ false → Changes (λ z. marked h.name Ahead z) s (with_new s h.name.name n made).0
+  new_changes : (s : Scope g.Reported) (h : Heading) (n : ℕ) (made : Result Made g.Reported) → holds_of is_settled (find_name h.name.name s.own) ≡ false → Changes (λ z. mark_name h.name Ahead z) s (with_new s h.name.name n made).0
   new_changes s h n (Ok x) e = changes_then (shape_changes _ s x) (new_by (s.level == 0) (with_shape s x) h n (Ok (next_type s)) e)
   new_changes s h n (Err x) e = new_by (s.level == 0) s h n (Err x) e
 
-  heading_by : (s : Scope g.Reported) (h : Heading) (n : ℕ) (made : Result Made g.Reported) (o : Standing) → name_standing (found h.name.name s.own) ≡ o → Changes (λ z. marked h.name Ahead z) s (headed_as g s h n made o).0
-  heading_by s h n made Free e = new_changes s h n made (free_standing (found h.name.name s.own) e)
-  heading_by s h n made (Awaited p) e = headed_changes s h (Ok (meaning.Procedure p)) (awaited_standing (found h.name.name s.own) p e)
+  heading_by : (s : Scope g.Reported) (h : Heading) (n : ℕ) (made : Result Made g.Reported) (o : Standing) → name_standing (find_name h.name.name s.own) ≡ o → Changes (λ z. mark_name h.name Ahead z) s (headed_as g s h n made o).0
+  heading_by s h n made Free e = new_changes s h n made (free_standing (find_name h.name.name s.own) e)
+  heading_by s h n made (Awaited p) e = headed_changes s h (Ok (meaning.Procedure p)) (awaited_standing (find_name h.name.name s.own) p e)
   heading_by s h n made Taken e = changes_refl _ s
 
-  heading_changes : (s : Scope g.Reported) (h : Heading) (n : ℕ) → Changes (λ z. marked h.name Ahead z) s (with_heading g s n h).0
-  heading_changes s h n = heading_by s h n (heading_of g s h) (name_standing (found h.name.name s.own)) refl
+  heading_changes : (s : Scope g.Reported) (h : Heading) (n : ℕ) → Changes (λ z. mark_name h.name Ahead z) s (with_heading g s n h).0
+  heading_changes s h n = heading_by s h n (heading_of g s h) (name_standing (find_name h.name.name s.own)) refl
 
   -- ---- a declaration of a block
 

@@ -15,7 +15,7 @@ use Rattle.check_scope.specs.declared.known.Origin.TheVariants.{Here}
 use Rattle.check_scope.specs.declared.scope.Scope.{Scope}
 use Rattle.check_type_expr.specs.declared.field.Fields.{Fields}
 use Rattle.check_type_expr.specs.Fields.{no_fields}
-use Rattle.check_type_expr.specs.Made.{next_type, with_shape, enumeration_constant, enumeration_scalar, too_many, listed, simple_type, index_type, Makes, MakesFields, then_fields, type_layer, field_layer, type_of, field_list}
+use Rattle.check_type_expr.specs.Made.{next_type, with_shape, enumeration_constant, enumeration_scalar, too_many, enumerate_name, simple_type, index_type, Makes, MakesFields, then_fields, type_layer, field_layer, type_of, field_list}
 use Rattle.check_definition.specs.Marking.{Marks, marked_later, marked_simple, then_marks, marked_in, marked_field}
 use Rattle.check_definition.specs.Marking as marking
 use Rattle.law_well_formed.proofs.HeadingsSteps.{Marked, marked_refl, marked_then, name_marked, MarksAll, Changes, changes_refl, changes_then, changes_first, changes_second, unless_changes, shape_changes, made_changes}
@@ -89,12 +89,12 @@ module _ (T : Type 0) where
 -- ---- types that are made
 
 module _ (g : Gathers) where
-  listed_all : (t : TypeNo) (names : List Ident) (l : Scope g.Reported × ℕ × Result (Unit {0}) g.Reported) → Changes (λ z. fold marked_later z names) l.0 (fold (listed g t) l names).0
+  listed_all : (t : TypeNo) (names : List Ident) (l : Scope g.Reported × ℕ × Result (Unit {0}) g.Reported) → Changes (λ z. fold marked_later z names) l.0 (fold (enumerate_name g t) l names).0
   listed_all t [] l = changes_refl _ l.0
   listed_all t (x ∷ xs) l =
       changes_then
       (changes_first (λ z. marked_later z x) (λ z. fold marked_later z xs) (later_all xs) (unless_changes g l.0 x Later (Declared Here (Ok (enumeration_constant t (pos l.1))))))
-      (changes_second (λ z. marked_later z x) (λ z. fold marked_later z xs) (listed_all t xs (listed g t l x)))
+      (changes_second (λ z. marked_later z x) (λ z. fold marked_later z xs) (listed_all t xs (enumerate_name g t l x)))
 
   simple_changes : (s : Scope g.Reported) (t : Simple) → Changes (marked_simple t) s (simple_type g s t).0
   simple_changes s (simple.Named q) = changes_refl _ s

@@ -10,7 +10,7 @@ use Rattle.typed_tree.specs.declared.meaning.Procedure.{Procedure}
 use Rattle.typed_tree.specs.declared.typed_module.TypedModule.{TypedModule}
 use Rattle.typed_tree.specs.declared.types.TypeNo.{TypeNo}
 use Rattle.typed_tree.specs.Known.{made_at}
-use Rattle.typed_tree.specs.Names.{found}
+use Rattle.typed_tree.specs.Names.{find_name}
 use Rattle.check_scope.specs.Elaborated.{Gathers}
 use Rattle.check_scope.specs.declared.known.Known.{Known}
 use Rattle.check_scope.specs.declared.known.Known.TheVariants.{Headed}
@@ -28,11 +28,11 @@ use Rattle.law_well_formed.proofs.Parts.{IsStep, constants_step, types_step, var
 
 -- the procedures that are awaited are the module's, and have their numbers
 abbrev pub AwaitsOwn : {T : Type 0} → Scope T → Type 0
-AwaitsOwn s = (name : List ℕ) (p : Procedure) → name_standing (found name s.own) ≡ Awaited p → (p.home ≡ s.types.home) × (slice_get s.procedures p.number ≡ Some p.heading)
+AwaitsOwn s = (name : List ℕ) (p : Procedure) → name_standing (find_name name s.own) ≡ Awaited p → (p.home ≡ s.types.home) × (slice_get s.procedures p.number ≡ Some p.heading)
 
 pub awaits_kept : (g : Gathers) (m : TypedModule) (opens : ℕ → Bool) (s s' : Scope g.Reported) → Leads m opens s s' → AwaitsOwn s → AwaitsOwn s'
 awaits_kept g m opens s s' k a name p e =
-    let same = k.awaited name (awaited_is g (found name s'.own) p e) in
+    let same = k.awaited name (awaited_is g (find_name name s'.own) p e) in
     let b = a name p (sym (ap (λ (o : Option (Known g.Reported)). name_standing o) same) ∙ e) in
     (b.0 ∙ sym k.home, k.procedures p.number p.heading b.1)
 
@@ -43,7 +43,7 @@ module _ (g : Gathers) (elaborates : Elaborates g.Reported) (ends : List ℕ) (o
   ModuleHeadOf (types_step ts) = Unit {0}
   ModuleHeadOf (variables_step vs) = Unit {0}
   ModuleHeadOf (procedure_step h block ks f) =
-      (p : Procedure) × ((found h.name.name own ≡ Some (Headed (Ok (meaning.Procedure p)))) × (((p.home ≡ types.home) × (slice_get procs p.number ≡ Some p.heading)) × ResultIs types p.heading h.result))
+      (p : Procedure) × ((find_name h.name.name own ≡ Some (Headed (Ok (meaning.Procedure p)))) × (((p.home ≡ types.home) × (slice_get procs p.number ≡ Some p.heading)) × ResultIs types p.heading h.result))
 
   abbrev pub ModuleHeadsIn : {xs : List (Steps g.Reported)} {ls : List ℕ} → AreSteps g elaborates ends xs ls → Type 0
   ModuleHeadsIn no_steps = Unit {0}
@@ -58,7 +58,7 @@ module _ (g : Gathers) (elaborates : Elaborates g.Reported) (ends : List ℕ) (o
       let k = module_head g c.0 h c.2 (λ p z. a h.name.name p z) l (head_reported g ends c h q) in (
         k.0,
         (
-          subst (λ (es : List (List ℕ × Known g.Reported)). found h.name.name es ≡ Some (Headed (Ok (meaning.Procedure k.0)))) e (later.heads h.name.name _ k.1.0),
+          subst (λ (es : List (List ℕ × Known g.Reported)). find_name h.name.name es ≡ Some (Headed (Ok (meaning.Procedure k.0)))) e (later.heads h.name.name _ k.1.0),
           (
             (
               k.1.1.0.0 ∙ sym later.home ∙ ap (λ (z : Types). z.home) u,
@@ -100,7 +100,7 @@ module _ (g : Gathers) (elaborates : Elaborates g.Reported) (ends : List ℕ) (o
     step_formed (variables_step vs) c end m' opens' later e k = decl_leads m opens g {A = Steps g.Reported} {B = ChecksBlock g.Reported} ends c (layer.Variables vs) tt
     step_formed (procedure_step h block ks f) c end m' opens' later e k =
         decl_leads m opens g {A = Steps g.Reported} {B = ChecksBlock g.Reported} ends c (layer.Procedure h block)
-        (λ x q z. subst (λ (y : Meaning). FormedOwn m opens y) (ap (λ (o : Option (Known g.Reported)). got g elaborates ends own types 0 x o) (sym k.1.0 ∙ sym (ap (λ (es : List (List ℕ × Known g.Reported)). found h.name.name es) e) ∙ later.heads h.name.name (Ok x) q)) (own_formed k.0 k.1.1.0.0 k.1.1.0.1))
+        (λ x q z. subst (λ (y : Meaning). FormedOwn m opens y) (ap (λ (o : Option (Known g.Reported)). got g elaborates ends own types 0 x o) (sym k.1.0 ∙ sym (ap (λ (es : List (List ℕ × Known g.Reported)). find_name h.name.name es) e) ∙ later.heads h.name.name (Ok x) q)) (own_formed k.0 k.1.1.0.0 k.1.1.0.1))
 
     pub heads_formed : {xs : List (Steps g.Reported)} {ls : List ℕ} (ps : AreSteps g elaborates ends xs ls) → (c : Course g.Reported) (end : Scope g.Reported) → (fold declared_by c xs).0 ≡ end → end.own ≡ own → ModuleHeadsIn ps → Leads m opens c.0 (fold declared_by c xs).0
     heads_formed no_steps c end e u k = leads_refl m opens c.0

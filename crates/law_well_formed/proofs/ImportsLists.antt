@@ -10,7 +10,7 @@ use Rattle.m2_tree.specs.declared.name.Ident.{Ident}
 use Rattle.m2_tree.specs.declared.decl.Import.{Import}
 use Rattle.m2_graph.specs.Imports.{named_by}
 use Rattle.m2_tree.specs.Names.{same_name}
-use Rattle.typed_tree.specs.Names.{found, entered}
+use Rattle.typed_tree.specs.Names.{find_name, enter_name}
 
 pub same_refl : (name : List ℕ) → same_name name name ≡ true
 same_refl name = (bytes_decides name name).1 refl
@@ -44,9 +44,9 @@ module _ {V : Type 0} (P : List ℕ × V → Type 0) where
   each_by true v e es more p all q = (p refl, all.1)
   each_by false v e es more p all q = (all.0, q)
 
-  pub each_entered : (name : List ℕ) (v : V) (es : List (List ℕ × V)) → ((other : List ℕ) → same_name name other ≡ true → P (other, v)) → Each es → Each (entered name v es)
+  pub each_entered : (name : List ℕ) (v : V) (es : List (List ℕ × V)) → ((other : List ℕ) → same_name name other ≡ true → P (other, v)) → Each es → Each (enter_name name v es)
   each_entered name v [] p all = (p name (same_refl name), tt)
-  each_entered name v (e ∷ es) p all = each_by (same_name name e.0) v e es (entered name v es) (p e.0) all (each_entered name v es p all.1)
+  each_entered name v (e ∷ es) p all = each_by (same_name name e.0) v e es (enter_name name v es) (p e.0) all (each_entered name v es p all.1)
 
   abbrev pub IsFound : List ℕ → V → Type 0
   IsFound name v = (key : List ℕ) × (same_name name key ≡ true) × P (key, v)
@@ -55,9 +55,9 @@ module _ {V : Type 0} (P : List ℕ × V → Type 0) where
   found_by name true e o v s p k h = (e.0, s, subst (λ (x : V). P (e.0, x)) (same_Some e.1 v h) p)
   found_by name false e o v s p k h = k h
 
-  pub found_each : (name : List ℕ) (es : List (List ℕ × V)) (v : V) → Each es → found name es ≡ Some v → IsFound name v
+  pub found_each : (name : List ℕ) (es : List (List ℕ × V)) (v : V) → Each es → find_name name es ≡ Some v → IsFound name v
   found_each name [] v all h = absurd cc
-  found_each name (e ∷ es) v all h = found_by name (same_name name e.0) e (found name es) v refl all.0 (found_each name es v all.1) h
+  found_each name (e ∷ es) v all h = found_by name (same_name name e.0) e (find_name name es) v refl all.0 (found_each name es v all.1) h
 
 -- ---- names of lists
 

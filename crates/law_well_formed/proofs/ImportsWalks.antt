@@ -13,7 +13,7 @@ use Rattle.m2_tree.specs.declared.decl.Module.{Module}
 use Rattle.typed_tree.specs.declared.shape.Made.{Made}
 use Rattle.typed_tree.specs.declared.types.TypeNo.{TypeNo}
 use Rattle.typed_tree.specs.declared.typed_module.Which.{Which}
-use Rattle.typed_tree.specs.Names.{found}
+use Rattle.typed_tree.specs.Names.{find_name}
 use Rattle.check_scope.specs.Elaborated.{Gathers}
 use Rattle.check_scope.specs.Scopes.{State}
 use Rattle.check_scope.specs.declared.known.Known.TheVariants.{Ahead}
@@ -26,13 +26,13 @@ use Rattle.check_definition.specs.Marking.{marked_constant, marked_type, marked_
 use Rattle.check_block.specs.declared.heading.Standing.{Standing}
 use Rattle.check_block.specs.declared.heading.Standing.TheVariants.{Free, Awaited, Taken}
 use Rattle.check_block.specs.Naming.{marked_layer, marked_decl, with_marks, all_marked}
-use Rattle.check_block.specs.Headings.{name_standing, headed, nested_meaning, module_procedure, new_procedure, with_new, headed_as, with_heading}
+use Rattle.check_block.specs.Headings.{name_standing, set_heading, nested_meaning, module_procedure, new_procedure, with_new, headed_as, with_heading}
 use Rattle.check_block.specs.Declarations.{local_meaning, finished_local, with_locals, with_variables_of, Course, decl_layer, with_decl, all_declared, declared_module}
 use Rattle.check_body.specs.declared.procedure.Walk.{Walk}
 use Rattle.check_body.specs.Elaborating.{Elaborates}
 use Rattle.check_body.specs.Inside.{which_of, begun_procedure}
 use Rattle.check_body.specs.Bodies.{begun_from, Checks, ChecksBlock, Steps, marked_by, declared_by, checked_by, with_body, with_bodies, procedure_checked, checks_layer, steps_layer, block_layer, steps, checks_block, checks_decl}
-use Rattle.check_body.specs.Checked.{begun_module, walked}
+use Rattle.check_body.specs.Checked.{begun_module, walk_body}
 use Rattle.law_well_formed.proofs.NamedTables.{Keeps, either, either_scope, fold_keeps, marked_keeps, constant_marks, type_marks_of, variables_marks, made_keeps, variable_type_keeps, procedure_type_keeps, finished_keeps, type_of_keeps, constant_keeps, type_decl_keeps, begun_all_keeps, variables_keep, import_keeps}
 
 -- ---- declarations of blocks
@@ -48,7 +48,7 @@ module _ {T : Type 0} where
   local_keeps t s name = finished_keeps (with_variable_type s t) name (local_meaning s.level (length s.variables) t) ∙ variable_type_keeps s t
 
   new_procedure_keeps : (s : Scope T) (name : List ℕ) (n : ℕ) (t : Result TypeNo T) → Keeps s (new_procedure s name n t)
-  new_procedure_keeps s name n t = either_scope s (s.level == 0) (module_procedure s name t) (headed name (nested_meaning s.level n t) s) (procedure_type_keeps s t) refl
+  new_procedure_keeps s name n t = either_scope s (s.level == 0) (module_procedure s name t) (set_heading name (nested_meaning s.level n t) s) (procedure_type_keeps s t) refl
 
   new_keeps : (s : Scope T) (name : List ℕ) (n : ℕ) (r : Result Made T) → Keeps s (with_new s name n r).0
   new_keeps s name n r = let t = with_made s r in new_procedure_keeps t.0 name n t.1 ∙ made_keeps s r
@@ -71,7 +71,7 @@ module _ (g : Gathers) where
   headed_keeps s h n r Taken = refl
 
   heading_keeps : (s : Scope g.Reported) (n : ℕ) (h : Heading) → Keeps s (with_heading g s n h).0
-  heading_keeps s n h = headed_keeps s h n (heading_of g s h) (name_standing (found h.name.name s.own))
+  heading_keeps s n h = headed_keeps s h n (heading_of g s h) (name_standing (find_name h.name.name s.own))
 
   pub layer_keeps : {A B : Type 0} (ends : List ℕ) (c : Course g.Reported) (d : Decl-F A B) → Keeps c.0 (decl_layer g ends c d).0
   layer_keeps ends c (layer.Constants cs) = fold_keeps (λ (st : State (Unit {0}) g.Reported). st.0) (with_constant g) (constant_keeps g) cs (c.0, c.1)
@@ -190,7 +190,7 @@ module _ (g : Gathers) (elaborates : Elaborates g.Reported) (ends : List ℕ) wh
   steps_keep : (d : Decl) → PD d
   steps_keep = ind-Decl PD PB step_decl step_block
 
-  pub walk_keeps : (modules : List (List ℕ × ℕ)) (s : Scope g.Reported) (m : Module) (b : Block) → Keeps s (walked g elaborates modules ends s m b).0.scope
+  pub walk_keeps : (modules : List (List ℕ × ℕ)) (s : Scope g.Reported) (m : Module) (b : Block) → Keeps s (walk_body g elaborates modules ends s m b).0.scope
   walk_keeps modules s m b =
       let ds = (out-Block b).decls in
       let w = begun_module g modules ends s m ds in

@@ -19,7 +19,7 @@ use Rattle.check_const.specs.Denote.{member}
 use Rattle.def_scheme.specs.Exprs.{is_there}
 use Rattle.check_block.specs.Naming.{with_marks}
 use Rattle.check_block.specs.Nesting as nesting
-use Rattle.check_block.specs.Nesting.{joined, within_decl, within}
+use Rattle.check_block.specs.Nesting.{append_names, within_decl, within}
 use Rattle.check_block.specs.Declarations.{Course}
 use Rattle.law_modules.specs.WellFormed.{AreStmts, no_stmts}
 use Rattle.law_well_formed.specs.Formed.{Holds, fine, FormedMeaning, IsFormed}
@@ -28,7 +28,7 @@ use Rattle.law_well_formed.proofs.Statements.{statements_formed}
 use Rattle.check_body.specs.declared.procedure.Walk.{Walk}
 use Rattle.check_body.specs.Elaborating.{Elaborates, statements_of}
 use Rattle.check_body.specs.Bodies.{ChecksBlock, Steps, marked_by, declared_by, steps_layer, block_layer, steps, checks_block}
-use Rattle.check_body.specs.Checks.{elaborated}
+use Rattle.check_body.specs.Checks.{elaborate_body}
 use Rattle.law_well_formed.specs.FormedBodies.{FormsStatements, Keeps, Adds, Suits, AddsFormed, Begins, FormedBlock}
 use Rattle.law_well_formed.proofs.Places.{is_within}
 use Rattle.law_well_formed.proofs.Scopes.{scope_formed}
@@ -38,9 +38,9 @@ use Rattle.law_well_formed.proofs.BodiesBlocks.{from, Here, all_own, all_keep, c
 
 -- ---- the statements of a body
 
-pub elaborated_formed : (g : Gathers) → FormsStatements g (elaborated g)
+pub elaborated_formed : (g : Gathers) → FormsStatements g (elaborate_body g)
 elaborated_formed g m opens s h e returns body =
-    subst (λ (w : ℕ). Holds (AreStmts m (is_there returns) w false) (elaborated g s returns body)) (ap (λ (ws : List _). length ws) e)
+    subst (λ (w : ℕ). Holds (AreStmts m (is_there returns) w false) (elaborate_body g s returns body)) (ap (λ (ws : List _). length ws) e)
     (statements_formed g m opens s (subst (λ (w : ℕ). IsFormed g m opens w s) (sym (ap (λ (ws : List _). length ws) e)) h) (record { gives = returns; in_loop = false }) body)
 
 module _ (g : Gathers) (elaborates : Elaborates g.Reported) (forms : FormsStatements g elaborates) (ends : List ℕ) where
@@ -209,7 +209,7 @@ module _ (g : Gathers) (elaborates : Elaborates g.Reported) (forms : FormsStatem
   total [] = []
   total (x ∷ xs) = within_decl x.0 ++ total xs
 
-  total_is : (so : List ℕ) (xs : List SD) → fold joined so (map within_decl (map (λ (x : SD). x.0) xs)) ≡ so ++ total xs
+  total_is : (so : List ℕ) (xs : List SD) → fold append_names so (map within_decl (map (λ (x : SD). x.0) xs)) ≡ so ++ total xs
   total_is so [] = sym (append-nil so)
   total_is so (x ∷ xs) = total_is (so ++ within_decl x.0) xs ∙ append_assoc so (within_decl x.0) (total xs)
 
@@ -223,7 +223,7 @@ module _ (g : Gathers) (elaborates : Elaborates g.Reported) (forms : FormsStatem
   step_at (layer.Variables vs) = variables_step vs
   step_at (layer.Procedure h b) = procedure_step h (block_of b.0) (within b.0) b.1
 
-  block_at : (xs : List SD) (body : Option (List Stmt)) → FormedBlock g ends (block_layer g elaborates ends (record { decls = map steps_of (map (λ (x : SD). x.0) xs); body = body })) (fold joined [] (map within_decl (map (λ (x : SD). x.0) xs)))
+  block_at : (xs : List SD) (body : Option (List Stmt)) → FormedBlock g ends (block_layer g elaborates ends (record { decls = map steps_of (map (λ (x : SD). x.0) xs); body = body })) (fold append_names [] (map within_decl (map (λ (x : SD). x.0) xs)))
   block_at xs body =
       subst (λ (ks : List ℕ). FormedBlock g ends (block_layer g elaborates ends (record { decls = map steps_of (map (λ (x : SD). x.0) xs); body = body })) ks) (sym (total_is [] xs))
       (of_steps (map steps_of (map (λ (x : SD). x.0) xs)) body (total xs) (are_steps xs))

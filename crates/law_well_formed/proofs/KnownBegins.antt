@@ -15,7 +15,7 @@ use Rattle.typed_tree.specs.declared.table.Table.{Table}
 use Rattle.typed_tree.specs.declared.known_types.Types.{Types}
 use Rattle.typed_tree.specs.Known.{scalar_from, scalar_made, in_list}
 use Rattle.m2_tree.specs.Names.{same_name}
-use Rattle.typed_tree.specs.Names.{entered}
+use Rattle.typed_tree.specs.Names.{enter_name}
 use Rattle.check_scope.specs.declared.known.Known.{Known}
 use Rattle.check_scope.specs.declared.known.Known.TheVariants.{Declared}
 use Rattle.check_scope.specs.declared.known.Origin.TheVariants.{Here}
@@ -98,12 +98,12 @@ module _ (types_of : ℕ → List Made) (home : ℕ) (ts : List Table) (p : Tabl
 
 -- ---- copies of types
 
-entered_by : {X : Type 0} (name : List ℕ) (v : X) (e : List ℕ × X) (es : List (List ℕ × X)) (b : Bool) → (b || has name (keys es)) ≡ false → (has name (keys es) ≡ false → entered name v es ≡ es ++ (name, v) ∷ [])
-    → cond b ((e.0, v) ∷ es) (e ∷ entered name v es) ≡ e ∷ (es ++ (name, v) ∷ [])
+entered_by : {X : Type 0} (name : List ℕ) (v : X) (e : List ℕ × X) (es : List (List ℕ × X)) (b : Bool) → (b || has name (keys es)) ≡ false → (has name (keys es) ≡ false → enter_name name v es ≡ es ++ (name, v) ∷ [])
+    → cond b ((e.0, v) ∷ es) (e ∷ enter_name name v es) ≡ e ∷ (es ++ (name, v) ∷ [])
 entered_by name v e es true h on = absurd cc
 entered_by {X = X} name v e es false h on = ap (λ (xs : List (List ℕ × X)). e ∷ xs) (on h)
 
-entered_new : {X : Type 0} (name : List ℕ) (v : X) (es : List (List ℕ × X)) → has name (keys es) ≡ false → entered name v es ≡ es ++ (name, v) ∷ []
+entered_new : {X : Type 0} (name : List ℕ) (v : X) (es : List (List ℕ × X)) → has name (keys es) ≡ false → enter_name name v es ≡ es ++ (name, v) ∷ []
 entered_new name v [] h = refl
 entered_new name v (e ∷ es) h = entered_by name v e es (same_name name e.0) h (entered_new name v es)
 

@@ -22,7 +22,7 @@ use Rattle.check_scope.specs.declared.scope.Scope.{Scope}
 use Rattle.check_definition.specs.Predeclared.{console, first_scope}
 use Rattle.check_definition.specs.Importing.{numbered_modules}
 use Rattle.check_definition.specs.Export.{with_types as reached_with, own_types, reached_of, exports}
-use Rattle.check_definition.specs.Compiled.{table_of, declared_in, of_contents, compiled}
+use Rattle.check_definition.specs.Compiled.{table_of, declared_in, of_contents, definition_table}
 use Rattle.check_body.specs.Own.{types_made_in}
 use Rattle.law_well_formed.specs.Formed.{Holds, fine, broken}
 use Rattle.law_well_formed.proofs.Basics.{then_holds, reported_holds}
@@ -210,5 +210,5 @@ module _ (g : Gathers) (types_of : ℕ → List Made) (number : ℕ) (m : Module
   contents_formed ts p (contents.Implementation b) e = reported_holds g m.name.pos rule.LonelyModule
   contents_formed ts p (contents.Program b) e = reported_holds g m.name.pos rule.LonelyModule
 
-  pub tables_formed : (ts : List Table) → fits_contents m.contents ≡ true → TablesFormed types_of number ts → Holds IsFormedTable (compiled g number m ts)
+  pub tables_formed : (ts : List Table) → fits_contents m.contents ≡ true → TablesFormed types_of number ts → Holds IsFormedTable (definition_table g number m ts)
   tables_formed ts e p = contents_formed (ts ++ console ∷ []) (each_more (TableFormed types_of number) ts console p (console_formed types_of number)) m.contents e

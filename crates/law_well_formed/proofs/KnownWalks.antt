@@ -31,7 +31,7 @@ use Rattle.check_body.specs.declared.procedure.Walk.{Walk}
 use Rattle.check_body.specs.Elaborating.{Elaborates}
 use Rattle.check_body.specs.Inside.{which_of, begun_procedure, reported_in}
 use Rattle.check_body.specs.Bodies.{ChecksBlock, Steps, marked_by, declared_by, checked_by, with_body, begun_from, procedure_checked, steps_layer, block_layer, steps, checks_block, checks_decl}
-use Rattle.check_body.specs.Checked.{walked, of_body, of_implementation, of_contents, checked}
+use Rattle.check_body.specs.Checked.{walk_body, of_body, of_implementation, of_contents, body_module}
 use Rattle.law_well_formed.specs.Formed.{Holds, fine, broken}
 use Rattle.law_well_formed.proofs.Basics.{then_holds, holds_weaker, both_holds, any_holds, reported_holds}
 use Rattle.law_modules.specs.Ranges.{AreRanged}
@@ -236,7 +236,7 @@ module _ (g : Gathers) (elaborates : Elaborates g.Reported) (ends : List ℕ) (b
   all_decls (d ∷ ds) e around =
       (decl_formed d (both_left (fits_within d) (list_all itself (map fits_within ds)) e) around, all_decls ds (both_right (fits_within d) (list_all itself (map fits_within ds)) e) around)
 
-  pub walked_formed : (modules : List (List ℕ × ℕ)) (s : Scope g.Reported) (m : Module) (b : Block) → fits_block b ≡ true → ScopeFormed base s → WalkFormed (walked g elaborates modules ends s m b).0
+  pub walked_formed : (modules : List (List ℕ × ℕ)) (s : Scope g.Reported) (m : Module) (b : Block) → fits_block b ≡ true → ScopeFormed base s → WalkFormed (walk_body g elaborates modules ends s m b).0
   walked_formed modules s m b e h =
       let ds : List Decl = (out-Block b).decls in
       let fit : list_all itself (map fits_within ds) ≡ true = sym (fits_at_block b (out-Block b) refl) ∙ e in
@@ -250,7 +250,7 @@ module _ (g : Gathers) (elaborates : Elaborates g.Reported) where
   body_formed : (base : Types) (s : Scope g.Reported) (own : Option Table) (m : Module) (b : Block) → fits_block b ≡ true → ScopeFormed base s → Holds TypesFormed (of_body g elaborates s own m b)
   body_formed base s own m b e h =
       let ends : List ℕ = procedure_ends (out-Block b).decls in
-      let w = walked g elaborates (numbered_modules s.tables).0 ends s m b in
+      let w = walk_body g elaborates (numbered_modules s.tables).0 ends s m b in
       then_holds (both_holds g (walked_formed g elaborates ends base (numbered_modules s.tables).0 s m b e h) (any_holds w.1)) (λ x k. fine _ (k.0.ranged.types, k.0.ordered.types))
 
   module _ (types_of : ℕ → List Made) (number : ℕ) (m : Module) where
@@ -263,5 +263,5 @@ module _ (g : Gathers) (elaborates : Elaborates g.Reported) where
     contents_formed own ts (contents.Implementation b) e o p = own_formed own ts b e o p
     contents_formed own ts (contents.Program b) e o p = body_formed (first_types number ts) (first_scope number ts) None m b e (first_formed types_of number ts p)
 
-    pub checked_formed : (own : Option Table) (ts : List Table) → fits_contents m.contents ≡ true → OwnFormed types_of number own → TablesFormed types_of number ts → Holds TypesFormed (checked g elaborates number m own ts)
+    pub checked_formed : (own : Option Table) (ts : List Table) → fits_contents m.contents ≡ true → OwnFormed types_of number own → TablesFormed types_of number ts → Holds TypesFormed (body_module g elaborates number m own ts)
     checked_formed own ts e o p = contents_formed own (ts ++ console ∷ []) m.contents e o (each_more (TableFormed types_of number) ts console p (console_formed types_of number))

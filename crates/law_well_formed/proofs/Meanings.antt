@@ -31,7 +31,7 @@ use Rattle.typed_tree.specs.declared.shape.Formal.{Formal}
 use Rattle.typed_tree.specs.declared.shape.Signature.{Signature}
 use Rattle.typed_tree.specs.declared.typed_module.TypedModule.{TypedModule}
 use Rattle.typed_tree.specs.declared.types.TypeNo.{TypeNo}
-use Rattle.typed_tree.specs.Chains.{rooted}
+use Rattle.typed_tree.specs.Chains.{root_place}
 use Rattle.check_scope.specs.declared.meaningless.Meaningless.{Meaningless}
 use Rattle.check_scope.specs.Elaborated.{Gathers, reported_where, ahead, of_sort, of_heading, ◌▷◌}
 use Rattle.check_scope.specs.declared.scope.Scope.{Scope}
@@ -39,7 +39,7 @@ use Rattle.check_const.specs.Parts.{Part, Adds, sign_place}
 use Rattle.check_const_ops.specs.Operators.{mul_op, add_op}
 use Rattle.check_const_ops.specs.declared.operator.BinaryOp.TheVariants as op
 use Rattle.check_operator.specs.Classes.{signature_at}
-use Rattle.check_operator.specs.Values.{slot_of, local_by, designated_by, given}
+use Rattle.check_operator.specs.Values.{slot_of, local_by, designated_by, function_result}
 use Rattle.check_operator.specs.declared.computed.Computed.{Computed}
 use Rattle.check_operator.specs.declared.computed.Computed.TheVariants as value
 use Rattle.check_operator.specs.declared.computed.Designated.{Designated}
@@ -53,7 +53,7 @@ use Rattle.check_call.specs.declared.callee.Called.TheVariants as called
 use Rattle.check_call.specs.declared.standard.Form.{Form}
 use Rattle.check_call.specs.declared.standard.Form.TheVariants as form
 use Rattle.check_call.specs.declared.standard.Unary.{Unary}
-use Rattle.check_expr.specs.Meanings.{Meant, Picks, of_computed, signed_first, named, field_of, formals_of, passed_for, argument_by, call_given, as_constant, value_of, looked_at, with_actual, actuals, routine_called, unary, bound, conversion, high, by_form, called_as, called_by, factor, term, relation, expr_layer, selector_layer, designator_layer, item_layer, meant, picks, head, item}
+use Rattle.check_expr.specs.Meanings.{Meant, Picks, of_computed, signed_first, first_name, field_of, formals_of, passed_for, argument_by, call_given, as_constant, value_of, breaches_in_all, with_actual, actuals, routine_called, unary, bound, conversion, high, by_form, callee_value, call_in_expression, factor, term, relation, expr_layer, selector_layer, designator_layer, item_layer, meanings_of, picks, head, item}
 use Rattle.def_scheme.specs.Exprs.{is_there}
 use Rattle.law_modules.specs.WellFormed.{FunctionCall, AreArguments, no_arguments, FieldOf}
 use Rattle.law_well_formed.specs.Formed.{Holds, fine, FormedMeaning, FormedValue, FormedDesignated, IsFormed}
@@ -106,16 +106,16 @@ module _ (g : Gathers) (m : TypedModule) (opens : ℕ → Bool) (w : ℕ) (s : S
   pub by_meaning : (level : ℕ) (at : Pos) (x : Meaning) → FormedMeaning m opens w x → Designated_ (designated_by g level at x)
   by_meaning level at (meaning.Constant v) p = fine (designated.Value (value.Constant v)) tt
   by_meaning level at (meaning.Type t n) p = fine (designated.Type t) tt
-  by_meaning level at (meaning.Variable v) p = fine (designated.Variable v.of (rooted (root.Global v))) (rooted_formed m w (root.Global v) p)
+  by_meaning level at (meaning.Variable v) p = fine (designated.Variable v.of (root_place (root.Global v))) (rooted_formed m w (root.Global v) p)
   by_meaning level at (meaning.Local v) p = fine (local_by level v v.kind) (local_formed level v v.kind)
-  by_meaning level at (meaning.Field f) p = fine _ (behind_formed m w (rooted (root.With f.with)) (part.Field f.whole f.number) (rooted_formed m w (root.With f.with) p) (FieldOf f.whole f.number))
+  by_meaning level at (meaning.Field f) p = fine _ (behind_formed m w (root_place (root.With f.with)) (part.Field f.whole f.number) (rooted_formed m w (root.With f.with) p) (FieldOf f.whole f.number))
   by_meaning level at (meaning.Procedure f) p = fine (designated.Procedure f) p
   by_meaning level at (meaning.LocalProcedure f) p = fine _ p
   by_meaning level at meaning.Ahead p = reported_holds g at rule.Undeclared
   by_meaning level at (meaning.Standard f) p = fine (designated.Standard f) tt
   by_meaning level at (meaning.Module k) p = fine (designated.Module k) p
 
-  named_formed : (name : Ident) → Designated_ (named g s name)
+  named_formed : (name : Ident) → Designated_ (first_name g s name)
   named_formed name = then_holds (h.names name) (λ x p. plain_holds (by_meaning s.level name.pos x p))
 
   field_of_formed : (at : Pos) (name : Ident) (d : Designated) → FormedDesignated m opens w d → Designated_ (field_of g s at name d)
@@ -156,21 +156,21 @@ module _ (g : Gathers) (m : TypedModule) (opens : ℕ → Bool) (w : ℕ) (s : S
     given_call k r e q count =
         let heading = heading_kept s.types m.types h.types t k e in
         then_holds (actuals_formed args k.formals count all) (λ xs p.
-        fine (given s.types r (expr.Call r (call_by xs c))) (given_formed g m w opens s.types h.types r (expr.Call r (call_by xs c))
+        fine (function_result s.types r (expr.Call r (call_by xs c))) (given_formed g m w opens s.types h.types r (expr.Call r (call_by xs c))
         (FunctionCall r (call_by xs c) (call_formed g m w opens s.types h.types c t xs true there (heading.result ∙ ap (λ (o : Option TypeNo). is_there o) q) (subst (λ (fs : List Formal). AreArguments m w xs fs) (sym heading.formals) p)))))
 
     by_count : (k : Signature) (r : TypeNo) (q : Bool) → (length k.formals == length args) ≡ q → signature_at s.types t ≡ Some k → k.result ≡ Some r
-        → Value_ (ahead g (reported_where g {A = Unit {0}} (not q) at rule.ArgumentCount (Ok (tt {0})) ▷ λ fine. Ok r) (looked_at g s args) (λ r. call_given g s.types r c (actuals g s k.formals args)))
+        → Value_ (ahead g (reported_where g {A = Unit {0}} (not q) at rule.ArgumentCount (Ok (tt {0})) ▷ λ fine. Ok r) (breaches_in_all g s args) (λ r. call_given g s.types r c (actuals g s k.formals args)))
     by_count k r true count e q = given_call k r e q (eqb-true (length k.formals) (length args) count)
-    by_count k r false count e q = refused_holds g _ (looked_at g s args)
+    by_count k r false count e q = refused_holds g _ (breaches_in_all g s args)
 
     by_result : (k : Signature) (o : Option TypeNo) → k.result ≡ o → signature_at s.types t ≡ Some k
-        → Value_ (ahead g (function_with g at (length k.formals) (length args) o) (looked_at g s args) (λ r. call_given g s.types r c (actuals g s k.formals args)))
-    by_result k None q e = refused_holds g _ (looked_at g s args)
+        → Value_ (ahead g (function_with g at (length k.formals) (length args) o) (breaches_in_all g s args) (λ r. call_given g s.types r c (actuals g s k.formals args)))
+    by_result k None q e = refused_holds g _ (breaches_in_all g s args)
     by_result k (Some r) q e = by_count k r (length k.formals == length args) refl e q
 
-    by_signature : (o : Option Signature) → signature_at s.types t ≡ o → Value_ (ahead g (function_of g at o (length args)) (looked_at g s args) (λ r. call_given g s.types r c (actuals g s (formals_of o) args)))
-    by_signature None e = refused_holds g _ (looked_at g s args)
+    by_signature : (o : Option Signature) → signature_at s.types t ≡ o → Value_ (ahead g (function_of g at o (length args)) (breaches_in_all g s args) (λ r. call_given g s.types r c (actuals g s (formals_of o) args)))
+    by_signature None e = refused_holds g _ (breaches_in_all g s args)
     by_signature (Some k) e = by_result k k.result refl e
 
     routine_formed : Value_ (routine_called g s at t c args)
@@ -179,23 +179,23 @@ module _ (g : Gathers) (m : TypedModule) (opens : ℕ → Bool) (w : ℕ) (s : S
   -- ---- standard functions
 
   unary_all : (at : Pos) (f : Standard) (u : Unary) (args : List (Meant g.Reported)) → AllM args → Value_ (unary g s at f u args)
-  unary_all at f u [] all = reported_beside_holds g at rule.ArgumentCount (looked_at g s [])
+  unary_all at f u [] all = reported_beside_holds g at rule.ArgumentCount (breaches_in_all g s [])
   unary_all at f u (x ∷ []) all = then_holds (value_formed x all.0) (λ v p. unary_formed g m w opens s.types h.types f u x.fixed.at v p)
   unary_all at f u (x ∷ y ∷ xs) all = reported_beside_holds g at rule.ArgumentCount _
 
   bound_all : (at : Pos) (f : Standard) (args : List (Meant g.Reported)) → Value_ (bound g s at f args)
-  bound_all at f [] = reported_beside_holds g at rule.ArgumentCount (looked_at g s [])
+  bound_all at f [] = reported_beside_holds g at rule.ArgumentCount (breaches_in_all g s [])
   bound_all at f (x ∷ []) = bound_formed g m w opens s.types h.types f _
   bound_all at f (x ∷ y ∷ xs) = reported_beside_holds g at rule.ArgumentCount _
 
   conversion_all : (at : Pos) (args : List (Meant g.Reported)) → AllM args → Value_ (conversion g s at args)
-  conversion_all at [] all = reported_beside_holds g at rule.ArgumentCount (looked_at g s [])
+  conversion_all at [] all = reported_beside_holds g at rule.ArgumentCount (breaches_in_all g s [])
   conversion_all at (t ∷ []) all = reported_beside_holds g at rule.ArgumentCount _
   conversion_all at (t ∷ x ∷ []) all = conversion_formed g m w opens s.types h.types _ x.fixed.at (value_formed x all.1.0)
   conversion_all at (t ∷ x ∷ y ∷ xs) all = reported_beside_holds g at rule.ArgumentCount _
 
   high_all : (at : Pos) (args : List (Meant g.Reported)) → AllM args → Value_ (high g s at args)
-  high_all at [] all = reported_beside_holds g at rule.ArgumentCount (looked_at g s [])
+  high_all at [] all = reported_beside_holds g at rule.ArgumentCount (breaches_in_all g s [])
   high_all at (x ∷ []) all = then_holds (sort_holds g x.fixed.at rule.WrongArgument all.0) (λ d p. high_formed g m w opens s.types h.types x.fixed.at d)
   high_all at (x ∷ y ∷ xs) all = reported_beside_holds g at rule.ArgumentCount _
 
@@ -206,12 +206,12 @@ module _ (g : Gathers) (m : TypedModule) (opens : ℕ → Bool) (w : ℕ) (s : S
   form_formed at f args form.High all = high_all at args all
   form_formed at f args form.Proper all = reported_beside_holds g at rule.WrongType _
 
-  called_as_formed : (at : Pos) (args : List (Meant g.Reported)) (x : Called) → FormedCalled g m w opens s.types h.types x → AllM args → Value_ (called_as g s at args x)
+  called_as_formed : (at : Pos) (args : List (Meant g.Reported)) (x : Called) → FormedCalled g m w opens s.types h.types x → AllM args → Value_ (callee_value g s at args x)
   called_as_formed at args (called.Routine t c) p all = routine_formed at t c args p all
   called_as_formed at args (called.Standard f) p all = form_formed at f args (form_of f) all
 
-  called_formed : (at : Pos) {d : Result Designated (Meaningless g.Reported)} (args : List (Meant g.Reported)) → Designated_ d → AllM args → Value_ (called_by g s at d args)
-  called_formed at args p all = ahead_holds g (looked_at g s args) (then_holds (of_heading_holds p) (λ d k. callee_formed g m w opens s.types h.types at d k)) (λ x k. called_as_formed at args x k all)
+  called_formed : (at : Pos) {d : Result Designated (Meaningless g.Reported)} (args : List (Meant g.Reported)) → Designated_ d → AllM args → Value_ (call_in_expression g s at d args)
+  called_formed at args p all = ahead_holds g (breaches_in_all g s args) (then_holds (of_heading_holds p) (λ d k. callee_formed g m w opens s.types h.types at d k)) (λ x k. called_as_formed at args x k all)
 
   -- ---- operators
 
@@ -237,7 +237,7 @@ module _ (g : Gathers) (m : TypedModule) (opens : ℕ → Bool) (w : ℕ) (s : S
   -- ---- a layer, each part of which has its meaning
 
   abbrev PE : Expr → Type 0
-  PE e = FM (meant g e)
+  PE e = FM (meanings_of g e)
 
   abbrev PS : Selector → Type 0
   PS e = FP (picks g e)
@@ -261,24 +261,24 @@ module _ (g : Gathers) (m : TypedModule) (opens : ℕ → Bool) (w : ℕ) (s : S
   SI = (e : Item) × PI e
 
   abbrev opened : Expr-F Expr Selector Designator Item → Expr-F (Meant g.Reported) (Picks g.Reported) (Meant g.Reported) (Adds g.Reported)
-  opened x = map-Expr Expr Selector Designator Item (Meant g.Reported) (Picks g.Reported) (Meant g.Reported) (Adds g.Reported) (meant g) (picks g) (head g) (item g) x
+  opened x = map-Expr Expr Selector Designator Item (Meant g.Reported) (Picks g.Reported) (Meant g.Reported) (Adds g.Reported) (meanings_of g) (picks g) (head g) (item g) x
 
   abbrev opened_selector : Selector-F Expr Selector Designator Item → Selector-F (Meant g.Reported) (Picks g.Reported) (Meant g.Reported) (Adds g.Reported)
-  opened_selector x = map-Selector Expr Selector Designator Item (Meant g.Reported) (Picks g.Reported) (Meant g.Reported) (Adds g.Reported) (meant g) (picks g) (head g) (item g) x
+  opened_selector x = map-Selector Expr Selector Designator Item (Meant g.Reported) (Picks g.Reported) (Meant g.Reported) (Adds g.Reported) (meanings_of g) (picks g) (head g) (item g) x
 
   abbrev opened_designator : Designator-F Expr Selector Designator Item → Designator-F (Meant g.Reported) (Picks g.Reported) (Meant g.Reported) (Adds g.Reported)
-  opened_designator x = map-Designator Expr Selector Designator Item (Meant g.Reported) (Picks g.Reported) (Meant g.Reported) (Adds g.Reported) (meant g) (picks g) (head g) (item g) x
+  opened_designator x = map-Designator Expr Selector Designator Item (Meant g.Reported) (Picks g.Reported) (Meant g.Reported) (Adds g.Reported) (meanings_of g) (picks g) (head g) (item g) x
 
-  at_expr : (e : Expr) (x : Expr-F Expr Selector Designator Item) → out-Expr e ≡ x → meant g e ≡ expr_layer g (opened x)
-  unfolding meant picks head item
+  at_expr : (e : Expr) (x : Expr-F Expr Selector Designator Item) → out-Expr e ≡ x → meanings_of g e ≡ expr_layer g (opened x)
+  unfolding meanings_of picks head item
   at_expr e x q = fold_out-Expr (Meant g.Reported) (Picks g.Reported) (Meant g.Reported) (Adds g.Reported) (expr_layer g) (selector_layer g) (designator_layer g) (item_layer g) e ∙ ap (λ (y : Expr-F Expr Selector Designator Item). expr_layer g (opened y)) q
 
   at_selector : (e : Selector) (x : Selector-F Expr Selector Designator Item) → out-Selector e ≡ x → picks g e ≡ selector_layer g (opened_selector x)
-  unfolding meant picks head item
+  unfolding meanings_of picks head item
   at_selector e x q = fold_out-Selector (Meant g.Reported) (Picks g.Reported) (Meant g.Reported) (Adds g.Reported) (expr_layer g) (selector_layer g) (designator_layer g) (item_layer g) e ∙ ap (λ (y : Selector-F Expr Selector Designator Item). selector_layer g (opened_selector y)) q
 
   at_designator : (e : Designator) (x : Designator-F Expr Selector Designator Item) → out-Designator e ≡ x → head g e ≡ designator_layer g (opened_designator x)
-  unfolding meant picks head item
+  unfolding meanings_of picks head item
   at_designator e x q = fold_out-Designator (Meant g.Reported) (Picks g.Reported) (Meant g.Reported) (Adds g.Reported) (expr_layer g) (selector_layer g) (designator_layer g) (item_layer g) e ∙ ap (λ (y : Designator-F Expr Selector Designator Item). designator_layer g (opened_designator y)) q
 
   abbrev bare : Expr-F SE SS SD SI → Expr-F Expr Selector Designator Item
@@ -290,11 +290,11 @@ module _ (g : Gathers) (m : TypedModule) (opens : ℕ → Bool) (w : ℕ) (s : S
   abbrev bare_designator : Designator-F SE SS SD SI → Designator-F Expr Selector Designator Item
   bare_designator x = map-Designator SE SS SD SI Expr Selector Designator Item (λ e. e.0) (λ e. e.0) (λ e. e.0) (λ e. e.0) x
 
-  all_terms : {O : Type 0} (xs : List (Operator O × SE)) → AllT (map (λ (x : Operator O × Expr). (x.0, meant g x.1)) (map (λ (a : Operator O × SE). (a.0, a.1.0)) xs))
+  all_terms : {O : Type 0} (xs : List (Operator O × SE)) → AllT (map (λ (x : Operator O × Expr). (x.0, meanings_of g x.1)) (map (λ (a : Operator O × SE). (a.0, a.1.0)) xs))
   all_terms [] = tt
   all_terms (x ∷ xs) = (x.1.1, all_terms xs)
 
-  all_args : (xs : List SE) → AllM (map (meant g) (map (λ (e : SE). e.0) xs))
+  all_args : (xs : List SE) → AllM (map (meanings_of g) (map (λ (e : SE). e.0) xs))
   all_args [] = tt
   all_args (x ∷ xs) = (x.1, all_args xs)
 
@@ -307,20 +307,20 @@ module _ (g : Gathers) (m : TypedModule) (opens : ℕ → Bool) (w : ℕ) (s : S
   expr_formed (layer.Char p n) = constant_meant (expr_layer g (opened (bare (layer.Char p n)))).fixed
   expr_formed (layer.Text p t) = constant_meant (expr_layer g (opened (bare (layer.Text p t)))).fixed
   expr_formed (layer.Set q p items) = constant_meant (expr_layer g (opened (bare (layer.Set q p items)))).fixed
-  expr_formed (layer.Not p e) = computed_formed (negated_formed m w g p (value_formed (meant g e.0) e.1))
-  expr_formed (layer.Bracketed p e) = computed_formed (value_formed (meant g e.0) e.1)
+  expr_formed (layer.Not p e) = computed_formed (negated_formed m w g p (value_formed (meanings_of g e.0) e.1))
+  expr_formed (layer.Bracketed p e) = computed_formed (value_formed (meanings_of g e.0) e.1)
   expr_formed (layer.Use d None) = d.1
-  expr_formed (layer.Use d (Some es)) = computed_formed (called_formed (head g d.0).fixed.at (map (meant g) (map (λ (e : SE). e.0) es)) d.1 (all_args es))
-  expr_formed (layer.Term e xs) = computed_formed (factors_formed (meant g e.0).fixed.at (map (λ (x : Operator MulOp × Expr). (x.0, meant g x.1)) (map (λ (a : Operator MulOp × SE). (a.0, a.1.0)) xs)) (value_of g s (meant g e.0)) (value_formed (meant g e.0) e.1) (all_terms xs))
-  expr_formed (layer.Sum o e xs) = computed_formed (terms_formed (sign_place o (meant g e.0).fixed.at) (map (λ (x : Operator AddOp × Expr). (x.0, meant g x.1)) (map (λ (a : Operator AddOp × SE). (a.0, a.1.0)) xs)) (signed_first g o (value_of g s (meant g e.0))) (first_formed o (value_formed (meant g e.0) e.1)) (all_terms xs))
-  expr_formed (layer.Relation e o f) = computed_formed (relation_formed (meant g e.0) o (meant g f.0) e.1 f.1)
+  expr_formed (layer.Use d (Some es)) = computed_formed (called_formed (head g d.0).fixed.at (map (meanings_of g) (map (λ (e : SE). e.0) es)) d.1 (all_args es))
+  expr_formed (layer.Term e xs) = computed_formed (factors_formed (meanings_of g e.0).fixed.at (map (λ (x : Operator MulOp × Expr). (x.0, meanings_of g x.1)) (map (λ (a : Operator MulOp × SE). (a.0, a.1.0)) xs)) (value_of g s (meanings_of g e.0)) (value_formed (meanings_of g e.0) e.1) (all_terms xs))
+  expr_formed (layer.Sum o e xs) = computed_formed (terms_formed (sign_place o (meanings_of g e.0).fixed.at) (map (λ (x : Operator AddOp × Expr). (x.0, meanings_of g x.1)) (map (λ (a : Operator AddOp × SE). (a.0, a.1.0)) xs)) (signed_first g o (value_of g s (meanings_of g e.0))) (first_formed o (value_formed (meanings_of g e.0) e.1)) (all_terms xs))
+  expr_formed (layer.Relation e o f) = computed_formed (relation_formed (meanings_of g e.0) o (meanings_of g f.0) e.1 f.1)
 
   selector_formed : (y : Selector-F SE SS SD SI) → FP (selector_layer g (opened_selector (bare_selector y)))
   selector_formed (layer.Field p name) = λ d q. plain_holds (then_holds (sort_holds g p rule.WrongType q) (λ x k. field_of_formed p name x k))
-  selector_formed (layer.Index p e) = λ d q. plain_holds (indexed_formed m w g opens s.types p (meant g e.0).fixed.at (sort_holds g p rule.WrongType q) (value_formed (meant g e.0) e.1))
+  selector_formed (layer.Index p e) = λ d q. plain_holds (indexed_formed m w g opens s.types p (meanings_of g e.0).fixed.at (sort_holds g p rule.WrongType q) (value_formed (meanings_of g e.0) e.1))
 
   designator_formed : (y : Designator-F SE SS SD SI) → FM (designator_layer g (opened_designator (bare_designator y)))
-  designator_formed y = picks_formed (map (picks g) (map (λ (e : SS). e.0) y.selectors)) (named g s y.name) (named_formed y.name) (all_picks y.selectors)
+  designator_formed y = picks_formed (map (picks g) (map (λ (e : SS). e.0) y.selectors)) (first_name g s y.name) (named_formed y.name) (all_picks y.selectors)
 
   -- ---- the induction
 

@@ -14,13 +14,13 @@ use Rattle.typed_tree.specs.declared.typed_module.TypedModule.{TypedModule}
 use Rattle.typed_tree.specs.declared.types.TypeNo.{TypeNo}
 use Rattle.typed_tree.specs.Types.{integer, cardinal, boolean, char, bitset}
 use Rattle.m2_tree.specs.Names.{same_name}
-use Rattle.typed_tree.specs.Names.{found}
+use Rattle.typed_tree.specs.Names.{find_name}
 use Rattle.check_scope.specs.Elaborated.{Gathers}
 use Rattle.check_scope.specs.declared.known.Known.{Known}
 use Rattle.check_scope.specs.declared.known.Known.TheVariants.{Declared}
 use Rattle.check_scope.specs.declared.known.Origin.TheVariants.{Here}
-use Rattle.check_const.specs.Denote.{exported_by, exported, member}
-use Rattle.check_definition.specs.Predeclared.{predeclared_as, with_types, with_truth, with_functions, with_bounds, with_procedures, predeclared, predeclared_block, console}
+use Rattle.check_const.specs.Denote.{exported_by, export_of, member}
+use Rattle.check_definition.specs.Predeclared.{predeclared_as, with_types, with_truth, with_functions, with_bounds, with_procedures, predeclared_names, predeclared_block, console}
 use Rattle.check_definition.specs.Importing.{exports_of}
 use Rattle.check_block.specs.declared.heading.Standing.TheVariants.{Awaited}
 use Rattle.check_block.specs.Headings.{standing_known, name_standing}
@@ -63,12 +63,12 @@ module _ (T : Type 0) (home : ℕ) (hs : List TypeNo) where
   names_await [] so p q k = k
   names_await (e ∷ es) so p q k = names_await es (with_own_name so e) p.1 q.1 (each_entered (λ (e : List ℕ × Known T). IsAwaitedOwn e.1) e.0 (Declared Here (Ok e.1)) so (λ other z. meaning_awaits e.1 p.0 q.0) k)
 
-  found_awaits : (name : List ℕ) (ns : List (List ℕ × Known T)) (o : Option (Known T)) → found name ns ≡ o → AllAwaitOwn ns → (p : Procedure) → name_standing o ≡ Awaited p → (p.home ≡ home) × (slice_get hs p.number ≡ Some p.heading)
+  found_awaits : (name : List ℕ) (ns : List (List ℕ × Known T)) (o : Option (Known T)) → find_name name ns ≡ o → AllAwaitOwn ns → (p : Procedure) → name_standing o ≡ Awaited p → (p.home ≡ home) × (slice_get hs p.number ≡ Some p.heading)
   found_awaits name ns None e all p a = absurd cc
   found_awaits name ns (Some k) e all p a = (found_each (λ (e : List ℕ × Known T). IsAwaitedOwn e.1) name ns k all e).2 p a
 
-  pub own_await : (es : List (List ℕ × Meaning)) → AreExports home es → AreNumberedBy hs es → (name : List ℕ) (p : Procedure) → name_standing (found name (own_names {T = T} es)) ≡ Awaited p → (p.home ≡ home) × (slice_get hs p.number ≡ Some p.heading)
-  own_await es e k name p a = found_awaits name (own_names es) (found name (own_names es)) refl (names_await es [] e k tt) p a
+  pub own_await : (es : List (List ℕ × Meaning)) → AreExports home es → AreNumberedBy hs es → (name : List ℕ) (p : Procedure) → name_standing (find_name name (own_names {T = T} es)) ≡ Awaited p → (p.home ≡ home) × (slice_get hs p.number ≡ Some p.heading)
+  own_await es e k name p a = found_awaits name (own_names es) (find_name name (own_names es)) refl (names_await es [] e k tt) p a
 
 module _ (m : TypedModule) (opens : ℕ → Bool) where
   -- ---- the names of a module's own definition
@@ -128,8 +128,8 @@ module _ (m : TypedModule) (opens : ℕ → Bool) where
         more (codes "HALT") (meaning.Standard Halt) _ (tt, tt) (more (codes "EXCL") (meaning.Standard Excl) _ (tt, tt) (more (codes "INCL") (meaning.Standard Incl) _ (tt, tt)
         (more (codes "DEC") (meaning.Standard Dec) _ (tt, tt) (more (codes "INC") (meaning.Standard Inc) ns (tt, tt) k))))
 
-    pub predeclared_formed : AreFormedNames m opens (predeclared {T = T})
-    unfolding predeclared
+    pub predeclared_formed : AreFormedNames m opens (predeclared_names {T = T})
+    unfolding predeclared_names
     predeclared_formed = procedures_formed (with_bounds (with_functions (with_truth (with_types {T = T} [])))) (bounds_formed (with_functions (with_truth (with_types {T = T} []))) (functions_formed (with_truth (with_types {T = T} [])) (truth_formed (with_types {T = T} []) (types_formed [] tt))))
 
     pub around_formed : AreFormedBlocks m opens (predeclared_block {T = T} ∷ [])
@@ -180,15 +180,15 @@ module _ (m : TypedModule) (opens : ℕ → Bool) where
   -- ---- members of open modules
 
   module _ (g : Gathers) where
-    found_by : (at : Pos) (b : Bool) (x : Meaning) (o : Option Meaning) → FormedMeaning m opens 0 x → Holds (FormedMeaning m opens 0) (exported g at o) → Holds (FormedMeaning m opens 0) (exported g at (cond b (Some x) o))
+    found_by : (at : Pos) (b : Bool) (x : Meaning) (o : Option Meaning) → FormedMeaning m opens 0 x → Holds (FormedMeaning m opens 0) (export_of g at o) → Holds (FormedMeaning m opens 0) (export_of g at (cond b (Some x) o))
     found_by at true x o p k = fine x p
     found_by at false x o p k = k
 
-    found_formed : (at : Pos) (name : List ℕ) (es : List (List ℕ × Meaning)) → ExportsFormed m opens es → Holds (FormedMeaning m opens 0) (exported g at (found name es))
+    found_formed : (at : Pos) (name : List ℕ) (es : List (List ℕ × Meaning)) → ExportsFormed m opens es → Holds (FormedMeaning m opens 0) (export_of g at (find_name name es))
     found_formed at name [] k = reported_holds g at rule.NotExported
-    found_formed at name (e ∷ es) k = found_by at (same_name name e.0) e.1 (found name es) k.0 (found_formed at name es k.1)
+    found_formed at name (e ∷ es) k = found_by at (same_name name e.0) e.1 (find_name name es) k.0 (found_formed at name es k.1)
 
-    member_formed : (name : Ident) (o : Option Table) → ExportsFormed m opens (exports_of o) → Holds (FormedMeaning m opens 0) (exported g name.pos (exported_by name.name o))
+    member_formed : (name : Ident) (o : Option Table) → ExportsFormed m opens (exports_of o) → Holds (FormedMeaning m opens 0) (export_of g name.pos (exported_by name.name o))
     member_formed name None k = reported_holds g name.pos rule.NotExported
     member_formed name (Some t) k = found_formed name.pos name.name t.exported k
 

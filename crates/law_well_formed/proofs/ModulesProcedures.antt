@@ -16,7 +16,7 @@ use Rattle.typed_tree.specs.declared.typed_module.Which.{Which}
 use Rattle.typed_tree.specs.declared.typed_module.Which.TheVariants as which
 use Rattle.typed_tree.specs.declared.types.TypeNo.{TypeNo}
 use Rattle.typed_tree.specs.Known.{made_at}
-use Rattle.typed_tree.specs.Names.{found}
+use Rattle.typed_tree.specs.Names.{find_name}
 use Rattle.check_scope.specs.Elaborated.{Gathers}
 use Rattle.check_scope.specs.declared.known.Known.{Known}
 use Rattle.check_scope.specs.declared.known.Known.TheVariants.{Headed}
@@ -24,7 +24,7 @@ use Rattle.check_scope.specs.declared.scope.Block.{Block}
 use Rattle.check_block.specs.Inner.{inwards}
 use Rattle.check_body.specs.declared.routine.Bodies.{Bodies}
 use Rattle.check_body.specs.declared.routine.Numbered.{Numbered}
-use Rattle.check_body.specs.Routines.{numbered_known, filled, routine}
+use Rattle.check_body.specs.Routines.{numbered_known, put_routine, routine}
 use Rattle.check_const.specs.Denote.{member}
 use Rattle.def_scheme.specs.Exprs.{is_there}
 use Rattle.law_modules.specs.WellFormed.{IsRoutine, AreStmts, IsBody}
@@ -115,7 +115,7 @@ module _ (g : Gathers) (elaborates : Elaborates g.Reported) (ends : List ℕ) (h
   pub module_count : length behind.bodies.locals ≡ length w.bodies.locals + length ks
   module_count = inner_count g elaborates ends h block ks f around seen w (omega (arith, single)) ∙ ap (λ (rs : Bodies). length rs.locals + length ks) first_bodies
 
-  module _ (p : Procedure) (head : found h.name.name w.scope.own ≡ Some (Headed (Ok (meaning.Procedure p)))) (numbers : AreNumbered ends (length w.bodies.locals) ks) (ok : behind.so_far ≡ Ok tt) where
+  module _ (p : Procedure) (head : find_name h.name.name w.scope.own ≡ Some (Headed (Ok (meaning.Procedure p)))) (numbers : AreNumbered ends (length w.bodies.locals) ks) (ok : behind.so_far ≡ Ok tt) where
     begins : Begins ends first ks
     begins = record {
       level = nonzero (length w.scope.outer) (omega (arith, single));
@@ -133,7 +133,7 @@ module _ (g : Gathers) (elaborates : Elaborates g.Reported) (ends : List ℕ) (h
     abbrev new : Routine
     new = routine last.scope h.name numbered around (entry g elaborates ends h block ks f around seen w).1.formals statements
 
-    bodies_are : behind.bodies ≡ filled last.bodies (which.Module p.number) new
+    bodies_are : behind.bodies ≡ put_routine last.bodies (which.Module p.number) new
     bodies_are =
         ap (λ (o : Option (Known g.Reported)). with_routine last.scope h.name around (entry g elaborates ends h block ks f around seen w).1.formals (numbered_known o) (inner g elaborates ends h block ks f around seen w).1 last.bodies) head
         ∙ ap (λ (r : Result (List TypedStmt) g.Reported). with_routine last.scope h.name around (entry g elaborates ends h block ks f around seen w).1.formals (Some numbered) r last.bodies) (body_ok g elaborates ends h block ks f around seen w ok).1
@@ -251,7 +251,7 @@ module _ (g : Gathers) (elaborates : Elaborates g.Reported) (ends : List ℕ) (a
     step_goes (types_step ts) seen w n s k u q = goes_refl w
     step_goes (variables_step vs) seen w n s k u q = goes_refl w
     step_goes (procedure_step h block ks f) seen w n s k u q =
-        let head = ap (λ (es : List (List ℕ × Known g.Reported)). found h.name.name es) s.names ∙ k.1.0 in
+        let head = ap (λ (es : List (List ℕ × Known g.Reported)). find_name h.name.name es) s.names ∙ k.1.0 in
         let numbers = subst (λ (i : ℕ). AreNumbered ends i ks) s.count u in
         record {
           adds = module_adds g elaborates ends h block ks f around seen w s.outermost s.single k.0 head numbers q;
@@ -271,7 +271,7 @@ module _ (g : Gathers) (elaborates : Elaborates g.Reported) (ends : List ℕ) (a
     step_formed (types_step ts) seen w n s k u q m opens suits o = none_formed m opens w
     step_formed (variables_step vs) seen w n s k u q m opens suits o = none_formed m opens w
     step_formed (procedure_step h block ks f) seen w n s k u q m opens suits o =
-        let head = ap (λ (es : List (List ℕ × Known g.Reported)). found h.name.name es) s.names ∙ k.1.0 in
+        let head = ap (λ (es : List (List ℕ × Known g.Reported)). find_name h.name.name es) s.names ∙ k.1.0 in
         let numbers = subst (λ (i : ℕ). AreNumbered ends i ks) s.count u in
         let names = subst (λ (es : List (List ℕ × Known g.Reported)). AreFormedNames m opens es) (sym s.names) o in (
           module_formed g elaborates ends h block ks f around seen w s.outermost s.single k.0 head numbers q types k.1.1.1 s.grown m opens suits names,

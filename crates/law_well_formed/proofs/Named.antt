@@ -13,15 +13,15 @@ use Rattle.typed_tree.specs.declared.meaning.Meaning.TheVariants as meaning
 use Rattle.typed_tree.specs.declared.table.Table.{Table}
 use Rattle.typed_tree.specs.declared.known_types.Types.{Types}
 use Rattle.m2_tree.specs.Names.{same_name}
-use Rattle.typed_tree.specs.Names.{found, place_of, entered}
+use Rattle.typed_tree.specs.Names.{find_name, place_of, enter_name}
 use Rattle.check_scope.specs.declared.known.Known.{Known}
 use Rattle.check_scope.specs.declared.known.Known.TheVariants.{Later, Ahead, Begun, Headed, Declared}
 use Rattle.check_scope.specs.declared.known.Origin.TheVariants.{Here}
 use Rattle.check_scope.specs.declared.scope.Block.{Block}
 use Rattle.check_scope.specs.declared.scope.Scope.{Scope}
-use Rattle.check_scope.specs.Scopes.{State, Sight, or_outside, seen_at, in_block, nearer, known_outside, or_around, known, means_seen, means_as, opened, means_or, looked_up, is_free, with_known, unless_declared, is_begun, finished, unless_marked, marked}
-use Rattle.check_scope.specs.Elaborated.{Gathers, reported}
-use Rattle.check_const.specs.Denote.{exported_by, exported, member}
+use Rattle.check_scope.specs.Scopes.{State, Sight, or_outside, seen_at, in_block, nearer, known_outside, or_around, sight_of, means_seen, means_as, open_field, means_or, looked_up, is_free, with_known, unless_declared, is_begun, finish_name, unless_marked, mark_name}
+use Rattle.check_scope.specs.Elaborated.{Gathers, report}
+use Rattle.check_const.specs.Denote.{exported_by, export_of, member}
 use Rattle.check_type_expr.specs.Named.{type_meant, in_module, of_module, named_type}
 use Rattle.law_well_formed.specs.Formed.{Holds, fine}
 use Rattle.law_well_formed.proofs.Basics.{then_holds, reported_holds, sort_holds, plain_holds, heading_means_holds}
@@ -39,9 +39,9 @@ module _ (types : Types) where
   exports_by true m o p q = p
   exports_by false m o p q = q
 
-  export_found : (name : List ℕ) (es : List (List ℕ × Meaning)) → ExportsOrdered types es → OptionOrdered (found name es)
+  export_found : (name : List ℕ) (es : List (List ℕ × Meaning)) → ExportsOrdered types es → OptionOrdered (find_name name es)
   export_found name [] h = tt
-  export_found name (e ∷ es) h = exports_by (same_name name e.0) e.1 (found name es) h.0 (export_found name es h.1)
+  export_found name (e ∷ es) h = exports_by (same_name name e.0) e.1 (find_name name es) h.0 (export_found name es h.1)
 
   table_found : (name : List ℕ) (ts : List Table) (k : ℕ) → TablesOrdered types ts → OptionOrdered (exported_by name (slice_get ts k))
   table_found name [] k h = tt
@@ -60,9 +60,9 @@ module _ (types : Types) where
   found_by true k o p q = p
   found_by false k o p q = q
 
-  pub name_found : {T : Type 0} (name : List ℕ) (es : List (List ℕ × Known T)) → NamesOrdered types es → FoundOrdered (found name es)
+  pub name_found : {T : Type 0} (name : List ℕ) (es : List (List ℕ × Known T)) → NamesOrdered types es → FoundOrdered (find_name name es)
   name_found name [] h = tt
-  name_found name (e ∷ es) h = found_by (same_name name e.0) e.1 (found name es) h.0 (name_found name es h.1)
+  name_found name (e ∷ es) h = found_by (same_name name e.0) e.1 (find_name name es) h.0 (name_found name es h.1)
 
   place_seen : {T : Type 0} (b : Bool) (es : List (List ℕ × Known T)) (p : ℕ) → NamesOrdered types es → SightOrdered (option_map {U = _ × Bool} (λ (e : List ℕ × Known T). (e.1, b)) (slice_get es p))
   place_seen b [] p h = tt
@@ -86,14 +86,14 @@ module _ (types : Types) where
   around_ordered (Some k) far p q = p
 
 module _ (g : Gathers) where
-  exported_ordered : (types : Types) (at : Pos) (o : Option Meaning) → OptionOrdered types o → Holds (MeaningOrdered types) (exported g at o)
+  exported_ordered : (types : Types) (at : Pos) (o : Option Meaning) → OptionOrdered types o → Holds (MeaningOrdered types) (export_of g at o)
   exported_ordered types at None p = reported_holds g at rule.NotExported
   exported_ordered types at (Some m) p = fine m p
 
   pub member_ordered : (types : Types) (ts : List Table) (k : ℕ) (name : Ident) → TablesOrdered types ts → Holds (MeaningOrdered types) (member g ts k name)
   member_ordered types ts k name h = exported_ordered types name.pos (exported_by name.name (slice_get ts k)) (table_found types name.name ts k h)
 
-  means_by : (types : Types) (at : Pos) (b : Bool) (r : Result Meaning g.Reported) → Holds (MeaningOrdered types) r → Holds (MeaningOrdered types) (cond b r (reported g at rule.Undeclared))
+  means_by : (types : Types) (at : Pos) (b : Bool) (r : Result Meaning g.Reported) → Holds (MeaningOrdered types) r → Holds (MeaningOrdered types) (cond b r (report g at rule.Undeclared))
   means_by types at true r p = p
   means_by types at false r p = reported_holds g at rule.Undeclared
 
@@ -114,9 +114,9 @@ module _ (g : Gathers) where
 
   pub looked_ordered : (base : Types) (s : Scope g.Reported) → ScopeOrdered base s → (name : Ident) → Holds (MeaningOrdered s.types) (looked_up g s name)
   looked_ordered base s h name =
-      or_field s.types (opened s.types name.name s.withs) (means_as g name.pos (known name.name s))
-      (sight_means s.types name.pos (known name.name s)
-      (around_ordered s.types (found name.name s.own) (known_outside name.name s.outer) (name_found s.types name.name s.own h.names) (outside_ordered s.types name.name s.outer None h.outer tt)))
+      or_field s.types (open_field s.types name.name s.withs) (means_as g name.pos (sight_of name.name s))
+      (sight_means s.types name.pos (sight_of name.name s)
+      (around_ordered s.types (find_name name.name s.own) (known_outside name.name s.outer) (name_found s.types name.name s.own h.names) (outside_ordered s.types name.name s.outer None h.outer tt)))
 
   -- ---- names of types
 
@@ -157,21 +157,21 @@ names_by : {T : Type 0} (types : Types) (b : Bool) (k : Known T) (e : List ℕ �
 names_by types true k e es more p all q = (p, all.1)
 names_by types false k e es more p all q = (all.0, q)
 
-pub names_more : {T : Type 0} (types : Types) (name : List ℕ) (k : Known T) (es : List (List ℕ × Known T)) → KnownOrdered types k → NamesOrdered types es → NamesOrdered types (entered name k es)
+pub names_more : {T : Type 0} (types : Types) (name : List ℕ) (k : Known T) (es : List (List ℕ × Known T)) → KnownOrdered types k → NamesOrdered types es → NamesOrdered types (enter_name name k es)
 names_more types name k [] p all = (p, tt)
-names_more types name k (e ∷ es) p all = names_by types (same_name name e.0) k e es (entered name k es) p all (names_more types name k es p all.1)
+names_more types name k (e ∷ es) p all = names_by types (same_name name e.0) k e es (enter_name name k es) p all (names_more types name k es p all.1)
 
 pub known_ordered : {T : Type 0} (base : Types) (s : Scope T) (name : List ℕ) (k : Known T) → ScopeOrdered base s → KnownOrdered s.types k → ScopeOrdered base (with_known name k s)
 known_ordered base s name k h p = record { started = h.started; types = h.types; once = h.once; names = names_more s.types name k s.own p h.names; outer = h.outer; tables = h.tables }
 
 module _ (g : Gathers) where
   -- what is asked of a scope holds of it with one name more
-  unless_by : (P : Scope g.Reported → Type 0) (s : Scope g.Reported) (name : Ident) (b : Bool) (k : Known g.Reported) → P s → P (with_known name.name k s) → P (cond {A = State (Unit {0}) g.Reported} b (with_known name.name k s, Ok tt) (s, reported g name.pos rule.DeclaredTwice)).0
+  unless_by : (P : Scope g.Reported → Type 0) (s : Scope g.Reported) (name : Ident) (b : Bool) (k : Known g.Reported) → P s → P (with_known name.name k s) → P (cond {A = State (Unit {0}) g.Reported} b (with_known name.name k s, Ok tt) (s, report g name.pos rule.DeclaredTwice)).0
   unless_by P s name true k h p = p
   unless_by P s name false k h p = h
 
   pub unless_as : (P : Scope g.Reported → Type 0) (s : Scope g.Reported) (name : Ident) (k : Known g.Reported) → P s → P (with_known name.name k s) → P (unless_declared g s name k).0
-  unless_as P s name k h p = unless_by P s name (is_free (found name.name s.own)) k h p
+  unless_as P s name k h p = unless_by P s name (is_free (find_name name.name s.own)) k h p
 
   pub unless_ordered : (base : Types) (s : Scope g.Reported) (name : Ident) (k : Known g.Reported) → ScopeOrdered base s → KnownOrdered s.types k → ScopeOrdered base (unless_declared g s name k).0
   unless_ordered base s name k h p = unless_as (λ x. ScopeOrdered base x) s name k h (known_ordered base s name.name k h p)
@@ -180,19 +180,19 @@ as_by : {T : Type 0} (P : Scope T → Type 0) (s now : Scope T) (b : Bool) → P
 as_by P s now true h p = p
 as_by P s now false h p = h
 
-pub finished_as : {T : Type 0} (P : Scope T → Type 0) (s : Scope T) (name : Ident) (r : Result Meaning T) → P s → P (with_known name.name (Declared Here r) s) → P (finished s name r)
-finished_as P s name r h p = as_by P s (with_known name.name (Declared Here r) s) (is_begun (found name.name s.own)) h p
+pub finished_as : {T : Type 0} (P : Scope T → Type 0) (s : Scope T) (name : Ident) (r : Result Meaning T) → P s → P (with_known name.name (Declared Here r) s) → P (finish_name s name r)
+finished_as P s name r h p = as_by P s (with_known name.name (Declared Here r) s) (is_begun (find_name name.name s.own)) h p
 
 finished_by : {T : Type 0} (base : Types) (s : Scope T) (name : List ℕ) (k : Known T) (b : Bool) → ScopeOrdered base s → KnownOrdered s.types k → ScopeOrdered base (cond b (with_known name k s) s)
 finished_by base s name k true h p = known_ordered base s name k h p
 finished_by base s name k false h p = h
 
-pub finished_ordered : {T : Type 0} (base : Types) (s : Scope T) (name : Ident) (r : Result Meaning T) → ScopeOrdered base s → Holds (MeaningOrdered s.types) r → ScopeOrdered base (finished s name r)
-finished_ordered base s name r h p = finished_by base s name.name (Declared Here r) (is_begun (found name.name s.own)) h p
+pub finished_ordered : {T : Type 0} (base : Types) (s : Scope T) (name : Ident) (r : Result Meaning T) → ScopeOrdered base s → Holds (MeaningOrdered s.types) r → ScopeOrdered base (finish_name s name r)
+finished_ordered base s name r h p = finished_by base s name.name (Declared Here r) (is_begun (find_name name.name s.own)) h p
 
 marked_by : {T : Type 0} (base : Types) (s : Scope T) (name : List ℕ) (k : Known T) (o : Option (Known T)) → ScopeOrdered base s → KnownOrdered s.types k → ScopeOrdered base (unless_marked name k s o)
 marked_by base s name k (Some x) h p = h
 marked_by base s name k None h p = known_ordered base s name k h p
 
-pub marked_ordered : {T : Type 0} (base : Types) (s : Scope T) (name : Ident) (k : Known T) → ScopeOrdered base s → KnownOrdered s.types k → ScopeOrdered base (marked name k s)
-marked_ordered base s name k h p = marked_by base s name.name k (found name.name s.own) h p
+pub marked_ordered : {T : Type 0} (base : Types) (s : Scope T) (name : Ident) (k : Known T) → ScopeOrdered base s → KnownOrdered s.types k → ScopeOrdered base (mark_name name k s)
+marked_ordered base s name k h p = marked_by base s name.name k (find_name name.name s.own) h p

@@ -18,11 +18,11 @@ use Rattle.typed_tree.specs.declared.statement.TypedStmt.{TypedStmt}
 use Rattle.typed_tree.specs.declared.typed_module.Imported.{Imported}
 use Rattle.typed_tree.specs.declared.typed_module.TypedModule.{TypedModule}
 use Rattle.m2_tree.specs.Names.{same_name}
-use Rattle.typed_tree.specs.Names.{found, entered}
+use Rattle.typed_tree.specs.Names.{find_name, enter_name}
 use Rattle.check_scope.specs.Elaborated.{Gathers, both, ◌▷◌}
 use Rattle.check_scope.specs.Scopes.{State}
 use Rattle.check_scope.specs.declared.scope.Scope.{Scope}
-use Rattle.check_definition.specs.Compiled.{table_of, table_or, declared_in, of_definition, of_contents, compiled}
+use Rattle.check_definition.specs.Compiled.{table_of, table_or, declared_in, of_definition, of_contents, definition_table}
 use Rattle.check_definition.specs.Declare.{with_def}
 use Rattle.check_definition.specs.Export.{with_table_if, with_place_if, with_imported, with_imports_of, with_import_of, imported_modules}
 use Rattle.check_definition.specs.Importing.{with_place, with_numbered, numbered_modules, with_import}
@@ -34,7 +34,7 @@ use Rattle.check_body.specs.Own.{implementation_scope}
 use Rattle.check_body.specs.Routines.{typed_module}
 use Rattle.check_body.specs.declared.routine.Bodies.{Bodies}
 use Rattle.check_body.specs.Elaborating.{Elaborates}
-use Rattle.check_body.specs.Checked.{module_or, walked, of_walk, of_body, of_implementation, checked}
+use Rattle.check_body.specs.Checked.{module_or, walk_body, of_walk, of_body, of_implementation, body_module}
 use Rattle.check_body.specs.Checked as bodies
 use Rattle.law_well_formed.specs.FormedImports.{is_imported, is_imported_by, IsImport, NamesImports, StandsOnImports}
 use Rattle.law_well_formed.proofs.ImportsLists.{same_is, or_left, or_right, all_each, each_push, Each, each_entered, found_each, keys_in, EachImported, imports_in, get_last}
@@ -48,7 +48,7 @@ abbrev pub IsPlaced : List Table → List ℕ × ℕ → Type 0
 IsPlaced tables e = (t : Table) × (slice_get tables e.1 ≡ Some t) × (t.name ≡ e.0)
 
 module _ (tables : List Table) where
-  place_by : (b : Bool) (name : List ℕ) (k : ℕ) (ms : List (List ℕ × ℕ)) → IsPlaced tables (name, k) → Each (IsPlaced tables) ms → Each (IsPlaced tables) (cond b ms (entered name k ms))
+  place_by : (b : Bool) (name : List ℕ) (k : ℕ) (ms : List (List ℕ × ℕ)) → IsPlaced tables (name, k) → Each (IsPlaced tables) ms → Each (IsPlaced tables) (cond b ms (enter_name name k ms))
   place_by true name k ms p all = all
   place_by false name k ms p all = each_entered (IsPlaced tables) name k ms (λ other e. (p.0, p.1, p.2 ∙ same_is name other e)) all
 
@@ -58,7 +58,7 @@ module _ (tables : List Table) where
       let there : IsPlaced tables (t.name, length before) = (t, subst (λ (ts : List Table). slice_get ts (length before) ≡ Some t) e (get_last before t rest), refl) in
       let count : length (before ++ t ∷ []) ≡ length before + 1 = length-append before (t ∷ []) in
       subst (λ (n : ℕ). Each (IsPlaced tables) (fold with_numbered (with_place t.name (length before) ms, n) rest).0) count
-      (numbered_from (before ++ t ∷ []) rest (with_place t.name (length before) ms) (append_assoc before (t ∷ []) rest ∙ e) (place_by (is_some (found t.name ms)) t.name (length before) ms there all))
+      (numbered_from (before ++ t ∷ []) rest (with_place t.name (length before) ms) (append_assoc before (t ∷ []) rest ∙ e) (place_by (is_some (find_name t.name ms)) t.name (length before) ms there all))
 
   pub numbered_placed : Each (IsPlaced tables) (numbered_modules tables).0
   numbered_placed = numbered_from [] tables [] refl tt
@@ -69,12 +69,12 @@ module _ (Q : List ℕ → Type 0) where
   abbrev KeysAre : List (List ℕ × ℕ) → Type 0
   KeysAre es = AllByRecursion (λ e. Q e.0) es
 
-  key_more : (name : List ℕ) (n : ℕ) (es : List (List ℕ × ℕ)) → Q name → KeysAre es → KeysAre (entered name n es)
+  key_more : (name : List ℕ) (n : ℕ) (es : List (List ℕ × ℕ)) → Q name → KeysAre es → KeysAre (enter_name name n es)
   key_more name n es p all = each_entered (λ (e : List ℕ × ℕ). Q e.0) name n es (λ other e. subst Q (same_is name other e) p) all
 
   copies : (es so : List (List ℕ × ℕ)) → KeysAre es → KeysAre so → KeysAre (fold with_import_copy so es)
   copies [] so all p = p
-  copies (e ∷ es) so all p = copies es (entered e.0 e.1 so) all.1 (key_more e.0 e.1 so all.0 p)
+  copies (e ∷ es) so all p = copies es (enter_name e.0 e.1 so) all.1 (key_more e.0 e.1 so all.0 p)
 
   module _ (modules : List (List ℕ × ℕ)) (tables : List Table) where
     table_if : (so : List (List ℕ × ℕ)) (name : List ℕ) (o : Option Table) → Q name → KeysAre so → KeysAre (with_table_if so name o)
@@ -86,7 +86,7 @@ module _ (Q : List ℕ → Type 0) where
     place_if so name (Some k) p all = table_if so name (slice_get tables k) p all
 
     one_imported : (so : List (List ℕ × ℕ)) (name : Ident) → Q name.name → KeysAre so → KeysAre (with_imported modules tables so name)
-    one_imported so name p all = place_if so name.name (found name.name modules) p all
+    one_imported so name p all = place_if so name.name (find_name name.name modules) p all
 
     names_imported : (names : List Ident) (so : List (List ℕ × ℕ)) → AllByRecursion (λ x. Q x.name) names → KeysAre so → KeysAre (fold (with_imported modules tables) so names)
     names_imported [] so p all = all
@@ -122,7 +122,7 @@ module _ (Q : List ℕ → Type 0) where
     place_of_named so e (Some n) k p all = table_of_named so e.0 (slice_get tables n) (k n refl) p all
 
     module _ (modules : List (List ℕ × ℕ)) (placed : Each (IsPlaced tables) modules) where
-      named_at : (name : List ℕ) (k : ℕ) → found name modules ≡ Some k → (t : Table) → slice_get tables k ≡ Some t → t.name ≡ name
+      named_at : (name : List ℕ) (k : ℕ) → find_name name modules ≡ Some k → (t : Table) → slice_get tables k ≡ Some t → t.name ≡ name
       named_at name k h t e =
           let f = found_each (IsPlaced tables) name modules k placed h in
           let same : t ≡ f.2.0 = same_Some t f.2.0 (sym e ∙ f.2.1) in
@@ -130,7 +130,7 @@ module _ (Q : List ℕ → Type 0) where
 
       pub typed_are : (es : List (List ℕ × ℕ)) (so : List Imported) → KeysAre es → AreNamed so → AreNamed (fold (with_module_of modules tables) so es)
       typed_are [] so p all = all
-      typed_are (e ∷ es) so p all = typed_are es (with_module_of modules tables so e) p.1 (place_of_named so e (found e.0 modules) (named_at e.0) p.0 all)
+      typed_are (e ∷ es) so p all = typed_are es (with_module_of modules tables so e) p.1 (place_of_named so e (find_name e.0 modules) (named_at e.0) p.0 all)
 
 -- ---- tables of definitions
 
@@ -168,7 +168,7 @@ module _ (g : Gathers) (m : Module) where
   contents_named home tables (contents.Implementation b) = tt
   contents_named home tables (contents.Program b) = tt
 
-pub tables_named : (g : Gathers) (home : ℕ) (m : Module) (tables : List Table) → IfOk (compiled g home m tables) (NamesImports m home)
+pub tables_named : (g : Gathers) (home : ℕ) (m : Module) (tables : List Table) → IfOk (definition_table g home m tables) (NamesImports m home)
 tables_named g home m tables = contents_named g m home (tables ++ console ∷ []) m.contents
 
 -- ---- typed modules
@@ -208,7 +208,7 @@ module _ (m : Module) (own : Option Table) where
     body_stands : (elaborates : Elaborates g.Reported) (s : Scope g.Reported) (b : Block) → IfOk (of_body g elaborates s own m b) (StandsOnImports m own)
     body_stands elaborates s b =
         let modules = (numbered_modules s.tables).0 in
-        let c = walked g elaborates modules (procedure_ends (out-Block b).decls) s m b in
+        let c = walk_body g elaborates modules (procedure_ends (out-Block b).decls) s m b in
         stands_if c.0.scope s.tables c.0.bodies (both g c.0.so_far c.1) (ap (λ (k : List Table × ℕ). k.0) (walk_keeps g elaborates (procedure_ends (out-Block b).decls) modules s m b))
 
 module _ (g : Gathers) (elaborates : Elaborates g.Reported) (m : Module) where
@@ -229,5 +229,5 @@ module _ (g : Gathers) (elaborates : Elaborates g.Reported) (m : Module) where
   contents_stand home o tables (contents.Implementation b) = implementation_stands o tables b
   contents_stand home o tables (contents.Program b) = program_if o _ (body_stands m None g elaborates (first_scope home tables) b)
 
-pub modules_stand : (g : Gathers) (elaborates : Elaborates g.Reported) (home : ℕ) (m : Module) (own : Option Table) (tables : List Table) → IfOk (checked g elaborates home m own tables) (StandsOnImports m own)
+pub modules_stand : (g : Gathers) (elaborates : Elaborates g.Reported) (home : ℕ) (m : Module) (own : Option Table) (tables : List Table) → IfOk (body_module g elaborates home m own tables) (StandsOnImports m own)
 modules_stand g elaborates home m own tables = contents_stand g elaborates m home own (tables ++ console ∷ []) m.contents

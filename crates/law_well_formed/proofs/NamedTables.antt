@@ -21,9 +21,9 @@ use Rattle.typed_tree.specs.declared.meaning.Meaning.{Meaning}
 use Rattle.typed_tree.specs.declared.shape.Made.{Made}
 use Rattle.typed_tree.specs.declared.table.Table.{Table}
 use Rattle.typed_tree.specs.declared.types.TypeNo.{TypeNo}
-use Rattle.typed_tree.specs.Names.{found, place_of}
-use Rattle.check_scope.specs.Elaborated.{Gathers, reported}
-use Rattle.check_scope.specs.Scopes.{State, is_free, with_known, unless_declared, begun, is_begun, finished, is_again, imported, unless_marked, marked}
+use Rattle.typed_tree.specs.Names.{find_name, place_of}
+use Rattle.check_scope.specs.Elaborated.{Gathers, report}
+use Rattle.check_scope.specs.Scopes.{State, is_free, with_known, unless_declared, begin_name, is_begun, finish_name, is_again, import_name, unless_marked, mark_name}
 use Rattle.check_scope.specs.declared.known.Origin.{Origin}
 use Rattle.check_scope.specs.declared.known.Origin.TheVariants.{Module, Export}
 use Rattle.check_scope.specs.declared.known.Known.{Known}
@@ -35,7 +35,7 @@ use Rattle.check_expr.specs.Meanings.{part}
 use Rattle.check_type_expr.specs.declared.field.Fields.{Fields}
 use Rattle.check_type_expr.specs.Fields.{no_fields}
 use Rattle.check_type_expr.specs.Headings.{heading_of}
-use Rattle.check_type_expr.specs.Made.{next_type, with_shape, with_made, enumeration_scalar, too_many, listed, simple_type, index_type, Makes, MakesFields, then_fields, type_layer, field_layer, type_of, field_list}
+use Rattle.check_type_expr.specs.Made.{next_type, with_shape, with_made, enumeration_scalar, too_many, enumerate_name, simple_type, index_type, Makes, MakesFields, then_fields, type_layer, field_layer, type_of, field_list}
 use Rattle.check_definition.specs.Marking.{Marks, marked_later, marked_simple, then_marks, marked_in, marked_field, marked_constant, marked_type, marked_variables, marked_def}
 use Rattle.check_definition.specs.Marking as marking
 use Rattle.check_definition.specs.Declare.{constant_meaning, with_constant, type_meaning, brings_with, with_type, begun_name, variable_meaning, with_variable_type, finished_variable, with_variables, with_procedure_type, with_procedure, with_def}
@@ -67,15 +67,15 @@ module _ {T : Type 0} where
   abbrev same : Scope T → Scope T
   same s = s
 
-  pub finished_keeps : (s : Scope T) (name : Ident) (m : Result Meaning T) → Keeps s (finished s name m)
-  finished_keeps s name m = either_scope s (is_begun (found name.name s.own)) (with_known name.name (Declared Here m) s) s refl refl
+  pub finished_keeps : (s : Scope T) (name : Ident) (m : Result Meaning T) → Keeps s (finish_name s name m)
+  finished_keeps s name m = either_scope s (is_begun (find_name name.name s.own)) (with_known name.name (Declared Here m) s) s refl refl
 
   unless_marked_keeps : (name : List ℕ) (k : Known T) (s : Scope T) (o : Option (Known T)) → Keeps s (unless_marked name k s o)
   unless_marked_keeps name k s (Some x) = refl
   unless_marked_keeps name k s None = refl
 
-  pub marked_keeps : (name : Ident) (k : Known T) (s : Scope T) → Keeps s (marked name k s)
-  marked_keeps name k s = unless_marked_keeps name.name k s (found name.name s.own)
+  pub marked_keeps : (name : Ident) (k : Known T) (s : Scope T) → Keeps s (mark_name name k s)
+  marked_keeps name k s = unless_marked_keeps name.name k s (find_name name.name s.own)
 
   -- ---- marks
 
@@ -146,7 +146,7 @@ module _ (T : Type 0) where
   constant_marks s c = marked_keeps c.name Later s
 
   pub type_marks_of : (s : Scope T) (t : TypeDecl) → Keeps s (marked_type s t)
-  type_marks_of s t = marked_in_keeps t.of (marked t.name Later s) ∙ marked_keeps t.name Later s
+  type_marks_of s t = marked_in_keeps t.of (mark_name t.name Later s) ∙ marked_keeps t.name Later s
 
   pub variables_marks : (s : Scope T) (v : Variables) → Keeps s (marked_variables s v)
   variables_marks s v = marked_in_keeps v.of (fold marked_later s v.names) ∙ later_keeps v.names s
@@ -177,17 +177,17 @@ module _ {T : Type 0} where
 
 module _ (g : Gathers) where
   unless_keeps : (s : Scope g.Reported) (name : Ident) (k : Known g.Reported) → Keeps s (unless_declared g s name k).0
-  unless_keeps s name k = either s (is_free (found name.name s.own)) (with_known name.name k s, Ok tt) (s, reported g name.pos rule.DeclaredTwice) refl refl
+  unless_keeps s name k = either s (is_free (find_name name.name s.own)) (with_known name.name k s, Ok tt) (s, report g name.pos rule.DeclaredTwice) refl refl
 
-  begun_keeps : (s : Scope g.Reported) (name : Ident) → Keeps s (begun g s name).0
+  begun_keeps : (s : Scope g.Reported) (name : Ident) → Keeps s (begin_name g s name).0
   begun_keeps s name = unless_keeps s name Begun
 
-  listed_keeps : (t : TypeNo) (l : Scope g.Reported × ℕ × Result (Unit {0}) g.Reported) (x : Ident) → Keeps l.0 (listed g t l x).0
+  listed_keeps : (t : TypeNo) (l : Scope g.Reported × ℕ × Result (Unit {0}) g.Reported) (x : Ident) → Keeps l.0 (enumerate_name g t l x).0
   listed_keeps t l x = unless_keeps l.0 x _
 
   simple_keeps : (s : Scope g.Reported) (t : Simple) → Keeps s (simple_type g s t).0
   simple_keeps s (simple.Named q) = refl
-  simple_keeps s (simple.Enumeration at names) = fold_keeps (λ (l : Scope g.Reported × ℕ × Result (Unit {0}) g.Reported). l.0) (listed g (next_type s)) (listed_keeps (next_type s)) names (with_shape s (enumeration_scalar (next_type s) names), 0, too_many g names)
+  simple_keeps s (simple.Enumeration at names) = fold_keeps (λ (l : Scope g.Reported × ℕ × Result (Unit {0}) g.Reported). l.0) (enumerate_name g (next_type s)) (listed_keeps (next_type s)) names (with_shape s (enumeration_scalar (next_type s) names), 0, too_many g names)
   simple_keeps s (simple.Subrange o at low high) = made_keeps s _
 
   abbrev KeepingMakes : Makes g → Type 0
@@ -251,12 +251,12 @@ module _ (g : Gathers) where
 
   pub constant_keeps : (st : State (Unit {0}) g.Reported) (c : Constant) → Keeps st.0 (with_constant g st c).0
   constant_keeps st c =
-      let b = begun g st.0 c.name in
+      let b = begin_name g st.0 c.name in
       finished_keeps b.0 c.name (constant_meaning (constant g b.0 (part g c.value))) ∙ begun_keeps st.0 c.name
 
   pub type_decl_keeps : (st : State (Unit {0}) g.Reported) (d : TypeDecl) → Keeps st.0 (with_type g st d).0
   type_decl_keeps st d =
-      let b = begun g st.0 d.name in
+      let b = begin_name g st.0 d.name in
       let t = type_of g d.of b.0 in
       finished_keeps t.0 d.name (type_meaning t.1 (brings_with d.of)) ∙ (type_of_keeps d.of b.0 ∙ begun_keeps st.0 d.name)
 
@@ -282,10 +282,10 @@ module _ (g : Gathers) where
 
   -- ---- imports
 
-  imported_keeps : (s : Scope g.Reported) (at : Pos) (name : List ℕ) (o : Origin) (m : Result Meaning g.Reported) → Keeps s (imported g s at name o m).0
+  imported_keeps : (s : Scope g.Reported) (at : Pos) (name : List ℕ) (o : Origin) (m : Result Meaning g.Reported) → Keeps s (import_name g s at name o m).0
   imported_keeps s at name o m =
-      either s (is_again (found name s.own) o) (s, Ok tt) (cond (is_free (found name s.own)) (with_known name (Declared o m) s, Ok tt) (s, reported g at rule.DeclaredTwice)) refl
-      (either s (is_free (found name s.own)) (with_known name (Declared o m) s, Ok tt) (s, reported g at rule.DeclaredTwice) refl refl)
+      either s (is_again (find_name name s.own) o) (s, Ok tt) (cond (is_free (find_name name s.own)) (with_known name (Declared o m) s, Ok tt) (s, report g at rule.DeclaredTwice)) refl
+      (either s (is_free (find_name name s.own)) (with_known name (Declared o m) s, Ok tt) (s, report g at rule.DeclaredTwice) refl refl)
 
   module_as_keeps : (s : Scope g.Reported) (name : Ident) (r : Result ℕ g.Reported) → Keeps s (with_module_as g s name r).0
   module_as_keeps s name (Ok k) = imported_keeps s name.pos name.name (Module k) _
@@ -303,7 +303,7 @@ module _ (g : Gathers) where
 
   place_keeps : (s : Scope g.Reported) (name : Ident) (k : ℕ) (es : List (List ℕ × Meaning)) (o : Option ℕ) → Keeps s (from_place g s name k es o).0
   place_keeps s name k es None = refl
-  place_keeps s name k es (Some i) = taken_keeps s name.pos k es i (reported_of_taken g name.pos k (found name.name s.own))
+  place_keeps s name k es (Some i) = taken_keeps s name.pos k es i (reported_of_taken g name.pos k (find_name name.name s.own))
 
   from_keeps : (k : ℕ) (es : List (List ℕ × Meaning)) (st : State (Unit {0}) g.Reported) (name : Ident) → Keeps st.0 (with_from g k es st name).0
   from_keeps k es st name = place_keeps st.0 name k es (place_of name.name es)

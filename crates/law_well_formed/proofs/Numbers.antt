@@ -9,7 +9,7 @@ use Rattle.typed_tree.specs.declared.meaning.Meaning.TheVariants as meaning
 use Rattle.typed_tree.specs.declared.meaning.Procedure.{Procedure}
 use Rattle.typed_tree.specs.declared.types.TypeNo.{TypeNo}
 use Rattle.m2_tree.specs.Names.{same_name}
-use Rattle.typed_tree.specs.Names.{entered}
+use Rattle.typed_tree.specs.Names.{enter_name}
 use Rattle.check_scope.specs.declared.known.Origin.TheVariants.{Here, Module, Export}
 use Rattle.check_scope.specs.declared.known.Known.{Known}
 use Rattle.check_scope.specs.declared.known.Known.TheVariants.{Later, Ahead, Begun, Headed, Declared}
@@ -56,11 +56,11 @@ new_by : {A : Type 0} (b : Bool) (xs ys zs : List A) → b ≡ false → ys ≡ 
 new_by true xs ys zs e k = absurd cc
 new_by false xs ys zs e k = k
 
-entered_new : {V : Type 0} (name : List ℕ) (v : V) (es : List (List ℕ × V)) → has name (keys es) ≡ false → entered name v es ≡ es ++ (name, v) ∷ []
+entered_new : {V : Type 0} (name : List ℕ) (v : V) (es : List (List ℕ × V)) → has name (keys es) ≡ false → enter_name name v es ≡ es ++ (name, v) ∷ []
 entered_new name v [] h = refl
 entered_new name v (e ∷ es) h =
     let k = or_none (same_name name e.0) (has name (keys es)) h in
-    new_by (same_name name e.0) ((e.0, v) ∷ es) (e ∷ entered name v es) (e ∷ (es ++ (name, v) ∷ [])) k.0 (ap (λ xs. e ∷ xs) (entered_new name v es k.1))
+    new_by (same_name name e.0) ((e.0, v) ∷ es) (e ∷ enter_name name v es) (e ∷ (es ++ (name, v) ∷ [])) k.0 (ap (λ xs. e ∷ xs) (entered_new name v es k.1))
 
 -- ---- so many procedures are exported so far, and have their numbers
 
@@ -106,10 +106,10 @@ meaning_after so name meaning.Ahead n k = other_so so name meaning.Ahead n refl 
 meaning_after so name (meaning.Standard f) n k = other_so so name (meaning.Standard f) n refl tt k
 meaning_after so name (meaning.Module i) n k = other_so so name (meaning.Module i) n refl tt k
 
-new_after : (so : List (List ℕ × Meaning)) (name : List ℕ) (x : Meaning) (n : ℕ) → has name (keys so) ≡ false → IsSo so n → After (entered name x so) (number_in x) n
+new_after : (so : List (List ℕ × Meaning)) (name : List ℕ) (x : Meaning) (n : ℕ) → has name (keys so) ≡ false → IsSo so n → After (enter_name name x so) (number_in x) n
 new_after so name x n h k = subst (λ (es : List (List ℕ × Meaning)). After es (number_in x) n) (sym (entered_new name x so h)) (meaning_after so name x n k)
 
-entered_apart : (so : List (List ℕ × Meaning)) (name : List ℕ) (m : Meaning) (x : List ℕ) → has x (keys so) ≡ false → same_name x name ≡ false → has x (keys (entered name m so)) ≡ false
+entered_apart : (so : List (List ℕ × Meaning)) (name : List ℕ) (m : Meaning) (x : List ℕ) → has x (keys so) ≡ false → same_name x name ≡ false → has x (keys (enter_name name m so)) ≡ false
 entered_apart so name m x h e = ap (λ (ks : List (List ℕ)). has x ks) (keys_entered name m so) ∙ still_apart x name (has name (keys so)) (keys so) h e
 
 module _ {T : Type 0} where

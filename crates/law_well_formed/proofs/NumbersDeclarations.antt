@@ -19,9 +19,9 @@ use Rattle.typed_tree.specs.declared.shape.Formal.{Formal}
 use Rattle.typed_tree.specs.declared.shape.Made.{Made}
 use Rattle.typed_tree.specs.declared.types.TypeNo.{TypeNo}
 use Rattle.m2_tree.specs.Names.{same_name}
-use Rattle.typed_tree.specs.Names.{found}
+use Rattle.typed_tree.specs.Names.{find_name}
 use Rattle.check_scope.specs.Elaborated.{Gathers}
-use Rattle.check_scope.specs.Scopes.{State, with_known, begun, is_begun}
+use Rattle.check_scope.specs.Scopes.{State, with_known, begin_name, is_begun}
 use Rattle.check_scope.specs.declared.known.Known.{Known}
 use Rattle.check_scope.specs.declared.known.Known.TheVariants.{Later, Ahead, Begun, Headed, Declared}
 use Rattle.check_scope.specs.declared.known.Origin.TheVariants.{Here, Module, Export}
@@ -34,7 +34,7 @@ use Rattle.check_definition.specs.Declare.{constant_meaning, with_constant, brin
 use Rattle.check_definition.specs.Marking.{marked_constant, marked_type, marked_variables}
 use Rattle.check_block.specs.declared.heading.Standing.{Standing}
 use Rattle.check_block.specs.declared.heading.Standing.TheVariants.{Free, Awaited, Taken}
-use Rattle.check_block.specs.Headings.{standing_of, standing_elaborated, name_standing, nested_meaning, headed, module_procedure, with_new, headed_as, with_heading}
+use Rattle.check_block.specs.Headings.{standing_of, standing_elaborated, name_standing, nested_meaning, set_heading, module_procedure, with_new, headed_as, with_heading}
 use Rattle.check_block.specs.Naming.{marked_layer}
 use Rattle.check_block.specs.Declarations.{finished_local, with_locals, Course, decl_layer}
 use Rattle.law_well_formed.specs.Formed.{Holds, fine, broken}
@@ -55,7 +55,7 @@ module _ (fs : List Formal) (g : Gathers) where
 
   constant_grows : (st : State (Unit {0}) g.Reported) (c : Constant) → Goes st.0 (with_constant g st c).0
   constant_grows st c =
-      let b : Scope g.Reported = (begun g st.0 c.name).0 in
+      let b : Scope g.Reported = (begin_name g st.0 c.name).0 in
       let v : Result Value g.Reported = constant g b (part g c.value) in
       grows_then fs (begun_grows fs g st.0 c.name)
       (finished_grows fs b c.name (constant_meaning v) (λ h. then_holds (any_holds v) (λ x k. fine (meaning.Constant x) tt)))
@@ -66,7 +66,7 @@ module _ (fs : List Formal) (g : Gathers) where
 
   type_grows : (st : State (Unit {0}) g.Reported) (d : TypeDecl) → Goes st.0 (with_type g st d).0
   type_grows st d =
-      let b : Scope g.Reported = (begun g st.0 d.name).0 in
+      let b : Scope g.Reported = (begin_name g st.0 d.name).0 in
       let t : State TypeNo g.Reported = type_of g d.of b in
       grows_then fs (begun_grows fs g st.0 d.name) (grows_then fs (type_of_grows fs g d.of b)
       (finished_grows fs t.0 d.name (type_meaning t.1 (brings_with d.of)) (λ h. then_holds (any_holds t.1) (λ x k. fine (meaning.Type x (brings_with d.of)) tt))))
@@ -137,7 +137,7 @@ module _ (fs : List Formal) (g : Gathers) where
 
   local_grows : (t : Result TypeNo g.Reported) (s : Scope g.Reported) (name : Ident) → Goes s (finished_local t s name)
   local_grows (Err e) s name = finished_grows fs s name (Err e) (λ h. broken e)
-  local_grows (Ok t) s name = local_by s t name (is_begun (found name.name s.own))
+  local_grows (Ok t) s name = local_by s t name (is_begun (find_name name.name s.own))
 
   locals_all : (t : Result TypeNo g.Reported) (names : List Ident) (s : Scope g.Reported) → Goes s (fold (finished_local t) s names)
   locals_all t [] s = grows_refl fs s
@@ -159,7 +159,7 @@ module _ (fs : List Formal) (g : Gathers) where
 
   -- ---- headings
 
-  headed_grows : (s : Scope g.Reported) (name : List ℕ) (r : Result Meaning g.Reported) → (IsNumbered fs s → Holds (MeaningNumbered fs (lists_of s)) r) → Goes s (headed name r s)
+  headed_grows : (s : Scope g.Reported) (name : List ℕ) (r : Result Meaning g.Reported) → (IsNumbered fs s → Holds (MeaningNumbered fs (lists_of s)) r) → Goes s (set_heading name r s)
   headed_grows s name r p = known_grows fs s name (Headed r) p
 
   procedure_type_grows : (s : Scope g.Reported) (t : Result TypeNo g.Reported) → Goes s (with_procedure_type s t)
@@ -179,10 +179,10 @@ module _ (fs : List Formal) (g : Gathers) where
       (headed_grows (with_procedure_type s (Ok t)) name (Ok (meaning.Procedure (record { home = s.types.home; number = length s.procedures; heading = t })))
       (λ h. fine (meaning.Procedure (record { home = s.types.home; number = length s.procedures; heading = t })) (λ e. get_last s.procedures t)))
 
-  nested_grows : (s : Scope g.Reported) (name : List ℕ) (n : ℕ) (t : Result TypeNo g.Reported) → Goes s (headed name (nested_meaning s.level n t) s)
+  nested_grows : (s : Scope g.Reported) (name : List ℕ) (n : ℕ) (t : Result TypeNo g.Reported) → Goes s (set_heading name (nested_meaning s.level n t) s)
   nested_grows s name n t = headed_grows s name (nested_meaning s.level n t) (λ h. then_holds (any_holds t) (λ x k. fine (meaning.LocalProcedure (record { level = s.level; number = n; heading = x })) refl))
 
-  new_by : (b : Bool) (s : Scope g.Reported) (name : List ℕ) (n : ℕ) (t : Result TypeNo g.Reported) → Goes s (cond b (module_procedure s name t) (headed name (nested_meaning s.level n t) s))
+  new_by : (b : Bool) (s : Scope g.Reported) (name : List ℕ) (n : ℕ) (t : Result TypeNo g.Reported) → Goes s (cond b (module_procedure s name t) (set_heading name (nested_meaning s.level n t) s))
   new_by true s name n t = module_procedure_grows s name t
   new_by false s name n t = nested_grows s name n t
 
@@ -200,9 +200,9 @@ module _ (fs : List Formal) (g : Gathers) where
   found_by s true k o p q = p
   found_by s false k o p q = q
 
-  found_numbered : (s : Scope g.Reported) (name : List ℕ) (es : List (List ℕ × Known g.Reported)) → NamesNumbered fs (lists_of s) es → If s (found name es)
+  found_numbered : (s : Scope g.Reported) (name : List ℕ) (es : List (List ℕ × Known g.Reported)) → NamesNumbered fs (lists_of s) es → If s (find_name name es)
   found_numbered s name [] h = tt
-  found_numbered s name (e ∷ es) h = found_by s (same_name name e.0) e.1 (found name es) h.0 (found_numbered s name es h.1)
+  found_numbered s name (e ∷ es) h = found_by s (same_name name e.0) e.1 (find_name name es) h.0 (found_numbered s name es h.1)
 
   of_meaning : (s : Scope g.Reported) (p : Procedure) (m : Meaning) → standing_of m ≡ Awaited p → MeaningNumbered fs (lists_of s) m → MeaningNumbered fs (lists_of s) (meaning.Procedure p)
   of_meaning s p (meaning.Procedure q) e h = let k : q ≡ p = cc in subst (λ (r : Procedure). MeaningNumbered fs (lists_of s) (meaning.Procedure r)) k h
@@ -230,14 +230,14 @@ module _ (fs : List Formal) (g : Gathers) where
   awaited_numbered s p (Some (Declared (Module k) r)) e h = absurd cc
   awaited_numbered s p (Some (Declared (Export k) r)) e h = absurd cc
 
-  heading_by : (s : Scope g.Reported) (h : Heading) (n : ℕ) (made : Result Made g.Reported) (o : Standing) → name_standing (found h.name.name s.own) ≡ o → Goes s (headed_as g s h n made o).0
+  heading_by : (s : Scope g.Reported) (h : Heading) (n : ℕ) (made : Result Made g.Reported) (o : Standing) → name_standing (find_name h.name.name s.own) ≡ o → Goes s (headed_as g s h n made o).0
   heading_by s h n made Free e = new_grows s h.name.name n made
   heading_by s h n made (Awaited p) e =
-      headed_grows s h.name.name (Ok (meaning.Procedure p)) (λ k. fine (meaning.Procedure p) (awaited_numbered s p (found h.name.name s.own) e (found_numbered s h.name.name s.own k.names)))
+      headed_grows s h.name.name (Ok (meaning.Procedure p)) (λ k. fine (meaning.Procedure p) (awaited_numbered s p (find_name h.name.name s.own) e (found_numbered s h.name.name s.own k.names)))
   heading_by s h n made Taken e = grows_refl fs s
 
   heading_grows : (s : Scope g.Reported) (h : Heading) (n : ℕ) → Goes s (with_heading g s n h).0
-  heading_grows s h n = heading_by s h n (heading_of g s h) (name_standing (found h.name.name s.own)) refl
+  heading_grows s h n = heading_by s h n (heading_of g s h) (name_standing (find_name h.name.name s.own)) refl
 
   -- ---- marks
 

@@ -10,9 +10,9 @@ use Rattle.typed_tree.specs.declared.shape.Formal.{Formal}
 use Rattle.typed_tree.specs.declared.shape.Made.{Made}
 use Rattle.typed_tree.specs.declared.types.TypeNo.{TypeNo}
 use Rattle.m2_tree.specs.Names.{same_name}
-use Rattle.typed_tree.specs.Names.{found, entered}
-use Rattle.check_scope.specs.Elaborated.{Gathers, reported}
-use Rattle.check_scope.specs.Scopes.{State, is_free, with_known, unless_declared, begun, is_begun, finished, unless_marked, marked}
+use Rattle.typed_tree.specs.Names.{find_name, enter_name}
+use Rattle.check_scope.specs.Elaborated.{Gathers, report}
+use Rattle.check_scope.specs.Scopes.{State, is_free, with_known, unless_declared, begin_name, is_begun, finish_name, unless_marked, mark_name}
 use Rattle.check_scope.specs.declared.known.Known.{Known}
 use Rattle.check_scope.specs.declared.known.Known.TheVariants.{Later, Ahead, Begun, Headed, Declared}
 use Rattle.check_scope.specs.declared.known.Origin.TheVariants.{Here}
@@ -85,9 +85,9 @@ module _ (fs : List Formal) where
   entered_by l true k e es more p all q = (p, all.1)
   entered_by l false k e es more p all q = (all.0, q)
 
-  pub names_entered : {T : Type 0} (l : Lists) (name : List ℕ) (k : Known T) (es : List (List ℕ × Known T)) → KnownNumbered fs l k → NamesNumbered fs l es → NamesNumbered fs l (entered name k es)
+  pub names_entered : {T : Type 0} (l : Lists) (name : List ℕ) (k : Known T) (es : List (List ℕ × Known T)) → KnownNumbered fs l k → NamesNumbered fs l es → NamesNumbered fs l (enter_name name k es)
   names_entered l name k [] p all = (p, tt)
-  names_entered l name k (e ∷ es) p all = entered_by l (same_name name e.0) k e es (entered name k es) p all (names_entered l name k es p all.1)
+  names_entered l name k (e ∷ es) p all = entered_by l (same_name name e.0) k e es (enter_name name k es) p all (names_entered l name k es p all.1)
 
   pub known_grows : {T : Type 0} (s : Scope T) (name : List ℕ) (k : Known T) → (IsNumbered fs s → KnownNumbered fs (lists_of s) k) → Grows fs s (with_known name k s)
   known_grows s name k p = record {
@@ -97,29 +97,29 @@ module _ (fs : List Formal) where
   }
 
   module _ (g : Gathers) (s : Scope g.Reported) (name : Ident) where
-    unless_by : (b : Bool) (k : Known g.Reported) → (IsNumbered fs s → KnownNumbered fs (lists_of s) k) → Grows fs s (cond {A = State (Unit {0}) g.Reported} b (with_known name.name k s, Ok tt) (s, reported g name.pos rule.DeclaredTwice)).0
+    unless_by : (b : Bool) (k : Known g.Reported) → (IsNumbered fs s → KnownNumbered fs (lists_of s) k) → Grows fs s (cond {A = State (Unit {0}) g.Reported} b (with_known name.name k s, Ok tt) (s, report g name.pos rule.DeclaredTwice)).0
     unless_by true k p = known_grows s name.name k p
     unless_by false k p = grows_refl s
 
     pub unless_grows : (k : Known g.Reported) → (IsNumbered fs s → KnownNumbered fs (lists_of s) k) → Grows fs s (unless_declared g s name k).0
-    unless_grows k p = unless_by (is_free (found name.name s.own)) k p
+    unless_grows k p = unless_by (is_free (find_name name.name s.own)) k p
 
-    pub begun_grows : Grows fs s (begun g s name).0
+    pub begun_grows : Grows fs s (begin_name g s name).0
     begun_grows = unless_grows Begun (λ h. tt)
 
   finished_by : {T : Type 0} (s : Scope T) (name : List ℕ) (k : Known T) (b : Bool) → (IsNumbered fs s → KnownNumbered fs (lists_of s) k) → Grows fs s (cond b (with_known name k s) s)
   finished_by s name k true p = known_grows s name k p
   finished_by s name k false p = grows_refl s
 
-  pub finished_grows : {T : Type 0} (s : Scope T) (name : Ident) (r : Result Meaning T) → (IsNumbered fs s → Holds (MeaningNumbered fs (lists_of s)) r) → Grows fs s (finished s name r)
-  finished_grows s name r p = finished_by s name.name (Declared Here r) (is_begun (found name.name s.own)) p
+  pub finished_grows : {T : Type 0} (s : Scope T) (name : Ident) (r : Result Meaning T) → (IsNumbered fs s → Holds (MeaningNumbered fs (lists_of s)) r) → Grows fs s (finish_name s name r)
+  finished_grows s name r p = finished_by s name.name (Declared Here r) (is_begun (find_name name.name s.own)) p
 
   marked_by : {T : Type 0} (s : Scope T) (name : List ℕ) (k : Known T) (o : Option (Known T)) → KnownNumbered fs (lists_of s) k → Grows fs s (unless_marked name k s o)
   marked_by s name k (Some x) p = grows_refl s
   marked_by s name k None p = known_grows s name k (λ h. p)
 
-  pub marked_grows : {T : Type 0} (s : Scope T) (name : Ident) (k : Known T) → KnownNumbered fs (lists_of s) k → Grows fs s (marked name k s)
-  marked_grows s name k p = marked_by s name.name k (found name.name s.own) p
+  pub marked_grows : {T : Type 0} (s : Scope T) (name : Ident) (k : Known T) → KnownNumbered fs (lists_of s) k → Grows fs s (mark_name name k s)
+  marked_grows s name k p = marked_by s name.name k (find_name name.name s.own) p
 
   -- ---- types
 

@@ -16,7 +16,7 @@ use Rattle.check_scope.specs.declared.known.Origin.TheVariants.{Here}
 use Rattle.check_scope.specs.declared.scope.Scope.{Scope}
 use Rattle.check_type_expr.specs.declared.field.Fields.{Fields}
 use Rattle.check_type_expr.specs.Fields.{no_fields}
-use Rattle.check_type_expr.specs.Made.{next_type, with_shape, enumeration_constant, enumeration_scalar, too_many, listed, simple_type, index_type, Makes, MakesFields, then_fields, type_layer, field_layer, type_of, field_list}
+use Rattle.check_type_expr.specs.Made.{next_type, with_shape, enumeration_constant, enumeration_scalar, too_many, enumerate_name, simple_type, index_type, Makes, MakesFields, then_fields, type_layer, field_layer, type_of, field_list}
 use Rattle.check_definition.specs.Marking.{Marks, marked_later, marked_simple, then_marks, marked_in, marked_field}
 use Rattle.check_definition.specs.Marking as marking
 use Rattle.law_well_formed.specs.Formed.{fine}
@@ -93,9 +93,9 @@ module _ (own : List Formal) where
   -- ---- types that are made
 
   module _ (g : Gathers) where
-    listed_all : (t : TypeNo) (names : List Ident) (l : Scope g.Reported × ℕ × Result (Unit {0}) g.Reported) → Grows own l.0 (fold (listed g t) l names).0
+    listed_all : (t : TypeNo) (names : List Ident) (l : Scope g.Reported × ℕ × Result (Unit {0}) g.Reported) → Grows own l.0 (fold (enumerate_name g t) l names).0
     listed_all t [] l = grows_refl own l.0
-    listed_all t (x ∷ xs) l = grows_then own (unless_grows own g l.0 x (Declared Here (Ok (enumeration_constant t (pos l.1)))) (λ h. fine (enumeration_constant t (pos l.1)) tt)) (listed_all t xs (listed g t l x))
+    listed_all t (x ∷ xs) l = grows_then own (unless_grows own g l.0 x (Declared Here (Ok (enumeration_constant t (pos l.1)))) (λ h. fine (enumeration_constant t (pos l.1)) tt)) (listed_all t xs (enumerate_name g t l x))
 
     simple_grows : (s : Scope g.Reported) (t : Simple) → Grows own s (simple_type g s t).0
     simple_grows s (simple.Named q) = grows_refl own s

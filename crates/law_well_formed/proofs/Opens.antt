@@ -9,7 +9,7 @@ use Rattle.typed_tree.specs.declared.table.Table.{Table}
 use Rattle.typed_tree.specs.declared.typed_module.Imported.{Imported}
 use Rattle.typed_tree.specs.declared.typed_module.TypedModule.{TypedModule}
 use Rattle.m2_tree.specs.Names.{same_name}
-use Rattle.typed_tree.specs.Names.{found, entered}
+use Rattle.typed_tree.specs.Names.{find_name, enter_name}
 use Rattle.check_scope.specs.Elaborated.{Gathers}
 use Rattle.check_definition.specs.Export.{with_table_if, with_place_if, with_imported, with_imports_of, with_import_of}
 use Rattle.check_body.specs.Imports.{definition_imports, all_imports, imported_as, with_table_of, with_place_of, with_module_of, typed_imports}
@@ -43,29 +43,29 @@ now_step : (b rest new : Bool) → new ≡ true → cond b (b || rest) (b || new
 now_step true rest new e = refl
 now_step false rest new e = e
 
-has_now : (name : List ℕ) (v : ℕ) (es : List (List ℕ × ℕ)) → has name (entered name v es) ≡ true
+has_now : (name : List ℕ) (v : ℕ) (es : List (List ℕ × ℕ)) → has name (enter_name name v es) ≡ true
 has_now name v [] = or_left (same_name name name) false (same_refl name)
 has_now name v (e ∷ es) =
-    any_cond (λ (e : List ℕ × ℕ). same_name name e.0) (same_name name e.0) ((e.0, v) ∷ es) (e ∷ entered name v es)
-    ∙ now_step (same_name name e.0) (has name es) (has name (entered name v es)) (has_now name v es)
+    any_cond (λ (e : List ℕ × ℕ). same_name name e.0) (same_name name e.0) ((e.0, v) ∷ es) (e ∷ enter_name name v es)
+    ∙ now_step (same_name name e.0) (has name es) (has name (enter_name name v es)) (has_now name v es)
 
 still_step : (b here rest new : Bool) → (here || rest) ≡ true → (rest ≡ true → new ≡ true) → cond b (here || rest) (here || new) ≡ true
 still_step true here rest new e k = e
 still_step false true rest new e k = refl
 still_step false false rest new e k = k e
 
-has_still : (name other : List ℕ) (v : ℕ) (es : List (List ℕ × ℕ)) → has name es ≡ true → has name (entered other v es) ≡ true
+has_still : (name other : List ℕ) (v : ℕ) (es : List (List ℕ × ℕ)) → has name es ≡ true → has name (enter_name other v es) ≡ true
 has_still name other v [] h = absurd cc
 has_still name other v (e ∷ es) h =
-    any_cond (λ (e : List ℕ × ℕ). same_name name e.0) (same_name other e.0) ((e.0, v) ∷ es) (e ∷ entered other v es)
-    ∙ still_step (same_name other e.0) (same_name name e.0) (has name es) (has name (entered other v es)) h (has_still name other v es)
+    any_cond (λ (e : List ℕ × ℕ). same_name name e.0) (same_name other e.0) ((e.0, v) ∷ es) (e ∷ enter_name other v es)
+    ∙ still_step (same_name other e.0) (same_name name e.0) (has name es) (has name (enter_name other v es)) h (has_still name other v es)
 
 -- ---- the names that are imported
 
 module _ (modules : List (List ℕ × ℕ)) (tables : List Table) where
   -- a module of this name is known
   abbrev Stands : List ℕ → Table → Type 0
-  Stands name t = (k : ℕ) × (found name modules ≡ Some k) × (slice_get tables k ≡ Some t)
+  Stands name t = (k : ℕ) × (find_name name modules ≡ Some k) × (slice_get tables k ≡ Some t)
 
   table_still : (name other : List ℕ) (so : List (List ℕ × ℕ)) (o : Option Table) → has name so ≡ true → has name (with_table_if so other o) ≡ true
   table_still name other so None h = h
@@ -77,17 +77,17 @@ module _ (modules : List (List ℕ × ℕ)) (tables : List Table) where
 
   names_still : (name : List ℕ) (names : List Ident) (so : List (List ℕ × ℕ)) → has name so ≡ true → has name (fold (with_imported modules tables) so names) ≡ true
   names_still name [] so h = h
-  names_still name (x ∷ xs) so h = names_still name xs (with_imported modules tables so x) (place_still name x.name so (found x.name modules) h)
+  names_still name (x ∷ xs) so h = names_still name xs (with_imported modules tables so x) (place_still name x.name so (find_name x.name modules) h)
 
   import_still : (name : List ℕ) (from : Option Ident) (names : List Ident) (so : List (List ℕ × ℕ)) → has name so ≡ true → has name (with_imports_of modules tables so from names) ≡ true
   import_still name None names so h = names_still name names so h
-  import_still name (Some m) names so h = place_still name m.name so (found m.name modules) h
+  import_still name (Some m) names so h = place_still name m.name so (find_name m.name modules) h
 
   imports_still : (name : List ℕ) (is : List Import) (so : List (List ℕ × ℕ)) → has name so ≡ true → has name (fold (with_import_of modules tables) so is) ≡ true
   imports_still name [] so h = h
   imports_still name (i ∷ is) so h = imports_still name is (with_import_of modules tables so i) (import_still name i.from i.names so h)
 
-  name_now : (name : List ℕ) (so : List (List ℕ × ℕ)) (t : Table) → Stands name t → has name (with_place_if tables so name (found name modules)) ≡ true
+  name_now : (name : List ℕ) (so : List (List ℕ × ℕ)) (t : Table) → Stands name t → has name (with_place_if tables so name (find_name name modules)) ≡ true
   name_now name so t s =
       ap (λ (o : Option ℕ). has name (with_place_if tables so name o)) s.1
       ∙ ap (λ (o : Option Table). has name (with_table_if so name o)) s.2
@@ -119,7 +119,7 @@ module _ (modules : List (List ℕ × ℕ)) (tables : List Table) where
 
     all_open : (names : List (List ℕ × ℕ)) (so : List Imported) → IsOpen so → IsOpen (fold (with_module_of modules tables) so names)
     all_open [] so h = h
-    all_open (e ∷ es) so h = all_open es (with_module_of modules tables so e) (place_open so e (found e.0 modules) h)
+    all_open (e ∷ es) so h = all_open es (with_module_of modules tables so e) (place_open so e (find_name e.0 modules) h)
 
     new_open : (b : Bool) (so : List Imported) → (b || list_any is_it (cond b so (so ++ imported_as t ∷ []))) ≡ true
     new_open true so = refl
@@ -168,22 +168,22 @@ module _ (modules : List (List ℕ × ℕ)) (tables : List Table) where
     abbrev opened : ℕ → Bool
     opened = open_in tables (typed_imports modules tables all)
 
-    table_known : (name : List ℕ) (k : ℕ) (o : Option Table) → slice_get tables k ≡ o → found name modules ≡ Some k → IsIn name → open_table (typed_imports modules tables all) o ≡ true
+    table_known : (name : List ℕ) (k : ℕ) (o : Option Table) → slice_get tables k ≡ o → find_name name modules ≡ Some k → IsIn name → open_table (typed_imports modules tables all) o ≡ true
     table_known name k None e f i = refl
     table_known name k (Some t) e f i = name_open t name all [] (k, f, e) (i t (k, f, e))
 
-    name_opens : (name : List ℕ) (o : Option ℕ) → found name modules ≡ o → IsIn name → OpensNames opened o
+    name_opens : (name : List ℕ) (o : Option ℕ) → find_name name modules ≡ o → IsIn name → OpensNames opened o
     name_opens name None e i = tt
     name_opens name (Some k) e i = table_known name k (slice_get tables k) refl e i
 
     names_open : (names : List Ident) → AllByRecursion (λ x. IsIn x.name) names → OpensImports opened modules names
     names_open [] k = tt
-    names_open (x ∷ xs) k = (name_opens x.name (found x.name modules) refl k.0, names_open xs k.1)
+    names_open (x ∷ xs) k = (name_opens x.name (find_name x.name modules) refl k.0, names_open xs k.1)
 
     module _ (m : TypedModule) (g : Gathers) where
       import_opens : (from : Option Ident) (names : List Ident) → ImportIn from names → OpensImport m opened g modules from names
       import_opens None names k = names_open names k
-      import_opens (Some x) names k = name_opens x.name (found x.name modules) refl k
+      import_opens (Some x) names k = name_opens x.name (find_name x.name modules) refl k
 
       imports_open : (is : List Import) → AllByRecursion (λ i. ImportIn i.from i.names) is → OpensAll m opened g modules is
       imports_open [] k = tt

@@ -25,7 +25,7 @@ use Rattle.typed_tree.specs.declared.meaning.Value.{Value}
 use Rattle.typed_tree.specs.declared.shape.Scalar.{Scalar as Range}
 use Rattle.typed_tree.specs.declared.typed_module.TypedModule.{TypedModule}
 use Rattle.typed_tree.specs.declared.types.TypeNo.{TypeNo}
-use Rattle.typed_tree.specs.Chains.{linked_to, linked, rooted, behind}
+use Rattle.typed_tree.specs.Chains.{linked_to, link_operand, root_place, behind}
 use Rattle.typed_tree.specs.Types.{are_same, is_integer, is_numeric, boolean, bitset}
 use Rattle.check_scope.specs.Elaborated.{Gathers, ◌▷◌}
 use Rattle.check_scope.specs.Scopes.{fields_at}
@@ -36,9 +36,9 @@ use Rattle.check_const_ops.specs.declared.operand.Operand.TheVariants as operand
 use Rattle.check_const_ops.specs.declared.operator.BinaryOp.{BinaryOp}
 use Rattle.check_operator.specs.Classes.{class_at, array_at}
 use Rattle.check_operator.specs.Sides.{known_of, constant_side, side_of, sort_of, or_cardinal, run_of}
-use Rattle.check_operator.specs.Signs.{signed_scalar, signed_value, signed, negated_value, negated}
-use Rattle.check_operator.specs.Operations.{of_value, truth_of, step_of, set_step_of, equality_of, is_in, built, fitting_both, stepped, on_amounts, element_fits, member, set_built, on_sets, on_procedures, with_scalar, set_in, with_set, partner_of, routine_of, with_partner, between, by_known, combined}
-use Rattle.check_operator.specs.Selection.{record_field, field, array_indexed, indices, asked, picked, indexed}
+use Rattle.check_operator.specs.Signs.{signed_scalar, signed_value, with_sign, negated_value, negation}
+use Rattle.check_operator.specs.Operations.{of_value, truth_of, step_of, set_step_of, equality_of, is_in, step_result, fitting_both, step_or_refusal, on_amounts, element_fits, member, set_built, on_sets, on_procedures, with_scalar, set_in, with_set, partner_of, routine_of, with_partner, between, by_known, operation_between}
+use Rattle.check_operator.specs.Selection.{record_field, field, array_indexed, indices, index_type, element_of_array, element_at_index}
 use Rattle.check_operator.specs.Suits.{scalar_suited, set_suited, procedure_suited, value_in, value_suited}
 use Rattle.check_operator.specs.declared.class.Class.{Class}
 use Rattle.check_operator.specs.declared.class.Class.TheVariants as class
@@ -67,7 +67,7 @@ module _ (m : TypedModule) (w : ℕ) where
   links_more _ l no_links k = more_links l [] k no_links
   links_more _ l (more_links x xs p ps) k = more_links x (xs ++ l ∷ []) p (links_more xs l ps k)
 
-  linked_formed : (e : TypedExpr) (l : Link) → IsExpr m w e → IsLink m w l → IsExpr m w (linked e l)
+  linked_formed : (e : TypedExpr) (l : Link) → IsExpr m w e → IsLink m w l → IsExpr m w (link_operand e l)
   linked_formed _ l (Constant t n) k = subst (λ (y : TypedExpr-F Argument Call Component Link TypedExpr Place). IsExpr m w (linked_to y (expr.Constant t n) l)) (sym (expr.outs-Constant t n)) (Chain (expr.Constant t n) (l ∷ []) (Constant t n) (more_links l [] k no_links))
   linked_formed _ l (Load t d p q) k = subst (λ (y : TypedExpr-F Argument Call Component Link TypedExpr Place). IsExpr m w (linked_to y (expr.Load t d) l)) (sym (expr.outs-Load t d)) (Chain (expr.Load t d) (l ∷ []) (Load t d p q) (more_links l [] k no_links))
   linked_formed _ l (ProcedureValue f p) k = subst (λ (y : TypedExpr-F Argument Call Component Link TypedExpr Place). IsExpr m w (linked_to y (expr.Procedure f) l)) (sym (expr.outs-Procedure f)) (Chain (expr.Procedure f) (l ∷ []) (ProcedureValue f p) (more_links l [] k no_links))
@@ -94,8 +94,8 @@ module _ (m : TypedModule) (w : ℕ) where
   pub behind_formed : (d : Place) (c : Component) → IsPlace m w d → IsComponent m w c → IsPlace m w (behind d c)
   behind_formed _ c (Designator d r cs) k = Designator (behind d c) r (components_more d.components c cs k)
 
-  pub rooted_formed : (r : Root) → IsRoot m w r → IsPlace m w (rooted r)
-  rooted_formed r k = Designator (rooted r) k no_components
+  pub rooted_formed : (r : Root) → IsRoot m w r → IsPlace m w (root_place r)
+  rooted_formed r k = Designator (root_place r) k no_components
 
   -- ---- sides
 
@@ -150,7 +150,7 @@ module _ (m : TypedModule) (w : ℕ) where
     signed_value_formed o at (value.Whole t d) p = reported_holds g at rule.WrongType
     signed_value_formed o at value.Untaken p = reported_holds g at rule.WrongType
 
-    pub signed_formed : (o : Sign) (at : Pos) {x : Result Computed g.Reported} → Value_ x → Value_ (signed g o at x)
+    pub signed_formed : (o : Sign) (at : Pos) {x : Result Computed g.Reported} → Value_ x → Value_ (with_sign g o at x)
     signed_formed o at h = then_holds h (λ x p. signed_value_formed o at x p)
 
     negated_value_formed : (at : Pos) (x : Computed) → FormedValue m w x → Value_ (negated_value g at x)
@@ -162,20 +162,20 @@ module _ (m : TypedModule) (w : ℕ) where
     negated_value_formed at (value.Whole t d) p = reported_holds g at rule.WrongType
     negated_value_formed at value.Untaken p = reported_holds g at rule.WrongType
 
-    pub negated_formed : (at : Pos) {x : Result Computed g.Reported} → Value_ x → Value_ (negated g at x)
+    pub negated_formed : (at : Pos) {x : Result Computed g.Reported} → Value_ x → Value_ (negation g at x)
     negated_formed at h = then_holds h (λ x p. negated_value_formed at x p)
 
     -- ---- operators
 
-    built_formed : (t : TypeNo) (x y : TypedExpr) (o : Step) → IsExpr m w x → IsExpr m w y → FormedValue m w (built t x y o)
+    built_formed : (t : TypeNo) (x y : TypedExpr) (o : Step) → IsExpr m w x → IsExpr m w y → FormedValue m w (step_result t x y o)
     built_formed t x y (step.Arithmetic o) p q = linked_formed x (link.Arithmetic o t y) p (Operated o t y q)
     built_formed t x y step.And p q = linked_formed x (link.And y) p (And y q)
     built_formed t x y step.Or p q = linked_formed x (link.Or y) p (Or y q)
     built_formed t x y (step.Compare c) p q = Compare c x y p q
 
-    stepped_formed : (at : Pos) (sort : Option TypeNo) (a b : Amount) (o : Option Step) → FormedAmount a → FormedAmount b → Value_ (stepped g at sort a b o)
+    stepped_formed : (at : Pos) (sort : Option TypeNo) (a b : Amount) (o : Option Step) → FormedAmount a → FormedAmount b → Value_ (step_or_refusal g at sort a b o)
     stepped_formed at sort a b None p q = reported_holds g at rule.WrongType
-    stepped_formed at sort a b (Some o) p q = fine (built (or_cardinal sort) (run_of (or_cardinal sort) a) (run_of (or_cardinal sort) b) o) (built_formed (or_cardinal sort) (run_of (or_cardinal sort) a) (run_of (or_cardinal sort) b) o (run_formed (or_cardinal sort) a p) (run_formed (or_cardinal sort) b q))
+    stepped_formed at sort a b (Some o) p q = fine (step_result (or_cardinal sort) (run_of (or_cardinal sort) a) (run_of (or_cardinal sort) b) o) (built_formed (or_cardinal sort) (run_of (or_cardinal sort) a) (run_of (or_cardinal sort) b) o (run_formed (or_cardinal sort) a p) (run_formed (or_cardinal sort) b q))
 
     amounts_formed : (op : BinaryOp) (spot at : Pos) (a : Amount) (at' : Pos) (b : Amount) (o : Option (Option TypeNo)) → FormedAmount a → FormedAmount b → Value_ (on_amounts g op spot at a at' b o)
     amounts_formed op spot at a at' b None p q = reported_holds g spot rule.WrongType
@@ -246,7 +246,7 @@ module _ (m : TypedModule) (w : ℕ) where
     known_formed types op spot at x at' y (Some a) None p q = between_formed types op spot at (side_of x) at' (side_of y) (side_formed x p) (side_formed y q)
     known_formed types op spot at x at' y (Some a) (Some b) p q = of_value_formed _
 
-    pub combined_formed : (types : Types) (op : BinaryOp) (spot at : Pos) {x : Result Computed g.Reported} (at' : Pos) {y : Result Computed g.Reported} → Value_ x → Value_ y → Value_ (combined g types op spot at x at' y)
+    pub combined_formed : (types : Types) (op : BinaryOp) (spot at : Pos) {x : Result Computed g.Reported} (at' : Pos) {y : Result Computed g.Reported} → Value_ x → Value_ y → Value_ (operation_between g types op spot at x at' y)
     combined_formed types op spot at at' p q = then_holds (both_holds g p q) (λ v h. known_formed types op spot at v.0 at' v.1 (known_of v.0) (known_of v.1) h.0 h.1)
 
     -- ---- what places take
@@ -319,11 +319,11 @@ module _ (m : TypedModule) (w : ℕ) where
       indices_formed types at (designated.Standard f) p = reported_holds g at rule.WrongType
       indices_formed types at (designated.Module k) p = reported_holds g at rule.WrongType
 
-      picked_formed : (x : TypedExpr) (a : Subscripted) → IsExpr m w x → FormedSubscripted a → FormedDesignated m opens w (picked x a)
+      picked_formed : (x : TypedExpr) (a : Subscripted) → IsExpr m w x → FormedSubscripted a → FormedDesignated m opens w (element_of_array x a)
       picked_formed x (indexes.Array t i e d) p q = behind_formed d (part.Element t x) q (Element t x p)
-      picked_formed x (indexes.Open t slot) p q = behind_formed (rooted (root.Open slot)) (part.OpenElement slot t x) (rooted_formed (root.Open slot) tt) (OpenElement slot t x p)
+      picked_formed x (indexes.Open t slot) p q = behind_formed (root_place (root.Open slot)) (part.OpenElement slot t x) (rooted_formed (root.Open slot) tt) (OpenElement slot t x p)
 
-      pub indexed_formed : (types : Types) (at : Pos) {d : Result Designated g.Reported} (at' : Pos) {x : Result Computed g.Reported} → Designated_ d → Value_ x → Designated_ (indexed g types (d ▷ indices g types at) at' x)
+      pub indexed_formed : (types : Types) (at : Pos) {d : Result Designated g.Reported} (at' : Pos) {x : Result Computed g.Reported} → Designated_ d → Value_ x → Designated_ (element_at_index g types (d ▷ indices g types at) at' x)
       indexed_formed types at at' p q =
           then_holds (both_holds g (then_holds p (λ d h. indices_formed types at d h)) q)
-          (λ v h. then_holds (suited_formed rule.NotAssignable types (asked v.0) at' v.1 h.1) (λ e k. fine (picked e v.0) (picked_formed e v.0 k h.0)))
+          (λ v h. then_holds (suited_formed rule.NotAssignable types (index_type v.0) at' v.1 h.1) (λ e k. fine (element_of_array e v.0) (picked_formed e v.0 k h.0)))

@@ -7,7 +7,7 @@ use Rattle.std.proofs.lemmas.List.Folds.{list_any-append}
 use Rattle.typed_tree.specs.declared.meaning.Meaning.{Meaning}
 use Rattle.typed_tree.specs.declared.meaning.Meaning.TheVariants as meaning
 use Rattle.m2_tree.specs.Names.{same_name}
-use Rattle.typed_tree.specs.Names.{found, entered}
+use Rattle.typed_tree.specs.Names.{find_name, enter_name}
 use Rattle.check_scope.specs.Scopes.{is_free}
 use Rattle.check_scope.specs.declared.known.Origin.{Origin}
 use Rattle.check_scope.specs.declared.known.Origin.TheVariants.{Here, Module, Export}
@@ -103,9 +103,9 @@ module _ {V : Type 0} where
   keys_by name k e es more true h = refl
   keys_by name k e es more false h = ap (λ (ks : List (List ℕ)). e.0 ∷ ks) h ∙ cons_cond e.0 name (has name (keys es)) (keys es)
 
-  pub keys_entered : (name : List ℕ) (k : V) (es : List (List ℕ × V)) → keys (entered name k es) ≡ mark_key (keys es) name
+  pub keys_entered : (name : List ℕ) (k : V) (es : List (List ℕ × V)) → keys (enter_name name k es) ≡ mark_key (keys es) name
   keys_entered name k [] = refl
-  keys_entered name k (e ∷ es) = keys_by name k e es (entered name k es) (same_name name e.0) (keys_entered name k es)
+  keys_entered name k (e ∷ es) = keys_by name k e es (enter_name name k es) (same_name name e.0) (keys_entered name k es)
 
   -- ---- names that stand once
 
@@ -113,11 +113,11 @@ module _ {V : Type 0} where
   Distinct [] = Unit {0}
   Distinct (e ∷ es) = (has e.0 (keys es) ≡ false) × Distinct es
 
-  distinct_by : (name : List ℕ) (k : V) (e : List ℕ × V) (es : List (List ℕ × V)) (b : Bool) → same_name name e.0 ≡ b → Distinct (e ∷ es) → Distinct (entered name k es) → Distinct (cond b ((e.0, k) ∷ es) (e ∷ entered name k es))
+  distinct_by : (name : List ℕ) (k : V) (e : List ℕ × V) (es : List (List ℕ × V)) (b : Bool) → same_name name e.0 ≡ b → Distinct (e ∷ es) → Distinct (enter_name name k es) → Distinct (cond b ((e.0, k) ∷ es) (e ∷ enter_name name k es))
   distinct_by name k e es true q d h = d
   distinct_by name k e es false q d h = (ap (λ (ks : List (List ℕ)). has e.0 ks) (keys_entered name k es) ∙ still_apart e.0 name (has name (keys es)) (keys es) d.0 (other_way name e.0 q), h)
 
-  pub distinct_entered : (name : List ℕ) (k : V) (es : List (List ℕ × V)) → Distinct es → Distinct (entered name k es)
+  pub distinct_entered : (name : List ℕ) (k : V) (es : List (List ℕ × V)) → Distinct es → Distinct (enter_name name k es)
   distinct_entered name k [] d = (refl, tt)
   distinct_entered name k (e ∷ es) d = distinct_by name k e es (same_name name e.0) refl d (distinct_entered name k es d.1)
 
@@ -136,7 +136,7 @@ module _ {T : Type 0} where
   picked pick (Some k) = pick k
 
   abbrev pub TakenIn : List (List ℕ × Known T) → List ℕ → Type 0
-  TakenIn es name = picked is_taken (found name es) ≡ true
+  TakenIn es name = picked is_taken (find_name name es) ≡ true
 
   pub free_untaken : (k : Known T) → is_free (Some k) ≡ true → is_taken k ≡ false
   free_untaken Later h = refl
@@ -153,11 +153,11 @@ module _ {T : Type 0} where
   other_rest true v o o' f p = p
   other_rest false v o o' f p = f p
 
-  taken_by : (y name : List ℕ) (k : Known T) (e : List ℕ × Known T) (es : List (List ℕ × Known T)) (b : Bool) → is_taken k ≡ true → TakenIn (e ∷ es) y → (TakenIn es y → TakenIn (entered name k es) y) → TakenIn (cond b ((e.0, k) ∷ es) (e ∷ entered name k es)) y
-  taken_by y name k e es true h p f = other_value (same_name y e.0) e.1 k (found y es) h p
-  taken_by y name k e es false h p f = other_rest (same_name y e.0) e.1 (found y es) (found y (entered name k es)) f p
+  taken_by : (y name : List ℕ) (k : Known T) (e : List ℕ × Known T) (es : List (List ℕ × Known T)) (b : Bool) → is_taken k ≡ true → TakenIn (e ∷ es) y → (TakenIn es y → TakenIn (enter_name name k es) y) → TakenIn (cond b ((e.0, k) ∷ es) (e ∷ enter_name name k es)) y
+  taken_by y name k e es true h p f = other_value (same_name y e.0) e.1 k (find_name y es) h p
+  taken_by y name k e es false h p f = other_rest (same_name y e.0) e.1 (find_name y es) (find_name y (enter_name name k es)) f p
 
-  pub taken_entered : (y name : List ℕ) (k : Known T) (es : List (List ℕ × Known T)) → is_taken k ≡ true → TakenIn es y → TakenIn (entered name k es) y
+  pub taken_entered : (y name : List ℕ) (k : Known T) (es : List (List ℕ × Known T)) → is_taken k ≡ true → TakenIn es y → TakenIn (enter_name name k es) y
   taken_entered y name k [] h p = absurd cc
   taken_entered y name k (e ∷ es) h p = taken_by y name k e es (same_name name e.0) h p (taken_entered y name k es h)
 
@@ -169,11 +169,11 @@ module _ {T : Type 0} where
   there_taken true v o e h = absurd cc
   there_taken false v o e h = h
 
-  now_by : (name : List ℕ) (k : Known T) (e : List ℕ × Known T) (es : List (List ℕ × Known T)) (b : Bool) → same_name name e.0 ≡ b → is_taken k ≡ true → TakenIn (entered name k es) name → TakenIn (cond b ((e.0, k) ∷ es) (e ∷ entered name k es)) name
-  now_by name k e es true q h p = here_taken (same_name name e.0) k (found name es) q h
-  now_by name k e es false q h p = there_taken (same_name name e.0) e.1 (found name (entered name k es)) q p
+  now_by : (name : List ℕ) (k : Known T) (e : List ℕ × Known T) (es : List (List ℕ × Known T)) (b : Bool) → same_name name e.0 ≡ b → is_taken k ≡ true → TakenIn (enter_name name k es) name → TakenIn (cond b ((e.0, k) ∷ es) (e ∷ enter_name name k es)) name
+  now_by name k e es true q h p = here_taken (same_name name e.0) k (find_name name es) q h
+  now_by name k e es false q h p = there_taken (same_name name e.0) e.1 (find_name name (enter_name name k es)) q p
 
-  pub now_taken : (name : List ℕ) (k : Known T) (es : List (List ℕ × Known T)) → is_taken k ≡ true → TakenIn (entered name k es) name
+  pub now_taken : (name : List ℕ) (k : Known T) (es : List (List ℕ × Known T)) → is_taken k ≡ true → TakenIn (enter_name name k es) name
   now_taken name k [] h = here_taken (same_name name name) k None (same_refl name) h
   now_taken name k (e ∷ es) h = now_by name k e es (same_name name e.0) refl h (now_taken name k es h)
 
@@ -211,9 +211,9 @@ module _ {T : Type 0} where
   order_none n c [] p h = h
   order_none n c (e ∷ es) p h = none_by n c (number_of e.1) (is_taken e.1) p.0 (Order n c es) (Order (suc n) c es) (NoneDone es) (order_none n c es p.1 h) p.1 h
 
-  pub none_entered : (name : List ℕ) (k : Known T) (es : List (List ℕ × Known T)) → number_of k ≡ None → NoneDone es → NoneDone (entered name k es)
+  pub none_entered : (name : List ℕ) (k : Known T) (es : List (List ℕ × Known T)) → number_of k ≡ None → NoneDone es → NoneDone (enter_name name k es)
   none_entered name k [] h p = (h, tt)
-  none_entered name k (e ∷ es) h p = none_entered_by k e es (entered name k es) (same_name name e.0) h p (none_entered name k es h p.1)
+  none_entered name k (e ∷ es) h p = none_entered_by k e es (enter_name name k es) (same_name name e.0) h p (none_entered name k es h p.1)
 
   -- the number of a procedure, if it is one that is declared
   abbrev pub is_done : Known T → Bool
@@ -227,14 +227,14 @@ module _ {T : Type 0} where
   order_same n c k e es None true a b h i d p = entered_by (number_of k) (is_taken k) n c _ _ _ h i p
   order_same n c k e es None false a b h i d p = entered_by (number_of k) (is_taken k) n c _ _ _ h i (order_none n c es p.1 p.0)
 
-  order_by : (n c : ℕ) (name : List ℕ) (k : Known T) (e : List ℕ × Known T) (es : List (List ℕ × Known T)) (b : Bool) → number_of k ≡ None → is_taken k ≡ true → picked is_done (cond b (Some e.1) (found name es)) ≡ false
-      → Order n c (e ∷ es) → (picked is_done (found name es) ≡ false → (i : ℕ) → Order i c es → Order i c (entered name k es)) → Order n c (cond b ((e.0, k) ∷ es) (e ∷ entered name k es))
+  order_by : (n c : ℕ) (name : List ℕ) (k : Known T) (e : List ℕ × Known T) (es : List (List ℕ × Known T)) (b : Bool) → number_of k ≡ None → is_taken k ≡ true → picked is_done (cond b (Some e.1) (find_name name es)) ≡ false
+      → Order n c (e ∷ es) → (picked is_done (find_name name es) ≡ false → (i : ℕ) → Order i c es → Order i c (enter_name name k es)) → Order n c (cond b ((e.0, k) ∷ es) (e ∷ enter_name name k es))
   order_by n c name k e es true h i d p f = order_same n c k e es (number_of e.1) (is_taken e.1) refl refl h i d p
   order_by n c name k e es false h i d p f =
-      order_map (number_of e.1) (is_taken e.1) n c (Order n c es) (Order (suc n) c es) (NoneDone es) (Order n c (entered name k es)) (Order (suc n) c (entered name k es)) (NoneDone (entered name k es))
+      order_map (number_of e.1) (is_taken e.1) n c (Order n c es) (Order (suc n) c es) (NoneDone es) (Order n c (enter_name name k es)) (Order (suc n) c (enter_name name k es)) (NoneDone (enter_name name k es))
       (f d n) (f d (suc n)) (none_entered name k es h) p
 
-  pub order_entered : (name : List ℕ) (k : Known T) (es : List (List ℕ × Known T)) → number_of k ≡ None → is_taken k ≡ true → picked is_done (found name es) ≡ false → (n c : ℕ) → Order n c es → Order n c (entered name k es)
+  pub order_entered : (name : List ℕ) (k : Known T) (es : List (List ℕ × Known T)) → number_of k ≡ None → is_taken k ≡ true → picked is_done (find_name name es) ≡ false → (n c : ℕ) → Order n c es → Order n c (enter_name name k es)
   order_entered name k [] h i d n c p = entered_by (number_of k) (is_taken k) n c _ _ _ h i p
   order_entered name k (e ∷ es) h i d n c p = order_by n c name k e es (same_name name e.0) h i d p (λ z j q. order_entered name k es h i z j c q)
 
@@ -279,20 +279,20 @@ module _ {T : Type 0} where
   next_cond true q n c k e es more t f p = absurd cc
   next_cond false q n c k e es more t f p = taken_on (number_of e.1) (is_taken e.1) n c (suc c) (Order n c es) (Order (suc n) c es) (NoneDone es) (Order n (suc c) more) (Order (suc n) (suc c) more) (NoneDone more) t (f n) (f (suc n)) p
 
-  pub next_entered : (name : List ℕ) (k : Known T) (c : ℕ) → number_of k ≡ Some c → (es : List (List ℕ × Known T)) (pre post : List (List ℕ)) → Distinct es → keys es ≡ pre ++ name ∷ post → AllTaken pre es → is_free (found name es) ≡ true → (n : ℕ) → Order n c es → Order n (suc c) (entered name k es)
+  pub next_entered : (name : List ℕ) (k : Known T) (c : ℕ) → number_of k ≡ Some c → (es : List (List ℕ × Known T)) (pre post : List (List ℕ)) → Distinct es → keys es ≡ pre ++ name ∷ post → AllTaken pre es → is_free (find_name name es) ≡ true → (n : ℕ) → Order n c es → Order n (suc c) (enter_name name k es)
   next_entered name k c h [] [] post d e t f n p = absurd cc
   next_entered name k c h [] (x ∷ pre) post d e t f n p = absurd cc
   next_entered name k c h (x ∷ es) [] post d e t f n p =
       let same : name ≡ x.0 = cc in
-      first_cond (same_name name x.0) (subst (λ (y : List ℕ). same_name name y ≡ true) same (same_refl name)) n c k x es (entered name k es) (found name es) h f p
+      first_cond (same_name name x.0) (subst (λ (y : List ℕ). same_name name y ≡ true) same (same_refl name)) n c k x es (enter_name name k es) (find_name name es) h f p
   next_entered name k c h (x ∷ es) (z ∷ pre) post d e t f n p =
       let same : z ≡ x.0 = cc in
       let rest : keys es ≡ pre ++ name ∷ post = cc in
       let taken : is_taken x.1 ≡ true =
-      entry_taken (same_name z x.0) x.1 (found z es) (subst (λ (y : List ℕ). same_name z y ≡ true) same (same_refl z)) (t z (or_left (same_name z z) (has z pre) (same_refl z))) in
-      let far = not_by (same_name name x.0) x.1 (found name es) f taken in
-      next_cond (same_name name x.0) far.0 n c k x es (entered name k es) taken
+      entry_taken (same_name z x.0) x.1 (find_name z es) (subst (λ (y : List ℕ). same_name z y ≡ true) same (same_refl z)) (t z (or_left (same_name z z) (has z pre) (same_refl z))) in
+      let far = not_by (same_name name x.0) x.1 (find_name name es) f taken in
+      next_cond (same_name name x.0) far.0 n c k x es (enter_name name k es) taken
       (λ i q. next_entered name k c h es pre post d.1 rest
-      (λ y m. rest_taken (same_name y x.0) x.1 (found y es)
+      (λ y m. rest_taken (same_name y x.0) x.1 (find_name y es)
       (apart_from y x.0 (keys es) (ap (λ (ks : List (List ℕ)). has y ks) rest ∙ list_any-append (λ (l : List ℕ). same_name y l) pre (name ∷ post) ∙ or_left (has y pre) (has y (name ∷ post)) m) d.0)
       (t y (or_right (same_name y z) (has y pre) m))) far.1 i q) p

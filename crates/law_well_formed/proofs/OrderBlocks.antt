@@ -28,9 +28,9 @@ use Rattle.typed_tree.specs.declared.meaning.Meaning.TheVariants as meaning
 use Rattle.typed_tree.specs.declared.table.Table.{Table}
 use Rattle.typed_tree.specs.declared.known_types.Types.{Types}
 use Rattle.law_well_formed.specs.Ordered.{is_known}
-use Rattle.typed_tree.specs.Names.{found, entered, place_of}
-use Rattle.check_scope.specs.Elaborated.{Gathers, reported}
-use Rattle.check_scope.specs.Scopes.{State, is_free, with_known, is_again, imported}
+use Rattle.typed_tree.specs.Names.{find_name, enter_name, place_of}
+use Rattle.check_scope.specs.Elaborated.{Gathers, report}
+use Rattle.check_scope.specs.Scopes.{State, is_free, with_known, is_again, import_name}
 use Rattle.check_scope.specs.declared.known.Known.{Known}
 use Rattle.check_scope.specs.declared.known.Known.TheVariants.{Later, Ahead, Declared}
 use Rattle.check_scope.specs.declared.known.Origin.{Origin}
@@ -47,7 +47,7 @@ use Rattle.check_definition.specs.Compiled.{declared_in}
 use Rattle.check_block.specs.Naming.{marked_layer, marked_decl, with_marks, all_marked}
 use Rattle.check_block.specs.Declarations.{Course, with_decl, declared_block, declared_module}
 use Rattle.check_block.specs.declared.inner.Outside.{Outside}
-use Rattle.check_block.specs.Inner.{inwards, formal_meaning, Formals, with_formal, with_section, entered_procedure, split_last, popped, left_procedure}
+use Rattle.check_block.specs.Inner.{inwards, formal_meaning, Formals, with_formal, with_section, entered_procedure, split_last, pop_block, left_procedure}
 use Rattle.law_well_formed.specs.Formed.{Holds, fine, broken}
 use Rattle.law_well_formed.proofs.Basics.{then_holds, holds_weaker}
 use Rattle.law_well_formed.proofs.RangesMade.{beside_then, const_holds}
@@ -178,7 +178,7 @@ module _ (base : Types) where
     Within types s = ScopeOrdered base s × (s.types ≡ types)
 
     free_within : (types : Types) (s : Scope g.Reported) (at : Pos) (name : List ℕ) (o : Origin) (m : Meaning) (b : Bool) → Within types s → MeaningOrdered types m
-        → Within types (cond {A = State (Unit {0}) g.Reported} b (with_known name (Declared o (Ok m)) s, Ok tt) (s, reported g at rule.DeclaredTwice)).0
+        → Within types (cond {A = State (Unit {0}) g.Reported} b (with_known name (Declared o (Ok m)) s, Ok tt) (s, report g at rule.DeclaredTwice)).0
     free_within types s at name o m true h p = (known_ordered base s name (Declared o (Ok m)) h.0 (fine m (subst (λ (t : Types). MeaningOrdered t m) (sym h.1) p)), h.1)
     free_within types s at name o m false h p = h
 
@@ -186,8 +186,8 @@ module _ (base : Types) where
     again_within types s x true h p = h
     again_within types s x false h p = p
 
-    imported_within : (types : Types) (s : Scope g.Reported) (at : Pos) (name : List ℕ) (o : Origin) (m : Meaning) → Within types s → MeaningOrdered types m → Within types (imported g s at name o (Ok m)).0
-    imported_within types s at name o m h p = again_within types s _ (is_again (found name s.own) o) h (free_within types s at name o m (is_free (found name s.own)) h p)
+    imported_within : (types : Types) (s : Scope g.Reported) (at : Pos) (name : List ℕ) (o : Origin) (m : Meaning) → Within types s → MeaningOrdered types m → Within types (import_name g s at name o (Ok m)).0
+    imported_within types s at name o m h p = again_within types s _ (is_again (find_name name s.own) o) h (free_within types s at name o m (is_free (find_name name s.own)) h p)
 
     module_as_ordered : (s : Scope g.Reported) (name : Ident) (r : Result ℕ g.Reported) → ScopeOrdered base s → ScopeOrdered base (with_module_as g s name r).0
     module_as_ordered s name (Ok k) h = (imported_within s.types s name.pos name.name (origin.Module k) (meaning.Module k) (h, refl) tt).0
@@ -202,7 +202,7 @@ module _ (base : Types) where
         → Holds (λ x. Within types (fold (with_entry g at k) st es).0) (fold (with_entry g at k) st es).1
     entries_within types at k [] st q p = p
     entries_within types at k (e ∷ es) st q p =
-        entries_within types at k es (with_entry g at k st e) q.1 (beside_then g (imported g st.0 at e.0 (Export k) (Ok e.1)).1 p (λ h. const_holds (imported_within types st.0 at e.0 (Export k) e.1 h q.0) _))
+        entries_within types at k es (with_entry g at k st e) q.1 (beside_then g (import_name g st.0 at e.0 (Export k) (Ok e.1)).1 p (λ h. const_holds (imported_within types st.0 at e.0 (Export k) e.1 h q.0) _))
 
     taken_within : (types : Types) (s : Scope g.Reported) (at : Pos) (k : ℕ) (es : List (List ℕ × Meaning)) (i : ℕ) (o : Option (Result (Unit {0}) g.Reported)) → ExportsOrdered types es → Within types s
         → Holds (λ x. Within types (unless_taken g s at k es i o).0) (unless_taken g s at k es i o).1
@@ -213,7 +213,7 @@ module _ (base : Types) where
     place_within : (types : Types) (s : Scope g.Reported) (name : Ident) (k : ℕ) (es : List (List ℕ × Meaning)) (o : Option ℕ) → ExportsOrdered types es → Within types s
         → Holds (λ x. Within types (from_place g s name k es o).0) (from_place g s name k es o).1
     place_within types s name k es None q h = const_holds h _
-    place_within types s name k es (Some i) q h = taken_within types s name.pos k es i (reported_of_taken g name.pos k (found name.name s.own)) q h
+    place_within types s name k es (Some i) q h = taken_within types s name.pos k es i (reported_of_taken g name.pos k (find_name name.name s.own)) q h
 
     abbrev WithExports : Types → List (List ℕ × Meaning) → Scope g.Reported → Type 0
     WithExports types es s = Within types s × ExportsOrdered types es
@@ -274,7 +274,7 @@ module _ (base : Types) where
     tables = h.tables;
   }
 
-  formal_by : {T : Type 0} (types : Types) (b : Bool) (name : List ℕ) (k : Known T) (ns : List (List ℕ × Known T)) → KnownOrdered types k → NamesOrdered types ns → NamesOrdered types (cond b ns (entered name k ns))
+  formal_by : {T : Type 0} (types : Types) (b : Bool) (name : List ℕ) (k : Known T) (ns : List (List ℕ × Known T)) → KnownOrdered types k → NamesOrdered types ns → NamesOrdered types (cond b ns (enter_name name k ns))
   formal_by types true name k ns p h = h
   formal_by types false name k ns p h = names_more types name k ns p h
 
@@ -282,14 +282,14 @@ module _ (base : Types) where
   names_formals types level f p [] fs h = h
   names_formals types level f p (x ∷ xs) fs h =
       names_formals types level f p xs (with_formal level f fs x)
-      (formal_by types (is_some (found x.name fs.0)) x.name (Declared Here (formal_meaning level (length fs.1) f)) fs.0
+      (formal_by types (is_some (find_name x.name fs.0)) x.name (Declared Here (formal_meaning level (length fs.1) f)) fs.0
       (then_holds p (λ u k. fine _ k)) h)
 
-  left_by : {T : Type 0} (types : Types) (bs : List (Block T)) → BlocksOrdered types bs → BlocksOrdered types (popped (split_last bs)).0 × NamesOrdered types (popped (split_last bs)).1
+  left_by : {T : Type 0} (types : Types) (bs : List (Block T)) → BlocksOrdered types bs → BlocksOrdered types (pop_block (split_last bs)).0 × NamesOrdered types (pop_block (split_last bs)).1
   left_by types [] p = (tt, tt)
   left_by types (b ∷ bs) p = last b (split_last bs) p.0 (left_by types bs p.1) where
-    last : {T : Type 0} (b : Block T) (o : Option (List (Block T) × Block T)) → NamesOrdered types b.names → BlocksOrdered types (popped o).0 × NamesOrdered types (popped o).1
-        → BlocksOrdered types (popped (elim o [ None ↦ Some ([], b) | Some p ↦ Some (b ∷ p.0, p.1) ])).0 × NamesOrdered types (popped (elim o [ None ↦ Some ([], b) | Some p ↦ Some (b ∷ p.0, p.1) ])).1
+    last : {T : Type 0} (b : Block T) (o : Option (List (Block T) × Block T)) → NamesOrdered types b.names → BlocksOrdered types (pop_block o).0 × NamesOrdered types (pop_block o).1
+        → BlocksOrdered types (pop_block (elim o [ None ↦ Some ([], b) | Some p ↦ Some (b ∷ p.0, p.1) ])).0 × NamesOrdered types (pop_block (elim o [ None ↦ Some ([], b) | Some p ↦ Some (b ∷ p.0, p.1) ])).1
     last b None p q = (tt, p)
     last b (Some x) p q = ((p, q.0), q.1)
 

@@ -16,9 +16,9 @@ use Rattle.typed_tree.specs.declared.meaning.Procedure.{Procedure}
 use Rattle.typed_tree.specs.declared.meaning.Meaning.{Meaning}
 use Rattle.typed_tree.specs.declared.meaning.Meaning.TheVariants as meaning
 use Rattle.typed_tree.specs.declared.meaning.Value.{Value}
-use Rattle.typed_tree.specs.Names.{found}
+use Rattle.typed_tree.specs.Names.{find_name}
 use Rattle.check_scope.specs.Elaborated.{Gathers, beside}
-use Rattle.check_scope.specs.Scopes.{State, begun, finished}
+use Rattle.check_scope.specs.Scopes.{State, begin_name, finish_name}
 use Rattle.check_scope.specs.declared.known.Known.{Known}
 use Rattle.check_scope.specs.declared.known.Known.TheVariants.{Later, Ahead, Begun, Headed, Declared}
 use Rattle.check_scope.specs.declared.known.Origin.{Origin}
@@ -31,7 +31,7 @@ use Rattle.check_type_expr.specs.Made.{nothing_of, type_of, with_made}
 use Rattle.check_definition.specs.Declare.{nothing_reported, constant_meaning, with_constant, brings_with, type_meaning, with_type, begun_name, variable_meaning, with_variable_type, finished_variable, with_variables, procedure_meaning, with_procedure_type, declared_procedure, with_procedure, with_def}
 use Rattle.check_block.specs.declared.heading.Standing.{Standing}
 use Rattle.check_block.specs.declared.heading.Standing.TheVariants.{Free, Awaited, Taken}
-use Rattle.check_block.specs.Headings.{standing_of, standing_elaborated, standing_from, name_standing, nested_meaning, module_procedure, headed, headed_as, with_heading}
+use Rattle.check_block.specs.Headings.{standing_of, standing_elaborated, standing_from, name_standing, nested_meaning, module_procedure, set_heading, headed_as, with_heading}
 use Rattle.check_block.specs.Declarations.{Course, local_meaning, finished_local, with_locals, decl_layer}
 use Rattle.law_well_formed.specs.Formed.{Holds, fine, broken}
 use Rattle.law_well_formed.proofs.Basics.{then_holds, holds_weaker, any_holds}
@@ -91,7 +91,7 @@ module _ (base : Types) where
   procedure_type_in s (Ok t) h = (record { started = h.0.started; types = h.0.types; once = h.0.once; names = h.0.names; outer = h.0.outer; tables = h.0.tables }, h.1)
   procedure_type_in s (Err e) h = h
 
-  variable_in : {T : Type 0} (s : Scope T) (name : Ident) (t : Result TypeNo T) (r : Result Meaning T) → TypeIn t s → Holds (MeaningOrdered s.types) r → TypeIn t (finished s name r)
+  variable_in : {T : Type 0} (s : Scope T) (name : Ident) (t : Result TypeNo T) (r : Result Meaning T) → TypeIn t s → Holds (MeaningOrdered s.types) r → TypeIn t (finish_name s name r)
   variable_in s name t r h p = finished_as (TypeIn t) s name r h (known_ordered base s name.name (Declared Here r) h.0 p, h.1)
 
   variables_ordered : {T : Type 0} (t : Result TypeNo T) (names : List Ident) (s : Scope T) → TypeIn t s → TypeIn t (fold (finished_variable t) s names)
@@ -110,12 +110,12 @@ module _ (base : Types) where
   type_in st p = holds_weaker (λ x q. (q.0, holds_weaker (λ u k. k.1) p)) p
 
   module _ (g : Gathers) where
-    begun_ordered : (s : Scope g.Reported) (name : Ident) → ScopeOrdered base s → StateOrdered base (begun g s name)
-    begun_ordered s name h = const_holds (unless_ordered g base s name Begun h tt) (begun g s name).1
+    begun_ordered : (s : Scope g.Reported) (name : Ident) → ScopeOrdered base s → StateOrdered base (begin_name g s name)
+    begun_ordered s name h = const_holds (unless_ordered g base s name Begun h tt) (begin_name g s name).1
 
     begun_all : (names : List Ident) (st : State (Unit {0}) g.Reported) → StateOrdered base st → StateOrdered base (fold (begun_name g) st names)
     begun_all [] st p = p
-    begun_all (x ∷ xs) st p = begun_all xs (begun_name g st x) (beside_then g (begun g st.0 x).1 p (λ h. begun_ordered st.0 x h))
+    begun_all (x ∷ xs) st p = begun_all xs (begun_name g st x) (beside_then g (begin_name g st.0 x).1 p (λ h. begun_ordered st.0 x h))
 
     -- ---- headings
 
@@ -135,30 +135,30 @@ module _ (base : Types) where
         let r : TypeIn t.1 (with_procedure_type t.0 t.1) = procedure_type_in t.0 t.1 q in
         const_holds (unless_ordered g base (with_procedure_type t.0 t.1) h.name (Declared Here (procedure_meaning t.0.types.home (length t.0.procedures) t.1)) r.0 (then_holds r.1 (λ u z. fine _ z))) d.1)))
 
-    new_by : (b : Bool) (s : Scope g.Reported) (name : List ℕ) (n : ℕ) (t : Result TypeNo g.Reported) → TypeIn t s → ScopeOrdered base (cond b (module_procedure s name t) (headed name (nested_meaning s.level n t) s))
+    new_by : (b : Bool) (s : Scope g.Reported) (name : List ℕ) (n : ℕ) (t : Result TypeNo g.Reported) → TypeIn t s → ScopeOrdered base (cond b (module_procedure s name t) (set_heading name (nested_meaning s.level n t) s))
     new_by true s name n t h =
         let r : TypeIn t (with_procedure_type s t) = procedure_type_in s t h in
         known_ordered base (with_procedure_type s t) name (Headed (procedure_meaning s.types.home (length s.procedures) t)) r.0 (then_holds r.1 (λ u z. fine _ z))
     new_by false s name n t h = known_ordered base s name (Headed (nested_meaning s.level n t)) h.0 (then_holds h.1 (λ u z. fine _ z))
 
-    heading_by : (s : Scope g.Reported) (h : Heading) (n : ℕ) (o : Standing) → name_standing (found h.name.name s.own) ≡ o → ScopeOrdered base s → StateOrdered base (headed_as g s h n (heading_of g s h) o)
+    heading_by : (s : Scope g.Reported) (h : Heading) (n : ℕ) (o : Standing) → name_standing (find_name h.name.name s.own) ≡ o → ScopeOrdered base s → StateOrdered base (headed_as g s h n (heading_of g s h) o)
     heading_by s h n Free e k =
         let t : State TypeNo g.Reported = with_made s (heading_of g s h) in
         then_holds (heading_in s h k) (λ x q. fine tt (new_by (t.0.level == 0) t.0 h.name.name n t.1 q))
     heading_by s h n (Awaited p) e k =
-        const_holds (known_ordered base s h.name.name (Headed (Ok (meaning.Procedure p))) k (fine (meaning.Procedure p) (awaited_known s.types (found h.name.name s.own) p (name_found s.types h.name.name s.own k.names) e))) _
+        const_holds (known_ordered base s h.name.name (Headed (Ok (meaning.Procedure p))) k (fine (meaning.Procedure p) (awaited_known s.types (find_name h.name.name s.own) p (name_found s.types h.name.name s.own k.names) e))) _
     heading_by s h n Taken e k = const_holds k _
 
     with_heading_ordered : (s : Scope g.Reported) (h : Heading) (n : ℕ) → ScopeOrdered base s → StateOrdered base (with_heading g s n h)
     with_heading_ordered s h n k =
-        let o : Standing = name_standing (found h.name.name s.own) in
+        let o : Standing = name_standing (find_name h.name.name s.own) in
         beside_then g (headed_as g s h n (heading_of g s h) o).1 (const_holds k (names_of g h)) (λ l. heading_by s h n o refl l)
 
     -- ---- constants, types and variables
 
     constant_ordered : (st : State (Unit {0}) g.Reported) (c : Constant) → StateOrdered base st → StateOrdered base (with_constant g st c)
     constant_ordered st c p =
-        let b : State (Unit {0}) g.Reported = begun g st.0 c.name in
+        let b : State (Unit {0}) g.Reported = begin_name g st.0 c.name in
         let v : Result Value g.Reported = constant g b.0 (part g c.value) in
         beside_then g (beside g b.1 (nothing_reported v)) p (λ h.
         beside_then g (nothing_reported v) (begun_ordered st.0 c.name h) (λ k.
@@ -170,7 +170,7 @@ module _ (base : Types) where
 
     type_ordered : (st : State (Unit {0}) g.Reported) (d : TypeDecl) → StateOrdered base st → StateOrdered base (with_type g st d)
     type_ordered st d p =
-        let b : State (Unit {0}) g.Reported = begun g st.0 d.name in
+        let b : State (Unit {0}) g.Reported = begin_name g st.0 d.name in
         let t : State TypeNo g.Reported = type_of g d.of b.0 in
         beside_then g (beside g b.1 (nothing_of t.1)) p (λ h.
         beside_then g (nothing_of t.1) (begun_ordered st.0 d.name h) (λ k.

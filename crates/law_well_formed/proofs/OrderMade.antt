@@ -22,20 +22,20 @@ use Rattle.typed_tree.specs.declared.shape.Made.{Made}
 use Rattle.typed_tree.specs.declared.known_types.Types.{Types}
 use Rattle.typed_tree.specs.Known.{cells_at}
 use Rattle.m2_tree.specs.Names.{same_name}
-use Rattle.typed_tree.specs.Names.{found, entered}
+use Rattle.typed_tree.specs.Names.{find_name, enter_name}
 use Rattle.check_scope.specs.declared.known.Known.{Known}
 use Rattle.check_scope.specs.declared.known.Known.TheVariants.{Declared}
 use Rattle.check_scope.specs.declared.known.Origin.TheVariants.{Here}
 use Rattle.check_scope.specs.declared.scope.Scope.{Scope}
-use Rattle.check_scope.specs.Scopes.{State, declared}
-use Rattle.check_scope.specs.Elaborated.{Gathers, reported, both, beside}
+use Rattle.check_scope.specs.Scopes.{State, declare_name}
+use Rattle.check_scope.specs.Elaborated.{Gathers, report, both, beside}
 use Rattle.check_expr.specs.Meanings.{part}
 use Rattle.check_type_expr.specs.declared.field.Fields.{Fields}
 use Rattle.check_type_expr.specs.Cells.{array_cells, count_at, plus}
 use Rattle.check_type_expr.specs.Fields.{no_fields, with_field, with_name}
 use Rattle.check_type_expr.specs.Named.{first_of}
-use Rattle.check_type_expr.specs.Headings.{formal_of, result_of, procedure_made, joined_formal, with_parameter, procedure_type, repeated, joined_formals, with_section, heading_of}
-use Rattle.check_type_expr.specs.Made.{next_type, with_shape, with_made, too_many, enumeration_constant, enumeration_scalar, listed, enumeration, subrange, simple_type, simple_place, array_in, index_type, field_type, nothing_of, Makes, MakesFields, then_fields, array_type, record_type, fields_named, type_layer, field_layer, type_of, field_list}
+use Rattle.check_type_expr.specs.Headings.{formal_of, result_of, procedure_made, joined_formal, with_parameter, procedure_type, formal_for_each, joined_formals, with_section, heading_of}
+use Rattle.check_type_expr.specs.Made.{next_type, with_shape, with_made, too_many, enumeration_constant, enumeration_scalar, enumerate_name, enumeration, subrange, simple_type, simple_place, array_in, index_type, field_type, nothing_of, Makes, MakesFields, then_fields, array_type, record_type, fields_named, type_layer, field_layer, type_of, field_list}
 use Rattle.law_well_formed.specs.Formed.{Holds, fine, broken}
 use Rattle.law_well_formed.proofs.Basics.{then_holds, holds_weaker, where_holds, unless_holds, both_holds, any_holds}
 use Rattle.law_well_formed.proofs.Order.{has, keys, other_way, still_apart, keys_entered}
@@ -73,7 +73,7 @@ module _ (types : Types) where
   formals_more [] gs p q = q
   formals_more (f ∷ fs) gs p q = (p.0, formals_more fs gs p.1 q)
 
-  formals_repeated : (f : Formal) (names : List Ident) → is_known types f.of ≡ true → AreKnown types (of_formals (repeated f names))
+  formals_repeated : (f : Formal) (names : List Ident) → is_known types f.of ≡ true → AreKnown types (of_formals (formal_for_each f names))
   formals_repeated f [] p = tt
   formals_repeated f (x ∷ xs) p = (p, formals_repeated f xs p)
 
@@ -84,15 +84,15 @@ module _ (types : Types) where
   entered_by true t e es more p h q = (p, h.1)
   entered_by false t e es more p h q = (h.0, q)
 
-  entered_known : (name : List ℕ) (t : TypeNo) (es : List (List ℕ × TypeNo)) → is_known types t ≡ true → AreKnown types (fields_of es) → AreKnown types (fields_of (entered name t es))
+  entered_known : (name : List ℕ) (t : TypeNo) (es : List (List ℕ × TypeNo)) → is_known types t ≡ true → AreKnown types (fields_of es) → AreKnown types (fields_of (enter_name name t es))
   entered_known name t [] p h = (p, tt)
-  entered_known name t (e ∷ es) p h = entered_by (same_name name e.0) t e es (entered name t es) p h (entered_known name t es p h.1)
+  entered_known name t (e ∷ es) p h = entered_by (same_name name e.0) t e es (enter_name name t es) p h (entered_known name t es p h.1)
 
-once_by : {V : Type 0} (name : List ℕ) (k : V) (e : List ℕ × V) (es : List (List ℕ × V)) (b : Bool) → same_name name e.0 ≡ b → StandOnce (e ∷ es) → StandOnce (entered name k es) → StandOnce (cond b ((e.0, k) ∷ es) (e ∷ entered name k es))
+once_by : {V : Type 0} (name : List ℕ) (k : V) (e : List ℕ × V) (es : List (List ℕ × V)) (b : Bool) → same_name name e.0 ≡ b → StandOnce (e ∷ es) → StandOnce (enter_name name k es) → StandOnce (cond b ((e.0, k) ∷ es) (e ∷ enter_name name k es))
 once_by name k e es true q d h = d
 once_by name k e es false q d h = (ap (λ (ks : List (List ℕ)). has e.0 ks) (keys_entered name k es) ∙ still_apart e.0 name (has name (keys es)) (keys es) d.0 (other_way name e.0 q), h)
 
-once_entered : {V : Type 0} (name : List ℕ) (k : V) (es : List (List ℕ × V)) → StandOnce es → StandOnce (entered name k es)
+once_entered : {V : Type 0} (name : List ℕ) (k : V) (es : List (List ℕ × V)) → StandOnce es → StandOnce (enter_name name k es)
 once_entered name k [] d = (refl, tt)
 once_entered name k (e ∷ es) d = once_by name k e es (same_name name e.0) refl d (once_entered name k es d.1)
 
@@ -108,11 +108,11 @@ plus_few a b = by (nat_lt 131072 (a + b)) where
   by false l = refl
 
 module _ (types : Types) where
-  entered_cells : (name : List ℕ) (t : TypeNo) (es : List (List ℕ × TypeNo)) → is_some (found name es) ≡ false → cells_of_fields types (entered name t es) ≡ cells_of_fields types es + cells_at types t
+  entered_cells : (name : List ℕ) (t : TypeNo) (es : List (List ℕ × TypeNo)) → is_some (find_name name es) ≡ false → cells_of_fields types (enter_name name t es) ≡ cells_of_fields types es + cells_at types t
   entered_cells name t [] e = omega arith
   entered_cells name t (x ∷ es) e = by (same_name name x.0) e (entered_cells name t es) where
-    by : (q : Bool) → is_some (cond q (Some x.1) (found name es)) ≡ false → (is_some (found name es) ≡ false → cells_of_fields types (entered name t es) ≡ cells_of_fields types es + cells_at types t)
-        → cells_of_fields types (cond q ((x.0, t) ∷ es) (x ∷ entered name t es)) ≡ cells_at types x.1 + cells_of_fields types es + cells_at types t
+    by : (q : Bool) → is_some (cond q (Some x.1) (find_name name es)) ≡ false → (is_some (find_name name es) ≡ false → cells_of_fields types (enter_name name t es) ≡ cells_of_fields types es + cells_at types t)
+        → cells_of_fields types (cond q ((x.0, t) ∷ es) (x ∷ enter_name name t es)) ≡ cells_at types x.1 + cells_of_fields types es + cells_at types t
     by true f on = absurd (let clash : true ≡ false = f in cc)
     by false f on = let k = on f in omega (arith, k)
 
@@ -128,15 +128,15 @@ module _ (g : Gathers) (base : Types) where
   abbrev Listing : TypeNo → Scope g.Reported → Type 0
   Listing t s = ScopeOrdered base s × (is_known s.types t ≡ true)
 
-  listed_one : (t : TypeNo) (l : Scope g.Reported × ℕ × Result (Unit {0}) g.Reported) (x : Ident) → Holds (λ u. Listing t l.0) l.2 → Holds (λ u. Listing t (listed g t l x).0) (listed g t l x).2
+  listed_one : (t : TypeNo) (l : Scope g.Reported × ℕ × Result (Unit {0}) g.Reported) (x : Ident) → Holds (λ u. Listing t l.0) l.2 → Holds (λ u. Listing t (enumerate_name g t l x).0) (enumerate_name g t l x).2
   listed_one t l x p =
       let m : Known g.Reported = Declared Here (Ok (enumeration_constant t (pos l.1))) in
-      beside_then g (declared g l.0 x (Ok (enumeration_constant t (pos l.1)))).1 p (λ q.
-      const_holds (unless_as g (Listing t) l.0 x m q (known_ordered base l.0 x.name m q.0 (fine _ tt), q.1)) (declared g l.0 x (Ok (enumeration_constant t (pos l.1)))).1)
+      beside_then g (declare_name g l.0 x (Ok (enumeration_constant t (pos l.1)))).1 p (λ q.
+      const_holds (unless_as g (Listing t) l.0 x m q (known_ordered base l.0 x.name m q.0 (fine _ tt), q.1)) (declare_name g l.0 x (Ok (enumeration_constant t (pos l.1)))).1)
 
-  listed_all : (t : TypeNo) (names : List Ident) (l : Scope g.Reported × ℕ × Result (Unit {0}) g.Reported) → Holds (λ u. Listing t l.0) l.2 → Holds (λ u. Listing t (fold (listed g t) l names).0) (fold (listed g t) l names).2
+  listed_all : (t : TypeNo) (names : List Ident) (l : Scope g.Reported × ℕ × Result (Unit {0}) g.Reported) → Holds (λ u. Listing t l.0) l.2 → Holds (λ u. Listing t (fold (enumerate_name g t) l names).0) (fold (enumerate_name g t) l names).2
   listed_all t [] l p = p
-  listed_all t (x ∷ xs) l p = listed_all t xs (listed g t l x) (listed_one t l x p)
+  listed_all t (x ∷ xs) l p = listed_all t xs (enumerate_name g t l x) (listed_one t l x p)
 
   enumeration_ordered : (s : Scope g.Reported) (names : List Ident) → ScopeOrdered base s → MadeOrdered base (enumeration g s names)
   enumeration_ordered s names h =
@@ -174,7 +174,7 @@ module _ (g : Gathers) (base : Types) where
     -- ---- headings
 
     repeated_ordered : (so : Result (List Formal) g.Reported) (f : Result Formal g.Reported) (names : List Ident) → FormalsOrdered so → Holds (λ x. is_known s.types x.of ≡ true) f → FormalsOrdered (joined_formals g so f names)
-    repeated_ordered so f names p q = then_holds (both_holds g p q) (λ x k. fine _ (formals_more s.types x.0 (repeated x.1 names) k.0 (formals_repeated s.types x.1 names k.1)))
+    repeated_ordered so f names p q = then_holds (both_holds g p q) (λ x k. fine _ (formals_more s.types x.0 (formal_for_each x.1 names) k.0 (formals_repeated s.types x.1 names k.1)))
 
     sections_ordered : (xs : List Section) (so : Result (List Formal) g.Reported) → FormalsOrdered so → FormalsOrdered (fold (with_section g s) so xs)
     sections_ordered [] so p = p
@@ -223,12 +223,12 @@ module _ (g : Gathers) (base : Types) where
       let few : st.1.cells ≤ max_cells = few_by st.1.cells e in
       fine _ (h.0, (record { known = h.1.known; counted = sym (h.1.counted few); few = few }, h.1.once)))))
 
-  field_by : (types : Types) (b : Bool) (fs more : Fields) (name : Ident) → FieldsKnown types fs → (b ≡ false → FieldsKnown types more) → FieldsKnown types (cond {A = Fields × Result (Unit {0}) g.Reported} b (fs, reported g name.pos rule.DeclaredTwice) (more, Ok tt)).0
+  field_by : (types : Types) (b : Bool) (fs more : Fields) (name : Ident) → FieldsKnown types fs → (b ≡ false → FieldsKnown types more) → FieldsKnown types (cond {A = Fields × Result (Unit {0}) g.Reported} b (fs, report g name.pos rule.DeclaredTwice) (more, Ok tt)).0
   field_by types true fs more name p q = p
   field_by types false fs more name p q = q refl
 
   field_ordered : (types : Types) (t : TypeNo) (cells : ℕ) (fs : Fields) (name : Ident) → cells ≡ cells_at types t → is_known types t ≡ true → FieldsKnown types fs → FieldsKnown types (with_field g t cells fs name).0
-  field_ordered types t cells fs name same e p = field_by types (is_some (found name.name fs.names)) fs _ name p (λ new. record {
+  field_ordered types t cells fs name same e p = field_by types (is_some (find_name name.name fs.names)) fs _ name p (λ new. record {
     known = entered_known types name.name t fs.names e p.known;
     once = once_entered name.name t fs.names p.once;
     counted = λ few.

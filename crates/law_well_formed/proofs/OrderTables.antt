@@ -9,13 +9,13 @@ use Rattle.typed_tree.specs.declared.table.Table.{Table}
 use Rattle.typed_tree.specs.declared.known_types.Types.{Types}
 use Rattle.typed_tree.specs.Types.{integer, cardinal, boolean, char, bitset}
 use Rattle.m2_tree.specs.Names.{same_name}
-use Rattle.typed_tree.specs.Names.{entered}
+use Rattle.typed_tree.specs.Names.{enter_name}
 use Rattle.check_scope.specs.declared.known.Origin.{Origin}
 use Rattle.check_scope.specs.declared.known.Origin.TheVariants as origin
 use Rattle.check_scope.specs.declared.known.Known.{Known}
 use Rattle.check_scope.specs.declared.known.Known.TheVariants.{Later, Ahead, Begun, Headed, Declared}
 use Rattle.check_scope.specs.declared.scope.Scope.{Scope}
-use Rattle.check_definition.specs.Predeclared.{predeclared_as, with_types, truth, with_truth, with_functions, with_bounds, with_procedures, predeclared, others_of, first_scope}
+use Rattle.check_definition.specs.Predeclared.{predeclared_as, with_types, truth, with_truth, with_functions, with_bounds, with_procedures, predeclared_names, others_of, first_scope}
 use Rattle.check_definition.specs.Export.{with_meaning, with_declared, with_known, with_export, exports}
 use Rattle.law_well_formed.specs.Formed.{Holds, fine, broken}
 use Rattle.law_well_formed.specs.Ordered.{OthersOrdered, BeginsWith}
@@ -45,8 +45,8 @@ module _ (types : Types) (T : Type 0) where
   procedures_ordered : (ns : List (List ℕ × Known T)) → NamesOrdered types ns → NamesOrdered types (with_procedures ns)
   procedures_ordered ns h = as_ordered (codes "HALT") (meaning.Standard Halt) (predeclared_as (codes "EXCL") (meaning.Standard Excl) (predeclared_as (codes "INCL") (meaning.Standard Incl) (predeclared_as (codes "DEC") (meaning.Standard Dec) (predeclared_as (codes "INC") (meaning.Standard Inc) ns)))) tt (as_ordered (codes "EXCL") (meaning.Standard Excl) (predeclared_as (codes "INCL") (meaning.Standard Incl) (predeclared_as (codes "DEC") (meaning.Standard Dec) (predeclared_as (codes "INC") (meaning.Standard Inc) ns))) tt (as_ordered (codes "INCL") (meaning.Standard Incl) (predeclared_as (codes "DEC") (meaning.Standard Dec) (predeclared_as (codes "INC") (meaning.Standard Inc) ns)) tt (as_ordered (codes "DEC") (meaning.Standard Dec) (predeclared_as (codes "INC") (meaning.Standard Inc) ns) tt (as_ordered (codes "INC") (meaning.Standard Inc) ns tt h))))
 
-  pub predeclared_ordered : NamesOrdered types (predeclared {T = T})
-  unfolding predeclared
+  pub predeclared_ordered : NamesOrdered types (predeclared_names {T = T})
+  unfolding predeclared_names
   predeclared_ordered =
       procedures_ordered (with_bounds (with_functions (with_truth (with_types [])))) (bounds_ordered (with_functions (with_truth (with_types [])))
       (functions_ordered (with_truth (with_types [])) (truth_ordered (with_types []) (types_ordered [] tt))))
@@ -68,9 +68,9 @@ module _ (types : Types) where
   exports_by true e m es more p h q = (p, h.1)
   exports_by false e m es more p h q = (h.0, q)
 
-  exports_more : (name : List ℕ) (m : Meaning) (es : List (List ℕ × Meaning)) → MeaningOrdered types m → ExportsOrdered types es → ExportsOrdered types (entered name m es)
+  exports_more : (name : List ℕ) (m : Meaning) (es : List (List ℕ × Meaning)) → MeaningOrdered types m → ExportsOrdered types es → ExportsOrdered types (enter_name name m es)
   exports_more name m [] p h = (p, tt)
-  exports_more name m (e ∷ es) p h = exports_by (same_name name e.0) e m es (entered name m es) p h (exports_more name m es p h.1)
+  exports_more name m (e ∷ es) p h = exports_by (same_name name e.0) e m es (enter_name name m es) p h (exports_more name m es p h.1)
 
   meaning_exported : {T : Type 0} (so : List (List ℕ × Meaning)) (name : List ℕ) (r : Result Meaning T) → Holds (MeaningOrdered types) r → ExportsOrdered types so → ExportsOrdered types (with_meaning so name r)
   meaning_exported so name _ (fine m p) h = exports_more name m so p h

@@ -21,9 +21,9 @@ use Rattle.typed_tree.specs.declared.meaning.Meaning.{Meaning}
 use Rattle.typed_tree.specs.declared.meaning.Value.{Value}
 use Rattle.typed_tree.specs.declared.shape.Made.{Made}
 use Rattle.typed_tree.specs.declared.types.TypeNo.{TypeNo}
-use Rattle.typed_tree.specs.Names.{found, place_of}
-use Rattle.check_scope.specs.Elaborated.{Gathers, reported}
-use Rattle.check_scope.specs.Scopes.{State, is_free, with_known, unless_declared, begun, is_begun, finished, is_again, imported, unless_marked, marked}
+use Rattle.typed_tree.specs.Names.{find_name, place_of}
+use Rattle.check_scope.specs.Elaborated.{Gathers, report}
+use Rattle.check_scope.specs.Scopes.{State, is_free, with_known, unless_declared, begin_name, is_begun, finish_name, is_again, import_name, unless_marked, mark_name}
 use Rattle.check_scope.specs.declared.known.Origin.{Origin}
 use Rattle.check_scope.specs.declared.known.Origin.TheVariants.{Module, Export}
 use Rattle.check_scope.specs.declared.known.Known.{Known}
@@ -35,7 +35,7 @@ use Rattle.check_expr.specs.Meanings.{part}
 use Rattle.check_type_expr.specs.declared.field.Fields.{Fields}
 use Rattle.check_type_expr.specs.Fields.{no_fields}
 use Rattle.check_type_expr.specs.Headings.{heading_of}
-use Rattle.check_type_expr.specs.Made.{next_type, with_shape, with_made, enumeration_scalar, too_many, listed, simple_type, index_type, Makes, MakesFields, then_fields, type_layer, field_layer, type_of, field_list}
+use Rattle.check_type_expr.specs.Made.{next_type, with_shape, with_made, enumeration_scalar, too_many, enumerate_name, simple_type, index_type, Makes, MakesFields, then_fields, type_layer, field_layer, type_of, field_list}
 use Rattle.check_definition.specs.Marking.{Marks, marked_later, marked_simple, then_marks, marked_in, marked_field, marked_constant, marked_type, marked_variables, marked_def}
 use Rattle.check_definition.specs.Marking as marking
 use Rattle.check_definition.specs.Declare.{constant_meaning, with_constant, type_meaning, brings_with, with_type, begun_name, variable_meaning, with_variable_type, finished_variable, with_variables, procedure_meaning, with_procedure_type, with_procedure, with_def}
@@ -96,15 +96,15 @@ module _ {T : Type 0} where
   abbrev same : Scope T → Scope T
   same s = s
 
-  finished_leads : (s : Scope T) (name : Ident) (m : Result Meaning T) → IfOk m (IsExport s.types.home) → Leads s (finished s name m)
-  finished_leads s name m p = either_scope s (is_begun (found name.name s.own)) (with_known name.name (Declared Here m) s) s (known_leads name.name (Declared Here m) s p) (same_leads s)
+  finished_leads : (s : Scope T) (name : Ident) (m : Result Meaning T) → IfOk m (IsExport s.types.home) → Leads s (finish_name s name m)
+  finished_leads s name m p = either_scope s (is_begun (find_name name.name s.own)) (with_known name.name (Declared Here m) s) s (known_leads name.name (Declared Here m) s p) (same_leads s)
 
   unless_marked_leads : (name : List ℕ) (k : Known T) (s : Scope T) (o : Option (Known T)) → OwnKnown s.types.home k → Leads s (unless_marked name k s o)
   unless_marked_leads name k s (Some x) p = same_leads s
   unless_marked_leads name k s None p = known_leads name k s p
 
-  marked_leads : (name : Ident) (k : Known T) (s : Scope T) → OwnKnown s.types.home k → Leads s (marked name k s)
-  marked_leads name k s p = unless_marked_leads name.name k s (found name.name s.own) p
+  marked_leads : (name : Ident) (k : Known T) (s : Scope T) → OwnKnown s.types.home k → Leads s (mark_name name k s)
+  marked_leads name k s p = unless_marked_leads name.name k s (find_name name.name s.own) p
 
   -- ---- marks
 
@@ -175,7 +175,7 @@ module _ (T : Type 0) where
   constant_marks s c = marked_leads c.name Later s tt
 
   pub type_marks_of : (s : Scope T) (t : TypeDecl) → Leads s (marked_type s t)
-  type_marks_of s t = marked_in_leads t.of (marked t.name Later s) ⨾ marked_leads t.name Later s tt
+  type_marks_of s t = marked_in_leads t.of (mark_name t.name Later s) ⨾ marked_leads t.name Later s tt
 
   pub variables_marks : (s : Scope T) (v : Variables) → Leads s (marked_variables s v)
   variables_marks s v = marked_in_leads v.of (fold marked_later s v.names) ⨾ later_leads v.names s
@@ -222,17 +222,17 @@ module _ {T : Type 0} where
 
 module _ (g : Gathers) where
   unless_leads : (s : Scope g.Reported) (name : Ident) (k : Known g.Reported) → OwnKnown s.types.home k → Leads s (unless_declared g s name k).0
-  unless_leads s name k p = either s (is_free (found name.name s.own)) (with_known name.name k s, Ok tt) (s, reported g name.pos rule.DeclaredTwice) (known_leads name.name k s p) (same_leads s)
+  unless_leads s name k p = either s (is_free (find_name name.name s.own)) (with_known name.name k s, Ok tt) (s, report g name.pos rule.DeclaredTwice) (known_leads name.name k s p) (same_leads s)
 
-  begun_leads : (s : Scope g.Reported) (name : Ident) → Leads s (begun g s name).0
+  begun_leads : (s : Scope g.Reported) (name : Ident) → Leads s (begin_name g s name).0
   begun_leads s name = unless_leads s name Begun tt
 
-  listed_leads : (t : TypeNo) (l : Scope g.Reported × ℕ × Result (Unit {0}) g.Reported) (x : Ident) → Leads l.0 (listed g t l x).0
+  listed_leads : (t : TypeNo) (l : Scope g.Reported × ℕ × Result (Unit {0}) g.Reported) (x : Ident) → Leads l.0 (enumerate_name g t l x).0
   listed_leads t l x = unless_leads l.0 x _ tt
 
   simple_leads : (s : Scope g.Reported) (t : Simple) → Leads s (simple_type g s t).0
   simple_leads s (simple.Named q) = same_leads s
-  simple_leads s (simple.Enumeration at names) = fold_leads (λ (l : Scope g.Reported × ℕ × Result (Unit {0}) g.Reported). l.0) (listed g (next_type s)) (listed_leads (next_type s)) names (with_shape s (enumeration_scalar (next_type s) names), 0, too_many g names) ⨾ (record { home = refl; own = λ p. p })
+  simple_leads s (simple.Enumeration at names) = fold_leads (λ (l : Scope g.Reported × ℕ × Result (Unit {0}) g.Reported). l.0) (enumerate_name g (next_type s)) (listed_leads (next_type s)) names (with_shape s (enumeration_scalar (next_type s) names), 0, too_many g names) ⨾ (record { home = refl; own = λ p. p })
   simple_leads s (simple.Subrange o at low high) = made_leads s _
 
   abbrev LeadingMakes : Makes g → Type 0
@@ -296,12 +296,12 @@ module _ (g : Gathers) where
 
   pub constant_leads : (st : State (Unit {0}) g.Reported) (c : Constant) → Leads st.0 (with_constant g st c).0
   constant_leads st c =
-      let b = begun g st.0 c.name in
+      let b = begin_name g st.0 c.name in
       finished_leads b.0 c.name (constant_meaning (constant g b.0 (part g c.value))) (constant_own b.0.types.home (constant g b.0 (part g c.value))) ⨾ begun_leads st.0 c.name
 
   pub type_decl_leads : (st : State (Unit {0}) g.Reported) (d : TypeDecl) → Leads st.0 (with_type g st d).0
   type_decl_leads st d =
-      let b = begun g st.0 d.name in
+      let b = begin_name g st.0 d.name in
       let t = type_of g d.of b.0 in
       finished_leads t.0 d.name (type_meaning t.1 (brings_with d.of)) (type_own t.0.types.home t.1 (brings_with d.of)) ⨾ (type_of_leads d.of b.0 ⨾ begun_leads st.0 d.name)
 
@@ -327,10 +327,10 @@ module _ (g : Gathers) where
 
   -- ---- imports
 
-  imported_leads : (s : Scope g.Reported) (at : Pos) (name : List ℕ) (o : Origin) (m : Result Meaning g.Reported) → OwnFrom s.types.home o m → Leads s (imported g s at name o m).0
+  imported_leads : (s : Scope g.Reported) (at : Pos) (name : List ℕ) (o : Origin) (m : Result Meaning g.Reported) → OwnFrom s.types.home o m → Leads s (import_name g s at name o m).0
   imported_leads s at name o m p =
-      either s (is_again (found name s.own) o) (s, Ok tt) (cond (is_free (found name s.own)) (with_known name (Declared o m) s, Ok tt) (s, reported g at rule.DeclaredTwice)) (same_leads s)
-      (either s (is_free (found name s.own)) (with_known name (Declared o m) s, Ok tt) (s, reported g at rule.DeclaredTwice) (known_leads name (Declared o m) s p) (same_leads s))
+      either s (is_again (find_name name s.own) o) (s, Ok tt) (cond (is_free (find_name name s.own)) (with_known name (Declared o m) s, Ok tt) (s, report g at rule.DeclaredTwice)) (same_leads s)
+      (either s (is_free (find_name name s.own)) (with_known name (Declared o m) s, Ok tt) (s, report g at rule.DeclaredTwice) (known_leads name (Declared o m) s p) (same_leads s))
 
   module_as_leads : (s : Scope g.Reported) (name : Ident) (r : Result ℕ g.Reported) → Leads s (with_module_as g s name r).0
   module_as_leads s name (Ok k) = imported_leads s name.pos name.name (Module k) _ tt
@@ -348,7 +348,7 @@ module _ (g : Gathers) where
 
   place_leads : (s : Scope g.Reported) (name : Ident) (k : ℕ) (es : List (List ℕ × Meaning)) (o : Option ℕ) → Leads s (from_place g s name k es o).0
   place_leads s name k es None = same_leads s
-  place_leads s name k es (Some i) = taken_leads s name.pos k es i (reported_of_taken g name.pos k (found name.name s.own))
+  place_leads s name k es (Some i) = taken_leads s name.pos k es i (reported_of_taken g name.pos k (find_name name.name s.own))
 
   from_leads : (k : ℕ) (es : List (List ℕ × Meaning)) (st : State (Unit {0}) g.Reported) (name : Ident) → Leads st.0 (with_from g k es st name).0
   from_leads k es st name = place_leads st.0 name k es (place_of name.name es)

@@ -15,7 +15,7 @@ use Rattle.typed_tree.specs.declared.typed_module.Routine.{Routine}
 use Rattle.typed_tree.specs.declared.typed_module.TypedModule.{TypedModule}
 use Rattle.typed_tree.specs.declared.types.TypeNo.{TypeNo}
 use Rattle.typed_tree.specs.Known.{made_at}
-use Rattle.typed_tree.specs.Names.{found}
+use Rattle.typed_tree.specs.Names.{find_name}
 use Rattle.check_scope.specs.Elaborated.{Gathers}
 use Rattle.check_scope.specs.declared.known.Known.{Known}
 use Rattle.check_scope.specs.declared.known.Known.TheVariants.{Later, Ahead, Begun, Headed, Declared}
@@ -24,7 +24,7 @@ use Rattle.check_block.specs.Nesting.{number_behind}
 use Rattle.check_block.specs.Naming.{with_marks}
 use Rattle.check_block.specs.Declarations.{Course}
 use Rattle.law_modules.specs.WellFormed.{IsRoutine}
-use Rattle.law_well_formed.specs.FormedScopes.{picked, is_awaiting, FormedOwn, Leads}
+use Rattle.law_well_formed.specs.FormedScopes.{holds_of, is_awaiting, FormedOwn, Leads}
 use Rattle.law_well_formed.proofs.ScopesGrowth.{leads_refl, leads_then}
 use Rattle.law_well_formed.proofs.ScopesDeclarations.{ResultIs, decl_leads, layer_marks, decl_reported, head_reported, nested_head}
 use Rattle.check_body.specs.Elaborating.{Elaborates}
@@ -131,7 +131,7 @@ module _ (g : Gathers) (elaborates : Elaborates g.Reported) (ends : List ℕ) wh
   HeadOf own types level n (constants_step cs) = Unit {0}
   HeadOf own types level n (types_step ts) = Unit {0}
   HeadOf own types level n (variables_step vs) = Unit {0}
-  HeadOf own types level n (procedure_step h block ks f) = (t : TypeNo) × ((found h.name.name own ≡ Some (Headed (Ok (meaning.LocalProcedure (record { level = level; number = n; heading = t }))))) × ResultIs types t h.result)
+  HeadOf own types level n (procedure_step h block ks f) = (t : TypeNo) × ((find_name h.name.name own ≡ Some (Headed (Ok (meaning.LocalProcedure (record { level = level; number = n; heading = t }))))) × ResultIs types t h.result)
 
   abbrev pub HeadsIn : (own : List (List ℕ × Known g.Reported)) (types : Types) (level n : ℕ) {xs : List (Steps g.Reported)} {ls : List ℕ} → AreSteps g elaborates ends xs ls → Type 0
   HeadsIn own types level n no_steps = Unit {0}
@@ -145,7 +145,7 @@ module _ (g : Gathers) (elaborates : Elaborates g.Reported) (ends : List ℕ) wh
 
   module _ (own : List (List ℕ × Known g.Reported)) (types : Types) (level : ℕ) where
     head_of : {x : Steps g.Reported} {ks : List ℕ} (p : IsStep g elaborates ends x ks) → (c : Course g.Reported) (end : Scope g.Reported) → (m : TypedModule) (opens : ℕ → Bool) → Leads m opens (declared_by c x).0 end → end.own ≡ own → end.types ≡ types → c.0.level ≡ level
-        → (c.0.level == 0) ≡ false → ((name : List ℕ) → picked is_awaiting (found name c.0.own) ≡ false) → (declared_by c x).1 ≡ Ok tt → HeadOf own types level c.2 p
+        → (c.0.level == 0) ≡ false → ((name : List ℕ) → holds_of is_awaiting (find_name name c.0.own) ≡ false) → (declared_by c x).1 ≡ Ok tt → HeadOf own types level c.2 p
     head_of (constants_step cs) c end m opens later e u v l a q = tt
     head_of (types_step ts) c end m opens later e u v l a q = tt
     head_of (variables_step vs) c end m opens later e u v l a q = tt
@@ -153,7 +153,7 @@ module _ (g : Gathers) (elaborates : Elaborates g.Reported) (ends : List ℕ) wh
         let k = nested_head g c.0 h c.2 l (a h.name.name) (head_reported g ends c h q) in (
           k.0,
           (
-            subst (λ (es : List (List ℕ × Known g.Reported)). found h.name.name es ≡ Some (Headed (Ok (meaning.LocalProcedure (record { level = level; number = c.2; heading = k.0 }))))) e
+            subst (λ (es : List (List ℕ × Known g.Reported)). find_name h.name.name es ≡ Some (Headed (Ok (meaning.LocalProcedure (record { level = level; number = c.2; heading = k.0 }))))) e
                 (later.heads h.name.name _ (k.1.0 ∙ ap (λ (n : ℕ). Some (Headed (Ok (meaning.LocalProcedure (record { level = n; number = c.2; heading = k.0 }))))) v)),
             (k.1.1.0, (subst (λ (z : Types). made_at z k.0 ≡ Some k.1.1.0) u (later.types k.0 k.1.1.0 k.1.1.1.0), k.1.1.1.1)),
           ),
@@ -161,7 +161,7 @@ module _ (g : Gathers) (elaborates : Elaborates g.Reported) (ends : List ℕ) wh
 
     -- behind all declarations, the headings of procedures
     pub heads_in : {xs : List (Steps g.Reported)} {ls : List ℕ} (ps : AreSteps g elaborates ends xs ls) → (c : Course g.Reported) (end : Scope g.Reported) → (fold declared_by c xs).0 ≡ end → end.own ≡ own → end.types ≡ types → c.0.level ≡ level
-        → (c.0.level == 0) ≡ false → ((name : List ℕ) → picked is_awaiting (found name c.0.own) ≡ false) → AreNumbered ends c.2 ls → (fold declared_by c xs).1 ≡ Ok tt → HeadsIn own types level c.2 ps
+        → (c.0.level == 0) ≡ false → ((name : List ℕ) → holds_of is_awaiting (find_name name c.0.own) ≡ false) → AreNumbered ends c.2 ls → (fold declared_by c xs).1 ≡ Ok tt → HeadsIn own types level c.2 ps
     heads_in no_steps c end e u v w l a n q = tt
     heads_in (more_steps x xs ks ls p ps) c end e u v w l a n q =
         let m : TypedModule = nothing_at c.0.types.home in
@@ -217,7 +217,7 @@ module _ (g : Gathers) (elaborates : Elaborates g.Reported) (ends : List ℕ) wh
       step_formed (variables_step vs) c n end m' opens' later e k r = decl_leads m opens g {A = Steps g.Reported} {B = ChecksBlock g.Reported} ends c (layer.Variables vs) tt
       step_formed (procedure_step h block ks f) c n end m' opens' later e k r =
           decl_leads m opens g {A = Steps g.Reported} {B = ChecksBlock g.Reported} ends c (layer.Procedure h block)
-          (λ x q z. subst (λ (y : Meaning). FormedOwn m opens y) (ap (λ (o : Option (Known g.Reported)). got x o) (sym k.1.0 ∙ sym (ap (λ (es : List (List ℕ × Known g.Reported)). found h.name.name es) e) ∙ later.heads h.name.name (Ok x) q)) (r, tt))
+          (λ x q z. subst (λ (y : Meaning). FormedOwn m opens y) (ap (λ (o : Option (Known g.Reported)). got x o) (sym k.1.0 ∙ sym (ap (λ (es : List (List ℕ × Known g.Reported)). find_name h.name.name es) e) ∙ later.heads h.name.name (Ok x) q)) (r, tt))
 
       pub all_formed : {xs : List (Steps g.Reported)} {ls : List ℕ} (ps : AreSteps g elaborates ends xs ls) → (c : Course g.Reported) (n : ℕ) (end : Scope g.Reported) → (fold declared_by c xs).0 ≡ end → end.own ≡ own
           → (k : HeadsIn own types level n ps) → RoutinesIn m.locals n ps k → Leads m opens c.0 (fold declared_by c xs).0

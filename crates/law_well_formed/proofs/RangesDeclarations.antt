@@ -15,9 +15,9 @@ use Rattle.typed_tree.specs.declared.meaning.LocalKind.TheVariants as kind
 use Rattle.typed_tree.specs.declared.meaning.Meaning.{Meaning}
 use Rattle.typed_tree.specs.declared.meaning.Meaning.TheVariants as meaning
 use Rattle.typed_tree.specs.declared.meaning.Value.{Value}
-use Rattle.typed_tree.specs.Names.{found}
+use Rattle.typed_tree.specs.Names.{find_name}
 use Rattle.check_scope.specs.Elaborated.{Gathers, beside, ◌▷◌}
-use Rattle.check_scope.specs.Scopes.{State, begun}
+use Rattle.check_scope.specs.Scopes.{State, begin_name}
 use Rattle.check_scope.specs.declared.known.Known.TheVariants.{Begun, Headed, Declared}
 use Rattle.check_scope.specs.declared.known.Origin.TheVariants.{Here}
 use Rattle.check_scope.specs.declared.scope.Scope.{Scope}
@@ -28,7 +28,7 @@ use Rattle.check_type_expr.specs.Made.{nothing_of, type_of, with_made}
 use Rattle.check_definition.specs.Declare.{nothing_reported, constant_meaning, with_constant, brings_with, type_meaning, with_type, begun_name, variable_meaning, with_variable_type, finished_variable, with_variables, procedure_meaning, with_procedure_type, declared_procedure, with_procedure, with_def}
 use Rattle.check_block.specs.declared.heading.Standing.{Standing}
 use Rattle.check_block.specs.declared.heading.Standing.TheVariants.{Free, Awaited, Taken}
-use Rattle.check_block.specs.Headings.{name_standing, nested_meaning, module_procedure, headed, headed_as, with_heading}
+use Rattle.check_block.specs.Headings.{name_standing, nested_meaning, module_procedure, set_heading, headed_as, with_heading}
 use Rattle.check_block.specs.Declarations.{Course, local_meaning, finished_local, with_locals, decl_layer}
 use Rattle.law_well_formed.specs.Formed.{Holds, fine, broken}
 use Rattle.law_well_formed.proofs.Basics.{then_holds}
@@ -62,12 +62,12 @@ locals_ranged t (x ∷ xs) s h =
     (meant_holds (λ u. meaning.Local (record { level = s.level; number = length s.variables; kind = kind.Variable; of = u })) (λ u. tt) t))
 
 module _ (g : Gathers) where
-  begun_ranged : (s : Scope g.Reported) (name : Ident) → ScopeRanged s → StateRanged (begun g s name)
-  begun_ranged s name h = const_holds (unless_ranged g s name Begun h tt) (begun g s name).1
+  begun_ranged : (s : Scope g.Reported) (name : Ident) → ScopeRanged s → StateRanged (begin_name g s name)
+  begun_ranged s name h = const_holds (unless_ranged g s name Begun h tt) (begin_name g s name).1
 
   begun_all : (names : List Ident) (st : State (Unit {0}) g.Reported) → StateRanged st → StateRanged (fold (begun_name g) st names)
   begun_all [] st p = p
-  begun_all (x ∷ xs) st p = begun_all xs (begun_name g st x) (beside_then g (begun g st.0 x).1 p (λ h. begun_ranged st.0 x h))
+  begun_all (x ∷ xs) st p = begun_all xs (begun_name g st x) (beside_then g (begin_name g st.0 x).1 p (λ h. begun_ranged st.0 x h))
 
   -- ---- headings
 
@@ -87,7 +87,7 @@ module _ (g : Gathers) where
       d.1)))
 
   new_by : (b : Bool) (s : Scope g.Reported) (name : List ℕ) (n : ℕ) (t : Result TypeNo g.Reported) → ScopeRanged s
-      → ScopeRanged (cond b (module_procedure s name t) (headed name (nested_meaning s.level n t) s))
+      → ScopeRanged (cond b (module_procedure s name t) (set_heading name (nested_meaning s.level n t) s))
   new_by true s name n t h =
       known_ranged (with_procedure_type s t) name (Headed (procedure_meaning s.types.home (length s.procedures) t)) (procedure_type_ranged s t h)
       (meant_holds (λ u. meaning.Procedure (record { home = s.types.home; number = length s.procedures; heading = u })) (λ u. tt) t)
@@ -102,7 +102,7 @@ module _ (g : Gathers) where
 
   with_heading_ranged : (s : Scope g.Reported) (h : Heading) (n : ℕ) → ScopeRanged s → StateRanged (with_heading g s n h)
   with_heading_ranged s h n k =
-      let o : Standing = name_standing (found h.name.name s.own) in
+      let o : Standing = name_standing (find_name h.name.name s.own) in
       beside_then g (headed_as g s h n (heading_of g s h) o).1 (const_holds k (names_of g h)) (λ l. heading_by s h n o l)
 
   module _ (known : ConstantsAreRanged g) where
@@ -110,7 +110,7 @@ module _ (g : Gathers) where
 
     constant_ranged : (st : State (Unit {0}) g.Reported) (c : Constant) → fits c.value ≡ true → StateRanged st → StateRanged (with_constant g st c)
     constant_ranged st c e p =
-        let b : State (Unit {0}) g.Reported = begun g st.0 c.name in
+        let b : State (Unit {0}) g.Reported = begin_name g st.0 c.name in
         let v : Result Value g.Reported = constant g b.0 (part g c.value) in
         beside_then g (beside g b.1 (nothing_reported v)) p (λ h.
         beside_then g (nothing_reported v) (begun_ranged st.0 c.name h) (λ k.
@@ -122,7 +122,7 @@ module _ (g : Gathers) where
 
     type_ranged : (st : State (Unit {0}) g.Reported) (d : TypeDecl) → fits_type d.of ≡ true → StateRanged st → StateRanged (with_type g st d)
     type_ranged st d e p =
-        let b : State (Unit {0}) g.Reported = begun g st.0 d.name in
+        let b : State (Unit {0}) g.Reported = begin_name g st.0 d.name in
         let t : State TypeNo g.Reported = type_of g d.of b.0 in
         beside_then g (beside g b.1 (nothing_of t.1)) p (λ h.
         beside_then g (nothing_of t.1) (begun_ranged st.0 d.name h) (λ k.

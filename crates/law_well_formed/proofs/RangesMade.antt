@@ -21,18 +21,18 @@ use Rattle.typed_tree.specs.declared.meaning.Meaning.{Meaning}
 use Rattle.typed_tree.specs.declared.known_types.Types.{Types}
 use Rattle.typed_tree.specs.Known.{scalar_at, cells_at, range}
 use Rattle.m2_tree.specs.Names.{same_name}
-use Rattle.typed_tree.specs.Names.{found, entered}
+use Rattle.typed_tree.specs.Names.{find_name, enter_name}
 use Rattle.check_scope.specs.declared.known.Known.{Known}
 use Rattle.check_scope.specs.declared.known.Known.TheVariants.{Declared}
 use Rattle.check_scope.specs.declared.known.Origin.TheVariants.{Here}
 use Rattle.check_scope.specs.declared.scope.Scope.{Scope}
-use Rattle.check_scope.specs.Scopes.{State, is_free, with_known, unless_declared, declared, is_begun, finished, unless_marked, marked}
-use Rattle.check_scope.specs.Elaborated.{Gathers, reported, both, beside}
+use Rattle.check_scope.specs.Scopes.{State, is_free, with_known, unless_declared, declare_name, is_begun, finish_name, unless_marked, mark_name}
+use Rattle.check_scope.specs.Elaborated.{Gathers, report, both, beside}
 use Rattle.check_type_expr.specs.declared.field.Fields.{Fields}
 use Rattle.check_type_expr.specs.Cells.{array_cells, count_at}
 use Rattle.check_type_expr.specs.Fields.{no_fields, with_field, with_name}
 use Rattle.check_type_expr.specs.Headings.{procedure_made, with_section, result_of, heading_of}
-use Rattle.check_type_expr.specs.Made.{next_type, with_shape, with_made, reported_at, too_many, enumeration_constant, enumeration_scalar, listed, enumeration, simple_type, simple_place, array_in, index_type, field_type, nothing_of, Makes, MakesFields, then_fields, array_type, record_type, fields_named, type_layer, field_layer, type_of, field_list}
+use Rattle.check_type_expr.specs.Made.{next_type, with_shape, with_made, reported_at, too_many, enumeration_constant, enumeration_scalar, enumerate_name, enumeration, simple_type, simple_place, array_in, index_type, field_type, nothing_of, Makes, MakesFields, then_fields, array_type, record_type, fields_named, type_layer, field_layer, type_of, field_list}
 use Rattle.law_well_formed.specs.Formed.{Holds, fine, broken}
 use Rattle.law_well_formed.proofs.Basics.{then_holds, holds_weaker, reported_holds, where_holds, any_holds}
 use Rattle.law_modules.specs.Ranges.{IsRange, IsRanged}
@@ -65,41 +65,41 @@ names_by : {T : Type 0} (types : Types) (b : Bool) (k : Known T) (e : List ℕ �
 names_by types true k e es more p all q = (p, all.1)
 names_by types false k e es more p all q = (all.0, q)
 
-pub names_more : {T : Type 0} (types : Types) (name : List ℕ) (k : Known T) (es : List (List ℕ × Known T)) → KnownRanged types k → NamesRanged types es → NamesRanged types (entered name k es)
+pub names_more : {T : Type 0} (types : Types) (name : List ℕ) (k : Known T) (es : List (List ℕ × Known T)) → KnownRanged types k → NamesRanged types es → NamesRanged types (enter_name name k es)
 names_more types name k [] p all = (p, tt)
-names_more types name k (e ∷ es) p all = names_by types (same_name name e.0) k e es (entered name k es) p all (names_more types name k es p all.1)
+names_more types name k (e ∷ es) p all = names_by types (same_name name e.0) k e es (enter_name name k es) p all (names_more types name k es p all.1)
 
 pub known_ranged : {T : Type 0} (s : Scope T) (name : List ℕ) (k : Known T) → ScopeRanged s → KnownRanged s.types k → ScopeRanged (with_known name k s)
 known_ranged s name k h p = record { types = h.types; own = h.own; others = h.others; names = names_more s.types name k s.own p h.names; outer = h.outer; tables = h.tables }
 
 module _ (g : Gathers) where
-  unless_by : (s : Scope g.Reported) (name : Ident) (b : Bool) (k : Known g.Reported) → ScopeRanged s → KnownRanged s.types k → ScopeRanged (cond {A = State (Unit {0}) g.Reported} b (with_known name.name k s, Ok tt) (s, reported g name.pos rule.DeclaredTwice)).0
+  unless_by : (s : Scope g.Reported) (name : Ident) (b : Bool) (k : Known g.Reported) → ScopeRanged s → KnownRanged s.types k → ScopeRanged (cond {A = State (Unit {0}) g.Reported} b (with_known name.name k s, Ok tt) (s, report g name.pos rule.DeclaredTwice)).0
   unless_by s name true k h p = known_ranged s name.name k h p
   unless_by s name false k h p = h
 
   pub unless_ranged : (s : Scope g.Reported) (name : Ident) (k : Known g.Reported) → ScopeRanged s → KnownRanged s.types k → ScopeRanged (unless_declared g s name k).0
-  unless_ranged s name k h p = unless_by s name (is_free (found name.name s.own)) k h p
+  unless_ranged s name k h p = unless_by s name (is_free (find_name name.name s.own)) k h p
 
-  types_by : (s : Scope g.Reported) (name : Ident) (b : Bool) (k : Known g.Reported) → (cond {A = State (Unit {0}) g.Reported} b (with_known name.name k s, Ok tt) (s, reported g name.pos rule.DeclaredTwice)).0.types ≡ s.types
+  types_by : (s : Scope g.Reported) (name : Ident) (b : Bool) (k : Known g.Reported) → (cond {A = State (Unit {0}) g.Reported} b (with_known name.name k s, Ok tt) (s, report g name.pos rule.DeclaredTwice)).0.types ≡ s.types
   types_by s name true k = refl
   types_by s name false k = refl
 
   pub unless_types : (s : Scope g.Reported) (name : Ident) (k : Known g.Reported) → (unless_declared g s name k).0.types ≡ s.types
-  unless_types s name k = types_by s name (is_free (found name.name s.own)) k
+  unless_types s name k = types_by s name (is_free (find_name name.name s.own)) k
 
 finished_by : {T : Type 0} (s : Scope T) (name : List ℕ) (k : Known T) (b : Bool) → ScopeRanged s → KnownRanged s.types k → ScopeRanged (cond b (with_known name k s) s)
 finished_by s name k true h p = known_ranged s name k h p
 finished_by s name k false h p = h
 
-pub finished_ranged : {T : Type 0} (s : Scope T) (name : Ident) (r : Result Meaning T) → ScopeRanged s → Holds (MeaningRanged s.types) r → ScopeRanged (finished s name r)
-finished_ranged s name r h p = finished_by s name.name (Declared Here r) (is_begun (found name.name s.own)) h p
+pub finished_ranged : {T : Type 0} (s : Scope T) (name : Ident) (r : Result Meaning T) → ScopeRanged s → Holds (MeaningRanged s.types) r → ScopeRanged (finish_name s name r)
+finished_ranged s name r h p = finished_by s name.name (Declared Here r) (is_begun (find_name name.name s.own)) h p
 
 marked_by : {T : Type 0} (s : Scope T) (name : List ℕ) (k : Known T) (o : Option (Known T)) → ScopeRanged s → KnownRanged s.types k → ScopeRanged (unless_marked name k s o)
 marked_by s name k (Some x) h p = h
 marked_by s name k None h p = known_ranged s name k h p
 
-pub marked_ranged : {T : Type 0} (s : Scope T) (name : Ident) (k : Known T) → ScopeRanged s → KnownRanged s.types k → ScopeRanged (marked name k s)
-marked_ranged s name k h p = marked_by s name.name k (found name.name s.own) h p
+pub marked_ranged : {T : Type 0} (s : Scope T) (name : Ident) (k : Known T) → ScopeRanged s → KnownRanged s.types k → ScopeRanged (mark_name name k s)
+marked_ranged s name k h p = marked_by s name.name k (find_name name.name s.own) h p
 
 -- ---- one type more
 
@@ -137,16 +137,16 @@ module _ (g : Gathers) where
   constant_number : (types : Types) (t : TypeNo) (n k : ℕ) → k < n → scalar_at types t ≡ Some (constants t n) → IsNumber types t t (pos k)
   constant_number types t n k less e = record { range = constants t n; at = e; own = refl; low = omega (arith, ints); high = omega (arith, ints, less) }
 
-  listed_one : (t : TypeNo) (n : ℕ) (l : Scope g.Reported × ℕ × Result (Unit {0}) g.Reported) (x : Ident) → l.1 < n → Holds (λ u. Listing t n l.0) l.2 → Holds (λ u. Listing t n (listed g t l x).0) (listed g t l x).2
+  listed_one : (t : TypeNo) (n : ℕ) (l : Scope g.Reported × ℕ × Result (Unit {0}) g.Reported) (x : Ident) → l.1 < n → Holds (λ u. Listing t n l.0) l.2 → Holds (λ u. Listing t n (enumerate_name g t l x).0) (enumerate_name g t l x).2
   listed_one t n l x less p =
       let k : Known g.Reported = Declared Here (Ok (enumeration_constant t (pos l.1))) in
-      beside_then g (declared g l.0 x (Ok (enumeration_constant t (pos l.1)))).1 p (λ q.
+      beside_then g (declare_name g l.0 x (Ok (enumeration_constant t (pos l.1)))).1 p (λ q.
       let number : IsNumber l.0.types t t (pos l.1) = constant_number l.0.types t n l.1 less q.1 in
-      const_holds (unless_ranged g l.0 x k q.0 (fine _ (number, number)), ap (λ (types : Types). scalar_at types t) (unless_types g l.0 x k) ∙ q.1) (declared g l.0 x (Ok (enumeration_constant t (pos l.1)))).1)
+      const_holds (unless_ranged g l.0 x k q.0 (fine _ (number, number)), ap (λ (types : Types). scalar_at types t) (unless_types g l.0 x k) ∙ q.1) (declare_name g l.0 x (Ok (enumeration_constant t (pos l.1)))).1)
 
-  listed_all : (t : TypeNo) (n : ℕ) (names : List Ident) (l : Scope g.Reported × ℕ × Result (Unit {0}) g.Reported) → l.1 + length names ≡ n → Holds (λ u. Listing t n l.0) l.2 → Holds (λ u. Listing t n (fold (listed g t) l names).0) (fold (listed g t) l names).2
+  listed_all : (t : TypeNo) (n : ℕ) (names : List Ident) (l : Scope g.Reported × ℕ × Result (Unit {0}) g.Reported) → l.1 + length names ≡ n → Holds (λ u. Listing t n l.0) l.2 → Holds (λ u. Listing t n (fold (enumerate_name g t) l names).0) (fold (enumerate_name g t) l names).2
   listed_all t n [] l e p = p
-  listed_all t n (x ∷ xs) l e p = listed_all t n xs (listed g t l x) (omega (arith, e)) (listed_one t n l x (omega (arith, e)) p)
+  listed_all t n (x ∷ xs) l e p = listed_all t n xs (enumerate_name g t l x) (omega (arith, e)) (listed_one t n l x (omega (arith, e)) p)
 
   enumeration_range : (s : Scope g.Reported) (n : ℕ) → 0 < n → n ≤ 256 → IsRange (next_type s) (constants (next_type s) n)
   enumeration_range s n some most = record {

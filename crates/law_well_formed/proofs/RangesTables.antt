@@ -17,13 +17,13 @@ use Rattle.typed_tree.specs.declared.known_types.Types.{Types}
 use Rattle.typed_tree.specs.Types.{integer, cardinal, boolean, char, bitset}
 use Rattle.typed_tree.specs.Known.{range}
 use Rattle.m2_tree.specs.Names.{same_name}
-use Rattle.typed_tree.specs.Names.{entered}
+use Rattle.typed_tree.specs.Names.{enter_name}
 use Rattle.check_scope.specs.declared.known.Origin.{Origin}
 use Rattle.check_scope.specs.declared.known.Origin.TheVariants as origin
 use Rattle.check_scope.specs.declared.known.Known.{Known}
 use Rattle.check_scope.specs.declared.known.Known.TheVariants.{Later, Ahead, Begun, Headed, Declared}
 use Rattle.check_scope.specs.declared.scope.Scope.{Scope}
-use Rattle.check_definition.specs.Predeclared.{predeclared_as, with_types, truth, with_truth, with_functions, with_bounds, with_procedures, predeclared, with_reached, with_table, others_of, first_scope}
+use Rattle.check_definition.specs.Predeclared.{predeclared_as, with_types, truth, with_truth, with_functions, with_bounds, with_procedures, predeclared_names, with_reached, with_table, others_of, first_scope}
 use Rattle.check_definition.specs.Export.{with_meaning, with_declared, with_known, with_export, exports, with_types as reached_with, own_types, reached_of}
 use Rattle.law_well_formed.specs.Formed.{Holds, fine, broken}
 use Rattle.law_modules.specs.Ranges.{AreRangedFrom, OthersRanged, AreRanged}
@@ -62,8 +62,8 @@ module _ (types : Types) (T : Type 0) where
   procedures_ranged ns h =
       as_ranged (codes "HALT") (meaning.Standard Halt) (predeclared_as (codes "EXCL") (meaning.Standard Excl) (predeclared_as (codes "INCL") (meaning.Standard Incl) (predeclared_as (codes "DEC") (meaning.Standard Dec) (predeclared_as (codes "INC") (meaning.Standard Inc) ns)))) tt (as_ranged (codes "EXCL") (meaning.Standard Excl) (predeclared_as (codes "INCL") (meaning.Standard Incl) (predeclared_as (codes "DEC") (meaning.Standard Dec) (predeclared_as (codes "INC") (meaning.Standard Inc) ns))) tt (as_ranged (codes "INCL") (meaning.Standard Incl) (predeclared_as (codes "DEC") (meaning.Standard Dec) (predeclared_as (codes "INC") (meaning.Standard Inc) ns)) tt (as_ranged (codes "DEC") (meaning.Standard Dec) (predeclared_as (codes "INC") (meaning.Standard Inc) ns) tt (as_ranged (codes "INC") (meaning.Standard Inc) ns tt h))))
 
-  predeclared_ranged : NamesRanged types (predeclared {T = T})
-  unfolding predeclared
+  predeclared_ranged : NamesRanged types (predeclared_names {T = T})
+  unfolding predeclared_names
   predeclared_ranged =
       procedures_ranged (with_bounds (with_functions (with_truth (with_types [])))) (bounds_ranged (with_functions (with_truth (with_types [])))
       (functions_ranged (with_truth (with_types [])) (truth_ranged (with_types []) (types_ranged [] tt))))
@@ -78,9 +78,9 @@ module _ (types : Types) where
   exports_by true e m es more p h q = (p, h.1)
   exports_by false e m es more p h q = (h.0, q)
 
-  exports_more : (name : List ℕ) (m : Meaning) (es : List (List ℕ × Meaning)) → MeaningRanged types m → ExportsRanged types es → ExportsRanged types (entered name m es)
+  exports_more : (name : List ℕ) (m : Meaning) (es : List (List ℕ × Meaning)) → MeaningRanged types m → ExportsRanged types es → ExportsRanged types (enter_name name m es)
   exports_more name m [] p h = (p, tt)
-  exports_more name m (e ∷ es) p h = exports_by (same_name name e.0) e m es (entered name m es) p h (exports_more name m es p h.1)
+  exports_more name m (e ∷ es) p h = exports_by (same_name name e.0) e m es (enter_name name m es) p h (exports_more name m es p h.1)
 
   meaning_exported : {T : Type 0} (so : List (List ℕ × Meaning)) (name : List ℕ) (r : Result Meaning T) → Holds (MeaningRanged types) r → ExportsRanged types so → ExportsRanged types (with_meaning so name r)
   meaning_exported so name _ (fine m p) h = exports_more name m so p h

@@ -13,11 +13,11 @@ use Rattle.typed_tree.specs.declared.meaning.Meaning.{Meaning}
 use Rattle.typed_tree.specs.declared.meaning.Meaning.TheVariants as meaning
 use Rattle.typed_tree.specs.declared.table.Table.{Table}
 use Rattle.typed_tree.specs.declared.types.TypeNo.{TypeNo}
-use Rattle.typed_tree.specs.Names.{found}
+use Rattle.typed_tree.specs.Names.{find_name}
 use Rattle.check_scope.specs.declared.meaningless.Meaningless.{Meaningless}
 use Rattle.check_scope.specs.declared.meaningless.Meaningless.TheVariants.{Broken, Headless}
 use Rattle.check_scope.specs.Elaborated.{Gathers, of_sort, ◌▷◌}
-use Rattle.check_scope.specs.Scopes.{is_free, Sight, or_outside, seen_at, in_block, nearer, known_outside, or_around, known, means_seen, means_as, opened, means_or, looked_up}
+use Rattle.check_scope.specs.Scopes.{is_free, Sight, or_outside, seen_at, in_block, nearer, known_outside, or_around, sight_of, means_seen, means_as, open_field, means_or, looked_up}
 use Rattle.check_scope.specs.declared.known.Known.{Known}
 use Rattle.check_scope.specs.declared.known.Known.TheVariants.{Later, Ahead, Begun, Headed, Declared}
 use Rattle.check_scope.specs.declared.known.Origin.{Origin}
@@ -30,7 +30,7 @@ use Rattle.check_type_expr.specs.Named.{type_meant, in_module, of_module, named_
 use Rattle.check_block.specs.Declarations.{Course, with_decl}
 use Rattle.check_block.specs.Inner.{inwards}
 use Rattle.check_block.specs.Naming.{marked_decl}
-use Rattle.law_well_formed.specs.FormedHeadings.{marked_by, declared_by, all, begun, met, end, seen, IsBehind, NamesStay}
+use Rattle.law_well_formed.specs.FormedHeadings.{marked_by, declared_by, all, course_begin, scope_before, end, names_before, IsBehind, NamesStay}
 use Rattle.law_well_formed.proofs.Basics.{plain_ok}
 use Rattle.law_well_formed.proofs.HeadingsLists.{index, index_less, place_found, place_none, Stands, stands_at}
 use Rattle.law_well_formed.proofs.HeadingsSteps.{is_settled, free_unsettled, Keeps, Marked, marked_refl, marked_then, MarksAll, Changes, changes_refl, changes_then, changes_first, changes_second}
@@ -79,77 +79,77 @@ module _ (g : Gathers) (ends : List ℕ) (a : Scope g.Reported) (first : ℕ) (b
   m = marked_by a (all g ends a first before d rest)
 
   abbrev here : Scope g.Reported
-  here = met g ends a first before d rest
+  here = scope_before g ends a first before d rest
 
   abbrev last : Scope g.Reported
   last = end g ends a first before d rest
 
   abbrev before_it : ℕ
-  before_it = seen g ends a first before d rest
+  before_it = names_before g ends a first before d rest
 
   later_marks : Marked u m
   later_marks = subst (λ (s : Scope g.Reported). Marked u s) (sym (marked_append a before (d ∷ rest))) (block_marked g ends (d ∷ rest) u)
 
   to_here : Changes (λ z. marked_by z before) m here
-  to_here = block_changes g ends before (begun g ends a first before d rest)
+  to_here = block_changes g ends before (course_begin g ends a first before d rest)
 
   pub to_last : Keeps here last
   to_last =
-      let c : Course g.Reported = declared_by g ends (begun g ends a first before d rest) before in
-      subst (λ (e : Course g.Reported). Keeps here e.0) (sym (declared_append g ends (begun g ends a first before d rest) before (d ∷ rest))) ((block_changes g ends (d ∷ rest) c).keeps)
+      let c : Course g.Reported = declared_by g ends (course_begin g ends a first before d rest) before in
+      subst (λ (e : Course g.Reported). Keeps here e.0) (sym (declared_append g ends (course_begin g ends a first before d rest) before (d ∷ rest))) ((block_changes g ends (d ∷ rest) c).keeps)
 
   whole : Changes (λ z. marked_by z (all g ends a first before d rest)) m last
-  whole = block_changes g ends (all g ends a first before d rest) (begun g ends a first before d rest)
+  whole = block_changes g ends (all g ends a first before d rest) (course_begin g ends a first before d rest)
 
   -- a settled name was marked before the declaration
-  marked_before : (name : List ℕ) (k : Known g.Reported) → is_settled k ≡ true → found name here.own ≡ Some k → (o : Option (Known g.Reported)) → found name u.own ≡ o → (k' : Known g.Reported) × (found name u.own ≡ Some k')
+  marked_before : (name : List ℕ) (k : Known g.Reported) → is_settled k ≡ true → find_name name here.own ≡ Some k → (o : Option (Known g.Reported)) → find_name name u.own ≡ o → (k' : Known g.Reported) × (find_name name u.own ≡ Some k')
   marked_before name k s e (Some k') h = (k', h)
   marked_before name k s e None h =
-      let same : found name here.own ≡ found name m.own = to_here.others a name h in
+      let same : find_name name here.own ≡ find_name name m.own = to_here.others a name h in
       let f : is_free (Some k) ≡ true = ap is_free (sym e ∙ same) ∙ later_marks.free name h in
       absurd (unfree k s f)
 
-  settled_block : (name : List ℕ) (k : Known g.Reported) → is_settled k ≡ true → found name here.own ≡ Some k → in_block name (record { names = last.own; seen = before_it }) ≡ Some (k, true)
+  settled_block : (name : List ℕ) (k : Known g.Reported) → is_settled k ≡ true → find_name name here.own ≡ Some k → in_block name (record { names = last.own; names_before = before_it }) ≡ Some (k, true)
   settled_block name k s e =
-      let first_found = marked_before name k s e (found name u.own) refl in
+      let first_found = marked_before name k s e (find_name name u.own) refl in
       let in_marks = later_marks.keeps.there name first_found.0 first_found.1 in
-      let at_end : found name last.own ≡ Some k = to_last.settled name k s e in
+      let at_end : find_name name last.own ≡ Some k = to_last.settled name k s e in
       let place : index name last.own ≡ index name u.own = to_last.places name k e ∙ (to_here.keeps.places name in_marks.0 in_marks.1 ∙ later_marks.keeps.places name first_found.0 first_found.1) in
       let less : index name last.own < before_it = subst (λ (n : ℕ). n < before_it) (sym place) (index_less name u.own first_found.0 first_found.1) in
       ap (λ (o : Option ℕ). seen_at before_it last.own o) (place_found name last.own k at_end) ∙ stands_seen before_it k last.own (index name last.own) (stands_at name last.own k at_end) less
 
   -- a name that is not there is none of the block's
-  none_marked : (name : List ℕ) → found name here.own ≡ None → (o : Option (Known g.Reported)) → found name m.own ≡ o → found name m.own ≡ None
+  none_marked : (name : List ℕ) → find_name name here.own ≡ None → (o : Option (Known g.Reported)) → find_name name m.own ≡ o → find_name name m.own ≡ None
   none_marked name e None h = h
   none_marked name e (Some k) h = let t = to_here.keeps.there name k h in absurd (let z : Some t.0 ≡ None = sym t.1 ∙ e in cc)
 
-  absent_block : (name : List ℕ) → found name here.own ≡ None → in_block name (record { names = last.own; seen = before_it }) ≡ None
+  absent_block : (name : List ℕ) → find_name name here.own ≡ None → in_block name (record { names = last.own; names_before = before_it }) ≡ None
   absent_block name e =
-      let n : found name m.own ≡ None = none_marked name e (found name m.own) refl in
-      let at_end : found name last.own ≡ None = whole.others a name n ∙ n in
+      let n : find_name name m.own ≡ None = none_marked name e (find_name name m.own) refl in
+      let at_end : find_name name last.own ≡ None = whole.others a name n ∙ n in
       ap (λ (o : Option ℕ). seen_at before_it last.own o) (place_none name last.own at_end)
 
   module _ (w : Scope g.Reported) (behind : IsBehind last w) (no_withs : a.withs ≡ []) where
     abbrev inner : Scope g.Reported
     inner = inwards w before_it
 
-    block_is : (name : List ℕ) → in_block name (record { names = w.own; seen = before_it }) ≡ in_block name (record { names = last.own; seen = before_it })
-    block_is name = ap (λ (es : List (List ℕ × Known g.Reported)). in_block name (record { names = es; seen = before_it })) behind.own
+    block_is : (name : List ℕ) → in_block name (record { names = w.own; names_before = before_it }) ≡ in_block name (record { names = last.own; names_before = before_it })
+    block_is name = ap (λ (es : List (List ℕ × Known g.Reported)). in_block name (record { names = es; names_before = before_it })) behind.own
 
     around_is : (name : List ℕ) → known_outside name w.outer ≡ known_outside name here.outer
     around_is name = ap (λ (bs : List (Block g.Reported)). known_outside name bs) (behind.outer ∙ to_last.outer)
 
-    inner_known : (name : List ℕ) → known name inner ≡ or_outside (in_block name (record { names = last.own; seen = before_it })) (known_outside name here.outer)
+    inner_known : (name : List ℕ) → sight_of name inner ≡ or_outside (in_block name (record { names = last.own; names_before = before_it })) (known_outside name here.outer)
     inner_known name =
-        outside_last name w.outer (record { names = w.own; seen = before_it }) None
+        outside_last name w.outer (record { names = w.own; names_before = before_it }) None
         ∙ ap (λ (o : Sight g.Reported). or_outside o (known_outside name w.outer)) (block_is name)
-        ∙ ap (λ (far : Sight g.Reported). or_outside (in_block name (record { names = last.own; seen = before_it })) far) (around_is name)
+        ∙ ap (λ (far : Sight g.Reported). or_outside (in_block name (record { names = last.own; names_before = before_it })) far) (around_is name)
 
     -- what is known there of a name that is settled, or not the block's
-    known_settled : (name : List ℕ) (k : Known g.Reported) → is_settled k ≡ true → found name here.own ≡ Some k → known name inner ≡ Some (k, true)
+    known_settled : (name : List ℕ) (k : Known g.Reported) → is_settled k ≡ true → find_name name here.own ≡ Some k → sight_of name inner ≡ Some (k, true)
     known_settled name k s e = inner_known name ∙ ap (λ (o : Sight g.Reported). or_outside o (known_outside name here.outer)) (settled_block name k s e)
 
-    known_absent : (name : List ℕ) → found name here.own ≡ None → known name inner ≡ known_outside name here.outer
+    known_absent : (name : List ℕ) → find_name name here.own ≡ None → sight_of name inner ≡ known_outside name here.outer
     known_absent name e = inner_known name ∙ ap (λ (o : Sight g.Reported). or_outside o (known_outside name here.outer)) (absent_block name e)
 
     -- ---- what names mean
@@ -192,14 +192,14 @@ module _ (g : Gathers) (ends : List ℕ) (a : Scope g.Reported) (first : ℕ) (b
     pub here_withs : here.withs ≡ []
     here_withs = to_here.keeps.withs ∙ ((block_marked g ends (all g ends a first before d rest) a).keeps.withs ∙ no_withs)
 
-    plain : (s : Scope g.Reported) (name : Ident) → s.withs ≡ [] → looked_up g s name ≡ means_as g name.pos (known name.name s)
-    plain s name e = ap (λ (ws : List OpenedRecord). means_or (opened s.types name.name ws) (means_as g name.pos (known name.name s))) e
+    plain : (s : Scope g.Reported) (name : Ident) → s.withs ≡ [] → looked_up g s name ≡ means_as g name.pos (sight_of name.name s)
+    plain s name e = ap (λ (ws : List OpenedRecord). means_or (open_field s.types name.name ws) (means_as g name.pos (sight_of name.name s))) e
 
-    by_settled : (name : Ident) (k : Known g.Reported) (x : Meaning) (b : Bool) → is_settled k ≡ b → found name.name here.own ≡ Some k → means_seen g name.pos k true ≡ Ok x → is_named x ≡ true → means_as g name.pos (known name.name inner) ≡ Ok x
+    by_settled : (name : Ident) (k : Known g.Reported) (x : Meaning) (b : Bool) → is_settled k ≡ b → find_name name.name here.own ≡ Some k → means_seen g name.pos k true ≡ Ok x → is_named x ≡ true → means_as g name.pos (sight_of name.name inner) ≡ Ok x
     by_settled name k x true s e f n = ap (means_as g name.pos) (known_settled name.name k s e) ∙ f
     by_settled name k x false s e f n = absurd (unsettled name.pos k x s f n)
 
-    by_found : (name : Ident) (x : Meaning) (o : Option (Known g.Reported)) → found name.name here.own ≡ o → means_as g name.pos (known name.name here) ≡ Ok x → is_named x ≡ true → means_as g name.pos (known name.name inner) ≡ Ok x
+    by_found : (name : Ident) (x : Meaning) (o : Option (Known g.Reported)) → find_name name.name here.own ≡ o → means_as g name.pos (sight_of name.name here) ≡ Ok x → is_named x ≡ true → means_as g name.pos (sight_of name.name inner) ≡ Ok x
     by_found name x None e f n =
         ap (means_as g name.pos) (known_absent name.name e)
         ∙ (sym (ap (λ (o : Option (Known g.Reported)). means_as g name.pos (or_around o (known_outside name.name here.outer))) e) ∙ f)
@@ -207,7 +207,7 @@ module _ (g : Gathers) (ends : List ℕ) (a : Scope g.Reported) (first : ℕ) (b
         by_settled name k x (is_settled k) refl e (sym (ap (λ (o : Option (Known g.Reported)). means_as g name.pos (or_around o (known_outside name.name here.outer))) e) ∙ f) n
 
     pub name_stays : (name : Ident) (x : Meaning) → looked_up g here name ≡ Ok x → is_named x ≡ true → looked_up g inner name ≡ Ok x
-    name_stays name x e n = plain inner name behind.withs ∙ by_found name x (found name.name here.own) refl (sym (plain here name here_withs) ∙ e) n
+    name_stays name x e n = plain inner name behind.withs ∙ by_found name x (find_name name.name here.own) refl (sym (plain here name here_withs) ∙ e) n
 
     -- ---- types
 

@@ -15,9 +15,9 @@ use Rattle.typed_tree.specs.declared.typed_module.TypedModule.{TypedModule}
 use Rattle.typed_tree.specs.declared.types.TypeNo.{TypeNo}
 use Rattle.typed_tree.specs.Known.{made_at}
 use Rattle.m2_tree.specs.Names.{same_name}
-use Rattle.typed_tree.specs.Names.{found, place_of, entered}
-use Rattle.check_scope.specs.Elaborated.{Gathers, reported}
-use Rattle.check_scope.specs.Scopes.{or_outside, Sight, seen_at, in_block, nearer, known_outside, or_around, known, means_seen, means_as, opened, means_or}
+use Rattle.typed_tree.specs.Names.{find_name, place_of, enter_name}
+use Rattle.check_scope.specs.Elaborated.{Gathers, report}
+use Rattle.check_scope.specs.Scopes.{or_outside, Sight, seen_at, in_block, nearer, known_outside, or_around, sight_of, means_seen, means_as, open_field, means_or}
 use Rattle.check_scope.specs.declared.known.Known.{Known}
 use Rattle.check_scope.specs.declared.known.Known.TheVariants.{Later, Ahead, Begun, Headed, Declared}
 use Rattle.check_scope.specs.declared.known.Origin.{Origin}
@@ -30,7 +30,7 @@ use Rattle.check_type_expr.specs.Headings.{formal_of}
 use Rattle.check_block.specs.Inner.{formal_kind, formal_meaning, Formals, with_formal, with_section, formals_in}
 use Rattle.law_well_formed.specs.Formed.{Holds, fine, FormedMeaning, IsFormed}
 use Rattle.law_well_formed.proofs.Basics.{then_holds, holds_weaker, reported_holds, plain_holds, heading_means_holds, any_holds}
-use Rattle.law_well_formed.specs.FormedScopes.{picked, is_awaiting, FormedFrom, FormedKnown, AreFormedNames, AreFormedBlocks}
+use Rattle.law_well_formed.specs.FormedScopes.{holds_of, is_awaiting, FormedFrom, FormedKnown, AreFormedNames, AreFormedBlocks}
 use Rattle.law_well_formed.proofs.Names.{none_entered}
 use Rattle.law_well_formed.proofs.ScopesGrowth.{names_more}
 
@@ -49,9 +49,9 @@ module _ (m : TypedModule) (opens : ℕ → Bool) {T : Type 0} where
   found_by true k o p q = p
   found_by false k o p q = q
 
-  found_formed : (name : List ℕ) (es : List (List ℕ × Known T)) → AreFormedNames m opens es → FormedIf (found name es)
+  found_formed : (name : List ℕ) (es : List (List ℕ × Known T)) → AreFormedNames m opens es → FormedIf (find_name name es)
   found_formed name [] all = tt
-  found_formed name (e ∷ es) all = found_by (same_name name e.0) e.1 (found name es) all.0 (found_formed name es all.1)
+  found_formed name (e ∷ es) all = found_by (same_name name e.0) e.1 (find_name name es) all.0 (found_formed name es all.1)
 
   at_place : (seen p : ℕ) (es : List (List ℕ × Known T)) (n : ℕ) → AreFormedNames m opens es → FormedSight (option_map (λ e. (e.1, nat_lt p seen)) (slice_get es n))
   at_place seen p [] n all = tt
@@ -87,7 +87,7 @@ module _ (m : TypedModule) (opens : ℕ → Bool) (g : Gathers) where
   from_means (Module k) r p = p
   from_means (Export k) r p = p
 
-  declared_means : (at : Pos) (seen : Bool) (r : Result Meaning g.Reported) → Means_ r → Means_ (cond seen r (reported g at rule.Undeclared))
+  declared_means : (at : Pos) (seen : Bool) (r : Result Meaning g.Reported) → Means_ r → Means_ (cond seen r (report g at rule.Undeclared))
   declared_means at true r p = p
   declared_means at false r p = reported_holds g at rule.Undeclared
 
@@ -108,8 +108,8 @@ module _ (m : TypedModule) (opens : ℕ → Bool) (g : Gathers) where
   scope_formed s types own outer withs members = record {
     types = types;
     names = λ name.
-        subst (λ (ws : List OpenedRecord). Means_ (means_or (opened s.types name.name ws) (means_as g name.pos (known name.name s)))) (sym withs)
-        (means_formed name.pos (known name.name s) (around_formed m opens (found name.name s.own) (known_outside name.name s.outer) (found_formed m opens name.name s.own own) (outside_formed m opens name.name s.outer None tt outer)));
+        subst (λ (ws : List OpenedRecord). Means_ (means_or (open_field s.types name.name ws) (means_as g name.pos (sight_of name.name s)))) (sym withs)
+        (means_formed name.pos (sight_of name.name s) (around_formed m opens (find_name name.name s.own) (known_outside name.name s.outer) (found_formed m opens name.name s.own own) (outside_formed m opens name.name s.outer None tt outer)));
     members = members;
   }
 
@@ -118,14 +118,14 @@ module _ (m : TypedModule) (opens : ℕ → Bool) (g : Gathers) where
   formal_known : (level n : ℕ) (f : Result Formal g.Reported) → FormedKnown m opens (Declared Here (formal_meaning level n f))
   formal_known level n f = then_holds (any_holds f) (λ x k. fine (meaning.Local (record { level = level; number = n; kind = formal_kind x; of = x.of })) (tt, tt))
 
-  unless_by : (b : Bool) (name : List ℕ) (k : Known g.Reported) (ns : List (List ℕ × Known g.Reported)) → FormedKnown m opens k → AreFormedNames m opens ns → AreFormedNames m opens (cond b ns (entered name k ns))
+  unless_by : (b : Bool) (name : List ℕ) (k : Known g.Reported) (ns : List (List ℕ × Known g.Reported)) → FormedKnown m opens k → AreFormedNames m opens ns → AreFormedNames m opens (cond b ns (enter_name name k ns))
   unless_by true name k ns p q = q
   unless_by false name k ns p q = names_more m opens name k ns p q
 
   formal_names : (level : ℕ) (f : Result Formal g.Reported) (names : List Ident) (fs : Formals g.Reported) → AreFormedNames m opens fs.0 → AreFormedNames m opens (fold (with_formal level f) fs names).0
   formal_names level f [] fs p = p
   formal_names level f (x ∷ xs) fs p =
-      formal_names level f xs (with_formal level f fs x) (unless_by (is_some (found x.name fs.0)) x.name (Declared Here (formal_meaning level (length fs.1) f)) fs.0 (formal_known level (length fs.1) f) p)
+      formal_names level f xs (with_formal level f fs x) (unless_by (is_some (find_name x.name fs.0)) x.name (Declared Here (formal_meaning level (length fs.1) f)) fs.0 (formal_known level (length fs.1) f) p)
 
   section_names : (s : Scope g.Reported) (xs : List Section) (fs : Formals g.Reported) → AreFormedNames m opens fs.0 → AreFormedNames m opens (fold (with_section g s) fs xs).0
   section_names s [] fs p = p
@@ -136,24 +136,24 @@ module _ (m : TypedModule) (opens : ℕ → Bool) (g : Gathers) where
 
 module _ (g : Gathers) where
   abbrev NoneAwaits : List (List ℕ × Known g.Reported) → Type 0
-  NoneAwaits ns = (name : List ℕ) → picked is_awaiting (found name ns) ≡ false
+  NoneAwaits ns = (name : List ℕ) → holds_of is_awaiting (find_name name ns) ≡ false
 
   formal_awaits : (level n : ℕ) (f : Result Formal g.Reported) → is_awaiting (Declared Here (formal_meaning level n f)) ≡ false
   formal_awaits level n (Ok f) = refl
   formal_awaits level n (Err e) = refl
 
-  awaits_by : (b : Bool) (name : List ℕ) (k : Known g.Reported) (ns : List (List ℕ × Known g.Reported)) → is_awaiting k ≡ false → NoneAwaits ns → NoneAwaits (cond b ns (entered name k ns))
+  awaits_by : (b : Bool) (name : List ℕ) (k : Known g.Reported) (ns : List (List ℕ × Known g.Reported)) → is_awaiting k ≡ false → NoneAwaits ns → NoneAwaits (cond b ns (enter_name name k ns))
   awaits_by true name k ns e p = p
   awaits_by false name k ns e p = λ other. none_entered is_awaiting name k ns other e (p other)
 
   names_await : (level : ℕ) (f : Result Formal g.Reported) (names : List Ident) (fs : Formals g.Reported) → NoneAwaits fs.0 → NoneAwaits (fold (with_formal level f) fs names).0
   names_await level f [] fs p = p
   names_await level f (x ∷ xs) fs p =
-      names_await level f xs (with_formal level f fs x) (awaits_by (is_some (found x.name fs.0)) x.name (Declared Here (formal_meaning level (length fs.1) f)) fs.0 (formal_awaits level (length fs.1) f) p)
+      names_await level f xs (with_formal level f fs x) (awaits_by (is_some (find_name x.name fs.0)) x.name (Declared Here (formal_meaning level (length fs.1) f)) fs.0 (formal_awaits level (length fs.1) f) p)
 
   sections_await : (s : Scope g.Reported) (xs : List Section) (fs : Formals g.Reported) → NoneAwaits fs.0 → NoneAwaits (fold (with_section g s) fs xs).0
   sections_await s [] fs p = p
   sections_await s (x ∷ xs) fs p = sections_await s xs (with_section g s fs x) (names_await s.level (formal_of g s x.is_var x.of) x.names fs p)
 
-  pub formals_await : (s : Scope g.Reported) (xs : List Section) (name : List ℕ) → picked is_awaiting (found name (formals_in g s xs).0) ≡ false
+  pub formals_await : (s : Scope g.Reported) (xs : List Section) (name : List ℕ) → holds_of is_awaiting (find_name name (formals_in g s xs).0) ≡ false
   formals_await s xs = sections_await s xs ([], []) (λ name. refl)

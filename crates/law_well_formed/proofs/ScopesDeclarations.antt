@@ -28,9 +28,9 @@ use Rattle.typed_tree.specs.declared.known_types.Types.{Types}
 use Rattle.typed_tree.specs.Known.{made_at, in_list, is_result}
 use Rattle.typed_tree.specs.declared.typed_module.TypedModule.{TypedModule}
 use Rattle.typed_tree.specs.declared.types.TypeNo.{TypeNo}
-use Rattle.typed_tree.specs.Names.{found}
-use Rattle.check_scope.specs.Elaborated.{Gathers, reported, reported_where, beside, ◌▷◌}
-use Rattle.check_scope.specs.Scopes.{State, begun}
+use Rattle.typed_tree.specs.Names.{find_name}
+use Rattle.check_scope.specs.Elaborated.{Gathers, report, reported_where, beside, ◌▷◌}
+use Rattle.check_scope.specs.Scopes.{State, begin_name}
 use Rattle.check_scope.specs.declared.known.Known.{Known}
 use Rattle.check_scope.specs.declared.known.Known.TheVariants.{Later, Ahead, Begun, Headed, Declared}
 use Rattle.check_scope.specs.declared.known.Origin.TheVariants.{Here}
@@ -46,12 +46,12 @@ use Rattle.check_definition.specs.Declare.{constant_meaning, with_constant, brin
 use Rattle.check_definition.specs.Marking.{marked_constant, marked_type, marked_variables}
 use Rattle.check_block.specs.declared.heading.Standing.{Standing}
 use Rattle.check_block.specs.declared.heading.Standing.TheVariants.{Free, Awaited, Taken}
-use Rattle.check_block.specs.Headings.{standing_of, name_standing, nested_meaning, headed, module_procedure, with_new, nothing_made, reported_of_other, headed_as, with_heading}
+use Rattle.check_block.specs.Headings.{standing_of, name_standing, nested_meaning, set_heading, module_procedure, with_new, nothing_made, reported_of_other, headed_as, with_heading}
 use Rattle.check_block.specs.Naming.{marked_layer}
 use Rattle.check_block.specs.Declarations.{local_meaning, finished_local, with_locals, Course, with_procedure, decl_layer, is_awaited}
 use Rattle.law_well_formed.specs.Formed.{Holds, fine, broken}
 use Rattle.law_well_formed.proofs.Basics.{then_holds, where_holds, both_holds, any_holds}
-use Rattle.law_well_formed.specs.FormedScopes.{picked, is_awaiting, FormedOwn, FormedKnown, Leads, HeadIs, HeadsAre}
+use Rattle.law_well_formed.specs.FormedScopes.{holds_of, is_awaiting, FormedOwn, FormedKnown, Leads, HeadIs, HeadsAre}
 use Rattle.law_well_formed.proofs.Names.{get_more, get_last, found_self}
 use Rattle.law_well_formed.proofs.ScopesGrowth.{is_headed, leads_refl, leads_then, known_leads, begun_leads, finished_leads, marked_leads, shape_leads}
 use Rattle.law_well_formed.proofs.ScopesTypeExprs.{later_all, marked_in_leads, type_of_leads}
@@ -82,7 +82,7 @@ unawaiting : {A T : Type 0} (r : Result A T) (f : A → Meaning) → ((x : A) �
 unawaiting (Ok x) f k = k x
 unawaiting (Err e) f k = refl
 
-unheaded_free : {T : Type 0} (o : Option (Known T)) → name_standing o ≡ Free → picked is_headed o ≡ false
+unheaded_free : {T : Type 0} (o : Option (Known T)) → name_standing o ≡ Free → holds_of is_headed o ≡ false
 unheaded_free None e = refl
 unheaded_free (Some Later) e = refl
 unheaded_free (Some Ahead) e = refl
@@ -90,7 +90,7 @@ unheaded_free (Some Begun) e = refl
 unheaded_free (Some (Headed r)) e = absurd cc
 unheaded_free (Some (Declared o r)) e = refl
 
-unheaded_awaited : {T : Type 0} (o : Option (Known T)) (p : Procedure) → name_standing o ≡ Awaited p → picked is_headed o ≡ false
+unheaded_awaited : {T : Type 0} (o : Option (Known T)) (p : Procedure) → name_standing o ≡ Awaited p → holds_of is_headed o ≡ false
 unheaded_awaited None p e = refl
 unheaded_awaited (Some Later) p e = refl
 unheaded_awaited (Some Ahead) p e = refl
@@ -109,7 +109,7 @@ module _ (m : TypedModule) (opens : ℕ → Bool) (g : Gathers) where
 
   constant_leads : (st : State (Unit {0}) g.Reported) (c : Constant) → Goes st.0 (with_constant g st c).0
   constant_leads st c =
-      let b : Scope g.Reported = (begun g st.0 c.name).0 in
+      let b : Scope g.Reported = (begin_name g st.0 c.name).0 in
       let v : Result Value g.Reported = constant g b (part g c.value) in
       leads_then m opens (begun_leads m opens g st.0 c.name)
       (finished_leads m opens b c.name (constant_meaning v) (unawaiting v (λ x. meaning.Constant x) (λ x. refl)) (λ h. then_holds (any_holds v) (λ x k. fine (meaning.Constant x) (tt, tt))))
@@ -120,7 +120,7 @@ module _ (m : TypedModule) (opens : ℕ → Bool) (g : Gathers) where
 
   type_leads : (st : State (Unit {0}) g.Reported) (d : TypeDecl) → Goes st.0 (with_type g st d).0
   type_leads st d =
-      let b : Scope g.Reported = (begun g st.0 d.name).0 in
+      let b : Scope g.Reported = (begin_name g st.0 d.name).0 in
       let t : State TypeNo g.Reported = type_of g d.of b in
       leads_then m opens (begun_leads m opens g st.0 d.name) (leads_then m opens (type_of_leads m opens g d.of b)
       (finished_leads m opens t.0 d.name (type_meaning t.1 (brings_with d.of)) (unawaiting t.1 (λ x. meaning.Type x (brings_with d.of)) (λ x. refl)) (λ h. then_holds (any_holds t.1) (λ x k. fine (meaning.Type x (brings_with d.of)) (tt, tt)))))
@@ -201,8 +201,8 @@ module _ (m : TypedModule) (opens : ℕ → Bool) (g : Gathers) where
 
   -- ---- headings
 
-  pub headed_leads : (s : Scope g.Reported) (name : List ℕ) (r : Result Meaning g.Reported) → picked is_headed (found name s.own) ≡ false
-      → ((x : Meaning) → found name (headed name r s).own ≡ Some (Headed (Ok x)) → s.types.home ≡ m.types.home → FormedOwn m opens x) → Goes s (headed name r s)
+  pub headed_leads : (s : Scope g.Reported) (name : List ℕ) (r : Result Meaning g.Reported) → holds_of is_headed (find_name name s.own) ≡ false
+      → ((x : Meaning) → find_name name (set_heading name r s).own ≡ Some (Headed (Ok x)) → s.types.home ≡ m.types.home → FormedOwn m opens x) → Goes s (set_heading name r s)
   headed_leads s name r e k = known_leads m opens s name (Headed r) e refl (λ h. by r refl h) where
     by : (q : Result Meaning g.Reported) → r ≡ q → s.types.home ≡ m.types.home → FormedKnown m opens (Headed r)
     by (Err x) p h = subst (λ (z : Result Meaning g.Reported). Holds (FormedOwn m opens) z) (sym p) (broken x)
@@ -228,29 +228,29 @@ module _ (m : TypedModule) (opens : ℕ → Bool) (g : Gathers) where
   procedure_type_own s (Ok t) = refl
   procedure_type_own s (Err e) = refl
 
-  module_procedure_leads : (s : Scope g.Reported) (name : List ℕ) (t : Result TypeNo g.Reported) → picked is_headed (found name s.own) ≡ false → HeadIs m opens s (module_procedure s name t) name → Goes s (module_procedure s name t)
+  module_procedure_leads : (s : Scope g.Reported) (name : List ℕ) (t : Result TypeNo g.Reported) → holds_of is_headed (find_name name s.own) ≡ false → HeadIs m opens s (module_procedure s name t) name → Goes s (module_procedure s name t)
   module_procedure_leads s name t e k =
       let mine = procedure_type_leads s t in
       leads_then m opens mine (headed_leads (with_procedure_type s t) name (procedure_meaning s.types.home (length s.procedures) t)
-      (ap (λ (es : List (List ℕ × Known g.Reported)). picked is_headed (found name es)) (procedure_type_own s t) ∙ e) (λ x q h. k x q (sym mine.home ∙ h)))
+      (ap (λ (es : List (List ℕ × Known g.Reported)). holds_of is_headed (find_name name es)) (procedure_type_own s t) ∙ e) (λ x q h. k x q (sym mine.home ∙ h)))
 
-  new_by : (b : Bool) (s : Scope g.Reported) (name : List ℕ) (n : ℕ) (t : Result TypeNo g.Reported) → picked is_headed (found name s.own) ≡ false
-      → HeadIs m opens s (cond b (module_procedure s name t) (headed name (nested_meaning s.level n t) s)) name → Goes s (cond b (module_procedure s name t) (headed name (nested_meaning s.level n t) s))
+  new_by : (b : Bool) (s : Scope g.Reported) (name : List ℕ) (n : ℕ) (t : Result TypeNo g.Reported) → holds_of is_headed (find_name name s.own) ≡ false
+      → HeadIs m opens s (cond b (module_procedure s name t) (set_heading name (nested_meaning s.level n t) s)) name → Goes s (cond b (module_procedure s name t) (set_heading name (nested_meaning s.level n t) s))
   new_by true s name n t e k = module_procedure_leads s name t e k
   new_by false s name n t e k = headed_leads s name (nested_meaning s.level n t) e k
 
-  new_leads : (s : Scope g.Reported) (name : List ℕ) (n : ℕ) (made : Result Made g.Reported) → picked is_headed (found name s.own) ≡ false → HeadIs m opens s (with_new s name n made).0 name → Goes s (with_new s name n made).0
+  new_leads : (s : Scope g.Reported) (name : List ℕ) (n : ℕ) (made : Result Made g.Reported) → holds_of is_headed (find_name name s.own) ≡ false → HeadIs m opens s (with_new s name n made).0 name → Goes s (with_new s name n made).0
   new_leads s name n (Ok x) e k = leads_then m opens (shape_leads m opens s x) (new_by (s.level == 0) (with_shape s x) name n (Ok (next_type s)) e k)
   new_leads s name n (Err x) e k = new_by (s.level == 0) s name n (Err x) e k
 
-  heading_by : (s : Scope g.Reported) (h : Heading) (n : ℕ) (made : Result Made g.Reported) (o : Standing) → name_standing (found h.name.name s.own) ≡ o
+  heading_by : (s : Scope g.Reported) (h : Heading) (n : ℕ) (made : Result Made g.Reported) (o : Standing) → name_standing (find_name h.name.name s.own) ≡ o
       → HeadIs m opens s (headed_as g s h n made o).0 h.name.name → Goes s (headed_as g s h n made o).0
-  heading_by s h n made Free e k = new_leads s h.name.name n made (unheaded_free (found h.name.name s.own) e) k
-  heading_by s h n made (Awaited p) e k = headed_leads s h.name.name (Ok (meaning.Procedure p)) (unheaded_awaited (found h.name.name s.own) p e) k
+  heading_by s h n made Free e k = new_leads s h.name.name n made (unheaded_free (find_name h.name.name s.own) e) k
+  heading_by s h n made (Awaited p) e k = headed_leads s h.name.name (Ok (meaning.Procedure p)) (unheaded_awaited (find_name h.name.name s.own) p e) k
   heading_by s h n made Taken e k = leads_refl m opens s
 
   pub heading_leads : (s : Scope g.Reported) (h : Heading) (n : ℕ) → HeadIs m opens s (with_heading g s n h).0 h.name.name → Goes s (with_heading g s n h).0
-  heading_leads s h n k = heading_by s h n (heading_of g s h) (name_standing (found h.name.name s.own)) refl k
+  heading_leads s h n k = heading_by s h n (heading_of g s h) (name_standing (find_name h.name.name s.own)) refl k
 
   -- ---- marks
 
@@ -355,8 +355,8 @@ module _ (g : Gathers) where
 
   -- ---- headings in which no rule is broken
 
-  headed_reported : (s : Scope g.Reported) (h : Heading) (n : ℕ) → (with_heading g s n h).1 ≡ Ok tt → (headed_as g s h n (heading_of g s h) (name_standing (found h.name.name s.own))).1 ≡ Ok tt
-  headed_reported s h n e = beside_right g (names_of g h) (headed_as g s h n (heading_of g s h) (name_standing (found h.name.name s.own))).1 e
+  headed_reported : (s : Scope g.Reported) (h : Heading) (n : ℕ) → (with_heading g s n h).1 ≡ Ok tt → (headed_as g s h n (heading_of g s h) (name_standing (find_name h.name.name s.own))).1 ≡ Ok tt
+  headed_reported s h n e = beside_right g (names_of g h) (headed_as g s h n (heading_of g s h) (name_standing (find_name h.name.name s.own))).1 e
 
   pub result_holds : (s : Scope g.Reported) (o : Option Qualified) → Holds (λ r. is_there r ≡ is_there o) (result_of g s o)
   result_holds s None = fine None refl
@@ -369,10 +369,10 @@ module _ (g : Gathers) where
 
   -- in a procedure
   abbrev pub NestedHead : Scope g.Reported → Scope g.Reported → Heading → ℕ → Type 0
-  NestedHead s s' h n = (t : TypeNo) × ((found h.name.name s'.own ≡ Some (Headed (Ok (meaning.LocalProcedure (record { level = s.level; number = n; heading = t }))))) × ResultIs s'.types t h.result)
+  NestedHead s s' h n = (t : TypeNo) × ((find_name h.name.name s'.own ≡ Some (Headed (Ok (meaning.LocalProcedure (record { level = s.level; number = n; heading = t }))))) × ResultIs s'.types t h.result)
 
   nested_new : (b : Bool) → b ≡ false → (s : Scope g.Reported) (h : Heading) (n : ℕ) (t : TypeNo) → ResultIs s.types t h.result
-      → NestedHead s (cond b (module_procedure s h.name.name (Ok t)) (headed h.name.name (nested_meaning s.level n (Ok t)) s)) h n
+      → NestedHead s (cond b (module_procedure s h.name.name (Ok t)) (set_heading h.name.name (nested_meaning s.level n (Ok t)) s)) h n
   nested_new true e s h n t r = absurd cc
   nested_new false e s h n t r = (t, (found_self h.name.name (Headed (Ok (meaning.LocalProcedure (record { level = s.level; number = n; heading = t })))) s.own, r))
 
@@ -384,28 +384,28 @@ module _ (g : Gathers) where
   nested_made s h n _ (fine x k) e q = nested_new (s.level == 0) e (with_shape s x) h n (next_type s) (new_result s x h.result k)
   nested_made s h n _ (broken x) e q = absurd cc
 
-  pub awaited_is : {T : Type 0} (o : Option (Known T)) (p : Procedure) → name_standing o ≡ Awaited p → picked is_awaiting o ≡ true
+  pub awaited_is : {T : Type 0} (o : Option (Known T)) (p : Procedure) → name_standing o ≡ Awaited p → holds_of is_awaiting o ≡ true
   awaited_is None p e = absurd cc
   awaited_is (Some k) p e = ap is_awaited e
 
-  nested_by : (s : Scope g.Reported) (h : Heading) (n : ℕ) (made : Result Made g.Reported) (o : Standing) → Holds (λ x. result_in x.shape ≡ is_there h.result) made → name_standing (found h.name.name s.own) ≡ o
-      → (s.level == 0) ≡ false → picked is_awaiting (found h.name.name s.own) ≡ false → (headed_as g s h n made o).1 ≡ Ok tt → NestedHead s (headed_as g s h n made o).0 h n
+  nested_by : (s : Scope g.Reported) (h : Heading) (n : ℕ) (made : Result Made g.Reported) (o : Standing) → Holds (λ x. result_in x.shape ≡ is_there h.result) made → name_standing (find_name h.name.name s.own) ≡ o
+      → (s.level == 0) ≡ false → holds_of is_awaiting (find_name h.name.name s.own) ≡ false → (headed_as g s h n made o).1 ≡ Ok tt → NestedHead s (headed_as g s h n made o).0 h n
   nested_by s h n made Free r e l a q = nested_made s h n made r l q
-  nested_by s h n made (Awaited p) r e l a q = let k : picked is_awaiting (found h.name.name s.own) ≡ true = awaited_is (found h.name.name s.own) p e in absurd (let z : false ≡ true = sym a ∙ k in cc)
-  nested_by s h n made Taken r e l a q = let z : reported g {A = Unit {0}} h.name.pos rule.DeclaredTwice ≡ Ok tt = beside_right g (nothing_made made) (reported g h.name.pos rule.DeclaredTwice) q in absurd cc
+  nested_by s h n made (Awaited p) r e l a q = let k : holds_of is_awaiting (find_name h.name.name s.own) ≡ true = awaited_is (find_name h.name.name s.own) p e in absurd (let z : false ≡ true = sym a ∙ k in cc)
+  nested_by s h n made Taken r e l a q = let z : report g {A = Unit {0}} h.name.pos rule.DeclaredTwice ≡ Ok tt = beside_right g (nothing_made made) (report g h.name.pos rule.DeclaredTwice) q in absurd cc
 
-  pub nested_head : (s : Scope g.Reported) (h : Heading) (n : ℕ) → (s.level == 0) ≡ false → picked is_awaiting (found h.name.name s.own) ≡ false → (with_heading g s n h).1 ≡ Ok tt → NestedHead s (with_heading g s n h).0 h n
-  nested_head s h n l a q = nested_by s h n (heading_of g s h) (name_standing (found h.name.name s.own)) (heading_holds s h) refl l a (headed_reported s h n q)
+  pub nested_head : (s : Scope g.Reported) (h : Heading) (n : ℕ) → (s.level == 0) ≡ false → holds_of is_awaiting (find_name h.name.name s.own) ≡ false → (with_heading g s n h).1 ≡ Ok tt → NestedHead s (with_heading g s n h).0 h n
+  nested_head s h n l a q = nested_by s h n (heading_of g s h) (name_standing (find_name h.name.name s.own)) (heading_holds s h) refl l a (headed_reported s h n q)
 
   -- of a module: its number stands among the module's procedures
   abbrev pub IsProcedureOf : Scope g.Reported → Procedure → Type 0
   IsProcedureOf s p = (p.home ≡ s.types.home) × (slice_get s.procedures p.number ≡ Some p.heading)
 
   abbrev pub ModuleHead : Scope g.Reported → Heading → Type 0
-  ModuleHead s' h = (p : Procedure) × ((found h.name.name s'.own ≡ Some (Headed (Ok (meaning.Procedure p)))) × (IsProcedureOf s' p × ResultIs s'.types p.heading h.result))
+  ModuleHead s' h = (p : Procedure) × ((find_name h.name.name s'.own ≡ Some (Headed (Ok (meaning.Procedure p)))) × (IsProcedureOf s' p × ResultIs s'.types p.heading h.result))
 
   module_new : (b : Bool) → b ≡ true → (s : Scope g.Reported) (h : Heading) (n : ℕ) (t : TypeNo) → ResultIs s.types t h.result
-      → ModuleHead (cond b (module_procedure s h.name.name (Ok t)) (headed h.name.name (nested_meaning s.level n (Ok t)) s)) h
+      → ModuleHead (cond b (module_procedure s h.name.name (Ok t)) (set_heading h.name.name (nested_meaning s.level n (Ok t)) s)) h
   module_new true e s h n t r = (
     record { home = s.types.home; number = length s.procedures; heading = t },
     (found_self h.name.name (Headed (Ok (meaning.Procedure (record { home = s.types.home; number = length s.procedures; heading = t })))) s.own, ((refl, get_last s.procedures t), r)),
@@ -431,7 +431,7 @@ module _ (g : Gathers) where
       → (headed_as g s h n made o).1 ≡ Ok tt → ModuleHead (headed_as g s h n made o).0 h
   module_by s h n made Free r e l q = module_made s h n made r l q
   module_by s h n made (Awaited p) r e l q = (p, (found_self h.name.name (Headed (Ok (meaning.Procedure p))) s.own, (e p refl, awaited_made s h p made r q)))
-  module_by s h n made Taken r e l q = let z : reported g {A = Unit {0}} h.name.pos rule.DeclaredTwice ≡ Ok tt = beside_right g (nothing_made made) (reported g h.name.pos rule.DeclaredTwice) q in absurd cc
+  module_by s h n made Taken r e l q = let z : report g {A = Unit {0}} h.name.pos rule.DeclaredTwice ≡ Ok tt = beside_right g (nothing_made made) (report g h.name.pos rule.DeclaredTwice) q in absurd cc
 
-  pub module_head : (s : Scope g.Reported) (h : Heading) (n : ℕ) → ((p : Procedure) → name_standing (found h.name.name s.own) ≡ Awaited p → IsProcedureOf s p) → (s.level == 0) ≡ true → (with_heading g s n h).1 ≡ Ok tt → ModuleHead (with_heading g s n h).0 h
-  module_head s h n a l q = module_by s h n (heading_of g s h) (name_standing (found h.name.name s.own)) (heading_holds s h) a l (headed_reported s h n q)
+  pub module_head : (s : Scope g.Reported) (h : Heading) (n : ℕ) → ((p : Procedure) → name_standing (find_name h.name.name s.own) ≡ Awaited p → IsProcedureOf s p) → (s.level == 0) ≡ true → (with_heading g s n h).1 ≡ Ok tt → ModuleHead (with_heading g s n h).0 h
+  module_head s h n a l q = module_by s h n (heading_of g s h) (name_standing (find_name h.name.name s.own)) (heading_holds s h) a l (headed_reported s h n q)

@@ -12,16 +12,16 @@ use Rattle.typed_tree.specs.declared.types.Home.TheVariants as home
 use Rattle.typed_tree.specs.declared.types.TypeNo.{TypeNo}
 use Rattle.typed_tree.specs.Known.{made_from, made_at}
 use Rattle.m2_tree.specs.Names.{same_name}
-use Rattle.typed_tree.specs.Names.{found, entered}
+use Rattle.typed_tree.specs.Names.{find_name, enter_name}
 use Rattle.check_scope.specs.declared.known.Origin.TheVariants.{Here}
 use Rattle.check_scope.specs.declared.known.Known.{Known}
 use Rattle.check_scope.specs.declared.known.Known.TheVariants.{Later, Ahead, Begun, Headed, Declared}
 use Rattle.check_scope.specs.declared.scope.Scope.{Scope}
-use Rattle.check_scope.specs.Elaborated.{Gathers, reported}
-use Rattle.check_scope.specs.Scopes.{State, is_free, with_known, unless_declared, begun, is_begun, finished, unless_marked, marked}
+use Rattle.check_scope.specs.Elaborated.{Gathers, report}
+use Rattle.check_scope.specs.Scopes.{State, is_free, with_known, unless_declared, begin_name, is_begun, finish_name, unless_marked, mark_name}
 use Rattle.check_type_expr.specs.Made.{with_shape, with_made}
 use Rattle.law_well_formed.specs.Formed.{Holds}
-use Rattle.law_well_formed.specs.FormedScopes.{picked, is_awaiting, FormedOwn, FormedKnown, AreFormedNames, Leads}
+use Rattle.law_well_formed.specs.FormedScopes.{holds_of, is_awaiting, FormedOwn, FormedKnown, AreFormedNames, Leads}
 use Rattle.law_well_formed.proofs.Names.{get_more, kept_entered, none_entered, same_entered}
 
 -- a heading was met
@@ -32,7 +32,7 @@ is_headed Begun = false
 is_headed (Headed m) = true
 is_headed (Declared o m) = false
 
-pub free_unheaded : {T : Type 0} (o : Option (Known T)) → is_free o ≡ true → picked is_headed o ≡ false
+pub free_unheaded : {T : Type 0} (o : Option (Known T)) → is_free o ≡ true → holds_of is_headed o ≡ false
 free_unheaded None e = refl
 free_unheaded (Some Later) e = refl
 free_unheaded (Some Ahead) e = refl
@@ -40,7 +40,7 @@ free_unheaded (Some Begun) e = refl
 free_unheaded (Some (Headed m)) e = absurd cc
 free_unheaded (Some (Declared o m)) e = refl
 
-begun_unheaded : {T : Type 0} (o : Option (Known T)) → is_begun o ≡ true → picked is_headed o ≡ false
+begun_unheaded : {T : Type 0} (o : Option (Known T)) → is_begun o ≡ true → holds_of is_headed o ≡ false
 begun_unheaded None e = refl
 begun_unheaded (Some Later) e = refl
 begun_unheaded (Some Ahead) e = refl
@@ -89,7 +89,7 @@ module _ (m : TypedModule) (opens : ℕ → Bool) where
     procedures = λ n t e. q.procedures n t (p.procedures n t e);
     heads = λ name x e. q.heads name x (p.heads name x e);
     awaits = λ name e. q.awaits name (p.awaits name e);
-    awaited = λ name e. let k = q.awaited name e in k ∙ p.awaited name (ap (λ (o : Option (Known _)). picked is_awaiting o) (sym k) ∙ e);
+    awaited = λ name e. let k = q.awaited name e in k ∙ p.awaited name (ap (λ (o : Option (Known _)). holds_of is_awaiting o) (sym k) ∙ e);
     formed = λ e r. q.formed (p.home ∙ e) (p.formed e r);
   }
 
@@ -97,11 +97,11 @@ module _ (m : TypedModule) (opens : ℕ → Bool) where
   names_by true k e es more p all q = (p, all.1)
   names_by false k e es more p all q = (all.0, q)
 
-  pub names_more : {T : Type 0} (name : List ℕ) (k : Known T) (es : List (List ℕ × Known T)) → FormedKnown m opens k → AreFormedNames m opens es → AreFormedNames m opens (entered name k es)
+  pub names_more : {T : Type 0} (name : List ℕ) (k : Known T) (es : List (List ℕ × Known T)) → FormedKnown m opens k → AreFormedNames m opens es → AreFormedNames m opens (enter_name name k es)
   names_more name k [] p all = (p, tt)
-  names_more name k (e ∷ es) p all = names_by (same_name name e.0) k e es (entered name k es) p all (names_more name k es p all.1)
+  names_more name k (e ∷ es) p all = names_by (same_name name e.0) k e es (enter_name name k es) p all (names_more name k es p all.1)
 
-  pub known_leads : {T : Type 0} (s : Scope T) (name : List ℕ) (k : Known T) → picked is_headed (found name s.own) ≡ false → is_awaiting k ≡ false
+  pub known_leads : {T : Type 0} (s : Scope T) (name : List ℕ) (k : Known T) → holds_of is_headed (find_name name s.own) ≡ false → is_awaiting k ≡ false
       → (s.types.home ≡ m.types.home → FormedKnown m opens k) → Leads m opens s (with_known name k s)
   known_leads s name k e a p = record {
     tables = refl;
@@ -118,29 +118,29 @@ module _ (m : TypedModule) (opens : ℕ → Bool) where
   }
 
   module _ (g : Gathers) (s : Scope g.Reported) (name : Ident) where
-    unless_by : (b : Bool) (k : Known g.Reported) → (b ≡ true → Leads m opens s (with_known name.name k s)) → Leads m opens s (cond {A = State (Unit {0}) g.Reported} b (with_known name.name k s, Ok tt) (s, reported g name.pos rule.DeclaredTwice)).0
+    unless_by : (b : Bool) (k : Known g.Reported) → (b ≡ true → Leads m opens s (with_known name.name k s)) → Leads m opens s (cond {A = State (Unit {0}) g.Reported} b (with_known name.name k s, Ok tt) (s, report g name.pos rule.DeclaredTwice)).0
     unless_by true k p = p refl
     unless_by false k p = leads_refl s
 
     pub unless_leads : (k : Known g.Reported) → is_awaiting k ≡ false → (s.types.home ≡ m.types.home → FormedKnown m opens k) → Leads m opens s (unless_declared g s name k).0
-    unless_leads k a p = unless_by (is_free (found name.name s.own)) k (λ e. known_leads s name.name k (free_unheaded (found name.name s.own) e) a p)
+    unless_leads k a p = unless_by (is_free (find_name name.name s.own)) k (λ e. known_leads s name.name k (free_unheaded (find_name name.name s.own) e) a p)
 
-    pub begun_leads : Leads m opens s (begun g s name).0
+    pub begun_leads : Leads m opens s (begin_name g s name).0
     begun_leads = unless_leads Begun refl (λ e. tt)
 
   finished_by : {T : Type 0} (s : Scope T) (name : List ℕ) (k : Known T) (b : Bool) → (b ≡ true → Leads m opens s (with_known name k s)) → Leads m opens s (cond b (with_known name k s) s)
   finished_by s name k true p = p refl
   finished_by s name k false p = leads_refl s
 
-  pub finished_leads : {T : Type 0} (s : Scope T) (name : Ident) (r : Result Meaning T) → is_awaiting (Declared Here r) ≡ false → (s.types.home ≡ m.types.home → Holds (FormedOwn m opens) r) → Leads m opens s (finished s name r)
-  finished_leads s name r a p = finished_by s name.name (Declared Here r) (is_begun (found name.name s.own)) (λ e. known_leads s name.name (Declared Here r) (begun_unheaded (found name.name s.own) e) a p)
+  pub finished_leads : {T : Type 0} (s : Scope T) (name : Ident) (r : Result Meaning T) → is_awaiting (Declared Here r) ≡ false → (s.types.home ≡ m.types.home → Holds (FormedOwn m opens) r) → Leads m opens s (finish_name s name r)
+  finished_leads s name r a p = finished_by s name.name (Declared Here r) (is_begun (find_name name.name s.own)) (λ e. known_leads s name.name (Declared Here r) (begun_unheaded (find_name name.name s.own) e) a p)
 
-  marked_by : {T : Type 0} (s : Scope T) (name : List ℕ) (k : Known T) (o : Option (Known T)) → found name s.own ≡ o → is_awaiting k ≡ false → FormedKnown m opens k → Leads m opens s (unless_marked name k s o)
+  marked_by : {T : Type 0} (s : Scope T) (name : List ℕ) (k : Known T) (o : Option (Known T)) → find_name name s.own ≡ o → is_awaiting k ≡ false → FormedKnown m opens k → Leads m opens s (unless_marked name k s o)
   marked_by s name k (Some x) e a p = leads_refl s
-  marked_by s name k None e a p = known_leads s name k (ap (λ (o : Option (Known _)). picked is_headed o) e) a (λ h. p)
+  marked_by s name k None e a p = known_leads s name k (ap (λ (o : Option (Known _)). holds_of is_headed o) e) a (λ h. p)
 
-  pub marked_leads : {T : Type 0} (s : Scope T) (name : Ident) (k : Known T) → is_awaiting k ≡ false → FormedKnown m opens k → Leads m opens s (marked name k s)
-  marked_leads s name k a p = marked_by s name.name k (found name.name s.own) refl a p
+  pub marked_leads : {T : Type 0} (s : Scope T) (name : Ident) (k : Known T) → is_awaiting k ≡ false → FormedKnown m opens k → Leads m opens s (mark_name name k s)
+  marked_leads s name k a p = marked_by s name.name k (find_name name.name s.own) refl a p
 
   -- ---- types
 

@@ -10,9 +10,9 @@ use Rattle.typed_tree.specs.declared.meaning.Meaning.{Meaning}
 use Rattle.typed_tree.specs.declared.meaning.Meaning.TheVariants as meaning
 use Rattle.typed_tree.specs.declared.table.Table.{Table}
 use Rattle.typed_tree.specs.declared.typed_module.TypedModule.{TypedModule}
-use Rattle.typed_tree.specs.Names.{found, place_of}
-use Rattle.check_scope.specs.Elaborated.{Gathers, reported}
-use Rattle.check_scope.specs.Scopes.{State, is_free, with_known, is_again, imported}
+use Rattle.typed_tree.specs.Names.{find_name, place_of}
+use Rattle.check_scope.specs.Elaborated.{Gathers, report}
+use Rattle.check_scope.specs.Scopes.{State, is_free, with_known, is_again, import_name}
 use Rattle.check_scope.specs.declared.known.Known.{Known}
 use Rattle.check_scope.specs.declared.known.Known.TheVariants.{Declared}
 use Rattle.check_scope.specs.declared.known.Origin.{Origin}
@@ -27,7 +27,7 @@ module _ (m : TypedModule) (opens : ℕ → Bool) (g : Gathers) where
   abbrev Goes : Scope g.Reported → Scope g.Reported → Type 0
   Goes s s' = Leads m opens s s'
 
-  free_by : (s : Scope g.Reported) (at : Pos) (name : List ℕ) (k : Known g.Reported) (b : Bool) → (b ≡ true → Goes s (with_known name k s)) → Goes s (cond {A = State (Unit {0}) g.Reported} b (with_known name k s, Ok tt) (s, reported g at rule.DeclaredTwice)).0
+  free_by : (s : Scope g.Reported) (at : Pos) (name : List ℕ) (k : Known g.Reported) (b : Bool) → (b ≡ true → Goes s (with_known name k s)) → Goes s (cond {A = State (Unit {0}) g.Reported} b (with_known name k s, Ok tt) (s, report g at rule.DeclaredTwice)).0
   free_by s at name k true p = p refl
   free_by s at name k false p = leads_refl m opens s
 
@@ -35,9 +35,9 @@ module _ (m : TypedModule) (opens : ℕ → Bool) (g : Gathers) where
   again_by s true st p = leads_refl m opens s
   again_by s false st p = p
 
-  imported_leads : (s : Scope g.Reported) (at : Pos) (name : List ℕ) (o : Origin) (r : Result Meaning g.Reported) → is_awaiting (Declared o r) ≡ false → FormedKnown m opens (Declared o r) → Goes s (imported g s at name o r).0
+  imported_leads : (s : Scope g.Reported) (at : Pos) (name : List ℕ) (o : Origin) (r : Result Meaning g.Reported) → is_awaiting (Declared o r) ≡ false → FormedKnown m opens (Declared o r) → Goes s (import_name g s at name o r).0
   imported_leads s at name o r a p =
-      again_by s (is_again (found name s.own) o) _ (free_by s at name (Declared o r) (is_free (found name s.own)) (λ e. known_leads m opens s name (Declared o r) (free_unheaded (found name s.own) e) a (λ h. p)))
+      again_by s (is_again (find_name name s.own) o) _ (free_by s at name (Declared o r) (is_free (find_name name s.own)) (λ e. known_leads m opens s name (Declared o r) (free_unheaded (find_name name s.own) e) a (λ h. p)))
 
   -- ---- IMPORT M
 
@@ -47,7 +47,7 @@ module _ (m : TypedModule) (opens : ℕ → Bool) (g : Gathers) where
 
   names_lead : (modules : List (List ℕ × ℕ)) (names : List Ident) (st : State (Unit {0}) g.Reported) → OpensImports opens modules names → Goes st.0 (fold (with_module_name g modules) st names).0
   names_lead modules [] st k = leads_refl m opens st.0
-  names_lead modules (x ∷ xs) st k = leads_then m opens (name_by st.0 x (found x.name modules) k.0) (names_lead modules xs (with_module_name g modules st x) k.1)
+  names_lead modules (x ∷ xs) st k = leads_then m opens (name_by st.0 x (find_name x.name modules) k.0) (names_lead modules xs (with_module_name g modules st x) k.1)
 
   -- ---- FROM M IMPORT x
 
@@ -71,7 +71,7 @@ module _ (m : TypedModule) (opens : ℕ → Bool) (g : Gathers) where
 
   place_leads : (s : Scope g.Reported) (name : Ident) (n : ℕ) (es : List (List ℕ × Meaning)) (o : Option ℕ) → ExportsFormed m opens es → Goes s (from_place g s name n es o).0
   place_leads s name n es None k = leads_refl m opens s
-  place_leads s name n es (Some i) k = unless_leads s name.pos n es i (reported_of_taken g name.pos n (found name.name s.own)) k
+  place_leads s name n es (Some i) k = unless_leads s name.pos n es i (reported_of_taken g name.pos n (find_name name.name s.own)) k
 
   from_lead : (n : ℕ) (es : List (List ℕ × Meaning)) (names : List Ident) (st : State (Unit {0}) g.Reported) → ExportsFormed m opens es → Goes st.0 (fold (with_from g n es) st names).0
   from_lead n es [] st k = leads_refl m opens st.0
@@ -87,11 +87,11 @@ module _ (m : TypedModule) (opens : ℕ → Bool) (g : Gathers) where
 
   abbrev pub OpensImport : List (List ℕ × ℕ) → Option Ident → List Ident → Type 0
   OpensImport modules None names = OpensImports opens modules names
-  OpensImport modules (Some n) names = OpensNames opens (found n.name modules)
+  OpensImport modules (Some n) names = OpensNames opens (find_name n.name modules)
 
   import_leads : (modules : List (List ℕ × ℕ)) (st : State (Unit {0}) g.Reported) (o : Option Ident) (names : List Ident) → OpenTables st.0.tables → OpensImport modules o names → Goes st.0 (with_imports g modules st o names).0
   import_leads modules st None names t k = names_lead modules names st k
-  import_leads modules st (Some n) names t k = module_by n.pos st names (found n.name modules) t k
+  import_leads modules st (Some n) names t k = module_by n.pos st names (find_name n.name modules) t k
 
   abbrev pub OpensAll : List (List ℕ × ℕ) → List Import → Type 0
   OpensAll modules [] = Unit {0}

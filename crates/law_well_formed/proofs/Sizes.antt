@@ -16,7 +16,7 @@ use Rattle.typed_tree.specs.declared.shape.Shape.TheVariants as shape
 use Rattle.typed_tree.specs.declared.shape.Made.{Made}
 use Rattle.typed_tree.specs.declared.known_types.Types.{Types}
 use Rattle.typed_tree.specs.Known.{in_list, made_in, made_at, made_from, cells_made, cells_at, scalar_at, predeclared_scalar}
-use Rattle.check_type_expr.specs.Cells.{counted, count_of, count_at}
+use Rattle.check_type_expr.specs.Cells.{count_up, count_of, count_at}
 use Rattle.layout_storage.specs.Types.{Ty, Scalar, Natural, Callable, Cell, Array, Nothing, Field, row}
 use Rattle.layout_storage.specs.Sizes.{Room, One, Two, Four, bytes_in, room_of, width, size}
 use Rattle.layout_storage.specs.Shapes.{elements_of, scalar_tree, scalar_kind, heading_tree, shape_tree, known_trees, tree}
@@ -47,7 +47,7 @@ scalar_few t (Some s) = cell_few (scalar_kind t s)
 
 -- ---- arrays
 
-saturated : (d c : ℕ) → counted d * suc c ≤ max_cells → counted d ≡ d + 1
+saturated : (d c : ℕ) → count_up d * suc c ≤ max_cells → count_up d ≡ d + 1
 saturated d c = by (nat_lt 131072 d) where
   by : (q : Bool) → cond q 131073 (d + 1) * suc c ≤ max_cells → cond q 131073 (d + 1) ≡ d + 1
   by true l = let k : 131073 * 1 ≤ 131073 * suc c = mul-le 131073 1 131073 (suc c) (omega arith) (omega arith) in absurd (omega (arith, l, k))
@@ -56,9 +56,9 @@ saturated d c = by (nat_lt 131072 d) where
 abbrev distance : Range → ℕ
 distance r = unsigned_abs (r.high -ℤ r.low)
 
-filled : (r : Range) → r.low ≤ℤ r.high → count_of (Some r) ≡ counted (distance r)
+filled : (r : Range) → r.low ≤ℤ r.high → count_of (Some r) ≡ count_up (distance r)
 filled r l = by (int_lt r.high r.low) refl where
-  by : (q : Bool) → int_lt r.high r.low ≡ q → cond q 0 (counted (distance r)) ≡ counted (distance r)
+  by : (q : Bool) → int_lt r.high r.low ≡ q → cond q 0 (count_up (distance r)) ≡ count_up (distance r)
   by true e = absurd (grind (arith, l, e))
   by false e = refl
 
@@ -70,7 +70,7 @@ array_few None ranged z c l few = omega arith
 array_few (Some r) ranged zero c l few = subst (λ (n : ℕ). n ≤ count_of (Some r) * c * 4) (sym (mul-zero (elements_of (Some r)))) (omega arith)
 array_few (Some r) ranged (suc z) zero l few = absurd (omega (arith, l))
 array_few (Some r) ranged (suc z) (suc c) l few =
-    let full : count_of (Some r) ≡ counted (distance r) = filled r (ranged r refl) in
+    let full : count_of (Some r) ≡ count_up (distance r) = filled r (ranged r refl) in
     let same : count_of (Some r) ≡ elements_of (Some r) = full ∙ saturated (distance r) c (subst (λ (n : ℕ). n * suc c ≤ max_cells) full few) in
     subst (λ (n : ℕ). elements_of (Some r) * suc z ≤ n * suc c * 4) (sym same) (times_four (elements_of (Some r)) (suc z) (suc c) l)
 

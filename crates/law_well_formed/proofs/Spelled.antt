@@ -24,7 +24,7 @@ use Rattle.m2_tree.specs.declared.decl.Module.{Module}
 use Rattle.def_grammar.specs.Rule.{Rule, Ast, module_rule, import_rule, idents_rule, def_rule, block_rule, decl_rule, constant_rule, type_decl_rule, variables_rule, formals_rule, section_rule, formal_rule, qual_rule, simple_rule, type_rule, dims_rule, parameter_rule, field_rule, stmts_rule, stmt_rule, rest_rule, arm_rule, item_rule, desig_rule, selectors_rule, args_rule, expr_rule, sum_rule, term_rule, factor_rule, set_rule}
 use Rattle.def_grammar.specs.Grammar.{Ty, token, ast, both, either, maybe, list, El, Gr, rule}
 use Rattle.def_grammar.specs.Ebnf.{grammar}
-use Rattle.def_grammar.specs.Trees.{ident_of, literal_said, with_first, present, if_any, is_there, sign_of, added, multiplied, related, sum_of, product_of, begun_by, factor_of, named_simple, simple_of, element_of, formals_of, type_of, def_of, decl_of, held_by, module_of, tree}
+use Rattle.def_grammar.specs.Trees.{ident_of, literal_said, with_first, present, if_any, is_there, sign_of, add_operand, multiply_operand, relation_or_operand, sum_of, product_of, begun_by, factor_of, named_simple, simple_of, element_of, formals_of, type_of, def_of, decl_of, contents_with, module_of, tree}
 use Rattle.def_grammar.specs.Spelling.{Spells, one, made, pair, left, right, before, behind, absent, there_is, none, more, nested, closed}
 use Rattle.law_well_formed.specs.FormedRanges.{has_names, fits, fits_simple, fits_type, fits_constant, fits_type_decl, fits_variables, fits_def}
 use Rattle.law_well_formed.specs.FormedKnown.{fits_within, fits_block, fits_contents, fits_module}
@@ -95,15 +95,15 @@ said_fits p (lexeme.Name n) h = number_fits p 0 refl
 said_fits p (lexeme.Symbol s) h = number_fits p 0 refl
 said_fits p lexeme.End h = number_fits p 0 refl
 
-related_fits : (x : Expr) (o : Option (Token × Expr)) → fits x ≡ true → MaybeFits (λ (p : Token × Expr). (token_fits p.0 ≡ true) × (fits p.1 ≡ true)) o → fits (related x o) ≡ true
+related_fits : (x : Expr) (o : Option (Token × Expr)) → fits x ≡ true → MaybeFits (λ (p : Token × Expr). (token_fits p.0 ≡ true) × (fits p.1 ≡ true)) o → fits (relation_or_operand x o) ≡ true
 related_fits x None h k = h
 related_fits x (Some p) h k = relation_fits x _ p.1 h k.1
 
-adds_fit : (ps : List (Token × Expr)) → AllByRecursion (λ (p : Token × Expr). (token_fits p.0 ≡ true) × (fits p.1 ≡ true)) ps → AllByRecursion (λ (p : Operator AddOp × Expr). fits p.1 ≡ true) (map added ps)
+adds_fit : (ps : List (Token × Expr)) → AllByRecursion (λ (p : Token × Expr). (token_fits p.0 ≡ true) × (fits p.1 ≡ true)) ps → AllByRecursion (λ (p : Operator AddOp × Expr). fits p.1 ≡ true) (map add_operand ps)
 adds_fit [] h = tt
 adds_fit (p ∷ ps) h = (h.0.1, adds_fit ps h.1)
 
-times_fit : (ps : List (Token × Expr)) → AllByRecursion (λ (p : Token × Expr). (token_fits p.0 ≡ true) × (fits p.1 ≡ true)) ps → AllByRecursion (λ (p : Operator MulOp × Expr). fits p.1 ≡ true) (map multiplied ps)
+times_fit : (ps : List (Token × Expr)) → AllByRecursion (λ (p : Token × Expr). (token_fits p.0 ≡ true) × (fits p.1 ≡ true)) ps → AllByRecursion (λ (p : Operator MulOp × Expr). fits p.1 ≡ true) (map multiply_operand ps)
 times_fit [] h = tt
 times_fit (p ∷ ps) h = (h.0.1, times_fit ps h.1)
 
@@ -178,7 +178,7 @@ decl_fits (inl (inr (inl ts))) h = types_fit ts (all_true fits_type_decl ts h)
 decl_fits (inl (inr (inr vs))) h = variables_fit vs (all_true fits_variables vs h)
 decl_fits (inr p) h = body_fits _ p.1.1 h.1.1
 
-held_fits : (b : Bool) (x : Block) → fits_block x ≡ true → fits_contents (held_by b x) ≡ true
+held_fits : (b : Bool) (x : Block) → fits_block x ≡ true → fits_contents (contents_with b x) ≡ true
 held_fits true x h = h
 held_fits false x h = h
 
@@ -216,8 +216,8 @@ tree_fits desig_rule x h = tt
 tree_fits selectors_rule x h = tt
 tree_fits args_rule x h = if_any_fits (λ (y : Expr). fits y ≡ true) x h
 tree_fits expr_rule x h = related_fits x.0 x.1 h.0 h.1
-tree_fits sum_rule x h = sum_tree (option_map sign_of x.0) x.1.0 (map added x.1.1) h.1.0 (adds_fit x.1.1 h.1.1)
-tree_fits term_rule x h = product_tree x.0 (map multiplied x.1) h.0 (times_fit x.1 h.1)
+tree_fits sum_rule x h = sum_tree (option_map sign_of x.0) x.1.0 (map add_operand x.1.1) h.1.0 (adds_fit x.1.1 h.1.1)
+tree_fits term_rule x h = product_tree x.0 (map multiply_operand x.1) h.0 (times_fit x.1 h.1)
 tree_fits factor_rule x h = factor_fits x h
 tree_fits set_rule x h = tt
 

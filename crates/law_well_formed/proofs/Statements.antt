@@ -18,13 +18,13 @@ use Rattle.typed_tree.specs.declared.typed_module.TypedModule.{TypedModule}
 use Rattle.typed_tree.specs.declared.types.TypeNo.{TypeNo}
 use Rattle.check_scope.specs.Elaborated.{Gathers}
 use Rattle.check_scope.specs.declared.scope.Scope.{Scope}
-use Rattle.check_expr.specs.Meanings.{meant, head}
+use Rattle.check_expr.specs.Meanings.{meanings_of, head}
 use Rattle.def_scheme.specs.Exprs.{is_there}
 use Rattle.law_modules.specs.WellFormed.{IsExpr, IsPlace, IsStmt, If, Case, While, Repeat, Loop, With, AreStmts, no_stmts, more_stmts, AreOthers, no_others, others, AreArms, no_arms, more_arms}
 use Rattle.check_stmt_parts.specs.declared.around.Around.{Around}
-use Rattle.check_stmt_parts.specs.Lists.{with_next, chosen, chosen_else, base_in, cased, armed, repeated_while, repeated_until, looped, within}
+use Rattle.check_stmt_parts.specs.Lists.{with_next, if_statement, chosen_else, base_in, case_statement, arm_of, repeated_while, repeated_until, loop_statement, within}
 use Rattle.check_stmt_parts.specs.Labels.{labels_in}
-use Rattle.check_stmt_parts.specs.Simple.{meant_if, in_loop, selected, opened}
+use Rattle.check_stmt_parts.specs.Simple.{meant_if, in_loop, case_selector, into_record}
 use Rattle.check_stmt.specs.Statements.{Elaborates, ElaboratesRest, ElaboratesArm, Arms, args_meant, with_stmt, all_of, all_if, with_arm, arms_of, stmt_layer, rest_layer, arm_layer, stmt, rest, arm, with_written, statements}
 use Rattle.law_well_formed.specs.Formed.{Holds, fine, IsFormed}
 use Rattle.law_well_formed.proofs.Basics.{then_holds, both_holds, ahead_holds, any_holds}
@@ -107,7 +107,7 @@ module _ (g : Gathers) (m : TypedModule) (opens : ℕ → Bool) where
     abbrev Expr_ : Result TypedExpr g.Reported → Type 0
     Expr_ r = Holds (IsExpr m (length s.withs)) r
 
-    chosen_formed : {c : Result TypedExpr g.Reported} {body : Result (List TypedStmt) g.Reported} {follow : Result (Option (List TypedStmt)) g.Reported} → Expr_ c → Stmts_ s a body → Others_ s a follow → Stmt_ s a (chosen g c body follow)
+    chosen_formed : {c : Result TypedExpr g.Reported} {body : Result (List TypedStmt) g.Reported} {follow : Result (Option (List TypedStmt)) g.Reported} → Expr_ c → Stmts_ s a body → Others_ s a follow → Stmt_ s a (if_statement g c body follow)
     chosen_formed p q r = then_holds (both_holds g p (both_holds g q r)) (λ v k. fine (step.If v.0 v.1.0 v.1.1) (If (length s.withs) a.in_loop v.0 v.1.0 v.1.1 k.0 k.1.0 k.1.1))
 
     chosen_else_formed : {x : Result TypedStmt g.Reported} → Stmt_ s a x → Others_ s a (chosen_else x)
@@ -116,7 +116,7 @@ module _ (g : Gathers) (m : TypedModule) (opens : ℕ → Bool) where
     abbrev Selector_ : Result (TypeNo × TypedExpr) g.Reported → Type 0
     Selector_ r = Holds (λ (x : TypeNo × TypedExpr). IsExpr m (length s.withs) x.1) r
 
-    cased_formed : {e : Result (TypeNo × TypedExpr) g.Reported} {xs : Result (List TypedArm) g.Reported} {otherwise : Result (Option (List TypedStmt)) g.Reported} → Selector_ e → Arms_ s a xs → Others_ s a otherwise → Stmt_ s a (cased g e xs otherwise)
+    cased_formed : {e : Result (TypeNo × TypedExpr) g.Reported} {xs : Result (List TypedArm) g.Reported} {otherwise : Result (Option (List TypedStmt)) g.Reported} → Selector_ e → Arms_ s a xs → Others_ s a otherwise → Stmt_ s a (case_statement g e xs otherwise)
     cased_formed p q r = then_holds (both_holds g p (both_holds g q r)) (λ v k. fine (step.Case v.0.1 v.1.0 v.1.1) (Case (length s.withs) a.in_loop v.0.1 v.1.0 v.1.1 k.0 k.1.0 k.1.1))
 
     while_formed : {c : Result TypedExpr g.Reported} {body : Result (List TypedStmt) g.Reported} → Expr_ c → Stmts_ s a body → Stmt_ s a (repeated_while g c body)
@@ -125,7 +125,7 @@ module _ (g : Gathers) (m : TypedModule) (opens : ℕ → Bool) where
     until_formed : {c : Result TypedExpr g.Reported} {body : Result (List TypedStmt) g.Reported} → Stmts_ s a body → Expr_ c → Stmt_ s a (repeated_until g body c)
     until_formed q p = then_holds (both_holds g q p) (λ v k. fine (step.Repeat v.0 v.1) (Repeat (length s.withs) a.in_loop v.0 v.1 k.0 k.1))
 
-    looped_formed : {body : Result (List TypedStmt) g.Reported} → Stmts_ s (in_loop a) body → Stmt_ s a (looped body)
+    looped_formed : {body : Result (List TypedStmt) g.Reported} → Stmts_ s (in_loop a) body → Stmt_ s a (loop_statement body)
     looped_formed p = then_holds p (λ v k. fine (step.Loop v) (Loop (length s.withs) a.in_loop v k))
 
     with_formed : (t : TypeNo) (d : Place) {body : Result (List TypedStmt) g.Reported} → IsPlace m (length s.withs) d → Holds (AreStmts m (is_there a.gives) (suc (length s.withs)) a.in_loop) body → Stmt_ s a (within d body)
@@ -133,7 +133,7 @@ module _ (g : Gathers) (m : TypedModule) (opens : ℕ → Bool) where
 
     -- ---- parts
 
-    all_meant : (xs : List Expr) → AllM g m opens (length s.withs) s h (map (meant g) xs)
+    all_meant : (xs : List Expr) → AllM g m opens (length s.withs) s h (map (meanings_of g) xs)
     all_meant [] = tt
     all_meant (x ∷ xs) = (meant_formed g m opens (length s.withs) s h x, all_meant xs)
 
@@ -145,7 +145,7 @@ module _ (g : Gathers) (m : TypedModule) (opens : ℕ → Bool) where
     known_if None = tt
     known_if (Some e) = meant_formed g m opens (length s.withs) s h e
 
-  opened_count : (s : Scope g.Reported) (t : TypeNo) → length (opened s t).withs ≡ suc (length s.withs)
+  opened_count : (s : Scope g.Reported) (t : TypeNo) → length (into_record s t).withs ≡ suc (length s.withs)
   opened_count s t = length-append s.withs _ ∙ omega arith
 
   -- ---- a layer, each part of which has its meaning
@@ -220,31 +220,31 @@ module _ (g : Gathers) (m : TypedModule) (opens : ℕ → Bool) where
   no_else : (s : Scope g.Reported) (a : Around g.Reported) → Others_ s a (all_if g s a None)
   no_else s a = fine None (no_others (length s.withs) a.in_loop)
 
-  inner_formed : (s : Scope g.Reported) (h : InScope s) (a : Around g.Reported) (t : TypeNo) (xs : List SS) → Holds (AreStmts m (is_there a.gives) (suc (length s.withs)) a.in_loop) (all_of g (opened s t) a (elaborates_of xs))
+  inner_formed : (s : Scope g.Reported) (h : InScope s) (a : Around g.Reported) (t : TypeNo) (xs : List SS) → Holds (AreStmts m (is_there a.gives) (suc (length s.withs)) a.in_loop) (all_of g (into_record s t) a (elaborates_of xs))
   inner_formed s h a t xs =
-      subst (λ (w : ℕ). Holds (AreStmts m (is_there a.gives) w a.in_loop) (all_of g (opened s t) a (elaborates_of xs))) (opened_count s t)
-      (body_formed (opened s t) (subst (λ (w : ℕ). IsFormed g m opens w (opened s t)) (sym (opened_count s t)) (within_formed g m opens (length s.withs) s h t refl)) a xs)
+      subst (λ (w : ℕ). Holds (AreStmts m (is_there a.gives) w a.in_loop) (all_of g (into_record s t) a (elaborates_of xs))) (opened_count s t)
+      (body_formed (into_record s t) (subst (λ (w : ℕ). IsFormed g m opens w (into_record s t)) (sym (opened_count s t)) (within_formed g m opens (length s.withs) s h t refl)) a xs)
 
   stmt_formed_layer : (y : Stmt-F SR SS SA) → FormedElaborates (stmt_layer g (opened_stmt (bare_stmt y)))
-  stmt_formed_layer (layer.Assign d e) = λ s h a. assignment_formed g m opens (length s.withs) s h (is_there a.gives) a.in_loop (head g d) (meant g e).fixed.at (meant g e) (head_formed g m opens (length s.withs) s h d) (meant_formed g m opens (length s.withs) s h e)
+  stmt_formed_layer (layer.Assign d e) = λ s h a. assignment_formed g m opens (length s.withs) s h (is_there a.gives) a.in_loop (head g d) (meanings_of g e).fixed.at (meanings_of g e) (head_formed g m opens (length s.withs) s h d) (meant_formed g m opens (length s.withs) s h e)
   stmt_formed_layer (layer.Call d args) = λ s h a. done_formed g m opens (length s.withs) s h (is_there a.gives) a.in_loop (head g d) (args_meant g args) (head_formed g m opens (length s.withs) s h d) (args_formed s h a args)
-  stmt_formed_layer (layer.If c body follow) = λ s h a. chosen_formed s h a (condition_formed g m opens (length s.withs) s h (meant g c) (meant_formed g m opens (length s.withs) s h c)) (body_formed s h a body) (follow.1 s h a)
-  stmt_formed_layer (layer.Case e arms None) = λ s h a. cased_formed s h a (selected_formed g m opens (length s.withs) s h (meant g e) (meant_formed g m opens (length s.withs) s h e)) (all_arms s h a (base_in (selected g s (meant g e))) (map (arm g) (map (λ (e : SA). e.0) arms)) (armed_all arms)) (no_else s a)
-  stmt_formed_layer (layer.Case e arms (Some body)) = λ s h a. cased_formed s h a (selected_formed g m opens (length s.withs) s h (meant g e) (meant_formed g m opens (length s.withs) s h e)) (all_arms s h a (base_in (selected g s (meant g e))) (map (arm g) (map (λ (e : SA). e.0) arms)) (armed_all arms)) (else_formed s h a body)
-  stmt_formed_layer (layer.While c body) = λ s h a. while_formed s h a (condition_formed g m opens (length s.withs) s h (meant g c) (meant_formed g m opens (length s.withs) s h c)) (body_formed s h a body)
-  stmt_formed_layer (layer.Repeat body c) = λ s h a. until_formed s h a (body_formed s h a body) (condition_formed g m opens (length s.withs) s h (meant g c) (meant_formed g m opens (length s.withs) s h c))
+  stmt_formed_layer (layer.If c body follow) = λ s h a. chosen_formed s h a (condition_formed g m opens (length s.withs) s h (meanings_of g c) (meant_formed g m opens (length s.withs) s h c)) (body_formed s h a body) (follow.1 s h a)
+  stmt_formed_layer (layer.Case e arms None) = λ s h a. cased_formed s h a (selected_formed g m opens (length s.withs) s h (meanings_of g e) (meant_formed g m opens (length s.withs) s h e)) (all_arms s h a (base_in (case_selector g s (meanings_of g e))) (map (arm g) (map (λ (e : SA). e.0) arms)) (armed_all arms)) (no_else s a)
+  stmt_formed_layer (layer.Case e arms (Some body)) = λ s h a. cased_formed s h a (selected_formed g m opens (length s.withs) s h (meanings_of g e) (meant_formed g m opens (length s.withs) s h e)) (all_arms s h a (base_in (case_selector g s (meanings_of g e))) (map (arm g) (map (λ (e : SA). e.0) arms)) (armed_all arms)) (else_formed s h a body)
+  stmt_formed_layer (layer.While c body) = λ s h a. while_formed s h a (condition_formed g m opens (length s.withs) s h (meanings_of g c) (meant_formed g m opens (length s.withs) s h c)) (body_formed s h a body)
+  stmt_formed_layer (layer.Repeat body c) = λ s h a. until_formed s h a (body_formed s h a body) (condition_formed g m opens (length s.withs) s h (meanings_of g c) (meant_formed g m opens (length s.withs) s h c))
   stmt_formed_layer (layer.Loop body) = λ s h a. looped_formed s h a (body_formed s h (in_loop a) body)
   stmt_formed_layer (layer.Exit at) = λ s h a. exited_formed g m opens (length s.withs) s h at a
   stmt_formed_layer (layer.Return at e) = λ s h a. returned_formed g m opens (length s.withs) s h at a.in_loop a.gives (meant_if g e) (known_if s h a e)
-  stmt_formed_layer (layer.For name start limit by body) = λ s h a. for_formed g m opens (length s.withs) s h (is_there a.gives) a.in_loop (course_formed g m opens (length s.withs) s h name (meant g start) (meant g limit) (meant_if g by) (meant_formed g m opens (length s.withs) s h start) (meant_formed g m opens (length s.withs) s h limit)) (body_formed s h a body)
+  stmt_formed_layer (layer.For name start limit by body) = λ s h a. for_formed g m opens (length s.withs) s h (is_there a.gives) a.in_loop (course_formed g m opens (length s.withs) s h name (meanings_of g start) (meanings_of g limit) (meant_if g by) (meant_formed g m opens (length s.withs) s h start) (meant_formed g m opens (length s.withs) s h limit)) (body_formed s h a body)
   stmt_formed_layer (layer.With d body) = λ s h a. ahead_holds g _ (record_formed g m opens (length s.withs) s h (head g d) (head_formed g m opens (length s.withs) s h d)) (λ r k. with_formed s h a r.0 r.1 k (inner_formed s h a r.0 body))
 
   rest_formed_layer : (y : Rest-F SR SS SA) → FormedRest (rest_layer g (opened_rest (bare_rest y)))
-  rest_formed_layer (layer.Elsif c body follow) = λ s h a. chosen_else_formed s h a (chosen_formed s h a (condition_formed g m opens (length s.withs) s h (meant g c) (meant_formed g m opens (length s.withs) s h c)) (body_formed s h a body) (follow.1 s h a))
+  rest_formed_layer (layer.Elsif c body follow) = λ s h a. chosen_else_formed s h a (chosen_formed s h a (condition_formed g m opens (length s.withs) s h (meanings_of g c) (meant_formed g m opens (length s.withs) s h c)) (body_formed s h a body) (follow.1 s h a))
   rest_formed_layer (layer.Else None) = λ s h a. no_else s a
   rest_formed_layer (layer.Else (Some body)) = λ s h a. else_formed s h a body
 
-  armed_formed : (s : Scope g.Reported) (a : Around g.Reported) (labels : Result (List Label) g.Reported) {body : Result (List TypedStmt) g.Reported} → Stmts_ s a body → Arm_ s a (armed g labels body)
+  armed_formed : (s : Scope g.Reported) (a : Around g.Reported) (labels : Result (List Label) g.Reported) {body : Result (List TypedStmt) g.Reported} → Stmts_ s a body → Arm_ s a (arm_of g labels body)
   armed_formed s a labels p = then_holds (both_holds g (any_holds labels) p) (λ v k. fine (record { labels = v.0; body = v.1 }) k.1)
 
   arm_formed_layer : (y : Arm-F SR SS SA) → FormedArm (arm_layer g (opened_arm (bare_arm y)))

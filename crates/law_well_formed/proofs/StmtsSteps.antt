@@ -17,12 +17,12 @@ use Rattle.typed_tree.specs.declared.statement.TypedStmt.{TypedStmt}
 use Rattle.typed_tree.specs.declared.statement.TypedStmt.TheVariants as step
 use Rattle.typed_tree.specs.declared.typed_module.TypedModule.{TypedModule}
 use Rattle.typed_tree.specs.declared.types.TypeNo.{TypeNo}
-use Rattle.typed_tree.specs.Chains.{rooted}
+use Rattle.typed_tree.specs.Chains.{root_place}
 use Rattle.typed_tree.specs.Names.{place_of}
 use Rattle.typed_tree.specs.Types.{boolean}
 use Rattle.check_scope.specs.declared.meaningless.Meaningless.{Meaningless}
 use Rattle.check_scope.specs.Elaborated.{Gathers, reported_where}
-use Rattle.check_scope.specs.Scopes.{or_outside, fields_at, field_of, field_numbered, field_in, opened as opened_fields, means_or, means_as, known}
+use Rattle.check_scope.specs.Scopes.{or_outside, fields_at, field_of, field_numbered, field_in, open_field as opened_fields, means_or, means_as, sight_of}
 use Rattle.check_scope.specs.declared.scope.OpenedRecord.{OpenedRecord}
 use Rattle.check_scope.specs.declared.scope.Scope.{Scope}
 use Rattle.check_operator.specs.Classes.{class_at}
@@ -45,8 +45,8 @@ use Rattle.law_well_formed.specs.Formed.{Holds, fine, FormedMeaning, FormedValue
 use Rattle.law_well_formed.proofs.Basics.{then_holds, holds_weaker, reported_holds, where_holds, both_holds, reported_beside_holds, sort_holds, any_holds, is_whole, scalar_kept}
 use Rattle.law_well_formed.proofs.Operators.{rooted_formed, side_formed, FormedSide, suited_formed}
 use Rattle.law_well_formed.proofs.Meanings.{FM, value_formed}
-use Rattle.check_stmt_parts.specs.Simple.{exited, given_back, returned, condition, selector_amount, selector_of, selected, record_by, record_of, opened}
-use Rattle.check_stmt_parts.specs.Control.{controlled_as, controlled, control_by, control_of, start_at, limit_number, limit_by, limit_at, type_of, base_of, course_of, step_of, repeated_for}
+use Rattle.check_stmt_parts.specs.Simple.{exit_statement, given_back, return_statement, condition, selector_amount, selector_of, case_selector, record_by, record_of, into_record}
+use Rattle.check_stmt_parts.specs.Control.{controlled_as, control_variable, control_by, control_of, start_at, limit_number, limit_by, limit_at, type_of, base_of, course_of, step_of, repeated_for}
 use Rattle.check_stmt_parts.specs.declared.around.Around.{Around}
 use Rattle.check_stmt_parts.specs.declared.control.Control.{Control}
 use Rattle.check_stmt_parts.specs.declared.control.Course.{Course}
@@ -114,13 +114,13 @@ module _ (g : Gathers) (m : TypedModule) (opens : ℕ → Bool) (w : ℕ) (s : S
   inner_name r e None inner k x p = holds_weaker (meaning_within m opens w) p
   inner_name r e (Some f) inner k x p = fine (meaning.Field f) (let q : f.with ≡ r.number = k f refl in omega (arith, q, e))
 
-  pub within_formed : (t : TypeNo) → length s.withs ≡ w → IsFormed g m opens (suc w) (opened s t)
+  pub within_formed : (t : TypeNo) → length s.withs ≡ w → IsFormed g m opens (suc w) (into_record s t)
   within_formed t e =
       let r : OpenedRecord = record { number = length s.withs; of = t } in record {
         types = h.types;
         names = λ name.
-            subst (λ (o : Option OpenedField). Holds (FormedMeaning m opens (suc w)) (means_or o (means_as g name.pos (known name.name s)))) (sym (opened_more s.types name.name s.withs r))
-            (inner_name r e (field_in s.types name.name r) (opened_fields s.types name.name s.withs) (of_fields r name.name (fields_at s.types t)) (means_as g name.pos (known name.name s)) (h.names name));
+            subst (λ (o : Option OpenedField). Holds (FormedMeaning m opens (suc w)) (means_or o (means_as g name.pos (sight_of name.name s)))) (sym (opened_more s.types name.name s.withs r))
+            (inner_name r e (field_in s.types name.name r) (opened_fields s.types name.name s.withs) (of_fields r name.name (fields_at s.types t)) (means_as g name.pos (sight_of name.name s)) (h.names name));
         members = λ k name q. holds_weaker (meaning_within m opens w) (h.members k name q);
       }
 
@@ -149,7 +149,7 @@ module _ (g : Gathers) (m : TypedModule) (opens : ℕ → Bool) (w : ℕ) (s : S
   exited_as at gives true = fine step.Exit (Exit w)
   exited_as at gives false = reported_holds g at rule.LonelyExit
 
-  pub exited_formed : (at : Pos) (a : Around g.Reported) → Stmt_ (is_there a.gives) a.in_loop (exited g at a)
+  pub exited_formed : (at : Pos) (a : Around g.Reported) → Stmt_ (is_there a.gives) a.in_loop (exit_statement g at a)
   exited_formed at a = exited_as at (is_there a.gives) a.in_loop
 
   given_back_formed : (t : Result TypeNo g.Reported) (at : Pos) (looped : Bool) {x : Result Computed g.Reported} → Holds (FormedValue m w) x → Stmt_ true looped (given_back g s.types t at x)
@@ -159,7 +159,7 @@ module _ (g : Gathers) (m : TypedModule) (opens : ℕ → Bool) (w : ℕ) (s : S
   KnownIf None = Unit {0}
   KnownIf (Some x) = Known_ x
 
-  pub returned_formed : (at : Pos) (looped : Bool) (o : Option (Result TypeNo g.Reported)) (x : Option (Meant g.Reported)) → KnownIf x → Stmt_ (is_there o) looped (returned g s at o x)
+  pub returned_formed : (at : Pos) (looped : Bool) (o : Option (Result TypeNo g.Reported)) (x : Option (Meant g.Reported)) → KnownIf x → Stmt_ (is_there o) looped (return_statement g s at o x)
   returned_formed at looped None None p = fine step.Return (Return w looped refl)
   returned_formed at looped None (Some x) p = reported_beside_holds g at rule.WrongReturn _
   returned_formed at looped (Some t) None p = reported_holds g at rule.WrongReturn
@@ -181,7 +181,7 @@ module _ (g : Gathers) (m : TypedModule) (opens : ℕ → Bool) (w : ℕ) (s : S
   selector_formed at (Some (side.Routine t e)) p = reported_holds g at rule.WrongType
   selector_formed at (Some (side.Procedure f)) p = reported_holds g at rule.WrongType
 
-  pub selected_formed : (x : Meant g.Reported) → Known_ x → Holds FormedSelector (selected g s x)
+  pub selected_formed : (x : Meant g.Reported) → Known_ x → Holds FormedSelector (case_selector g s x)
   selected_formed x p = then_holds (value_formed g m opens w s h x p) (λ v k. selector_formed x.fixed.at (side_of v) (side_formed m w v k))
 
   -- ---- FOR
@@ -195,14 +195,14 @@ module _ (g : Gathers) (m : TypedModule) (opens : ℕ → Bool) (w : ℕ) (s : S
   controlled_as_formed at t d class.Procedure k p = reported_holds g at rule.WrongControl
   controlled_as_formed at t d class.Whole k p = reported_holds g at rule.WrongControl
 
-  controlled_formed : (at : Pos) (t : TypeNo) (d : Place) → IsPlace m w d → Holds FormedControl (controlled g s.types at t d)
+  controlled_formed : (at : Pos) (t : TypeNo) (d : Place) → IsPlace m w d → Holds FormedControl (control_variable g s.types at t d)
   controlled_formed at t d p = controlled_as_formed at t d (class_at s.types t) (scalar_kept s.types m.types h.types t) p
 
   control_by_formed : (at : Pos) (x : Meaning) → FormedMeaning m opens w x → Holds FormedControl (control_by g s at x)
   control_by_formed at (meaning.Constant v) p = reported_holds g at rule.WrongControl
   control_by_formed at (meaning.Type t n) p = reported_holds g at rule.WrongControl
-  control_by_formed at (meaning.Variable v) p = where_holds g _ at rule.WrongControl (controlled_formed at v.of (rooted (root.Global v)) (rooted_formed m w (root.Global v) p))
-  control_by_formed at (meaning.Local v) p = where_holds g _ at rule.WrongControl (controlled_formed at v.of (rooted (root.Local (slot_of s.level v))) (rooted_formed m w (root.Local (slot_of s.level v)) tt))
+  control_by_formed at (meaning.Variable v) p = where_holds g _ at rule.WrongControl (controlled_formed at v.of (root_place (root.Global v)) (rooted_formed m w (root.Global v) p))
+  control_by_formed at (meaning.Local v) p = where_holds g _ at rule.WrongControl (controlled_formed at v.of (root_place (root.Local (slot_of s.level v))) (rooted_formed m w (root.Local (slot_of s.level v)) tt))
   control_by_formed at (meaning.Field f) p = reported_holds g at rule.WrongControl
   control_by_formed at (meaning.Procedure f) p = reported_holds g at rule.WrongControl
   control_by_formed at (meaning.LocalProcedure f) p = reported_holds g at rule.WrongControl

@@ -31,7 +31,7 @@ use Rattle.check_const_ops.specs.Numbers.{is_between, fits as number_fits}
 use Rattle.check_const_ops.specs.Common.{common}
 use Rattle.check_expr.specs.Meanings.{part}
 use Rattle.check_type_expr.specs.Named.{first_of, named_type}
-use Rattle.check_type_expr.specs.Subranges.{ordinal_in, number_base, fits_at, based, between, unnamed, is_of_base, are_bounds, ordered_if, limited, under}
+use Rattle.check_type_expr.specs.Subranges.{ordinal_in, number_base, fits_at, subrange_of_base, between, subrange_between, is_of_base, are_bounds, ordered_if, subrange_within, under}
 use Rattle.check_type_expr.specs.Made.{scalar_or, scalar_named, bound_at, subrange}
 use Rattle.law_well_formed.specs.Formed.{Holds, fine, broken}
 use Rattle.law_well_formed.proofs.Basics.{then_holds, holds_weaker, reported_holds, both_holds, any_holds}
@@ -206,7 +206,7 @@ module _ (types : Types) where
     ordinal_ranged at (Some (operands.Scalar a)) p = fine a p
 
     based_ranged : (at at' : Pos) (a b : Ordinal) (base : TypeNo) → Holds (λ x. IsNumber types base base a.number) (fits_at g at base a.sort a.number) → Holds (λ x. IsNumber types base base b.number) (fits_at g at' base b.sort b.number)
-        → Holds SubRanged (based g at a at' b base)
+        → Holds SubRanged (subrange_of_base g at a at' b base)
     based_ranged at at' a b base p q =
         then_holds (beside_holds g (test_holds g (int_lt b.number a.number) at rule.EmptyRange) (beside_holds g p q)) (λ x k.
         fine (record { base = base; low = a.number; high = b.number }) (record { low = k.1.0; high = k.1.1; some = not_less b.number a.number k.0 }))
@@ -234,7 +234,7 @@ module _ (types : Types) where
       by true e = based_ranged at at' (record { sort = Some t; number = na }) (record { sort = Some u; number = nb }) t (fine tt p) (fine tt (subst (λ (k : TypeNo). IsNumber types k k nb) (sym (same_types t u e)) q))
       by false e = reported_holds g at' rule.WrongType
 
-    pub unnamed_ranged : (at at' : Pos) {low high : Result Ordinal g.Reported} → Holds (λ (a : Ordinal). SortRanged a.sort a.number) low → Holds (λ (a : Ordinal). SortRanged a.sort a.number) high → Holds SubRanged (unnamed g at low at' high)
+    pub unnamed_ranged : (at at' : Pos) {low high : Result Ordinal g.Reported} → Holds (λ (a : Ordinal). SortRanged a.sort a.number) low → Holds (λ (a : Ordinal). SortRanged a.sort a.number) high → Holds SubRanged (subrange_between g at low at' high)
     unnamed_ranged at at' p q = then_holds (both_holds g p q) (λ x k. between_ranged at at' x.0.sort x.1.sort x.0.number x.1.number k.0 k.1)
 
     -- ---- subranges under a named type
@@ -275,11 +275,11 @@ module _ (types : Types) where
       by true e = holds_weaker (λ x k p q. not_less nb na k) (test_holds g (int_lt nb na) at rule.EmptyRange)
       by false e = fine tt (λ p q. absurd (clash e p q))
 
-    limited_fine : (r : Range) (a b : Ordinal) {t : Result (Unit {0}) g.Reported} → Holds (λ x. SubRanged (record { base = r.base; low = a.number; high = b.number })) t → Holds SubRanged (limited g (Ok (r, (a, b))) t)
+    limited_fine : (r : Range) (a b : Ordinal) {t : Result (Unit {0}) g.Reported} → Holds (λ x. SubRanged (record { base = r.base; low = a.number; high = b.number })) t → Holds SubRanged (subrange_within g (Ok (r, (a, b))) t)
     limited_fine r a b (fine x k) = fine _ k
     limited_fine r a b (broken e) = broken e
 
-    limited_broken : (e : g.Reported) (t : Result (Unit {0}) g.Reported) → Holds SubRanged (limited g (Err e) t)
+    limited_broken : (e : g.Reported) (t : Result (Unit {0}) g.Reported) → Holds SubRanged (subrange_within g (Err e) t)
     limited_broken e (Ok x) = broken e
     limited_broken e (Err f) = broken (g.join e f)
 

@@ -12,8 +12,8 @@ use Rattle.m2_tree.specs.declared.decl.Heading.{Heading}
 use Rattle.m2_tree.specs.declared.decl.Module.{Module}
 use Rattle.typed_tree.specs.declared.table.Table.{Table}
 use Rattle.typed_tree.specs.declared.types.TypeNo.{TypeNo}
-use Rattle.typed_tree.specs.Names.{found}
-use Rattle.check_scope.specs.Elaborated.{Gathers, reported, beside}
+use Rattle.typed_tree.specs.Names.{find_name}
+use Rattle.check_scope.specs.Elaborated.{Gathers, report, beside}
 use Rattle.check_scope.specs.Scopes.{State, is_free, with_known}
 use Rattle.check_scope.specs.declared.known.Origin.TheVariants.{Here}
 use Rattle.check_scope.specs.declared.known.Known.{Known}
@@ -21,7 +21,7 @@ use Rattle.check_scope.specs.declared.known.Known.TheVariants.{Later, Ahead, Beg
 use Rattle.check_scope.specs.declared.scope.Scope.{Scope}
 use Rattle.check_type_expr.specs.Headings.{heading_of, names_of}
 use Rattle.check_type_expr.specs.Made.{nothing_of, with_made}
-use Rattle.check_definition.specs.Compiled.{table_or, declared_in, of_definition, of_contents, compiled}
+use Rattle.check_definition.specs.Compiled.{table_or, declared_in, of_definition, of_contents, definition_table}
 use Rattle.check_definition.specs.Declare.{procedure_meaning, with_procedure_type, declared_procedure, with_procedure, with_constant, with_type, with_variables, with_def}
 use Rattle.check_definition.specs.Export.{exports}
 use Rattle.check_definition.specs.Importing.{numbered_modules, with_import}
@@ -29,12 +29,12 @@ use Rattle.check_definition.specs.Marking.{marked_def}
 use Rattle.check_definition.specs.Predeclared.{console, first_scope}
 use Rattle.check_body.specs.Own.{exported_headings}
 use Rattle.law_well_formed.specs.FormedTables.{AreNumberedBy}
-use Rattle.law_well_formed.proofs.Order.{has, keys, keys_entered, Distinct, distinct_entered, picked, taken_entered, now_taken, is_taken, Order, order_none, AllTaken, next_entered}
+use Rattle.law_well_formed.proofs.Order.{has, keys, keys_entered, Distinct, distinct_entered, holds_of, taken_entered, now_taken, is_taken, Order, order_none, AllTaken, next_entered}
 use Rattle.law_well_formed.proofs.Numbers.{exports_numbered}
 use Rattle.law_well_formed.proofs.TablesSteps.{mark_more, Goes, fold_goes, made_goes, constant_goes, type_decl_goes, variables_go, import_goes}
 use Rattle.law_well_formed.proofs.Takes.{beside_left, beside_right, marked_keys, all_marked, Covers, defs_keep, constants_all, types_all, variables_all, defs_reported}
 
-free_untaken : {T : Type 0} (o : Option (Known T)) → is_free o ≡ true → picked is_taken o ≡ false
+free_untaken : {T : Type 0} (o : Option (Known T)) → is_free o ≡ true → holds_of is_taken o ≡ false
 free_untaken None e = refl
 free_untaken (Some Later) e = refl
 free_untaken (Some Ahead) e = refl
@@ -68,13 +68,13 @@ module _ (g : Gathers) where
 
   -- ---- a procedure
 
-  new_name : (ks : List (List ℕ)) (name : List ℕ) (s : Scope g.Reported) → AllTaken ks s.own → is_free (found name s.own) ≡ true → has name ks ≡ false
+  new_name : (ks : List (List ℕ)) (name : List ℕ) (s : Scope g.Reported) → AllTaken ks s.own → is_free (find_name name s.own) ≡ true → has name ks ≡ false
   new_name ks name s all f = by (has name ks) refl where
     by : (b : Bool) → has name ks ≡ b → b ≡ false
     by false e = refl
-    by true e = absurd (let t : picked is_taken (found name s.own) ≡ true = all name e in let u : picked is_taken (found name s.own) ≡ false = free_untaken (found name s.own) f in cc)
+    by true e = absurd (let t : holds_of is_taken (find_name name s.own) ≡ true = all name e in let u : holds_of is_taken (find_name name s.own) ≡ false = free_untaken (find_name name s.own) f in cc)
 
-  next_known : (s s0 : Scope g.Reported) (h : Heading) (rest : List Def) (x : TypeNo) → is_free (found h.name.name s.own) ≡ true → Begins s s0 (def.Procedure h ∷ rest)
+  next_known : (s s0 : Scope g.Reported) (h : Heading) (rest : List Def) (x : TypeNo) → is_free (find_name h.name.name s.own) ≡ true → Begins s s0 (def.Procedure h ∷ rest)
       → Begins (with_known h.name.name (Declared Here (procedure_meaning s.types.home (length s.procedures) (Ok x))) (with_procedure_type s (Ok x))) (marked_def s0 (def.Procedure h)) rest
   next_known s s0 h rest x f b =
       let name : List ℕ = h.name.name in
@@ -101,12 +101,12 @@ module _ (g : Gathers) where
       }
 
   next_by : (c : Bool) (s s0 : Scope g.Reported) (h : Heading) (rest : List Def) (x : TypeNo) (k : Known g.Reported) → Begins (with_known h.name.name k (with_procedure_type s (Ok x))) (marked_def s0 (def.Procedure h)) rest
-      → (cond {A = State (Unit {0}) g.Reported} c (with_known h.name.name k (with_procedure_type s (Ok x)), Ok tt) (with_procedure_type s (Ok x), reported g h.name.pos rule.DeclaredTwice)).1 ≡ Ok tt
-      → Begins (cond {A = State (Unit {0}) g.Reported} c (with_known h.name.name k (with_procedure_type s (Ok x)), Ok tt) (with_procedure_type s (Ok x), reported g h.name.pos rule.DeclaredTwice)).0 (marked_def s0 (def.Procedure h)) rest
+      → (cond {A = State (Unit {0}) g.Reported} c (with_known h.name.name k (with_procedure_type s (Ok x)), Ok tt) (with_procedure_type s (Ok x), report g h.name.pos rule.DeclaredTwice)).1 ≡ Ok tt
+      → Begins (cond {A = State (Unit {0}) g.Reported} c (with_known h.name.name k (with_procedure_type s (Ok x)), Ok tt) (with_procedure_type s (Ok x), report g h.name.pos rule.DeclaredTwice)).0 (marked_def s0 (def.Procedure h)) rest
   next_by true s s0 h rest x k b e = b
   next_by false s s0 h rest x k b e = absurd cc
 
-  free_if : (c : Bool) (s : Scope g.Reported) (st : State (Unit {0}) g.Reported) (h : Heading) → (cond {A = State (Unit {0}) g.Reported} c st (s, reported g h.name.pos rule.DeclaredTwice)).1 ≡ Ok tt → c ≡ true
+  free_if : (c : Bool) (s : Scope g.Reported) (st : State (Unit {0}) g.Reported) (h : Heading) → (cond {A = State (Unit {0}) g.Reported} c st (s, report g h.name.pos rule.DeclaredTwice)).1 ≡ Ok tt → c ≡ true
   free_if true s st h e = refl
   free_if false s st h e = absurd cc
 
@@ -114,8 +114,8 @@ module _ (g : Gathers) where
       → Begins (declared_procedure g s h.name t).0 (marked_def s0 (def.Procedure h)) rest
   procedure_declared s s0 h rest (Err z) b e q = absurd cc
   procedure_declared s s0 h rest (Ok x) b e q =
-      let f : is_free (found h.name.name s.own) ≡ true = free_if (is_free (found h.name.name s.own)) (with_procedure_type s (Ok x)) _ h q in
-      next_by (is_free (found h.name.name s.own)) s s0 h rest x (Declared Here (procedure_meaning s.types.home (length s.procedures) (Ok x))) (next_known s s0 h rest x f b) q
+      let f : is_free (find_name h.name.name s.own) ≡ true = free_if (is_free (find_name h.name.name s.own)) (with_procedure_type s (Ok x)) _ h q in
+      next_by (is_free (find_name h.name.name s.own)) s s0 h rest x (Declared Here (procedure_meaning s.types.home (length s.procedures) (Ok x))) (next_known s s0 h rest x f b) q
 
   procedure_begins : (st : State (Unit {0}) g.Reported) (s0 : Scope g.Reported) (h : Heading) (rest : List Def) → (with_procedure g st h).1 ≡ Ok tt → Begins st.0 s0 (def.Procedure h ∷ rest) → Begins (with_procedure g st h).0 (marked_def s0 (def.Procedure h)) rest
   procedure_begins st s0 h rest e b =
@@ -178,5 +178,5 @@ module _ (g : Gathers) where
     contents_number tables (contents.Implementation b) = tt
     contents_number tables (contents.Program b) = tt
 
-pub tables_number : (g : Gathers) (home : ℕ) (m : Module) (tables : List Table) → IfOk (compiled g home m tables) (λ t. AreNumberedBy (exported_headings t.exported) t.exported)
+pub tables_number : (g : Gathers) (home : ℕ) (m : Module) (tables : List Table) → IfOk (definition_table g home m tables) (λ t. AreNumberedBy (exported_headings t.exported) t.exported)
 tables_number g home m tables = contents_number g home m (tables ++ console ∷ []) m.contents

@@ -19,9 +19,9 @@ use Rattle.typed_tree.specs.declared.meaning.Meaning.{Meaning}
 use Rattle.typed_tree.specs.declared.meaning.Value.{Value}
 use Rattle.typed_tree.specs.declared.shape.Made.{Made}
 use Rattle.typed_tree.specs.declared.types.TypeNo.{TypeNo}
-use Rattle.typed_tree.specs.Names.{found, place_of}
-use Rattle.check_scope.specs.Elaborated.{Gathers, reported}
-use Rattle.check_scope.specs.Scopes.{State, is_free, with_known, unless_declared, begun, is_begun, finished, is_again, imported}
+use Rattle.typed_tree.specs.Names.{find_name, place_of}
+use Rattle.check_scope.specs.Elaborated.{Gathers, report}
+use Rattle.check_scope.specs.Scopes.{State, is_free, with_known, unless_declared, begin_name, is_begun, finish_name, is_again, import_name}
 use Rattle.check_scope.specs.declared.known.Origin.{Origin}
 use Rattle.check_scope.specs.declared.known.Origin.TheVariants.{Here, Module, Export}
 use Rattle.check_scope.specs.declared.known.Known.{Known}
@@ -31,10 +31,10 @@ use Rattle.check_const.specs.Parts.{constant}
 use Rattle.check_expr.specs.Meanings.{part}
 use Rattle.check_type_expr.specs.declared.field.Fields.{Fields}
 use Rattle.check_type_expr.specs.Fields.{no_fields}
-use Rattle.check_type_expr.specs.Made.{next_type, with_shape, with_made, enumeration_scalar, too_many, listed, simple_type, index_type, Makes, MakesFields, then_fields, type_layer, field_layer, type_of, field_list}
+use Rattle.check_type_expr.specs.Made.{next_type, with_shape, with_made, enumeration_scalar, too_many, enumerate_name, simple_type, index_type, Makes, MakesFields, then_fields, type_layer, field_layer, type_of, field_list}
 use Rattle.check_definition.specs.Declare.{constant_meaning, with_constant, type_meaning, brings_with, with_type, begun_name, variable_meaning, with_variable_type, finished_variable, with_variables}
 use Rattle.check_definition.specs.Importing.{module_named, with_module_as, with_module_name, with_entry, brings_in, reported_of_taken, unless_taken, from_place, with_from, exports_of, from_module, with_imports, with_import}
-use Rattle.law_well_formed.proofs.Order.{has, keys, keys_entered, Distinct, distinct_entered, picked, TakenIn, taken_entered, is_taken, number_if, number_of, is_done, Order, order_entered}
+use Rattle.law_well_formed.proofs.Order.{has, keys, keys_entered, Distinct, distinct_entered, holds_of, TakenIn, taken_entered, is_taken, number_if, number_of, is_done, Order, order_entered}
 
 -- ---- keys
 
@@ -65,7 +65,7 @@ module _ {T : Type 0} where
     order = λ n h. q.order n (p.order n h);
   }
 
-  pub known_goes : (name : List ℕ) (k : Known T) (s : Scope T) → number_of k ≡ None → is_taken k ≡ true → picked is_done (found name s.own) ≡ false → Goes s (with_known name k s)
+  pub known_goes : (name : List ℕ) (k : Known T) (s : Scope T) → number_of k ≡ None → is_taken k ≡ true → holds_of is_done (find_name name s.own) ≡ false → Goes s (with_known name k s)
   known_goes name k s n t d =
       let m = mark_more name (has name (keys s.own)) (keys s.own) in
       record {
@@ -77,7 +77,7 @@ module _ {T : Type 0} where
         order = λ c p. order_entered name k s.own n t d 0 c p;
       }
 
-  pub free_undone : (o : Option (Known T)) → is_free o ≡ true → picked is_done o ≡ false
+  pub free_undone : (o : Option (Known T)) → is_free o ≡ true → holds_of is_done o ≡ false
   free_undone None e = refl
   free_undone (Some Later) e = refl
   free_undone (Some Ahead) e = refl
@@ -85,7 +85,7 @@ module _ {T : Type 0} where
   free_undone (Some (Headed r)) e = absurd cc
   free_undone (Some (Declared o r)) e = absurd cc
 
-  begun_undone : (o : Option (Known T)) → is_begun o ≡ true → picked is_done o ≡ false
+  begun_undone : (o : Option (Known T)) → is_begun o ≡ true → holds_of is_done o ≡ false
   begun_undone None e = refl
   begun_undone (Some Later) e = refl
   begun_undone (Some Ahead) e = refl
@@ -112,8 +112,8 @@ module _ {T : Type 0} where
   abbrev same : Scope T → Scope T
   same s = s
 
-  finished_goes : (s : Scope T) (name : Ident) (m : Result Meaning T) → number_if m ≡ None → Goes s (finished s name m)
-  finished_goes s name m p = either_scope s (is_begun (found name.name s.own)) (with_known name.name (Declared Here m) s) s (λ e. known_goes name.name (Declared Here m) s p refl (begun_undone (found name.name s.own) e)) (same_goes s)
+  finished_goes : (s : Scope T) (name : Ident) (m : Result Meaning T) → number_if m ≡ None → Goes s (finish_name s name m)
+  finished_goes s name m p = either_scope s (is_begun (find_name name.name s.own)) (with_known name.name (Declared Here m) s) s (λ e. known_goes name.name (Declared Here m) s p refl (begun_undone (find_name name.name s.own) e)) (same_goes s)
 
   -- ---- types that are made
 
@@ -145,17 +145,17 @@ module _ {T : Type 0} where
 
 module _ (g : Gathers) where
   unless_goes : (s : Scope g.Reported) (name : Ident) (k : Known g.Reported) → number_of k ≡ None → is_taken k ≡ true → Goes s (unless_declared g s name k).0
-  unless_goes s name k n t = either s (is_free (found name.name s.own)) (with_known name.name k s, Ok tt) (s, reported g name.pos rule.DeclaredTwice) (λ e. known_goes name.name k s n t (free_undone (found name.name s.own) e)) (same_goes s)
+  unless_goes s name k n t = either s (is_free (find_name name.name s.own)) (with_known name.name k s, Ok tt) (s, report g name.pos rule.DeclaredTwice) (λ e. known_goes name.name k s n t (free_undone (find_name name.name s.own) e)) (same_goes s)
 
-  pub begun_goes : (s : Scope g.Reported) (name : Ident) → Goes s (begun g s name).0
+  pub begun_goes : (s : Scope g.Reported) (name : Ident) → Goes s (begin_name g s name).0
   begun_goes s name = unless_goes s name Begun refl refl
 
-  pub listed_goes : (t : TypeNo) (l : Scope g.Reported × ℕ × Result (Unit {0}) g.Reported) (x : Ident) → Goes l.0 (listed g t l x).0
+  pub listed_goes : (t : TypeNo) (l : Scope g.Reported × ℕ × Result (Unit {0}) g.Reported) (x : Ident) → Goes l.0 (enumerate_name g t l x).0
   listed_goes t l x = unless_goes l.0 x _ refl refl
 
   pub simple_goes : (s : Scope g.Reported) (t : Simple) → Goes s (simple_type g s t).0
   simple_goes s (simple.Named q) = same_goes s
-  simple_goes s (simple.Enumeration at names) = fold_goes (λ (l : Scope g.Reported × ℕ × Result (Unit {0}) g.Reported). l.0) (listed g (next_type s)) (listed_goes (next_type s)) names (with_shape s (enumeration_scalar (next_type s) names), 0, too_many g names) ⨾ shape_goes s (enumeration_scalar (next_type s) names)
+  simple_goes s (simple.Enumeration at names) = fold_goes (λ (l : Scope g.Reported × ℕ × Result (Unit {0}) g.Reported). l.0) (enumerate_name g (next_type s)) (listed_goes (next_type s)) names (with_shape s (enumeration_scalar (next_type s) names), 0, too_many g names) ⨾ shape_goes s (enumeration_scalar (next_type s) names)
   simple_goes s (simple.Subrange o at low high) = made_goes s _
 
   abbrev GoingMakes : Makes g → Type 0
@@ -223,20 +223,20 @@ module _ (g : Gathers) where
   -- ---- declarations
 
   -- a name whose declaration was begun is finished
-  pub constant_ends : (b : Scope g.Reported) (c : Constant) → Goes b (finished b c.name (constant_meaning (constant g b (part g c.value))))
+  pub constant_ends : (b : Scope g.Reported) (c : Constant) → Goes b (finish_name b c.name (constant_meaning (constant g b (part g c.value))))
   constant_ends b c = finished_goes b c.name (constant_meaning (constant g b (part g c.value))) (constant_none (constant g b (part g c.value)))
 
-  pub type_finished : (b : Scope g.Reported) (d : TypeDecl) → Goes (type_of g d.of b).0 (finished (type_of g d.of b).0 d.name (type_meaning (type_of g d.of b).1 (brings_with d.of)))
+  pub type_finished : (b : Scope g.Reported) (d : TypeDecl) → Goes (type_of g d.of b).0 (finish_name (type_of g d.of b).0 d.name (type_meaning (type_of g d.of b).1 (brings_with d.of)))
   type_finished b d = let t = type_of g d.of b in finished_goes t.0 d.name (type_meaning t.1 (brings_with d.of)) (type_none t.1 (brings_with d.of))
 
-  pub type_ends : (b : Scope g.Reported) (d : TypeDecl) → Goes b (finished (type_of g d.of b).0 d.name (type_meaning (type_of g d.of b).1 (brings_with d.of)))
+  pub type_ends : (b : Scope g.Reported) (d : TypeDecl) → Goes b (finish_name (type_of g d.of b).0 d.name (type_meaning (type_of g d.of b).1 (brings_with d.of)))
   type_ends b d = type_finished b d ⨾ type_of_goes d.of b
 
   pub constant_goes : (st : State (Unit {0}) g.Reported) (c : Constant) → Goes st.0 (with_constant g st c).0
-  constant_goes st c = constant_ends (begun g st.0 c.name).0 c ⨾ begun_goes st.0 c.name
+  constant_goes st c = constant_ends (begin_name g st.0 c.name).0 c ⨾ begun_goes st.0 c.name
 
   pub type_decl_goes : (st : State (Unit {0}) g.Reported) (d : TypeDecl) → Goes st.0 (with_type g st d).0
-  type_decl_goes st d = type_ends (begun g st.0 d.name).0 d ⨾ begun_goes st.0 d.name
+  type_decl_goes st d = type_ends (begin_name g st.0 d.name).0 d ⨾ begun_goes st.0 d.name
 
   pub begun_all_go : (names : List Ident) (st : State (Unit {0}) g.Reported) → Goes st.0 (fold (begun_name g) st names).0
   begun_all_go names st = fold_goes state (begun_name g) (λ st x. begun_goes st.0 x) names st
@@ -253,10 +253,10 @@ module _ (g : Gathers) where
   again_by s true st p = same_goes s
   again_by s false st p = p
 
-  imported_goes : (s : Scope g.Reported) (at : Pos) (name : List ℕ) (o : Origin) (m : Result Meaning g.Reported) → number_of (Declared o m) ≡ None → Goes s (imported g s at name o m).0
+  imported_goes : (s : Scope g.Reported) (at : Pos) (name : List ℕ) (o : Origin) (m : Result Meaning g.Reported) → number_of (Declared o m) ≡ None → Goes s (import_name g s at name o m).0
   imported_goes s at name o m n =
-      again_by s (is_again (found name s.own) o) _
-      (either s (is_free (found name s.own)) (with_known name (Declared o m) s, Ok tt) (s, reported g at rule.DeclaredTwice) (λ e. known_goes name (Declared o m) s n refl (free_undone (found name s.own) e)) (same_goes s))
+      again_by s (is_again (find_name name s.own) o) _
+      (either s (is_free (find_name name s.own)) (with_known name (Declared o m) s, Ok tt) (s, report g at rule.DeclaredTwice) (λ e. known_goes name (Declared o m) s n refl (free_undone (find_name name s.own) e)) (same_goes s))
 
   module_as_goes : (s : Scope g.Reported) (name : Ident) (r : Result ℕ g.Reported) → Goes s (with_module_as g s name r).0
   module_as_goes s name (Ok k) = imported_goes s name.pos name.name (Module k) _ refl
@@ -271,7 +271,7 @@ module _ (g : Gathers) where
 
   place_goes : (s : Scope g.Reported) (name : Ident) (k : ℕ) (es : List (List ℕ × Meaning)) (o : Option ℕ) → Goes s (from_place g s name k es o).0
   place_goes s name k es None = same_goes s
-  place_goes s name k es (Some i) = taken_goes s name.pos k es i (reported_of_taken g name.pos k (found name.name s.own))
+  place_goes s name k es (Some i) = taken_goes s name.pos k es i (reported_of_taken g name.pos k (find_name name.name s.own))
 
   from_goes : (k : ℕ) (es : List (List ℕ × Meaning)) (st : State (Unit {0}) g.Reported) (name : Ident) → Goes st.0 (with_from g k es st name).0
   from_goes k es st name = place_goes st.0 name k es (place_of name.name es)

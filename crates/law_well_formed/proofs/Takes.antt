@@ -20,16 +20,16 @@ use Rattle.m2_tree.specs.declared.decl.Field.{Field, Field-F, out-Field, roll-Fi
 use Rattle.typed_tree.specs.declared.shape.Made.{Made}
 use Rattle.typed_tree.specs.declared.types.TypeNo.{TypeNo}
 use Rattle.m2_tree.specs.Names.{same_name}
-use Rattle.typed_tree.specs.Names.{found}
+use Rattle.typed_tree.specs.Names.{find_name}
 use Rattle.typed_tree.specs.Known.{cells_at}
-use Rattle.check_scope.specs.Elaborated.{Gathers, reported, both, beside, ◌▷◌}
-use Rattle.check_scope.specs.Scopes.{State, is_free, with_known, unless_declared, begun, unless_marked, marked}
+use Rattle.check_scope.specs.Elaborated.{Gathers, report, both, beside, ◌▷◌}
+use Rattle.check_scope.specs.Scopes.{State, is_free, with_known, unless_declared, begin_name, unless_marked, mark_name}
 use Rattle.check_scope.specs.declared.known.Known.{Known}
 use Rattle.check_scope.specs.declared.known.Known.TheVariants.{Later, Ahead, Begun}
 use Rattle.check_scope.specs.declared.scope.Scope.{Scope}
 use Rattle.check_type_expr.specs.declared.field.Fields.{Fields}
 use Rattle.check_type_expr.specs.Fields.{no_fields, with_name}
-use Rattle.check_type_expr.specs.Made.{next_type, with_shape, with_made, enumeration_scalar, too_many, listed, simple_type, index_type, array_of, field_type, nothing_of, record_of, Makes, MakesFields, then_fields, type_layer, field_layer, fields_named, type_of, field_list}
+use Rattle.check_type_expr.specs.Made.{next_type, with_shape, with_made, enumeration_scalar, too_many, enumerate_name, simple_type, index_type, array_of, field_type, nothing_of, record_of, Makes, MakesFields, then_fields, type_layer, field_layer, fields_named, type_of, field_list}
 use Rattle.check_definition.specs.Marking.{Marks, marked_later, marked_simple, then_marks, marked_in, marked_field, marked_constant, marked_type, marked_variables, marked_def}
 use Rattle.check_definition.specs.Marking as marking
 use Rattle.check_definition.specs.Declare.{with_constant, with_type, begun_name, with_variables, with_def}
@@ -89,22 +89,22 @@ module _ {T : Type 0} where
   found_cond name true k v o rest e f = refl
   found_cond name false k v o rest e f = f e
 
-  found_has : (name : List ℕ) (es : List (List ℕ × Known T)) (v : Known T) → found name es ≡ Some v → has name (keys es) ≡ true
+  found_has : (name : List ℕ) (es : List (List ℕ × Known T)) (v : Known T) → find_name name es ≡ Some v → has name (keys es) ≡ true
   found_has name [] v e = absurd cc
-  found_has name (x ∷ es) v e = found_cond name (same_name name x.0) x.1 v (found name es) (has name (keys es)) e (found_has name es v)
+  found_has name (x ∷ es) v e = found_cond name (same_name name x.0) x.1 v (find_name name es) (has name (keys es)) e (found_has name es v)
 
-  marked_by : (name : List ℕ) (k : Known T) (s : Scope T) (o : Option (Known T)) → found name s.own ≡ o → keys (unless_marked name k s o).own ≡ mark_key (keys s.own) name
+  marked_by : (name : List ℕ) (k : Known T) (s : Scope T) (o : Option (Known T)) → find_name name s.own ≡ o → keys (unless_marked name k s o).own ≡ mark_key (keys s.own) name
   marked_by name k s (Some v) e = ap (λ (b : Bool). cond b (keys s.own) (keys s.own ++ name ∷ [])) (sym (found_has name s.own v e))
   marked_by name k s None e = keys_entered name k s.own
 
-  pub marked_keys : (name : Ident) (k : Known T) (s : Scope T) → keys (marked name k s).own ≡ mark_key (keys s.own) name.name
-  marked_keys name k s = marked_by name.name k s (found name.name s.own) refl
+  pub marked_keys : (name : Ident) (k : Known T) (s : Scope T) → keys (mark_name name k s).own ≡ mark_key (keys s.own) name.name
+  marked_keys name k s = marked_by name.name k s (find_name name.name s.own) refl
 
   -- where the names of one scope are taken, those of the other are
   abbrev pub Covers : List (List ℕ × Known T) → Marks T → Type 0
   Covers fin f = (s : Scope T) → AllTaken (keys s.own) fin → AllTaken (keys (f s).own) fin
 
-  pub name_covers : (fin : List (List ℕ × Known T)) (name : Ident) (k : Known T) → TakenIn fin name.name → Covers fin (λ s. marked name k s)
+  pub name_covers : (fin : List (List ℕ × Known T)) (name : Ident) (k : Known T) → TakenIn fin name.name → Covers fin (λ s. mark_name name k s)
   name_covers fin name k t s all = subst (λ (ks : List (List ℕ)). AllTaken ks fin) (sym (marked_keys name k s)) (all_by fin name.name (has name.name (keys s.own)) (keys s.own) all t)
 
   -- ---- what marks keep
@@ -140,8 +140,8 @@ module _ {T : Type 0} where
         keys_are = keys_entered name k s.own ∙ m.1;
       }
 
-  pub marked_keeps : (name : Ident) (k : Known T) (s : Scope T) → number_of k ≡ None → Keeps s (marked name k s)
-  marked_keeps name k s e = unless_keeps name.name k s (found name.name s.own) e
+  pub marked_keeps : (name : Ident) (k : Known T) (s : Scope T) → number_of k ≡ None → Keeps s (mark_name name k s)
+  marked_keeps name k s e = unless_keeps name.name k s (find_name name.name s.own) e
 
   fold_keeps : {X : Type 0} (f : Scope T → X → Scope T) → ((s : Scope T) (x : X) → Keeps s (f s x)) → (xs : List X) (s : Scope T) → Keeps s (fold f s xs)
   fold_keeps f k [] s = same_keeps s
@@ -212,7 +212,7 @@ module _ (T : Type 0) where
 
   pub def_keeps : (s : Scope T) (d : Def) → Keeps s (marked_def s d)
   def_keeps s (def.Constants cs) = fold_keeps marked_constant (λ s c. marked_keeps c.name Later s refl) cs s
-  def_keeps s (def.Types ts) = fold_keeps marked_type (λ s t. keeps_then (marked_keeps t.name Later s refl) (marked_in_keeps t.of (marked t.name Later s))) ts s
+  def_keeps s (def.Types ts) = fold_keeps marked_type (λ s t. keeps_then (marked_keeps t.name Later s refl) (marked_in_keeps t.of (mark_name t.name Later s))) ts s
   def_keeps s (def.Variables vs) = fold_keeps marked_variables (λ s v. keeps_then (later_keeps v.names s) (marked_in_keeps v.of (fold marked_later s v.names))) vs s
   def_keeps s (def.Procedure h) = marked_keeps h.name Ahead s refl
 
@@ -229,15 +229,15 @@ module _ (g : Gathers) where
   abbrev pub Within : Own → Own → Type 0
   Within own fin = (y : List ℕ) → TakenIn own y → TakenIn fin y
 
-  unless_by : (b : Bool) (s : Scope g.Reported) (name : Ident) (k : Known g.Reported) → is_taken k ≡ true → (cond {A = State (Unit {0}) g.Reported} b (with_known name.name k s, Ok tt) (s, reported g name.pos rule.DeclaredTwice)).1 ≡ Ok tt
-      → TakenIn (cond {A = State (Unit {0}) g.Reported} b (with_known name.name k s, Ok tt) (s, reported g name.pos rule.DeclaredTwice)).0.own name.name
+  unless_by : (b : Bool) (s : Scope g.Reported) (name : Ident) (k : Known g.Reported) → is_taken k ≡ true → (cond {A = State (Unit {0}) g.Reported} b (with_known name.name k s, Ok tt) (s, report g name.pos rule.DeclaredTwice)).1 ≡ Ok tt
+      → TakenIn (cond {A = State (Unit {0}) g.Reported} b (with_known name.name k s, Ok tt) (s, report g name.pos rule.DeclaredTwice)).0.own name.name
   unless_by true s name k t e = now_taken name.name k s.own t
   unless_by false s name k t e = absurd cc
 
   pub unless_takes : (s : Scope g.Reported) (name : Ident) (k : Known g.Reported) → is_taken k ≡ true → (unless_declared g s name k).1 ≡ Ok tt → TakenIn (unless_declared g s name k).0.own name.name
-  unless_takes s name k t e = unless_by (is_free (found name.name s.own)) s name k t e
+  unless_takes s name k t e = unless_by (is_free (find_name name.name s.own)) s name k t e
 
-  begun_takes : (s : Scope g.Reported) (name : Ident) → (begun g s name).1 ≡ Ok tt → TakenIn (begun g s name).0.own name.name
+  begun_takes : (s : Scope g.Reported) (name : Ident) → (begin_name g s name).1 ≡ Ok tt → TakenIn (begin_name g s name).0.own name.name
   begun_takes s name e = unless_takes s name Begun refl e
 
   -- ---- enumerations
@@ -245,17 +245,17 @@ module _ (g : Gathers) where
   abbrev Listed : Type 0
   Listed = Scope g.Reported × ℕ × Result (Unit {0}) g.Reported
 
-  listed_reported : (t : TypeNo) (names : List Ident) (l : Listed) → (fold (listed g t) l names).2 ≡ Ok tt → l.2 ≡ Ok tt
+  listed_reported : (t : TypeNo) (names : List Ident) (l : Listed) → (fold (enumerate_name g t) l names).2 ≡ Ok tt → l.2 ≡ Ok tt
   listed_reported t [] l e = e
-  listed_reported t (x ∷ xs) l e = beside_left g l.2 _ (listed_reported t xs (listed g t l x) e)
+  listed_reported t (x ∷ xs) l e = beside_left g l.2 _ (listed_reported t xs (enumerate_name g t l x) e)
 
-  listed_all : (t : TypeNo) (names : List Ident) (l : Listed) → Goes l.0 (fold (listed g t) l names).0
-  listed_all t names l = fold_goes (λ (l : Listed). l.0) (listed g t) (listed_goes g t) names l
+  listed_all : (t : TypeNo) (names : List Ident) (l : Listed) → Goes l.0 (fold (enumerate_name g t) l names).0
+  listed_all t names l = fold_goes (λ (l : Listed). l.0) (enumerate_name g t) (listed_goes g t) names l
 
-  listed_take : (t : TypeNo) (names : List Ident) (l : Listed) → (fold (listed g t) l names).2 ≡ Ok tt → (fin : Own) → Within (fold (listed g t) l names).0.own fin → Covers fin (λ s. fold marked_later s names)
+  listed_take : (t : TypeNo) (names : List Ident) (l : Listed) → (fold (enumerate_name g t) l names).2 ≡ Ok tt → (fin : Own) → Within (fold (enumerate_name g t) l names).0.own fin → Covers fin (λ s. fold marked_later s names)
   listed_take t [] l e fin w s all = all
   listed_take t (x ∷ xs) l e fin w s all =
-      let next : Listed = listed g t l x in
+      let next : Listed = enumerate_name g t l x in
       let ok : next.2 ≡ Ok tt = listed_reported t xs next e in
       let here : TakenIn next.0.own x.name = unless_takes l.0 x _ refl (beside_right g l.2 _ ok) in
       listed_take t xs next e fin w (marked_later s x) (name_covers fin x Later (w x.name ((listed_all t xs next).taken x.name here)) s all)
@@ -264,7 +264,7 @@ module _ (g : Gathers) where
   simple_takes s (simple.Named q) x e fin w z all = all
   simple_takes s (simple.Enumeration at names) x e fin w z all =
       let l : Listed = (with_shape s (enumeration_scalar (next_type s) names), 0, too_many g names) in
-      let k = then_ok (fold (listed g (next_type s)) l names).2 (λ fine. Ok (next_type s)) x e in
+      let k = then_ok (fold (enumerate_name g (next_type s)) l names).2 (λ fine. Ok (next_type s)) x e in
       listed_take (next_type s) names l k.1 fin w z all
   simple_takes s (simple.Subrange o at low high) x e fin w z all = all
 
@@ -391,24 +391,24 @@ module _ (g : Gathers) where
 
   constant_takes : (st : State (Unit {0}) g.Reported) (c : Constant) → (with_constant g st c).1 ≡ Ok tt → (fin : Own) → Within (with_constant g st c).0.own fin → Covers fin (λ s. marked_constant s c)
   constant_takes st c e fin w =
-      let b : State (Unit {0}) g.Reported = begun g st.0 c.name in
+      let b : State (Unit {0}) g.Reported = begin_name g st.0 c.name in
       let ok : b.1 ≡ Ok tt = beside_left g b.1 _ (beside_right g st.1 _ e) in
       name_covers fin c.name Later (w c.name.name ((constant_ends g b.0 c).taken c.name.name (begun_takes st.0 c.name ok)))
 
   type_decl_takes : (st : State (Unit {0}) g.Reported) (d : TypeDecl) → (with_type g st d).1 ≡ Ok tt → (fin : Own) → Within (with_type g st d).0.own fin → Covers fin (λ s. marked_type s d)
   type_decl_takes st d e fin w s all =
-      let b : State (Unit {0}) g.Reported = begun g st.0 d.name in
+      let b : State (Unit {0}) g.Reported = begin_name g st.0 d.name in
       let t : State TypeNo g.Reported = type_of g d.of b.0 in
       let both : beside g b.1 (nothing_of t.1) ≡ Ok tt = beside_right g st.1 _ e in
       let k = then_ok t.1 (λ x. Ok tt) tt (beside_right g b.1 (nothing_of t.1) both) in
-      type_of_takes d.of b.0 k.0 k.1 fin (λ y h. w y ((type_finished g b.0 d).taken y h)) (marked d.name Later s)
+      type_of_takes d.of b.0 k.0 k.1 fin (λ y h. w y ((type_finished g b.0 d).taken y h)) (mark_name d.name Later s)
       (name_covers fin d.name Later (w d.name.name ((type_ends g b.0 d).taken d.name.name (begun_takes st.0 d.name (beside_left g b.1 (nothing_of t.1) both)))) s all)
 
   begun_take : (names : List Ident) (st : State (Unit {0}) g.Reported) → (fold (begun_name g) st names).1 ≡ Ok tt → (fin : Own) → Within (fold (begun_name g) st names).0.own fin → Covers fin (λ s. fold marked_later s names)
   begun_take [] st e fin w s all = all
   begun_take (x ∷ xs) st e fin w s all =
       let next : State (Unit {0}) g.Reported = begun_name g st x in
-      let ok : (begun g st.0 x).1 ≡ Ok tt = beside_right g st.1 _ (begun_reported xs next e) in
+      let ok : (begin_name g st.0 x).1 ≡ Ok tt = beside_right g st.1 _ (begun_reported xs next e) in
       begun_take xs next e fin w (marked_later s x) (name_covers fin x Later (w x.name ((begun_all_go g xs next).taken x.name (begun_takes st.0 x ok))) s all)
 
   variables_take : (st : State (Unit {0}) g.Reported) (v : Variables) → (with_variables g st v).1 ≡ Ok tt → (fin : Own) → Within (with_variables g st v).0.own fin → Covers fin (λ s. marked_variables s v)

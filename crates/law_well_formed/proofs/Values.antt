@@ -24,13 +24,13 @@ use Rattle.check_const_ops.specs.declared.operand.Operand.{Operand}
 use Rattle.check_const_ops.specs.declared.operand.Operand.TheVariants as operands
 use Rattle.check_const_ops.specs.declared.operator.BinaryOp.{BinaryOp}
 use Rattle.check_const_ops.specs.declared.operator.BinaryOp.TheVariants.{Plus, Minus, Times, Over, Div, Mod, And, Or, Relation}
-use Rattle.check_const_ops.specs.Operands.{operand_of, valued, truth, is_number}
-use Rattle.check_const_ops.specs.Numbers.{is_between, fits as number_fits, number_at, evaluated, evaluated_at, quotient, remainder}
+use Rattle.check_const_ops.specs.Operands.{operand_of, number_value, truth, is_number}
+use Rattle.check_const_ops.specs.Numbers.{is_between, fits as number_fits, number_at, whole_arithmetic, evaluated_at, quotient, remainder}
 use Rattle.check_const_ops.specs.Common.{common}
 use Rattle.check_const_ops.specs.Sets.{set_related, on_sets, member}
-use Rattle.check_const_ops.specs.Operate.{takes, compared, applied, operated, on_scalars, binary, combined, is_signed, signed_scalar, signed_value, signed, negated_value, negated}
+use Rattle.check_const_ops.specs.Operate.{takes, holds_between, ordinal_result, ordinal_operation, on_scalars, binary, constant_operation, is_signed, signed_scalar, signed_value, with_sign, negated_value, negation}
 use Rattle.check_const_ops.specs.Standards.{scalar_part, if_number, whole_number, absolute_part, upper, is_char, capital_part, character_part, odd_part, ordinal_part, bound_of, converted_part}
-use Rattle.check_const.specs.Calls.{unary_of, unary, bound_by, bound, converted_by}
+use Rattle.check_const.specs.Calls.{unary_of, unary, bound_by, bound, conversion_call}
 use Rattle.law_well_formed.specs.Formed.{Holds, fine, broken}
 use Rattle.law_well_formed.proofs.Basics.{then_holds, reported_holds, where_holds, both_holds, any_holds}
 use Rattle.law_modules.specs.Ranges.{IsRange}
@@ -67,7 +67,7 @@ module _ (g : Gathers) (types : Types) where
 
   -- ---- numbers
 
-  sort_valued : (sort : Option TypeNo) (n : ℤ) → SortRanged types sort n → ValueRanged types (valued sort n)
+  sort_valued : (sort : Option TypeNo) (n : ℤ) → SortRanged types sort n → ValueRanged types (number_value sort n)
   sort_valued None n p = p
   sort_valued (Some t) n p = (p, p)
 
@@ -76,7 +76,7 @@ module _ (g : Gathers) (types : Types) where
   fits_sort (Some t) n i f = fits_number types t n i f
 
   number_ranged : (at : Pos) (sort : Option TypeNo) (n : ℤ) → is_number sort ≡ true → V_ (number_at g at sort n)
-  number_ranged at sort n i = where_not g (ValueRanged types) (number_fits sort n) at rule.OutOfRange (λ f. fine (valued sort n) (sort_valued sort n (fits_sort sort n i f)))
+  number_ranged at sort n i = where_not g (ValueRanged types) (number_fits sort n) at rule.OutOfRange (λ f. fine (number_value sort n) (sort_valued sort n (fits_sort sort n i f)))
 
   truth_number : (b : Bool) → IsNumber types boolean boolean (cond b (pos 1) (pos 0))
   truth_number true = record { range = range boolean (pos 0) (pos 1); at = refl; own = refl; low = omega (arith, ints); high = omega (arith, ints) }
@@ -85,23 +85,23 @@ module _ (g : Gathers) (types : Types) where
   truth_ranged : (b : Bool) → V_ (Ok (truth b))
   truth_ranged b = fine (truth b) (truth_number b, truth_number b)
 
-  pub char_ranged : (n : ℤ) → pos 0 ≤ℤ n → n ≤ℤ pos 255 → ValueRanged types (valued (Some char) n)
+  pub char_ranged : (n : ℤ) → pos 0 ≤ℤ n → n ≤ℤ pos 255 → ValueRanged types (number_value (Some char) n)
   char_ranged n l h = let k : IsNumber types char char n = record { range = range char (pos 0) (pos 255); at = refl; own = refl; low = l; high = h } in (k, k)
 
   -- ---- operators
 
-  applied_ranged : (op : BinaryOp) (spot : Pos) (sort : Option TypeNo) (x y : ℤ) → takes op sort ≡ true → V_ (applied g op spot sort x y)
-  applied_ranged Plus spot sort x y e = number_ranged spot sort (evaluated Plus x y) e
-  applied_ranged Minus spot sort x y e = number_ranged spot sort (evaluated Minus x y) e
-  applied_ranged Times spot sort x y e = number_ranged spot sort (evaluated Times x y) e
+  applied_ranged : (op : BinaryOp) (spot : Pos) (sort : Option TypeNo) (x y : ℤ) → takes op sort ≡ true → V_ (ordinal_result g op spot sort x y)
+  applied_ranged Plus spot sort x y e = number_ranged spot sort (whole_arithmetic Plus x y) e
+  applied_ranged Minus spot sort x y e = number_ranged spot sort (whole_arithmetic Minus x y) e
+  applied_ranged Times spot sort x y e = number_ranged spot sort (whole_arithmetic Times x y) e
   applied_ranged Over spot sort x y e = reported_holds g spot rule.WrongType
   applied_ranged Div spot sort x y e = number_ranged spot sort (quotient x y) e
   applied_ranged Mod spot sort x y e = number_ranged spot sort (remainder x y) e
   applied_ranged And spot sort x y e = truth_ranged (int_lt (pos 0) x && int_lt (pos 0) y)
   applied_ranged Or spot sort x y e = truth_ranged (int_lt (pos 0) x || int_lt (pos 0) y)
-  applied_ranged (Relation r) spot sort x y e = truth_ranged (compared r x y)
+  applied_ranged (Relation r) spot sort x y e = truth_ranged (holds_between r x y)
 
-  operated_ranged : (op : BinaryOp) (spot : Pos) (sort : Option TypeNo) (at : Pos) (a : Ordinal) (at' : Pos) (b : Ordinal) → V_ (operated g op spot sort at a at' b)
+  operated_ranged : (op : BinaryOp) (spot : Pos) (sort : Option TypeNo) (at : Pos) (a : Ordinal) (at' : Pos) (b : Ordinal) → V_ (ordinal_operation g op spot sort at a at' b)
   operated_ranged op spot sort at a at' b = where_not g (ValueRanged types) (takes op sort) spot rule.WrongType (λ e. then_holds (any_holds _) (λ x k. applied_ranged op spot sort a.number b.number e))
 
   scalars_ranged : (op : BinaryOp) (spot at : Pos) (a : Ordinal) (at' : Pos) (b : Ordinal) (o : Option (Option TypeNo)) → V_ (on_scalars g op spot at a at' b o)
@@ -154,7 +154,7 @@ module _ (g : Gathers) (types : Types) where
   binary_ranged op spot at (Some (operands.Set a)) at' None = reported_holds g spot rule.WrongType
   binary_ranged op spot at None at' y = reported_holds g spot rule.WrongType
 
-  pub combined_ranged : (op : BinaryOp) (spot at : Pos) (x : Result Value g.Reported) (at' : Pos) (y : Result Value g.Reported) → V_ (combined g op spot at x at' y)
+  pub combined_ranged : (op : BinaryOp) (spot at : Pos) (x : Result Value g.Reported) (at' : Pos) (y : Result Value g.Reported) → V_ (constant_operation g op spot at x at' y)
   combined_ranged op spot at x at' y = then_holds (any_holds (both g x y)) (λ v k. binary_ranged op spot at (operand_of v.0) at' (operand_of v.1))
 
   signed_number : (sort : Option TypeNo) → is_signed sort ≡ true → is_number sort ≡ true
@@ -162,15 +162,15 @@ module _ (g : Gathers) (types : Types) where
   signed_number (Some t) e = integer_numeric (is_integer t) (are_same t cardinal) e
 
   signed_scalar_ranged : (o : Sign) (spot : Pos) (a : Ordinal) → SortRanged types a.sort a.number → V_ (signed_scalar g o spot a)
-  signed_scalar_ranged sign.Plus spot a p = where_holds g _ spot rule.WrongType (fine (valued a.sort a.number) (sort_valued a.sort a.number p))
-  signed_scalar_ranged sign.Minus spot a p = where_not g (ValueRanged types) (is_signed a.sort) spot rule.WrongType (λ e. number_ranged spot a.sort (evaluated Minus (pos 0) a.number) (signed_number a.sort e))
+  signed_scalar_ranged sign.Plus spot a p = where_holds g _ spot rule.WrongType (fine (number_value a.sort a.number) (sort_valued a.sort a.number p))
+  signed_scalar_ranged sign.Minus spot a p = where_not g (ValueRanged types) (is_signed a.sort) spot rule.WrongType (λ e. number_ranged spot a.sort (whole_arithmetic Minus (pos 0) a.number) (signed_number a.sort e))
 
   signed_value_ranged : (o : Sign) (spot : Pos) (x : Option Operand) → OperandRanged types x → V_ (signed_value g o spot x)
   signed_value_ranged o spot None p = reported_holds g spot rule.WrongType
   signed_value_ranged o spot (Some (operands.Set bits)) p = reported_holds g spot rule.WrongType
   signed_value_ranged o spot (Some (operands.Scalar a)) p = signed_scalar_ranged o spot a p
 
-  pub signed_ranged : (o : Sign) (spot : Pos) {x : Result Value g.Reported} → V_ x → V_ (signed g o spot x)
+  pub signed_ranged : (o : Sign) (spot : Pos) {x : Result Value g.Reported} → V_ x → V_ (with_sign g o spot x)
   signed_ranged o spot p = then_holds p (λ v k. signed_value_ranged o spot (operand_of v) (operand_ranged types v k))
 
   negated_value_ranged : (spot : Pos) (x : Option Operand) → V_ (negated_value g spot x)
@@ -178,7 +178,7 @@ module _ (g : Gathers) (types : Types) where
   negated_value_ranged spot (Some (operands.Set bits)) = reported_holds g spot rule.WrongType
   negated_value_ranged spot (Some (operands.Scalar a)) = where_holds g _ spot rule.WrongType (truth_ranged _)
 
-  pub negated_ranged : (spot : Pos) (x : Result Value g.Reported) → V_ (negated g spot x)
+  pub negated_ranged : (spot : Pos) (x : Result Value g.Reported) → V_ (negation g spot x)
   negated_ranged spot x = then_holds (any_holds x) (λ v k. negated_value_ranged spot (operand_of v))
 
   -- ---- standard functions of one argument
@@ -194,7 +194,7 @@ module _ (g : Gathers) (types : Types) where
 
   absolute_by : (at : Pos) (a : Ordinal) (b : Bool) → is_number a.sort ≡ b → V_ (absolute_part g at (cond b (Some a) None))
   absolute_by at a true e =
-      either g (ValueRanged types) (int_lt a.number (pos 0)) {x = evaluated_at g at a.sort Minus (pos 0) a.number} {y = number_at g at a.sort a.number} (number_ranged at a.sort (evaluated Minus (pos 0) a.number) e) (number_ranged at a.sort a.number e)
+      either g (ValueRanged types) (int_lt a.number (pos 0)) {x = evaluated_at g at a.sort Minus (pos 0) a.number} {y = number_at g at a.sort a.number} (number_ranged at a.sort (whole_arithmetic Minus (pos 0) a.number) e) (number_ranged at a.sort a.number e)
   absolute_by at a false e = reported_holds g at rule.WrongArgument
 
   absolute_if : (at : Pos) (o : Option Ordinal) → V_ (absolute_part g at (if_number o))
@@ -203,7 +203,7 @@ module _ (g : Gathers) (types : Types) where
 
   character_of : (at : Pos) (o : Option Ordinal) → V_ (character_part g at o)
   character_of at None = reported_holds g at rule.WrongArgument
-  character_of at (Some a) = where_not g (ValueRanged types) (is_between (pos 0) a.number (pos 255)) at rule.OutOfRange (λ e. let k = between_in (pos 0) a.number (pos 255) e in fine (valued (Some char) a.number) (char_ranged a.number k.0 k.1))
+  character_of at (Some a) = where_not g (ValueRanged types) (is_between (pos 0) a.number (pos 255)) at rule.OutOfRange (λ e. let k = between_in (pos 0) a.number (pos 255) e in fine (number_value (Some char) a.number) (char_ranged a.number k.0 k.1))
 
   odd_of : (at : Pos) (o : Option Ordinal) → V_ (odd_part g at o)
   odd_of at None = reported_holds g at rule.WrongArgument
@@ -218,7 +218,7 @@ module _ (g : Gathers) (types : Types) where
       let same : p.range ≡ range char (pos 0) (pos 255) = one_range p.range (range char (pos 0) (pos 255)) (sym p.at ∙ ap (λ (u : TypeNo). scalar_at types u) e) in
       (subst (λ (r : Range). r.low ≤ℤ n) same p.low, subst (λ (r : Range). n ≤ℤ r.high) same p.high)
 
-  upper_ranged : (n : ℤ) → (pos 0 ≤ℤ n) × (n ≤ℤ pos 255) → ValueRanged types (valued (Some char) (upper n))
+  upper_ranged : (n : ℤ) → (pos 0 ≤ℤ n) × (n ≤ℤ pos 255) → ValueRanged types (number_value (Some char) (upper n))
   upper_ranged n p = let k = upper_by (is_between (pos 97) n (pos 122)) n refl p.0 p.1 in char_ranged (upper n) k.0 k.1
 
   capital_number : (sort : Option TypeNo) (n : ℤ) → is_char sort ≡ true → SortRanged types sort n → (pos 0 ≤ℤ n) × (n ≤ℤ pos 255)
@@ -227,7 +227,7 @@ module _ (g : Gathers) (types : Types) where
 
   capital_of : (at : Pos) (o : Option Ordinal) → PartRanged o → V_ (capital_part g at o)
   capital_of at None p = reported_holds g at rule.WrongArgument
-  capital_of at (Some a) p = where_not g (ValueRanged types) (is_char a.sort) at rule.WrongArgument (λ e. fine (valued (Some char) (upper a.number)) (upper_ranged a.number (capital_number a.sort a.number e p)))
+  capital_of at (Some a) p = where_not g (ValueRanged types) (is_char a.sort) at rule.WrongArgument (λ e. fine (number_value (Some char) (upper a.number)) (upper_ranged a.number (capital_number a.sort a.number e p)))
 
   unary_value : (f : Standard) (at : Pos) (v : Value) → ValueRanged types v → V_ (unary_of g f at v)
   unary_value Abs at v p = absolute_if at (scalar_part (operand_of v))
@@ -292,5 +292,5 @@ module _ (g : Gathers) (s : Scope g.Reported) (h : ScopeRanged s) where
   converted_of t r at (Some a) e =
       where_not g (ValueRanged s.types) (is_between r.low a.number r.high) at rule.OutOfRange (λ f. let k = between_in r.low a.number r.high f in fine (bound_of t r a.number) (bound_value t r a.number e k.0 k.1))
 
-  pub converted_ranged : {to : Result (TypeNo × Range) g.Reported} (at : Pos) (v : Result Value g.Reported) → Holds TypeIs to → Holds (ValueRanged s.types) (converted_by g to at v)
+  pub converted_ranged : {to : Result (TypeNo × Range) g.Reported} (at : Pos) (v : Result Value g.Reported) → Holds TypeIs to → Holds (ValueRanged s.types) (conversion_call g to at v)
   converted_ranged at v p = then_holds (both_holds g p (any_holds v)) (λ x k. converted_of x.0.0 x.0.1 at (whole_number x.1) k.0)

@@ -17,7 +17,7 @@ use Rattle.typed_tree.specs.declared.table.Table.{Table}
 use Rattle.typed_tree.specs.declared.typed_module.Routine.{Routine}
 use Rattle.typed_tree.specs.declared.typed_module.TypedModule.{TypedModule}
 use Rattle.typed_tree.specs.declared.types.TypeNo.{TypeNo}
-use Rattle.typed_tree.specs.Names.{found}
+use Rattle.typed_tree.specs.Names.{find_name}
 use Rattle.check_scope.specs.Elaborated.{Gathers, both, beside, ◌▷◌}
 use Rattle.check_scope.specs.Scopes.{State}
 use Rattle.check_scope.specs.declared.known.Known.{Known}
@@ -32,12 +32,12 @@ use Rattle.check_block.specs.Declarations.{Course, Declared, reported_of_lack}
 use Rattle.check_block.specs.Headings.{name_standing}
 use Rattle.check_body.specs.Imports.{all_imports, typed_imports}
 use Rattle.check_body.specs.Own.{own_names, exported_headings, implementation_scope}
-use Rattle.check_body.specs.Routines.{unfilled, no_bodies, typed_module}
+use Rattle.check_body.specs.Routines.{empty_routine, no_bodies, typed_module}
 use Rattle.check_body.specs.declared.procedure.Walk.{Walk}
 use Rattle.check_body.specs.Elaborating.{Elaborates, statements_of}
 use Rattle.check_body.specs.Bodies.{Checked, Steps, steps, marked_by, declared_by, with_statements, bodies_checked}
-use Rattle.check_body.specs.Checked.{module_or, walked, of_body, of_implementation, of_contents}
-use Rattle.check_body.specs.Checks.{elaborated, checked}
+use Rattle.check_body.specs.Checked.{module_or, walk_body, of_body, of_implementation, of_contents}
+use Rattle.check_body.specs.Checks.{elaborate_body, body_module}
 use Rattle.law_modules.specs.WellFormed.{IsRoutine, AreStmts, no_stmts, IsBody, IsWellFormed}
 use Rattle.law_well_formed.specs.Formed.{Holds, fine, broken, FormedMeaning, IsFormed}
 use Rattle.law_well_formed.proofs.Basics.{reported_holds}
@@ -73,19 +73,19 @@ all_places P xs k = all_each P xs (each_place P xs k)
 
 -- ---- procedures whose bodies are not checked yet
 
-unfilled_outermost : (hs : List TypeNo) → AreOutermost (map unfilled hs)
+unfilled_outermost : (hs : List TypeNo) → AreOutermost (map empty_routine hs)
 unfilled_outermost [] n r e = absurd cc
-unfilled_outermost (h ∷ hs) zero r e = ap (λ (x : Routine). x.level) (sym (same_Some (unfilled h) r e))
+unfilled_outermost (h ∷ hs) zero r e = ap (λ (x : Routine). x.level) (sym (same_Some (empty_routine h) r e))
 unfilled_outermost (h ∷ hs) (suc n) r e = unfilled_outermost hs n r e
 
-unfilled_bodies : (m : TypedModule) (hs : List TypeNo) → AreBodies m (map unfilled hs)
+unfilled_bodies : (m : TypedModule) (hs : List TypeNo) → AreBodies m (map empty_routine hs)
 unfilled_bodies m [] n r e = absurd cc
-unfilled_bodies m (h ∷ hs) zero r e = subst (λ (x : Routine). IsBody m x) (same_Some (unfilled h) r e) (record { body = no_stmts 0 false })
+unfilled_bodies m (h ∷ hs) zero r e = subst (λ (x : Routine). IsBody m x) (same_Some (empty_routine h) r e) (record { body = no_stmts 0 false })
 unfilled_bodies m (h ∷ hs) (suc n) r e = unfilled_bodies m hs n r e
 
-unfilled_headings : (hs : List TypeNo) → Headings hs (map unfilled hs)
+unfilled_headings : (hs : List TypeNo) → Headings hs (map empty_routine hs)
 unfilled_headings [] n t e = absurd cc
-unfilled_headings (h ∷ hs) zero t e = (unfilled h, refl, same_Some h t e)
+unfilled_headings (h ∷ hs) zero t e = (empty_routine h, refl, same_Some h t e)
 unfilled_headings (h ∷ hs) (suc n) t e = unfilled_headings hs n t e
 
 -- where a module begins, by what its definition exports
@@ -172,7 +172,7 @@ module _ (g : Gathers) (elaborates : Elaborates g.Reported) (forms : FormsStatem
 
     begun_awaits : AwaitsOwn s
     begun_awaits name p e =
-        let k = own_await g.Reported s.types.home (exported_headings es) es starts.exports starts.numbers name p (ap (λ (ns : List (List ℕ × Known g.Reported)). name_standing (found name ns)) (sym starts.own) ∙ e) in
+        let k = own_await g.Reported s.types.home (exported_headings es) es starts.exports starts.numbers name p (ap (λ (ns : List (List ℕ × Known g.Reported)). name_standing (find_name name ns)) (sym starts.own) ∙ e) in
         (k.0, ap (λ (hs : List TypeNo). slice_get hs p.number) starts.procedures ∙ k.1)
 
     course_ok : course.1 ≡ Ok tt
@@ -290,7 +290,7 @@ module _ (g : Gathers) where
     abbrev last : Walk g.Reported
     last = end g elaborates forms s m ds body (procedure_ends ds) refl
 
-    walk_is : ◌≡◌ {A = Checked g.Reported} (walked g elaborates (numbered_modules s.tables).0 (procedure_ends ds) s m b) (last, statements_of elaborates last.scope None body)
+    walk_is : ◌≡◌ {A = Checked g.Reported} (walk_body g elaborates (numbered_modules s.tables).0 (procedure_ends ds) s m b) (last, statements_of elaborates last.scope None body)
     walk_is =
         ap behind (declared_is g elaborates forms (procedure_ends ds) (imported g elaborates forms s m ds body (procedure_ends ds) refl) 0 ds)
         ∙ ap (λ (w : Walk g.Reported). with_statements elaborates None body w)
@@ -316,5 +316,5 @@ module _ (g : Gathers) where
         of_body_formed elaborates forms (first_scope number (tables ++ console ∷ [])) None m b tables []
         (record { tables_are = refl; outer = refl; level = refl; withs = refl; own = refl; procedures = refl; exports = tt; numbers = tt; others = k })
 
-pub modules_formed : (g : Gathers) (number : ℕ) (m : Module) (own : Option Table) (tables : List Table) → AreFor number own tables m.contents → Holds IsWellFormed (checked g number m own tables)
-modules_formed g number m own tables k = contents_formed g (elaborated g) (elaborated_formed g) number m tables own m.contents k
+pub modules_formed : (g : Gathers) (number : ℕ) (m : Module) (own : Option Table) (tables : List Table) → AreFor number own tables m.contents → Holds IsWellFormed (body_module g number m own tables)
+modules_formed g number m own tables k = contents_formed g (elaborate_body g) (elaborated_formed g) number m tables own m.contents k

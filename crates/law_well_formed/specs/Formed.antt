@@ -16,7 +16,7 @@ use Rattle.check_operator.specs.declared.computed.Computed.{Computed}
 use Rattle.check_operator.specs.declared.computed.Computed.TheVariants as value
 use Rattle.check_operator.specs.declared.computed.Designated.{Designated}
 use Rattle.check_operator.specs.declared.computed.Designated.TheVariants as designated
-use Rattle.check_expr.specs.Meanings.{meant}
+use Rattle.check_expr.specs.Meanings.{meanings_of}
 use Rattle.law_modules.specs.WellFormed.{IsKnown, IsRoutine, IsProcedure, IsExpr, IsPlace}
 
 -- if there is one, it is as the fact says
@@ -72,4 +72,4 @@ pub record IsFormed (g : Gathers) (m : TypedModule) (opens : ℕ → Bool) (with
 abbrev pub ExpressionsAreFormed : Gathers → Type 0
 ExpressionsAreFormed g = (m : TypedModule) (opens : ℕ → Bool) (withs : ℕ) (s : Scope g.Reported)
     → IsFormed g m opens withs s → (e : Expr)
-    → Holds (FormedDesignated m opens withs) ((meant g e).means s)
+    → Holds (FormedDesignated m opens withs) ((meanings_of g e).means s)

@@ -9,7 +9,7 @@ use Rattle.typed_tree.specs.declared.typed_module.TypedModule.{TypedModule}
 use Rattle.typed_tree.specs.declared.typed_module.Which.{Which}
 use Rattle.typed_tree.specs.declared.types.TypeNo.{TypeNo}
 use Rattle.typed_tree.specs.Known.{made_at}
-use Rattle.typed_tree.specs.Names.{found}
+use Rattle.typed_tree.specs.Names.{find_name}
 use Rattle.check_scope.specs.Elaborated.{Gathers}
 use Rattle.check_scope.specs.declared.scope.Scope.{Scope}
 use Rattle.check_const.specs.Denote.{member}
@@ -17,7 +17,7 @@ use Rattle.def_scheme.specs.Exprs.{is_there}
 use Rattle.check_block.specs.Nesting.{within}
 use Rattle.law_modules.specs.WellFormed.{AreStmts, IsBody}
 use Rattle.law_well_formed.specs.Formed.{Holds, FormedMeaning, IsFormed}
-use Rattle.law_well_formed.specs.FormedScopes.{picked, is_awaiting, AreFormedNames, AreFormedBlocks}
+use Rattle.law_well_formed.specs.FormedScopes.{holds_of, is_awaiting, AreFormedNames, AreFormedBlocks}
 use Rattle.check_body.specs.declared.procedure.Walk.{Walk}
 use Rattle.check_body.specs.Elaborating.{Elaborates}
 use Rattle.check_body.specs.Bodies.{ChecksBlock, checks_block}
@@ -75,7 +75,7 @@ module _ (g : Gathers) (m : TypedModule) (opens : ℕ → Bool) where
 pub record Begins {T : Type 0} (ends : List ℕ) (w : Walk T) (ks : List ℕ) : Type 0 where
   pub level : (w.scope.level == 0) ≡ false
   pub deep : 1 < length w.scope.outer
-  pub awaits : (name : List ℕ) → picked is_awaiting (found name w.scope.own) ≡ false
+  pub awaits : (name : List ℕ) → holds_of is_awaiting (find_name name w.scope.own) ≡ false
   pub numbers : AreNumbered ends (length w.bodies.locals) ks
 
 -- the block of a procedure, with so many procedures within each of those in it

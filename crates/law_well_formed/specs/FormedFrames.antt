@@ -10,7 +10,7 @@ use Rattle.layout_storage.specs.Sizes.{size}
 use Rattle.layout_storage.specs.Frames.{frame}
 use Rattle.layout_storage.specs.Layouts.{too_large}
 use Rattle.def_scheme.specs.Functions.{routine_of}
-use Rattle.check_body.specs.Checks.{checked}
+use Rattle.check_body.specs.Checks.{body_module}
 use Rattle.law_well_formed.specs.Formed.{Holds}
 use Rattle.law_well_formed.specs.FormedModules.{AreFor}
 
@@ -45,4 +45,4 @@ pub record AreNested (m : TypedModule) : Type 0 where
 
 abbrev pub ModulesAreNested : Gathers → Type 0
 ModulesAreNested g = (number : ℕ) (m : Module) (own : Option Table) (tables : List Table)
-    → AreFor number own tables m.contents → Holds AreNested (checked g number m own tables)
+    → AreFor number own tables m.contents → Holds AreNested (body_module g number m own tables)

@@ -13,7 +13,7 @@ use Rattle.typed_tree.specs.declared.shape.Made.{Made}
 use Rattle.typed_tree.specs.declared.shape.Shape.TheVariants as shape
 use Rattle.typed_tree.specs.declared.types.TypeNo.{TypeNo}
 use Rattle.typed_tree.specs.Known.{made_at}
-use Rattle.typed_tree.specs.Names.{found}
+use Rattle.typed_tree.specs.Names.{find_name}
 use Rattle.check_scope.specs.Elaborated.{Gathers}
 use Rattle.check_scope.specs.Scopes.{State}
 use Rattle.check_scope.specs.declared.known.Known.TheVariants.{Headed}
@@ -44,17 +44,17 @@ module _ (g : Gathers) (ends : List ℕ) (a : Scope g.Reported) (first : ℕ) (b
   abbrev pub all : List Decl
   all = before ++ d ∷ rest
 
-  abbrev pub begun : Course g.Reported
-  begun = (marked_by a all, Ok tt, first)
+  abbrev pub course_begin : Course g.Reported
+  course_begin = (marked_by a all, Ok tt, first)
 
-  abbrev pub met : Scope g.Reported
-  met = (declared_by g ends begun before).0
+  abbrev pub scope_before : Scope g.Reported
+  scope_before = (declared_by g ends course_begin before).0
 
   abbrev pub end : Scope g.Reported
-  end = (declared_by g ends begun all).0
+  end = (declared_by g ends course_begin all).0
 
-  abbrev pub seen : ℕ
-  seen = length (marked_by a before).own
+  abbrev pub names_before : ℕ
+  names_before = length (marked_by a before).own
 
 -- a scope behind the block's declarations: its names, and what stands around it
 pub record IsBehind {T : Type 0} (e w : Scope T) : Type 0 where
@@ -74,8 +74,8 @@ NamesStay g =
     → (w : Scope g.Reported)
     → IsBehind (end g ends a first before d rest) w
     → (q : Qualified) (t : TypeNo)
-    → named_type g (met g ends a first before d rest) q ≡ Ok t
-    → named_type g (inwards w (seen g ends a first before d rest)) q ≡ Ok t
+    → named_type g (scope_before g ends a first before d rest) q ≡ Ok t
+    → named_type g (inwards w (names_before g ends a first before d rest)) q ≡ Ok t
 
 -- ---- headings
 
@@ -96,7 +96,7 @@ heading_in (meaning.Module k) = None
 -- that are computed where the procedure's block begins, behind so many names of the block.
 pub record HeadingStands (g : Gathers) (w : Scope g.Reported) (n : ℕ) (h : Heading) : Type 0 where
   pub means : Meaning
-  pub named : found h.name.name w.own ≡ Some (Headed (Ok means))
+  pub named : find_name h.name.name w.own ≡ Some (Headed (Ok means))
   pub heading : TypeNo
   pub is : heading_in means ≡ Some heading
   pub made : Made
@@ -112,7 +112,7 @@ HeadingsStay g =
     (ends : List ℕ) (a : Scope g.Reported) (first : ℕ) (before : List Decl) (d : Decl)
     (rest : List Decl)
     → a.withs ≡ []
-    → (declared_by g ends (begun g ends a first before d rest) (all g ends a first before d rest)).1
+    → (declared_by g ends (course_begin g ends a first before d rest) (all g ends a first before d rest)).1
     ≡ Ok tt
     → (w : Scope g.Reported)
     → IsBehind (end g ends a first before d rest) w
@@ -120,4 +120,4 @@ HeadingsStay g =
     → made_at w.types t ≡ Some x)
     → (h : Heading) (b : Block)
     → out-Decl d ≡ layer.Procedure h b
-    → HeadingStands g w (seen g ends a first before d rest) h
+    → HeadingStands g w (names_before g ends a first before d rest) h

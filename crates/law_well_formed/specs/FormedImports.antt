@@ -2,19 +2,19 @@
 use Rattle.std.specs.Prelude.{◌≡◌, ℕ, Bool, false, true, ◌||◌, List, Option, Some, None, codes, All, IfOk}
 use Rattle.std.specs.List.{list_any}
 use Rattle.m2_tree.specs.declared.decl.Module.{Module}
-use Rattle.m2_graph.specs.Imports.{imported}
+use Rattle.m2_graph.specs.Imports.{imports_of}
 use Rattle.typed_tree.specs.declared.table.Table.{Table}
 use Rattle.typed_tree.specs.declared.typed_module.Imported.{Imported}
 use Rattle.typed_tree.specs.declared.typed_module.TypedModule.{TypedModule}
 use Rattle.m2_tree.specs.Names.{same_name}
 use Rattle.check_scope.specs.Elaborated.{Gathers}
-use Rattle.check_definition.specs.Compiled.{compiled}
+use Rattle.check_definition.specs.Compiled.{definition_table}
 use Rattle.check_body.specs.Elaborating.{Elaborates}
-use Rattle.check_body.specs.Checked.{checked}
+use Rattle.check_body.specs.Checked.{body_module}
 
 -- the tree imports a module of this name
 abbrev pub is_imported : Module → List ℕ → Bool
-is_imported m name = list_any (λ i. same_name i.name name) (imported m)
+is_imported m name = list_any (λ i. same_name i.name name) (imports_of m)
 
 -- so does the definition of this table
 abbrev pub is_imported_by : Option Table → List ℕ → Bool
@@ -36,7 +36,7 @@ pub record NamesImports (m : Module) (home : ℕ) (t : Table) : Type 0 where
 
 abbrev pub TablesNameImports : Gathers → Type 0
 TablesNameImports g = (home : ℕ) (m : Module) (tables : List Table)
-    → IfOk (compiled g home m tables) (NamesImports m home)
+    → IfOk (definition_table g home m tables) (NamesImports m home)
 
 -- ---- typed modules
 
@@ -48,4 +48,4 @@ pub record StandsOnImports (m : Module) (own : Option Table) (t : TypedModule) :
 abbrev pub ModulesNameImports : Gathers → Type 0
 ModulesNameImports g =
     (elaborates : Elaborates g.Reported) (number : ℕ) (m : Module) (own : Option Table)
-    (tables : List Table) → IfOk (checked g elaborates number m own tables) (StandsOnImports m own)
+    (tables : List Table) → IfOk (body_module g elaborates number m own tables) (StandsOnImports m own)

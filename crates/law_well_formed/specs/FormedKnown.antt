@@ -14,10 +14,10 @@ use Rattle.typed_tree.specs.declared.table.Table.{Table}
 use Rattle.typed_tree.specs.declared.known_types.Types.{Types}
 use Rattle.typed_tree.specs.Known.{made_in}
 use Rattle.check_scope.specs.Elaborated.{Gathers}
-use Rattle.check_definition.specs.Compiled.{compiled}
+use Rattle.check_definition.specs.Compiled.{definition_table}
 use Rattle.check_body.specs.Own.{types_made_in}
 use Rattle.check_body.specs.Elaborating.{Elaborates}
-use Rattle.check_body.specs.Checked.{checked}
+use Rattle.check_body.specs.Checked.{body_module}
 use Rattle.law_well_formed.specs.Formed.{Holds}
 use Rattle.law_modules.specs.Ranges.{AreRanged}
 use Rattle.law_well_formed.specs.FormedRanges.{AllBased, ExportsRanged, ReachedRanged, itself, fits_constant, fits_type_decl, fits_variables, fits_def}
@@ -94,7 +94,7 @@ TablesAreFormed g =
     (λ t.
     (t.number ≡ home)
     × (types_made_in home t.reached ≡ types_of home → TableFormed types_of (suc home) t))
-    (compiled g home m tables)
+    (definition_table g home m tables)
 
 -- The types that the module of a body knows have ranges of the language, and stand in order.
 abbrev pub BodiesAreFormed : Gathers → Type 0
@@ -104,4 +104,4 @@ BodiesAreFormed g =
     → fits_module m ≡ true
     → OwnFormed types_of number own
     → TablesFormed types_of number tables
-    → Holds (λ t. AreRanged t.types × AreOrdered t.types) (checked g elaborates number m own tables)
+    → Holds (λ t. AreRanged t.types × AreOrdered t.types) (body_module g elaborates number m own tables)

@@ -8,7 +8,7 @@ use Rattle.typed_tree.specs.declared.table.Table.{Table}
 use Rattle.m2_tree.specs.Names.{is_console}
 use Rattle.check_scope.specs.Elaborated.{Gathers}
 use Rattle.check_body.specs.Own.{exported_headings}
-use Rattle.check_body.specs.Checks.{checked}
+use Rattle.check_body.specs.Checks.{body_module}
 use Rattle.law_modules.specs.WellFormed.{IsWellFormed}
 use Rattle.law_well_formed.specs.Formed.{Holds}
 use Rattle.law_well_formed.specs.FormedTables.{AreExports, AreNumberedBy}
@@ -47,4 +47,4 @@ AreFor number own tables (contents.Definition defs) = Unit {0}
 
 abbrev pub ModulesAreFormed : Gathers → Type 0
 ModulesAreFormed g = (number : ℕ) (m : Module) (own : Option Table) (tables : List Table)
-    → AreFor number own tables m.contents → Holds IsWellFormed (checked g number m own tables)
+    → AreFor number own tables m.contents → Holds IsWellFormed (body_module g number m own tables)

@@ -10,7 +10,7 @@ use Rattle.typed_tree.specs.declared.shape.Made.{Made}
 use Rattle.typed_tree.specs.declared.typed_module.TypedModule.{TypedModule}
 use Rattle.typed_tree.specs.declared.types.TypeNo.{TypeNo}
 use Rattle.typed_tree.specs.Known.{made_at}
-use Rattle.typed_tree.specs.Names.{found}
+use Rattle.typed_tree.specs.Names.{find_name}
 use Rattle.check_scope.specs.Elaborated.{Gathers}
 use Rattle.check_scope.specs.declared.known.Origin.{Origin}
 use Rattle.check_scope.specs.declared.known.Origin.TheVariants.{Here, Module, Export}
@@ -25,9 +25,9 @@ use Rattle.law_well_formed.specs.Formed.{Holds, FormedMeaning}
 -- ---- names
 
 -- what is known of a name that is there
-abbrev pub picked : {A : Type 0} → (A → Bool) → Option A → Bool
-picked pick None = false
-picked pick (Some x) = pick x
+abbrev pub holds_of : {A : Type 0} → (A → Bool) → Option A → Bool
+holds_of pick None = false
+holds_of pick (Some x) = pick x
 
 -- a procedure of the module's definition whose heading has not come yet
 abbrev pub is_awaiting : {T : Type 0} → Known T → Bool
@@ -41,7 +41,7 @@ module _ (opens : ℕ → Bool) where
 
   abbrev pub OpensImports : List (List ℕ × ℕ) → List Ident → Type 0
   OpensImports modules [] = Unit {0}
-  OpensImports modules (x ∷ xs) = OpensNames (found x.name modules) × OpensImports modules xs
+  OpensImports modules (x ∷ xs) = OpensNames (find_name x.name modules) × OpensImports modules xs
 
 module _ (m : TypedModule) (opens : ℕ → Bool) where
   -- the variables and procedures that a block declares are the module's, and it declares no modules
@@ -98,19 +98,19 @@ module _ (m : TypedModule) (opens : ℕ → Bool) where
     pub types : (t : TypeNo) (x : Made) → made_at s.types t ≡ Some x → made_at s'.types t ≡ Some x
     pub procedures : (n : ℕ) (t : TypeNo) → slice_get s.procedures n ≡ Some t
         → slice_get s'.procedures n ≡ Some t
-    pub heads : (name : List ℕ) (x : Result Meaning T) → found name s.own ≡ Some (Headed x)
-        → found name s'.own ≡ Some (Headed x)
-    pub awaits : (name : List ℕ) → picked is_awaiting (found name s.own) ≡ false
-        → picked is_awaiting (found name s'.own) ≡ false
-    pub awaited : (name : List ℕ) → picked is_awaiting (found name s'.own) ≡ true
-        → found name s'.own ≡ found name s.own
+    pub heads : (name : List ℕ) (x : Result Meaning T) → find_name name s.own ≡ Some (Headed x)
+        → find_name name s'.own ≡ Some (Headed x)
+    pub awaits : (name : List ℕ) → holds_of is_awaiting (find_name name s.own) ≡ false
+        → holds_of is_awaiting (find_name name s'.own) ≡ false
+    pub awaited : (name : List ℕ) → holds_of is_awaiting (find_name name s'.own) ≡ true
+        → find_name name s'.own ≡ find_name name s.own
     pub formed : s.types.home ≡ m.types.home → AreFormedNames s.own → AreFormedNames s'.own
 
   -- ---- declarations of a block
 
   -- what a heading leaves under its name is as it has to be
   abbrev pub HeadIs : {T : Type 0} → Scope T → Scope T → List ℕ → Type 0
-  HeadIs s s' name = (x : Meaning) → found name s'.own ≡ Some (Headed (Ok x))
+  HeadIs s s' name = (x : Meaning) → find_name name s'.own ≡ Some (Headed (Ok x))
       → s.types.home ≡ m.types.home → FormedOwn x
 
   module _ (g : Gathers) {A B : Type 0} where

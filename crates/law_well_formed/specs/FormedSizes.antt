@@ -6,7 +6,7 @@ use Rattle.typed_tree.specs.declared.table.Table.{Table}
 use Rattle.typed_tree.specs.declared.known_types.Types.{Types}
 use Rattle.check_scope.specs.Elaborated.{Gathers}
 use Rattle.check_body.specs.Elaborating.{Elaborates}
-use Rattle.check_body.specs.Checked.{checked}
+use Rattle.check_body.specs.Checked.{body_module}
 use Rattle.layout_storage.specs.Fitting.{types_fit}
 use Rattle.law_modules.specs.Ranges.{AreRanged}
 use Rattle.law_well_formed.specs.Formed.{Holds}
@@ -25,4 +25,4 @@ BodiesHaveSizes g =
     → fits_module m ≡ true
     → OwnFormed types_of number own
     → TablesFormed types_of number tables
-    → Holds (λ t. types_fit t.types ≡ true) (checked g elaborates number m own tables)
+    → Holds (λ t. types_fit t.types ≡ true) (body_module g elaborates number m own tables)

@@ -7,7 +7,7 @@ use Rattle.typed_tree.specs.declared.meaning.Meaning.TheVariants as meaning
 use Rattle.typed_tree.specs.declared.table.Table.{Table}
 use Rattle.typed_tree.specs.declared.types.TypeNo.{TypeNo}
 use Rattle.check_scope.specs.Elaborated.{Gathers}
-use Rattle.check_definition.specs.Compiled.{compiled}
+use Rattle.check_definition.specs.Compiled.{definition_table}
 use Rattle.check_body.specs.Own.{exported_headings}
 
 -- a constant, a type, a variable or a procedure of this module, or a standard procedure
@@ -28,7 +28,7 @@ AreExports home es = AllByRecursion (λ e. IsExport home e.1) es
 
 abbrev pub TablesExportOwn : Gathers → Type 0
 TablesExportOwn g = (home : ℕ) (m : Module) (tables : List Table)
-    → IfOk (compiled g home m tables) (λ t. AreExports home t.exported)
+    → IfOk (definition_table g home m tables) (λ t. AreExports home t.exported)
 
 -- ---- numbers
 
@@ -50,4 +50,4 @@ AreNumberedBy hs es = AllByRecursion (λ e. IsNumbered hs e.1) es
 
 abbrev pub TablesNumberProcedures : Gathers → Type 0
 TablesNumberProcedures g = (home : ℕ) (m : Module) (tables : List Table)
-    → IfOk (compiled g home m tables) (λ t. AreNumberedBy (exported_headings t.exported) t.exported)
+    → IfOk (definition_table g home m tables) (λ t. AreNumberedBy (exported_headings t.exported) t.exported)

@@ -107,7 +107,7 @@
 //!   modules.
 #![tactic(auto)]
 
-ghost use Rattle.check_body.specs.Checks.{elaborated};
+ghost use Rattle.check_body.specs.Checks.{elaborate_body};
 ghost use Rattle.law_well_formed.specs.Formed.{ExpressionsAreFormed};
 ghost use Rattle.law_well_formed.specs.FormedBodies.{FormsStatements, BlocksAreFormed};
 ghost use Rattle.law_well_formed.specs.FormedFits.{TextsFit, TokensFit, TreesFit};
@@ -313,9 +313,9 @@ pub fn fits_laws()
 /// The statements of bodies are well formed, and so is what stands in the blocks of procedures.
 pub fn formed_body_laws()
     // That is so where the least broken rule is kept,
-    ensures least { FormsStatements least (elaborated least) × BlocksAreFormed least }
+    ensures least { FormsStatements least (elaborate_body least) × BlocksAreFormed least }
     // and where all of them are.
-    ensures every { FormsStatements every (elaborated every) × BlocksAreFormed every }
+    ensures every { FormsStatements every (elaborate_body every) × BlocksAreFormed every }
 {}
 
 /// The modules of bodies are well formed.

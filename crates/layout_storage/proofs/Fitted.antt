@@ -15,7 +15,7 @@ use Rattle.typed_tree.specs.declared.shape.Scalar.{Scalar as Range}
 use Rattle.typed_tree.specs.declared.shape.Made.{Made}
 use Rattle.typed_tree.specs.declared.known_types.Types.{Types}
 use Rattle.typed_tree.specs.Known.{predeclared_scalar}
-use Rattle.layout_storage.specs.Capped.{capped}
+use Rattle.layout_storage.specs.Capped.{cap_size}
 use Rattle.layout_storage.specs.Types.{Ty, Cell, Hidden, Array, Nothing, Field, component}
 use Rattle.layout_storage.specs.Sizes.{Room, One, Two, Four, bytes_in, room_of, size, offset}
 use Rattle.layout_storage.specs.Shapes.{Trees, shape_tree, or_nothing, in_module, scalar_kind, scalar_tree, tree_from, with_made, module_trees, with_module, other_trees, known_trees, tree}
@@ -38,7 +38,7 @@ small : (t : Ty) → type_fits t ≡ true → size t ≤ most
 small t h = ltb-false most (size t) (not_true (nat_lt most (size t)) h)
 
 -- a test of a capped size is one of the size
-pub fits_is : (n : ℕ) (t : Ty) → n ≡ capped (size t) → not (nat_lt most n) ≡ type_fits t
+pub fits_is : (n : ℕ) (t : Ty) → n ≡ cap_size (size t) → not (nat_lt most n) ≡ type_fits t
 fits_is n t e = ap (λ (k : ℕ). not (nat_lt most k)) e ∙ ap not (less_capped (size t))
 
 -- ---- numbers
@@ -152,7 +152,7 @@ module _ (types : Types) (fit : types_fit types ≡ true) where
   all_small t = from_small t t.home
 
 -- what is not cut
-pub uncut : (n : ℕ) → n ≤ most → capped n ≡ n
+pub uncut : (n : ℕ) → n ≤ most → cap_size n ≡ n
 uncut n h = omega arith
 
 -- ---- components
@@ -197,17 +197,17 @@ element_within (Field t others) k u h = omega arith
 
 -- ---- where all types fit
 
-pub size_exact : (types : Types) (t : TypeNo) (n : ℕ) → n ≡ capped (size (tree types t)) → types_fit types ≡ true → n ≡ size (tree types t)
+pub size_exact : (types : Types) (t : TypeNo) (n : ℕ) → n ≡ cap_size (size (tree types t)) → types_fit types ≡ true → n ≡ size (tree types t)
 size_exact types t n e f = e ∙ uncut (size (tree types t)) (all_small types f t)
 
-pub element_exact : (types : Types) (t : TypeNo) (n : ℕ) → n ≡ capped (size (element_tree (tree types t))) → types_fit types ≡ true
+pub element_exact : (types : Types) (t : TypeNo) (n : ℕ) → n ≡ cap_size (size (element_tree (tree types t))) → types_fit types ≡ true
     → (k : ℕ) (u : Ty) → component (tree types t) (k ∷ []) ≡ Some u → n ≡ size (element_tree (tree types t))
 element_exact types t n e f k u h =
     let l : size (element_tree (tree types t)) ≤ size (tree types t) = element_within (tree types t) k u h in
     let m : size (tree types t) ≤ most = all_small types f t in
     e ∙ uncut (size (element_tree (tree types t))) (omega arith)
 
-pub field_exact : (types : Types) (t : TypeNo) (k n : ℕ) → n ≡ capped (offset (tree types t) (k ∷ [])) → types_fit types ≡ true
+pub field_exact : (types : Types) (t : TypeNo) (k n : ℕ) → n ≡ cap_size (offset (tree types t) (k ∷ [])) → types_fit types ≡ true
     → (u : Ty) → component (tree types t) (k ∷ []) ≡ Some u → n ≡ offset (tree types t) (k ∷ [])
 field_exact types t k n e f u h =
     let l : offset (tree types t) (k ∷ []) ≤ size (tree types t) = within (tree types t) k u h in

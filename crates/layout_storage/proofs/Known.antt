@@ -19,13 +19,13 @@ use Rattle.layout_storage.specs.declared.making.Making.{Making}
 use Rattle.layout_storage.specs.declared.row.Row.{Row}
 use Rattle.layout_storage.specs.declared.extent.Extent.{Extent}
 use Rattle.layout_storage.specs.declared.extent.Extent.TheVariants as extent
-use Rattle.layout_storage.specs.Capped.{capped}
+use Rattle.layout_storage.specs.Capped.{cap_size}
 use Rattle.layout_storage.specs.Types.{Ty, Array, row}
 use Rattle.layout_storage.specs.Sizes.{size}
 use Rattle.layout_storage.specs.Shapes.{Trees, or_nothing, in_module, scalar_tree, tree_from, tree_in, shape_tree, with_made, module_trees, with_module, other_trees, known_trees, elements_of}
-use Rattle.layout_storage.specs.Extents.{Known, extent_of, extent_from, extent_in, scalar_extent, size_in, begun, with_part, row_of, IsMade, AreExtents}
+use Rattle.layout_storage.specs.Extents.{Known, extent_of, extent_from, extent_in, scalar_extent, size_in, begin_row, with_part, row_of, IsMade, AreExtents}
 use Rattle.layout_storage.specs.Extents.{or_nothing as or_none, in_module as among}
-use Rattle.layout_storage.specs.Making.{known_in, part_size, with_field, shape_extent, array_extent, next_type, with_type, added_if, added, replaced, known_extents}
+use Rattle.layout_storage.specs.Making.{known_in, part_size, with_field, shape_extent, array_extent, next_type, with_type, added_if, add_module, replace_module, known_extents}
 use Rattle.layout_storage.specs.Making.{with_module as with_extents}
 use Rattle.layout_storage.proofs.Capping.{product_both}
 use Rattle.layout_storage.proofs.Rows.{parts, fields_row, row_is, size_is}
@@ -94,21 +94,21 @@ row_extent [] = refl
 row_extent (t ∷ ts) = ap (λ (ns : List ℕ). extent.Row (row_of 0 ns)) (fields_row (t ∷ ts))
 
 module _ (types : Types) (before : Trees) (x : Making) (p : Beside before (known_in x)) where
-  part_is : (t : TypeNo) → part_size x t ≡ capped (size (tree_in before t))
+  part_is : (t : TypeNo) → part_size x t ≡ cap_size (size (tree_in before t))
   part_is t = ap size_in (in_is before (known_in x) p t) ∙ size_is (tree_in before t) (made_in before (known_in x) p t)
 
-  fields_are : (r : Row) (fs : List (List ℕ × TypeNo)) → fold (with_field x) r fs ≡ fold with_part r (map capped (map size (map (λ f. tree_in before f.1) fs)))
+  fields_are : (r : Row) (fs : List (List ℕ × TypeNo)) → fold (with_field x) r fs ≡ fold with_part r (map cap_size (map size (map (λ f. tree_in before f.1) fs)))
   fields_are r [] = refl
   fields_are r (f ∷ fs) =
-      ap (λ (n : ℕ). fold (with_field x) (with_part r n) fs) (part_is f.1) ∙ fields_are (with_part r (capped (size (tree_in before f.1)))) fs
+      ap (λ (n : ℕ). fold (with_field x) (with_part r n) fs) (part_is f.1) ∙ fields_are (with_part r (cap_size (size (tree_in before f.1)))) fs
 
-  array_is : (count : ℕ) (e : TypeNo) → array_extent (capped count) (part_size x e) ≡ extent_of (Array count (tree_in before e))
+  array_is : (count : ℕ) (e : TypeNo) → array_extent (cap_size count) (part_size x e) ≡ extent_of (Array count (tree_in before e))
   array_is count e =
-      ap (λ (n : ℕ). array_extent (capped count) n) (part_is e) ∙ ap (λ (n : ℕ). extent.Array (capped (size (tree_in before e))) n) (product_both count (size (tree_in before e)))
+      ap (λ (n : ℕ). array_extent (cap_size count) n) (part_is e) ∙ ap (λ (n : ℕ). extent.Array (cap_size (size (tree_in before e))) n) (product_both count (size (tree_in before e)))
 
-  record_is : (fs : List (List ℕ × TypeNo)) → extent.Row (fold (with_field x) (begun 0) fs) ≡ extent_of (row (map (λ f. tree_in before f.1) fs))
+  record_is : (fs : List (List ℕ × TypeNo)) → extent.Row (fold (with_field x) (begin_row 0) fs) ≡ extent_of (row (map (λ f. tree_in before f.1) fs))
   record_is fs =
-      ap (λ (r : Row). extent.Row r) (fields_are (begun 0) fs ∙ parts 0 [] (map size (map (λ f. tree_in before f.1) fs))) ∙ sym (row_extent (map (λ f. tree_in before f.1) fs))
+      ap (λ (r : Row). extent.Row r) (fields_are (begin_row 0) fs ∙ parts 0 [] (map size (map (λ f. tree_in before f.1) fs))) ∙ sym (row_extent (map (λ f. tree_in before f.1) fs))
 
   pub shape_is : (t : TypeNo) (s : Shape) → shape_extent types x t s ≡ extent_of (shape_tree types before t s)
   shape_is t (shape.Scalar s) = refl
@@ -272,7 +272,7 @@ module _ (types : Types) where
   module_beside : (before : Trees) (known : Known) → Beside before known → (e : ℕ × List Made) → Beside (with_module types before e) (with_extents types known e)
   module_beside before known p e =
       subst (λ (k : Known). Beside (before ++ (e.0, module_trees types before e.0 e.1) ∷ []) k)
-      (sym (ap added (own_is types before known p e.0 [] e.1 (λ n. tt))))
+      (sym (ap add_module (own_is types before known p e.0 [] e.1 (λ n. tt))))
       (behind before known p e.0 (module_trees types before e.0 e.1) (own_made types before known p e.0 [] e.1 (λ n. tt)))
 
   all_beside : (before : Trees) (known : Known) → Beside before known → (es : List (ℕ × List Made)) → Beside (fold (with_module types) before es) (fold (with_extents types) known es)
@@ -292,7 +292,7 @@ module _ (types : Types) where
   unfolding known_trees
   whole =
       subst (λ (k : Known). Beside ((types.home, module_trees types (other_trees types) types.home types.own) ∷ other_trees types) k)
-      (sym (ap replaced (own_is types (other_trees types) other_extents others_beside types.home [] types.own (λ n. tt))))
+      (sym (ap replace_module (own_is types (other_trees types) other_extents others_beside types.home [] types.own (λ n. tt))))
       (before_all (other_trees types) other_extents others_beside types.home (module_trees types (other_trees types) types.home types.own)
       (own_made types (other_trees types) other_extents others_beside types.home [] types.own (λ n. tt)))
 

@@ -9,7 +9,7 @@ use Rattle.typed_tree.specs.declared.typed_module.Which.{Which}
 use Rattle.typed_tree.specs.declared.typed_module.Which.TheVariants as which
 use Rattle.layout_storage.specs.declared.row.Row.{Row}
 use Rattle.layout_storage.specs.declared.layout.Layout.{Layout}
-use Rattle.layout_storage.specs.Capped.{capped}
+use Rattle.layout_storage.specs.Capped.{cap_size}
 use Rattle.layout_storage.specs.Types.{Ty, row}
 use Rattle.layout_storage.specs.Sizes.{size, offset}
 use Rattle.layout_storage.specs.Shapes.{tree}
@@ -29,14 +29,14 @@ within [] k = omega arith
 within (t ∷ ts) zero = let e : offset t [] ≡ 0 = offset_nil t in omega (arith, e)
 within (t ∷ ts) (suc k) = let l : offset (row ts) (k ∷ []) ≤ size (row ts) = within ts k in omega (arith, l)
 
-kept_whole : (n : ℕ) → n ≤ most → capped n ≡ n
+kept_whole : (n : ℕ) → n ≤ most → cap_size n ≡ n
 kept_whole n l = omega (arith, l)
 
-from_nothing : (n : ℕ) → capped (0 + n) ≡ capped n
+from_nothing : (n : ℕ) → cap_size (0 + n) ≡ cap_size n
 from_nothing n = omega arith
 
-start_at : (ts : List Ty) (k : ℕ) → start_in (row_of 0 (map size ts)) k ≡ capped (offset (row ts) (k ∷ []))
-start_at ts k = subst (λ (ns : List ℕ). start_in (row_of 0 ns) k ≡ capped (offset (row ts) (k ∷ []))) (fields_row ts)
+start_at : (ts : List Ty) (k : ℕ) → start_in (row_of 0 (map size ts)) k ≡ cap_size (offset (row ts) (k ∷ []))
+start_at ts k = subst (λ (ns : List ℕ). start_in (row_of 0 ns) k ≡ cap_size (offset (row ts) (k ∷ []))) (fields_row ts)
     (start_is 0 (row ts) k (row_is ts) ∙ from_nothing (offset (row ts) (k ∷ [])))
 
 small_enough : (n k b : ℕ) → n ≤ k → k + b ≤ most → n ≤ most

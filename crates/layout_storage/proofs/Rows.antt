@@ -5,7 +5,7 @@ use Rattle.std.specs.List.{fold}
 use Rattle.std.proofs.lemmas.List.{append-nil}
 use Rattle.std.proofs.Math.Nat.{add_assoc, add-zero}
 use Rattle.layout_storage.specs.declared.row.Row.{Row}
-use Rattle.layout_storage.specs.Capped.{capped}
+use Rattle.layout_storage.specs.Capped.{cap_size}
 use Rattle.layout_storage.specs.Types.{Ty, Scalar, Natural, Integer, Between, Callable, Cell, Hidden, Array, Nothing, Field, row}
 use Rattle.layout_storage.specs.Sizes.{Room, One, Two, Four, room_of, bytes_in, width, size, offset}
 use Rattle.layout_storage.specs.Extents.{kind_of, scalar_of, starts, total, row_of, with_part, or_end, start_in, fields, extent_of, size_in, element_in, field_in, kind_in, element_tree, kind_of_tree, IsRecord, IsMade}
@@ -16,13 +16,13 @@ use Rattle.layout_storage.proofs.Capping.{sum_both, product_both, from_nought}
 abbrev row_with : List ℕ → ℕ → Row
 row_with ss n = record { starts = ss; size = n }
 
-pub parts : (at : ℕ) (ss ns : List ℕ) → fold with_part (row_with ss (capped at)) (map capped ns) ≡ row_with (ss ++ starts at ns) (capped (at + total ns))
-parts at ss [] = ap (λ (xs : List ℕ). row_with xs (capped at)) (sym (append-nil ss)) ∙ ap (λ (n : ℕ). row_with (ss ++ []) (capped n)) (sym (add-zero at))
+pub parts : (at : ℕ) (ss ns : List ℕ) → fold with_part (row_with ss (cap_size at)) (map cap_size ns) ≡ row_with (ss ++ starts at ns) (cap_size (at + total ns))
+parts at ss [] = ap (λ (xs : List ℕ). row_with xs (cap_size at)) (sym (append-nil ss)) ∙ ap (λ (n : ℕ). row_with (ss ++ []) (cap_size n)) (sym (add-zero at))
 parts at ss (n ∷ ns) =
-    ap (λ (k : ℕ). fold with_part (row_with (ss ++ capped at ∷ []) k) (map capped ns)) (sum_both at n)
-    ∙ parts (at + n) (ss ++ capped at ∷ []) ns
-    ∙ ap (λ (xs : List ℕ). row_with xs (capped (at + n + total ns))) (append_assoc ss (capped at ∷ []) (starts (at + n) ns))
-    ∙ ap (λ (k : ℕ). row_with (ss ++ starts at (n ∷ ns)) (capped k)) (add_assoc at n (total ns))
+    ap (λ (k : ℕ). fold with_part (row_with (ss ++ cap_size at ∷ []) k) (map cap_size ns)) (sum_both at n)
+    ∙ parts (at + n) (ss ++ cap_size at ∷ []) ns
+    ∙ ap (λ (xs : List ℕ). row_with xs (cap_size (at + n + total ns))) (append_assoc ss (cap_size at ∷ []) (starts (at + n) ns))
+    ∙ ap (λ (k : ℕ). row_with (ss ++ starts at (n ∷ ns)) (cap_size k)) (add_assoc at n (total ns))
 
 pub fields_row : (ts : List Ty) → fields (row ts) ≡ map size ts
 fields_row [] = refl
@@ -50,20 +50,20 @@ offset_nil (Array n t) = refl
 offset_nil Nothing = refl
 offset_nil (Field t others) = refl
 
-pub start_is : (at : ℕ) (t : Ty) (k : ℕ) → IsRecord t → start_in (row_of at (fields t)) k ≡ capped (at + offset t (k ∷ []))
+pub start_is : (at : ℕ) (t : Ty) (k : ℕ) → IsRecord t → start_in (row_of at (fields t)) k ≡ cap_size (at + offset t (k ∷ []))
 unfolding offset
 start_is at (Cell c) k h = absurd h
 start_is at (Hidden n) k h = absurd h
 start_is at (Array n t) k h = absurd h
 start_is at Nothing k h = refl
-start_is at (Field t others) zero h = ap (λ (n : ℕ). capped n) (sym (add-zero at)) ∙ ap (λ (n : ℕ). capped (at + n)) (sym (offset_nil t))
+start_is at (Field t others) zero h = ap (λ (n : ℕ). cap_size n) (sym (add-zero at)) ∙ ap (λ (n : ℕ). cap_size (at + n)) (sym (offset_nil t))
 start_is at (Field t others) (suc k) h =
-    ap (λ (n : ℕ). or_end (capped n) (slice_get (starts (at + size t) (fields others)) k)) (sym (add_assoc at (size t) (total (fields others))))
-    ∙ start_is (at + size t) others k h ∙ ap (λ (n : ℕ). capped n) (add_assoc at (size t) (offset others (k ∷ [])))
+    ap (λ (n : ℕ). or_end (cap_size n) (slice_get (starts (at + size t) (fields others)) k)) (sym (add_assoc at (size t) (total (fields others))))
+    ∙ start_is (at + size t) others k h ∙ ap (λ (n : ℕ). cap_size n) (add_assoc at (size t) (offset others (k ∷ [])))
 
 -- ---- what is kept of a type
 
-width_small : (r : Room) → bytes_in r ≡ capped (bytes_in r)
+width_small : (r : Room) → bytes_in r ≡ cap_size (bytes_in r)
 width_small One = refl
 width_small Two = refl
 width_small Four = refl
@@ -74,15 +74,15 @@ same_width Integer = refl
 same_width (Between l g) = refl
 same_width (Callable h) = refl
 
-pub size_is : (t : Ty) → IsMade t → size_in (extent_of t) ≡ capped (size t)
+pub size_is : (t : Ty) → IsMade t → size_in (extent_of t) ≡ cap_size (size t)
 unfolding size
 size_is (Cell c) h = same_width c ∙ width_small (room_of c)
 size_is (Hidden n) h = refl
 size_is (Array n t) h = refl
 size_is Nothing h = refl
-size_is (Field t others) h = ap (λ (n : ℕ). capped n) (omega (arith, fields_sum others h))
+size_is (Field t others) h = ap (λ (n : ℕ). cap_size n) (omega (arith, fields_sum others h))
 
-pub element_is : (t : Ty) → element_in (extent_of t) ≡ capped (size (element_tree t))
+pub element_is : (t : Ty) → element_in (extent_of t) ≡ cap_size (size (element_tree t))
 unfolding size
 element_is (Cell c) = refl
 element_is (Hidden n) = refl
@@ -97,10 +97,10 @@ kind_is (Array n t) = refl
 kind_is Nothing = refl
 kind_is (Field t others) = refl
 
-pub field_is : (t : Ty) (k : ℕ) → IsMade t → field_in (extent_of t) k ≡ capped (offset t (k ∷ []))
+pub field_is : (t : Ty) (k : ℕ) → IsMade t → field_in (extent_of t) k ≡ cap_size (offset t (k ∷ []))
 unfolding offset
 field_is (Cell c) k h = refl
 field_is (Hidden n) k h = omega arith
-field_is (Array n t) k h = product_both k (size t) ∙ ap (λ (m : ℕ). capped m) (sym (add-zero (k * size t)) ∙ ap (λ (m : ℕ). k * size t + m) (sym (offset_nil t)))
+field_is (Array n t) k h = product_both k (size t) ∙ ap (λ (m : ℕ). cap_size m) (sym (add-zero (k * size t)) ∙ ap (λ (m : ℕ). k * size t + m) (sym (offset_nil t)))
 field_is Nothing k h = start_is 0 Nothing k tt ∙ from_nought (offset Nothing (k ∷ []))
 field_is (Field t others) k h = start_is 0 (Field t others) k h ∙ from_nought (offset (Field t others) (k ∷ []))

@@ -12,7 +12,7 @@ use Rattle.layout_storage.specs.declared.row.Row.{Row}
 use Rattle.layout_storage.specs.declared.layout.Frames.{Frames}
 use Rattle.layout_storage.specs.declared.layout.Layout.{Layout}
 use Rattle.layout_storage.specs.declared.layout.Checked.{Checked}
-use Rattle.layout_storage.specs.Capped.{capped}
+use Rattle.layout_storage.specs.Capped.{cap_size}
 use Rattle.layout_storage.specs.Types.{Ty, row}
 use Rattle.layout_storage.specs.Sizes.{size}
 use Rattle.layout_storage.specs.Shapes.{tree}
@@ -24,11 +24,11 @@ use Rattle.layout_storage.specs.Layouts.{most, too_large, least_with, with_size,
 use Rattle.layout_storage.proofs.Capping.{sum_both, from_nought}
 use Rattle.layout_storage.proofs.Rows.{fields_row, fields_sum, row_is}
 
-less_case : (n : ℕ) (b : Bool) → nat_lt most n ≡ b → nat_lt most (capped n) ≡ b
-less_case n true e = let h : most < n = ltb-true most n e in lt-ltb most (capped n) (omega arith)
-less_case n false e = let h : n ≤ most = ltb-false most n e in le-ltb most (capped n) (omega arith)
+less_case : (n : ℕ) (b : Bool) → nat_lt most n ≡ b → nat_lt most (cap_size n) ≡ b
+less_case n true e = let h : most < n = ltb-true most n e in lt-ltb most (cap_size n) (omega arith)
+less_case n false e = let h : n ≤ most = ltb-false most n e in le-ltb most (cap_size n) (omega arith)
 
-pub less_capped : (n : ℕ) → nat_lt most (capped n) ≡ nat_lt most n
+pub less_capped : (n : ℕ) → nat_lt most (cap_size n) ≡ nat_lt most n
 less_capped n = less_case n (nat_lt most n) refl
 
 abbrev sized : Option Pos → Pos → Bool → Option Pos
@@ -39,17 +39,17 @@ same_sized : (found : Option Pos) (n : ℕ) (at : Pos) (b : Bool) → (if b then
 same_sized found n at true = refl
 same_sized found n at false = refl
 
-size_capped : (found : Option Pos) (n : ℕ) (at : Pos) → with_size found (capped n) at ≡ with_size found n at
-size_capped found n at = same_sized found n at (nat_lt most (capped n)) ∙ ap (λ (b : Bool). sized found at b) (less_capped n) ∙ sym (same_sized found n at (nat_lt most n))
+size_capped : (found : Option Pos) (n : ℕ) (at : Pos) → with_size found (cap_size n) at ≡ with_size found n at
+size_capped found n at = same_sized found n at (nat_lt most (cap_size n)) ∙ ap (λ (b : Bool). sized found at b) (less_capped n) ∙ sym (same_sized found n at (nat_lt most n))
 
 -- ---- rows and frames
 
 row_size : (ts : List Ty) → total (map size ts) ≡ size (row ts)
 row_size ts = ap total (sym (fields_row ts)) ∙ fields_sum (row ts) (row_is ts)
 
-pub frame_size : (types : Types) (r : Routine) → (frame_row types r).size ≡ capped (size (frame types r))
+pub frame_size : (types : Types) (r : Routine) → (frame_row types r).size ≡ cap_size (size (frame types r))
 unfolding size
-frame_size types r = ap (λ (n : ℕ). capped (16 + n)) (row_size (variable_trees types r))
+frame_size types r = ap (λ (n : ℕ). cap_size (16 + n)) (row_size (variable_trees types r))
 
 frame_sized : (types : Types) (found : Option Pos) (r : Routine) → with_size found (frame_row types r).size r.pos ≡ with_frame types found r
 frame_sized types found r = ap (λ (n : ℕ). with_size found n r.pos) (frame_size types r) ∙ size_capped found (size (frame types r)) r.pos
@@ -67,12 +67,12 @@ frames_are types rows found (r ∷ rs) =
 
 -- ---- the variables and texts of a module
 
-module_size : (m : TypedModule) → (variables_row m.types m.variables).size ≡ capped (size (module_row m))
-module_size m = ap (λ (n : ℕ). capped (0 + n)) (row_size (map (tree m.types) m.variables)) ∙ from_nought (size (module_row m))
+module_size : (m : TypedModule) → (variables_row m.types m.variables).size ≡ cap_size (size (module_row m))
+module_size m = ap (λ (n : ℕ). cap_size (0 + n)) (row_size (map (tree m.types) m.variables)) ∙ from_nought (size (module_row m))
 
-pub data_is : (m : TypedModule) (x : Layout) → IsWithoutFrames m x → (n : ℕ) (found : Option Pos) → n ≡ capped (x.variables.size + x.texts) → found ≡ with_size None n m.pos → found ≡ data_too_large m
+pub data_is : (m : TypedModule) (x : Layout) → IsWithoutFrames m x → (n : ℕ) (found : Option Pos) → n ≡ cap_size (x.variables.size + x.texts) → found ≡ with_size None n m.pos → found ≡ data_too_large m
 data_is m x h n found e f =
-    f ∙ ap (λ (k : ℕ). with_size None k m.pos) (e ∙ ap (λ (r : Row). capped (r.size + x.texts)) h.variables ∙ ap (λ (k : ℕ). capped (k + x.texts)) (module_size m) ∙ ap (λ (k : ℕ). capped (capped (size (module_row m)) + k)) h.texts ∙ sum_both (size (module_row m)) (characters (module_texts m)))
+    f ∙ ap (λ (k : ℕ). with_size None k m.pos) (e ∙ ap (λ (r : Row). cap_size (r.size + x.texts)) h.variables ∙ ap (λ (k : ℕ). cap_size (k + x.texts)) (module_size m) ∙ ap (λ (k : ℕ). cap_size (cap_size (size (module_row m)) + k)) h.texts ∙ sum_both (size (module_row m)) (characters (module_texts m)))
     ∙ size_capped None (size (module_row m) + characters (module_texts m)) m.pos
 
 -- ---- the whole

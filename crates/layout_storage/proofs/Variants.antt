@@ -21,9 +21,9 @@ use Rattle.typed_tree.specs.declared.computed.Call.TheVariants as cv
 use Rattle.typed_tree.specs.declared.computed.Argument.{Argument, Argument-F, out-Argument, map-Argument, fold_out-Argument}
 use Rattle.typed_tree.specs.declared.computed.Argument.TheOpen as layer
 use Rattle.typed_tree.specs.declared.computed.Argument.TheVariants as xv
-use Rattle.layout_storage.specs.Capped.{capped}
-use Rattle.layout_storage.specs.Texts.{Texts, joined, passed, characters, argument_texts, call_texts, component_texts, link_texts, place_texts, expr_texts, texts_of, texts_at, texts_called, texts_passed, texts_behind, texts_linked}
-use Rattle.layout_storage.specs.Counted.{counted, with_argument, with_component, with_link}
+use Rattle.layout_storage.specs.Capped.{cap_size}
+use Rattle.layout_storage.specs.Texts.{Texts, concatenation, argument_text, characters, argument_texts, call_texts, component_texts, link_texts, place_texts, expr_texts, texts_of, texts_at, texts_called, texts_passed, texts_behind, texts_linked}
+use Rattle.layout_storage.specs.Counted.{character_count, with_argument, with_component, with_link}
 use Rattle.layout_storage.proofs.Capping.{sum_both, from_nought}
 
 -- ---- lists of texts
@@ -32,29 +32,29 @@ pub split : (a b : Texts) → characters (a ++ b) ≡ characters a + characters 
 split [] b = omega arith
 split (t ∷ ts) b = ap (λ (n : ℕ). length t + n) (split ts b) ∙ sym (add_assoc (length t) (characters ts) (characters b))
 
-pub both : (a b : Texts) → counted (a ++ b) ≡ capped (counted a + counted b)
-both a b = ap capped (split a b) ∙ sym (sum_both (characters a) (characters b))
+pub both : (a b : Texts) → character_count (a ++ b) ≡ cap_size (character_count a + character_count b)
+both a b = ap cap_size (split a b) ∙ sym (sum_both (characters a) (characters b))
 
-pub one_text : (t : List ℕ) → counted (t ∷ []) ≡ capped (length t)
-one_text t = ap capped (add-zero (length t))
+pub one_text : (t : List ℕ) → character_count (t ∷ []) ≡ cap_size (length t)
+one_text t = ap cap_size (add-zero (length t))
 
 -- one after another
-pub walk : {A : Type 0} (f : A → Texts) (n : ℕ) (xs : List A) → fold (λ n x. capped (n + counted (f x))) (capped n) xs ≡ capped (n + characters (joined (map f xs)))
-walk f n [] = ap capped (sym (add-zero n))
+pub walk : {A : Type 0} (f : A → Texts) (n : ℕ) (xs : List A) → fold (λ n x. cap_size (n + character_count (f x))) (cap_size n) xs ≡ cap_size (n + characters (concatenation (map f xs)))
+walk f n [] = ap cap_size (sym (add-zero n))
 walk f n (x ∷ xs) =
-    ap (λ (k : ℕ). fold (λ n x. capped (n + counted (f x))) k xs) (sum_both n (characters (f x))) ∙ walk f (n + characters (f x)) xs
-    ∙ ap capped (add_assoc n (characters (f x)) (characters (joined (map f xs))) ∙ ap (λ (k : ℕ). n + k) (sym (split (f x) (joined (map f xs)))))
+    ap (λ (k : ℕ). fold (λ n x. cap_size (n + character_count (f x))) k xs) (sum_both n (characters (f x))) ∙ walk f (n + characters (f x)) xs
+    ∙ ap cap_size (add_assoc n (characters (f x)) (characters (concatenation (map f xs))) ∙ ap (λ (k : ℕ). n + k) (sym (split (f x) (concatenation (map f xs)))))
 
-pub walked : {A : Type 0} (f : A → Texts) (xs : List A) → fold (λ n x. capped (n + counted (f x))) 0 xs ≡ counted (joined (map f xs))
-walked f xs = walk f 0 xs ∙ from_nought (characters (joined (map f xs)))
+pub walked : {A : Type 0} (f : A → Texts) (xs : List A) → fold (λ n x. cap_size (n + character_count (f x))) 0 xs ≡ character_count (concatenation (map f xs))
+walked f xs = walk f 0 xs ∙ from_nought (characters (concatenation (map f xs)))
 
-arguments : (xs : List Argument) → counted (joined (map texts_passed xs)) ≡ fold with_argument 0 xs
+arguments : (xs : List Argument) → character_count (concatenation (map texts_passed xs)) ≡ fold with_argument 0 xs
 arguments xs = sym (walked texts_passed xs)
 
-components : (xs : List Component) → counted (joined (map texts_behind xs)) ≡ fold with_component 0 xs
+components : (xs : List Component) → character_count (concatenation (map texts_behind xs)) ≡ fold with_component 0 xs
 components xs = sym (walked texts_behind xs)
 
-links : (xs : List Link) → counted (joined (map texts_linked xs)) ≡ fold with_link 0 xs
+links : (xs : List Link) → character_count (concatenation (map texts_linked xs)) ≡ fold with_link 0 xs
 links xs = sym (walked texts_linked xs)
 
 -- ---- one layer
@@ -96,108 +96,108 @@ at_argument e x h = fold_out-Argument Texts Texts Texts Texts Texts Texts argume
 
 -- ---- variants
 
-pub expr_Constant : (t : TypeNo) (n : ℤ) → counted (texts_of (ev.Constant t n)) ≡ 0
-expr_Constant t n = ap counted (at_expr (ev.Constant t n) (layer.Constant t n) (ev.outs-Constant t n))
+pub expr_Constant : (t : TypeNo) (n : ℤ) → character_count (texts_of (ev.Constant t n)) ≡ 0
+expr_Constant t n = ap character_count (at_expr (ev.Constant t n) (layer.Constant t n) (ev.outs-Constant t n))
 
-pub expr_Load : (t : TypeNo) (d : Place) → counted (texts_of (ev.Load t d)) ≡ counted (texts_at d)
-expr_Load t d = ap counted (at_expr (ev.Load t d) (layer.Load t d) (ev.outs-Load t d))
+pub expr_Load : (t : TypeNo) (d : Place) → character_count (texts_of (ev.Load t d)) ≡ character_count (texts_at d)
+expr_Load t d = ap character_count (at_expr (ev.Load t d) (layer.Load t d) (ev.outs-Load t d))
 
-pub expr_Procedure : (f : Procedure) → counted (texts_of (ev.Procedure f)) ≡ 0
-expr_Procedure f = ap counted (at_expr (ev.Procedure f) (layer.Procedure f) (ev.outs-Procedure f))
+pub expr_Procedure : (f : Procedure) → character_count (texts_of (ev.Procedure f)) ≡ 0
+expr_Procedure f = ap character_count (at_expr (ev.Procedure f) (layer.Procedure f) (ev.outs-Procedure f))
 
-pub expr_Plus : (t : TypeNo) (e : TypedExpr) → counted (texts_of (ev.Plus t e)) ≡ counted (texts_of e)
-expr_Plus t e = ap counted (at_expr (ev.Plus t e) (layer.Plus t e) (ev.outs-Plus t e))
+pub expr_Plus : (t : TypeNo) (e : TypedExpr) → character_count (texts_of (ev.Plus t e)) ≡ character_count (texts_of e)
+expr_Plus t e = ap character_count (at_expr (ev.Plus t e) (layer.Plus t e) (ev.outs-Plus t e))
 
-pub expr_Negate : (e : TypedExpr) → counted (texts_of (ev.Negate e)) ≡ counted (texts_of e)
-expr_Negate e = ap counted (at_expr (ev.Negate e) (layer.Negate e) (ev.outs-Negate e))
+pub expr_Negate : (e : TypedExpr) → character_count (texts_of (ev.Negate e)) ≡ character_count (texts_of e)
+expr_Negate e = ap character_count (at_expr (ev.Negate e) (layer.Negate e) (ev.outs-Negate e))
 
-pub expr_Chain : (e : TypedExpr) (ls : List Link) → counted (texts_of (ev.Chain e ls)) ≡ capped (counted (texts_of e) + fold with_link 0 ls)
-expr_Chain e ls = ap counted (at_expr (ev.Chain e ls) (layer.Chain e ls) (ev.outs-Chain e ls)) ∙ both (texts_of e) (joined (map texts_linked ls)) ∙ ap (λ (k : ℕ). capped (counted (texts_of e) + k)) (links ls)
+pub expr_Chain : (e : TypedExpr) (ls : List Link) → character_count (texts_of (ev.Chain e ls)) ≡ cap_size (character_count (texts_of e) + fold with_link 0 ls)
+expr_Chain e ls = ap character_count (at_expr (ev.Chain e ls) (layer.Chain e ls) (ev.outs-Chain e ls)) ∙ both (texts_of e) (concatenation (map texts_linked ls)) ∙ ap (λ (k : ℕ). cap_size (character_count (texts_of e) + k)) (links ls)
 
-pub expr_Compare : (o : Comparison) (a b : TypedExpr) → counted (texts_of (ev.Compare o a b)) ≡ capped (counted (texts_of a) + counted (texts_of b))
-expr_Compare o a b = ap counted (at_expr (ev.Compare o a b) (layer.Compare o a b) (ev.outs-Compare o a b)) ∙ both (texts_of a) (texts_of b)
+pub expr_Compare : (o : Comparison) (a b : TypedExpr) → character_count (texts_of (ev.Compare o a b)) ≡ cap_size (character_count (texts_of a) + character_count (texts_of b))
+expr_Compare o a b = ap character_count (at_expr (ev.Compare o a b) (layer.Compare o a b) (ev.outs-Compare o a b)) ∙ both (texts_of a) (texts_of b)
 
-pub expr_Not : (e : TypedExpr) → counted (texts_of (ev.Not e)) ≡ counted (texts_of e)
-expr_Not e = ap counted (at_expr (ev.Not e) (layer.Not e) (ev.outs-Not e))
+pub expr_Not : (e : TypedExpr) → character_count (texts_of (ev.Not e)) ≡ character_count (texts_of e)
+expr_Not e = ap character_count (at_expr (ev.Not e) (layer.Not e) (ev.outs-Not e))
 
-pub expr_Include : (o : Inclusion) (a b : TypedExpr) → counted (texts_of (ev.Include o a b)) ≡ capped (counted (texts_of a) + counted (texts_of b))
-expr_Include o a b = ap counted (at_expr (ev.Include o a b) (layer.Include o a b) (ev.outs-Include o a b)) ∙ both (texts_of a) (texts_of b)
+pub expr_Include : (o : Inclusion) (a b : TypedExpr) → character_count (texts_of (ev.Include o a b)) ≡ cap_size (character_count (texts_of a) + character_count (texts_of b))
+expr_Include o a b = ap character_count (at_expr (ev.Include o a b) (layer.Include o a b) (ev.outs-Include o a b)) ∙ both (texts_of a) (texts_of b)
 
-pub expr_In : (a b : TypedExpr) → counted (texts_of (ev.In a b)) ≡ capped (counted (texts_of a) + counted (texts_of b))
-expr_In a b = ap counted (at_expr (ev.In a b) (layer.In a b) (ev.outs-In a b)) ∙ both (texts_of a) (texts_of b)
+pub expr_In : (a b : TypedExpr) → character_count (texts_of (ev.In a b)) ≡ cap_size (character_count (texts_of a) + character_count (texts_of b))
+expr_In a b = ap character_count (at_expr (ev.In a b) (layer.In a b) (ev.outs-In a b)) ∙ both (texts_of a) (texts_of b)
 
-pub expr_Abs : (t : TypeNo) (e : TypedExpr) → counted (texts_of (ev.Abs t e)) ≡ counted (texts_of e)
-expr_Abs t e = ap counted (at_expr (ev.Abs t e) (layer.Abs t e) (ev.outs-Abs t e))
+pub expr_Abs : (t : TypeNo) (e : TypedExpr) → character_count (texts_of (ev.Abs t e)) ≡ character_count (texts_of e)
+expr_Abs t e = ap character_count (at_expr (ev.Abs t e) (layer.Abs t e) (ev.outs-Abs t e))
 
-pub expr_Cap : (e : TypedExpr) → counted (texts_of (ev.Cap e)) ≡ counted (texts_of e)
-expr_Cap e = ap counted (at_expr (ev.Cap e) (layer.Cap e) (ev.outs-Cap e))
+pub expr_Cap : (e : TypedExpr) → character_count (texts_of (ev.Cap e)) ≡ character_count (texts_of e)
+expr_Cap e = ap character_count (at_expr (ev.Cap e) (layer.Cap e) (ev.outs-Cap e))
 
-pub expr_Chr : (e : TypedExpr) → counted (texts_of (ev.Chr e)) ≡ counted (texts_of e)
-expr_Chr e = ap counted (at_expr (ev.Chr e) (layer.Chr e) (ev.outs-Chr e))
+pub expr_Chr : (e : TypedExpr) → character_count (texts_of (ev.Chr e)) ≡ character_count (texts_of e)
+expr_Chr e = ap character_count (at_expr (ev.Chr e) (layer.Chr e) (ev.outs-Chr e))
 
-pub expr_Odd : (e : TypedExpr) → counted (texts_of (ev.Odd e)) ≡ counted (texts_of e)
-expr_Odd e = ap counted (at_expr (ev.Odd e) (layer.Odd e) (ev.outs-Odd e))
+pub expr_Odd : (e : TypedExpr) → character_count (texts_of (ev.Odd e)) ≡ character_count (texts_of e)
+expr_Odd e = ap character_count (at_expr (ev.Odd e) (layer.Odd e) (ev.outs-Odd e))
 
-pub expr_Ord : (e : TypedExpr) → counted (texts_of (ev.Ord e)) ≡ counted (texts_of e)
-expr_Ord e = ap counted (at_expr (ev.Ord e) (layer.Ord e) (ev.outs-Ord e))
+pub expr_Ord : (e : TypedExpr) → character_count (texts_of (ev.Ord e)) ≡ character_count (texts_of e)
+expr_Ord e = ap character_count (at_expr (ev.Ord e) (layer.Ord e) (ev.outs-Ord e))
 
-pub expr_Val : (t : TypeNo) (e : TypedExpr) → counted (texts_of (ev.Val t e)) ≡ counted (texts_of e)
-expr_Val t e = ap counted (at_expr (ev.Val t e) (layer.Val t e) (ev.outs-Val t e))
+pub expr_Val : (t : TypeNo) (e : TypedExpr) → character_count (texts_of (ev.Val t e)) ≡ character_count (texts_of e)
+expr_Val t e = ap character_count (at_expr (ev.Val t e) (layer.Val t e) (ev.outs-Val t e))
 
-pub expr_High : (s : Slot) → counted (texts_of (ev.High s)) ≡ 0
-expr_High s = ap counted (at_expr (ev.High s) (layer.High s) (ev.outs-High s))
+pub expr_High : (s : Slot) → character_count (texts_of (ev.High s)) ≡ 0
+expr_High s = ap character_count (at_expr (ev.High s) (layer.High s) (ev.outs-High s))
 
-pub expr_Call : (t : TypeNo) (c : Call) → counted (texts_of (ev.Call t c)) ≡ counted (texts_called c)
-expr_Call t c = ap counted (at_expr (ev.Call t c) (layer.Call t c) (ev.outs-Call t c))
+pub expr_Call : (t : TypeNo) (c : Call) → character_count (texts_of (ev.Call t c)) ≡ character_count (texts_called c)
+expr_Call t c = ap character_count (at_expr (ev.Call t c) (layer.Call t c) (ev.outs-Call t c))
 
-pub place_is : (d : Place) → counted (texts_at d) ≡ fold with_component 0 d.components
+pub place_is : (d : Place) → character_count (texts_at d) ≡ fold with_component 0 d.components
 unfolding texts_of texts_at texts_called texts_passed texts_behind texts_linked
-place_is d = ap counted (fold_out-Place Texts Texts Texts Texts Texts Texts argument_texts call_texts component_texts link_texts expr_texts place_texts d) ∙ components d.components
+place_is d = ap character_count (fold_out-Place Texts Texts Texts Texts Texts Texts argument_texts call_texts component_texts link_texts expr_texts place_texts d) ∙ components d.components
 
-pub component_Field : (t : TypeNo) (k : ℕ) → counted (texts_behind (kv.Field t k)) ≡ 0
-component_Field t k = ap counted (at_component (kv.Field t k) (layer.Field t k) (kv.outs-Field t k))
+pub component_Field : (t : TypeNo) (k : ℕ) → character_count (texts_behind (kv.Field t k)) ≡ 0
+component_Field t k = ap character_count (at_component (kv.Field t k) (layer.Field t k) (kv.outs-Field t k))
 
-pub component_Element : (t : TypeNo) (i : TypedExpr) → counted (texts_behind (kv.Element t i)) ≡ counted (texts_of i)
-component_Element t i = ap counted (at_component (kv.Element t i) (layer.Element t i) (kv.outs-Element t i))
+pub component_Element : (t : TypeNo) (i : TypedExpr) → character_count (texts_behind (kv.Element t i)) ≡ character_count (texts_of i)
+component_Element t i = ap character_count (at_component (kv.Element t i) (layer.Element t i) (kv.outs-Element t i))
 
-pub component_OpenElement : (s : Slot) (t : TypeNo) (i : TypedExpr) → counted (texts_behind (kv.OpenElement s t i)) ≡ counted (texts_of i)
-component_OpenElement s t i = ap counted (at_component (kv.OpenElement s t i) (layer.OpenElement s t i) (kv.outs-OpenElement s t i))
+pub component_OpenElement : (s : Slot) (t : TypeNo) (i : TypedExpr) → character_count (texts_behind (kv.OpenElement s t i)) ≡ character_count (texts_of i)
+component_OpenElement s t i = ap character_count (at_component (kv.OpenElement s t i) (layer.OpenElement s t i) (kv.outs-OpenElement s t i))
 
-pub link_Arithmetic : (o : Arithmetic) (t : TypeNo) (e : TypedExpr) → counted (texts_linked (lv.Arithmetic o t e)) ≡ counted (texts_of e)
-link_Arithmetic o t e = ap counted (at_link (lv.Arithmetic o t e) (layer.Arithmetic o t e) (lv.outs-Arithmetic o t e))
+pub link_Arithmetic : (o : Arithmetic) (t : TypeNo) (e : TypedExpr) → character_count (texts_linked (lv.Arithmetic o t e)) ≡ character_count (texts_of e)
+link_Arithmetic o t e = ap character_count (at_link (lv.Arithmetic o t e) (layer.Arithmetic o t e) (lv.outs-Arithmetic o t e))
 
-pub link_And : (e : TypedExpr) → counted (texts_linked (lv.And e)) ≡ counted (texts_of e)
-link_And e = ap counted (at_link (lv.And e) (layer.And e) (lv.outs-And e))
+pub link_And : (e : TypedExpr) → character_count (texts_linked (lv.And e)) ≡ character_count (texts_of e)
+link_And e = ap character_count (at_link (lv.And e) (layer.And e) (lv.outs-And e))
 
-pub link_Or : (e : TypedExpr) → counted (texts_linked (lv.Or e)) ≡ counted (texts_of e)
-link_Or e = ap counted (at_link (lv.Or e) (layer.Or e) (lv.outs-Or e))
+pub link_Or : (e : TypedExpr) → character_count (texts_linked (lv.Or e)) ≡ character_count (texts_of e)
+link_Or e = ap character_count (at_link (lv.Or e) (layer.Or e) (lv.outs-Or e))
 
-pub link_Combine : (o : SetOperator) (e : TypedExpr) → counted (texts_linked (lv.Combine o e)) ≡ counted (texts_of e)
-link_Combine o e = ap counted (at_link (lv.Combine o e) (layer.Combine o e) (lv.outs-Combine o e))
+pub link_Combine : (o : SetOperator) (e : TypedExpr) → character_count (texts_linked (lv.Combine o e)) ≡ character_count (texts_of e)
+link_Combine o e = ap character_count (at_link (lv.Combine o e) (layer.Combine o e) (lv.outs-Combine o e))
 
-pub call_Module : (f : Procedure) (xs : List Argument) → counted (texts_called (cv.Module f xs)) ≡ fold with_argument 0 xs
-call_Module f xs = ap counted (at_call (cv.Module f xs) (layer.Module f xs) (cv.outs-Module f xs)) ∙ arguments xs
+pub call_Module : (f : Procedure) (xs : List Argument) → character_count (texts_called (cv.Module f xs)) ≡ fold with_argument 0 xs
+call_Module f xs = ap character_count (at_call (cv.Module f xs) (layer.Module f xs) (cv.outs-Module f xs)) ∙ arguments xs
 
-pub call_Nested : (f : LocalProcedure) (xs : List Argument) → counted (texts_called (cv.Nested f xs)) ≡ fold with_argument 0 xs
-call_Nested f xs = ap counted (at_call (cv.Nested f xs) (layer.Nested f xs) (cv.outs-Nested f xs)) ∙ arguments xs
+pub call_Nested : (f : LocalProcedure) (xs : List Argument) → character_count (texts_called (cv.Nested f xs)) ≡ fold with_argument 0 xs
+call_Nested f xs = ap character_count (at_call (cv.Nested f xs) (layer.Nested f xs) (cv.outs-Nested f xs)) ∙ arguments xs
 
-pub call_Variable : (t : TypeNo) (d : Place) (xs : List Argument) → counted (texts_called (cv.Variable t d xs)) ≡ capped (counted (texts_at d) + fold with_argument 0 xs)
-call_Variable t d xs = ap counted (at_call (cv.Variable t d xs) (layer.Variable t d xs) (cv.outs-Variable t d xs)) ∙ both (texts_at d) (joined (map texts_passed xs)) ∙ ap (λ (k : ℕ). capped (counted (texts_at d) + k)) (arguments xs)
+pub call_Variable : (t : TypeNo) (d : Place) (xs : List Argument) → character_count (texts_called (cv.Variable t d xs)) ≡ cap_size (character_count (texts_at d) + fold with_argument 0 xs)
+call_Variable t d xs = ap character_count (at_call (cv.Variable t d xs) (layer.Variable t d xs) (cv.outs-Variable t d xs)) ∙ both (texts_at d) (concatenation (map texts_passed xs)) ∙ ap (λ (k : ℕ). cap_size (character_count (texts_at d) + k)) (arguments xs)
 
-pub argument_Value : (t : TypeNo) (e : TypedExpr) → counted (texts_passed (xv.Value t e)) ≡ counted (texts_of e)
-argument_Value t e = ap counted (at_argument (xv.Value t e) (layer.Value t e) (xv.outs-Value t e))
+pub argument_Value : (t : TypeNo) (e : TypedExpr) → character_count (texts_passed (xv.Value t e)) ≡ character_count (texts_of e)
+argument_Value t e = ap character_count (at_argument (xv.Value t e) (layer.Value t e) (xv.outs-Value t e))
 
-pub argument_Place : (d : Place) → counted (texts_passed (xv.Place d)) ≡ counted (texts_at d)
-argument_Place d = ap counted (at_argument (xv.Place d) (layer.Place d) (xv.outs-Place d))
+pub argument_Place : (d : Place) → character_count (texts_passed (xv.Place d)) ≡ character_count (texts_at d)
+argument_Place d = ap character_count (at_argument (xv.Place d) (layer.Place d) (xv.outs-Place d))
 
-pub argument_Array : (t : TypeNo) (d : Place) → counted (texts_passed (xv.Array t d)) ≡ counted (texts_at d)
-argument_Array t d = ap counted (at_argument (xv.Array t d) (layer.Array t d) (xv.outs-Array t d))
+pub argument_Array : (t : TypeNo) (d : Place) → character_count (texts_passed (xv.Array t d)) ≡ character_count (texts_at d)
+argument_Array t d = ap character_count (at_argument (xv.Array t d) (layer.Array t d) (xv.outs-Array t d))
 
-pub argument_Open : (s : Slot) → counted (texts_passed (xv.Open s)) ≡ 0
-argument_Open s = ap counted (at_argument (xv.Open s) (layer.Open s) (xv.outs-Open s))
+pub argument_Open : (s : Slot) → character_count (texts_passed (xv.Open s)) ≡ 0
+argument_Open s = ap character_count (at_argument (xv.Open s) (layer.Open s) (xv.outs-Open s))
 
-pub argument_Text : (text : List ℕ) → counted (texts_passed (xv.Text text)) ≡ capped (length (passed text))
-argument_Text text = ap counted (at_argument (xv.Text text) (layer.Text text) (xv.outs-Text text)) ∙ one_text (passed text)
+pub argument_Text : (text : List ℕ) → character_count (texts_passed (xv.Text text)) ≡ cap_size (length (argument_text text))
+argument_Text text = ap character_count (at_argument (xv.Text text) (layer.Text text) (xv.outs-Text text)) ∙ one_text (argument_text text)
 
 -- all of these
 pub ruleset variants = (expr_Constant, expr_Load, expr_Procedure, expr_Plus, expr_Negate, expr_Chain, expr_Compare, expr_Not, expr_Include, expr_In, expr_Abs, expr_Cap, expr_Chr, expr_Odd, expr_Ord, expr_Val, expr_High, expr_Call, place_is, component_Field, component_Element, component_OpenElement, link_Arithmetic, link_And, link_Or, link_Combine, call_Module, call_Nested, call_Variable, argument_Value, argument_Place, argument_Array, argument_Open, argument_Text)

@@ -14,7 +14,7 @@ use Rattle.layout_storage.specs.declared.kind.Width.TheVariants as wide
 use Rattle.layout_storage.specs.declared.row.Row.{Row}
 use Rattle.layout_storage.specs.declared.extent.Extent.{Extent}
 use Rattle.layout_storage.specs.declared.extent.Extent.TheVariants as extent
-use Rattle.layout_storage.specs.Capped.{capped}
+use Rattle.layout_storage.specs.Capped.{cap_size}
 use Rattle.layout_storage.specs.Types.{Ty, Scalar, Natural, Integer, Between, Callable, Cell, Hidden, Array, Nothing, Field}
 use Rattle.layout_storage.specs.Sizes.{Room, One, Two, Four, width, size}
 use Rattle.layout_storage.specs.Shapes.{scalar_kind, tree}
@@ -42,7 +42,7 @@ width_of Four = wide.Four
 -- the offsets of parts of these sizes, the first of which begins here
 abbrev pub starts : ℕ → List ℕ → List ℕ
 starts at [] = []
-starts at (n ∷ ns) = capped at ∷ starts (at + n) ns
+starts at (n ∷ ns) = cap_size at ∷ starts (at + n) ns
 
 abbrev pub total : List ℕ → ℕ
 total [] = 0
@@ -50,14 +50,14 @@ total (n ∷ ns) = n + total ns
 
 -- and where the last of them ends
 abbrev pub row_of : ℕ → List ℕ → Row
-row_of at ns = record { starts = starts at ns; size = capped (at + total ns) }
+row_of at ns = record { starts = starts at ns; size = cap_size (at + total ns) }
 
 -- a row begins, and gets one more part
-abbrev pub begun : ℕ → Row
-begun at = record { starts = []; size = at }
+abbrev pub begin_row : ℕ → Row
+begin_row at = record { starts = []; size = at }
 
 abbrev pub with_part : Row → ℕ → Row
-with_part r n = record { starts = r.starts ++ r.size ∷ []; size = capped (r.size + n) }
+with_part r n = record { starts = r.starts ++ r.size ∷ []; size = cap_size (r.size + n) }
 
 -- the offset of a part, or else where the last ends
 abbrev pub or_end : ℕ → Option ℕ → ℕ
@@ -79,8 +79,8 @@ fields Nothing = []
 -- what is kept of a type
 abbrev pub extent_of : Ty → Extent
 extent_of (Cell c) = extent.Cell (kind_of c)
-extent_of (Hidden n) = extent.Array 0 (capped n)
-extent_of (Array n t) = extent.Array (capped (size t)) (capped (n * size t))
+extent_of (Hidden n) = extent.Array 0 (cap_size n)
+extent_of (Array n t) = extent.Array (cap_size (size t)) (cap_size (n * size t))
 extent_of Nothing = extent.Row (row_of 0 [])
 extent_of (Field t others) = extent.Row (row_of 0 (fields (Field t others)))
 
@@ -98,7 +98,7 @@ element_in (extent.Row r) = 0
 -- the offset of a component
 abbrev pub field_in : Extent → ℕ → ℕ
 field_in (extent.Cell k) n = 0
-field_in (extent.Array one all) n = capped (capped n * one)
+field_in (extent.Array one all) n = cap_size (cap_size n * one)
 field_in (extent.Row r) n = start_in r n
 
 abbrev pub kind_in : Extent → Option Kind
@@ -134,7 +134,7 @@ abbrev pub word : Extent
 word = extent.Cell (kind.Natural 4294967295)
 
 abbrev pub nothing : Extent
-nothing = extent.Row (begun 0)
+nothing = extent.Row (begin_row 0)
 
 abbrev pub or_nothing : Option Extent → Extent
 or_nothing None = nothing

@@ -17,7 +17,7 @@ use Rattle.layout_storage.specs.Frames.{frame, module_row}
 use Rattle.layout_storage.specs.Texts.{characters, module_texts}
 use Rattle.layout_storage.specs.Extents.{AreExtents}
 use Rattle.layout_storage.specs.Rows.{variables_row, frame_row}
-use Rattle.layout_storage.specs.Counted.{counted}
+use Rattle.layout_storage.specs.Counted.{character_count}
 
 -- ---- what does not fit
 
@@ -59,7 +59,7 @@ pub record IsLayout (m : TypedModule) (x : Layout) : Type 0 where
   pub imported : x.imported ≡ map (imported_row m.types) m.imports
   pub procedures : x.procedures ≡ map (frame_row m.types) m.procedures
   pub locals : x.locals ≡ map (frame_row m.types) m.locals
-  pub texts : x.texts ≡ counted (module_texts m)
+  pub texts : x.texts ≡ character_count (module_texts m)
 
 abbrev pub FramesFit : Types → List Routine → Type 0
 FramesFit types [] = Unit {0}
@@ -99,7 +99,7 @@ pub record IsWithoutFrames (m : TypedModule) (x : Layout) : Type 0 where
   pub extents : AreExtents m.types x.extents
   pub variables : x.variables ≡ variables_row m.types m.variables
   pub imported : x.imported ≡ map (imported_row m.types) m.imports
-  pub texts : x.texts ≡ counted (module_texts m)
+  pub texts : x.texts ≡ character_count (module_texts m)
 
 abbrev pub together : Layout → Frames → Frames → Checked
 together x procedures locals = record {

@@ -14,9 +14,9 @@ use Rattle.layout_storage.specs.declared.making.Making.{Making}
 use Rattle.layout_storage.specs.declared.extent.Extent.{Extent}
 use Rattle.layout_storage.specs.declared.extent.Extent.TheVariants as extent
 use Rattle.layout_storage.specs.declared.row.Row.{Row}
-use Rattle.layout_storage.specs.Capped.{capped}
+use Rattle.layout_storage.specs.Capped.{cap_size}
 use Rattle.layout_storage.specs.Shapes.{scalar_kind, elements_of}
-use Rattle.layout_storage.specs.Extents.{Known, kind_of, word, nothing, begun, with_part, size_in, extent_in}
+use Rattle.layout_storage.specs.Extents.{Known, kind_of, word, nothing, begin_row, with_part, size_in, extent_in}
 
 -- the types of the module that is at work stand before all others
 abbrev pub known_in : Making → Known
@@ -29,14 +29,14 @@ abbrev pub with_field : Making → Row → List ℕ × TypeNo → Row
 with_field x r f = with_part r (part_size x f.1)
 
 abbrev pub array_extent : (count element : ℕ) → Extent
-array_extent count element = extent.Array element (capped (count * element))
+array_extent count element = extent.Array element (cap_size (count * element))
 
 abbrev pub shape_extent : Types → Making → TypeNo → Shape → Extent
 shape_extent types x t (shape.Scalar s) = extent.Cell (kind_of (scalar_kind t s))
 shape_extent types x t shape.Set = word
 shape_extent types x t (shape.Array i e) =
-    array_extent (capped (elements_of (scalar_at types i))) (part_size x e)
-shape_extent types x t (shape.Record fs) = extent.Row (fold (with_field x) (begun 0) fs)
+    array_extent (cap_size (elements_of (scalar_at types i))) (part_size x e)
+shape_extent types x t (shape.Record fs) = extent.Row (fold (with_field x) (begin_row 0) fs)
 shape_extent types x t (shape.Procedure p) = word
 shape_extent types x t (shape.Open e) = nothing
 
@@ -51,25 +51,25 @@ abbrev pub added_if : Option (List Extent) → Known → ℕ → List Extent →
 added_if (Some found) known home xs = known
 added_if None known home xs = insert_entry nat_eq known home xs
 
-abbrev pub added : Making → Known
-added x = added_if (lookup (nat_eq x.home) x.modules) x.modules x.home x.own
+abbrev pub add_module : Making → Known
+add_module x = added_if (lookup (nat_eq x.home) x.modules) x.modules x.home x.own
 
 abbrev pub all_made : Types → Known → ℕ → List Made → Making
 all_made types known home ms =
     fold (with_type types) (record { modules = known; home = home; own = [] }) ms
 
 abbrev pub with_types : Types → Known → ℕ → List Made → Known
-with_types types known home ms = added (all_made types known home ms)
+with_types types known home ms = add_module (all_made types known home ms)
 
 abbrev pub with_module : Types → Known → ℕ × List Made → Known
 with_module types known e = with_types types known e.0 e.1
 
 -- the module's own count, also where others know some of them
-abbrev pub replaced : Making → Known
-replaced x = insert_entry nat_eq x.modules x.home x.own
+abbrev pub replace_module : Making → Known
+replace_module x = insert_entry nat_eq x.modules x.home x.own
 
 abbrev pub with_own : Types → Known → Known
-with_own types known = replaced (all_made types known types.home types.own)
+with_own types known = replace_module (all_made types known types.home types.own)
 
 abbrev pub known_extents : Types → Known
 known_extents types = with_own types (fold (with_module types) [] types.others)

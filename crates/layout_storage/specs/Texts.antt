@@ -21,14 +21,14 @@ use Rattle.typed_tree.specs.declared.typed_module.TypedModule.{TypedModule}
 abbrev pub Texts : Type 0
 Texts = List (List ℕ)
 
-abbrev pub joined : List Texts → Texts
-joined [] = []
-joined (ts ∷ more) = ts ++ joined more
+abbrev pub concatenation : List Texts → Texts
+concatenation [] = []
+concatenation (ts ∷ more) = ts ++ concatenation more
 
 -- a passed empty string is one character 0C
-abbrev pub passed : List ℕ → List ℕ
-passed [] = 0 ∷ []
-passed (c ∷ cs) = c ∷ cs
+abbrev pub argument_text : List ℕ → List ℕ
+argument_text [] = 0 ∷ []
+argument_text (c ∷ cs) = c ∷ cs
 
 -- ---- expressions
 
@@ -37,12 +37,12 @@ argument_texts (layer.Value t e) = e
 argument_texts (layer.Place d) = d
 argument_texts (layer.Array t d) = d
 argument_texts (layer.Open slot) = []
-argument_texts (layer.Text text) = passed text ∷ []
+argument_texts (layer.Text text) = argument_text text ∷ []
 
 abbrev pub call_texts : Call-F Texts Texts Texts Texts Texts Texts → Texts
-call_texts (layer.Module p args) = joined args
-call_texts (layer.Nested p args) = joined args
-call_texts (layer.Variable t d args) = d ++ joined args
+call_texts (layer.Module p args) = concatenation args
+call_texts (layer.Nested p args) = concatenation args
+call_texts (layer.Variable t d args) = d ++ concatenation args
 
 abbrev pub component_texts : Component-F Texts Texts Texts Texts Texts Texts → Texts
 component_texts (layer.Field t k) = []
@@ -50,7 +50,7 @@ component_texts (layer.Element t i) = i
 component_texts (layer.OpenElement slot t i) = i
 
 abbrev pub place_texts : Place-F Texts Texts Texts Texts Texts Texts → Texts
-place_texts d = joined d.components
+place_texts d = concatenation d.components
 
 abbrev pub link_texts : Link-F Texts Texts Texts Texts Texts Texts → Texts
 link_texts (layer.Arithmetic op t b) = b
@@ -64,7 +64,7 @@ expr_texts (layer.Load t d) = d
 expr_texts (layer.Procedure p) = []
 expr_texts (layer.Plus t e) = e
 expr_texts (layer.Negate e) = e
-expr_texts (layer.Chain a links) = a ++ joined links
+expr_texts (layer.Chain a links) = a ++ concatenation links
 expr_texts (layer.Compare op a b) = a ++ b
 expr_texts (layer.Not e) = e
 expr_texts (layer.Include op a b) = a ++ b
@@ -112,7 +112,7 @@ texts_passed =
 
 abbrev pub optional : Option (List Texts) → Texts
 optional None = []
-optional (Some xs) = joined xs
+optional (Some xs) = concatenation xs
 
 abbrev pub step_texts : TypedStmt-F Texts Texts → Texts
 step_texts (step.Assign d t e) = texts_at d ++ texts_of e
@@ -123,20 +123,20 @@ step_texts (step.Put e) = texts_of e
 step_texts (step.Change op d t e) = texts_at d ++ texts_of e
 step_texts (step.Membership op d e) = texts_at d ++ texts_of e
 step_texts step.Halt = []
-step_texts (step.If e body others) = texts_of e ++ (joined body ++ optional others)
-step_texts (step.Case e arms others) = texts_of e ++ (joined arms ++ optional others)
-step_texts (step.While e body) = texts_of e ++ joined body
-step_texts (step.Repeat body e) = joined body ++ texts_of e
-step_texts (step.Loop body) = joined body
+step_texts (step.If e body others) = texts_of e ++ (concatenation body ++ optional others)
+step_texts (step.Case e arms others) = texts_of e ++ (concatenation arms ++ optional others)
+step_texts (step.While e body) = texts_of e ++ concatenation body
+step_texts (step.Repeat body e) = concatenation body ++ texts_of e
+step_texts (step.Loop body) = concatenation body
 step_texts step.Exit = []
 step_texts step.Return = []
 step_texts (step.Give t e) = texts_of e
 step_texts (step.For d t start limit by body) =
-    texts_at d ++ (texts_of start ++ (texts_of limit ++ joined body))
-step_texts (step.With d body) = texts_at d ++ joined body
+    texts_at d ++ (texts_of start ++ (texts_of limit ++ concatenation body))
+step_texts (step.With d body) = texts_at d ++ concatenation body
 
 abbrev pub arm_texts : TypedArm-F Texts Texts → Texts
-arm_texts a = joined a.body
+arm_texts a = concatenation a.body
 
 unfoldable pub texts_in : TypedStmt → Texts
 texts_in = fold-TypedStmt Texts Texts step_texts arm_texts

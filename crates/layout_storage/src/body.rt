@@ -4,9 +4,9 @@ ghost use Rattle.std.specs.Prelude.{◌≡◌, slice_get};
 ghost use Rattle.std.specs.List.{fold};
 ghost use Rattle.std.specs.Option.{option_copied};
 ghost use Rattle.layout_storage.specs.Texts.{texts_in, texts_armed, body_texts, routine_texts, which_texts, routines_texts, module_texts};
-ghost use Rattle.layout_storage.specs.Counted.{counted, with_stmt, with_arm, with_which};
+ghost use Rattle.layout_storage.specs.Counted.{character_count, with_stmt, with_arm, with_which};
 
-use crate::capped::{capped, sum};
+use crate::capped::{cap_size, sum};
 use crate::counted::{call_count, expr_count, place_count};
 use typed_tree::{Routine, TypedArm, TypedModule, TypedStmt, Which};
 
@@ -14,7 +14,7 @@ use typed_tree::{Routine, TypedArm, TypedModule, TypedStmt, Which};
 #[cycle(bodies)]
 #[tactic(auto, using(crate::proofs::Bodies::stmt_variants))]
 fn stmt_count(stmt: &TypedStmt) -> u32
-    ensures { result ≡ counted (texts_in stmt.now) }
+    ensures { result ≡ character_count (texts_in stmt.now) }
 {
     match stmt {
         TypedStmt::Assign(place, _, e) => sum(place_count(place), expr_count(e)),
@@ -22,7 +22,7 @@ fn stmt_count(stmt: &TypedStmt) -> u32
         TypedStmt::CopyText(place, _, text) => {
             sum(
                 place_count(place),
-                capped(text.get().as_bytes().len() as u64),
+                cap_size(text.get().as_bytes().len() as u64),
             )
         }
         TypedStmt::Call(call) => call_count(call),
@@ -77,7 +77,7 @@ fn stmts_count(stmts: &[TypedStmt]) -> u32
 #[cycle(bodies)]
 #[tactic(auto, using(crate::proofs::Bodies::stmt_variants))]
 fn arm_count(arm: &TypedArm) -> u32
-    ensures { result ≡ counted (texts_armed arm.now) }
+    ensures { result ≡ character_count (texts_armed arm.now) }
 {
     stmts_count(arm.body.as_slice())
 }
@@ -97,13 +97,13 @@ fn arms_count(arms: &[TypedArm]) -> u32
 /// The characters of a body.
 #[tactic(auto, using(crate::proofs::Bodies::body_is))]
 fn body_count(body: &[TypedStmt]) -> u32
-    ensures { result ≡ counted (body_texts body.now) }
+    ensures { result ≡ character_count (body_texts body.now) }
 {
     stmts_count(body)
 }
 
 fn routine_count(routine: Option<&Routine>) -> u32
-    ensures { result ≡ counted (routine_texts (option_copied routine.entry)) }
+    ensures { result ≡ character_count (routine_texts (option_copied routine.entry)) }
 {
     match routine {
         None => 0,
@@ -112,7 +112,7 @@ fn routine_count(routine: Option<&Routine>) -> u32
 }
 
 fn which_count(module_body: &TypedModule, which: Which) -> u32
-    ensures { result ≡ counted (which_texts module_body.now which) }
+    ensures { result ≡ character_count (which_texts module_body.now which) }
 {
     match which {
         Which::Module(number) => routine_count(module_body.procedures.get(number)),
@@ -132,7 +132,7 @@ fn routines_count(module_body: &TypedModule) -> u32
 
 /// The characters of all strings that a module keeps.
 pub fn texts_count(module_body: &TypedModule) -> u32
-    ensures { result ≡ counted (module_texts module_body.now) }
+    ensures { result ≡ character_count (module_texts module_body.now) }
 {
     sum(
         routines_count(module_body),

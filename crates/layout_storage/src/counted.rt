@@ -2,20 +2,20 @@
 
 ghost use Rattle.std.specs.Prelude.{◌≡◌, length};
 ghost use Rattle.std.specs.List.{fold};
-ghost use Rattle.layout_storage.specs.Capped.{capped};
-ghost use Rattle.layout_storage.specs.Texts.{passed, texts_of, texts_at, texts_called, texts_passed, texts_behind, texts_linked};
-ghost use Rattle.layout_storage.specs.Counted.{counted, with_argument, with_component, with_link};
+ghost use Rattle.layout_storage.specs.Capped.{cap_size};
+ghost use Rattle.layout_storage.specs.Texts.{argument_text, texts_of, texts_at, texts_called, texts_passed, texts_behind, texts_linked};
+ghost use Rattle.layout_storage.specs.Counted.{character_count, with_argument, with_component, with_link};
 
-use crate::capped::{capped, sum};
+use crate::capped::{cap_size, sum};
 use typed_tree::{Argument, Call, Component, Link, Place, TypedExpr};
 
 /// The characters of a passed string: an empty one is one character 0C.
 fn passed_count(text: &[u8]) -> u32
-    ensures { result ≡ capped (length (passed text.now)) }
+    ensures { result ≡ cap_size (length (argument_text text.now)) }
 {
     match text {
         [] => 1,
-        [_, ..] => capped(text.len() as u64),
+        [_, ..] => cap_size(text.len() as u64),
     }
 }
 
@@ -23,7 +23,7 @@ fn passed_count(text: &[u8]) -> u32
 #[cycle(count)]
 #[tactic(auto, using(crate::proofs::Variants::variants))]
 fn argument_count(argument: &Argument) -> u32
-    ensures { result ≡ counted (texts_passed argument.now) }
+    ensures { result ≡ character_count (texts_passed argument.now) }
 {
     match argument {
         Argument::Value(_, e) => expr_count(e),
@@ -50,7 +50,7 @@ fn arguments_count(arguments: &[Argument]) -> u32
 #[cycle(count)]
 #[tactic(auto, using(crate::proofs::Variants::variants))]
 pub fn call_count(call: &Call) -> u32
-    ensures { result ≡ counted (texts_called call.now) }
+    ensures { result ≡ character_count (texts_called call.now) }
 {
     match call {
         Call::Module(_, arguments) => arguments_count(arguments.as_slice()),
@@ -65,7 +65,7 @@ pub fn call_count(call: &Call) -> u32
 #[cycle(count)]
 #[tactic(auto, using(crate::proofs::Variants::variants))]
 fn component_count(component: &Component) -> u32
-    ensures { result ≡ counted (texts_behind component.now) }
+    ensures { result ≡ character_count (texts_behind component.now) }
 {
     match component {
         Component::Field(_, _) => 0,
@@ -90,7 +90,7 @@ fn components_count(components: &[Component]) -> u32
 #[cycle(count)]
 #[tactic(auto, using(crate::proofs::Variants::variants))]
 pub fn place_count(place: &Place) -> u32
-    ensures { result ≡ counted (texts_at place.now) }
+    ensures { result ≡ character_count (texts_at place.now) }
 {
     components_count(place.components.as_slice())
 }
@@ -99,7 +99,7 @@ pub fn place_count(place: &Place) -> u32
 #[cycle(count)]
 #[tactic(auto, using(crate::proofs::Variants::variants))]
 fn link_count(link: &Link) -> u32
-    ensures { result ≡ counted (texts_linked link.now) }
+    ensures { result ≡ character_count (texts_linked link.now) }
 {
     match link {
         Link::Arithmetic(_, _, e) => expr_count(e),
@@ -125,7 +125,7 @@ fn links_count(links: &[Link]) -> u32
 #[cycle(count)]
 #[tactic(auto, using(crate::proofs::Variants::variants))]
 pub fn expr_count(e: &TypedExpr) -> u32
-    ensures { result ≡ counted (texts_of e.now) }
+    ensures { result ≡ character_count (texts_of e.now) }
 {
     match e {
         TypedExpr::Constant(_, _) => 0,

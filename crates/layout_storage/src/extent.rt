@@ -4,7 +4,7 @@ ghost use Rattle.std.specs.Prelude.{◌≡◌};
 ghost use Rattle.std.specs.Option.{option_copied};
 ghost use Rattle.layout_storage.specs.Extents.{size_in, element_in, field_in, kind_in, or_nothing};
 
-use crate::capped::{capped, product};
+use crate::capped::{cap_size, product};
 use crate::kind::{Kind, bytes_of};
 use crate::row::{Row, start_of};
 
@@ -45,7 +45,7 @@ pub fn field_in(extent: &Extent, number: usize) -> u32
 {
     match extent {
         Extent::Cell(_) => 0,
-        Extent::Array(one, _) => product(capped(number as u64), *one),
+        Extent::Array(one, _) => product(cap_size(number as u64), *one),
         Extent::Row(row) => start_of(row, number),
     }
 }

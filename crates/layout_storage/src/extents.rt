@@ -6,7 +6,7 @@ ghost use Rattle.std.specs.Map.{lookup};
 ghost use Rattle.indexmap.specs.IndexMap.{insert_entry};
 ghost use Rattle.typed_tree.specs.Known.{scalar_at};
 ghost use Rattle.layout_storage.specs.declared.extent.Extent.TheVariants.{Cell};
-ghost use Rattle.layout_storage.specs.Capped.{capped};
+ghost use Rattle.layout_storage.specs.Capped.{cap_size};
 ghost use Rattle.layout_storage.specs.Types.{Ty, component};
 ghost use Rattle.layout_storage.specs.Fitting.{types_fit};
 ghost use Rattle.layout_storage.specs.Sizes.{size, offset};
@@ -159,7 +159,7 @@ fn kind_at(types: &Types, extents: &Extents, t: TypeNo) -> Option<Kind>
 /// The size of a type in bytes.
 pub fn size_of(types: &Types, extents: &Extents, t: TypeNo) -> u32
     requires { AreExtents types.now extents.now }
-    ensures capped { result ≡ capped (size (tree types.now t)) }
+    ensures capped { result ≡ cap_size (size (tree types.now t)) }
     ensures exact { types_fit types.now ≡ true → result ≡ size (tree types.now t) }
 {
     size_at(types, extents, t)
@@ -168,7 +168,7 @@ pub fn size_of(types: &Types, extents: &Extents, t: TypeNo) -> u32
 /// The size of an element of an array type in bytes, and of another type 0.
 pub fn element_of(types: &Types, extents: &Extents, t: TypeNo) -> u32
     requires { AreExtents types.now extents.now }
-    ensures capped { result ≡ capped (size (element_tree (tree types.now t))) }
+    ensures capped { result ≡ cap_size (size (element_tree (tree types.now t))) }
     ensures exact { types_fit types.now ≡ true → (k : ℕ) (u : Ty)
         → component (tree types.now t) (k ∷ []) ≡ Some u
         → result ≡ size (element_tree (tree types.now t)) }
@@ -179,7 +179,7 @@ pub fn element_of(types: &Types, extents: &Extents, t: TypeNo) -> u32
 /// The offset of a component of a type, by its number from 0.
 pub fn field_of(types: &Types, extents: &Extents, t: TypeNo, number: usize) -> u32
     requires { AreExtents types.now extents.now }
-    ensures capped { result ≡ capped (offset (tree types.now t) (number ∷ [])) }
+    ensures capped { result ≡ cap_size (offset (tree types.now t) (number ∷ [])) }
     ensures exact { types_fit types.now ≡ true → (u : Ty)
         → component (tree types.now t) (number ∷ []) ≡ Some u
         → result ≡ offset (tree types.now t) (number ∷ []) }

@@ -3,14 +3,14 @@
 ghost use Rattle.std.specs.Prelude.{◌≡◌, IfOk, ◌∷◌, [], map};
 ghost use Rattle.std.specs.List.{fold};
 ghost use Rattle.std.specs.Option.{option_copied};
-ghost use Rattle.layout_storage.specs.Capped.{capped};
+ghost use Rattle.layout_storage.specs.Capped.{cap_size};
 ghost use Rattle.layout_storage.specs.Sizes.{size};
 ghost use Rattle.layout_storage.specs.Frames.{formals_made, formals_of, formal_tree};
-ghost use Rattle.layout_storage.specs.Extents.{begun, AreExtents};
-ghost use Rattle.layout_storage.specs.Rows.{with_formal, with_variable, framed, variables_row, frame_row};
+ghost use Rattle.layout_storage.specs.Extents.{begin_row, AreExtents};
+ghost use Rattle.layout_storage.specs.Rows.{with_formal, with_variable, row_of_frame, variables_row, frame_row};
 
 use crate::extents::{Extents, size_of};
-use crate::row::{Row, begun, with_part};
+use crate::row::{Row, begin_row, with_part};
 use std::alloc::{AllocError, Global};
 use typed_tree::{Formal, Made, Routine, Shape, TypeNo, Types, made_of};
 
@@ -19,7 +19,7 @@ use typed_tree::{Formal, Made, Routine, Shape, TypeNo, Types, made_of};
 #[tactic(auto, unfolding(crate::specs::Sizes::size))]
 fn formal_size(types: &Types, extents: &Extents, formal: &Formal) -> u32
     requires { AreExtents types.now extents.now }
-    ensures { result ≡ capped (size (formal_tree types.now formal.now)) }
+    ensures { result ≡ cap_size (size (formal_tree types.now formal.now)) }
 {
     if formal.is_open {
         return 8;
@@ -88,19 +88,19 @@ fn with_variables(
     Ok(row)
 }
 
-fn framed(
+fn row_of_frame(
     alloc: Global,
     types: &Types,
     extents: &Extents,
     routine: &Routine,
 ) -> Result<Row, AllocError>
     requires { AreExtents types.now extents.now }
-    ensures { IfOk result (λ r. r ≡ framed types.now routine.now) }
+    ensures { IfOk result (λ r. r ≡ row_of_frame types.now routine.now) }
 {
     let row = with_heading(
         types,
         extents,
-        begun(alloc, 16),
+        begin_row(alloc, 16),
         made_of(types, routine.heading),
     )?;
     with_variables(types, extents, row, routine.variables.as_slice())
@@ -117,7 +117,7 @@ pub fn frame_row(
     requires { AreExtents types.now extents.now }
     ensures { IfOk result (λ r. r ≡ frame_row types.now routine.now) }
 {
-    framed(alloc, types, extents, routine)
+    row_of_frame(alloc, types, extents, routine)
 }
 
 /// The variables of these types, one after another. The only error is that memory ran out.
@@ -130,5 +130,5 @@ pub fn variables_row(
     requires { AreExtents types.now extents.now }
     ensures { IfOk result (λ r. r ≡ variables_row types.now variables.now) }
 {
-    with_variables(types, extents, begun(alloc, 0), variables)
+    with_variables(types, extents, begin_row(alloc, 0), variables)
 }

@@ -4,9 +4,9 @@ ghost use Rattle.std.specs.Prelude.{◌≡◌};
 ghost use Rattle.layout_storage.specs.Sizes.{room_for, room_of, width};
 ghost use Rattle.layout_storage.specs.Shapes.{scalar_kind, elements_of};
 ghost use Rattle.layout_storage.specs.Extents.{kind_of, scalar_of, width_of};
-ghost use Rattle.layout_storage.specs.Capped.{capped};
+ghost use Rattle.layout_storage.specs.Capped.{cap_size};
 
-use crate::capped::{capped, sum};
+use crate::capped::{cap_size, sum};
 use typed_tree::{Scalar, TypeNo, are_same, is_integer};
 
 /// A scalar type.
@@ -77,10 +77,10 @@ pub fn kind_of(t: TypeNo, scalar: Scalar) -> Kind
 
 /// How many elements an array with this index has.
 pub fn elements_of(index: Option<Scalar>) -> u32
-    ensures { result ≡ capped (elements_of index) }
+    ensures { result ≡ cap_size (elements_of index) }
 {
     match index {
         None => 0,
-        Some(scalar) => sum(capped(scalar.high.abs_diff(scalar.low)), 1),
+        Some(scalar) => sum(cap_size(scalar.high.abs_diff(scalar.low)), 1),
     }
 }

@@ -3,11 +3,11 @@
 ghost use Rattle.std.specs.Prelude.{◌≡◌, IfOk, map};
 ghost use Rattle.std.specs.List.{fold};
 ghost use Rattle.layout_storage.specs.Sizes.{size};
-ghost use Rattle.layout_storage.specs.Capped.{capped};
+ghost use Rattle.layout_storage.specs.Capped.{cap_size};
 ghost use Rattle.layout_storage.specs.Texts.{module_texts};
 ghost use Rattle.layout_storage.specs.Extents.{AreExtents};
 ghost use Rattle.layout_storage.specs.Rows.{variables_row};
-ghost use Rattle.layout_storage.specs.Counted.{counted};
+ghost use Rattle.layout_storage.specs.Counted.{character_count};
 ghost use Rattle.layout_storage.specs.Layouts.{is_before, least_with, with_size, imported_row, no_frames, with_routine, data_too_large, too_large, together, IsWithoutFrames, IsChecked, IsAnswer};
 
 use crate::body::texts_count;

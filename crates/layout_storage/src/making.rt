@@ -5,15 +5,15 @@ ghost use Rattle.std.specs.Prelude.{◌≡◌, ◌∷◌, [], nat_eq, IfOk, OnOk
 ghost use Rattle.std.specs.Option.{option_copied, option_map};
 ghost use Rattle.std.specs.List.{fold};
 ghost use Rattle.layout_storage.specs.Steps.{if_some};
-ghost use Rattle.layout_storage.specs.Extents.{begun, with_part, in_module, extent_in, AreExtents};
+ghost use Rattle.layout_storage.specs.Extents.{begin_row, with_part, in_module, extent_in, AreExtents};
 ghost use Rattle.std.specs.Map.{lookup};
-ghost use Rattle.layout_storage.specs.Making.{known_in, part_size, with_field, array_extent, shape_extent, next_type, with_type, all_made, added, replaced, with_types, with_module, known_extents};
+ghost use Rattle.layout_storage.specs.Making.{known_in, part_size, with_field, array_extent, shape_extent, next_type, with_type, all_made, add_module, replace_module, with_types, with_module, known_extents};
 
 use crate::capped::product;
 use crate::extent::Extent;
 use crate::extents::{Extents, scalar_extent, size_or};
 use crate::kind::{Kind, bytes_of, elements_of, kind_of};
-use crate::row::{Row, begun, with_part};
+use crate::row::{Row, begin_row, with_part};
 use std::alloc::{AllocError, Global};
 use tree_parts::{Items, Shared};
 use typed_tree::{Dictionary, Home, Made, Shape, TypeNo, Types, scalar_of};
@@ -26,7 +26,7 @@ pub struct Making {
     pub own: Items<Extent>,
 }
 
-fn found(making: &Making, home: u32, number: usize) -> Option<&Extent>
+fn find_extent(making: &Making, home: u32, number: usize) -> Option<&Extent>
     ensures { let known = lookup (nat_eq home) (known_in making.now) in
         option_copied result ≡ in_module known number }
 {
@@ -42,7 +42,7 @@ fn part_size(types: &Types, making: &Making, t: TypeNo) -> u32
 {
     match t.home {
         Home::Predeclared => bytes_of(scalar_extent(t, scalar_of(types, t))),
-        Home::Module(home) => size_or(found(making, home, t.number)),
+        Home::Module(home) => size_or(find_extent(making, home, t.number)),
     }
 }
 
@@ -67,9 +67,9 @@ fn record_row(
     making: &Making,
     fields: &Dictionary<TypeNo>,
 ) -> Result<Row, AllocError>
-    ensures { IfOk result (λ r. r ≡ fold (with_field making.now) (begun 0) fields.now) }
+    ensures { IfOk result (λ r. r ≡ fold (with_field making.now) (begin_row 0) fields.now) }
 {
-    let mut row = begun(alloc, 0);
+    let mut row = begin_row(alloc, 0);
     for number in 0..fields.len() {
         row = with_field(types, making, row, fields.get(number))?;
     }
@@ -100,7 +100,7 @@ fn shape_extent(
         )),
         Shape::Record(fields) => Ok(Extent::Row(record_row(alloc, types, making, fields)?)),
         Shape::Procedure(_) => Ok(Extent::Cell(Kind::Natural(4_294_967_295))),
-        Shape::Open(_) => Ok(Extent::Row(begun(alloc, 0))),
+        Shape::Open(_) => Ok(Extent::Row(begin_row(alloc, 0))),
     }
 }
 
@@ -126,8 +126,8 @@ fn with_type(
 }
 
 /// Enters the module, unless one of its number is there.
-fn added(making: Making) -> Result<Extents, AllocError>
-    ensures { IfOk result (λ x. x ≡ added making) }
+fn add_module(making: Making) -> Result<Extents, AllocError>
+    ensures { IfOk result (λ x. x ≡ add_module making) }
 {
     let Making {
         mut modules,
@@ -171,7 +171,7 @@ fn with_types(
 ) -> Result<Extents, AllocError>
     ensures { IfOk result (λ x. x ≡ with_types types.now modules home all.now) }
 {
-    added(all_made(alloc, types, modules, home, all)?)
+    add_module(all_made(alloc, types, modules, home, all)?)
 }
 
 fn with_module(
@@ -200,8 +200,8 @@ fn others_of(alloc: Global, types: &Types) -> Result<Extents, AllocError>
 }
 
 /// Enters the module, also where one of its number is there: an implementation has the types of its definition and more.
-fn replaced(making: Making) -> Result<Extents, AllocError>
-    ensures { IfOk result (λ x. x ≡ replaced making) }
+fn replace_module(making: Making) -> Result<Extents, AllocError>
+    ensures { IfOk result (λ x. x ≡ replace_module making) }
 {
     let Making {
         mut modules,
@@ -216,7 +216,7 @@ fn known_extents(alloc: Global, types: &Types) -> Result<Extents, AllocError>
     ensures { IfOk result (λ x. x ≡ known_extents types.now) }
 {
     let others = others_of(alloc, types)?;
-    replaced(all_made(alloc, types, others, types.home, types.own.as_slice())?)
+    replace_module(all_made(alloc, types, others, types.home, types.own.as_slice())?)
 }
 
 /// The storage of all types that a module knows. The only error is that memory ran out.

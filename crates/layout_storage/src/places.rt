@@ -4,7 +4,7 @@ ghost use Rattle.std.specs.Prelude.{◌≡◌, ◌+◌, ◌∷◌, [], IfOk, Som
 ghost use Rattle.std.specs.Option.{option_map, option_copied};
 ghost use Rattle.layout_storage.specs.Sizes.{size, offset};
 ghost use Rattle.layout_storage.specs.Shapes.{tree};
-ghost use Rattle.layout_storage.specs.Capped.{capped};
+ghost use Rattle.layout_storage.specs.Capped.{cap_size};
 ghost use Rattle.layout_storage.specs.Frames.{frame, module_row};
 ghost use Rattle.layout_storage.specs.Fitting.{types_fit};
 ghost use Rattle.layout_storage.specs.Layouts.{IsLayout, AllFits, IsAnswer, routine_of};
@@ -40,7 +40,7 @@ impl Layout {
     /// The bytes that a value of this type takes. The type is one that the module knows, and the layout is the module's.
     pub fn size(&self, module_body: &TypedModule, t: TypeNo) -> u32
         requires { IsLayout module_body.now self.now }
-        ensures capped { result ≡ capped (size (tree module_body.now.types t)) }
+        ensures capped { result ≡ cap_size (size (tree module_body.now.types t)) }
         ensures exact { types_fit module_body.now.types ≡ true
             → result ≡ size (tree module_body.now.types t) }
     {

@@ -1,10 +1,10 @@
 //! Parts that stand one after another.
 
 ghost use Rattle.std.specs.Prelude.{◌≡◌, ◌+◌, ◌∷◌, [], ℕ, List, map, IfOk};
-ghost use Rattle.layout_storage.specs.Capped.{capped};
+ghost use Rattle.layout_storage.specs.Capped.{cap_size};
 ghost use Rattle.layout_storage.specs.Types.{Ty, row as row_type};
 ghost use Rattle.layout_storage.specs.Sizes.{size, offset};
-ghost use Rattle.layout_storage.specs.Extents.{begun, with_part, row_of, start_in};
+ghost use Rattle.layout_storage.specs.Extents.{begin_row, with_part, row_of, start_in};
 
 use crate::capped::sum;
 use std::alloc::{AllocError, Global};
@@ -20,8 +20,8 @@ pub struct Row {
 }
 
 /// A row without parts, which begins here.
-pub fn begun(alloc: Global, at: u32) -> Row
-    ensures { result ≡ begun at }
+pub fn begin_row(alloc: Global, at: u32) -> Row
+    ensures { result ≡ begin_row at }
 {
     Row {
         starts: Items::new(alloc),
@@ -54,7 +54,7 @@ fn start_in(row: &Row, part: usize) -> u32
 pub fn start_of(row: &Row, part: usize) -> u32
     ensures start { result ≡ start_in row.now part }
     ensures offset { (at : ℕ) (ts : List Ty) → row.now ≡ row_of at (map size ts)
-        → result ≡ capped (at + offset (row_type ts) (part ∷ [])) }
+        → result ≡ cap_size (at + offset (row_type ts) (part ∷ [])) }
 {
     start_in(row, part)
 }

@@ -133,7 +133,7 @@ fn add_filled(
 }
 
 /// A text with these names in it.
-fn filled(alloc: Global, text: &str, name: &str, module: &str) -> Result<String, AllocError> {
+fn fill_text(alloc: Global, text: &str, name: &str, module: &str) -> Result<String, AllocError> {
     let mut filled = String::new(alloc);
     for letter in text.chars() {
         add_filled(&mut filled, letter, name, module)?;
@@ -160,11 +160,11 @@ fn files_of(alloc: Global, name: &str) -> Result<Vec<NewFile>, AllocError> {
     let module = module_of(alloc, name)?;
     let module = module.as_str();
     let mut files = Vec::new(alloc);
-    let text = filled(alloc, PROGRAM_TEXT, name, module)?;
+    let text = fill_text(alloc, PROGRAM_TEXT, name, module)?;
     add_file(alloc, &mut files, name, ".mod", text)?;
-    let text = filled(alloc, DEFINITION_TEXT, name, module)?;
+    let text = fill_text(alloc, DEFINITION_TEXT, name, module)?;
     add_file(alloc, &mut files, module, ".def", text)?;
-    let text = filled(alloc, IMPLEMENTATION_TEXT, name, module)?;
+    let text = fill_text(alloc, IMPLEMENTATION_TEXT, name, module)?;
     add_file(alloc, &mut files, module, ".mod", text)?;
     Ok(files)
 }

@@ -4,7 +4,7 @@ use Rattle.wasm_binary.specs.Binary.{module_encoding}
 use Rattle.typed_tree.specs.declared.typed_module.TypedModule.{TypedModule}
 use Rattle.layout_storage.specs.declared.row.Row.{Row}
 use Rattle.layout_storage.specs.declared.layout.Layout.{Layout}
-use Rattle.layout_storage.specs.Capped.{capped}
+use Rattle.layout_storage.specs.Capped.{cap_size}
 use Rattle.layout_storage.specs.Types.{Ty, row}
 use Rattle.layout_storage.specs.Sizes.{size}
 use Rattle.layout_storage.specs.Shapes.{tree}
@@ -20,15 +20,15 @@ use Rattle.m2_emit.specs.Emitted.{emitted}
 row_size : (ts : List Ty) → total (map size ts) ≡ size (row ts)
 row_size ts = ap total (sym (fields_row ts)) ∙ fields_sum (row ts) (row_is ts)
 
-whole : (n k : ℕ) → n + k ≤ 16777216 → capped (0 + n) ≡ n
+whole : (n k : ℕ) → n + k ≤ 16777216 → cap_size (0 + n) ≡ n
 whole n k h = omega arith
 
-whole_behind : (n k : ℕ) → n + k ≤ 16777216 → capped k ≡ k
+whole_behind : (n k : ℕ) → n + k ≤ 16777216 → cap_size k ≡ k
 whole_behind n k h = omega arith
 
 pub variables_are : (m : TypedModule) (x : Layout) → IsLayout m x → AllFits m → x.variables.size ≡ size (module_row m)
 variables_are m x h f =
-    ap (λ (r : Row). r.size) h.variables ∙ ap (λ (n : ℕ). capped (0 + n)) (row_size (map (tree m.types) m.variables)) ∙ whole (size (module_row m)) (characters (module_texts m)) f.bytes
+    ap (λ (r : Row). r.size) h.variables ∙ ap (λ (n : ℕ). cap_size (0 + n)) (row_size (map (tree m.types) m.variables)) ∙ whole (size (module_row m)) (characters (module_texts m)) f.bytes
 
 pub texts_are : (m : TypedModule) (x : Layout) → IsLayout m x → AllFits m → x.texts ≡ characters (module_texts m)
 texts_are m x h f = h.texts ∙ whole_behind (size (module_row m)) (characters (module_texts m)) f.bytes

@@ -22,11 +22,11 @@ emitted m = record {
 }
 
 -- what link needs of a module
-abbrev pub linked : ModuleBytes → Part
-linked x = record { name = x.name; variables = x.variables; texts = x.texts; slots = x.slots }
+abbrev pub link_part : ModuleBytes → Part
+link_part x = record { name = x.name; variables = x.variables; texts = x.texts; slots = x.slots }
 
 abbrev pub parts : List ModuleBytes → List Part
-parts xs = map linked xs
+parts xs = map link_part xs
 
 -- what link exports
 abbrev pub link_exports : List Part → List Export

@@ -3,7 +3,7 @@
 ghost use Rattle.std.specs.Prelude.{◌≡◌, ◌++◌, Some, slice_get, IfOk, OnOk};
 ghost use Rattle.typed_tree.specs.declared.typed_module.Which.TheVariants as which;
 ghost use Rattle.def_scheme.specs.Functions.{functions_from, routine_function, module_function};
-ghost use Rattle.def_scheme.specs.Modules.{functions, numbered};
+ghost use Rattle.def_scheme.specs.Modules.{functions, numbering_of};
 ghost use Rattle.emit_tables.specs.Offsets.{AreTexts};
 
 use crate::helpers::helpers;
@@ -26,7 +26,7 @@ fn procedure(
     requires texts { AreTexts home.now texts.now }
     requires found { slice_get home.now.procedures number ≡ Some routine.now }
     ensures { let m = home.now in
-        IfOk result (λ f. f ≡ routine_function (numbered m) m (which.Module number) routine.now) }
+        IfOk result (λ f. f ≡ routine_function (numbering_of m) m (which.Module number) routine.now) }
 {
     let which = Which::Module(number);
     routine_function(alloc, home, which, routine, texts.offset_of(which))
@@ -43,7 +43,7 @@ fn local(
     requires texts { AreTexts home.now texts.now }
     requires found { slice_get home.now.locals number ≡ Some routine.now }
     ensures { let m = home.now in
-        IfOk result (λ f. f ≡ routine_function (numbered m) m (which.Local number) routine.now) }
+        IfOk result (λ f. f ≡ routine_function (numbering_of m) m (which.Local number) routine.now) }
 {
     let which = Which::Local(number);
     routine_function(alloc, home, which, routine, texts.offset_of(which))
@@ -60,7 +60,7 @@ fn push_procedures(
     ensures { let m = home.now in
         OnOk result
         (functions.new
-        ≡ functions.old ++ functions_from (numbered m) m which.Module 0 m.procedures) }
+        ≡ functions.old ++ functions_from (numbering_of m) m which.Module 0 m.procedures) }
 {
     let routines = home.module_body().procedures.as_slice();
     for (number, routine) in routines.iter().enumerate() {
@@ -79,7 +79,7 @@ fn push_locals(
     requires { AreTexts home.now texts.now }
     ensures { let m = home.now in
         OnOk result
-        (functions.new ≡ functions.old ++ functions_from (numbered m) m which.Local 0 m.locals) }
+        (functions.new ≡ functions.old ++ functions_from (numbering_of m) m which.Local 0 m.locals) }
 {
     let routines = home.module_body().locals.as_slice();
     for (number, routine) in routines.iter().enumerate() {
@@ -92,7 +92,7 @@ fn push_locals(
 fn body(alloc: Global, home: &Home<'_>, texts: &ModuleTexts) -> Result<Function, EncodeError>
     requires { AreTexts home.now texts.now }
     ensures { let m = home.now in
-        IfOk result (λ f. f ≡ module_function (numbered m) m) }
+        IfOk result (λ f. f ≡ module_function (numbering_of m) m) }
 {
     module_function(alloc, home, texts.body)
 }

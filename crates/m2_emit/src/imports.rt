@@ -5,7 +5,7 @@ ghost use Rattle.def_scheme.specs.Scheme.{base_name, from_host, from_link, host_
 ghost use Rattle.def_scheme.specs.Modules.{imports};
 ghost use Rattle.m2_emit.specs.OwnImports.{linked_as, own_globals, stores};
 
-use crate::parts::{AT_LEAST_ONE, joined};
+use crate::parts::{AT_LEAST_ONE, name_behind_word};
 use std::alloc::{AllocError, Global};
 use tree_parts::Items;
 use typed_tree::{Imported, TypedModule};
@@ -74,9 +74,9 @@ fn push_own_globals(
     ensures { OnOk result (imports.new ≡ imports.old ++ own_globals name.now) }
 {
     push_from(alloc, imports, Items::from_slice(alloc, b"limit")?)?;
-    push_from(alloc, imports, joined(alloc, b"base.", name)?)?;
-    push_from(alloc, imports, joined(alloc, b"text.", name)?)?;
-    push_from(alloc, imports, joined(alloc, b"tab.", name)?)
+    push_from(alloc, imports, name_behind_word(alloc, b"base.", name)?)?;
+    push_from(alloc, imports, name_behind_word(alloc, b"text.", name)?)?;
+    push_from(alloc, imports, name_behind_word(alloc, b"tab.", name)?)
 }
 
 /// The memory, the table, and where the module's own data and slots begin.
@@ -96,8 +96,8 @@ fn push_globals(alloc: Global, imports: &mut Items<Import>, name: &[u8]) -> Resu
         ≡ imports.old ++ from_link (base_name name.now) ∷ from_link (tab_name name.now)
         ∷ []) }
 {
-    imports.push(from_link(alloc, joined(alloc, b"base.", name)?)?)?;
-    imports.push(from_link(alloc, joined(alloc, b"tab.", name)?)?)?;
+    imports.push(from_link(alloc, name_behind_word(alloc, b"base.", name)?)?)?;
+    imports.push(from_link(alloc, name_behind_word(alloc, b"tab.", name)?)?)?;
     Ok(())
 }
 

@@ -10,7 +10,7 @@ ghost use Rattle.m2_emit.specs.Emitted.{parts, link_exports};
 
 use crate::emitted::ModuleBytes;
 use crate::helpers::helper;
-use crate::parts::{constant_global, exported_as, joined, one, type_from};
+use crate::parts::{constant_global, exported_as, name_behind_word, one, type_from};
 use std::alloc::{AllocError, Global};
 use tree_parts::Items;
 use wasm_tree::{
@@ -106,7 +106,7 @@ fn exported_global(
     ensures { IfOk result (λ e. e ≡ exported_as (word.now ++ name.now) (exported.Global global)) }
 {
     Ok(Export {
-        name: joined(alloc, word, name)?,
+        name: name_behind_word(alloc, word, name)?,
         kind: ExportKind::Global(global),
     })
 }
@@ -204,7 +204,7 @@ fn link_types(alloc: Global) -> Result<Items<FuncType>, AllocError>
     Ok(Items::from_vec(vec![in alloc; run, body]?))
 }
 
-fn fixed(size: u32) -> Limits
+fn fixed_limits(size: u32) -> Limits
     ensures { result ≡ record { min = size; max = Some size } }
 {
     Limits {
@@ -218,7 +218,7 @@ pub fn link_of(alloc: Global, modules: &[&ModuleBytes], pages: u32) -> Result<WM
     requires { pages ≤ max_pages }
     ensures { IfOk result (λ m. m ≡ link_of (parts (map (λ m. m.now) modules.now)) pages) }
 {
-    let slots = fixed(plus(1, all_slots(modules)?)?);
+    let slots = fixed_limits(plus(1, all_slots(modules)?)?);
     Ok(WModule {
         types: link_types(alloc)?,
         imports: Items::new(alloc),
@@ -227,7 +227,7 @@ pub fn link_of(alloc: Global, modules: &[&ModuleBytes], pages: u32) -> Result<WM
         memories: one(
             alloc,
             MemoryType {
-                limits: fixed(pages),
+                limits: fixed_limits(pages),
             },
         )?,
         globals: link_globals(alloc, modules, pages)?,

@@ -44,7 +44,7 @@ fn functions(
 }
 
 /// The module, with these functions and texts.
-fn assembled(
+fn assemble_module(
     alloc: Global,
     module_body: &TypedModule,
     needed: &Signatures,
@@ -83,5 +83,5 @@ pub fn module_of(
     let texts = module_texts(alloc, module_body, layout.texts as usize)?;
     let found = functions(alloc, module_body, layout, &needed, &texts)?;
     let ModuleTexts { characters, .. } = texts;
-    assembled(alloc, module_body, &needed, found, characters.into_items())
+    assemble_module(alloc, module_body, &needed, found, characters.into_items())
 }

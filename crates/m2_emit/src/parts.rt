@@ -23,7 +23,7 @@ where
 }
 
 /// A name of a module behind a word.
-pub fn joined(alloc: Global, word: &[u8], name: &[u8]) -> Result<Items<u8>, AllocError>
+pub fn name_behind_word(alloc: Global, word: &[u8], name: &[u8]) -> Result<Items<u8>, AllocError>
     ensures { IfOk result (λ bytes. bytes ≡ word.now ++ name.now) }
 {
     let mut bytes = Vec::from_slice(alloc, word)?;

@@ -4,7 +4,7 @@ ghost use Rattle.std.specs.Prelude.{◌≡◌, ◌++◌, ◌∷◌, [], IfOk, On
 ghost use Rattle.wasm_tree.specs.declared.kinds.ValueType.TheVariants.{I32};
 ghost use Rattle.def_scheme.specs.Scheme.{body_types, type_from};
 ghost use Rattle.def_scheme.specs.Signatures.{so_many, results_of, type_of};
-ghost use Rattle.emit_tables.specs.Seen.{seen};
+ghost use Rattle.emit_tables.specs.Seen.{meaning_of};
 
 use crate::parts::type_from;
 use emit_tables::{Signature, Signatures};
@@ -68,7 +68,7 @@ fn results_of(alloc: Global, has_result: bool) -> Result<Items<ValueType>, Alloc
 }
 
 fn type_of(alloc: Global, signature: Signature) -> Result<FuncType, AllocError>
-    ensures { IfOk result (λ t. t ≡ type_of (seen signature)) }
+    ensures { IfOk result (λ t. t ≡ type_of (meaning_of signature)) }
 {
     Ok(FuncType {
         params: params_of(alloc, signature.arguments)?,
@@ -82,7 +82,7 @@ fn push_types(
     types: &mut Items<FuncType>,
     signatures: &[Signature],
 ) -> Result<(), AllocError>
-    ensures { OnOk result (types.new ≡ types.old ++ map type_of (map seen signatures.now)) }
+    ensures { OnOk result (types.new ≡ types.old ++ map type_of (map meaning_of signatures.now)) }
 {
     for signature in signatures {
         types.push(type_of(alloc, *signature)?)?;

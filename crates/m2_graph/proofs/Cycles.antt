@@ -8,7 +8,7 @@ use Rattle.std.proofs.lemmas.List.{get_or-map, length-map}
 use Rattle.m2_tree.specs.declared.decl.Module.{Module}
 use Rattle.m2_tree.specs.declared.name.Ident.{Ident}
 use Rattle.graph_walk.specs.Links.{has, targets, Leads}
-use Rattle.m2_graph.specs.Imports.{first_that, definition_of, imported, links_of, links}
+use Rattle.m2_graph.specs.Imports.{first_that, definition_of, imports_of, links_of, links}
 use Rattle.m2_graph.specs.Reported.{LeadsBack}
 use Rattle.graph_walk.proofs.Chains.{or_true, first_step}
 
@@ -23,13 +23,13 @@ none_has {X = X} h (x ∷ xs) to a e = step (none_has h xs to (λ k d l. a (suc 
     step later (Some y) q f = elim (or_true (y == to) (has (filter_map h xs) to) f) [ inl same ↦ a 0 x (omega arith) (q ∙ ap Some (eqb-true y to same)) | inr more ↦ later more ]
 
 -- a definition on a cycle has an import that leads back to it
-pub none_back : (xs : List (Bor Module)) (node : ℕ) (b : Bor Module) → node < length xs → b ≡ get_or xs node b → All (λ x. LeadsBack (map (λ (m : Bor Module). m.now) xs) node x → ⊥) (imported b.now) → Leads (links (map (λ (m : Bor Module). m.now) xs)) node node → ⊥
+pub none_back : (xs : List (Bor Module)) (node : ℕ) (b : Bor Module) → node < length xs → b ≡ get_or xs node b → All (λ x. LeadsBack (map (λ (m : Bor Module). m.now) xs) node x → ⊥) (imports_of b.now) → Leads (links (map (λ (m : Bor Module). m.now) xs)) node node → ⊥
 none_back xs node b l e none leads =
     let ms = map (λ (m : Bor Module). m.now) xs in
     let s = first_step (links ms) node node leads in
     let inside : node < length ms = rw length-map l in
     let is : targets (links ms) node ≡ links_of ms b.now = get_or-map (links_of ms) ms node b.now [] inside ∙ ap (links_of ms) (get_or-map (λ (m : Bor Module). m.now) xs node b b.now l ∙ ap (λ (m : Bor Module). m.now) (sym e)) in
-    none_has (λ (i : Ident). definition_of ms i.name) (imported b.now) s.0 (λ k d g found. none k d g (s.0, found, s.2)) (ap (λ (ts : List ℕ). has ts s.0) (sym is) ∙ s.1)
+    none_has (λ (i : Ident). definition_of ms i.name) (imports_of b.now) s.0 (λ k d g found. none k d g (s.0, found, s.2)) (ap (λ (ts : List ℕ). has ts s.0) (sym is) ∙ s.1)
 
 -- ---- pairs go to definitions
 

@@ -5,7 +5,7 @@ use Rattle.std.proofs.lemmas.List.Sums.{fold-append}
 use Rattle.m2_tree.specs.declared.decl.Module.{Module}
 use Rattle.m2_tree.specs.declared.pos.Pos.{Pos}
 use Rattle.m2_rule.specs.declared.breach.Breach.{Breach}
-use Rattle.m2_graph.specs.Imports.{first_that, imported, is_program, walk_of, walks}
+use Rattle.m2_graph.specs.Imports.{first_that, imports_of, is_program, walk_of, walks}
 use Rattle.m2_graph.specs.Files.{File, AreInOrder, trees}
 use Rattle.m2_graph.specs.declared.sources.Source.{Source}
 use Rattle.m2_graph.specs.declared.error.GraphError.{GraphError}
@@ -19,7 +19,7 @@ use Rattle.m2_rule.specs.declared.rule.Rule.TheVariants as rule
 use Rattle.m2_graph.proofs.Importing.{first_within}
 use Rattle.m2_graph.specs.Refused.{breach_where, first_place, least_with, least_of, import_breaches, is_repeated, is_second_program, is_without_program, is_lone, max_files, breaches_of}
 use Rattle.m2_rule.specs.Breaches.{breach, is_less}
-use Rattle.m2_graph.specs.Reported.{Reported, reported, reported_at, cycle_breaches, refused_from, refused_of, IsReported}
+use Rattle.m2_graph.specs.Reported.{Reported, report_of, reported_at, cycle_breaches, refused_from, refused_of, IsReported}
 
 stays_some : (f : Breach) (fs : List Breach) → fold least_with (Some f) fs ≡ None → ⊥
 stays_some f [] e = cc
@@ -38,7 +38,7 @@ nothing_reported name (Some f) rest e = cc
 
 without_program : (ms : List Module) (given : ℕ) (m : Module) (cycle : List Breach) → first_that is_program ms ≡ None → least_of (breaches_of ms [] given m ++ cycle) ≡ None → ⊥
 without_program ms given m cycle none e =
-    let a = import_breaches ms m (imported m) in
+    let a = import_breaches ms m (imports_of m) in
     let b = breach_where (is_repeated [] m) m.name.pos rule.SecondFile in
     let c = breach_where (is_second_program [] m) m.name.pos rule.ProgramCount in
     let d = breach_where (is_lone ms m) m.name.pos rule.LonelyModule in
@@ -57,7 +57,7 @@ refused_without (f ∷ fs) cycle none e = without_program (trees (f ∷ fs)) f.g
 pub reported_without : (fs : List File) (all : List Reported) → IsReported fs all → first_that is_program (trees fs) ≡ None → all ≡ [] → ⊥
 reported_without fs all h none e = refused_without fs h.0 none (sym h.2 ∙ e)
 
-pub some_reported : (rs : List Refusal) → (rs ≡ [] → ⊥) → map reported rs ≡ [] → ⊥
+pub some_reported : (rs : List Refusal) → (rs ≡ [] → ⊥) → map report_of rs ≡ [] → ⊥
 some_reported [] n e = n refl
 some_reported (r ∷ rs) n e = cc
 

@@ -8,7 +8,7 @@ use Rattle.std.specs.Borrow.{Bor}
 use Rattle.m2_tree.specs.declared.decl.Module.{Module}
 use Rattle.m2_tree.specs.declared.name.Ident.{Ident}
 use Rattle.graph_walk.specs.Links.{AreNodes}
-use Rattle.m2_graph.specs.Imports.{first_that, defines, implements, is_definition, definition_of, imported, links_of, links, links_at, body_links, walk_of, walks}
+use Rattle.m2_graph.specs.Imports.{first_that, defines, implements, is_definition, definition_of, imports_of, links_of, links, links_at, body_links, walk_of, walks}
 
 more_case : (b : Bool) (r r' : Option ℕ) → (r ≡ None → r' ≡ None) → cond b (Some 0) (option_map suc r) ≡ None → cond b (Some 0) (option_map suc r') ≡ None
 more_case true r r' h e = cc
@@ -82,7 +82,7 @@ all_filtered {Y = Y} h P k (x ∷ xs) = step (h x) (k x) (all_filtered h P k xs)
 
 pub links_are_nodes : (modules : List Module) → AreNodes (links modules)
 links_are_nodes modules = All-map (λ ts. All (λ t. t < length (links modules)) ts) (links_of modules) modules
-    (λ k d l. all_filtered (λ (i : Ident). definition_of modules i.name) (λ t. t < length (links modules)) (λ (i : Ident) t e. rw (length-map modules (links_of modules)) (first_within (defines i.name) modules t e)) (imported (get_or modules k d)))
+    (λ k d l. all_filtered (λ (i : Ident). definition_of modules i.name) (λ t. t < length (links modules)) (λ (i : Ident) t e. rw (length-map modules (links_of modules)) (first_within (defines i.name) modules t e)) (imports_of (get_or modules k d)))
 
 pub first_later_at : {X : Type 0} (t : X → Bool) (xs : List X) (i : ℕ) (d : X) → i < length xs → first_that t (take i xs) ≡ None → t (get_or xs i d) ≡ false → first_that t (take (i + 1) xs) ≡ None
 first_later_at t xs i d l n h = subst (λ (k : ℕ). first_that t (take k xs) ≡ None) (sym (add-one i)) (none_more t xs i d l n h)
@@ -98,7 +98,7 @@ pub module_at : (xs : List (Bor Module)) (i : ℕ) (b : Bor Module) (d : Module)
 module_at xs i b d l e = get_or-map (λ (m : Bor Module). m.now) xs i b d l ∙ ap (λ (m : Bor Module). m.now) (sym e)
 
 links_below : (modules : List Module) (m : Module) → All (λ t. t < length modules) (links_of modules m)
-links_below modules m = all_filtered (λ (i : Ident). definition_of modules i.name) (λ t. t < length modules) (λ (i : Ident) t e. first_within (defines i.name) modules t e) (imported m)
+links_below modules m = all_filtered (λ (i : Ident). definition_of modules i.name) (λ t. t < length modules) (λ (i : Ident) t e. first_within (defines i.name) modules t e) (imports_of m)
 
 body_below : (modules : List Module) (m : Module) → All (λ t. t < length modules) (body_links modules m)
 body_below modules m = step (is_definition m) (first_that (implements m.name.name) modules)

@@ -12,7 +12,7 @@ use Rattle.m2_tree.specs.declared.decl.Import.{Import}
 use Rattle.m2_tree.specs.declared.pos.Pos.{Pos}
 use Rattle.std.specs.Prelude.{MatchOption}
 use Rattle.graph_walk.specs.Links.{Leads, AreNodes, has, flag}
-use Rattle.m2_graph.specs.Imports.{definition_of, defines, imported, links, named_by}
+use Rattle.m2_graph.specs.Imports.{definition_of, defines, imports_of, links, named_by}
 use Rattle.m2_graph.specs.Reported.{LeadsBack, AreLeading, IsBack, IsFirstBack, IsReportedCycle}
 use Rattle.m2_graph.proofs.Importing.{first_within, links_are_nodes, module_at}
 use Rattle.graph_walk.specs.Turned.{IsTurned}
@@ -100,14 +100,14 @@ back_of_names ms node from names borrowed found e1 e2 h = subst (λ (xs : List I
 abbrev named_in : Import → List Ident
 named_in i = named_by i.from i.names
 
-pub found_in : (ms : List Module) (node : ℕ) (tree : Module) (xs : List Import) (i : ℕ) (x : Import) (found : Option Pos) (pos : Pos) → xs ≡ tree.imports → i < length xs → x ≡ get_or xs i x → All (λ y. LeadsBack ms node y → ⊥) (flat_map named_in (take i xs)) → IsFirstBack ms node (named_in x) found → found ≡ Some pos → IsBack ms node (imported tree) pos
+pub found_in : (ms : List Module) (node : ℕ) (tree : Module) (xs : List Import) (i : ℕ) (x : Import) (found : Option Pos) (pos : Pos) → xs ≡ tree.imports → i < length xs → x ≡ get_or xs i x → All (λ y. LeadsBack ms node y → ⊥) (flat_map named_in (take i xs)) → IsFirstBack ms node (named_in x) found → found ≡ Some pos → IsBack ms node (imports_of tree) pos
 found_in ms node tree xs i x found pos e l is none h so =
     subst (λ (ys : List Import). IsBack ms node (flat_map named_in ys) pos) e (back_here_in named_in ms node xs i x pos l is none (subst (λ (o : Option Pos). IsFirstBack ms node (named_in x) o) so h))
 
 pub missed_in : (ms : List Module) (node : ℕ) (xs : List Import) (i : ℕ) (x : Import) (found : Option Pos) → i < length xs → x ≡ get_or xs i x → All (λ y. LeadsBack ms node y → ⊥) (flat_map named_in (take i xs)) → IsFirstBack ms node (named_in x) found → found ≡ None → All (λ y. LeadsBack ms node y → ⊥) (flat_map named_in (take (i + 1) xs))
 missed_in ms node xs i x found l is none h so = back_later_in named_in ms node xs i x l is none (subst (λ (o : Option Pos). IsFirstBack ms node (named_in x) o) so h)
 
-pub never_in : (ms : List Module) (node : ℕ) (tree : Module) (xs : List Import) (i : ℕ) → xs ≡ tree.imports → length xs ≤ i → All (λ y. LeadsBack ms node y → ⊥) (flat_map named_in (take i xs)) → All (λ y. LeadsBack ms node y → ⊥) (imported tree)
+pub never_in : (ms : List Module) (node : ℕ) (tree : Module) (xs : List Import) (i : ℕ) → xs ≡ tree.imports → length xs ≤ i → All (λ y. LeadsBack ms node y → ⊥) (flat_map named_in (take i xs)) → All (λ y. LeadsBack ms node y → ⊥) (imports_of tree)
 never_in ms node tree xs i e g none = subst (λ (ys : List Import). All (λ y. LeadsBack ms node y → ⊥) (flat_map named_in ys)) e (back_never_in named_in ms node xs i g none)
 
 -- ---- the first definition on a cycle
@@ -118,17 +118,17 @@ trees_in xs = map (λ (m : Bor Module). m.now) xs
 pub within : (xs : List (Bor Module)) (node : ℕ) → node < length xs → node < length (trees_in xs)
 within xs node l = rw length-map l
 
-pub cycle_reported : (xs : List (Bor Module)) (pairs : List (List ℕ)) (node : ℕ) (b : Bor Module) (place : Option Pos) (pos : Pos) → pairs ≡ links (trees_in xs) → node < length xs → b ≡ get_or xs node b → Leads pairs node node → ((other : ℕ) → other < node → Leads pairs other other → ⊥) → IsFirstBack (trees_in xs) node (imported b.now) place → place ≡ Some pos → IsReportedCycle (trees_in xs) node pos
+pub cycle_reported : (xs : List (Bor Module)) (pairs : List (List ℕ)) (node : ℕ) (b : Bor Module) (place : Option Pos) (pos : Pos) → pairs ≡ links (trees_in xs) → node < length xs → b ≡ get_or xs node b → Leads pairs node node → ((other : ℕ) → other < node → Leads pairs other other → ⊥) → IsFirstBack (trees_in xs) node (imports_of b.now) place → place ≡ Some pos → IsReportedCycle (trees_in xs) node pos
 cycle_reported xs pairs node b place pos e l is on first found so = record {
   on_cycle = subst (λ (ps : List (List ℕ)). Leads ps node node) e on;
   first = λ other m h. first other m (subst (λ (ps : List (List ℕ)). Leads ps other other) (sym e) h);
   tree = b.now;
   is_tree = slice_get-get_or (trees_in xs) node b.now (rw length-map l) ∙ ap Some (module_at xs node b b.now l is);
-  back = subst (λ (o : Option Pos). IsFirstBack (trees_in xs) node (imported b.now) o) so found;
+  back = subst (λ (o : Option Pos). IsFirstBack (trees_in xs) node (imports_of b.now) o) so found;
 }
 
-pub cycle_none : (xs : List (Bor Module)) (pairs : List (List ℕ)) (node : ℕ) (b : Bor Module) (place : Option Pos) → pairs ≡ links (trees_in xs) → node < length xs → b ≡ get_or xs node b → Leads pairs node node → IsFirstBack (trees_in xs) node (imported b.now) place → place ≡ None → ⊥
-cycle_none xs pairs node b place e l is on found so = none_back xs node b l is (subst (λ (o : Option Pos). IsFirstBack (trees_in xs) node (imported b.now) o) so found) (subst (λ (ps : List (List ℕ)). Leads ps node node) e on)
+pub cycle_none : (xs : List (Bor Module)) (pairs : List (List ℕ)) (node : ℕ) (b : Bor Module) (place : Option Pos) → pairs ≡ links (trees_in xs) → node < length xs → b ≡ get_or xs node b → Leads pairs node node → IsFirstBack (trees_in xs) node (imports_of b.now) place → place ≡ None → ⊥
+cycle_none xs pairs node b place e l is on found so = none_back xs node b l is (subst (λ (o : Option Pos). IsFirstBack (trees_in xs) node (imports_of b.now) o) so found) (subst (λ (ps : List (List ℕ)). Leads ps node node) e on)
 
 pub no_cycles : (ms : List Module) (pairs : List (List ℕ)) → pairs ≡ links ms → ((k : ℕ) → k < length pairs → Leads pairs k k → ⊥) → (k : ℕ) → Leads (links ms) k k → ⊥
 no_cycles ms pairs e none k h =

@@ -9,7 +9,7 @@ use Rattle.std.proofs.lemmas.List.Sorted.{IsPermutation-map}
 use Rattle.std.proofs.Math.ListN.{get_or-map}
 use Rattle.m2_tree.specs.declared.decl.Module.{Module}
 use Rattle.m2_graph.specs.declared.sources.Source.{Source}
-use Rattle.m2_graph.specs.Files.{File, is_before, AreInOrder, numbered, trees, given_of}
+use Rattle.m2_graph.specs.Files.{File, is_before, AreInOrder, number_files, trees, given_of}
 use Rattle.m2_graph.specs.Sources.{file_of}
 
 filter_through : {X Y : Type 0} (p : Y → Bool) (f : X → Y) (xs : List X) → filter p (map f xs) ≡ map f (filter (λ x. p (f x)) xs)
@@ -36,25 +36,25 @@ order_of files first last is same sorted stable = subst (λ (fs : List File). Ar
   stable = λ x. filter_through (ties is_before x) file_of last ∙ ap (map file_of) (stable (at x)) ∙ sym (filter_through (ties is_before x) file_of first);
 }
 
-numbered_push : (n : ℕ) (xs : List (List ℕ × Module)) (x : List ℕ × Module) (k : ℕ) → n + length xs ≡ k → numbered n (xs ++ x ∷ []) ≡ numbered n xs ++ numbered k (x ∷ [])
-numbered_push n [] x k e = ap (λ j. numbered j (x ∷ [])) (let s : n ≡ k = omega arith in s)
+numbered_push : (n : ℕ) (xs : List (List ℕ × Module)) (x : List ℕ × Module) (k : ℕ) → n + length xs ≡ k → number_files n (xs ++ x ∷ []) ≡ number_files n xs ++ number_files k (x ∷ [])
+numbered_push n [] x k e = ap (λ j. number_files j (x ∷ [])) (let s : n ≡ k = omega arith in s)
 numbered_push n (y ∷ ys) x k e = ap (λ zs. record { name = y.0; tree = y.1; given = n } ∷ zs) (numbered_push (n + 1) ys x k (omega arith))
 
 abbrev pub of_pair : Bor (List ℕ) × Bor Module → List ℕ × Module
 of_pair p = (p.0.now, p.1.now)
 
-pub borrowed_more : (xs : List (Bor (List ℕ) × Bor Module)) (i : ℕ) (d : Bor (List ℕ) × Bor Module) (all all' : List Source) → i < length xs → map file_of all ≡ numbered 0 (map of_pair (take i xs)) → all' ≡ all ++ record { name = (get_or xs i d).0; tree = (get_or xs i d).1; given = i } ∷ [] → map file_of all' ≡ numbered 0 (map of_pair (take (i + 1) xs))
+pub borrowed_more : (xs : List (Bor (List ℕ) × Bor Module)) (i : ℕ) (d : Bor (List ℕ) × Bor Module) (all all' : List Source) → i < length xs → map file_of all ≡ number_files 0 (map of_pair (take i xs)) → all' ≡ all ++ record { name = (get_or xs i d).0; tree = (get_or xs i d).1; given = i } ∷ [] → map file_of all' ≡ number_files 0 (map of_pair (take (i + 1) xs))
 borrowed_more xs i d all all' l is more =
     let x = get_or xs i d in
     let much : 0 + length (map of_pair (take i xs)) ≡ i = rw length-map (omega (arith, length-take-le i xs (omega arith))) in
-    ap (map file_of) more ∙ map-append file_of all (record { name = x.0; tree = x.1; given = i } ∷ []) ∙ ap (λ ys. ys ++ numbered i (of_pair x ∷ [])) is
-    ∙ sym (numbered_push 0 (map of_pair (take i xs)) (of_pair x) i much) ∙ ap (numbered 0) (sym (map-append of_pair (take i xs) (x ∷ [])) ∙ ap (map of_pair) (sym (take_more xs i d l)))
+    ap (map file_of) more ∙ map-append file_of all (record { name = x.0; tree = x.1; given = i } ∷ []) ∙ ap (λ ys. ys ++ number_files i (of_pair x ∷ [])) is
+    ∙ sym (numbered_push 0 (map of_pair (take i xs)) (of_pair x) i much) ∙ ap (number_files 0) (sym (map-append of_pair (take i xs) (x ∷ [])) ∙ ap (map of_pair) (sym (take_more xs i d l)))
 
 pub trees_of : (xs : List Source) → map (λ (s : Source). s.tree.now) xs ≡ trees (map file_of xs)
 trees_of [] = refl
 trees_of (x ∷ xs) = ap (λ ms. x.tree.now ∷ ms) (trees_of xs)
 
-pub borrowed_next : (xs : List (Bor (List ℕ) × Bor Module)) (i : ℕ) (x : Bor (List ℕ) × Bor Module) (all all' : List Source) → i < length xs → x ≡ get_or xs i x → map file_of all ≡ numbered 0 (map of_pair (take i xs)) → all' ≡ all ++ record { name = x.0; tree = x.1; given = i } ∷ [] → map file_of all' ≡ numbered 0 (map of_pair (take (i + 1) xs))
+pub borrowed_next : (xs : List (Bor (List ℕ) × Bor Module)) (i : ℕ) (x : Bor (List ℕ) × Bor Module) (all all' : List Source) → i < length xs → x ≡ get_or xs i x → map file_of all ≡ number_files 0 (map of_pair (take i xs)) → all' ≡ all ++ record { name = x.0; tree = x.1; given = i } ∷ [] → map file_of all' ≡ number_files 0 (map of_pair (take (i + 1) xs))
 borrowed_next xs i x all all' l e is more = borrowed_more xs i x all all' l is (subst (λ (y : Bor (List ℕ) × Bor Module). all' ≡ all ++ record { name = y.0; tree = y.1; given = i } ∷ []) e more)
 
 pub given_at : (xs : List Source) (i : ℕ) (x : Source) → i < length xs → (get_or xs i x).given ≡ given_of (map file_of xs) i

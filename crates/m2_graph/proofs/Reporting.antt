@@ -9,7 +9,7 @@ use Rattle.m2_graph.specs.declared.sources.Source.{Source}
 use Rattle.m2_graph.specs.Refused.{breaches_of, least_of}
 use Rattle.m2_graph.specs.Files.{File, trees}
 use Rattle.m2_graph.specs.Sources.{file_of}
-use Rattle.m2_graph.specs.Reported.{Reported, cycle_breaches, reported, reported_at, refused_from, refused_of}
+use Rattle.m2_graph.specs.Reported.{Reported, cycle_breaches, report_of, reported_at, refused_from, refused_of}
 
 abbrev here : List Module → Option (ℕ × Pos) → List Module → ℕ → File → List Reported
 here ms cycle before k f = reported_at f.name (least_of (breaches_of ms before f.given f.tree ++ cycle_breaches cycle k))
@@ -30,10 +30,10 @@ files_take : (xs : List Source) (i : ℕ) → map file_of (take i xs) ≡ take i
 files_take xs i = sym (take-map file_of i xs)
 
 pub refused_more : (cycle : Option (ℕ × Pos)) (xs : List Source) (i : ℕ) (d : Source) (breach : Option Breach) (all all' : List Refusal) → i < length xs →
-    map reported all ≡ refused_from (trees (map file_of xs)) cycle [] (map file_of (take i xs)) →
+    map report_of all ≡ refused_from (trees (map file_of xs)) cycle [] (map file_of (take i xs)) →
     breach ≡ least_of (breaches_of (trees (map file_of xs)) (take i (trees (map file_of xs))) (get_or xs i d).given (get_or xs i d).tree.now ++ cycle_breaches cycle i) →
-    map reported all' ≡ map reported all ++ reported_at (get_or xs i d).name.now breach →
-    map reported all' ≡ refused_from (trees (map file_of xs)) cycle [] (map file_of (take (i + 1) xs))
+    map report_of all' ≡ map report_of all ++ reported_at (get_or xs i d).name.now breach →
+    map report_of all' ≡ refused_from (trees (map file_of xs)) cycle [] (map file_of (take (i + 1) xs))
 refused_more cycle xs i d breach all all' l is found more =
     let ms = trees (map file_of xs) in
     let f = file_of (get_or xs i d) in
@@ -51,7 +51,7 @@ breach_within ms xs i e l = omega (arith, ap length e, length-map (map file_of x
 pub same_breach : (ms ns : List Module) (cycle : Option (ℕ × Pos)) (i given : ℕ) (tree : Module) (breach : Option Breach) → ms ≡ ns → breach ≡ least_of (breaches_of ms (take i ms) given tree ++ cycle_breaches cycle i) → breach ≡ least_of (breaches_of ns (take i ns) given tree ++ cycle_breaches cycle i)
 same_breach ms ns cycle i given tree breach e h = subst (λ (xs : List Module). breach ≡ least_of (breaches_of xs (take i xs) given tree ++ cycle_breaches cycle i)) e h
 
-pub refused_all : (cycle : Option (ℕ × Pos)) (xs : List Source) (i : ℕ) (all : List Refusal) → length xs ≤ i → map reported all ≡ refused_from (trees (map file_of xs)) cycle [] (map file_of (take i xs)) → map reported all ≡ refused_from (trees (map file_of xs)) cycle [] (map file_of xs)
+pub refused_all : (cycle : Option (ℕ × Pos)) (xs : List Source) (i : ℕ) (all : List Refusal) → length xs ≤ i → map report_of all ≡ refused_from (trees (map file_of xs)) cycle [] (map file_of (take i xs)) → map report_of all ≡ refused_from (trees (map file_of xs)) cycle [] (map file_of xs)
 refused_all cycle xs i all g is = is ∙ ap (λ (ys : List Source). refused_from (trees (map file_of xs)) cycle [] (map file_of ys)) (take_all i xs g)
 
 pub refused_some : (cycle : Option (ℕ × Pos)) (xs : List Source) (all : List Reported) → (xs ≡ [] → ⊥) → all ≡ refused_from (trees (map file_of xs)) cycle [] (map file_of xs) → all ≡ refused_of (map file_of xs) cycle
@@ -59,12 +59,12 @@ refused_some cycle [] all n is = absurd (n refl)
 refused_some cycle (x ∷ xs) all n is = is
 
 pub refused_next : (ms : List Module) (cycle : Option (ℕ × Pos)) (xs : List Source) (i : ℕ) (x : Source) (breach : Option Breach) (all all' : List Refusal) → ms ≡ trees (map file_of xs) → i < length xs → x ≡ get_or xs i x →
-    map reported all ≡ refused_from (trees (map file_of xs)) cycle [] (map file_of (take i xs)) →
+    map report_of all ≡ refused_from (trees (map file_of xs)) cycle [] (map file_of (take i xs)) →
     breach ≡ least_of (breaches_of ms (take i ms) x.given x.tree.now ++ cycle_breaches cycle i) →
-    map reported all' ≡ map reported all ++ reported_at x.name.now breach →
-    map reported all' ≡ refused_from (trees (map file_of xs)) cycle [] (map file_of (take (i + 1) xs))
+    map report_of all' ≡ map report_of all ++ reported_at x.name.now breach →
+    map report_of all' ≡ refused_from (trees (map file_of xs)) cycle [] (map file_of (take (i + 1) xs))
 refused_next ms cycle xs i x breach all all' e0 l e is found more =
     let ns = trees (map file_of xs) in
     refused_more cycle xs i x breach all all' l is
     (subst (λ (y : Source). breach ≡ least_of (breaches_of ns (take i ns) y.given y.tree.now ++ cycle_breaches cycle i)) e (same_breach ms ns cycle i x.given x.tree.now breach e0 found))
-    (subst (λ (y : Source). map reported all' ≡ map reported all ++ reported_at y.name.now breach) e more)
+    (subst (λ (y : Source). map report_of all' ≡ map report_of all ++ reported_at y.name.now breach) e more)

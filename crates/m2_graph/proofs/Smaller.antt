@@ -9,7 +9,7 @@ use Rattle.std.specs.Borrow.{Bor}
 use Rattle.m2_tree.specs.declared.decl.Module.{Module}
 use Rattle.m2_tree.specs.declared.name.Ident.{Ident}
 use Rattle.graph_walk.specs.Links.{has, times, AreEachOnce, flag, targets}
-use Rattle.m2_graph.specs.Imports.{is_definition, first_that, defines, definition_of, imported, links_of, links, needs_of, own_definition}
+use Rattle.m2_graph.specs.Imports.{is_definition, first_that, defines, definition_of, imports_of, links_of, links, needs_of, own_definition}
 use Rattle.m2_graph.specs.Jobs.{number_of, numbers_of, AreJobs}
 use Rattle.graph_walk.specs.Numbering.{IsNumbering}
 use Rattle.m2_graph.specs.Order.{body_numbers, IsJob, needs}
@@ -75,7 +75,7 @@ linked ms (x ∷ xs) t e = step (linked ms xs t) (definition_of ms x.name) refl 
     step later (Some w) q f = elim (or_true (w == t) (has (filter_map (λ (i : Ident). definition_of ms i.name) xs) t) f) [ inl same ↦ flag_definition ms x.name t (q ∙ ap Some (eqb-true w t same)) | inr more ↦ later more ]
 
 needed : (ms : List Module) (m : Module) (t : ℕ) → has (needs_of ms m) t ≡ true → flag (map is_definition ms) t ≡ true
-needed ms m t e = elim (or_true (has (own_definition ms m) t) (has (links_of ms m) t) (sym (has-append (own_definition ms m) (links_of ms m) t) ∙ e)) [ inl own ↦ step (is_definition m) (definition_of ms m.name.name) refl own | inr more ↦ linked ms (imported m) t more ]
+needed ms m t e = elim (or_true (has (own_definition ms m) t) (has (links_of ms m) t) (sym (has-append (own_definition ms m) (links_of ms m) t) ∙ e)) [ inl own ↦ step (is_definition m) (definition_of ms m.name.name) refl own | inr more ↦ linked ms (imports_of m) t more ]
   where
     step : (b : Bool) (o : Option ℕ) → definition_of ms m.name.name ≡ o → has (cond b [] (option_to_list o)) t ≡ true → flag (map is_definition ms) t ≡ true
     step true o q f = absurd (false≢true f)

@@ -14,13 +14,13 @@ use Rattle.graph_walk.proofs.Marking.{times-append, marked_within}
 use Rattle.graph_walk.proofs.Chains.{times_has, has_times, leads_from}
 use Rattle.graph_walk.proofs.Complete.{split_has, all_numbered, numbered_once}
 use Rattle.m2_graph.specs.Files.{File, AreInOrder, trees, given_of}
-use Rattle.m2_graph.specs.Imports.{is_definition, imported, links_of, links}
+use Rattle.m2_graph.specs.Imports.{is_definition, imports_of, links_of, links}
 use Rattle.m2_graph.specs.Graph.{IsJobs, CompileEach}
 use Rattle.m2_graph.specs.Order.{body_numbers}
 use Rattle.m2_graph.specs.Refused.{breach_where, breaches_of, least_of}
 use Rattle.m2_rule.specs.Breaches.{breach}
 use Rattle.m2_tree.specs.declared.refusal.Refusal.{Refusal}
-use Rattle.m2_graph.specs.Reported.{Reported, reported, reported_at, cycle_breaches, AreCycles, refused_from, refused_of, IsReported}
+use Rattle.m2_graph.specs.Reported.{Reported, report_of, reported_at, cycle_breaches, AreCycles, refused_from, refused_of, IsReported}
 use Rattle.m2_graph.proofs.Importing.{links_are_nodes}
 use Rattle.m2_graph.proofs.Deciding.{never_none, nothing_reported}
 use Rattle.m2_graph.proofs.Smaller.{linked, at_least, numbered_definition}
@@ -61,7 +61,7 @@ no_cycles fs h k l = step h.0 h.1 h.2
 to_definitions : (ms : List Module) (node t : ℕ) → has (targets (links ms) node) t ≡ true → flag (map is_definition ms) t ≡ true
 to_definitions [] node t h = absurd (false≢true h)
 to_definitions (m ∷ ms) node t h = elim (cases_lt node (length (m ∷ ms))) [
-  | inl l ↦ linked (m ∷ ms) (imported (get_or (m ∷ ms) node m)) t (ap (λ (ts : List ℕ). has ts t) (sym (get_or-map (links_of (m ∷ ms)) (m ∷ ms) node m [] l)) ∙ h)
+  | inl l ↦ linked (m ∷ ms) (imports_of (get_or (m ∷ ms) node m)) t (ap (λ (ts : List ℕ). has ts t) (sym (get_or-map (links_of (m ∷ ms)) (m ∷ ms) node m [] l)) ∙ h)
   | inr g ↦ absurd (false≢true (ap (λ (ts : List ℕ). has ts t) (sym (get_or_past (links (m ∷ ms)) node [] (omega (arith, g, many_links (m ∷ ms))))) ∙ h))
 ]
 
@@ -183,8 +183,8 @@ compiles_each fs compiled jobs fine o j =
 pub compiles_given : (given ordered borrowed : List File) (compiled : List ℕ) → AreInOrder given ordered → borrowed ≡ ordered → CompileEach borrowed compiled → CompileEach given compiled
 compiles_given given ordered borrowed compiled o e h = IsPermutation-trans (map (λ (f : File). f.given) given) (map (λ (f : File). f.given) ordered) compiled (IsPermutation-map (λ (f : File). f.given) given ordered o.same) (subst (λ (fs : List File). CompileEach fs compiled) e h)
 
-pub compiles_reported : (ms : List Module) (fs : List File) (refusals : List Refusal) (compiled : List ℕ) (jobs : List (List ℕ)) → ms ≡ trees fs → IsReported fs (map reported refusals) → refusals ≡ [] → HasCycleOrder (links ms) → IsJobs fs compiled jobs → CompileEach fs compiled
-compiles_reported ms fs refusals compiled jobs e reported_so none o j = compiles_each fs compiled jobs (subst (λ (rs : List Refusal). IsReported fs (map reported rs)) none reported_so) (subst (λ (xs : List Module). HasCycleOrder (links xs)) e o) j
+pub compiles_reported : (ms : List Module) (fs : List File) (refusals : List Refusal) (compiled : List ℕ) (jobs : List (List ℕ)) → ms ≡ trees fs → IsReported fs (map report_of refusals) → refusals ≡ [] → HasCycleOrder (links ms) → IsJobs fs compiled jobs → CompileEach fs compiled
+compiles_reported ms fs refusals compiled jobs e reported_so none o j = compiles_each fs compiled jobs (subst (λ (rs : List Refusal). IsReported fs (map report_of rs)) none reported_so) (subst (λ (xs : List Module). HasCycleOrder (links xs)) e o) j
 
 pub no_items : {X : Type 0} (xs : List X) (n : ℕ) → length xs ≡ n → true ≡ (n == 0) → xs ≡ []
 no_items [] n e z = refl

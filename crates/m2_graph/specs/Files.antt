@@ -13,13 +13,13 @@ pub record File : Type 0 where
   pub given : ℕ
 
 -- files of these names and modules, the first of which is the n-th that was given
-abbrev pub numbered : (n : ℕ) → List (List ℕ × Module) → List File
-numbered n [] = []
-numbered n (f ∷ fs) = record { name = f.0; tree = f.1; given = n } ∷ numbered (n + 1) fs
+abbrev pub number_files : (n : ℕ) → List (List ℕ × Module) → List File
+number_files n [] = []
+number_files n (f ∷ fs) = record { name = f.0; tree = f.1; given = n } ∷ number_files (n + 1) fs
 
 -- the files that a caller borrows, with their names
 abbrev pub files_of : List (Bor (List ℕ) × Bor Module) → List File
-files_of borrowed = numbered 0 (map (λ f. (f.0.now, f.1.now)) borrowed)
+files_of borrowed = number_files 0 (map (λ f. (f.0.now, f.1.now)) borrowed)
 
 -- the first file's name is less, byte by byte
 abbrev pub is_before : File → File → Bool

@@ -9,7 +9,7 @@ use Rattle.m2_graph.specs.Imports.{is_definition, is_program, implements, first_
 use Rattle.m2_graph.specs.Order.{IsJobOrder, IsJob}
 use Rattle.graph_walk.specs.Starts.{IsStartOrder}
 use Rattle.m2_graph.specs.Files.{File, AreInOrder, trees, given_of}
-use Rattle.m2_graph.specs.Reported.{reported, IsReported}
+use Rattle.m2_graph.specs.Reported.{report_of, IsReported}
 
 -- the body that starts where a walk comes to a module: for a definition its implementation
 abbrev pub body_of : List Module → ℕ → Option Module → Option ℕ
@@ -57,7 +57,7 @@ IsGraph given files jobs starts =
 -- what is refused in files in order, if memory did not run out
 abbrev pub IsRefusalOf : List File → GraphError → Type 0
 IsRefusalOf ordered (Refused refusals) =
-    IsReported ordered (map reported refusals.items) × ¬ (map reported refusals.items ≡ [])
+    IsReported ordered (map report_of refusals.items) × ¬ (map report_of refusals.items ≡ [])
 IsRefusalOf ordered NoMemory = Unit {0}
 
 -- the same of files as they are given

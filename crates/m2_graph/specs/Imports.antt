@@ -14,8 +14,8 @@ named_by (Some from) names = from ∷ []
 named_by None names = names
 
 -- the modules that a module imports, as they are written
-abbrev pub imported : Module → List Ident
-imported m = flat_map (λ i. named_by i.from i.names) m.imports
+abbrev pub imports_of : Module → List Ident
+imports_of m = flat_map (λ i. named_by i.from i.names) m.imports
 
 abbrev pub is_definition_part : Contents → Bool
 is_definition_part (Definition _) = true
@@ -55,7 +55,7 @@ definition_of modules name = first_that (defines name) modules
 -- The pairs: for each module, the definitions that it imports, as it imports them. A name without
 -- definition, as that of a built in module, makes no pair.
 abbrev pub links_of : List Module → Module → List ℕ
-links_of modules m = filter_map (λ i. definition_of modules i.name) (imported m)
+links_of modules m = filter_map (λ i. definition_of modules i.name) (imports_of m)
 
 abbrev pub links : List Module → List (List ℕ)
 links modules = map (links_of modules) modules

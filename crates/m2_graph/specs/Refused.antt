@@ -11,7 +11,7 @@ use Rattle.m2_tree.specs.declared.name.Ident.{Ident}
 use Rattle.m2_tree.specs.declared.decl.Module.{Module}
 use Rattle.m2_rule.specs.declared.breach.Breach.{Breach}
 use Rattle.m2_tree.specs.Names.{same_name, is_console}
-use Rattle.m2_graph.specs.Imports.{imported, is_definition, is_program, is_implementation, defines, implements, definition_of, first_that}
+use Rattle.m2_graph.specs.Imports.{imports_of, is_definition, is_program, is_implementation, defines, implements, definition_of, first_that}
 
 -- the place of a text's first byte
 abbrev pub first_place : Pos
@@ -81,7 +81,7 @@ max_files = 1024
 -- What is refused in the file with this many before it in order, and this many given before it.
 abbrev pub breaches_of : List Module → List Module → ℕ → Module → List Breach
 breaches_of modules before given m =
-    import_breaches modules m (imported m)
+    import_breaches modules m (imports_of m)
     ++ breach_where (is_repeated before m) m.name.pos rule.SecondFile
     ++ breach_where (is_second_program before m) m.name.pos rule.ProgramCount
     ++ breach_where (is_without_program modules before) first_place rule.ProgramCount

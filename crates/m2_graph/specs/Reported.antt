@@ -9,7 +9,7 @@ use Rattle.m2_tree.specs.declared.decl.Module.{Module}
 use Rattle.m2_tree.specs.declared.refusal.Refusal.{Refusal}
 use Rattle.m2_rule.specs.declared.breach.Breach.{Breach}
 use Rattle.graph_walk.specs.Links.{Leads, flag}
-use Rattle.m2_graph.specs.Imports.{imported, definition_of, links}
+use Rattle.m2_graph.specs.Imports.{imports_of, definition_of, links}
 use Rattle.m2_graph.specs.Refused.{first_place, breach_where, breaches_of, least_of}
 use Rattle.m2_rule.specs.Breaches.{breach}
 use Rattle.m2_graph.specs.Files.{File, trees}
@@ -49,17 +49,17 @@ pub record IsReportedCycle (modules : List Module) (node : ℕ) (pos : Pos) : Ty
   pub first : (other : ℕ) → other < node → ¬ Leads (links modules) other other
   pub tree : Module
   pub is_tree : slice_get modules node ≡ Some tree
-  pub back : IsBack modules node (imported tree) pos
+  pub back : IsBack modules node (imports_of tree) pos
 
 -- what is reported of cycles: nothing where there are none, else a definition, and the place of one
 -- of its imports
 abbrev pub AreCycles : List Module → Option (ℕ × Pos) → Type 0
 AreCycles modules None = (node : ℕ) → ¬ Leads (links modules) node node
-AreCycles modules (Some reported) = IsReportedCycle modules reported.0 reported.1
+AreCycles modules (Some report_of) = IsReportedCycle modules report_of.0 report_of.1
 
 abbrev pub cycle_breaches : Option (ℕ × Pos) → ℕ → List Breach
 cycle_breaches None number = []
-cycle_breaches (Some reported) number = breach_where (reported.0 == number) reported.1 rule.Cycle
+cycle_breaches (Some report_of) number = breach_where (report_of.0 == number) report_of.1 rule.Cycle
 
 -- ---- refusals
 
@@ -69,8 +69,8 @@ pub record Reported : Type 0 where
   pub pos : Pos
   pub number : ℕ
 
-abbrev pub reported : Refusal → Reported
-reported r = record { file = string_bytes r.file; pos = r.pos; number = r.number }
+abbrev pub report_of : Refusal → Reported
+report_of r = record { file = string_bytes r.file; pos = r.pos; number = r.number }
 
 abbrev pub reported_of : (file : List ℕ) → Breach → Reported
 reported_of file breach = record { file = file; pos = breach.pos; number = breach.number }

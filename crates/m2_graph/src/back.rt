@@ -4,7 +4,7 @@ ghost use Rattle.std.specs.Prelude.{◌≡◌, ◌<◌, ◌↔◌, ℕ, length, 
 ghost use Rattle.graph_walk.specs.Cycles.{HasCycleOrder};
 ghost use Rattle.graph_walk.specs.Links.{Leads};
 ghost use Rattle.graph_walk.specs.Turned.{IsTurned};
-ghost use Rattle.m2_graph.specs.Imports.{imported, links, named_by};
+ghost use Rattle.m2_graph.specs.Imports.{imports_of, links, named_by};
 ghost use Rattle.m2_graph.specs.Program.{modules_of, IsIndexed};
 ghost use Rattle.m2_graph.specs.Reported.{LeadsBack, AreLeading, IsFirstBack, AreCycles};
 
@@ -66,7 +66,7 @@ fn back_in_import(
 pub fn back_in(program: &Program<'_>, leading: &[bool], node: usize, tree: &Module) -> Option<Pos>
     requires indexed { IsIndexed program.now }
     requires leading { AreLeading (modules_of program.now) node leading.now }
-    ensures { IsFirstBack (modules_of program.now) node (imported tree.now) result }
+    ensures { IsFirstBack (modules_of program.now) node (imports_of tree.now) result }
 {
     let imports = tree.imports.as_slice();
     for import in imports {

@@ -1,7 +1,7 @@
 //! What is refused in a file, beside cycles.
 
 ghost use Rattle.std.specs.Prelude.{◌≡◌, ◌<◌, ◌++◌, ◌||◌, length, take, fold};
-ghost use Rattle.m2_graph.specs.Imports.{imported, named_by, is_program};
+ghost use Rattle.m2_graph.specs.Imports.{imports_of, named_by, is_program};
 ghost use Rattle.m2_graph.specs.Refused.{breach_where, least_with, least_of, is_built_in, is_bad_import, import_breaches, any_that, is_second, is_repeated, is_without_program, is_second_program, is_lone, breaches_of};
 ghost use Rattle.m2_graph.specs.Program.{modules_of, IsIndexed};
 ghost use Rattle.m2_graph.specs.Parts.{is_earlier};
@@ -130,7 +130,7 @@ fn is_lone(program: &Program<'_>, tree: &Module) -> bool
 /// The least breach of an import.
 fn import_breach(program: &Program<'_>, tree: &Module) -> Option<Breach>
     requires { IsIndexed program.now }
-    ensures { result ≡ least_of (import_breaches (modules_of program.now) tree.now (imported tree.now)) }
+    ensures { result ≡ least_of (import_breaches (modules_of program.now) tree.now (imports_of tree.now)) }
 {
     let mut found = None;
     let imports = tree.imports.as_slice();

@@ -7,7 +7,7 @@ ghost use Rattle.m2_graph.specs.Imports.{is_definition, links};
 ghost use Rattle.graph_walk.specs.Numbering.{IsNumbering};
 ghost use Rattle.m2_graph.specs.Program.{modules_of, IsIndexed};
 ghost use Rattle.m2_graph.specs.Sources.{file_of};
-ghost use Rattle.m2_graph.specs.Reported.{reported, IsReported};
+ghost use Rattle.m2_graph.specs.Reported.{report_of, IsReported};
 
 use crate::back::cycle_of;
 use crate::imports::links;
@@ -15,7 +15,7 @@ use crate::numbering::numbering_of;
 use crate::program::Program;
 use crate::reported::refused_of;
 use crate::sources::Source;
-use graph_walk::turned;
+use graph_walk::reverse_links;
 use m2_tree::Refusal;
 use std::alloc::{AllocError, Global};
 use tree_parts::Items;
@@ -35,14 +35,14 @@ pub fn decide(
 ) -> Result<Decided, AllocError>
     requires indexed { IsIndexed program.now }
     requires same { modules_of program.now ≡ trees (map file_of sources.now) }
-    ensures reported { IfOk result (λ j. IsReported (map file_of sources.now) (map reported j.refusals.items)) }
+    ensures reported { IfOk result (λ j. IsReported (map file_of sources.now) (map report_of j.refusals.items)) }
     ensures numbering { IfOk result (λ j.
         IsNumbering (links (modules_of program.now))
         (map is_definition (modules_of program.now)) j.numbered) }
     ensures order { OnOk result (HasCycleOrder (links (modules_of program.now))) }
 {
     let pairs = links(alloc, program)?;
-    let back = turned(alloc, &pairs)?;
+    let back = reverse_links(alloc, &pairs)?;
     let numbered = numbering_of(alloc, program, &pairs, &back)?;
     let cycle = cycle_of(alloc, program, &pairs, &back)?;
     let refusals = refused_of(alloc, program, cycle, sources)?;

@@ -4,7 +4,7 @@ ghost use Rattle.std.specs.Prelude.{◌≡◌, ◌<◌, ◌++◌, length, map, I
 ghost use Rattle.std.specs.List.{All, filter_map};
 ghost use Rattle.std.specs.Option.{option_to_list};
 ghost use Rattle.graph_walk.specs.Links.{AreNodes};
-ghost use Rattle.m2_graph.specs.Imports.{named_by, imported, is_definition, is_program, is_implementation, first_that, definition_of, links_of, links};
+ghost use Rattle.m2_graph.specs.Imports.{named_by, imports_of, is_definition, is_program, is_implementation, first_that, definition_of, links_of, links};
 ghost use Rattle.m2_graph.specs.Program.{modules_of, IsIndexed};
 
 use crate::program::{Program, definition_of};

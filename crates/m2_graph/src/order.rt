@@ -12,7 +12,7 @@ use crate::imports::is_definition;
 use crate::jobs::{places_of, prerequisites};
 use crate::needs::needs_of;
 use crate::program::Program;
-use graph_walk::unmarked;
+use graph_walk::no_marks;
 use m2_tree::Module;
 use std::alloc::{AllocError, Global};
 use tree_parts::Items;
@@ -81,7 +81,7 @@ pub fn jobs_of(
         (map (λ job. job.items) jobs.items)) }
 {
     let places = places_of(alloc, program.modules.len(), order)?;
-    let mut flags = unmarked(alloc, order.len())?;
+    let mut flags = no_marks(alloc, order.len())?;
     let mut jobs = Vec::new(alloc);
     for node in order {
         jobs.push(job_of(alloc, program, &places, *node, &mut flags)?)?;

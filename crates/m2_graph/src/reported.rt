@@ -5,7 +5,7 @@ ghost use Rattle.m2_graph.specs.Files.{trees};
 ghost use Rattle.m2_graph.specs.Program.{modules_of, IsIndexed};
 ghost use Rattle.m2_graph.specs.Refused.{breaches_of, least_of};
 ghost use Rattle.m2_graph.specs.Sources.{file_of};
-ghost use Rattle.m2_graph.specs.Reported.{cycle_breaches, reported, reported_of, reported_at, refused_from, refused_of};
+ghost use Rattle.m2_graph.specs.Reported.{cycle_breaches, report_of, reported_of, reported_at, refused_from, refused_of};
 
 use crate::breaches::{FIRST_PLACE, breach_of};
 use crate::program::Program;
@@ -15,7 +15,7 @@ use m2_tree::{Pos, Refusal};
 use std::alloc::{AllocError, Global};
 
 fn refusal(alloc: Global, file: &str, breach: Breach) -> Result<Refusal, AllocError>
-    ensures { IfOk result (λ r. reported r ≡ reported_of file.now breach) }
+    ensures { IfOk result (λ r. report_of r ≡ reported_of file.now breach) }
 {
     Ok(Refusal {
         file: String::from_str(alloc, file)?,
@@ -32,7 +32,7 @@ fn add_refusal(
     refusals: &mut Vec<Refusal>,
 ) -> Result<(), AllocError>
     ensures { OnOk result
-        (map reported refusals.new.items ≡ map reported refusals.old.items ++ reported_at file.now breach) }
+        (map report_of refusals.new.items ≡ map report_of refusals.old.items ++ reported_at file.now breach) }
 {
     match breach {
         None => Ok(()),
@@ -53,7 +53,7 @@ fn refused_from(
     requires indexed { IsIndexed program.now }
     requires same { modules_of program.now ≡ trees (map file_of sources.now) }
     ensures { IfOk result (λ rs.
-        map reported rs.items
+        map report_of rs.items
         ≡ refused_from (trees (map file_of sources.now)) cycle []
         (map file_of sources.now)) }
 {
@@ -74,7 +74,7 @@ pub fn refused_of(
 ) -> Result<Vec<Refusal>, AllocError>
     requires indexed { IsIndexed program.now }
     requires same { modules_of program.now ≡ trees (map file_of sources.now) }
-    ensures { IfOk result (λ rs. map reported rs.items ≡ refused_of (map file_of sources.now) cycle) }
+    ensures { IfOk result (λ rs. map report_of rs.items ≡ refused_of (map file_of sources.now) cycle) }
 {
     if sources.is_empty() {
         let mut refusals = Vec::new(alloc);

@@ -15,7 +15,7 @@ pub struct Source<'a> {
     pub given: usize,
 }
 
-fn borrowed<'a>(
+fn borrow_sources<'a>(
     alloc: Global,
     files: &[(&'a str, &'a Module)],
 ) -> Result<Vec<Source<'a>>, AllocError>
@@ -35,7 +35,7 @@ pub fn in_order<'a>(
 ) -> Result<Vec<Source<'a>>, AllocError>
     ensures { IfOk result (λ ordered. AreInOrder (files_of files.now) (map file_of ordered.items)) }
 {
-    let mut ordered = borrowed(alloc, files)?;
+    let mut ordered = borrow_sources(alloc, files)?;
     ordered.sort_by(|f, g| f.name.as_bytes().cmp(&g.name.as_bytes()))?;
     Ok(ordered)
 }

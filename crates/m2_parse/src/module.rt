@@ -7,7 +7,7 @@ ghost use Rattle.def_grammar.specs.Rule.{import_rule, module_rule};
 ghost use Rattle.def_grammar.specs.Grammar.{◌·◌, ◌▸◌, ◌◂◌, many, named, opt};
 ghost use Rattle.def_grammar.specs.Ebnf.{contents, def, definitions, ident, import, symbol};
 ghost use Rattle.def_grammar.specs.Tables.{symbols};
-ghost use Rattle.def_grammar.specs.Trees.{held_by, ident_of, is_there, module_with};
+ghost use Rattle.def_grammar.specs.Trees.{contents_with, ident_of, is_there, module_with};
 ghost use Rattle.def_grammar.specs.Refusal.{max_nesting, Answers, IsTree, Parses};
 ghost use Rattle.def_grammar.specs.Reading.{is_among, read, read_rule, Reads, ReadsAs};
 
@@ -32,8 +32,8 @@ fn begins_import(kind: Kind) -> bool
 }
 
 /// The contents of a module that is no definition module.
-fn held_by(is_implementation: bool, block: Block) -> Contents
-    ensures { result ≡ held_by is_implementation block }
+fn contents_with(is_implementation: bool, block: Block) -> Contents
+    ensures { result ≡ contents_with is_implementation block }
 {
     if is_implementation {
         Contents::Implementation(block)
@@ -126,7 +126,7 @@ fn definition_module(cursor: &mut Cursor) -> Result<Module, Stop>
 
 /// An implementation module or a program module.
 fn other_module(cursor: &mut Cursor) -> Result<Module, Stop>
-    ensures { ReadsAs (λ p. module_with p.1.0 p.1.1.0 (held_by (is_there p.0) p.1.1.1))
+    ensures { ReadsAs (λ p. module_with p.1.0 p.1.1.0 (contents_with (is_there p.0) p.1.1.1))
         (read (opt (symbol Implementation) · Symbol.Module ▸ named contents ◂ Dot) max_nesting
         cursor.old) result cursor.new }
 {
@@ -139,7 +139,7 @@ fn other_module(cursor: &mut Cursor) -> Result<Module, Stop>
     Ok(Module {
         name,
         imports,
-        contents: held_by(is_implementation, block),
+        contents: contents_with(is_implementation, block),
     })
 }
 

@@ -9,18 +9,18 @@ use mathlib.Core.List.{map-append}
 use Rattle.once_cell.specs.Once.{Agrees}
 use Rattle.pool_board.specs.Lists.{times}
 use Rattle.pool_board.specs.Graph.{prerequisites_of, IsJobGraph}
-use Rattle.pool_board.specs.Results.{with_item, picked, AreCoherent, IsCopy, IsRan}
+use Rattle.pool_board.specs.Results.{with_item, items_at, AreCoherent, IsCopy, IsRan}
 use Rattle.pool_board.proofs.Picks.{get_in}
 use Rattle.pool_board.proofs.Resulting.{get_before, get_last, inside, item, same_picked, here_once, there_too}
 use Rattle.m2_pool.specs.Settled.{IsAnswered, IsFounded, IsSettled, all_settled, known_at, known_in}
 use Rattle.m2_pool.proofs.Items.{next_in}
 
 -- the names of the jobs' cells, where each job has one
-in_range : (names ps : List ℕ) → ((p : ℕ) → 0 < times p ps → p < length names) → map Some (picked names ps) ≡ map (slice_get names) ps
+in_range : (names ps : List ℕ) → ((p : ℕ) → 0 < times p ps → p < length names) → map Some (items_at names ps) ≡ map (slice_get names) ps
 in_range names [] low = refl
 in_range names (p ∷ ps) low =
     let here : slice_get names p ≡ Some (get_or names p 0) = get_in names p 0 (low p (here_once p ps)) in
-    ap (λ (o : Option ℕ). map Some (with_item o (picked names ps))) here
+    ap (λ (o : Option ℕ). map Some (with_item o (items_at names ps))) here
     ∙ (ap (λ l. Some (get_or names p 0) ∷ l) (in_range names ps (λ q l. low q (there_too p q ps l)))
     ∙ ap (λ (o : Option ℕ). o ∷ map (slice_get names) ps) (sym here))
 
@@ -35,14 +35,14 @@ its_cell_at cell_of names (j ∷ js) (u ∷ us) (suc i) note e l is =
     let low : i < length js = t.0 in
     (omega arith, t.1)
 
-pub same_long : {N : Type 0} (cell_of : N → ℕ) (names jobs : List ℕ) (used : List N) → map cell_of used ≡ picked names jobs → ((p : ℕ) → 0 < times p jobs → p < length names) → length used ≡ length jobs
+pub same_long : {N : Type 0} (cell_of : N → ℕ) (names jobs : List ℕ) (used : List N) → map cell_of used ≡ items_at names jobs → ((p : ℕ) → 0 < times p jobs → p < length names) → length used ≡ length jobs
 same_long cell_of names jobs used e low =
     sym (length-map used cell_of)
     ∙ (ap (λ l. length l) e
-    ∙ (sym (length-map (picked names jobs) Some) ∙ (ap (λ l. length l) (in_range names jobs low) ∙ length-map jobs (slice_get names))))
+    ∙ (sym (length-map (items_at names jobs) Some) ∙ (ap (λ l. length l) (in_range names jobs low) ∙ length-map jobs (slice_get names))))
 
 -- the cell of a note is that of its prerequisite
-its_cell : {N : Type 0} (cell_of : N → ℕ) (names jobs : List ℕ) (used : List N) (i : ℕ) (note : N) → map cell_of used ≡ picked names jobs → ((p : ℕ) → 0 < times p jobs → p < length names) → i < length used → get_or used i note ≡ note
+its_cell : {N : Type 0} (cell_of : N → ℕ) (names jobs : List ℕ) (used : List N) (i : ℕ) (note : N) → map cell_of used ≡ items_at names jobs → ((p : ℕ) → 0 < times p jobs → p < length names) → i < length used → get_or used i note ≡ note
     → (i < length jobs) × (slice_get names (get_or jobs i 0) ≡ Some (cell_of note))
 its_cell cell_of names jobs used i note e low l is = its_cell_at cell_of names jobs used i note (ap (map Some) e ∙ in_range names jobs low) l is
 
@@ -54,7 +54,7 @@ have_cells name graph cells job is_graph low long p l =
     omega arith
 
 -- the next note is that of the cell of the next prerequisite
-pub next_cell : {N : Type 0} (cell_of : N → ℕ) (names jobs : List ℕ) (used yielded rest more : List N) (note : N) (place : ℕ) → yielded ++ rest ≡ used → rest ≡ note ∷ more → place ≡ length yielded → map cell_of used ≡ picked names jobs
+pub next_cell : {N : Type 0} (cell_of : N → ℕ) (names jobs : List ℕ) (used yielded rest more : List N) (note : N) (place : ℕ) → yielded ++ rest ≡ used → rest ≡ note ∷ more → place ≡ length yielded → map cell_of used ≡ items_at names jobs
     → ((p : ℕ) → 0 < times p jobs → p < length names) → (place < length jobs) × (slice_get names (get_or jobs place 0) ≡ Some (cell_of note))
 next_cell cell_of names jobs used yielded rest more note place whole head is e low =
     let at = next_in yielded rest more used note whole head in
@@ -190,7 +190,7 @@ module _ {N X : Type 0} (cell_of : N → ℕ) (known_of : N → Option X) (names
 
     -- what comes of the cells comes of the answers, which are copies, one after another
     replaced : (notes : List (Option N)) (xs : List X) → ((p : ℕ) → IfSome (get_or notes p None) (Answers xs p)) → (job : ℕ) (y : X) (ps : List ℕ) (before outs : List X) → map (known_at known_of notes) ps ≡ map Some outs
-        → defines job (before ++ outs) y → defines job (before ++ picked xs ps) y
+        → defines job (before ++ outs) y → defines job (before ++ items_at xs ps) y
     replaced notes xs all job y [] before [] e d = d
     replaced notes xs all job y [] before (o ∷ os) e d = absurd (cc e)
     replaced notes xs all job y (p ∷ ps) before [] e d = absurd (cc e)
@@ -201,15 +201,15 @@ module _ {N X : Type 0} (cell_of : N → ℕ) (known_of : N → Option X) (names
         let P : List X → Type 0 = λ l. defines job l y in
         let served = here.2.serves job before os y d in
         let onward = replaced notes xs all job y ps (before ++ here.0 ∷ []) os tail (subst P (sym (append_assoc before (here.0 ∷ []) os)) served) in
-        subst (λ (i : Option X). defines job (before ++ with_item i (picked xs ps)) y) (sym here.1) (subst P (append_assoc before (here.0 ∷ []) (picked xs ps)) onward)
+        subst (λ (i : Option X). defines job (before ++ with_item i (items_at xs ps)) y) (sym here.1) (subst P (append_assoc before (here.0 ∷ []) (items_at xs ps)) onward)
 
-    pub of_answers : (notes : List (Option N)) (xs : List X) (ps : List ℕ) (job : ℕ) (x : X) → ((p : ℕ) → IfSome (get_or notes p None) (Answers xs p)) → IsFounded known_of notes defines ps job x → defines job (picked xs ps) x
+    pub of_answers : (notes : List (Option N)) (xs : List X) (ps : List ℕ) (job : ℕ) (x : X) → ((p : ℕ) → IfSome (get_or notes p None) (Answers xs p)) → IsFounded known_of notes defines ps job x → defines job (items_at xs ps) x
     of_answers notes xs ps job x all is = replaced notes xs all job x ps [] is.outs is.known_are is.defined
 
     -- what was kept of a job comes of the answers
     pub kept_from : {B : Type 0} (value : B → X) (notes : List (Option N)) (xs : List X) (ps : List ℕ) (job : ℕ) (kept : Option (Result N B)) → ((p : ℕ) → IfSome (get_or notes p None) (Answers xs p))
         → IfSome kept (λ k. MatchResult k (λ n. (s : Settles job n) × IsFounded known_of notes defines ps job s.out) (λ b. IsFounded known_of notes defines ps job (value b)))
-        → IfSome kept (λ k. MatchResult k (λ n. (s : Settles job n) × defines job (picked xs ps) s.out) (λ b. defines job (picked xs ps) (value b)))
+        → IfSome kept (λ k. MatchResult k (λ n. (s : Settles job n) × defines job (items_at xs ps) s.out) (λ b. defines job (items_at xs ps) (value b)))
     kept_from value notes xs ps job None all is = tt
     kept_from value notes xs ps job (Some (Ok n)) all is = (is.0, of_answers notes xs ps job is.0.out all is.1)
     kept_from value notes xs ps job (Some (Err b)) all is = of_answers notes xs ps job (value b) all is
@@ -236,17 +236,17 @@ module _ {N X : Type 0} (cell_of : N → ℕ) (known_of : N → Option X) (names
         (places_more (Answers (xs ++ x ∷ [])) os os' os'' o o j same pushed refl at (λ p. answered_on (get_or os p None) xs (x ∷ []) p (all p)) (newly o xs x j at_x here))
 
 -- as many are picked as places are there
-pub picks_all : {X : Type 0} (xs : List X) (ps : List ℕ) → ((p : ℕ) → 0 < times p ps → p < length xs) → length (picked xs ps) ≡ length ps
+pub picks_all : {X : Type 0} (xs : List X) (ps : List ℕ) → ((p : ℕ) → 0 < times p ps → p < length xs) → length (items_at xs ps) ≡ length ps
 picks_all xs [] low = refl
 picks_all {X} xs (p ∷ ps) low =
     let there = item xs p (low p (here_once p ps)) in
-    ap (λ (o : Option X). length (with_item o (picked xs ps))) there.1 ∙ ap suc (picks_all xs ps (λ q l. low q (there_too p q ps l)))
+    ap (λ (o : Option X). length (with_item o (items_at xs ps))) there.1 ∙ ap suc (picks_all xs ps (λ q l. low q (there_too p q ps l)))
 
 module _ {X : Type 0} (graph : List (List ℕ)) (defines : ℕ → List X → X → Type 0) where
   -- and one more result
-  pub next_result : IsJobGraph graph → (j : ℕ) (xs xs' : List X) (x : X) → j ≡ length xs → j < length graph → xs' ≡ xs ++ x ∷ [] → AreCoherent graph defines xs → defines j (picked xs (prerequisites_of graph j)) x → AreCoherent graph defines xs'
+  pub next_result : IsJobGraph graph → (j : ℕ) (xs xs' : List X) (x : X) → j ≡ length xs → j < length graph → xs' ≡ xs ++ x ∷ [] → AreCoherent graph defines xs → defines j (items_at xs (prerequisites_of graph j)) x → AreCoherent graph defines xs'
   next_result is_graph j xs xs' x at low pushed are one =
-      let picks : (k : ℕ) → k ≤ j → picked xs (prerequisites_of graph k) ≡ picked (xs ++ x ∷ []) (prerequisites_of graph k) =
+      let picks : (k : ℕ) → k ≤ j → items_at xs (prerequisites_of graph k) ≡ items_at (xs ++ x ∷ []) (prerequisites_of graph k) =
       λ k most. same_picked xs (xs ++ x ∷ []) (prerequisites_of graph k) (λ p some_time. let less : p < k = (is_graph k p (omega (arith, most, low))).0 some_time in sym (get_before xs (x ∷ []) p (omega (arith, less, most, at)))) in
       let all : AreCoherent graph defines (xs ++ x ∷ []) = λ job y is. elim (cases_lt job (length xs)) [
         | inl less ↦ subst (λ l. defines job l y) (picks job (omega (arith, less, at))) (are job y (sym (get_before xs (x ∷ []) job less) ∙ is))
@@ -255,8 +255,8 @@ module _ {X : Type 0} (graph : List (List ℕ)) (defines : ℕ → List X → X 
             let here : job ≡ length xs = omega (arith, most, long, inside (xs ++ x ∷ []) job y is) in
             let value : slice_get (xs ++ x ∷ []) job ≡ Some x = get_last xs x job here in
             let same : x ≡ y = cc (value, is) in
-            let J : ℕ → Type 0 = λ k. defines k (picked (xs ++ x ∷ []) (prerequisites_of graph k)) x in
-            subst (λ z. defines job (picked (xs ++ x ∷ []) (prerequisites_of graph job)) z) same (subst J (at ∙ sym here) (subst (λ l. defines j l x) (picks j (omega arith)) one))
+            let J : ℕ → Type 0 = λ k. defines k (items_at (xs ++ x ∷ []) (prerequisites_of graph k)) x in
+            subst (λ z. defines job (items_at (xs ++ x ∷ []) (prerequisites_of graph job)) z) same (subst J (at ∙ sym here) (subst (λ l. defines j l x) (picks j (omega arith)) one))
       ] in
       subst (AreCoherent graph defines) (sym pushed) all
 

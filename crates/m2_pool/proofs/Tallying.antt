@@ -1,7 +1,7 @@
 -- The tally has each job once, and nothing else.
 use Rattle.std.proofs.Common.{◌≡◌, ◌≢◌, ℕ, zero, suc, ◌<◌, ◌≤◌, List, ◌++◌, length, map, All, eqb, eq-eqb, ne_eqb, refl, ap, ◌∙◌, ⊎_elim, arith}
 use Rattle.std.proofs.lemmas.Bool.{cases_eq, cases_lt, lt-ltb, le-ltb}
-use Rattle.pool_board.specs.Lists.{times, listed}
+use Rattle.pool_board.specs.Lists.{times, one_list}
 use Rattle.pool_board.specs.Rule.{AreCounted, IsConsistent, IsSourced}
 use Rattle.pool_board.specs.Seats.{SeatState, all_had, all_met, all_counts, without}
 use Rattle.pool_board.proofs.Consistent.{bit, one_if}
@@ -20,14 +20,14 @@ none_beyond had (suc n) job l =
     (cases_eq (times n had) 0)
 
 module _ (graph : List (List ℕ)) (seats : List SeatState) (lists : List (List ℕ)) (left : List ℕ) (lists_are : lists ≡ map (λ s. s.had) seats) (left_is : left ≡ without (all_had seats) (length graph))
-    (each : (job : ℕ) → job < length graph → times job (listed lists ++ left) ≡ 1) (consistent : IsConsistent graph (all_had seats) (all_met seats) (all_counts seats)) where
+    (each : (job : ℕ) → job < length graph → times job (one_list lists ++ left) ≡ 1) (consistent : IsConsistent graph (all_had seats) (all_met seats) (all_counts seats)) where
   -- a number that is no job stands in no list
-  no_other : (number : ℕ) → length graph ≤ number → times number (listed lists ++ left) ≡ 0
+  no_other : (number : ℕ) → length graph ≤ number → times number (one_list lists ++ left) ≡ 0
   no_other number beyond =
-      let in_lists : times number (listed lists) ≡ times number (all_had seats) = ap (λ (l : List (List ℕ)). times number (listed l)) lists_are ∙ ap (times number) (listed-map (λ (s : SeatState). s.had) seats) in
+      let in_lists : times number (one_list lists) ≡ times number (all_had seats) = ap (λ (l : List (List ℕ)). times number (one_list l)) lists_are ∙ ap (times number) (listed-map (λ (s : SeatState). s.had) seats) in
       let in_left : times number left ≡ 0 = ap (times number) left_is ∙ none_beyond (all_had seats) (length graph) number beyond in
       let not_had : times number (all_had seats) ≡ 0 = ⊎_elim (λ (e : times number (all_had seats) ≡ 0). e) (λ (ne : times number (all_had seats) ≢ 0). absurd (let low = consistent.jobs number (omega arith) in omega arith)) (cases_eq (times number (all_had seats)) 0) in
-      omega (arith, weigh-append (λ y. bit (eqb y number)) (listed lists) left)
+      omega (arith, weigh-append (λ y. bit (eqb y number)) (one_list lists) left)
 
   pub is_tally : (workers : ℕ) → length seats ≡ workers → All (λ s. IsSourced s.had s.counts) seats → All (λ s. AreCounted graph s.had s.counts) seats → IsTally graph workers lists left
   is_tally workers count sources counted = record {

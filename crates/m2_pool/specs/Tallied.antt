@@ -1,6 +1,6 @@
 -- What the tally of a run says.
 use Rattle.std.specs.Prelude.{◌≡◌, ℕ, List, ◌++◌, length, map, All, nat_lt, if◌then◌else◌}
-use Rattle.pool_board.specs.Lists.{times, listed}
+use Rattle.pool_board.specs.Lists.{times, one_list}
 use Rattle.pool_board.specs.Rule.{AreCounted, IsConsistent, IsSourced}
 use Rattle.pool_board.specs.Seats.{SeatState, all_had, all_met, all_counts, without}
 
@@ -10,7 +10,7 @@ pub record IsTally (graph : List (List ℕ)) (workers : ℕ) (lists : List (List
     : Type 0 where
   -- together the lists have each job once, and nothing else
   pub each : (number : ℕ)
-      → times number (listed lists ++ left) ≡ (if nat_lt number (length graph) then 1 else 0)
+      → times number (one_list lists ++ left) ≡ (if nat_lt number (length graph) then 1 else 0)
   pub seats : List SeatState
   pub count_is : length seats ≡ workers
   pub lists_are : lists ≡ map (λ s. s.had) seats

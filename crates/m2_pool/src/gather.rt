@@ -3,7 +3,7 @@ ghost use Rattle.std.specs.Prelude.{◌≡◌, ℕ, List, ◌<◌, length, map, 
 ghost use Rattle.once_cell.specs.Once.{cell_name, Agrees};
 ghost use Rattle.pool_board.specs.Lists.{times};
 ghost use Rattle.pool_board.specs.Graph.{prerequisites_of};
-ghost use Rattle.pool_board.specs.Results.{picked, AreCoherent, AreResults, IsCopy, IsRan, IsMade};
+ghost use Rattle.pool_board.specs.Results.{items_at, AreCoherent, AreResults, IsCopy, IsRan, IsMade};
 ghost use Rattle.m2_pool.specs.Settled.{IsFounded, IsSettled, all_settled, known_at};
 
 use once_cell::race::Note;
@@ -11,7 +11,7 @@ use pool_board::{Gate, Pool, Ran, Work};
 use std::alloc::{AllocError, Global};
 
 /// For each job what a worker handed back of it, or nothing where no worker ran it.
-pub fn placed<W: Work, G: Gate>(
+pub fn place_results<W: Work, G: Gate>(
     alloc: Global,
     pool: &Pool<'_, W, G>,
     all: Vec<Ran<W>>,
@@ -75,7 +75,7 @@ fn no_places<W: Work>(alloc: Global, jobs: usize) -> Result<Vec<Option<Ran<W>>>,
 /// A job is settled if a worker set its cell and all its prerequisites are settled: what the worker used of them are then
 /// what their cells hold, and their results are copies of it. A result that was handed back, since its cell was set before,
 /// is taken if its prerequisites are settled.
-pub fn gathered<W: Work, G: Gate>(
+pub fn gather_results<W: Work, G: Gate>(
     alloc: Global,
     pool: &Pool<'_, W, G>,
     places: Vec<Option<Ran<W>>>,
@@ -167,7 +167,7 @@ fn agree<W: Work, G: Gate>(
 ) -> bool
     requires job { job < length pool.now.graph.now }
     requires used { map (λ u. u.cell) used.items
-        ≡ picked (map cell_name pool.now.cells.now) (prerequisites_of pool.now.graph.now job) }
+        ≡ items_at (map cell_name pool.now.cells.now) (prerequisites_of pool.now.graph.now job) }
     requires settled { (p : ℕ)
         → IfSome (slice_index_or settled.old.items p None)
         (λ n. IsSettled (map cell_name pool.now.cells.now) p n.cell n.known) }
@@ -203,11 +203,11 @@ fn agrees<T>(settled: &mut Vec<Option<Note<T>>>, job: usize, used: Note<T>) -> b
     if job >= settled.len() {
         return false;
     }
-    compared(&mut settled[job], used)
+    note_matches(&mut settled[job], used)
 }
 
 // Compares what was used with the note, if there is one.
-fn compared<T>(own: &mut Option<Note<T>>, used: Note<T>) -> bool
+fn note_matches<T>(own: &mut Option<Note<T>>, used: Note<T>) -> bool
     requires { IfSome own.old (λ n. used.cell ≡ n.cell) }
     ensures same { own.new ≡ own.old }
     ensures agree { MatchOption own.old (result ≡ false)
@@ -233,7 +233,7 @@ fn one<W: Work, G: Gate>(
 ) -> Result<(W::Out, Option<Note<W::Out>>), AllocError>
     requires job { job < length pool.now.graph.now }
     requires kept { let defined = W.defines pool.now.work.now job
-        (picked before.now (prerequisites_of pool.now.graph.now job)) in
+        (items_at before.now (prerequisites_of pool.now.graph.now job)) in
         IfSome kept (λ k.
         MatchResult k (λ n.
         (s : IsSettled (map cell_name pool.now.cells.now) job n.cell n.known) × defined s.out)
@@ -241,7 +241,7 @@ fn one<W: Work, G: Gate>(
     requires before { length before.now ≡ job }
     ensures out { IfOk result (λ r.
         W.defines pool.now.work.now job
-        (picked before.now (prerequisites_of pool.now.graph.now job)) r.0) }
+        (items_at before.now (prerequisites_of pool.now.graph.now job)) r.0) }
     ensures note { IfOk result (λ r.
         IfSome r.1 (λ n.
         (s : IsSettled (map cell_name pool.now.cells.now) job n.cell n.known)
@@ -249,7 +249,7 @@ fn one<W: Work, G: Gate>(
 {
     match kept {
         Some(Ok(mut note)) => {
-            let out = copied(pool, job, &mut note)?;
+            let out = copy_results(pool, job, &mut note)?;
             Ok((out, Some(note)))
         }
         Some(Err(out)) => Ok((Box::into_inner(out), None)),
@@ -258,7 +258,7 @@ fn one<W: Work, G: Gate>(
 }
 
 // A copy of what the cell of a settled job holds.
-fn copied<W: Work, G: Gate>(
+fn copy_results<W: Work, G: Gate>(
     pool: &Pool<'_, W, G>,
     job: usize,
     note: &mut Note<W::Out>,
@@ -288,7 +288,7 @@ fn run_here<W: Work, G: Gate>(
     requires job { job < length pool.now.graph.now }
     requires before { length before.now ≡ job }
     ensures { IfOk result
-        (W.defines pool.now.work.now job (picked before.now (prerequisites_of pool.now.graph.now job))) }
+        (W.defines pool.now.work.now job (items_at before.now (prerequisites_of pool.now.graph.now job))) }
 {
     let _jobs = pool.graph.jobs();
     let outs = picks(alloc, before, pool.graph.prerequisites(job))?;
@@ -297,7 +297,7 @@ fn run_here<W: Work, G: Gate>(
 
 // The results of these jobs, among the results of the first jobs.
 fn picks<'o, X>(alloc: Global, outs: &'o [X], jobs: &[usize]) -> Result<Vec<&'o X>, AllocError>
-    ensures { IfOk result (λ v. map (λ x. x.now) v.items ≡ picked outs.now jobs.now) }
+    ensures { IfOk result (λ v. map (λ x. x.now) v.items ≡ items_at outs.now jobs.now) }
 {
     let mut found = Vec::with_capacity(alloc, jobs.len())?;
     for job in jobs {

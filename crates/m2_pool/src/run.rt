@@ -5,7 +5,7 @@ ghost use Rattle.pool_board.specs.Seats.{IsAllSeats, IsWorked, all_had, max_work
 ghost use Rattle.pool_board.specs.Results.{AreResults, IsRan, IsMade};
 ghost use Rattle.m2_pool.specs.Tallied.{IsTally};
 
-use crate::gather::{gathered, placed};
+use crate::gather::{gather_results, place_results};
 use crossbeam_deque::{Stealer, Worker};
 use once_cell::race::OnceBox;
 use pool_board::{
@@ -91,9 +91,9 @@ pub fn run_on<R: Threads + Sync, W: Work, G: Gate>(
     };
     let members = members_of(alloc, seats, owns)?;
     let ended = all_work(rt, alloc, &pool, members)?;
-    let (seats, all) = returned(alloc, &pool, ended)?;
-    let places = placed(alloc, &pool, all)?;
-    let outs = gathered(alloc, &pool, places)?;
+    let (seats, all) = return_result(alloc, &pool, ended)?;
+    let places = place_results(alloc, &pool, all)?;
+    let outs = gather_results(alloc, &pool, places)?;
     let tally = board.close(seats);
     Ok((outs, tally))
 }
@@ -217,7 +217,7 @@ fn all_work<R: Threads + Sync, W: Work, G: Gate>(
 }
 
 // The seats that came back, and all that was run, if no worker was refused memory.
-fn returned<W: Work, G: Gate>(
+fn return_result<W: Work, G: Gate>(
     alloc: Global,
     pool: &Pool<'_, W, G>,
     ended: Vec<Result<Member<W>, AllocError>>,

@@ -3,6 +3,6 @@ use Rattle.std.specs.Prelude.{ℕ, List}
 use Rattle.m2_tree.specs.declared.bytes.Place.{Place}
 use Rattle.m2_tree.specs.declared.bytes.Place.TheVariants as the
 
-abbrev pub placed : Place → List ℕ
-placed (the.Inline list) = list
-placed (the.Shared arc) = arc.value.items
+abbrev pub bytes_at_place : Place → List ℕ
+bytes_at_place (the.Inline list) = list
+bytes_at_place (the.Shared arc) = arc.value.items

@@ -18,15 +18,15 @@ struct Inline {
 
 impl Model for Inline {
     ghost use Rattle.std.specs.Prelude.{◌≡◌, ◌≤◌, ◌-◌, ◌++◌, ℕ, List, length, take, replicate};
-    ghost use Rattle.m2_tree.specs.InlineBytes.{filled, kept_whole};
+    ghost use Rattle.m2_tree.specs.InlineBytes.{fill_place, kept_whole};
 
     ghost Value = { List ℕ };
 
     ghost view = { λ n. take n.len n.bytes };
 
-    ghost invariant = { λ n. (n.len ≤ 14) × (length n.bytes ≡ 14) × (n.bytes ≡ filled (take n.len n.bytes)) };
+    ghost invariant = { λ n. (n.len ≤ 14) × (length n.bytes ≡ 14) × (n.bytes ≡ fill_place (take n.len n.bytes)) };
 
-    ghost inverse = { λ list. record { len = length list; bytes = filled list } };
+    ghost inverse = { λ list. record { len = length list; bytes = fill_place list } };
 
     ghost inverse_ok = { kept_whole };
 }
@@ -71,9 +71,9 @@ impl Model for Bytes {
 
     ghost Value = { List ℕ };
 
-    ghost use Rattle.m2_tree.specs.PlacedBytes.{placed};
+    ghost use Rattle.m2_tree.specs.PlacedBytes.{bytes_at_place};
 
-    ghost view = { λ b. placed b.place };
+    ghost view = { λ b. bytes_at_place b.place };
 }
 
 impl Bytes {

@@ -10,9 +10,9 @@ use Rattle.m2_tree.specs.declared.refusal.Refusal.{Refusal}
 use Rattle.m2_tree.specs.declared.decl.Module.{Module}
 use Rattle.wasm_binary.specs.Binary.{module_encoding}
 use Rattle.m2_graph.specs.declared.error.GraphError.TheVariants as graph_error
-use Rattle.m2_graph.specs.Files.{numbered}
+use Rattle.m2_graph.specs.Files.{number_files}
 use Rattle.m2_graph.specs.Graph.{IsGraph, IsRefusal}
-use Rattle.m2_graph.specs.Reported.{Reported as Tale, reported as tale}
+use Rattle.m2_graph.specs.Reported.{Reported as Tale, report_of as tale}
 use Rattle.law_graph.proofs.Once.{one_graph, one_refusal, graph_or_refusal}
 use Rattle.typed_tree.specs.declared.typed_module.TypedModule.{TypedModule}
 use Rattle.def_meaning.specs.Environment.{Modules}
@@ -22,7 +22,7 @@ use Rattle.m2c.specs.declared.files.Outcome.{Outcome}
 use Rattle.m2c.specs.declared.files.Outcome.TheVariants as outcome
 use Rattle.build_jobs.specs.Encoded.{needed_of}
 use Rattle.m2c.specs.Modules.{IsTyped, AreTyped}
-use Rattle.m2c.specs.Build.{Reported, reported, reported_at, AreReported, refused_of, refused_by, built_of, named, modules, data_and_stack, program_file, AreUnread, AreUngraphed, AreUncompiled, HaveGraph, IsTooLarge, IsProgram, IsBuilt, AreAlike}
+use Rattle.m2c.specs.Build.{Reported, report_of, reported_at, AreReported, refused_of, refused_by, built_of, name_bytes, modules, data_and_stack, program_file, AreUnread, AreUngraphed, AreUncompiled, HaveGraph, IsTooLarge, IsProgram, IsBuilt, AreAlike}
 use Rattle.m2c.proofs.Same.{same_refused, one_trees, trees_or_refused}
 use Rattle.m2c.proofs.Ranks.{one_order}
 
@@ -59,7 +59,7 @@ module _ (files : List SourceFile) (t u : List (List ℕ × Module)) (n m : List
   have_same : HaveGraph files t n j s → HaveGraph files u m k r → Same t u n m j k s r
   have_same h g =
       let e : t ≡ u = one_trees files t u h.are_trees g.are_trees in
-      let w = one_graph (numbered 0 u) n m j k s r (subst (λ (x : List (List ℕ × Module)). IsGraph (numbered 0 x) n j s) e h.is_graph) g.is_graph in
+      let w = one_graph (number_files 0 u) n m j k s r (subst (λ (x : List (List ℕ × Module)). IsGraph (number_files 0 x) n j s) e h.is_graph) g.is_graph in
       record { trees = e; numbers = w.0; rows = w.1; starts = w.2 }
 
   unreported_same : HaveGraph files t n j s → HaveGraph files u m k r → refused_by t n j ≡ refused_by u m k
@@ -77,23 +77,23 @@ module _ (files : List SourceFile) (t u : List (List ℕ × Module)) (n m : List
 -- a graph is there, or imports break rules
 graph_or_reported : (files : List SourceFile) (t : List (List ℕ × Module)) (n : List ℕ) (j : List (List ℕ)) (s : List ℕ) (rs : Vec Refusal) → HaveGraph files t n j s → AreUngraphed files rs → ⊥
 graph_or_reported files t n j s rs h (u, are, is) =
-    graph_or_refusal (numbered 0 u) n j s rs (subst (λ (x : List (List ℕ × Module)). IsGraph (numbered 0 x) n j s) (one_trees files t u h.are_trees are) h.is_graph) is
+    graph_or_refusal (number_files 0 u) n j s rs (subst (λ (x : List (List ℕ × Module)). IsGraph (number_files 0 x) n j s) (one_trees files t u h.are_trees are) h.is_graph) is
 
 -- ---- refusals
 
 flat : Tale → Reported
 flat t = reported_at t.file t.pos.line t.pos.col t.number
 
-flat_all : (rs : List Refusal) → map reported rs ≡ map flat (map tale rs)
+flat_all : (rs : List Refusal) → map report_of rs ≡ map flat (map tale rs)
 unfolding flat
 flat_all [] = refl
-flat_all (r ∷ rs) = ap (λ xs. reported r ∷ xs) (flat_all rs)
+flat_all (r ∷ rs) = ap (λ xs. report_of r ∷ xs) (flat_all rs)
 
 module _ (files : List SourceFile) (pages : ℕ) where
   abbrev AreRefused : Vec Refusal → Type 0
   AreRefused rs = IsBuilt files pages (outcome.Refused rs)
 
-  both_refused : (rs qs : Vec Refusal) → AreRefused rs → AreRefused qs → map reported rs.items ≡ map reported qs.items
+  both_refused : (rs qs : Vec Refusal) → AreRefused rs → AreRefused qs → map report_of rs.items ≡ map report_of qs.items
   both_refused rs qs (inl a) (inl b) = one_order (refused_of files a.reads) rs.items qs.items a.reported (subst (λ (all : List Reported). AreReported all qs.items) (same_refused files b.reads a.reads b.are_read a.are_read) b.reported)
   both_refused rs qs (inl a) (inr (inl (u, are, is))) = absurd (trees_or_refused files u a.reads are a.are_read a.some)
   both_refused rs qs (inl a) (inr (inr (inl b))) = absurd (trees_or_refused files b.trees a.reads b.graph.are_trees a.are_read a.some)
@@ -101,7 +101,7 @@ module _ (files : List SourceFile) (pages : ℕ) where
   both_refused rs qs (inr (inl (t, are, is))) (inl b) = absurd (trees_or_refused files t b.reads are b.are_read b.some)
   both_refused rs qs (inr (inl (t, are, is))) (inr (inl (u, are', is'))) =
       let e : t ≡ u = one_trees files t u are are' in
-      let same = one_refusal (numbered 0 u) rs qs (subst (λ (x : List (List ℕ × Module)). IsRefusal (numbered 0 x) (graph_error.Refused rs)) e is) is' in
+      let same = one_refusal (number_files 0 u) rs qs (subst (λ (x : List (List ℕ × Module)). IsRefusal (number_files 0 x) (graph_error.Refused rs)) e is) is' in
       flat_all rs.items ∙ ap (map flat) same ∙ sym (flat_all qs.items)
   both_refused rs qs (inr (inl a)) (inr (inr (inl b))) = absurd (graph_or_reported files b.trees b.numbers b.all_jobs b.starts rs b.graph a)
   both_refused rs qs (inr (inl a)) (inr (inr (inr b))) = absurd (graph_or_reported files b.trees b.numbers b.all_jobs b.starts rs b.graph a)
@@ -136,6 +136,6 @@ module _ (files : List SourceFile) (pages : ℕ) where
 
 pub one_built : (files : List SourceFile) (pages : ℕ) (o p : Outcome) → IsBuilt files pages o → IsBuilt files pages p → AreAlike o p
 one_built files pages (outcome.Refused rs) (outcome.Refused qs) a b = both_refused files pages rs qs a b
-one_built files pages (outcome.Refused rs) (outcome.Built link built) a b = never_both files pages rs link.items (map named built.items) a b
-one_built files pages (outcome.Built link built) (outcome.Refused qs) a b = never_both files pages qs link.items (map named built.items) b a
-one_built files pages (outcome.Built link built) (outcome.Built other others) a b = both_built files pages link.items other.items (map named built.items) (map named others.items) a b
+one_built files pages (outcome.Refused rs) (outcome.Built link built) a b = never_both files pages rs link.items (map name_bytes built.items) a b
+one_built files pages (outcome.Built link built) (outcome.Refused qs) a b = never_both files pages qs link.items (map name_bytes built.items) b a
+one_built files pages (outcome.Built link built) (outcome.Built other others) a b = both_built files pages link.items other.items (map name_bytes built.items) (map name_bytes others.items) a b

@@ -10,7 +10,7 @@ use Rattle.std.proofs.lemmas.List.Elements.{All-nil, All-cons}
 use Rattle.std.proofs.lemmas.List.Sorted.{sum_by_pushed, sum_by-IsPermutation, IsPermutation-refl, All-permutation}
 use Rattle.m2_tree.specs.declared.decl.Module.{Module}
 use Rattle.graph_walk.specs.Links.{times}
-use Rattle.m2_graph.specs.Files.{numbered}
+use Rattle.m2_graph.specs.Files.{number_files}
 use Rattle.m2_graph.specs.Graph.{CompileEach}
 use Rattle.m2_graph.specs.Jobs.{number_of}
 use Rattle.law_graph.proofs.Lists.{among-permutation}
@@ -51,7 +51,7 @@ first_is k (x ∷ xs) (suc j) le e = by (x == k) refl (λ few. first_is k xs j f
 -- ---- the files as they are given
 
 abbrev givens : ℕ → List (List ℕ × Module) → List ℕ
-givens n fs = map (λ f. f.given) (numbered n fs)
+givens n fs = map (λ f. f.given) (number_files n fs)
 
 none_below : (k n : ℕ) (fs : List (List ℕ × Module)) → k < n → times (givens n fs) k ≡ 0
 none_below k n [] l = refl
@@ -77,7 +77,7 @@ given_below most n (f ∷ fs) le = All-cons (λ k. k < most) n (givens (n + 1) f
 
 -- ---- jobs
 
-module _ (fs : List (List ℕ × Module)) (numbers : List ℕ) (each : CompileEach (numbered 0 fs) numbers) where
+module _ (fs : List (List ℕ × Module)) (numbers : List ℕ) (each : CompileEach (number_files 0 fs) numbers) where
   pub all_within : All (λ k. k < length fs) numbers
   all_within = All-permutation (λ k. k < length fs) (givens 0 fs) numbers each (given_below (length fs) 0 fs (omega arith))
 

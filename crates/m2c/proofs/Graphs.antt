@@ -23,10 +23,10 @@ use Rattle.m2_emit.specs.Emitted.{emitted, parts}
 use Rattle.build_jobs.specs.declared.file.SourceFile.{SourceFile}
 use Rattle.build_jobs.specs.declared.outcome.Compiled.{Compiled}
 use Rattle.build_jobs.specs.Jobs.{all_compiled}
-use Rattle.build_jobs.specs.Borrowed.{borrowed, modules_borrowed}
+use Rattle.build_jobs.specs.Borrowed.{borrow_trees, modules_borrowed}
 use Rattle.m2c.specs.Modules.{result_of, module_in, modules_at}
 use Rattle.m2c.specs.Build.{AreEncoded as BytesEncode}
-use Rattle.m2c.specs.Build.{Reported, AreReported, reported_at, built_of, named_bytes, modules, refusal_in, refused_from, refused_by, started, program_file, HaveGraph, IsTooLarge, IsProgram}
+use Rattle.m2c.specs.Build.{Reported, AreReported, reported_at, built_of, named_bytes, modules, refusal_in, refused_from, refused_by, start_modules, program_file, HaveGraph, IsTooLarge, IsProgram}
 use Rattle.law_modules.specs.Linked.{IsLinkable, all}
 use Rattle.law_well_formed.proofs.RangesTypes.{both_left, both_right}
 use Rattle.law_simulation.specs.Modules.{AreModules, AreTypedModules}
@@ -66,7 +66,7 @@ pub all_encoded : (p : Modules) → AreFit p → BytesEncode (map module_bytes (
 all_encoded [] f = tt
 all_encoded (m ∷ ms) f = (record { fits = f.0; encoding = refl }, all_encoded ms f.1)
 
-pub same_modules : (trees : List (Bor (List ℕ) × Bor Module)) → modules_borrowed trees ≡ modules (borrowed trees)
+pub same_modules : (trees : List (Bor (List ℕ) × Bor Module)) → modules_borrowed trees ≡ modules (borrow_trees trees)
 same_modules [] = refl
 same_modules (t ∷ ts) = ap (λ (ms : List Module). t.1.now ∷ ms) (same_modules ts)
 
@@ -109,27 +109,27 @@ module _ (results : List Compiled) (numbers : List ℕ) (places : List (Option �
   placed_started = same_started (λ k. option_and_then (slice_get results) (place_of places k)) (result_of numbers results) same_results
 
 module _ (trees : List (Bor (List ℕ) × Bor Module)) (numbers : List ℕ) (jobs : List (List ℕ)) (places places_now : List (Option ℕ)) (results : List Compiled) (are : ArePlaces numbers places) (same : places_now ≡ places) (all : results ≡ all_compiled (modules_borrowed trees) numbers jobs) where
-  all_are : results ≡ all_compiled (modules (borrowed trees)) numbers jobs
+  all_are : results ≡ all_compiled (modules (borrow_trees trees)) numbers jobs
   all_are = all ∙ ap (λ (ms : List Module). all_compiled ms numbers jobs) (same_modules trees)
 
-  pub refusals_are : (ts : List Reported) → ts ≡ refused_from (λ k. option_and_then (slice_get results) (place_of places_now k)) 0 (borrowed trees) → ts ≡ refused_by (borrowed trees) numbers jobs
+  pub refusals_are : (ts : List Reported) → ts ≡ refused_from (λ k. option_and_then (slice_get results) (place_of places_now k)) 0 (borrow_trees trees) → ts ≡ refused_by (borrow_trees trees) numbers jobs
   refusals_are ts e =
-      e ∙ ap (λ (ps : List (Option ℕ)). refused_from (λ k. option_and_then (slice_get results) (place_of ps k)) 0 (borrowed trees)) same
-      ∙ placed_refused results numbers places are 0 (borrowed trees)
-      ∙ ap (λ (rs : List Compiled). refused_from (result_of numbers rs) 0 (borrowed trees)) all_are
+      e ∙ ap (λ (ps : List (Option ℕ)). refused_from (λ k. option_and_then (slice_get results) (place_of ps k)) 0 (borrow_trees trees)) same
+      ∙ placed_refused results numbers places are 0 (borrow_trees trees)
+      ∙ ap (λ (rs : List Compiled). refused_from (result_of numbers rs) 0 (borrow_trees trees)) all_are
 
-  pub started_are : (ms : List ModuleBytes) (order starts : List ℕ) → ms ≡ modules_at (λ k. option_and_then (slice_get results) (place_of places_now k)) order → order ≡ starts → ms ≡ started (borrowed trees) numbers jobs starts
+  pub started_are : (ms : List ModuleBytes) (order starts : List ℕ) → ms ≡ modules_at (λ k. option_and_then (slice_get results) (place_of places_now k)) order → order ≡ starts → ms ≡ start_modules (borrow_trees trees) numbers jobs starts
   started_are ms order starts e o =
       e ∙ ap (λ (ps : List (Option ℕ)). modules_at (λ k. option_and_then (slice_get results) (place_of ps k)) order) same
       ∙ placed_started results numbers places are order
       ∙ ap (λ (rs : List Compiled). modules_at (result_of numbers rs) order) all_are
-      ∙ ap (λ (ss : List ℕ). started (borrowed trees) numbers jobs ss) o
+      ∙ ap (λ (ss : List ℕ). start_modules (borrow_trees trees) numbers jobs ss) o
 
 -- ---- the program
 
 module _ (files : List SourceFile) (fs : List (List ℕ × Module)) (numbers : List ℕ) (jobs : List (List ℕ)) (starts : List ℕ) (have : HaveGraph files fs numbers jobs starts) (none : refused_by fs numbers jobs ≡ []) where
   abbrev those : List ModuleBytes
-  those = started fs numbers jobs starts
+  those = start_modules fs numbers jobs starts
 
   abbrev its : AreBuilt fs numbers jobs have.each (as_many files fs numbers jobs starts have none) none starts
   its = whole files fs numbers jobs starts have none

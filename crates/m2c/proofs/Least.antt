@@ -17,10 +17,10 @@ use Rattle.law_least_body.proofs.Bodies.{checked_reports}
 use Rattle.build_jobs.specs.declared.outcome.Compiled.{Compiled}
 use Rattle.build_jobs.specs.declared.outcome.Compiled.TheVariants.{Blocked}
 use Rattle.build_jobs.specs.Own.{own_table, tables_behind}
-use Rattle.build_jobs.specs.Compiling.{compiled, is_sound, of_checked, of_contents, of_definition, of_fit, tables_of}
-use Rattle.m2c.specs.Least.{broken, all_broken, ReportsLeast, IsLeastReported}
+use Rattle.build_jobs.specs.Compiling.{compilation_of, is_sound, of_checked, of_contents, of_definition, of_fit, tables_of}
+use Rattle.m2c.specs.Least.{breaches_of, all_broken, ReportsLeast, IsLeastReported}
 
-definition_least : (r : Result Table Breach) (all : Result Table (List Breach)) → Reports r all → ReportsLeast (broken all) (of_definition r)
+definition_least : (r : Result Table Breach) (all : Result Table (List Breach)) → Reports r all → ReportsLeast (breaches_of all) (of_definition r)
 definition_least _ _ (fine t) = refl
 definition_least _ _ (is_refused f faults h) = inl h
 
@@ -28,7 +28,7 @@ fit_least : (t : TypedModule) (at : Option Pos) → ReportsLeast [] (of_fit t at
 fit_least t None = refl
 fit_least t (Some pos) = inr (refl, refl)
 
-body_least : (r : Result TypedModule Breach) (all : Result TypedModule (List Breach)) → Reports r all → ReportsLeast (broken all) (of_checked r)
+body_least : (r : Result TypedModule Breach) (all : Result TypedModule (List Breach)) → Reports r all → ReportsLeast (breaches_of all) (of_checked r)
 body_least _ _ (fine t) = fit_least t (too_large t)
 body_least _ _ (is_refused f faults h) = inl h
 
@@ -43,7 +43,7 @@ module_least m n tables true = contents_least m n tables m.contents
 module_least m n tables false = tt
 
 pub least_reported : (m : Module) → IsLeastReported m
-unfolding compiled
+unfolding compilation_of
 least_reported m n needed = module_least m n (tables_of needed) (list_all is_sound needed)
 
 pub all_least : (trees : List (List ℕ × Module)) → All (λ f. IsLeastReported f.1) trees

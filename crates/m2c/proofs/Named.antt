@@ -17,7 +17,7 @@ use Rattle.build_jobs.specs.declared.reading.Read.TheVariants as read
 use Rattle.build_jobs.specs.Reading.{AreRead}
 use Rattle.build_jobs.proofs.Named.{name_read}
 use Rattle.m2c.specs.Names.{IsName}
-use Rattle.m2c.specs.Build.{modules, trees_of, refused_by, started, AreTrees, HaveGraph}
+use Rattle.m2c.specs.Build.{modules, trees_of, refused_by, start_modules, AreTrees, HaveGraph}
 use Rattle.m2c.proofs.Encodings.{whole}
 
 abbrev Named : Module → Type 0
@@ -55,7 +55,7 @@ emitted_named [] h = tt
 emitted_named (t ∷ ts) h = (h.0, emitted_named ts h.1)
 
 pub started_named : (files : List SourceFile) (fs : List (List ℕ × Module)) (numbers : List ℕ) (jobs : List (List ℕ)) (starts : List ℕ) → HaveGraph files fs numbers jobs starts → refused_by fs numbers jobs ≡ []
-    → All (λ (x : ModuleBytes). IsName x.name) (started fs numbers jobs starts)
+    → All (λ (x : ModuleBytes). IsName x.name) (start_modules fs numbers jobs starts)
 started_named files fs numbers jobs starts have none =
     let w = whole files fs numbers jobs starts have none in
     let those = places_named (modules fs) (trees_named files fs have.are_trees) starts in

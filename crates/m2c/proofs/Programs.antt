@@ -12,7 +12,7 @@ use Rattle.m2_tree.specs.declared.decl.Contents.{Contents}
 use Rattle.m2_tree.specs.declared.decl.Contents.TheVariants as contents
 use Rattle.m2_tree.specs.declared.decl.Module.{Module}
 use Rattle.wasm_tree.specs.Validity.{AreDistinct}
-use Rattle.m2_graph.specs.Files.{numbered}
+use Rattle.m2_graph.specs.Files.{number_files}
 use Rattle.m2_graph.specs.Graph.{CompileEach}
 use Rattle.m2_graph.specs.Imports.{is_definition, is_definition_part}
 use Rattle.law_graph.specs.Started.{at_places, names_of, AreApart, AreStarted}
@@ -35,12 +35,12 @@ use Rattle.check_block.specs.Nesting.{procedure_ends}
 use Rattle.check_body.specs.Checked as bodies
 use Rattle.check_body.specs.Bodies.{Checked}
 use Rattle.check_body.specs.Routines as routines
-use Rattle.check_body.specs.Checks.{elaborated}
+use Rattle.check_body.specs.Checks.{elaborate_body}
 use Rattle.build_jobs.specs.declared.outcome.Compiled.{Compiled}
 use Rattle.build_jobs.specs.declared.outcome.Compiled.TheVariants.{Built}
 use Rattle.build_jobs.specs.Own.{own_table}
-use Rattle.build_jobs.specs.Compiling.{is_sound, tables_of, of_fit, of_checked, of_contents, typed_body, compiled}
-use Rattle.build_jobs.specs.Jobs.{compiled_in}
+use Rattle.build_jobs.specs.Compiling.{is_sound, tables_of, of_fit, of_checked, of_contents, typed_body, compilation_of}
+use Rattle.build_jobs.specs.Jobs.{compile_in_place}
 use Rattle.law_programs.specs.FormedGraphs.{IsFit}
 use Rattle.m2c.specs.Modules.{module_in, modules_at, IsTyped, AreTyped}
 use Rattle.m2c.specs.Build.{modules, refused_by, result_at}
@@ -60,15 +60,15 @@ module_name ms own m c t e = by (both least c.0.so_far c.1) e
         named (Err f) = []
     by (Err f) e = absurd (cc e)
 
-contents_name : (n : ℕ) (m : Module) (own : Option Table) (ts : List Table) (c : Contents) (t : TypedModule) → bodies.of_contents least (elaborated least) n m own ts c ≡ Ok t → t.name ≡ m.name.name
+contents_name : (n : ℕ) (m : Module) (own : Option Table) (ts : List Table) (c : Contents) (t : TypedModule) → bodies.of_contents least (elaborate_body least) n m own ts c ≡ Ok t → t.name ≡ m.name.name
 contents_name n m own ts (contents.Definition ds) t e = absurd (cc e)
 contents_name n m None ts (contents.Implementation b) t e = absurd (cc e)
 contents_name n m (Some own) ts (contents.Implementation b) t e =
     let s : Scope Breach = implementation_scope own ts in
-    module_name (numbered_modules s.tables).0 (Some own) m (bodies.walked least (elaborated least) (numbered_modules s.tables).0 (procedure_ends (out-Block b).decls) s m b) t e
+    module_name (numbered_modules s.tables).0 (Some own) m (bodies.walk_body least (elaborate_body least) (numbered_modules s.tables).0 (procedure_ends (out-Block b).decls) s m b) t e
 contents_name n m own ts (contents.Program b) t e =
     let s : Scope Breach = first_scope n ts in
-    module_name (numbered_modules s.tables).0 None m (bodies.walked least (elaborated least) (numbered_modules s.tables).0 (procedure_ends (out-Block b).decls) s m b) t e
+    module_name (numbered_modules s.tables).0 None m (bodies.walk_body least (elaborate_body least) (numbered_modules s.tables).0 (procedure_ends (out-Block b).decls) s m b) t e
 
 pub typed_name : (n : ℕ) (m : Module) (ts : List Table) (t : TypedModule) → typed_body m n ts ≡ Ok t → t.name ≡ m.name.name
 typed_name n m ts t e = contents_name n m (own_table m ts) _ m.contents t e
@@ -94,14 +94,14 @@ from_contents m n ts (contents.Definition ds) is h = absurd (false≢true (sym i
 from_contents m n ts (contents.Implementation b) is h = from_checked m n ts (typed_body m n ts) refl h
 from_contents m n ts (contents.Program b) is h = from_checked m n ts (typed_body m n ts) refl h
 
-body_of : (m : Module) (n : ℕ) (others : List Compiled) → is_definition m ≡ false → list_all is_sound others ≡ true → IsUnrefused (compiled m n others) → IsBody m n (tables_of others) (compiled m n others)
+body_of : (m : Module) (n : ℕ) (others : List Compiled) → is_definition m ≡ false → list_all is_sound others ≡ true → IsUnrefused (compilation_of m n others) → IsBody m n (tables_of others) (compilation_of m n others)
 body_of m n others is sound h =
     let e = compiled_is m n others sound in
     subst (IsBody m n (tables_of others)) (sym e) (from_contents m n (tables_of others) m.contents is (subst IsUnrefused e h))
 
 -- ---- all that start
 
-module _ (fs : List (List ℕ × Module)) (numbers : List ℕ) (jobs : List (List ℕ)) (each : CompileEach (numbered 0 fs) numbers) (same : length numbers ≡ length jobs) (none : refused_by fs numbers jobs ≡ []) where
+module _ (fs : List (List ℕ × Module)) (numbers : List ℕ) (jobs : List (List ℕ)) (each : CompileEach (number_files 0 fs) numbers) (same : length numbers ≡ length jobs) (none : refused_by fs numbers jobs ≡ []) where
   within : (j k : ℕ) → slice_get numbers j ≡ Some k → k < length fs
   within j k e = subst (λ (n : ℕ). n < length fs) (get_or_from_slice_get numbers j k 0 e) (all_within fs numbers each j 0 (slice_get_within numbers j k e))
 
@@ -125,9 +125,9 @@ module _ (fs : List (List ℕ × Module)) (numbers : List ℕ) (jobs : List (Lis
       let j = file_job fs numbers each s lt in
       let l : j.0 < length jobs = (let w = slice_get_within numbers j.0 s j.1 in omega (arith, w, same)) in
       let place : slice_index_or numbers j.0 0 ≡ s = get_or_from_slice_get numbers j.0 s 0 j.1 in
-      let its : one fs numbers jobs j.0 ≡ compiled m j.0 (needed fs numbers jobs j.0) = ap (λ (k : ℕ). compiled_in (slice_get (modules fs) k) j.0 (needed fs numbers jobs j.0)) place ∙ ap (λ (o : Option Module). compiled_in o j.0 (needed fs numbers jobs j.0)) is in
+      let its : one fs numbers jobs j.0 ≡ compilation_of m j.0 (needed fs numbers jobs j.0) = ap (λ (k : ℕ). compile_in_place (slice_get (modules fs) k) j.0 (needed fs numbers jobs j.0)) place ∙ ap (λ (o : Option Module). compile_in_place o j.0 (needed fs numbers jobs j.0)) is in
       let sound : list_all is_sound (needed fs numbers jobs j.0) ≡ true = all_sound fs numbers jobs each same none within there j.0 l in
-      let fine : IsUnrefused (compiled m j.0 (needed fs numbers jobs j.0)) = subst IsUnrefused its (none_refused fs numbers jobs each same none within there j.0 l) in
+      let fine : IsUnrefused (compilation_of m j.0 (needed fs numbers jobs j.0)) = subst IsUnrefused its (none_refused fs numbers jobs each same none within there j.0 l) in
       let b = body_of m j.0 (needed fs numbers jobs j.0) body sound fine in
       record {
         typed = b.typed;
@@ -176,7 +176,7 @@ places_count trees (s ∷ ss) = by (slice_get trees s) refl (places_count trees 
     by None e le = rw e (omega (arith, le))
     by (Some m) e le = rw e (omega (arith, le))
 
-module _ (fs : List (List ℕ × Module)) (numbers : List ℕ) (jobs : List (List ℕ)) (each : CompileEach (numbered 0 fs) numbers) (same : length numbers ≡ length jobs) (none : refused_by fs numbers jobs ≡ []) (starts : List ℕ) (started : AreStarted (modules fs) starts) where
+module _ (fs : List (List ℕ × Module)) (numbers : List ℕ) (jobs : List (List ℕ)) (each : CompileEach (number_files 0 fs) numbers) (same : length numbers ≡ length jobs) (none : refused_by fs numbers jobs ≡ []) (starts : List ℕ) (started : AreStarted (modules fs) starts) where
   pub all_built : AreBuilt fs numbers jobs each same none starts
   all_built = built_all fs numbers jobs each same none starts started.within started.bodies
 

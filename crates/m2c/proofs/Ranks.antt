@@ -15,7 +15,7 @@ use Rattle.std.proofs.lemmas.List.Sorted.{list_any-IsPermutation}
 use Rattle.m2_tree.specs.declared.refusal.Refusal.{Refusal}
 use Rattle.law_graph.proofs.Sorting.{by_key, one_stable_sort}
 use Rattle.m2c.specs.Order.{AreInOrder}
-use Rattle.m2c.specs.Build.{Reported, reported, AreReported}
+use Rattle.m2c.specs.Build.{Reported, report_of, AreReported}
 
 -- the file of the first is less
 abbrev pub ranks : Reported → Reported → Bool
@@ -72,38 +72,38 @@ found_one {X = X} p (x ∷ xs) e = by (p x) refl (λ h. found_one p xs h)
 -- ---- refusals in order
 
 module _ (found refusals : List Refusal) (order : AreInOrder found refusals) where
-  ranked_stable : IsStableBy ranks (map reported found) (map reported refusals)
-  ranked_stable x = by (list_any (λ (r : Refusal). ties_with x.file (reported r)) refusals) refl
+  ranked_stable : IsStableBy ranks (map report_of found) (map report_of refusals)
+  ranked_stable x = by (list_any (λ (r : Refusal). ties_with x.file (report_of r)) refusals) refl
     where
-      by : (b : Bool) → list_any (λ (r : Refusal). ties_with x.file (reported r)) refusals ≡ b → filter (ties ranks x) (map reported refusals) ≡ filter (ties ranks x) (map reported found)
+      by : (b : Bool) → list_any (λ (r : Refusal). ties_with x.file (report_of r)) refusals ≡ b → filter (ties ranks x) (map report_of refusals) ≡ filter (ties ranks x) (map report_of found)
       by true is =
-          let one = found_one (λ (r : Refusal). ties_with x.file (reported r)) refusals is in
-          let same : x.file ≡ (reported one.0).file = same_name x.file (reported one.0) one.1 in
-          filter_through (ties_with x.file) reported refusals
-          ∙ ap (λ (name : List ℕ). map reported (filter (λ (r : Refusal). ties_with name (reported r)) refusals)) same
-          ∙ ap (map reported) (order.stable one.0)
-          ∙ sym (ap (λ (name : List ℕ). map reported (filter (λ (r : Refusal). ties_with name (reported r)) found)) same)
-          ∙ sym (filter_through (ties_with x.file) reported found)
+          let one = found_one (λ (r : Refusal). ties_with x.file (report_of r)) refusals is in
+          let same : x.file ≡ (report_of one.0).file = same_name x.file (report_of one.0) one.1 in
+          filter_through (ties_with x.file) report_of refusals
+          ∙ ap (λ (name : List ℕ). map report_of (filter (λ (r : Refusal). ties_with name (report_of r)) refusals)) same
+          ∙ ap (map report_of) (order.stable one.0)
+          ∙ sym (ap (λ (name : List ℕ). map report_of (filter (λ (r : Refusal). ties_with name (report_of r)) found)) same)
+          ∙ sym (filter_through (ties_with x.file) report_of found)
       by false is =
-          filter_through (ties_with x.file) reported refusals
-          ∙ ap (map reported) (none_left (λ (r : Refusal). ties_with x.file (reported r)) refusals is)
-          ∙ sym (ap (map reported) (none_left (λ (r : Refusal). ties_with x.file (reported r)) found (list_any-IsPermutation (λ (r : Refusal). ties_with x.file (reported r)) found refusals order.same ∙ is)))
-          ∙ sym (filter_through (ties_with x.file) reported found)
+          filter_through (ties_with x.file) report_of refusals
+          ∙ ap (map report_of) (none_left (λ (r : Refusal). ties_with x.file (report_of r)) refusals is)
+          ∙ sym (ap (map report_of) (none_left (λ (r : Refusal). ties_with x.file (report_of r)) found (list_any-IsPermutation (λ (r : Refusal). ties_with x.file (report_of r)) found refusals order.same ∙ is)))
+          ∙ sym (filter_through (ties_with x.file) report_of found)
 
-  ranked_sorted : IsSortedBy ranks (map reported refusals)
+  ranked_sorted : IsSortedBy ranks (map report_of refusals)
   ranked_sorted k d zero_le h = by refusals refl
     where
-      by : (rs : List Refusal) → refusals ≡ rs → ranks (slice_index_or (map reported refusals) (k + 1) d) (slice_index_or (map reported refusals) k d) ≡ false
-      by [] is = absurd (let none : length (map reported refusals) ≡ 0 = ap (λ (ss : List Refusal). length (map reported ss)) is in omega (arith, none, h))
+      by : (rs : List Refusal) → refusals ≡ rs → ranks (slice_index_or (map report_of refusals) (k + 1) d) (slice_index_or (map report_of refusals) k d) ≡ false
+      by [] is = absurd (let none : length (map report_of refusals) ≡ 0 = ap (λ (ss : List Refusal). length (map report_of ss)) is in omega (arith, none, h))
       by (r ∷ rs) is =
-          let many : length (map reported refusals) ≡ length refusals = length-map refusals reported in
-          let next : slice_index_or (map reported refusals) (k + 1) d ≡ reported (slice_index_or refusals (k + 1) r) = mapped_at reported refusals (k + 1) r d (omega (arith, h, many)) in
-          let here : slice_index_or (map reported refusals) k d ≡ reported (slice_index_or refusals k r) = mapped_at reported refusals k r d (omega (arith, h, many)) in
-          ap (λ (t : Reported). ranks t (slice_index_or (map reported refusals) k d)) next ∙ ap (ranks (reported (slice_index_or refusals (k + 1) r))) here ∙ order.sorted k r zero_le (omega (arith, h, many))
+          let many : length (map report_of refusals) ≡ length refusals = length-map refusals report_of in
+          let next : slice_index_or (map report_of refusals) (k + 1) d ≡ report_of (slice_index_or refusals (k + 1) r) = mapped_at report_of refusals (k + 1) r d (omega (arith, h, many)) in
+          let here : slice_index_or (map report_of refusals) k d ≡ report_of (slice_index_or refusals k r) = mapped_at report_of refusals k r d (omega (arith, h, many)) in
+          ap (λ (t : Reported). ranks t (slice_index_or (map report_of refusals) k d)) next ∙ ap (ranks (report_of (slice_index_or refusals (k + 1) r))) here ∙ order.sorted k r zero_le (omega (arith, h, many))
 
 -- what is reported in order is one list
-pub one_order : (all : List Reported) (rs qs : List Refusal) → AreReported all rs → AreReported all qs → map reported rs ≡ map reported qs
+pub one_order : (all : List Reported) (rs qs : List Refusal) → AreReported all rs → AreReported all qs → map report_of rs ≡ map report_of qs
 one_order all rs qs h k =
-    one_stable_sort ranks (by_key (λ (t : Reported). t.file)) all (map reported rs) (map reported qs)
-    (ranked_sorted h.0 rs h.2) (subst (λ (xs : List Reported). IsStableBy ranks xs (map reported rs)) h.1 (ranked_stable h.0 rs h.2))
-    (ranked_sorted k.0 qs k.2) (subst (λ (xs : List Reported). IsStableBy ranks xs (map reported qs)) k.1 (ranked_stable k.0 qs k.2))
+    one_stable_sort ranks (by_key (λ (t : Reported). t.file)) all (map report_of rs) (map report_of qs)
+    (ranked_sorted h.0 rs h.2) (subst (λ (xs : List Reported). IsStableBy ranks xs (map report_of rs)) h.1 (ranked_stable h.0 rs h.2))
+    (ranked_sorted k.0 qs k.2) (subst (λ (xs : List Reported). IsStableBy ranks xs (map report_of qs)) k.1 (ranked_stable k.0 qs k.2))

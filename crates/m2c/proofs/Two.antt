@@ -3,7 +3,7 @@ use Rattle.std.proofs.Common.{◌≡◌, ℕ, suc, ◌+◌, ◌<◌, ◌≤◌, 
 use Rattle.std.proofs.lemmas.List.{drop_all, append-nil}
 use Rattle.std.proofs.Math.Seq.{drop-cons}
 use Rattle.m2_tree.specs.declared.refusal.Refusal.{Refusal}
-use Rattle.m2c.specs.Build.{each_two, reported}
+use Rattle.m2c.specs.Build.{each_two, report_of}
 
 module _ {A B C : Type 0} (f : A → B → List C) (xs : List A) (ys : List B) (same : length xs ≡ length ys) (k : ℕ) (out total : List C) (so_far : out ++ each_two f (drop k xs) (drop k ys) ≡ total) where
   -- what one more of both gives stands behind the others
@@ -19,6 +19,6 @@ module _ {A B C : Type 0} (f : A → B → List C) (xs : List A) (ys : List B) (
   pub two_none : length xs ≤ k → out ≡ total
   two_none le = sym (append-nil out) ∙ sym (ap (λ (zs : List A). out ++ each_two f zs (drop k ys)) (drop_all k xs le)) ∙ so_far
 
-pub none_reported : (rs : List Refusal) → map reported rs ≡ [] → rs ≡ []
+pub none_reported : (rs : List Refusal) → map report_of rs ≡ [] → rs ≡ []
 none_reported [] e = refl
 none_reported (r ∷ rs) e = absurd cc

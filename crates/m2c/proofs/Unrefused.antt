@@ -10,22 +10,22 @@ use Rattle.m2_tree.specs.declared.decl.Contents.{Contents}
 use Rattle.m2_tree.specs.declared.decl.Contents.TheVariants as contents
 use Rattle.m2_tree.specs.declared.decl.Module.{Module}
 use Rattle.pool_board.specs.Graph.{prerequisites_of}
-use Rattle.pool_board.specs.Results.{results_below, picked, with_item}
+use Rattle.pool_board.specs.Results.{results_below, items_at, with_item}
 use Rattle.pool_board.proofs.Resulting.{results-length}
-use Rattle.m2_graph.specs.Files.{numbered}
+use Rattle.m2_graph.specs.Files.{number_files}
 use Rattle.m2_graph.specs.Graph.{CompileEach}
 use Rattle.typed_tree.specs.declared.table.Table.{Table}
 use Rattle.m2_rule.specs.declared.breach.Breach.{Breach}
 use Rattle.layout_storage.specs.Layouts.{too_large}
 use Rattle.build_jobs.specs.declared.outcome.Compiled.{Compiled}
 use Rattle.build_jobs.specs.declared.outcome.Compiled.TheVariants.{Refused, Blocked}
-use Rattle.build_jobs.specs.Compiling.{is_sound, tables_of, of_definition, of_fit, of_checked, of_contents, typed_body, compiled}
+use Rattle.build_jobs.specs.Compiling.{is_sound, tables_of, of_definition, of_fit, of_checked, of_contents, typed_body, compilation_of}
 use Rattle.check_scope.specs.Elaborated.{least}
 use Rattle.check_definition.specs.Compiled as types
 use Rattle.std.proofs.lemmas.List.{length-map}
 use Rattle.law_graph.proofs.Lists.{some_at}
 use Rattle.typed_tree.specs.declared.typed_module.TypedModule.{TypedModule}
-use Rattle.build_jobs.specs.Jobs.{compiled_in, compiled_at}
+use Rattle.build_jobs.specs.Jobs.{compile_in_place, compile_at}
 use Rattle.m2c.specs.Build.{refusal_in, refused_from, refused_by, result_at, modules}
 use Rattle.m2c.proofs.EachOnce.{job_of}
 
@@ -47,16 +47,16 @@ checked_sound (Ok t) h = fit_sound t (too_large t) h
 checked_sound (Err f) h = absurd (h f refl)
 
 contents_sound : (m : Module) (n : ℕ) (ts : List Table) (c : Contents) → IsUnrefused (of_contents m n ts c) → is_sound (of_contents m n ts c) ≡ true
-contents_sound m n ts (contents.Definition ds) h = definition_sound (types.compiled least n m ts) h
+contents_sound m n ts (contents.Definition ds) h = definition_sound (types.definition_table least n m ts) h
 contents_sound m n ts (contents.Implementation b) h = checked_sound (typed_body m n ts) h
 contents_sound m n ts (contents.Program b) h = checked_sound (typed_body m n ts) h
 
 -- a module whose needed ones are sound is compiled by its contents
-pub compiled_is : (m : Module) (n : ℕ) (needed : List Compiled) → list_all is_sound needed ≡ true → compiled m n needed ≡ of_contents m n (tables_of needed) m.contents
-unfolding compiled
+pub compiled_is : (m : Module) (n : ℕ) (needed : List Compiled) → list_all is_sound needed ≡ true → compilation_of m n needed ≡ of_contents m n (tables_of needed) m.contents
+unfolding compilation_of
 compiled_is m n needed e = ap (λ (b : Bool). cond b (of_contents m n (tables_of needed) m.contents) Blocked) e
 
-one_sound : (o : Option Module) (n : ℕ) (needed : List Compiled) → list_all is_sound needed ≡ true → (m : Module) → o ≡ Some m → IsUnrefused (compiled_in o n needed) → is_sound (compiled_in o n needed) ≡ true
+one_sound : (o : Option Module) (n : ℕ) (needed : List Compiled) → list_all is_sound needed ≡ true → (m : Module) → o ≡ Some m → IsUnrefused (compile_in_place o n needed) → is_sound (compile_in_place o n needed) ≡ true
 one_sound None n needed e m there h = absurd (none-some m there)
 one_sound (Some x) n needed e m there h =
     let is = compiled_is x n needed e in
@@ -75,11 +75,11 @@ get_last [] x (suc i) e = absurd (omega (arith, e))
 get_last (y ∷ ys) x zero e = absurd (omega (arith, e))
 get_last (y ∷ ys) x (suc i) e = get_last ys x i (omega (arith, e))
 
-picked_sound : (xs : List Compiled) (ps : List ℕ) → ((p : ℕ) (x : Compiled) → slice_get xs p ≡ Some x → is_sound x ≡ true) → list_all is_sound (picked xs ps) ≡ true
+picked_sound : (xs : List Compiled) (ps : List ℕ) → ((p : ℕ) (x : Compiled) → slice_get xs p ≡ Some x → is_sound x ≡ true) → list_all is_sound (items_at xs ps) ≡ true
 picked_sound xs [] h = refl
 picked_sound xs (p ∷ ps) h = by (slice_get xs p) refl (picked_sound xs ps h)
   where
-    by : (o : Option Compiled) → slice_get xs p ≡ o → list_all is_sound (picked xs ps) ≡ true → list_all is_sound (with_item o (picked xs ps)) ≡ true
+    by : (o : Option Compiled) → slice_get xs p ≡ o → list_all is_sound (items_at xs ps) ≡ true → list_all is_sound (with_item o (items_at xs ps)) ≡ true
     by None e rest = rest
     by (Some x) e rest = rw (h p x e) rest
 
@@ -108,16 +108,16 @@ unreported result n (f ∷ fs) e (suc k) l =
 
 module _ (fs : List (List ℕ × Module)) (numbers : List ℕ) (jobs : List (List ℕ)) where
   abbrev below : ℕ → List Compiled
-  below n = results_below jobs (compiled_at (modules fs) numbers) n
+  below n = results_below jobs (compile_at (modules fs) numbers) n
 
   abbrev pub needed : ℕ → List Compiled
-  needed n = picked (below n) (prerequisites_of jobs n)
+  needed n = items_at (below n) (prerequisites_of jobs n)
 
   abbrev pub one : ℕ → Compiled
-  one n = compiled_at (modules fs) numbers n (needed n)
+  one n = compile_at (modules fs) numbers n (needed n)
 
   many : (n : ℕ) → length (below n) ≡ n
-  many n = results-length jobs (compiled_at (modules fs) numbers) n
+  many n = results-length jobs (compile_at (modules fs) numbers) n
 
   at_below : (n j : ℕ) → j < n → slice_get (below n) j ≡ Some (one j)
   at_below zero j l = absurd (omega (arith, l))
@@ -153,7 +153,7 @@ module _ (fs : List (List ℕ × Module)) (numbers : List ℕ) (jobs : List (Lis
         subst (λ (k : ℕ). is_sound (one k) ≡ true) (sym e) (one_sound (tree_at n) n (needed n) all tree.0 tree.1 (h n (omega arith)))
   ]
 
-  module _ (each : CompileEach (numbered 0 fs) numbers) (same : length numbers ≡ length jobs) where
+  module _ (each : CompileEach (number_files 0 fs) numbers) (same : length numbers ≡ length jobs) where
     -- what became of a file's module
     pub result_is : (j k : ℕ) → slice_get numbers j ≡ Some k → result_at fs numbers jobs k ≡ Some (one j)
     result_is j k e =

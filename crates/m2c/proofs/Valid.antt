@@ -4,7 +4,7 @@ use Rattle.std.specs.Prelude.{All}
 use Rattle.std.proofs.lemmas.List.Elements.{All-nil, All-cons}
 use Rattle.wasm_tree.specs.Validity.{IsValid}
 use Rattle.m2_tree.specs.declared.decl.Module.{Module}
-use Rattle.m2_graph.specs.Files.{numbered}
+use Rattle.m2_graph.specs.Files.{number_files}
 use Rattle.m2_graph.specs.Graph.{IsGraph}
 use Rattle.typed_tree.specs.declared.typed_module.TypedModule.{TypedModule}
 use Rattle.def_meaning.specs.Environment.{Modules}
@@ -21,7 +21,7 @@ held : {A T : Type 0} (P : A → Type 0) (r : Result A T) (x : A) → Holds P r 
 held P _ x (fine y p) e = let same : y ≡ x = cc in subst P same p
 held P _ x (broken y) e = absurd cc
 
-module _ (fs : List (List ℕ × Module)) (numbers : List ℕ) (jobs : List (List ℕ)) (starts : List ℕ) (graph : IsGraph (numbered 0 fs) numbers jobs starts) where
+module _ (fs : List (List ℕ × Module)) (numbers : List ℕ) (jobs : List (List ℕ)) (starts : List ℕ) (graph : IsGraph (number_files 0 fs) numbers jobs starts) where
   one_valid : (s : ℕ) (t : TypedModule) → IsTyped (modules fs) numbers jobs s t → Valid t
   one_valid s t typed = held Valid _ t (programs_valid fs numbers jobs starts graph typed.tree typed.job) typed.typed
 

@@ -15,11 +15,11 @@ use Rattle.wasm_tree.specs.Validity.{IsValid}
 use Rattle.wasm_tree.specs.Machine.{Config}
 use Rattle.wasm_tree.specs.Linking.{link as linked}
 use Rattle.m2_graph.specs.declared.error.GraphError.TheVariants as graph_error
-use Rattle.m2_graph.specs.Files.{numbered}
+use Rattle.m2_graph.specs.Files.{number_files}
 use Rattle.m2_graph.specs.Graph.{CompileEach, IsGraph, IsRefusal}
 use Rattle.typed_tree.specs.declared.typed_module.TypedModule.{TypedModule}
 use Rattle.def_meaning.specs.Environment.{Modules}
-use Rattle.def_meaning.specs.Answer.{halted, Ended}
+use Rattle.def_meaning.specs.Answer.{halt_status, Ended}
 use Rattle.def_meaning.specs.Runs.{data_size, run}
 use Rattle.law_nothing_missing.specs.Runs.{strict_run}
 use Rattle.def_scheme.specs.Modules.{typed_module, typed_link}
@@ -47,8 +47,8 @@ pub record Reported : Type 0 where
   pub column : ℕ
   pub number : ℕ
 
-abbrev pub reported : Refusal → Reported
-reported r =
+abbrev pub report_of : Refusal → Reported
+report_of r =
     record { file = string_bytes r.file; line = r.pos.line; column = r.pos.col; number = r.number }
 
 abbrev pub reported_at : (file : List ℕ) (line column number : ℕ) → Reported
@@ -59,7 +59,7 @@ reported_at file line column number =
 -- are equal
 abbrev pub AreReported : List Reported → List Refusal → Type 0
 AreReported all refusals =
-    (found : List Refusal) × (map reported found ≡ all) × AreInOrder found refusals
+    (found : List Refusal) × (map report_of found ≡ all) × AreInOrder found refusals
 
 -- ---- texts
 
@@ -122,9 +122,9 @@ abbrev pub refused_by : List (List ℕ × Module) → (files : List ℕ) → (jo
 refused_by trees files all_jobs = refused_from (result_at trees files all_jobs) 0 trees
 
 -- the modules that start
-abbrev pub started : List (List ℕ × Module) → (files : List ℕ) → (jobs : List (List ℕ))
+abbrev pub start_modules : List (List ℕ × Module) → (files : List ℕ) → (jobs : List (List ℕ))
     → (starts : List ℕ) → List ModuleBytes
-started trees files all_jobs starts = modules_at (result_at trees files all_jobs) starts
+start_modules trees files all_jobs starts = modules_at (result_at trees files all_jobs) starts
 
 -- ---- modules
 
@@ -137,8 +137,8 @@ abbrev pub named_bytes : ModuleBytes → List ℕ × List ℕ
 named_bytes m = (m.name, m.bytes)
 
 -- the same of what a build hands out
-abbrev pub named : String Global × Vec ℕ → List ℕ × List ℕ
-named m = (string_bytes m.0, m.1.items)
+abbrev pub name_bytes : String Global × Vec ℕ → List ℕ × List ℕ
+name_bytes m = (string_bytes m.0, m.1.items)
 
 -- each of the bytes encodes the module in its place
 abbrev pub AreEncoded : List (List ℕ) → List WModule → Type 0
@@ -164,21 +164,21 @@ pub record AreUnread (files : List SourceFile) (refusals : List Refusal) : Type 
   pub reads : List Read
   pub are_read : AreRead files reads
   pub some : refused_of files reads ≢ []
-  pub reported : AreReported (refused_of files reads) refusals
+  pub report_of : AreReported (refused_of files reads) refusals
 
 -- each text has a tree, and imports break rules
 abbrev pub AreUngraphed : List SourceFile → Vec Refusal → Type 0
 AreUngraphed files refusals =
     (trees : List (List ℕ × Module)) × AreTrees files trees
-    × IsRefusal (numbered 0 trees) (graph_error.Refused refusals)
+    × IsRefusal (number_files 0 trees) (graph_error.Refused refusals)
 
 -- the files have this graph: the file of each job, what each job needs, and the files of the bodies
 -- in start order
 pub record HaveGraph (files : List SourceFile) (trees : List (List ℕ × Module)) (numbers : List ℕ)
     (all_jobs : List (List ℕ)) (starts : List ℕ) : Type 0 where
   pub are_trees : AreTrees files trees
-  pub is_graph : IsGraph (numbered 0 trees) numbers all_jobs starts
-  pub each : CompileEach (numbered 0 trees) numbers
+  pub is_graph : IsGraph (number_files 0 trees) numbers all_jobs starts
+  pub each : CompileEach (number_files 0 trees) numbers
 
 -- Modules break rules. The least of them is reported of each module, by place and then by number.
 pub record AreUncompiled (files : List SourceFile) (refusals : List Refusal) : Type 0 where
@@ -189,7 +189,7 @@ pub record AreUncompiled (files : List SourceFile) (refusals : List Refusal) : T
   pub graph : HaveGraph files trees numbers all_jobs starts
   pub least : All (λ f. IsLeastReported f.1) trees
   pub some : refused_by trees numbers all_jobs ≢ []
-  pub reported : AreReported (refused_by trees numbers all_jobs) refusals
+  pub report_of : AreReported (refused_by trees numbers all_jobs) refusals
 
 -- the bytes of the variables and texts of a program, and of the least stack that it may have
 abbrev pub data_and_stack : Modules → ℕ
@@ -217,7 +217,7 @@ pub record IsTooLarge (files : List SourceFile) (pages : ℕ) (refusals : List R
   pub program : Modules
   pub typed : AreTyped (modules trees) numbers all_jobs starts program
   pub too_large : 65536 * pages < data_and_stack program
-  pub reported :
+  pub report_of :
       AreReported (reported_at (program_file trees) 1 1 (number_of rule.LargeProgram) ∷ []) refusals
 
 -- No module breaks a rule. Those that are reached are compiled to valid modules, which link and do
@@ -242,7 +242,7 @@ pub record IsProgram (files : List SourceFile) (pages : ℕ) (link : List ℕ)
   pub behaves : (c : Config) × (linked (typed_link program pages ∷ map typed_module program) ≡ Ok c)
       × Behaves (typed_link program pages ∷ map typed_module program) c (run program pages)
   pub strict : (lacking n : ℕ) → strict_run lacking program pages n ≡ run program pages n
-  pub whole : (lacking n : ℕ) → halted < lacking → (out : List ℕ)
+  pub whole : (lacking n : ℕ) → halt_status < lacking → (out : List ℕ)
       → strict_run lacking program pages n ≢ Ended lacking out
 
 -- The outcome of a build of these files. Rules of tokens and of the grammar come first, then those
@@ -253,15 +253,15 @@ IsBuilt files pages (outcome.Refused refusals) =
     ⊎ (AreUngraphed files refusals
     ⊎ (AreUncompiled files refusals.items ⊎ IsTooLarge files pages refusals.items))
 IsBuilt files pages (outcome.Built link built) =
-    IsProgram files pages link.items (map named built.items)
+    IsProgram files pages link.items (map name_bytes built.items)
 
 -- the same is reported, or the same modules are built
 abbrev pub AreAlike : Outcome → Outcome → Type 0
-AreAlike (outcome.Refused rs) (outcome.Refused qs) = map reported rs.items ≡ map reported qs.items
+AreAlike (outcome.Refused rs) (outcome.Refused qs) = map report_of rs.items ≡ map report_of qs.items
 AreAlike (outcome.Refused rs) (outcome.Built link built) = ⊥
 AreAlike (outcome.Built link built) (outcome.Refused qs) = ⊥
 AreAlike (outcome.Built link built) (outcome.Built other others) =
-    (link.items ≡ other.items) × (map named built.items ≡ map named others.items)
+    (link.items ≡ other.items) × (map name_bytes built.items ≡ map name_bytes others.items)
 
 -- files have at most one outcome in a number of pages
 abbrev pub OneOutcome : Type 0

@@ -9,27 +9,27 @@ use Rattle.typed_tree.specs.declared.table.Table.{Table}
 use Rattle.m2_rule.specs.declared.breach.Breach.{Breach}
 use Rattle.check_scope.specs.Elaborated.{every}
 use Rattle.check_definition.specs.Compiled as definition
-use Rattle.check_body.specs.Checks.{checked}
+use Rattle.check_body.specs.Checks.{body_module}
 use Rattle.law_least_definition.specs.Least.{IsLeast}
 use Rattle.build_jobs.specs.declared.outcome.Compiled.{Compiled}
 use Rattle.build_jobs.specs.declared.outcome.Compiled.TheVariants as jobs
 use Rattle.build_jobs.specs.Own.{own_table, tables_behind}
-use Rattle.build_jobs.specs.Compiling.{compiled, tables_of}
+use Rattle.build_jobs.specs.Compiling.{compilation_of, tables_of}
 
 -- the rules that are broken in what has no meaning
-abbrev pub broken : {A : Type 0} → Result A (List Breach) → List Breach
-broken (Ok a) = []
-broken (Err breaches) = breaches
+abbrev pub breaches_of : {A : Type 0} → Result A (List Breach) → List Breach
+breaches_of (Ok a) = []
+breaches_of (Err breaches) = breaches
 
 abbrev pub broken_in_body : Module → (number : ℕ) → List Table → List Breach
 broken_in_body m number tables =
-    let own = own_table m tables in broken (checked every number m own (tables_behind own tables))
+    let own = own_table m tables in breaches_of (body_module every number m own (tables_behind own tables))
 
 -- all rules of definitions and bodies that a module breaks, beside the tables of those that it
 -- needs
 abbrev pub all_broken : Module → (number : ℕ) → List Table → Contents → List Breach
 all_broken m number tables (contents.Definition defs) =
-    broken (definition.compiled every number m tables)
+    breaches_of (definition.definition_table every number m tables)
 all_broken m number tables (contents.Implementation b) = broken_in_body m number tables
 all_broken m number tables (contents.Program b) = broken_in_body m number tables
 
@@ -46,4 +46,4 @@ ReportsLeast breaches jobs.Blocked = Unit {0}
 abbrev pub IsLeastReported : Module → Type 0
 IsLeastReported m =
     (number : ℕ) (needed : List Compiled)
-    → ReportsLeast (all_broken m number (tables_of needed) m.contents) (compiled m number needed)
+    → ReportsLeast (all_broken m number (tables_of needed) m.contents) (compilation_of m number needed)

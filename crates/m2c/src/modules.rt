@@ -5,7 +5,7 @@ ghost use Rattle.std.specs.String.{string_bytes};
 ghost use Rattle.m2_emit.specs.Emitted.{parts};
 ghost use Rattle.m2_graph.specs.Refused.{max_files};
 ghost use Rattle.def_scheme.specs.Modules.{stack_begin};
-ghost use Rattle.m2c.specs.Build.{named, named_bytes};
+ghost use Rattle.m2c.specs.Build.{name_bytes, named_bytes};
 ghost use Rattle.m2c.specs.Names.{IsName};
 
 use m2_emit::ModuleBytes;
@@ -28,7 +28,7 @@ fn add_copy(
 ) -> Result<(), AllocError>
     requires { IsName module.now.name }
     ensures { OnOk result
-        (map named copies.new.items ≡ map named copies.old.items ++ named_bytes module.now ∷ []) }
+        (map name_bytes copies.new.items ≡ map name_bytes copies.old.items ++ named_bytes module.now ∷ []) }
 {
     let name = text_of(alloc, &module.name)?;
     let bytes = Vec::from_slice(alloc, module.bytes.as_slice())?;
@@ -43,7 +43,7 @@ pub fn copies_of(
 ) -> Result<Vec<(String, Vec<u8>)>, AllocError>
     requires { All (λ m. IsName m.now.name) modules.now }
     ensures { IfOk result (λ ms.
-        map named ms.items ≡ map (λ m. named_bytes m.now) modules.now) }
+        map name_bytes ms.items ≡ map (λ m. named_bytes m.now) modules.now) }
 {
     let mut copies = Vec::new(alloc);
     for module in modules {

@@ -3,14 +3,14 @@
 ghost use Rattle.std.specs.Prelude.{◌≡◌, ◌≤◌, ◌+◌, ◌*◌, ◌∷◌, [], length, map, nat_lt, IfOk};
 ghost use Rattle.m2_emit.specs.Emitted.{parts};
 ghost use Rattle.def_scheme.specs.Modules.{max_pages, stack_begin};
-ghost use Rattle.m2_graph.specs.Files.{numbered};
+ghost use Rattle.m2_graph.specs.Files.{number_files};
 ghost use Rattle.m2_graph.specs.Graph.{CompileEach};
 ghost use Rattle.m2_graph.specs.Jobs.{ArePlaces};
 ghost use Rattle.m2_graph.specs.Refused.{max_files};
 ghost use Rattle.build_jobs.specs.Jobs.{all_compiled};
-ghost use Rattle.build_jobs.specs.Borrowed.{borrowed, modules_borrowed};
+ghost use Rattle.build_jobs.specs.Borrowed.{borrow_trees, modules_borrowed};
 ghost use Rattle.build_jobs.specs.Reading.{AreRead};
-ghost use Rattle.m2c.specs.Build.{is_program_part, program_file, refused_by, started, reported, reported_at, AreTrees, HaveGraph, IsBuilt};
+ghost use Rattle.m2c.specs.Build.{is_program_part, program_file, refused_by, start_modules, report_of, reported_at, AreTrees, HaveGraph, IsBuilt};
 ghost use Rattle.m2_rule.specs.declared.rule.Rule.TheVariants as rule;
 ghost use Rattle.m2_rule.specs.RuleNumber.{number_of};
 
@@ -49,7 +49,7 @@ fn is_program(tree: &Module) -> bool
 
 /// The file of the program module.
 fn program_file<'a>(trees: &[(&'a str, &'a Module)]) -> &'a str
-    ensures { result.now ≡ program_file (borrowed trees.now) }
+    ensures { result.now ≡ program_file (borrow_trees trees.now) }
 {
     match trees {
         [] => "",
@@ -66,7 +66,7 @@ fn program_file<'a>(trees: &[(&'a str, &'a Module)]) -> &'a str
 /// 61 at the begin of the file of the program module.
 fn too_large(alloc: Global, trees: &[(&str, &Module)]) -> Result<Vec<Refusal>, AllocError>
     ensures { IfOk result (λ rs.
-        map reported rs.items ≡ reported_at (program_file (borrowed trees.now)) 1 1 (number_of rule.LargeProgram) ∷ []) }
+        map report_of rs.items ≡ reported_at (program_file (borrow_trees trees.now)) 1 1 (number_of rule.LargeProgram) ∷ []) }
 {
     let mut refusals = Vec::new(alloc);
     let file = program_file(trees);
@@ -89,7 +89,7 @@ fn is_too_large(modules: &[&ModuleBytes], pages: u32) -> bool
 }
 
 /// The modules of the program that a graph has, where no module breaks a rule and the data fits.
-fn built(
+fn build_modules(
     alloc: Global,
     files: &[SourceFile],
     trees: &[(&str, &Module)],
@@ -99,12 +99,12 @@ fn built(
 ) -> Result<Outcome, EncodeError>
     requires least { 1 ≤ pages }
     requires most { pages ≤ max_pages }
-    requires graph { HaveGraph files.now (borrowed trees.now) graph.now.files.items
+    requires graph { HaveGraph files.now (borrow_trees trees.now) graph.now.files.items
         (map (λ j. j.items) graph.now.jobs.items) graph.now.starts.items }
-    requires none { refused_by (borrowed trees.now) graph.now.files.items
+    requires none { refused_by (borrow_trees trees.now) graph.now.files.items
         (map (λ j. j.items) graph.now.jobs.items) ≡ [] }
     requires modules { map (λ m. m.now) modules.now
-        ≡ started (borrowed trees.now) graph.now.files.items
+        ≡ start_modules (borrow_trees trees.now) graph.now.files.items
         (map (λ j. j.items) graph.now.jobs.items) graph.now.starts.items }
     requires fits { stack_begin (parts (map (λ m. m.now) modules.now)) + 4096 ≤ 65536 * pages }
     ensures { IfOk result (IsBuilt files.now pages) }
@@ -125,12 +125,12 @@ fn program(
 ) -> Result<Outcome, EncodeError>
     requires least { 1 ≤ pages }
     requires most { pages ≤ max_pages }
-    requires graph { HaveGraph files.now (borrowed trees.now) graph.now.files.items
+    requires graph { HaveGraph files.now (borrow_trees trees.now) graph.now.files.items
         (map (λ j. j.items) graph.now.jobs.items) graph.now.starts.items }
-    requires none { refused_by (borrowed trees.now) graph.now.files.items
+    requires none { refused_by (borrow_trees trees.now) graph.now.files.items
         (map (λ j. j.items) graph.now.jobs.items) ≡ [] }
     requires modules { map (λ m. m.now) modules.now
-        ≡ started (borrowed trees.now) graph.now.files.items
+        ≡ start_modules (borrow_trees trees.now) graph.now.files.items
         (map (λ j. j.items) graph.now.jobs.items) graph.now.starts.items }
     ensures { IfOk result (IsBuilt files.now pages) }
 {
@@ -138,7 +138,7 @@ fn program(
         let refusals = too_large(alloc, trees)?;
         return Ok(Outcome::Refused(in_order(refusals)?));
     }
-    built(alloc, files, trees, graph, modules, pages)
+    build_modules(alloc, files, trees, graph, modules, pages)
 }
 
 /// The places of the jobs of files.
@@ -147,7 +147,7 @@ fn places_in(
     trees: &[(&str, &Module)],
     graph: &Graph,
 ) -> Result<Vec<Option<usize>>, AllocError>
-    requires { CompileEach (numbered 0 (borrowed trees.now)) graph.now.files.items }
+    requires { CompileEach (number_files 0 (borrow_trees trees.now)) graph.now.files.items }
     ensures { IfOk result (λ places. ArePlaces graph.now.files.items places.items) }
 {
     places_of(alloc, trees.len(), graph.files())
@@ -164,7 +164,7 @@ fn of_results(
 ) -> Result<Outcome, EncodeError>
     requires least { 1 ≤ pages }
     requires most { pages ≤ max_pages }
-    requires graph { HaveGraph files.now (borrowed trees.now) graph.now.files.items
+    requires graph { HaveGraph files.now (borrow_trees trees.now) graph.now.files.items
         (map (λ j. j.items) graph.now.jobs.items) graph.now.starts.items }
     requires results { results.now ≡ all_compiled (modules_borrowed trees.now) graph.now.files.items
         (map (λ j. j.items) graph.now.jobs.items) }
@@ -189,7 +189,7 @@ fn of_graph<R: Threads + Sync, G: Gate>(
 ) -> Result<Outcome, EncodeError>
     requires least { 1 ≤ pages }
     requires most { pages ≤ max_pages }
-    requires graph { HaveGraph files.now (borrowed trees.now) graph.now.files.items
+    requires graph { HaveGraph files.now (borrow_trees trees.now) graph.now.files.items
         (map (λ j. j.items) graph.now.jobs.items) graph.now.starts.items }
     ensures { IfOk result (IsBuilt files.now pages) }
 {
@@ -206,7 +206,7 @@ fn of_trees<R: Threads + Sync, G: Gate>(
 ) -> Result<Outcome, EncodeError>
     requires least { 1 ≤ pages }
     requires most { pages ≤ max_pages }
-    requires trees { AreTrees files.now (borrowed trees.now) }
+    requires trees { AreTrees files.now (borrow_trees trees.now) }
     ensures { IfOk result (IsBuilt files.now pages) }
 {
     match Graph::of(runner.alloc, trees) {

@@ -2,7 +2,7 @@
 
 ghost use Rattle.std.specs.Prelude.{◌≡◌, ◌++◌, IfOk, OnOk, length, map};
 ghost use Rattle.std.specs.String.{string_bytes};
-ghost use Rattle.m2c.specs.Build.{reported, reported_at, refused_in, refused_of};
+ghost use Rattle.m2c.specs.Build.{report_of, reported_at, refused_in, refused_of};
 
 use build_jobs::{Read, SourceFile};
 use m2_tree::{Pos, Refusal};
@@ -10,7 +10,7 @@ use std::alloc::{AllocError, Global};
 
 /// A broken rule of a file.
 pub fn refusal(alloc: Global, file: &str, pos: Pos, number: u32) -> Result<Refusal, AllocError>
-    ensures { IfOk result (λ r. reported r ≡ reported_at file.now pos.line pos.col number) }
+    ensures { IfOk result (λ r. report_of r ≡ reported_at file.now pos.line pos.col number) }
 {
     Ok(Refusal {
         file: String::from_str(alloc, file)?,
@@ -27,8 +27,8 @@ fn add_refused(
     read: &Read,
 ) -> Result<(), AllocError>
     ensures { OnOk result
-        (map reported refusals.new.items
-        ≡ map reported refusals.old.items ++ refused_in (string_bytes file.now.name) read.now) }
+        (map report_of refusals.new.items
+        ≡ map report_of refusals.old.items ++ refused_in (string_bytes file.now.name) read.now) }
 {
     match read {
         Read::Parsed(_) => Ok(()),
@@ -47,7 +47,7 @@ pub fn refused_of(
     reads: &[Read],
 ) -> Result<Vec<Refusal>, AllocError>
     requires { length files.now ≡ length reads.now }
-    ensures { IfOk result (λ rs. map reported rs.items ≡ refused_of files.now reads.now) }
+    ensures { IfOk result (λ rs. map report_of rs.items ≡ refused_of files.now reads.now) }
 {
     let mut refusals = Vec::new(alloc);
     for k in 0..files.len() {

@@ -3,8 +3,8 @@
 ghost use Rattle.std.specs.Prelude.{◌≡◌, ◌++◌, map, slice_get, IfOk, OnOk};
 ghost use Rattle.std.specs.Option.{option_and_then, option_copied};
 ghost use Rattle.m2_graph.specs.Jobs.{place_of};
-ghost use Rattle.build_jobs.specs.Borrowed.{borrowed};
-ghost use Rattle.m2c.specs.Build.{refusal_in, refused_from, reported};
+ghost use Rattle.build_jobs.specs.Borrowed.{borrow_trees};
+ghost use Rattle.m2c.specs.Build.{refusal_in, refused_from, report_of};
 ghost use Rattle.m2c.specs.Modules.{module_in, modules_at};
 
 use crate::refusals::refusal;
@@ -35,8 +35,8 @@ fn add_refusal(
     became: Option<&Compiled>,
 ) -> Result<(), AllocError>
     ensures { OnOk result
-        (map reported refusals.new.items
-        ≡ map reported refusals.old.items ++ refusal_in file.now (option_copied became.entry)) }
+        (map report_of refusals.new.items
+        ≡ map report_of refusals.old.items ++ refusal_in file.now (option_copied became.entry)) }
 {
     match became {
         None => Ok(()),
@@ -59,10 +59,10 @@ pub fn refused_by(
     results: &[Compiled],
 ) -> Result<Vec<Refusal>, AllocError>
     ensures { IfOk result (λ rs.
-        map reported rs.items
+        map report_of rs.items
         ≡ refused_from
         (λ file. option_and_then (slice_get results.now) (place_of places.now file)) 0
-        (borrowed trees.now)) }
+        (borrow_trees trees.now)) }
 {
     let mut refusals = Vec::new(alloc);
     for file in 0..trees.len() {

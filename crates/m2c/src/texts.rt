@@ -3,7 +3,7 @@
 ghost use Rattle.std.specs.Prelude.{◌≡◌, ◌++◌, IfOk, OnOk, length};
 ghost use Rattle.std.specs.String.{string_bytes};
 ghost use Rattle.m2c.specs.Build.{tree_in, trees_of};
-ghost use Rattle.build_jobs.specs.Borrowed.{borrowed};
+ghost use Rattle.build_jobs.specs.Borrowed.{borrow_trees};
 
 use build_jobs::{Read, SourceFile};
 use m2_tree::Module;
@@ -16,8 +16,8 @@ fn add_tree<'a>(
     read: &'a Read,
 ) -> Result<(), AllocError>
     ensures { OnOk result
-        (borrowed trees.new.items
-        ≡ borrowed trees.old.items ++ tree_in (string_bytes file.now.name) read.now) }
+        (borrow_trees trees.new.items
+        ≡ borrow_trees trees.old.items ++ tree_in (string_bytes file.now.name) read.now) }
 {
     match read {
         Read::Refused(_, _) => Ok(()),
@@ -35,7 +35,7 @@ pub fn trees_of<'a>(
     reads: &'a [Read],
 ) -> Result<Vec<(&'a str, &'a Module)>, AllocError>
     requires { length files.now ≡ length reads.now }
-    ensures { IfOk result (λ trees. borrowed trees.items ≡ trees_of files.now reads.now) }
+    ensures { IfOk result (λ trees. borrow_trees trees.items ≡ trees_of files.now reads.now) }
 {
     let mut trees = Vec::new(alloc);
     for k in 0..files.len() {

@@ -12,7 +12,7 @@ ghost use Rattle.def_grammar.specs.Reading.{
   begins,
   closing,
   one_token,
-  entered,
+  enter_level,
   AteIf,
   HadIf,
   Reads,
@@ -206,7 +206,7 @@ impl<'a> Cursor<'a> {
 
     /// How many levels of nesting are left in a part that this symbol begins. It takes nothing.
     pub fn enter(&self, symbol: Symbol, room: usize) -> Result<usize, Stop>
-        ensures { Reads (entered (the.Symbol symbol ∷ []) room self.now) result self.now }
+        ensures { Reads (enter_level (the.Symbol symbol ∷ []) room self.now) result self.now }
     {
         if room > 0 {
             return Ok(room - 1);
@@ -219,7 +219,7 @@ impl<'a> Cursor<'a> {
 
     /// The same, for a type.
     pub(crate) fn enter_type(&self, room: usize) -> Result<usize, Stop>
-        ensures { Reads (entered in_type room self.now) result self.now }
+        ensures { Reads (enter_level in_type room self.now) result self.now }
     {
         if room > 0 {
             return Ok(room - 1);
@@ -234,7 +234,7 @@ impl<'a> Cursor<'a> {
 
     /// The same, for an inner array, which begins with its index.
     pub(crate) fn enter_inner(&self, room: usize) -> Result<usize, Stop>
-        ensures { Reads (entered in_simple room self.now) result self.now }
+        ensures { Reads (enter_level in_simple room self.now) result self.now }
     {
         if room > 0 {
             return Ok(room - 1);

@@ -30,12 +30,12 @@ ghost use Rattle.def_grammar.specs.Ebnf.{
   term,
 };
 ghost use Rattle.def_grammar.specs.Trees.{
-  added,
+  add_operand,
   begun_by,
   ident_of,
-  multiplied,
+  multiply_operand,
   product_of,
-  selected,
+  selectors_of,
   sum_of,
   with_first,
 };
@@ -124,7 +124,7 @@ impl Cursor<'_> {
     /// The operators and the terms behind the first one.
     #[cycle(expr)]
     fn terms(&mut self, room: usize) -> Result<Items<(Operator<AddOp>, Expr)>, Stop>
-        ensures { ReadsAs (map added) (read (many (add_op · term)) room self.old) result self.new }
+        ensures { ReadsAs (map add_operand) (read (many (add_op · term)) room self.old) result self.new }
     {
         let mut found = Items::new(self.alloc);
         while let Some(op) = self.add_op() {
@@ -146,7 +146,7 @@ impl Cursor<'_> {
     /// The operators and the factors behind the first one.
     #[cycle(expr)]
     fn factors(&mut self, room: usize) -> Result<Items<(Operator<MulOp>, Expr)>, Stop>
-        ensures { ReadsAs (map multiplied) (read (many (mul_op · factor)) room self.old) result self.new }
+        ensures { ReadsAs (map multiply_operand) (read (many (mul_op · factor)) room self.old) result self.new }
     {
         let mut found = Items::new(self.alloc);
         while let Some(op) = self.mul_op() {
@@ -320,7 +320,7 @@ impl Cursor<'_> {
     /// One field, or the indexes of one bracket.
     #[cycle(expr)]
     fn selector(&mut self, room: usize, found: &mut Items<Selector>) -> Result<(), Stop>
-        ensures { ReadsOnto selected (read selector room self.old) found.old result found.new self.new }
+        ensures { ReadsOnto selectors_of (read selector room self.old) found.old result found.new self.new }
     {
         if self.sees(Symbol::Dot) {
             let dot = self.expect(Symbol::Dot)?;

@@ -15,13 +15,13 @@ use Rattle.typed_tree.specs.declared.statement.TypedStmt.TheOpen as layer
 use Rattle.typed_tree.specs.declared.statement.TypedStmt.TheVariants as sv
 use Rattle.typed_tree.specs.declared.statement.TypedArm.{TypedArm, out-TypedArm, fold-TypedArm, fold_out-TypedArm}
 use Rattle.typed_tree.specs.Types.{char}
-use Rattle.def_meaning.specs.Store.{Location, copied}
-use Rattle.def_meaning.specs.Answer.{State as Meant, Answer as Given, Value, ◌▷◌, range_fault, case_fault, halted, Ended, StillRunning}
+use Rattle.def_meaning.specs.Store.{Location, copy_whole}
+use Rattle.def_meaning.specs.Answer.{State as Meant, Answer as Given, Value, ◌▷◌, range_fault, case_fault, halt_status, Ended, StillRunning}
 use Rattle.def_meaning.specs.Outcome.{Outcome as Course, Normal, Exited, Returned, sequence}
 use Rattle.def_meaning.specs.Operators.{is_true}
 use Rattle.def_meaning.specs.Environment.{Modules, Environment as Setting}
 use Rattle.def_meaning.specs.Expressions.{Asks, within, as_type}
-use Rattle.def_meaning.specs.Statements.{Does, Arm, in_turn, or_else, chosen, does, step_layer, arm_layer, stored, looped, loop_left, while_true, until_true, has_passed, for_turns, for_all, is_labelled, changed, rechecked, with_element}
+use Rattle.def_meaning.specs.Statements.{Does, Arm, in_turn, or_else, choose_arm, does, step_layer, arm_layer, store_number, loop_outcome, loop_left, while_true, until_true, has_passed, for_turns, for_all, is_labelled, change_by, recheck_value, with_element}
 use Rattle.plain_store.specs.declared.state.State.{State}
 use Rattle.plain_store.specs.declared.state.Stop.{Stop}
 use Rattle.plain_store.specs.declared.state.Stop.TheVariants as stop
@@ -30,9 +30,9 @@ use Rattle.plain_values.specs.declared.program.Program.{Program}
 use Rattle.plain_steps.specs.declared.simple.Target.{Target}
 use Rattle.plain_steps.specs.declared.simple.Ends.{Ends}
 use Rattle.plain_steps.specs.declared.simple.Turns.{Turns}
-use Rattle.plain_store.specs.Seen.{stopped, halted as halts, with_store, with_byte}
+use Rattle.plain_store.specs.Seen.{stop_meaning, stop_course as halts, with_store, with_byte}
 use Rattle.plain_values.specs.Surroundings.{modules_of, asks_of, surroundings, value_in, located_in, called_in, does_in, steps_in, IsUnder}
-use Rattle.plain_steps.specs.Parts.{target_in, ends_in, turns_in, while_in, repeat_in, loop_in, for_in, for_begun, cased, under_in, first_arm, text_put, stepped}
+use Rattle.plain_steps.specs.Parts.{target_in, ends_in, turns_in, while_in, repeat_in, loop_in, for_in, for_begun, arm_or_else, under_in, first_arm, text_put, turns_over}
 use Rattle.plain_store.proofs.Threads.{gave, stays, with_gave, with_stays, went, left, came}
 use Rattle.plain_store.proofs.Threads.{halts as halts_on}
 
@@ -108,8 +108,8 @@ turns_4 (StillRunning out) f g h k = refl
 
 -- ---- the arms of a CASE
 
-picked : (a : Around) (b : Bool) (x : TypedArm) (o : Option TypedArm) (rest : Course) (other : Meant → Course) (st : Meant) → rest ≡ cased a o other st → (if b then steps_in a (out-TypedArm x).body st else rest) ≡ cased a (if b then Some x else o) other st
-unfolding cased
+picked : (a : Around) (b : Bool) (x : TypedArm) (o : Option TypedArm) (rest : Course) (other : Meant → Course) (st : Meant) → rest ≡ arm_or_else a o other st → (if b then steps_in a (out-TypedArm x).body st else rest) ≡ arm_or_else a (if b then Some x else o) other st
+unfolding arm_or_else
 picked a true x o rest other st h = refl
 picked a false x o rest other st h = h
 
@@ -118,22 +118,22 @@ if_applied true f g x y = refl
 if_applied false f g x y = refl
 
 chosen_is : (a : Around) (v : ℤ) (xs : List TypedArm) (other : Does) (st : Meant)
-    → chosen v (map (armed (modules_of a.program.now) (asks_of a) a.program.now.bound) xs) other (surroundings a) st ≡ cased a (first_arm v xs) (λ st. other (surroundings a) st) st
-unfolding cased steps_in
+    → choose_arm v (map (armed (modules_of a.program.now) (asks_of a) a.program.now.bound) xs) other (surroundings a) st ≡ arm_or_else a (first_arm v xs) (λ st. other (surroundings a) st) st
+unfolding arm_or_else steps_in
 chosen_is a v [] other st = refl
 chosen_is a v (x ∷ xs) other st =
-    let rest : Does = chosen v (map (armed (modules_of a.program.now) (asks_of a) a.program.now.bound) xs) other in
+    let rest : Does = choose_arm v (map (armed (modules_of a.program.now) (asks_of a) a.program.now.bound) xs) other in
     ap (λ (y : Arm). (if list_any (is_labelled v) y.labels then y.does else rest) (surroundings a) st) (armed_is (modules_of a.program.now) (asks_of a) a.program.now.bound x)
     ∙ if_applied (list_any (is_labelled v) (out-TypedArm x).labels) (in_turn (map (does (modules_of a.program.now) (asks_of a) a.program.now.bound) (out-TypedArm x).body)) rest (surroundings a) st
     ∙ picked a (list_any (is_labelled v) (out-TypedArm x).labels) x (first_arm v xs) (rest (surroundings a) st) (λ st. other (surroundings a) st) st (chosen_is a v xs other st)
 
-pub step_Assign : (a : Around) (d : Place) (t : TypeNo) (e : TypedExpr) (st : Meant) → does_in a (sv.Assign d t e) st ≡ (target_in a d e st ▷ λ x st. as_type (surroundings a).types t x.v st ▷ λ v st. Value Normal (stored x.l v st))
+pub step_Assign : (a : Around) (d : Place) (t : TypeNo) (e : TypedExpr) (st : Meant) → does_in a (sv.Assign d t e) st ≡ (target_in a d e st ▷ λ x st. as_type (surroundings a).types t x.v st ▷ λ v st. Value Normal (store_number x.l v st))
 unfolding does_in steps_in value_in located_in called_in target_in ends_in turns_in while_in repeat_in loop_in for_begun under_in text_put
-step_Assign a d t e st = ap (λ (g : Does). g (surroundings a) st) (at_stmt (modules_of a.program.now) (asks_of a) a.program.now.bound (sv.Assign d t e) (layer.Assign d t e) (sv.outs-Assign d t e)) ∙ target_both (located_in a d st) (value_in a e) (λ l v st. as_type (surroundings a).types t v st ▷ λ v st. Value Normal (stored l v st))
+step_Assign a d t e st = ap (λ (g : Does). g (surroundings a) st) (at_stmt (modules_of a.program.now) (asks_of a) a.program.now.bound (sv.Assign d t e) (layer.Assign d t e) (sv.outs-Assign d t e)) ∙ target_both (located_in a d st) (value_in a e) (λ l v st. as_type (surroundings a).types t v st ▷ λ v st. Value Normal (store_number l v st))
 
-pub step_Copy : (a : Around) (d : Place) (d' : Place) (t : TypeNo) (st : Meant) → does_in a (sv.Copy d d' t) st ≡ (ends_in a d d' st ▷ λ x st. Value Normal (with_store (copied x.to x.from st.store) st))
+pub step_Copy : (a : Around) (d : Place) (d' : Place) (t : TypeNo) (st : Meant) → does_in a (sv.Copy d d' t) st ≡ (ends_in a d d' st ▷ λ x st. Value Normal (with_store (copy_whole x.to x.from st.store) st))
 unfolding does_in steps_in value_in located_in called_in target_in ends_in turns_in while_in repeat_in loop_in for_begun under_in text_put
-step_Copy a d d' t st = ap (λ (g : Does). g (surroundings a) st) (at_stmt (modules_of a.program.now) (asks_of a) a.program.now.bound (sv.Copy d d' t) (layer.Copy d d' t) (sv.outs-Copy d d' t)) ∙ ends_both (located_in a d st) (located_in a d') (λ l l' st. Value Normal (with_store (copied l l' st.store) st))
+step_Copy a d d' t st = ap (λ (g : Does). g (surroundings a) st) (at_stmt (modules_of a.program.now) (asks_of a) a.program.now.bound (sv.Copy d d' t) (layer.Copy d d' t) (sv.outs-Copy d d' t)) ∙ ends_both (located_in a d st) (located_in a d') (λ l l' st. Value Normal (with_store (copy_whole l l' st.store) st))
 
 pub step_CopyText : (a : Around) (d : Place) (t : TypeNo) (text : List ℕ) (st : Meant) → does_in a (sv.CopyText d t text) st ≡ (located_in a d st ▷ (text_put text))
 unfolding does_in steps_in value_in located_in called_in target_in ends_in turns_in while_in repeat_in loop_in for_begun under_in text_put
@@ -147,15 +147,15 @@ pub step_Put : (a : Around) (e : TypedExpr) (st : Meant) → does_in a (sv.Put e
 unfolding does_in steps_in value_in located_in called_in target_in ends_in turns_in while_in repeat_in loop_in for_begun under_in text_put
 step_Put a e st = ap (λ (g : Does). g (surroundings a) st) (at_stmt (modules_of a.program.now) (asks_of a) a.program.now.bound (sv.Put e) (layer.Put e) (sv.outs-Put e))
 
-pub step_Change : (a : Around) (o : Change) (d : Place) (t : TypeNo) (e : TypedExpr) (st : Meant) → does_in a (sv.Change o d t e) st ≡ (target_in a d e st ▷ λ x st. rechecked (surroundings a).types t (changed o (st.store x.l) x.v) st ▷ λ v st. Value Normal (stored x.l v st))
+pub step_Change : (a : Around) (o : Change) (d : Place) (t : TypeNo) (e : TypedExpr) (st : Meant) → does_in a (sv.Change o d t e) st ≡ (target_in a d e st ▷ λ x st. recheck_value (surroundings a).types t (change_by o (st.store x.l) x.v) st ▷ λ v st. Value Normal (store_number x.l v st))
 unfolding does_in steps_in value_in located_in called_in target_in ends_in turns_in while_in repeat_in loop_in for_begun under_in text_put
-step_Change a o d t e st = ap (λ (g : Does). g (surroundings a) st) (at_stmt (modules_of a.program.now) (asks_of a) a.program.now.bound (sv.Change o d t e) (layer.Change o d t e) (sv.outs-Change o d t e)) ∙ target_both (located_in a d st) (value_in a e) (λ l by st. rechecked (surroundings a).types t (changed o (st.store l) by) st ▷ λ v st. Value Normal (stored l v st))
+step_Change a o d t e st = ap (λ (g : Does). g (surroundings a) st) (at_stmt (modules_of a.program.now) (asks_of a) a.program.now.bound (sv.Change o d t e) (layer.Change o d t e) (sv.outs-Change o d t e)) ∙ target_both (located_in a d st) (value_in a e) (λ l by st. recheck_value (surroundings a).types t (change_by o (st.store l) by) st ▷ λ v st. Value Normal (store_number l v st))
 
-pub step_Membership : (a : Around) (o : Membership) (d : Place) (e : TypedExpr) (st : Meant) → does_in a (sv.Membership o d e) st ≡ (target_in a d e st ▷ λ x st. within (pos 0) (pos 31) range_fault x.v st ▷ λ v st. Value Normal (stored x.l (with_element o (st.store x.l) v) st))
+pub step_Membership : (a : Around) (o : Membership) (d : Place) (e : TypedExpr) (st : Meant) → does_in a (sv.Membership o d e) st ≡ (target_in a d e st ▷ λ x st. within (pos 0) (pos 31) range_fault x.v st ▷ λ v st. Value Normal (store_number x.l (with_element o (st.store x.l) v) st))
 unfolding does_in steps_in value_in located_in called_in target_in ends_in turns_in while_in repeat_in loop_in for_begun under_in text_put
-step_Membership a o d e st = ap (λ (g : Does). g (surroundings a) st) (at_stmt (modules_of a.program.now) (asks_of a) a.program.now.bound (sv.Membership o d e) (layer.Membership o d e) (sv.outs-Membership o d e)) ∙ target_both (located_in a d st) (value_in a e) (λ l x st. within (pos 0) (pos 31) range_fault x st ▷ λ x st. Value Normal (stored l (with_element o (st.store l) x) st))
+step_Membership a o d e st = ap (λ (g : Does). g (surroundings a) st) (at_stmt (modules_of a.program.now) (asks_of a) a.program.now.bound (sv.Membership o d e) (layer.Membership o d e) (sv.outs-Membership o d e)) ∙ target_both (located_in a d st) (value_in a e) (λ l x st. within (pos 0) (pos 31) range_fault x st ▷ λ x st. Value Normal (store_number l (with_element o (st.store l) x) st))
 
-pub step_Halt : (a : Around) (st : Meant) → does_in a sv.Halt st ≡ Ended halted st.out
+pub step_Halt : (a : Around) (st : Meant) → does_in a sv.Halt st ≡ Ended halt_status st.out
 unfolding does_in steps_in value_in located_in called_in target_in ends_in turns_in while_in repeat_in loop_in for_begun under_in text_put
 step_Halt a st = ap (λ (g : Does). g (surroundings a) st) (at_stmt (modules_of a.program.now) (asks_of a) a.program.now.bound sv.Halt layer.Halt sv.outs-Halt)
 
@@ -167,11 +167,11 @@ pub step_If_Some : (a : Around) (e : TypedExpr) (xs : List TypedStmt) (ys : List
 unfolding does_in steps_in value_in located_in called_in target_in ends_in turns_in while_in repeat_in loop_in for_begun under_in text_put
 step_If_Some a e xs ys st = ap (λ (g : Does). g (surroundings a) st) (at_stmt (modules_of a.program.now) (asks_of a) a.program.now.bound (sv.If e xs (Some ys)) (layer.If e xs (Some ys)) (sv.outs-If e xs (Some ys)))
 
-pub step_Case_None : (a : Around) (e : TypedExpr) (arms : List TypedArm) (st : Meant) → does_in a (sv.Case e arms None) st ≡ (value_in a e st ▷ λ v st. cased a (first_arm v arms) (λ st. Ended case_fault st.out) st)
+pub step_Case_None : (a : Around) (e : TypedExpr) (arms : List TypedArm) (st : Meant) → does_in a (sv.Case e arms None) st ≡ (value_in a e st ▷ λ v st. arm_or_else a (first_arm v arms) (λ st. Ended case_fault st.out) st)
 unfolding does_in steps_in value_in located_in called_in target_in ends_in turns_in while_in repeat_in loop_in for_begun under_in text_put
 step_Case_None a e arms st = ap (λ (g : Does). g (surroundings a) st) (at_stmt (modules_of a.program.now) (asks_of a) a.program.now.bound (sv.Case e arms None) (layer.Case e arms None) (sv.outs-Case e arms None)) ∙ ap (λ (k : ℤ → Meant → Course). (value_in a e st ▷ k)) (fun_ext (λ v. fun_ext (λ st. chosen_is a v arms (or_else None) st)))
 
-pub step_Case_Some : (a : Around) (e : TypedExpr) (arms : List TypedArm) (ys : List TypedStmt) (st : Meant) → does_in a (sv.Case e arms (Some ys)) st ≡ (value_in a e st ▷ λ v st. cased a (first_arm v arms) (λ st. steps_in a ys st) st)
+pub step_Case_Some : (a : Around) (e : TypedExpr) (arms : List TypedArm) (ys : List TypedStmt) (st : Meant) → does_in a (sv.Case e arms (Some ys)) st ≡ (value_in a e st ▷ λ v st. arm_or_else a (first_arm v arms) (λ st. steps_in a ys st) st)
 unfolding does_in steps_in value_in located_in called_in target_in ends_in turns_in while_in repeat_in loop_in for_begun under_in text_put
 step_Case_Some a e arms ys st = ap (λ (g : Does). g (surroundings a) st) (at_stmt (modules_of a.program.now) (asks_of a) a.program.now.bound (sv.Case e arms (Some ys)) (layer.Case e arms (Some ys)) (sv.outs-Case e arms (Some ys))) ∙ ap (λ (k : ℤ → Meant → Course). (value_in a e st ▷ k)) (fun_ext (λ v. fun_ext (λ st. chosen_is a v arms (or_else (Some (map (does (modules_of a.program.now) (asks_of a) a.program.now.bound) ys))) st)))
 
@@ -207,13 +207,13 @@ pub step_With : (a : Around) (d : Place) (xs : List TypedStmt) (st : Meant) → 
 unfolding does_in steps_in value_in located_in called_in target_in ends_in turns_in while_in repeat_in loop_in for_begun under_in text_put
 step_With a d xs st = ap (λ (g : Does). g (surroundings a) st) (at_stmt (modules_of a.program.now) (asks_of a) a.program.now.bound (sv.With d xs) (layer.With d xs) (sv.outs-With d xs))
 
-pub cased_some : (a : Around) (o : Option TypedArm) (x : TypedArm) (other : Meant → Course) (st : Meant) → o ≡ Some x → cased a o other st ≡ steps_in a (out-TypedArm x).body st
-unfolding cased
-cased_some a o x other st h = ap (λ (y : Option TypedArm). cased a y other st) h
+pub cased_some : (a : Around) (o : Option TypedArm) (x : TypedArm) (other : Meant → Course) (st : Meant) → o ≡ Some x → arm_or_else a o other st ≡ steps_in a (out-TypedArm x).body st
+unfolding arm_or_else
+cased_some a o x other st h = ap (λ (y : Option TypedArm). arm_or_else a y other st) h
 
-pub cased_none : (a : Around) (o : Option TypedArm) (other : Meant → Course) (st : Meant) → o ≡ None → cased a o other st ≡ other st
-unfolding cased
-cased_none a o other st h = ap (λ (y : Option TypedArm). cased a y other st) h
+pub cased_none : (a : Around) (o : Option TypedArm) (other : Meant → Course) (st : Meant) → o ≡ None → arm_or_else a o other st ≡ other st
+unfolding arm_or_else
+cased_none a o other st h = ap (λ (y : Option TypedArm). arm_or_else a y other st) h
 
 pub under_is : (a inner : Around) (l : Location) (xs : List TypedStmt) (st : Meant) → IsUnder a l inner → under_in a l xs st ≡ steps_in inner xs st
 unfolding under_in steps_in
@@ -222,13 +222,13 @@ under_is a inner l xs st i = sym (
     ∙ ap (λ (k : Asks). in_turn (map (does (modules_of inner.program.now) k inner.program.now.bound) xs) (record (surroundings a) { withs = (surroundings a).withs ++ l ∷ [] }) st) i.asks
     ∙ ap (λ (p : Program). in_turn (map (does (modules_of p) (asks_of a) p.bound) xs) (record (surroundings a) { withs = (surroundings a).withs ++ l ∷ [] }) st) i.program)
 
-pub for_over : (a : Around) (t : TypeNo) (by : ℤ) (b : Bool) (xs : List TypedStmt) (x : Turns) (st st' : Meant) → st' ≡ stored x.l x.v st → b ≡ has_passed by x.last (st'.store x.l) → b ≡ true → for_begun a t by xs x st ≡ Value Normal st'
+pub for_over : (a : Around) (t : TypeNo) (by : ℤ) (b : Bool) (xs : List TypedStmt) (x : Turns) (st st' : Meant) → st' ≡ store_number x.l x.v st → b ≡ has_passed by x.last (st'.store x.l) → b ≡ true → for_begun a t by xs x st ≡ Value Normal st'
 unfolding for_begun
 for_over a t by b xs x st st' e f h =
     ap (λ (s : Meant). for_all a.program.now.bound (as_type (surroundings a).types t) x.l by x.last (steps_in a xs) s) (sym e)
     ∙ ap (λ (b : Bool). if b then Value Normal st' else for_turns a.program.now.bound (as_type (surroundings a).types t) x.l by x.last (steps_in a xs) st') (sym f ∙ h)
 
-pub for_on : (a : Around) (t : TypeNo) (by : ℤ) (b : Bool) (xs : List TypedStmt) (x : Turns) (st st' : Meant) → st' ≡ stored x.l x.v st → b ≡ has_passed by x.last (st'.store x.l) → b ≡ false → for_begun a t by xs x st ≡ for_in a t by xs x.l x.last a.program.now.bound st'
+pub for_on : (a : Around) (t : TypeNo) (by : ℤ) (b : Bool) (xs : List TypedStmt) (x : Turns) (st st' : Meant) → st' ≡ store_number x.l x.v st → b ≡ has_passed by x.last (st'.store x.l) → b ≡ false → for_begun a t by xs x st ≡ for_in a t by xs x.l x.last a.program.now.bound st'
 unfolding for_begun for_in
 for_on a t by b xs x st st' e f h =
     ap (λ (s : Meant). for_all a.program.now.bound (as_type (surroundings a).types t) x.l by x.last (steps_in a xs) s) (sym e)
@@ -256,7 +256,7 @@ less n i h = omega (arith, h)
 none_left : (n i : ℕ) → n ≤ i → n - i ≡ 0
 none_left n i h = omega (arith, h)
 
-pub spent_stays : (a : Around) (e : TypedExpr) (xs : List TypedStmt) (n i : ℕ) (s : Stop) (st : Meant) (st' : State) → n ≤ i → value_in a e st ≡ stopped s st' → while_in a e xs (n - i) st ≡ halts s st'
+pub spent_stays : (a : Around) (e : TypedExpr) (xs : List TypedStmt) (n i : ℕ) (s : Stop) (st : Meant) (st' : State) → n ≤ i → value_in a e st ≡ stop_meaning s st' → while_in a e xs (n - i) st ≡ halts s st'
 unfolding while_in
 spent_stays a e xs n i s st st' h g = ap (λ (k : ℕ). while_in a e xs k st) (none_left n i h)
     ∙ with_stays (value_in a e st) s st' (λ v st. if is_true v then StillRunning st.out else Value Normal st) g
@@ -273,7 +273,7 @@ spent_on a e xs n i v st st' h g b = ap (λ (k : ℕ). while_in a e xs k st) (no
     ∙ ap (λ (r : Given ℤ). (r ▷ λ v st. if is_true v then StillRunning st.out else Value Normal st)) g
     ∙ ap (λ (b : Bool). if b then StillRunning st'.out else Value Normal st') b
 
-pub while_stays : (a : Around) (e : TypedExpr) (xs : List TypedStmt) (n i : ℕ) (s : Stop) (st : Meant) (st' : State) → i < n → value_in a e st ≡ stopped s st' → while_in a e xs (n - i) st ≡ halts s st'
+pub while_stays : (a : Around) (e : TypedExpr) (xs : List TypedStmt) (n i : ℕ) (s : Stop) (st : Meant) (st' : State) → i < n → value_in a e st ≡ stop_meaning s st' → while_in a e xs (n - i) st ≡ halts s st'
 unfolding while_in
 while_stays a e xs n i s st st' h g = ap (λ (k : ℕ). while_in a e xs k st) (less n i h)
     ∙ with_stays (value_in a e st) s st' (λ v st. if is_true v then sequence (steps_in a xs st) (while_true (n - (i + 1)) (value_in a e) (steps_in a xs)) else Value Normal st) g
@@ -333,7 +333,7 @@ unfolding repeat_in
 repeat_halts a xs e n i s st st' h q = ap (λ (k : ℕ). repeat_in a xs e k st) (less n i h)
     ∙ halts_on (steps_in a xs st) s st' (λ st. value_in a e st ▷ λ v st. if is_true v then Value Normal st else until_true (n - (i + 1)) (steps_in a xs) (value_in a e) st) q
 
-pub repeat_stays : (a : Around) (xs : List TypedStmt) (e : TypedExpr) (n i : ℕ) (s : Stop) (st st' : Meant) (st2 : State) → i < n → steps_in a xs st ≡ Value Normal st' → value_in a e st' ≡ stopped s st2 → repeat_in a xs e (n - i) st ≡ halts s st2
+pub repeat_stays : (a : Around) (xs : List TypedStmt) (e : TypedExpr) (n i : ℕ) (s : Stop) (st st' : Meant) (st2 : State) → i < n → steps_in a xs st ≡ Value Normal st' → value_in a e st' ≡ stop_meaning s st2 → repeat_in a xs e (n - i) st ≡ halts s st2
 unfolding repeat_in
 repeat_stays a xs e n i s st st' st2 h q g = ap (λ (k : ℕ). repeat_in a xs e k st) (less n i h)
     ∙ ap (λ (r : Course). sequence r (λ st. value_in a e st ▷ λ v st. if is_true v then Value Normal st else until_true (n - (i + 1)) (steps_in a xs) (value_in a e) st)) q
@@ -362,12 +362,12 @@ loop_over a xs n i st h = ap (λ (k : ℕ). loop_in a xs k st) (none_left n i h)
 pub loop_leaves : (a : Around) (xs : List TypedStmt) (n i : ℕ) (st st' : Meant) → i < n → steps_in a xs st ≡ Value Exited st' → loop_in a xs (n - i) st ≡ Value Normal st'
 unfolding loop_in
 loop_leaves a xs n i st st' h q = ap (λ (k : ℕ). loop_in a xs k st) (less n i h)
-    ∙ ap (λ (r : Course). loop_left r (looped (n - (i + 1)) (steps_in a xs))) q
+    ∙ ap (λ (r : Course). loop_left r (loop_outcome (n - (i + 1)) (steps_in a xs))) q
 
 pub loop_came : (a : Around) (xs : List TypedStmt) (n i : ℕ) (w : ℤ) (st st' : Meant) → i < n → steps_in a xs st ≡ Value (Returned w) st' → loop_in a xs (n - i) st ≡ Value (Returned w) st'
 unfolding loop_in
 loop_came a xs n i w st st' h q = ap (λ (k : ℕ). loop_in a xs k st) (less n i h)
-    ∙ ap (λ (r : Course). loop_left r (looped (n - (i + 1)) (steps_in a xs))) q
+    ∙ ap (λ (r : Course). loop_left r (loop_outcome (n - (i + 1)) (steps_in a xs))) q
 
 leaves_on : (r : Course) (s : Stop) (st : State) (next : Meant → Course) → r ≡ halts s st → loop_left r next ≡ halts s st
 leaves_on r (stop.Ended k) st next h = ap (λ (x : Course). loop_left x next) h
@@ -376,12 +376,12 @@ leaves_on r stop.StillRunning st next h = ap (λ (x : Course). loop_left x next)
 pub loop_halts : (a : Around) (xs : List TypedStmt) (n i : ℕ) (s : Stop) (st : Meant) (st' : State) → i < n → steps_in a xs st ≡ halts s st' → loop_in a xs (n - i) st ≡ halts s st'
 unfolding loop_in
 loop_halts a xs n i s st st' h q = ap (λ (k : ℕ). loop_in a xs k st) (less n i h)
-    ∙ leaves_on (steps_in a xs st) s st' (looped (n - (i + 1)) (steps_in a xs)) q
+    ∙ leaves_on (steps_in a xs st) s st' (loop_outcome (n - (i + 1)) (steps_in a xs)) q
 
 pub loop_goes : (a : Around) (xs : List TypedStmt) (n i : ℕ) (st st' : Meant) → i < n → steps_in a xs st ≡ Value Normal st' → loop_in a xs (n - i) st ≡ loop_in a xs (n - (i + 1)) st'
 unfolding loop_in
 loop_goes a xs n i st st' h q = ap (λ (k : ℕ). loop_in a xs k st) (less n i h)
-    ∙ ap (λ (r : Course). loop_left r (looped (n - (i + 1)) (steps_in a xs))) q
+    ∙ ap (λ (r : Course). loop_left r (loop_outcome (n - (i + 1)) (steps_in a xs))) q
 
 pub ruleset loops = (loop_over, loop_leaves, loop_came, loop_halts, loop_goes)
 
@@ -392,56 +392,56 @@ for_over_turns a t by xs l last n i st h = ap (λ (k : ℕ). for_in a t by xs l 
 pub for_left : (a : Around) (t : TypeNo) (by : ℤ) (xs : List TypedStmt) (l : Location) (last : ℤ) (n i : ℕ) (st st' : Meant) → i < n → steps_in a xs st ≡ Value Exited st' → for_in a t by xs l last (n - i) st ≡ Value Exited st'
 unfolding for_in
 for_left a t by xs l last n i st st' h q = ap (λ (k : ℕ). for_in a t by xs l last k st) (less n i h)
-    ∙ ap (λ (r : Course). sequence r (λ st. if has_passed by last (st.store l +ℤ by) then Value Normal st else (as_type (surroundings a).types t (st.store l +ℤ by) st ▷ λ v st. for_turns (n - (i + 1)) (as_type (surroundings a).types t) l by last (steps_in a xs) (stored l v st)))) q
+    ∙ ap (λ (r : Course). sequence r (λ st. if has_passed by last (st.store l +ℤ by) then Value Normal st else (as_type (surroundings a).types t (st.store l +ℤ by) st ▷ λ v st. for_turns (n - (i + 1)) (as_type (surroundings a).types t) l by last (steps_in a xs) (store_number l v st)))) q
 
 pub for_came : (a : Around) (t : TypeNo) (by : ℤ) (xs : List TypedStmt) (l : Location) (last : ℤ) (n i : ℕ) (w : ℤ) (st st' : Meant) → i < n → steps_in a xs st ≡ Value (Returned w) st' → for_in a t by xs l last (n - i) st ≡ Value (Returned w) st'
 unfolding for_in
 for_came a t by xs l last n i w st st' h q = ap (λ (k : ℕ). for_in a t by xs l last k st) (less n i h)
-    ∙ ap (λ (r : Course). sequence r (λ st. if has_passed by last (st.store l +ℤ by) then Value Normal st else (as_type (surroundings a).types t (st.store l +ℤ by) st ▷ λ v st. for_turns (n - (i + 1)) (as_type (surroundings a).types t) l by last (steps_in a xs) (stored l v st)))) q
+    ∙ ap (λ (r : Course). sequence r (λ st. if has_passed by last (st.store l +ℤ by) then Value Normal st else (as_type (surroundings a).types t (st.store l +ℤ by) st ▷ λ v st. for_turns (n - (i + 1)) (as_type (surroundings a).types t) l by last (steps_in a xs) (store_number l v st)))) q
 
 pub for_halts : (a : Around) (t : TypeNo) (by : ℤ) (xs : List TypedStmt) (l : Location) (last : ℤ) (n i : ℕ) (s : Stop) (st : Meant) (st' : State) → i < n → steps_in a xs st ≡ halts s st' → for_in a t by xs l last (n - i) st ≡ halts s st'
 unfolding for_in
 for_halts a t by xs l last n i s st st' h q = ap (λ (k : ℕ). for_in a t by xs l last k st) (less n i h)
-    ∙ halts_on (steps_in a xs st) s st' (λ st. if has_passed by last (st.store l +ℤ by) then Value Normal st else (as_type (surroundings a).types t (st.store l +ℤ by) st ▷ λ v st. for_turns (n - (i + 1)) (as_type (surroundings a).types t) l by last (steps_in a xs) (stored l v st))) q
+    ∙ halts_on (steps_in a xs st) s st' (λ st. if has_passed by last (st.store l +ℤ by) then Value Normal st else (as_type (surroundings a).types t (st.store l +ℤ by) st ▷ λ v st. for_turns (n - (i + 1)) (as_type (surroundings a).types t) l by last (steps_in a xs) (store_number l v st))) q
 
 abbrev turn : Types → TypeNo → (by : ℤ) → (l : Location) → (last : ℤ) → (m : ℕ) → (Meant → Course) → Bool → Meant → Course
 turn types t by l last m body true st = Value Normal st
 turn types t by l last m body false st = for_turns m (as_type types t) l by last body st
 
 turn_one : (types : Types) (t : TypeNo) (by : ℤ) (l : Location) (last : ℤ) (m : ℕ) (body : Meant → Course) (s : Given ℤ)
-    → (s ▷ (λ v st. for_turns m (as_type types t) l by last body (stored l v st))) ≡ ((s ▷ λ v st. Value false (stored l v st)) ▷ (turn types t by l last m body))
+    → (s ▷ (λ v st. for_turns m (as_type types t) l by last body (store_number l v st))) ≡ ((s ▷ λ v st. Value false (store_number l v st)) ▷ (turn types t by l last m body))
 turn_one types t by l last m body (Value v st) = refl
 turn_one types t by l last m body (Ended n out) = refl
 turn_one types t by l last m body (StillRunning out) = refl
 
 turn_if : (b : Bool) (types : Types) (t : TypeNo) (by : ℤ) (l : Location) (last : ℤ) (m : ℕ) (body : Meant → Course) (s : Given ℤ) (st : Meant)
-    → (if b then Value Normal st else (s ▷ λ v st. for_turns m (as_type types t) l by last body (stored l v st))) ≡ ((if b then Value true st else (s ▷ λ v st. Value false (stored l v st))) ▷ (turn types t by l last m body))
+    → (if b then Value Normal st else (s ▷ λ v st. for_turns m (as_type types t) l by last body (store_number l v st))) ≡ ((if b then Value true st else (s ▷ λ v st. Value false (store_number l v st))) ▷ (turn types t by l last m body))
 turn_if true types t by l last m body s st = refl
 turn_if false types t by l last m body s st = turn_one types t by l last m body s
 
 turn_is : (types : Types) (t : TypeNo) (by : ℤ) (l : Location) (last : ℤ) (m : ℕ) (body : Meant → Course) (st : Meant)
-    → (if has_passed by last (st.store l +ℤ by) then Value Normal st else (as_type types t (st.store l +ℤ by) st ▷ λ v st. for_turns m (as_type types t) l by last body (stored l v st))) ≡ (stepped types t l by last st ▷ (turn types t by l last m body))
-unfolding stepped
+    → (if has_passed by last (st.store l +ℤ by) then Value Normal st else (as_type types t (st.store l +ℤ by) st ▷ λ v st. for_turns m (as_type types t) l by last body (store_number l v st))) ≡ (turns_over types t l by last st ▷ (turn types t by l last m body))
+unfolding turns_over
 turn_is types t by l last m body st = turn_if (has_passed by last (st.store l +ℤ by)) types t by l last m body (as_type types t (st.store l +ℤ by) st) st
 
-pub for_ends : (a : Around) (t : TypeNo) (by : ℤ) (xs : List TypedStmt) (l : Location) (last : ℤ) (n i : ℕ) (st st' st2 : Meant) → i < n → steps_in a xs st ≡ Value Normal st' → stepped (surroundings a).types t l by last st' ≡ Value true st2 → for_in a t by xs l last (n - i) st ≡ Value Normal st2
+pub for_ends : (a : Around) (t : TypeNo) (by : ℤ) (xs : List TypedStmt) (l : Location) (last : ℤ) (n i : ℕ) (st st' st2 : Meant) → i < n → steps_in a xs st ≡ Value Normal st' → turns_over (surroundings a).types t l by last st' ≡ Value true st2 → for_in a t by xs l last (n - i) st ≡ Value Normal st2
 unfolding for_in
 for_ends a t by xs l last n i st st' st2 h q g = ap (λ (k : ℕ). for_in a t by xs l last k st) (less n i h)
-    ∙ ap (λ (r : Course). sequence r (λ st. if has_passed by last (st.store l +ℤ by) then Value Normal st else (as_type (surroundings a).types t (st.store l +ℤ by) st ▷ λ v st. for_turns (n - (i + 1)) (as_type (surroundings a).types t) l by last (steps_in a xs) (stored l v st)))) q
+    ∙ ap (λ (r : Course). sequence r (λ st. if has_passed by last (st.store l +ℤ by) then Value Normal st else (as_type (surroundings a).types t (st.store l +ℤ by) st ▷ λ v st. for_turns (n - (i + 1)) (as_type (surroundings a).types t) l by last (steps_in a xs) (store_number l v st)))) q
     ∙ turn_is (surroundings a).types t by l last (n - (i + 1)) (steps_in a xs) st'
     ∙ ap (λ (r : Given Bool). (r ▷ (turn (surroundings a).types t by l last (n - (i + 1)) (steps_in a xs)))) g
 
-pub for_stays : (a : Around) (t : TypeNo) (by : ℤ) (xs : List TypedStmt) (l : Location) (last : ℤ) (n i : ℕ) (s : Stop) (st st' : Meant) (st2 : State) → i < n → steps_in a xs st ≡ Value Normal st' → stepped (surroundings a).types t l by last st' ≡ stopped s st2 → for_in a t by xs l last (n - i) st ≡ halts s st2
+pub for_stays : (a : Around) (t : TypeNo) (by : ℤ) (xs : List TypedStmt) (l : Location) (last : ℤ) (n i : ℕ) (s : Stop) (st st' : Meant) (st2 : State) → i < n → steps_in a xs st ≡ Value Normal st' → turns_over (surroundings a).types t l by last st' ≡ stop_meaning s st2 → for_in a t by xs l last (n - i) st ≡ halts s st2
 unfolding for_in
 for_stays a t by xs l last n i s st st' st2 h q g = ap (λ (k : ℕ). for_in a t by xs l last k st) (less n i h)
-    ∙ ap (λ (r : Course). sequence r (λ st. if has_passed by last (st.store l +ℤ by) then Value Normal st else (as_type (surroundings a).types t (st.store l +ℤ by) st ▷ λ v st. for_turns (n - (i + 1)) (as_type (surroundings a).types t) l by last (steps_in a xs) (stored l v st)))) q
+    ∙ ap (λ (r : Course). sequence r (λ st. if has_passed by last (st.store l +ℤ by) then Value Normal st else (as_type (surroundings a).types t (st.store l +ℤ by) st ▷ λ v st. for_turns (n - (i + 1)) (as_type (surroundings a).types t) l by last (steps_in a xs) (store_number l v st)))) q
     ∙ turn_is (surroundings a).types t by l last (n - (i + 1)) (steps_in a xs) st'
-    ∙ with_stays (stepped (surroundings a).types t l by last st') s st2 (turn (surroundings a).types t by l last (n - (i + 1)) (steps_in a xs)) g
+    ∙ with_stays (turns_over (surroundings a).types t l by last st') s st2 (turn (surroundings a).types t by l last (n - (i + 1)) (steps_in a xs)) g
 
-pub for_goes : (a : Around) (t : TypeNo) (by : ℤ) (xs : List TypedStmt) (l : Location) (last : ℤ) (n i : ℕ) (st st' st2 : Meant) → i < n → steps_in a xs st ≡ Value Normal st' → stepped (surroundings a).types t l by last st' ≡ Value false st2 → for_in a t by xs l last (n - i) st ≡ for_in a t by xs l last (n - (i + 1)) st2
+pub for_goes : (a : Around) (t : TypeNo) (by : ℤ) (xs : List TypedStmt) (l : Location) (last : ℤ) (n i : ℕ) (st st' st2 : Meant) → i < n → steps_in a xs st ≡ Value Normal st' → turns_over (surroundings a).types t l by last st' ≡ Value false st2 → for_in a t by xs l last (n - i) st ≡ for_in a t by xs l last (n - (i + 1)) st2
 unfolding for_in
 for_goes a t by xs l last n i st st' st2 h q g = ap (λ (k : ℕ). for_in a t by xs l last k st) (less n i h)
-    ∙ ap (λ (r : Course). sequence r (λ st. if has_passed by last (st.store l +ℤ by) then Value Normal st else (as_type (surroundings a).types t (st.store l +ℤ by) st ▷ λ v st. for_turns (n - (i + 1)) (as_type (surroundings a).types t) l by last (steps_in a xs) (stored l v st)))) q
+    ∙ ap (λ (r : Course). sequence r (λ st. if has_passed by last (st.store l +ℤ by) then Value Normal st else (as_type (surroundings a).types t (st.store l +ℤ by) st ▷ λ v st. for_turns (n - (i + 1)) (as_type (surroundings a).types t) l by last (steps_in a xs) (store_number l v st)))) q
     ∙ turn_is (surroundings a).types t by l last (n - (i + 1)) (steps_in a xs) st'
     ∙ ap (λ (r : Given Bool). (r ▷ (turn (surroundings a).types t by l last (n - (i + 1)) (steps_in a xs)))) g
 

@@ -25,9 +25,9 @@ use Rattle.typed_tree.specs.declared.computed.Argument.TheVariants as xv
 use Rattle.typed_tree.specs.Types.{integer}
 use Rattle.def_meaning.specs.Store.{Location}
 use Rattle.def_meaning.specs.Answer.{State as Meant, Answer as Given, Value, Ended, StillRunning, ◌▷◌, range_fault, empty_procedure}
-use Rattle.def_meaning.specs.Operators.{truth, is_true, compared, combined, included, absolute, capital, odd}
-use Rattle.def_meaning.specs.Environment.{Modules, Callee as Asked, Passed as Sent, Number, Variable, Array, Text, module_place, procedure_value, entry_of, entry_callee, module_callee, nested_in, named, location_of, high_of}
-use Rattle.def_meaning.specs.Expressions.{Asks, Gives, Reaches, Continues, asked_if, argument_layer, call_layer, component_layer, link_layer, expr_layer, place_layer, root_layer, value, locate, called, within, as_type, in_base, ordinal, index_range, high_index, element, element_in}
+use Rattle.def_meaning.specs.Operators.{truth, is_true, comparison_holds, set_operation, inclusion_holds, absolute, capital, odd}
+use Rattle.def_meaning.specs.Environment.{Modules, Callee as Asked, Passed as Sent, Number, Variable, Array, Text, module_place, procedure_value, entry_of, entry_callee, module_callee, nested_in, slot_named, location_of, high_of}
+use Rattle.def_meaning.specs.Expressions.{Asks, Gives, Reaches, Continues, asked_if, argument_layer, call_layer, component_layer, link_layer, expr_layer, place_layer, root_layer, value, locate, call_value, within, as_type, in_base, ordinal, index_range, high_index, element, element_in}
 use Rattle.def_meaning.specs.Calls.{calling, runs}
 use Rattle.plain_store.specs.declared.state.State.{State}
 use Rattle.plain_store.specs.declared.state.Stop.{Stop}
@@ -36,44 +36,44 @@ use Rattle.plain_values.specs.declared.program.Around.{Around}
 use Rattle.plain_values.specs.declared.program.Callee.{Callee}
 use Rattle.std.specs.Option.{option_map}
 use Rattle.plain_values.specs.Operated.{operated_on}
-use Rattle.plain_store.specs.Seen.{stopped}
-use Rattle.plain_values.specs.Surroundings.{modules_of, asks_of, surroundings, callee_of, linked, reached, given, value_in, located_in, called_in, linked_in, links_in, reached_in, components_in, given_in, all_given_in}
+use Rattle.plain_store.specs.Seen.{stop_meaning}
+use Rattle.plain_values.specs.Surroundings.{modules_of, asks_of, surroundings, callee_of, link_value, component_value, argument_value, value_in, located_in, called_in, linked_in, links_in, reached_in, components_in, given_in, all_given_in}
 use Rattle.plain_steps.specs.Parts.{pair_in, in_in, asked_in, asked_if_in}
 use Rattle.plain_store.proofs.Threads.{gave, stays}
 
 abbrev opened_expr : Modules → Asks → TypedExpr-F Argument Call Component Link TypedExpr Place → TypedExpr-F (Gives Sent) (Gives ℤ) Reaches Continues (Gives ℤ) (Gives Location)
-opened_expr p ask x = map-TypedExpr Argument Call Component Link TypedExpr Place (Gives Sent) (Gives ℤ) Reaches Continues (Gives ℤ) (Gives Location) (given p ask) (called p ask) (reached p ask) (linked p ask) (value p ask) (locate p ask) x
+opened_expr p ask x = map-TypedExpr Argument Call Component Link TypedExpr Place (Gives Sent) (Gives ℤ) Reaches Continues (Gives ℤ) (Gives Location) (argument_value p ask) (call_value p ask) (component_value p ask) (link_value p ask) (value p ask) (locate p ask) x
 
 at_expr : (p : Modules) (ask : Asks) (e : TypedExpr) (x : TypedExpr-F Argument Call Component Link TypedExpr Place) → out-TypedExpr e ≡ x → value p ask e ≡ expr_layer p ask (opened_expr p ask x)
-unfolding value locate called linked reached given
+unfolding value locate call_value link_value component_value argument_value
 at_expr p ask e x h = fold_out-TypedExpr (Gives Sent) (Gives ℤ) Reaches Continues (Gives ℤ) (Gives Location) (argument_layer p ask) (call_layer p ask) (component_layer p ask) (link_layer p ask) (expr_layer p ask) (place_layer p ask) e ∙ ap (λ (y : TypedExpr-F Argument Call Component Link TypedExpr Place). expr_layer p ask (opened_expr p ask y)) h
 
 abbrev opened_component : Modules → Asks → Component-F Argument Call Component Link TypedExpr Place → Component-F (Gives Sent) (Gives ℤ) Reaches Continues (Gives ℤ) (Gives Location)
-opened_component p ask x = map-Component Argument Call Component Link TypedExpr Place (Gives Sent) (Gives ℤ) Reaches Continues (Gives ℤ) (Gives Location) (given p ask) (called p ask) (reached p ask) (linked p ask) (value p ask) (locate p ask) x
+opened_component p ask x = map-Component Argument Call Component Link TypedExpr Place (Gives Sent) (Gives ℤ) Reaches Continues (Gives ℤ) (Gives Location) (argument_value p ask) (call_value p ask) (component_value p ask) (link_value p ask) (value p ask) (locate p ask) x
 
-at_component : (p : Modules) (ask : Asks) (e : Component) (x : Component-F Argument Call Component Link TypedExpr Place) → out-Component e ≡ x → reached p ask e ≡ component_layer p ask (opened_component p ask x)
-unfolding value locate called linked reached given
+at_component : (p : Modules) (ask : Asks) (e : Component) (x : Component-F Argument Call Component Link TypedExpr Place) → out-Component e ≡ x → component_value p ask e ≡ component_layer p ask (opened_component p ask x)
+unfolding value locate call_value link_value component_value argument_value
 at_component p ask e x h = fold_out-Component (Gives Sent) (Gives ℤ) Reaches Continues (Gives ℤ) (Gives Location) (argument_layer p ask) (call_layer p ask) (component_layer p ask) (link_layer p ask) (expr_layer p ask) (place_layer p ask) e ∙ ap (λ (y : Component-F Argument Call Component Link TypedExpr Place). component_layer p ask (opened_component p ask y)) h
 
 abbrev opened_link : Modules → Asks → Link-F Argument Call Component Link TypedExpr Place → Link-F (Gives Sent) (Gives ℤ) Reaches Continues (Gives ℤ) (Gives Location)
-opened_link p ask x = map-Link Argument Call Component Link TypedExpr Place (Gives Sent) (Gives ℤ) Reaches Continues (Gives ℤ) (Gives Location) (given p ask) (called p ask) (reached p ask) (linked p ask) (value p ask) (locate p ask) x
+opened_link p ask x = map-Link Argument Call Component Link TypedExpr Place (Gives Sent) (Gives ℤ) Reaches Continues (Gives ℤ) (Gives Location) (argument_value p ask) (call_value p ask) (component_value p ask) (link_value p ask) (value p ask) (locate p ask) x
 
-at_link : (p : Modules) (ask : Asks) (e : Link) (x : Link-F Argument Call Component Link TypedExpr Place) → out-Link e ≡ x → linked p ask e ≡ link_layer p ask (opened_link p ask x)
-unfolding value locate called linked reached given
+at_link : (p : Modules) (ask : Asks) (e : Link) (x : Link-F Argument Call Component Link TypedExpr Place) → out-Link e ≡ x → link_value p ask e ≡ link_layer p ask (opened_link p ask x)
+unfolding value locate call_value link_value component_value argument_value
 at_link p ask e x h = fold_out-Link (Gives Sent) (Gives ℤ) Reaches Continues (Gives ℤ) (Gives Location) (argument_layer p ask) (call_layer p ask) (component_layer p ask) (link_layer p ask) (expr_layer p ask) (place_layer p ask) e ∙ ap (λ (y : Link-F Argument Call Component Link TypedExpr Place). link_layer p ask (opened_link p ask y)) h
 
 abbrev opened_call : Modules → Asks → Call-F Argument Call Component Link TypedExpr Place → Call-F (Gives Sent) (Gives ℤ) Reaches Continues (Gives ℤ) (Gives Location)
-opened_call p ask x = map-Call Argument Call Component Link TypedExpr Place (Gives Sent) (Gives ℤ) Reaches Continues (Gives ℤ) (Gives Location) (given p ask) (called p ask) (reached p ask) (linked p ask) (value p ask) (locate p ask) x
+opened_call p ask x = map-Call Argument Call Component Link TypedExpr Place (Gives Sent) (Gives ℤ) Reaches Continues (Gives ℤ) (Gives Location) (argument_value p ask) (call_value p ask) (component_value p ask) (link_value p ask) (value p ask) (locate p ask) x
 
-at_call : (p : Modules) (ask : Asks) (e : Call) (x : Call-F Argument Call Component Link TypedExpr Place) → out-Call e ≡ x → called p ask e ≡ call_layer p ask (opened_call p ask x)
-unfolding value locate called linked reached given
+at_call : (p : Modules) (ask : Asks) (e : Call) (x : Call-F Argument Call Component Link TypedExpr Place) → out-Call e ≡ x → call_value p ask e ≡ call_layer p ask (opened_call p ask x)
+unfolding value locate call_value link_value component_value argument_value
 at_call p ask e x h = fold_out-Call (Gives Sent) (Gives ℤ) Reaches Continues (Gives ℤ) (Gives Location) (argument_layer p ask) (call_layer p ask) (component_layer p ask) (link_layer p ask) (expr_layer p ask) (place_layer p ask) e ∙ ap (λ (y : Call-F Argument Call Component Link TypedExpr Place). call_layer p ask (opened_call p ask y)) h
 
 abbrev opened_argument : Modules → Asks → Argument-F Argument Call Component Link TypedExpr Place → Argument-F (Gives Sent) (Gives ℤ) Reaches Continues (Gives ℤ) (Gives Location)
-opened_argument p ask x = map-Argument Argument Call Component Link TypedExpr Place (Gives Sent) (Gives ℤ) Reaches Continues (Gives ℤ) (Gives Location) (given p ask) (called p ask) (reached p ask) (linked p ask) (value p ask) (locate p ask) x
+opened_argument p ask x = map-Argument Argument Call Component Link TypedExpr Place (Gives Sent) (Gives ℤ) Reaches Continues (Gives ℤ) (Gives Location) (argument_value p ask) (call_value p ask) (component_value p ask) (link_value p ask) (value p ask) (locate p ask) x
 
-at_argument : (p : Modules) (ask : Asks) (e : Argument) (x : Argument-F Argument Call Component Link TypedExpr Place) → out-Argument e ≡ x → given p ask e ≡ argument_layer p ask (opened_argument p ask x)
-unfolding value locate called linked reached given
+at_argument : (p : Modules) (ask : Asks) (e : Argument) (x : Argument-F Argument Call Component Link TypedExpr Place) → out-Argument e ≡ x → argument_value p ask e ≡ argument_layer p ask (opened_argument p ask x)
+unfolding value locate call_value link_value component_value argument_value
 at_argument p ask e x h = fold_out-Argument (Gives Sent) (Gives ℤ) Reaches Continues (Gives ℤ) (Gives Location) (argument_layer p ask) (call_layer p ask) (component_layer p ask) (link_layer p ask) (expr_layer p ask) (place_layer p ask) e ∙ ap (λ (y : Argument-F Argument Call Component Link TypedExpr Place). argument_layer p ask (opened_argument p ask y)) h
 
 -- two operands, and what is made of both
@@ -115,17 +115,17 @@ pub expr_Chain : (a : Around) (e : TypedExpr) (ls : List Link) (st : Meant) → 
 unfolding operated_on value_in located_in called_in linked_in links_in reached_in components_in given_in all_given_in pair_in in_in asked_in
 expr_Chain a e ls st = ap (λ (g : Gives ℤ). g (surroundings a) st) (at_expr (modules_of a.program.now) (asks_of a) (ev.Chain e ls) (layer.Chain e ls) (ev.outs-Chain e ls))
 
-pub expr_Compare : (a : Around) (o : Comparison) (e : TypedExpr) (e' : TypedExpr) (st : Meant) → value_in a (ev.Compare o e e') st ≡ (pair_in a e e' st ▷ λ xy st. Value (truth (compared o xy.first xy.second)) st)
+pub expr_Compare : (a : Around) (o : Comparison) (e : TypedExpr) (e' : TypedExpr) (st : Meant) → value_in a (ev.Compare o e e') st ≡ (pair_in a e e' st ▷ λ xy st. Value (truth (comparison_holds o xy.first xy.second)) st)
 unfolding operated_on value_in located_in called_in linked_in links_in reached_in components_in given_in all_given_in pair_in in_in asked_in
-expr_Compare a o e e' st = ap (λ (g : Gives ℤ). g (surroundings a) st) (at_expr (modules_of a.program.now) (asks_of a) (ev.Compare o e e') (layer.Compare o e e') (ev.outs-Compare o e e')) ∙ after_both (value_in a e st) (value_in a e') (λ x y st. Value (truth (compared o x y)) st)
+expr_Compare a o e e' st = ap (λ (g : Gives ℤ). g (surroundings a) st) (at_expr (modules_of a.program.now) (asks_of a) (ev.Compare o e e') (layer.Compare o e e') (ev.outs-Compare o e e')) ∙ after_both (value_in a e st) (value_in a e') (λ x y st. Value (truth (comparison_holds o x y)) st)
 
 pub expr_Not : (a : Around) (e : TypedExpr) (st : Meant) → value_in a (ev.Not e) st ≡ (value_in a e st ▷ λ v st. Value (truth (not (is_true v))) st)
 unfolding operated_on value_in located_in called_in linked_in links_in reached_in components_in given_in all_given_in pair_in in_in asked_in
 expr_Not a e st = ap (λ (g : Gives ℤ). g (surroundings a) st) (at_expr (modules_of a.program.now) (asks_of a) (ev.Not e) (layer.Not e) (ev.outs-Not e))
 
-pub expr_Include : (a : Around) (o : Inclusion) (e : TypedExpr) (e' : TypedExpr) (st : Meant) → value_in a (ev.Include o e e') st ≡ (pair_in a e e' st ▷ λ xy st. Value (truth (included o xy.first xy.second)) st)
+pub expr_Include : (a : Around) (o : Inclusion) (e : TypedExpr) (e' : TypedExpr) (st : Meant) → value_in a (ev.Include o e e') st ≡ (pair_in a e e' st ▷ λ xy st. Value (truth (inclusion_holds o xy.first xy.second)) st)
 unfolding operated_on value_in located_in called_in linked_in links_in reached_in components_in given_in all_given_in pair_in in_in asked_in
-expr_Include a o e e' st = ap (λ (g : Gives ℤ). g (surroundings a) st) (at_expr (modules_of a.program.now) (asks_of a) (ev.Include o e e') (layer.Include o e e') (ev.outs-Include o e e')) ∙ after_both (value_in a e st) (value_in a e') (λ x y st. Value (truth (included o x y)) st)
+expr_Include a o e e' st = ap (λ (g : Gives ℤ). g (surroundings a) st) (at_expr (modules_of a.program.now) (asks_of a) (ev.Include o e e') (layer.Include o e e') (ev.outs-Include o e e')) ∙ after_both (value_in a e st) (value_in a e') (λ x y st. Value (truth (inclusion_holds o x y)) st)
 
 pub expr_In : (a : Around) (e : TypedExpr) (e' : TypedExpr) (st : Meant) → value_in a (ev.In e e') st ≡ in_in a e e' st
 unfolding operated_on value_in located_in called_in linked_in links_in reached_in components_in given_in all_given_in pair_in in_in asked_in
@@ -155,7 +155,7 @@ pub expr_Val : (a : Around) (t : TypeNo) (e : TypedExpr) (st : Meant) → value_
 unfolding operated_on value_in located_in called_in linked_in links_in reached_in components_in given_in all_given_in pair_in in_in asked_in
 expr_Val a t e st = ap (λ (g : Gives ℤ). g (surroundings a) st) (at_expr (modules_of a.program.now) (asks_of a) (ev.Val t e) (layer.Val t e) (ev.outs-Val t e))
 
-pub expr_High : (a : Around) (x : Slot) (st : Meant) → value_in a (ev.High x) st ≡ Value (pos (high_of (named (surroundings a) x))) st
+pub expr_High : (a : Around) (x : Slot) (st : Meant) → value_in a (ev.High x) st ≡ Value (pos (high_of (slot_named (surroundings a) x))) st
 unfolding operated_on value_in located_in called_in linked_in links_in reached_in components_in given_in all_given_in pair_in in_in asked_in
 expr_High a x st = ap (λ (g : Gives ℤ). g (surroundings a) st) (at_expr (modules_of a.program.now) (asks_of a) (ev.High x) (layer.High x) (ev.outs-High x))
 
@@ -164,7 +164,7 @@ unfolding operated_on value_in located_in called_in linked_in links_in reached_i
 expr_Call a t c st = ap (λ (g : Gives ℤ). g (surroundings a) st) (at_expr (modules_of a.program.now) (asks_of a) (ev.Call t c) (layer.Call t c) (ev.outs-Call t c))
 
 pub place_is : (a : Around) (d : Place) (st : Meant) → located_in a d st ≡ components_in a d.components (root_layer (modules_of a.program.now) (asks_of a) d.root (surroundings a)) st
-unfolding value locate called linked reached given located_in components_in
+unfolding value locate call_value link_value component_value argument_value located_in components_in
 place_is a d st = ap (λ (g : Gives Location). g (surroundings a) st) (fold_out-Place (Gives Sent) (Gives ℤ) Reaches Continues (Gives ℤ) (Gives Location) (argument_layer (modules_of a.program.now) (asks_of a)) (call_layer (modules_of a.program.now) (asks_of a)) (component_layer (modules_of a.program.now) (asks_of a)) (link_layer (modules_of a.program.now) (asks_of a)) (expr_layer (modules_of a.program.now) (asks_of a)) (place_layer (modules_of a.program.now) (asks_of a)) d)
 
 pub link_Arithmetic : (a : Around) (o : Arithmetic) (t : TypeNo) (e : TypedExpr) (x : ℤ) (st : Meant) → linked_in a (lv.Arithmetic o t e) x st ≡ (value_in a e st ▷ (operated_on (surroundings a).types o t x))
@@ -179,7 +179,7 @@ pub link_Or : (a : Around) (e : TypedExpr) (x : ℤ) (st : Meant) → linked_in 
 unfolding operated_on value_in located_in called_in linked_in links_in reached_in components_in given_in all_given_in pair_in in_in asked_in
 link_Or a e x st = ap (λ (g : Continues). g x (surroundings a) st) (at_link (modules_of a.program.now) (asks_of a) (lv.Or e) (layer.Or e) (lv.outs-Or e))
 
-pub link_Combine : (a : Around) (o : SetOperator) (e : TypedExpr) (x : ℤ) (st : Meant) → linked_in a (lv.Combine o e) x st ≡ (value_in a e st ▷ λ y st. Value (combined o x y) st)
+pub link_Combine : (a : Around) (o : SetOperator) (e : TypedExpr) (x : ℤ) (st : Meant) → linked_in a (lv.Combine o e) x st ≡ (value_in a e st ▷ λ y st. Value (set_operation o x y) st)
 unfolding operated_on value_in located_in called_in linked_in links_in reached_in components_in given_in all_given_in pair_in in_in asked_in
 link_Combine a o e x st = ap (λ (g : Continues). g x (surroundings a) st) (at_link (modules_of a.program.now) (asks_of a) (lv.Combine o e) (layer.Combine o e) (lv.outs-Combine o e))
 
@@ -191,7 +191,7 @@ pub component_Element : (a : Around) (t : TypeNo) (e : TypedExpr) (l : Location)
 unfolding operated_on value_in located_in called_in linked_in links_in reached_in components_in given_in all_given_in pair_in in_in asked_in
 component_Element a t e l st = ap (λ (g : Reaches). g l (surroundings a) st) (at_component (modules_of a.program.now) (asks_of a) (kv.Element t e) (layer.Element t e) (kv.outs-Element t e))
 
-pub component_OpenElement : (a : Around) (x : Slot) (t : TypeNo) (e : TypedExpr) (l : Location) (st : Meant) → reached_in a (kv.OpenElement x t e) l st ≡ (value_in a e st ▷ λ v st. element l (pos 0) (pos (high_of (named (surroundings a) x))) v st)
+pub component_OpenElement : (a : Around) (x : Slot) (t : TypeNo) (e : TypedExpr) (l : Location) (st : Meant) → reached_in a (kv.OpenElement x t e) l st ≡ (value_in a e st ▷ λ v st. element l (pos 0) (pos (high_of (slot_named (surroundings a) x))) v st)
 unfolding operated_on value_in located_in called_in linked_in links_in reached_in components_in given_in all_given_in pair_in in_in asked_in
 component_OpenElement a x t e l st = ap (λ (g : Reaches). g l (surroundings a) st) (at_component (modules_of a.program.now) (asks_of a) (kv.OpenElement x t e) (layer.OpenElement x t e) (kv.outs-OpenElement x t e))
 
@@ -203,7 +203,7 @@ pub call_Nested : (a : Around) (f : LocalProcedure) (xs : List Argument) (st : M
 unfolding operated_on value_in located_in called_in linked_in links_in reached_in components_in given_in all_given_in pair_in in_in asked_in
 call_Nested a f xs st = ap (λ (g : Gives ℤ). g (surroundings a) st) (at_call (modules_of a.program.now) (asks_of a) (cv.Nested f xs) (layer.Nested f xs) (cv.outs-Nested f xs))
 
-asked_if_is : (a : Around) (c : Option Asked) (xs : List Argument) (st : Meant) → asked_if (modules_of a.program.now) (asks_of a) c (map (given (modules_of a.program.now) (asks_of a)) xs) (surroundings a) st ≡ asked_if_in a c xs st
+asked_if_is : (a : Around) (c : Option Asked) (xs : List Argument) (st : Meant) → asked_if (modules_of a.program.now) (asks_of a) c (map (argument_value (modules_of a.program.now) (asks_of a)) xs) (surroundings a) st ≡ asked_if_in a c xs st
 unfolding asked_in all_given_in
 asked_if_is a None xs st = refl
 asked_if_is a (Some c) xs st = refl
@@ -224,7 +224,7 @@ pub argument_Array : (a : Around) (t : TypeNo) (d : Place) (st : Meant) → give
 unfolding operated_on value_in located_in called_in linked_in links_in reached_in components_in given_in all_given_in pair_in in_in asked_in
 argument_Array a t d st = ap (λ (g : Gives Sent). g (surroundings a) st) (at_argument (modules_of a.program.now) (asks_of a) (xv.Array t d) (layer.Array t d) (xv.outs-Array t d))
 
-pub argument_Open : (a : Around) (x : Slot) (st : Meant) → given_in a (xv.Open x) st ≡ Value (Array (location_of (named (surroundings a) x)) (high_of (named (surroundings a) x))) st
+pub argument_Open : (a : Around) (x : Slot) (st : Meant) → given_in a (xv.Open x) st ≡ Value (Array (location_of (slot_named (surroundings a) x)) (high_of (slot_named (surroundings a) x))) st
 unfolding operated_on value_in located_in called_in linked_in links_in reached_in components_in given_in all_given_in pair_in in_in asked_in
 argument_Open a x st = ap (λ (g : Gives Sent). g (surroundings a) st) (at_argument (modules_of a.program.now) (asks_of a) (xv.Open x) (layer.Open x) (xv.outs-Open x))
 
@@ -264,7 +264,7 @@ pub ruleset lists = (links_nil, links_cons, components_nil, components_cons, giv
 
 -- ---- what is asked of a call
 
-pub asked_stays : (a : Around) (c : Option Asked) (xs : List Argument) (s : Stop) (st : Meant) (st' : State) → all_given_in a xs st ≡ stopped s st' → asked_in a c xs st ≡ stopped s st'
+pub asked_stays : (a : Around) (c : Option Asked) (xs : List Argument) (s : Stop) (st : Meant) (st' : State) → all_given_in a xs st ≡ stop_meaning s st' → asked_in a c xs st ≡ stop_meaning s st'
 unfolding asked_in
 asked_stays a c xs s st st' h = stays (all_given_in a xs st) s st' (λ vs st. asks_of a c vs (surroundings a).next (surroundings a).free st) h
 

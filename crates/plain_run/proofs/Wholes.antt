@@ -10,7 +10,7 @@ use Rattle.layout_storage.specs.Types.{row}
 use Rattle.layout_storage.specs.Sizes.{size}
 use Rattle.layout_storage.specs.Frames.{module_row}
 use Rattle.layout_storage.specs.Texts.{characters, module_texts}
-use Rattle.layout_storage.specs.Capped.{capped}
+use Rattle.layout_storage.specs.Capped.{cap_size}
 use Rattle.layout_storage.specs.Layouts.{IsAnswer}
 use Rattle.def_meaning.specs.Store.{Store, fresh}
 use Rattle.def_meaning.specs.Answer.{State as Meant, Ended, StillRunning}
@@ -31,10 +31,10 @@ use Rattle.plain_values.specs.declared.program.Program.{Program}
 use Rattle.plain_values.specs.declared.program.Around.{Around}
 use Rattle.plain_run.specs.declared.whole.Report.{Report}
 use Rattle.plain_store.specs.Contents.{contents}
-use Rattle.plain_store.specs.Seen.{seen, halted, ended}
+use Rattle.plain_store.specs.Seen.{view_of, stop_course, outcome_course}
 use Rattle.plain_values.specs.Surroundings.{modules_in, modules_of, asks_of, surroundings, frames_of, steps_in}
 use Rattle.plain_store.specs.Blanks.{row_blank, variables_of}
-use Rattle.plain_run.specs.Whole.{IsBodyAround, reported, data_of, bodies_in}
+use Rattle.plain_run.specs.Whole.{IsBodyAround, course_of, data_of, bodies_in}
 use Rattle.plain_store.proofs.Fresh.{module_size_is, whole_fresh}
 
 pub texts_exact : (m : TypedModule) (r : Result Layout Pos) (x : Layout) → IsAnswer m r → r ≡ Ok x → x.texts ≡ characters (module_texts m)
@@ -42,7 +42,7 @@ texts_exact m r x h e =
     let i = subst (λ (y : Result Layout Pos). IsAnswer m y) e h in
     i.2.texts ∙ fits (size (module_row m)) (characters (module_texts m)) i.1.bytes
   where
-    fits : (s n : ℕ) → s + n ≤ 16777216 → capped n ≡ n
+    fits : (s n : ℕ) → s + n ≤ 16777216 → cap_size n ≡ n
     fits s n h = omega (arith, h)
 
 pub module_size : (m : TypedModule) (b : Blank) → b ≡ variables_of m → b.size ≡ size (module_row m)
@@ -127,41 +127,41 @@ unfolding bodies_in
 no_bodies program [] left place st h = refl
 no_bodies program (x ∷ xs) left place st h = absurd (omega (arith, h))
 
-goes : {E : Type 0} (r : Result Stop E) (st : State) (x y : Course) → IfOk r (λ s. halted s st ≡ x) → x ≡ y → IfOk r (λ s. halted s st ≡ y)
+goes : {E : Type 0} (r : Result Stop E) (st : State) (x y : Course) → IfOk r (λ s. stop_course s st ≡ x) → x ≡ y → IfOk r (λ s. stop_course s st ≡ y)
 goes (Ok s) st x y h e = h ∙ e
 goes (Err z) st x y h e = tt
 
-module _ {E : Type 0} (program : Program) (hs : List Prepared) (home : Prepared) (place next left : ℕ) (a : Around) (ss : List TypedStmt) (o : Outcome) (st : Meant) (st1 st2 : State) (r : Result Stop E) (n : 1 ≤ length hs) (h : home ≡ get_or hs 0 home) (i : IsBodyAround program home place left a) (e : next ≡ place + 1) (b : ss ≡ home.body.now.body) (g : ended o st1 ≡ steps_in a ss st) where
+module _ {E : Type 0} (program : Program) (hs : List Prepared) (home : Prepared) (place next left : ℕ) (a : Around) (ss : List TypedStmt) (o : Outcome) (st : Meant) (st1 st2 : State) (r : Result Stop E) (n : 1 ≤ length hs) (h : home ≡ get_or hs 0 home) (i : IsBodyAround program home place left a) (e : next ≡ place + 1) (b : ss ≡ home.body.now.body) (g : outcome_course o st1 ≡ steps_in a ss st) where
   abbrev rest : Meant → Course
   rest = bodies_in program left next (modules_in (behind hs))
 
-  all_is : then_body (ended o st1) rest ≡ bodies_in program left place (modules_in hs) st
-  all_is = begun_with program hs home place next left a ss (ended o st1) st n h i e b g
+  all_is : then_body (outcome_course o st1) rest ≡ bodies_in program left place (modules_in hs) st
+  all_is = begun_with program hs home place next left a ss (outcome_course o st1) st n h i e b g
 
-  ended_by : (w : Outcome) → o ≡ w → then_body (ended w st1) rest ≡ bodies_in program left place (modules_in hs) st
-  ended_by w q = ap (λ (y : Outcome). then_body (ended y st1) rest) (sym q) ∙ all_is
+  ended_by : (w : Outcome) → o ≡ w → then_body (outcome_course w st1) rest ≡ bodies_in program left place (modules_in hs) st
+  ended_by w q = ap (λ (y : Outcome). then_body (outcome_course y st1) rest) (sym q) ∙ all_is
 
-  pub body_went : o ≡ outcome.Normal → IfOk r (λ s. halted s st2 ≡ rest (seen st1)) → IfOk r (λ s. halted s st2 ≡ bodies_in program left place (modules_in hs) st)
-  body_went q k = goes r st2 (rest (seen st1)) _ k (ended_by outcome.Normal q)
+  pub body_went : o ≡ outcome.Normal → IfOk r (λ s. stop_course s st2 ≡ rest (view_of st1)) → IfOk r (λ s. stop_course s st2 ≡ bodies_in program left place (modules_in hs) st)
+  body_went q k = goes r st2 (rest (view_of st1)) _ k (ended_by outcome.Normal q)
 
-  pub body_left : o ≡ outcome.Exited → IfOk r (λ s. halted s st2 ≡ rest (seen st1)) → IfOk r (λ s. halted s st2 ≡ bodies_in program left place (modules_in hs) st)
-  body_left q k = goes r st2 (rest (seen st1)) _ k (ended_by outcome.Exited q)
+  pub body_left : o ≡ outcome.Exited → IfOk r (λ s. stop_course s st2 ≡ rest (view_of st1)) → IfOk r (λ s. stop_course s st2 ≡ bodies_in program left place (modules_in hs) st)
+  body_left q k = goes r st2 (rest (view_of st1)) _ k (ended_by outcome.Exited q)
 
-  pub body_came : (v : ℤ) → o ≡ outcome.Returned v → IfOk r (λ s. halted s st2 ≡ rest (seen st1)) → IfOk r (λ s. halted s st2 ≡ bodies_in program left place (modules_in hs) st)
-  body_came v q k = goes r st2 (rest (seen st1)) _ k (ended_by (outcome.Returned v) q)
+  pub body_came : (v : ℤ) → o ≡ outcome.Returned v → IfOk r (λ s. stop_course s st2 ≡ rest (view_of st1)) → IfOk r (λ s. stop_course s st2 ≡ bodies_in program left place (modules_in hs) st)
+  body_came v q k = goes r st2 (rest (view_of st1)) _ k (ended_by (outcome.Returned v) q)
 
-stays : (s : Stop) (x : State) (rest : Meant → Course) → halted s x ≡ then_body (halted s x) rest
+stays : (s : Stop) (x : State) (rest : Meant → Course) → stop_course s x ≡ then_body (stop_course s x) rest
 stays (stop.Ended k) x rest = refl
 stays stop.StillRunning x rest = refl
 
-pub body_stopped : (program : Program) (hs : List Prepared) (home : Prepared) (place next left : ℕ) (a : Around) (ss : List TypedStmt) (o : Outcome) (s : Stop) (st : Meant) (st1 : State) → 1 ≤ length hs → home ≡ get_or hs 0 home → IsBodyAround program home place left a → next ≡ place + 1 → ss ≡ home.body.now.body → ended o st1 ≡ steps_in a ss st → o ≡ outcome.Stopped s
-    → halted s st1 ≡ bodies_in program left place (modules_in hs) st
+pub body_stopped : (program : Program) (hs : List Prepared) (home : Prepared) (place next left : ℕ) (a : Around) (ss : List TypedStmt) (o : Outcome) (s : Stop) (st : Meant) (st1 : State) → 1 ≤ length hs → home ≡ get_or hs 0 home → IsBodyAround program home place left a → next ≡ place + 1 → ss ≡ home.body.now.body → outcome_course o st1 ≡ steps_in a ss st → o ≡ outcome.Stopped s
+    → stop_course s st1 ≡ bodies_in program left place (modules_in hs) st
 body_stopped program hs home place next left a ss o s st st1 n h i e b g q = stays s st1 (bodies_in program left next (modules_in (behind hs))) ∙ ended_by {E = ℕ} program hs home place next left a ss o st st1 st1 (Err 0) n h i e b g (outcome.Stopped s) q
 
 -- ---- the whole
 
 pub run_is : (ms : List Prepared) (program : Program) (pages left : ℕ) (st st' : State) (x : Report) → program.modules.now ≡ ms → left ≡ storage (modules_in ms) pages - body_frame → contents st.store ≡ fresh (row (map module_row (modules_in ms))) → st.out ≡ []
-    → halted x.end st' ≡ bodies_in program left 0 (modules_in ms) (seen st) → x.out ≡ st'.out → reported x ≡ run (modules_in ms) pages program.bound
+    → stop_course x.end st' ≡ bodies_in program left 0 (modules_in ms) (view_of st) → x.out ≡ st'.out → course_of x ≡ run (modules_in ms) pages program.bound
 unfolding run modules_of bodies_in
 run_is ms program pages left st st' x p l s o h out =
     ends x.end x.out st' out
@@ -171,6 +171,6 @@ run_is ms program pages left st st' x p l s o h out =
     ∙ ap (λ (ps : List Prepared). bodies (modules_in ps) program.bound left 0 (modules_in ms) (first_state (modules_in ms))) p
     ∙ ap (λ (k : ℕ). bodies (modules_in ms) program.bound k 0 (modules_in ms) (first_state (modules_in ms))) l
   where
-    ends : (s : Stop) (out : List ℕ) (st : State) → out ≡ st.out → reported (record { end = s; out = out }) ≡ halted s st
+    ends : (s : Stop) (out : List ℕ) (st : State) → out ≡ st.out → course_of (record { end = s; out = out }) ≡ stop_course s st
     ends (stop.Ended k) out st e = ap (λ (w : List ℕ). Ended k w) e
     ends stop.StillRunning out st e = ap (λ (w : List ℕ). StillRunning w) e

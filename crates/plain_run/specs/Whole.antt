@@ -17,8 +17,8 @@ abbrev pub answered_end : Stop → List ℕ → Course
 answered_end (stop.Ended k) out = Ended k out
 answered_end stop.StillRunning out = StillRunning out
 
-abbrev pub reported : Report → Course
-reported x = answered_end x.end x.out
+abbrev pub course_of : Report → Course
+course_of x = answered_end x.end x.out
 
 -- what stands around the body of a module
 pub record IsBodyAround (program : Program) (home : Prepared) (place left : ℕ) (a : Around)

@@ -4,15 +4,15 @@ ghost use Rattle.std.specs.Prelude.{◌≡◌, suc, map, IfOk, MatchOption};
 ghost use Rattle.std.specs.Option.{option_map};
 ghost use Rattle.def_meaning.specs.Calls.{runs, calling};
 ghost use Rattle.typed_tree.specs.declared.statement.TypedStmt.TheVariants.{If, Case, With};
-ghost use Rattle.plain_store.specs.Seen.{seen, answered, ended};
-ghost use Rattle.plain_values.specs.Surroundings.{modules_of, callee_of, sent, value_in, located_in, called_in, linked_in, links_in, reached_in, components_in, given_in, all_given_in, does_in, steps_in};
+ghost use Rattle.plain_store.specs.Seen.{view_of, answer_meaning, outcome_course};
+ghost use Rattle.plain_values.specs.Surroundings.{modules_of, callee_of, argument_sent, value_in, located_in, called_in, linked_in, links_in, reached_in, components_in, given_in, all_given_in, does_in, steps_in};
 ghost use Rattle.plain_steps.specs.Parts.{answered_sent, answered_all, pair_in, in_in, target_in, ends_in, asked_in, while_in, repeat_in, loop_in, for_in, for_begun, turns_in};
 
 use m2_rule::Fault;
 use plain_steps::callees::{module_callee, nested_callee, procedure_value, variable_callee};
 use plain_steps::entering::{Request, body_environment, enter, rest_of, result};
 use plain_steps::passing::{
-    array_passed, in_front, loaded, number_passed, open_passed, text_passed, variable_passed,
+    array_passed, in_front, load_number, number_passed, open_passed, text_passed, variable_passed,
 };
 use plain_steps::simple::{
     Ends, Target, Turns, assign, begin_for, change, chosen_arm, copy, copy_text, give, gone,
@@ -20,8 +20,8 @@ use plain_steps::simple::{
 };
 use plain_store::state::{Answer, Outcome, RunFault, State, Stop, deeper, load};
 use plain_values::checks::{
-    Operands, capital, character, combined_with, compared, denied, distance, included, is_in,
-    negated, odd, operated_with, ordinal, taken, within,
+    Operands, capital, character, combined_with, comparison_value, denial_of, distance,
+    inclusion_value, is_in, negation_of, odd, operated_with, ordinal, value_as, within,
 };
 use plain_values::operators::{is_true, truth};
 use plain_values::places::{
@@ -40,25 +40,25 @@ pub fn value<'a>(
     e: &TypedExpr,
     st: &mut State,
 ) -> Result<Answer<i64>, RunFault>
-    ensures { IfOk result (λ j. answered j st.new ≡ value_in around.now e.now (seen st.old)) }
+    ensures { IfOk result (λ j. answer_meaning j st.new ≡ value_in around.now e.now (view_of st.old)) }
 {
     let room = deeper(room)?;
     match e {
         TypedExpr::Constant(_, n) => Ok(Answer::Value(*n)),
-        TypedExpr::Load(_, d) => Ok(loaded(located(around, room, d, st)?, st)),
+        TypedExpr::Load(_, d) => Ok(load_number(location_of(around, room, d, st)?, st)),
         TypedExpr::Procedure(f) => Ok(Answer::Value(procedure_value(around, f.home, f.number)?)),
         TypedExpr::Plus(_, a) => value(around, room, a.get(), st),
-        TypedExpr::Negate(a) => negated(around, value(around, room, a.get(), st)?, st),
+        TypedExpr::Negate(a) => negation_of(around, value(around, room, a.get(), st)?, st),
         TypedExpr::Chain(a, links) => match value(around, room, a.get(), st)? {
             Answer::Value(x) => links_value(around, room, links.as_slice(), x, st),
             Answer::Stopped(stop) => Ok(Answer::Stopped(stop)),
         },
         TypedExpr::Compare(o, a, b) => {
-            Ok(compared(*o, operands(around, room, a.get(), b.get(), st)?, st))
+            Ok(comparison_value(*o, operands(around, room, a.get(), b.get(), st)?, st))
         }
-        TypedExpr::Not(a) => Ok(denied(value(around, room, a.get(), st)?, st)),
+        TypedExpr::Not(a) => Ok(denial_of(value(around, room, a.get(), st)?, st)),
         TypedExpr::Include(o, a, b) => {
-            Ok(included(*o, operands(around, room, a.get(), b.get(), st)?, st))
+            Ok(inclusion_value(*o, operands(around, room, a.get(), b.get(), st)?, st))
         }
         TypedExpr::In(a, b) => in_value(around, room, a.get(), b.get(), st),
         _ => function_value(around, room, e, st),
@@ -74,7 +74,7 @@ fn function_value<'a>(
     e: &TypedExpr,
     st: &mut State,
 ) -> Result<Answer<i64>, RunFault>
-    ensures { IfOk result (λ j. answered j st.new ≡ value_in around.now e.now (seen st.old)) }
+    ensures { IfOk result (λ j. answer_meaning j st.new ≡ value_in around.now e.now (view_of st.old)) }
 {
     let room = deeper(room)?;
     match e {
@@ -83,9 +83,9 @@ fn function_value<'a>(
         TypedExpr::Chr(a) => Ok(character(value(around, room, a.get(), st)?, st)),
         TypedExpr::Odd(a) => Ok(odd(value(around, room, a.get(), st)?, st)),
         TypedExpr::Ord(a) => Ok(ordinal(value(around, room, a.get(), st)?, st)),
-        TypedExpr::Val(t, a) => Ok(taken(around, *t, value(around, room, a.get(), st)?, st)),
+        TypedExpr::Val(t, a) => Ok(value_as(around, *t, value(around, room, a.get(), st)?, st)),
         TypedExpr::High(slot) => Ok(Answer::Value(whole(slot_high(around, *slot))?)),
-        TypedExpr::Call(_, call) => called(around, room, call.get(), st),
+        TypedExpr::Call(_, call) => call_value(around, room, call.get(), st),
         _ => value(around, room, e, st),
     }
 }
@@ -100,7 +100,7 @@ fn operands<'a>(
     b: &TypedExpr,
     st: &mut State,
 ) -> Result<Answer<Operands>, RunFault>
-    ensures { IfOk result (λ j. answered j st.new ≡ pair_in around.now a.now b.now (seen st.old)) }
+    ensures { IfOk result (λ j. answer_meaning j st.new ≡ pair_in around.now a.now b.now (view_of st.old)) }
 {
     let room = deeper(room)?;
     match value(around, room, a, st)? {
@@ -122,7 +122,7 @@ fn in_value<'a>(
     b: &TypedExpr,
     st: &mut State,
 ) -> Result<Answer<i64>, RunFault>
-    ensures { IfOk result (λ j. answered j st.new ≡ in_in around.now a.now b.now (seen st.old)) }
+    ensures { IfOk result (λ j. answer_meaning j st.new ≡ in_in around.now a.now b.now (view_of st.old)) }
 {
     let room = deeper(room)?;
     match value(around, room, a, st)? {
@@ -144,7 +144,7 @@ fn links_value<'a>(
     first: i64,
     st: &mut State,
 ) -> Result<Answer<i64>, RunFault>
-    ensures { IfOk result (λ j. answered j st.new ≡ links_in around.now links.now first (seen st.old)) }
+    ensures { IfOk result (λ j. answer_meaning j st.new ≡ links_in around.now links.now first (view_of st.old)) }
 {
     let room = deeper(room)?;
     let mut x = first;
@@ -167,7 +167,7 @@ fn link_value<'a>(
     x: i64,
     st: &mut State,
 ) -> Result<Answer<i64>, RunFault>
-    ensures { IfOk result (λ j. answered j st.new ≡ linked_in around.now link.now x (seen st.old)) }
+    ensures { IfOk result (λ j. answer_meaning j st.new ≡ linked_in around.now link.now x (view_of st.old)) }
 {
     let room = deeper(room)?;
     match link {
@@ -195,13 +195,13 @@ fn link_value<'a>(
 /// Where a designator leads.
 #[cycle(runs)]
 #[tactic(auto, using(crate::proofs::Variants::variants))]
-pub fn located<'a>(
+pub fn location_of<'a>(
     around: &Around<'a>,
     room: usize,
     d: &Place,
     st: &mut State,
 ) -> Result<Answer<Items<usize>>, RunFault>
-    ensures { IfOk result (λ j. answered j st.new ≡ located_in around.now d.now (seen st.old)) }
+    ensures { IfOk result (λ j. answer_meaning j st.new ≡ located_in around.now d.now (view_of st.old)) }
 {
     let room = deeper(room)?;
     let l = root_location(around, d.root)?;
@@ -219,12 +219,12 @@ fn reached_all<'a>(
     st: &mut State,
 ) -> Result<Answer<Items<usize>>, RunFault>
     ensures { let cs = components.now in
-        IfOk result (λ j. answered j st.new ≡ components_in around.now cs first (seen st.old)) }
+        IfOk result (λ j. answer_meaning j st.new ≡ components_in around.now cs first (view_of st.old)) }
 {
     let room = deeper(room)?;
     let mut l = first;
     for component in components {
-        match reached(around, room, component, l, st)? {
+        match component_value(around, room, component, l, st)? {
             Answer::Value(next) => l = next,
             Answer::Stopped(stop) => return Ok(Answer::Stopped(stop)),
         }
@@ -235,14 +235,14 @@ fn reached_all<'a>(
 /// What a field or an index makes of a location.
 #[cycle(runs)]
 #[tactic(auto, using(crate::proofs::Variants::variants))]
-fn reached<'a>(
+fn component_value<'a>(
     around: &Around<'a>,
     room: usize,
     of: &Component,
     l: Items<usize>,
     st: &mut State,
 ) -> Result<Answer<Items<usize>>, RunFault>
-    ensures { IfOk result (λ j. answered j st.new ≡ reached_in around.now of.now l (seen st.old)) }
+    ensures { IfOk result (λ j. answer_meaning j st.new ≡ reached_in around.now of.now l (view_of st.old)) }
 {
     let room = deeper(room)?;
     match of {
@@ -257,29 +257,31 @@ fn reached<'a>(
 /// What a call gives.
 #[cycle(runs)]
 #[tactic(auto, using(crate::proofs::Variants::variants))]
-pub fn called<'a>(
+pub fn call_value<'a>(
     around: &Around<'a>,
     room: usize,
     call: &Call,
     st: &mut State,
 ) -> Result<Answer<i64>, RunFault>
-    ensures { IfOk result (λ j. answered j st.new ≡ called_in around.now call.now (seen st.old)) }
+    ensures { IfOk result (λ j. answer_meaning j st.new ≡ called_in around.now call.now (view_of st.old)) }
 {
     let room = deeper(room)?;
     match call {
         Call::Module(f, arguments) => {
             let callee = module_callee(around, module_place(around, f.home), f.number);
-            asked(around, room, callee, arguments.as_slice(), st)
+            call_with(around, room, callee, arguments.as_slice(), st)
         }
         Call::Nested(f, arguments) => {
             let callee = nested_callee(around, f.up, f.number)?;
-            asked(around, room, callee, arguments.as_slice(), st)
+            call_with(around, room, callee, arguments.as_slice(), st)
         }
-        Call::Variable(_, d, arguments) => match located(around, room, d, st)? {
+        Call::Variable(_, d, arguments) => match location_of(around, room, d, st)? {
             Answer::Value(l) => {
                 match variable_callee(around, load(l.as_slice(), st))? {
                     None => Ok(Answer::Stopped(Stop::Ended(Fault::NoProcedure.number()))),
-                    Some(callee) => { asked(around, room, Some(callee), arguments.as_slice(), st) }
+                    Some(callee) => {
+                        call_with(around, room, Some(callee), arguments.as_slice(), st)
+                    }
                 }
             }
             Answer::Stopped(stop) => Ok(Answer::Stopped(stop)),
@@ -297,7 +299,7 @@ fn fewer(depth: usize) -> Option<usize>
 /// The arguments, and then the call of a procedure, if there is one.
 #[cycle(runs)]
 #[tactic(auto, using(crate::proofs::Variants::asking))]
-fn asked<'a>(
+fn call_with<'a>(
     around: &Around<'a>,
     room: usize,
     callee: Option<Callee<'a>>,
@@ -305,7 +307,7 @@ fn asked<'a>(
     st: &mut State,
 ) -> Result<Answer<i64>, RunFault>
     ensures { let c = option_map callee_of callee.entry in
-        IfOk result (λ j. answered j st.new ≡ asked_in around.now c arguments.now (seen st.old)) }
+        IfOk result (λ j. answer_meaning j st.new ≡ asked_in around.now c arguments.now (view_of st.old)) }
 {
     let room = deeper(room)?;
     match given_all(around, room, arguments, st)? {
@@ -338,12 +340,12 @@ fn given_all<'a>(
     st: &mut State,
 ) -> Result<Answer<Items<Passed>>, RunFault>
     ensures { let xs = arguments.now in
-        IfOk result (λ j. answered_all j st.new ≡ all_given_in around.now xs (seen st.old)) }
+        IfOk result (λ j. answered_all j st.new ≡ all_given_in around.now xs (view_of st.old)) }
 {
     let room = deeper(room)?;
     match arguments {
         [] => Ok(Answer::Value(Items::new(around.program.alloc))),
-        [x, rest @ ..] => match given(around, room, x, st)? {
+        [x, rest @ ..] => match argument_value(around, room, x, st)? {
             Answer::Value(v) => match given_all(around, room, rest, st)? {
                 Answer::Value(vs) => Ok(Answer::Value(in_front(around.program.alloc, v, vs)?)),
                 Answer::Stopped(stop) => Ok(Answer::Stopped(stop)),
@@ -356,19 +358,19 @@ fn given_all<'a>(
 /// What an argument gives.
 #[cycle(runs)]
 #[tactic(auto, using(crate::proofs::Variants::variants))]
-fn given<'a>(
+fn argument_value<'a>(
     around: &Around<'a>,
     room: usize,
     x: &Argument,
     st: &mut State,
 ) -> Result<Answer<Passed>, RunFault>
-    ensures { IfOk result (λ j. answered_sent j st.new ≡ given_in around.now x.now (seen st.old)) }
+    ensures { IfOk result (λ j. answered_sent j st.new ≡ given_in around.now x.now (view_of st.old)) }
 {
     let room = deeper(room)?;
     match x {
         Argument::Value(t, e) => { Ok(number_passed(around, *t, value(around, room, e, st)?, st)) }
-        Argument::Place(d) => Ok(variable_passed(located(around, room, d, st)?, st)),
-        Argument::Array(t, d) => array_passed(around, *t, located(around, room, d, st)?, st),
+        Argument::Place(d) => Ok(variable_passed(location_of(around, room, d, st)?, st)),
+        Argument::Array(t, d) => array_passed(around, *t, location_of(around, room, d, st)?, st),
         Argument::Open(slot) => Ok(Answer::Value(open_passed(around, *slot)?)),
         Argument::Text(text) => {
             Ok(Answer::Value(text_passed(around.program.alloc, text.get().as_bytes())?))
@@ -387,10 +389,10 @@ fn body_run<'a>(
     st: &mut State,
 ) -> Result<Answer<i64>, RunFault>
     ensures { let p = modules_of program.now in let n = program.now.bound in
-        let vs = map sent request.entry.passed in
+        let vs = map argument_sent request.entry.passed in
         let c = callee_of request.entry.callee in
-        IfOk result (λ j. answered j st.new
-        ≡ runs p n (calling p n depth) c vs request.entry.next request.entry.left (seen st.old)) }
+        IfOk result (λ j. answer_meaning j st.new
+        ≡ runs p n (calling p n depth) c vs request.entry.next request.entry.left (view_of st.old)) }
 {
     let room = deeper(room)?;
     match rest_of(program.alloc, &request)? {
@@ -420,7 +422,7 @@ pub fn steps<'a>(
     body: &[TypedStmt],
     st: &mut State,
 ) -> Result<Outcome, RunFault>
-    ensures { IfOk result (λ o. ended o st.new ≡ steps_in around.now body.now (seen st.old)) }
+    ensures { IfOk result (λ o. outcome_course o st.new ≡ steps_in around.now body.now (view_of st.old)) }
 {
     let room = deeper(room)?;
     for stmt in body {
@@ -443,7 +445,7 @@ fn step<'a>(
     stmt: &TypedStmt,
     st: &mut State,
 ) -> Result<Outcome, RunFault>
-    ensures { IfOk result (λ o. ended o st.new ≡ does_in around.now stmt.now (seen st.old)) }
+    ensures { IfOk result (λ o. outcome_course o st.new ≡ does_in around.now stmt.now (view_of st.old)) }
 {
     let room = deeper(room)?;
     match stmt {
@@ -452,12 +454,12 @@ fn step<'a>(
         TypedStmt::CopyText(d, _, text) => {
             copy_text(
                 around,
-                located(around, room, d, st)?,
+                location_of(around, room, d, st)?,
                 text.get().as_bytes(),
                 st,
             )
         }
-        TypedStmt::Call(call) => Ok(gone(called(around, room, call, st)?, st)),
+        TypedStmt::Call(call) => Ok(gone(call_value(around, room, call, st)?, st)),
         TypedStmt::Put(e) => put(around, value(around, room, e, st)?, st),
         TypedStmt::Change(o, d, t, e) => {
             change(around, *o, *t, target(around, room, d, e, st)?, st)
@@ -496,7 +498,7 @@ fn if_run<'a>(
     st: &mut State,
 ) -> Result<Outcome, RunFault>
     ensures { let s = If e.now body.now others.now in
-        IfOk result (λ o. ended o st.new ≡ does_in around.now s (seen st.old)) }
+        IfOk result (λ o. outcome_course o st.new ≡ does_in around.now s (view_of st.old)) }
 {
     let room = deeper(room)?;
     match value(around, room, e, st)? {
@@ -525,7 +527,7 @@ fn case_run<'a>(
     st: &mut State,
 ) -> Result<Outcome, RunFault>
     ensures { let s = Case e.now arms.now others.now in
-        IfOk result (λ o. ended o st.new ≡ does_in around.now s (seen st.old)) }
+        IfOk result (λ o. outcome_course o st.new ≡ does_in around.now s (view_of st.old)) }
 {
     let room = deeper(room)?;
     match value(around, room, e, st)? {
@@ -551,10 +553,10 @@ fn with_run<'a>(
     st: &mut State,
 ) -> Result<Outcome, RunFault>
     ensures { let s = With d.now body.now in
-        IfOk result (λ o. ended o st.new ≡ does_in around.now s (seen st.old)) }
+        IfOk result (λ o. outcome_course o st.new ≡ does_in around.now s (view_of st.old)) }
 {
     let room = deeper(room)?;
-    match located(around, room, d, st)? {
+    match location_of(around, room, d, st)? {
         Answer::Value(l) => {
             let inner = under(around, l)?;
             steps(&inner, room, body.as_slice(), st)
@@ -575,7 +577,7 @@ fn for_run<'a>(
     of: &Turns,
     st: &mut State,
 ) -> Result<Outcome, RunFault>
-    ensures { IfOk result (λ o. ended o st.new ≡ for_begun around.now t by.now body.now of.now (seen st.old)) }
+    ensures { IfOk result (λ o. outcome_course o st.new ≡ for_begun around.now t by.now body.now of.now (view_of st.old)) }
 {
     let room = deeper(room)?;
     if begin_for(around, by, of, st)? {
@@ -594,10 +596,10 @@ fn target<'a>(
     e: &TypedExpr,
     st: &mut State,
 ) -> Result<Answer<Target>, RunFault>
-    ensures { IfOk result (λ j. answered j st.new ≡ target_in around.now d.now e.now (seen st.old)) }
+    ensures { IfOk result (λ j. answer_meaning j st.new ≡ target_in around.now d.now e.now (view_of st.old)) }
 {
     let room = deeper(room)?;
-    match located(around, room, d, st)? {
+    match location_of(around, room, d, st)? {
         Answer::Value(l) => match value(around, room, e, st)? {
             Answer::Value(v) => Ok(Answer::Value(Target { l, v })),
             Answer::Stopped(stop) => Ok(Answer::Stopped(stop)),
@@ -616,11 +618,11 @@ fn ends<'a>(
     from: &Place,
     st: &mut State,
 ) -> Result<Answer<Ends>, RunFault>
-    ensures { IfOk result (λ j. answered j st.new ≡ ends_in around.now to.now from.now (seen st.old)) }
+    ensures { IfOk result (λ j. answer_meaning j st.new ≡ ends_in around.now to.now from.now (view_of st.old)) }
 {
     let room = deeper(room)?;
-    match located(around, room, to, st)? {
-        Answer::Value(to) => match located(around, room, from, st)? {
+    match location_of(around, room, to, st)? {
+        Answer::Value(to) => match location_of(around, room, from, st)? {
             Answer::Value(from) => Ok(Answer::Value(Ends { to, from })),
             Answer::Stopped(stop) => Ok(Answer::Stopped(stop)),
         },
@@ -639,7 +641,7 @@ fn while_turns<'a>(
     st: &mut State,
 ) -> Result<Outcome, RunFault>
     ensures { let n = around.now.program.now.bound in
-        IfOk result (λ o. ended o st.new ≡ while_in around.now e.now body.now n (seen st.old)) }
+        IfOk result (λ o. outcome_course o st.new ≡ while_in around.now e.now body.now n (view_of st.old)) }
 {
     let room = deeper(room)?;
     for _ in 0..around.program.bound {
@@ -680,7 +682,7 @@ fn repeat_turns<'a>(
     st: &mut State,
 ) -> Result<Outcome, RunFault>
     ensures { let n = around.now.program.now.bound in
-        IfOk result (λ o. ended o st.new ≡ repeat_in around.now body.now e.now n (seen st.old)) }
+        IfOk result (λ o. outcome_course o st.new ≡ repeat_in around.now body.now e.now n (view_of st.old)) }
 {
     let room = deeper(room)?;
     for _ in 0..around.program.bound {
@@ -712,7 +714,7 @@ fn loop_turns<'a>(
     st: &mut State,
 ) -> Result<Outcome, RunFault>
     ensures { let n = around.now.program.now.bound in
-        IfOk result (λ o. ended o st.new ≡ loop_in around.now body.now n (seen st.old)) }
+        IfOk result (λ o. outcome_course o st.new ≡ loop_in around.now body.now n (view_of st.old)) }
 {
     let room = deeper(room)?;
     for _ in 0..around.program.bound {
@@ -739,11 +741,11 @@ fn turns<'a>(
     st: &mut State,
 ) -> Result<Answer<Turns>, RunFault>
     ensures { let a = around.now in
-        IfOk result (λ j. answered j st.new ≡ turns_in a d.now t start.now limit.now (seen st.old)) }
+        IfOk result (λ j. answer_meaning j st.new ≡ turns_in a d.now t start.now limit.now (view_of st.old)) }
 {
     let room = deeper(room)?;
-    match located(around, room, d, st)? {
-        Answer::Value(l) => match taken(around, t, value(around, room, start, st)?, st) {
+    match location_of(around, room, d, st)? {
+        Answer::Value(l) => match value_as(around, t, value(around, room, start, st)?, st) {
             Answer::Value(v) => match value(around, room, limit, st)? {
                 Answer::Value(last) => Ok(Answer::Value(Turns { l, v, last })),
                 Answer::Stopped(stop) => Ok(Answer::Stopped(stop)),
@@ -767,8 +769,8 @@ fn for_turns<'a>(
     st: &mut State,
 ) -> Result<Outcome, RunFault>
     ensures { let a = around.now in let n = a.program.now.bound in
-        IfOk result (λ o. ended o st.new
-        ≡ for_in a t by.now body.now of.now.l of.now.last n (seen st.old)) }
+        IfOk result (λ o. outcome_course o st.new
+        ≡ for_in a t by.now body.now of.now.l of.now.last n (view_of st.old)) }
 {
     let room = deeper(room)?;
     for _ in 0..around.program.bound {

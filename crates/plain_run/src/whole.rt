@@ -6,15 +6,15 @@ ghost use Rattle.layout_storage.specs.Texts.{module_texts, characters};
 ghost use Rattle.layout_storage.specs.Types.{row as row_type};
 ghost use Rattle.def_meaning.specs.Store.{fresh};
 ghost use Rattle.def_meaning.specs.Runs.{run, storage, body_frame};
-ghost use Rattle.plain_store.specs.Seen.{seen, halted};
+ghost use Rattle.plain_store.specs.Seen.{view_of, stop_course};
 ghost use Rattle.plain_values.specs.Surroundings.{modules_in};
 ghost use Rattle.plain_store.specs.Contents.{contents};
 ghost use Rattle.plain_store.specs.Blanks.{known_blanks, row_blank, variables_of};
-ghost use Rattle.plain_run.specs.Whole.{IsBodyAround, reported, data_of, bodies_in};
+ghost use Rattle.plain_run.specs.Whole.{IsBodyAround, course_of, data_of, bodies_in};
 
 use crate::runs::steps;
 use layout_storage::Layout;
-use plain_store::blanks::{Blank, Kept, known, plus, row, variables_blank};
+use plain_store::blanks::{Blank, Kept, all_blanks, plus, row, variables_blank};
 use plain_store::held::Held;
 use plain_store::prepared::Prepared;
 use plain_store::state::{Outcome, RunFault, State, Stop};
@@ -36,12 +36,12 @@ fn known_all(alloc: Global, modules: &[TypedModule]) -> Result<Items<Items<Kept>
 {
     let mut all = Items::new(alloc);
     for m in modules {
-        all.push(known(alloc, &m.types)?)?;
+        all.push(all_blanks(alloc, &m.types)?)?;
     }
     Ok(all)
 }
 
-fn prepared<'a>(
+fn prepare_run<'a>(
     alloc: Global,
     modules: &'a [TypedModule],
     kept: &'a [Items<Kept>],
@@ -59,7 +59,7 @@ fn prepared<'a>(
                     body: m,
                     kept: first.as_slice(),
                 })?;
-                all.append(prepared(alloc, rest, others)?)?;
+                all.append(prepare_run(alloc, rest, others)?)?;
                 Ok(all)
             }
         },
@@ -174,8 +174,8 @@ fn bodies<'a>(
     st: &mut State,
 ) -> Result<Stop, RunFault>
     ensures { let ms = modules_in homes.now in
-        IfOk result (λ s. halted s st.new
-        ≡ bodies_in program.now left place ms (seen st.old)) }
+        IfOk result (λ s. stop_course s st.new
+        ≡ bodies_in program.now left place ms (view_of st.old)) }
 {
     match homes {
         [] => Ok(Stop::Ended(0)),
@@ -200,7 +200,7 @@ fn run_prepared<'a>(
     nesting: usize,
 ) -> Result<Report, RunFault>
     ensures { let p = modules_in homes.now in
-        IfOk result (λ x. reported x ≡ run p pages bound) }
+        IfOk result (λ x. course_of x ≡ run p pages bound) }
 {
     let program = Program {
         alloc,
@@ -228,9 +228,9 @@ pub fn run(
     bound: usize,
     nesting: usize,
 ) -> Result<Report, RunFault>
-    ensures { IfOk result (λ x. reported x ≡ run modules.now pages bound) }
+    ensures { IfOk result (λ x. course_of x ≡ run modules.now pages bound) }
 {
     let kept = known_all(alloc, modules)?;
-    let homes = prepared(alloc, modules, kept.as_slice())?;
+    let homes = prepare_run(alloc, modules, kept.as_slice())?;
     run_prepared(alloc, homes.as_slice(), pages, bound, nesting)
 }

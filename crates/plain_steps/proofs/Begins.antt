@@ -5,20 +5,20 @@ use Rattle.typed_tree.specs.declared.types.TypeNo.{TypeNo}
 use Rattle.typed_tree.specs.declared.typed_module.Routine.{Routine}
 use Rattle.typed_tree.specs.declared.known_types.Types.{Types}
 use Rattle.layout_storage.specs.Frames.{formals_of, frame}
-use Rattle.layout_storage.specs.Texts.{passed}
-use Rattle.def_meaning.specs.Store.{Location, Store, assigned, copied, placed, fresh}
+use Rattle.layout_storage.specs.Texts.{argument_text}
+use Rattle.def_meaning.specs.Store.{Location, Store, assign_number, copy_whole, overlay, fresh}
 use Rattle.def_meaning.specs.Answer.{State as Meant, Answer as Given}
 use Rattle.def_meaning.specs.Outcome.{Outcome as Course}
 use Rattle.def_meaning.specs.Environment.{Named as Name, Passed as Sent, At, Elements, Number, Variable, Array, Text}
-use Rattle.def_meaning.specs.Statements.{character, stored}
-use Rattle.def_meaning.specs.Calls.{Entered, variable_at, with_passed, with_all, variables_from, entered, result}
+use Rattle.def_meaning.specs.Statements.{character, store_number}
+use Rattle.def_meaning.specs.Calls.{Entered, variable_at, with_passed, with_all, variables_from, enter_call, result}
 use Rattle.plain_store.specs.declared.state.State.{State}
 use Rattle.plain_store.specs.declared.state.Stop.{Stop}
 use Rattle.plain_store.specs.declared.state.Stop.TheVariants as stop
 use Rattle.plain_values.specs.declared.program.Named.{Named}
 use Rattle.plain_values.specs.declared.program.Named.TheVariants as name
 use Rattle.plain_steps.specs.declared.entering.Begun.{Begun}
-use Rattle.plain_store.specs.Seen.{seen, with_store, stopped, halted}
+use Rattle.plain_store.specs.Seen.{view_of, with_store, stop_meaning, stop_course}
 use Rattle.plain_values.specs.Surroundings.{name_of, frames_of}
 use Rattle.plain_steps.specs.Entering.{names_of, begun_of}
 
@@ -37,27 +37,27 @@ begun_with ns k s = record { names = ns; next = k; store = s }
 entered_same : (ns ns' : List Name) (k k' : ℕ) (s s' : Store) → ns ≡ ns' → k ≡ k' → s ≡ s' → begun_with ns k s ≡ begun_with ns' k' s'
 entered_same ns ns' k k' s s' a b c = ap (λ (x : List Name). begun_with x k s) a ∙ ap (λ (x : ℕ). begun_with ns' x s) b ∙ ap (λ (x : Store). begun_with ns' k' x) c
 
-pub passes_number : (b b' : Begun) (st st' : Meant) (activation : ℕ) (v : ℤ) (l : Location) → l ≡ variable_at activation (length (names_of b.names)) → st' ≡ stored l v st
+pub passes_number : (b b' : Begun) (st st' : Meant) (activation : ℕ) (v : ℤ) (l : Location) → l ≡ variable_at activation (length (names_of b.names)) → st' ≡ store_number l v st
     → names_of b'.names ≡ names_of b.names ++ At l ∷ [] → b'.next ≡ b.next → begun_of b' st' ≡ with_passed false activation (begun_of b st) (Number v)
-passes_number b b' st st' activation v l e s n k = entered_same _ _ _ _ _ _ (n ∙ ap (λ (x : Location). names_of b.names ++ At x ∷ []) e) k (ap (λ (x : Meant). x.store) s ∙ ap (λ (x : Location). assigned x v st.store) e)
+passes_number b b' st st' activation v l e s n k = entered_same _ _ _ _ _ _ (n ∙ ap (λ (x : Location). names_of b.names ++ At x ∷ []) e) k (ap (λ (x : Meant). x.store) s ∙ ap (λ (x : Location). assign_number x v st.store) e)
 
-pub passes_copy : (b b' : Begun) (st st' : Meant) (activation : ℕ) (from l : Location) → l ≡ variable_at activation (length (names_of b.names)) → st' ≡ with_store (copied l from st.store) st
+pub passes_copy : (b b' : Begun) (st st' : Meant) (activation : ℕ) (from l : Location) → l ≡ variable_at activation (length (names_of b.names)) → st' ≡ with_store (copy_whole l from st.store) st
     → names_of b'.names ≡ names_of b.names ++ At l ∷ [] → b'.next ≡ b.next → begun_of b' st' ≡ with_passed false activation (begun_of b st) (Variable from)
-passes_copy b b' st st' activation from l e s n k = entered_same _ _ _ _ _ _ (n ∙ ap (λ (x : Location). names_of b.names ++ At x ∷ []) e) k (ap (λ (x : Meant). x.store) s ∙ ap (λ (x : Location). copied x from st.store) e)
+passes_copy b b' st st' activation from l e s n k = entered_same _ _ _ _ _ _ (n ∙ ap (λ (x : Location). names_of b.names ++ At x ∷ []) e) k (ap (λ (x : Meant). x.store) s ∙ ap (λ (x : Location). copy_whole x from st.store) e)
 
-pub passes_elements : (b b' : Begun) (st st' : Meant) (activation high : ℕ) (from l : Location) → l ≡ b.next ∷ [] → st' ≡ with_store (copied l from st.store) st
+pub passes_elements : (b b' : Begun) (st st' : Meant) (activation high : ℕ) (from l : Location) → l ≡ b.next ∷ [] → st' ≡ with_store (copy_whole l from st.store) st
     → names_of b'.names ≡ names_of b.names ++ Elements (b.next ∷ []) high ∷ [] → b'.next ≡ suc b.next → begun_of b' st' ≡ with_passed false activation (begun_of b st) (Array from high)
-passes_elements b b' st st' activation high from l e s n k = entered_same _ _ _ _ _ _ n k (ap (λ (x : Meant). x.store) s ∙ ap (λ (x : Location). copied x from st.store) e)
+passes_elements b b' st st' activation high from l e s n k = entered_same _ _ _ _ _ _ n k (ap (λ (x : Meant). x.store) s ∙ ap (λ (x : Location). copy_whole x from st.store) e)
 
-pub passes_text : (b b' : Begun) (st st' : Meant) (is_var : Bool) (activation high : ℕ) (text : List ℕ) (l : Location) → l ≡ b.next ∷ [] → st' ≡ with_store (placed l (character text) st.store) st
+pub passes_text : (b b' : Begun) (st st' : Meant) (is_var : Bool) (activation high : ℕ) (text : List ℕ) (l : Location) → l ≡ b.next ∷ [] → st' ≡ with_store (overlay l (character text) st.store) st
     → names_of b'.names ≡ names_of b.names ++ Elements (b.next ∷ []) high ∷ [] → b'.next ≡ suc b.next → high ≡ length text - 1 → begun_of b' st' ≡ with_passed is_var activation (begun_of b st) (Text text)
-passes_text b b' st st' is_var activation high text l e s n k h = entered_same _ _ _ _ _ _ (n ∙ ap (λ (x : ℕ). names_of b.names ++ Elements (b.next ∷ []) x ∷ []) (h ∙ high_is text)) k (ap (λ (x : Meant). x.store) s ∙ ap (λ (x : Location). placed x (character text) st.store) e)
+passes_text b b' st st' is_var activation high text l e s n k h = entered_same _ _ _ _ _ _ (n ∙ ap (λ (x : ℕ). names_of b.names ++ Elements (b.next ∷ []) x ∷ []) (h ∙ high_is text)) k (ap (λ (x : Meant). x.store) s ∙ ap (λ (x : Location). overlay x (character text) st.store) e)
   where
-    high_is : (text : List ℕ) → length text - 1 ≡ length (passed text) - 1
+    high_is : (text : List ℕ) → length text - 1 ≡ length (argument_text text) - 1
     high_is [] = omega arith
     high_is (c ∷ cs) = refl
 
-pub out_stored : (st st' : Meant) (l : Location) (v : ℤ) → st' ≡ stored l v st → st'.out ≡ st.out
+pub out_stored : (st st' : Meant) (l : Location) (v : ℤ) → st' ≡ store_number l v st → st'.out ≡ st.out
 out_stored st st' l v s = ap (λ (x : Meant). x.out) s
 
 pub out_kept : (st st' : Meant) (s : Store) → st' ≡ with_store s st → st'.out ≡ st.out
@@ -104,7 +104,7 @@ pub ruleset variables = (no_more, one_more)
 
 -- ---- the end of a body
 
-pub halts_too : (function : Bool) (s : Stop) (st : State) → result function (halted s st) ≡ stopped s st
+pub halts_too : (function : Bool) (s : Stop) (st : State) → result function (stop_course s st) ≡ stop_meaning s st
 halts_too function (stop.Ended k) st = refl
 halts_too function stop.StillRunning st = refl
 
@@ -113,10 +113,10 @@ pub ruleset results = (halts_too)
 -- ---- all that is begun
 
 pub begun_is : (types : Types) (r : Routine) (activation : ℕ) (vs : List Sent) (b b' : Begun) (st st1 st2 : Meant) (l : Location) (s : Store) → l ≡ activation ∷ [] → s ≡ fresh (frame types r)
-    → st1 ≡ with_store (placed l s st.store) st → b.names ≡ [] → b.next ≡ activation + 1 → begun_of b' st2 ≡ with_all activation (formals_of types r.heading) vs (begun_of b st1)
-    → begun_of b' st2 ≡ entered types r activation vs st.store
+    → st1 ≡ with_store (overlay l s st.store) st → b.names ≡ [] → b.next ≡ activation + 1 → begun_of b' st2 ≡ with_all activation (formals_of types r.heading) vs (begun_of b st1)
+    → begun_of b' st2 ≡ enter_call types r activation vs st.store
 begun_is types r activation vs b b' st st1 st2 l s e f g n k h =
-    h ∙ ap (λ (x : Entered). with_all activation (formals_of types r.heading) vs x) (entered_same _ _ _ _ _ _ (ap (λ (x : List Named). names_of x) n) (k ∙ omega arith) (ap (λ (x : Meant). x.store) g ∙ ap (λ (x : Location). placed x s st.store) e ∙ ap (λ (x : Store). placed (activation ∷ []) x st.store) f))
+    h ∙ ap (λ (x : Entered). with_all activation (formals_of types r.heading) vs x) (entered_same _ _ _ _ _ _ (ap (λ (x : List Named). names_of x) n) (k ∙ omega arith) (ap (λ (x : Meant). x.store) g ∙ ap (λ (x : Location). overlay x s st.store) e ∙ ap (λ (x : Store). overlay (activation ∷ []) x st.store) f))
 
 pub out_begun : (st st1 st2 : Meant) (s : Store) → st1 ≡ with_store s st → st2.out ≡ st1.out → st2.out ≡ st.out
 out_begun st st1 st2 s e f = f ∙ ap (λ (x : Meant). x.out) e

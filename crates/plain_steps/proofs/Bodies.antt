@@ -7,7 +7,7 @@ use Rattle.def_meaning.specs.Outcome.{Outcome as Course}
 use Rattle.def_meaning.specs.Environment.{Modules, Named as Name, Passed as Sent, Environment as Setting, Callee as Asked}
 use Rattle.def_meaning.specs.Expressions.{Asks}
 use Rattle.def_meaning.specs.Statements.{does, in_turn}
-use Rattle.def_meaning.specs.Calls.{Entered, variables_from, entered, environment_of, body_does, calling, needed, is_function, result, runs, runs_in}
+use Rattle.def_meaning.specs.Calls.{Entered, variables_from, enter_call, environment_of, body_does, calling, storage_need, is_function, result, runs, runs_in}
 use Rattle.typed_tree.specs.declared.statement.TypedStmt.{TypedStmt}
 use Rattle.typed_tree.specs.declared.known_types.Types.{Types}
 use Rattle.plain_store.specs.declared.prepared.Prepared.{Prepared}
@@ -17,7 +17,7 @@ use Rattle.plain_values.specs.declared.program.Callee.{Callee}
 use Rattle.plain_steps.specs.declared.entering.Begun.{Begun}
 use Rattle.plain_steps.specs.declared.entering.Request.{Request}
 use Rattle.plain_steps.specs.Asked.{need_of, IsTooSmall, HasRoom}
-use Rattle.plain_values.specs.Surroundings.{modules_of, asks_of, surroundings, frames_of, callee_of, sent, steps_in}
+use Rattle.plain_values.specs.Surroundings.{modules_of, asks_of, surroundings, frames_of, callee_of, argument_sent, steps_in}
 use Rattle.plain_steps.specs.Entering.{names_of, begun_of, IsBodyOf}
 
 abbrev setting_of : ℕ → Types → List (List Name) → List (List ℕ) → ℕ → ℕ → Setting
@@ -43,16 +43,16 @@ steps_are program depth c activation b left a st0 i ss st =
     ∙ ap (λ (d : ℕ). in_turn (map (does (modules_of program) (calling (modules_of program) program.bound d) program.bound) ss) (environment_of (callee_of c) activation (begun_of b st0) left) st) i.nests
 
 abbrev rest_runs : Program → ℕ → Request → Meant → (need : ℕ) → Given ℤ
-rest_runs program depth q st need = runs_in (modules_of program) program.bound (calling (modules_of program) program.bound depth) (callee_of q.callee) q.next (entered q.callee.home.body.now.types q.callee.routine.now q.next (map sent q.passed) st.store) (q.left - need) st
+rest_runs program depth q st need = runs_in (modules_of program) program.bound (calling (modules_of program) program.bound depth) (callee_of q.callee) q.next (enter_call q.callee.home.body.now.types q.callee.routine.now q.next (map argument_sent q.passed) st.store) (q.left - need) st
 
 pub too_small : (program : Program) (depth : ℕ) (q : Request) (st : Meant) → IsTooSmall q
-    → runs (modules_of program) program.bound (calling (modules_of program) program.bound depth) (callee_of q.callee) (map sent q.passed) q.next q.left st ≡ Ended storage_fault st.out
+    → runs (modules_of program) program.bound (calling (modules_of program) program.bound depth) (callee_of q.callee) (map argument_sent q.passed) q.next q.left st ≡ Ended storage_fault st.out
 unfolding callee_of need_of
 too_small program depth q st i = ap (λ (b : Bool). if b then Ended storage_fault st.out else rest_runs program depth q st (need_of q)) (lt-ltb q.left (need_of q) i.less)
 
 pub fits : (program : Program) (depth rest : ℕ) (q : Request) (b : Begun) (a : Around) (st st1 : Meant) → HasRoom q rest → IsBodyOf program depth q.callee q.next b rest a
-    → begun_of b st1 ≡ entered q.callee.home.body.now.types q.callee.routine.now q.next (map sent q.passed) st.store → st1.out ≡ st.out
-    → runs (modules_of program) program.bound (calling (modules_of program) program.bound depth) (callee_of q.callee) (map sent q.passed) q.next q.left st ≡ result (is_function q.callee.home.body.now.types q.callee.routine.now) (steps_in a q.callee.routine.now.body st1)
+    → begun_of b st1 ≡ enter_call q.callee.home.body.now.types q.callee.routine.now q.next (map argument_sent q.passed) st.store → st1.out ≡ st.out
+    → runs (modules_of program) program.bound (calling (modules_of program) program.bound depth) (callee_of q.callee) (map argument_sent q.passed) q.next q.left st ≡ result (is_function q.callee.home.body.now.types q.callee.routine.now) (steps_in a q.callee.routine.now.body st1)
 unfolding callee_of need_of
 fits program depth rest q b a st st1 r i g o =
     let p : Modules = modules_of program in

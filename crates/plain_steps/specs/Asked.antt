@@ -1,11 +1,11 @@
 -- Whether a call fits into what is free.
 use Rattle.std.specs.Prelude.{◌≡◌, ℕ, ◌-◌, ◌<◌, ◌≤◌, map}
-use Rattle.def_meaning.specs.Calls.{needed}
+use Rattle.def_meaning.specs.Calls.{storage_need}
 use Rattle.plain_steps.specs.declared.entering.Request.{Request}
-use Rattle.plain_values.specs.Surroundings.{sent}
+use Rattle.plain_values.specs.Surroundings.{argument_sent}
 
 unfoldable pub need_of : Request → ℕ
-need_of q = needed q.callee.home.body.now.types q.callee.routine.now (map sent q.passed)
+need_of q = storage_need q.callee.home.body.now.types q.callee.routine.now (map argument_sent q.passed)
 
 pub record IsTooSmall (q : Request) : Type 0 where
   pub less : q.left < need_of q

@@ -9,14 +9,14 @@ use Rattle.typed_tree.specs.declared.computed.Place.{Place}
 use Rattle.typed_tree.specs.declared.computed.TypedExpr.{TypedExpr}
 use Rattle.typed_tree.specs.declared.statement.TypedStmt.{TypedStmt}
 use Rattle.typed_tree.specs.declared.statement.TypedArm.{TypedArm, out-TypedArm}
-use Rattle.def_meaning.specs.Store.{Location, placed}
+use Rattle.def_meaning.specs.Store.{Location, overlay}
 use Rattle.def_meaning.specs.Answer.{State as Meant, Answer as Given, Value, Ended, ◌▷◌, range_fault, empty_procedure}
 use Rattle.def_meaning.specs.Outcome.{Outcome as Course, Normal}
 use Rattle.def_meaning.specs.Operators.{truth, has}
 use Rattle.def_meaning.specs.Environment.{Modules, Entry, Body, Procedure, module_callee}
 use Rattle.def_meaning.specs.Environment.{Callee as Asked, Passed as Sent}
 use Rattle.def_meaning.specs.Expressions.{within, as_type}
-use Rattle.def_meaning.specs.Statements.{in_turn, does, while_true, until_true, looped, for_turns, for_all, is_labelled, stored, has_passed, character}
+use Rattle.def_meaning.specs.Statements.{in_turn, does, while_true, until_true, loop_outcome, for_turns, for_all, is_labelled, store_number, has_passed, character}
 use Rattle.def_meaning.specs.Calls.{Entered as Begun}
 use Rattle.plain_store.specs.declared.state.State.{State}
 use Rattle.plain_store.specs.declared.state.Answer.{Answer}
@@ -28,18 +28,18 @@ use Rattle.plain_steps.specs.declared.simple.Turns.{Turns}
 use Rattle.plain_steps.specs.declared.callees.Found.{Found}
 use Rattle.plain_values.specs.declared.program.Around.{Around}
 use Rattle.plain_values.specs.declared.program.Passed.{Passed}
-use Rattle.plain_store.specs.Seen.{seen, stopped}
-use Rattle.plain_values.specs.Surroundings.{modules_of, asks_of, surroundings, sent, value_in, located_in, all_given_in, steps_in}
+use Rattle.plain_store.specs.Seen.{view_of, stop_meaning}
+use Rattle.plain_values.specs.Surroundings.{modules_of, asks_of, surroundings, argument_sent, value_in, located_in, all_given_in, steps_in}
 
 -- ---- arguments
 
 abbrev pub answered_sent : Answer Passed → State → Given Sent
-answered_sent (answer.Value v) st = Value (sent v) (seen st)
-answered_sent (answer.Stopped s) st = stopped s st
+answered_sent (answer.Value v) st = Value (argument_sent v) (view_of st)
+answered_sent (answer.Stopped s) st = stop_meaning s st
 
 abbrev pub answered_all : Answer (List Passed) → State → Given (List Sent)
-answered_all (answer.Value vs) st = Value (map sent vs) (seen st)
-answered_all (answer.Stopped s) st = stopped s st
+answered_all (answer.Value vs) st = Value (map argument_sent vs) (view_of st)
+answered_all (answer.Stopped s) st = stop_meaning s st
 
 -- ---- two parts, one after the other
 
@@ -83,7 +83,7 @@ unfoldable pub repeat_in : Around → List TypedStmt → TypedExpr → ℕ → M
 repeat_in a body e n st = until_true n (steps_in a body) (value_in a e) st
 
 unfoldable pub loop_in : Around → List TypedStmt → ℕ → Meant → Course
-loop_in a body n st = looped n (steps_in a body) st
+loop_in a body n st = loop_outcome n (steps_in a body) st
 
 -- the control variable, its start, and the limit
 unfoldable pub turns_in : Around → Place → TypeNo → (start limit : TypedExpr) → Meant → Given Turns
@@ -101,7 +101,7 @@ for_in a t by body l last n st =
 unfoldable pub for_begun : Around → TypeNo → (by : ℤ) → List TypedStmt → Turns → Meant → Course
 for_begun a t by body x st =
     for_all a.program.now.bound (as_type (surroundings a).types t) x.l by x.last (steps_in a body)
-    (stored x.l x.v st)
+    (store_number x.l x.v st)
 
 -- ---- WITH
 
@@ -119,9 +119,9 @@ first_arm v (x ∷ xs) =
     if list_any (is_labelled v) (out-TypedArm x).labels then Some x else first_arm v xs
 
 -- its statements, or else these
-unfoldable pub cased : Around → Option TypedArm → (Meant → Course) → Meant → Course
-cased a None other st = other st
-cased a (Some x) other st = steps_in a (out-TypedArm x).body st
+unfoldable pub arm_or_else : Around → Option TypedArm → (Meant → Course) → Meant → Course
+arm_or_else a None other st = other st
+arm_or_else a (Some x) other st = steps_in a (out-TypedArm x).body st
 
 -- ---- procedures
 
@@ -146,11 +146,11 @@ entries_at place (m ∷ ms) (suc j) =
 -- ---- pieces of statements
 
 unfoldable pub text_put : List ℕ → Location → Meant → Course
-text_put text l st = Value Normal (record st { store = placed l (character text) st.store })
+text_put text l st = Value Normal (record st { store = overlay l (character text) st.store })
 
 -- whether the turns of a FOR are over, after one of them
-unfoldable pub stepped : Types → TypeNo → Location → (by last : ℤ) → Meant → Given Bool
-stepped types t l by last st =
+unfoldable pub turns_over : Types → TypeNo → Location → (by last : ℤ) → Meant → Given Bool
+turns_over types t l by last st =
     if has_passed by last (st.store l +ℤ by)
     then Value true st
-    else (as_type types t (st.store l +ℤ by) st ▷ λ v st. Value false (stored l v st))
+    else (as_type types t (st.store l +ℤ by) st ▷ λ v st. Value false (store_number l v st))

@@ -134,7 +134,7 @@ pub fn module_callee<'a>(around: &Around<'a>, place: usize, number: usize) -> Op
 }
 
 /// A number that is not negative. The only error is that it does not fit.
-fn counted(v: i64) -> Result<usize, RunFault>
+fn count_from(v: i64) -> Result<usize, RunFault>
     ensures { IfOk result (λ n. v ≡ pos n) }
 {
     match usize::try_from(v) {
@@ -152,7 +152,7 @@ pub fn variable_callee<'a>(around: &Around<'a>, v: i64) -> Result<Option<Callee<
     if v < 1 {
         return Ok(None);
     }
-    let Some(k) = less_one(counted(v)?) else {
+    let Some(k) = less_one(count_from(v)?) else {
         return Ok(None);
     };
     match procedure_at(around.program.modules, 0, k)? {

@@ -2,12 +2,12 @@
 
 ghost use Rattle.std.specs.Prelude.{◌≡◌, ◌∷◌, [], ◌++◌, suc, false, map, length, IfOk, OnOk, MatchOption};
 ghost use Rattle.layout_storage.specs.Frames.{formals_of};
-ghost use Rattle.layout_storage.specs.Texts.{passed};
+ghost use Rattle.layout_storage.specs.Texts.{argument_text};
 ghost use Rattle.def_meaning.specs.Environment.{Elements, Number, Variable, Array, Text};
-ghost use Rattle.def_meaning.specs.Calls.{variable_at, with_passed, with_all, variables_from, entered, is_function, copies_size, copy_size, needed};
+ghost use Rattle.def_meaning.specs.Calls.{variable_at, with_passed, with_all, variables_from, enter_call, is_function, copies_size, copy_size, storage_need};
 ghost use Rattle.def_meaning.specs.Calls.{result as end_of};
-ghost use Rattle.plain_store.specs.Seen.{seen, answered, ended};
-ghost use Rattle.plain_values.specs.Surroundings.{name_of, sent};
+ghost use Rattle.plain_store.specs.Seen.{view_of, answer_meaning, outcome_course};
+ghost use Rattle.plain_values.specs.Surroundings.{name_of, argument_sent};
 ghost use Rattle.plain_steps.specs.Entering.{begun_of, names_of, IsBodyOf};
 ghost use Rattle.plain_steps.specs.Asked.{need_of, IsTooSmall, HasRoom};
 
@@ -99,9 +99,9 @@ fn pass_number(
     begun: &mut Begun,
     st: &mut State,
 ) -> Result<(), RunFault>
-    ensures begun { OnOk result (begun_of begun.new (seen st.new)
-        ≡ with_passed false activation (begun_of begun.old (seen st.old)) (Number v)) }
-    ensures out { OnOk result ((seen st.new).out ≡ (seen st.old).out) }
+    ensures begun { OnOk result (begun_of begun.new (view_of st.new)
+        ≡ with_passed false activation (begun_of begun.old (view_of st.old)) (Number v)) }
+    ensures out { OnOk result ((view_of st.new).out ≡ (view_of st.old).out) }
 {
     let l = own(alloc, activation, begun)?;
     store(alloc, l.as_slice(), v, st)?;
@@ -117,9 +117,9 @@ fn pass_copy(
     begun: &mut Begun,
     st: &mut State,
 ) -> Result<(), RunFault>
-    ensures begun { OnOk result (begun_of begun.new (seen st.new)
-        ≡ with_passed false activation (begun_of begun.old (seen st.old)) (Variable from.now)) }
-    ensures out { OnOk result ((seen st.new).out ≡ (seen st.old).out) }
+    ensures begun { OnOk result (begun_of begun.new (view_of st.new)
+        ≡ with_passed false activation (begun_of begun.old (view_of st.old)) (Variable from.now)) }
+    ensures out { OnOk result ((view_of st.new).out ≡ (view_of st.old).out) }
 {
     let l = own(alloc, activation, begun)?;
     copy_to(alloc, l.as_slice(), from, st)?;
@@ -136,9 +136,9 @@ fn pass_elements(
     begun: &mut Begun,
     st: &mut State,
 ) -> Result<(), RunFault>
-    ensures begun { OnOk result (begun_of begun.new (seen st.new)
-        ≡ with_passed false activation (begun_of begun.old (seen st.old)) (Array from.now high)) }
-    ensures out { OnOk result ((seen st.new).out ≡ (seen st.old).out) }
+    ensures begun { OnOk result (begun_of begun.new (view_of st.new)
+        ≡ with_passed false activation (begun_of begun.old (view_of st.old)) (Array from.now high)) }
+    ensures out { OnOk result ((view_of st.new).out ≡ (view_of st.old).out) }
 {
     let l = instance(alloc, begun.next)?;
     copy_to(alloc, l.as_slice(), from, st)?;
@@ -155,9 +155,9 @@ fn pass_text(
     begun: &mut Begun,
     st: &mut State,
 ) -> Result<(), RunFault>
-    ensures begun { OnOk result (begun_of begun.new (seen st.new)
-        ≡ with_passed is_var activation (begun_of begun.old (seen st.old)) (Text text.now)) }
-    ensures out { OnOk result ((seen st.new).out ≡ (seen st.old).out) }
+    ensures begun { OnOk result (begun_of begun.new (view_of st.new)
+        ≡ with_passed is_var activation (begun_of begun.old (view_of st.old)) (Text text.now)) }
+    ensures out { OnOk result ((view_of st.new).out ≡ (view_of st.old).out) }
 {
     let l = instance(alloc, begun.next)?;
     text_to(alloc, l.as_slice(), text, st)?;
@@ -174,9 +174,9 @@ fn pass(
     begun: &mut Begun,
     st: &mut State,
 ) -> Result<(), RunFault>
-    ensures begun { OnOk result (begun_of begun.new (seen st.new)
-        ≡ with_passed is_var activation (begun_of begun.old (seen st.old)) (sent v.now)) }
-    ensures out { OnOk result ((seen st.new).out ≡ (seen st.old).out) }
+    ensures begun { OnOk result (begun_of begun.new (view_of st.new)
+        ≡ with_passed is_var activation (begun_of begun.old (view_of st.old)) (argument_sent v.now)) }
+    ensures out { OnOk result ((view_of st.new).out ≡ (view_of st.old).out) }
 {
     match v {
         Passed::Number(n) => pass_number(alloc, activation, *n, begun, st),
@@ -208,9 +208,9 @@ fn pass_all(
     begun: &mut Begun,
     st: &mut State,
 ) -> Result<(), RunFault>
-    ensures begun { OnOk result (begun_of begun.new (seen st.new)
-        ≡ with_all activation formals.now (map sent vs.now) (begun_of begun.old (seen st.old))) }
-    ensures out { OnOk result ((seen st.new).out ≡ (seen st.old).out) }
+    ensures begun { OnOk result (begun_of begun.new (view_of st.new)
+        ≡ with_all activation formals.now (map argument_sent vs.now) (begun_of begun.old (view_of st.old))) }
+    ensures out { OnOk result ((view_of st.new).out ≡ (view_of st.old).out) }
 {
     match formals {
         [] => Ok(()),
@@ -267,7 +267,7 @@ fn is_function(types: &Types, routine: &Routine) -> bool
 /// What a body that ends so gives.
 #[tactic(auto, using(crate::proofs::Begins::results))]
 fn result_of(function: bool, o: Outcome) -> Answer<i64>
-    ensures { (st : State) → answered result st ≡ end_of function (ended o st) }
+    ensures { (st : State) → answer_meaning result st ≡ end_of function (outcome_course o st) }
 {
     match o {
         Outcome::Normal => {
@@ -292,7 +292,7 @@ fn result_of(function: bool, o: Outcome) -> Answer<i64>
 /// What the body of a procedure gives.
 pub fn result(home: &Prepared<'_>, routine: &Routine, o: Outcome, st: &State) -> Answer<i64>
     ensures { let function = is_function home.now.body.now.types routine.now in
-        answered result st.now ≡ end_of function (ended o st.now) }
+        answer_meaning result st.now ≡ end_of function (outcome_course o st.now) }
 {
     result_of(is_function(&home.body.types, routine), o)
 }
@@ -305,7 +305,7 @@ fn copy_size(
     v: &Passed,
 ) -> Result<usize, RunFault>
     ensures { let types = home.now.body.now.types in
-        IfOk result (λ n. n ≡ copy_size types formal.now (sent v.now)) }
+        IfOk result (λ n. n ≡ copy_size types formal.now (argument_sent v.now)) }
 {
     match v {
         Passed::Number(_) => Ok(0),
@@ -326,7 +326,7 @@ fn copy_size(
 
 /// How many characters a string has that is passed.
 fn text_size(text: &[u8]) -> usize
-    ensures { result ≡ length (passed text.now) }
+    ensures { result ≡ length (argument_text text.now) }
 {
     match text {
         [] => 1,
@@ -341,7 +341,7 @@ fn copies_size(
     vs: &[Passed],
 ) -> Result<usize, RunFault>
     ensures { let types = home.now.body.now.types in
-        IfOk result (λ n. n ≡ copies_size types formals.now (map sent vs.now)) }
+        IfOk result (λ n. n ≡ copies_size types formals.now (map argument_sent vs.now)) }
 {
     match formals {
         [] => Ok(0),
@@ -356,14 +356,14 @@ fn copies_size(
 }
 
 /// The bytes of storage that a call takes. The only error is that a number does not fit.
-fn needed(
+fn storage_need(
     alloc: Global,
     home: &Prepared<'_>,
     routine: &Routine,
     vs: &[Passed],
 ) -> Result<usize, RunFault>
     ensures { let types = home.now.body.now.types in
-        IfOk result (λ n. n ≡ needed types routine.now (map sent vs.now)) }
+        IfOk result (λ n. n ≡ storage_need types routine.now (map argument_sent vs.now)) }
 {
     let copies = copies_size(
         alloc,
@@ -385,9 +385,9 @@ fn enter_with(
     st: &mut State,
 ) -> Result<Begun, RunFault>
     ensures begun { let types = home.now.body.now.types in
-        IfOk result (λ b. begun_of b (seen st.new)
-        ≡ entered types routine.now activation (map sent vs.now) (seen st.old).store) }
-    ensures out { OnOk result ((seen st.new).out ≡ (seen st.old).out) }
+        IfOk result (λ b. begun_of b (view_of st.new)
+        ≡ enter_call types routine.now activation (map argument_sent vs.now) (view_of st.old).store) }
+    ensures out { OnOk result ((view_of st.new).out ≡ (view_of st.old).out) }
 {
     let blank = frame_held(alloc, home, routine)?;
     let l = instance(alloc, activation)?;
@@ -404,9 +404,9 @@ fn enter_with(
 /// The names of the formals of a call, and the number of the next instance.
 pub fn enter(alloc: Global, request: &Request<'_>, st: &mut State) -> Result<Begun, RunFault>
     ensures begun { let q = request.now in let types = q.callee.home.body.now.types in
-        let vs = map sent q.passed in let r = q.callee.routine.now in
-        IfOk result (λ b. begun_of b (seen st.new) ≡ entered types r q.next vs (seen st.old).store) }
-    ensures out { OnOk result ((seen st.new).out ≡ (seen st.old).out) }
+        let vs = map argument_sent q.passed in let r = q.callee.routine.now in
+        IfOk result (λ b. begun_of b (view_of st.new) ≡ enter_call types r q.next vs (view_of st.old).store) }
+    ensures out { OnOk result ((view_of st.new).out ≡ (view_of st.old).out) }
 {
     let (home, routine) = (&request.callee.home, request.callee.routine);
     enter_with(
@@ -425,7 +425,7 @@ fn need_of(alloc: Global, request: &Request<'_>) -> Result<usize, RunFault>
     ensures { IfOk result (λ n. n ≡ need_of request.now) }
 {
     let (home, routine) = (&request.callee.home, request.callee.routine);
-    needed(alloc, home, routine, request.passed.as_slice())
+    storage_need(alloc, home, routine, request.passed.as_slice())
 }
 
 /// The storage that a call leaves, if it fits into what is free. The only error is that memory ran out, or that a number

@@ -2,10 +2,10 @@
 
 ghost use Rattle.std.specs.Prelude.{◌≡◌, ◌∷◌, map, IfOk};
 ghost use Rattle.def_meaning.specs.Answer.{Value, ◌▷◌};
-ghost use Rattle.def_meaning.specs.Environment.{Number, Variable, Array, Text, location_of, high_of, named};
+ghost use Rattle.def_meaning.specs.Environment.{Number, Variable, Array, Text, location_of, high_of, slot_named};
 ghost use Rattle.def_meaning.specs.Expressions.{as_type, high_index};
-ghost use Rattle.plain_store.specs.Seen.{seen, answered};
-ghost use Rattle.plain_values.specs.Surroundings.{surroundings, sent};
+ghost use Rattle.plain_store.specs.Seen.{view_of, answer_meaning};
+ghost use Rattle.plain_values.specs.Surroundings.{surroundings, argument_sent};
 ghost use Rattle.plain_steps.specs.Parts.{answered_sent};
 
 use plain_store::state::{Answer, RunFault, State, load};
@@ -18,8 +18,8 @@ use typed_tree::{Slot, TypeNo};
 
 /// The number at the location that is given.
 #[tactic(auto, using(plain_store::proofs::Threads::threads))]
-pub fn loaded(given: Answer<Items<usize>>, st: &State) -> Answer<i64>
-    ensures { answered result st.now ≡ (answered given st.now ▷ (λ l st. Value (st.store l) st)) }
+pub fn load_number(given: Answer<Items<usize>>, st: &State) -> Answer<i64>
+    ensures { answer_meaning result st.now ≡ (answer_meaning given st.now ▷ (λ l st. Value (st.store l) st)) }
 {
     match given {
         Answer::Value(l) => Answer::Value(load(l.as_slice(), st)),
@@ -36,7 +36,7 @@ pub fn number_passed(
     st: &State,
 ) -> Answer<Passed>
     ensures { let types = (surroundings around.now).types in
-        answered_sent result st.now ≡ (answered given st.now ▷ (λ v st. as_type types t v st ▷ λ v st. Value (Number v) st)) }
+        answered_sent result st.now ≡ (answer_meaning given st.now ▷ (λ v st. as_type types t v st ▷ λ v st. Value (Number v) st)) }
 {
     match given {
         Answer::Value(v) => match as_type(around, t, v, st) {
@@ -51,7 +51,7 @@ pub fn number_passed(
 #[tactic(auto, using(plain_store::proofs::Threads::threads))]
 pub fn variable_passed(given: Answer<Items<usize>>, st: &State) -> Answer<Passed>
     ensures { answered_sent result st.now
-        ≡ (answered given st.now ▷ (λ l st. Value (Variable l) st)) }
+        ≡ (answer_meaning given st.now ▷ (λ l st. Value (Variable l) st)) }
 {
     match given {
         Answer::Value(l) => Answer::Value(Passed::Variable(l)),
@@ -69,7 +69,7 @@ pub fn array_passed(
 ) -> Result<Answer<Passed>, RunFault>
     ensures { let high = high_index (surroundings around.now).types t in
         IfOk result (λ j. answered_sent j st.now
-        ≡ (answered given st.now ▷ λ l st. Value (Array l high) st)) }
+        ≡ (answer_meaning given st.now ▷ λ l st. Value (Array l high) st)) }
 {
     match given {
         Answer::Value(l) => Ok(Answer::Value(Passed::Array(l, high_index(around, t)?))),
@@ -79,8 +79,8 @@ pub fn array_passed(
 
 /// An open array for an open array. The only error is that memory ran out.
 pub fn open_passed(around: &Around<'_>, slot: Slot) -> Result<Passed, AllocError>
-    ensures { let name = named (surroundings around.now) slot in
-        IfOk result (λ p. sent p ≡ Array (location_of name) (high_of name)) }
+    ensures { let name = slot_named (surroundings around.now) slot in
+        IfOk result (λ p. argument_sent p ≡ Array (location_of name) (high_of name)) }
 {
     let l = slot_location(around, slot)?;
     Ok(Passed::Array(l, slot_high(around, slot)))
@@ -88,7 +88,7 @@ pub fn open_passed(around: &Around<'_>, slot: Slot) -> Result<Passed, AllocError
 
 /// A string for an open array. The only error is that memory ran out.
 pub fn text_passed(alloc: Global, text: &[u8]) -> Result<Passed, AllocError>
-    ensures { IfOk result (λ p. sent p ≡ Text text.now) }
+    ensures { IfOk result (λ p. argument_sent p ≡ Text text.now) }
 {
     Ok(Passed::Text(Items::from_slice(alloc, text)?))
 }
@@ -99,7 +99,7 @@ pub fn in_front(
     first: Passed,
     others: Items<Passed>,
 ) -> Result<Items<Passed>, AllocError>
-    ensures { IfOk result (λ all. map sent all ≡ sent first ∷ map sent others) }
+    ensures { IfOk result (λ all. map argument_sent all ≡ argument_sent first ∷ map argument_sent others) }
 {
     let mut all = Items::new(alloc);
     all.push(first)?;

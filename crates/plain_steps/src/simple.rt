@@ -6,14 +6,14 @@ ghost use Rattle.std.specs.List.{list_any};
 ghost use Rattle.typed_tree.specs.Types.{char};
 ghost use Rattle.typed_tree.specs.Known.{scalar_at};
 ghost use Rattle.typed_tree.specs.declared.statement.TypedArm.{out-TypedArm};
-ghost use Rattle.def_meaning.specs.Store.{copied};
+ghost use Rattle.def_meaning.specs.Store.{copy_whole};
 ghost use Rattle.def_meaning.specs.Answer.{Value, ◌▷◌, range_fault};
 ghost use Rattle.def_meaning.specs.Outcome.{Normal, Returned};
 ghost use Rattle.def_meaning.specs.Expressions.{as_type, within};
-ghost use Rattle.def_meaning.specs.Statements.{stored, changed, rechecked, base_of, with_element, has_passed, is_labelled};
-ghost use Rattle.plain_store.specs.Seen.{seen, answered, ended, with_store, with_byte};
+ghost use Rattle.def_meaning.specs.Statements.{store_number, change_by, recheck_value, base_of, with_element, has_passed, is_labelled};
+ghost use Rattle.plain_store.specs.Seen.{view_of, answer_meaning, outcome_course, with_store, with_byte};
 ghost use Rattle.plain_values.specs.Surroundings.{surroundings};
-ghost use Rattle.plain_steps.specs.Parts.{first_arm, text_put, stepped};
+ghost use Rattle.plain_steps.specs.Parts.{first_arm, text_put, turns_over};
 
 use plain_store::state::{Answer, Outcome, RunFault, State, copy_to, load, print, store, text_to};
 use plain_values::checks::{as_type, in_base, within};
@@ -54,7 +54,7 @@ pub fn assign(
     st: &mut State,
 ) -> Result<Outcome, RunFault>
     ensures { let types = (surroundings around.now).types in
-        IfOk result (λ o. ended o st.new ≡ (answered given st.old ▷ λ x st. as_type types t x.v st ▷ λ v st. Value Normal (stored x.l v st))) }
+        IfOk result (λ o. outcome_course o st.new ≡ (answer_meaning given st.old ▷ λ x st. as_type types t x.v st ▷ λ v st. Value Normal (store_number x.l v st))) }
 {
     match given {
         Answer::Value(x) => match as_type(around, t, x.v, st) {
@@ -71,7 +71,7 @@ pub fn assign(
 /// Copies an array or a record.
 #[tactic(auto, using(plain_store::proofs::Threads::threads))]
 pub fn copy(around: &Around<'_>, given: Answer<Ends>, st: &mut State) -> Result<Outcome, RunFault>
-    ensures { IfOk result (λ o. ended o st.new ≡ (answered given st.old ▷ λ x st. Value Normal (with_store (copied x.to x.from st.store) st))) }
+    ensures { IfOk result (λ o. outcome_course o st.new ≡ (answer_meaning given st.old ▷ λ x st. Value Normal (with_store (copy_whole x.to x.from st.store) st))) }
 {
     match given {
         Answer::Value(x) => {
@@ -90,7 +90,7 @@ pub fn copy_text(
     text: &[u8],
     st: &mut State,
 ) -> Result<Outcome, RunFault>
-    ensures { IfOk result (λ o. ended o st.new ≡ (answered given st.old ▷ (text_put text.now))) }
+    ensures { IfOk result (λ o. outcome_course o st.new ≡ (answer_meaning given st.old ▷ (text_put text.now))) }
 {
     match given {
         Answer::Value(l) => {
@@ -104,7 +104,7 @@ pub fn copy_text(
 /// The end of a call as a statement.
 #[tactic(auto, using(plain_store::proofs::Threads::threads))]
 pub fn gone(given: Answer<i64>, st: &State) -> Outcome
-    ensures { ended result st.now ≡ (answered given st.now ▷ (λ v st. Value Normal st)) }
+    ensures { outcome_course result st.now ≡ (answer_meaning given st.now ▷ (λ v st. Value Normal st)) }
 {
     match given {
         Answer::Value(_) => Outcome::Normal,
@@ -116,7 +116,7 @@ pub fn gone(given: Answer<i64>, st: &State) -> Outcome
 #[tactic(auto, using(plain_store::proofs::Threads::threads))]
 pub fn put(around: &Around<'_>, given: Answer<i64>, st: &mut State) -> Result<Outcome, RunFault>
     ensures { let types = (surroundings around.now).types in
-        IfOk result (λ o. ended o st.new ≡ (answered given st.old ▷ λ v st. as_type types char v st ▷ λ v st. Value Normal (with_byte v st))) }
+        IfOk result (λ o. outcome_course o st.new ≡ (answer_meaning given st.old ▷ λ v st. as_type types char v st ▷ λ v st. Value Normal (with_byte v st))) }
 {
     match given {
         Answer::Value(v) => match as_type(around, CHAR, v, st) {
@@ -130,8 +130,8 @@ pub fn put(around: &Around<'_>, given: Answer<i64>, st: &mut State) -> Result<Ou
     }
 }
 
-fn changed(how: Change, x: i64, by: i64) -> Result<i64, RunFault>
-    ensures { IfOk result (λ v. v ≡ changed how x by) }
+fn change_by(how: Change, x: i64, by: i64) -> Result<i64, RunFault>
+    ensures { IfOk result (λ v. v ≡ change_by how x by) }
 {
     match how {
         Change::Increase => sum(x, by),
@@ -150,8 +150,8 @@ fn base_of(t: TypeNo, scalar: Option<Scalar>) -> TypeNo
 
 /// A result as one of the base type, and then as one of the variable's.
 #[tactic(auto, using(plain_store::proofs::Threads::threads), unfolding(plain_values::specs::Surroundings::surroundings))]
-fn rechecked(around: &Around<'_>, t: TypeNo, v: i64, st: &State) -> Answer<i64>
-    ensures { answered result st.now ≡ rechecked (surroundings around.now).types t v (seen st.now) }
+fn recheck_value(around: &Around<'_>, t: TypeNo, v: i64, st: &State) -> Answer<i64>
+    ensures { answer_meaning result st.now ≡ recheck_value (surroundings around.now).types t v (view_of st.now) }
 {
     let base = base_of(t, scalar_of(&around.home.body.types, t));
     match in_base(around, base, v, st) {
@@ -170,12 +170,12 @@ pub fn change(
     st: &mut State,
 ) -> Result<Outcome, RunFault>
     ensures { let types = (surroundings around.now).types in
-        IfOk result (λ o. ended o st.new ≡ (answered given st.old ▷ λ x st. rechecked types t (changed how (st.store x.l) x.v) st ▷ λ v st. Value Normal (stored x.l v st))) }
+        IfOk result (λ o. outcome_course o st.new ≡ (answer_meaning given st.old ▷ λ x st. recheck_value types t (change_by how (st.store x.l) x.v) st ▷ λ v st. Value Normal (store_number x.l v st))) }
 {
     match given {
         Answer::Value(x) => {
-            let v = changed(how, load(x.l.as_slice(), st), x.v)?;
-            match rechecked(around, t, v, st) {
+            let v = change_by(how, load(x.l.as_slice(), st), x.v)?;
+            match recheck_value(around, t, v, st) {
                 Answer::Value(v) => {
                     store(around.program.alloc, x.l.as_slice(), v, st)?;
                     Ok(Outcome::Normal)
@@ -195,7 +195,7 @@ pub fn membership(
     given: Answer<Target>,
     st: &mut State,
 ) -> Result<Outcome, RunFault>
-    ensures { IfOk result (λ o. ended o st.new ≡ (answered given st.old ▷ λ x st. within (pos 0) (pos 31) range_fault x.v st ▷ λ v st. Value Normal (stored x.l (with_element how (st.store x.l) v) st))) }
+    ensures { IfOk result (λ o. outcome_course o st.new ≡ (answer_meaning given st.old ▷ λ x st. within (pos 0) (pos 31) range_fault x.v st ▷ λ v st. Value Normal (store_number x.l (with_element how (st.store x.l) v) st))) }
 {
     match given {
         Answer::Value(x) => match within(0, 31, 1, x.v, st) {
@@ -214,7 +214,7 @@ pub fn membership(
 #[tactic(auto, using(plain_store::proofs::Threads::threads))]
 pub fn give(around: &Around<'_>, t: TypeNo, given: Answer<i64>, st: &State) -> Outcome
     ensures { let types = (surroundings around.now).types in
-        ended result st.now ≡ (answered given st.now ▷ (λ v st. as_type types t v st ▷ λ v st. Value (Returned v) st)) }
+        outcome_course result st.now ≡ (answer_meaning given st.now ▷ (λ v st. as_type types t v st ▷ λ v st. Value (Returned v) st)) }
 {
     match given {
         Answer::Value(v) => match as_type(around, t, v, st) {
@@ -264,9 +264,9 @@ pub fn begin_for(
     of: &Turns,
     st: &mut State,
 ) -> Result<bool, RunFault>
-    ensures stored { OnOk result (seen st.new ≡ stored of.now.l of.now.v (seen st.old)) }
+    ensures stored { OnOk result (view_of st.new ≡ store_number of.now.l of.now.v (view_of st.old)) }
     ensures passed { IfOk result (λ b. b
-        ≡ has_passed by.now of.now.last ((seen st.new).store of.now.l)) }
+        ≡ has_passed by.now of.now.last ((view_of st.new).store of.now.l)) }
 {
     store(around.program.alloc, of.l.as_slice(), of.v, st)?;
     Ok(has_passed(*by, of.last, load(of.l.as_slice(), st)))
@@ -274,21 +274,21 @@ pub fn begin_for(
 
 /// The control variable of a FOR, one step further.
 fn stepped_on(of: &Turns, by: &i64, st: &State) -> Result<i64, RunFault>
-    ensures { IfOk result (λ v. v ≡ (seen st.now).store of.now.l +ℤ by.now) }
+    ensures { IfOk result (λ v. v ≡ (view_of st.now).store of.now.l +ℤ by.now) }
 {
     sum(load(of.l.as_slice(), st), *by)
 }
 
 /// Stores the control variable of a FOR.
 fn keep(around: &Around<'_>, of: &Turns, v: i64, st: &mut State) -> Result<(), RunFault>
-    ensures { OnOk result (seen st.new ≡ stored of.now.l v (seen st.old)) }
+    ensures { OnOk result (view_of st.new ≡ store_number of.now.l v (view_of st.old)) }
 {
     store(around.program.alloc, of.l.as_slice(), v, st)
 }
 
 /// Stores the control variable of a FOR, which is not over then.
 #[tactic(auto, using(plain_store::proofs::Threads::threads))]
-fn kept(
+fn keep_control(
     around: &Around<'_>,
     t: TypeNo,
     of: &Turns,
@@ -296,7 +296,7 @@ fn kept(
     st: &mut State,
 ) -> Result<Answer<bool>, RunFault>
     ensures { let types = (surroundings around.now).types in
-        IfOk result (λ j. answered j st.new ≡ (as_type types t next.now (seen st.old) ▷ λ v st. Value false (stored of.now.l v st))) }
+        IfOk result (λ j. answer_meaning j st.new ≡ (as_type types t next.now (view_of st.old) ▷ λ v st. Value false (store_number of.now.l v st))) }
 {
     match as_type(around, t, *next, st) {
         Answer::Value(v) => {
@@ -324,13 +324,13 @@ pub fn next_turn(
     st: &mut State,
 ) -> Result<Answer<bool>, RunFault>
     ensures { let types = (surroundings around.now).types in
-        IfOk result (λ j. answered j st.new
-        ≡ stepped types t of.now.l by.now of.now.last (seen st.old)) }
+        IfOk result (λ j. answer_meaning j st.new
+        ≡ turns_over types t of.now.l by.now of.now.last (view_of st.old)) }
 {
     let next = stepped_on(of, by, st)?;
     if is_over(of, by, &next) {
         return Ok(Answer::Value(true));
     }
-    let over = kept(around, t, of, &next, st)?;
+    let over = keep_control(around, t, of, &next, st)?;
     Ok(over)
 }

@@ -30,7 +30,7 @@ use Rattle.plain_store.specs.declared.held.Held.TheVariants as held
 use Rattle.plain_store.specs.declared.blanks.Blank.{Blank}
 use Rattle.plain_store.specs.declared.blanks.Kept.{Kept}
 use Rattle.plain_store.specs.Contents.{Contents, or_rest, in_parts, in_array, contents}
-use Rattle.plain_store.specs.Blanks.{cell_blank, word_blank, hidden_blank, scalar_blank, array_blank, held_in, total, row_blank, or_none, kept_of, among, blank_from, blank_in, field_blank, shape_blank, kept, with_made, module_blanks, with_module, other_blanks, known_blanks, formal_blank, header_blank, frame_blank, variables_of}
+use Rattle.plain_store.specs.Blanks.{cell_blank, word_blank, hidden_blank, scalar_blank, array_blank, held_in, total, row_blank, or_none, kept_of, among, blank_from, blank_in, field_blank, shape_blank, keep_blanks, with_made, module_blanks, with_module, other_blanks, known_blanks, formal_blank, header_blank, frame_blank, variables_of}
 use Rattle.plain_store.proofs.Layers.{same, parts}
 use Rattle.plain_store.proofs.Layers.{array as array_holds}
 
@@ -217,7 +217,7 @@ shape_says types known before p t (shape.Open e) = row_says [] [] refl
 -- ---- the types of modules
 
 module _ (types : Types) (known : List Kept) (before : Trees) (p : Beside known before) (home : ℕ) where
-  in_front : (bs : List Blank) (ts : List Ty) → map shown bs ≡ map meant ts → Beside (kept home bs ∷ known) ((home, ts) ∷ before)
+  in_front : (bs : List Blank) (ts : List Ty) → map shown bs ≡ map meant ts → Beside (keep_blanks home bs ∷ known) ((home, ts) ∷ before)
   in_front bs ts h = ap (λ (xs : List Says). (home, xs) ∷ map shown_kept known) h ∙ ap (λ (xs : List Answered). (home, map meant ts) ∷ xs) p
 
   same_length : (bs : List Blank) (ts : List Ty) → map shown bs ≡ map meant ts → length bs ≡ length ts
@@ -226,11 +226,11 @@ module _ (types : Types) (known : List Kept) (before : Trees) (p : Beside known 
   one_more : (bs : List Blank) (ts : List Ty) (m : Made) → map shown bs ≡ map meant ts → map shown (with_made types known home bs m) ≡ map meant (with_tree types before home ts m)
   one_more bs ts m h =
       let n : ℕ → TypeNo = λ k. record { home = Module home; number = k } in
-      let b : Blank = shape_blank types (kept home bs ∷ known) (n (length bs)) m.shape in
+      let b : Blank = shape_blank types (keep_blanks home bs ∷ known) (n (length bs)) m.shape in
       let t : Ty = shape_tree types ((home, ts) ∷ before) (n (length ts)) m.shape in
       map-append shown bs (b ∷ [])
       ∙ ap (λ (xs : List Says). xs ++ shown b ∷ []) h
-      ∙ ap (λ (x : Says). map meant ts ++ x ∷ []) (ap (λ (k : ℕ). shown (shape_blank types (kept home bs ∷ known) (n k) m.shape)) (same_length bs ts h) ∙ shape_says types (kept home bs ∷ known) ((home, ts) ∷ before) (in_front bs ts h) (n (length ts)) m.shape)
+      ∙ ap (λ (x : Says). map meant ts ++ x ∷ []) (ap (λ (k : ℕ). shown (shape_blank types (keep_blanks home bs ∷ known) (n k) m.shape)) (same_length bs ts h) ∙ shape_says types (keep_blanks home bs ∷ known) ((home, ts) ∷ before) (in_front bs ts h) (n (length ts)) m.shape)
       ∙ sym (map-append meant ts (t ∷ []))
 
   all_say : (ms : List Made) (bs : List Blank) (ts : List Ty) → map shown bs ≡ map meant ts → map shown (fold (with_made types known home) bs ms) ≡ map meant (fold (with_tree types before home) ts ms)
@@ -242,7 +242,7 @@ module _ (types : Types) (known : List Kept) (before : Trees) (p : Beside known 
 
 next_says : (types : Types) (known : List Kept) (before : Trees) → Beside known before → (e : ℕ × List Made) → Beside (with_module types known e) (with_trees types before e)
 next_says types known before p e =
-    map-append shown_kept known (kept e.0 (module_blanks types known e.0 e.1) ∷ [])
+    map-append shown_kept known (keep_blanks e.0 (module_blanks types known e.0 e.1) ∷ [])
     ∙ ap (λ (xs : List Answered). xs ++ (e.0, map shown (module_blanks types known e.0 e.1)) ∷ []) p
     ∙ ap (λ (xs : List Says). map meant_module before ++ (e.0, xs) ∷ []) (module_says types known before p e.0 e.1)
     ∙ sym (map-append meant_module before ((e.0, module_trees types before e.0 e.1) ∷ []))

@@ -3,13 +3,13 @@ use Rattle.std.proofs.Common.{◌≡◌, ℕ, zero, suc, ◌+◌, Bool, true, fa
 use Rattle.std.specs.Prelude.{nat_eq, slice_get, slice_set, if◌then◌else◌}
 use Rattle.std.proofs.Math.Seq.{drop-length}
 use Rattle.std.proofs.lemmas.Bool.{eqb-true, eqb-false}
-use Rattle.def_meaning.specs.Store.{Location, behind, chosen, placed}
+use Rattle.def_meaning.specs.Store.{Location, behind, choose_arm, overlay}
 use Rattle.plain_store.specs.declared.held.Held.{Held}
 use Rattle.plain_store.specs.declared.opened_tree.Components.{Components}
 use Rattle.plain_store.specs.Contents.{Contents, or_rest, contents, opened_contents, with_component, IsOpened, IsReplaced}
 
 whole_of : (f s : Contents) → IsReplaced [] f s f
-unfolding behind placed
+unfolding behind overlay
 whole_of f s l = refl
 
 pub whole : (to : Location) (from : ℕ) (f s : Contents) → from ≡ length to → IsReplaced (drop from to) f s f
@@ -61,13 +61,13 @@ module _ (k : ℕ) (p : Location) (held new part part' z : Held) (o : Components
   held_there r = held_at k r ∙ ap (λ (x : Option Held). found x (contents o.rest) r) got
 
   other_case : (j : ℕ) (r : Location) (t : Bool) → nat_eq k j ≡ t
-      → (if t then contents part' r else found (slice_get o.parts j) (contents o.rest) r) ≡ chosen (if t then behind p r else None) (contents new) (contents held (j ∷ r))
-  unfolding placed
-  other_case j r true q = rec r ∙ ap (λ v. chosen (behind p r) (contents new) v) (sym (held_there r) ∙ ap (λ (n : ℕ). contents held (n ∷ r)) (eqb-true k j q))
+      → (if t then contents part' r else found (slice_get o.parts j) (contents o.rest) r) ≡ choose_arm (if t then behind p r else None) (contents new) (contents held (j ∷ r))
+  unfolding overlay
+  other_case j r true q = rec r ∙ ap (λ v. choose_arm (behind p r) (contents new) v) (sym (held_there r) ∙ ap (λ (n : ℕ). contents held (n ∷ r)) (eqb-true k j q))
   other_case j r false q = sym (held_at j r)
 
   stepped : IsReplaced (k ∷ p) (contents new) (contents held) (opened_contents after)
-  unfolding behind placed
+  unfolding behind overlay
   stepped [] = opened.says []
   stepped (j ∷ r) =
       mapped after.parts j (contents o.rest) r ∙ twice_set o.parts k j z part' part (contents o.rest) r got (nat_eq k j) refl ∙ other_case j r (nat_eq k j) refl

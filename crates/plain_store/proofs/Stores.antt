@@ -2,7 +2,7 @@
 use Rattle.std.proofs.Common.{◌≡◌, ℕ, zero, suc, ℤ, pos, List, [], ◌∷◌, ◌++◌, map, Some, None, Result, Ok, Err, IfOk, refl, ap, ◌∙◌}
 use Rattle.std.specs.Prelude.{slice_get}
 use Rattle.std.proofs.Math.Path.{fun_ext}
-use Rattle.def_meaning.specs.Store.{Location, assigned, copied, placed}
+use Rattle.def_meaning.specs.Store.{Location, assign_number, copy_whole, overlay}
 use Rattle.def_meaning.specs.Statements.{or_zero, character}
 use Rattle.plain_store.specs.declared.held.Held.{Held}
 use Rattle.plain_store.specs.declared.held.Held.TheVariants.{Same}
@@ -11,18 +11,18 @@ use Rattle.plain_store.specs.declared.opened_tree.Components.{Components}
 use Rattle.plain_store.specs.Characters.{character_part}
 use Rattle.plain_store.proofs.Layers.{same, at_same}
 
-pub ok_put : {E : Type 0} (to : Location) (new store : Held) (r : Result Held E) → IfOk r (λ h. IsReplaced to (contents new) (contents store) (contents h)) → IfOk r (λ h. contents h ≡ placed to (contents new) (contents store))
+pub ok_put : {E : Type 0} (to : Location) (new store : Held) (r : Result Held E) → IfOk r (λ h. IsReplaced to (contents new) (contents store) (contents h)) → IfOk r (λ h. contents h ≡ overlay to (contents new) (contents store))
 ok_put to new store (Err e) h = tt
 ok_put to new store (Ok x) h = fun_ext h
 
-pub ok_assigned : {E : Type 0} (to : Location) (v w : ℤ) (store : Held) (r : Result Held E) → w ≡ v → IfOk r (λ h. contents h ≡ placed to (contents (Same w)) (contents store)) → IfOk r (λ h. contents h ≡ assigned to v (contents store))
+pub ok_assigned : {E : Type 0} (to : Location) (v w : ℤ) (store : Held) (r : Result Held E) → w ≡ v → IfOk r (λ h. contents h ≡ overlay to (contents (Same w)) (contents store)) → IfOk r (λ h. contents h ≡ assign_number to v (contents store))
 ok_assigned to v w store (Err e) q h = tt
-ok_assigned to v w store (Ok x) q h = h ∙ ap (λ (n : ℤ). placed to (contents (Same n)) (contents store)) q ∙ ap (λ (f : Contents). placed to f (contents store)) (same v)
+ok_assigned to v w store (Ok x) q h = h ∙ ap (λ (n : ℤ). overlay to (contents (Same n)) (contents store)) q ∙ ap (λ (f : Contents). overlay to f (contents store)) (same v)
 
-pub ok_copied : {E : Type 0} (to from : Location) (part store : Held) (r : Result Held E) → contents part ≡ behind_it (contents store) from → IfOk r (λ h. contents h ≡ placed to (contents part) (contents store))
-    → IfOk r (λ h. contents h ≡ copied to from (contents store))
+pub ok_copied : {E : Type 0} (to from : Location) (part store : Held) (r : Result Held E) → contents part ≡ behind_it (contents store) from → IfOk r (λ h. contents h ≡ overlay to (contents part) (contents store))
+    → IfOk r (λ h. contents h ≡ copy_whole to from (contents store))
 ok_copied to from part store (Err e) p h = tt
-ok_copied to from part store (Ok x) p h = h ∙ ap (λ (f : Contents). placed to f (contents store)) p
+ok_copied to from part store (Ok x) p h = h ∙ ap (λ (f : Contents). overlay to f (contents store)) p
 
 pub no_part : (store : Held) (from : Location) → ((r : Location) → or_nought None r ≡ contents store (from ++ r)) → contents (Same (pos 0)) ≡ behind_it (contents store) from
 no_part store from h = fun_ext (λ r. at_same (pos 0) r ∙ h r)

@@ -89,13 +89,13 @@ shape_blank types known t (shape.Open e) = row_blank []
 
 -- ---- the types of modules
 
-abbrev pub kept : ℕ → List Blank → Kept
-kept home bs = record { home = home; blanks = bs }
+abbrev pub keep_blanks : ℕ → List Blank → Kept
+keep_blanks home bs = record { home = home; blanks = bs }
 
 abbrev pub with_made : Types → List Kept → (home : ℕ) → List Blank → Made → List Blank
 with_made types before home bs m =
     bs
-    ++ shape_blank types (kept home bs ∷ before) (record { home = Module home; number = length bs })
+    ++ shape_blank types (keep_blanks home bs ∷ before) (record { home = Module home; number = length bs })
     m.shape
     ∷ []
 
@@ -103,7 +103,7 @@ abbrev pub module_blanks : Types → List Kept → (home : ℕ) → List Made �
 module_blanks types before home ms = fold (with_made types before home) [] ms
 
 abbrev pub with_module : Types → List Kept → ℕ × List Made → List Kept
-with_module types before e = before ++ kept e.0 (module_blanks types before e.0 e.1) ∷ []
+with_module types before e = before ++ keep_blanks e.0 (module_blanks types before e.0 e.1) ∷ []
 
 abbrev pub if_some : {A X : Type 0} → (A → X → A) → A → Option X → A
 if_some f a None = a
@@ -114,7 +114,7 @@ other_blanks types = fold (with_module types) [] types.others
 
 unfoldable pub known_blanks : Types → List Kept
 known_blanks types =
-    kept types.home (module_blanks types (other_blanks types) types.home types.own)
+    keep_blanks types.home (module_blanks types (other_blanks types) types.home types.own)
     ∷ other_blanks types
 
 -- ---- frames and modules

@@ -1,6 +1,6 @@
 -- What a tree says of a variable and of each of its components.
 use Rattle.std.specs.Prelude.{◌≡◌, ℕ, zero, suc, ℤ, pos, ◌<◌, nat_lt, length, List, [], ◌∷◌, ◌++◌, map, Option, Some, None, slice_get, slice_set, if◌then◌else◌}
-use Rattle.def_meaning.specs.Store.{Location, placed}
+use Rattle.def_meaning.specs.Store.{Location, overlay}
 use Rattle.plain_store.specs.declared.held.Held.{Held, Held-F, fold-Held}
 use Rattle.plain_store.specs.declared.held.Held.TheOpen as layer
 use Rattle.plain_store.specs.declared.opened_tree.Components.{Components}
@@ -36,9 +36,9 @@ or_nought None r = pos 0
 or_nought (Some h) r = contents h r
 
 -- one after another, so many times
-abbrev pub repeated : {A : Type 0} → ℕ → A → List A
-repeated zero x = []
-repeated (suc n) x = repeated n x ++ x ∷ []
+abbrev pub repeat_item : {A : Type 0} → ℕ → A → List A
+repeat_item zero x = []
+repeat_item (suc n) x = repeat_item n x ++ x ∷ []
 
 -- ---- a tree whose first components are at hand
 
@@ -67,7 +67,7 @@ pub record IsOpened (held : Held) (number : ℕ) (o : Components) : Type 0 where
 
 -- a location and its components hold this, all others what they held
 abbrev pub IsReplaced : Location → (new old now : Contents) → Type 0
-IsReplaced to new old now = (l : Location) → now l ≡ placed to new old l
+IsReplaced to new old now = (l : Location) → now l ≡ overlay to new old l
 
 -- what stands behind a location
 abbrev pub behind_it : Contents → Location → Contents

@@ -13,8 +13,8 @@ use Rattle.plain_store.specs.declared.state.Outcome.TheVariants as outcome
 use Rattle.plain_store.specs.Contents.{contents}
 
 -- what the variables hold, and what has been printed
-abbrev pub seen : State → Meant
-seen st = record { store = contents st.store; out = st.out }
+abbrev pub view_of : State → Meant
+view_of st = record { store = contents st.store; out = st.out }
 
 abbrev pub with_store : Store → Meant → Meant
 with_store s st = record st { store = s }
@@ -23,22 +23,22 @@ abbrev pub with_byte : ℤ → Meant → Meant
 with_byte v st = record st { out = st.out ++ unsigned_abs v ∷ [] }
 
 -- a fault, HALT, or the bound
-abbrev pub stopped : {A : Type 0} → Stop → State → Given A
-stopped (stop.Ended k) st = Ended k st.out
-stopped stop.StillRunning st = StillRunning st.out
+abbrev pub stop_meaning : {A : Type 0} → Stop → State → Given A
+stop_meaning (stop.Ended k) st = Ended k st.out
+stop_meaning stop.StillRunning st = StillRunning st.out
 
 -- what is given
-abbrev pub answered : {A : Type 0} → Answer A → State → Given A
-answered (answer.Value v) st = Value v (seen st)
-answered (answer.Stopped s) st = stopped s st
+abbrev pub answer_meaning : {A : Type 0} → Answer A → State → Given A
+answer_meaning (answer.Value v) st = Value v (view_of st)
+answer_meaning (answer.Stopped s) st = stop_meaning s st
 
 -- the same for statements
-abbrev pub halted : Stop → State → Course
-halted (stop.Ended k) st = Ended k st.out
-halted stop.StillRunning st = StillRunning st.out
+abbrev pub stop_course : Stop → State → Course
+stop_course (stop.Ended k) st = Ended k st.out
+stop_course stop.StillRunning st = StillRunning st.out
 
-abbrev pub ended : Outcome → State → Course
-ended outcome.Normal st = Value Normal (seen st)
-ended outcome.Exited st = Value Exited (seen st)
-ended (outcome.Returned v) st = Value (Returned v) (seen st)
-ended (outcome.Stopped s) st = halted s st
+abbrev pub outcome_course : Outcome → State → Course
+outcome_course outcome.Normal st = Value Normal (view_of st)
+outcome_course outcome.Exited st = Value Exited (view_of st)
+outcome_course (outcome.Returned v) st = Value (Returned v) (view_of st)
+outcome_course (outcome.Stopped s) st = stop_course s st

@@ -7,7 +7,7 @@ ghost use Rattle.layout_storage.specs.Types.{Natural, first};
 ghost use Rattle.layout_storage.specs.Sizes.{width, room_for, bytes_in};
 ghost use Rattle.layout_storage.specs.Shapes.{scalar_kind, elements_of};
 ghost use Rattle.layout_storage.specs.Frames.{formals_of};
-ghost use Rattle.plain_store.specs.Blanks.{cell, cell_blank, word_blank, hidden_blank, scalar_blank, array_blank, held_in, total, row_blank, or_none, kept_of, blank_in, field_blank, shape_blank, kept, with_made, module_blanks, with_module, if_some, other_blanks, known_blanks, formal_blank, header_blank, frame_blank};
+ghost use Rattle.plain_store.specs.Blanks.{cell, cell_blank, word_blank, hidden_blank, scalar_blank, array_blank, held_in, total, row_blank, or_none, kept_of, blank_in, field_blank, shape_blank, keep_blanks, with_made, module_blanks, with_module, if_some, other_blanks, known_blanks, formal_blank, header_blank, frame_blank};
 
 use crate::copying::copy;
 use crate::held::Held;
@@ -245,8 +245,8 @@ fn field(
     entry: Option<(&[u8], &TypeNo)>,
 ) -> Result<Items<Blank>, RunFault>
     ensures { let e = option_map (λ e. (e.0.now, e.1.now)) entry.entry in
-        let known = own.now ∷ before.now in
-        IfOk result (λ bs. bs ≡ if_some (λ bs f. bs ++ field_blank known f ∷ []) all e) }
+        let all_blanks = own.now ∷ before.now in
+        IfOk result (λ bs. bs ≡ if_some (λ bs f. bs ++ field_blank all_blanks f ∷ []) all e) }
 {
     match entry {
         None => Ok(all),
@@ -265,8 +265,8 @@ fn fields(
     before: &[Kept],
     of: &Dictionary<TypeNo>,
 ) -> Result<Items<Blank>, RunFault>
-    ensures { let known = own.now ∷ before.now in
-        IfOk result (λ bs. bs ≡ fold (λ bs f. bs ++ field_blank known f ∷ []) [] of.now) }
+    ensures { let all_blanks = own.now ∷ before.now in
+        IfOk result (λ bs. bs ≡ fold (λ bs f. bs ++ field_blank all_blanks f ∷ []) [] of.now) }
 {
     let mut all = Items::new(alloc);
     for number in 0..of.len() {
@@ -289,7 +289,7 @@ fn elements_of(range: Option<Scalar>) -> Result<usize, RunFault>
 
 /// A variable of a type that is made so.
 #[tactic(auto, using(crate::proofs::Fields::fields_are))]
-fn shaped(
+fn blank_of_shape(
     alloc: Global,
     types: &Types,
     own: &Kept,
@@ -297,8 +297,8 @@ fn shaped(
     t: TypeNo,
     shape: &Shape,
 ) -> Result<Blank, RunFault>
-    ensures { let known = own.now ∷ before.now in
-        IfOk result (λ b. b ≡ shape_blank types.now known t shape.now) }
+    ensures { let all_blanks = own.now ∷ before.now in
+        IfOk result (λ b. b ≡ shape_blank types.now all_blanks t shape.now) }
 {
     match shape {
         Shape::Scalar(s) => scalar_cell(alloc, t, *s),
@@ -324,13 +324,13 @@ fn with_made(
     made: &Made,
 ) -> Result<Kept, RunFault>
     ensures { let old = own in let bs = with_made types.now before.now old.home old.blanks made.now in
-        IfOk result (λ k. k ≡ kept old.home bs) }
+        IfOk result (λ k. k ≡ keep_blanks old.home bs) }
 {
     let t = TypeNo {
         home: Home::Module(own.home),
         number: own.blanks.len(),
     };
-    let next = shaped(alloc, types, &own, before, t, &made.shape)?;
+    let next = blank_of_shape(alloc, types, &own, before, t, &made.shape)?;
     let Kept { home, blanks } = own;
     let mut blanks = blanks;
     blanks.push(next)?;
@@ -345,7 +345,7 @@ fn all_made(
     home: u32,
     all: &[Made],
 ) -> Result<Kept, RunFault>
-    ensures { IfOk result (λ k. k ≡ kept home (module_blanks types.now before.now home all.now)) }
+    ensures { IfOk result (λ k. k ≡ keep_blanks home (module_blanks types.now before.now home all.now)) }
 {
     let mut own = Kept {
         home,
@@ -395,7 +395,7 @@ fn others(alloc: Global, types: &Types) -> Result<Items<Kept>, RunFault>
 
 /// Variables of all types that a module knows. The only error is that memory ran out, or that a number does not fit.
 #[tactic(auto, unfolding(crate::specs::Blanks::known_blanks))]
-pub fn known(alloc: Global, types: &Types) -> Result<Items<Kept>, RunFault>
+pub fn all_blanks(alloc: Global, types: &Types) -> Result<Items<Kept>, RunFault>
     ensures { IfOk result (λ ks. ks ≡ known_blanks types.now) }
 {
     let before = others(alloc, types)?;

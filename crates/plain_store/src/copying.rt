@@ -1,7 +1,7 @@
 //! Copies of what variables hold.
 
 ghost use Rattle.std.specs.Prelude.{◌≡◌, ◌++◌, ◌-◌, length, IfOk};
-ghost use Rattle.plain_store.specs.Contents.{repeated};
+ghost use Rattle.plain_store.specs.Contents.{repeat_item};
 
 use crate::held::Held;
 use std::alloc::{AllocError, Global};
@@ -38,13 +38,13 @@ fn copies(alloc: Global, parts: &[Held]) -> Result<Items<Held>, AllocError>
 }
 
 /// These parts, and so many copies of one more behind them. The only error is that memory ran out.
-pub fn filled(
+pub fn fill_parts(
     alloc: Global,
     parts: Items<Held>,
     count: usize,
     one: &Held,
 ) -> Result<Items<Held>, AllocError>
-    ensures { IfOk result (λ all. all ≡ parts ++ repeated count one.now) }
+    ensures { IfOk result (λ all. all ≡ parts ++ repeat_item count one.now) }
 {
     let mut all = parts;
     for _ in 0..count {

@@ -4,7 +4,7 @@ ghost use Rattle.std.specs.Prelude.{◌≡◌, ◌<◌, pos, Some, length, slice
 ghost use Rattle.plain_store.specs.declared.held.Held.TheVariants.{Same};
 ghost use Rattle.plain_store.specs.Contents.{contents, spread, with_component, opened_contents, SaysAs, Longer};
 
-use crate::copying::{copy, filled};
+use crate::copying::{copy, fill_parts};
 use crate::held::Held;
 use std::alloc::{AllocError, Global};
 use std::mem;
@@ -26,14 +26,14 @@ pub fn spread(own: i64, parts: Items<Held>, rest: Held) -> Components
 }
 
 /// The same tree, with its components at hand. The only error is that memory ran out.
-pub fn opened(alloc: Global, held: Held) -> Result<Components, AllocError>
+pub fn open_tree(alloc: Global, held: Held) -> Result<Components, AllocError>
     ensures { IfOk result (λ o. SaysAs (opened_contents o) (contents held)) }
 {
     match held {
         Held::Same(v) => Ok(spread(v, Items::new(alloc), Held::Same(v))),
         Held::Parts(own, parts, rest) => Ok(spread(own, parts, rest.into_inner())),
         Held::Array(count, one) => {
-            let parts = filled(alloc, Items::new(alloc), count, one.get())?;
+            let parts = fill_parts(alloc, Items::new(alloc), count, one.get())?;
             Ok(spread(0, parts, Held::Same(0)))
         }
     }
@@ -41,7 +41,7 @@ pub fn opened(alloc: Global, held: Held) -> Result<Components, AllocError>
 
 /// The tree. The only error is that memory ran out.
 #[tactic(auto, using(crate::proofs::Layers::parts))]
-pub fn closed(alloc: Global, tree: Components) -> Result<Held, AllocError>
+pub fn close_tree(alloc: Global, tree: Components) -> Result<Held, AllocError>
     ensures { IfOk result (λ h. contents h ≡ opened_contents tree) }
 {
     let Components { own, parts, rest } = tree;
@@ -50,7 +50,7 @@ pub fn closed(alloc: Global, tree: Components) -> Result<Held, AllocError>
 
 /// The same tree, with more components at hand, so that one with this number is there. The only error is that memory ran
 /// out.
-pub fn grown(alloc: Global, tree: Components, number: usize) -> Result<Components, AllocError>
+pub fn grow_tree(alloc: Global, tree: Components, number: usize) -> Result<Components, AllocError>
     ensures { IfOk result (λ o. Longer tree number o) }
 {
     if number < tree.parts.len() {
@@ -58,7 +58,7 @@ pub fn grown(alloc: Global, tree: Components, number: usize) -> Result<Component
     }
     let missing = number - tree.parts.len();
     let Components { own, parts, rest } = tree;
-    let mut parts = filled(alloc, parts, missing, &rest)?;
+    let mut parts = fill_parts(alloc, parts, missing, &rest)?;
     parts.push(copy(alloc, &rest)?)?;
     Ok(spread(own, parts, rest))
 }
@@ -98,5 +98,5 @@ pub fn put_in(
     let Components { own, parts, rest } = tree;
     let mut parts = parts;
     parts.set(number, part);
-    closed(alloc, spread(own, parts, rest))
+    close_tree(alloc, spread(own, parts, rest))
 }

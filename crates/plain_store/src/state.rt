@@ -1,11 +1,11 @@
 //! What changes while a program runs, and how its parts end.
 
 ghost use Rattle.std.specs.Prelude.{◌≡◌, ◌<◌, ◌∷◌, ◌++◌, [], ℤ, OnOk, IfOk};
-ghost use Rattle.def_meaning.specs.Store.{copied, placed};
-ghost use Rattle.def_meaning.specs.Statements.{character, stored};
+ghost use Rattle.def_meaning.specs.Store.{copy_whole, overlay};
+ghost use Rattle.def_meaning.specs.Statements.{character, store_number};
 ghost use Rattle.plain_store.specs.declared.state.RunFault.TheVariants.{NoMemory};
 ghost use Rattle.plain_store.specs.Contents.{contents};
-ghost use Rattle.plain_store.specs.Seen.{seen, with_store, with_byte};
+ghost use Rattle.plain_store.specs.Seen.{view_of, with_store, with_byte};
 
 use crate::held::{Held, read};
 use crate::variables;
@@ -83,34 +83,34 @@ pub fn deeper(room: usize) -> Result<usize, RunFault>
 
 /// The number at a location.
 pub fn load(l: &[usize], st: &State) -> i64
-    ensures { result ≡ (seen st.now).store l.now }
+    ensures { result ≡ (view_of st.now).store l.now }
 {
     read(&st.store, l)
 }
 
 /// Stores a number at a location.
 pub fn store(alloc: Global, l: &[usize], v: i64, st: &mut State) -> Result<(), RunFault>
-    ensures { OnOk result (seen st.new ≡ stored l.now v (seen st.old)) }
+    ensures { OnOk result (view_of st.new ≡ store_number l.now v (view_of st.old)) }
 {
     let old = mem::replace(&mut st.store, Held::Same(0));
-    st.store = variables::assigned(alloc, old, l, v)?;
+    st.store = variables::assign_number(alloc, old, l, v)?;
     Ok(())
 }
 
 /// Copies an array or a record to a location.
 pub fn copy_to(alloc: Global, to: &[usize], from: &[usize], st: &mut State) -> Result<(), RunFault>
-    ensures { let store = copied to.now from.now (seen st.old).store in
-        OnOk result (seen st.new ≡ with_store store (seen st.old)) }
+    ensures { let store = copy_whole to.now from.now (view_of st.old).store in
+        OnOk result (view_of st.new ≡ with_store store (view_of st.old)) }
 {
     let old = mem::replace(&mut st.store, Held::Same(0));
-    st.store = variables::copied(alloc, old, to, from)?;
+    st.store = variables::copy_whole(alloc, old, to, from)?;
     Ok(())
 }
 
 /// Puts what a variable holds at a location.
 pub fn put_at(alloc: Global, to: &[usize], new: Held, st: &mut State) -> Result<(), RunFault>
-    ensures { let store = placed to.now (contents new) (seen st.old).store in
-        OnOk result (seen st.new ≡ with_store store (seen st.old)) }
+    ensures { let store = overlay to.now (contents new) (view_of st.old).store in
+        OnOk result (view_of st.new ≡ with_store store (view_of st.old)) }
 {
     let old = mem::replace(&mut st.store, Held::Same(0));
     st.store = variables::put(alloc, old, to, new)?;
@@ -119,8 +119,8 @@ pub fn put_at(alloc: Global, to: &[usize], new: Held, st: &mut State) -> Result<
 
 /// Puts the characters of a string at a location.
 pub fn text_to(alloc: Global, to: &[usize], text: &[u8], st: &mut State) -> Result<(), RunFault>
-    ensures { let store = placed to.now (character text.now) (seen st.old).store in
-        OnOk result (seen st.new ≡ with_store store (seen st.old)) }
+    ensures { let store = overlay to.now (character text.now) (view_of st.old).store in
+        OnOk result (view_of st.new ≡ with_store store (view_of st.old)) }
 {
     let new = variables::characters(alloc, text)?;
     put_at(alloc, to, new, st)
@@ -128,7 +128,7 @@ pub fn text_to(alloc: Global, to: &[usize], text: &[u8], st: &mut State) -> Resu
 
 /// Prints a character.
 pub fn print(v: i64, st: &mut State) -> Result<(), RunFault>
-    ensures { OnOk result (seen st.new ≡ with_byte v (seen st.old)) }
+    ensures { OnOk result (view_of st.new ≡ with_byte v (view_of st.old)) }
 {
     match u8::try_from(v) {
         Err(_) => Err(RunFault::TooLarge),

@@ -1,28 +1,28 @@
 //! The store of a program.
 
 ghost use Rattle.std.specs.Prelude.{◌≡◌, map, IfOk};
-ghost use Rattle.def_meaning.specs.Store.{assigned, copied, placed};
+ghost use Rattle.def_meaning.specs.Store.{assign_number, copy_whole, overlay};
 ghost use Rattle.def_meaning.specs.Statements.{character};
 ghost use Rattle.plain_store.specs.Contents.{contents, behind_it};
 ghost use Rattle.plain_store.specs.Characters.{character_part};
 
 use crate::copying::copy;
 use crate::held::{Held, part_at};
-use crate::opened_tree::{closed, spread};
-use crate::replaced::replaced;
+use crate::opened_tree::{close_tree, spread};
+use crate::replaced::replace_component;
 use std::alloc::{AllocError, Global};
 use tree_parts::Items;
 
 /// The store after this was put at a location. The only error is that memory ran out.
 pub fn put(alloc: Global, store: Held, to: &[usize], new: Held) -> Result<Held, AllocError>
-    ensures { IfOk result (λ s. contents s ≡ placed to.now (contents new) (contents store)) }
+    ensures { IfOk result (λ s. contents s ≡ overlay to.now (contents new) (contents store)) }
 {
-    replaced(alloc, store, to, 0, new)
+    replace_component(alloc, store, to, 0, new)
 }
 
 /// The store after an assignment of a number. The only error is that memory ran out.
-pub fn assigned(alloc: Global, store: Held, to: &[usize], v: i64) -> Result<Held, AllocError>
-    ensures { IfOk result (λ s. contents s ≡ assigned to.now v (contents store)) }
+pub fn assign_number(alloc: Global, store: Held, to: &[usize], v: i64) -> Result<Held, AllocError>
+    ensures { IfOk result (λ s. contents s ≡ assign_number to.now v (contents store)) }
 {
     put(alloc, store, to, Held::Same(v))
 }
@@ -38,8 +38,13 @@ fn part_copy(alloc: Global, store: &Held, from: &[usize]) -> Result<Held, AllocE
 }
 
 /// The store after an assignment of a whole array or record. The only error is that memory ran out.
-pub fn copied(alloc: Global, store: Held, to: &[usize], from: &[usize]) -> Result<Held, AllocError>
-    ensures { IfOk result (λ s. contents s ≡ copied to.now from.now (contents store)) }
+pub fn copy_whole(
+    alloc: Global,
+    store: Held,
+    to: &[usize],
+    from: &[usize],
+) -> Result<Held, AllocError>
+    ensures { IfOk result (λ s. contents s ≡ copy_whole to.now from.now (contents store)) }
 {
     let part = part_copy(alloc, &store, from)?;
     put(alloc, store, to, part)
@@ -60,5 +65,5 @@ pub fn characters(alloc: Global, text: &[u8]) -> Result<Held, AllocError>
     ensures { IfOk result (λ h. contents h ≡ character text.now) }
 {
     let parts = character_parts(alloc, text)?;
-    closed(alloc, spread(0, parts, Held::Same(0)))
+    close_tree(alloc, spread(0, parts, Held::Same(0)))
 }

@@ -13,7 +13,7 @@ use Rattle.def_meaning.specs.Answer.{State as Meant, Answer as Given}
 use Rattle.def_meaning.specs.Outcome.{Outcome as Course}
 use Rattle.def_meaning.specs.Environment.{Modules, Entry}
 use Rattle.def_meaning.specs.Environment.{Environment as Setting, Named as Name, Callee as Asked, Passed as Sent, At, Elements, Number, Variable, Array, Text}
-use Rattle.def_meaning.specs.Expressions.{Asks, Gives, Reaches, Continues, one_by_one, all_given, argument_layer, call_layer, component_layer, link_layer, expr_layer, place_layer, value, locate, called}
+use Rattle.def_meaning.specs.Expressions.{Asks, Gives, Reaches, Continues, one_by_one, all_given, argument_layer, call_layer, component_layer, link_layer, expr_layer, place_layer, value, locate, call_value}
 use Rattle.def_meaning.specs.Statements.{does, in_turn}
 use Rattle.def_meaning.specs.Calls.{calling}
 use Rattle.plain_store.specs.declared.prepared.Prepared.{Prepared}
@@ -61,11 +61,11 @@ callee_of c = record {
   frames = frames_of c.frames;
 }
 
-abbrev pub sent : Passed → Sent
-sent (passed.Number v) = Number v
-sent (passed.Variable l) = Variable l
-sent (passed.Array l high) = Array l high
-sent (passed.Text text) = Text text
+abbrev pub argument_sent : Passed → Sent
+argument_sent (passed.Number v) = Number v
+argument_sent (passed.Variable l) = Variable l
+argument_sent (passed.Array l high) = Array l high
+argument_sent (passed.Text text) = Text text
 
 -- ---- the parts of a program, in their surroundings
 
@@ -76,48 +76,48 @@ unfoldable pub located_in : Around → Place → Meant → Given Location
 located_in a d st = locate (modules_of a.program.now) (asks_of a) d (surroundings a) st
 
 unfoldable pub called_in : Around → Call → Meant → Given ℤ
-called_in a c st = called (modules_of a.program.now) (asks_of a) c (surroundings a) st
+called_in a c st = call_value (modules_of a.program.now) (asks_of a) c (surroundings a) st
 
 module _ (p : Modules) (ask : Asks) where
-  unfoldable pub linked : Link → Continues
-  linked =
+  unfoldable pub link_value : Link → Continues
+  link_value =
       fold-Link (Gives Sent) (Gives ℤ) Reaches Continues (Gives ℤ) (Gives Location)
       (argument_layer p ask) (call_layer p ask) (component_layer p ask) (link_layer p ask)
       (expr_layer p ask) (place_layer p ask)
 
-  unfoldable pub reached : Component → Reaches
-  reached =
+  unfoldable pub component_value : Component → Reaches
+  component_value =
       fold-Component (Gives Sent) (Gives ℤ) Reaches Continues (Gives ℤ) (Gives Location)
       (argument_layer p ask) (call_layer p ask) (component_layer p ask) (link_layer p ask)
       (expr_layer p ask) (place_layer p ask)
 
-  unfoldable pub given : Argument → Gives Sent
-  given =
+  unfoldable pub argument_value : Argument → Gives Sent
+  argument_value =
       fold-Argument (Gives Sent) (Gives ℤ) Reaches Continues (Gives ℤ) (Gives Location)
       (argument_layer p ask) (call_layer p ask) (component_layer p ask) (link_layer p ask)
       (expr_layer p ask) (place_layer p ask)
 
 unfoldable pub linked_in : Around → Link → ℤ → Meant → Given ℤ
-linked_in a l x st = linked (modules_of a.program.now) (asks_of a) l x (surroundings a) st
+linked_in a l x st = link_value (modules_of a.program.now) (asks_of a) l x (surroundings a) st
 
 unfoldable pub links_in : Around → List Link → ℤ → Meant → Given ℤ
 links_in a ls x st =
-    one_by_one (map (linked (modules_of a.program.now) (asks_of a)) ls) x (surroundings a) st
+    one_by_one (map (link_value (modules_of a.program.now) (asks_of a)) ls) x (surroundings a) st
 
 unfoldable pub reached_in : Around → Component → Location → Meant → Given Location
-reached_in a c l st = reached (modules_of a.program.now) (asks_of a) c l (surroundings a) st
+reached_in a c l st = component_value (modules_of a.program.now) (asks_of a) c l (surroundings a) st
 
 unfoldable pub components_in : Around → List Component → Location → Meant → Given Location
 components_in a cs l st =
-    one_by_one (map (reached (modules_of a.program.now) (asks_of a)) cs) l (surroundings a) st
+    one_by_one (map (component_value (modules_of a.program.now) (asks_of a)) cs) l (surroundings a) st
 
 unfoldable pub given_in : Around → Argument → Meant → Given Sent
-given_in a x st = given (modules_of a.program.now) (asks_of a) x (surroundings a) st
+given_in a x st = argument_value (modules_of a.program.now) (asks_of a) x (surroundings a) st
 
 unfoldable pub all_given_in : Around → List Argument → Meant → Given (List Sent)
 all_given_in a xs st =
     all_given (modules_of a.program.now) (asks_of a)
-    (map (given (modules_of a.program.now) (asks_of a)) xs) (surroundings a) st
+    (map (argument_value (modules_of a.program.now) (asks_of a)) xs) (surroundings a) st
 
 unfoldable pub does_in : Around → TypedStmt → Meant → Course
 does_in a s st =

@@ -3,9 +3,9 @@
 ghost use Rattle.std.specs.Prelude.{◌≡◌, ◌-ℤ◌, pos, not, IfOk};
 ghost use Rattle.typed_tree.specs.Types.{integer};
 ghost use Rattle.def_meaning.specs.Answer.{Value, ◌▷◌};
-ghost use Rattle.def_meaning.specs.Operators.{truth, is_true, absolute, capital, odd, compared, included, has, combined};
-ghost use Rattle.def_meaning.specs.Expressions.{within, within_range, as_type, in_base, operated, ordinal};
-ghost use Rattle.plain_store.specs.Seen.{seen, answered};
+ghost use Rattle.def_meaning.specs.Operators.{truth, is_true, absolute, capital, odd, comparison_holds, inclusion_holds, has, set_operation};
+ghost use Rattle.def_meaning.specs.Expressions.{within, within_range, as_type, in_base, arithmetic_result, ordinal};
+ghost use Rattle.plain_store.specs.Seen.{view_of, answer_meaning};
 ghost use Rattle.plain_values.specs.Operated.{operated_on};
 ghost use Rattle.plain_values.specs.Surroundings.{surroundings};
 
@@ -29,7 +29,7 @@ pub struct Operands {
 
 /// The value, where it lies within these bounds, else this fault.
 pub fn within(low: i64, high: i64, fault: u32, v: i64, st: &State) -> Answer<i64>
-    ensures { answered result st.now ≡ within low high fault v (seen st.now) }
+    ensures { answer_meaning result st.now ≡ within low high fault v (view_of st.now) }
 {
     if is_between(low, v, high) {
         Answer::Value(v)
@@ -39,7 +39,7 @@ pub fn within(low: i64, high: i64, fault: u32, v: i64, st: &State) -> Answer<i64
 }
 
 fn within_range(range: Option<Scalar>, fault: u32, v: i64, st: &State) -> Answer<i64>
-    ensures { answered result st.now ≡ within_range range fault v (seen st.now) }
+    ensures { answer_meaning result st.now ≡ within_range range fault v (view_of st.now) }
 {
     match range {
         None => Answer::Value(v),
@@ -50,7 +50,7 @@ fn within_range(range: Option<Scalar>, fault: u32, v: i64, st: &State) -> Answer
 /// The value as one of a type.
 #[tactic(auto, unfolding(crate::specs::Surroundings::surroundings))]
 pub fn as_type(around: &Around<'_>, t: TypeNo, v: i64, st: &State) -> Answer<i64>
-    ensures { answered result st.now ≡ as_type (surroundings around.now).types t v (seen st.now) }
+    ensures { answer_meaning result st.now ≡ as_type (surroundings around.now).types t v (view_of st.now) }
 {
     within_range(scalar_of(&around.home.body.types, t), 1, v, st)
 }
@@ -58,13 +58,13 @@ pub fn as_type(around: &Around<'_>, t: TypeNo, v: i64, st: &State) -> Answer<i64
 /// The result of an operation in a base type.
 #[tactic(auto, unfolding(crate::specs::Surroundings::surroundings))]
 pub fn in_base(around: &Around<'_>, t: TypeNo, v: i64, st: &State) -> Answer<i64>
-    ensures { answered result st.now ≡ in_base (surroundings around.now).types t v (seen st.now) }
+    ensures { answer_meaning result st.now ≡ in_base (surroundings around.now).types t v (view_of st.now) }
 {
     within_range(scalar_of(&around.home.body.types, t), 2, v, st)
 }
 
 /// What an operator makes of two numbers. The only error is that a number does not fit.
-pub fn operated(
+pub fn arithmetic_result(
     around: &Around<'_>,
     o: Arithmetic,
     t: TypeNo,
@@ -73,7 +73,7 @@ pub fn operated(
     st: &State,
 ) -> Result<Answer<i64>, RunFault>
     ensures { let types = (surroundings around.now).types in
-        IfOk result (λ j. answered j st.now ≡ operated types o t x y (seen st.now)) }
+        IfOk result (λ j. answer_meaning j st.now ≡ arithmetic_result types o t x y (view_of st.now)) }
 {
     match o {
         Arithmetic::Add => Ok(in_base(around, t, sum(x, y)?, st)),
@@ -107,11 +107,11 @@ pub fn operated_with(
     st: &State,
 ) -> Result<Answer<i64>, RunFault>
     ensures { let types = (surroundings around.now).types in
-        IfOk result (λ j. answered j st.now
-        ≡ (answered given st.now ▷ (operated_on types o t x))) }
+        IfOk result (λ j. answer_meaning j st.now
+        ≡ (answer_meaning given st.now ▷ (operated_on types o t x))) }
 {
     match given {
-        Answer::Value(y) => operated(around, o, t, x, y, st),
+        Answer::Value(y) => arithmetic_result(around, o, t, x, y, st),
         Answer::Stopped(stop) => Ok(Answer::Stopped(stop)),
     }
 }
@@ -124,21 +124,25 @@ pub fn combined_with(
     given: Answer<i64>,
     st: &State,
 ) -> Result<Answer<i64>, RunFault>
-    ensures { IfOk result (λ j. answered j st.now
-        ≡ (answered given st.now ▷ λ y st. Value (combined o x y) st)) }
+    ensures { IfOk result (λ j. answer_meaning j st.now
+        ≡ (answer_meaning given st.now ▷ λ y st. Value (set_operation o x y) st)) }
 {
     match given {
-        Answer::Value(y) => Ok(Answer::Value(operators::combined(o, x, y)?)),
+        Answer::Value(y) => Ok(Answer::Value(operators::set_operation(o, x, y)?)),
         Answer::Stopped(stop) => Ok(Answer::Stopped(stop)),
     }
 }
 
 /// The value with the other sign.
 #[tactic(auto, using(plain_store::proofs::Threads::threads))]
-pub fn negated(around: &Around<'_>, given: Answer<i64>, st: &State) -> Result<Answer<i64>, RunFault>
+pub fn negation_of(
+    around: &Around<'_>,
+    given: Answer<i64>,
+    st: &State,
+) -> Result<Answer<i64>, RunFault>
     ensures { let types = (surroundings around.now).types in
-        IfOk result (λ j. answered j st.now
-        ≡ (answered given st.now ▷ λ v st. in_base types integer (pos 0 -ℤ v) st)) }
+        IfOk result (λ j. answer_meaning j st.now
+        ≡ (answer_meaning given st.now ▷ λ v st. in_base types integer (pos 0 -ℤ v) st)) }
 {
     match given {
         Answer::Value(v) => Ok(in_base(around, INTEGER, difference(0, v)?, st)),
@@ -148,31 +152,35 @@ pub fn negated(around: &Around<'_>, given: Answer<i64>, st: &State) -> Result<An
 
 /// Whether a relation holds.
 #[tactic(auto, using(plain_store::proofs::Threads::threads))]
-pub fn compared(o: Comparison, given: Answer<Operands>, st: &State) -> Answer<i64>
-    ensures { answered result st.now ≡ (answered given st.now ▷ (λ xy st. Value (truth (compared o xy.first xy.second)) st)) }
+pub fn comparison_holds(o: Comparison, given: Answer<Operands>, st: &State) -> Answer<i64>
+    ensures { answer_meaning result st.now ≡ (answer_meaning given st.now ▷ (λ xy st. Value (truth (comparison_holds o xy.first xy.second)) st)) }
 {
     match given {
-        Answer::Value(xy) => { Answer::Value(truth(operators::compared(o, xy.first, xy.second))) }
+        Answer::Value(xy) => {
+            Answer::Value(truth(operators::comparison_holds(o, xy.first, xy.second)))
+        }
         Answer::Stopped(stop) => Answer::Stopped(stop),
     }
 }
 
 /// Whether one set holds the other.
 #[tactic(auto, using(plain_store::proofs::Threads::threads))]
-pub fn included(o: Inclusion, given: Answer<Operands>, st: &State) -> Answer<i64>
-    ensures { answered result st.now ≡ (answered given st.now ▷ (λ xy st. Value (truth (included o xy.first xy.second)) st)) }
+pub fn inclusion_holds(o: Inclusion, given: Answer<Operands>, st: &State) -> Answer<i64>
+    ensures { answer_meaning result st.now ≡ (answer_meaning given st.now ▷ (λ xy st. Value (truth (inclusion_holds o xy.first xy.second)) st)) }
 {
     match given {
-        Answer::Value(xy) => { Answer::Value(truth(operators::included(o, xy.first, xy.second))) }
+        Answer::Value(xy) => {
+            Answer::Value(truth(operators::inclusion_holds(o, xy.first, xy.second)))
+        }
         Answer::Stopped(stop) => Answer::Stopped(stop),
     }
 }
 
 /// NOT.
 #[tactic(auto, using(plain_store::proofs::Threads::threads))]
-pub fn denied(given: Answer<i64>, st: &State) -> Answer<i64>
-    ensures { answered result st.now
-        ≡ (answered given st.now ▷ (λ v st. Value (truth (not (is_true v))) st)) }
+pub fn denial_of(given: Answer<i64>, st: &State) -> Answer<i64>
+    ensures { answer_meaning result st.now
+        ≡ (answer_meaning given st.now ▷ (λ v st. Value (truth (not (is_true v))) st)) }
 {
     match given {
         Answer::Value(v) => Answer::Value(truth(!is_true(v))),
@@ -183,8 +191,8 @@ pub fn denied(given: Answer<i64>, st: &State) -> Answer<i64>
 /// Whether an element is in a set.
 #[tactic(auto, using(plain_store::proofs::Threads::threads))]
 pub fn is_in(x: i64, given: Answer<i64>, st: &State) -> Result<Answer<i64>, RunFault>
-    ensures { IfOk result (λ j. answered j st.now
-        ≡ (answered given st.now ▷ λ s st. Value (truth (has s x)) st)) }
+    ensures { IfOk result (λ j. answer_meaning j st.now
+        ≡ (answer_meaning given st.now ▷ λ s st. Value (truth (has s x)) st)) }
 {
     match given {
         Answer::Value(s) => Ok(Answer::Value(truth(operators::has(s, x)?))),
@@ -201,8 +209,8 @@ pub fn distance(
     st: &State,
 ) -> Result<Answer<i64>, RunFault>
     ensures { let types = (surroundings around.now).types in
-        IfOk result (λ j. answered j st.now
-        ≡ (answered given st.now ▷ λ v st. in_base types t (absolute v) st)) }
+        IfOk result (λ j. answer_meaning j st.now
+        ≡ (answer_meaning given st.now ▷ λ v st. in_base types t (absolute v) st)) }
 {
     match given {
         Answer::Value(v) => Ok(in_base(around, t, operators::absolute(v)?, st)),
@@ -213,8 +221,8 @@ pub fn distance(
 /// CAP.
 #[tactic(auto, using(plain_store::proofs::Threads::threads))]
 pub fn capital(given: Answer<i64>, st: &State) -> Result<Answer<i64>, RunFault>
-    ensures { IfOk result (λ j. answered j st.now
-        ≡ (answered given st.now ▷ λ v st. Value (capital v) st)) }
+    ensures { IfOk result (λ j. answer_meaning j st.now
+        ≡ (answer_meaning given st.now ▷ λ v st. Value (capital v) st)) }
 {
     match given {
         Answer::Value(v) => Ok(Answer::Value(operators::capital(v)?)),
@@ -225,8 +233,8 @@ pub fn capital(given: Answer<i64>, st: &State) -> Result<Answer<i64>, RunFault>
 /// CHR.
 #[tactic(auto, using(plain_store::proofs::Threads::threads))]
 pub fn character(given: Answer<i64>, st: &State) -> Answer<i64>
-    ensures { answered result st.now
-        ≡ (answered given st.now ▷ (λ v st. within (pos 0) (pos 255) 1 v st)) }
+    ensures { answer_meaning result st.now
+        ≡ (answer_meaning given st.now ▷ (λ v st. within (pos 0) (pos 255) 1 v st)) }
 {
     match given {
         Answer::Value(v) => within(0, 255, 1, v, st),
@@ -237,8 +245,8 @@ pub fn character(given: Answer<i64>, st: &State) -> Answer<i64>
 /// ODD.
 #[tactic(auto, using(plain_store::proofs::Threads::threads))]
 pub fn odd(given: Answer<i64>, st: &State) -> Answer<i64>
-    ensures { answered result st.now
-        ≡ (answered given st.now ▷ (λ v st. Value (truth (odd v)) st)) }
+    ensures { answer_meaning result st.now
+        ≡ (answer_meaning given st.now ▷ (λ v st. Value (truth (odd v)) st)) }
 {
     match given {
         Answer::Value(v) => Answer::Value(truth(is_odd(v))),
@@ -249,7 +257,7 @@ pub fn odd(given: Answer<i64>, st: &State) -> Answer<i64>
 /// ORD.
 #[tactic(auto, using(plain_store::proofs::Threads::threads))]
 pub fn ordinal(given: Answer<i64>, st: &State) -> Answer<i64>
-    ensures { answered result st.now ≡ (answered given st.now ▷ ordinal) }
+    ensures { answer_meaning result st.now ≡ (answer_meaning given st.now ▷ ordinal) }
 {
     match given {
         Answer::Value(v) => {
@@ -265,9 +273,9 @@ pub fn ordinal(given: Answer<i64>, st: &State) -> Answer<i64>
 
 /// VAL, and each value that is taken as one of a type.
 #[tactic(auto, using(plain_store::proofs::Threads::threads))]
-pub fn taken(around: &Around<'_>, t: TypeNo, given: Answer<i64>, st: &State) -> Answer<i64>
+pub fn value_as(around: &Around<'_>, t: TypeNo, given: Answer<i64>, st: &State) -> Answer<i64>
     ensures { let types = (surroundings around.now).types in
-        answered result st.now ≡ (answered given st.now ▷ (as_type types t)) }
+        answer_meaning result st.now ≡ (answer_meaning given st.now ▷ (as_type types t)) }
 {
     match given {
         Answer::Value(v) => as_type(around, t, v, st),

@@ -1,7 +1,7 @@
 //! What operators and standard functions make of numbers.
 
 ghost use Rattle.std.specs.Prelude.{◌≡◌, ◌+ℤ◌, ◌-ℤ◌, ◌*ℤ◌, ◌<◌, pos, IfOk, int_lt};
-ghost use Rattle.def_meaning.specs.Operators.{is_between, truth, is_true, compared, bits, without, combined, included, has, single, absolute, capital, odd, quotient, remainder};
+ghost use Rattle.def_meaning.specs.Operators.{is_between, truth, is_true, comparison_holds, bits, without, set_operation, inclusion_holds, has, single, absolute, capital, odd, quotient, remainder};
 ghost use Rattle.def_meaning.specs.Statements.{with_element};
 
 use plain_store::state::RunFault;
@@ -29,8 +29,8 @@ pub fn is_true(v: i64) -> bool
 }
 
 /// Whether a relation holds.
-pub fn compared(op: Comparison, x: i64, y: i64) -> bool
-    ensures { result ≡ compared op x y }
+pub fn comparison_holds(op: Comparison, x: i64, y: i64) -> bool
+    ensures { result ≡ comparison_holds op x y }
 {
     match op {
         Comparison::Equal => x <= y && y <= x,
@@ -117,8 +117,8 @@ pub fn without(a: u64, b: u64) -> u64
 }
 
 /// What an operator makes of two sets. The only error is that the result does not fit.
-pub fn combined(op: SetOperator, a: i64, b: i64) -> Result<i64, RunFault>
-    ensures { IfOk result (λ v. v ≡ combined op a b) }
+pub fn set_operation(op: SetOperator, a: i64, b: i64) -> Result<i64, RunFault>
+    ensures { IfOk result (λ v. v ≡ set_operation op a b) }
 {
     match op {
         SetOperator::Union => whole(bits(a) | bits(b)),
@@ -129,8 +129,8 @@ pub fn combined(op: SetOperator, a: i64, b: i64) -> Result<i64, RunFault>
 }
 
 /// Whether one set holds the other.
-pub fn included(op: Inclusion, a: i64, b: i64) -> bool
-    ensures { result ≡ included op a b }
+pub fn inclusion_holds(op: Inclusion, a: i64, b: i64) -> bool
+    ensures { result ≡ inclusion_holds op a b }
 {
     match op {
         Inclusion::Within => without(bits(a), bits(b)) == 0,

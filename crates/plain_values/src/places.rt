@@ -5,9 +5,9 @@ ghost use Rattle.std.specs.List.{position_or_len};
 ghost use Rattle.std.specs.Option.{option_copied, option_map};
 ghost use Rattle.layout_storage.specs.Shapes.{elements_of};
 ghost use Rattle.def_meaning.specs.Answer.{◌▷◌};
-ghost use Rattle.def_meaning.specs.Environment.{named, location_of, high_of, or_root, module_place};
+ghost use Rattle.def_meaning.specs.Environment.{slot_named, location_of, high_of, or_root, module_place};
 ghost use Rattle.def_meaning.specs.Expressions.{element, element_in, index_made, index_range, high_index, root_layer};
-ghost use Rattle.plain_store.specs.Seen.{seen, answered};
+ghost use Rattle.plain_store.specs.Seen.{view_of, answer_meaning};
 ghost use Rattle.plain_values.specs.Surroundings.{surroundings, modules_in, modules_of, asks_of, name_of};
 
 use crate::operators::{difference, is_between};
@@ -21,8 +21,8 @@ use typed_tree::{Made, Root, Scalar, Shape, Slot, TypeNo, Types, made_of, scalar
 
 /// What a slot stands for.
 #[tactic(auto, using(crate::proofs::Lists::named_none, crate::proofs::Lists::named_some), unfolding(crate::specs::Surroundings::surroundings))]
-fn named<'a>(around: &'a Around<'_>, slot: Slot) -> Option<&'a Named>
-    ensures { option_map name_of (option_copied result) ≡ named (surroundings around.now) slot }
+fn slot_named<'a>(around: &'a Around<'_>, slot: Slot) -> Option<&'a Named>
+    ensures { option_map name_of (option_copied result) ≡ slot_named (surroundings around.now) slot }
 {
     match around.frames.get(slot.up) {
         None => None,
@@ -57,16 +57,16 @@ fn high(found: Option<&Named>) -> usize
 
 /// The location that a slot stands for. The only error is that memory ran out.
 pub fn slot_location(around: &Around<'_>, slot: Slot) -> Result<Items<usize>, AllocError>
-    ensures { IfOk result (λ l. l ≡ location_of (named (surroundings around.now) slot)) }
+    ensures { IfOk result (λ l. l ≡ location_of (slot_named (surroundings around.now) slot)) }
 {
-    location(around.program.alloc, named(around, slot))
+    location(around.program.alloc, slot_named(around, slot))
 }
 
 /// The HIGH of the open array that a slot stands for.
 pub fn slot_high(around: &Around<'_>, slot: Slot) -> usize
-    ensures { result ≡ high_of (named (surroundings around.now) slot) }
+    ensures { result ≡ high_of (slot_named (surroundings around.now) slot) }
 {
-    high(named(around, slot))
+    high(slot_named(around, slot))
 }
 
 /// How many modules stand before the first with a number.
@@ -162,7 +162,7 @@ fn element(
     i: i64,
     st: &State,
 ) -> Result<Answer<Items<usize>>, RunFault>
-    ensures { IfOk result (λ j. answered j st.now ≡ element l low high i (seen st.now)) }
+    ensures { IfOk result (λ j. answer_meaning j st.now ≡ element l low high i (view_of st.now)) }
 {
     if is_between(low, i, high) {
         Ok(Answer::Value(component(l, distance(low, i)?)?))
@@ -177,7 +177,7 @@ fn element_in(
     i: i64,
     st: &State,
 ) -> Result<Answer<Items<usize>>, RunFault>
-    ensures { IfOk result (λ j. answered j st.now ≡ element_in l range i (seen st.now)) }
+    ensures { IfOk result (λ j. answer_meaning j st.now ≡ element_in l range i (view_of st.now)) }
 {
     match range {
         None => Ok(Answer::Stopped(Stop::Ended(Fault::Index.number()))),
@@ -237,8 +237,8 @@ pub fn element_at(
     st: &State,
 ) -> Result<Answer<Items<usize>>, RunFault>
     ensures { let range = index_range (surroundings around.now).types t in
-        IfOk result (λ j. answered j st.now
-        ≡ (answered given st.now ▷ λ v st. element_in l range v st)) }
+        IfOk result (λ j. answer_meaning j st.now
+        ≡ (answer_meaning given st.now ▷ λ v st. element_in l range v st)) }
 {
     match given {
         Answer::Value(i) => element_in(l, index_range(&around.home.body.types, t), i, st),
@@ -255,9 +255,9 @@ pub fn open_element_at(
     given: Answer<i64>,
     st: &State,
 ) -> Result<Answer<Items<usize>>, RunFault>
-    ensures { let high = high_of (named (surroundings around.now) slot) in
-        IfOk result (λ j. answered j st.now
-        ≡ (answered given st.now ▷ λ v st. element l (pos 0) (pos high) v st)) }
+    ensures { let high = high_of (slot_named (surroundings around.now) slot) in
+        IfOk result (λ j. answer_meaning j st.now
+        ≡ (answer_meaning given st.now ▷ λ v st. element l (pos 0) (pos high) v st)) }
 {
     match given {
         Answer::Value(i) => element(l, 0, whole(slot_high(around, slot))?, i, st),

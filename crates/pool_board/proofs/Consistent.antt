@@ -4,7 +4,7 @@ use Rattle.std.proofs.lemmas.Bool.{cases_eq}
 use Rattle.pool_board.specs.declared.rule.Counted.{Counted}
 use Rattle.pool_board.specs.Lists.{weigh, times}
 use Rattle.pool_board.specs.Graph.{IsJobGraph, prerequisites_of, targets_of, waiting_of}
-use Rattle.pool_board.specs.Rule.{counted, target_of, counted_to, left_at, IsConsistent}
+use Rattle.pool_board.specs.Rule.{count_of_edge, target_of, counted_to, left_at, IsConsistent}
 use Rattle.pool_board.proofs.Weights.{Same, Adds}
 use Rattle.pool_board.proofs.Targets.{target_names, targets_apart}
 
@@ -52,10 +52,10 @@ weigh_short h (y ∷ ys) x most none there = ⊎_elim
 
 module _ (graph : List (List ℕ)) where
   abbrev pub Valid : List Counted → Type 0
-  Valid counts = (from edge : ℕ) → 0 < counted from edge counts → edge < length (targets_of graph from)
+  Valid counts = (from edge : ℕ) → 0 < count_of_edge from edge counts → edge < length (targets_of graph from)
 
   abbrev pub EachOnce : List Counted → Type 0
-  EachOnce counts = (from edge : ℕ) → counted from edge counts ≤ 1
+  EachOnce counts = (from edge : ℕ) → count_of_edge from edge counts ≤ 1
 
   itself : (c : Counted) → bit (eqb c.from c.from && eqb c.edge c.edge) ≡ 1
   itself c = rw (eq-eqb c.from c.from refl, eq-eqb c.edge c.edge refl) refl
@@ -74,7 +74,7 @@ module _ (graph : List (List ℕ)) where
   goes to from c = bit (eqb (target_of graph c) to && eqb from c.from)
 
   only_edge : (to from edge : ℕ) → edge < length (targets_of graph from) → get_or (targets_of graph from) edge 0 ≡ to → (cs : List Counted) → Valid cs
-      → weigh (goes to from) cs ≤ counted from edge cs
+      → weigh (goes to from) cs ≤ count_of_edge from edge cs
   only_edge to from edge l is [] v = omega arith
   only_edge to from edge l is (c ∷ cs) v = let ih = only_edge to from edge l is cs (valid_tail c cs v) in
       ⊎_elim (λ (t : (target_of graph c ≡ to) × (from ≡ c.from) × (goes to from c ≡ 1)).
@@ -116,7 +116,7 @@ module _ (graph : List (List ℕ)) where
   by_sources is_graph to (c ∷ cs) v = omega (arith, named_once is_graph to c (valid_head c cs v), by_sources is_graph to cs (valid_tail c cs v))
 
   -- an edge that was not counted leaves its target waiting
-  pub room : IsJobGraph graph → (cs : List Counted) (from edge : ℕ) → Valid cs → EachOnce cs → edge < length (targets_of graph from) → counted from edge cs ≡ 0
+  pub room : IsJobGraph graph → (cs : List Counted) (from edge : ℕ) → Valid cs → EachOnce cs → edge < length (targets_of graph from) → count_of_edge from edge cs ≡ 0
       → let to = get_or (targets_of graph from) edge 0 in counted_to graph to cs < waiting_of graph to
   room is_graph cs from edge v o l fresh = let to : ℕ = get_or (targets_of graph from) edge 0 in
       let none : weigh (goes to from) cs ≡ 0 = omega (arith, only_edge to from edge l refl cs v) in
@@ -172,11 +172,11 @@ module _ (graph : List (List ℕ)) where
 
   -- an edge that was not counted is counted
   pub consistent_counts : (had had' met met' : List ℕ) (cs cs' : List Counted) (c : Counted) → Same had had' → Same met met' → Adds cs c cs'
-      → c.edge < length (targets_of graph c.from) → counted c.from c.edge cs ≡ 0 → c.left + suc (counted_to graph (target_of graph c) cs) ≡ waiting_of graph (target_of graph c)
+      → c.edge < length (targets_of graph c.from) → count_of_edge c.from c.edge cs ≡ 0 → c.left + suc (counted_to graph (target_of graph c) cs) ≡ waiting_of graph (target_of graph c)
       → IsConsistent graph had met cs → IsConsistent graph had' met' cs'
   consistent_counts had had' met met' cs cs' c sh sm ac valid fresh left f =
       let g = consistent_same had had' met met' cs cs sh sm (λ _. refl) f in
-      let edge_grown : (from edge : ℕ) → counted from edge cs' ≡ counted from edge cs + bit (eqb c.from from && eqb c.edge edge) = λ from edge. ac (λ d. bit (eqb d.from from && eqb d.edge edge)) in
+      let edge_grown : (from edge : ℕ) → count_of_edge from edge cs' ≡ count_of_edge from edge cs + bit (eqb c.from from && eqb c.edge edge) = λ from edge. ac (λ d. bit (eqb d.from from && eqb d.edge edge)) in
       let to_grown : (j : ℕ) → counted_to graph j cs' ≡ counted_to graph j cs + bit (eqb (target_of graph c) j) = λ j. ac (λ d. bit (eqb (target_of graph d) j)) in
       let left_grown : (j n : ℕ) → left_at graph j n cs' ≡ left_at graph j n cs + bit (eqb (target_of graph c) j && eqb c.left n) = λ j n. ac (λ d. bit (eqb (target_of graph d) j && eqb d.left n)) in record {
         once = g.once;
@@ -188,7 +188,7 @@ module _ (graph : List (List ℕ)) where
             (one_if_both c.from from c.edge edge);
         counted_once = λ from edge. ⊎_elim
             (λ (t : (c.from ≡ from) × (c.edge ≡ edge) × (bit (eqb c.from from && eqb c.edge edge) ≡ 1)).
-            let none : counted from edge cs ≡ 0 = subst (λ (k : ℕ). counted k edge cs ≡ 0) t.0 (subst (λ (k : ℕ). counted c.from k cs ≡ 0) t.1 fresh) in omega (arith, edge_grown from edge))
+            let none : count_of_edge from edge cs ≡ 0 = subst (λ (k : ℕ). count_of_edge k edge cs ≡ 0) t.0 (subst (λ (k : ℕ). count_of_edge c.from k cs ≡ 0) t.1 fresh) in omega (arith, edge_grown from edge))
             (λ t. omega (arith, edge_grown from edge, g.counted_once from edge))
             (one_if_both c.from from c.edge edge);
         enough = λ j. ⊎_elim

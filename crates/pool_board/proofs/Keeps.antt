@@ -8,8 +8,8 @@ use Rattle.pool_board.specs.declared.rule.Counted.{Counted}
 use Rattle.pool_board.specs.declared.rule.Record.{Record}
 use Rattle.pool_board.specs.Lists.{weigh, times, together}
 use Rattle.pool_board.specs.Graph.{IsJobGraph, targets_of, waiting_of}
-use Rattle.pool_board.specs.Rule.{counted, target_of, counted_to, IsConsistent, IsKept, IsFresh, blank, had_of, met_of, counts_of}
-use Rattle.pool_board.specs.Steps.{Claims, CountsDown, with_had, with_met, with_count, count_of, less_one, joined}
+use Rattle.pool_board.specs.Rule.{count_of_edge, target_of, counted_to, IsConsistent, IsKept, IsFresh, blank, had_of, met_of, counts_of}
+use Rattle.pool_board.specs.Steps.{Claims, CountsDown, with_had, with_met, with_count, count_of, less_one, join_records}
 use Rattle.pool_board.proofs.Weights.{Same, Adds, weigh-push, weigh-append, set_same, set_adds, snoc_same, weigh_set, weigh_at, together_set, own_part}
 use Rattle.pool_board.proofs.Consistent.{bit, one_if, one_if_both, none_or_some, consistent_same, consistent_had, consistent_met, consistent_counts, room}
 
@@ -22,7 +22,7 @@ abbrev Spent : Record → Type 0
 Spent v = v.share ≡ 0 → v ≡ blank 0
 
 abbrev Sourced : Record → Type 0
-Sourced v = (from edge : ℕ) → 0 < counted from edge v.counts → 0 < times from v.had
+Sourced v = (from edge : ℕ) → 0 < count_of_edge from edge v.counts → 0 < times from v.had
 
 module _ (S : Type 0) (graph : List (List ℕ)) (workers : ℕ) where
   abbrev Kept : State S Record → Type 0
@@ -94,22 +94,22 @@ module _ (S : Type 0) (graph : List (List ℕ)) (workers : ℕ) where
 
 -- where no seat has the job `from`, none counted its edges
 none_counted : (from edge : ℕ) (views : List Record) → ((k : ℕ) (u : Record) → get_elem? views k ≡ some u → Sourced u) → times from (together had_of views) ≡ 0
-    → counted from edge (together counts_of views) ≡ 0
+    → count_of_edge from edge (together counts_of views) ≡ 0
 none_counted from edge [] sources zero_had = refl
 none_counted from edge (x ∷ xs) sources zero_had =
     let parts = weigh-append (λ y. bit (eqb y from)) x.had (together had_of xs) in
     let later = none_counted from edge xs (λ k u at. sources (suc k) u at) (omega arith) in
-    let here : counted from edge x.counts ≡ 0 = ⊎_elim (λ z. z) (λ some_time. let h = sources 0 x refl from edge some_time in absurd (omega arith)) (none_or_some (counted from edge x.counts)) in
+    let here : count_of_edge from edge x.counts ≡ 0 = ⊎_elim (λ z. z) (λ some_time. let h = sources 0 x refl from edge some_time in absurd (omega arith)) (none_or_some (count_of_edge from edge x.counts)) in
     omega (arith, weigh-append (λ c. bit (eqb c.from from && eqb c.edge edge)) x.counts (together counts_of xs))
 
 -- only the seat that has the source can have counted the edge
 none_elsewhere : (from edge : ℕ) (views : List Record) (id : ℕ) (v : Record) → get_elem? views id ≡ some v → ((k : ℕ) (u : Record) → get_elem? views k ≡ some u → Sourced u)
-    → times from (together had_of views) ≤ 1 → 0 < times from v.had → counted from edge v.counts ≡ 0 → counted from edge (together counts_of views) ≡ 0
+    → times from (together had_of views) ≤ 1 → 0 < times from v.had → count_of_edge from edge v.counts ≡ 0 → count_of_edge from edge (together counts_of views) ≡ 0
 none_elsewhere from edge [] id v at sources once mine fresh = absurd (some-ne-none v (sym at))
 none_elsewhere from edge (x ∷ xs) zero v at sources once mine fresh =
     let is : x ≡ v = some-injective x v at in
     let mine' : 0 < times from x.had = subst (λ (z : Record). 0 < times from z.had) (sym is) mine in
-    let fresh' : counted from edge x.counts ≡ 0 = subst (λ (z : Record). counted from edge z.counts ≡ 0) (sym is) fresh in
+    let fresh' : count_of_edge from edge x.counts ≡ 0 = subst (λ (z : Record). count_of_edge from edge z.counts ≡ 0) (sym is) fresh in
     let parts = weigh-append (λ y. bit (eqb y from)) x.had (together had_of xs) in
     let later = none_counted from edge xs (λ k u at'. sources (suc k) u at') (omega arith) in
     omega (arith, weigh-append (λ c. bit (eqb c.from from && eqb c.edge edge)) x.counts (together counts_of xs))
@@ -117,12 +117,12 @@ none_elsewhere from edge (x ∷ xs) (suc id) v at sources once mine fresh =
     let parts = weigh-append (λ y. bit (eqb y from)) x.had (together had_of xs) in
     let part = own_part had_of xs id v at (λ y. bit (eqb y from)) in
     let later = none_elsewhere from edge xs id v at (λ k u at'. sources (suc k) u at') (omega arith) mine fresh in
-    let here : counted from edge x.counts ≡ 0 = ⊎_elim (λ z. z) (λ some_time. let h = sources 0 x refl from edge some_time in absurd (omega arith)) (none_or_some (counted from edge x.counts)) in
+    let here : count_of_edge from edge x.counts ≡ 0 = ⊎_elim (λ z. z) (λ some_time. let h = sources 0 x refl from edge some_time in absurd (omega arith)) (none_or_some (count_of_edge from edge x.counts)) in
     omega (arith, weigh-append (λ c. bit (eqb c.from from && eqb c.edge edge)) x.counts (together counts_of xs))
 
 module _ (S : Type 0) (graph : List (List ℕ)) (workers : ℕ) where
   pub counts_down : IsJobGraph graph → (slots id from edge : ℕ) (me : Me S Record) → edge < length (targets_of graph from) → get_or (targets_of graph from) edge 0 < length graph
-      → counted from edge me.0.counts ≡ 0 → 0 < times from me.0.had → 0 < me.0.share
+      → count_of_edge from edge me.0.counts ≡ 0 → 0 < times from me.0.had → 0 < me.0.share
       → let word = length graph + get_or (targets_of graph from) edge 0 in
       Allows (IsKept {S = S} graph workers) slots id me word (λ n. (n + (2 ^ 64 - 1)) % 2 ^ 64) (CountsDown from edge (step slots word 1 0 none) me)
   counts_down is_graph slots id from edge me valid low fresh had mine s k _ at small =
@@ -135,7 +135,7 @@ module _ (S : Type 0) (graph : List (List ℕ)) (workers : ℕ) where
       let w : Record = with_count me.0 c in
       let views' : List Record = set s.views id w in
       let cs : List Counted = together counts_of s.views in
-      let fresh' : counted from edge cs ≡ 0 = none_elsewhere from edge s.views id me.0 at k.sources (k.consistent.once from) had fresh in
+      let fresh' : count_of_edge from edge cs ≡ 0 = none_elsewhere from edge s.views id me.0 at k.sources (k.consistent.once from) had fresh in
       let more : counted_to graph to cs < waiting_of graph to = room graph is_graph cs from edge k.consistent.edges k.consistent.counted_once valid fresh' in
       let waits : x + counted_to graph to cs ≡ waiting_of graph to = k.waits to low in
       let some_left : 0 < x = omega arith in
@@ -199,9 +199,9 @@ module _ (S : Type 0) (graph : List (List ℕ)) (workers : ℕ) where
       let b : weigh h (f (blank 0)) ≡ 0 = ap (weigh h) clear in
       omega (arith, weigh-append h (f v) (f w), together_set f h views id v both at, together_set f h (set views id both) other w (blank 0) there)
 
-  pub joins : (id other : ℕ) (v w : Record) → Joins (IsKept {S = S} graph workers) id v other w (joined v w) (blank 0)
+  pub joins : (id other : ℕ) (v w : Record) → Joins (IsKept {S = S} graph workers) id v other w (join_records v w) (blank 0)
   joins id other v w s k at apart there =
-      let both : Record = joined v w in
+      let both : Record = join_records v w in
       let v1 : List Record = set s.views id both in
       let v2 : List Record = set v1 other (blank 0) in
       let same_had : Same (together had_of s.views) (together had_of v2) = join_same had_of s.views id other v w both at there refl refl in
@@ -209,10 +209,10 @@ module _ (S : Type 0) (graph : List (List ℕ)) (workers : ℕ) where
       let same_counts : Same (together counts_of s.views) (together counts_of v2) = join_same counts_of s.views id other v w both at there refl refl in
       let theirs : Sourced w = ⊎_elim (λ (t : (other ≡ id) × (both ≡ w)). absurd (apart t.0)) (λ (t : (other ≢ id) × (get_elem? s.views other ≡ some w)). k.sources other w t.1) (at_set s.views id other both w there) in
       let theirs_spent : Spent w = ⊎_elim (λ (t : (other ≡ id) × (both ≡ w)). absurd (apart t.0)) (λ (t : (other ≢ id) × (get_elem? s.views other ≡ some w)). k.spent other w t.1) (at_set s.views id other both w there) in
-      let spent_both : Spent both = λ z. (λ i. joined (k.spent id v at (omega arith) i) (theirs_spent (omega arith) i)) in
-      let sourced : Sourced both = λ f e some_time. let n : ℕ = counted f e v.counts in let m : ℕ = counted f e w.counts in
+      let spent_both : Spent both = λ z. (λ i. join_records (k.spent id v at (omega arith) i) (theirs_spent (omega arith) i)) in
+      let sourced : Sourced both = λ f e some_time. let n : ℕ = count_of_edge f e v.counts in let m : ℕ = count_of_edge f e w.counts in
       let had_parts = weigh-append (λ y. bit (eqb y f)) v.had w.had in
-      let count_parts : counted f e both.counts ≡ n + m = weigh-append (λ d. bit (eqb d.from f && eqb d.edge e)) v.counts w.counts in
+      let count_parts : count_of_edge f e both.counts ≡ n + m = weigh-append (λ d. bit (eqb d.from f && eqb d.edge e)) v.counts w.counts in
       ⊎_elim (λ (z : n ≡ 0). let there' = theirs f e (omega arith) in omega arith) (λ (z : 0 < n). let here = k.sources id v at f e z in omega arith) (none_or_some n) in record {
         words = k.words;
         shares = omega (arith, weigh_set (λ (u : Record). u.share) s.views id v both at, weigh_set (λ (u : Record). u.share) v1 other w (blank 0) there, k.shares);
@@ -270,8 +270,8 @@ module _ (S : Type 0) (graph : List (List ℕ)) (workers : ℕ) where
     only : (j : ℕ) (v : Record) → get_elem? (blank workers ∷ []) j ≡ some v → v.share ≡ 0 → v ≡ blank 0
     only j v at z = let is = first j v at in is ∙ ap blank (sym (ap (λ (u : Record). u.share) is) ∙ z)
 
-    empty : (j : ℕ) (v : Record) → get_elem? (blank workers ∷ []) j ≡ some v → (f e : ℕ) → 0 < counted f e v.counts → ⊥
-    empty j v at f e l = let none : counted f e v.counts ≡ 0 = ap (λ (u : Record). counted f e u.counts) (first j v at) in omega arith
+    empty : (j : ℕ) (v : Record) → get_elem? (blank workers ∷ []) j ≡ some v → (f e : ℕ) → 0 < count_of_edge f e v.counts → ⊥
+    empty j v at f e l = let none : count_of_edge f e v.counts ≡ 0 = ap (λ (u : Record). count_of_edge f e u.counts) (first j v at) in omega arith
 
 -- where the shares of a list of seats are 0, the seats did nothing
 nothing : {A : Type 0} (f : Record → List A) → f (blank 0) ≡ [] → (views : List Record) → ((k : ℕ) (u : Record) → get_elem? views k ≡ some u → Spent u) → weigh (λ (u : Record). u.share) views ≡ 0

@@ -5,7 +5,7 @@ use Rattle.pool_board.specs.Lists.{times}
 use Rattle.pool_board.specs.Graph.{waiting_of}
 use Rattle.pool_board.specs.Rule.{counted_to, IsConsistent}
 use Rattle.pool_board.specs.Seats.{SeatState, all_had, all_met, all_counts}
-use Rattle.pool_board.specs.Laws.{Has, NoJobTwice, TakenIsHad, answered, AnsweredOnce}
+use Rattle.pool_board.specs.Laws.{Has, NoJobTwice, TakenIsHad, answers_to, AnsweredOnce}
 use Rattle.pool_board.proofs.Consistent.{bit, none_or_some}
 use Rattle.pool_board.proofs.Weights.{weigh-append}
 
@@ -54,10 +54,10 @@ module _ (graph : List (List ℕ)) (seats : List SeatState) (all : IsConsistent 
   answered_is_once job =
       let counts : List Counted = all_counts seats in
       let enough : counted_to graph job counts ≤ waiting_of graph job = all.enough job in
-      let once : 0 < answered graph job counts → answered graph job counts ≡ 1 = λ some_time. let w = all.left_within job 0 some_time in all.left_once job 0 w.0 w.1 in (
-        ⊎_elim (λ (none : answered graph job counts ≡ 0). omega arith) (λ (some_time : 0 < answered graph job counts). let one = once some_time in omega arith) (none_or_some (answered graph job counts)),
+      let once : 0 < answers_to graph job counts → answers_to graph job counts ≡ 1 = λ some_time. let w = all.left_within job 0 some_time in all.left_once job 0 w.0 w.1 in (
+        ⊎_elim (λ (none : answers_to graph job counts ≡ 0). omega arith) (λ (some_time : 0 < answers_to graph job counts). let one = once some_time in omega arith) (none_or_some (answers_to graph job counts)),
         λ waits. (
-          (λ one. let some_time : 0 < answered graph job counts = omega arith in let w = all.left_within job 0 some_time in omega arith),
+          (λ one. let some_time : 0 < answers_to graph job counts = omega arith in let w = all.left_within job 0 some_time in omega arith),
           (λ every. all.left_once job 0 (omega arith) waits),
         ),
       )

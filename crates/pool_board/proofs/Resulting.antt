@@ -7,7 +7,7 @@ use Rattle.std.proofs.lemmas.Option.{slice_get-map}
 use Rattle.pool_board.specs.Lists.{times}
 use Rattle.pool_board.specs.Graph.{IsJobGraph, prerequisites_of}
 use Rattle.pool_board.proofs.Consistent.{bit, one_if}
-use Rattle.pool_board.specs.Results.{with_item, picked, results_below, results, AreResults, IsCopy}
+use Rattle.pool_board.specs.Results.{with_item, items_at, results_below, results, AreResults, IsCopy}
 
 get-front : {X : Type 0} (xs ys : List X) (i : ℕ) → i < length xs → slice_get (xs ++ ys) i ≡ slice_get xs i
 get-front [] ys i l = absurd (omega arith)
@@ -23,7 +23,7 @@ get_last (y ∷ ys) x (suc i) e = get_last ys x i (omega arith)
 module _ {X : Type 0} (graph : List (List ℕ)) (defined : ℕ → List X → X) where
   pub results-length : (n : ℕ) → length (results_below graph defined n) ≡ n
   results-length zero = refl
-  results-length (suc n) = omega (arith, results-length n, length-append (results_below graph defined n) (defined n (picked (results_below graph defined n) (prerequisites_of graph n)) ∷ []))
+  results-length (suc n) = omega (arith, results-length n, length-append (results_below graph defined n) (defined n (items_at (results_below graph defined n) (prerequisites_of graph n)) ∷ []))
 
   -- later results change no earlier one
   later : (n m job : ℕ) → job < n → slice_get (results_below graph defined (m + n)) job ≡ slice_get (results_below graph defined n) job
@@ -31,16 +31,16 @@ module _ {X : Type 0} (graph : List (List ℕ)) (defined : ℕ → List X → X)
   later n (suc m) job l =
       let same : suc m + n ≡ suc (m + n) = omega arith in
       ap (λ (k : ℕ). slice_get (results_below graph defined k) job) same
-      ∙ (get-front (results_below graph defined (m + n)) (defined (m + n) (picked (results_below graph defined (m + n)) (prerequisites_of graph (m + n))) ∷ []) job (omega (arith, results-length (m + n)))
+      ∙ (get-front (results_below graph defined (m + n)) (defined (m + n) (items_at (results_below graph defined (m + n)) (prerequisites_of graph (m + n))) ∷ []) job (omega (arith, results-length (m + n)))
       ∙ later n m job l)
 
-  picked_same : (xs ys : List X) (ps : List ℕ) → ((p : ℕ) → 0 < times p ps → slice_get xs p ≡ slice_get ys p) → picked xs ps ≡ picked ys ps
+  picked_same : (xs ys : List X) (ps : List ℕ) → ((p : ℕ) → 0 < times p ps → slice_get xs p ≡ slice_get ys p) → items_at xs ps ≡ items_at ys ps
   picked_same xs ys [] same = refl
   picked_same xs ys (p ∷ ps) same =
       let here : bit (eqb p p) ≡ 1 = ⊎_elim (λ (t : (p ≡ p) × (bit (eqb p p) ≡ 1)). t.1) (λ (t : (p ≢ p) × (bit (eqb p p) ≡ 0)). absurd (t.0 refl)) (one_if p p) in
-      ap (λ (o : Option X). with_item o (picked xs ps)) (same p (omega arith)) ∙ ap (with_item (slice_get ys p)) (picked_same xs ys ps (λ q l. same q (omega arith)))
+      ap (λ (o : Option X). with_item o (items_at xs ps)) (same p (omega arith)) ∙ ap (with_item (slice_get ys p)) (picked_same xs ys ps (λ q l. same q (omega arith)))
 
-  pub result_at : IsJobGraph graph → (job : ℕ) → job < length graph → slice_get (results graph defined) job ≡ Some (defined job (picked (results graph defined) (prerequisites_of graph job)))
+  pub result_at : IsJobGraph graph → (job : ℕ) → job < length graph → slice_get (results graph defined) job ≡ Some (defined job (items_at (results graph defined) (prerequisites_of graph job)))
   result_at is_graph job low =
       let m : ℕ = length graph - suc job in
       let n : ℕ = length graph - job in
@@ -49,7 +49,7 @@ module _ {X : Type 0} (graph : List (List ℕ)) (defined : ℕ → List X → X)
       let before : List X = results_below graph defined job in
       ap (λ (k : ℕ). slice_get (results_below graph defined k) job) whole
       ∙ (later (suc job) m job (omega arith)
-      ∙ (get_last before (defined job (picked before (prerequisites_of graph job))) job (sym (results-length job))
+      ∙ (get_last before (defined job (items_at before (prerequisites_of graph job))) job (sym (results-length job))
       ∙ ap (λ (outs : List X). Some (defined job outs)) (picked_same before (results graph defined) (prerequisites_of graph job)
       (λ p some_time. let less = (is_graph job p low).0 some_time in sym (ap (λ (k : ℕ). slice_get (results_below graph defined k) p) whole' ∙ later job n p less)))))
 
@@ -90,11 +90,11 @@ same_items (x ∷ xs) (y ∷ ys) long same =
     ap (λ v. v ∷ xs) one ∙ ap (λ l. y ∷ l) (same_items xs ys (omega arith) (λ i l. same (suc i) (omega arith)))
 
 -- what is seen of picked items is picked of what is seen of all
-pub map_picked : {X V : Type 0} (value : X → V) (xs : List X) (ps : List ℕ) → map value (picked xs ps) ≡ picked (map value xs) ps
+pub map_picked : {X V : Type 0} (value : X → V) (xs : List X) (ps : List ℕ) → map value (items_at xs ps) ≡ items_at (map value xs) ps
 map_picked value xs [] = refl
 map_picked {X} {V} value xs (p ∷ ps) =
-    by (slice_get xs p) (picked xs ps)
-    ∙ (ap (λ (o : Option V). with_item o (map value (picked xs ps))) (sym (slice_get-map value xs p))
+    by (slice_get xs p) (items_at xs ps)
+    ∙ (ap (λ (o : Option V). with_item o (map value (items_at xs ps))) (sym (slice_get-map value xs p))
     ∙ ap (with_item (slice_get (map value xs) p)) (map_picked value xs ps))
   where
     by : (o : Option X) (rest : List X) → map value (with_item o rest) ≡ with_item (option_map value o) (map value rest)
@@ -102,10 +102,10 @@ map_picked {X} {V} value xs (p ∷ ps) =
     by (Some x) rest = refl
 
 -- the same items are picked of lists that have the same at these places
-pub same_picked : {X : Type 0} (xs ys : List X) (ps : List ℕ) → ((p : ℕ) → 0 < times p ps → slice_get xs p ≡ slice_get ys p) → picked xs ps ≡ picked ys ps
+pub same_picked : {X : Type 0} (xs ys : List X) (ps : List ℕ) → ((p : ℕ) → 0 < times p ps → slice_get xs p ≡ slice_get ys p) → items_at xs ps ≡ items_at ys ps
 same_picked xs ys [] same = refl
 same_picked {X} xs ys (p ∷ ps) same =
-    ap (λ (o : Option X). with_item o (picked xs ps)) (same p (here_once p ps)) ∙ ap (with_item (slice_get ys p)) (same_picked xs ys ps (λ q l. same q (there_too p q ps l)))
+    ap (λ (o : Option X). with_item o (items_at xs ps)) (same p (here_once p ps)) ∙ ap (with_item (slice_get ys p)) (same_picked xs ys ps (λ q l. same q (there_too p q ps l)))
 
 module _ {X V : Type 0} (graph : List (List ℕ)) (defines : ℕ → List X → X → Type 0) (value : X → V) (f : ℕ → List V → V) where
   module _ (is_graph : IsJobGraph graph) (gives : (job : ℕ) (outs : List X) (x : X) → defines job outs x → value x ≡ f job (map value outs)) (xs : List X) (are : AreResults graph defines xs) where
@@ -114,8 +114,8 @@ module _ {X V : Type 0} (graph : List (List ℕ)) (defines : ℕ → List X → 
     at_job zero job before low = absurd (omega arith)
     at_job (suc n) job before low =
         let there = item xs job (omega (arith, are.count_is)) in
-        let comes : value there.0 ≡ f job (map value (picked xs (prerequisites_of graph job))) = gives job (picked xs (prerequisites_of graph job)) there.0 (are.coherent job there.0 there.1) in
-        let inputs : map value (picked xs (prerequisites_of graph job)) ≡ picked (results graph f) (prerequisites_of graph job) =
+        let comes : value there.0 ≡ f job (map value (items_at xs (prerequisites_of graph job))) = gives job (items_at xs (prerequisites_of graph job)) there.0 (are.coherent job there.0 there.1) in
+        let inputs : map value (items_at xs (prerequisites_of graph job)) ≡ items_at (results graph f) (prerequisites_of graph job) =
         map_picked value xs (prerequisites_of graph job)
         ∙ same_picked (map value xs) (results graph f) (prerequisites_of graph job) (λ p some_time. let less : p < job = (is_graph job p low).0 some_time in at_job n p (omega arith) (omega arith)) in
         slice_get-map value xs job

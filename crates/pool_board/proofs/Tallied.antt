@@ -3,7 +3,7 @@ use Rattle.std.proofs.Common.{◌≡◌, ℕ, eqb, cond, eq-eqb, ne_eqb, zero, s
 use Rattle.std.proofs.lemmas.Bool.{cases_eq}
 use mathlib.Core.Option.{some, some-injective, some-ne-none}
 use lib.ListN.{get_elem?}
-use Rattle.pool_board.specs.Lists.{times, together, listed}
+use Rattle.pool_board.specs.Lists.{times, together, one_list}
 use Rattle.pool_board.specs.Seats.{unset, without}
 use Rattle.pool_board.proofs.Weights.{weigh-push}
 use Rattle.pool_board.proofs.Consistent.{bit, one_if}
@@ -50,6 +50,6 @@ each_job had (suc n) job l once = ⊎_elim
     (cases_eq (times n had) 0))
     (one_if n job)
 
-pub listed-map : {S : Type 0} (f : S → List ℕ) (seats : List S) → listed (map f seats) ≡ together f seats
+pub listed-map : {S : Type 0} (f : S → List ℕ) (seats : List S) → one_list (map f seats) ≡ together f seats
 listed-map f [] = refl
 listed-map f (s ∷ ss) = ap (λ (l : List ℕ). f s ++ l) (listed-map f ss)

@@ -20,14 +20,14 @@ abbrev pub TakenIsHad : List SeatState → Type 0
 TakenIsHad seats = (job : ℕ) → 0 < times job (all_met seats) → (i : ℕ) × Has seats i job
 
 -- how many counts of edges to the job were answered that they ended its wait
-abbrev pub answered : List (List ℕ) → ℕ → List Counted → ℕ
-answered graph job counts = left_at graph job 0 counts
+abbrev pub answers_to : List (List ℕ) → ℕ → List Counted → ℕ
+answers_to graph job counts = left_at graph job 0 counts
 
 -- at most one count was answered that it ended a job's wait, and one was exactly where all edges to
 -- the job were counted
 abbrev pub AnsweredOnce : List (List ℕ) → List Counted → Type 0
 AnsweredOnce graph counts =
     (job : ℕ)
-    → (answered graph job counts ≤ 1)
+    → (answers_to graph job counts ≤ 1)
     × (0 < waiting_of graph job
-    → (answered graph job counts ≡ 1) ↔ (counted_to graph job counts ≡ waiting_of graph job))
+    → (answers_to graph job counts ≡ 1) ↔ (counted_to graph job counts ≡ waiting_of graph job))

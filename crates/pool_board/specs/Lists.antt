@@ -16,5 +16,5 @@ together f [] = []
 together f (s ∷ ss) = f s ++ together f ss
 
 -- the lists, one after another
-abbrev pub listed : List (List ℕ) → List ℕ
-listed rows = together (λ (row : List ℕ). row) rows
+abbrev pub one_list : List (List ℕ) → List ℕ
+one_list rows = together (λ (row : List ℕ). row) rows

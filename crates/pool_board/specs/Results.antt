@@ -9,9 +9,9 @@ with_item None xs = xs
 with_item (Some x) xs = x ∷ xs
 
 -- the items at these places
-abbrev pub picked : {X : Type 0} → List X → List ℕ → List X
-picked xs [] = []
-picked xs (p ∷ ps) = with_item (slice_get xs p) (picked xs ps)
+abbrev pub items_at : {X : Type 0} → List X → List ℕ → List X
+items_at xs [] = []
+items_at xs (p ∷ ps) = with_item (slice_get xs p) (items_at xs ps)
 
 -- the results of the first n jobs, where `defined job outs` is a job's result from those of its
 -- prerequisites
@@ -19,7 +19,7 @@ abbrev pub results_below : {X : Type 0} → List (List ℕ) → (ℕ → List X 
 results_below graph defined zero = []
 results_below graph defined (suc n) =
     let before = results_below graph defined n in
-    before ++ defined n (picked before (prerequisites_of graph n)) ∷ []
+    before ++ defined n (items_at before (prerequisites_of graph n)) ∷ []
 
 abbrev pub results : {X : Type 0} → List (List ℕ) → (ℕ → List X → X) → List X
 results graph defined = results_below graph defined (length graph)
@@ -28,7 +28,7 @@ results graph defined = results_below graph defined (length graph)
 abbrev pub AreCoherent : {X : Type 0} → List (List ℕ) → (defines : ℕ → List X → X → Type 0) → List X
     → Type 0
 AreCoherent {X} graph defines xs = (job : ℕ) (x : X) → slice_get xs job ≡ Some x
-    → defines job (picked xs (prerequisites_of graph job)) x
+    → defines job (items_at xs (prerequisites_of graph job)) x
 
 -- The results of all jobs are one answer, where `defines job outs x` says that x may come of a job
 -- from these results of its prerequisites.
@@ -49,7 +49,7 @@ pub record IsRan {X : Type 0} (names : List ℕ) (graph : List (List ℕ))
     (defines : ℕ → List X → X → Type 0) (job cell : ℕ) (known : Option X) (used : List ℕ)
     (used_known : List (Option X)) : Type 0 where
   pub cell_is : slice_get names job ≡ Some cell
-  pub used_are : used ≡ picked names (prerequisites_of graph job)
+  pub used_are : used ≡ items_at names (prerequisites_of graph job)
   pub outs : List X
   pub x : X
   pub outs_are : used_known ≡ map Some outs
@@ -60,7 +60,7 @@ pub record IsRan {X : Type 0} (names : List ℕ) (graph : List (List ℕ))
 pub record IsMade {X : Type 0} (names : List ℕ) (graph : List (List ℕ))
     (defines : ℕ → List X → X → Type 0) (job : ℕ) (x : X) (used : List ℕ)
     (used_known : List (Option X)) : Type 0 where
-  pub used_are : used ≡ picked names (prerequisites_of graph job)
+  pub used_are : used ≡ items_at names (prerequisites_of graph job)
   pub outs : List X
   pub outs_are : used_known ≡ map Some outs
   pub defined : defines job outs x

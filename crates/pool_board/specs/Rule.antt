@@ -11,8 +11,8 @@ use Rattle.pool_board.specs.Lists.{weigh, times, together}
 use Rattle.pool_board.specs.Graph.{waiting_of, targets_of}
 
 -- how often the edge was counted
-abbrev pub counted : ℕ → ℕ → List Counted → ℕ
-counted from edge counts = weigh (λ c. if (c.from == from) && (c.edge == edge) then 1 else 0) counts
+abbrev pub count_of_edge : ℕ → ℕ → List Counted → ℕ
+count_of_edge from edge counts = weigh (λ c. if (c.from == from) && (c.edge == edge) then 1 else 0) counts
 
 -- the job to which a counted edge goes
 abbrev pub target_of : List (List ℕ) → Counted → ℕ
@@ -29,13 +29,13 @@ left_at graph job number counts =
 
 -- the sources of the edges that a seat counted were had by it
 abbrev pub IsSourced : List ℕ → List Counted → Type 0
-IsSourced had counts = (from edge : ℕ) → 0 < counted from edge counts → 0 < times from had
+IsSourced had counts = (from edge : ℕ) → 0 < count_of_edge from edge counts → 0 < times from had
 
 -- each edge of each job that a seat had was counted by it
 abbrev pub AreCounted : List (List ℕ) → List ℕ → List Counted → Type 0
 AreCounted graph had counts =
     (job edge : ℕ) → 0 < times job had → edge < length (targets_of graph job)
-    → counted job edge counts ≡ 1
+    → count_of_edge job edge counts ≡ 1
 
 -- What holds of the lists of all seats together
 pub record IsConsistent (graph : List (List ℕ)) (had met : List ℕ) (counts : List Counted)
@@ -46,8 +46,8 @@ pub record IsConsistent (graph : List (List ℕ)) (had met : List ℕ) (counts :
   -- a job that was found taken was had
   pub met_had : (job : ℕ) → 0 < times job met → 0 < times job had
   -- no edge was counted twice, and only edges were
-  pub edges : (from edge : ℕ) → 0 < counted from edge counts → edge < length (targets_of graph from)
-  pub counted_once : (from edge : ℕ) → counted from edge counts ≤ 1
+  pub edges : (from edge : ℕ) → 0 < count_of_edge from edge counts → edge < length (targets_of graph from)
+  pub counted_once : (from edge : ℕ) → count_of_edge from edge counts ≤ 1
   -- where c of the p edges to a job were counted, the numbers left are p - 1 down to p - c, each
   -- once
   pub enough : (job : ℕ) → counted_to graph job counts ≤ waiting_of graph job

@@ -6,7 +6,7 @@ use Rattle.pool_board.specs.declared.rule.Record.{Record}
 use Rattle.atomic_table.specs.Seated.{TableId}
 use Rattle.pool_board.specs.Lists.{times}
 use Rattle.pool_board.specs.Graph.{IsJobGraph, targets_of}
-use Rattle.pool_board.specs.Rule.{record_of, counted}
+use Rattle.pool_board.specs.Rule.{record_of, count_of_edge}
 
 abbrev pub with_had : Record → ℕ → Record
 with_had v job = record_of v.share (v.had ++ job ∷ []) v.met v.counts
@@ -39,8 +39,8 @@ module _ {S : Type 0} where
 abbrev pub less_one : Record → Record
 less_one v = record_of (v.share - 1) v.had v.met v.counts
 
-abbrev pub joined : Record → Record → Record
-joined v w = record_of (v.share + w.share) (v.had ++ w.had) (v.met ++ w.met) (v.counts ++ w.counts)
+abbrev pub join_records : Record → Record → Record
+join_records v w = record_of (v.share + w.share) (v.had ++ w.had) (v.met ++ w.met) (v.counts ++ w.counts)
 
 -- The seat may count the edge down, at this word
 pub record Counts (table : TableId) (graph : List (List ℕ)) (from edge waiting : ℕ) (seat : TableId)
@@ -50,6 +50,6 @@ pub record Counts (table : TableId) (graph : List (List ℕ)) (from edge waiting
   pub words_are : table.words ≡ suc (length graph + length graph)
   pub edge_is : edge < length (targets_of graph from)
   pub waiting_is : waiting ≡ length graph + slice_index (targets_of graph from) edge
-  pub fresh : counted from edge v.counts ≡ 0
+  pub fresh : count_of_edge from edge v.counts ≡ 0
   pub had : 0 < times from v.had
   pub share : 0 < v.share

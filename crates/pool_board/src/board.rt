@@ -1,10 +1,10 @@
 // The board: a claim word and a waiting word for each job, in one table of atomic words.
 ghost use Rattle.std.specs.Prelude.{◌≡◌, ◌++◌, ◌∷◌, [], ℕ, suc, ◌+◌, ◌<◌, ◌≤◌, ◌↔◌, IsTrue, MatchBool, IfOk, length, map, replicate, vec_capacity, slice_index_or, All, Err, ◌≢◌};
 ghost use Rattle.std.specs.Slots.{slots_items, slots_len, IsFull};
-ghost use Rattle.pool_board.specs.Lists.{times, listed};
+ghost use Rattle.pool_board.specs.Lists.{times, one_list};
 ghost use Rattle.pool_board.specs.Graph.{targets_of};
 ghost use Rattle.pool_board.specs.Laws.{NoJobTwice, TakenIsHad, AnsweredOnce};
-ghost use Rattle.pool_board.specs.Rule.{counted, blank, record_of, IsConsistent, IsFresh, IsSourced};
+ghost use Rattle.pool_board.specs.Rule.{count_of_edge, blank, record_of, IsConsistent, IsFresh, IsSourced};
 ghost use Rattle.pool_board.specs.Seats.{SeatState, IsAllSeats, max_workers, new_seat, all_had, all_met, all_counts, unset, without};
 ghost use Rattle.pool_board.specs.Steps.{count_of, with_count, Counts};
 
@@ -116,7 +116,7 @@ impl Board {
         ensures counts { seat.new.counts ≡ seat.old.counts }
         ensures had { MatchBool result (seat.new.had ≡ seat.old.had ++ job ∷ []) (seat.new.had ≡ seat.old.had) }
         ensures met { MatchBool result (seat.new.met ≡ seat.old.met) (seat.new.met ≡ seat.old.met ++ job ∷ []) }
-        ensures fresh { IsTrue result → (edge : ℕ) → counted job edge seat.new.counts ≡ 0 }
+        ensures fresh { IsTrue result → (edge : ℕ) → count_of_edge job edge seat.new.counts ≡ 0 }
     {
         let found = self.table.shared.swap::<Claiming>(&mut seat.seat, job, 1);
         if found == 0 {
@@ -134,7 +134,7 @@ impl Board {
         requires board { seat.old.board ≡ self.now.id }
         requires had { 0 < times from seat.old.had }
         requires edge { edge < length (targets_of self.now.graph from) }
-        requires fresh { counted from edge seat.old.counts ≡ 0 }
+        requires fresh { count_of_edge from edge seat.old.counts ≡ 0 }
         ensures board { seat.new.board ≡ seat.old.board }
         ensures had { seat.new.had ≡ seat.old.had }
         ensures met { seat.new.met ≡ seat.old.met }
@@ -160,7 +160,7 @@ impl Board {
         ensures gatherer { result.gatherer.items ≡ without (all_had seats.items) (length self.graph) }
         ensures each { (job : ℕ)
             → job < length self.graph
-            → times job (listed (map (λ l. l.items) result.seats.items) ++ result.gatherer.items)
+            → times job (one_list (map (λ l. l.items) result.seats.items) ++ result.gatherer.items)
             ≡ 1 }
         ensures consistent { IsConsistent self.graph (all_had seats.items) (all_met seats.items)
             (all_counts seats.items) }
@@ -178,7 +178,7 @@ impl Board {
         } = self;
         let whole = join_all(&table, seats, &mut lists);
         let closed = table.close_with(whole);
-        unclaimed(&closed, graph.jobs(), &mut gatherer);
+        unclaimed_jobs(&closed, graph.jobs(), &mut gatherer);
         closed.free();
         Tally {
             seats: lists,
@@ -307,7 +307,7 @@ fn join_all(
 }
 
 // The jobs whose claim words are 0.
-fn unclaimed(closed: &Closed<(), Global>, jobs: usize, list: &mut Vec<usize>)
+fn unclaimed_jobs(closed: &Closed<(), Global>, jobs: usize, list: &mut Vec<usize>)
     requires words { (jobs ≤ slots_len closed.now.words) × IsFull closed.now.words }
     requires room { (list.old.items ≡ []) × (jobs ≤ vec_capacity list.old) }
     ensures { list.new.items ≡ unset (slots_items closed.now.words) jobs }

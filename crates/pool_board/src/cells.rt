@@ -1,7 +1,7 @@
 // The cells of the jobs, in which a worker finds the results of others.
 ghost use Rattle.std.specs.Prelude.{◌≡◌, length, map, slice_get, Some, IfOk, IfSome};
 ghost use Rattle.once_cell.specs.Once.{cell_name};
-ghost use Rattle.pool_board.specs.Results.{picked};
+ghost use Rattle.pool_board.specs.Results.{items_at};
 
 use once_cell::race::{Note, OnceBox};
 use std::alloc::{AllocError, Global};
@@ -33,14 +33,14 @@ pub(crate) fn all_finished<'c, T: Drop>(
     ensures count { IfOk result (λ r. IfSome r (λ f. length f.outs.items ≡ length jobs.now)) }
     ensures cells { IfOk result (λ r.
         IfSome r
-        (λ f. map (λ n. n.cell) f.notes.items ≡ picked (map cell_name cells.now) jobs.now)) }
+        (λ f. map (λ n. n.cell) f.notes.items ≡ items_at (map cell_name cells.now) jobs.now)) }
     ensures known { IfOk result (λ r.
         IfSome r (λ f. map (λ n. n.known) f.notes.items ≡ map (λ x. Some x.now) f.outs.items)) }
 {
     let mut outs = Vec::with_capacity(alloc, jobs.len())?;
     let mut notes = Vec::with_capacity(alloc, jobs.len())?;
     for job in jobs {
-        let Some((out, note)) = finished(cells, *job) else {
+        let Some((out, note)) = finished_result(cells, *job) else {
             return Ok(None);
         };
         outs.push(out)?;
@@ -50,7 +50,7 @@ pub(crate) fn all_finished<'c, T: Drop>(
 }
 
 // What the cell of a job holds, if it is set, with a note that knows it.
-fn finished<'c, T: Drop>(cells: &'c [OnceBox<T>], job: usize) -> Option<(&'c T, Note<T>)>
+fn finished_result<'c, T: Drop>(cells: &'c [OnceBox<T>], job: usize) -> Option<(&'c T, Note<T>)>
     ensures cell { IfSome result (λ r. slice_get (map cell_name cells.now) job ≡ Some r.1.cell) }
     ensures known { IfSome result (λ r. r.1.known ≡ Some r.0.now) }
 {

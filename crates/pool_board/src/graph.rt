@@ -50,7 +50,7 @@ impl JobGraph {
         ensures { IfOk result (λ g. g ≡ map (λ l. l.items) prerequisites.now) }
     {
         let targets = all_targets(alloc, prerequisites)?;
-        let prerequisites = copied(alloc, prerequisites)?;
+        let prerequisites = copy_graph(alloc, prerequisites)?;
         Ok(JobGraph {
             prerequisites,
             targets,
@@ -62,8 +62,8 @@ impl JobGraph {
         ensures { IfOk result (λ g. g ≡ self.now) }
     {
         Ok(JobGraph {
-            prerequisites: copied(alloc, self.prerequisites.as_slice())?,
-            targets: copied(alloc, self.targets.as_slice())?,
+            prerequisites: copy_graph(alloc, self.prerequisites.as_slice())?,
+            targets: copy_graph(alloc, self.targets.as_slice())?,
         })
     }
 
@@ -229,7 +229,7 @@ fn put_last(table: &mut [Vec<usize>], row: usize, job: usize) -> Result<(), Allo
 }
 
 // The lists once more.
-fn copied(alloc: Global, jobs: &[Vec<usize>]) -> Result<Vec<Vec<usize>>, AllocError>
+fn copy_graph(alloc: Global, jobs: &[Vec<usize>]) -> Result<Vec<Vec<usize>>, AllocError>
     ensures { IfOk result (λ v. map (λ l. l.items) v.items ≡ map (λ l. l.items) jobs.now) }
 {
     let mut lists = Vec::with_capacity(alloc, jobs.len())?;

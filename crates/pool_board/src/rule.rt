@@ -102,9 +102,9 @@ pub struct Joining;
 
 impl Join<Record> for Joining {
     ghost use Rattle.pool_board.specs.Rule.{blank};
-    ghost use Rattle.pool_board.specs.Steps.{joined};
+    ghost use Rattle.pool_board.specs.Steps.{join_records};
 
-    ghost both = { joined };
+    ghost both = { join_records };
 
     ghost spent = { blank 0 };
 }

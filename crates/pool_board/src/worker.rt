@@ -3,9 +3,9 @@ ghost use Rattle.std.specs.Prelude.{◌≡◌, ◌≢◌, ◌++◌, ◌∷◌, [
 ghost use Rattle.once_cell.specs.Once.{cell_name};
 ghost use Rattle.pool_board.specs.Lists.{times};
 ghost use Rattle.pool_board.specs.Graph.{prerequisites_of, targets_of, IsJobGraph};
-ghost use Rattle.pool_board.specs.Rule.{counted, AreCounted};
+ghost use Rattle.pool_board.specs.Rule.{count_of_edge, AreCounted};
 ghost use Rattle.pool_board.specs.Seats.{SeatState, IsWorked};
-ghost use Rattle.pool_board.specs.Results.{picked, IsRan, IsMade};
+ghost use Rattle.pool_board.specs.Results.{items_at, IsRan, IsMade};
 
 use crate::cells::{Found, all_finished};
 use crate::ran::Ran;
@@ -167,7 +167,7 @@ fn run<W: Work, G: Gate>(
     requires job { job < length pool.now.graph.now }
     requires prerequisites { length prerequisites.now ≡ length (prerequisites_of pool.now.graph.now job) }
     requires cells { map (λ u. u.cell) used.items
-        ≡ picked (map cell_name pool.now.cells.now) (prerequisites_of pool.now.graph.now job) }
+        ≡ items_at (map cell_name pool.now.cells.now) (prerequisites_of pool.now.graph.now job) }
     requires known { map (λ u. u.known) used.items ≡ map (λ p. Some p.now) prerequisites.now }
     ensures job { IfOk result (λ r. r.job ≡ job) }
     ensures ran { IfOk result (λ r.
@@ -194,13 +194,13 @@ fn count_all(
 )
     requires board { (seat.old.board ≡ board.now.id) × (graph.now ≡ board.now.graph) }
     requires job { (job < length graph.now) × (0 < times job seat.old.had) }
-    requires fresh { (edge : ℕ) → counted job edge seat.old.counts ≡ 0 }
+    requires fresh { (edge : ℕ) → count_of_edge job edge seat.old.counts ≡ 0 }
     ensures board { seat.new.board ≡ seat.old.board }
     ensures had { seat.new.had ≡ seat.old.had }
     ensures counted { (edge : ℕ) → edge < length (targets_of graph.now job)
-        → counted job edge seat.new.counts ≡ 1 }
+        → count_of_edge job edge seat.new.counts ≡ 1 }
     ensures others { (from edge : ℕ) → from ≢ job
-        → counted from edge seat.new.counts ≡ counted from edge seat.old.counts }
+        → count_of_edge from edge seat.new.counts ≡ count_of_edge from edge seat.old.counts }
 {
     let targets = graph.targets(job);
     for edge in 0..targets.len() {

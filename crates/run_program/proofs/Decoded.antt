@@ -15,7 +15,7 @@ use Rattle.build_jobs.specs.declared.file.SourceFile.{SourceFile}
 use Rattle.def_scheme.specs.Modules.{typed_module}
 use Rattle.m2c.specs.declared.files.Outcome.{Outcome}
 use Rattle.m2c.specs.declared.files.Outcome.TheVariants as outcome
-use Rattle.m2c.specs.Build.{AreAlike, AreEncoded, IsBuilt, IsProgram, named}
+use Rattle.m2c.specs.Build.{AreAlike, AreEncoded, IsBuilt, IsProgram, name_bytes}
 use Rattle.run_directory.proofs.Missing.{map_one_more, map_one_between}
 use Rattle.run_program.specs.Reading.{IsModule, Lacks, bytes_of}
 use Rattle.run_program.specs.Runs.{AreRefused, IsProgramOf, modules_of}
@@ -95,7 +95,7 @@ module _ (link : List ℕ) (others : List (String Global × Vec ℕ)) where
     lacks_other fault (inl e) = inl e
     lacks_other fault (inr none) = inr (lacking none)
 
-same_bytes : (others : List (String Global × Vec ℕ)) → map (λ m. m.1) (map named others) ≡ map bytes_of others
+same_bytes : (others : List (String Global × Vec ℕ)) → map (λ m. m.1) (map name_bytes others) ≡ map bytes_of others
 same_bytes [] = refl
 same_bytes (m ∷ ms) = ap (λ (bs : List (List ℕ)). m.1.items ∷ bs) (same_bytes ms)
 
@@ -109,7 +109,7 @@ module _ (files : List SourceFile) (pages : ℕ) (o : Outcome) (built : IsBuilt 
   }
 
   module _ (link : Vec ℕ) (others : Vec (String Global × Vec ℕ)) (is : o ≡ outcome.Built link others) (link_slice : List ℕ) (slice : List (String Global × Vec ℕ)) (same_link : link_slice ≡ link.items) (same : slice ≡ others.items) where
-    program : IsProgram files pages link.items (map named others.items)
+    program : IsProgram files pages link.items (map name_bytes others.items)
     program = subst (λ (x : Outcome). IsBuilt files pages x) is built
 
     abbrev Reads : List WModule → Type 0

@@ -9,14 +9,14 @@ use Rattle.wasm_engine.specs.declared.engine.End.{End}
 use Rattle.wasm_engine.specs.declared.engine.End.TheVariants.{Done, Trap}
 use Rattle.def_meaning.specs.Answer.{Ended}
 use Rattle.def_meaning.specs.Environment.{Modules}
-use Rattle.def_meaning.specs.Later.{printed}
+use Rattle.def_meaning.specs.Later.{output_of}
 use Rattle.def_meaning.specs.Runs.{run}
 use Rattle.def_scheme.specs.Modules.{typed_module, typed_link}
 use Rattle.run_directory.specs.Reported.{HasRun}
 use Rattle.build_jobs.specs.declared.file.SourceFile.{SourceFile}
 use Rattle.m2c.specs.declared.files.Outcome.{Outcome}
 use Rattle.m2c.specs.declared.files.Outcome.TheVariants as outcome
-use Rattle.m2c.specs.Build.{AreAlike, IsBuilt, IsProgram, named}
+use Rattle.m2c.specs.Build.{AreAlike, IsBuilt, IsProgram, name_bytes}
 
 -- ---- what the definition says
 
@@ -24,7 +24,7 @@ use Rattle.m2c.specs.Build.{AreAlike, IsBuilt, IsProgram, named}
 pub record IsBeginning (p : Modules) (pages : ℕ) (bytes : List ℕ) : Type 0 where
   pub bound : ℕ
   pub rest : List ℕ
-  pub is : printed (run p pages bound) ≡ bytes ++ rest
+  pub is : output_of (run p pages bound) ≡ bytes ++ rest
 
 -- the program's run ends with this number, and it prints these bytes
 pub record EndsWith (p : Modules) (pages number : ℕ) (bytes : List ℕ) : Type 0 where
@@ -59,7 +59,7 @@ EndsInTime p pages =
 pub record IsProgramOf (files : List SourceFile) (pages : ℕ) (modules : List WModule) : Type 0 where
   pub link : Vec ℕ
   pub others : Vec (String Global × Vec ℕ)
-  pub program : IsProgram files pages link.items (map named others.items)
+  pub program : IsProgram files pages link.items (map name_bytes others.items)
   pub only : (other : Outcome) → IsBuilt files pages other
       → AreAlike (outcome.Built link others) other
   pub are : modules ≡ modules_of program.program pages

@@ -21,7 +21,7 @@ use Rattle.scan_tokens.specs.Symbols.{sign_of}
 use Rattle.scan_tokens.specs.Forms.{IsRun, IsQuoted, IsForm, quoted, Spells, opening}
 use Rattle.scan_tokens.specs.Division.{RefusesIn}
 use Rattle.scan_tokens.specs.Numbers.{RefusesNumber}
-use Rattle.scan_tokens.specs.Steps.{moved, over, Begins, Opens, IsPair, Takes, Stops, Closes}
+use Rattle.scan_tokens.specs.Steps.{place_after, over, Begins, Opens, IsPair, Takes, Stops, Closes}
 use Rattle.scan_tokens.proofs.Lists.{and_true, same_head, all_append, all_prefix, passes_within, fails_beyond}
 use Rattle.scan_tokens.proofs.Places.{in_one_line, over_line}
 use Rattle.scan_tokens.proofs.Shapes.{longest_space, longest_name, longest_number, longest_string, longest_comment, longest_sign, longest_pair, begins_nothing, quoted_length, sign_is, class_open}
@@ -82,12 +82,12 @@ stops_here text pos fault e is h = stops_at text [] pos pos fault e is h refl (�
 
 -- ---- spaces
 
-pub space_taken : (text rest : Text) (pos q : Pos) → Begins Space text → rest ≡ drop 1 text → q ≡ moved pos (get_or text 0 0) → Takes text pos None rest q
+pub space_taken : (text rest : Text) (pos q : Pos) → Begins Space text → rest ≡ drop 1 text → q ≡ place_after pos (get_or text 0 0) → Takes text pos None rest q
 space_taken text rest pos q h e at =
     let b = h.0 in
     let tail : rest ≡ h.1 = e ∙ ap (drop 1) h.2 in
     let first : get_or text 0 0 ≡ b = ap (λ (t : Text). get_or t 0 0) h.2 in
-    (b ∷ [], h.2 ∙ ap (λ t. b ∷ t) (sym tail), omega arith, longest_space b rest h.3, inl (b, h.3, refl), at ∙ ap (moved pos) first)
+    (b ∷ [], h.2 ∙ ap (λ t. b ∷ t) (sym tail), omega arith, longest_space b rest h.3, inl (b, h.3, refl), at ∙ ap (place_after pos) first)
 
 -- ---- runs
 

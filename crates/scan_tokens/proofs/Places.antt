@@ -7,7 +7,7 @@ use Rattle.scan_tokens.proofs.Lists.{and_true}
 use Rattle.m2_tree.specs.declared.pos.Pos.{Pos}
 use Rattle.scan_tokens.specs.Bytes.{Text, is_line_end}
 use Rattle.scan_tokens.specs.Division.{place}
-use Rattle.scan_tokens.specs.Steps.{moved, over, HasRoom}
+use Rattle.scan_tokens.specs.Steps.{place_after, over, HasRoom}
 
 abbrev start : Pos
 start = record { line = 1; col = 1 }
@@ -36,7 +36,7 @@ pushed : (v : Bool) (l c : ℕ) → (let p : Pos = record { line = l + cond v 1 
 pushed true l c = same_place _ _ _ _ refl refl
 pushed false l c = same_place _ _ _ _ (omega arith) (omega arith)
 
-pub place_push : (front : Text) (b : ℕ) → place (front ++ b ∷ []) ≡ moved (place front) b
+pub place_push : (front : Text) (b : ℕ) → place (front ++ b ∷ []) ≡ place_after (place front) b
 unfolding place
 place_push front b =
     same_place _ _ _ _ (ap (λ n. n + 1) (count_push is_line_end front b)) (ap (λ n. n + 1) (suffix_push (λ x. not (is_line_end x)) front b))
@@ -49,9 +49,9 @@ place_over front (b ∷ w) =
 
 pub over-append : (p : Pos) (v w : Text) → over p (v ++ w) ≡ over (over p v) w
 over-append p [] w = refl
-over-append p (b ∷ v) w = over-append (moved p b) v w
+over-append p (b ∷ v) w = over-append (place_after p b) v w
 
-pub moved_in_line : (p : Pos) (b : ℕ) → in_one_line b ≡ true → moved p b ≡ record { line = p.line; col = p.col + 1 }
+pub moved_in_line : (p : Pos) (b : ℕ) → in_one_line b ≡ true → place_after p b ≡ record { line = p.line; col = p.col + 1 }
 moved_in_line p b h = ap (λ c. cond c (record { line = p.line + 1; col = 1 }) (record { line = p.line; col = p.col + 1 })) (not_true (is_line_end b) h)
 
 -- bytes of one line
@@ -59,14 +59,14 @@ pub over_line : (p : Pos) (w : Text) → list_all in_one_line w ≡ true → ove
 over_line p [] h = same_place _ _ _ _ refl (sym (add-zero p.col))
 over_line p (b ∷ w) h =
     let a = and_true (in_one_line b) (list_all in_one_line w) h in
-    let same : moved p b ≡ record { line = p.line; col = p.col + 1 } = moved_in_line p b a.0 in
+    let same : place_after p b ≡ record { line = p.line; col = p.col + 1 } = moved_in_line p b a.0 in
     ap (λ q. over q w) same ∙ over_line (record { line = p.line; col = p.col + 1 }) w a.1 ∙ same_place _ _ _ _ refl (omega arith)
 
-pub room_moved : (p : Pos) (b : ℕ) (w : Text) → HasRoom p (b ∷ w) → HasRoom (moved p b) w
+pub room_moved : (p : Pos) (b : ℕ) (w : Text) → HasRoom p (b ∷ w) → HasRoom (place_after p b) w
 room_moved p b w h =
     let P : Bool → Type 0 = λ v. HasRoom (cond v (record { line = p.line + 1; col = 1 }) (record { line = p.line; col = p.col + 1 })) w in
     elim (is_line_end b) as P [ true ↦ (omega (arith, h), omega (arith, h)) | false ↦ (omega (arith, h), omega (arith, h)) ]
 
 pub room_over : (p : Pos) (v w : Text) → HasRoom p (v ++ w) → HasRoom (over p v) w
 room_over p [] w h = h
-room_over p (b ∷ v) w h = room_over (moved p b) v w (room_moved p b (v ++ w) h)
+room_over p (b ∷ v) w h = room_over (place_after p b) v w (room_moved p b (v ++ w) h)

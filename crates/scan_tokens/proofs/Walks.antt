@@ -5,7 +5,7 @@ use Rattle.std.specs.List.{list_all}
 use Rattle.m2_tree.specs.declared.pos.Pos.{Pos}
 use Rattle.scan_tokens.specs.Bytes.{Text, is_line_end}
 use Rattle.scan_tokens.specs.Forms.{opening, closing}
-use Rattle.scan_tokens.specs.Steps.{moved, over, HasRoom, Closes, NeverCloses}
+use Rattle.scan_tokens.specs.Steps.{place_after, over, HasRoom, Closes, NeverCloses}
 use Rattle.scan_tokens.proofs.Levels.{Ends, one_level, from_one_level, no_levels_left, open_enters, open_leaves, close_enters, close_leaves, other_enters, other_leaves, not_at_end, not_at_last}
 use Rattle.scan_tokens.proofs.Places.{in_one_line, over-append, over_line, room_over}
 
@@ -101,7 +101,7 @@ ends text start n rest p s q w e line col last =
     (k.0, k.1, k.2, at ∙ ap (λ p. over p closing) w.at ∙ sym (over-append start w.front closing) ∙ ap (over start) cut)
 
 pub goes_on : (text : Text) (start : Pos) (n : ℕ) (rest : Text) (p : Pos) (b c : ℕ) (s : Text) (q : Pos) → Walks text start n rest p → rest ≡ b ∷ c ∷ s
-    → (b ∷ c ∷ [] ≢ opening) → (b ∷ c ∷ [] ≢ closing) → q ≡ moved p b → Walks text start n (c ∷ s) q
+    → (b ∷ c ∷ [] ≢ opening) → (b ∷ c ∷ [] ≢ closing) → q ≡ place_after p b → Walks text start n (c ∷ s) q
 goes_on text start n rest p b c s q w e no_open no_close at =
     let one : n ≡ suc (n - 1) = omega (arith, w.inside) in
     record {

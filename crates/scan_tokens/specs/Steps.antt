@@ -22,8 +22,8 @@ use Rattle.scan_tokens.specs.Forms.{IsLongest, IsMember, IsClosed, opening, clos
 use Rattle.scan_tokens.specs.Division.{RefusesIn, tokens_at}
 
 -- the place behind one byte more
-abbrev pub moved : Pos → ℕ → Pos
-moved p b =
+abbrev pub place_after : Pos → ℕ → Pos
+place_after p b =
     if is_line_end b
     then record { line = p.line + 1; col = 1 }
     else record { line = p.line; col = p.col + 1 }
@@ -31,7 +31,7 @@ moved p b =
 -- the place behind these bytes more
 abbrev pub over : Pos → Text → Pos
 over p [] = p
-over p (b ∷ bs) = over (moved p b) bs
+over p (b ∷ bs) = over (place_after p b) bs
 
 -- Neither number of a place gets too large over these bytes.
 abbrev pub HasRoom : Pos → Text → Type 0

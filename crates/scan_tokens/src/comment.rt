@@ -1,7 +1,7 @@
 //! Comments, and places.
 
 ghost use Rattle.std.specs.Prelude.{◌≡◌, ◌+◌, ◌<◌, ◌^◌, MatchOption};
-ghost use Rattle.scan_tokens.specs.Steps.{moved, HasRoom, IsMark, Closes, NeverCloses};
+ghost use Rattle.scan_tokens.specs.Steps.{place_after, HasRoom, IsMark, Closes, NeverCloses};
 
 use m2_tree::Pos;
 
@@ -10,7 +10,7 @@ use m2_tree::Pos;
 pub fn behind(pos: Pos, byte: u8) -> Pos
     requires line { pos.line + 1 < 2 ^ 32 }
     requires col { pos.col + 1 < 2 ^ 32 }
-    ensures { result ≡ moved pos byte }
+    ensures { result ≡ place_after pos byte }
 {
     if byte == b'\n' {
         Pos {

@@ -44,14 +44,14 @@ pub fn put(tokens: &mut Vec<Token>, lexeme: Lexeme, pos: Pos) -> Result<(), Allo
     Ok(())
 }
 
-pub fn refused(pos: Pos, fault: Fault) -> ScanError
+pub fn scan_refusal(pos: Pos, fault: Fault) -> ScanError
     ensures { result ≡ Refused (record { pos = pos; fault = fault }) }
 {
     ScanError::Refused(ScanRefusal { pos, fault })
 }
 
 /// The reserved word or the name that letters and digits are. The only error is that memory ran out.
-fn named(alloc: Global, run: &[u8]) -> Result<Lexeme, AllocError>
+fn word_lexeme(alloc: Global, run: &[u8]) -> Result<Lexeme, AllocError>
     requires letter { IsRun class.Letter run.now }
     requires short { length run.now ≤ max_name }
     ensures { IfOk result (Spells run.now) }
@@ -76,10 +76,10 @@ fn cut_name<'a>(
 {
     let len = run_len(text);
     if len > MAX_NAME {
-        return Err(refused(pos, Fault::LongName));
+        return Err(scan_refusal(pos, Fault::LongName));
     }
     let (run, rest) = text.split_at(len);
-    let lexeme = named(alloc, run)?;
+    let lexeme = word_lexeme(alloc, run)?;
     put(tokens, lexeme, pos)?;
     Ok(Cut {
         rest,
@@ -97,7 +97,7 @@ fn cut_number<'a>(text: &'a [u8], pos: Pos, tokens: &mut Vec<Token>) -> Result<C
     let len = run_len(text);
     let (run, rest) = text.split_at(len);
     match number_of(run) {
-        Err(fault) => Err(refused(pos, fault)),
+        Err(fault) => Err(scan_refusal(pos, fault)),
         Ok(token) => {
             put(tokens, token, pos)?;
             Ok(Cut {
@@ -124,12 +124,12 @@ fn cut_string<'a>(
     let (_, behind) = text.split_at(1);
     let len = inside_len(quote, behind);
     if len == behind.len() || behind[len] != quote {
-        return Err(refused(pos, Fault::OpenString));
+        return Err(scan_refusal(pos, Fault::OpenString));
     }
     let (inside, _) = behind.split_at(len);
     let good = printable_len(inside);
     if good < len {
-        return Err(refused(right(pos, good + 1), Fault::StrayByte));
+        return Err(scan_refusal(right(pos, good + 1), Fault::StrayByte));
     }
     let bytes = Quoted::new(alloc, inside)?;
     let (_, rest) = text.split_at(len + 2);
@@ -155,7 +155,7 @@ fn cut_comment(text: &[u8], pos: Pos) -> Result<Cut<'_>, ScanError>
 {
     let (_, behind) = text.split_at(2);
     match comment_end(behind, right(pos, 2)) {
-        None => Err(refused(pos, Fault::OpenComment)),
+        None => Err(scan_refusal(pos, Fault::OpenComment)),
         Some((rest, pos)) => Ok(Cut { rest, pos }),
     }
 }
@@ -200,7 +200,7 @@ fn cut_single<'a>(text: &'a [u8], pos: Pos, tokens: &mut Vec<Token>) -> Result<C
     ensures refused { IfErr result (Stops text.now pos) }
 {
     match single_of(text[0]) {
-        None => Err(refused(pos, Fault::StrayByte)),
+        None => Err(scan_refusal(pos, Fault::StrayByte)),
         Some(symbol) => {
             let (_, rest) = text.split_at(1);
             put(tokens, Lexeme::Symbol(symbol), pos)?;

@@ -115,9 +115,9 @@ data_text d = offset_text (codes "data") d.offset ++ (string_text d.bytes ++ cod
 -- ---- functions
 
 -- these bytes so many times
-abbrev pub repeated : ℕ → List ℕ → List ℕ
-repeated zero bytes = []
-repeated (suc count) bytes = repeated count bytes ++ bytes
+abbrev pub repeat_bytes : ℕ → List ℕ → List ℕ
+repeat_bytes zero bytes = []
+repeat_bytes (suc count) bytes = repeat_bytes count bytes ++ bytes
 
 -- what is said of the function of this number, or nothing
 abbrev pub title_of : Option (Vec ℕ) → List ℕ
@@ -130,7 +130,7 @@ title_at titles number = title_of (slice_get titles number)
 -- locals of one type; each stands by itself
 abbrev pub locals_text : Locals → List ℕ
 locals_text l =
-    codes "    (local" ++ (repeated l.count (codes " " ++ value_type_word l.value_type)
+    codes "    (local" ++ (repeat_bytes l.count (codes " " ++ value_type_word l.value_type)
     ++ codes ")\n")
 
 -- the begin of a function: its type, and what is said of it

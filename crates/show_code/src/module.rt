@@ -3,7 +3,7 @@
 ghost use Rattle.std.specs.Prelude.{◌≡◌, ◌++◌, OnOk, codes, decimal};
 ghost use Rattle.std.specs.List.{flat_map};
 ghost use Rattle.show_code.specs.Instructions.{code_text, label_text};
-ghost use Rattle.show_code.specs.Modules.{back_text, data_text, element_text, export_text, front_text, function_kind_text, function_text, functions_text, global_head, global_text, heading_text, import_parts, import_text, kind_text, limits_text, locals_text, memory_text, middle_text, module_text, most_text, offset_text, repeated, signature_text, table_text, thing_text, title_at, type_text, types_text};
+ghost use Rattle.show_code.specs.Modules.{back_text, data_text, element_text, export_text, front_text, function_kind_text, function_text, functions_text, global_head, global_text, heading_text, import_parts, import_text, kind_text, limits_text, locals_text, memory_text, middle_text, module_text, most_text, offset_text, repeat_bytes, signature_text, table_text, thing_text, title_at, type_text, types_text};
 
 use crate::instructions::put_ops;
 use crate::page::Page;
@@ -284,7 +284,7 @@ fn put_elements(page: &mut Page, elements: &[Element]) -> Result<(), AllocError>
 
 /// Puts bytes several times.
 fn put_times(page: &mut Page, count: u32, word: &str) -> Result<(), AllocError>
-    ensures { OnOk result (page.new ≡ page.old ++ repeated count (codes " " ++ word.now)) }
+    ensures { OnOk result (page.new ≡ page.old ++ repeat_bytes count (codes " " ++ word.now)) }
 {
     for _ in 0..count {
         page.put(b" ")?;

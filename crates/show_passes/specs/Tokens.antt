@@ -82,15 +82,15 @@ octal code = (48 + code / 64) ∷ (48 + code / 8 % 8) ∷ (48 + code % 8) ∷ []
 unfoldable pub quote_of : List ℕ → ℕ
 quote_of bytes = if list_any (λ b. b == 34) bytes then 39 else 34
 
-abbrev pub quoted : List ℕ → List ℕ
-quoted bytes = quote_of bytes ∷ (bytes ++ quote_of bytes ∷ [])
+abbrev pub quote_bytes : List ℕ → List ℕ
+quote_bytes bytes = quote_of bytes ∷ (bytes ++ quote_of bytes ∷ [])
 
 -- what a token says, behind the sort of token that it is
 abbrev pub lexeme_text : Lexeme → List ℕ
 lexeme_text (lexeme.Name name) = codes "name " ++ name
 lexeme_text (lexeme.Number number) = codes "number " ++ decimal number
 lexeme_text (lexeme.Char code) = codes "character " ++ (octal code ++ codes "C")
-lexeme_text (lexeme.Text bytes) = codes "string " ++ quoted bytes
+lexeme_text (lexeme.Text bytes) = codes "string " ++ quote_bytes bytes
 lexeme_text (lexeme.Symbol symbol) = spelling symbol
 lexeme_text lexeme.End = codes "end"
 

@@ -2,7 +2,7 @@
 
 ghost use Rattle.std.specs.Prelude.{◌≡◌, ◌==◌, ◌++◌, IfOk, OnOk};
 ghost use Rattle.std.specs.List.{list_any};
-ghost use Rattle.show_passes.specs.Tokens.{lexeme_text, octal, quoted, quote_of, token_line, tokens_text};
+ghost use Rattle.show_passes.specs.Tokens.{lexeme_text, octal, quote_bytes, quote_of, token_line, tokens_text};
 
 use crate::signs::spelling;
 use m2_tree::{Lexeme, Token};
@@ -26,7 +26,7 @@ fn quote_of(bytes: &[u8]) -> u8
 
 /// Puts a string between quotes.
 pub fn put_quoted(page: &mut Page, bytes: &[u8]) -> Result<(), AllocError>
-    ensures { OnOk result (page.new ≡ page.old ++ quoted bytes.now) }
+    ensures { OnOk result (page.new ≡ page.old ++ quote_bytes bytes.now) }
 {
     let quote = [quote_of(bytes)];
     page.put(&quote)?;

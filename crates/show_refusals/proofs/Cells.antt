@@ -4,7 +4,7 @@ use Rattle.std.specs.Fmt.{digit_glyph, digits, format_spec, padded_integral}
 use Rattle.std.proofs.lemmas.Bool.{and_parts, leb-true, ne_eqb}
 use Rattle.std.proofs.lemmas.Fmt.{hex_byte}
 use Rattle.std.proofs.lemmas.List.Sums.{fold_more}
-use Rattle.show_refusals.specs.Layout.{cell, is_printable, put, shown}
+use Rattle.show_refusals.specs.Layout.{cell, is_printable, put, show_source}
 
 pub tab_cell : (column byte : ℕ) → byte ≡ 9 → cell column byte ≡ replicate (8 - column % 8) 32
 unfolding cell
@@ -43,5 +43,5 @@ coded_put r text new byte bound is_other is_coded =
     subst (λ (t : List ℕ). OnOk r (new ≡ t))
     (ap (λ (cs : List ℕ). text ++ (92 ∷ 120 ∷ cs)) (hex_byte true byte bound) ∙ ap (λ (cs : List ℕ). text ++ cs) (sym (coded_cell (length text) byte (ne_eqb byte 9 is_other) is_coded)))
 
-pub shown_more : (front bytes : List ℕ) (k : ℕ) → k < length bytes → shown front (take (k + 1) bytes) ≡ put (shown front (take k bytes)) (get_or bytes k 0)
+pub shown_more : (front bytes : List ℕ) (k : ℕ) → k < length bytes → show_source front (take (k + 1) bytes) ≡ put (show_source front (take k bytes)) (get_or bytes k 0)
 shown_more front bytes k h = fold_more put front bytes k 0 h

@@ -23,8 +23,8 @@ abbrev pub put : (text : List ℕ) (byte : ℕ) → List ℕ
 put text byte = text ++ cell (length text) byte
 
 -- bytes of source as they are shown behind a text
-abbrev pub shown : (front bytes : List ℕ) → List ℕ
-shown front bytes = fold put front bytes
+abbrev pub show_source : (front bytes : List ℕ) → List ℕ
+show_source front bytes = fold put front bytes
 
 -- the number of a line, in front of it
 abbrev pub gutter : ℕ → List ℕ
@@ -35,8 +35,8 @@ abbrev pub blanks_under : List ℕ → List ℕ
 blanks_under text = replicate (length text) 32
 
 -- in red if colour is asked for
-abbrev pub painted : Bool → List ℕ → List ℕ
-painted colour mark = if colour then (27 ∷ codes "[1;31m") ++ mark ++ (27 ∷ codes "[0m") else mark
+abbrev pub paint_mark : Bool → List ℕ → List ℕ
+paint_mark colour mark = if colour then (27 ∷ codes "[1;31m") ++ mark ++ (27 ∷ codes "[0m") else mark
 
 -- the mark under a token that takes the columns between two texts: at least one sign
 abbrev pub mark : (before through : List ℕ) → List ℕ
@@ -45,12 +45,12 @@ mark before through = replicate (max (length through - length before) 1) 94
 -- the row under a line: blanks under the gutter and what stands before the token, and then the mark
 abbrev pub mark_row : (colour : Bool) (gutter front bytes : List ℕ) (start end : ℕ) → List ℕ
 mark_row colour gutter front bytes start end =
-    let before = shown front (take start bytes) in
-    blanks_under (gutter ++ before) ++ painted colour (mark before (shown front (take end bytes)))
+    let before = show_source front (take start bytes) in
+    blanks_under (gutter ++ before) ++ paint_mark colour (mark before (show_source front (take end bytes)))
 
 -- a line of source behind its number, and under it the row with the mark
 abbrev pub picture : (colour : Bool) (number : ℕ) (front bytes back : List ℕ) (start end : ℕ)
     → List ℕ
 picture colour number front bytes back start end =
-    gutter number ++ (shown front bytes ++ (back ++ (codes "\n"
+    gutter number ++ (show_source front bytes ++ (back ++ (codes "\n"
     ++ (mark_row colour (gutter number) front bytes start end ++ codes "\n"))))

@@ -1,7 +1,7 @@
 //! How bytes of source are shown.
 
 ghost use Rattle.std.specs.Prelude.{◌≡◌, ◌<◌, ◌++◌, IfOk, OnOk, replicate, string_bytes};
-ghost use Rattle.show_refusals.specs.Layout.{is_printable, put, shown};
+ghost use Rattle.show_refusals.specs.Layout.{is_printable, put, show_source};
 
 use std::alloc::{AllocError, Global};
 use std::fmt::Write;
@@ -43,7 +43,7 @@ fn push_cell(text: &mut String, byte: u8) -> Result<(), AllocError>
 /// Bytes of source as they are shown behind a text.
 #[tactic(auto, using(crate::proofs::Cells::shown_more))]
 pub fn show_bytes(alloc: Global, front: &str, bytes: &[u8]) -> Result<String, AllocError>
-    ensures { IfOk result (λ text. string_bytes text ≡ shown front.now bytes.now) }
+    ensures { IfOk result (λ text. string_bytes text ≡ show_source front.now bytes.now) }
 {
     let mut text = String::from_str(alloc, front)?;
     for byte in bytes {

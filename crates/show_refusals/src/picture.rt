@@ -1,7 +1,7 @@
 //! A line of source with a mark under a token.
 
 ghost use Rattle.std.specs.Prelude.{◌≡◌, ◌≤◌, ◌+◌, ◌-◌, ◌++◌, IfOk, OnOk, replicate, string_bytes, length, max};
-ghost use Rattle.show_refusals.specs.Layout.{blanks_under, mark_row, painted, picture};
+ghost use Rattle.show_refusals.specs.Layout.{blanks_under, mark_row, paint_mark, picture};
 ghost use Rattle.show_refusals.specs.Part.{IsPart};
 
 use crate::layout::{push_times, show_bytes};
@@ -75,7 +75,7 @@ pub fn part_around<'a>(spot: &Spot<'a>) -> Part<'a>
 
 /// Writes the mark, in red if colour is asked for.
 fn push_mark(text: &mut String, count: usize, colour: bool) -> Result<(), AllocError>
-    ensures { OnOk result (string_bytes text.new ≡ string_bytes text.old ++ painted colour (replicate count 94)) }
+    ensures { OnOk result (string_bytes text.new ≡ string_bytes text.old ++ paint_mark colour (replicate count 94)) }
 {
     if !colour {
         return push_times(text, '^', count);

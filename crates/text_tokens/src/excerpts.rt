@@ -29,7 +29,7 @@ pub fn bytes_between<'a>(text: &'a [u8], tokens: &[Token], from: usize, to: usiz
 }
 
 /// A byte as it is shown.
-fn shown(byte: u8) -> u8 {
+fn shown_byte(byte: u8) -> u8 {
     match byte {
         b'!'..=b'~' => byte,
         _ => b'?',
@@ -57,7 +57,7 @@ pub fn shorten(alloc: Global, bytes: &[u8]) -> Result<Vec<u8>, AllocError> {
                 all.push(b' ')?;
                 is_blank = false;
             }
-            all.push(shown(*byte))?;
+            all.push(shown_byte(*byte))?;
         }
     }
     Ok(all)

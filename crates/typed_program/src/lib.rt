@@ -57,7 +57,7 @@ fn tables_of(alloc: Global, done: &[Done], jobs: &[usize]) -> Result<Items<Share
 }
 
 /// The table of a definition, by the number of its job.
-fn defined(
+fn definition_table(
     alloc: Global,
     number: u32,
     tree: &Module,
@@ -116,7 +116,8 @@ impl Bodies {
         let number = u32::try_from(self.done.len())?;
         let tables = tables_of(self.alloc, &self.done, needs)?;
         if let Contents::Definition(_) = &tree.contents {
-            self.done.push(defined(self.alloc, number, tree, tables)?)?;
+            self.done
+                .push(definition_table(self.alloc, number, tree, tables)?)?;
             return Ok(());
         }
         let typed = typed_body(self.alloc, number, tree, tables.as_slice())?;

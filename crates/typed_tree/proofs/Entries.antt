@@ -5,13 +5,13 @@ use Rattle.std.specs.List.{position, prefix_len}
 use Rattle.std.specs.Map.{lookup, keys_of}
 use Rattle.indexmap.specs.IndexMap.{insert_entry}
 use Rattle.m2_tree.specs.Names.{same_name}
-use Rattle.typed_tree.specs.Names.{found, place_of, entered}
+use Rattle.typed_tree.specs.Names.{find_name, place_of, enter_name}
 
 module _ {K V : Type 0} (items : K → List ℕ) where
   abbrev pub named : List (K × V) → List (List ℕ × V)
   named es = map (λ e. (items e.0, e.1)) es
 
-  pub found_is : (name : List ℕ) (es : List (K × V)) → lookup (λ k. same_name name (items k)) es ≡ found name (named es)
+  pub found_is : (name : List ℕ) (es : List (K × V)) → lookup (λ k. same_name name (items k)) es ≡ find_name name (named es)
   found_is name [] = refl
   found_is name (e ∷ es) = ap (λ x. cond (same_name name (items e.0)) (Some e.1) x) (found_is name es)
 
@@ -31,6 +31,6 @@ module _ {K V : Type 0} (items : K → List ℕ) where
   entered_case true k k' value v es es' ns e = refl
   entered_case false k k' value v es es' ns e = ap (λ x. (items k', v) ∷ x) e
 
-  pub entered_is : (k : K) (value : V) (es : List (K × V)) → named (insert_entry (λ a b. same_name (items a) (items b)) es k value) ≡ entered (items k) value (named es)
+  pub entered_is : (k : K) (value : V) (es : List (K × V)) → named (insert_entry (λ a b. same_name (items a) (items b)) es k value) ≡ enter_name (items k) value (named es)
   entered_is k value [] = refl
-  entered_is k value (e ∷ es) = entered_case (same_name (items k) (items e.0)) k e.0 value e.1 es (insert_entry (λ a b. same_name (items a) (items b)) es k value) (entered (items k) value (named es)) (entered_is k value es)
+  entered_is k value (e ∷ es) = entered_case (same_name (items k) (items e.0)) k e.0 value e.1 es (insert_entry (λ a b. same_name (items a) (items b)) es k value) (enter_name (items k) value (named es)) (entered_is k value es)

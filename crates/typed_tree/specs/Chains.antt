@@ -16,12 +16,12 @@ abbrev pub linked_to : TypedExpr-F Argument Call Component Link TypedExpr Place 
 linked_to (layer.Chain first links) e l = Chain first (links ++ l ∷ [])
 linked_to _ e l = Chain e (l ∷ [])
 
-abbrev pub linked : TypedExpr → Link → TypedExpr
-linked e l = linked_to (out-TypedExpr e) e l
+abbrev pub link_operand : TypedExpr → Link → TypedExpr
+link_operand e l = linked_to (out-TypedExpr e) e l
 
 -- a variable alone, and a component more
-abbrev pub rooted : Root → Place
-rooted r = record { root = r; components = [] }
+abbrev pub root_place : Root → Place
+root_place r = record { root = r; components = [] }
 
 abbrev pub behind : Place → Component → Place
 behind d c = record { root = d.root; components = d.components ++ c ∷ [] }

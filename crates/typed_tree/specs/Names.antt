@@ -4,15 +4,15 @@ use Rattle.std.specs.List.{position}
 use Rattle.m2_tree.specs.Names.{same_name}
 
 module _ {V : Type 0} where
-  abbrev pub found : List ℕ → List (List ℕ × V) → Option V
-  found name [] = None
-  found name (e ∷ es) = cond (same_name name e.0) (Some e.1) (found name es)
+  abbrev pub find_name : List ℕ → List (List ℕ × V) → Option V
+  find_name name [] = None
+  find_name name (e ∷ es) = cond (same_name name e.0) (Some e.1) (find_name name es)
 
   abbrev pub place_of : List ℕ → List (List ℕ × V) → Option ℕ
   place_of name es = position (λ e. same_name name e.0) es
 
   -- a new name goes to the end, and one that is there keeps its place
-  abbrev pub entered : List ℕ → V → List (List ℕ × V) → List (List ℕ × V)
-  entered name value [] = (name, value) ∷ []
-  entered name value (e ∷ es) =
-      cond (same_name name e.0) ((e.0, value) ∷ es) (e ∷ entered name value es)
+  abbrev pub enter_name : List ℕ → V → List (List ℕ × V) → List (List ℕ × V)
+  enter_name name value [] = (name, value) ∷ []
+  enter_name name value (e ∷ es) =
+      cond (same_name name e.0) ((e.0, value) ∷ es) (e ∷ enter_name name value es)

@@ -14,23 +14,23 @@ is_one_home (Module m) (Module n) = m == n
 abbrev pub are_same : TypeNo → TypeNo → Bool
 are_same t u = is_one_home t.home u.home && t.number == u.number
 
-abbrev pub predeclared : ℕ → TypeNo
-predeclared n = record { home = Predeclared; number = n }
+abbrev pub predeclared_type : ℕ → TypeNo
+predeclared_type n = record { home = Predeclared; number = n }
 
 abbrev pub integer : TypeNo
-integer = predeclared 0
+integer = predeclared_type 0
 
 abbrev pub cardinal : TypeNo
-cardinal = predeclared 1
+cardinal = predeclared_type 1
 
 abbrev pub boolean : TypeNo
-boolean = predeclared 2
+boolean = predeclared_type 2
 
 abbrev pub char : TypeNo
-char = predeclared 3
+char = predeclared_type 3
 
 abbrev pub bitset : TypeNo
-bitset = predeclared 4
+bitset = predeclared_type 4
 
 abbrev pub is_integer : TypeNo → Bool
 is_integer t = are_same t integer

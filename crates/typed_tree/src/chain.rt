@@ -1,7 +1,7 @@
 //! Chains of operators, and components behind variables.
 
 ghost use Rattle.std.specs.Prelude.{IfOk, ◌≡◌};
-ghost use Rattle.typed_tree.specs.Chains.{behind, linked, rooted};
+ghost use Rattle.typed_tree.specs.Chains.{behind, link_operand, root_place};
 
 use crate::computed::{Component, Link, Place, Root, TypedExpr};
 use std::alloc::{AllocError, Global};
@@ -9,15 +9,15 @@ use tree_parts::Items;
 
 /// An operator and its second operand behind a first one. Where that is a chain, it gets one operator more. The only error
 /// is that memory ran out.
-pub fn linked(alloc: Global, first: TypedExpr, link: Link) -> Result<TypedExpr, AllocError>
-    ensures { IfOk result (λ e. e ≡ linked first link) }
+pub fn link_operand(alloc: Global, first: TypedExpr, link: Link) -> Result<TypedExpr, AllocError>
+    ensures { IfOk result (λ e. e ≡ link_operand first link) }
 {
     first.with_link(alloc, link)
 }
 
 /// The variable itself.
-pub fn rooted(alloc: Global, root: Root) -> Place
-    ensures { result ≡ rooted root }
+pub fn root_place(alloc: Global, root: Root) -> Place
+    ensures { result ≡ root_place root }
 {
     Place {
         root,

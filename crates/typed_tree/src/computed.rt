@@ -2,7 +2,7 @@
 
 ghost use Rattle.std.specs.Prelude.{IfOk, ◌≡◌, ◌∷◌, []};
 ghost use Rattle.typed_tree.specs.declared.computed.TypedExpr.TheVariants.{Chain};
-ghost use Rattle.typed_tree.specs.Chains.{linked};
+ghost use Rattle.typed_tree.specs.Chains.{link_operand};
 
 use crate::meaning::{Procedure, Variable};
 use crate::types::TypeNo;
@@ -194,7 +194,7 @@ fn chain_of(alloc: Global, first: TypedExpr, link: Link) -> Result<TypedExpr, Al
 impl TypedExpr {
     /// This expression with one more operator and its second operand.
     pub(crate) fn with_link(self, alloc: Global, link: Link) -> Result<TypedExpr, AllocError>
-        ensures { IfOk result (λ e. e ≡ linked self link) }
+        ensures { IfOk result (λ e. e ≡ link_operand self link) }
     {
         match self {
             TypedExpr::Chain(start, links) => {

@@ -2,7 +2,7 @@
 
 ghost use Rattle.std.specs.Prelude.{◌≡◌, [], length, slice_get, IfOk, OnOk};
 ghost use Rattle.std.specs.Option.{option_copied, option_map};
-ghost use Rattle.typed_tree.specs.Names.{found, place_of, entered};
+ghost use Rattle.typed_tree.specs.Names.{find_name, place_of, enter_name};
 
 use indexmap::IndexMap;
 use std::alloc::{AllocError, Global};
@@ -42,7 +42,7 @@ impl<V> Dictionary<V> {
 
     /// What a name stands for.
     pub fn find(&self, name: &[u8]) -> Option<&V>
-        ensures { option_copied result ≡ found name.now self.now }
+        ensures { option_copied result ≡ find_name name.now self.now }
     {
         self.names.get(name)
     }
@@ -66,7 +66,7 @@ impl<V> Dictionary<V> {
 impl<V: Drop> Dictionary<V> {
     /// Enters a name: a new one at the end, and one that is there at its place. The only error is that memory ran out.
     pub fn enter(&mut self, alloc: Global, name: &[u8], value: V) -> Result<(), AllocError>
-        ensures { OnOk result (self.new ≡ entered name.now value self.old) }
+        ensures { OnOk result (self.new ≡ enter_name name.now value self.old) }
     {
         let key = Vec::from_slice(alloc, name)?;
         self.names.insert(key, value)?;

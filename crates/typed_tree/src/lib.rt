@@ -14,7 +14,7 @@ mod table;
 mod typed_module;
 mod types;
 
-pub use chain::{behind, linked, rooted};
+pub use chain::{behind, link_operand, root_place};
 pub use computed::{
     Argument, Arithmetic, Call, Comparison, Component, Inclusion, Link, LocalProcedure, Place,
     Root, SetOperator, Slot, TypedExpr,

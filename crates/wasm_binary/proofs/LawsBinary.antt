@@ -12,9 +12,9 @@ use Rattle.wasm_tree.specs.declared.module.ExportKind.{ExportKind}
 use Rattle.wasm_tree.specs.declared.module.ExportKind.TheVariants as exported
 use Rattle.wasm_tree.specs.Format.{◌>>=◌}
 use Rattle.wasm_code.specs.Number.{unsigned}
-use Rattle.wasm_code.specs.Parts.{◌◂◌, ◌·◌, seen, vector, sized, bytes_left, name}
+use Rattle.wasm_code.specs.Parts.{◌◂◌, ◌·◌, as_value, vector, with_size, bytes_left, name}
 use Rattle.wasm_code.specs.Instructions.{value_type, code}
-use Rattle.wasm_binary.specs.Binary.{table_type, memory_type, import_kind, import, global, export_kind, export, element, locals_at, locals_encoding, declared, locals, body, data_segment}
+use Rattle.wasm_binary.specs.Binary.{table_type, memory_type, import_kind, import, global, export_kind, export, element, locals_at, locals_encoding, local_count, locals, body, data_segment}
 use Rattle.wasm_code.proofs.Laws.{IsBytes, IsBytes-tail, bind_ok, guard_ok, read_is, Taken, Law, whole}
 use Rattle.wasm_code.proofs.LawsTagged.{if_tag, bind_behind, tagged, value_type_law, value_type_fits}
 use Rattle.wasm_binary.proofs.LawsKinds.{table_type_law, memory_type_law}
@@ -113,8 +113,8 @@ element_law =
 pub data_segment_law : Law data_segment
 unfolding data_segment
 data_segment_law =
-    seen_law (λ p. record { memory = p.0; offset = p.1.0; bytes = p.1.1 }) (λ d. (d.memory, (d.offset, d.bytes))) (unsigned · (code · sized bytes_left))
-    (then_law unsigned (code · sized bytes_left) unsigned_law (then_law code (sized bytes_left) code_law (sized_law bytes_left bytes_left_law))) (λ y. refl) (λ x. refl)
+    seen_law (λ p. record { memory = p.0; offset = p.1.0; bytes = p.1.1 }) (λ d. (d.memory, (d.offset, d.bytes))) (unsigned · (code · with_size bytes_left))
+    (then_law unsigned (code · with_size bytes_left) unsigned_law (then_law code (with_size bytes_left) code_law (sized_law bytes_left bytes_left_law))) (λ y. refl) (λ x. refl)
 
 -- ---- locals
 
@@ -122,15 +122,15 @@ record LocalsTaken (count before : ℕ) (bytes : List ℕ) (ls : List Locals) (r
   parts : bytes ≡ flat_map locals_encoding ls ++ rest
   rest_fits : IsBytes rest
   len : length ls ≡ count
-  room : before + declared ls < 2 ^ 32
+  room : before + local_count ls < 2 ^ 32
 
 locals_taken_at : (count before : ℕ) (bytes : List ℕ) (x y : List Locals) (b c : List ℕ) → (x ≡ y) × (b ≡ c) → LocalsTaken count before bytes x b → LocalsTaken count before bytes y c
 locals_taken_at count before bytes x y b c is t = subst (λ z. LocalsTaken count before bytes z c) is.0 (subst (λ r. LocalsTaken count before bytes x r) is.1 t)
 
-declared-cons : (l : Locals) (ls : List Locals) → declared (l ∷ ls) ≡ l.count + declared ls
+declared-cons : (l : Locals) (ls : List Locals) → local_count (l ∷ ls) ≡ l.count + local_count ls
 declared-cons l ls = sum_by-cons (λ l. l.count) l ls
 
-declared-none : declared [] ≡ 0
+declared-none : local_count [] ≡ 0
 declared-none = refl
 
 abbrev pair_of : ℕ → ValueType → Locals
@@ -161,14 +161,14 @@ locals_at_takes (suc count) before bytes ls rest fits room e =
 locals_regroup : (one two text rest : List ℕ) → ((one ++ two) ++ text) ++ rest ≡ one ++ (two ++ (text ++ rest))
 locals_regroup one two text rest = simp append_assoc
 
-locals_at_again : (before : ℕ) (ls : List Locals) (rest : List ℕ) → before + declared ls < 2 ^ 32 → locals_at (length ls) before (flat_map locals_encoding ls ++ rest) ≡ Ok (ls, rest)
+locals_at_again : (before : ℕ) (ls : List Locals) (rest : List ℕ) → before + local_count ls < 2 ^ 32 → locals_at (length ls) before (flat_map locals_encoding ls ++ rest) ≡ Ok (ls, rest)
 unfolding locals_at
 locals_at_again before [] rest room = refl
 locals_at_again before (l ∷ ls) rest room =
-    let sum : declared (l ∷ ls) ≡ l.count + declared ls = declared-cons l ls in
+    let sum : local_count (l ∷ ls) ≡ l.count + local_count ls = declared-cons l ls in
     let one : l.count < 2 ^ 32 = omega (arith, sum) in
     let two : before + l.count < 2 ^ 32 = omega (arith, sum) in
-    let three : (before + l.count) + declared ls < 2 ^ 32 = omega (arith, sum) in
+    let three : (before + l.count) + local_count ls < 2 ^ 32 = omega (arith, sum) in
     rw (
       locals_regroup (unsigned.encoding l.count) (value_type.encoding l.value_type) (flat_map locals_encoding ls) rest,
       unsigned_law.again l.count (value_type.encoding l.value_type ++ (flat_map locals_encoding ls ++ rest)) (lt-ltb l.count (2 ^ 32) one),
@@ -188,14 +188,14 @@ locals_takes bytes ls rest fits e =
     record {
       parts = parts ∙ ap (λ (n : ℕ). (unsigned.encoding n ++ flat_map locals_encoding ls) ++ rest) (sym u.len);
       rest_fits = u.rest_fits;
-      fits = and_from _ _ (ap unsigned.fits u.len ∙ t.fits) (lt-ltb (declared ls) (2 ^ 32) (omega (arith, u.room)));
+      fits = and_from _ _ (ap unsigned.fits u.len ∙ t.fits) (lt-ltb (local_count ls) (2 ^ 32) (omega (arith, u.room)));
     }
 
 locals_again : (ls : List Locals) (rest : List ℕ) → locals.fits ls ≡ true → locals.reading (locals.encoding ls ++ rest) ≡ Ok (ls, rest)
 unfolding locals
 locals_again ls rest fits =
-    let f = and_parts (ltb (length ls) (2 ^ 32)) (ltb (declared ls) (2 ^ 32)) fits in
-    let room : declared ls < 2 ^ 32 = ltb-true (declared ls) (2 ^ 32) f.1 in
+    let f = and_parts (ltb (length ls) (2 ^ 32)) (ltb (local_count ls) (2 ^ 32)) fits in
+    let room : local_count ls < 2 ^ 32 = ltb-true (local_count ls) (2 ^ 32) f.1 in
     rw (append_assoc (unsigned.encoding (length ls)) (flat_map locals_encoding ls) rest, unsigned_law.again (length ls) (flat_map locals_encoding ls ++ rest) f.0) (locals_at_again 0 ls rest (omega arith))
 
 pub locals_law : Law locals
@@ -204,6 +204,6 @@ locals_law = record { takes = locals_takes; again = locals_again }
 pub body_law : Law body
 unfolding body
 body_law =
-    sized_law (seen (λ p. record { locals = p.0; code = p.1 }) (λ b. (b.locals, b.code)) (locals · code))
-    (whole (seen (λ p. record { locals = p.0; code = p.1 }) (λ b. (b.locals, b.code)) (locals · code))
+    sized_law (as_value (λ p. record { locals = p.0; code = p.1 }) (λ b. (b.locals, b.code)) (locals · code))
+    (whole (as_value (λ p. record { locals = p.0; code = p.1 }) (λ b. (b.locals, b.code)) (locals · code))
     (seen_law (λ p. record { locals = p.0; code = p.1 }) (λ b. (b.locals, b.code)) (locals · code) (then_law locals code locals_law code_law) (λ y. refl) (λ x. refl)))

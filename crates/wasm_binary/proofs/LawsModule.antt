@@ -12,7 +12,7 @@ use Rattle.wasm_tree.specs.declared.module.Data.{Data}
 use Rattle.wasm_tree.specs.declared.module.WModule.{WModule}
 use Rattle.wasm_tree.specs.Format.{Format, Reading, ◌>>=◌, Gives, skip}
 use Rattle.wasm_code.specs.Number.{groups, unsigned}
-use Rattle.wasm_code.specs.Parts.{sized, section}
+use Rattle.wasm_code.specs.Parts.{with_size, section}
 use Rattle.wasm_binary.specs.Binary.{func_type, import, table_type, memory_type, global, export, element, body, data_segment, header, skip_all, bodies, code_entries, code_content, code_section, at_end, module_at, body_encoding, bodies_encoding, code_encoding, types_of, first_sections, middle_sections, last_sections, module_encoding, module_fits, binary, Encodes, IsOnlyEncoding}
 use Rattle.wasm_code.proofs.Laws.{IsBytes, IsBytes-tail, IsBytes-after, bind_ok, guard_ok, ok_is, read_is, Taken, Law, WholeLaw}
 use Rattle.wasm_code.proofs.LawsNumber.{unsigned_law}
@@ -121,7 +121,7 @@ none_room : ltb (length (bodies_encoding [])) (2 ^ 32) ≡ true
 unfolding groups
 none_room = refl
 
-code_some : (t : ℕ) (types bytes : List ℕ) (fs : List Function) (rest : List ℕ) → types_of fs ≡ t ∷ types → Taken (sized (code_format (t ∷ types))) bytes fs rest → CodeTaken (t ∷ types) (10 ∷ bytes) fs rest
+code_some : (t : ℕ) (types bytes : List ℕ) (fs : List Function) (rest : List ℕ) → types_of fs ≡ t ∷ types → Taken (with_size (code_format (t ∷ types))) bytes fs rest → CodeTaken (t ∷ types) (10 ∷ bytes) fs rest
 code_some t types bytes [] rest is u = absurd cc
 code_some t types bytes (f ∷ fs) rest is u =
     let g = and_parts (bodies_fit (f ∷ fs)) (ltb (length (bodies_encoding (f ∷ fs))) (2 ^ 32)) u.fits in

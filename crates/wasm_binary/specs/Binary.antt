@@ -24,13 +24,13 @@ use Rattle.wasm_tree.specs.declared.module.WModule.{WModule}
 use Rattle.wasm_tree.specs.Format.{Format, Reading, ◌>>=◌, byte_at, skip}
 use Rattle.wasm_code.specs.Number.{unsigned}
 use Rattle.wasm_code.specs.Instructions.{value_type, code}
-use Rattle.wasm_code.specs.Parts.{◌▸◌, ◌◂◌, ◌·◌, seen, vector, closed, sized, bytes_left, section, name}
+use Rattle.wasm_code.specs.Parts.{◌▸◌, ◌◂◌, ◌·◌, as_value, vector, close_part, with_size, bytes_left, section, name}
 
 -- ---- types (5.3)
 
 unfoldable pub func_type : Format FuncType
 func_type =
-    seen (λ p. record { params = p.0; results = p.1 }) (λ t. (t.params, t.results))
+    as_value (λ p. record { params = p.0; results = p.1 }) (λ t. (t.params, t.results))
     (0x60 ▸ vector value_type · vector value_type)
 
 abbrev pub limits_encoding : Limits → List ℕ
@@ -58,10 +58,10 @@ limits = record {
 }
 
 unfoldable pub table_type : Format TableType
-table_type = seen (λ l. record { limits = l }) (λ t. t.limits) (0x70 ▸ limits)
+table_type = as_value (λ l. record { limits = l }) (λ t. t.limits) (0x70 ▸ limits)
 
 unfoldable pub memory_type : Format MemoryType
-memory_type = seen (λ l. record { limits = l }) (λ t. t.limits) limits
+memory_type = as_value (λ l. record { limits = l }) (λ t. t.limits) limits
 
 -- ---- the parts of a module (5.5)
 
@@ -95,12 +95,12 @@ import_kind = record {
 
 unfoldable pub import : Format Import
 import =
-    seen (λ p. record { module_name = p.0; name = p.1.0; kind = p.1.1 })
+    as_value (λ p. record { module_name = p.0; name = p.1.0; kind = p.1.1 })
     (λ i. (i.module_name, (i.name, i.kind))) (name · (name · import_kind))
 
 unfoldable pub global : Format Global
 global =
-    seen (λ p. record { value_type = p.0; value = p.1 }) (λ g. (g.value_type, g.value))
+    as_value (λ p. record { value_type = p.0; value = p.1 }) (λ g. (g.value_type, g.value))
     ((value_type ◂ 0x00) · code)
 
 abbrev pub export_kind_encoding : ExportKind → List ℕ
@@ -131,11 +131,11 @@ export_kind = record {
 }
 
 unfoldable pub export : Format Export
-export = seen (λ p. record { name = p.0; kind = p.1 }) (λ e. (e.name, e.kind)) (name · export_kind)
+export = as_value (λ p. record { name = p.0; kind = p.1 }) (λ e. (e.name, e.kind)) (name · export_kind)
 
 unfoldable pub element : Format Element
 element =
-    seen (λ p. record { table = p.0; offset = p.1.0; functions = p.1.1 })
+    as_value (λ p. record { table = p.0; offset = p.1.0; functions = p.1.1 })
     (λ e. (e.table, (e.offset, e.functions))) (unsigned · (code · vector unsigned))
 
 -- groups of locals, where there are so many before them: fewer than 2 ^ 32 in all
@@ -152,25 +152,25 @@ locals_at (suc count) before bytes =
 abbrev pub locals_encoding : Locals → List ℕ
 locals_encoding l = unsigned.encoding l.count ++ value_type.encoding l.value_type
 
-abbrev pub declared : List Locals → ℕ
-declared ls = sum_by (λ l. l.count) ls
+abbrev pub local_count : List Locals → ℕ
+local_count ls = sum_by (λ l. l.count) ls
 
 unfoldable pub locals : Format (List Locals)
 locals = record {
   encoding = λ ls. unsigned.encoding (length ls) ++ flat_map locals_encoding ls;
   reading = λ bytes. unsigned.reading bytes >>= λ n. locals_at n.0 0 n.1;
-  fits = λ ls. nat_lt (length ls) (2 ^ 32) && nat_lt (declared ls) (2 ^ 32);
+  fits = λ ls. nat_lt (length ls) (2 ^ 32) && nat_lt (local_count ls) (2 ^ 32);
 }
 
 unfoldable pub body : Format Body
 body =
-    sized
-    (seen (λ p. record { locals = p.0; code = p.1 }) (λ b. (b.locals, b.code)) (locals · code))
+    with_size
+    (as_value (λ p. record { locals = p.0; code = p.1 }) (λ b. (b.locals, b.code)) (locals · code))
 
 unfoldable pub data_segment : Format Data
 data_segment =
-    seen (λ p. record { memory = p.0; offset = p.1.0; bytes = p.1.1 })
-    (λ d. (d.memory, (d.offset, d.bytes))) (unsigned · (code · sized bytes_left))
+    as_value (λ p. record { memory = p.0; offset = p.1.0; bytes = p.1.1 })
+    (λ d. (d.memory, (d.offset, d.bytes))) (unsigned · (code · with_size bytes_left))
 
 -- ---- a module (5.5.15)
 
@@ -199,7 +199,7 @@ unfoldable pub code_content : (types : List ℕ) → List ℕ → Reading (List 
 code_content types bytes =
     unsigned.reading bytes >>= λ n.
     code_entries types (take n.0 n.1) >>= λ fs.
-    closed n.0 n.1 fs.1 >>= λ rest.
+    close_part n.0 n.1 fs.1 >>= λ rest.
     Ok (fs.0, rest)
 
 -- the code section, which has to come where there is a function section, and may not where there is

@@ -12,7 +12,7 @@ mod sections;
 pub use body::body_over;
 use std::alloc::Global;
 use tree_parts::Items;
-use wasm_code::{Writer, closed, front, unsigned_at};
+use wasm_code::{Writer, close_part, front, unsigned_at};
 use wasm_tree::{EncodeError, WFault};
 
 /// The most entries of a list.
@@ -102,7 +102,7 @@ pub fn section<T: Binary>(
         [first, rest @ ..] if *first == number => {
             let (size, rest) = unsigned_at(rest)?;
             let (items, left) = entries(alloc, front(rest, size))?;
-            let rest = closed(size, rest, left)?;
+            let rest = close_part(size, rest, left)?;
             Ok((items, rest))
         }
         _ => Ok((Items::new(alloc), bytes)),

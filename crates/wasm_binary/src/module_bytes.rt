@@ -12,7 +12,7 @@ ghost use Rattle.wasm_tree.specs.declared.module.WModule.{WModule};
 use crate::binary::{Binary, body_over, section, write_section};
 use std::alloc::{AllocError, Global};
 use tree_parts::Items;
-use wasm_code::{Writer, closed, front, skip, unsigned_at};
+use wasm_code::{Writer, close_part, front, skip, unsigned_at};
 use wasm_tree::{EncodeError, Function, WFault, WModule};
 
 /// The magic number and the version.
@@ -78,7 +78,7 @@ fn code_content_at<'a>(
 {
     let (size, after) = unsigned_at(bytes)?;
     let (functions, left) = code_entries_at(alloc, types, front(after, size))?;
-    let rest = closed(size, after, left)?;
+    let rest = close_part(size, after, left)?;
     Ok((functions, rest))
 }
 
@@ -247,7 +247,7 @@ fn write_last(out: &mut Writer, tree: &WModule) -> Result<(), EncodeError>
 }
 
 #[tactic(auto, using(crate::proofs::Whole::whole_fits), unfolding(crate::specs::Binary::module_encoding))]
-fn written(alloc: Global, tree: &WModule) -> Result<Vec<u8>, EncodeError>
+fn write_whole(alloc: Global, tree: &WModule) -> Result<Vec<u8>, EncodeError>
     ensures written { IfOk result (λ v. v.items ≡ module_encoding tree.now) }
     ensures fits { OnOk result (module_fits tree.now ≡ true) }
     ensures unfit { result ≡ Err EncodeError.NoEncoding → module_fits tree.now ≡ false }
@@ -268,5 +268,5 @@ pub fn write_module(alloc: Global, tree: &WModule) -> Result<Vec<u8>, EncodeErro
     // Each module that has an encoding is written, as long as there is memory.
     ensures unfit { result ≡ Err EncodeError.NoEncoding → module_fits tree.now ≡ false }
 {
-    written(alloc, tree)
+    write_whole(alloc, tree)
 }

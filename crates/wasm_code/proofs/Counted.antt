@@ -8,9 +8,9 @@ use Rattle.wasm_tree.specs.declared.code.Op.{Op}
 use Rattle.wasm_tree.specs.declared.code.Op.TheVariants as op
 use Rattle.wasm_tree.specs.declared.instr.Instr.{Instr, Instr-F, map-Instr, ind-Instr, roll-Instr, fold-roll-Instr}
 use Rattle.wasm_tree.specs.declared.instr.Instr.TheOpen as layer
-use Rattle.wasm_tree.specs.Code.{joined, flat_step, flat_one, flat}
+use Rattle.wasm_tree.specs.Code.{join_ops, flat_step, flat_one, flat}
 use Rattle.wasm_code.specs.Number.{unsigned, signed32, signed64, groups}
-use Rattle.wasm_code.specs.Instructions.{block_type, encoding_step, instr_encoding, opened, instr_of, code_in, code_within}
+use Rattle.wasm_code.specs.Instructions.{block_type, encoding_step, instr_encoding, nested_instruction, instr_of, code_in, code_within}
 use Rattle.wasm_tree.specs.declared.kinds.ValueType.{ValueType}
 use Rattle.wasm_tree.specs.Format.{byte_at}
 use Rattle.wasm_code.proofs.Laws.{IsBytes, IsBytes-tail, read_is}
@@ -41,10 +41,10 @@ S = (i : Instr) × P i
 abbrev bare : Instr-F S → Instr-F Instr
 bare = map-Instr S Instr (λ e. e.0)
 
-each : (ss : List S) → length (joined (map flat_one (map (λ e. e.0) ss))) ≤ length (concat (map instr_encoding (map (λ e. e.0) ss)))
+each : (ss : List S) → length (join_ops (map flat_one (map (λ e. e.0) ss))) ≤ length (concat (map instr_encoding (map (λ e. e.0) ss)))
 each [] = omega arith
 each (s ∷ ss) =
-    omega (arith, s.1, each ss, length-append (flat_one s.0) (joined (map flat_one (map (λ e. e.0) ss))), length-append (instr_encoding s.0) (concat (map instr_encoding (map (λ e. e.0) ss))))
+    omega (arith, s.1, each ss, length-append (flat_one s.0) (join_ops (map flat_one (map (λ e. e.0) ss))), length-append (instr_encoding s.0) (concat (map instr_encoding (map (λ e. e.0) ss))))
 
 listed : (x : Instr-F Instr) → flat_one (roll-Instr x) ≡ flat_step (map-Instr Instr (List Op) flat_one x)
 unfolding flat_one
@@ -66,24 +66,24 @@ alone x o b bytes e f = given x (o ∷ []) (b ∷ bytes) e f (omega arith)
 
 -- operations with one sequence
 block_counted : (x : Instr-F Instr) (o : Op) (b : ℕ) (t end : List ℕ) (ss : List S)
-    → flat_step (map-Instr Instr (List Op) flat_one x) ≡ o ∷ joined (map flat_one (map (λ e. e.0) ss))
+    → flat_step (map-Instr Instr (List Op) flat_one x) ≡ o ∷ join_ops (map flat_one (map (λ e. e.0) ss))
     → encoding_step (map-Instr Instr (List ℕ) instr_encoding x) ≡ b ∷ t ++ concat (map instr_encoding (map (λ e. e.0) ss)) ++ end
     → P (roll-Instr x)
 block_counted x o b t end ss e f =
-    let inner : List Op = joined (map flat_one (map (λ e. e.0) ss)) in
+    let inner : List Op = join_ops (map flat_one (map (λ e. e.0) ss)) in
     let bytes : List ℕ = concat (map instr_encoding (map (λ e. e.0) ss)) in
     given x (o ∷ inner) (b ∷ t ++ bytes ++ end) e f (omega (arith, each ss, length-append (t ++ bytes) end, length-append t bytes))
 
 stepped : (y : Instr-F S) → P (roll-Instr (bare y))
 stepped layer.Unreachable = alone layer.Unreachable op.Unreachable 0x00 [] refl refl
-stepped (layer.Block t ss) = let is = map (λ e. e.0) ss in block_counted (layer.Block t is) (op.Block t (length (joined (map flat_one is)))) 0x02 (block_type.encoding t) (0x0B ∷ []) ss refl refl
-stepped (layer.Loop t ss) = let is = map (λ e. e.0) ss in block_counted (layer.Loop t is) (op.Loop t (length (joined (map flat_one is)))) 0x03 (block_type.encoding t) (0x0B ∷ []) ss refl refl
-stepped (layer.If t ss None) = let is = map (λ e. e.0) ss in block_counted (layer.If t is None) (op.If t (length (joined (map flat_one is)))) 0x04 (block_type.encoding t) (0x0B ∷ []) ss refl refl
+stepped (layer.Block t ss) = let is = map (λ e. e.0) ss in block_counted (layer.Block t is) (op.Block t (length (join_ops (map flat_one is)))) 0x02 (block_type.encoding t) (0x0B ∷ []) ss refl refl
+stepped (layer.Loop t ss) = let is = map (λ e. e.0) ss in block_counted (layer.Loop t is) (op.Loop t (length (join_ops (map flat_one is)))) 0x03 (block_type.encoding t) (0x0B ∷ []) ss refl refl
+stepped (layer.If t ss None) = let is = map (λ e. e.0) ss in block_counted (layer.If t is None) (op.If t (length (join_ops (map flat_one is)))) 0x04 (block_type.encoding t) (0x0B ∷ []) ss refl refl
 stepped (layer.If t ss (Some rs)) =
     let is = map (λ e. e.0) ss in
     let js = map (λ e. e.0) rs in
-    let inner : List Op = joined (map flat_one is) in
-    let others : List Op = joined (map flat_one js) in
+    let inner : List Op = join_ops (map flat_one is) in
+    let others : List Op = join_ops (map flat_one js) in
     let bytes : List ℕ = concat (map instr_encoding is) in
     let more : List ℕ = concat (map instr_encoding js) in
     given (layer.If t is (Some js)) (op.IfElse t (length inner) (length others) ∷ (inner ++ others)) (0x04 ∷ block_type.encoding t ++ bytes ++ (0x05 ∷ more ++ 0x0B ∷ [])) refl refl
@@ -153,9 +153,9 @@ behind_byte b bytes after fits e =
     let is = one_byte b b bytes after e in
     record { shorter = omega (arith, ap length is); left = IsBytes-tail b after (subst IsBytes is fits) }
 
-pub behind_instr : (levels : ℕ) (old new : List Op) (b : ℕ) (bytes after rest : List ℕ) → IsBytes bytes → byte_at bytes ≡ Ok (b, after) → onto old (instr_of (opened levels) b after) ≡ Ok (new, rest) → IsLeft bytes rest
+pub behind_instr : (levels : ℕ) (old new : List Op) (b : ℕ) (bytes after rest : List ℕ) → IsBytes bytes → byte_at bytes ≡ Ok (b, after) → onto old (instr_of (nested_instruction levels) b after) ≡ Ok (new, rest) → IsLeft bytes rest
 behind_instr levels old new b bytes after rest fits e h =
-    let read = instr_onto old new (instr_of (opened levels) b after) rest h in
+    let read = instr_onto old new (instr_of (nested_instruction levels) b after) rest h in
     let is = one_byte b b bytes after e in
     let taken = instr_takes levels b after read.0 rest (behind_byte b bytes after fits e).left read.1 in
     record { shorter = omega (arith, ap length is, ap length taken.parts, length-append (instr_encoding read.0) rest); left = taken.rest_fits }

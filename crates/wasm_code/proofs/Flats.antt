@@ -8,7 +8,7 @@ use Rattle.wasm_tree.specs.declared.instr.Instr.{Instr, Instr-F, out-Instr, map-
 use Rattle.wasm_tree.specs.declared.instr.Instr.TheOpen as layer
 use Rattle.wasm_tree.specs.declared.instr.Instr.TheVariants as instr
 use Rattle.wasm_tree.specs.declared.instr.Instr.TheVariants.{outs-Unreachable, outs-Block, outs-Loop, outs-If, outs-Br, outs-BrIf, outs-BrTable, outs-Return, outs-Call, outs-CallIndirect, outs-Drop, outs-LocalGet, outs-LocalSet, outs-LocalTee, outs-GlobalGet, outs-Load, outs-Store, outs-I32Const, outs-I64Const, outs-Numeric}
-use Rattle.wasm_tree.specs.Code.{tree, head, joined, flat_step, flat_one, flat}
+use Rattle.wasm_tree.specs.Code.{tree, head, join_ops, flat_step, flat_one, flat}
 use Rattle.wasm_tree.proofs.Flat.{joined_is}
 use Rattle.wasm_code.specs.Instructions.{one_sided}
 use Rattle.wasm_code.specs.ScratchStack.{is_plain, one_sided_op}
@@ -58,7 +58,7 @@ if_flat t is = at (instr.If t is None) (layer.If t is None) (outs-If t is None) 
 pub sides_flat : (t : Option ValueType) (is others : List Instr) → flat_one (instr.If t is (Some others)) ≡ op.IfElse t (length (flat is)) (length (flat others)) ∷ (flat is ++ flat others)
 sides_flat t is others =
     at (instr.If t is (Some others)) (layer.If t is (Some others)) (outs-If t is (Some others))
-    ∙ ap (λ r. op.IfElse t (length r) (length (joined (map flat_one others))) ∷ (r ++ joined (map flat_one others))) (joined_is is)
+    ∙ ap (λ r. op.IfElse t (length r) (length (join_ops (map flat_one others))) ∷ (r ++ join_ops (map flat_one others))) (joined_is is)
     ∙ ap (λ r. op.IfElse t (length (flat is)) (length r) ∷ (flat is ++ r)) (joined_is others)
 
 one_of : (b c : Bool) (t : Option ValueType) (is : List Instr)

@@ -3,7 +3,7 @@ use Rattle.std.proofs.Common.{◌≡◌, ℕ, suc, ◌+◌, ◌-◌, ◌/◌, �
 use Rattle.std.proofs.lemmas.List.{append-nil}
 use Rattle.std.proofs.lemmas.Bool.{lt-ltb, le-ltb}
 use Rattle.std.proofs.lemmas.Bool.Decides.{nat_tests}
-use Rattle.wasm_code.specs.Number.{groups, signed_groups, shifted}
+use Rattle.wasm_code.specs.Number.{groups, signed_groups, shift_group}
 
 one_less : (k most : ℕ) → k < most → most - k ≡ suc (most - (k + 1))
 one_less k most h = omega arith
@@ -28,7 +28,7 @@ pub signed_great : (most k top n : ℕ) → k < most → 64 ≤ n → top - 64 <
 unfolding signed_groups
 signed_great most k top n h large great = rw (one_less k most h, le-ltb n 64 large, lt-ltb (top - 64) n great) refl
 
-pub signed_more : (most k top n : ℕ) → k < most → 64 ≤ n → n ≤ top - 64 → signed_groups (most - k) top n ≡ (128 + n % 128) ∷ signed_groups (most - (k + 1)) top (shifted top n)
+pub signed_more : (most k top n : ℕ) → k < most → 64 ≤ n → n ≤ top - 64 → signed_groups (most - k) top n ≡ (128 + n % 128) ∷ signed_groups (most - (k + 1)) top (shift_group top n)
 unfolding signed_groups
 signed_more most k top n h large low = rw (one_less k most h, le-ltb n 64 large, le-ltb (top - 64) n low) refl
 
@@ -49,5 +49,5 @@ goes_on new out old one piece rest all h e so_far =
 pub is_whole : (out old piece all : List ℕ) → piece ≡ [] → out ++ piece ≡ old ++ all → out ≡ old ++ all
 is_whole out old piece all e so_far = sym (append-nil out) ∙ ap (λ (p : List ℕ). out ++ p) (sym e) ∙ so_far
 
-pub shifted_within : (top n : ℕ) → n ≤ top → shifted top n ≤ top
+pub shifted_within : (top n : ℕ) → n ≤ top → shift_group top n ≤ top
 shifted_within top n h = grind (arith, nat_tests)

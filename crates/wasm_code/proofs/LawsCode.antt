@@ -24,8 +24,8 @@ use Rattle.wasm_code.specs.declared.code.Ending.{Ending}
 use Rattle.wasm_code.specs.declared.code.Ending.TheVariants.{End, Else}
 use Rattle.wasm_code.specs.Number.{unsigned, signed32, signed64}
 use Rattle.wasm_code.specs.Parts.{◌◂◌, ◌·◌, vector}
-use Rattle.wasm_code.specs.Opcode.{found, tests, calculations, loads as all_loads, widths, numeric_opcode, load_opcode, store_opcode, numeric_of, load_of, store_of}
-use Rattle.wasm_code.specs.Instructions.{value_type, block_type, instr_encoding, instr_fits, no_offset, memory_reading, memory_of, variable_of, plain_of, opens, one_sided, ending_of, Sequence, instr_of, sequence, ended, closing, opened, code_in, code_within, code}
+use Rattle.wasm_code.specs.Opcode.{find_opcode, tests, calculations, loads as all_loads, widths, numeric_opcode, load_opcode, store_opcode, numeric_of, load_of, store_of}
+use Rattle.wasm_code.specs.Instructions.{value_type, block_type, instr_encoding, instr_fits, no_offset, memory_reading, memory_of, variable_of, plain_of, opens, one_sided, ending_of, Sequence, instr_of, sequence, with_end, closing, nested_instruction, code_in, code_within, code}
 use Rattle.wasm_code.proofs.Laws.{IsBytes, IsBytes-tail, IsBytes-after, bind_ok, guard_ok, ok_is, read_is, Taken, taken_at, Law}
 use Rattle.wasm_code.proofs.LawsNumber.{unsigned_law, signed32_law, signed64_law}
 use Rattle.wasm_code.proofs.LawsParts.{skip_ok, behind_law, then_law, vector_law}
@@ -36,7 +36,7 @@ use Rattle.wasm_code.proofs.Fitting.{all_fit, none-Block, none-Loop, none-If, fi
 
 -- an instruction, where so many levels of nesting are left
 abbrev pub instr : (levels : ℕ) → Format Instr
-instr levels = record { encoding = instr_encoding; reading = λ bytes. byte_at bytes >>= λ b. instr_of (opened levels) b.0 b.1; fits = λ i. instr_fits i levels }
+instr levels = record { encoding = instr_encoding; reading = λ bytes. byte_at bytes >>= λ b. instr_of (nested_instruction levels) b.0 b.1; fits = λ i. instr_fits i levels }
 
 -- ---- block types
 
@@ -64,7 +64,7 @@ block_type_again (Some value.I64) rest = refl
 some_is : {A : Type 0} (x y : A) → ◌≡◌ {A = Option A} (Some x) (Some y) → x ≡ y
 some_is x y e = cc
 
-found_ok : {A : Type 0} (opcode : A → ℕ) (b : ℕ) (xs : List A) (x : A) → found opcode b xs ≡ Some x → b ≡ opcode x
+found_ok : {A : Type 0} (opcode : A → ℕ) (b : ℕ) (xs : List A) (x : A) → find_opcode opcode b xs ≡ Some x → b ≡ opcode x
 found_ok opcode b [] x e = absurd cc
 found_ok {A} opcode b (y ∷ ys) x e =
     elim (cases_Bool (eqb b (opcode y))) [
@@ -234,13 +234,13 @@ abbrev SequenceIs : (levels : ℕ) → List ℕ → Sequence × List ℕ → Typ
 SequenceIs levels bytes s = SequenceTaken levels bytes s.0.0 s.0.1 s.1
 
 abbrev pub InstrTakes : (levels : ℕ) → Type 0
-InstrTakes levels = (b : ℕ) (bytes : List ℕ) (x : Instr) (rest : List ℕ) → IsBytes bytes → instr_of (opened levels) b bytes ≡ Ok (x, rest) → Taken (instr levels) (b ∷ bytes) x rest
+InstrTakes levels = (b : ℕ) (bytes : List ℕ) (x : Instr) (rest : List ℕ) → IsBytes bytes → instr_of (nested_instruction levels) b bytes ≡ Ok (x, rest) → Taken (instr levels) (b ∷ bytes) x rest
 
 abbrev SequenceTakes : (levels : ℕ) → Type 0
 SequenceTakes levels = (bytes : List ℕ) (s : Sequence × List ℕ) → IsBytes bytes → code_in levels bytes ≡ Ok s → SequenceIs levels bytes s
 
 abbrev sequence_step : (levels most : ℕ) → Option Ending → ℕ → List ℕ → Reading Sequence
-sequence_step levels most o b bytes = elim o [ Some e ↦ Ok (([], e), bytes) | None ↦ instr_of (opened levels) b bytes >>= λ i. sequence (opened levels) most i.1 >>= λ s. Ok ((i.0 ∷ s.0.0, s.0.1), s.1) ]
+sequence_step levels most o b bytes = elim o [ Some e ↦ Ok (([], e), bytes) | None ↦ instr_of (nested_instruction levels) b bytes >>= λ i. sequence (nested_instruction levels) most i.1 >>= λ s. Ok ((i.0 ∷ s.0.0, s.0.1), s.1) ]
 
 module _ (levels : ℕ) (takes : InstrTakes levels) where
   instr_then : (b : ℕ) (bytes : List ℕ) (i : Instr) (mid : List ℕ) (s : Sequence × List ℕ) → Taken (instr levels) (b ∷ bytes) i mid → SequenceIs levels mid s → SequenceIs levels (b ∷ bytes) ((i ∷ s.0.0, s.0.1), s.1)
@@ -250,19 +250,19 @@ module _ (levels : ℕ) (takes : InstrTakes levels) where
     fits = and_from _ _ t.fits u.fits;
   }
 
-  step_takes : (most : ℕ) → ((bytes : List ℕ) (s : Sequence × List ℕ) → IsBytes bytes → sequence (opened levels) most bytes ≡ Ok s → SequenceIs levels bytes s)
+  step_takes : (most : ℕ) → ((bytes : List ℕ) (s : Sequence × List ℕ) → IsBytes bytes → sequence (nested_instruction levels) most bytes ≡ Ok s → SequenceIs levels bytes s)
       → (o : Option Ending) (b : ℕ) (bytes : List ℕ) (s : Sequence × List ℕ) → IsBytes (b ∷ bytes) → ending_of b ≡ o → sequence_step levels most o b bytes ≡ Ok s → SequenceIs levels (b ∷ bytes) s
   step_takes most others (Some e) b bytes s fits h f =
       let is = ok_is (([], e), bytes) s f in
       subst (SequenceIs levels (b ∷ bytes)) is (record { parts = ap (λ (c : ℕ). c ∷ bytes) (ending_ok b e h); rest_fits = IsBytes-tail b bytes fits; fits = refl })
   step_takes most others None b bytes s fits h f =
-      let a = bind_ok (instr_of (opened levels) b bytes) (λ i. sequence (opened levels) most i.1 >>= λ s. Ok ((i.0 ∷ s.0.0, s.0.1), s.1)) s f in
-      let c = bind_ok (sequence (opened levels) most a.0.1) (λ s. Ok ((a.0.0 ∷ s.0.0, s.0.1), s.1)) s a.2 in
+      let a = bind_ok (instr_of (nested_instruction levels) b bytes) (λ i. sequence (nested_instruction levels) most i.1 >>= λ s. Ok ((i.0 ∷ s.0.0, s.0.1), s.1)) s f in
+      let c = bind_ok (sequence (nested_instruction levels) most a.0.1) (λ s. Ok ((a.0.0 ∷ s.0.0, s.0.1), s.1)) s a.2 in
       let t = takes b bytes a.0.0 a.0.1 (IsBytes-tail b bytes fits) a.1 in
       let u = others a.0.1 c.0 t.rest_fits c.1 in
       subst (SequenceIs levels (b ∷ bytes)) (ok_is ((a.0.0 ∷ c.0.0.0, c.0.0.1), c.0.1) s c.2) (instr_then b bytes a.0.0 a.0.1 c.0 t u)
 
-  sequence_takes : (most : ℕ) (bytes : List ℕ) (s : Sequence × List ℕ) → IsBytes bytes → sequence (opened levels) most bytes ≡ Ok s → SequenceIs levels bytes s
+  sequence_takes : (most : ℕ) (bytes : List ℕ) (s : Sequence × List ℕ) → IsBytes bytes → sequence (nested_instruction levels) most bytes ≡ Ok s → SequenceIs levels bytes s
   unfolding sequence
   sequence_takes zero bytes s fits e = absurd cc
   sequence_takes (suc most) [] s fits e = absurd cc
@@ -287,7 +287,7 @@ module _ (levels : ℕ) (takes : SequenceTakes levels) where
       subst (λ y. CodeTaken levels bytes y rest) r.0 (subst (λ m. CodeTaken levels bytes is m) r.1 (record { parts = t.parts; rest_fits = t.rest_fits; fits = t.fits }))
   end_takes bytes is Else mid x rest t e = absurd cc
 
-  ended_takes : (bytes : List ℕ) (x : List Instr) (rest : List ℕ) → IsBytes bytes → ended (code_in levels bytes) ≡ Ok (x, rest) → CodeTaken levels bytes x rest
+  ended_takes : (bytes : List ℕ) (x : List Instr) (rest : List ℕ) → IsBytes bytes → with_end (code_in levels bytes) ≡ Ok (x, rest) → CodeTaken levels bytes x rest
   ended_takes bytes x rest fits e =
       let a = bind_ok (code_in levels bytes) (λ s. to_end s.0.0 s.0.1 s.1) (x, rest) e in
       end_takes bytes a.0.0.0 a.0.0.1 a.0.1 x rest (takes bytes a.0 fits a.1) a.2
@@ -334,8 +334,8 @@ module _ (levels : ℕ) (takes : SequenceTakes levels) where
       let parts : b ∷ bytes ≡ instr_encoding (one_sided b t is) ++ mid = ap (λ (r : List ℕ). b ∷ r) inner ∙ ap (λ (r : List ℕ). r ++ mid) (sym (one_sided_encoded b t is o)) in
       taken_at (instr (suc levels)) (b ∷ bytes) (one_sided b t is) x mid rest (read_is (one_sided b t is) x mid rest e) (record { parts = parts; rest_fits = v.rest_fits; fits = one_sided_fits b t is levels ∙ v.fits })
   closing_takes b bytes t after is Else mid x rest o u v e =
-      let g = guard_ok (eqb b 0x04) OutsideProfile (ended (code_in levels mid) >>= λ others. Ok (If t is (Some others.0), others.1)) (x, rest) e in
-      let a = bind_ok (ended (code_in levels mid)) (λ others. Ok (If t is (Some others.0), others.1)) (x, rest) g.1 in
+      let g = guard_ok (eqb b 0x04) OutsideProfile (with_end (code_in levels mid) >>= λ others. Ok (If t is (Some others.0), others.1)) (x, rest) e in
+      let a = bind_ok (with_end (code_in levels mid)) (λ others. Ok (If t is (Some others.0), others.1)) (x, rest) g.1 in
       let w = ended_takes levels takes mid a.0.0 a.0.1 v.rest_fits a.1 in
       let text : List ℕ = flat_map instr_encoding is in
       let others : List ℕ = flat_map instr_encoding a.0.0 in
@@ -346,8 +346,8 @@ module _ (levels : ℕ) (takes : SequenceTakes levels) where
       taken_at (instr (suc levels)) (b ∷ bytes) (If t is (Some a.0.0)) x a.0.1 rest (read_is (If t is (Some a.0.0)) x a.0.1 rest a.2)
       (record { parts = parts; rest_fits = w.rest_fits; fits = fits-If-Some t is a.0.0 levels ∙ and_from _ _ v.fits w.fits })
 
-  opened_takes : (b : ℕ) (bytes : List ℕ) (x : Instr) (rest : List ℕ) → IsBytes bytes → opens b ≡ true → opened (suc levels) b bytes ≡ Ok (x, rest) → Taken (instr (suc levels)) (b ∷ bytes) x rest
-  unfolding opened
+  opened_takes : (b : ℕ) (bytes : List ℕ) (x : Instr) (rest : List ℕ) → IsBytes bytes → opens b ≡ true → nested_instruction (suc levels) b bytes ≡ Ok (x, rest) → Taken (instr (suc levels)) (b ∷ bytes) x rest
+  unfolding nested_instruction
   opened_takes b bytes x rest fits o e =
       let a = bind_ok (block_type.reading bytes) (λ t. code_in levels t.1 >>= λ s. closing (code_in levels) b t.0 s.0.0 s.0.1 s.1) (x, rest) e in
       let c = bind_ok (code_in levels a.0.1) (λ s. closing (code_in levels) b a.0.0 s.0.0 s.0.1 s.1) (x, rest) a.2 in
@@ -357,14 +357,14 @@ module _ (levels : ℕ) (takes : SequenceTakes levels) where
 refused : (x : Instr) (rest : List ℕ) → ◌≡◌ {A = Reading Instr} (Err OutsideProfile) (Ok (x, rest)) → ⊥
 refused x rest e = cc
 
-none_opened : (b : ℕ) (bytes : List ℕ) → opened 0 b bytes ≡ Err OutsideProfile
-unfolding opened
+none_opened : (b : ℕ) (bytes : List ℕ) → nested_instruction 0 b bytes ≡ Err OutsideProfile
+unfolding nested_instruction
 none_opened b bytes = refl
 
 pub instr_takes : (levels : ℕ) → InstrTakes levels
 instr_takes zero b bytes x rest fits e =
     elim (cases_Bool (opens b)) [
-      | inl yes' ↦ let f : opened 0 b bytes ≡ Ok (x, rest) = rw yes' at e in absurd (refused x rest (sym (none_opened b bytes) ∙ f))
+      | inl yes' ↦ let f : nested_instruction 0 b bytes ≡ Ok (x, rest) = rw yes' at e in absurd (refused x rest (sym (none_opened b bytes) ∙ f))
       | inr no' ↦ plain_takes 0 b bytes x rest fits (rw no' at e)
     ]
 instr_takes (suc levels) b bytes x rest fits e =
@@ -385,10 +385,10 @@ code_in_taken levels bytes is e rest fits h =
 abbrev Again : (levels : ℕ) → Instr → Type 0
 Again levels i = (rest : List ℕ) → instr_fits i levels ≡ true → (instr levels).reading (instr_encoding i ++ rest) ≡ Ok (i, rest)
 
-begins : (levels : ℕ) (i : Instr) (k : ℕ) (text rest : List ℕ) → instr_encoding i ≡ k ∷ text → instr_of (opened levels) k (text ++ rest) ≡ Ok (i, rest) → (instr levels).reading (instr_encoding i ++ rest) ≡ Ok (i, rest)
+begins : (levels : ℕ) (i : Instr) (k : ℕ) (text rest : List ℕ) → instr_encoding i ≡ k ∷ text → instr_of (nested_instruction levels) k (text ++ rest) ≡ Ok (i, rest) → (instr levels).reading (instr_encoding i ++ rest) ≡ Ok (i, rest)
 begins levels i k text rest e again = ap (λ (s : List ℕ). (instr levels).reading (s ++ rest)) e ∙ again
 
-numeric_again : (levels : ℕ) (n : numeric.Numeric) (rest : List ℕ) → instr_of (opened levels) (numeric_opcode n) rest ≡ Ok (Numeric n, rest)
+numeric_again : (levels : ℕ) (n : numeric.Numeric) (rest : List ℕ) → instr_of (nested_instruction levels) (numeric_opcode n) rest ≡ Ok (Numeric n, rest)
 unfolding plain_of variable_of memory_of load_of store_of numeric_of
 numeric_again levels I32Eqz rest = refl
 numeric_again levels (I32Relation rel.Eq) rest = refl
@@ -429,7 +429,7 @@ numeric_again levels I32WrapI64 rest = refl
 numeric_again levels I64ExtendI32S rest = refl
 numeric_again levels I64ExtendI32U rest = refl
 
-load_again : (levels : ℕ) (l : load.Load) (rest : List ℕ) → instr_of (opened levels) (load_opcode l) (0x00 ∷ 0x00 ∷ rest) ≡ Ok (Load l, rest)
+load_again : (levels : ℕ) (l : load.Load) (rest : List ℕ) → instr_of (nested_instruction levels) (load_opcode l) (0x00 ∷ 0x00 ∷ rest) ≡ Ok (Load l, rest)
 unfolding plain_of variable_of memory_of load_of store_of numeric_of
 load_again levels loads.I64 rest = refl
 load_again levels loads.I64From8U rest = refl
@@ -437,7 +437,7 @@ load_again levels loads.I64From16U rest = refl
 load_again levels loads.I64From32S rest = refl
 load_again levels loads.I64From32U rest = refl
 
-store_again : (levels : ℕ) (w : StoreWidth) (rest : List ℕ) → instr_of (opened levels) (store_opcode w) (0x00 ∷ 0x00 ∷ rest) ≡ Ok (Store w, rest)
+store_again : (levels : ℕ) (w : StoreWidth) (rest : List ℕ) → instr_of (nested_instruction levels) (store_opcode w) (0x00 ∷ 0x00 ∷ rest) ≡ Ok (Store w, rest)
 unfolding plain_of variable_of memory_of load_of store_of numeric_of
 store_again levels Eight rest = refl
 store_again levels One rest = refl
@@ -551,47 +551,47 @@ module _ (levels : ℕ) (nested : NestedAgain levels) where
   each_again : (i : Instr) → Again levels i
   each_again i = subst (λ (j : Instr). Again levels j) (roll-out-Instr i) (layer_again (out-Instr i))
 
-ends_nothing : (levels : ℕ) (bytes : List ℕ) → instr_of (opened levels) 0x0B bytes ≡ Err OutsideProfile
+ends_nothing : (levels : ℕ) (bytes : List ℕ) → instr_of (nested_instruction levels) 0x0B bytes ≡ Err OutsideProfile
 unfolding plain_of variable_of memory_of load_of store_of numeric_of
 ends_nothing levels bytes = refl
 
-else_nothing : (levels : ℕ) (bytes : List ℕ) → instr_of (opened levels) 0x05 bytes ≡ Err OutsideProfile
+else_nothing : (levels : ℕ) (bytes : List ℕ) → instr_of (nested_instruction levels) 0x05 bytes ≡ Err OutsideProfile
 unfolding plain_of variable_of memory_of load_of store_of numeric_of
 else_nothing levels bytes = refl
 
-no_ending : (levels b : ℕ) (bytes : List ℕ) (i : Instr) (rest : List ℕ) → instr_of (opened levels) b bytes ≡ Ok (i, rest) → ending_of b ≡ None
+no_ending : (levels b : ℕ) (bytes : List ℕ) (i : Instr) (rest : List ℕ) → instr_of (nested_instruction levels) b bytes ≡ Ok (i, rest) → ending_of b ≡ None
 no_ending levels b bytes i rest e =
     elim (cases_Bool (eqb b 0x0B)) [
-      | inl same ↦ absurd (refused i rest (sym (ends_nothing levels bytes) ∙ subst (λ (k : ℕ). instr_of (opened levels) k bytes ≡ Ok (i, rest)) (eqb-true b 0x0B same) e))
+      | inl same ↦ absurd (refused i rest (sym (ends_nothing levels bytes) ∙ subst (λ (k : ℕ). instr_of (nested_instruction levels) k bytes ≡ Ok (i, rest)) (eqb-true b 0x0B same) e))
       | inr other ↦
           elim (cases_Bool (eqb b 0x05)) [
-            | inl same ↦ absurd (refused i rest (sym (else_nothing levels bytes) ∙ subst (λ (k : ℕ). instr_of (opened levels) k bytes ≡ Ok (i, rest)) (eqb-true b 0x05 same) e))
+            | inl same ↦ absurd (refused i rest (sym (else_nothing levels bytes) ∙ subst (λ (k : ℕ). instr_of (nested_instruction levels) k bytes ≡ Ok (i, rest)) (eqb-true b 0x05 same) e))
             | inr another ↦ rw (other, another) refl
           ]
     ]
 
 -- an instruction that is read again stands before what is still read
-step_again : (levels most : ℕ) (bytes : List ℕ) (i : Instr) (rest : List ℕ) → (instr levels).reading bytes ≡ Ok (i, rest) → sequence (opened levels) (suc most) bytes ≡ with_instrs (i ∷ []) (sequence (opened levels) most rest)
+step_again : (levels most : ℕ) (bytes : List ℕ) (i : Instr) (rest : List ℕ) → (instr levels).reading bytes ≡ Ok (i, rest) → sequence (nested_instruction levels) (suc most) bytes ≡ with_instrs (i ∷ []) (sequence (nested_instruction levels) most rest)
 unfolding sequence
 step_again levels most [] i rest e = absurd cc
 step_again levels most (b ∷ bytes) i rest e =
     let none = no_ending levels b bytes i rest e in
     rw (none, e, sequence) refl
 
-ending_again : (levels most : ℕ) (e : Ending) (rest : List ℕ) → sequence (opened levels) (suc most) (ending_byte e ∷ rest) ≡ Ok (([], e), rest)
+ending_again : (levels most : ℕ) (e : Ending) (rest : List ℕ) → sequence (nested_instruction levels) (suc most) (ending_byte e ∷ rest) ≡ Ok (([], e), rest)
 unfolding sequence
 ending_again levels most End rest = refl
 ending_again levels most Else rest = refl
 
 module _ (levels : ℕ) (again : (i : Instr) → Again levels i) where
-  sequence_again : (most : ℕ) (is : List Instr) (e : Ending) (rest : List ℕ) → length is < most → all_fit levels is ≡ true → sequence (opened levels) most (flat_map instr_encoding is ++ (ending_byte e ∷ rest)) ≡ Ok ((is, e), rest)
+  sequence_again : (most : ℕ) (is : List Instr) (e : Ending) (rest : List ℕ) → length is < most → all_fit levels is ≡ true → sequence (nested_instruction levels) most (flat_map instr_encoding is ++ (ending_byte e ∷ rest)) ≡ Ok ((is, e), rest)
   sequence_again zero is e rest room fits = absurd (omega arith)
   sequence_again (suc most) [] e rest room fits = ending_again levels most e rest
   sequence_again (suc most) (i ∷ is) e rest room fits =
       let f = and_parts (instr_fits i levels) (all_fit levels is) fits in
       let text : List ℕ = flat_map instr_encoding is ++ (ending_byte e ∷ rest) in
       let one = step_again levels most (instr_encoding i ++ text) i text (again i text f.0) in
-      ap (sequence (opened levels) (suc most)) (append_assoc (instr_encoding i) (flat_map instr_encoding is) (ending_byte e ∷ rest)) ∙ one ∙ ap (with_instrs (i ∷ [])) (sequence_again most is e rest (omega arith) f.1)
+      ap (sequence (nested_instruction levels) (suc most)) (append_assoc (instr_encoding i) (flat_map instr_encoding is) (ending_byte e ∷ rest)) ∙ one ∙ ap (with_instrs (i ∷ [])) (sequence_again most is e rest (omega arith) f.1)
 
   none_read : (i : Instr) → (instr levels).reading [] ≡ Ok (i, []) → ⊥
   none_read i e = cc
@@ -617,13 +617,13 @@ module _ (levels : ℕ) (again : (i : Instr) → Again levels i) where
       let room : length is < length (flat_map instr_encoding is ++ (ending_byte e ∷ rest)) = omega (arith, length-append (flat_map instr_encoding is) (ending_byte e ∷ rest), code_longer is fits) in
       sequence_again (length (flat_map instr_encoding is ++ (ending_byte e ∷ rest))) is e rest room fits
 
-  block_again : (b : ℕ) (t : Option ValueType) (is : List Instr) (rest : List ℕ) → all_fit levels is ≡ true → opened (suc levels) b (((block_type.encoding t ++ flat_map instr_encoding is) ++ 0x0B ∷ []) ++ rest) ≡ Ok (one_sided b t is, rest)
-  unfolding opened
+  block_again : (b : ℕ) (t : Option ValueType) (is : List Instr) (rest : List ℕ) → all_fit levels is ≡ true → nested_instruction (suc levels) b (((block_type.encoding t ++ flat_map instr_encoding is) ++ 0x0B ∷ []) ++ rest) ≡ Ok (one_sided b t is, rest)
+  unfolding nested_instruction
   block_again b t is rest fits = rw (regroup_block (block_type.encoding t) (flat_map instr_encoding is) rest, block_type_again t (flat_map instr_encoding is ++ (0x0B ∷ rest)), code_in_again is End rest fits) refl
 
   if_again : (t : Option ValueType) (is others : List Instr) (rest : List ℕ) → all_fit levels is ≡ true → all_fit levels others ≡ true
-      → opened (suc levels) 0x04 (((block_type.encoding t ++ flat_map instr_encoding is) ++ (0x05 ∷ flat_map instr_encoding others ++ 0x0B ∷ [])) ++ rest) ≡ Ok (If t is (Some others), rest)
-  unfolding opened
+      → nested_instruction (suc levels) 0x04 (((block_type.encoding t ++ flat_map instr_encoding is) ++ (0x05 ∷ flat_map instr_encoding others ++ 0x0B ∷ [])) ++ rest) ≡ Ok (If t is (Some others), rest)
+  unfolding nested_instruction
   if_again t is others rest fits more =
       let behind : List ℕ = flat_map instr_encoding others ++ (0x0B ∷ rest) in
       rw (

@@ -3,7 +3,7 @@ use Rattle.std.proofs.Common.{◌≡◌, ℕ, zero, suc, ◌+◌, ◌-◌, ◌*�
 use Rattle.std.proofs.lemmas.Bool.{cases_lt, lt-ltb, le-ltb, ltb-true, ltb-false, le-leb, lt-leb}
 use Rattle.wasm_tree.specs.declared.fault.WFault.TheVariants.{Malformed}
 use Rattle.wasm_tree.specs.Format.{Reading}
-use Rattle.wasm_code.specs.Number.{groups, joined, groups_at, unsigned, shifted, signed_groups, signed_joined, signed_groups_at, signed32, signed64}
+use Rattle.wasm_code.specs.Number.{groups, join_groups, groups_at, unsigned, shift_group, signed_groups, signed_joined, signed_groups_at, signed32, signed64}
 use Rattle.wasm_code.proofs.Laws.{IsBytes, IsBytes-tail, IsBytes-after, bind_ok, guard_ok, otherwise_ok, read_is, put_before, Law}
 
 record Joined (low high n : ℕ) (bytes rest : List ℕ) : Type 0 where
@@ -12,7 +12,7 @@ record Joined (low high n : ℕ) (bytes rest : List ℕ) : Type 0 where
   fits : n < 2 ^ 32
   same : bytes ≡ rest
 
-joined_ok : (low high : ℕ) (bytes : List ℕ) (n : ℕ) (rest : List ℕ) → joined low high bytes ≡ Ok (n, rest) → Joined low high n bytes rest
+joined_ok : (low high : ℕ) (bytes : List ℕ) (n : ℕ) (rest : List ℕ) → join_groups low high bytes ≡ Ok (n, rest) → Joined low high n bytes rest
 joined_ok low zero bytes n rest e = absurd cc
 joined_ok low (suc high) bytes n rest e =
     let g = guard_ok (ltb (low + 128 * suc high) (2 ^ 32)) Malformed (Ok (low + 128 * suc high, bytes)) (n, rest) e in
@@ -20,7 +20,7 @@ joined_ok low (suc high) bytes n rest e =
     let lt : low + 128 * suc high < 2 ^ 32 = ltb-true _ _ g.0 in
     record { more = omega arith; is = sym is.0; fits = omega (arith, is.0); same = is.1 }
 
-joined_same : (low high n : ℕ) (rest : List ℕ) → 0 < high → n ≡ low + 128 * high → n < 2 ^ 32 → joined low high rest ≡ Ok (n, rest)
+joined_same : (low high n : ℕ) (rest : List ℕ) → 0 < high → n ≡ low + 128 * high → n < 2 ^ 32 → join_groups low high rest ≡ Ok (n, rest)
 joined_same low zero n rest more is lt = absurd (omega arith)
 joined_same low (suc high) n rest more is lt = rw (← is, lt-ltb n (2 ^ 32) lt) refl
 
@@ -47,7 +47,7 @@ groups_take (suc most) (suc k) (b ∷ bytes) n rest le fits e =
           let is = read_is b n bytes rest (rw (lt-ltb b 128 lt) at e) in
           (rw (groups_small k n (omega (arith, is.0)), is.0, is.1) refl, omega (arith, is.0))
       | inr large ↦
-          let a = bind_ok (groups_at most bytes) (λ high. joined (b - 128) high.0 high.1) (n, rest) (rw (le-ltb b 128 large) at e) in
+          let a = bind_ok (groups_at most bytes) (λ high. join_groups (b - 128) high.0 high.1) (n, rest) (rw (le-ltb b 128 large) at e) in
           let j = joined_ok (b - 128) a.0.0 a.0.1 n rest a.2 in
           let above = groups_take most k bytes a.0.0 a.0.1 (omega arith) (IsBytes-tail b bytes fits) a.1 in
           let low : b - 128 < 128 = omega (arith, fits 0) in
@@ -92,7 +92,7 @@ signed_great : (k top n : ℕ) → 64 ≤ n → top - 64 < n → signed_groups (
 unfolding signed_groups
 signed_great k top n large great = rw (le-ltb n 64 large, lt-ltb (top - 64) n great) refl
 
-signed_more : (k top n : ℕ) → 64 ≤ n → n ≤ top - 64 → signed_groups (suc k) top n ≡ (128 + n % 128) ∷ signed_groups k top (shifted top n)
+signed_more : (k top n : ℕ) → 64 ≤ n → n ≤ top - 64 → signed_groups (suc k) top n ≡ (128 + n % 128) ∷ signed_groups k top (shift_group top n)
 unfolding signed_groups
 signed_more k top n large low = rw (le-ltb n 64 large, le-ltb (top - 64) n low) refl
 
@@ -105,10 +105,10 @@ part_is q = omega arith
 whole_is : (q : ℕ) → (256 * q + 255) / 256 ≡ q
 whole_is q = omega arith
 
-shifted_low : (top n : ℕ) → n ≤ top / 2 → shifted top n ≡ n / 128
+shifted_low : (top n : ℕ) → n ≤ top / 2 → shift_group top n ≡ n / 128
 shifted_low top n le = rw (le-leb n (top / 2) le) refl
 
-shifted_high : (top n : ℕ) → top / 2 < n → shifted top n ≡ n / 128 + (top - top / 128)
+shifted_high : (top n : ℕ) → top / 2 < n → shift_group top n ≡ n / 128 + (top - top / 128)
 shifted_high top n lt = rw (lt-leb n (top / 2) lt) refl
 
 -- what the lowest group and those above it make
@@ -116,7 +116,7 @@ record SignedJoined (top low high n : ℕ) (bytes rest : List ℕ) : Type 0 wher
   large : 64 ≤ n
   small : n ≤ top - 64
   first : n % 128 ≡ low
-  others : shifted top n ≡ high
+  others : shift_group top n ≡ high
   fits : n ≤ top
   same : bytes ≡ rest
 
@@ -183,11 +183,11 @@ size q n = cond (leb n (128 * q + 127)) n (256 * q + 255 - n)
 
 -- the parts of a number that takes more than one group
 record Split (q n : ℕ) : Type 0 where
-  join : (rest : List ℕ) → signed_joined (256 * q + 255) (n % 128) (shifted (256 * q + 255) n) rest ≡ Ok (n, rest)
-  most : shifted (256 * q + 255) n ≤ 256 * q + 255
-  less : size q (shifted (256 * q + 255) n) ≡ size q n / 128
+  join : (rest : List ℕ) → signed_joined (256 * q + 255) (n % 128) (shift_group (256 * q + 255) n) rest ≡ Ok (n, rest)
+  most : shift_group (256 * q + 255) n ≤ 256 * q + 255
+  less : size q (shift_group (256 * q + 255) n) ≡ size q n / 128
 
-split_low : (q n high : ℕ) → 64 ≤ n → n ≤ 128 * q + 127 → high ≡ n / 128 → shifted (256 * q + 255) n ≡ high → Split q n
+split_low : (q n high : ℕ) → 64 ≤ n → n ≤ 128 * q + 127 → high ≡ n / 128 → shift_group (256 * q + 255) n ≡ high → Split q n
 split_low q n high large half is same =
     let le : high ≤ q = omega arith in
     let whole : n % 128 + 128 * high ≡ n = omega arith in
@@ -197,7 +197,7 @@ split_low q n high large half is same =
       less = rw (same, le-leb n (128 * q + 127) half, le-leb high (128 * q + 127) (omega arith)) is;
     }
 
-split_high : (q n high : ℕ) → n ≤ 256 * q + 191 → 128 * q + 127 < n → high ≡ n / 128 + (254 * q + 254) → shifted (256 * q + 255) n ≡ high → Split q n
+split_high : (q n high : ℕ) → n ≤ 256 * q + 191 → 128 * q + 127 < n → high ≡ n / 128 + (254 * q + 254) → shift_group (256 * q + 255) n ≡ high → Split q n
 split_high q n high room half is same =
     let gt : q < high = omega arith in
     let least : 255 * q + 255 ≤ high = omega arith in
@@ -245,7 +245,7 @@ signed_take q (suc most) (suc k) (b ∷ bytes) n rest le fits e =
                 let j = signed_joined_ok q (b - 128) a.0.0 a.0.1 n rest low above.1 a.2 in
                 let first : 128 + n % 128 ≡ b = ap (λ (x : ℕ). 128 + x) j.first ∙ omega arith in (
                   put_before b bytes (signed_groups k (256 * q + 255) a.0.0) a.0.1 rest (signed_groups (suc k) (256 * q + 255) n) above.0 j.same
-                      (signed_more k (256 * q + 255) n j.large j.small ∙ ap (λ (c : ℕ). c ∷ signed_groups k (256 * q + 255) (shifted (256 * q + 255) n)) first ∙ ap (λ (x : ℕ). b ∷ signed_groups k (256 * q + 255) x) j.others),
+                      (signed_more k (256 * q + 255) n j.large j.small ∙ ap (λ (c : ℕ). c ∷ signed_groups k (256 * q + 255) (shift_group (256 * q + 255) n)) first ∙ ap (λ (x : ℕ). b ∷ signed_groups k (256 * q + 255) x) j.others),
                   j.fits,
                 )
           ]
@@ -266,7 +266,7 @@ signed_again_great q most k n b rest le gt is =
     rw (signed_great k (256 * q + 255) n large great, is, le-ltb b 64 low, lt-ltb b 128 high, less_127 q, back) refl
 
 signed_again_more : (q most k n : ℕ) (rest : List ℕ) → 64 ≤ n → n ≤ 256 * q + 191 → Split q n
-    → signed_groups_at (suc most) (256 * q + 255) (signed_groups (suc k) (256 * q + 255) (shifted (256 * q + 255) n) ++ rest) ≡ Ok (shifted (256 * q + 255) n, rest)
+    → signed_groups_at (suc most) (256 * q + 255) (signed_groups (suc k) (256 * q + 255) (shift_group (256 * q + 255) n) ++ rest) ≡ Ok (shift_group (256 * q + 255) n, rest)
     → signed_groups_at (suc (suc most)) (256 * q + 255) (signed_groups (suc (suc k)) (256 * q + 255) n ++ rest) ≡ Ok (n, rest)
 unfolding signed_groups_at
 signed_again_more q most k n rest large room s again =
@@ -303,7 +303,7 @@ signed_again q (suc most) (suc k) n rest le top room =
             | inr low ↦
                 let s = split q n large low in
                 let less : size q n / 128 < 64 * 128 ^ most = omega (arith, pow-suc 128 most) in
-                signed_again_more q most k n rest large low s (signed_again q most k (shifted (256 * q + 255) n) rest (omega arith) s.most (rw (s.less) less))
+                signed_again_more q most k n rest large low s (signed_again q most k (shift_group (256 * q + 255) n) rest (omega arith) s.most (rw (s.less) less))
           ]
     ]
 

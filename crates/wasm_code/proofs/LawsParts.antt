@@ -8,7 +8,7 @@ use Rattle.std.proofs.lemmas.List.{append-nil, length-append, take-append-drop, 
 use Rattle.wasm_tree.specs.declared.fault.WFault.TheVariants.{Malformed}
 use Rattle.wasm_tree.specs.Format.{Format, Reading, ◌>>=◌, skip}
 use Rattle.wasm_code.specs.Number.{unsigned}
-use Rattle.wasm_code.specs.Parts.{◌▸◌, ◌◂◌, ◌·◌, seen, that, many, vector, positive, entries, closed, sized, bytes_left, section_encoding, section_reading, section_fits, section, name}
+use Rattle.wasm_code.specs.Parts.{◌▸◌, ◌◂◌, ◌·◌, as_value, that, many, vector, positive, entries, close_part, with_size, bytes_left, section_encoding, section_reading, section_fits, section, name}
 use Rattle.wasm_code.proofs.Laws.{IsBytes, IsBytes-tail, IsBytes-take, IsBytes-drop, bind_ok, guard_ok, ok_is, read_is, Taken, taken_at, Law, WholeLaw, whole}
 use Rattle.wasm_code.proofs.LawsNumber.{unsigned_law}
 
@@ -79,15 +79,15 @@ module _ {A B : Type 0} (p : Format A) (q : Format B) (lp : Law p) (lq : Law q) 
 -- ---- the same bytes, seen as another value
 
 module _ {A B : Type 0} (make : A → B) (part : B → A) (p : Format A) (law : Law p) (made : (y : B) → make (part y) ≡ y) (parted : (x : A) → part (make x) ≡ x) where
-  seen_takes : (bytes : List ℕ) (y : B) (rest : List ℕ) → IsBytes bytes → (seen make part p).reading bytes ≡ Ok (y, rest) → Taken (seen make part p) bytes y rest
+  seen_takes : (bytes : List ℕ) (y : B) (rest : List ℕ) → IsBytes bytes → (as_value make part p).reading bytes ≡ Ok (y, rest) → Taken (as_value make part p) bytes y rest
   seen_takes bytes y rest fits e =
       let a = bind_ok (p.reading bytes) (λ x. Ok (make x.0, x.1)) (y, rest) e in
       let is = read_is (make a.0.0) y a.0.1 rest a.2 in
       let t = law.takes bytes a.0.0 a.0.1 fits a.1 in
       let back = parted a.0.0 in
-      taken_at (seen make part p) bytes (make a.0.0) y a.0.1 rest is (record { parts = t.parts ∙ ap (λ (x : A). p.encoding x ++ a.0.1) (sym back); rest_fits = t.rest_fits; fits = ap p.fits back ∙ t.fits })
+      taken_at (as_value make part p) bytes (make a.0.0) y a.0.1 rest is (record { parts = t.parts ∙ ap (λ (x : A). p.encoding x ++ a.0.1) (sym back); rest_fits = t.rest_fits; fits = ap p.fits back ∙ t.fits })
 
-  pub seen_law : Law (seen make part p)
+  pub seen_law : Law (as_value make part p)
   seen_law = record { takes = seen_takes; again = λ y rest fits. rw (law.again (part y) rest fits, made y) refl }
 
 -- ---- values that pass a test
@@ -193,13 +193,13 @@ module _ {A : Type 0} (p : Format A) (law : Law p) where
 
 -- ---- a part behind the number of its bytes
 
-closed_ok : (size : ℕ) (bytes left rest : List ℕ) → closed size bytes left ≡ Ok rest → (left ≡ []) × (size ≤ length bytes) × (drop size bytes ≡ rest)
+closed_ok : (size : ℕ) (bytes left rest : List ℕ) → close_part size bytes left ≡ Ok rest → (left ≡ []) × (size ≤ length bytes) × (drop size bytes ≡ rest)
 closed_ok size bytes left rest e =
     let g = guard_ok (eqb (length left) 0 && leb size (length bytes)) Malformed (Ok (drop size bytes)) rest e in
     let f = and_parts (eqb (length left) 0) (leb size (length bytes)) g.0 in
     (nil_from_length left (eqb-true _ _ f.0), leb-true _ _ f.1, ok_is _ _ g.1)
 
-closed_same : (text rest : List ℕ) → closed (length text) (text ++ rest) [] ≡ Ok rest
+closed_same : (text rest : List ℕ) → close_part (length text) (text ++ rest) [] ≡ Ok rest
 closed_same text rest =
     let room : length text ≤ length (text ++ rest) = omega (arith, length-append text rest) in
     rw (le-leb (length text) (length (text ++ rest)) room, drop_at text rest (length text) refl) refl
@@ -212,40 +212,40 @@ sized_parts bytes after text n parts is room =
     parts ∙ ap (λ (r : List ℕ). unsigned.encoding n ++ r) split ∙ sym (append_assoc (unsigned.encoding n) text (drop n after)) ∙ ap (λ (k : ℕ). (unsigned.encoding k ++ text) ++ drop n after) (sym len)
 
 module _ {A : Type 0} (p : Format A) where
-  sized_taken : (bytes after left rest : List ℕ) (n : ℕ) (x : A) → Taken unsigned bytes n after → Taken p (take n after) x left → closed n after left ≡ Ok rest → Taken (sized p) bytes x rest
+  sized_taken : (bytes after left rest : List ℕ) (n : ℕ) (x : A) → Taken unsigned bytes n after → Taken p (take n after) x left → close_part n after left ≡ Ok rest → Taken (with_size p) bytes x rest
   sized_taken bytes after left rest n x t u e =
       let k = closed_ok n after left rest e in
       let text : take n after ≡ p.encoding x = u.parts ∙ ap (λ (r : List ℕ). p.encoding x ++ r) k.0 ∙ append-nil (p.encoding x) in
       let len : length (p.encoding x) ≡ n = ap length (sym text) ∙ length-take-le n after k.1 in
       let parts = sized_parts bytes after (p.encoding x) n t.parts text k.1 in
-      let made : Taken (sized p) bytes x (drop n after) = record { parts = parts; rest_fits = IsBytes-drop n after t.rest_fits; fits = and_from _ _ u.fits (ap unsigned.fits len ∙ t.fits) } in
-      taken_at (sized p) bytes x x (drop n after) rest (refl, k.2) made
+      let made : Taken (with_size p) bytes x (drop n after) = record { parts = parts; rest_fits = IsBytes-drop n after t.rest_fits; fits = and_from _ _ u.fits (ap unsigned.fits len ∙ t.fits) } in
+      taken_at (with_size p) bytes x x (drop n after) rest (refl, k.2) made
 
   pub sized_takes : (takes : (bytes : List ℕ) (x : A) (rest : List ℕ) → IsBytes bytes → p.reading bytes ≡ Ok (x, rest) → Taken p bytes x rest)
-      (bytes : List ℕ) (x : A) (rest : List ℕ) → IsBytes bytes → (sized p).reading bytes ≡ Ok (x, rest) → Taken (sized p) bytes x rest
+      (bytes : List ℕ) (x : A) (rest : List ℕ) → IsBytes bytes → (with_size p).reading bytes ≡ Ok (x, rest) → Taken (with_size p) bytes x rest
   sized_takes takes bytes x rest fits e =
-      let a = bind_ok (unsigned.reading bytes) (λ n. p.reading (take n.0 n.1) >>= λ x. closed n.0 n.1 x.1 >>= λ rest. Ok (x.0, rest)) (x, rest) e in
-      let b = bind_ok (p.reading (take a.0.0 a.0.1)) (λ x. closed a.0.0 a.0.1 x.1 >>= λ rest. Ok (x.0, rest)) (x, rest) a.2 in
-      let c = bind_ok (closed a.0.0 a.0.1 b.0.1) (λ rest. Ok (b.0.0, rest)) (x, rest) b.2 in
+      let a = bind_ok (unsigned.reading bytes) (λ n. p.reading (take n.0 n.1) >>= λ x. close_part n.0 n.1 x.1 >>= λ rest. Ok (x.0, rest)) (x, rest) e in
+      let b = bind_ok (p.reading (take a.0.0 a.0.1)) (λ x. close_part a.0.0 a.0.1 x.1 >>= λ rest. Ok (x.0, rest)) (x, rest) a.2 in
+      let c = bind_ok (close_part a.0.0 a.0.1 b.0.1) (λ rest. Ok (b.0.0, rest)) (x, rest) b.2 in
       let t = unsigned_law.takes bytes a.0.0 a.0.1 fits a.1 in
       let u = takes (take a.0.0 a.0.1) b.0.0 b.0.1 (IsBytes-take a.0.0 a.0.1 t.rest_fits) b.1 in
-      taken_at (sized p) bytes b.0.0 x c.0 rest (read_is b.0.0 x c.0 rest c.2) (sized_taken bytes a.0.1 b.0.1 c.0 a.0.0 b.0.0 t u c.1)
+      taken_at (with_size p) bytes b.0.0 x c.0 rest (read_is b.0.0 x c.0 rest c.2) (sized_taken bytes a.0.1 b.0.1 c.0 a.0.0 b.0.0 t u c.1)
 
   -- the part was read from some bytes
-  pub sized_inner : (bytes : List ℕ) (x : A) (rest : List ℕ) → (sized p).reading bytes ≡ Ok (x, rest) → (inner : List ℕ) × (left : List ℕ) × (p.reading inner ≡ Ok (x, left))
+  pub sized_inner : (bytes : List ℕ) (x : A) (rest : List ℕ) → (with_size p).reading bytes ≡ Ok (x, rest) → (inner : List ℕ) × (left : List ℕ) × (p.reading inner ≡ Ok (x, left))
   sized_inner bytes x rest e =
-      let a = bind_ok (unsigned.reading bytes) (λ n. p.reading (take n.0 n.1) >>= λ x. closed n.0 n.1 x.1 >>= λ rest. Ok (x.0, rest)) (x, rest) e in
-      let b = bind_ok (p.reading (take a.0.0 a.0.1)) (λ x. closed a.0.0 a.0.1 x.1 >>= λ rest. Ok (x.0, rest)) (x, rest) a.2 in
-      let c = bind_ok (closed a.0.0 a.0.1 b.0.1) (λ rest. Ok (b.0.0, rest)) (x, rest) b.2 in
+      let a = bind_ok (unsigned.reading bytes) (λ n. p.reading (take n.0 n.1) >>= λ x. close_part n.0 n.1 x.1 >>= λ rest. Ok (x.0, rest)) (x, rest) e in
+      let b = bind_ok (p.reading (take a.0.0 a.0.1)) (λ x. close_part a.0.0 a.0.1 x.1 >>= λ rest. Ok (x.0, rest)) (x, rest) a.2 in
+      let c = bind_ok (close_part a.0.0 a.0.1 b.0.1) (λ rest. Ok (b.0.0, rest)) (x, rest) b.2 in
       let is = read_is b.0.0 x c.0 rest c.2 in
       (take a.0.0 a.0.1, b.0.1, subst (λ (y : A). p.reading (take a.0.0 a.0.1) ≡ Ok (y, b.0.1)) is.0 b.1)
 
-  pub sized_again : (x : A) (rest : List ℕ) → p.reading (p.encoding x) ≡ Ok (x, []) → ltb (length (p.encoding x)) (2 ^ 32) ≡ true → (sized p).reading ((sized p).encoding x ++ rest) ≡ Ok (x, rest)
+  pub sized_again : (x : A) (rest : List ℕ) → p.reading (p.encoding x) ≡ Ok (x, []) → ltb (length (p.encoding x)) (2 ^ 32) ≡ true → (with_size p).reading ((with_size p).encoding x ++ rest) ≡ Ok (x, rest)
   sized_again x rest again room =
       let text : List ℕ = p.encoding x in
       rw (append_assoc (unsigned.encoding (length text)) text rest, unsigned_law.again (length text) (text ++ rest) room, take_at text rest (length text) refl, again, closed_same text rest) refl
 
-  pub sized_law : WholeLaw p → Law (sized p)
+  pub sized_law : WholeLaw p → Law (with_size p)
   sized_law law = record {
     takes = sized_takes law.takes;
     again = λ x rest fits. let f = and_parts (p.fits x) (ltb (length (p.encoding x)) (2 ^ 32)) fits in sized_again x rest (law.again x f.0) f.1;
@@ -290,10 +290,10 @@ Past-less before number [] lt past = tt
 Past-less before number (b ∷ bytes) lt past = omega arith
 
 module _ {A : Type 0} (number : ℕ) (p : Format A) (law : Law p) where
-  section_content : Law (sized (entries p))
+  section_content : Law (with_size (entries p))
   section_content = sized_law (entries p) (whole (entries p) (entries_law p law))
 
-  section_some : (bytes : List ℕ) (xs : List A) (rest : List ℕ) → Taken (sized (entries p)) bytes xs rest → Taken (section number p) (number ∷ bytes) xs rest
+  section_some : (bytes : List ℕ) (xs : List A) (rest : List ℕ) → Taken (with_size (entries p)) bytes xs rest → Taken (section number p) (number ∷ bytes) xs rest
   section_some bytes [] rest t = absurd (false≢true t.fits)
   section_some bytes (x ∷ xs) rest t = record { parts = ap (λ (r : List ℕ). number ∷ r) t.parts; rest_fits = t.rest_fits; fits = t.fits }
 
@@ -302,7 +302,7 @@ module _ {A : Type 0} (number : ℕ) (p : Format A) (law : Law p) where
   section_takes (b ∷ bytes) xs rest fits e =
       elim (cases_Bool (eqb b number)) [
         | inl same ↦
-            let e1 : (sized (entries p)).reading bytes ≡ Ok (xs, rest) = rw same at e in
+            let e1 : (with_size (entries p)).reading bytes ≡ Ok (xs, rest) = rw same at e in
             let t = section_some bytes xs rest (section_content.takes bytes xs rest (IsBytes-tail b bytes fits) e1) in
             subst (λ (c : ℕ). Taken (section number p) (c ∷ bytes) xs rest) (sym (eqb-true b number same)) t
         | inr other ↦
@@ -325,4 +325,4 @@ module _ {A : Type 0} (number : ℕ) (p : Format A) (law : Law p) where
 
 pub name_law : Law name
 unfolding name
-name_law = that_law is_utf8 (sized bytes_left) (sized_law bytes_left bytes_left_law)
+name_law = that_law is_utf8 (with_size bytes_left) (sized_law bytes_left bytes_left_law)

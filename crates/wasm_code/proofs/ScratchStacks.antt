@@ -14,7 +14,7 @@ use Rattle.wasm_tree.specs.Format.{Reading, ◌>>=◌, Fails}
 use Rattle.wasm_tree.proofs.Flat.{tree_flat}
 use Rattle.wasm_code.specs.declared.code.Ending.{Ending}
 use Rattle.wasm_code.specs.declared.code.Ending.TheVariants.{End, Else}
-use Rattle.wasm_code.specs.Instructions.{Sequence, one_sided, closing, code_in, code_within, code, ended}
+use Rattle.wasm_code.specs.Instructions.{Sequence, one_sided, closing, code_in, code_within, code, with_end}
 use Rattle.wasm_code.specs.ScratchStack.{is_plain, one_sided_op, onto, onto_sequence, onto_code, sides_of}
 use Rattle.wasm_code.proofs.Laws.{read_is}
 use Rattle.wasm_code.proofs.Loop.{with_instrs, fails_same}
@@ -168,16 +168,16 @@ module _ (levels b : ℕ) (t : Option ValueType) (old mid : List Op) (bytes : Li
       ∙ ap (λ (ops : List Op). Ok (ops, after)) (closed_one old mid new end place x b t r.0 p m r.2 g)
 
   second_side : (new : List Op) (e : Ending) (after : List ℕ) → (b == 0x04) ≡ true → e ≡ Else → onto_sequence mid (code_in levels bytes) ≡ Ok ((new, e), after)
-      → (is : List Instr) × (onto old (sides_of levels b t bytes) ≡ onto old (ended (code_in levels after) >>= λ others. Ok (instr.If t is (Some others.0), others.1))) × (new ≡ mid ++ flat is)
+      → (is : List Instr) × (onto old (sides_of levels b t bytes) ≡ onto old (with_end (code_in levels after) >>= λ others. Ok (instr.If t is (Some others.0), others.1))) × (new ≡ mid ++ flat is)
   second_side new e after n is h =
       let r = sequence_onto mid new (code_in levels bytes) Else after (h ∙ ap (λ (y : Ending). Ok ((new, y), after)) is) in
       (r.0, ap (λ (s : Reading Sequence). onto old (s >>= λ s. closing (code_in levels) b t s.0.0 s.0.1 s.1)) r.1 ∙ rw n refl, r.2)
 
   pub sides_two : (new more end : List Op) (place second : ℕ) (x : Op) (e : Ending) (after rest : List ℕ) → place ≡ length old → mid ≡ old ++ x ∷ [] → b ≡ 0x04
-      → e ≡ Else → onto_sequence mid (code_in levels bytes) ≡ Ok ((new, e), after) → second ≡ length new → onto_code new (ended (code_in levels after)) ≡ Ok (more, rest)
+      → e ≡ Else → onto_sequence mid (code_in levels bytes) ≡ Ok ((new, e), after) → second ≡ length new → onto_code new (with_end (code_in levels after)) ≡ Ok (more, rest)
       → end ≡ slice_set more place (op.IfElse t (second - (place + 1)) (length more - second)) → onto old (sides_of levels b t bytes) ≡ Ok (end, rest)
   sides_two new more end place second x e after rest p m n is h q f g =
       let s = second_side new e after (ap (λ (o : ℕ). o == 0x04) n) is h in
-      let r = code_onto new more (ended (code_in levels after)) rest f in
+      let r = code_onto new more (with_end (code_in levels after)) rest f in
       s.1 ∙ ap (λ (others : Reading (List Instr)). onto old (others >>= λ others. Ok (instr.If t s.0 (Some others.0), others.1))) r.1
       ∙ ap (λ (ops : List Op). Ok (ops, rest)) (closed_two old mid new more end place second x t s.0 r.0 p m s.2 q r.2 g)

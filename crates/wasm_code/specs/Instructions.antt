@@ -173,25 +173,25 @@ ending_of b = if b == 0x0B then Some End else (if b == 0x05 then Some Else else 
 abbrev pub Sequence : Type 0
 Sequence = List Instr × Ending
 
-abbrev pub instr_of : (opened : ℕ → List ℕ → Reading Instr) → ℕ → List ℕ → Reading Instr
-instr_of opened b bytes = if opens b then opened b bytes else plain_of b bytes
+abbrev pub instr_of : (nested_instruction : ℕ → List ℕ → Reading Instr) → ℕ → List ℕ → Reading Instr
+instr_of nested_instruction b bytes = if opens b then nested_instruction b bytes else plain_of b bytes
 
 -- at most so many instructions and what ends them, where `opened` reads an instruction that holds
 -- others
-unfoldable pub sequence : (opened : ℕ → List ℕ → Reading Instr) (most : ℕ) → List ℕ
+unfoldable pub sequence : (nested_instruction : ℕ → List ℕ → Reading Instr) (most : ℕ) → List ℕ
     → Reading Sequence
-sequence opened zero bytes = Err Malformed
-sequence opened (suc most) [] = Err Malformed
-sequence opened (suc most) (b ∷ bytes) = elim (ending_of b) [
+sequence nested_instruction zero bytes = Err Malformed
+sequence nested_instruction (suc most) [] = Err Malformed
+sequence nested_instruction (suc most) (b ∷ bytes) = elim (ending_of b) [
   | Some e ↦ Ok (([], e), bytes)
-  | None ↦ instr_of opened b bytes >>= λ i.
-      sequence opened most i.1 >>= λ s.
+  | None ↦ instr_of nested_instruction b bytes >>= λ i.
+      sequence nested_instruction most i.1 >>= λ s.
       Ok ((i.0 ∷ s.0.0, s.0.1), s.1)
 ]
 
 -- the same with an end behind them: no else may stand there
-abbrev pub ended : Reading Sequence → Reading (List Instr)
-ended read = read >>= λ s. elim s.0.1 [ End ↦ Ok (s.0.0, s.1) | Else ↦ Err OutsideProfile ]
+abbrev pub with_end : Reading Sequence → Reading (List Instr)
+with_end read = read >>= λ s. elim s.0.1 [ End ↦ Ok (s.0.0, s.1) | Else ↦ Err OutsideProfile ]
 
 -- the instruction, once its first sequence is read. Only an if goes on behind an else
 abbrev pub closing : (inner : List ℕ → Reading Sequence) → ℕ → Option ValueType → List Instr
@@ -199,24 +199,24 @@ abbrev pub closing : (inner : List ℕ → Reading Sequence) → ℕ → Option 
 closing inner b t is End bytes = Ok (one_sided b t is, bytes)
 closing inner b t is Else bytes =
     if b == 0x04
-    then (ended (inner bytes) >>= λ others. Ok (If t is (Some others.0), others.1))
+    then (with_end (inner bytes) >>= λ others. Ok (If t is (Some others.0), others.1))
     else Err OutsideProfile
 
 -- an instruction that holds others, behind its opcode, where so many levels of nesting are left
-unfoldable pub opened : (levels : ℕ) → ℕ → List ℕ → Reading Instr
-opened zero b bytes = Err OutsideProfile
-opened (suc levels) b bytes =
-    block_type.reading bytes >>= λ t. sequence (opened levels) (length t.1) t.1 >>= λ s.
-    closing (λ rest. sequence (opened levels) (length rest) rest) b t.0 s.0.0 s.0.1 s.1
+unfoldable pub nested_instruction : (levels : ℕ) → ℕ → List ℕ → Reading Instr
+nested_instruction zero b bytes = Err OutsideProfile
+nested_instruction (suc levels) b bytes =
+    block_type.reading bytes >>= λ t. sequence (nested_instruction levels) (length t.1) t.1 >>= λ s.
+    closing (λ rest. sequence (nested_instruction levels) (length rest) rest) b t.0 s.0.0 s.0.1 s.1
 
 -- instructions and what ends them, where so many levels of nesting are left
 abbrev pub code_in : (levels : ℕ) → List ℕ → Reading Sequence
-code_in levels bytes = sequence (opened levels) (length bytes) bytes
+code_in levels bytes = sequence (nested_instruction levels) (length bytes) bytes
 
 abbrev pub code_within : (levels : ℕ) → Format (List Instr)
 code_within levels = record {
   encoding = λ is. flat_map instr_encoding is ++ 0x0B ∷ [];
-  reading = λ bytes. ended (code_in levels bytes);
+  reading = λ bytes. with_end (code_in levels bytes);
   fits = λ is. list_all (λ i. instr_fits i levels) is;
 }
 

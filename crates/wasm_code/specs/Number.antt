@@ -11,9 +11,9 @@ groups zero n = []
 groups (suc most) n = if nat_lt n 128 then n ∷ [] else (128 + n % 128) ∷ groups most (n / 128)
 
 -- the lowest group, and the groups above it, which are not 0
-abbrev pub joined : (low high : ℕ) → List ℕ → Reading ℕ
-joined low zero bytes = Err Malformed
-joined low (suc high) bytes =
+abbrev pub join_groups : (low high : ℕ) → List ℕ → Reading ℕ
+join_groups low zero bytes = Err Malformed
+join_groups low (suc high) bytes =
     if nat_lt (low + 128 * suc high) (2 ^ 32)
     then Ok (low + 128 * suc high, bytes)
     else Err Malformed
@@ -24,7 +24,7 @@ groups_at (suc most) [] = Err Malformed
 groups_at (suc most) (b ∷ bytes) =
     if nat_lt b 128
     then Ok (b, bytes)
-    else (groups_at most bytes >>= λ high. joined (b - 128) high.0 high.1)
+    else (groups_at most bytes >>= λ high. join_groups (b - 128) high.0 high.1)
 
 -- a number below 2 ^ 32
 abbrev pub unsigned : Format ℕ
@@ -32,15 +32,15 @@ unsigned = record { encoding = groups 10; reading = groups_at 5; fits = λ n. na
 
 -- A signed number is given by its bits, as one from 0 to top, the greatest number of its width:
 -- those above top / 2 stand for the negative ones. The seventh bit of the last group is its sign.
-abbrev pub shifted : (top n : ℕ) → ℕ
-shifted top n = if nat_le n (top / 2) then n / 128 else n / 128 + (top - top / 128)
+abbrev pub shift_group : (top n : ℕ) → ℕ
+shift_group top n = if nat_le n (top / 2) then n / 128 else n / 128 + (top - top / 128)
 
 unfoldable pub signed_groups : (most top n : ℕ) → List ℕ
 signed_groups zero top n = []
 signed_groups (suc most) top n =
     if nat_lt n 64 then n ∷ []
     else (if nat_lt (top - 64) n then (n + 127 - top) ∷ []
-    else (128 + n % 128) ∷ signed_groups most top (shifted top n))
+    else (128 + n % 128) ∷ signed_groups most top (shift_group top n))
 
 -- the lowest group, and the groups above it: the number takes more than one group, and no more bits
 -- than its width

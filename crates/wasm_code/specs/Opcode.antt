@@ -65,9 +65,9 @@ store_opcode Four = 0x3E
 -- ---- what an opcode stands for
 
 -- the first of these that has this opcode
-abbrev pub found : {A : Type 0} → (A → ℕ) → ℕ → List A → Option A
-found opcode b [] = None
-found opcode b (x ∷ xs) = if b == opcode x then Some x else found opcode b xs
+abbrev pub find_opcode : {A : Type 0} → (A → ℕ) → ℕ → List A → Option A
+find_opcode opcode b [] = None
+find_opcode opcode b (x ∷ xs) = if b == opcode x then Some x else find_opcode opcode b xs
 
 abbrev pub relations : List Relation
 relations = Eq ∷ Ne ∷ LtS ∷ LtU ∷ GtS ∷ GtU ∷ LeS ∷ LeU ∷ GeS ∷ GeU ∷ []
@@ -89,10 +89,10 @@ abbrev pub widths : List StoreWidth
 widths = Eight ∷ One ∷ Two ∷ Four ∷ []
 
 unfoldable pub numeric_of : ℕ → Option Numeric
-numeric_of b = found numeric_opcode b (tests ++ calculations)
+numeric_of b = find_opcode numeric_opcode b (tests ++ calculations)
 
 unfoldable pub load_of : ℕ → Option Load
-load_of b = found load_opcode b loads
+load_of b = find_opcode load_opcode b loads
 
 unfoldable pub store_of : ℕ → Option StoreWidth
-store_of b = found store_opcode b widths
+store_of b = find_opcode store_opcode b widths

@@ -34,8 +34,8 @@ p · q = record {
 }
 
 -- the same bytes, seen as another value
-abbrev pub seen : {A B : Type 0} → (A → B) → (B → A) → Format A → Format B
-seen make part p = record {
+abbrev pub as_value : {A B : Type 0} → (A → B) → (B → A) → Format A → Format B
+as_value make part p = record {
   encoding = λ y. p.encoding (part y);
   reading = λ bytes. p.reading bytes >>= λ x. Ok (make x.0, x.1);
   fits = λ y. p.fits (part y);
@@ -75,18 +75,18 @@ entries p = record {
 
 -- the bytes behind a part that is stated to take so many of them: what is left of it is nothing,
 -- and all are there
-abbrev pub closed : (size : ℕ) (bytes left : List ℕ) → Result (List ℕ) WFault
-closed size bytes left =
+abbrev pub close_part : (size : ℕ) (bytes left : List ℕ) → Result (List ℕ) WFault
+close_part size bytes left =
     if (length left == 0) && nat_le size (length bytes) then Ok (drop size bytes) else Err Malformed
 
 -- a part behind the number of its bytes. Bytes past that number count as missing
-abbrev pub sized : {A : Type 0} → Format A → Format A
-sized p = record {
+abbrev pub with_size : {A : Type 0} → Format A → Format A
+with_size p = record {
   encoding = λ x. unsigned.encoding (length (p.encoding x)) ++ p.encoding x;
   reading = λ bytes.
       unsigned.reading bytes >>= λ n.
       p.reading (take n.0 n.1) >>= λ x.
-      closed n.0 n.1 x.1 >>= λ rest.
+      close_part n.0 n.1 x.1 >>= λ rest.
       Ok (x.0, rest);
   fits = λ x. p.fits x && nat_lt (length (p.encoding x)) (2 ^ 32);
 }
@@ -102,16 +102,16 @@ bytes_left = record {
 -- a section, which is left out where it has no entry (Core 1.0, section 5.5.2)
 abbrev pub section_encoding : {A : Type 0} → (number : ℕ) → Format A → List A → List ℕ
 section_encoding number p [] = []
-section_encoding number p (x ∷ xs) = number ∷ (sized (entries p)).encoding (x ∷ xs)
+section_encoding number p (x ∷ xs) = number ∷ (with_size (entries p)).encoding (x ∷ xs)
 
 abbrev pub section_reading : {A : Type 0} → (number : ℕ) → Format A → List ℕ → Reading (List A)
 section_reading number p [] = Ok ([], [])
 section_reading number p (b ∷ bytes) =
-    if b == number then (sized (entries p)).reading bytes else Ok ([], b ∷ bytes)
+    if b == number then (with_size (entries p)).reading bytes else Ok ([], b ∷ bytes)
 
 abbrev pub section_fits : {A : Type 0} → Format A → List A → Bool
 section_fits p [] = true
-section_fits p (x ∷ xs) = (sized (entries p)).fits (x ∷ xs)
+section_fits p (x ∷ xs) = (with_size (entries p)).fits (x ∷ xs)
 
 abbrev pub section : {A : Type 0} → (number : ℕ) → Format A → Format (List A)
 section number p = record {
@@ -122,4 +122,4 @@ section number p = record {
 
 -- a name in UTF-8 (Core 1.0, section 5.2.4)
 unfoldable pub name : Format (List ℕ)
-name = that is_utf8 (sized bytes_left)
+name = that is_utf8 (with_size bytes_left)

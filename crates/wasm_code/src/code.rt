@@ -8,7 +8,7 @@ ghost use Rattle.wasm_tree.specs.declared.code.Op.TheVariants.{Br, IfElse};
 ghost use Rattle.wasm_tree.specs.declared.instr.Instr.TheVariants as instr;
 ghost use Rattle.wasm_code.specs.Number.{unsigned, signed32, signed64};
 ghost use Rattle.wasm_code.specs.Parts.{many, vector};
-ghost use Rattle.wasm_code.specs.Instructions.{block_type, no_offset, memory_of, variable_of, plain_of, opens, ending_of, instr_of, code_in, opened, code_within, instr_encoding, code};
+ghost use Rattle.wasm_code.specs.Instructions.{block_type, no_offset, memory_of, variable_of, plain_of, opens, ending_of, instr_of, code_in, nested_instruction, code_within, instr_encoding, code};
 ghost use Rattle.wasm_code.specs.ScratchStack.{is_plain, one_sided_op, onto, onto_sequence, onto_code, sides_of};
 
 use crate::fits::code_fits;
@@ -329,7 +329,7 @@ fn sides_onto<'a>(
 /// Reads the instruction that this opcode begins and that holds others, where so many levels of nesting are left.
 #[inline(never)]
 #[cycle(code)]
-#[tactic(auto, unfolding(crate::specs::Instructions::opened))]
+#[tactic(auto, unfolding(crate::specs::Instructions::nested_instruction))]
 fn opened_onto<'a>(
     alloc: Global,
     levels: u16,
@@ -339,7 +339,7 @@ fn opened_onto<'a>(
 ) -> Result<&'a [u8], WFault>
     requires { length bytes.now < 2 ^ 32 }
     ensures { Gives (λ x. (scratch.new.items, x.now)) result
-        (onto scratch.old.items (opened levels opcode bytes.now)) }
+        (onto scratch.old.items (nested_instruction levels opcode bytes.now)) }
 {
     if levels == 0 {
         return Err(WFault::OutsideProfile);
@@ -360,7 +360,7 @@ fn instr_onto<'a>(
 ) -> Result<&'a [u8], WFault>
     requires { length bytes.now < 2 ^ 32 }
     ensures { Gives (λ x. (scratch.new.items, x.now)) result
-        (onto scratch.old.items (instr_of (opened levels) opcode bytes.now)) }
+        (onto scratch.old.items (instr_of (nested_instruction levels) opcode bytes.now)) }
 {
     if opens(opcode) {
         opened_onto(alloc, levels, scratch, opcode, bytes)

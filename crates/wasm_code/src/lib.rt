@@ -15,5 +15,5 @@ mod writer;
 pub use code::{code_at, code_over, write_code};
 pub use name::{name_at, write_name};
 pub use number::{signed32_at, signed64_at, unsigned_at};
-pub use parts::{byte_at, closed, front, skip};
+pub use parts::{byte_at, close_part, front, skip};
 pub use writer::Writer;

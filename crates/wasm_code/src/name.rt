@@ -6,7 +6,7 @@ ghost use Rattle.wasm_tree.specs.Format.{Gives};
 ghost use Rattle.wasm_code.specs.Parts.{name};
 
 use crate::number::unsigned_at;
-use crate::parts::{closed, front};
+use crate::parts::{close_part, front};
 use crate::writer::Writer;
 use std::alloc::Global;
 use tree_parts::Items;
@@ -28,7 +28,7 @@ pub fn name_at(alloc: Global, bytes: &[u8]) -> Result<(Items<u8>, &[u8]), WFault
 {
     let (size, rest) = unsigned_at(bytes)?;
     let text = front(rest, size);
-    let rest = closed(size, rest, &[])?;
+    let rest = close_part(size, rest, &[])?;
     if !is_utf8(text) {
         return Err(WFault::Malformed);
     }

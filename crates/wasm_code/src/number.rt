@@ -2,12 +2,12 @@
 
 ghost use Rattle.std.specs.Prelude.{◌≡◌, ◌+◌, ◌*◌, ◌%◌, ◌<◌, ◌≤◌, ◌^◌, ◌-◌, ◌/◌, ◌≢◌, IfOk, Err, length};
 ghost use Rattle.wasm_tree.specs.Format.{Format, Gives};
-ghost use Rattle.wasm_code.specs.Number.{unsigned, groups_at, joined, signed32, signed64, signed_groups_at, signed_joined};
+ghost use Rattle.wasm_code.specs.Number.{unsigned, groups_at, join_groups, signed32, signed64, signed_groups_at, signed_joined};
 
 use wasm_tree::WFault;
 
-fn joined(low: u8, high: u32, rest: &[u8]) -> Result<(u32, &[u8]), WFault>
-    ensures gives { Gives (λ x. (x.0, x.1.now)) result (joined low high rest.now) }
+fn join_groups(low: u8, high: u32, rest: &[u8]) -> Result<(u32, &[u8]), WFault>
+    ensures gives { Gives (λ x. (x.0, x.1.now)) result (join_groups low high rest.now) }
     ensures memory { result ≢ Err WFault.NoMemory }
     ensures shorter { IfOk result (λ x. length x.1.now ≤ length rest.now) }
 {
@@ -35,7 +35,7 @@ fn groups_at(most: u8, bytes: &[u8]) -> Result<(u32, &[u8]), WFault>
         [byte, rest @ ..] if *byte < 128 => Ok((u32::from(*byte), rest)),
         [byte, rest @ ..] => {
             let (high, rest) = groups_at(most - 1, rest)?;
-            joined(byte - 128, high, rest)
+            join_groups(byte - 128, high, rest)
         }
     }
 }

@@ -1,7 +1,7 @@
 //! The opcodes of loads and stores (Core 1.0, section 5.4.4) and of numeric instructions (5.4.5).
 
 ghost use Rattle.std.specs.Prelude.{◌≡◌, ◌<◌};
-ghost use Rattle.wasm_code.specs.Opcode.{relation_number, operation_opcode, numeric_opcode, load_opcode, store_opcode, found, tests, calculations, numeric_of, load_of, store_of};
+ghost use Rattle.wasm_code.specs.Opcode.{relation_number, operation_opcode, numeric_opcode, load_opcode, store_opcode, find_opcode, tests, calculations, numeric_of, load_of, store_of};
 
 use wasm_tree::{Load, Numeric, Operation, Relation, StoreWidth};
 
@@ -36,7 +36,7 @@ pub fn store_of(opcode: u8) -> Option<StoreWidth>
 
 /// The test of this opcode.
 fn test_of(opcode: u8) -> Option<Numeric>
-    ensures { result ≡ found numeric_opcode opcode tests }
+    ensures { result ≡ find_opcode numeric_opcode opcode tests }
 {
     match opcode {
         0x45 => Some(Numeric::I32Eqz),
@@ -67,7 +67,7 @@ fn test_of(opcode: u8) -> Option<Numeric>
 
 /// The numeric instruction of this opcode, where it is no test.
 fn calculation_of(opcode: u8) -> Option<Numeric>
-    ensures { result ≡ found numeric_opcode opcode calculations }
+    ensures { result ≡ find_opcode numeric_opcode opcode calculations }
 {
     match opcode {
         0x6A => Some(Numeric::I32Add),

@@ -2,7 +2,7 @@
 
 ghost use Rattle.std.specs.Prelude.{◌≡◌, ◌≢◌, ◌≤◌, take, Err, IfOk, length};
 ghost use Rattle.wasm_tree.specs.Format.{Gives, skip, byte_at};
-ghost use Rattle.wasm_code.specs.Parts.{closed};
+ghost use Rattle.wasm_code.specs.Parts.{close_part};
 
 use wasm_tree::WFault;
 
@@ -21,8 +21,8 @@ pub fn front(bytes: &[u8], size: u32) -> &[u8]
 }
 
 /// The bytes behind a part of so many bytes, of which these are left. `Malformed` where some are, or some are missing.
-pub fn closed<'a>(size: u32, bytes: &'a [u8], left: &[u8]) -> Result<&'a [u8], WFault>
-    ensures gives { Gives (λ x. x.now) result (closed size bytes.now left.now) }
+pub fn close_part<'a>(size: u32, bytes: &'a [u8], left: &[u8]) -> Result<&'a [u8], WFault>
+    ensures gives { Gives (λ x. x.now) result (close_part size bytes.now left.now) }
     ensures memory { result ≢ Err WFault.NoMemory }
     ensures shorter { IfOk result (λ x. length x.now ≤ length bytes.now) }
 {

@@ -2,8 +2,8 @@
 
 ghost use Rattle.std.specs.Prelude.{◌≡◌, ◌++◌, ◌∷◌, [], ◌+◌, ◌-◌, ◌*◌, ◌/◌, ◌%◌, ◌^◌, ◌<◌, ◌≤◌, length, vec_len, vec_capacity, OnOk, OnErr, Err, IsTrue, ◌↔◌, true, false, nat_lt};
 ghost use Rattle.wasm_tree.specs.Format.{Format};
-ghost use Rattle.wasm_code.specs.Parts.{bytes_left, sized};
-ghost use Rattle.wasm_code.specs.Number.{unsigned, groups, signed32, signed64, signed_groups, shifted};
+ghost use Rattle.wasm_code.specs.Parts.{bytes_left, with_size};
+ghost use Rattle.wasm_code.specs.Number.{unsigned, groups, signed32, signed64, signed_groups, shift_group};
 
 use std::alloc::{AllocError, Global};
 use std::marker::Model;
@@ -136,7 +136,7 @@ impl Writer {
     pub fn sized(&mut self, part: &[u8]) -> Result<(), EncodeError>
         ensures ok { OnOk result (self.new ≡ self.old ++ (unsigned.encoding (length part.now) ++ part.now)) }
         ensures err { OnErr result (self.new ≡ self.old) }
-        ensures fits { OnOk result ((sized bytes_left).fits part.now ≡ true) }
+        ensures fits { OnOk result ((with_size bytes_left).fits part.now ≡ true) }
         ensures unfit { result ≡ Err EncodeError.NoEncoding → nat_lt (length part.now) (2 ^ 32) ≡ false }
     {
         if part.len() > MAX_PART {
@@ -200,13 +200,13 @@ fn push_signed(bytes: &mut Vec<u8>, most: u8, top: u64, bits: u64)
             return;
         }
         bytes.push_reserved((128 + rest % 128) as u8);
-        rest = shifted(top, rest);
+        rest = shift_group(top, rest);
     }
 }
 
-fn shifted(top: u64, bits: u64) -> u64
+fn shift_group(top: u64, bits: u64) -> u64
     requires { bits ≤ top }
-    ensures { result ≡ shifted top bits }
+    ensures { result ≡ shift_group top bits }
 {
     if bits <= top / 2 {
         bits / 128

@@ -40,7 +40,7 @@ use Rattle.wasm_tree.specs.Machine.{Activation, Config, Going, Progress, Typed, 
 use Rattle.wasm_sound.specs.Ready.{IsI32, IsI64, AreI32, AreI64}
 use Rattle.law_effect.proofs.Steps.{top_32, top_64}
 use Rattle.wasm_helpers.specs.Codes.{check_typed, copy_typed, div_typed, fill_typed, mod_typed}
-use Rattle.wasm_known.specs.Known.{with, bounded, Leads}
+use Rattle.wasm_known.specs.Known.{with, bounds_before, Leads}
 use Rattle.wasm_known.specs.declared.table.KnownFunction.{KnownFunction}
 use Rattle.wasm_known.specs.declared.table.KnownFunction.TheVariants as kind
 use Rattle.wasm_known.specs.Table.{Stands, Means, IsRight, known_in}
@@ -94,7 +94,7 @@ call_front code rest o g e f = ap tree (e ∙ ap (λ (o : Op). o ∷ rest) f) �
 pub constant_front : (code rest : List Op) (o : Op) (n : ℕ) → code ≡ o ∷ rest → o ≡ op.I64Const n → tree code ≡ instr.I64Const n ∷ tree rest
 constant_front code rest o n e f = ap tree (e ∙ ap (λ (o : Op). o ∷ rest) f) ∙ tree_front (op.I64Const n) rest
 
-pub bounds_front : (a b d e rest : List Instr) (lo hi k g : ℕ) → a ≡ instr.I64Const lo ∷ b → b ≡ instr.I64Const hi ∷ d → d ≡ instr.I64Const k ∷ e → e ≡ instr.Call g ∷ rest → a ≡ bounded lo hi k g rest
+pub bounds_front : (a b d e rest : List Instr) (lo hi k g : ℕ) → a ≡ instr.I64Const lo ∷ b → b ≡ instr.I64Const hi ∷ d → d ≡ instr.I64Const k ∷ e → e ≡ instr.Call g ∷ rest → a ≡ bounds_before lo hi k g rest
 bounds_front a b d e rest lo hi k g p q r s = rw (p, q, r, s) refl
 
 -- ---- operands
@@ -277,12 +277,12 @@ module _ (modules : List WModule) (st : Store) (now : Activation) (callers : Lis
   abbrev reached : (g lo hi k : ℕ) (rest : List Instr) → Activation
   reached g lo hi k rest = with now (instr.Call g ∷ rest) (now.stack ++ I64 lo ∷ [] ++ I64 hi ∷ [] ++ I64 k ∷ [])
 
-  three : (g lo hi k : ℕ) (rest : List Instr) → now.rest ≡ bounded lo hi k g rest → run modules 3 here ≡ (Going st (reached g lo hi k rest) callers, [])
+  three : (g lo hi k : ℕ) (rest : List Instr) → now.rest ≡ bounds_before lo hi k g rest → run modules 3 here ≡ (Going st (reached g lo hi k rest) callers, [])
   three g lo hi k rest e =
-      let from : with now (bounded lo hi k g rest) now.stack ≡ now = written (bounded lo hi k g rest) now.stack e refl in
-      ap (λ (a : Activation). run modules 3 (Going st a callers)) (sym from) ∙ (computed modules 3 (Going st (with now (bounded lo hi k g rest) now.stack) callers) (Going st (reached g lo hi k rest) callers) refl).path
+      let from : with now (bounds_before lo hi k g rest) now.stack ≡ now = written (bounds_before lo hi k g rest) now.stack e refl in
+      ap (λ (a : Activation). run modules 3 (Going st a callers)) (sym from) ∙ (computed modules 3 (Going st (with now (bounds_before lo hi k g rest) now.stack) callers) (Going st (reached g lo hi k rest) callers) refl).path
 
-  module _ (table : List (List KnownFunction)) (w : ∥ Holds modules table here ∥₁) (g lo hi k : ℕ) (rest : List Instr) (e : now.rest ≡ bounded lo hi k g rest) (is : known_in table now.instance g ≡ kind.Check) where
+  module _ (table : List (List KnownFunction)) (w : ∥ Holds modules table here ∥₁) (g lo hi k : ℕ) (rest : List Instr) (e : now.rest ≡ bounds_before lo hi k g rest) (is : known_in table now.instance g ≡ kind.Check) where
     means : Holds modules table here → Means modules st now.instance g kind.Check
     means h = subst (Means modules st now.instance g) is (h.right now.instance g)
 
@@ -303,7 +303,7 @@ module _ (modules : List WModule) (st : Store) (now : Activation) (callers : Lis
         to_progress _ _ (λ h.
         let m = means h in
         leads_to 17 rest (t ++ I64 v ∷ []) now.stack stack
-        (leads_from 17 (bounded lo hi k g rest) rest (t ++ I64 v ∷ []) (t ++ I64 v ∷ []) e stack
+        (leads_from 17 (bounds_before lo hi k g rest) rest (t ++ I64 v ∷ []) (t ++ I64 v ∷ []) e stack
         (bounds_return modules st now callers g m.0 m.1.function m.1.type m.1.callee m.1.typed v lo hi k t rest b.0 b.1))) w
 
 -- what the table says

@@ -1,10 +1,10 @@
 -- Bytes that are set to 0 one by one.
 use Rattle.std.proofs.Common.{◌≡◌, ℕ, zero, suc, ◌+◌, ◌-◌, ◌<◌, ◌≤◌, List, [], ◌∷◌, ◌++◌, take, drop, length, refl, sym, ap, ◌∙◌, arith}
 use Rattle.std.specs.Prelude.{slice_set}
-use Rattle.wasm_tree.specs.Machine.{pasted}
+use Rattle.wasm_tree.specs.Machine.{paste_items}
 use Rattle.law_effect.specs.Bytes.{cleared_bytes}
 
-pub set_pasted : (m : List ℕ) (k x : ℕ) → k < length m → slice_set m k x ≡ pasted m k (x ∷ [])
+pub set_pasted : (m : List ℕ) (k x : ℕ) → k < length m → slice_set m k x ≡ paste_items m k (x ∷ [])
 set_pasted [] k x h = absurd (omega arith)
 set_pasted (y ∷ m) zero x h = refl
 set_pasted (y ∷ m) (suc k) x h = ap (λ (l : List ℕ). y ∷ l) (set_pasted m k x (omega arith)) ∙ ap (λ (j : ℕ). y ∷ (take k m ++ x ∷ [] ++ drop j (y ∷ m))) more

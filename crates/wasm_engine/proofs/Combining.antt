@@ -18,8 +18,8 @@ use Rattle.wasm_tree.specs.declared.store.Value.{Value}
 use Rattle.wasm_tree.specs.declared.store.Value.TheVariants.{I32, I64}
 use Rattle.wasm_tree.specs.Code.{tree}
 use Rattle.wasm_tree.proofs.Flat.{tree_front}
-use Rattle.wasm_tree.specs.Machine.{Activation, Config, Going, Progress, calculated, or_trap, pushed, run, top_i32, top_i64, two_i64}
-use Rattle.wasm_tree.specs.Numbers.{compares, operated, truth}
+use Rattle.wasm_tree.specs.Machine.{Activation, Config, Going, Progress, calculation, or_trap, push_value, run, top_i32, top_i64, two_i64}
+use Rattle.wasm_tree.specs.Numbers.{compares, operation_result, truth}
 use Rattle.wasm_sound.specs.Ready.{AreNumbers, IsI32, IsI64, IsReady}
 use Rattle.wasm_sound.proofs.Soundness.{is_ready_to_begin}
 use Rattle.law_effect.proofs.Steps.{top_32, top_64}
@@ -45,7 +45,7 @@ both_front a b rest v o e f = e ∙ ap (λ (l : List Instr). pushing v ∷ l) f
 
 -- ---- operands
 
-pub added : (s t : List Value) (n m : ℕ) → top_i32 s ≡ Some (t, n) → calculated numeric.I32Add (s ++ I32 m ∷ []) ≡ Some (t, I32 ((n + m) % 2 ^ 32))
+pub added : (s t : List Value) (n m : ℕ) → top_i32 s ≡ Some (t, n) → calculation numeric.I32Add (s ++ I32 m ∷ []) ≡ Some (t, I32 ((n + m) % 2 ^ 32))
 added s t n m e =
     ap (λ (x : Option (List Value × ℕ)). option_and_then (λ (p : List Value × ℕ). option_map (λ (q : List Value × ℕ). (q.0, I32 ((q.1 + p.1) % 2 ^ 32))) (top_i32 p.0)) x) (top_32 s m)
     ∙ ap (λ (x : Option (List Value × ℕ)). option_map (λ (q : List Value × ℕ). (q.0, I32 ((q.1 + m) % 2 ^ 32))) x) e
@@ -63,10 +63,10 @@ two_known f s t n m w e g =
     ∙ ap (λ (x : Option (List Value × ℕ)). option_and_then (of_lower f m) x) e
     ∙ ap (λ (x : Option Value). option_map (λ (v : Value). (t, v)) x) g
 
-pub made : (o : Operation) (s t : List Value) (n m k : ℕ) → top_i64 s ≡ Some (t, n) → operated o n m ≡ Some k → calculated (numeric.I64Operation o) (s ++ I64 m ∷ []) ≡ Some (t, I64 k)
-made o s t n m k e f = two_known (λ n m. option_map I64 (operated o n m)) s t n m (I64 k) e (ap (λ (x : Option ℕ). option_map I64 x) f)
+pub made : (o : Operation) (s t : List Value) (n m k : ℕ) → top_i64 s ≡ Some (t, n) → operation_result o n m ≡ Some k → calculation (numeric.I64Operation o) (s ++ I64 m ∷ []) ≡ Some (t, I64 k)
+made o s t n m k e f = two_known (λ n m. option_map I64 (operation_result o n m)) s t n m (I64 k) e (ap (λ (x : Option ℕ). option_map I64 x) f)
 
-pub compared : (r : Relation) (s t : List Value) (n m k : ℕ) → top_i64 s ≡ Some (t, n) → k ≡ truth (compares w64 r n m) → calculated (numeric.I64Relation r) (s ++ I64 m ∷ []) ≡ Some (t, I32 k)
+pub compared : (r : Relation) (s t : List Value) (n m k : ℕ) → top_i64 s ≡ Some (t, n) → k ≡ truth (compares w64 r n m) → calculation (numeric.I64Relation r) (s ++ I64 m ∷ []) ≡ Some (t, I32 k)
 compared r s t n m k e f = two_known (λ n m. Some (I32 (truth (compares w64 r n m)))) s t n m (I32 k) e (ap (λ (x : ℕ). Some (I32 x)) (sym f))
 
 -- the number below the one that is pushed
@@ -93,10 +93,10 @@ module _ (modules : List WModule) (st : Store) (now : Activation) (callers : Lis
   number_made v code e =
       ap (λ (a : Activation). run modules 1 (Going st a callers)) (sym (written modules st now callers (pushing v ∷ code) now.stack e refl)) ∙ computed_number v code
 
-  numeric_made : (o : Numeric) (rest : List Instr) (s below : List Value) (w : Value) → calculated o s ≡ Some (below, w) → run modules 1 (at (instr.Numeric o ∷ rest) s) ≡ (at rest (below ++ w ∷ []), [])
+  numeric_made : (o : Numeric) (rest : List Instr) (s below : List Value) (w : Value) → calculation o s ≡ Some (below, w) → run modules 1 (at (instr.Numeric o ∷ rest) s) ≡ (at rest (below ++ w ∷ []), [])
   numeric_made o rest s below w e =
       (one modules (at (instr.Numeric o ∷ rest) s) (at rest (below ++ w ∷ []))
-      (ap (λ (x : Option (List Value × Value)). or_trap x (λ p. pushed st (record (with now rest s) { stack = p.0 }) callers p.1)) e)).path
+      (ap (λ (x : Option (List Value × Value)). or_trap x (λ p. push_value st (record (with now rest s) { stack = p.0 }) callers p.1)) e)).path
 
   module _ (v : Value) (o : Numeric) (rest : List Instr) (e : now.rest ≡ pushing v ∷ instr.Numeric o ∷ rest) where
     numbers_there : IsWell modules (Going st now callers) → AreNumbers o (now.stack ++ v ∷ [])

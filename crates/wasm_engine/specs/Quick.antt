@@ -10,11 +10,11 @@ use Rattle.wasm_tree.specs.declared.instr.Operation.TheVariants.{DivS, RemS}
 use Rattle.wasm_tree.specs.Code.{tree}
 use Rattle.wasm_tree.specs.declared.store.Value.{Value}
 use Rattle.wasm_tree.specs.declared.store.Value.TheVariants.{I32, I64}
-use Rattle.wasm_tree.specs.Numbers.{is_less, operated}
+use Rattle.wasm_tree.specs.Numbers.{is_less, operation_result}
 use Rattle.wasm_tree.specs.declared.store.Instance.{Instance}
 use Rattle.wasm_tree.specs.declared.store.Memory.{Memory}
 use Rattle.wasm_tree.specs.declared.store.Store.{Store}
-use Rattle.wasm_tree.specs.Machine.{Config, calculated, instance_of, run}
+use Rattle.wasm_tree.specs.Machine.{Config, calculation, instance_of, run}
 use Rattle.law_effect.specs.Bytes.{byte}
 use Rattle.wasm_known.specs.declared.table.KnownFunction.{KnownFunction}
 use Rattle.wasm_known.specs.Known.{quotient_down, remainder_up}
@@ -62,12 +62,12 @@ greatest_divisor = 4294967295
 -- and division is defined
 abbrev pub IsQuotient : (x y n : ℕ) → Type 0
 IsQuotient x y n =
-    IsBetween y least_divisor greatest_divisor × (q r : ℕ) × (operated DivS x y ≡ Some q)
-    × (operated RemS x y ≡ Some r) × (n ≡ quotient_down q r)
+    IsBetween y least_divisor greatest_divisor × (q r : ℕ) × (operation_result DivS x y ≡ Some q)
+    × (operation_result RemS x y ≡ Some r) × (n ≡ quotient_down q r)
 
 abbrev pub IsRemainder : (x y n : ℕ) → Type 0
 IsRemainder x y n =
-    IsBetween y least_divisor greatest_divisor × (r : ℕ) × (operated RemS x y ≡ Some r)
+    IsBetween y least_divisor greatest_divisor × (r : ℕ) × (operation_result RemS x y ≡ Some r)
     × (n ≡ remainder_up r y)
 
 -- a number was made of the two on top and is left in their place, or they are as before
@@ -156,5 +156,5 @@ pushing (I64 n) = I64Const n
 abbrev pub Combined : Bool → Numeric → Value → (old new : List Value) → Type 0
 Combined false o v old new = new ≡ old
 Combined true o v old new =
-    (below : List Value) × (w : Value) × (calculated o (old ++ v ∷ []) ≡ Some (below, w))
+    (below : List Value) × (w : Value) × (calculation o (old ++ v ∷ []) ≡ Some (below, w))
     × (new ≡ below ++ w ∷ [])

@@ -11,7 +11,7 @@ ghost use Rattle.wasm_engine.specs.Quick.{Combined, Goes, Holds, pushing};
 use tree_parts::Items;
 use wasm_known::KnownFunction;
 use wasm_machine::Machine;
-use wasm_operands::{Operands, compares_64, operated, truth};
+use wasm_operands::{Operands, compares_64, operation_result, truth};
 use wasm_tree::{Numeric, Op, Operation, Relation, Value, first_of};
 use wasm_valid::ValidModule;
 
@@ -61,7 +61,7 @@ fn operate(stack: &mut Operands, operation: Operation, number: u64) -> bool
         stack.new.known.values }
 {
     let n = stack.top_i64();
-    match operated(operation, n, number) {
+    match operation_result(operation, n, number) {
         None => false,
         Some(made) => {
             stack.set_i64(made);

@@ -2,8 +2,8 @@
 
 ghost use Rattle.std.specs.Prelude.{◌≡◌, ◌≢◌, ◌↔◌, ◌+◌, ◌<◌, ◌≤◌, ◌^◌, ◌++◌, ◌∷◌, [], ℕ, List, true, false, IfOk, IfErr, OnOk, OnErr, MatchResult, Err, Ok, Some, slice_get, IsTrue, map, All};
 ghost use Rattle.wasm_tree.specs.Format.{Gives};
-ghost use Rattle.wasm_tree.specs.Machine.{Config, Typed, own_function, callee_at, run, entered};
-ghost use Rattle.wasm_tree.specs.Linking.{link, start, started};
+ghost use Rattle.wasm_tree.specs.Machine.{Config, Typed, own_function, callee_at, run, enter_function};
+ghost use Rattle.wasm_tree.specs.Linking.{link, start, start_run};
 ghost use Rattle.wasm_tree.specs.declared.store.Callee.{Callee};
 ghost use Rattle.wasm_tree.specs.Validity.{IsValid};
 ghost use Rattle.wasm_machine.specs.Going.{activation, going, progress, memory_from};
@@ -118,7 +118,7 @@ fn machine_at<'a>(
     function: usize,
 ) -> Result<Machine<'a>, WFault>
     ensures { Gives (λ m. going m) result
-        (started store (own_function modules.now number function) number) }
+        (start_run store (own_function modules.now number function) number) }
 {
     let Some(first) = own_function(modules, number, function) else {
         return Err(WFault::Unlinked);

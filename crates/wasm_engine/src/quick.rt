@@ -6,7 +6,7 @@ ghost use Rattle.wasm_tree.specs.Code.{tree};
 ghost use Rattle.wasm_tree.specs.Machine.{run};
 ghost use Rattle.wasm_tree.specs.declared.instr.Instr.TheVariants.{Call, I64Const};
 ghost use Rattle.wasm_sound.specs.Ready.{AreI64};
-ghost use Rattle.wasm_known.specs.Known.{bounded};
+ghost use Rattle.wasm_known.specs.Known.{bounds_before};
 ghost use Rattle.wasm_known.specs.Table.{Means, IsRight, known_in};
 ghost use Rattle.wasm_known.specs.declared.table.KnownFunction.TheVariants as kind;
 ghost use Rattle.wasm_machine.specs.Well.{IsWell};
@@ -19,7 +19,7 @@ use std::alloc::{AllocError, Global};
 use tree_parts::Items;
 use wasm_known::{KnownFunction, known_at};
 use wasm_machine::{Machine, Reduced, callee_at, reduce};
-use wasm_operands::{Operands, compares_64, operated, truth};
+use wasm_operands::{Operands, compares_64, operation_result, truth};
 use wasm_tree::{Callee, Op, Operation, Relation, first_of};
 use wasm_valid::ValidModule;
 
@@ -105,7 +105,7 @@ fn next_constant(code: &[Op]) -> Option<(u64, &[Op])>
 #[inline(always)]
 fn next_bounds(code: &[Op]) -> Option<(Bounds, &[Op])>
     ensures { IfSome result (λ p.
-        tree code.now ≡ bounded p.0.low p.0.high p.0.fault p.0.check (tree p.1.now)) }
+        tree code.now ≡ bounds_before p.0.low p.0.high p.0.fault p.0.check (tree p.1.now)) }
 {
     let (low, code) = next_constant(code)?;
     let (high, code) = next_constant(code)?;
@@ -162,8 +162,8 @@ fn quotient(x: u64, y: u64) -> Option<u64>
     if !is_between(y, LEAST_DIVISOR, GREATEST_DIVISOR) {
         return None;
     }
-    let quotient = operated(Operation::DivS, x, y)?;
-    let remainder = operated(Operation::RemS, x, y)?;
+    let quotient = operation_result(Operation::DivS, x, y)?;
+    let remainder = operation_result(Operation::RemS, x, y)?;
     let is_negative = compares_64(Relation::LtS, remainder, 0);
     Some(quotient.wrapping_sub(u64::from(truth(is_negative))))
 }
@@ -175,7 +175,7 @@ fn remainder(x: u64, y: u64) -> Option<u64>
     if !is_between(y, LEAST_DIVISOR, GREATEST_DIVISOR) {
         return None;
     }
-    let remainder = operated(Operation::RemS, x, y)?;
+    let remainder = operation_result(Operation::RemS, x, y)?;
     let is_negative = compares_64(Relation::LtS, remainder, 0);
     Some(remainder.wrapping_add(u64::from(truth(is_negative)).wrapping_mul(y)))
 }

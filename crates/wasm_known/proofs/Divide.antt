@@ -10,7 +10,7 @@ use Rattle.wasm_tree.specs.declared.module.WModule.{WModule}
 use Rattle.wasm_tree.specs.declared.store.Value.{Value}
 use Rattle.wasm_tree.specs.declared.store.Value.TheVariants.{I64}
 use Rattle.wasm_tree.specs.declared.store.Store.{Store}
-use Rattle.wasm_tree.specs.Numbers.{operated}
+use Rattle.wasm_tree.specs.Numbers.{operation_result}
 use Rattle.wasm_tree.specs.Machine.{Activation, Config, Going}
 use Rattle.wasm_helpers.specs.Codes.{divisor_checked, div_rest, mod_rest, div_typed, mod_typed}
 use Rattle.wasm_known.specs.Known.{Leads, with, Divides, quotient_down, remainder_up, DivReturns, ModReturns}
@@ -46,7 +46,7 @@ module _ (modules : List WModule) (st : Store) (callers : List Activation) (own 
   abbrev behind_div : List Instr
   behind_div = instr.LocalGet 0 ∷ instr.LocalGet 1 ∷ instr.Numeric (numeric.I64Operation RemS) ∷ behind_rem
 
-  pub div_leads : (q r : ℕ) → Divides modules st own y → operated DivS x y ≡ Some q → operated RemS x y ≡ Some r → Leads modules 29 (here two (divisor_checked div_rest) []) (here two [] (I64 (quotient_down q r) ∷ []))
+  pub div_leads : (q r : ℕ) → Divides modules st own y → operation_result DivS x y ≡ Some q → operation_result RemS x y ≡ Some r → Leads modules 29 (here two (divisor_checked div_rest) []) (here two [] (I64 (quotient_down q r) ∷ []))
   div_leads q r d e h =
       join modules 18 11 _ _ _ (divisor [] div_rest d)
       (join modules 3 8 _ (here two (instr.Numeric (numeric.I64Operation DivS) ∷ behind_div) two) _ (computed modules 3 _ _ refl)
@@ -64,7 +64,7 @@ module _ (modules : List WModule) (st : Store) (callers : List Activation) (own 
       instr.LocalTee 2 ∷ instr.LocalGet 2 ∷ instr.I64Const 0 ∷ instr.Numeric (numeric.I64Relation LtS) ∷ instr.Numeric numeric.I64ExtendI32U
       ∷ instr.LocalGet 1 ∷ instr.Numeric (numeric.I64Operation Mul) ∷ instr.Numeric (numeric.I64Operation Add) ∷ []
 
-  pub mod_leads : (r : ℕ) → Divides modules st own y → operated RemS x y ≡ Some r → Leads modules 30 (here (three 0) (divisor_checked mod_rest) []) (here (three r) [] (I64 (remainder_up r y) ∷ []))
+  pub mod_leads : (r : ℕ) → Divides modules st own y → operation_result RemS x y ≡ Some r → Leads modules 30 (here (three 0) (divisor_checked mod_rest) []) (here (three r) [] (I64 (remainder_up r y) ∷ []))
   mod_leads r d h =
       join modules 18 12 _ _ _ (divisor (I64 0 ∷ []) mod_rest d)
       (join modules 3 9 _ (here (three 0) (instr.Numeric (numeric.I64Operation RemS) ∷ behind_mod) two) _ (computed modules 3 _ _ refl)

@@ -7,12 +7,12 @@ use Rattle.wasm_tree.specs.declared.instr.Instr.TheOpen as layer
 use Rattle.wasm_tree.specs.declared.module.WModule.{WModule}
 use Rattle.wasm_tree.specs.declared.store.Value.{Value}
 use Rattle.wasm_tree.specs.declared.store.Value.TheVariants.{I64}
-use Rattle.wasm_tree.specs.Numbers.{load_size, loaded, stored}
+use Rattle.wasm_tree.specs.Numbers.{load_size, load_number, store_bytes}
 use Rattle.wasm_tree.specs.declared.store.Callee.{Callee}
 use Rattle.wasm_tree.specs.declared.store.Callee.TheVariants.{Put, Stop, Own}
 use Rattle.wasm_tree.specs.declared.store.Instance.{Instance}
 use Rattle.wasm_tree.specs.declared.store.Store.{Store}
-use Rattle.wasm_tree.specs.Machine.{Label, Activation, Config, Going, Over, Trapped, Progress, trapped, or_trap, split_last, split_end, callee_at, agree, callee_type, called, called_as, stopped, own_function, entered, returned, found, kept, branched, branched_if, with_local, loads, stores, pasted, top_i32, top_i64, topmost, callee_in, type_at, global_at, memory_of, with_memory_bytes, calculated, results_of, side, pushed, bytes_at, inside, begun_layer, ended, next, reduce, run}
+use Rattle.wasm_tree.specs.Machine.{Label, Activation, Config, Going, Over, Trapped, Progress, trap_now, or_trap, split_last, split_end, callee_at, agree, callee_type, call_function, call_typed, stop_with, own_function, enter_function, return_to, branch_to, keep_operands, branch_by, branched_if, with_local, loads, stores, paste_items, top_i32, top_i64, topmost, callee_in, type_at, global_at, memory_of, with_memory_bytes, calculation, results_of, side, push_value, bytes_at, inside, begun_layer, end_block, next, reduce, run}
 
 -- the store has the same functions and instances
 pub record SameNames (st new : Store) : Type 0 where
@@ -32,7 +32,7 @@ module _ (st : Store) where
   or_kept None go h = tt
   or_kept (Some x) go h = h x
 
-  if_kept : (b : Bool) (p : Progress) → Keeps st p.0 → Keeps st (if b then p else trapped).0
+  if_kept : (b : Bool) (p : Progress) → Keeps st p.0 → Keeps st (if b then p else trap_now).0
   if_kept true p h = h
   if_kept false p h = tt
 
@@ -48,19 +48,19 @@ module _ (st : Store) where
   back results None = tt
   back results (Some p) = same
 
-  found_kept : (now : Activation) (callers : List Activation) (o : Option (List Label × Label)) → Keeps st (found st now callers o).0
-  found_kept now callers None = or_kept (split_end now.arity now.stack) (λ p. returned st callers p.1) (λ p. back p.1 (split_last callers))
-  found_kept now callers (Some l) = or_kept (split_end l.1.arity now.stack) (λ p. (Going st (record now { labels = l.0; rest = l.1.again; stack = kept l.1.height p }) callers, [])) (λ p. same)
+  found_kept : (now : Activation) (callers : List Activation) (o : Option (List Label × Label)) → Keeps st (branch_to st now callers o).0
+  found_kept now callers None = or_kept (split_end now.arity now.stack) (λ p. return_to st callers p.1) (λ p. back p.1 (split_last callers))
+  found_kept now callers (Some l) = or_kept (split_end l.1.arity now.stack) (λ p. (Going st (record now { labels = l.0; rest = l.1.again; stack = keep_operands l.1.height p }) callers, [])) (λ p. same)
 
-  branched_kept : (now : Activation) (callers : List Activation) (l : ℕ) → Keeps st (branched st now callers l).0
-  branched_kept now callers l = if_kept (nat_le l (length now.labels)) (found st now callers (split_last (take (length now.labels - l) now.labels))) (found_kept now callers (split_last (take (length now.labels - l) now.labels)))
+  branched_kept : (now : Activation) (callers : List Activation) (l : ℕ) → Keeps st (branch_by st now callers l).0
+  branched_kept now callers l = if_kept (nat_le l (length now.labels)) (branch_to st now callers (split_last (take (length now.labels - l) now.labels))) (found_kept now callers (split_last (take (length now.labels - l) now.labels)))
 
-  called_kept : (modules : List WModule) (now : Activation) (callers : List Activation) (c : Callee) → Keeps st (called modules st now callers c).0
+  called_kept : (modules : List WModule) (now : Activation) (callers : List Activation) (c : Callee) → Keeps st (call_function modules st now callers c).0
   called_kept modules now callers Put = or_kept (top_i64 now.stack) (λ p. (Going st (record now { stack = p.0 }) callers, p.1 % 256 ∷ [])) (λ p. same)
-  called_kept modules now callers Stop = or_kept (top_i64 now.stack) (λ p. (stopped p.1, [])) (λ p. stopped_kept (nat_le 1 p.1 && nat_le p.1 255) p.1)
+  called_kept modules now callers Stop = or_kept (top_i64 now.stack) (λ p. (stop_with p.1, [])) (λ p. stopped_kept (nat_le 1 p.1 && nat_le p.1 255) p.1)
   called_kept modules now callers (Own m f) =
-      or_kept (own_function modules m f) (λ t. or_trap (split_end (length t.type.params) now.stack) (λ p. (Going st (entered m t p.1) (callers ++ record now { stack = p.0 } ∷ []), [])))
-      (λ t. or_kept (split_end (length t.type.params) now.stack) (λ p. (Going st (entered m t p.1) (callers ++ record now { stack = p.0 } ∷ []), [])) (λ p. same))
+      or_kept (own_function modules m f) (λ t. or_trap (split_end (length t.type.params) now.stack) (λ p. (Going st (enter_function m t p.1) (callers ++ record now { stack = p.0 } ∷ []), [])))
+      (λ t. or_kept (split_end (length t.type.params) now.stack) (λ p. (Going st (enter_function m t p.1) (callers ++ record now { stack = p.0 } ∷ []), [])) (λ p. same))
 
   local_kept : (now : Activation) (callers : List Activation) (x : ℕ) (v : Value) → Keeps st (with_local st now callers x v).0
   local_kept now callers x v = if_kept (nat_lt x (length now.locals)) (Going st (record now { locals = slice_set now.locals x v }) callers, []) same
@@ -75,35 +75,35 @@ module _ (st : Store) where
     begun_kept (layer.Br l) = branched_kept now callers l
     begun_kept (layer.BrIf l) =
         or_kept (top_i32 now.stack) (λ p. branched_if st (record now { stack = p.0 }) callers l p.1)
-        (λ p. one_kept (p.1 == 0) (Going st (record now { stack = p.0 }) callers, []) (branched st (record now { stack = p.0 }) callers l) same (branched_kept (record now { stack = p.0 }) callers l))
+        (λ p. one_kept (p.1 == 0) (Going st (record now { stack = p.0 }) callers, []) (branch_by st (record now { stack = p.0 }) callers l) same (branched_kept (record now { stack = p.0 }) callers l))
     begun_kept (layer.BrTable ls default) =
-        or_kept (top_i32 now.stack) (λ p. branched st (record now { stack = p.0 }) callers (slice_index_or ls p.1 default)) (λ p. branched_kept (record now { stack = p.0 }) callers (slice_index_or ls p.1 default))
+        or_kept (top_i32 now.stack) (λ p. branch_by st (record now { stack = p.0 }) callers (slice_index_or ls p.1 default)) (λ p. branched_kept (record now { stack = p.0 }) callers (slice_index_or ls p.1 default))
     begun_kept layer.Return = found_kept now callers None
-    begun_kept (layer.Call f) = or_kept (callee_at st now.instance f) (called modules st now callers) (λ c. called_kept modules now callers c)
+    begun_kept (layer.Call f) = or_kept (callee_at st now.instance f) (call_function modules st now callers) (λ c. called_kept modules now callers c)
     begun_kept (layer.CallIndirect t) =
-        or_kept (top_i32 now.stack) (λ p. or_trap (callee_in st now.instance p.1) (called_as modules st (record now { stack = p.0 }) callers (type_at modules now.instance t)))
-        (λ p. or_kept (callee_in st now.instance p.1) (called_as modules st (record now { stack = p.0 }) callers (type_at modules now.instance t))
-        (λ c. if_kept (agree (type_at modules now.instance t) (callee_type modules c)) (called modules st (record now { stack = p.0 }) callers c) (called_kept modules (record now { stack = p.0 }) callers c)))
+        or_kept (top_i32 now.stack) (λ p. or_trap (callee_in st now.instance p.1) (call_typed modules st (record now { stack = p.0 }) callers (type_at modules now.instance t)))
+        (λ p. or_kept (callee_in st now.instance p.1) (call_typed modules st (record now { stack = p.0 }) callers (type_at modules now.instance t))
+        (λ c. if_kept (agree (type_at modules now.instance t) (callee_type modules c)) (call_function modules st (record now { stack = p.0 }) callers c) (called_kept modules (record now { stack = p.0 }) callers c)))
     begun_kept layer.Drop = or_kept (split_last now.stack) (λ p. (Going st (record now { stack = p.0 }) callers, [])) (λ p. same)
-    begun_kept (layer.LocalGet x) = or_kept (slice_get now.locals x) (pushed st now callers) (λ p. same)
+    begun_kept (layer.LocalGet x) = or_kept (slice_get now.locals x) (push_value st now callers) (λ p. same)
     begun_kept (layer.LocalSet x) = or_kept (split_last now.stack) (λ p. with_local st (record now { stack = p.0 }) callers x p.1) (λ p. local_kept (record now { stack = p.0 }) callers x p.1)
     begun_kept (layer.LocalTee x) = or_kept (topmost now.stack) (with_local st now callers x) (λ v. local_kept now callers x v)
-    begun_kept (layer.GlobalGet g) = or_kept (global_at st now.instance g) (pushed st now callers) (λ p. same)
+    begun_kept (layer.GlobalGet g) = or_kept (global_at st now.instance g) (push_value st now callers) (λ p. same)
     begun_kept (layer.Load kind) =
         or_kept (top_i32 now.stack) (λ p. or_trap (memory_of st now.instance) (loads st (record now { stack = p.0 }) callers kind p.1))
         (λ p. or_kept (memory_of st now.instance) (loads st (record now { stack = p.0 }) callers kind p.1)
-        (λ m. or_kept (bytes_at (load_size kind) p.1 m.1.bytes) (λ bytes. pushed st (record now { stack = p.0 }) callers (I64 (loaded kind bytes))) (λ b. same)))
+        (λ m. or_kept (bytes_at (load_size kind) p.1 m.1.bytes) (λ bytes. push_value st (record now { stack = p.0 }) callers (I64 (load_number kind bytes))) (λ b. same)))
     begun_kept (layer.Store width) =
-        or_kept (top_i64 now.stack) (λ v. or_trap (top_i32 v.0) (λ p. or_trap (memory_of st now.instance) (stores st (record now { stack = p.0 }) callers p.1 (stored width v.1))))
-        (λ v. or_kept (top_i32 v.0) (λ p. or_trap (memory_of st now.instance) (stores st (record now { stack = p.0 }) callers p.1 (stored width v.1)))
-        (λ p. or_kept (memory_of st now.instance) (stores st (record now { stack = p.0 }) callers p.1 (stored width v.1))
-        (λ m. if_kept (nat_le (p.1 + length (stored width v.1)) (length m.1.bytes))
-        (Going (with_memory_bytes st m.0 m.1 (pasted m.1.bytes p.1 (stored width v.1))) (record now { stack = p.0 }) callers, []) (record { instances = refl; functions = refl }))))
+        or_kept (top_i64 now.stack) (λ v. or_trap (top_i32 v.0) (λ p. or_trap (memory_of st now.instance) (stores st (record now { stack = p.0 }) callers p.1 (store_bytes width v.1))))
+        (λ v. or_kept (top_i32 v.0) (λ p. or_trap (memory_of st now.instance) (stores st (record now { stack = p.0 }) callers p.1 (store_bytes width v.1)))
+        (λ p. or_kept (memory_of st now.instance) (stores st (record now { stack = p.0 }) callers p.1 (store_bytes width v.1))
+        (λ m. if_kept (nat_le (p.1 + length (store_bytes width v.1)) (length m.1.bytes))
+        (Going (with_memory_bytes st m.0 m.1 (paste_items m.1.bytes p.1 (store_bytes width v.1))) (record now { stack = p.0 }) callers, []) (record { instances = refl; functions = refl }))))
     begun_kept (layer.I32Const n) = same
     begun_kept (layer.I64Const n) = same
-    begun_kept (layer.Numeric o) = or_kept (calculated o now.stack) (λ p. pushed st (record now { stack = p.0 }) callers p.1) (λ p. same)
+    begun_kept (layer.Numeric o) = or_kept (calculation o now.stack) (λ p. push_value st (record now { stack = p.0 }) callers p.1) (λ p. same)
 
-  ended_kept : (now : Activation) (callers : List Activation) (o : Option (List Label × Label)) → Keeps st (ended st now callers o).0
+  ended_kept : (now : Activation) (callers : List Activation) (o : Option (List Label × Label)) → Keeps st (end_block st now callers o).0
   ended_kept now callers None = found_kept now callers None
   ended_kept now callers (Some l) = same
 

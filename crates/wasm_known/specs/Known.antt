@@ -10,7 +10,7 @@ use Rattle.wasm_tree.specs.declared.store.Value.TheVariants.{I32, I64}
 use Rattle.wasm_tree.specs.declared.store.Callee.TheVariants.{Own}
 use Rattle.wasm_tree.specs.declared.store.Memory.{Memory}
 use Rattle.wasm_tree.specs.declared.store.Store.{Store}
-use Rattle.wasm_tree.specs.Numbers.{truth, is_less, operated}
+use Rattle.wasm_tree.specs.Numbers.{truth, is_less, operation_result}
 use Rattle.wasm_tree.specs.Machine.{Activation, Config, Going, callee_at, own_function, memory_of, with_memory_bytes, run}
 use Rattle.law_effect.specs.Bytes.{byte, copied_bytes, cleared_bytes}
 use Rattle.wasm_helpers.specs.Codes.{check_typed, copy_typed, fill_typed, div_typed, mod_typed}
@@ -40,8 +40,8 @@ CheckReturns =
 
 -- so does the number on top where three constants stand in front of the call: its bounds, and what
 -- it ends with if it is not between them
-abbrev pub bounded : (lo hi k g : ℕ) → List Instr → List Instr
-bounded lo hi k g rest =
+abbrev pub bounds_before : (lo hi k g : ℕ) → List Instr → List Instr
+bounds_before lo hi k g rest =
     instr.I64Const lo ∷ instr.I64Const hi ∷ instr.I64Const k ∷ instr.Call g ∷ rest
 
 abbrev pub BoundsReturn : Type 0
@@ -53,7 +53,7 @@ BoundsReturn =
     → (v lo hi k : ℕ) (below : List Value) (rest : List Instr)
     → is_less w64 v lo ≡ false
     → is_less w64 hi v ≡ false
-    → Leads modules 17 (Going st (with now (bounded lo hi k g rest) (below ++ I64 v ∷ [])) callers)
+    → Leads modules 17 (Going st (with now (bounds_before lo hi k g rest) (below ++ I64 v ∷ [])) callers)
     (Going st (with now rest (below ++ I64 v ∷ [])) callers)
 
 -- a call of fill, where the bytes are there, clears them
@@ -121,8 +121,8 @@ DivReturns =
     → own_function modules own f ≡ Some (div_typed index)
     → (x y q r : ℕ) (below : List Value) (rest : List Instr)
     → Divides modules st own y
-    → operated DivS x y ≡ Some q
-    → operated RemS x y ≡ Some r
+    → operation_result DivS x y ≡ Some q
+    → operation_result RemS x y ≡ Some r
     → Leads modules 31
     (Going st (with now (instr.Call g ∷ rest) (below ++ I64 x ∷ I64 y ∷ [])) callers)
     (Going st (with now rest (below ++ I64 (quotient_down q r) ∷ [])) callers)
@@ -135,7 +135,7 @@ ModReturns =
     → own_function modules own f ≡ Some (mod_typed index)
     → (x y r : ℕ) (below : List Value) (rest : List Instr)
     → Divides modules st own y
-    → operated RemS x y ≡ Some r
+    → operation_result RemS x y ≡ Some r
     → Leads modules 32
     (Going st (with now (instr.Call g ∷ rest) (below ++ I64 x ∷ I64 y ∷ [])) callers)
     (Going st (with now rest (below ++ I64 (remainder_up r y) ∷ [])) callers)

@@ -2,7 +2,7 @@
 
 ghost use Rattle.std.specs.Prelude.{◌≡◌, ℕ, IsTrue};
 ghost use Rattle.wasm_tree.specs.Code.{tree};
-ghost use Rattle.wasm_link.specs.Placed.{typed};
+ghost use Rattle.wasm_link.specs.Placed.{typed_function};
 ghost use Rattle.wasm_helpers.specs.Codes.{check_code, check_typed, copy_code, copy_typed, div_code, div_typed, fill_code, fill_typed, mod_code, mod_typed, one_wide};
 
 use wasm_helpers::{check_ops, copy_ops, div_ops, fill_ops, mod_ops};
@@ -61,7 +61,7 @@ fn is_one_wide(groups: &[Locals]) -> bool
 
 /// Whether this function is check.
 pub fn is_check(function: TypedFunction<'_>) -> bool
-    ensures { IsTrue result → (index : ℕ) × (typed function.entry ≡ check_typed index) }
+    ensures { IsTrue result → (index : ℕ) × (typed_function function.entry ≡ check_typed index) }
 {
     let body = &function.function.body;
     has_types(function.func_type, &[WIDE, WIDE, WIDE, WIDE], &[WIDE])
@@ -71,7 +71,7 @@ pub fn is_check(function: TypedFunction<'_>) -> bool
 
 /// Whether this function is fill.
 pub fn is_fill(function: TypedFunction<'_>) -> bool
-    ensures { IsTrue result → (index : ℕ) × (typed function.entry ≡ fill_typed index) }
+    ensures { IsTrue result → (index : ℕ) × (typed_function function.entry ≡ fill_typed index) }
 {
     let body = &function.function.body;
     has_types(function.func_type, &[NARROW, NARROW], &[])
@@ -81,7 +81,7 @@ pub fn is_fill(function: TypedFunction<'_>) -> bool
 
 /// Whether this function is copy.
 pub fn is_copy(function: TypedFunction<'_>) -> bool
-    ensures { IsTrue result → (index : ℕ) × (typed function.entry ≡ copy_typed index) }
+    ensures { IsTrue result → (index : ℕ) × (typed_function function.entry ≡ copy_typed index) }
 {
     let body = &function.function.body;
     has_types(function.func_type, &[NARROW, NARROW, NARROW], &[])
@@ -91,7 +91,7 @@ pub fn is_copy(function: TypedFunction<'_>) -> bool
 
 /// Whether this function is div.
 pub fn is_div(function: TypedFunction<'_>) -> bool
-    ensures { IsTrue result → (index : ℕ) × (typed function.entry ≡ div_typed index) }
+    ensures { IsTrue result → (index : ℕ) × (typed_function function.entry ≡ div_typed index) }
 {
     let body = &function.function.body;
     has_types(function.func_type, &[WIDE, WIDE], &[WIDE])
@@ -101,7 +101,7 @@ pub fn is_div(function: TypedFunction<'_>) -> bool
 
 /// Whether this function is mod.
 pub fn is_mod(function: TypedFunction<'_>) -> bool
-    ensures { IsTrue result → (index : ℕ) × (typed function.entry ≡ mod_typed index) }
+    ensures { IsTrue result → (index : ℕ) × (typed_function function.entry ≡ mod_typed index) }
 {
     let body = &function.function.body;
     has_types(function.func_type, &[WIDE, WIDE], &[WIDE])

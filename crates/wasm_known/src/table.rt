@@ -3,7 +3,7 @@
 ghost use Rattle.std.specs.Prelude.{◌≡◌, ℕ, IfOk, IfSome, IsTrue, Some};
 ghost use Rattle.wasm_tree.specs.Machine.{callee_at, own_function};
 ghost use Rattle.wasm_tree.specs.declared.store.Callee.TheVariants.{Own};
-ghost use Rattle.wasm_link.specs.Placed.{typed};
+ghost use Rattle.wasm_link.specs.Placed.{typed_function};
 ghost use Rattle.wasm_helpers.specs.Codes.{check_typed};
 ghost use Rattle.wasm_known.specs.Table.{IsRight, Means, RowIsRight, Stands, known_in};
 
@@ -66,7 +66,7 @@ fn own_found<'a>(
 ) -> Option<(usize, TypedFunction<'a>)>
     ensures { IfSome result (λ p.
         (f : ℕ) × (callee_at store.now instance index ≡ Some (Own p.0 f))
-        × (own_function modules.now p.0 f ≡ Some (typed p.1))) }
+        × (own_function modules.now p.0 f ≡ Some (typed_function p.1))) }
 {
     match callee_found(store, instance, index)? {
         Callee::Own { module, function } => {

@@ -5,7 +5,7 @@ ghost use Rattle.std.specs.Option.{option_and_then, option_copied};
 ghost use Rattle.std.specs.Str.{bytes_eq};
 ghost use Rattle.wasm_tree.specs.Format.{Gives};
 ghost use Rattle.wasm_tree.specs.Machine.{callee_type, agree};
-ghost use Rattle.wasm_tree.specs.Linking.{named, extern_of, host_answer, link_answer, answer, has_limits, has_table, has_memory, has_type, suits, with_extern, answered, with_import, each, type_of};
+ghost use Rattle.wasm_tree.specs.Linking.{export_named, extern_of, host_answer, link_answer, answer, has_limits, has_table, has_memory, has_type, suits, with_extern, import_answer, with_import, each, type_of};
 ghost use Rattle.wasm_link.specs.Placed.{type_of_ref};
 
 use crate::types::{agrees, is_same_value_type};
@@ -25,7 +25,7 @@ fn is_same_name(name: &[u8], other: &[u8]) -> bool
 
 /// What is exported under a name.
 pub fn export_of(name: &[u8], exports: &[Export]) -> Option<ExportKind>
-    ensures { result ≡ named name.now exports.now }
+    ensures { result ≡ export_named name.now exports.now }
 {
     for export in exports {
         if is_same_name(export.name.as_slice(), name) {
@@ -196,7 +196,7 @@ fn suitable_answer(
     tree: &WModule,
     import: &Import,
 ) -> Result<Extern, WFault>
-    ensures { Gives (λ x. x) result (answered modules.now store.now tree.now import.now) }
+    ensures { Gives (λ x. x) result (import_answer modules.now store.now tree.now import.now) }
 {
     match answer(modules, store, import) {
         Some(found) if suits(modules, store, tree, import.kind, found) => Ok(found),

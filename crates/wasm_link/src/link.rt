@@ -4,7 +4,7 @@ ghost use Rattle.std.specs.Prelude.{◌≡◌, Ok, OnOk, IfOk, slice_get, length
 ghost use Rattle.std.specs.Option.{option_and_then};
 ghost use Rattle.wasm_tree.specs.Format.{Gives};
 ghost use Rattle.wasm_tree.specs.Validity.{context};
-ghost use Rattle.wasm_tree.specs.Linking.{linked_one, linked_from, host_store, no_instance, is_plain, run_index, run_of, run_name, named};
+ghost use Rattle.wasm_tree.specs.Linking.{linked_one, linked_from, host_store, no_instance, is_plain, run_index, run_of, run_name, export_named};
 ghost use Rattle.wasm_link.specs.Placed.{type_of_ref};
 
 use crate::imports::{export_of, with_imports};

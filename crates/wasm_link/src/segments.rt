@@ -4,9 +4,9 @@ ghost use Rattle.std.specs.Prelude.{◌≡◌, ◌+◌, ◌≤◌, Ok, OnOk, IfO
 ghost use Rattle.wasm_tree.specs.declared.store.Instance.{Instance};
 ghost use Rattle.std.specs.Option.{option_copied};
 ghost use Rattle.wasm_tree.specs.Format.{Gives};
-ghost use Rattle.wasm_tree.specs.Machine.{pasted};
+ghost use Rattle.wasm_tree.specs.Machine.{paste_items};
 ghost use Rattle.wasm_tree.specs.Linking.{offset_of, addresses, with_slots, some_address, with_element, with_bytes, with_segment, each};
-ghost use Rattle.wasm_link.specs.Placed.{linked, items_of, written};
+ghost use Rattle.wasm_link.specs.Placed.{link_result, items_of, write_items};
 
 use crate::store::value_of;
 use std::alloc::{AllocError, Global};
@@ -36,7 +36,7 @@ fn some_address(places: &[usize], index: u32) -> Result<usize, WFault>
 /// Writes into a list from a place on.
 fn paste<T: Copy>(alloc: Global, items: &mut Items<T>, place: usize, others: &[T])
     requires { place + length others.now ≤ length items.old }
-    ensures { items.new ≡ pasted items.old place others.now }
+    ensures { items.new ≡ paste_items items.old place others.now }
 {
     let mut all = mem::replace(items, Items::new(alloc)).into_vec();
     all[place..place + others.len()].copy_from_slice(others);
@@ -50,7 +50,7 @@ fn write<T: Copy>(
     place: usize,
     others: &[T],
 ) -> Result<(), WFault>
-    ensures { Gives (λ _. items.new) result (written place items.old others.now) }
+    ensures { Gives (λ _. items.new) result (write_items place items.old others.now) }
 {
     if items.len() < others.len() || items.len() - others.len() < place {
         return Err(WFault::SegmentOutside);
@@ -86,8 +86,8 @@ fn with_slots(
     slots: &[Option<usize>],
 ) -> Result<(), WFault>
     ensures { (i : Instance)
-        → Gives (λ _. linked store.new i) result
-        (with_slots (linked store.old i) table place (slice_get store.old.tables table)
+        → Gives (λ _. link_result store.new i) result
+        (with_slots (link_result store.old i) table place (slice_get store.old.tables table)
         (Some slots.now)) }
 {
     let mut tables = mem::replace(&mut store.tables, Items::new(alloc)).into_vec();
@@ -105,8 +105,8 @@ fn with_element(
     instance: &Instance,
     element: &Element,
 ) -> Result<(), WFault>
-    ensures { Gives (λ _. linked store.new instance.now) result
-        (with_element element.now (linked store.old instance.now)) }
+    ensures { Gives (λ _. link_result store.new instance.now) result
+        (with_element element.now (link_result store.old instance.now)) }
 {
     let place = offset_of(value_of(store, instance, element.offset.ops()))?;
     let table = some_address(instance.tables.as_slice(), element.table)?;
@@ -123,8 +123,8 @@ pub fn with_elements(
     instance: &Instance,
     elements: &[Element],
 ) -> Result<(), WFault>
-    ensures { Gives (λ _. linked store.new instance.now) result
-        (each with_element elements.now (linked store.old instance.now)) }
+    ensures { Gives (λ _. link_result store.new instance.now) result
+        (each with_element elements.now (link_result store.old instance.now)) }
 {
     for element in elements {
         with_element(alloc, store, instance, element)?;
@@ -141,8 +141,8 @@ fn with_bytes(
     bytes: &[u8],
 ) -> Result<(), WFault>
     ensures { (i : Instance)
-        → Gives (λ _. linked store.new i) result
-        (with_bytes (linked store.old i) memory place (slice_get store.old.memories memory)
+        → Gives (λ _. link_result store.new i) result
+        (with_bytes (link_result store.old i) memory place (slice_get store.old.memories memory)
         bytes.now) }
 {
     let mut memories = mem::replace(&mut store.memories, Items::new(alloc)).into_vec();
@@ -160,8 +160,8 @@ fn with_segment(
     instance: &Instance,
     segment: &Data,
 ) -> Result<(), WFault>
-    ensures { Gives (λ _. linked store.new instance.now) result
-        (with_segment segment.now (linked store.old instance.now)) }
+    ensures { Gives (λ _. link_result store.new instance.now) result
+        (with_segment segment.now (link_result store.old instance.now)) }
 {
     let place = offset_of(value_of(store, instance, segment.offset.ops()))?;
     let memory = some_address(instance.memories.as_slice(), segment.memory)?;
@@ -175,8 +175,8 @@ pub fn with_segments(
     instance: &Instance,
     segments: &[Data],
 ) -> Result<(), WFault>
-    ensures { Gives (λ _. linked store.new instance.now) result
-        (each with_segment segments.now (linked store.old instance.now)) }
+    ensures { Gives (λ _. link_result store.new instance.now) result
+        (each with_segment segments.now (link_result store.old instance.now)) }
 {
     for segment in segments {
         with_segment(alloc, store, instance, segment)?;

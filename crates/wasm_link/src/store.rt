@@ -5,7 +5,7 @@ ghost use Rattle.wasm_tree.specs.declared.code.Op.{Op};
 ghost use Rattle.wasm_tree.specs.Code.{tree, head};
 ghost use Rattle.wasm_tree.specs.Format.{Gives};
 ghost use Rattle.wasm_tree.specs.Linking.{with_function, with_functions, fresh_table, with_table, fresh_memory, with_memory, constant, value_of, with_value, with_global, each};
-ghost use Rattle.wasm_link.specs.Placed.{linked};
+ghost use Rattle.wasm_link.specs.Placed.{link_result};
 
 use std::alloc::{AllocError, Global};
 use tree_parts::{Items, at};
@@ -20,7 +20,7 @@ fn with_function(
     callee: Callee,
 ) -> Result<(), AllocError>
     ensures { OnOk result
-        (linked store.new instance.new ≡ with_function callee (linked store.old instance.old)) }
+        (link_result store.new instance.new ≡ with_function callee (link_result store.old instance.old)) }
 {
     let address = store.functions.len();
     store.functions.push(callee)?;
@@ -36,8 +36,8 @@ pub fn with_functions(
     functions: &[Function],
 ) -> Result<(), AllocError>
     ensures { OnOk result
-        (linked store.new instance.new
-        ≡ with_functions number 0 functions.now (linked store.old instance.old)) }
+        (link_result store.new instance.new
+        ≡ with_functions number 0 functions.now (link_result store.old instance.old)) }
 {
     for function in 0..functions.len() {
         let callee = Callee::Own {
@@ -66,7 +66,7 @@ fn with_table(
     table: TableType,
 ) -> Result<(), AllocError>
     ensures { OnOk result
-        (with_table table (linked store.old instance.old) ≡ Ok (linked store.new instance.new)) }
+        (with_table table (link_result store.old instance.old) ≡ Ok (link_result store.new instance.new)) }
 {
     let address = store.tables.len();
     let fresh = fresh_table(alloc, table)?;
@@ -83,8 +83,8 @@ pub fn with_tables(
     tables: &[TableType],
 ) -> Result<(), AllocError>
     ensures { OnOk result
-        (each with_table tables.now (linked store.old instance.old)
-        ≡ Ok (linked store.new instance.new)) }
+        (each with_table tables.now (link_result store.old instance.old)
+        ≡ Ok (link_result store.new instance.new)) }
 {
     for table in tables {
         with_table(alloc, store, instance, *table)?;
@@ -109,8 +109,8 @@ fn with_memory(
     memory: MemoryType,
 ) -> Result<(), AllocError>
     ensures { OnOk result
-        (with_memory memory (linked store.old instance.old)
-        ≡ Ok (linked store.new instance.new)) }
+        (with_memory memory (link_result store.old instance.old)
+        ≡ Ok (link_result store.new instance.new)) }
 {
     let address = store.memories.len();
     let fresh = fresh_memory(alloc, memory)?;
@@ -127,8 +127,8 @@ pub fn with_memories(
     memories: &[MemoryType],
 ) -> Result<(), AllocError>
     ensures { OnOk result
-        (each with_memory memories.now (linked store.old instance.old)
-        ≡ Ok (linked store.new instance.new)) }
+        (each with_memory memories.now (link_result store.old instance.old)
+        ≡ Ok (link_result store.new instance.new)) }
 {
     for memory in memories {
         with_memory(alloc, store, instance, *memory)?;
@@ -138,7 +138,7 @@ pub fn with_memories(
 
 /// The value of an instruction that is constant, whatever stands behind it.
 fn constant(store: &Store, instance: &Instance, op: Op) -> Option<Value>
-    ensures { (rest : List Op) → result ≡ constant (linked store.now instance.now) (head tree op rest) }
+    ensures { (rest : List Op) → result ≡ constant (link_result store.now instance.now) (head tree op rest) }
 {
     match op {
         Op::I32Const(number) => Some(Value::I32(number)),
@@ -170,7 +170,7 @@ fn constant(store: &Store, instance: &Instance, op: Op) -> Option<Value>
 
 /// The value of a constant expression.
 pub fn value_of(store: &Store, instance: &Instance, code: &[Op]) -> Option<Value>
-    ensures { result ≡ value_of (linked store.now instance.now) (tree code.now) }
+    ensures { result ≡ value_of (link_result store.now instance.now) (tree code.now) }
 {
     match code {
         [op] => constant(store, instance, *op),
@@ -179,8 +179,8 @@ pub fn value_of(store: &Store, instance: &Instance, code: &[Op]) -> Option<Value
 }
 
 fn with_global(store: &mut Store, instance: &mut Instance, global: &Constant) -> Result<(), WFault>
-    ensures { Gives (λ _. linked store.new instance.new) result
-        (with_global global.now (linked store.old instance.old)) }
+    ensures { Gives (λ _. link_result store.new instance.new) result
+        (with_global global.now (link_result store.old instance.old)) }
 {
     let Some(value) = value_of(store, instance, global.value.ops()) else {
         return Err(WFault::Unlinked);
@@ -197,8 +197,8 @@ pub fn with_globals(
     instance: &mut Instance,
     globals: &[Constant],
 ) -> Result<(), WFault>
-    ensures { Gives (λ _. linked store.new instance.new) result
-        (each with_global globals.now (linked store.old instance.old)) }
+    ensures { Gives (λ _. link_result store.new instance.new) result
+        (each with_global globals.now (link_result store.old instance.old)) }
 {
     for global in globals {
         with_global(store, instance, global)?;

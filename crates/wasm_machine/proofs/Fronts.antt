@@ -12,7 +12,7 @@ use Rattle.wasm_tree.proofs.Flat.{tree_front, tree_none}
 use Rattle.wasm_tree.specs.declared.store.Store.{Store}
 use Rattle.wasm_tree.specs.Machine.{Activation, Going, split_last}
 use Rattle.wasm_sound.specs.Ready.{IsReady, IsReadyToEnd}
-use Rattle.wasm_tree.specs.Machine.{reduce, next, begun, ended}
+use Rattle.wasm_tree.specs.Machine.{reduce, next, begin_instruction, end_block}
 use Rattle.wasm_sound.proofs.Soundness.{is_ready_to_begin, is_ready_to_end}
 use Rattle.std.specs.Prelude.{Result, IfOk, Err}
 use Rattle.wasm_machine.specs.Well.{IsWell}
@@ -51,20 +51,20 @@ module _ (modules : List WModule) (st : Store) (now : Activation) (callers : Lis
   end_ready w h = ∥∥₁_map w (λ a. is_ready_to_end modules a.valid st now callers a.sound (is ∙ no_trees ops h))
 
   -- a reduction, by what the code is
-  begins : 1 ≤ length ops → begun modules st (record now { rest = tree (behind (first ops) (others ops)) }) callers (head tree (first ops) (others ops)) ≡ reduce modules (Going st now callers)
+  begins : 1 ≤ length ops → begin_instruction modules st (record now { rest = tree (behind (first ops) (others ops)) }) callers (head tree (first ops) (others ops)) ≡ reduce modules (Going st now callers)
   unfolding reduce
   begins h = sym (ap (next modules st now callers) (is ∙ front_trees ops h))
 
-  ends : length ops < 1 → ended st now callers (split_last now.labels) ≡ reduce modules (Going st now callers)
+  ends : length ops < 1 → end_block st now callers (split_last now.labels) ≡ reduce modules (Going st now callers)
   unfolding reduce
   ends h = sym (ap (next modules st now callers) (is ∙ no_trees ops h))
 
   pub reduced_front : {E : Type 0} (r : Result Reduced E) (m : Machine) → 1 ≤ length ops
-      → IfOk r (λ p. progress p m ≡ begun modules st (record now { rest = tree (behind (first ops) (others ops)) }) callers (head tree (first ops) (others ops))) → IfOk r (λ p. progress p m ≡ reduce modules (Going st now callers))
+      → IfOk r (λ p. progress p m ≡ begin_instruction modules st (record now { rest = tree (behind (first ops) (others ops)) }) callers (head tree (first ops) (others ops))) → IfOk r (λ p. progress p m ≡ reduce modules (Going st now callers))
   reduced_front (Ok p) m e h = h ∙ begins e
   reduced_front (Err p) m e h = tt
 
   pub reduced_end : {E : Type 0} (r : Result Reduced E) (m : Machine) → length ops < 1
-      → IfOk r (λ p. progress p m ≡ ended st now callers (split_last now.labels)) → IfOk r (λ p. progress p m ≡ reduce modules (Going st now callers))
+      → IfOk r (λ p. progress p m ≡ end_block st now callers (split_last now.labels)) → IfOk r (λ p. progress p m ≡ reduce modules (Going st now callers))
   reduced_end (Ok p) m e h = h ∙ ends e
   reduced_end (Err p) m e h = tt

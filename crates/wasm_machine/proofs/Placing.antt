@@ -3,7 +3,7 @@ use Rattle.std.proofs.Common.{◌≡◌, ℕ, zero, suc, ◌+◌, List, [], ◌�
 use Rattle.std.proofs.lemmas.List.{map-set}
 use Rattle.wasm_tree.specs.declared.store.Memory.{Memory}
 use Rattle.wasm_tree.specs.declared.store.Store.{Store}
-use Rattle.wasm_tree.specs.Machine.{Activation, Going, Progress, memory_of, pasted, stores, or_trap}
+use Rattle.wasm_tree.specs.Machine.{Activation, Going, Progress, memory_of, paste_items, stores, or_trap}
 use Rattle.wasm_machine.specs.declared.frame.Pages.{Pages}
 use Rattle.wasm_machine.specs.Going.{memory_from}
 
@@ -17,7 +17,7 @@ same_memory (x ∷ xs) zero mem first there is = ap memory_from is ∙ search ru
 same_memory (x ∷ xs) (suc a) mem first there is = same_memory xs a mem first there is
 
 abbrev overwritten : ℕ → List ℕ → Memory → Memory
-overwritten place bytes memory = record memory { bytes = pasted memory.bytes place bytes }
+overwritten place bytes memory = record memory { bytes = paste_items memory.bytes place bytes }
 
 abbrev goes_on : Store → Activation → List Activation → List Memory → Progress
 goes_on st now callers memories = (Going (record st { memories = memories }) now callers, [])

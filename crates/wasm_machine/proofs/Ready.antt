@@ -14,7 +14,7 @@ use Rattle.wasm_tree.specs.declared.store.Callee.TheVariants.{Own}
 use Rattle.wasm_tree.specs.declared.store.Table.{Table}
 use Rattle.wasm_tree.specs.declared.store.Instance.{Instance}
 use Rattle.wasm_tree.specs.declared.store.Store.{Store}
-use Rattle.wasm_tree.specs.Machine.{Label, Activation, Typed, split_last, top_i32, top_i64, instance_of, callee_at, callee_in, filled, memory_of, own_function, type_at, callee_type, is_same_type, agree}
+use Rattle.wasm_tree.specs.Machine.{Label, Activation, Typed, split_last, top_i32, top_i64, instance_of, callee_at, callee_in, function_in_slot, memory_of, own_function, type_at, callee_type, is_same_type, agree}
 use Rattle.wasm_sound.specs.Ready.{IsI32, IsI64, AreI32, AreI64, AreKept, CanBranch, CanBranchIf, CanBranchTable, CanCall, CanCallIndex, CanCallSlot, CanCallIndirect, CanCallTop, CanStore, CanSet, IsOne, IsReadyToEnd}
 use Rattle.wasm_sound.proofs.Uses.{second_i32, first_i32, second_i64, first_i64, number_above, address_below, branch_below, table_below, call_below}
 use Rattle.wasm_sound.proofs.Calls.{then_some}
@@ -130,17 +130,17 @@ module _ (modules : List WModule) (st : Store) (m index : ℕ) (stack : List Val
   pub type_there : ∥ CanCallIndirect modules st m stack index slot ∥₁ → IsThere (type_at modules m index)
   type_there h = there_by (type_at modules m index) type_is h
 
-filled_by : (o : Option (Option ℕ)) (a : ℕ) → filled o ≡ Some a → o ≡ Some (Some a)
+filled_by : (o : Option (Option ℕ)) (a : ℕ) → function_in_slot o ≡ Some a → o ≡ Some (Some a)
 filled_by None a e = absurd (grind arith)
 filled_by (Some x) a e = ap (λ (y : Option ℕ). Some y) e
 
 in_slot : (st : Store) (m slot : ℕ) (c : Callee) (i : Instance) (place : ℕ) (table : Table) → instance_of st m ≡ Some i → slice_get i.tables 0 ≡ Some place → slice_get st.tables place ≡ Some table → callee_in st m slot ≡ Some c
     → (a : ℕ) × (slice_get table.slots slot ≡ Some (Some a)) × (slice_get st.functions a ≡ Some c)
 in_slot st m slot c i place table e g k is =
-    let j = then_some (λ (i : Instance). option_and_then (λ t. option_and_then (λ (table : Table). option_and_then (λ a. slice_get st.functions a) (filled (slice_get table.slots slot))) (slice_get st.tables t)) (slice_get i.tables 0)) (instance_of st m) c is in
-    let p = then_some (λ (t : ℕ). option_and_then (λ (table : Table). option_and_then (λ a. slice_get st.functions a) (filled (slice_get table.slots slot))) (slice_get st.tables t)) (slice_get j.0.tables 0) c j.2 in
-    let q = then_some (λ (table : Table). option_and_then (λ a. slice_get st.functions a) (filled (slice_get table.slots slot))) (slice_get st.tables p.0) c p.2 in
-    let a = then_some (λ (a : ℕ). slice_get st.functions a) (filled (slice_get q.0.slots slot)) c q.2 in
+    let j = then_some (λ (i : Instance). option_and_then (λ t. option_and_then (λ (table : Table). option_and_then (λ a. slice_get st.functions a) (function_in_slot (slice_get table.slots slot))) (slice_get st.tables t)) (slice_get i.tables 0)) (instance_of st m) c is in
+    let p = then_some (λ (t : ℕ). option_and_then (λ (table : Table). option_and_then (λ a. slice_get st.functions a) (function_in_slot (slice_get table.slots slot))) (slice_get st.tables t)) (slice_get j.0.tables 0) c j.2 in
+    let q = then_some (λ (table : Table). option_and_then (λ a. slice_get st.functions a) (function_in_slot (slice_get table.slots slot))) (slice_get st.tables p.0) c p.2 in
+    let a = then_some (λ (a : ℕ). slice_get st.functions a) (function_in_slot (slice_get q.0.slots slot)) c q.2 in
     let same_i : j.0 ≡ i = same_Some j.0 i (sym j.1 ∙ e) in
     let same_p : p.0 ≡ place = same_Some p.0 place (sym p.1 ∙ (ap (λ (x : Instance). slice_get x.tables 0) same_i ∙ g)) in
     let same_t : q.0 ≡ table = same_Some q.0 table (sym q.1 ∙ (ap (slice_get st.tables) same_p ∙ k)) in

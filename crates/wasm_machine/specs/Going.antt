@@ -5,7 +5,7 @@ use Rattle.wasm_tree.specs.declared.store.Memory.{Memory}
 use Rattle.wasm_tree.specs.declared.store.Store.{Store}
 use Rattle.wasm_tree.specs.Code.{tree}
 use Rattle.wasm_tree.specs.Machine as machine
-use Rattle.wasm_tree.specs.Machine.{Activation, Config, Going, Over, Trapped, Progress, Typed, trapped, or_trap, split_end, entered}
+use Rattle.wasm_tree.specs.Machine.{Activation, Config, Going, Over, Trapped, Progress, Typed, trap_now, or_trap, split_end, enter_function}
 use Rattle.wasm_machine.specs.declared.frame.Label.{Label}
 use Rattle.wasm_machine.specs.declared.frame.Frame.{Frame}
 use Rattle.wasm_machine.specs.declared.frame.Pages.{Pages}
@@ -46,7 +46,7 @@ abbrev pub progress : Reduced → Machine → Progress
 progress reduced.On m = (going m, [])
 progress (reduced.Printed b) m = (going m, b ∷ [])
 progress (reduced.Over k) m = (Over k, [])
-progress reduced.Trapped m = trapped
+progress reduced.Trapped m = trap_now
 
 -- the last of several, above the others
 abbrev pub waiting : List Frame → Option Frame → Option (List Activation × Activation)
@@ -61,7 +61,7 @@ innermost others (Some l) = Some (map label_of others, label_of l)
 abbrev pub called_typed : Store → Activation → List Activation → (m : ℕ) → Typed → Progress
 called_typed st now callers m t =
     or_trap (split_end (length t.type.params) now.stack) (λ p.
-    (Going st (entered m t p.1) (callers ++ record now { stack = p.0 } ∷ []), []))
+    (Going st (enter_function m t p.1) (callers ++ record now { stack = p.0 } ∷ []), []))
 
 abbrev pub bytes_seen : Option (Bor (List ℕ)) → Option (List ℕ)
 bytes_seen None = None

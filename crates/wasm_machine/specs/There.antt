@@ -24,5 +24,5 @@ HasSlots st m slot =
     × ((a : ℕ) → slice_get table.slots slot ≡ Some (Some a) → IsThere (slice_get st.functions a))
 
 -- the operands below with what was made of the others, where something was
-abbrev pub replaced : Option (List Value × Value) → Option (List Value)
-replaced o = option_map (λ p. p.0 ++ p.1 ∷ []) o
+abbrev pub replace_operands : Option (List Value × Value) → Option (List Value)
+replace_operands o = option_map (λ p. p.0 ++ p.1 ∷ []) o

@@ -3,7 +3,7 @@
 ghost use Rattle.std.specs.Prelude.{◌≡◌, ◌≤◌, ◌+◌, ◌-◌, IfOk, Some, List, map, take, drop, length, slice_index_or};
 ghost use Rattle.wasm_tree.specs.Code as code;
 ghost use Rattle.wasm_tree.specs.Code.{tree};
-ghost use Rattle.wasm_tree.specs.Machine.{inside, found, branched, begun, ended, split_last};
+ghost use Rattle.wasm_tree.specs.Machine.{inside, branch_to, branch_by, begin_instruction, end_block, split_last};
 ghost use Rattle.wasm_tree.specs.declared.module.WModule.{WModule};
 ghost use Rattle.wasm_tree.specs.declared.instr.Instr.TheVariants.{BrIf, BrTable};
 ghost use Rattle.wasm_sound.specs.Ready.{CanBranch, CanBranchIf, CanBranchTable, IsReadyToEnd};
@@ -92,7 +92,7 @@ fn pop_labels<'a>(labels: &mut Vec<Label<'a>>, label: usize) -> Option<Label<'a>
 fn go_to<'a>(machine: &mut Machine<'a>, label: Label<'a>) -> Reduced
     requires { label.height + label.arity ≤ length machine.old.now.stack.known.values }
     ensures { progress result machine.new
-        ≡ found (store_of machine.old) (activation machine.old.now) (callers_of machine.old)
+        ≡ branch_to (store_of machine.old) (activation machine.old.now) (callers_of machine.old)
         (Some (map label_of machine.old.now.labels.items, label_of label.entry)) }
 {
     machine.now.stack.keep(label.height, label.arity);
@@ -106,7 +106,7 @@ pub fn branch(machine: &mut Machine<'_>, label: u32) -> Result<Reduced, AllocErr
     requires { ∥ CanBranch (activation machine.old.now).labels machine.old.now.arity
         machine.old.now.stack.known.values label ∥₁ }
     ensures { IfOk result (λ r.
-        progress r machine.new ≡ branched (store_of machine.old) (activation machine.old.now)
+        progress r machine.new ≡ branch_by (store_of machine.old) (activation machine.old.now)
         (callers_of machine.old) label) }
 {
     match pop_labels(&mut machine.now.labels, label as usize) {
@@ -124,7 +124,7 @@ pub fn branch_if(machine: &mut Machine<'_>, label: u32) -> Result<Reduced, Alloc
     ensures { IfOk result (λ r.
         (modules : List WModule)
         → progress r machine.new
-        ≡ begun modules (store_of machine.old) (activation machine.old.now)
+        ≡ begin_instruction modules (store_of machine.old) (activation machine.old.now)
         (callers_of machine.old) (BrIf label)) }
 {
     if machine.now.stack.pop_i32() == 0 {
@@ -158,7 +158,7 @@ pub fn branch_table(
     ensures { IfOk result (λ r.
         (modules : List WModule)
         → progress r machine.new
-        ≡ begun modules (store_of machine.old) (activation machine.old.now)
+        ≡ begin_instruction modules (store_of machine.old) (activation machine.old.now)
         (callers_of machine.old) (BrTable (map code.label_of branches.now) default)) }
 {
     let number = machine.now.stack.pop_i32();
@@ -177,7 +177,7 @@ pub fn table<'a>(
         machine.old.now.stack.known.values (map code.label_of (take count ahead.now)) default ∥₁ }
     ensures { IfOk result (λ r.
         (modules : List WModule)
-        → progress r machine.new ≡ begun modules (store_of machine.old)
+        → progress r machine.new ≡ begin_instruction modules (store_of machine.old)
         (record (activation machine.old.now) { rest = tree (drop count ahead.now) })
         (callers_of machine.old)
         (BrTable (map code.label_of (take count ahead.now)) default)) }
@@ -194,7 +194,7 @@ pub fn end(machine: &mut Machine<'_>) -> Result<Reduced, AllocError>
         ∥₁ }
     ensures { IfOk result (λ r.
         progress r machine.new
-        ≡ ended (store_of machine.old) (activation machine.old.now) (callers_of machine.old)
+        ≡ end_block (store_of machine.old) (activation machine.old.now) (callers_of machine.old)
         (split_last (map label_of machine.old.now.labels.items))) }
 {
     match pop_labels(&mut machine.now.labels, 0) {

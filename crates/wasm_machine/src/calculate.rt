@@ -1,16 +1,16 @@
 //! Instructions that take numbers off the operand stack and push one (Core 1.0, section 4.4.1).
 
 ghost use Rattle.std.specs.Prelude.{◌≡◌, ◌<◌, ◌-◌, Some, None, List, take, length};
-ghost use Rattle.wasm_tree.specs.Machine.{calculated, begun, top_i32, top_i64};
+ghost use Rattle.wasm_tree.specs.Machine.{calculation, begin_instruction, top_i32, top_i64};
 ghost use Rattle.wasm_tree.specs.declared.module.WModule.{WModule};
 ghost use Rattle.wasm_tree.specs.declared.instr.Instr.TheVariants as instr;
 ghost use Rattle.wasm_sound.specs.Ready.{IsI32, IsI64, AreI32, AreI64, AreNumbers};
 ghost use Rattle.wasm_machine.specs.Run.{if_kept};
-ghost use Rattle.wasm_machine.specs.There.{replaced};
+ghost use Rattle.wasm_machine.specs.There.{replace_operands};
 ghost use Rattle.wasm_machine.specs.Going.{activation, store_of, callers_of, progress};
 
 use crate::frame::{Machine, Reduced};
-use wasm_operands::{Operands, compares_32, compares_64, extended, operated, truth};
+use wasm_operands::{Operands, compares_32, compares_64, extend_number, operation_result, truth};
 use wasm_tree::{Numeric, Operation, Relation};
 
 /// Two numbers of 32 bits, of which the topmost one is taken off.
@@ -44,10 +44,10 @@ fn two_64(stack: &mut Operands) -> (u64, u64)
 fn operate(stack: &mut Operands, operation: Operation) -> bool
     requires { ∥ AreI64 stack.old.known.values ∥₁ }
     ensures { if_kept stack.new.known.values result
-        ≡ replaced (calculated (Numeric.I64Operation operation) stack.old.known.values) }
+        ≡ replace_operands (calculation (Numeric.I64Operation operation) stack.old.known.values) }
 {
     let (n, m) = two_64(stack);
-    match operated(operation, n, m) {
+    match operation_result(operation, n, m) {
         None => false,
         Some(number) => {
             stack.set_i64(number);
@@ -61,7 +61,7 @@ fn operate(stack: &mut Operands, operation: Operation) -> bool
 #[inline(always)]
 fn replace_top(stack: &mut Operands, numeric: Numeric) -> bool
     requires { ∥ AreNumbers numeric stack.old.known.values ∥₁ }
-    ensures { if_kept stack.new.known.values result ≡ replaced (calculated numeric stack.old.known.values) }
+    ensures { if_kept stack.new.known.values result ≡ replace_operands (calculation numeric stack.old.known.values) }
 {
     match numeric {
         Numeric::I32Eqz => {
@@ -91,7 +91,7 @@ fn replace_top(stack: &mut Operands, numeric: Numeric) -> bool
         }
         Numeric::I64ExtendI32S => {
             let n = stack.top_i32();
-            stack.set_i64(extended(n));
+            stack.set_i64(extend_number(n));
         }
         Numeric::I64ExtendI32U => {
             let n = stack.top_i32();
@@ -108,7 +108,7 @@ pub fn calculate(machine: &mut Machine<'_>, numeric: Numeric) -> Reduced
     requires { ∥ AreNumbers numeric machine.old.now.stack.known.values ∥₁ }
     ensures { (modules : List WModule)
         → progress result machine.new
-        ≡ begun modules (store_of machine.old) (activation machine.old.now)
+        ≡ begin_instruction modules (store_of machine.old) (activation machine.old.now)
         (callers_of machine.old) (instr.Numeric numeric) }
 {
     if replace_top(&mut machine.now.stack, numeric) {

@@ -2,8 +2,8 @@
 
 ghost use Rattle.std.specs.Prelude.{◌≡◌, ◌≤◌, ◌-◌, [], ◌++◌, IfOk, OnOk, Some, None, List, map, drop, length};
 ghost use Rattle.std.specs.List.{flat_map};
-ghost use Rattle.wasm_tree.specs.Machine.{agree, callee_type, stopped, entered, called, begun, found, zeros, split_last};
-ghost use Rattle.wasm_link.specs.Placed.{typed};
+ghost use Rattle.wasm_tree.specs.Machine.{agree, callee_type, stop_with, enter_function, call_function, begin_instruction, branch_to, zeros, split_last};
+ghost use Rattle.wasm_link.specs.Placed.{typed_function};
 ghost use Rattle.wasm_tree.specs.declared.store.Callee.TheVariants.{Put, Stop, Own};
 ghost use Rattle.wasm_tree.specs.declared.instr.Instr.TheVariants.{Call, CallIndirect};
 ghost use Rattle.wasm_tree.specs.declared.module.WModule.{WModule};
@@ -54,7 +54,7 @@ fn enter<'a>(
 ) -> Result<(), AllocError>
     requires { count ≤ length stack.now.known.values }
     ensures { OnOk result
-        (activation frame.new ≡ entered instance (typed function.entry)
+        (activation frame.new ≡ enter_function instance (typed_function function.entry)
         (drop (length stack.now.known.values - count) stack.now.known.values)) }
 {
     let body = &function.function.body;
@@ -75,7 +75,7 @@ pub fn first_frame<'a>(
     instance: usize,
     function: TypedFunction<'a>,
 ) -> Result<Frame<'a>, AllocError>
-    ensures { IfOk result (λ f. activation f ≡ entered instance (typed function.entry) []) }
+    ensures { IfOk result (λ f. activation f ≡ enter_function instance (typed_function function.entry) []) }
 {
     let mut frame = no_frame(alloc);
     enter(&mut frame, instance, function, &Operands::new(alloc), 0)?;
@@ -84,7 +84,7 @@ pub fn first_frame<'a>(
 
 /// The run ends with this number, or traps if it is none of 1 to 255.
 fn stop(number: u64) -> Reduced
-    ensures { (m : Machine) → progress result m ≡ (stopped number, []) }
+    ensures { (m : Machine) → progress result m ≡ (stop_with number, []) }
 {
     match u8::try_from(number) {
         Ok(number) if 1 <= number => Reduced::Over(number),
@@ -109,11 +109,11 @@ fn call_typed<'a>(
     number: usize,
     function: TypedFunction<'a>,
 ) -> Result<Reduced, AllocError>
-    requires { length (typed function).type.params ≤ length machine.old.now.stack.known.values }
+    requires { length (typed_function function).type.params ≤ length machine.old.now.stack.known.values }
     ensures { IfOk result (λ r.
         progress r machine.new
         ≡ called_typed (store_of machine.old) (activation machine.old.now)
-        (callers_of machine.old) number (typed function.entry)) }
+        (callers_of machine.old) number (typed_function function.entry)) }
 {
     let count = function.func_type.params.len();
     let next = spare_frame(alloc, &mut machine.spare);
@@ -136,7 +136,7 @@ fn call<'a>(
     requires { ∥ CanCall modules.now machine.old.now.stack.known.values callee ∥₁ }
     ensures { IfOk result (λ r.
         progress r machine.new
-        ≡ called modules.now (store_of machine.old) (activation machine.old.now)
+        ≡ call_function modules.now (store_of machine.old) (activation machine.old.now)
         (callers_of machine.old) callee) }
 {
     match callee {
@@ -166,7 +166,7 @@ pub fn call_index<'a>(
         machine.old.now.stack.known.values function ∥₁ }
     ensures { IfOk result (λ r.
         progress r machine.new
-        ≡ begun modules.now (store_of machine.old) (activation machine.old.now)
+        ≡ begin_instruction modules.now (store_of machine.old) (activation machine.old.now)
         (callers_of machine.old) (Call function)) }
 {
     let callee = callee_at(&machine.store, machine.now.instance, function);
@@ -200,7 +200,7 @@ pub fn call_indirect<'a>(
         machine.old.now.stack.known.values type_index ∥₁ }
     ensures { IfOk result (λ r.
         progress r machine.new
-        ≡ begun modules.now (store_of machine.old) (activation machine.old.now)
+        ≡ begin_instruction modules.now (store_of machine.old) (activation machine.old.now)
         (callers_of machine.old) (CallIndirect type_index)) }
 {
     let slot = machine.now.stack.pop_i32();
@@ -227,7 +227,7 @@ pub fn leave(machine: &mut Machine<'_>) -> Result<Reduced, AllocError>
     requires { machine.old.now.arity ≤ length machine.old.now.stack.known.values }
     ensures { IfOk result (λ r.
         progress r machine.new
-        ≡ found (store_of machine.old) (activation machine.old.now) (callers_of machine.old)
+        ≡ branch_to (store_of machine.old) (activation machine.old.now) (callers_of machine.old)
         None) }
 {
     let Some(caller) = pop_caller(&mut machine.callers) else {

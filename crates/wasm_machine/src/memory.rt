@@ -2,8 +2,8 @@
 
 ghost use Rattle.std.specs.Prelude.{◌≡◌, ◌+◌, ◌≤◌, ◌<◌, ◌^◌, Option, Some, None, List, length};
 ghost use Rattle.std.specs.Option.{option_map};
-ghost use Rattle.wasm_tree.specs.Machine.{top_i32, memory_of, bytes_at, pasted, stores, or_trap, begun};
-ghost use Rattle.wasm_tree.specs.Numbers.{load_size, loaded};
+ghost use Rattle.wasm_tree.specs.Machine.{top_i32, memory_of, bytes_at, paste_items, stores, or_trap, begin_instruction};
+ghost use Rattle.wasm_tree.specs.Numbers.{load_size, load_number};
 ghost use Rattle.wasm_tree.specs.declared.module.WModule.{WModule};
 ghost use Rattle.wasm_tree.specs.declared.instr.Instr.TheVariants as instr;
 ghost use Rattle.wasm_sound.specs.Ready.{IsI32, CanStore};
@@ -12,7 +12,7 @@ ghost use Rattle.wasm_machine.specs.Going.{activation, store_of, callers_of, pro
 
 use crate::frame::{Machine, Pages, Reduced};
 use crate::places::memory_of;
-use wasm_operands::{load_size, loaded};
+use wasm_operands::{load_number, load_size};
 use wasm_tree::{Load, StoreWidth};
 
 /// So many bytes from a place on, where they are there.
@@ -29,10 +29,10 @@ fn bytes_at(bytes: &[u8], place: usize, size: usize) -> Option<&[u8]>
 
 /// The number that the bytes from a place on are loaded as, if they are there.
 fn number_at(kind: Load, bytes: &[u8], place: u32) -> Option<u64>
-    ensures { result ≡ option_map (loaded kind) (bytes_at (load_size kind) place bytes.now) }
+    ensures { result ≡ option_map (load_number kind) (bytes_at (load_size kind) place bytes.now) }
 {
     let part = bytes_at(bytes, place as usize, load_size(kind))?;
-    Some(loaded(kind, part))
+    Some(load_number(kind, part))
 }
 
 /// Puts what the memory holds at the address on top in its place.
@@ -43,7 +43,7 @@ pub fn load(machine: &mut Machine<'_>, kind: Load) -> Reduced
     requires memory { IsThere (memory_of (store_of machine.old) machine.old.now.instance) }
     ensures { (modules : List WModule)
         → progress result machine.new
-        ≡ begun modules (store_of machine.old) (activation machine.old.now)
+        ≡ begin_instruction modules (store_of machine.old) (activation machine.old.now)
         (callers_of machine.old) (instr.Load kind) }
 {
     let place = machine.now.stack.top_i32();
@@ -64,7 +64,7 @@ fn paste(memory: &mut Pages, place: usize, bytes: &[u8])
     requires within { place + length bytes.now ≤ length memory.old.bytes.items }
     requires small { place + length bytes.now < 2 ^ 64 }
     ensures { memory_from memory.new ≡ record (memory_from memory.old)
-        { bytes = pasted memory.old.bytes.items place bytes.now } }
+        { bytes = paste_items memory.old.bytes.items place bytes.now } }
 {
     memory.bytes[place..place + bytes.len()].copy_from_slice(bytes);
 }
@@ -99,7 +99,7 @@ pub fn store(machine: &mut Machine<'_>, width: StoreWidth) -> Reduced
         machine.old.now.stack.known.values ∥₁ }
     ensures { (modules : List WModule)
         → progress result machine.new
-        ≡ begun modules (store_of machine.old) (activation machine.old.now)
+        ≡ begin_instruction modules (store_of machine.old) (activation machine.old.now)
         (callers_of machine.old) (instr.Store width) }
 {
     let number = machine.now.stack.pop_i64();

@@ -2,7 +2,7 @@
 
 ghost use Rattle.std.specs.Prelude.{◌≡◌, Some, slice_get, map};
 ghost use Rattle.wasm_tree.specs.Machine.{callee_at, callee_in, global_at, memory_of, own_function, type_at};
-ghost use Rattle.wasm_link.specs.Placed.{typed};
+ghost use Rattle.wasm_link.specs.Placed.{typed_function};
 ghost use Rattle.wasm_machine.specs.Going.{memory_from};
 ghost use Rattle.wasm_machine.specs.There.{IsThere, HasSlots};
 
@@ -85,7 +85,7 @@ pub fn type_at(modules: &[ValidModule], number: usize, index: u32) -> &FuncType
 #[inline(always)]
 pub fn function_at(modules: &[ValidModule], number: usize, function: usize) -> TypedFunction<'_>
     requires { IsThere (own_function modules.now number function) }
-    ensures { own_function modules.now number function ≡ Some (typed result) }
+    ensures { own_function modules.now number function ≡ Some (typed_function result) }
 {
     let tree = the(modules, number).module();
     let function = the(tree.functions.as_slice(), function);

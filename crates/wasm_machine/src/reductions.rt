@@ -2,7 +2,7 @@
 
 ghost use Rattle.std.specs.Prelude.{◌≡◌, ◌∷◌, IfOk, Some, None, List, Option, take, drop};
 ghost use Rattle.wasm_tree.specs.Code.{tree, head, behind};
-ghost use Rattle.wasm_tree.specs.Machine.{begun, begun_layer, side, results_of, inside, top_i32, or_trap, pushed, reduce};
+ghost use Rattle.wasm_tree.specs.Machine.{begin_instruction, begun_layer, side, results_of, inside, top_i32, or_trap, push_value, reduce};
 ghost use Rattle.wasm_tree.specs.declared.store.Value.TheVariants.{I32, I64};
 ghost use Rattle.wasm_sound.specs.Ready.{IsReady, IsI32};
 ghost use Rattle.wasm_tree.specs.declared.instr.Instr.{out-Instr};
@@ -117,7 +117,7 @@ fn choose_two<'a>(
 fn push_i32(machine: &mut Machine<'_>, number: u32) -> Result<Reduced, AllocError>
     ensures { IfOk result (λ r.
         progress r machine.new
-        ≡ pushed (store_of machine.old) (activation machine.old.now)
+        ≡ push_value (store_of machine.old) (activation machine.old.now)
         (callers_of machine.old) (I32 number)) }
 {
     machine.now.stack.push_i32(number)?;
@@ -129,7 +129,7 @@ fn push_i32(machine: &mut Machine<'_>, number: u32) -> Result<Reduced, AllocErro
 fn push_i64(machine: &mut Machine<'_>, number: u64) -> Result<Reduced, AllocError>
     ensures { IfOk result (λ r.
         progress r machine.new
-        ≡ pushed (store_of machine.old) (activation machine.old.now)
+        ≡ push_value (store_of machine.old) (activation machine.old.now)
         (callers_of machine.old) (I64 number)) }
 {
     machine.now.stack.push_i64(number)?;
@@ -161,7 +161,7 @@ fn begin<'a>(
         (record (activation machine.old.now) { rest = tree (behind op.now rest.now) })
         (out-Instr (head tree op.now rest.now)) ∥₁ }
     ensures { IfOk result (λ r.
-        progress r machine.new ≡ begun modules.now (store_of machine.old)
+        progress r machine.new ≡ begin_instruction modules.now (store_of machine.old)
         (record (activation machine.old.now) { rest = tree (behind op.now rest.now) })
         (callers_of machine.old) (head tree op.now rest.now)) }
 {

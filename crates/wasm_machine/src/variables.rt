@@ -1,7 +1,7 @@
 //! Locals, globals and operands that are dropped (Core 1.0, sections 4.4.2 and 4.4.3).
 
 ghost use Rattle.std.specs.Prelude.{◌≡◌, ◌<◌, IfOk, List, length};
-ghost use Rattle.wasm_tree.specs.Machine.{global_at, begun};
+ghost use Rattle.wasm_tree.specs.Machine.{global_at, begin_instruction};
 ghost use Rattle.wasm_tree.specs.declared.module.WModule.{WModule};
 ghost use Rattle.wasm_tree.specs.declared.instr.Instr.TheVariants as instr;
 ghost use Rattle.wasm_machine.specs.Going.{activation, store_of, callers_of, progress};
@@ -18,7 +18,7 @@ pub fn global_get(machine: &mut Machine<'_>, global: u32) -> Result<Reduced, All
     ensures { IfOk result (λ r.
         (modules : List WModule)
         → progress r machine.new
-        ≡ begun modules (store_of machine.old) (activation machine.old.now)
+        ≡ begin_instruction modules (store_of machine.old) (activation machine.old.now)
         (callers_of machine.old) (instr.GlobalGet global)) }
 {
     let instance = machine.now.instance;
@@ -34,7 +34,7 @@ pub fn local_get(machine: &mut Machine<'_>, local: u32) -> Result<Reduced, Alloc
     ensures { IfOk result (λ r.
         (modules : List WModule)
         → progress r machine.new
-        ≡ begun modules (store_of machine.old) (activation machine.old.now)
+        ≡ begin_instruction modules (store_of machine.old) (activation machine.old.now)
         (callers_of machine.old) (instr.LocalGet local)) }
 {
     let now = &mut machine.now;
@@ -49,7 +49,7 @@ pub fn local_set(machine: &mut Machine<'_>, local: u32) -> Reduced
     requires one { 0 < length machine.old.now.stack.known.values }
     ensures { (modules : List WModule)
         → progress result machine.new
-        ≡ begun modules (store_of machine.old) (activation machine.old.now)
+        ≡ begin_instruction modules (store_of machine.old) (activation machine.old.now)
         (callers_of machine.old) (instr.LocalSet local) }
 {
     let now = &mut machine.now;
@@ -65,7 +65,7 @@ pub fn local_tee(machine: &mut Machine<'_>, local: u32) -> Reduced
     requires one { 0 < length machine.old.now.stack.known.values }
     ensures { (modules : List WModule)
         → progress result machine.new
-        ≡ begun modules (store_of machine.old) (activation machine.old.now)
+        ≡ begin_instruction modules (store_of machine.old) (activation machine.old.now)
         (callers_of machine.old) (instr.LocalTee local) }
 {
     let now = &mut machine.now;
@@ -79,7 +79,7 @@ pub fn drop_operand(machine: &mut Machine<'_>) -> Reduced
     requires { 0 < length machine.old.now.stack.known.values }
     ensures { (modules : List WModule)
         → progress result machine.new
-        ≡ begun modules (store_of machine.old) (activation machine.old.now)
+        ≡ begin_instruction modules (store_of machine.old) (activation machine.old.now)
         (callers_of machine.old) instr.Drop }
 {
     machine.now.stack.drop_last();

@@ -11,5 +11,7 @@ mod numbers;
 mod operands;
 
 pub use known::Known;
-pub use numbers::{compares_32, compares_64, extended, load_size, loaded, operated, truth};
+pub use numbers::{
+    compares_32, compares_64, extend_number, load_number, load_size, operation_result, truth,
+};
 pub use operands::Operands;

@@ -2,7 +2,7 @@
 
 ghost use Rattle.std.specs.Prelude.{◌≡◌, ◌⊎◌, length};
 ghost use Rattle.std.specs.Int.{w32, w64};
-ghost use Rattle.wasm_tree.specs.Numbers.{truth, compares, operated, extended, load_size, loaded};
+ghost use Rattle.wasm_tree.specs.Numbers.{truth, compares, operation_result, extend_number, load_size, load_number};
 
 use wasm_tree::{Load, Operation, Relation};
 
@@ -50,7 +50,7 @@ pub fn compares_64(relation: Relation, n: u64, m: u64) -> bool
 }
 
 fn divided_signed(n: u64, m: u64) -> Option<u64>
-    ensures { result ≡ operated Operation.DivS n m }
+    ensures { result ≡ operation_result Operation.DivS n m }
 {
     if m == 0 || (n == 1 << 63 && m == u64::MAX) {
         return None;
@@ -59,7 +59,7 @@ fn divided_signed(n: u64, m: u64) -> Option<u64>
 }
 
 fn remainder_signed(n: u64, m: u64) -> Option<u64>
-    ensures { result ≡ operated Operation.RemS n m }
+    ensures { result ≡ operation_result Operation.RemS n m }
 {
     if m == 0 {
         return None;
@@ -71,9 +71,9 @@ fn remainder_signed(n: u64, m: u64) -> Option<u64>
     )
 }
 
-fn divided(operation: Operation, n: u64, m: u64) -> Option<u64>
+fn division_of(operation: Operation, n: u64, m: u64) -> Option<u64>
     requires { (operation ≡ Operation.DivU) ⊎ (operation ≡ Operation.RemU) }
-    ensures { result ≡ operated operation n m }
+    ensures { result ≡ operation_result operation n m }
 {
     if m == 0 {
         return None;
@@ -85,17 +85,17 @@ fn divided(operation: Operation, n: u64, m: u64) -> Option<u64>
 }
 
 /// What is made of two numbers of 64 bits, or nothing where it is not defined.
-pub fn operated(operation: Operation, n: u64, m: u64) -> Option<u64>
-    ensures { result ≡ operated operation n m }
+pub fn operation_result(operation: Operation, n: u64, m: u64) -> Option<u64>
+    ensures { result ≡ operation_result operation n m }
 {
     match operation {
         Operation::Add => Some(n.wrapping_add(m)),
         Operation::Sub => Some(n.wrapping_sub(m)),
         Operation::Mul => Some(n.wrapping_mul(m)),
         Operation::DivS => divided_signed(n, m),
-        Operation::DivU => divided(operation, n, m),
+        Operation::DivU => division_of(operation, n, m),
         Operation::RemS => remainder_signed(n, m),
-        Operation::RemU => divided(operation, n, m),
+        Operation::RemU => division_of(operation, n, m),
         Operation::And => Some(n & m),
         Operation::Or => Some(n | m),
         Operation::Xor => Some(n ^ m),
@@ -105,8 +105,8 @@ pub fn operated(operation: Operation, n: u64, m: u64) -> Option<u64>
 }
 
 /// A number of 32 bits as one of 64, by its sign.
-pub fn extended(n: u32) -> u64
-    ensures { result ≡ extended n }
+pub fn extend_number(n: u32) -> u64
+    ensures { result ≡ extend_number n }
 {
     i64::from(n.cast_signed()).cast_unsigned()
 }
@@ -125,21 +125,21 @@ pub fn load_size(kind: Load) -> usize
 
 fn loaded_2(bytes: &[u8]) -> u64
     requires { length bytes.now ≡ 2 }
-    ensures { result ≡ loaded Load.I64From16U bytes.now }
+    ensures { result ≡ load_number Load.I64From16U bytes.now }
 {
     u64::from(u16::from_le_bytes([bytes[0], bytes[1]]))
 }
 
 fn loaded_4(bytes: &[u8]) -> u32
     requires { length bytes.now ≡ 4 }
-    ensures { result ≡ loaded Load.I64From32U bytes.now }
+    ensures { result ≡ load_number Load.I64From32U bytes.now }
 {
     u32::from_le_bytes([bytes[0], bytes[1], bytes[2], bytes[3]])
 }
 
 fn loaded_8(bytes: &[u8]) -> u64
     requires { length bytes.now ≡ 8 }
-    ensures { result ≡ loaded Load.I64 bytes.now }
+    ensures { result ≡ load_number Load.I64 bytes.now }
 {
     u64::from_le_bytes([
         bytes[0], bytes[1], bytes[2], bytes[3], bytes[4], bytes[5], bytes[6], bytes[7],
@@ -147,15 +147,15 @@ fn loaded_8(bytes: &[u8]) -> u64
 }
 
 /// The number that these bytes are loaded as.
-pub fn loaded(kind: Load, bytes: &[u8]) -> u64
+pub fn load_number(kind: Load, bytes: &[u8]) -> u64
     requires { length bytes.now ≡ load_size kind }
-    ensures { result ≡ loaded kind bytes.now }
+    ensures { result ≡ load_number kind bytes.now }
 {
     match kind {
         Load::I64 => loaded_8(bytes),
         Load::I64From8U => u64::from(bytes[0]),
         Load::I64From16U => loaded_2(bytes),
-        Load::I64From32S => extended(loaded_4(bytes)),
+        Load::I64From32S => extend_number(loaded_4(bytes)),
         Load::I64From32U => u64::from(loaded_4(bytes)),
     }
 }

@@ -4,7 +4,7 @@ ghost use Rattle.std.specs.Prelude.{◌≡◌, ◌≤◌, ◌<◌, ◌+◌, ◌-
 ghost use Rattle.std.specs.Result.{is_ok};
 ghost use Rattle.std.specs.Option.{option_map};
 ghost use Rattle.wasm_tree.specs.declared.store.Value.TheVariants.{I32, I64};
-ghost use Rattle.wasm_tree.specs.Machine.{top_i32, top_i64, split_end, kept, zeros, zero_of};
+ghost use Rattle.wasm_tree.specs.Machine.{top_i32, top_i64, split_end, keep_operands, zeros, zero_of};
 ghost use Rattle.wasm_sound.specs.Ready.{IsI32, IsI64};
 ghost use Rattle.wasm_operands.specs.Bits.{bits_of, cut, value_at, last_of};
 
@@ -281,7 +281,7 @@ impl Operands {
     pub fn keep(&mut self, height: usize, count: usize)
         requires { height + count ≤ length self.old.known.values }
         ensures { Some self.new.known.values
-            ≡ option_map (kept height) (split_end count self.old.known.values) }
+            ≡ option_map (keep_operands height) (split_end count self.old.known.values) }
     {
         keep(&mut self.cells, height, count);
         self.known = known_as(&self.known, &self.known, &NONE, &height, &count);

@@ -9,7 +9,7 @@ use Rattle.wasm_tree.specs.declared.module.WModule.{WModule}
 use Rattle.wasm_tree.specs.declared.store.Value.{Value}
 use Rattle.wasm_tree.specs.declared.store.Store.{Store}
 use Rattle.wasm_tree.specs.Validity.{Context, Leads}
-use Rattle.wasm_tree.specs.Machine.{Label, Activation, Going, Over, Progress, split_last, split_end, kept, found, branched, returned}
+use Rattle.wasm_tree.specs.Machine.{Label, Activation, Going, Over, Progress, split_last, split_end, keep_operands, branch_to, branch_by, return_to}
 use Rattle.wasm_tree.specs.Linking.{type_of}
 use Rattle.wasm_sound.specs.Sound.{Through, Level, Opens, outermost, IsFrame, IsActivation, IsGoing, IsSound}
 use Rattle.wasm_sound.specs.Ready.{AreKept, CanBranch}
@@ -33,7 +33,7 @@ regrouped below inside more lower taken whole b e =
 
 module _ (modules : List WModule) (st : Store) (callers : List Activation) (returns : List ValueType) (o : Outside modules st callers returns) where
   -- back to the last caller, which has waited for results of these types
-  pub returned_sound : (vs : List Value) → map type_of vs ≡ returns → IsSound modules (returned st callers vs).0
+  pub returned_sound : (vs : List Value) → map type_of vs ≡ returns → IsSound modules (return_to st callers vs).0
   returned_sound vs e = go (split_last callers) refl
     where
       resumed : (caller : Activation) (g : List ValueType) → IsActivation modules g caller returns → IsActivation modules g (record caller { stack = caller.stack ++ vs }) []
@@ -54,13 +54,13 @@ module _ (modules : List WModule) (st : Store) (callers : List Activation) (retu
           record { store = o.store; first = o.first; returns = popped.0; waiting = popped.1; running = resumed p.1 popped.0 popped.2 }
 
   -- the function is left, with its results on top
-  pub left : (a : Activation) (us : List Value) (below : List ValueType) → map type_of us ≡ below ++ returns → a.arity ≡ length returns → (a.arity ≤ length us) × IsSound modules (found st (record a { stack = us }) callers None).0
+  pub left : (a : Activation) (us : List Value) (below : List ValueType) → map type_of us ≡ below ++ returns → a.arity ≡ length returns → (a.arity ≤ length us) × IsSound modules (branch_to st (record a { stack = us }) callers None).0
   left a us below e n =
       let cut = parts type_of us below returns e in
       let size : a.arity ≡ length cut.1 = n ∙ sym (length_typed cut.1 returns cut.4) in
       let long : length us ≡ length cut.0 + length cut.1 = ap length cut.2 ∙ length-append cut.0 cut.1 in (
         omega (arith, size, long),
-        or_trap_at modules (split_end a.arity us) (cut.0, cut.1) (λ p. returned st callers p.1) (ap (split_end a.arity) cut.2 ∙ split_end_at cut.0 cut.1 a.arity size) (returned_sound cut.1 cut.4),
+        or_trap_at modules (split_end a.arity us) (cut.0, cut.1) (λ p. return_to st callers p.1) (ap (split_end a.arity) cut.2 ∙ split_end_at cut.0 cut.1 a.arity size) (returned_sound cut.1 cut.4),
       )
 
   module _ (a : Activation) (inner : Level) (c : Context) (f : IsFrame modules a.instance a.arity a.locals returns c) (h : Through Opens (outermost c) a.labels inner) where
@@ -86,41 +86,41 @@ module _ (modules : List WModule) (st : Store) (callers : List Activation) (retu
     }
 
     cut_label : (us : List Value) (l : ℕ) (taken : List ValueType) (t : Target (outermost c) a.labels inner l taken) (base extra args : List Value) → us ≡ base ++ extra ++ args → map type_of base ≡ t.inside.below → map type_of args ≡ taken
-        → AreKept a.arity us (Some (t.before, t.label)) × IsSound modules (found st (record a { stack = us }) callers (Some (t.before, t.label))).0
+        → AreKept a.arity us (Some (t.before, t.label)) × IsSound modules (branch_to st (record a { stack = us }) callers (Some (t.before, t.label))).0
     cut_label us l taken t base extra args whole e g =
         let size : t.label.arity ≡ length args = t.opens.arity ∙ ap length t.taken_is ∙ sym (length_typed args taken g) in
         let height : length base ≡ t.label.height = length_typed base t.inside.below e ∙ sym t.opens.height in
         let long : length us ≡ length base + length extra + length args = ap length whole ∙ length-append (base ++ extra) args ∙ ap (λ (n : ℕ). n + length args) (length-append base extra) in (
           omega (arith, size, height, long),
-          or_trap_at modules (split_end t.label.arity us) (base ++ extra, args) (λ p. (Going st (record a { labels = t.before; rest = t.label.again; stack = kept t.label.height p }) callers, []))
+          or_trap_at modules (split_end t.label.arity us) (base ++ extra, args) (λ p. (Going st (record a { labels = t.before; rest = t.label.again; stack = keep_operands t.label.height p }) callers, []))
               (ap (split_end t.label.arity) whole ∙ split_end_at (base ++ extra) args t.label.arity size)
               (subst (λ (v : List Value). IsGoing modules st (record a { labels = t.before; rest = t.label.again; stack = v ++ args }) callers) (sym (take_at base extra t.label.height height))
               (going modules st callers returns (record a { labels = t.before; rest = t.label.again; stack = base ++ args }) o (at_label l taken t base args e g))),
         )
 
     to_label : (us : List Value) (lower taken : List ValueType) (l : ℕ) → map type_of us ≡ inner.below ++ (lower ++ taken) → (t : Target (outermost c) a.labels inner l taken)
-        → AreKept a.arity us (Some (t.before, t.label)) × IsSound modules (found st (record a { stack = us }) callers (Some (t.before, t.label))).0
+        → AreKept a.arity us (Some (t.before, t.label)) × IsSound modules (branch_to st (record a { stack = us }) callers (Some (t.before, t.label))).0
     to_label us lower taken l e t =
         let cut = cut_three us t.inside.below (t.more ++ lower) taken (regrouped inner.below t.inside.below t.more lower taken (map type_of us) t.below e) in
         cut_label us l taken t cut.0 cut.1 cut.2 cut.3 cut.4 cut.5
 
     -- to this label, or out of the function
     pub branch : (us : List Value) (lower taken : List ValueType) (l : ℕ) → map type_of us ≡ inner.below ++ (lower ++ taken) → slice_get inner.context.labels l ≡ Some taken
-        → CanBranch a.labels a.arity us l × IsSound modules (branched st (record a { stack = us }) callers l).0
+        → CanBranch a.labels a.arity us l × IsSound modules (branch_by st (record a { stack = us }) callers l).0
     branch us lower taken l e at =
         let all : length inner.context.labels ≡ length a.labels + 1 = labels_long a.labels (outermost c) inner h ∙ ap (λ (x : Context). length a.labels + length x.labels) f.context_is in
         let here : l < length inner.context.labels = slice_get_within inner.context.labels l taken at in
         let most : l ≤ length a.labels = omega (arith, all, here) in
         go most (cases_lt l (length a.labels))
       where
-        both : (m : Option (List Label × Label)) → split_last (take (length a.labels - l) a.labels) ≡ m → l ≤ length a.labels → AreKept a.arity us m × IsSound modules (found st (record a { stack = us }) callers m).0
-            → CanBranch a.labels a.arity us l × IsSound modules (branched st (record a { stack = us }) callers l).0
+        both : (m : Option (List Label × Label)) → split_last (take (length a.labels - l) a.labels) ≡ m → l ≤ length a.labels → AreKept a.arity us m × IsSound modules (branch_to st (record a { stack = us }) callers m).0
+            → CanBranch a.labels a.arity us l × IsSound modules (branch_by st (record a { stack = us }) callers l).0
         both m is most r =
-            let same : AreKept a.arity us (split_last (take (length a.labels - l) a.labels)) × IsSound modules (found st (record a { stack = us }) callers (split_last (take (length a.labels - l) a.labels))).0 =
-            subst (λ (x : Option (List Label × Label)). AreKept a.arity us x × IsSound modules (found st (record a { stack = us }) callers x).0) (sym is) r in
-            ((most, same.0), if_sound modules (nat_le l (length a.labels)) (found st (record a { stack = us }) callers (split_last (take (length a.labels - l) a.labels))) same.1)
+            let same : AreKept a.arity us (split_last (take (length a.labels - l) a.labels)) × IsSound modules (branch_to st (record a { stack = us }) callers (split_last (take (length a.labels - l) a.labels))).0 =
+            subst (λ (x : Option (List Label × Label)). AreKept a.arity us x × IsSound modules (branch_to st (record a { stack = us }) callers x).0) (sym is) r in
+            ((most, same.0), if_sound modules (nat_le l (length a.labels)) (branch_to st (record a { stack = us }) callers (split_last (take (length a.labels - l) a.labels))) same.1)
 
-        go : l ≤ length a.labels → (l < length a.labels) ⊎ (length a.labels ≤ l) → CanBranch a.labels a.arity us l × IsSound modules (branched st (record a { stack = us }) callers l).0
+        go : l ≤ length a.labels → (l < length a.labels) ⊎ (length a.labels ≤ l) → CanBranch a.labels a.arity us l × IsSound modules (branch_by st (record a { stack = us }) callers l).0
         go most (inl less) = let t = target a.labels (outermost c) inner l taken less h at in both (Some (t.before, t.label)) t.is_last most (to_label us lower taken l e t)
         go most (inr more) =
             let none : length a.labels - l ≡ 0 = omega arith in

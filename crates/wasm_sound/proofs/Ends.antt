@@ -6,7 +6,7 @@ use Rattle.wasm_tree.specs.declared.instr.Instr.{Instr}
 use Rattle.wasm_tree.specs.declared.module.WModule.{WModule}
 use Rattle.wasm_tree.specs.declared.store.Store.{Store}
 use Rattle.wasm_tree.specs.Validity.{Context, Leads}
-use Rattle.wasm_tree.specs.Machine.{Label, Activation, split_last, ended}
+use Rattle.wasm_tree.specs.Machine.{Label, Activation, split_last, end_block}
 use Rattle.wasm_tree.specs.Linking.{type_of}
 use Rattle.wasm_sound.specs.Sound.{Through, Level, Opens, outermost, IsActivation, IsSound}
 use Rattle.wasm_sound.specs.Ready.{IsReadyToEnd}
@@ -22,7 +22,7 @@ module _ (modules : List WModule) (st : Store) (callers : List Activation) (retu
   stack_is : map type_of now.stack ≡ h.inner.below ++ h.inner.gives
   stack_is = sym (append-nil (map type_of now.stack)) ∙ h.stack ∙ ap (λ (x : List ValueType). h.inner.below ++ x) given_is
 
-  function_end : now.labels ≡ [] → IsReadyToEnd now None × IsSound modules (ended st now callers None).0
+  function_end : now.labels ≡ [] → IsReadyToEnd now None × IsSound modules (end_block st now callers None).0
   function_end none =
       let level : outermost h.context ≡ h.inner = subst (λ (ls : List Label). Through Opens (outermost h.context) ls h.inner) none h.labels in
       let typed : map type_of now.stack ≡ h.context.returns = stack_is ∙ ap (λ (l : Level). l.below ++ l.gives) (sym level) in
@@ -31,7 +31,7 @@ module _ (modules : List WModule) (st : Store) (callers : List Activation) (retu
       let all : map type_of now.stack ≡ returns = typed ∙ own in
       (length_typed now.stack returns all ∙ sym size, (left modules st callers returns o now now.stack [] all size).1)
 
-  block_end : (ls : List Label) (l : Label) → now.labels ≡ ls ++ l ∷ [] → IsReadyToEnd now (Some (ls, l)) × IsSound modules (ended st now callers (Some (ls, l))).0
+  block_end : (ls : List Label) (l : Label) → now.labels ≡ ls ++ l ∷ [] → IsReadyToEnd now (Some (ls, l)) × IsSound modules (end_block st now callers (Some (ls, l))).0
   block_end ls l is =
       let out = through_pop Opens ls l (outermost h.context) h.inner (subst (λ (x : List Label). Through Opens (outermost h.context) x h.inner) is h.labels) in
       let long : length now.stack ≡ length h.inner.below + length h.inner.gives = length_typed now.stack (h.inner.below ++ h.inner.gives) stack_is ∙ length-append h.inner.below h.inner.gives in
@@ -50,9 +50,9 @@ module _ (modules : List WModule) (st : Store) (callers : List Activation) (retu
       } in
       (omega (arith, long, height), going modules st callers returns (record now { labels = ls; rest = l.rest }) o new)
 
-  pub end : IsReadyToEnd now (split_last now.labels) × IsSound modules (ended st now callers (split_last now.labels)).0
+  pub end : IsReadyToEnd now (split_last now.labels) × IsSound modules (end_block st now callers (split_last now.labels)).0
   end = go (split_last now.labels) refl
     where
-      go : (m : Option (List Label × Label)) → split_last now.labels ≡ m → IsReadyToEnd now m × IsSound modules (ended st now callers m).0
+      go : (m : Option (List Label × Label)) → split_last now.labels ≡ m → IsReadyToEnd now m × IsSound modules (end_block st now callers m).0
       go None e = function_end (nil_from_last now.labels e)
       go (Some p) e = block_end p.0 p.1 (push_from_last now.labels p e)

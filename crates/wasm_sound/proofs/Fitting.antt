@@ -21,9 +21,9 @@ use Rattle.wasm_tree.specs.declared.store.Callee.TheVariants.{Put, Stop, Own}
 use Rattle.wasm_tree.specs.declared.store.Memory.{Memory}
 use Rattle.wasm_tree.specs.declared.store.Instance.{Instance}
 use Rattle.wasm_tree.specs.declared.store.Store.{Store}
-use Rattle.wasm_tree.specs.Numbers.{load_size, loaded, stored}
+use Rattle.wasm_tree.specs.Numbers.{load_size, load_number, store_bytes}
 use Rattle.wasm_tree.specs.Validity.{side_of}
-use Rattle.wasm_tree.specs.Machine.{Label, Activation, Config, Going, Over, Trapped, Progress, Typed, trapped, or_trap, split_last, split_end, topmost, top_i32, top_i64, calculated, callee_at, callee_in, instance_of, global_at, memory_of, own_function, type_at, callee_type, agree, zero_of, zeros, entered, stopped, called, called_as, pushed, returned, inside, kept, found, branched, branched_if, with_local, pasted, with_memory_bytes, loads, stores, results_of, side, begun_layer, ended, next, reduce, run}
+use Rattle.wasm_tree.specs.Machine.{Label, Activation, Config, Going, Over, Trapped, Progress, Typed, trap_now, or_trap, split_last, split_end, topmost, top_i32, top_i64, calculation, callee_at, callee_in, instance_of, global_at, memory_of, own_function, type_at, callee_type, agree, zero_of, zeros, enter_function, stop_with, call_function, call_typed, push_value, return_to, inside, keep_operands, branch_to, branch_by, branched_if, with_local, paste_items, with_memory_bytes, loads, stores, results_of, side, begun_layer, end_block, next, reduce, run}
 use Rattle.wasm_sound.specs.Ranges.{ValueFits, IsByte, ConstantFits, InstrFits, Plain, Block, Loop, If, CodeFits, More, ModuleFits, StoreFits, LabelFits, ActivationFits, GoingFits, ConfigFits}
 use Rattle.wasm_sound.proofs.Lists.{at}
 use Rattle.wasm_sound.proofs.Calls.{then_some}
@@ -79,7 +79,7 @@ own_code modules m f t h e =
     let is = at (λ (g : Function). CodeFits g.body.code) tree.0.functions f function.0 (at ModuleFits modules m tree.0 h tree.1).functions function.1 in
     subst (λ (u : Typed). CodeFits u.function.body.code) (same_Some (record { type = type.0; function = function.0 }) t type.2) is
 
-pub entered_fits : (modules : List WModule) (m f : ℕ) (t : Typed) (args : List Value) → All ModuleFits modules → own_function modules m f ≡ Some t → All ValueFits args → ActivationFits (entered m t args)
+pub entered_fits : (modules : List WModule) (m f : ℕ) (t : Typed) (args : List Value) → All ModuleFits modules → own_function modules m f ≡ Some t → All ValueFits args → ActivationFits (enter_function m t args)
 entered_fits modules m f t args h e a = record {
   locals = All-append ValueFits args (flat_map zeros t.function.body.locals) a (zeros_fit t.function.body.locals);
   stack = All-nil ValueFits;
@@ -91,7 +91,7 @@ module _ (modules : List WModule) (all : All ModuleFits modules) (st : Store) (c
   restacked : (a : Activation) (vs : List Value) → ActivationFits a → All ValueFits vs → GoingFits st (record a { stack = vs }) callers
   restacked a vs h g = record { store = store; running = record { locals = h.locals; stack = g; labels = h.labels; rest = h.rest }; waiting = waiting }
 
-  push_fits : (a : Activation) (v : Value) → ActivationFits a → ValueFits v → ConfigFits (pushed st a callers v).0
+  push_fits : (a : Activation) (v : Value) → ActivationFits a → ValueFits v → ConfigFits (push_value st a callers v).0
   push_fits a v h g = restacked a (a.stack ++ v ∷ []) h (All-push ValueFits a.stack v h.stack g)
 
   -- ---- blocks, branches and returns
@@ -105,7 +105,7 @@ module _ (modules : List WModule) (all : All ModuleFits modules) (st : Store) (c
         waiting = waiting;
       }
 
-  returned_fits : (vs : List Value) → All ValueFits vs → ConfigFits (returned st callers vs).0
+  returned_fits : (vs : List Value) → All ValueFits vs → ConfigFits (return_to st callers vs).0
   returned_fits vs h = go (split_last callers) refl
     where
       go : (p : Option (List Activation × Activation)) → split_last callers ≡ p → ConfigFits (elim p as (λ _. Progress) [ None ↦ (Over 0, []) | Some p ↦ (Going st (record p.1 { stack = p.1.stack ++ vs }) p.0, []) ]).0
@@ -114,10 +114,10 @@ module _ (modules : List WModule) (all : All ModuleFits modules) (st : Store) (c
           let both = last_fits ActivationFits callers p f waiting in
           record { store = store; running = record { locals = both.1.locals; stack = All-append ValueFits p.1.stack vs both.1.stack h; labels = both.1.labels; rest = both.1.rest }; waiting = both.0 }
 
-  found_fits : (a : Activation) (ls : List Label) (m : Option (List Label × Label)) → ActivationFits a → All LabelFits ls → split_last ls ≡ m → ConfigFits (found st a callers m).0
-  found_fits a ls None h g e = or_trap_fits (split_end a.arity a.stack) (λ p. returned st callers p.1) (λ p q. returned_fits p.1 (end_fits ValueFits a.arity a.stack p q h.stack).1)
+  found_fits : (a : Activation) (ls : List Label) (m : Option (List Label × Label)) → ActivationFits a → All LabelFits ls → split_last ls ≡ m → ConfigFits (branch_to st a callers m).0
+  found_fits a ls None h g e = or_trap_fits (split_end a.arity a.stack) (λ p. return_to st callers p.1) (λ p q. returned_fits p.1 (end_fits ValueFits a.arity a.stack p q h.stack).1)
   found_fits a ls (Some l) h g e =
-      or_trap_fits (split_end l.1.arity a.stack) (λ p. (Going st (record a { labels = l.0; rest = l.1.again; stack = kept l.1.height p }) callers, []))
+      or_trap_fits (split_end l.1.arity a.stack) (λ p. (Going st (record a { labels = l.0; rest = l.1.again; stack = keep_operands l.1.height p }) callers, []))
       (λ p q.
       let both = end_fits ValueFits l.1.arity a.stack p q h.stack in
       let labels = last_fits LabelFits ls l e g in
@@ -127,12 +127,12 @@ module _ (modules : List WModule) (all : All ModuleFits modules) (st : Store) (c
         waiting = waiting;
       })
 
-  branched_fits : (a : Activation) (l : ℕ) → ActivationFits a → ConfigFits (branched st a callers l).0
+  branched_fits : (a : Activation) (l : ℕ) → ActivationFits a → ConfigFits (branch_by st a callers l).0
   branched_fits a l h =
       let ls = take (length a.labels - l) a.labels in
-      if_fits (nat_le l (length a.labels)) (found st a callers (split_last ls)) trapped (found_fits a ls (split_last ls) h (All-take LabelFits (length a.labels - l) a.labels h.labels) refl) tt
+      if_fits (nat_le l (length a.labels)) (branch_to st a callers (split_last ls)) trap_now (found_fits a ls (split_last ls) h (All-take LabelFits (length a.labels - l) a.labels h.labels) refl) tt
 
-  ended_fits : (a : Activation) (m : Option (List Label × Label)) → ActivationFits a → split_last a.labels ≡ m → ConfigFits (ended st a callers m).0
+  ended_fits : (a : Activation) (m : Option (List Label × Label)) → ActivationFits a → split_last a.labels ≡ m → ConfigFits (end_block st a callers m).0
   ended_fits a None h e = found_fits a a.labels None h h.labels e
   ended_fits a (Some l) h e =
       let labels = last_fits LabelFits a.labels l e h.labels in
@@ -144,12 +144,12 @@ module _ (modules : List WModule) (all : All ModuleFits modules) (st : Store) (c
   stop_fits true k = tt
   stop_fits false k = tt
 
-  called_fits : (a : Activation) (c : Callee) → ActivationFits a → ConfigFits (called modules st a callers c).0
+  called_fits : (a : Activation) (c : Callee) → ActivationFits a → ConfigFits (call_function modules st a callers c).0
   called_fits a Put h = or_trap_fits (top_i64 a.stack) (λ p. (Going st (record a { stack = p.0 }) callers, p.1 % 256 ∷ [])) (λ p e. restacked a p.0 h (top_i64_fits a.stack p e h.stack).0)
-  called_fits a Stop h = or_trap_fits (top_i64 a.stack) (λ p. (stopped p.1, [])) (λ p e. stop_fits (nat_le 1 p.1 && nat_le p.1 255) p.1)
+  called_fits a Stop h = or_trap_fits (top_i64 a.stack) (λ p. (stop_with p.1, [])) (λ p e. stop_fits (nat_le 1 p.1 && nat_le p.1 255) p.1)
   called_fits a (Own m f) h =
-      or_trap_fits (own_function modules m f) (λ t. or_trap (split_end (length t.type.params) a.stack) (λ q. (Going st (entered m t q.1) (callers ++ record a { stack = q.0 } ∷ []), [])))
-      (λ t e. or_trap_fits (split_end (length t.type.params) a.stack) (λ q. (Going st (entered m t q.1) (callers ++ record a { stack = q.0 } ∷ []), []))
+      or_trap_fits (own_function modules m f) (λ t. or_trap (split_end (length t.type.params) a.stack) (λ q. (Going st (enter_function m t q.1) (callers ++ record a { stack = q.0 } ∷ []), [])))
+      (λ t e. or_trap_fits (split_end (length t.type.params) a.stack) (λ q. (Going st (enter_function m t q.1) (callers ++ record a { stack = q.0 } ∷ []), []))
       (λ q g.
       let both = end_fits ValueFits (length t.type.params) a.stack q g h.stack in
       record {
@@ -158,14 +158,14 @@ module _ (modules : List WModule) (all : All ModuleFits modules) (st : Store) (c
         waiting = All-push ActivationFits callers (record a { stack = q.0 }) waiting (record { locals = h.locals; stack = both.0; labels = h.labels; rest = h.rest });
       }))
 
-  called_as_fits : (a : Activation) (asked : Option FuncType) (c : Callee) → ActivationFits a → ConfigFits (called_as modules st a callers asked c).0
-  called_as_fits a asked c h = if_fits (agree asked (callee_type modules c)) (called modules st a callers c) trapped (called_fits a c h) tt
+  called_as_fits : (a : Activation) (asked : Option FuncType) (c : Callee) → ActivationFits a → ConfigFits (call_typed modules st a callers asked c).0
+  called_as_fits a asked c h = if_fits (agree asked (callee_type modules c)) (call_function modules st a callers c) trap_now (called_fits a c h) tt
 
   -- ---- variables and memory
 
   with_local_fits : (a : Activation) (x : ℕ) (v : Value) → ActivationFits a → ValueFits v → ConfigFits (with_local st a callers x v).0
   with_local_fits a x v h g =
-      if_fits (nat_lt x (length a.locals)) (Going st (record a { locals = slice_set a.locals x v }) callers, []) trapped
+      if_fits (nat_lt x (length a.locals)) (Going st (record a { locals = slice_set a.locals x v }) callers, []) trap_now
       (record { store = store; running = record { locals = All-set ValueFits a.locals x v g h.locals; stack = h.stack; labels = h.labels; rest = h.rest }; waiting = waiting }) tt
 
   global_fits : (m g : ℕ) (v : Value) → global_at st m g ≡ Some v → ValueFits v
@@ -178,22 +178,22 @@ module _ (modules : List WModule) (all : All ModuleFits modules) (st : Store) (c
   memory_fits m p e =
       let i = then_some (λ (j : Instance). option_and_then (λ (a : ℕ). option_map (λ (memory : Memory). (a, memory)) (slice_get st.memories a)) (slice_get j.memories 0)) (instance_of st m) p e in
       let a = then_some (λ (a : ℕ). option_map (λ (memory : Memory). (a, memory)) (slice_get st.memories a)) (slice_get i.0.memories 0) p i.2 in
-      let found = map_some (λ (memory : Memory). (a.0, memory)) (slice_get st.memories a.0) p a.2 in
-      subst (λ (q : ℕ × Memory). All IsByte q.1.bytes) found.2 (at (λ (k : Memory). All IsByte k.bytes) st.memories a.0 found.0 store.memories found.1)
+      let branch_to = map_some (λ (memory : Memory). (a.0, memory)) (slice_get st.memories a.0) p a.2 in
+      subst (λ (q : ℕ × Memory). All IsByte q.1.bytes) branch_to.2 (at (λ (k : Memory). All IsByte k.bytes) st.memories a.0 branch_to.0 store.memories branch_to.1)
 
   loads_fit : (a : Activation) (kind : Load) (place : ℕ) (m : ℕ × Memory) → ActivationFits a → All IsByte m.1.bytes → ConfigFits (loads st a callers kind place m).0
   loads_fit a kind place m h g = go (nat_le (place + load_size kind) (length m.1.bytes))
     where
-      go : (b : Bool) → ConfigFits (or_trap (if b then Some (take (load_size kind) (drop place m.1.bytes)) else None) (λ bytes. pushed st a callers (I64 (loaded kind bytes)))).0
-      go true = push_fits a (I64 (loaded kind (take (load_size kind) (drop place m.1.bytes)))) h (loaded_fits kind (take (load_size kind) (drop place m.1.bytes)) (All-take IsByte (load_size kind) (drop place m.1.bytes) (All-drop IsByte place m.1.bytes g)))
+      go : (b : Bool) → ConfigFits (or_trap (if b then Some (take (load_size kind) (drop place m.1.bytes)) else None) (λ bytes. push_value st a callers (I64 (load_number kind bytes)))).0
+      go true = push_fits a (I64 (load_number kind (take (load_size kind) (drop place m.1.bytes)))) h (loaded_fits kind (take (load_size kind) (drop place m.1.bytes)) (All-take IsByte (load_size kind) (drop place m.1.bytes) (All-drop IsByte place m.1.bytes g)))
       go false = tt
 
   stores_fit : (a : Activation) (place : ℕ) (bytes : List ℕ) (m : ℕ × Memory) → ActivationFits a → All IsByte m.1.bytes → All IsByte bytes → ConfigFits (stores st a callers place bytes m).0
   stores_fit a place bytes m h g k =
-      let written = pasted m.1.bytes place bytes in
+      let written = paste_items m.1.bytes place bytes in
       let fits : All IsByte written =
       All-append IsByte (take place m.1.bytes ++ bytes) (drop (place + length bytes) m.1.bytes) (All-append IsByte (take place m.1.bytes) bytes (All-take IsByte place m.1.bytes g) k) (All-drop IsByte (place + length bytes) m.1.bytes g) in
-      if_fits (nat_le (place + length bytes) (length m.1.bytes)) (Going (with_memory_bytes st m.0 m.1 written) a callers, []) trapped
+      if_fits (nat_le (place + length bytes) (length m.1.bytes)) (Going (with_memory_bytes st m.0 m.1 written) a callers, []) trap_now
       (record {
         store = record { globals = store.globals; memories = All-set (λ (w : Memory). All IsByte w.bytes) st.memories m.0 (record m.1 { bytes = written }) fits store.memories };
         running = h;
@@ -218,38 +218,38 @@ module _ (modules : List WModule) (all : All ModuleFits modules) (st : Store) (c
       or_trap_fits (top_i32 a.stack) (λ p. branched_if st (record a { stack = p.0 }) callers x p.1)
       (λ p e.
       let below = popped a p.0 h (top_i32_fits a.stack p e h.stack).0 in
-      if_fits (p.1 == 0) (Going st (record a { stack = p.0 }) callers, []) (branched st (record a { stack = p.0 }) callers x) (record { store = store; running = below; waiting = waiting }) (branched_fits (record a { stack = p.0 }) x below))
+      if_fits (p.1 == 0) (Going st (record a { stack = p.0 }) callers, []) (branch_by st (record a { stack = p.0 }) callers x) (record { store = store; running = below; waiting = waiting }) (branched_fits (record a { stack = p.0 }) x below))
   begun_fits a i (layer.BrTable xs x) h f c =
-      or_trap_fits (top_i32 a.stack) (λ p. branched st (record a { stack = p.0 }) callers (slice_index_or xs p.1 x))
+      or_trap_fits (top_i32 a.stack) (λ p. branch_by st (record a { stack = p.0 }) callers (slice_index_or xs p.1 x))
       (λ p e. branched_fits (record a { stack = p.0 }) (slice_index_or xs p.1 x) (popped a p.0 h (top_i32_fits a.stack p e h.stack).0))
-  begun_fits a i layer.Return h f c = or_trap_fits (split_end a.arity a.stack) (λ p. returned st callers p.1) (λ p q. returned_fits p.1 (end_fits ValueFits a.arity a.stack p q h.stack).1)
-  begun_fits a i (layer.Call x) h f c = or_trap_fits (callee_at st a.instance x) (called modules st a callers) (λ k e. called_fits a k h)
+  begun_fits a i layer.Return h f c = or_trap_fits (split_end a.arity a.stack) (λ p. return_to st callers p.1) (λ p q. returned_fits p.1 (end_fits ValueFits a.arity a.stack p q h.stack).1)
+  begun_fits a i (layer.Call x) h f c = or_trap_fits (callee_at st a.instance x) (call_function modules st a callers) (λ k e. called_fits a k h)
   begun_fits a i (layer.CallIndirect x) h f c =
-      or_trap_fits (top_i32 a.stack) (λ p. or_trap (callee_in st a.instance p.1) (called_as modules st (record a { stack = p.0 }) callers (type_at modules a.instance x)))
-      (λ p e. or_trap_fits (callee_in st a.instance p.1) (called_as modules st (record a { stack = p.0 }) callers (type_at modules a.instance x))
+      or_trap_fits (top_i32 a.stack) (λ p. or_trap (callee_in st a.instance p.1) (call_typed modules st (record a { stack = p.0 }) callers (type_at modules a.instance x)))
+      (λ p e. or_trap_fits (callee_in st a.instance p.1) (call_typed modules st (record a { stack = p.0 }) callers (type_at modules a.instance x))
       (λ k g. called_as_fits (record a { stack = p.0 }) (type_at modules a.instance x) k (popped a p.0 h (top_i32_fits a.stack p e h.stack).0)))
   begun_fits a i layer.Drop h f c = or_trap_fits (split_last a.stack) (λ p. (Going st (record a { stack = p.0 }) callers, [])) (λ p e. restacked a p.0 h (last_fits ValueFits a.stack p e h.stack).0)
-  begun_fits a i (layer.LocalGet x) h f c = or_trap_fits (slice_get a.locals x) (pushed st a callers) (λ v e. push_fits a v h (at ValueFits a.locals x v h.locals e))
+  begun_fits a i (layer.LocalGet x) h f c = or_trap_fits (slice_get a.locals x) (push_value st a callers) (λ v e. push_fits a v h (at ValueFits a.locals x v h.locals e))
   begun_fits a i (layer.LocalSet x) h f c =
       or_trap_fits (split_last a.stack) (λ p. with_local st (record a { stack = p.0 }) callers x p.1)
       (λ p e.
       let both = last_fits ValueFits a.stack p e h.stack in
       with_local_fits (record a { stack = p.0 }) x p.1 (popped a p.0 h both.0) both.1)
   begun_fits a i (layer.LocalTee x) h f c = or_trap_fits (topmost a.stack) (with_local st a callers x) (λ v e. with_local_fits a x v h (at ValueFits a.stack (length a.stack - 1) v h.stack e))
-  begun_fits a i (layer.GlobalGet g) h f c = or_trap_fits (global_at st a.instance g) (pushed st a callers) (λ v e. push_fits a v h (global_fits a.instance g v e))
+  begun_fits a i (layer.GlobalGet g) h f c = or_trap_fits (global_at st a.instance g) (push_value st a callers) (λ v e. push_fits a v h (global_fits a.instance g v e))
   begun_fits a i (layer.Load kind) h f c =
       or_trap_fits (top_i32 a.stack) (λ p. or_trap (memory_of st a.instance) (loads st (record a { stack = p.0 }) callers kind p.1))
       (λ p e. or_trap_fits (memory_of st a.instance) (loads st (record a { stack = p.0 }) callers kind p.1)
       (λ m g. loads_fit (record a { stack = p.0 }) kind p.1 m (popped a p.0 h (top_i32_fits a.stack p e h.stack).0) (memory_fits a.instance m g)))
   begun_fits a i (layer.Store width) h f c =
-      or_trap_fits (top_i64 a.stack) (λ v. or_trap (top_i32 v.0) (λ p. or_trap (memory_of st a.instance) (stores st (record a { stack = p.0 }) callers p.1 (stored width v.1))))
-      (λ v d. or_trap_fits (top_i32 v.0) (λ p. or_trap (memory_of st a.instance) (stores st (record a { stack = p.0 }) callers p.1 (stored width v.1)))
-      (λ p e. or_trap_fits (memory_of st a.instance) (stores st (record a { stack = p.0 }) callers p.1 (stored width v.1))
-      (λ m g. stores_fit (record a { stack = p.0 }) p.1 (stored width v.1) m (popped a p.0 h (top_i32_fits v.0 p e (top_i64_fits a.stack v d h.stack).0).0) (memory_fits a.instance m g) (stored_fits width v.1))))
+      or_trap_fits (top_i64 a.stack) (λ v. or_trap (top_i32 v.0) (λ p. or_trap (memory_of st a.instance) (stores st (record a { stack = p.0 }) callers p.1 (store_bytes width v.1))))
+      (λ v d. or_trap_fits (top_i32 v.0) (λ p. or_trap (memory_of st a.instance) (stores st (record a { stack = p.0 }) callers p.1 (store_bytes width v.1)))
+      (λ p e. or_trap_fits (memory_of st a.instance) (stores st (record a { stack = p.0 }) callers p.1 (store_bytes width v.1))
+      (λ m g. stores_fit (record a { stack = p.0 }) p.1 (store_bytes width v.1) m (popped a p.0 h (top_i32_fits v.0 p e (top_i64_fits a.stack v d h.stack).0).0) (memory_fits a.instance m g) (stored_fits width v.1))))
   begun_fits a i (layer.I32Const n) h f c = push_fits a (I32 n) h c
   begun_fits a i (layer.I64Const n) h f c = push_fits a (I64 n) h c
   begun_fits a i (layer.Numeric o) h f c =
-      or_trap_fits (calculated o a.stack) (λ p. pushed st (record a { stack = p.0 }) callers p.1)
+      or_trap_fits (calculation o a.stack) (λ p. push_value st (record a { stack = p.0 }) callers p.1)
       (λ p e.
       let both = calculated_fits o a.stack p e h.stack in
       push_fits (record a { stack = p.0 }) p.1 (popped a p.0 h both.0) both.1)

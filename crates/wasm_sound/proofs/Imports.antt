@@ -23,14 +23,14 @@ use Rattle.wasm_tree.specs.declared.store.Instance.{Instance}
 use Rattle.wasm_tree.specs.declared.store.Store.{Store}
 use Rattle.wasm_tree.specs.Validity.{function_import, table_import, memory_import, global_import}
 use Rattle.wasm_tree.specs.Machine.{callee_type, agree}
-use Rattle.wasm_tree.specs.Linking.{each, answer, suits, answered, has_table, has_memory, has_type, with_extern, with_import, no_instance, type_of}
+use Rattle.wasm_tree.specs.Linking.{each, answer, suits, import_answer, has_table, has_memory, has_type, with_extern, with_import, no_instance, type_of}
 use Rattle.wasm_sound.specs.Sound.{Pairwise, IsFunctionAt, IsTableAt, IsMemoryAt, IsGlobalAt}
 use Rattle.wasm_sound.proofs.Lists.{pairs_push}
 use Rattle.wasm_sound.proofs.Calls.{same_type, same_value_type, then_some}
 use Rattle.wasm_sound.proofs.Growth.{ok_then, same_Ok, each_keeps, filter_map-push, IsPart}
 
 -- what is answered suits
-answered_suits : (modules : List WModule) (st : Store) (tree : WModule) (x : Import) (e : Extern) → answered modules st tree x ≡ Ok e → suits modules st tree x.kind e ≡ true
+answered_suits : (modules : List WModule) (st : Store) (tree : WModule) (x : Import) (e : Extern) → import_answer modules st tree x ≡ Ok e → suits modules st tree x.kind e ≡ true
 answered_suits modules st tree x e h = go (answer modules st x) h
   where
     checked : (b : Bool) (f : Extern) → b ≡ suits modules st tree x.kind f → ◌≡◌ {A = Result Extern WFault} (if b then Ok f else Err Unlinked) (Ok e) → suits modules st tree x.kind e ≡ true
@@ -134,7 +134,7 @@ extended modules st tree done x _ _ i s h = absurd (grind arith)
 
 one_import : (modules : List WModule) (st : Store) (tree : WModule) (done : List Import) (x : Import) (i j : Instance) → Unit {0} → Imported modules st tree done i → with_import modules st tree x i ≡ Ok j → Imported modules st tree (done ++ x ∷ []) j
 one_import modules st tree done x i j all h e =
-    let first = ok_then (answered modules st tree x) (λ (y : Extern). Ok (with_extern y i)) j e in
+    let first = ok_then (import_answer modules st tree x) (λ (y : Extern). Ok (with_extern y i)) j e in
     subst (λ (k : Instance). Imported modules st tree (done ++ x ∷ []) k) (same_Ok (with_extern first.0 i) j first.2)
     (extended modules st tree done x x.kind first.0 i (answered_suits modules st tree x first.0 first.1) h)
 

@@ -11,7 +11,7 @@ use Rattle.wasm_tree.specs.declared.module.WModule.{WModule}
 use Rattle.wasm_tree.specs.declared.store.Value.{Value}
 use Rattle.wasm_tree.specs.declared.store.Value.TheVariants.{I32}
 use Rattle.wasm_tree.specs.declared.store.Store.{Store}
-use Rattle.wasm_tree.specs.Machine.{Activation, Going, Progress, top_i32, branched, branched_if}
+use Rattle.wasm_tree.specs.Machine.{Activation, Going, Progress, top_i32, branch_by, branched_if}
 use Rattle.wasm_tree.specs.Linking.{type_of}
 use Rattle.wasm_sound.specs.Sound.{Level, IsSound}
 use Rattle.wasm_sound.proofs.Lists.{parts}
@@ -45,7 +45,7 @@ module _ (modules : List WModule) (st : Store) (a : Activation) (callers : List 
       let stay = going modules st callers returns (record a { stack = top.0 }) o (goes_on modules a returns inner (taken ++ types.I32 ∷ []) taken s top.0 top.3) in (
         (top.0, top.1, top.2, go.0),
         or_trap_at modules (top_i32 a.stack) (top.0, top.1) (λ p. branched_if st (record a { stack = p.0 }) callers l p.1) (ap top_i32 top.2 ∙ top_i32_at top.0 top.1)
-            (either_sound modules (top.1 == 0) (Going st (record a { stack = top.0 }) callers, []) (branched st (record a { stack = top.0 }) callers l) stay go.1),
+            (either_sound modules (top.1 == 0) (Going st (record a { stack = top.0 }) callers, []) (branch_by st (record a { stack = top.0 }) callers l) stay go.1),
       )
 
   -- each label of the table takes the same
@@ -64,7 +64,7 @@ module _ (modules : List WModule) (st : Store) (a : Activation) (callers : List 
       let typed : map type_of top.0 ≡ inner.below ++ (s.lower ++ lower ++ taken) = top.3 ∙ ap (λ (x : List ValueType). inner.below ++ x) (sym (append_assoc s.lower lower taken)) in
       let go = branch modules st callers returns o a inner s.context s.frame s.labels top.0 (s.lower ++ lower) taken l typed (in_table ls default top.1 taken e all) in (
         (top.0, top.1, top.2, go.0),
-        or_trap_at modules (top_i32 a.stack) (top.0, top.1) (λ p. branched st (record a { stack = p.0 }) callers (slice_index_or ls p.1 default)) (ap top_i32 top.2 ∙ top_i32_at top.0 top.1) go.1,
+        or_trap_at modules (top_i32 a.stack) (top.0, top.1) (λ p. branch_by st (record a { stack = p.0 }) callers (slice_index_or ls p.1 default)) (ap top_i32 top.2 ∙ top_i32_at top.0 top.1) go.1,
       )
 
   pub return : (lower r : List ValueType) → Scene modules a returns inner (lower ++ inner.context.returns) r → Works modules st a callers i layer.Return

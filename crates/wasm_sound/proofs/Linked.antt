@@ -23,8 +23,8 @@ use Rattle.wasm_tree.specs.declared.store.Callee.TheVariants.{Put, Stop, Own}
 use Rattle.wasm_tree.specs.declared.store.Instance.{Instance}
 use Rattle.wasm_tree.specs.declared.store.Store.{Store}
 use Rattle.wasm_tree.specs.Validity.{context, initial_context, function_import, table_import, memory_import, global_import, IsFunction, IsGlobal, IsValid}
-use Rattle.wasm_tree.specs.Machine.{Config, Going, run, Typed, own_function, callee_type, callee_at, host_type, entered}
-use Rattle.wasm_tree.specs.Linking.{each, Linked, with_import, with_function, with_functions, with_table, with_memory, with_global, with_element, with_segment, no_instance, linked_one, linked_from, host_store, run_name, named, is_plain, run_index, run_of, started, start, link}
+use Rattle.wasm_tree.specs.Machine.{Config, Going, run, Typed, own_function, callee_type, callee_at, host_type, enter_function}
+use Rattle.wasm_tree.specs.Linking.{each, Linked, with_import, with_function, with_functions, with_table, with_memory, with_global, with_element, with_segment, no_instance, linked_one, linked_from, host_store, run_name, export_named, is_plain, run_index, run_of, start_run, start, link}
 use Rattle.wasm_sound.specs.Sound.{Pairwise, IsFunctionAt, IsInstance, IsStore, IsSound}
 use Rattle.wasm_sound.proofs.Lists.{at, same_at, pair_at, pairs_imply, pairs_push}
 use Rattle.wasm_sound.proofs.Calls.{same_type, then_some, some_then, entered_typed}
@@ -196,16 +196,16 @@ run_typed tree (Some (exported.Global g)) f e = absurd (grind arith)
 
 run_of_typed : (modules : List WModule) (f : ℕ) → run_of modules ≡ Ok f → (tree : WModule) × (x : ℕ) × (slice_get modules 0 ≡ Some tree) × (slice_get (context tree).functions f ≡ Some x) × (slice_get tree.types x ≡ Some plain)
 run_of_typed [] f e = absurd (grind arith)
-run_of_typed (tree ∷ trees) f e = let r = run_typed tree (named run_name tree.exports) f e in (tree, r.0, refl, r.1, r.2)
+run_of_typed (tree ∷ trees) f e = let r = run_typed tree (export_named run_name tree.exports) f e in (tree, r.0, refl, r.1, r.2)
 
 module _ (modules : List WModule) (valid : All IsValid modules) (st : Store) (h : IsStore modules modules st) where
-  started_sound : (m f : ℕ) (o : Option Typed) (c : Config) → own_function modules m f ≡ o → callee_type modules (Own m f) ≡ Some plain → started st o m ≡ Ok c → IsSound modules c
+  started_sound : (m f : ℕ) (o : Option Typed) (c : Config) → own_function modules m f ≡ o → callee_type modules (Own m f) ≡ Some plain → start_run st o m ≡ Ok c → IsSound modules c
   started_sound m f None c e g s = absurd (grind arith)
   started_sound m f (Some t) c e g s =
       let found = then_some (λ (u : Typed). Some u.type) (own_function modules m f) plain g in
       let same : found.0 ≡ t = same_at (own_function modules m f) found.0 t found.1 e in
       let type : t.type ≡ plain = ap (λ (u : Typed). u.type) (sym same) ∙ same_Some found.0.type plain found.2 in
-      subst (IsSound modules) (same_Ok (Going st (entered m t []) []) c s) (record {
+      subst (IsSound modules) (same_Ok (Going st (enter_function m t []) []) c s) (record {
         store = h;
         first = t.type.results;
         returns = t.type.results;

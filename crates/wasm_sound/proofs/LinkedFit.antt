@@ -22,8 +22,8 @@ use Rattle.wasm_tree.specs.declared.store.Table.{Table}
 use Rattle.wasm_tree.specs.declared.store.Memory.{Memory}
 use Rattle.wasm_tree.specs.declared.store.Store.{Store}
 use Rattle.wasm_tree.specs.Format.{◌>>=◌}
-use Rattle.wasm_tree.specs.Machine.{Config, Going, Typed, own_function, callee_at, entered, pasted, run}
-use Rattle.wasm_tree.specs.Linking.{each, Linked, with_import, with_function, with_functions, with_table, fresh_memory, with_memory, constant, value_of, with_value, with_global, offset_of, addresses, with_slots, some_address, with_element, with_bytes, with_segment, no_instance, linked_one, linked_from, host_store, run_of, started, start, link}
+use Rattle.wasm_tree.specs.Machine.{Config, Going, Typed, own_function, callee_at, enter_function, paste_items, run}
+use Rattle.wasm_tree.specs.Linking.{each, Linked, with_import, with_function, with_functions, with_table, fresh_memory, with_memory, constant, value_of, with_value, with_global, offset_of, addresses, with_slots, some_address, with_element, with_bytes, with_segment, no_instance, linked_one, linked_from, host_store, run_of, start_run, start, link}
 use Rattle.wasm_sound.specs.Ranges.{ValueFits, IsByte, InstrFits, CodeFits, ModuleFits, StoreFits, ActivationFits, ConfigFits}
 use Rattle.wasm_sound.proofs.Lists.{at}
 use Rattle.wasm_sound.proofs.Calls.{then_some}
@@ -79,7 +79,7 @@ slots_fit l new place at None slots e h = absurd (grind arith)
 slots_fit l new place at (Some t) None e h = absurd (grind arith)
 slots_fit l new place at (Some t) (Some slots) e h = go (nat_le (at + length slots) (length t.slots)) e
   where
-    go : (b : Bool) → ◌≡◌ {A = Result Linked WFault} (if b then Ok (record l { store = record l.store { tables = slice_set l.store.tables place (record t { slots = pasted t.slots at slots }) } }) else Err SegmentOutside) (Ok new) → LinkedFits new
+    go : (b : Bool) → ◌≡◌ {A = Result Linked WFault} (if b then Ok (record l { store = record l.store { tables = slice_set l.store.tables place (record t { slots = paste_items t.slots at slots }) } }) else Err SegmentOutside) (Ok new) → LinkedFits new
     go true g = same_fits new _ g (record { globals = h.globals; memories = h.memories })
     go false g = absurd (grind arith)
 
@@ -96,11 +96,11 @@ bytes_fit l new place first (Some m) bytes all there e h = go (nat_le (first + l
     old : All IsByte m.bytes
     old = at (λ (k : Memory). All IsByte k.bytes) l.store.memories place m h.memories there
 
-    written : All IsByte (pasted m.bytes first bytes)
+    written : All IsByte (paste_items m.bytes first bytes)
     written = All-append IsByte (take first m.bytes ++ bytes) (drop (first + length bytes) m.bytes) (All-append IsByte (take first m.bytes) bytes (All-take IsByte first m.bytes old) all) (All-drop IsByte (first + length bytes) m.bytes old)
 
-    go : (b : Bool) → ◌≡◌ {A = Result Linked WFault} (if b then Ok (record l { store = record l.store { memories = slice_set l.store.memories place (record m { bytes = pasted m.bytes first bytes }) } }) else Err SegmentOutside) (Ok new) → LinkedFits new
-    go true g = same_fits new _ g (record { globals = h.globals; memories = All-set (λ (k : Memory). All IsByte k.bytes) l.store.memories place (record m { bytes = pasted m.bytes first bytes }) written h.memories })
+    go : (b : Bool) → ◌≡◌ {A = Result Linked WFault} (if b then Ok (record l { store = record l.store { memories = slice_set l.store.memories place (record m { bytes = paste_items m.bytes first bytes }) } }) else Err SegmentOutside) (Ok new) → LinkedFits new
+    go true g = same_fits new _ g (record { globals = h.globals; memories = All-set (λ (k : Memory). All IsByte k.bytes) l.store.memories place (record m { bytes = paste_items m.bytes first bytes }) written h.memories })
     go false g = absurd (grind arith)
 
 segment_fits : (x : Data) (l new : Linked) → All IsByte x.bytes → with_segment x l ≡ Ok new → LinkedFits l → LinkedFits new
@@ -136,10 +136,10 @@ all_fit modules (tree ∷ trees) m st new f h e =
     let first = ok_then (linked_one modules m tree st) (linked_from modules (suc m) trees) new e in
     all_fit modules trees (suc m) first.0 new (All-tail ModuleFits tree trees f) (one_fits modules m tree st first.0 (All-head ModuleFits tree trees f) h first.1) first.2
 
-started_fits : (modules : List WModule) (st : Store) (m f : ℕ) (o : Option Typed) (c : Config) → All ModuleFits modules → StoreFits st → own_function modules m f ≡ o → started st o m ≡ Ok c → ConfigFits c
+started_fits : (modules : List WModule) (st : Store) (m f : ℕ) (o : Option Typed) (c : Config) → All ModuleFits modules → StoreFits st → own_function modules m f ≡ o → start_run st o m ≡ Ok c → ConfigFits c
 started_fits modules st m f None c all h e s = absurd (grind arith)
 started_fits modules st m f (Some t) c all h e s =
-    subst ConfigFits (same_Ok (Going st (entered m t []) []) c s) (record { store = h; running = entered_fits modules m f t [] all e (All-nil ValueFits); waiting = All-nil ActivationFits })
+    subst ConfigFits (same_Ok (Going st (enter_function m t []) []) c s) (record { store = h; running = entered_fits modules m f t [] all e (All-nil ValueFits); waiting = All-nil ActivationFits })
 
 start_fits : (modules : List WModule) (st : Store) (o : Option Callee) (c : Config) → All ModuleFits modules → StoreFits st → start modules st o ≡ Ok c → ConfigFits c
 start_fits modules st None c all h s = absurd (grind arith)

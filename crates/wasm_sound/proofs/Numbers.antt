@@ -12,7 +12,7 @@ use Rattle.wasm_tree.specs.declared.instr.Load.{Load}
 use Rattle.wasm_tree.specs.declared.instr.Load.TheVariants as load
 use Rattle.wasm_tree.specs.declared.instr.StoreWidth.{StoreWidth}
 use Rattle.wasm_tree.specs.declared.instr.StoreWidth.TheVariants.{Eight, One, Two, Four}
-use Rattle.wasm_tree.specs.Numbers.{truth, divided, is_too_great, operated, extended, loaded, stored}
+use Rattle.wasm_tree.specs.Numbers.{truth, division_of, is_too_great, operation_result, extend_number, load_number, store_bytes}
 use Rattle.wasm_sound.specs.Ranges.{IsByte}
 
 pub truth_fits : (b : Bool) → truth b < 2 ^ 32
@@ -58,7 +58,7 @@ remainder_small (pos n) (negsuc m) h = omega arith
 remainder_small (negsuc n) (pos m) h = neg_small (suc n % m) (omega arith)
 remainder_small (negsuc n) (negsuc m) h = neg_small (suc n % suc m) (omega arith)
 
-pub extended_fits : (n : ℕ) → n < 2 ^ 32 → extended n < 2 ^ 64
+pub extended_fits : (n : ℕ) → n < 2 ^ 32 → extend_number n < 2 ^ 64
 extended_fits n h = unsigned_fits (cast_signed w32 n) (signed_32_small n h)
 
 -- ---- operations
@@ -72,15 +72,15 @@ if_fits : (b : Bool) (o p : Option ℕ) → MayFit o → MayFit p → MayFit (if
 if_fits true o p h g = h
 if_fits false o p h g = g
 
-divided_fits : (d n : ℕ) → n < 2 ^ 64 → MayFit (divided d n)
+divided_fits : (d n : ℕ) → n < 2 ^ 64 → MayFit (division_of d n)
 divided_fits d n h = if_fits (d == 0) None (Some n) tt h
 
-pub operated_fits : (o : Operation) (n m : ℕ) → n < 2 ^ 64 → m < 2 ^ 64 → MayFit (operated o n m)
+pub operated_fits : (o : Operation) (n m : ℕ) → n < 2 ^ 64 → m < 2 ^ 64 → MayFit (operation_result o n m)
 operated_fits Add n m h g = omega arith
 operated_fits Sub n m h g = omega arith
 operated_fits Mul n m h g = omega arith
 operated_fits DivS n m h g =
-    if_fits (is_too_great n m) None (divided m (cast_unsigned w64 (int_div (cast_signed w64 n) (cast_signed w64 m)))) tt
+    if_fits (is_too_great n m) None (division_of m (cast_unsigned w64 (int_div (cast_signed w64 n) (cast_signed w64 m)))) tt
     (divided_fits m (cast_unsigned w64 (int_div (cast_signed w64 n) (cast_signed w64 m))) (unsigned_fits (int_div (cast_signed w64 n) (cast_signed w64 m)) (quotient_small (cast_signed w64 n) (cast_signed w64 m) (signed_small n h))))
 operated_fits DivU n m h g = divided_fits m (n / m) (omega arith)
 operated_fits RemS n m h g =
@@ -103,7 +103,7 @@ bytes_below bytes i h = go (cases_lt i (length bytes))
         let zero_is : get_or bytes i 0 ≡ 0 = get_or_past bytes i 0 more in
         omega (arith, zero_is)
 
-pub loaded_fits : (kind : Load) (bytes : List ℕ) → All IsByte bytes → loaded kind bytes < 2 ^ 64
+pub loaded_fits : (kind : Load) (bytes : List ℕ) → All IsByte bytes → load_number kind bytes < 2 ^ 64
 loaded_fits load.I64 bytes h =
     omega (arith, bytes_below bytes 0 h, bytes_below bytes 1 h, bytes_below bytes 2 h, bytes_below bytes 3 h, bytes_below bytes 4 h, bytes_below bytes 5 h, bytes_below bytes 6 h, bytes_below bytes 7 h)
 loaded_fits load.I64From8U bytes h = omega (arith, bytes_below bytes 0 h)
@@ -119,7 +119,7 @@ low_bytes_fit : (i k n : ℕ) → All IsByte (bytes_low_first i k n)
 low_bytes_fit i zero n = All-nil IsByte
 low_bytes_fit i (suc k) n = All-cons IsByte (byte_at i n) (bytes_low_first (suc i) k n) (byte_fits i n) (low_bytes_fit (suc i) k n)
 
-pub stored_fits : (width : StoreWidth) (n : ℕ) → All IsByte (stored width n)
+pub stored_fits : (width : StoreWidth) (n : ℕ) → All IsByte (store_bytes width n)
 stored_fits Eight n = low_bytes_fit 0 8 n
 stored_fits One n = low_bytes_fit 0 1 (n % 2 ^ 8)
 stored_fits Two n = low_bytes_fit 0 2 (n % 2 ^ 16)

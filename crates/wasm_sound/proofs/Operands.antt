@@ -10,9 +10,9 @@ use Rattle.wasm_tree.specs.declared.instr.Numeric.{Numeric}
 use Rattle.wasm_tree.specs.declared.instr.Numeric.TheVariants as numeric
 use Rattle.wasm_tree.specs.declared.store.Value.{Value}
 use Rattle.wasm_tree.specs.declared.store.Value.TheVariants.{I32, I64}
-use Rattle.wasm_tree.specs.Numbers.{truth, compares, operated, extended}
+use Rattle.wasm_tree.specs.Numbers.{truth, compares, operation_result, extend_number}
 use Rattle.wasm_tree.specs.Validity.{numeric_params, numeric_result}
-use Rattle.wasm_tree.specs.Machine.{topmost, top_i32, top_i64, one_i32, one_i64, two_i32, two_i64, calculated}
+use Rattle.wasm_tree.specs.Machine.{topmost, top_i32, top_i64, one_i32, one_i64, two_i32, two_i64, calculation}
 use Rattle.wasm_tree.specs.Linking.{type_of}
 use Rattle.wasm_sound.specs.Ready.{IsI32, IsI64, AreI32, AreI64, AreNumbers}
 use Rattle.wasm_sound.proofs.Lists.{split_last-push}
@@ -142,13 +142,13 @@ two_i64_typed o us vs f e t =
     subst (λ (l : List Value). AreI64 (us ++ l) × IsMade o us (two_i64 (us ++ l) f)) (sym n.2)
     ((us, n.0, n.1, refl), subst (IsMade o us) (sym (two_i64_at us n.0 n.1 f)) (t n.0 n.1))
 
-pub calculated_typed : (o : Numeric) (us vs : List Value) → map type_of vs ≡ numeric_params o → AreNumbers o (us ++ vs) × IsMade o us (calculated o (us ++ vs))
+pub calculated_typed : (o : Numeric) (us vs : List Value) → map type_of vs ≡ numeric_params o → AreNumbers o (us ++ vs) × IsMade o us (calculation o (us ++ vs))
 calculated_typed numeric.I32Eqz us vs e = one_i32_typed numeric.I32Eqz us vs (λ n. I32 (truth (n == 0))) e (λ n. refl)
 calculated_typed (numeric.I32Relation r) us vs e = two_i32_typed (numeric.I32Relation r) us vs (λ n m. I32 (truth (compares w32 r n m))) e (λ n m. refl)
 calculated_typed numeric.I64Eqz us vs e = one_i64_typed numeric.I64Eqz us vs (λ n. I32 (truth (n == 0))) e (λ n. refl)
 calculated_typed (numeric.I64Relation r) us vs e = two_i64_typed (numeric.I64Relation r) us vs (λ n m. Some (I32 (truth (compares w64 r n m)))) e (λ n m. (refl, refl))
 calculated_typed numeric.I32Add us vs e = two_i32_typed numeric.I32Add us vs (λ n m. I32 ((n + m) % 2 ^ 32)) e (λ n m. refl)
-calculated_typed (numeric.I64Operation o) us vs e = two_i64_typed (numeric.I64Operation o) us vs (λ n m. option_map I64 (operated o n m)) e (λ n m. made_i64 (numeric.I64Operation o) us (operated o n m) refl)
+calculated_typed (numeric.I64Operation o) us vs e = two_i64_typed (numeric.I64Operation o) us vs (λ n m. option_map I64 (operation_result o n m)) e (λ n m. made_i64 (numeric.I64Operation o) us (operation_result o n m) refl)
 calculated_typed numeric.I32WrapI64 us vs e = one_i64_typed numeric.I32WrapI64 us vs (λ n. I32 (n % 2 ^ 32)) e (λ n. refl)
-calculated_typed numeric.I64ExtendI32S us vs e = one_i32_typed numeric.I64ExtendI32S us vs (λ n. I64 (extended n)) e (λ n. refl)
+calculated_typed numeric.I64ExtendI32S us vs e = one_i32_typed numeric.I64ExtendI32S us vs (λ n. I64 (extend_number n)) e (λ n. refl)
 calculated_typed numeric.I64ExtendI32U us vs e = one_i32_typed numeric.I64ExtendI32U us vs (λ n. I64 n) e (λ n. refl)

@@ -9,8 +9,8 @@ use Rattle.wasm_tree.specs.declared.instr.Numeric.{Numeric}
 use Rattle.wasm_tree.specs.declared.instr.Numeric.TheVariants as numeric
 use Rattle.wasm_tree.specs.declared.store.Value.{Value}
 use Rattle.wasm_tree.specs.declared.store.Value.TheVariants.{I32, I64}
-use Rattle.wasm_tree.specs.Numbers.{truth, compares, operated, extended}
-use Rattle.wasm_tree.specs.Machine.{Progress, or_trap, split_last, split_end, top_i32, top_i64, one_i32, one_i64, two_i32, two_i64, calculated}
+use Rattle.wasm_tree.specs.Numbers.{truth, compares, operation_result, extend_number}
+use Rattle.wasm_tree.specs.Machine.{Progress, or_trap, split_last, split_end, top_i32, top_i64, one_i32, one_i64, two_i32, two_i64, calculation}
 use Rattle.wasm_sound.specs.Ranges.{ValueFits, ConfigFits}
 use Rattle.wasm_sound.proofs.Lists.{push_from_last}
 use Rattle.wasm_sound.proofs.Calls.{then_some}
@@ -101,14 +101,14 @@ made_fits : (o : Option ℕ) (v : Value) → MayFit o → option_map I64 o ≡ S
 made_fits None v h e = absurd (none-some v e)
 made_fits (Some n) v h e = subst ValueFits (same_Some (I64 n) v e) h
 
-pub calculated_fits : (f : Numeric) (stack : List Value) (p : List Value × Value) → calculated f stack ≡ Some p → All ValueFits stack → AreFit p
+pub calculated_fits : (f : Numeric) (stack : List Value) (p : List Value × Value) → calculation f stack ≡ Some p → All ValueFits stack → AreFit p
 calculated_fits numeric.I32Eqz stack p e h = one_i32_fits stack (λ n. I32 (truth (n == 0))) p (λ n l. truth_fits (n == 0)) e h
 calculated_fits (numeric.I32Relation r) stack p e h = two_i32_fits stack (λ n m. I32 (truth (compares w32 r n m))) p (λ n m. truth_fits (compares w32 r n m)) e h
 calculated_fits numeric.I64Eqz stack p e h = one_i64_fits stack (λ n. I32 (truth (n == 0))) p (λ n l. truth_fits (n == 0)) e h
 calculated_fits (numeric.I64Relation r) stack p e h =
     two_i64_fits stack (λ n m. Some (I32 (truth (compares w64 r n m)))) p (λ n m v a b q. subst ValueFits (same_Some (I32 (truth (compares w64 r n m))) v q) (truth_fits (compares w64 r n m))) e h
 calculated_fits numeric.I32Add stack p e h = two_i32_fits stack (λ n m. I32 ((n + m) % 2 ^ 32)) p (λ n m. below_32 (n + m)) e h
-calculated_fits (numeric.I64Operation o) stack p e h = two_i64_fits stack (λ n m. option_map I64 (operated o n m)) p (λ n m v a b q. made_fits (operated o n m) v (operated_fits o n m a b) q) e h
+calculated_fits (numeric.I64Operation o) stack p e h = two_i64_fits stack (λ n m. option_map I64 (operation_result o n m)) p (λ n m v a b q. made_fits (operation_result o n m) v (operated_fits o n m a b) q) e h
 calculated_fits numeric.I32WrapI64 stack p e h = one_i64_fits stack (λ n. I32 (n % 2 ^ 32)) p (λ n l. below_32 n) e h
-calculated_fits numeric.I64ExtendI32S stack p e h = one_i32_fits stack (λ n. I64 (extended n)) p (λ n l. extended_fits n l) e h
+calculated_fits numeric.I64ExtendI32S stack p e h = one_i32_fits stack (λ n. I64 (extend_number n)) p (λ n l. extended_fits n l) e h
 calculated_fits numeric.I64ExtendI32U stack p e h = one_i32_fits stack (λ n. I64 n) p (λ n l. more_room n l) e h

@@ -13,7 +13,7 @@ use Rattle.wasm_tree.specs.declared.store.Memory.{Memory}
 use Rattle.wasm_tree.specs.declared.store.Instance.{Instance}
 use Rattle.wasm_tree.specs.declared.store.Store.{Store}
 use Rattle.wasm_tree.specs.Validity.{Context, context, function_context, Leads}
-use Rattle.wasm_tree.specs.Machine.{Activation, Progress, or_trap, trapped, begun_layer, global_at, memory_of, with_memory_bytes}
+use Rattle.wasm_tree.specs.Machine.{Activation, Progress, or_trap, trap_now, begun_layer, global_at, memory_of, with_memory_bytes}
 use Rattle.wasm_tree.specs.Linking.{type_of}
 use Rattle.wasm_sound.specs.Sound.{Through, IsMemoryAt, IsGlobalAt, IsInstance, IsStore, Level, Opens, outermost, IsFrame, IsActivation, IsGoing, IsSound}
 use Rattle.wasm_sound.specs.Ready.{IsReady}
@@ -52,7 +52,7 @@ or_trap_sound modules (Some x) go h = h x refl
 pub or_trap_at : {A : Type 0} (modules : List WModule) (o : Option A) (x : A) (go : A → Progress) → o ≡ Some x → IsSound modules (go x).0 → IsSound modules (or_trap o go).0
 or_trap_at {A} modules o x go e h = subst (λ (y : Option A). IsSound modules (or_trap y go).0) (sym e) h
 
-pub if_sound : (modules : List WModule) (b : Bool) (p : Progress) → IsSound modules p.0 → IsSound modules (if b then p else trapped).0
+pub if_sound : (modules : List WModule) (b : Bool) (p : Progress) → IsSound modules p.0 → IsSound modules (if b then p else trap_now).0
 if_sound modules true p h = h
 if_sound modules false p h = tt
 

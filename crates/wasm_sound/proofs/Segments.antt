@@ -15,7 +15,7 @@ use Rattle.wasm_tree.specs.declared.store.Table.{Table}
 use Rattle.wasm_tree.specs.declared.store.Memory.{Memory}
 use Rattle.wasm_tree.specs.declared.store.Store.{Store}
 use Rattle.wasm_tree.specs.Format.{◌>>=◌}
-use Rattle.wasm_tree.specs.Machine.{pasted}
+use Rattle.wasm_tree.specs.Machine.{paste_items}
 use Rattle.wasm_tree.specs.Linking.{Linked, value_of, offset_of, addresses, with_slots, some_address, with_element, with_bytes, with_segment}
 use Rattle.wasm_sound.specs.Sound.{IsFunctionAt}
 use Rattle.wasm_sound.proofs.Lists.{pair_back}
@@ -49,7 +49,7 @@ each_at-drop P zero xs h = h
 each_at-drop P (suc n) [] h = h
 each_at-drop P (suc n) (x ∷ xs) h = each_at-drop P n xs (λ j z q. h (suc j) z q)
 
-each_at-pasted : {A : Type 0} (P : A → Type 0) (xs : List A) (place : ℕ) (ys : List A) → EachAt P xs → EachAt P ys → EachAt P (pasted xs place ys)
+each_at-pasted : {A : Type 0} (P : A → Type 0) (xs : List A) (place : ℕ) (ys : List A) → EachAt P xs → EachAt P ys → EachAt P (paste_items xs place ys)
 each_at-pasted P xs place ys h g =
     each_at-append P (take place xs ++ ys) (drop (place + length ys) xs) (each_at-append P (take place xs) ys (each_at-take P place xs h) g) (each_at-drop P (place + length ys) xs h)
 
@@ -82,10 +82,10 @@ module _ (modules linked : List WModule) (tree : WModule) (fs : List ℕ) (ts ms
 
   -- slots of a table are filled
   slots_placed : (place : ℕ) (t : Table) (slots : List (Option ℕ)) → slice_get l.store.tables place ≡ Some t → EachAt (IsFilled l.store) slots
-      → (at : ℕ) → IsPartial modules linked tree fs ts ms gs (record l { store = record l.store { tables = slice_set l.store.tables place (record t { slots = pasted t.slots at slots }) } })
+      → (at : ℕ) → IsPartial modules linked tree fs ts ms gs (record l { store = record l.store { tables = slice_set l.store.tables place (record t { slots = paste_items t.slots at slots }) } })
   slots_placed place t slots there filled at =
       let old = l.store in
-      let table : Table = record t { slots = pasted t.slots at slots } in
+      let table : Table = record t { slots = paste_items t.slots at slots } in
       let new : Store = record old { tables = slice_set old.tables place table } in
       let grows : Grows old new = record {
         functions = λ a d x. x;
@@ -115,7 +115,7 @@ module _ (modules linked : List WModule) (tree : WModule) (fs : List ℕ) (ts ms
   with_slots_kept place at (Some t) None new there all e = absurd (grind arith)
   with_slots_kept place at (Some t) (Some slots) new there all e = go (nat_le (at + length slots) (length t.slots)) e
     where
-      go : (b : Bool) → ◌≡◌ {A = Result Linked WFault} (if b then Ok (record l { store = record l.store { tables = slice_set l.store.tables place (record t { slots = pasted t.slots at slots }) } }) else Err SegmentOutside) (Ok new) → IsPartial modules linked tree fs ts ms gs new
+      go : (b : Bool) → ◌≡◌ {A = Result Linked WFault} (if b then Ok (record l { store = record l.store { tables = slice_set l.store.tables place (record t { slots = paste_items t.slots at slots }) } }) else Err SegmentOutside) (Ok new) → IsPartial modules linked tree fs ts ms gs new
       go true g = subst (IsPartial modules linked tree fs ts ms gs) (same_Ok _ new g) (slots_placed place t slots there (all slots refl) at)
       go false g = absurd (grind arith)
 
@@ -146,8 +146,8 @@ module _ (modules linked : List WModule) (tree : WModule) (fs : List ℕ) (ts ms
   with_bytes_kept place at None bytes new e = absurd (grind arith)
   with_bytes_kept place at (Some m) bytes new e = go (nat_le (at + length bytes) (length m.bytes)) e
     where
-      go : (b : Bool) → ◌≡◌ {A = Result Linked WFault} (if b then Ok (record l { store = record l.store { memories = slice_set l.store.memories place (record m { bytes = pasted m.bytes at bytes }) } }) else Err SegmentOutside) (Ok new) → IsPartial modules linked tree fs ts ms gs new
-      go true g = subst (IsPartial modules linked tree fs ts ms gs) (same_Ok _ new g) (bytes_placed place m (pasted m.bytes at bytes))
+      go : (b : Bool) → ◌≡◌ {A = Result Linked WFault} (if b then Ok (record l { store = record l.store { memories = slice_set l.store.memories place (record m { bytes = paste_items m.bytes at bytes }) } }) else Err SegmentOutside) (Ok new) → IsPartial modules linked tree fs ts ms gs new
+      go true g = subst (IsPartial modules linked tree fs ts ms gs) (same_Ok _ new g) (bytes_placed place m (paste_items m.bytes at bytes))
       go false g = absurd (grind arith)
 
   pub segment_placed : (x : Data) (new : Linked) → with_segment x l ≡ Ok new → IsPartial modules linked tree fs ts ms gs new

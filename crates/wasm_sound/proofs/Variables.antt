@@ -15,9 +15,9 @@ use Rattle.wasm_tree.specs.declared.store.Value.{Value}
 use Rattle.wasm_tree.specs.declared.store.Value.TheVariants.{I32, I64}
 use Rattle.wasm_tree.specs.declared.store.Memory.{Memory}
 use Rattle.wasm_tree.specs.declared.store.Store.{Store}
-use Rattle.wasm_tree.specs.Numbers.{load_size, loaded, stored}
+use Rattle.wasm_tree.specs.Numbers.{load_size, load_number, store_bytes}
 use Rattle.wasm_tree.specs.Validity.{numeric_params, numeric_result}
-use Rattle.wasm_tree.specs.Machine.{Activation, Going, or_trap, split_last, top_i32, top_i64, topmost, calculated, pushed, with_local, global_at, memory_of, bytes_at, pasted, with_memory_bytes, loads, stores}
+use Rattle.wasm_tree.specs.Machine.{Activation, Going, or_trap, split_last, top_i32, top_i64, topmost, calculation, push_value, with_local, global_at, memory_of, bytes_at, paste_items, with_memory_bytes, loads, stores}
 use Rattle.wasm_tree.specs.Linking.{type_of}
 use Rattle.wasm_sound.specs.Sound.{Level, IsActivation, IsGoing, IsSound}
 use Rattle.wasm_sound.specs.Ready.{CanSet, AreNumbers}
@@ -44,12 +44,12 @@ module _ (modules : List WModule) (st : Store) (a : Activation) (callers : List 
   pub local_get : (x : ℕ) (t : ValueType) → slice_get inner.context.locals x ≡ Some t → Scene modules a returns inner [] (t ∷ []) → Works modules st a callers i (layer.LocalGet x)
   local_get x t e s =
       let v = local_at modules a returns inner [] (t ∷ []) s x t e in
-      (slice_get_within a.locals x v.0 v.1, or_trap_at modules (slice_get a.locals x) v.0 (pushed st a callers) v.1 (push v.0 t v.2 s))
+      (slice_get_within a.locals x v.0 v.1, or_trap_at modules (slice_get a.locals x) v.0 (push_value st a callers) v.1 (push v.0 t v.2 s))
 
   pub global_get : (g : ℕ) (t : ValueType) → slice_get inner.context.globals g ≡ Some t → Scene modules a returns inner [] (t ∷ []) → Works modules st a callers i (layer.GlobalGet g)
   global_get g t e s =
       let v = global_there modules a returns inner [] (t ∷ []) s st g t o.store e in
-      ((v.0, v.1), or_trap_at modules (global_at st a.instance g) v.0 (pushed st a callers) v.1 (push v.0 t v.2 s))
+      ((v.0, v.1), or_trap_at modules (global_at st a.instance g) v.0 (push_value st a callers) v.1 (push v.0 t v.2 s))
 
   -- the local that is set is there, and what it gets has its type
   settable : (x : ℕ) (t : ValueType) (r : List ValueType) → slice_get inner.context.locals x ≡ Some t → (s : Scene modules a returns inner (t ∷ []) r) → CanSet a.locals a.stack x
@@ -104,13 +104,13 @@ module _ (modules : List WModule) (st : Store) (a : Activation) (callers : List 
         ((on.0, n.0, there), m),
         or_trap_at modules (top_i32 a.stack) (on.0, n.0) (λ p. or_trap (memory_of st a.instance) (loads st (record a { stack = p.0 }) callers kind p.1)) (ap top_i32 there ∙ top_i32_at on.0 n.0)
             (or_trap_at modules (memory_of st a.instance) m.0 (loads st (record a { stack = on.0 }) callers kind n.0) m.1
-            (or_trap_sound modules (bytes_at (load_size kind) n.0 m.0.1.bytes) (λ bytes. pushed st (record a { stack = on.0 }) callers (I64 (loaded kind bytes)))
-            (λ bytes e. replaced modules a returns inner (types.I32 ∷ []) (types.I64 ∷ []) s st callers o on.0 (I64 (loaded kind bytes) ∷ []) on.3 refl))),
+            (or_trap_sound modules (bytes_at (load_size kind) n.0 m.0.1.bytes) (λ bytes. push_value st (record a { stack = on.0 }) callers (I64 (load_number kind bytes)))
+            (λ bytes e. replaced modules a returns inner (types.I32 ∷ []) (types.I64 ∷ []) s st callers o on.0 (I64 (load_number kind bytes) ∷ []) on.3 refl))),
       )
 
   stores_sound : (us : List Value) (place : ℕ) (bytes : List ℕ) (m : ℕ × Memory) → IsActivation modules returns (record a { stack = us }) [] → IsSound modules (stores st (record a { stack = us }) callers place bytes m).0
   stores_sound us place bytes m h =
-      let written = pasted m.1.bytes place bytes in
+      let written = paste_items m.1.bytes place bytes in
       let new = with_memory_bytes st m.0 m.1 written in
       let round : Outside modules new callers returns = record { store = memory_set modules modules st m.0 m.1 written o.store; first = o.first; waiting = o.waiting } in
       if_sound modules (nat_le (place + length bytes) (length m.1.bytes)) (Going new (record a { stack = us }) callers, []) (going modules new callers returns (record a { stack = us }) round h)
@@ -124,10 +124,10 @@ module _ (modules : List WModule) (st : Store) (a : Activation) (callers : List 
       let left : map type_of on.0 ≡ inner.below ++ (s.lower ++ []) = on.3 ∙ ap (λ (l : List ValueType). inner.below ++ l) (sym (append-nil s.lower)) in
       let m = memory_there modules a returns inner (types.I32 ∷ types.I64 ∷ []) [] s st o.store some in (
         (on.0, n.0, n.1, there, m),
-        or_trap_at modules (top_i64 a.stack) (on.0 ++ I32 n.0 ∷ [], n.1) (λ v. or_trap (top_i32 v.0) (λ p. or_trap (memory_of st a.instance) (stores st (record a { stack = p.0 }) callers p.1 (stored width v.1)))) (ap top_i64 above ∙ top_i64_at (on.0 ++ I32 n.0 ∷ []) n.1)
-            (or_trap_at modules (top_i32 (on.0 ++ I32 n.0 ∷ [])) (on.0, n.0) (λ p. or_trap (memory_of st a.instance) (stores st (record a { stack = p.0 }) callers p.1 (stored width n.1))) (top_i32_at on.0 n.0)
-            (or_trap_at modules (memory_of st a.instance) m.0 (stores st (record a { stack = on.0 }) callers n.0 (stored width n.1)) m.1
-            (stores_sound on.0 n.0 (stored width n.1) m.0 (goes_on modules a returns inner (types.I32 ∷ types.I64 ∷ []) [] s on.0 left)))),
+        or_trap_at modules (top_i64 a.stack) (on.0 ++ I32 n.0 ∷ [], n.1) (λ v. or_trap (top_i32 v.0) (λ p. or_trap (memory_of st a.instance) (stores st (record a { stack = p.0 }) callers p.1 (store_bytes width v.1)))) (ap top_i64 above ∙ top_i64_at (on.0 ++ I32 n.0 ∷ []) n.1)
+            (or_trap_at modules (top_i32 (on.0 ++ I32 n.0 ∷ [])) (on.0, n.0) (λ p. or_trap (memory_of st a.instance) (stores st (record a { stack = p.0 }) callers p.1 (store_bytes width n.1))) (top_i32_at on.0 n.0)
+            (or_trap_at modules (memory_of st a.instance) m.0 (stores st (record a { stack = on.0 }) callers n.0 (store_bytes width n.1)) m.1
+            (stores_sound on.0 n.0 (store_bytes width n.1) m.0 (goes_on modules a returns inner (types.I32 ∷ types.I64 ∷ []) [] s on.0 left)))),
       )
 
   pub number : (f : Numeric) → Scene modules a returns inner (numeric_params f) (numeric_result f ∷ []) → Works modules st a callers i (layer.Numeric f)
@@ -135,9 +135,9 @@ module _ (modules : List WModule) (st : Store) (a : Activation) (callers : List 
       let on = operands modules a returns inner (numeric_params f) (numeric_result f ∷ []) s in
       let typed = calculated_typed f on.0 on.1 on.4 in (
         subst (AreNumbers f) (sym on.2) typed.0,
-        or_trap_sound modules (calculated f a.stack) (λ p. pushed st (record a { stack = p.0 }) callers p.1)
+        or_trap_sound modules (calculation f a.stack) (λ p. push_value st (record a { stack = p.0 }) callers p.1)
             (λ p e.
-            let found : calculated f (on.0 ++ on.1) ≡ Some p = ap (calculated f) (sym on.2) ∙ e in
+            let found : calculation f (on.0 ++ on.1) ≡ Some p = ap (calculation f) (sym on.2) ∙ e in
             let is : IsMade f on.0 (Some p) = subst (IsMade f on.0) found typed.1 in
             subst (λ (l : List Value). IsGoing modules st (record a { stack = l ++ p.1 ∷ [] }) callers) (sym is.0)
             (replaced modules a returns inner (numeric_params f) (numeric_result f ∷ []) s st callers o on.0 (p.1 ∷ []) on.3 (ap (λ (u : ValueType). u ∷ []) is.1))),

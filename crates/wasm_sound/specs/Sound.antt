@@ -11,7 +11,7 @@ use Rattle.wasm_tree.specs.declared.store.Table.{Table}
 use Rattle.wasm_tree.specs.declared.store.Memory.{Memory}
 use Rattle.wasm_tree.specs.declared.store.Instance.{Instance}
 use Rattle.wasm_tree.specs.declared.store.Store.{Store}
-use Rattle.wasm_tree.specs.Validity.{Context, context, function_context, within, declared, Leads}
+use Rattle.wasm_tree.specs.Validity.{Context, context, function_context, within, local_types, Leads}
 use Rattle.wasm_tree.specs.Machine.{Label, Activation, Config, Going, Over, Trapped, callee_type}
 use Rattle.wasm_tree.specs.Linking.{type_of}
 
@@ -104,7 +104,7 @@ pub record IsFrame (modules : List WModule) (instance arity : ℕ) (locals : Lis
   pub context_is : c ≡ function_context (context tree) type groups
   pub returns_is : returns ≡ type.results
   pub arity_is : arity ≡ length type.results
-  pub locals_are : map type_of locals ≡ type.params ++ declared groups
+  pub locals_are : map type_of locals ≡ type.params ++ local_types groups
 
 -- a function returns values of the first types, once it has got operands of the last types from the
 -- one that it called

@@ -12,7 +12,7 @@ use Rattle.wasm_tree.specs.declared.store.Callee.{Callee}
 use Rattle.wasm_tree.specs.declared.store.Callee.TheVariants.{Put, Stop, Own}
 use Rattle.wasm_tree.specs.declared.store.Memory.{Memory}
 use Rattle.wasm_tree.specs.declared.store.Store.{Store}
-use Rattle.wasm_tree.specs.Numbers.{operated, load_size, stored}
+use Rattle.wasm_tree.specs.Numbers.{operation_result, load_size, store_bytes}
 use Rattle.wasm_tree.specs.Machine.{Activation, callee_at, callee_in, memory_of, type_at, callee_type, agree}
 
 -- the host's stop ends with the numbers from 1 to 255 alone
@@ -34,7 +34,7 @@ SlotTraps modules st m stack index slot (Some c) =
 abbrev pub NumberTraps : Numeric → List Value → Type 0
 NumberTraps (numeric.I64Operation o) stack =
     (below : List Value) × (n m : ℕ) × (stack ≡ below ++ I64 n ∷ I64 m ∷ [])
-    × (operated o n m ≡ None)
+    × (operation_result o n m ≡ None)
 NumberTraps o stack = ⊥
 
 abbrev pub MayTrap : List WModule → Store → Activation → layer.Instr-F Instr → Type 0
@@ -52,6 +52,6 @@ MayTrap modules st now (layer.Store width) =
     (below : List Value) × (place n : ℕ) × (m : ℕ × Memory)
     × (now.stack ≡ below ++ I32 place ∷ I64 n ∷ [])
     × (memory_of st now.instance ≡ Some m)
-    × (length m.1.bytes < place + length (stored width n))
+    × (length m.1.bytes < place + length (store_bytes width n))
 MayTrap modules st now (layer.Numeric o) = NumberTraps o now.stack
 MayTrap modules st now _ = ⊥

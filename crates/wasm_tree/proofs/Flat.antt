@@ -11,7 +11,7 @@ use Rattle.wasm_tree.specs.declared.instr.Instr.{Instr, Instr-F, roll-Instr, map
 use Rattle.wasm_tree.specs.declared.instr.Instr.TheOpen as layer
 use Rattle.wasm_tree.specs.declared.instr.Instr.TheVariants as instr
 use Rattle.wasm_tree.specs.declared.instr.Instr.TheVariants.{rolls-Unreachable, rolls-Block, rolls-Loop, rolls-If, rolls-Br, rolls-BrIf, rolls-BrTable, rolls-Return, rolls-Call, rolls-CallIndirect, rolls-Drop, rolls-LocalGet, rolls-LocalSet, rolls-LocalTee, rolls-GlobalGet, rolls-Load, rolls-Store, rolls-I32Const, rolls-I64Const, rolls-Numeric}
-use Rattle.wasm_tree.specs.Code.{head, behind, tree_within, tree, label_of, joined, flat_step, flat_one, flat}
+use Rattle.wasm_tree.specs.Code.{head, behind, tree_within, tree, label_of, join_ops, flat_step, flat_one, flat}
 
 -- ---- the front of a list
 
@@ -197,7 +197,7 @@ bare = map-Instr S Instr (λ e. e.0)
 firsts : List S → List Instr
 firsts ss = map (λ e. e.0) ss
 
-pub joined_is : (is : List Instr) → joined (map flat_one is) ≡ flat is
+pub joined_is : (is : List Instr) → join_ops (map flat_one is) ≡ flat is
 joined_is [] = refl
 joined_is (i ∷ is) = ap (λ (r : List Op). flat_one i ++ r) (joined_is is)
 
@@ -244,7 +244,7 @@ stepped (layer.If t ss (Some rs)) =
     let is = map (λ e. e.0) ss in
     let js = map (λ e. e.0) rs in
     given (layer.If t is (Some js)) (instr.If t is (Some js)) (op.IfElse t (length (flat is)) (length (flat js)) ∷ (flat is ++ flat js))
-    (ap (λ r. op.IfElse t (length r) (length (joined (map flat_one js))) ∷ (r ++ joined (map flat_one js))) (joined_is is) ∙ ap (λ r. op.IfElse t (length (flat is)) (length r) ∷ (flat is ++ r)) (joined_is js))
+    (ap (λ r. op.IfElse t (length r) (length (join_ops (map flat_one js))) ∷ (r ++ join_ops (map flat_one js))) (joined_is is) ∙ ap (λ r. op.IfElse t (length (flat is)) (length r) ∷ (flat is ++ r)) (joined_is js))
     (rolls-If t is (Some js))
     (λ more. ap (λ r. tree (op.IfElse t (length (flat is)) (length (flat js)) ∷ r)) (assoc (flat is) (flat js) more)
     ∙ tree_if_else t (flat is) (flat js) more

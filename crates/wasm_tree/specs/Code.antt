@@ -60,16 +60,16 @@ tree ops = tree_within (length ops) ops
 
 -- ---- the list of trees
 
-abbrev pub joined : List (List Op) → List Op
-joined = flat_map (λ ops. ops)
+abbrev pub join_ops : List (List Op) → List Op
+join_ops = flat_map (λ ops. ops)
 
 abbrev pub flat_step : Instr-F (List Op) → List Op
 flat_step layer.Unreachable = op.Unreachable ∷ []
-flat_step (layer.Block t is) = op.Block t (length (joined is)) ∷ joined is
-flat_step (layer.Loop t is) = op.Loop t (length (joined is)) ∷ joined is
-flat_step (layer.If t is None) = op.If t (length (joined is)) ∷ joined is
+flat_step (layer.Block t is) = op.Block t (length (join_ops is)) ∷ join_ops is
+flat_step (layer.Loop t is) = op.Loop t (length (join_ops is)) ∷ join_ops is
+flat_step (layer.If t is None) = op.If t (length (join_ops is)) ∷ join_ops is
 flat_step (layer.If t is (Some others)) =
-    op.IfElse t (length (joined is)) (length (joined others)) ∷ (joined is ++ joined others)
+    op.IfElse t (length (join_ops is)) (length (join_ops others)) ∷ (join_ops is ++ join_ops others)
 flat_step (layer.Br l) = op.Br l ∷ []
 flat_step (layer.BrIf l) = op.BrIf l ∷ []
 flat_step (layer.BrTable ls l) = op.BrTable (length ls) l ∷ map (λ l. op.Br l) ls

@@ -36,7 +36,7 @@ use Rattle.wasm_tree.specs.declared.store.Instance.{Instance}
 use Rattle.wasm_tree.specs.declared.store.Store.{Store}
 use Rattle.wasm_tree.specs.Format.{◌>>=◌}
 use Rattle.wasm_tree.specs.Validity.{context}
-use Rattle.wasm_tree.specs.Machine.{Config, Going, callee_at, callee_type, own_function, is_same_value_type, is_same_type, agree, entered, pasted, Typed}
+use Rattle.wasm_tree.specs.Machine.{Config, Going, callee_at, callee_type, own_function, is_same_value_type, is_same_type, agree, enter_function, paste_items, Typed}
 
 -- ---- names
 
@@ -56,9 +56,9 @@ abbrev pub run_name : List ℕ
 run_name = codes "run"
 
 -- what is exported under a name
-abbrev pub named : List ℕ → List Export → Option ExportKind
-named name [] = None
-named name (e ∷ es) = if bytes_eq e.name name then Some e.kind else named name es
+abbrev pub export_named : List ℕ → List Export → Option ExportKind
+export_named name [] = None
+export_named name (e ∷ es) = if bytes_eq e.name name then Some e.kind else export_named name es
 
 -- ---- one step for each, until one fails
 
@@ -85,7 +85,7 @@ abbrev pub link_answer : List WModule → Store → List ℕ → Option Extern
 link_answer modules st name =
     option_and_then
     (λ (i : Instance).
-    option_and_then (λ (m : WModule). option_and_then (λ k. extern_of i k) (named name m.exports))
+    option_and_then (λ (m : WModule). option_and_then (λ k. extern_of i k) (export_named name m.exports))
     (slice_get modules 0))
     (slice_get st.instances 0)
 
@@ -134,14 +134,14 @@ with_extern (extern.Table a) i = record i { tables = i.tables ++ a ∷ [] }
 with_extern (extern.Memory a) i = record i { memories = i.memories ++ a ∷ [] }
 with_extern (extern.Global a) i = record i { globals = i.globals ++ a ∷ [] }
 
-abbrev pub answered : List WModule → Store → WModule → Import → Result Extern WFault
-answered modules st m i = elim (answer modules st i) [
+abbrev pub import_answer : List WModule → Store → WModule → Import → Result Extern WFault
+import_answer modules st m i = elim (answer modules st i) [
   | None ↦ Err Unlinked
   | Some x ↦ if suits modules st m i.kind x then Ok x else Err Unlinked
 ]
 
 abbrev pub with_import : List WModule → Store → WModule → Import → Instance → Result Instance WFault
-with_import modules st m x i = answered modules st m x >>= λ e. Ok (with_extern e i)
+with_import modules st m x i = import_answer modules st m x >>= λ e. Ok (with_extern e i)
 
 -- ---- what a module adds to the store
 
@@ -225,7 +225,7 @@ with_slots l table at (Some t) (Some slots) =
     if nat_le (at + length slots) (length t.slots)
     then Ok (record l {
       store = record l.store {
-        tables = slice_set l.store.tables table (record t { slots = pasted t.slots at slots });
+        tables = slice_set l.store.tables table (record t { slots = paste_items t.slots at slots });
       };
     })
     else Err SegmentOutside
@@ -247,7 +247,7 @@ with_bytes l memory at (Some m) bytes =
     if nat_le (at + length bytes) (length m.bytes)
     then Ok (record l {
       store = record l.store {
-        memories = slice_set l.store.memories memory (record m { bytes = pasted m.bytes at bytes });
+        memories = slice_set l.store.memories memory (record m { bytes = paste_items m.bytes at bytes });
       };
     })
     else Err SegmentOutside
@@ -300,15 +300,15 @@ run_index m _ = Err Unlinked
 
 abbrev pub run_of : List WModule → Result ℕ WFault
 run_of [] = Err Unlinked
-run_of (m ∷ ms) = run_index m (named run_name m.exports)
+run_of (m ∷ ms) = run_index m (export_named run_name m.exports)
 
 -- the run begins in that function
-abbrev pub started : Store → Option Typed → (m : ℕ) → Result Config WFault
-started st None m = Err Unlinked
-started st (Some t) m = Ok (Going st (entered m t []) [])
+abbrev pub start_run : Store → Option Typed → (m : ℕ) → Result Config WFault
+start_run st None m = Err Unlinked
+start_run st (Some t) m = Ok (Going st (enter_function m t []) [])
 
 abbrev pub start : List WModule → Store → Option Callee → Result Config WFault
-start modules st (Some (Own m f)) = started st (own_function modules m f) m
+start modules st (Some (Own m f)) = start_run st (own_function modules m f) m
 start modules st _ = Err Unlinked
 
 -- the modules are linked, and the first one's run is about to be executed

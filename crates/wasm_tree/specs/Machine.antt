@@ -12,7 +12,7 @@ use Rattle.wasm_tree.specs.declared.instr.Instr.TheOpen as layer
 use Rattle.wasm_tree.specs.declared.instr.Numeric.{Numeric}
 use Rattle.wasm_tree.specs.declared.instr.Numeric.TheVariants as numeric
 use Rattle.wasm_tree.specs.declared.instr.Load.{Load}
-use Rattle.wasm_tree.specs.Numbers.{truth, compares, operated, extended, load_size, loaded, stored}
+use Rattle.wasm_tree.specs.Numbers.{truth, compares, operation_result, extend_number, load_size, load_number, store_bytes}
 use Rattle.wasm_tree.specs.declared.module.Locals.{Locals}
 use Rattle.wasm_tree.specs.declared.module.Function.{Function}
 use Rattle.wasm_tree.specs.declared.module.WModule.{WModule}
@@ -56,8 +56,8 @@ pub data Config : Type 0 where
 abbrev pub Progress : Type 0
 Progress = Config × List ℕ
 
-abbrev pub trapped : Progress
-trapped = (Trapped, [])
+abbrev pub trap_now : Progress
+trap_now = (Trapped, [])
 
 -- ---- the end of a list
 
@@ -85,7 +85,7 @@ top_i64 stack =
 
 -- goes on with what was found, if it was
 abbrev pub or_trap : {A : Type 0} → Option A → (A → Progress) → Progress
-or_trap None go = trapped
+or_trap None go = trap_now
 or_trap (Some x) go = go x
 
 -- ---- what indices stand for
@@ -107,9 +107,9 @@ global_at st m index =
     (instance_of st m)
 
 -- the function in a slot of the module's table
-abbrev pub filled : Option (Option ℕ) → Option ℕ
-filled None = None
-filled (Some a) = a
+abbrev pub function_in_slot : Option (Option ℕ) → Option ℕ
+function_in_slot None = None
+function_in_slot (Some a) = a
 
 abbrev pub callee_in : Store → (m slot : ℕ) → Option Callee
 callee_in st m slot =
@@ -119,7 +119,7 @@ callee_in st m slot =
     (λ t.
     option_and_then
     (λ (table : Table).
-    option_and_then (λ a. slice_get st.functions a) (filled (slice_get table.slots slot)))
+    option_and_then (λ a. slice_get st.functions a) (function_in_slot (slice_get table.slots slot)))
     (slice_get st.tables t))
     (slice_get i.tables 0))
     (instance_of st m)
@@ -185,8 +185,8 @@ abbrev pub zeros : Locals → List Value
 zeros l = replicate l.count (zero_of l.value_type)
 
 -- a function begins, with these arguments
-abbrev pub entered : (m : ℕ) → Typed → List Value → Activation
-entered m t args = record {
+abbrev pub enter_function : (m : ℕ) → Typed → List Value → Activation
+enter_function m t args = record {
   instance = m;
   arity = length t.type.results;
   locals = args ++ flat_map zeros t.function.body.locals;
@@ -196,31 +196,31 @@ entered m t args = record {
 }
 
 -- stop ends with the numbers from 1 to 255, and traps at others
-abbrev pub stopped : ℕ → Config
-stopped k = if nat_le 1 k && nat_le k 255 then Over k else Trapped
+abbrev pub stop_with : ℕ → Config
+stop_with k = if nat_le 1 k && nat_le k 255 then Over k else Trapped
 
 -- a call of this function. The host's put prints the low byte
-abbrev pub called : List WModule → Store → Activation → List Activation → Callee → Progress
-called modules st now callers Put =
+abbrev pub call_function : List WModule → Store → Activation → List Activation → Callee → Progress
+call_function modules st now callers Put =
     or_trap (top_i64 now.stack) (λ p.
     (Going st (record now { stack = p.0 }) callers, p.1 % 256 ∷ []))
-called modules st now callers Stop = or_trap (top_i64 now.stack) (λ p. (stopped p.1, []))
-called modules st now callers (Own m f) =
+call_function modules st now callers Stop = or_trap (top_i64 now.stack) (λ p. (stop_with p.1, []))
+call_function modules st now callers (Own m f) =
     or_trap (own_function modules m f) (λ t.
     or_trap (split_end (length t.type.params) now.stack) (λ p.
-    (Going st (entered m t p.1) (callers ++ record now { stack = p.0 } ∷ []), [])))
+    (Going st (enter_function m t p.1) (callers ++ record now { stack = p.0 } ∷ []), [])))
 
-abbrev pub called_as : List WModule → Store → Activation → List Activation
+abbrev pub call_typed : List WModule → Store → Activation → List Activation
     → (asked : Option FuncType) → Callee → Progress
-called_as modules st now callers asked c =
-    if agree asked (callee_type modules c) then called modules st now callers c else trapped
+call_typed modules st now callers asked c =
+    if agree asked (callee_type modules c) then call_function modules st now callers c else trap_now
 
-abbrev pub pushed : Store → Activation → List Activation → Value → Progress
-pushed st now callers v = (Going st (record now { stack = now.stack ++ v ∷ [] }) callers, [])
+abbrev pub push_value : Store → Activation → List Activation → Value → Progress
+push_value st now callers v = (Going st (record now { stack = now.stack ++ v ∷ [] }) callers, [])
 
 -- back to the last caller, with these results; with no caller the run is over
-abbrev pub returned : Store → List Activation → List Value → Progress
-returned st callers results = elim (split_last callers) [
+abbrev pub return_to : Store → List Activation → List Value → Progress
+return_to st callers results = elim (split_last callers) [
   | None ↦ (Over 0, [])
   | Some p ↦ (Going st (record p.1 { stack = p.1.stack ++ results }) p.0, [])
 ]
@@ -242,29 +242,29 @@ inside st now callers arity again body = (
 )
 
 -- the lowest operands, so many, and those that are kept
-abbrev pub kept : (height : ℕ) → (List Value × List Value) → List Value
-kept height split = take height split.0 ++ split.1
+abbrev pub keep_operands : (height : ℕ) → (List Value × List Value) → List Value
+keep_operands height split = take height split.0 ++ split.1
 
 -- a branch that finds a label, the last of those before and itself, or goes out of the function
 -- where there is none
-abbrev pub found : Store → Activation → List Activation → Option (List Label × Label) → Progress
-found st now callers None = or_trap (split_end now.arity now.stack) (λ p. returned st callers p.1)
-found st now callers (Some l) =
+abbrev pub branch_to : Store → Activation → List Activation → Option (List Label × Label) → Progress
+branch_to st now callers None = or_trap (split_end now.arity now.stack) (λ p. return_to st callers p.1)
+branch_to st now callers (Some l) =
     or_trap (split_end l.1.arity now.stack) (λ p. (
-      Going st (record now { labels = l.0; rest = l.1.again; stack = kept l.1.height p }) callers,
+      Going st (record now { labels = l.0; rest = l.1.again; stack = keep_operands l.1.height p }) callers,
       [],
     ))
 
 -- a branch to the label of this number, counted from the innermost one
-abbrev pub branched : Store → Activation → List Activation → (label : ℕ) → Progress
-branched st now callers label =
+abbrev pub branch_by : Store → Activation → List Activation → (label : ℕ) → Progress
+branch_by st now callers label =
     if nat_le label (length now.labels)
-    then found st now callers (split_last (take (length now.labels - label) now.labels))
-    else trapped
+    then branch_to st now callers (split_last (take (length now.labels - label) now.labels))
+    else trap_now
 
 abbrev pub branched_if : Store → Activation → List Activation → (label condition : ℕ) → Progress
 branched_if st now callers label condition =
-    if condition == 0 then (Going st now callers, []) else branched st now callers label
+    if condition == 0 then (Going st now callers, []) else branch_by st now callers label
 
 -- ---- locals and memory (4.4.3, 4.4.4)
 
@@ -272,7 +272,7 @@ abbrev pub with_local : Store → Activation → List Activation → (x : ℕ) �
 with_local st now callers x v =
     if nat_lt x (length now.locals)
     then (Going st (record now { locals = slice_set now.locals x v }) callers, [])
-    else trapped
+    else trap_now
 
 -- the memory of a module, behind its place in the store
 abbrev pub memory_of : Store → (m : ℕ) → Option (ℕ × Memory)
@@ -289,8 +289,8 @@ bytes_at size place bytes =
     if nat_le (place + size) (length bytes) then Some (take size (drop place bytes)) else None
 
 -- the list with others from a place on
-abbrev pub pasted : {A : Type 0} → List A → (place : ℕ) → List A → List A
-pasted xs place ys = take place xs ++ ys ++ drop (place + length ys) xs
+abbrev pub paste_items : {A : Type 0} → List A → (place : ℕ) → List A → List A
+paste_items xs place ys = take place xs ++ ys ++ drop (place + length ys) xs
 
 abbrev pub with_memory_bytes : Store → (place : ℕ) → Memory → List ℕ → Store
 with_memory_bytes st place memory bytes =
@@ -300,18 +300,18 @@ abbrev pub loads : Store → Activation → List Activation → Load → (place 
     → Progress
 loads st now callers kind place memory =
     or_trap (bytes_at (load_size kind) place memory.1.bytes) (λ bytes.
-    pushed st now callers (I64 (loaded kind bytes)))
+    push_value st now callers (I64 (load_number kind bytes)))
 
 abbrev pub stores : Store → Activation → List Activation → (place : ℕ) → List ℕ → (ℕ × Memory)
     → Progress
 stores st now callers place bytes memory =
     if nat_le (place + length bytes) (length memory.1.bytes)
     then (
-      Going (with_memory_bytes st memory.0 memory.1 (pasted memory.1.bytes place bytes)) now
+      Going (with_memory_bytes st memory.0 memory.1 (paste_items memory.1.bytes place bytes)) now
           callers,
       [],
     )
-    else trapped
+    else trap_now
 
 -- ---- numbers (4.4.1)
 
@@ -332,17 +332,17 @@ two_i64 stack f =
     (λ m. option_and_then (λ n. option_map (λ v. (n.0, v)) (f n.1 m.1)) (top_i64 m.0))
     (top_i64 stack)
 
-abbrev pub calculated : Numeric → List Value → Option (List Value × Value)
-calculated numeric.I32Eqz stack = one_i32 stack (λ n. I32 (truth (n == 0)))
-calculated (numeric.I32Relation r) stack = two_i32 stack (λ n m. I32 (truth (compares w32 r n m)))
-calculated numeric.I64Eqz stack = one_i64 stack (λ n. I32 (truth (n == 0)))
-calculated (numeric.I64Relation r) stack =
+abbrev pub calculation : Numeric → List Value → Option (List Value × Value)
+calculation numeric.I32Eqz stack = one_i32 stack (λ n. I32 (truth (n == 0)))
+calculation (numeric.I32Relation r) stack = two_i32 stack (λ n m. I32 (truth (compares w32 r n m)))
+calculation numeric.I64Eqz stack = one_i64 stack (λ n. I32 (truth (n == 0)))
+calculation (numeric.I64Relation r) stack =
     two_i64 stack (λ n m. Some (I32 (truth (compares w64 r n m))))
-calculated numeric.I32Add stack = two_i32 stack (λ n m. I32 ((n + m) % 2 ^ 32))
-calculated (numeric.I64Operation o) stack = two_i64 stack (λ n m. option_map I64 (operated o n m))
-calculated numeric.I32WrapI64 stack = one_i64 stack (λ n. I32 (n % 2 ^ 32))
-calculated numeric.I64ExtendI32S stack = one_i32 stack (λ n. I64 (extended n))
-calculated numeric.I64ExtendI32U stack = one_i32 stack (λ n. I64 n)
+calculation numeric.I32Add stack = two_i32 stack (λ n m. I32 ((n + m) % 2 ^ 32))
+calculation (numeric.I64Operation o) stack = two_i64 stack (λ n m. option_map I64 (operation_result o n m))
+calculation numeric.I32WrapI64 stack = one_i64 stack (λ n. I32 (n % 2 ^ 32))
+calculation numeric.I64ExtendI32S stack = one_i32 stack (λ n. I64 (extend_number n))
+calculation numeric.I64ExtendI32U stack = one_i32 stack (λ n. I64 n)
 
 -- ---- an instruction begins (4.4). The rest of the code is what stands behind it
 
@@ -356,7 +356,7 @@ side condition body (Some otherwise) = if condition == 0 then otherwise else bod
 
 abbrev pub begun_layer : List WModule → Store → Activation → List Activation → Instr
     → layer.Instr-F Instr → Progress
-begun_layer modules st now callers i layer.Unreachable = trapped
+begun_layer modules st now callers i layer.Unreachable = trap_now
 begun_layer modules st now callers i (layer.Block t body) =
     inside st now callers (results_of t) now.rest body
 begun_layer modules st now callers i (layer.Loop t body) =
@@ -365,29 +365,29 @@ begun_layer modules st now callers i (layer.If t body otherwise) =
     or_trap (top_i32 now.stack) (λ p.
     inside st (record now { stack = p.0 }) callers (results_of t) now.rest
     (side p.1 body otherwise))
-begun_layer modules st now callers i (layer.Br label) = branched st now callers label
+begun_layer modules st now callers i (layer.Br label) = branch_by st now callers label
 begun_layer modules st now callers i (layer.BrIf label) =
     or_trap (top_i32 now.stack) (λ p. branched_if st (record now { stack = p.0 }) callers label p.1)
 begun_layer modules st now callers i (layer.BrTable labels default) =
     or_trap (top_i32 now.stack) (λ p.
-    branched st (record now { stack = p.0 }) callers (slice_index_or labels p.1 default))
-begun_layer modules st now callers i layer.Return = found st now callers None
+    branch_by st (record now { stack = p.0 }) callers (slice_index_or labels p.1 default))
+begun_layer modules st now callers i layer.Return = branch_to st now callers None
 begun_layer modules st now callers i (layer.Call f) =
-    or_trap (callee_at st now.instance f) (called modules st now callers)
+    or_trap (callee_at st now.instance f) (call_function modules st now callers)
 begun_layer modules st now callers i (layer.CallIndirect t) =
     or_trap (top_i32 now.stack) (λ p.
     or_trap (callee_in st now.instance p.1)
-    (called_as modules st (record now { stack = p.0 }) callers (type_at modules now.instance t)))
+    (call_typed modules st (record now { stack = p.0 }) callers (type_at modules now.instance t)))
 begun_layer modules st now callers i layer.Drop =
     or_trap (split_last now.stack) (λ p. (Going st (record now { stack = p.0 }) callers, []))
 begun_layer modules st now callers i (layer.LocalGet x) =
-    or_trap (slice_get now.locals x) (pushed st now callers)
+    or_trap (slice_get now.locals x) (push_value st now callers)
 begun_layer modules st now callers i (layer.LocalSet x) =
     or_trap (split_last now.stack) (λ p. with_local st (record now { stack = p.0 }) callers x p.1)
 begun_layer modules st now callers i (layer.LocalTee x) =
     or_trap (topmost now.stack) (with_local st now callers x)
 begun_layer modules st now callers i (layer.GlobalGet g) =
-    or_trap (global_at st now.instance g) (pushed st now callers)
+    or_trap (global_at st now.instance g) (push_value st now callers)
 begun_layer modules st now callers i (layer.Load kind) =
     or_trap (top_i32 now.stack) (λ p.
     or_trap (memory_of st now.instance) (loads st (record now { stack = p.0 }) callers kind p.1))
@@ -395,26 +395,26 @@ begun_layer modules st now callers i (layer.Store width) =
     or_trap (top_i64 now.stack) (λ v.
     or_trap (top_i32 v.0) (λ p.
     or_trap (memory_of st now.instance)
-    (stores st (record now { stack = p.0 }) callers p.1 (stored width v.1))))
-begun_layer modules st now callers i (layer.I32Const n) = pushed st now callers (I32 n)
-begun_layer modules st now callers i (layer.I64Const n) = pushed st now callers (I64 n)
+    (stores st (record now { stack = p.0 }) callers p.1 (store_bytes width v.1))))
+begun_layer modules st now callers i (layer.I32Const n) = push_value st now callers (I32 n)
+begun_layer modules st now callers i (layer.I64Const n) = push_value st now callers (I64 n)
 begun_layer modules st now callers i (layer.Numeric o) =
-    or_trap (calculated o now.stack) (λ p. pushed st (record now { stack = p.0 }) callers p.1)
+    or_trap (calculation o now.stack) (λ p. push_value st (record now { stack = p.0 }) callers p.1)
 
-abbrev pub begun : List WModule → Store → Activation → List Activation → Instr → Progress
-begun modules st now callers i = begun_layer modules st now callers i (out-Instr i)
+abbrev pub begin_instruction : List WModule → Store → Activation → List Activation → Instr → Progress
+begin_instruction modules st now callers i = begun_layer modules st now callers i (out-Instr i)
 
 -- ---- reductions
 
 -- the end of a block or of the function (4.4.5, 4.4.7)
-abbrev pub ended : Store → Activation → List Activation → Option (List Label × Label) → Progress
-ended st now callers None = found st now callers None
-ended st now callers (Some l) =
+abbrev pub end_block : Store → Activation → List Activation → Option (List Label × Label) → Progress
+end_block st now callers None = branch_to st now callers None
+end_block st now callers (Some l) =
     (Going st (record now { labels = l.0; rest = l.1.rest }) callers, [])
 
 abbrev pub next : List WModule → Store → Activation → List Activation → List Instr → Progress
-next modules st now callers [] = ended st now callers (split_last now.labels)
-next modules st now callers (i ∷ rest) = begun modules st (record now { rest = rest }) callers i
+next modules st now callers [] = end_block st now callers (split_last now.labels)
+next modules st now callers (i ∷ rest) = begin_instruction modules st (record now { rest = rest }) callers i
 
 -- one reduction
 unfoldable pub reduce : List WModule → Config → Progress

@@ -34,34 +34,34 @@ compares w GeS n m = is_at_most w m n
 compares w GeU n m = nat_le m n
 
 -- by a divisor that is not 0
-abbrev pub divided : (divisor result : ℕ) → Option ℕ
-divided divisor result = if divisor == 0 then None else Some result
+abbrev pub division_of : (divisor result : ℕ) → Option ℕ
+division_of divisor result = if divisor == 0 then None else Some result
 
 -- the least number of 64 bits by -1 has a quotient that is no such number
 abbrev pub is_too_great : (n m : ℕ) → Bool
 is_too_great n m = (n == 2 ^ 63) && (m == 2 ^ 64 - 1)
 
 -- what is made of two numbers of 64 bits, if it is defined
-abbrev pub operated : Operation → (n m : ℕ) → Option ℕ
-operated Add n m = Some ((n + m) % 2 ^ 64)
-operated Sub n m = Some ((n + (2 ^ 64 - m)) % 2 ^ 64)
-operated Mul n m = Some (n * m % 2 ^ 64)
-operated DivS n m =
+abbrev pub operation_result : Operation → (n m : ℕ) → Option ℕ
+operation_result Add n m = Some ((n + m) % 2 ^ 64)
+operation_result Sub n m = Some ((n + (2 ^ 64 - m)) % 2 ^ 64)
+operation_result Mul n m = Some (n * m % 2 ^ 64)
+operation_result DivS n m =
     if is_too_great n m
     then None
-    else divided m (cast_unsigned w64 (int_div (cast_signed w64 n) (cast_signed w64 m)))
-operated DivU n m = divided m (n / m)
-operated RemS n m = divided m (cast_unsigned w64 (int_rem (cast_signed w64 n) (cast_signed w64 m)))
-operated RemU n m = divided m (n % m)
-operated And n m = Some (bit_and n m)
-operated Or n m = Some (bit_or n m)
-operated Xor n m = Some (bit_xor n m)
-operated Shl n m = Some (n * 2 ^ (m % 64) % 2 ^ 64)
-operated ShrU n m = Some (n / 2 ^ (m % 64))
+    else division_of m (cast_unsigned w64 (int_div (cast_signed w64 n) (cast_signed w64 m)))
+operation_result DivU n m = division_of m (n / m)
+operation_result RemS n m = division_of m (cast_unsigned w64 (int_rem (cast_signed w64 n) (cast_signed w64 m)))
+operation_result RemU n m = division_of m (n % m)
+operation_result And n m = Some (bit_and n m)
+operation_result Or n m = Some (bit_or n m)
+operation_result Xor n m = Some (bit_xor n m)
+operation_result Shl n m = Some (n * 2 ^ (m % 64) % 2 ^ 64)
+operation_result ShrU n m = Some (n / 2 ^ (m % 64))
 
 -- a number of 32 bits as one of 64, by its sign
-abbrev pub extended : ℕ → ℕ
-extended n = cast_unsigned w64 (cast_signed w32 n)
+abbrev pub extend_number : ℕ → ℕ
+extend_number n = cast_unsigned w64 (cast_signed w32 n)
 
 -- ---- numbers in bytes, the lowest first (4.3.1)
 
@@ -73,16 +73,16 @@ load_size load.I64From32S = 4
 load_size load.I64From32U = 4
 
 -- the number that these bytes are loaded as
-abbrev pub loaded : Load → List ℕ → ℕ
-loaded load.I64 bytes = from_le_bytes w64 bytes
-loaded load.I64From8U bytes = from_le_bytes w8 bytes
-loaded load.I64From16U bytes = from_le_bytes w16 bytes
-loaded load.I64From32S bytes = extended (from_le_bytes w32 bytes)
-loaded load.I64From32U bytes = from_le_bytes w32 bytes
+abbrev pub load_number : Load → List ℕ → ℕ
+load_number load.I64 bytes = from_le_bytes w64 bytes
+load_number load.I64From8U bytes = from_le_bytes w8 bytes
+load_number load.I64From16U bytes = from_le_bytes w16 bytes
+load_number load.I64From32S bytes = extend_number (from_le_bytes w32 bytes)
+load_number load.I64From32U bytes = from_le_bytes w32 bytes
 
 -- the bytes that a number is stored as
-abbrev pub stored : StoreWidth → ℕ → List ℕ
-stored Eight n = to_le_bytes w64 n
-stored One n = to_le_bytes w8 (n % 2 ^ 8)
-stored Two n = to_le_bytes w16 (n % 2 ^ 16)
-stored Four n = to_le_bytes w32 (n % 2 ^ 32)
+abbrev pub store_bytes : StoreWidth → ℕ → List ℕ
+store_bytes Eight n = to_le_bytes w64 n
+store_bytes One n = to_le_bytes w8 (n % 2 ^ 8)
+store_bytes Two n = to_le_bytes w16 (n % 2 ^ 16)
+store_bytes Four n = to_le_bytes w32 (n % 2 ^ 32)

@@ -86,13 +86,13 @@ abbrev pub initial_context : WModule → Context
 initial_context m = record (context m) { globals = filter_map global_import m.imports }
 
 -- the types of the locals that a function declares
-abbrev pub declared : List Locals → List ValueType
-declared groups = flat_map (λ g. replicate g.count g.value_type) groups
+abbrev pub local_types : List Locals → List ValueType
+local_types groups = flat_map (λ g. replicate g.count g.value_type) groups
 
 -- what the code of a function may name
 abbrev pub function_context : Context → FuncType → List Locals → Context
 function_context c t groups =
-    record c { locals = t.params ++ declared groups; labels = t.results ∷ []; returns = t.results }
+    record c { locals = t.params ++ local_types groups; labels = t.results ∷ []; returns = t.results }
 
 -- within a block, to which a branch takes these
 abbrev pub within : List ValueType → Context → Context

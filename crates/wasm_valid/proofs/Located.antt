@@ -11,7 +11,7 @@ use Rattle.std.proofs.lemmas.Bool.{leb-true, leb-false}
 use Rattle.std.proofs.lemmas.Option.{slice_get-map, slice_get-get_or, slice_get_past}
 use Rattle.wasm_tree.specs.declared.kinds.ValueType.{ValueType}
 use Rattle.wasm_tree.specs.declared.module.Locals.{Locals}
-use Rattle.wasm_tree.specs.Validity.{declared, result_types}
+use Rattle.wasm_tree.specs.Validity.{local_types, result_types}
 use Rattle.wasm_valid.specs.Framed.{labels_of}
 use Rattle.wasm_valid.specs.Ends.{ends_from}
 
@@ -100,14 +100,14 @@ rise_of groups i j d le lt =
 pub ends_rise : (groups : List Locals) (ends : List ℕ) → ends ≡ ends_from 0 groups → IsNonDecreasingBy (λ (n : ℕ). n) ends
 ends_rise groups ends e = subst (λ (x : List ℕ). IsNonDecreasingBy (λ (n : ℕ). n) x) (sym e) (rise_of groups)
 
-type_at : (groups : List Locals) (k index : ℕ) → before k groups ≤ index → (k < length groups → index < before (suc k) groups) → slice_get (declared groups) index ≡ option_map (λ (g : Locals). g.value_type) (slice_get groups k)
+type_at : (groups : List Locals) (k index : ℕ) → before k groups ≤ index → (k < length groups → index < before (suc k) groups) → slice_get (local_types groups) index ≡ option_map (λ (g : Locals). g.value_type) (slice_get groups k)
 type_at [] k index from to = refl
 type_at (g ∷ groups) zero index from to =
     let first : 0 < length (g ∷ groups) = omega arith in
     let below : index < g.count + 0 = to first in
     let here : index < g.count = omega arith in
     let inside : index < length (replicate g.count g.value_type) = subst (λ (n : ℕ). index < n) (sym (length_replicate g.count g.value_type)) here in
-    get_front (replicate g.count g.value_type) (declared groups) index inside ∙ get_replicate g.count index g.value_type here
+    get_front (replicate g.count g.value_type) (local_types groups) index inside ∙ get_replicate g.count index g.value_type here
 type_at (g ∷ groups) (suc k) index from to =
     let start : g.count + before k groups ≤ index = from in
     let size = length_replicate g.count g.value_type in
@@ -118,8 +118,8 @@ type_at (g ∷ groups) (suc k) index from to =
     let more : suc k < length (g ∷ groups) = omega arith in
     let below : index < g.count + before (suc k) groups = to more in
     omega arith in
-    get_behind (replicate g.count g.value_type) (declared groups) index behind
-    ∙ ap (λ (n : ℕ). slice_get (declared groups) (index - n)) size
+    get_behind (replicate g.count g.value_type) (local_types groups) index behind
+    ∙ ap (λ (n : ℕ). slice_get (local_types groups) (index - n)) size
     ∙ type_at groups k (index - g.count) left right
 
 index_below : (groups : List Locals) (k index : ℕ) → k < length groups → IsPartitionPoint (λ n. leb n index ≡ true) (λ n. leb n index ≡ false) (ends_from 0 groups) k → index < before (suc k) groups
@@ -129,7 +129,7 @@ index_below groups k index lt point =
     let past : index < get_or (ends_from 0 groups) k 0 = leb-false _ _ (point.1 k 0 (omega arith) within) in
     omega arith
 
-type_in : (groups : List Locals) (k index : ℕ) → k ≤ length (ends_from 0 groups) → IsPartitionPoint (λ n. leb n index ≡ true) (λ n. leb n index ≡ false) (ends_from 0 groups) k → slice_get (declared groups) index ≡ option_map (λ (g : Locals). g.value_type) (slice_get groups k)
+type_in : (groups : List Locals) (k index : ℕ) → k ≤ length (ends_from 0 groups) → IsPartitionPoint (λ n. leb n index ≡ true) (λ n. leb n index ≡ false) (ends_from 0 groups) k → slice_get (local_types groups) index ≡ option_map (λ (g : Locals). g.value_type) (slice_get groups k)
 type_in groups zero index le point = type_at groups zero index (omega arith) (λ lt. index_below groups zero index lt point)
 type_in groups (suc k) index le point =
     let within : k < length (ends_from 0 groups) = omega arith in
@@ -140,7 +140,7 @@ type_in groups (suc k) index le point =
     type_at groups (suc k) index from (λ more. index_below groups (suc k) index more point)
 
 -- where the first k groups end no later than at the index, and the others behind it
-pub type_found : (groups : List Locals) (ends : List ℕ) (k index : ℕ) → ends ≡ ends_from 0 groups → k ≤ length ends → IsPartitionPoint (λ n. leb n index ≡ true) (λ n. leb n index ≡ false) ends k → slice_get (declared groups) index ≡ option_map (λ (g : Locals). g.value_type) (slice_get groups k)
+pub type_found : (groups : List Locals) (ends : List ℕ) (k index : ℕ) → ends ≡ ends_from 0 groups → k ≤ length ends → IsPartitionPoint (λ n. leb n index ≡ true) (λ n. leb n index ≡ false) ends k → slice_get (local_types groups) index ≡ option_map (λ (g : Locals). g.value_type) (slice_get groups k)
 type_found groups ends k index e le point = type_in groups k index (subst (λ (x : List ℕ). k ≤ length x) e le) (subst (λ (x : List ℕ). IsPartitionPoint (λ n. leb n index ≡ true) (λ n. leb n index ≡ false) x k) e point)
 
 pub label_found : (blocks : List (Option ValueType)) (k : ℕ) (d : Option ValueType) → k < length blocks → Some (result_types (get_or blocks (length blocks - 1 - k) d)) ≡ slice_get (labels_of blocks) k

@@ -9,7 +9,7 @@ use Rattle.wasm_tree.specs.declared.kinds.ValueType.TheVariants.{I32, I64}
 use Rattle.wasm_tree.specs.declared.instr.Instr.{Instr, out-Instr}
 use Rattle.wasm_tree.specs.declared.instr.Instr.TheOpen as layer
 use Rattle.wasm_tree.specs.Validity.{Context, IsPlain, Types, Plain, Block, Loop, If, result_types}
-use Rattle.wasm_valid.specs.Typing.{Change, Exchanges, Leaves, Rule, MayRule, change, called, called_slot, CodeFits}
+use Rattle.wasm_valid.specs.Typing.{Change, Exchanges, Leaves, Rule, MayRule, change, call_change, called_slot, CodeFits}
 
 -- ---- what is looked up
 
@@ -54,7 +54,7 @@ plain_changes c (layer.BrTable ls default) p r (taken, lower, e, all, q) = (
   map_may (λ (x : List ValueType). Leaves (x ++ I32 ∷ [])) (slice_get c.labels default) taken p r e (lower, q ∙ append_assoc lower taken (I32 ∷ [])),
 )
 plain_changes c layer.Return p r h = (tt, h)
-plain_changes c (layer.Call f) p r (i, t, e, g, q) = (tt, then_may (λ x. option_map called (slice_get c.types x)) (slice_get c.functions f) i p r e (map_may called (slice_get c.types i) t p r g q))
+plain_changes c (layer.Call f) p r (i, t, e, g, q) = (tt, then_may (λ x. option_map call_change (slice_get c.types x)) (slice_get c.functions f) i p r e (map_may call_change (slice_get c.types i) t p r g q))
 plain_changes c (layer.CallIndirect i) p r (t, some, g, q) =
     let one = first_of c.tables some in
     (tt, then_may (λ _. option_map called_slot (slice_get c.types i)) (slice_get c.tables 0) one.0 p r one.1 (map_may called_slot (slice_get c.types i) t p r g q))
@@ -101,8 +101,8 @@ change_at c i (layer.BrTable ls default) p r e f h =
     plainly c i (layer.BrTable ls default) p r e (m.0, m.2.0, m.1, labels_same c ls default m.0 m.1 f, m.2.1 ∙ sym (append_assoc m.2.0 m.0 (I32 ∷ [])))
 change_at c i layer.Return p r e f h = plainly c i layer.Return p r e h
 change_at c i (layer.Call g) p r e f h =
-    let m = may_then (λ x. option_map called (slice_get c.types x)) (slice_get c.functions g) p r h in
-    let n = may_map called (slice_get c.types m.0) p r m.2 in
+    let m = may_then (λ x. option_map call_change (slice_get c.types x)) (slice_get c.functions g) p r h in
+    let n = may_map call_change (slice_get c.types m.0) p r m.2 in
     plainly c i (layer.Call g) p r e (m.0, n.0, m.1, n.1, n.2)
 change_at c i (layer.CallIndirect g) p r e f h =
     let m = may_then (λ _. option_map called_slot (slice_get c.types g)) (slice_get c.tables 0) p r h in

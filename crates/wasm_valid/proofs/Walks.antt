@@ -14,7 +14,7 @@ use Rattle.wasm_valid.specs.declared.operands.Operands.{Operands}
 use Rattle.wasm_valid.specs.declared.frame.Frame.{Frame}
 use Rattle.wasm_valid.specs.Framed.{frame_context, labels_of}
 use Rattle.wasm_tree.specs.declared.fault.WFault.{WFault}
-use Rattle.wasm_valid.specs.Opened.{opened}
+use Rattle.wasm_valid.specs.Opened.{open_instruction}
 use Rattle.wasm_valid.specs.Typing.{Refuses, Decides, Stands, StandsFor, Applies, Moves, Halts, MayRule, CodeFits, change}
 use Rattle.wasm_valid.proofs.Stacks.{rule_same, rule_halts, refuses_so}
 use Rattle.wasm_valid.proofs.Opened.{opens}
@@ -114,30 +114,30 @@ context_within f blocks t = ap (λ (x : List (List ValueType)). record (frame_co
 fronted : (c : Context) (code : List Instr) (rest : List Op) (o : Op) (others : List Op) (old : Operands) → rest ≡ o ∷ others → Onward c code (tree rest) old → Onward c code (head tree o others ∷ tree (behind o others)) old
 fronted c code rest o others old e on = subst (λ (x : List Instr). Onward c code x old) (cut rest o others e) on
 
-pub exit_unfit : (f : Frame) (whole blocks : List (Option ValueType)) (code : List Instr) (rest : List Op) (o : Op) (others : List Op) (old : Operands) (after : List ValueType) (e : WFault) → blocks ≡ whole → rest ≡ o ∷ others → Onward (frame_context f whole) code (tree rest) old → Refuses e (¬ CodeFits (frame_context f blocks) (opened o others)) → Refuses e (¬ Leads (frame_context f whole) code [] after)
+pub exit_unfit : (f : Frame) (whole blocks : List (Option ValueType)) (code : List Instr) (rest : List Op) (o : Op) (others : List Op) (old : Operands) (after : List ValueType) (e : WFault) → blocks ≡ whole → rest ≡ o ∷ others → Onward (frame_context f whole) code (tree rest) old → Refuses e (¬ CodeFits (frame_context f blocks) (open_instruction o others)) → Refuses e (¬ Leads (frame_context f whole) code [] after)
 exit_unfit f whole blocks code rest o others old after e same is on h =
-    let here = subst (λ (b : List (Option ValueType)). Refuses e (¬ CodeFits (frame_context f b) (opened o others))) same h in
+    let here = subst (λ (b : List (Option ValueType)). Refuses e (¬ CodeFits (frame_context f b) (open_instruction o others))) same h in
     let c = frame_context f whole in
     let front = fronted c code rest o others old is on in
-    refuses_so e (¬ CodeFits c (opened o others)) (¬ Leads c code [] after)
+    refuses_so e (¬ CodeFits c (open_instruction o others)) (¬ Leads c code [] after)
     (λ n. onward_unfit c code (head tree o others) (tree (behind o others)) old after front (subst (λ (x : layer.Instr-F Instr). ¬ CodeFits c x) (sym (opens o others)) n)) here
 
-pub exit_halts : (f : Frame) (whole blocks : List (Option ValueType)) (code : List Instr) (rest : List Op) (o : Op) (others : List Op) (old : Operands) (after : List ValueType) (e : WFault) → blocks ≡ whole → rest ≡ o ∷ others → Onward (frame_context f whole) code (tree rest) old → Refuses e (Halts (MayRule (change (frame_context f blocks) (opened o others))) old) → Refuses e (¬ Leads (frame_context f whole) code [] after)
+pub exit_halts : (f : Frame) (whole blocks : List (Option ValueType)) (code : List Instr) (rest : List Op) (o : Op) (others : List Op) (old : Operands) (after : List ValueType) (e : WFault) → blocks ≡ whole → rest ≡ o ∷ others → Onward (frame_context f whole) code (tree rest) old → Refuses e (Halts (MayRule (change (frame_context f blocks) (open_instruction o others))) old) → Refuses e (¬ Leads (frame_context f whole) code [] after)
 exit_halts f whole blocks code rest o others old after e same is on h =
-    let here = subst (λ (b : List (Option ValueType)). Refuses e (Halts (MayRule (change (frame_context f b) (opened o others))) old)) same h in
+    let here = subst (λ (b : List (Option ValueType)). Refuses e (Halts (MayRule (change (frame_context f b) (open_instruction o others))) old)) same h in
     let c = frame_context f whole in
     let front = fronted c code rest o others old is on in
-    refuses_so e (Halts (MayRule (change c (opened o others))) old) (¬ Leads c code [] after)
+    refuses_so e (Halts (MayRule (change c (open_instruction o others))) old) (¬ Leads c code [] after)
     (λ n. onward_halts c code (head tree o others) (tree (behind o others)) old after front (subst (λ (x : layer.Instr-F Instr). Halts (MayRule (change c x)) old) (sym (opens o others)) n)) here
 
-pub goes_on : (f : Frame) (whole blocks later : List (Option ValueType)) (code : List Instr) (rest : List Op) (o : Op) (others next : List Op) (old new : Operands) → blocks ≡ whole → later ≡ whole → rest ≡ o ∷ others → next ≡ behind o others → CodeFits (frame_context f blocks) (opened o others) → Moves (MayRule (change (frame_context f later) (opened o others))) old new → Onward (frame_context f whole) code (tree rest) old → Onward (frame_context f whole) code (tree next) new
+pub goes_on : (f : Frame) (whole blocks later : List (Option ValueType)) (code : List Instr) (rest : List Op) (o : Op) (others next : List Op) (old new : Operands) → blocks ≡ whole → later ≡ whole → rest ≡ o ∷ others → next ≡ behind o others → CodeFits (frame_context f blocks) (open_instruction o others) → Moves (MayRule (change (frame_context f later) (open_instruction o others))) old new → Onward (frame_context f whole) code (tree rest) old → Onward (frame_context f whole) code (tree next) new
 goes_on f whole blocks later code rest o others next old new same also is n fits moves on =
     let c = frame_context f whole in
     let opens_so = sym (opens o others) in
     subst (λ (x : List Op). Onward c code (tree x) new) (sym n)
     (onward_more c code (head tree o others) (tree (behind o others)) old new
-    (subst (λ (x : layer.Instr-F Instr). CodeFits c x) opens_so (subst (λ (b : List (Option ValueType)). CodeFits (frame_context f b) (opened o others)) same fits))
-    (subst (λ (x : layer.Instr-F Instr). Moves (MayRule (change c x)) old new) opens_so (subst (λ (b : List (Option ValueType)). Moves (MayRule (change (frame_context f b) (opened o others))) old new) also moves))
+    (subst (λ (x : layer.Instr-F Instr). CodeFits c x) opens_so (subst (λ (b : List (Option ValueType)). CodeFits (frame_context f b) (open_instruction o others)) same fits))
+    (subst (λ (x : layer.Instr-F Instr). Moves (MayRule (change c x)) old new) opens_so (subst (λ (b : List (Option ValueType)). Moves (MayRule (change (frame_context f b) (open_instruction o others))) old new) also moves))
     (fronted c code rest o others old is on))
 
 pub decides_same : {A : Type 0} (result : Result A WFault) (P Q : Type 0) → P ↔ Q → Decides result P → Decides result Q
@@ -151,15 +151,15 @@ decides_end result c code rest o after none on h =
     decides_same result (Stands o after) (Leads c code [] after) (e.1, e.0) h
 
 -- an if without a second side
-pub fits_if : {A : Type 0} (result : Result A WFault) (f : Frame) (whole blocks : List (Option ValueType)) (o : Op) (t : Option ValueType) (n : ℕ) (rest inner : List Op) → o ≡ op.If t n → inner ≡ take n rest → blocks ≡ whole → Leads (within (result_types t) (frame_context f whole)) (tree inner) [] (result_types t) → Decides result (Leads (within (result_types t) (frame_context f blocks)) (tree []) [] (result_types t)) → Decides result (CodeFits (frame_context f whole) (opened o rest))
+pub fits_if : {A : Type 0} (result : Result A WFault) (f : Frame) (whole blocks : List (Option ValueType)) (o : Op) (t : Option ValueType) (n : ℕ) (rest inner : List Op) → o ≡ op.If t n → inner ≡ take n rest → blocks ≡ whole → Leads (within (result_types t) (frame_context f whole)) (tree inner) [] (result_types t) → Decides result (Leads (within (result_types t) (frame_context f blocks)) (tree []) [] (result_types t)) → Decides result (CodeFits (frame_context f whole) (open_instruction o rest))
 fits_if {A} result f whole blocks o t n rest inner is front same first h =
     let c = within (result_types t) (frame_context f whole) in
     let code = tree (take n rest) in
     let one = subst (λ (x : List Op). Leads c (tree x) [] (result_types t)) front first in
     let here = subst (λ (x : List (Option ValueType)). Decides result (Leads (within (result_types t) (frame_context f x)) (tree []) [] (result_types t))) same h in
     let other = subst (λ (x : List Instr). Decides result (Leads c x [] (result_types t))) tree_none here in
-    subst (λ (x : Op). Decides result (CodeFits (frame_context f whole) (opened x rest))) (sym is)
-    (decides_same result (Leads c [] [] (result_types t)) (CodeFits (frame_context f whole) (opened (op.If t n) rest)) (λ x. (one, x), λ x. x.1) other)
+    subst (λ (x : Op). Decides result (CodeFits (frame_context f whole) (open_instruction x rest))) (sym is)
+    (decides_same result (Leads c [] [] (result_types t)) (CodeFits (frame_context f whole) (open_instruction (op.If t n) rest)) (λ x. (one, x), λ x. x.1) other)
 
 -- what is left is no longer than the code
 pub shorter : (code rest : List Op) (o : Op) (others next : List Op) → rest ≡ o ∷ others → next ≡ behind o others → length rest ≤ length code → length next ≤ length code

@@ -6,7 +6,7 @@ use Rattle.wasm_tree.specs.declared.kinds.ValueType.{ValueType}
 use Rattle.wasm_tree.specs.declared.kinds.FuncType.{FuncType}
 use Rattle.wasm_tree.specs.declared.instr.Instr.{Instr}
 use Rattle.wasm_tree.specs.declared.module.Locals.{Locals}
-use Rattle.wasm_tree.specs.Validity.{Context, declared, result_types, function_context, Leads, IsConstant, IsConstantOf}
+use Rattle.wasm_tree.specs.Validity.{Context, local_types, result_types, function_context, Leads, IsConstant, IsConstantOf}
 use Rattle.wasm_valid.specs.declared.frame.Frame.{Frame}
 use Rattle.wasm_valid.specs.CodeScope.{scope_of}
 use Rattle.wasm_valid.specs.Framed.{frame_context}
@@ -20,9 +20,9 @@ leads_in result c d code other rs ts e f g h =
 body_context : (f : Frame) (blocks : List (Option ValueType)) (t : FuncType) (groups : List Locals) → f.params.now ≡ t.params → f.locals.groups.now ≡ groups → blocks ≡ f.returns ∷ [] → result_types f.returns ≡ t.results → frame_context f blocks ≡ function_context (scope_of f.scope) t groups
 body_context f blocks t groups p g b r =
     ap (λ (x : List (Option ValueType)). frame_context f x) b
-    ∙ ap (λ (x : List ValueType). record (scope_of f.scope) { locals = x ++ declared f.locals.groups.now; labels = result_types f.returns ∷ []; returns = result_types f.returns }) p
-    ∙ ap (λ (x : List Locals). record (scope_of f.scope) { locals = t.params ++ declared x; labels = result_types f.returns ∷ []; returns = result_types f.returns }) g
-    ∙ ap (λ (x : List ValueType). record (scope_of f.scope) { locals = t.params ++ declared groups; labels = x ∷ []; returns = x }) r
+    ∙ ap (λ (x : List ValueType). record (scope_of f.scope) { locals = x ++ local_types f.locals.groups.now; labels = result_types f.returns ∷ []; returns = result_types f.returns }) p
+    ∙ ap (λ (x : List Locals). record (scope_of f.scope) { locals = t.params ++ local_types x; labels = result_types f.returns ∷ []; returns = result_types f.returns }) g
+    ∙ ap (λ (x : List ValueType). record (scope_of f.scope) { locals = t.params ++ local_types groups; labels = x ∷ []; returns = x }) r
 
 pub body_decides : {A : Type 0} (result : Result A WFault) (f : Frame) (blocks : List (Option ValueType)) (t : FuncType) (groups : List Locals) (code other : List Instr) → f.params.now ≡ t.params → f.locals.groups.now ≡ groups → blocks ≡ f.returns ∷ [] → result_types f.returns ≡ t.results → code ≡ other → Decides result (Leads (frame_context f blocks) code [] (result_types f.returns)) → Decides result (Leads (function_context (scope_of f.scope) t groups) other [] t.results)
 body_decides result f blocks t groups code other p g b r e h = leads_in result (frame_context f blocks) (function_context (scope_of f.scope) t groups) code other (result_types f.returns) t.results (body_context f blocks t groups p g b r) e r h

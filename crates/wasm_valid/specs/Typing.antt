@@ -96,15 +96,15 @@ MayRule None p r = ⊥
 MayRule (Some e) p r = Rule e p r
 
 -- the change that an effect stands for
-abbrev pub seen : rust.Effect → Change
-seen (effects.Takes a b r) = Exchanges (result_types a ++ result_types b) (result_types r)
-seen (effects.Calls t) = Exchanges t.now.params t.now.results
-seen (effects.CallsSlot t) = Exchanges (t.now.params ++ I32 ∷ []) t.now.results
-seen (effects.Leaves a b) = Leaves (result_types a ++ result_types b)
-seen effects.Drops = Drops
+abbrev pub change_of : rust.Effect → Change
+change_of (effects.Takes a b r) = Exchanges (result_types a ++ result_types b) (result_types r)
+change_of (effects.Calls t) = Exchanges t.now.params t.now.results
+change_of (effects.CallsSlot t) = Exchanges (t.now.params ++ I32 ∷ []) t.now.results
+change_of (effects.Leaves a b) = Leaves (result_types a ++ result_types b)
+change_of effects.Drops = Drops
 
-abbrev pub called : FuncType → Change
-called t = Exchanges t.params t.results
+abbrev pub call_change : FuncType → Change
+call_change t = Exchanges t.params t.results
 
 abbrev pub called_slot : FuncType → Change
 called_slot t = Exchanges (t.params ++ I32 ∷ []) t.results
@@ -123,7 +123,7 @@ change c (layer.BrTable ls default) =
     option_map (λ (taken : List ValueType). Leaves (taken ++ I32 ∷ [])) (slice_get c.labels default)
 change c layer.Return = Some (Leaves c.returns)
 change c (layer.Call f) =
-    option_and_then (λ i. option_map called (slice_get c.types i)) (slice_get c.functions f)
+    option_and_then (λ i. option_map call_change (slice_get c.types i)) (slice_get c.functions f)
 change c (layer.CallIndirect i) =
     option_and_then (λ _. option_map called_slot (slice_get c.types i)) (slice_get c.tables 0)
 change c layer.Drop = Some Drops

@@ -9,8 +9,8 @@ ghost use Rattle.wasm_tree.specs.declared.code.Op.{Op};
 ghost use Rattle.wasm_tree.specs.Code.{label_of};
 ghost use Rattle.wasm_tree.specs.Validity.{result_types, numeric_params, numeric_result};
 ghost use Rattle.wasm_valid.specs.Framed.{frame_context, labels_of, locals_of};
-ghost use Rattle.wasm_valid.specs.Opened.{opened};
-ghost use Rattle.wasm_valid.specs.Typing.{change, seen, called, called_slot, Exchanges, Leaves};
+ghost use Rattle.wasm_valid.specs.Opened.{open_instruction};
+ghost use Rattle.wasm_valid.specs.Typing.{change, change_of, call_change, called_slot, Exchanges, Leaves};
 
 use crate::code_scope::Scope;
 use crate::grouped::{Groups, in_groups};
@@ -94,7 +94,7 @@ pub fn are_same_labels(blocks: &[Option<ValueType>], branches: &[Op], last: u32)
 }
 
 fn numeric_effect(numeric: Numeric) -> Effect<'static>
-    ensures { seen result ≡ Exchanges (numeric_params numeric) (numeric_result numeric ∷ []) }
+    ensures { change_of result ≡ Exchanges (numeric_params numeric) (numeric_result numeric ∷ []) }
 {
     let narrow = Some(ValueType::I32);
     let wide = Some(ValueType::I64);
@@ -113,7 +113,7 @@ fn numeric_effect(numeric: Numeric) -> Effect<'static>
 
 /// The effect of `br`.
 fn branch(blocks: &[Option<ValueType>], index: u32) -> Option<Effect<'static>>
-    ensures { option_map seen result
+    ensures { option_map change_of result
         ≡ option_map (λ taken. Leaves taken) (slice_get (labels_of blocks.now) index) }
 {
     match label(blocks, index) {
@@ -124,7 +124,7 @@ fn branch(blocks: &[Option<ValueType>], index: u32) -> Option<Effect<'static>>
 
 /// The effect of `br_if`.
 fn branch_if(blocks: &[Option<ValueType>], index: u32) -> Option<Effect<'static>>
-    ensures { option_map seen result
+    ensures { option_map change_of result
         ≡ option_map (λ (taken : List ValueType). Exchanges (taken ++ I32 ∷ []) taken)
         (slice_get (labels_of blocks.now) index) }
 {
@@ -136,7 +136,7 @@ fn branch_if(blocks: &[Option<ValueType>], index: u32) -> Option<Effect<'static>
 
 /// The effect of `br_table` with this last label.
 fn branch_table(blocks: &[Option<ValueType>], index: u32) -> Option<Effect<'static>>
-    ensures { option_map seen result ≡ option_map (λ (taken : List ValueType). Leaves (taken ++ I32 ∷ []))
+    ensures { option_map change_of result ≡ option_map (λ (taken : List ValueType). Leaves (taken ++ I32 ∷ []))
         (slice_get (labels_of blocks.now) index) }
 {
     match label(blocks, index) {
@@ -147,8 +147,8 @@ fn branch_table(blocks: &[Option<ValueType>], index: u32) -> Option<Effect<'stat
 
 /// The effect of `call`.
 fn call<'a>(scope: &Scope<'a>, function: u32) -> Option<Effect<'a>>
-    ensures { option_map seen result
-        ≡ option_and_then (λ i. option_map called (slice_get (scope_of scope.now).types i))
+    ensures { option_map change_of result
+        ≡ option_and_then (λ i. option_map call_change (slice_get (scope_of scope.now).types i))
         (slice_get (scope_of scope.now).functions function) }
 {
     match at(scope.functions, function as usize) {
@@ -162,7 +162,7 @@ fn call<'a>(scope: &Scope<'a>, function: u32) -> Option<Effect<'a>>
 
 /// The effect of `call_indirect`.
 fn call_slot<'a>(scope: &Scope<'a>, type_index: u32) -> Option<Effect<'a>>
-    ensures { option_map seen result ≡ option_and_then
+    ensures { option_map change_of result ≡ option_and_then
         (λ _. option_map called_slot (slice_get (scope_of scope.now).types type_index))
         (slice_get (scope_of scope.now).tables 0) }
 {
@@ -185,7 +185,7 @@ fn global(scope: &Scope<'_>, index: u32) -> Option<ValueType>
 }
 
 fn gives(value_type: Option<ValueType>) -> Option<Effect<'static>>
-    ensures { option_map seen result ≡ option_map (λ t. Exchanges [] (t ∷ [])) value_type }
+    ensures { option_map change_of result ≡ option_map (λ t. Exchanges [] (t ∷ [])) value_type }
 {
     match value_type {
         None => None,
@@ -194,7 +194,7 @@ fn gives(value_type: Option<ValueType>) -> Option<Effect<'static>>
 }
 
 fn takes(value_type: Option<ValueType>) -> Option<Effect<'static>>
-    ensures { option_map seen result ≡ option_map (λ t. Exchanges (t ∷ []) []) value_type }
+    ensures { option_map change_of result ≡ option_map (λ t. Exchanges (t ∷ []) []) value_type }
 {
     match value_type {
         None => None,
@@ -203,7 +203,7 @@ fn takes(value_type: Option<ValueType>) -> Option<Effect<'static>>
 }
 
 fn keeps(value_type: Option<ValueType>) -> Option<Effect<'static>>
-    ensures { option_map seen result ≡ option_map (λ t. Exchanges (t ∷ []) (t ∷ [])) value_type }
+    ensures { option_map change_of result ≡ option_map (λ t. Exchanges (t ∷ []) (t ∷ [])) value_type }
 {
     match value_type {
         None => None,
@@ -213,8 +213,8 @@ fn keeps(value_type: Option<ValueType>) -> Option<Effect<'static>>
 
 /// The effect, where there is a memory.
 fn with_memory<'a>(scope: &Scope<'_>, effect: Effect<'a>) -> Option<Effect<'a>>
-    ensures { option_map seen result
-        ≡ option_map (λ _. seen effect.entry) (slice_get (scope_of scope.now).memories 0) }
+    ensures { option_map change_of result
+        ≡ option_map (λ _. change_of effect.entry) (slice_get (scope_of scope.now).memories 0) }
 {
     match at(scope.memories, 0) {
         None => None,
@@ -225,7 +225,7 @@ fn with_memory<'a>(scope: &Scope<'_>, effect: Effect<'a>) -> Option<Effect<'a>>
 /// What the instruction does to the operands, whatever code stands inside it. Nothing where it names what is not there.
 pub fn effect_of<'a>(frame: &Frame<'a>, blocks: &[Option<ValueType>], op: Op) -> Option<Effect<'a>>
     ensures { (rest : List Op)
-        → option_map seen result ≡ change (frame_context frame.now blocks.now) (opened op rest) }
+        → option_map change_of result ≡ change (frame_context frame.now blocks.now) (open_instruction op rest) }
 {
     let narrow = Some(ValueType::I32);
     let wide = Some(ValueType::I64);

@@ -2,7 +2,7 @@
 
 ghost use Rattle.std.specs.Prelude.{◌≡◌, OnOk, slice_get};
 ghost use Rattle.std.specs.Option.{option_map};
-ghost use Rattle.wasm_tree.specs.Validity.{declared};
+ghost use Rattle.wasm_tree.specs.Validity.{local_types};
 ghost use Rattle.wasm_valid.specs.Ends.{ends_from};
 
 use std::alloc::AllocError;
@@ -34,7 +34,7 @@ pub fn count_ends(ends: &mut Vec<u128>, groups: &[Locals]) -> Result<(), AllocEr
 /// The number of the group that a declared local stands in.
 fn group_of(locals: Groups<'_>, index: usize) -> usize
     ensures { option_map (λ g. g.value_type) (slice_get locals.entry.groups.now result)
-        ≡ slice_get (declared locals.entry.groups.now) index }
+        ≡ slice_get (local_types locals.entry.groups.now) index }
 {
     let index = index as u128;
     locals.ends.partition_point(|end| *end <= index)
@@ -42,7 +42,7 @@ fn group_of(locals: Groups<'_>, index: usize) -> usize
 
 /// The type of a declared local.
 pub fn in_groups(locals: Groups<'_>, index: usize) -> Option<ValueType>
-    ensures { result ≡ slice_get (declared locals.entry.groups.now) index }
+    ensures { result ≡ slice_get (local_types locals.entry.groups.now) index }
 {
     match at(locals.groups, group_of(locals, index)) {
         None => None,

@@ -2,7 +2,7 @@
 
 ghost use Rattle.std.specs.Prelude.{◌≢◌, Err, ◌≡◌, ◌↔◌, ◌++◌, ◌∷◌, [], false, IsTrue};
 ghost use Rattle.wasm_tree.specs.Validity.{Are, result_types};
-ghost use Rattle.wasm_valid.specs.Typing.{Settles, Stands, TakesIf, Takes, Puts, Steps, Rule, seen, Leaves, Drops};
+ghost use Rattle.wasm_valid.specs.Typing.{Settles, Stands, TakesIf, Takes, Puts, Steps, Rule, change_of, Leaves, Drops};
 
 use std::alloc::Global;
 use tree_parts::Items;
@@ -225,7 +225,7 @@ pub fn types_of(value_type: &Option<ValueType>) -> &[ValueType]
 
 /// What the effect does to the operands. `Invalid` where they are other ones.
 pub fn affect(operands: &mut Operands, effect: Effect<'_>) -> Result<(), WFault>
-    ensures { Steps result (Rule (seen effect.entry)) operands.old operands.new }
+    ensures { Steps result (Rule (change_of effect.entry)) operands.old operands.new }
 {
     match effect {
         Effect::Takes(first, second, given) => exchange_few(operands, first, second, given),

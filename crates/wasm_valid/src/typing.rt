@@ -6,7 +6,7 @@ ghost use Rattle.wasm_tree.specs.Code.{tree, behind, label_of};
 ghost use Rattle.wasm_tree.specs.Validity.{Leads, is_constant, IsConstant, IsConstantOf, result_types, within};
 ghost use Rattle.wasm_valid.specs.CodeScope.{scope_of};
 ghost use Rattle.wasm_valid.specs.Framed.{frame_context, labels_of};
-ghost use Rattle.wasm_valid.specs.Opened.{opened};
+ghost use Rattle.wasm_valid.specs.Opened.{open_instruction};
 ghost use Rattle.wasm_valid.specs.Typing.{Decides, Steps, Stands, MayRule, CodeFits, change};
 
 use crate::code_scope::Scope;
@@ -25,7 +25,7 @@ fn step(
     operands: &mut Operands,
 ) -> Result<(), WFault>
     ensures { (rest : List Op)
-        → Steps result (MayRule (change (frame_context frame.now blocks.now) (opened op rest)))
+        → Steps result (MayRule (change (frame_context frame.now blocks.now) (open_instruction op rest)))
         operands.old operands.new }
 {
     match effect_of(frame, blocks, op) {
@@ -68,7 +68,7 @@ fn check_inside(
     op: Op,
     rest: &[Op],
 ) -> Result<(), WFault>
-    ensures fits { Decides result (CodeFits (frame_context frame.now blocks.old) (opened op rest.now)) }
+    ensures fits { Decides result (CodeFits (frame_context frame.now blocks.old) (open_instruction op rest.now)) }
     ensures blocks { OnOk result (blocks.new ≡ blocks.old) }
 {
     match op {
@@ -150,7 +150,7 @@ pub fn check_code(
 }
 
 fn is_constant(op: Op) -> bool
-    ensures { IsTrue result ↔ (is_constant (opened op []) ≡ true) }
+    ensures { IsTrue result ↔ (is_constant (open_instruction op []) ≡ true) }
 {
     match op {
         Op::GlobalGet(_) | Op::I32Const(_) | Op::I64Const(_) => true,
@@ -176,7 +176,7 @@ fn is_constant(op: Op) -> bool
 }
 
 fn are_constant_ops(code: &[Op]) -> bool
-    ensures { IsTrue result ↔ All (λ o. is_constant (opened o []) ≡ true) code.now }
+    ensures { IsTrue result ↔ All (λ o. is_constant (open_instruction o []) ≡ true) code.now }
 {
     code.iter().all(|o| is_constant(*o))
 }

@@ -3,7 +3,7 @@ use Rattle.std.proofs.Common.{◌≡◌, ℕ, ◌+◌, ◌<◌, suc, Bool, true,
 use Rattle.std.proofs.lemmas.List.{map_more, map-append, take-append-drop, append-nil}
 use Rattle.std.proofs.lemmas.Bool.{true≢false}
 use Rattle.std.proofs.Math.Seq.{drop-cons}
-use Rattle.write_directory.specs.Calls.{Call, Remove, Write, File, with_calls, link_file, written, before_link, AtRemoval, AtModule, AtLink}
+use Rattle.write_directory.specs.Calls.{Call, Remove, Write, File, with_calls, link_file, write_call, before_link, AtRemoval, AtModule, AtLink}
 use Rattle.write_directory.specs.Saves.{AreMade, Fails, Stops, WritesLink, SavesFiles}
 
 with_calls-append : (noted : Option (List Call)) (a b : List Call) → with_calls (with_calls noted a) b ≡ with_calls noted (a ++ b)
@@ -26,11 +26,11 @@ grows_from before between after e f = omega (arith, e, f)
 
 module _ {X : Type 0} (file_in : X → File) (xs : List X) (k : ℕ) (x : X) (h : k < length xs) (is : x ≡ get_or xs k x) where
   -- the files up to this one
-  one_more_file : map written (map file_in (take (k + 1) xs)) ≡ map written (map file_in (take k xs)) ++ written (file_in x) ∷ []
+  one_more_file : map write_call (map file_in (take (k + 1) xs)) ≡ map write_call (map file_in (take k xs)) ++ write_call (file_in x) ∷ []
   one_more_file =
-      ap (map written) (map_more file_in xs k x h)
-      ∙ map-append written (map file_in (take k xs)) (file_in (get_or xs k x) ∷ [])
-      ∙ ap (λ (y : X). map written (map file_in (take k xs)) ++ written (file_in y) ∷ []) (sym is)
+      ap (map write_call) (map_more file_in xs k x h)
+      ∙ map-append write_call (map file_in (take k xs)) (file_in (get_or xs k x) ∷ [])
+      ∙ ap (λ (y : X). map write_call (map file_in (take k xs)) ++ write_call (file_in y) ∷ []) (sym is)
 
   between_files : map file_in xs ≡ map file_in (take k xs) ++ file_in x ∷ map file_in (drop (suc k) xs)
   between_files =
@@ -39,21 +39,21 @@ module _ {X : Type 0} (file_in : X → File) (xs : List X) (k : ℕ) (x : X) (h 
       ∙ ap (λ (ys : List X). map file_in (take k xs) ++ map file_in ys) (drop-cons xs k x h)
       ∙ ap (λ (y : X). map file_in (take k xs) ++ file_in y ∷ map file_in (drop (suc k) xs)) (sym is)
 
-  module _ {D : Type 0} (calls : D → Option (List Call)) (failed : D → ℕ) (before between after : D) (so_far : AreMade calls failed (map written (map file_in (take k xs))) before between) where
-    pub goes_on : failed after ≡ failed between → calls after ≡ with_calls (calls between) (written (file_in x) ∷ [])
-        → AreMade calls failed (map written (map file_in (take (k + 1) xs))) before after
+  module _ {D : Type 0} (calls : D → Option (List Call)) (failed : D → ℕ) (before between after : D) (so_far : AreMade calls failed (map write_call (map file_in (take k xs))) before between) where
+    pub goes_on : failed after ≡ failed between → calls after ≡ with_calls (calls between) (write_call (file_in x) ∷ [])
+        → AreMade calls failed (map write_call (map file_in (take (k + 1) xs))) before after
     goes_on f e = record {
       noted = subst (λ (made : List Call). calls after ≡ with_calls (calls before) made) (sym one_more_file)
-          (behind (calls before) (calls between) (calls after) (map written (map file_in (take k xs))) (written (file_in x) ∷ []) so_far.noted e);
+          (behind (calls before) (calls between) (calls after) (map write_call (map file_in (take k xs))) (write_call (file_in x) ∷ []) so_far.noted e);
       same = f ∙ so_far.same;
     }
 
     pub stops : (name : List ℕ) → name ≡ (file_in x).0 → failed after ≡ failed between + 1 → calls after ≡ with_calls (calls between) (Write name (file_in x).1 false ∷ [])
         → Stops calls failed (map file_in xs) before after
     stops name is_name f e = record {
-      made = map written (map file_in (take k xs)) ++ Write name (file_in x).1 false ∷ [];
-      noted = behind (calls before) (calls between) (calls after) (map written (map file_in (take k xs))) (Write name (file_in x).1 false ∷ []) so_far.noted e;
-      stops = (map file_in (take k xs), file_in x, map file_in (drop (suc k) xs), between_files, ap (λ (n : List ℕ). map written (map file_in (take k xs)) ++ Write n (file_in x).1 false ∷ []) is_name);
+      made = map write_call (map file_in (take k xs)) ++ Write name (file_in x).1 false ∷ [];
+      noted = behind (calls before) (calls between) (calls after) (map write_call (map file_in (take k xs))) (Write name (file_in x).1 false ∷ []) so_far.noted e;
+      stops = (map file_in (take k xs), file_in x, map file_in (drop (suc k) xs), between_files, ap (λ (n : List ℕ). map write_call (map file_in (take k xs)) ++ Write n (file_in x).1 false ∷ []) is_name);
       grown = grows (failed before) (failed between) (failed after) so_far.same f;
     }
 
@@ -93,15 +93,15 @@ module _ {D : Type 0} (calls : D → Option (List Call)) (failed : D → ℕ) wh
       }
 
       -- all files were written, and link came behind them
-      pub link_behind : (stand after : D) (is_written : Bool) → AreMade calls failed (map written files) removed stand → WritesLink calls failed link is_written stand after
+      pub link_behind : (stand after : D) (is_written : Bool) → AreMade calls failed (map write_call files) removed stand → WritesLink calls failed link is_written stand after
           → SavesFiles calls failed link files is_written before after
       link_behind stand after true h i = record {
-        noted = behind (calls before) (calls stand) (calls after) (before_link files) (Write link_file link true ∷ []) (behind (calls before) (calls removed) (calls stand) (Remove link_file true ∷ []) (map written files) e h.noted) i.noted;
+        noted = behind (calls before) (calls stand) (calls after) (before_link files) (Write link_file link true ∷ []) (behind (calls before) (calls removed) (calls stand) (Remove link_file true ∷ []) (map write_call files) e h.noted) i.noted;
         same = i.same ∙ h.same ∙ f;
       }
       link_behind stand after false h i = record {
         made = before_link files ++ Write link_file link false ∷ Remove link_file i.0 ∷ [];
-        noted = behind (calls before) (calls stand) (calls after) (before_link files) (Write link_file link false ∷ Remove link_file i.0 ∷ []) (behind (calls before) (calls removed) (calls stand) (Remove link_file true ∷ []) (map written files) e h.noted) i.1;
+        noted = behind (calls before) (calls stand) (calls after) (before_link files) (Write link_file link false ∷ Remove link_file i.0 ∷ []) (behind (calls before) (calls removed) (calls stand) (Remove link_file true ∷ []) (map write_call files) e h.noted) i.1;
         broken = AtLink i.0;
         grown = grows_from (failed before) (failed stand) (failed after) (h.same ∙ f) i.2;
       }

@@ -30,12 +30,12 @@ File = List ℕ × List ℕ
 abbrev pub module_file : String Global × Vec ℕ → File
 module_file m = (file_of (string_bytes m.0), m.1.items)
 
-abbrev pub written : File → Call
-written f = Write f.0 f.1 true
+abbrev pub write_call : File → Call
+write_call f = Write f.0 f.1 true
 
 -- an old link is removed, and the files of the modules are written in their order
 abbrev pub before_link : List File → List Call
-before_link files = Remove link_file true ∷ map written files
+before_link files = Remove link_file true ∷ map write_call files
 
 -- and link is written last
 abbrev pub all_calls : (link : List ℕ) → List File → List Call
@@ -45,7 +45,7 @@ all_calls link files = before_link files ++ Write link_file link true ∷ []
 abbrev pub StopsIn : List File → List Call → Type 0
 StopsIn files calls =
     (before : List File) × (f : File) × (after : List File)
-    × (files ≡ before ++ f ∷ after) × (calls ≡ map written before ++ Write f.0 f.1 false ∷ [])
+    × (files ≡ before ++ f ∷ after) × (calls ≡ map write_call before ++ Write f.0 f.1 false ∷ [])
 
 -- The calls if one failed, up to that one. Link is removed once more if it was its write.
 pub data IsBroken (link : List ℕ) (files : List File) : List Call → Type 0 where

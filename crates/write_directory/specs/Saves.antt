@@ -2,7 +2,7 @@
 use Rattle.std.specs.Prelude.{◌≡◌, ◌<◌, ℕ, Bool, true, false, List, [], ◌∷◌, map, Option, Result, Ok, Err, ⊤}
 use Rattle.write_directory.specs.declared.fault.SaveFault.{SaveFault}
 use Rattle.write_directory.specs.declared.fault.SaveFault.TheVariants.{NoMemory, Device}
-use Rattle.write_directory.specs.Calls.{Call, Remove, Write, File, with_calls, link_file, written, all_calls, StopsIn, IsBroken}
+use Rattle.write_directory.specs.Calls.{Call, Remove, Write, File, with_calls, link_file, write_call, all_calls, StopsIn, IsBroken}
 
 module _ {D : Type 0} (calls : D → Option (List Call)) (failed : D → ℕ) where
   -- the directory was given these calls, and did not fail
@@ -34,7 +34,7 @@ module _ {D : Type 0} (calls : D → Option (List Call)) (failed : D → ℕ) wh
 
   -- The same of the files alone, of link alone, and of all calls, by whether all of them were made.
   abbrev pub WritesAll : List File → Bool → (before after : D) → Type 0
-  WritesAll files true before after = AreMade (map written files) before after
+  WritesAll files true before after = AreMade (map write_call files) before after
   WritesAll files false before after = Stops files before after
 
   abbrev pub WritesLink : (link : List ℕ) → Bool → (before after : D) → Type 0

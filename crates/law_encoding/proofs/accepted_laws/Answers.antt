@@ -1,6 +1,6 @@
 use Rattle.std.proofs.Common.{arith}
 use Rattle.check_scope.specs.Elaborated.{least, every}
-use Rattle.check_body.specs.Checks.{elaborated}
+use Rattle.check_body.specs.Checks.{elaborate_body}
 use Rattle.def_grammar.specs.Refusal.{max_nesting}
 use Rattle.law_well_formed.proofs.Induction.{elaborated_formed}
 use Rattle.law_well_formed.proofs.WholeModules.{modules_formed}
@@ -16,14 +16,14 @@ use Rattle.law_encoding.proofs.accepted_laws.Goals as goal
 
 pub returns-clause-least : goal.returns-clause-least
 returns-clause-least c = λ ts m d number own tables k.
-    accepted_room _ (accepted_low _ (tree_below ts m d) (module_most least (elaborated least) (λ s r xs. statements_most least s _ xs) number m own tables))
-    (bodies_near max_nesting least (elaborated least) (elaborated_formed least) (λ s r xs. near least s _ xs) number m own tables (omega arith) (procedures_below ts m d))
+    accepted_room _ (accepted_low _ (tree_below ts m d) (module_most least (elaborate_body least) (λ s r xs. statements_most least s _ xs) number m own tables))
+    (bodies_near max_nesting least (elaborate_body least) (elaborated_formed least) (λ s r xs. near least s _ xs) number m own tables (omega arith) (procedures_below ts m d))
     (modules_formed least number m own tables k)
 
 pub returns-clause-every : goal.returns-clause-every
 returns-clause-every c = λ ts m d number own tables k.
-    accepted_room _ (accepted_low _ (tree_below ts m d) (module_most every (elaborated every) (λ s r xs. statements_most every s _ xs) number m own tables))
-    (bodies_near max_nesting every (elaborated every) (elaborated_formed every) (λ s r xs. near every s _ xs) number m own tables (omega arith) (procedures_below ts m d))
+    accepted_room _ (accepted_low _ (tree_below ts m d) (module_most every (elaborate_body every) (λ s r xs. statements_most every s _ xs) number m own tables))
+    (bodies_near max_nesting every (elaborate_body every) (elaborated_formed every) (λ s r xs. near every s _ xs) number m own tables (omega arith) (procedures_below ts m d))
     (modules_formed every number m own tables k)
 
 pub returns-clause-typed : goal.returns-clause-typed

@@ -1,5 +1,5 @@
 use Rattle.check_scope.specs.Elaborated.{least, every}
-use Rattle.law_programs.specs.TypingWants.{placed}
+use Rattle.law_programs.specs.TypingWants.{stage_at}
 use Rattle.law_programs.proofs.Orders.{bodies_ordered}
 use Rattle.law_programs.proofs.Provided.{bodies_provided, module_typed}
 use Rattle.law_programs.proofs.ModuleTexts.{module_bytes}
@@ -16,5 +16,5 @@ returns-clause-provided c = λ z ordered. bodies_provided z ordered
 
 pub returns-clause-modules : goal.returns-clause-modules
 returns-clause-modules c = λ p pages place m opens typed ordered.
-    let provided = bodies_provided (placed p pages place m opens) ordered in
-    (module_typed p pages place m opens typed provided, module_bytes (placed p pages place m opens) typed provided)
+    let provided = bodies_provided (stage_at p pages place m opens) ordered in
+    (module_typed p pages place m opens typed provided, module_bytes (stage_at p pages place m opens) typed provided)

@@ -2,12 +2,12 @@
 
 ghost use Rattle.std.specs.Prelude.{◌≡◌, ◌++◌, ◌+◌, ◌<◌, ◌≤◌, ◌^◌, ◌≢◌, IfOk, OnOk, Err, true, false, length};
 ghost use Rattle.wasm_tree.specs.Format.{Format, Gives};
-ghost use Rattle.wasm_binary.specs.Binary.{declared, locals, locals_at, locals_encoding, body};
+ghost use Rattle.wasm_binary.specs.Binary.{local_count, locals, locals_at, locals_encoding, body};
 
 use crate::binary::{Binary, MAX_ENTRIES};
 use std::alloc::Global;
 use tree_parts::Items;
-use wasm_code::{Writer, closed, code_over, front, unsigned_at, write_code};
+use wasm_code::{Writer, close_part, code_over, front, unsigned_at, write_code};
 use wasm_tree::{Body, EncodeError, Locals, Op, ValueType, WFault};
 
 /// The most locals of a body.
@@ -61,9 +61,9 @@ fn write_groups(out: &mut Writer, groups: &[Locals]) -> Result<(), EncodeError>
 }
 
 /// How many locals there are.
-fn declared(groups: &[Locals]) -> u64
+fn local_count(groups: &[Locals]) -> u64
     requires { length groups.now < 2 ^ 32 }
-    ensures { result ≡ declared groups.now }
+    ensures { result ≡ local_count groups.now }
 {
     let mut total = 0u64;
     for group in groups {
@@ -79,7 +79,7 @@ fn write_locals(out: &mut Writer, groups: &[Locals]) -> Result<(), EncodeError>
     ensures fits { OnOk result (locals.fits groups.now ≡ true) }
     ensures unfit { result ≡ Err EncodeError.NoEncoding → locals.fits groups.now ≡ false }
 {
-    if groups.len() > MAX_ENTRIES || declared(groups) > MAX_LOCALS {
+    if groups.len() > MAX_ENTRIES || local_count(groups) > MAX_LOCALS {
         return Err(EncodeError::NoEncoding);
     }
     write_groups(out, groups)
@@ -98,7 +98,7 @@ pub fn body_over<'a>(
     let (size, after) = unsigned_at(bytes)?;
     let (locals, rest) = locals_at(alloc, front(after, size))?;
     let (code, left) = code_over(alloc, scratch, rest)?;
-    let rest = closed(size, after, left)?;
+    let rest = close_part(size, after, left)?;
     Ok((Body { locals, code }, rest))
 }
 

@@ -8,7 +8,7 @@ use crate::binary::{Binary, vector, write_vector};
 use std::alloc::Global;
 use tree_parts::Items;
 use wasm_code::{
-    Writer, byte_at, closed, code_at, front, name_at, skip, unsigned_at, write_code, write_name,
+    Writer, byte_at, close_part, code_at, front, name_at, skip, unsigned_at, write_code, write_name,
 };
 use wasm_tree::{
     Data, Element, EncodeError, Export, ExportKind, Global as Constant, Import, ImportKind,
@@ -217,7 +217,7 @@ impl Binary for Data {
         let (offset, rest) = code_at(alloc, rest)?;
         let (size, rest) = unsigned_at(rest)?;
         let content = front(rest, size);
-        let rest = closed(size, rest, &[])?;
+        let rest = close_part(size, rest, &[])?;
         let bytes = Items::from_slice(alloc, content)?;
         Ok((
             Data {

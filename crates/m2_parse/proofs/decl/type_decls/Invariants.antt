@@ -1,11 +1,11 @@
 use Rattle.std.proofs.Common.{◌≡◌, [], length}
 use Rattle.def_grammar.specs.Grammar.{many}
 use Rattle.def_grammar.specs.Ebnf.{type_decl}
-use Rattle.def_grammar.specs.Reading.{gathered, read}
+use Rattle.def_grammar.specs.Reading.{gather_turns, read}
 use Rattle.m2_parse.proofs.decl.type_decls.Given as goal
 
 abbrev pub invariant-loop-found : goal.invariant-loop-found
-invariant-loop-found l = gathered (λ xs. xs) l.found (read (many type_decl) l.room l.cursor) ≡ gathered (λ xs. xs) [] (read (many type_decl) l.room l.fn.cursor)
+invariant-loop-found l = gather_turns (λ xs. xs) l.found (read (many type_decl) l.room l.cursor) ≡ gather_turns (λ xs. xs) [] (read (many type_decl) l.room l.fn.cursor)
 
 abbrev pub decreases-loop-found : goal.decreases-loop-found
 decreases-loop-found l = length l.cursor

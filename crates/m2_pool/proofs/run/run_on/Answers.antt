@@ -2,7 +2,7 @@ use Rattle.std.proofs.Common.{◌≡◌, ℕ, ◌<◌, List, All, length, map, g
 use Rattle.std.specs.Prelude.{slice_get}
 use Rattle.pool_board.proofs.Resulting.{item}
 use Rattle.std.proofs.lemmas.List.{length-map}
-use Rattle.pool_board.specs.Lists.{times, listed}
+use Rattle.pool_board.specs.Lists.{times, one_list}
 use Rattle.pool_board.specs.Seats.{SeatState}
 use Rattle.m2_pool.proofs.Places.{match_some}
 use Rattle.m2_pool.proofs.Tallying.{is_tally}
@@ -49,8 +49,8 @@ close-tally-requires g c =
     ∙ (sym (length-map members (λ m. m.seat)) ∙ (ap (λ (l : List SeatState). length l) c.in_ok-members.ensures.seats ∙ c.requires.seats.0.count_is))) in
     record { count_is = count; each = λ k d l. (c.in_ok-seats.ensures.seats k d l).0 }
 
-pub gathered-requires-clause-places : goal.gathered-requires-clause-places
-gathered-requires-clause-places g c κs within = λ k l. match_some (get_or c.in_ok-places.places.items k None) _ _ (c.in_ok-places.ensures.each k l)
+pub gather_results-requires-clause-places : goal.gather_results-requires-clause-places
+gather_results-requires-clause-places g c κs within = λ k l. match_some (get_or c.in_ok-places.places.items k None) _ _ (c.in_ok-places.ensures.each k l)
 
 pub returns-clause-seats : goal.returns-clause-seats
 returns-clause-seats g c =
@@ -75,7 +75,7 @@ returns-clause-admitted g c =
 pub returns-clause-tally : goal.returns-clause-tally
 returns-clause-tally g c =
     let lists = map (λ l. l.items) c.close-tally.result.seats.items in
-    let each : (job : ℕ) → job < length c.args.board.graph → times job (listed lists ++ c.close-tally.result.gatherer.items) ≡ 1 = c.close-tally.ensures.each in
+    let each : (job : ℕ) → job < length c.args.board.graph → times job (one_list lists ++ c.close-tally.result.gatherer.items) ≡ 1 = c.close-tally.ensures.each in
     let members = c.in_ok-members.members.items in
     let count : length c.in_ok-seats.seats.items ≡ c.args.board.workers =
     c.in_ok-seats.ensures.count

@@ -2,11 +2,11 @@ use Rattle.std.proofs.Common.{◌≡◌, ◌++◌, drop, map}
 use Rattle.std.specs.Prelude.{slice_get}
 use Rattle.std.specs.Option.{option_and_then}
 use Rattle.m2_graph.specs.Jobs.{place_of}
-use Rattle.build_jobs.specs.Borrowed.{borrowed}
-use Rattle.m2c.specs.Build.{reported, refused_from}
+use Rattle.build_jobs.specs.Borrowed.{borrow_trees}
+use Rattle.m2c.specs.Build.{report_of, refused_from}
 use Rattle.m2c.proofs.results.refused_by.Given as goal
 
 abbrev pub invariant-loop-file : goal.invariant-loop-file
 invariant-loop-file l =
-    map reported l.refusals.items ++ refused_from (λ file. option_and_then (slice_get l.results) (place_of l.places file)) l.file (borrowed (drop l.file l.trees))
-    ≡ refused_from (λ file. option_and_then (slice_get l.results) (place_of l.places file)) 0 (borrowed l.trees)
+    map report_of l.refusals.items ++ refused_from (λ file. option_and_then (slice_get l.results) (place_of l.places file)) l.file (borrow_trees (drop l.file l.trees))
+    ≡ refused_from (λ file. option_and_then (slice_get l.results) (place_of l.places file)) 0 (borrow_trees l.trees)

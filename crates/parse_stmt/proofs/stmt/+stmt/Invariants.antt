@@ -4,7 +4,7 @@ use Rattle.def_grammar.specs.Rule.{stmts_rule}
 use Rattle.def_grammar.specs.Grammar.{◌▸◌, many, opt}
 use Rattle.def_grammar.specs.Ebnf.{arm, arms, stmt}
 use Rattle.def_grammar.specs.Trees.{present, with_first}
-use Rattle.def_grammar.specs.Reading.{gathered, mapped, read, read_rule}
+use Rattle.def_grammar.specs.Reading.{gather_turns, map_outcome, read, read_rule}
 use Rattle.parse_stmt.proofs.stmt.+stmt.Given as goal
 
 abbrev pub decreases-arm : goal.decreases-arm
@@ -62,13 +62,13 @@ abbrev pub decreases-with_stmt : goal.decreases-with_stmt
 decreases-with_stmt l = l.room * 32 + 10
 
 abbrev pub invariant-stmts-loop-cursor : goal.invariant-stmts-loop-cursor
-invariant-stmts-loop-cursor l = gathered present l.found (read (many (Semicolon ▸ opt stmt)) l.room l.cursor) ≡ read_rule l.room stmts_rule l.fn.cursor
+invariant-stmts-loop-cursor l = gather_turns present l.found (read (many (Semicolon ▸ opt stmt)) l.room l.cursor) ≡ read_rule l.room stmts_rule l.fn.cursor
 
 abbrev pub decreases-stmts-loop-cursor : goal.decreases-stmts-loop-cursor
 decreases-stmts-loop-cursor l = length l.cursor
 
 abbrev pub invariant-arms-loop-cursor : goal.invariant-arms-loop-cursor
-invariant-arms-loop-cursor l = gathered present l.found (read (many (Bar ▸ opt arm)) l.room l.cursor) ≡ mapped (λ p. present (with_first p)) (read arms l.room l.fn.cursor)
+invariant-arms-loop-cursor l = gather_turns present l.found (read (many (Bar ▸ opt arm)) l.room l.cursor) ≡ map_outcome (λ p. present (with_first p)) (read arms l.room l.fn.cursor)
 
 abbrev pub decreases-arms-loop-cursor : goal.decreases-arms-loop-cursor
 decreases-arms-loop-cursor l = length l.cursor

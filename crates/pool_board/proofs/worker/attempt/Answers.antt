@@ -3,7 +3,7 @@ use Rattle.std.specs.Prelude.{MatchResult}
 use Rattle.std.proofs.lemmas.List.Elements.{All-push}
 use Rattle.once_cell.specs.Once.{cell_name}
 use Rattle.pool_board.specs.Lists.{times}
-use Rattle.pool_board.specs.Rule.{counted}
+use Rattle.pool_board.specs.Rule.{count_of_edge}
 use Rattle.pool_board.specs.Results.{IsRan, IsMade}
 use Rattle.pool_board.proofs.Picks.{more_counted}
 use Rattle.pool_board.proofs.Weights.{weigh-push}
@@ -22,7 +22,7 @@ returns-clause-counts g c =
     let seat = c.args.member.now.seat in (
       c.count_all.ensures.board ∙ (c.if-not-claim.ensures.board ∙ c.requires.seat.0),
       more_counted c.args.pool.now.graph.now c.args.job seat.had c.count_all.new.seat.had seat.counts c.count_all.new.seat.counts (c.count_all.ensures.had ∙ c.if-not-claim.ensures.had) c.requires.seat.1 c.count_all.ensures.counted
-          (λ from edge ne. c.count_all.ensures.others from edge ne ∙ ap (counted from edge) c.if-not-claim.ensures.counts),
+          (λ from edge ne. c.count_all.ensures.others from edge ne ∙ ap (count_of_edge from edge) c.if-not-claim.ensures.counts),
     )
 
 pub returns-clause-admitted : goal.returns-clause-admitted

@@ -1,5 +1,5 @@
 use Rattle.std.proofs.Common.{◌≡◌, ℕ, List, ◌∷◌, get_or, ap, ◌∙◌, subst, arith}
-use Rattle.scan_tokens.specs.Steps.{moved}
+use Rattle.scan_tokens.specs.Steps.{place_after}
 use Rattle.scan_tokens.proofs.Walks.{Walks, opens, closes, ends, goes_on, never, from_third, from_second}
 use Rattle.scan_tokens.proofs.comment.comment_end.Goals as goal
 
@@ -23,7 +23,7 @@ loop-rest-preserved c =
     let e = c.in-Byte.ensures in
     let rest = c.loop-rest.rest.now in
     let first : get_or rest 0 0 ≡ e.0 = ap (λ (t : List ℕ). get_or t 0 0) e.3 in
-    let at = c.behind-pos.ensures ∙ ap (moved c.loop-rest.pos) first in
+    let at = c.behind-pos.ensures ∙ ap (place_after c.loop-rest.pos) first in
     let on = goes_on c.args.text.now c.args.start c.loop-rest.levels rest c.loop-rest.pos e.0 e.1 e.2 c.behind-pos.result c.loop-rest.invariant e.3 e.4 e.5 at in
     let P : List ℕ → Type 0 = λ s. Walks c.args.text.now c.args.start c.loop-rest.levels s c.behind-pos.result in
     subst P (from_second rest e.0 (e.1 ∷ e.2) e.3) on

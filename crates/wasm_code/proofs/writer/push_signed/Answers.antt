@@ -16,7 +16,7 @@ returns-then-top-rest c =
 
 pub loop-preserved : goal.loop-preserved
 loop-preserved c =
-    rw c.shifted-rest.ensures (
+    rw c.shift_group-rest.ensures (
       goes_on c.push_reserved-in-loop.new.self.items c.loop.bytes.items c.args.bytes.now.items _ _ _ _ c.push_reserved-in-loop.ensures.items
           (signed_more c.args.most c.loop.counter c.args.top c.loop.rest c.loop-test.true c.if-rest-lt64.false c.if-top-rest.false)
           c.loop.invariant.0,

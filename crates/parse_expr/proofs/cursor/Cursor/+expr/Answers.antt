@@ -6,7 +6,7 @@ use Rattle.def_grammar.specs.declared.kind.Kind.TheVariants as the
 use Rattle.def_grammar.specs.Grammar.{◌▸◌, ◌·◌}
 use Rattle.def_grammar.specs.Ebnf.{add_op, expr, factor, item, mul_op, selector, term}
 use Rattle.def_grammar.specs.Tables.{in_selector}
-use Rattle.def_grammar.specs.Trees.{added, multiplied, selected}
+use Rattle.def_grammar.specs.Trees.{add_operand, multiply_operand, selectors_of}
 use Rattle.def_grammar.specs.Reading.{begins}
 use Rattle.def_grammar.proofs.Rules.{index_is, group_is, not_is, selectors_is}
 use Rattle.def_grammar.proofs.Turns.{many-is}
@@ -70,12 +70,12 @@ pub terms-loop-op-preserved : goal.terms-loop-op-preserved
 terms-loop-op-preserved t c =
     let w = c.in-Some.ensures in
     rw (c.in_ok-push.ensures.ok, w.3)
-    (sym (loop_turn (add_op · term) _ _ (mapped_each added) more_terms c.args.room _ c.loop-op.found _ _ w.0 (pair_then add_op term c.args.room _ _ _ _ _ w.2 c.in_ok-term.ensures)) ∙ c.loop-op.invariant)
+    (sym (loop_turn (add_op · term) _ _ (mapped_each add_operand) more_terms c.args.room _ c.loop-op.found _ _ w.0 (pair_then add_op term c.args.room _ _ _ _ _ w.2 c.in_ok-term.ensures)) ∙ c.loop-op.invariant)
 
 pub terms-returns : goal.terms-returns
 terms-returns t c =
     let w = c.in_default.ensures in
-    rw w.1 (mapped_ok (map added) _ _ _ (sym c.loop-op.invariant ∙ loop_stop (add_op · term) _ _ (mapped_each added) more_terms c.args.room _ c.loop-op.found w.0))
+    rw w.1 (mapped_ok (map add_operand) _ _ _ (sym c.loop-op.invariant ∙ loop_stop (add_op · term) _ _ (mapped_each add_operand) more_terms c.args.room _ c.loop-op.found w.0))
 
 pub factors-returns-in_err-factor : goal.factors-returns-in_err-factor
 factors-returns-in_err-factor t c =
@@ -91,12 +91,12 @@ pub factors-loop-op-preserved : goal.factors-loop-op-preserved
 factors-loop-op-preserved t c =
     let w = c.in-Some.ensures in
     rw (c.in_ok-push.ensures.ok, w.3)
-    (sym (loop_turn (mul_op · factor) _ _ (mapped_each multiplied) more_factors c.args.room _ c.loop-op.found _ _ w.0 (pair_then mul_op factor c.args.room _ _ _ _ _ w.2 c.in_ok-factor.ensures)) ∙ c.loop-op.invariant)
+    (sym (loop_turn (mul_op · factor) _ _ (mapped_each multiply_operand) more_factors c.args.room _ c.loop-op.found _ _ w.0 (pair_then mul_op factor c.args.room _ _ _ _ _ w.2 c.in_ok-factor.ensures)) ∙ c.loop-op.invariant)
 
 pub factors-returns : goal.factors-returns
 factors-returns t c =
     let w = c.in_default.ensures in
-    rw w.1 (mapped_ok (map multiplied) _ _ _ (sym c.loop-op.invariant ∙ loop_stop (mul_op · factor) _ _ (mapped_each multiplied) more_factors c.args.room _ c.loop-op.found w.0))
+    rw w.1 (mapped_ok (map multiply_operand) _ _ _ (sym c.loop-op.invariant ∙ loop_stop (mul_op · factor) _ _ (mapped_each multiply_operand) more_factors c.args.room _ c.loop-op.found w.0))
 
 pub selectors-loop-self-init : goal.selectors-loop-self-init
 selectors-loop-self-init t c = rw c.new-found.ensures (sym (selectors_is c.args.room c.args.self.now))
@@ -108,7 +108,7 @@ pub selectors-loop-self-preserved : goal.selectors-loop-self-preserved
 selectors-loop-self-preserved t c =
     let w = c.in_ok-selector.ensures in
     let b : begins in_selector c.loop-self.self ≡ true = cc in
-    rw w.2 (sym (loop_turn selector _ _ (joined_each selected) more_selectors c.args.room _ c.loop-self.found _ _ b w.1) ∙ c.loop-self.invariant)
+    rw w.2 (sym (loop_turn selector _ _ (joined_each selectors_of) more_selectors c.args.room _ c.loop-self.found _ _ b w.1) ∙ c.loop-self.invariant)
 
 pub selectors-returns-in_err-selector : goal.selectors-returns-in_err-selector
 selectors-returns-in_err-selector t c =
@@ -119,7 +119,7 @@ selectors-returns-in_err-selector t c =
 pub selectors-returns : goal.selectors-returns
 selectors-returns t c =
     let b : begins in_selector c.loop-self.self ≡ false = cc in
-    sym c.loop-self.invariant ∙ loop_stop selector _ _ (joined_each selected) more_selectors c.args.room _ c.loop-self.found b
+    sym c.loop-self.invariant ∙ loop_stop selector _ _ (joined_each selectors_of) more_selectors c.args.room _ c.loop-self.found b
 
 pub negation-returns : goal.negation-returns
 negation-returns t c =

@@ -3,7 +3,7 @@ use Rattle.m2_tree.specs.declared.token.Symbol.TheVariants.{Semicolon}
 use Rattle.def_grammar.specs.Grammar.{◌▸◌, many, opt}
 use Rattle.def_grammar.specs.Ebnf.{field, fields}
 use Rattle.def_grammar.specs.Trees.{present, with_first}
-use Rattle.def_grammar.specs.Reading.{gathered, mapped, read}
+use Rattle.def_grammar.specs.Reading.{gather_turns, map_outcome, read}
 use Rattle.parse_expr.proofs.cursor.Cursor.+types.Given as goal
 
 abbrev pub decreases-dims : goal.decreases-dims
@@ -28,7 +28,7 @@ abbrev pub decreases-type_expr : goal.decreases-type_expr
 decreases-type_expr l = l.room * 32 + 20
 
 abbrev pub invariant-fields-loop-self : goal.invariant-fields-loop-self
-invariant-fields-loop-self l = gathered present l.found (read (many (Semicolon ▸ opt field)) l.room l.self) ≡ mapped (λ p. present (with_first p)) (read fields l.room l.fn.self)
+invariant-fields-loop-self l = gather_turns present l.found (read (many (Semicolon ▸ opt field)) l.room l.self) ≡ map_outcome (λ p. present (with_first p)) (read fields l.room l.fn.self)
 
 abbrev pub decreases-fields-loop-self : goal.decreases-fields-loop-self
 decreases-fields-loop-self l = length l.self

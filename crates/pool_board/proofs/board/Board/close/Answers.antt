@@ -1,7 +1,7 @@
 use Rattle.std.proofs.Common.{◌≡◌, ℕ, List, length, map, eqb, sym, ap, ◌∙◌, arith}
 use Rattle.std.specs.Slots.{slots_items}
 use Rattle.pool_board.specs.declared.rule.Record.{Record}
-use Rattle.pool_board.specs.Lists.{times, listed}
+use Rattle.pool_board.specs.Lists.{times, one_list}
 use Rattle.pool_board.specs.Rule.{record_of}
 use Rattle.pool_board.specs.Seats.{BoardState, SeatState, all_had, all_met, all_counts, unset, without}
 use Rattle.pool_board.proofs.Keeps.{IsClosed, closes}
@@ -26,11 +26,11 @@ closed c =
     rw (← graph_is c, ← c.self.invariant.graph_is, ← me, ← seen.2) known
 
 -- the gatherer's list
-left : (c : After-free) → c.unclaimed.new.list.items ≡ without (all_had c.args.seats.items) (length c.args.self.graph)
+left : (c : After-free) → c.unclaimed_jobs.new.list.items ≡ without (all_had c.args.seats.items) (length c.args.self.graph)
 left c =
     let k = closed c in
     let n : c.jobs.result ≡ length c.args.self.graph = c.jobs.ensures.jobs ∙ ap (λ (g : List (List ℕ)). length g) (graph_is c) in
-    c.unclaimed.ensures ∙ (ap (unset (slots_items c.close_with-closed.result.words)) n ∙ unset_is (slots_items c.close_with-closed.result.words) (all_had c.args.seats.items) (length c.args.self.graph) k.claimed)
+    c.unclaimed_jobs.ensures ∙ (ap (unset (slots_items c.close_with-closed.result.words)) n ∙ unset_is (slots_items c.close_with-closed.result.words) (all_had c.args.seats.items) (length c.args.self.graph) k.claimed)
 
 pub returns-clause-gatherer : goal.returns-clause-gatherer
 returns-clause-gatherer c = left ((goal.at.returns-clause-gatherer c).After-free)
@@ -39,10 +39,10 @@ pub returns-clause-each : goal.returns-clause-each
 returns-clause-each c = λ job low.
     let w : After-free = (goal.at.returns-clause-each c).After-free in
     let had : List ℕ = all_had c.args.seats.items in
-    let same : times job c.unclaimed.new.list.items ≡ times job (without had (length c.args.self.graph)) = ap (times job) (left w) in
-    let lists : listed (map (λ l. l.items) c.join_all-whole.new.lists.items) ≡ had = ap listed c.join_all-whole.ensures.lists ∙ listed-map (λ (s : SeatState). s.had) c.args.seats.items in
+    let same : times job c.unclaimed_jobs.new.list.items ≡ times job (without had (length c.args.self.graph)) = ap (times job) (left w) in
+    let lists : one_list (map (λ l. l.items) c.join_all-whole.new.lists.items) ≡ had = ap one_list c.join_all-whole.ensures.lists ∙ one_list-map (λ (s : SeatState). s.had) c.args.seats.items in
     let lists_times = ap (times job) lists in
-    omega (arith, weigh-append (λ y. bit (eqb y job)) (listed (map (λ l. l.items) c.join_all-whole.new.lists.items)) c.unclaimed.new.list.items, each_job had (length c.args.self.graph) job low ((closed w).consistent.once job))
+    omega (arith, weigh-append (λ y. bit (eqb y job)) (one_list (map (λ l. l.items) c.join_all-whole.new.lists.items)) c.unclaimed_jobs.new.list.items, each_job had (length c.args.self.graph) job low ((closed w).consistent.once job))
 
 pub returns-clause-consistent : goal.returns-clause-consistent
 returns-clause-consistent c = (closed ((goal.at.returns-clause-consistent c).After-free)).consistent

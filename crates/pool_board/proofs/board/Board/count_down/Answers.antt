@@ -5,7 +5,7 @@ use Rattle.pool_board.specs.declared.rule.Counted.{Counted}
 use Rattle.pool_board.specs.declared.rule.Record.{Record}
 use Rattle.pool_board.specs.Lists.{times}
 use Rattle.pool_board.specs.Graph.{targets_of}
-use Rattle.pool_board.specs.Rule.{counted}
+use Rattle.pool_board.specs.Rule.{count_of_edge}
 use Rattle.pool_board.specs.Seats.{BoardState, SeatState}
 use Rattle.pool_board.specs.Steps.{count_of}
 use Rattle.pool_board.proofs.Seated.{seat_counted}
@@ -44,7 +44,7 @@ count_word-found-requires-clause-may c =
       words_are = rw b.graph_is b.words_are;
       edge_is = rw b.graph_is (edge_is w);
       waiting_is = rw (b.graph_is, first_waiting w, c.targets.ensures.targets) refl;
-      fresh = ap (counted c.args.from c.args.edge) (ap (λ (s : SeatState). s.counts) c.seat.view_is) ∙ c.requires.fresh;
+      fresh = ap (count_of_edge c.args.from c.args.edge) (ap (λ (s : SeatState). s.counts) c.seat.view_is) ∙ c.requires.fresh;
       had = rw (seat.had_is, ap (λ (s : SeatState). s.had) c.seat.view_is) c.requires.had;
       share = omega (arith, seat.share_is);
     }

@@ -5,8 +5,8 @@ use Rattle.wasm_binary.specs.Binary.{Encodes}
 use Rattle.def_scheme.specs.Modules.{link_of, stack_begin}
 use Rattle.m2_emit.specs.declared.emitted.ModuleBytes.{ModuleBytes}
 use Rattle.m2_emit.specs.Emitted.{parts}
-use Rattle.build_jobs.specs.Borrowed.{borrowed}
-use Rattle.m2c.specs.Build.{named, named_bytes, started}
+use Rattle.build_jobs.specs.Borrowed.{borrow_trees}
+use Rattle.m2c.specs.Build.{name_bytes, named_bytes, start_modules}
 use Rattle.m2c.proofs.Graphs.{is_program}
 use Rattle.m2c.proofs.Borrowed.{copies_borrowed}
 use Rattle.m2c.proofs.Named.{borrowed_named, started_named}
@@ -19,7 +19,7 @@ items_of v = v.items
 pub copies_of-requires : goal.copies_of-requires
 copies_of-requires c =
     let g = c.args.graph.now in
-    let fs = borrowed c.args.trees.now in
+    let fs = borrow_trees c.args.trees.now in
     let jobs = map items_of g.jobs.items in
     borrowed_named c.args.modules.now
     (subst (All (λ (x : ModuleBytes). IsName x.name)) (sym c.requires.modules) (started_named c.args.files.now fs g.files.items jobs g.starts.items c.requires.graph c.requires.none))
@@ -27,12 +27,12 @@ copies_of-requires c =
 pub returns : goal.returns
 returns c =
     let g = c.args.graph.now in
-    let fs = borrowed c.args.trees.now in
-    let whole = started fs g.files.items (map items_of g.jobs.items) g.starts.items in
+    let fs = borrow_trees c.args.trees.now in
+    let whole = start_modules fs g.files.items (map items_of g.jobs.items) g.starts.items in
     let link_is : Encodes c.in_ok-link.link.items (link_of (parts whole) c.args.pages) =
     subst (λ (ms : List ModuleBytes). Encodes c.in_ok-link.link.items (link_of (parts ms) c.args.pages)) c.requires.modules c.in_ok-link.ensures
     in
-    let built_are : map named c.in_ok-modules.modules.items ≡ map named_bytes whole = c.in_ok-modules.ensures ∙ copies_borrowed c.args.modules.now ∙ ap (map named_bytes) c.requires.modules in
+    let built_are : map name_bytes c.in_ok-modules.modules.items ≡ map named_bytes whole = c.in_ok-modules.ensures ∙ copies_borrowed c.args.modules.now ∙ ap (map named_bytes) c.requires.modules in
     let fits : stack_begin (parts whole) + 4096 ≤ 65536 * c.args.pages = subst (λ (ms : List ModuleBytes). stack_begin (parts ms) + 4096 ≤ 65536 * c.args.pages) c.requires.modules c.requires.fits in
     is_program c.args.files.now fs g.files.items (map items_of g.jobs.items) g.starts.items c.requires.graph c.requires.none c.args.pages c.requires.least c.requires.most fits
-    c.in_ok-link.link.items (map named c.in_ok-modules.modules.items) link_is built_are
+    c.in_ok-link.link.items (map name_bytes c.in_ok-modules.modules.items) link_is built_are

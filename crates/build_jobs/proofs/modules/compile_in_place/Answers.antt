@@ -5,8 +5,8 @@ use Rattle.std.specs.Borrow.{Bor}
 use Rattle.std.proofs.lemmas.Option.{slice_get-map}
 use Rattle.m2_tree.specs.declared.decl.Module.{Module}
 use Rattle.build_jobs.specs.declared.outcome.Compiled.{Compiled}
-use Rattle.build_jobs.specs.Compiling.{compiled}
-use Rattle.build_jobs.specs.Jobs.{compiled_in}
+use Rattle.build_jobs.specs.Compiling.{compilation_of}
+use Rattle.build_jobs.specs.Jobs.{compile_in_place}
 use Rattle.build_jobs.specs.ModuleEncoded.{IsEncoded}
 use Rattle.build_jobs.specs.Encoded.{encoded_in}
 use Rattle.build_jobs.specs.Borrowed.{modules_borrowed}
@@ -16,8 +16,8 @@ abbrev tree_of : Bor (List ℕ) × Bor Module → Module
 tree_of t = t.1.now
 
 in_place : {E : Type 0} (r : Result Compiled E) (o : Option Module) (m : Module) (job : ℕ) (needed : List Compiled) → o ≡ Some m
-    → IfOk r (λ x. x ≡ compiled m job needed) → IfOk r (λ x. x ≡ compiled_in o job needed)
-in_place r o m job needed e h = subst (λ (p : Option Module). IfOk r (λ x. x ≡ compiled_in p job needed)) (sym e) h
+    → IfOk r (λ x. x ≡ compilation_of m job needed) → IfOk r (λ x. x ≡ compile_in_place o job needed)
+in_place r o m job needed e h = subst (λ (p : Option Module). IfOk r (λ x. x ≡ compile_in_place p job needed)) (sym e) h
 
 pub returns-in-Some-clause-becomes : goal.returns-in-Some-clause-becomes
 returns-in-Some-clause-becomes c =

@@ -2,7 +2,7 @@ use Rattle.std.proofs.Common.{◌≡◌, ◌<◌, [], ◌∷◌, ◌++◌, lengt
 use Rattle.std.proofs.lemmas.Grind.{common_steps}
 use Rattle.once_cell.specs.Once.{cell_name}
 use Rattle.pool_board.specs.Graph.{prerequisites_of}
-use Rattle.pool_board.specs.Results.{picked}
+use Rattle.pool_board.specs.Results.{items_at}
 use Rattle.m2_pool.proofs.Items.{next_in}
 use Rattle.m2_pool.proofs.Gathering.{Answers, answers_more, next_result, no_places_yet, none_yet, of_answers, settled_too, kept_from}
 use Rattle.m2_pool.proofs.gather.gathered.Goals as goal
@@ -57,7 +57,7 @@ loop-place-preserved g c =
     let m : c.len-job.result ≡ length c.loop-place.settled.items = omega (arith, n, before.count_is, before.outs_count) in
     let at = next_in c.loop-place.yielded _ _ c.args.places.items c.in-Some.place before.rest_is c.in-Some.ensures.steps.0 in
     let low : c.len-job.result < length pool.graph.now = omega (arith, at.0, before.outs_count, c.requires.count, n) in
-    let one = subst (λ xs. defines c.len-job.result (picked xs (prerequisites_of pool.graph.now c.len-job.result)) c.in_ok-out.out) c.as_slice.ensures.value c.in_ok-out.ensures.out in
+    let one = subst (λ xs. defines c.len-job.result (items_at xs (prerequisites_of pool.graph.now c.len-job.result)) c.in_ok-out.out) c.as_slice.ensures.value c.in_ok-out.ensures.out in
     record {
       rest_is = append_assoc c.loop-place.yielded (c.in-Some.place ∷ []) _ ∙ (ap (λ l. c.loop-place.yielded ++ l) (sym c.in-Some.ensures.steps.0) ∙ before.rest_is);
       length_is = grind (arith, common_steps);
