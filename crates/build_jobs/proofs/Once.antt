@@ -32,7 +32,7 @@ parsed_or_refused text tree pos n h (inr k) = tree_or_none text tree pos n h k
 one_fault : (text : List ℕ) (p q : Pos) (n m : ℕ) → IsNoText text p n → IsNoText text q m → (p ≡ q) × (n ≡ m)
 one_fault text p q n m h k =
     let e : h.refusal ≡ k.refusal = one_refusal text h.refusal k.refusal h.refuses k.refuses in
-    (h.place ∙ ap (λ (r : ScanRefusal). r.pos) e ∙ sym k.place, h.rule ∙ ap (λ (r : ScanRefusal). number_of r.fault) e ∙ sym k.rule)
+    (h.place ∙ ap (λ (r : ScanRefusal). r.pos) e ∙ sym k.place, h.rule ∙ ap (λ (r : ScanRefusal). number_of r.broken) e ∙ sym k.rule)
 
 one_unreported : (text : List ℕ) (p q : Pos) (n m : ℕ) → IsNoTree text p n → IsNoTree text q m → (p ≡ q) × (n ≡ m)
 one_unreported text p q n m h k =

@@ -23,7 +23,7 @@ pub record IsNoText (text : List ℕ) (pos : Pos) (number : ℕ) : Type 0 where
   pub refusal : ScanRefusal
   pub refuses : Refuses text refusal
   pub place : pos ≡ refusal.pos
-  pub rule : number ≡ number_of refusal.fault
+  pub rule : number ≡ number_of refusal.broken
 
 -- the text has tokens, and these have no tree
 pub record IsNoTree (text : List ℕ) (pos : Pos) (number : ℕ) : Type 0 where

@@ -19,7 +19,7 @@ pub enum Read {
 }
 
 /// What is read of each text with this tree.
-fn shared(alloc: Global, tree: Module) -> Result<Read, AllocError>
+fn share_tree(alloc: Global, tree: Module) -> Result<Read, AllocError>
     ensures { IfOk result (λ r. (text : List ℕ) → HasTree text tree → IsRead text r) }
 {
     Ok(Read::Parsed(Arc::new(alloc, tree)?))
@@ -31,7 +31,7 @@ fn read_tokens(alloc: Global, tokens: &[Token], text: &[u8]) -> Result<Read, All
     ensures { IfOk result (λ r. IsRead text.now r) }
 {
     match parse(alloc, tokens) {
-        Ok(tree) => shared(alloc, tree),
+        Ok(tree) => share_tree(alloc, tree),
         Err(ParseError::Refused(refusal)) => Ok(Read::Refused(refusal.pos, refusal.number)),
         Err(ParseError::NoMemory) => Err(AllocError),
     }
@@ -43,7 +43,7 @@ pub fn read_text(alloc: Global, text: &[u8]) -> Result<Read, AllocError>
 {
     match scan(alloc, text) {
         Ok(tokens) => read_tokens(alloc, &tokens, text),
-        Err(ScanError::Refused(refusal)) => Ok(Read::Refused(refusal.pos, refusal.fault.number())),
+        Err(ScanError::Refused(refusal)) => Ok(Read::Refused(refusal.pos, refusal.broken.number())),
         Err(ScanError::NoMemory) => Err(AllocError),
     }
 }

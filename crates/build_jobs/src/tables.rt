@@ -26,7 +26,7 @@ pub fn own_table<'a>(tree: &Module, tables: &'a [Shared<Table>]) -> Option<&'a T
 }
 
 /// The same tables once more.
-fn shared(alloc: Global, tables: &[Shared<Table>]) -> Result<Items<Shared<Table>>, AllocError>
+fn share_tables(alloc: Global, tables: &[Shared<Table>]) -> Result<Items<Shared<Table>>, AllocError>
     ensures { IfOk result (λ all. all ≡ tables.now) }
 {
     let mut all = Items::new(alloc);
@@ -46,8 +46,8 @@ pub fn tables_behind(
         (λ behind. behind ≡ tables_behind (option_copied own.entry) tables.now) }
 {
     match (own, tables) {
-        (None, _) => shared(alloc, tables),
+        (None, _) => share_tables(alloc, tables),
         (Some(_), []) => Ok(Items::new(alloc)),
-        (Some(_), [_, behind @ ..]) => shared(alloc, behind),
+        (Some(_), [_, behind @ ..]) => share_tables(alloc, behind),
     }
 }

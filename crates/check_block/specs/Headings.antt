@@ -72,12 +72,14 @@ set_heading name m s = with_known name (Headed m) s
 
 abbrev pub module_procedure : {T : Type 0} → Scope T → List ℕ → Result TypeNo T → Scope T
 module_procedure s name t =
-    set_heading name (procedure_meaning s.types.home (length s.procedures) t) (with_procedure_type s t)
+    set_heading name (procedure_meaning s.types.home (length s.procedures) t)
+    (with_procedure_type s t)
 
 abbrev pub new_procedure : {T : Type 0} → Scope T → List ℕ → (number : ℕ) → Result TypeNo T
     → Scope T
 new_procedure s name n t =
-    cond (s.level == 0) (module_procedure s name t) (set_heading name (nested_meaning s.level n t) s)
+    cond (s.level == 0) (module_procedure s name t)
+    (set_heading name (nested_meaning s.level n t) s)
 
 abbrev pub with_new : {T : Type 0} → Scope T → List ℕ → (number : ℕ) → Result Made T
     → State (Unit {0}) T

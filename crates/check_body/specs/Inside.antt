@@ -54,7 +54,8 @@ reported_in body = body ▷ λ xs. Ok tt
 abbrev pub with_routine : {T : Type 0} → Scope T → Ident → (around : Option Which) → (formals : ℕ)
     → Option Numbered → Result (List TypedStmt) T → Bodies → Bodies
 with_routine s name around n None body rs = rs
-with_routine s name around n (Some p) (Ok xs) rs = put_routine rs p.which (routine s name p around n xs)
+with_routine s name around n (Some p) (Ok xs) rs =
+    put_routine rs p.which (routine s name p around n xs)
 with_routine s name around n (Some p) (Err e) rs = rs
 
 -- behind the END of a procedure; what its statements reported counts now

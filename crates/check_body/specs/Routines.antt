@@ -72,7 +72,8 @@ no_bodies headings = record { procedures = map empty_routine headings; locals = 
 
 -- where a procedure begins in a block of this level
 abbrev pub begun_at : (level : ℕ) → Bodies → Bodies
-begun_at level rs = cond (level == 0) rs (record rs { locals = rs.locals ++ empty_routine integer ∷ [] })
+begun_at level rs =
+    cond (level == 0) rs (record rs { locals = rs.locals ++ empty_routine integer ∷ [] })
 
 abbrev pub put_routine : Bodies → Which → Routine → Bodies
 put_routine rs (which.Module n) r = record {

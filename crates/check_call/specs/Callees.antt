@@ -20,7 +20,8 @@ use Rattle.check_call.specs.declared.callee.Callee.TheVariants as callee
 use Rattle.check_call.specs.declared.callee.Called.{Called}
 use Rattle.check_call.specs.declared.callee.Called.TheVariants as called
 
-abbrev pub callee_in_variable : (g : Gathers) → Pos → TypeNo → Place → Class → Result Called g.Reported
+abbrev pub callee_in_variable : (g : Gathers) → Pos → TypeNo → Place → Class
+    → Result Called g.Reported
 callee_in_variable g at t d class.Procedure = Ok (called.Routine t (callee.Variable t d))
 callee_in_variable g at t d (class.Scalar s) = report g at rule.WrongType
 callee_in_variable g at t d class.Set = report g at rule.WrongType

@@ -72,7 +72,8 @@ change_target_as g at t d class.Set = report g at rule.NoVariable
 change_target_as g at t d class.Procedure = report g at rule.NoVariable
 change_target_as g at t d class.Whole = report g at rule.NoVariable
 
-abbrev pub change_target : (g : Gathers) → Types → Pos → Designated → Result (TypeNo × Place) g.Reported
+abbrev pub change_target : (g : Gathers) → Types → Pos → Designated
+    → Result (TypeNo × Place) g.Reported
 change_target g types at (designated.Variable t d) = change_target_as g at t d (class_at types t)
 change_target g types at (designated.Value x) = report g at rule.NoVariable
 change_target g types at (designated.Open t slot) = report g at rule.NoVariable

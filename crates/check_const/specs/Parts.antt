@@ -158,8 +158,8 @@ module _ (g : Gathers) where
   standard_call_value s at denoted.Procedure args = report g at rule.NoConstant
   standard_call_value s at (denoted.Module k) args = report g at rule.NoConstant
 
-  abbrev pub call_value : Scope g.Reported → Pos → Result Denoted g.Reported → List (Part g.Reported)
-      → Result Value g.Reported
+  abbrev pub call_value : Scope g.Reported → Pos → Result Denoted g.Reported
+      → List (Part g.Reported) → Result Value g.Reported
   call_value s at d args = d ▷ λ x. standard_call_value s at x args
 
   abbrev pub used_with : Part g.Reported → Option (List (Part g.Reported)) → Part g.Reported
@@ -195,7 +195,8 @@ module _ (g : Gathers) where
       Expr-F (Part g.Reported) (Pick g.Reported) (Part g.Reported) (Adds g.Reported)
       → Part g.Reported
   expr_layer (layer.Number at n) = standing at (λ s. Ok (denoted.Value (value.Number (pos n))))
-  expr_layer (layer.Char at c) = standing at (λ s. Ok (denoted.Value (number_value (Some char) (pos c))))
+  expr_layer (layer.Char at c) =
+      standing at (λ s. Ok (denoted.Value (number_value (Some char) (pos c))))
   expr_layer (layer.Text at t) = standing at (λ s. Ok (denoted.Value (value.Text t)))
   expr_layer (layer.Set name at items) =
       standing (set_place name at) (λ s.
@@ -218,7 +219,8 @@ module _ (g : Gathers) where
   selector_layer (layer.Index at index) = λ s d. d ▷ component g at
 
   -- what a name with selectors stands for
-  abbrev pub selection : Scope g.Reported → Ident → List (Pick g.Reported) → Result Denoted g.Reported
+  abbrev pub selection : Scope g.Reported → Ident → List (Pick g.Reported)
+      → Result Denoted g.Reported
   selection s name picks = fold (λ x p. p s x) (first_name g s name) picks
 
   abbrev pub item_layer :

@@ -22,7 +22,8 @@ fits (Some t) n =
     (is_between (pos 0) n (pos 4294967295))
 
 abbrev pub number_at : (g : Gathers) → Pos → Option TypeNo → ℤ → Result Value g.Reported
-number_at g at sort n = reported_where g (not (fits sort n)) at rule.OutOfRange (Ok (number_value sort n))
+number_at g at sort n =
+    reported_where g (not (fits sort n)) at rule.OutOfRange (Ok (number_value sort n))
 
 abbrev pub whole_arithmetic : BinaryOp → ℤ → ℤ → ℤ
 whole_arithmetic Plus x y = x +ℤ y

@@ -68,8 +68,8 @@ is_misfit (Some t) None n = not (fits (Some t) n)
 abbrev pub fitting : (g : Gathers) → Option TypeNo → Pos → Ordinal → Result (Unit {0}) g.Reported
 fitting g sort at a = reported_where g (is_misfit sort a.sort a.number) at rule.OutOfRange (Ok tt)
 
-abbrev pub ordinal_operation : (g : Gathers) → BinaryOp → Pos → Option TypeNo → Pos → Ordinal → Pos → Ordinal
-    → Result Value g.Reported
+abbrev pub ordinal_operation : (g : Gathers) → BinaryOp → Pos → Option TypeNo → Pos → Ordinal → Pos
+    → Ordinal → Result Value g.Reported
 ordinal_operation g op spot sort at a at' b =
     reported_where g (not (takes op sort)) spot rule.WrongType
     (beside g (divisor g op spot b.number) (beside g (fitting g sort at a) (fitting g sort at' b))
@@ -107,7 +107,8 @@ is_signed (Some t) = is_integer t
 
 abbrev pub signed_scalar : (g : Gathers) → Sign → Pos → Ordinal → Result Value g.Reported
 signed_scalar g sign.Plus spot a =
-    reported_where g (not (is_number a.sort)) spot rule.WrongType (Ok (number_value a.sort a.number))
+    reported_where g (not (is_number a.sort)) spot rule.WrongType
+    (Ok (number_value a.sort a.number))
 signed_scalar g sign.Minus spot a =
     reported_where g (not (is_signed a.sort)) spot rule.WrongType
     (evaluated_at g spot a.sort Minus (pos 0) a.number)
@@ -117,7 +118,8 @@ signed_value g o spot None = report g spot rule.WrongType
 signed_value g o spot (Some (Set bits)) = report g spot rule.WrongType
 signed_value g o spot (Some (Scalar a)) = signed_scalar g o spot a
 
-abbrev pub with_sign : (g : Gathers) → Sign → Pos → Result Value g.Reported → Result Value g.Reported
+abbrev pub with_sign : (g : Gathers) → Sign → Pos → Result Value g.Reported
+    → Result Value g.Reported
 with_sign g o spot x = x ▷ λ v. signed_value g o spot (operand_of v)
 
 abbrev pub negated_value : (g : Gathers) → Pos → Option Operand → Result Value g.Reported

@@ -15,6 +15,7 @@ use Rattle.check_const_ops.specs.Operands.{truth, is_number}
 use Rattle.check_const_ops.specs.Numbers.{is_between}
 use Rattle.check_const_ops.specs.Standards.{whole_number}
 use Rattle.check_const_ops.specs.Common.{common}
+use Rattle.check_const_ops.specs.Bounds.{bounds_in_order}
 
 -- ---- operators
 
@@ -106,13 +107,11 @@ has_none (Some sort) = false
 abbrev pub is_unlike : Ordinal → Ordinal → Bool
 is_unlike a b = has_none (common a.sort b.sort)
 
-abbrev pub bounds_in_order : (g : Gathers) → Pos → ℤ → ℤ → Result (Unit {0}) g.Reported
-bounds_in_order g at low high = reported_where g (int_lt high low) at rule.EmptyRange (Ok tt)
-
 abbrev pub in_set : (g : Gathers) → Pos → Result Ordinal g.Reported → Result (Unit {0}) g.Reported
 in_set g at a = a ▷ is_element g at
 
-abbrev pub alike_in_order : (g : Gathers) → Pos → Pos → Ordinal → Ordinal → Result (Unit {0}) g.Reported
+abbrev pub alike_in_order : (g : Gathers) → Pos → Pos → Ordinal → Ordinal
+    → Result (Unit {0}) g.Reported
 alike_in_order g at at' a b =
     reported_where g (is_unlike a b) at' rule.WrongType (bounds_in_order g at a.number b.number)
 

@@ -2,8 +2,9 @@
 
 ghost use Rattle.std.specs.Prelude.{◌≡◌};
 ghost use Rattle.check_scope.specs.Elaborated.{least};
-ghost use Rattle.check_const_ops.specs.Sets.{ordinal_or_refusal, element, is_element, single, is_unlike, bounds_in_order, in_set, alike_in_order, related_bounds, span_of};
+ghost use Rattle.check_const_ops.specs.Sets.{ordinal_or_refusal, element, is_element, single, is_unlike, in_set, alike_in_order, related_bounds, span_of};
 
+use crate::bounds::bounds_in_order;
 use crate::operand::Ordinal;
 use crate::operate::common;
 use crate::sets::with_span;
@@ -58,16 +59,6 @@ fn is_unlike(a: Ordinal, b: Ordinal) -> bool
         None => true,
         Some(_) => false,
     }
-}
-
-/// The bounds of a range, in order.
-fn bounds_in_order(at: Pos, low: i64, high: i64) -> Elaborated<()>
-    ensures { result ≡ bounds_in_order least at low high }
-{
-    if high < low {
-        return report(at, Rule::EmptyRange);
-    }
-    Ok(())
 }
 
 fn in_set(at: Pos, a: Elaborated<Ordinal>) -> Elaborated<()>

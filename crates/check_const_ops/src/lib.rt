@@ -1,6 +1,7 @@
 //! What operators and standard procedures make of constants.
 #![tactic(auto)]
 
+mod bounds;
 mod elements;
 mod number;
 mod operand;
@@ -9,6 +10,7 @@ mod operator;
 mod sets;
 mod standard;
 
+pub use bounds::{are_ordered, bounds_in_order, fits_base, is_of_base, ordinal_in};
 pub use elements::{element, single, span_of};
 pub use number::fits;
 pub use operand::{Operand, Ordinal, is_number, is_truth, number_value, operand_of};

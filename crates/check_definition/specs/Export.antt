@@ -66,7 +66,8 @@ with_place_if tables so name (Some k) = with_table_if so name (slice_get tables 
 
 abbrev pub with_imported : List (List ℕ × ℕ) → List Table → List (List ℕ × ℕ) → Ident
     → List (List ℕ × ℕ)
-with_imported modules tables so name = with_place_if tables so name.name (find_name name.name modules)
+with_imported modules tables so name =
+    with_place_if tables so name.name (find_name name.name modules)
 
 abbrev pub with_imports_of : List (List ℕ × ℕ) → List Table → List (List ℕ × ℕ) → Option Ident
     → List Ident → List (List ℕ × ℕ)

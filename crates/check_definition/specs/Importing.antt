@@ -39,7 +39,8 @@ module_named g modules name = module_found g name.pos (find_name name.name modul
 
 abbrev pub with_module_as : (g : Gathers) → Scope g.Reported → Ident → Result ℕ g.Reported
     → State (Unit {0}) g.Reported
-with_module_as g s name (Ok k) = import_name g s name.pos name.name (Module k) (Ok (meaning.Module k))
+with_module_as g s name (Ok k) =
+    import_name g s name.pos name.name (Module k) (Ok (meaning.Module k))
 with_module_as g s name (Err e) = (s, Err e)
 
 abbrev pub with_module_name : (g : Gathers) → List (List ℕ × ℕ) → State (Unit {0}) g.Reported

@@ -93,7 +93,8 @@ others_of tables = fold with_table [] tables
 
 module _ {T : Type 0} where
   abbrev pub predeclared_block : Block T
-  predeclared_block = record { names = predeclared_names {T = T}; seen = length (predeclared_names {T = T}) }
+  predeclared_block =
+      record { names = predeclared_names {T = T}; seen = length (predeclared_names {T = T}) }
 
   abbrev pub first_scope : ℕ → List Table → Scope T
   first_scope home tables = record {

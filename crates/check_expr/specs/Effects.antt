@@ -37,14 +37,17 @@ module _ (g : Gathers) where
       (λ fine. call_done c (actuals g s (formals_of (signature_at s.types h)) args))
 
   -- the variable of INC or DEC
-  abbrev pub change_target_in : Scope g.Reported → Meant g.Reported → Result (TypeNo × Place) g.Reported
-  change_target_in s v = of_sort g v.fixed.at rule.NoVariable (v.means s) ▷ change_target g s.types v.fixed.at
+  abbrev pub change_target_in : Scope g.Reported → Meant g.Reported
+      → Result (TypeNo × Place) g.Reported
+  change_target_in s v =
+      of_sort g v.fixed.at rule.NoVariable (v.means s) ▷ change_target g s.types v.fixed.at
 
   -- by 1, where nothing is written
   abbrev pub change_statement : Scope g.Reported → Pos → Change → List (Meant g.Reported)
       → Result TypedStmt g.Reported
   change_statement s at o [] = wrong_count g s at []
-  change_statement s at o (v ∷ []) = change_by g o (change_target_in s v) (Ok (expr.Constant cardinal (pos 1)))
+  change_statement s at o (v ∷ []) =
+      change_by g o (change_target_in s v) (Ok (expr.Constant cardinal (pos 1)))
   change_statement s at o (v ∷ n ∷ []) =
       change_by g o (change_target_in s v) (value_of g s n ▷ amount g n.fixed.at)
   change_statement s at o (v ∷ n ∷ x ∷ xs) = wrong_count g s at (v ∷ n ∷ x ∷ xs)
@@ -61,7 +64,8 @@ module _ (g : Gathers) where
       membership_of g o (set_in s v) (value_of g s n ▷ element g n.fixed.at)
   member_by s at o (v ∷ n ∷ x ∷ xs) = wrong_count g s at (v ∷ n ∷ x ∷ xs)
 
-  abbrev pub halt_statement : Scope g.Reported → Pos → List (Meant g.Reported) → Result TypedStmt g.Reported
+  abbrev pub halt_statement : Scope g.Reported → Pos → List (Meant g.Reported)
+      → Result TypedStmt g.Reported
   halt_statement s at [] = Ok step.Halt
   halt_statement s at (x ∷ xs) = wrong_count g s at (x ∷ xs)
 

@@ -77,8 +77,8 @@ abbrev pub signed_first : (g : Gathers) → Option (Operator Sign) → Result Co
 signed_first g None x = x
 signed_first g (Some o) x = with_sign g o.op o.pos x
 
-abbrev pub relation_value : (g : Gathers) → Types → Operator RelOp → Pos → Result Computed g.Reported → Pos
-    → Result Computed g.Reported → Result Computed g.Reported
+abbrev pub relation_value : (g : Gathers) → Types → Operator RelOp → Pos
+    → Result Computed g.Reported → Pos → Result Computed g.Reported → Result Computed g.Reported
 relation_value g types o at x at' y = operation_between g types (op.Relation o.op) o.pos at x at' y
 
 -- ---- designators
@@ -171,7 +171,8 @@ module _ (g : Gathers) where
       → Result (Unit {0}) g.Reported
   with_look s so x = beside g so (of_heading (x.means s) ▷ λ d. Ok tt)
 
-  abbrev pub breaches_in_all : Scope g.Reported → List (Meant g.Reported) → Result (Unit {0}) g.Reported
+  abbrev pub breaches_in_all : Scope g.Reported → List (Meant g.Reported)
+      → Result (Unit {0}) g.Reported
   breaches_in_all s args = fold (with_look s) (Ok tt) args
 
   -- a wrong number of arguments
@@ -238,10 +239,12 @@ module _ (g : Gathers) where
   callee_value s at args (called.Standard f) = by_form s at f args (form_of f)
 
   -- the arguments are looked at, also if nothing can be called so
-  abbrev pub call_in_expression : Scope g.Reported → Pos → Result Designated (Meaningless g.Reported)
-      → List (Meant g.Reported) → Result Computed g.Reported
+  abbrev pub call_in_expression : Scope g.Reported → Pos
+      → Result Designated (Meaningless g.Reported) → List (Meant g.Reported)
+      → Result Computed g.Reported
   call_in_expression s at d args =
-      ahead g (of_heading d ▷ callee_of g s.types at) (breaches_in_all s args) (callee_value s at args)
+      ahead g (of_heading d ▷ callee_of g s.types at) (breaches_in_all s args)
+      (callee_value s at args)
 
   abbrev pub used_with : Scope g.Reported → Meant g.Reported → Option (List (Meant g.Reported))
       → Result Designated (Meaningless g.Reported)

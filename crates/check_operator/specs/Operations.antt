@@ -149,7 +149,8 @@ abbrev pub step_or_refusal : (g : Gathers) → Pos → Option TypeNo → Amount 
     → Result Computed g.Reported
 step_or_refusal g spot sort a b None = report g spot rule.WrongType
 step_or_refusal g spot sort a b (Some o) =
-    Ok (step_result (or_cardinal sort) (run_of (or_cardinal sort) a) (run_of (or_cardinal sort) b) o)
+    Ok
+    (step_result (or_cardinal sort) (run_of (or_cardinal sort) a) (run_of (or_cardinal sort) b) o)
 
 abbrev pub on_amounts : (g : Gathers) → BinaryOp → Pos → Pos → Amount → Pos → Amount
     → Option (Option TypeNo) → Result Computed g.Reported
@@ -258,9 +259,11 @@ by_known g types op spot at x at' y (Some a) (Some b) = constant_result g op spo
 
 abbrev pub operation_on : (g : Gathers) → Types → BinaryOp → Pos → Pos → Computed → Pos → Computed
     → Result Computed g.Reported
-operation_on g types op spot at x at' y = by_known g types op spot at x at' y (known_of x) (known_of y)
+operation_on g types op spot at x at' y =
+    by_known g types op spot at x at' y (known_of x) (known_of y)
 
 -- an operator at a place, between two parts at theirs
-abbrev pub operation_between : (g : Gathers) → Types → BinaryOp → Pos → Pos → Result Computed g.Reported
-    → Pos → Result Computed g.Reported → Result Computed g.Reported
-operation_between g types op spot at x at' y = both g x y ▷ λ p. operation_on g types op spot at p.0 at' p.1
+abbrev pub operation_between : (g : Gathers) → Types → BinaryOp → Pos → Pos
+    → Result Computed g.Reported → Pos → Result Computed g.Reported → Result Computed g.Reported
+operation_between g types op spot at x at' y =
+    both g x y ▷ λ p. operation_on g types op spot at p.0 at' p.1

@@ -34,7 +34,8 @@ abbrev pub slot_of : (level : ℕ) → LocalVariable → Slot
 slot_of level v = record { up = level - v.level; number = v.number }
 
 abbrev pub local_by : (level : ℕ) → LocalVariable → LocalKind → Designated
-local_by level v kind.Variable = designated.Variable v.of (root_place (root.Local (slot_of level v)))
+local_by level v kind.Variable =
+    designated.Variable v.of (root_place (root.Local (slot_of level v)))
 local_by level v kind.Value = designated.Variable v.of (root_place (root.Local (slot_of level v)))
 local_by level v kind.Alias = designated.Variable v.of (root_place (root.Alias (slot_of level v)))
 local_by level v kind.Open = designated.Open v.of (slot_of level v)

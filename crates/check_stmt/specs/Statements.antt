@@ -101,7 +101,8 @@ module _ (g : Gathers) where
   stmt_layer (layer.Exit at) s w = exit_statement g at w
   stmt_layer (layer.Return at e) s w = return_statement g s at w.gives (meant_if g e)
   stmt_layer (layer.For name start limit by body) s w =
-      repeated_for g (course_of g s name (meanings_of g start) (meanings_of g limit) (meant_if g by))
+      repeated_for g
+      (course_of g s name (meanings_of g start) (meanings_of g limit) (meant_if g by))
       (all_of s w body)
   stmt_layer (layer.With d body) s w = with_of s w d body
 

@@ -47,7 +47,8 @@ controlled_as g at t d class.Set = report g at rule.WrongControl
 controlled_as g at t d class.Procedure = report g at rule.WrongControl
 controlled_as g at t d class.Whole = report g at rule.WrongControl
 
-abbrev pub control_variable : (g : Gathers) → Types → Pos → TypeNo → Place → Result Control g.Reported
+abbrev pub control_variable : (g : Gathers) → Types → Pos → TypeNo → Place
+    → Result Control g.Reported
 control_variable g types at t d = controlled_as g at t d (class_at types t)
 
 abbrev pub is_own : LocalKind → Bool

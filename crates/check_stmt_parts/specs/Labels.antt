@@ -18,6 +18,7 @@ use Rattle.check_const_ops.specs.declared.operand.Operand.TheVariants as operand
 use Rattle.check_const_ops.specs.Operands.{operand_of}
 use Rattle.check_const_ops.specs.Numbers.{fits}
 use Rattle.check_const_ops.specs.Common.{common}
+use Rattle.check_const_ops.specs.Bounds.{ordinal_in, is_of_base, fits_base, are_ordered}
 use Rattle.check_operator.specs.declared.class.Class.{Class}
 use Rattle.check_operator.specs.declared.class.Class.TheVariants as class
 use Rattle.check_operator.specs.declared.computed.Computed.{Computed}
@@ -38,11 +39,6 @@ suits_selector None b = true
 suits_selector (Some base) b = are_same b base
 
 -- ---- one bound at its place; a label at its own place is no constant: 49
-
-abbrev pub ordinal_in : (g : Gathers) → Pos → Option Operand → Result Ordinal g.Reported
-ordinal_in g at None = report g at rule.WrongType
-ordinal_in g at (Some (operand.Set bits)) = report g at rule.WrongType
-ordinal_in g at (Some (operand.Scalar a)) = Ok a
 
 abbrev pub of_type : (g : Gathers) → (alike : Bool) → Pos → Result (Unit {0}) g.Reported
 of_type g alike at = reported_where g (not alike) at rule.WrongType (Ok tt)
@@ -95,22 +91,11 @@ bound_of g s base label x = bound_in g s.types base label x.fixed.at (x.means s)
 
 -- ---- bounds have the base type of the selector
 
-abbrev pub is_of_base : TypeNo → Option TypeNo → Bool
-is_of_base base None = is_numeric base
-is_of_base base (Some t) = are_same t base
-
--- a number without a type is one of the base type
-abbrev pub number_fits : (g : Gathers) → TypeNo → Pos → Ordinal → Option TypeNo
-    → Result (Unit {0}) g.Reported
-number_fits g base at a None =
-    reported_where g (not (fits (Some base) a.number)) at rule.OutOfRange (Ok tt)
-number_fits g base at a (Some t) = Ok tt
-
 abbrev pub suits_base : (g : Gathers) → Option TypeNo → Pos → Ordinal → Result (Unit {0}) g.Reported
 suits_base g None at a = Ok tt
 suits_base g (Some base) at a =
     reported_where g (not (is_of_base base a.sort)) at rule.WrongType
-    (number_fits g base at a a.sort)
+    (fits_base g at base a.sort a.number)
 
 abbrev pub bound_suits : (g : Gathers) → Option TypeNo → Pos → Result Ordinal g.Reported
     → Result (Unit {0}) g.Reported
@@ -122,16 +107,6 @@ single g base at a =
     both g a (bound_suits g base at a) ▷ λ p. Ok (record { low = p.0.number; high = p.0.number })
 
 -- ---- a range: each bound for itself, and both
-
-abbrev pub ordered_if : (g : Gathers) → Pos → Ordinal → Ordinal → Option (Option TypeNo)
-    → Result (Unit {0}) g.Reported
-ordered_if g at a b None = Ok tt
-ordered_if g at a b (Some sort) =
-    reported_where g (int_lt b.number a.number) at rule.EmptyRange (Ok tt)
-
-abbrev pub are_ordered : (g : Gathers) → Pos → Result Ordinal g.Reported → Result Ordinal g.Reported
-    → Result (Unit {0}) g.Reported
-are_ordered g at a b = both g a b ▷ λ p. ordered_if g at p.0 p.1 (common p.0.sort p.1.sort)
 
 abbrev pub label_range : (g : Gathers) → Option TypeNo → Pos → Result Ordinal g.Reported → Pos
     → Result Ordinal g.Reported → Result Label g.Reported

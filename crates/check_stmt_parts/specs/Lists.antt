@@ -18,8 +18,9 @@ with_next g so x = both g so x ▷ λ p. Ok (p.0 ++ p.1 ∷ [])
 abbrev pub standing : {T : Type 0} → Result (List TypedStmt) T → Result (Option (List TypedStmt)) T
 standing body = body ▷ λ x. Ok (Some x)
 
-abbrev pub if_statement : (g : Gathers) → Result TypedExpr g.Reported → Result (List TypedStmt) g.Reported
-    → Result (Option (List TypedStmt)) g.Reported → Result TypedStmt g.Reported
+abbrev pub if_statement : (g : Gathers) → Result TypedExpr g.Reported
+    → Result (List TypedStmt) g.Reported → Result (Option (List TypedStmt)) g.Reported
+    → Result TypedStmt g.Reported
 if_statement g c body rest = both g c (both g body rest) ▷ λ p. Ok (step.If p.0 p.1.0 p.1.1)
 
 -- an ELSIF is an IF in the ELSE

@@ -57,10 +57,11 @@ given_back g types t at x =
     both g t x ▷ λ p. value_suited g rule.NotAssignable types p.0 at p.1 ▷ λ e. Ok (step.Give p.0 e)
 
 -- functions alone give a value, and always
-abbrev pub return_statement : (g : Gathers) → Scope g.Reported → Pos → Option (Result TypeNo g.Reported)
-    → Option (Meant g.Reported) → Result TypedStmt g.Reported
+abbrev pub return_statement : (g : Gathers) → Scope g.Reported → Pos
+    → Option (Result TypeNo g.Reported) → Option (Meant g.Reported) → Result TypedStmt g.Reported
 return_statement g s at None None = Ok step.Return
-return_statement g s at None (Some x) = reported_beside g at rule.WrongReturn (value_of g s x ▷ λ v. Ok tt)
+return_statement g s at None (Some x) =
+    reported_beside g at rule.WrongReturn (value_of g s x ▷ λ v. Ok tt)
 return_statement g s at (Some t) None = report g at rule.WrongReturn
 return_statement g s at (Some t) (Some x) = given_back g s.types t x.fixed.at (value_of g s x)
 
@@ -130,7 +131,8 @@ element_in d (Some a) = Some (designated.Variable a.1 d)
 
 abbrev pub element_of : Types → Designated → Option Designated
 element_of types (designated.Variable t d) = element_in d (array_at types t)
-element_of types (designated.Open t slot) = Some (designated.Variable t (root_place (root.Open slot)))
+element_of types (designated.Open t slot) =
+    Some (designated.Variable t (root_place (root.Open slot)))
 element_of types (designated.Value x) = None
 element_of types (designated.Type t) = None
 element_of types (designated.Procedure p) = None
@@ -143,7 +145,8 @@ abbrev pub led_by : (g : Gathers) → Scope g.Reported → Designated
 led_by g s d (layer.Field at name) = known_of (field_of g s at name d)
 led_by g s d (layer.Index at x) = element_of s.types d
 
-abbrev pub component_behind : (g : Gathers) → Scope g.Reported → Option Designated → Selector → Option Designated
+abbrev pub component_behind : (g : Gathers) → Scope g.Reported → Option Designated → Selector
+    → Option Designated
 component_behind g s None x = None
 component_behind g s (Some d) x = led_by g s d (out-Selector x)
 
@@ -163,8 +166,8 @@ record_led_to types (Some d) = type_led_to types d
 
 abbrev pub opened_type : (g : Gathers) → Scope g.Reported → Designating → Option TypeNo
 opened_type g s d =
-    record_led_to s.types
-    (fold (component_behind g s) (known_of (first_name g s (out-Designator d).name)) (out-Designator d).selectors)
+    record_led_to s.types (fold (component_behind g s)
+    (known_of (first_name g s (out-Designator d).name)) (out-Designator d).selectors)
 
 -- inside, the fields of a record of this type stand for themselves
 abbrev pub into_record : {T : Type 0} → Scope T → TypeNo → Scope T

@@ -244,7 +244,7 @@ fn base_of(control: &Elaborated<Control>) -> Elaborated<TypeNo>
     }
 }
 
-fn joined(
+fn for_heading(
     control: Elaborated<Control>,
     start: Elaborated<TypedExpr>,
     limit: Elaborated<TypedExpr>,
@@ -309,7 +309,7 @@ pub fn course_of(
     let start = start_of(alloc, scope, &control, start)?;
     let limit = limit_of(alloc, scope, &control, limit)?;
     let by = step_of(alloc, scope, by)?;
-    Ok(joined(control, start, limit, by))
+    Ok(for_heading(control, start, limit, by))
 }
 
 /// FOR.

@@ -5,11 +5,11 @@ ghost use Rattle.check_scope.specs.Elaborated.{least, ◌▷◌};
 ghost use Rattle.check_expr.specs.Meanings.{meanings_of};
 ghost use Rattle.check_const_ops.specs.Common.{common};
 ghost use Rattle.check_operator.specs.Classes.{class_at};
-ghost use Rattle.check_stmt_parts.specs.Labels.{ordinal_in, of_type, no_constant, suits_selector, value_bound, variable_bound, bound_by, bound_in, bound_of, is_of_base, number_fits, suits_base, bound_suits, single, ordered_if, are_ordered, label_range, label_between, item_label, with_new, with_label, with_item, labels_in};
+ghost use Rattle.check_stmt_parts.specs.Labels.{of_type, no_constant, suits_selector, value_bound, variable_bound, bound_by, bound_in, bound_of, suits_base, bound_suits, single, label_range, label_between, item_label, with_new, with_label, with_item, labels_in};
 
 use crate::Ranges;
 use crate::lists::with_next;
-use check_const_ops::{Operand, Ordinal, common, fits, operand_of};
+use check_const_ops::{Ordinal, are_ordered, fits_base, is_of_base, operand_of, ordinal_in};
 use check_expr::{place_of, stands_for};
 use check_operator::{Class, Computed, Designated, class_of};
 use check_scope::{Elaborated, Meaningless, Scope, Sought, beside, both, report};
@@ -17,17 +17,7 @@ use m2_rule::{Breach, Rule};
 use m2_tree::{Expr, Item, Pos};
 use std::alloc::{AllocError, Global};
 use tree_parts::Items;
-use typed_tree::{Label, TypeNo, Types, are_same, is_numeric};
-
-fn ordinal_in(at: Pos, operand: Option<Operand>) -> Elaborated<Ordinal>
-    ensures { result ≡ ordinal_in least at operand }
-{
-    match operand {
-        None => report(at, Rule::WrongType),
-        Some(Operand::Set(_)) => report(at, Rule::WrongType),
-        Some(Operand::Scalar(a)) => Ok(a),
-    }
-}
+use typed_tree::{Label, TypeNo, Types, are_same};
 
 fn of_type(alike: bool, at: Pos) -> Elaborated<()>
     ensures { result ≡ of_type least alike at }
@@ -135,29 +125,6 @@ fn bound_of(
     Ok(bound_in(&scope.types, base, label, place_of(e), sought))
 }
 
-fn is_of_base(base: TypeNo, sort: Option<TypeNo>) -> bool
-    ensures { result ≡ is_of_base base sort }
-{
-    match sort {
-        None => is_numeric(base),
-        Some(t) => are_same(t, base),
-    }
-}
-
-fn number_fits(base: TypeNo, at: Pos, a: Ordinal) -> Elaborated<()>
-    ensures { result ≡ number_fits least base at a a.sort }
-{
-    match a.sort {
-        None => {
-            if !fits(Some(base), a.number) {
-                return report(at, Rule::OutOfRange);
-            }
-            Ok(())
-        }
-        Some(_) => Ok(()),
-    }
-}
-
 fn suits_base(base: Option<TypeNo>, at: Pos, a: Ordinal) -> Elaborated<()>
     ensures { result ≡ suits_base least base at a }
 {
@@ -167,7 +134,7 @@ fn suits_base(base: Option<TypeNo>, at: Pos, a: Ordinal) -> Elaborated<()>
             if !is_of_base(base, a.sort) {
                 return report(at, Rule::WrongType);
             }
-            number_fits(base, at, a)
+            fits_base(at, base, a)
         }
     }
 }
@@ -192,30 +159,6 @@ fn single(base: Option<TypeNo>, at: Pos, bound: Elaborated<Ordinal>) -> Elaborat
             low: a.number,
             high: a.number,
         }),
-    }
-}
-
-fn ordered_if(at: Pos, low: Ordinal, high: Ordinal) -> Elaborated<()>
-    ensures { result ≡ ordered_if least at low high (common low.sort high.sort) }
-{
-    match common(low.sort, high.sort) {
-        None => Ok(()),
-        Some(_) => {
-            if high.number < low.number {
-                return report(at, Rule::EmptyRange);
-            }
-            Ok(())
-        }
-    }
-}
-
-/// The rule that the bounds of a range are in order.
-fn are_ordered(at: Pos, low: Elaborated<Ordinal>, high: Elaborated<Ordinal>) -> Elaborated<()>
-    ensures { result ≡ are_ordered least at low high }
-{
-    match both(low, high) {
-        Err(breach) => Err(breach),
-        Ok((a, b)) => ordered_if(at, a, b),
     }
 }
 

@@ -69,8 +69,9 @@ enumeration_scalar t names = record {
 }
 
 -- the constants: names so far, the next number, and what is reported
-abbrev pub enumerate_name : (g : Gathers) → TypeNo → Scope g.Reported × ℕ × Result (Unit {0}) g.Reported
-    → Ident → Scope g.Reported × ℕ × Result (Unit {0}) g.Reported
+abbrev pub enumerate_name : (g : Gathers) → TypeNo
+    → Scope g.Reported × ℕ × Result (Unit {0}) g.Reported → Ident
+    → Scope g.Reported × ℕ × Result (Unit {0}) g.Reported
 enumerate_name g t l name =
     let d = declare_name g l.0 name (Ok (enumeration_constant t (pos l.1))) in
     (d.0, l.1 + 1, beside g l.2 d.1)
@@ -82,7 +83,8 @@ enumeration_of g t s before names = fold (enumerate_name g t) (s, 0, before) nam
 abbrev pub enumeration : (g : Gathers) → Scope g.Reported → List Ident → State TypeNo g.Reported
 enumeration g s names =
     let t = next_type s in
-    let l = enumeration_of g t (with_shape s (enumeration_scalar t names)) (too_many g names) names in
+    let l =
+    enumeration_of g t (with_shape s (enumeration_scalar t names)) (too_many g names) names in
     (l.0, l.2 ▷ λ fine. Ok t)
 
 -- ---- subranges
@@ -104,7 +106,8 @@ bound_at g s e = bound_of g e.at (constant g s e)
 
 abbrev pub subrange : (g : Gathers) → Scope g.Reported → Option Qualified → Part g.Reported
     → Part g.Reported → Result Scalar g.Reported
-subrange g s None low high = subrange_between g low.at (bound_at g s low) high.at (bound_at g s high)
+subrange g s None low high =
+    subrange_between g low.at (bound_at g s low) high.at (bound_at g s high)
 subrange g s (Some q) low high =
     under g (scalar_named g s q) low.at (bound_at g s low) high.at (bound_at g s high)
 

@@ -13,20 +13,13 @@ use Rattle.check_const_ops.specs.declared.operand.Operand.TheVariants as operand
 use Rattle.check_const_ops.specs.Operands.{operand_of}
 use Rattle.check_const_ops.specs.Numbers.{is_between, fits}
 use Rattle.check_const_ops.specs.Common.{common}
+use Rattle.check_const_ops.specs.Bounds.{ordinal_in, is_of_base, fits_base, bounds_in_order, are_ordered}
 
 -- ---- bounds
-
-abbrev pub ordinal_in : (g : Gathers) → Pos → Option Operand → Result Ordinal g.Reported
-ordinal_in g at None = report g at rule.WrongType
-ordinal_in g at (Some (operands.Set bits)) = report g at rule.WrongType
-ordinal_in g at (Some (operands.Scalar a)) = Ok a
 
 -- a bound is a scalar
 abbrev pub bound_of : (g : Gathers) → Pos → Result Value g.Reported → Result Ordinal g.Reported
 bound_of g at v = v ▷ λ x. ordinal_in g at (operand_of x)
-
-abbrev pub bounds_in_order : (g : Gathers) → Pos → ℤ → ℤ → Result (Unit {0}) g.Reported
-bounds_in_order g at low high = reported_where g (int_lt high low) at rule.EmptyRange (Ok tt)
 
 -- ---- with no type named
 
@@ -38,15 +31,11 @@ abbrev pub base_of : Option TypeNo → ℤ → TypeNo
 base_of None low = number_base low
 base_of (Some t) low = t
 
--- a number without a type takes the base
-abbrev pub fits_at : (g : Gathers) → Pos → TypeNo → Option TypeNo → ℤ → Result (Unit {0}) g.Reported
-fits_at g at base (Some t) n = Ok tt
-fits_at g at base None n = reported_where g (not (fits (Some base) n)) at rule.OutOfRange (Ok tt)
-
-abbrev pub subrange_of_base : (g : Gathers) → Pos → Ordinal → Pos → Ordinal → TypeNo → Result Scalar g.Reported
+abbrev pub subrange_of_base : (g : Gathers) → Pos → Ordinal → Pos → Ordinal → TypeNo
+    → Result Scalar g.Reported
 subrange_of_base g at a at' b base =
     beside g (bounds_in_order g at a.number b.number)
-    (beside g (fits_at g at base a.sort a.number) (fits_at g at' base b.sort b.number))
+    (beside g (fits_base g at base a.sort a.number) (fits_base g at' base b.sort b.number))
     ▷ λ fine.
     Ok (record { base = base; low = a.number; high = b.number })
 
@@ -62,10 +51,6 @@ subrange_between g at low at' high =
 
 -- ---- under a named type
 
-abbrev pub is_of_base : TypeNo → Option TypeNo → Bool
-is_of_base base None = is_numeric base
-is_of_base base (Some t) = are_same t base
-
 abbrev pub is_of : (g : Gathers) → Scalar → Pos → Ordinal → Result (Unit {0}) g.Reported
 is_of g of at a =
     reported_where g (not (is_of_base of.base a.sort)) at rule.WrongType
@@ -75,22 +60,11 @@ abbrev pub bound_in : (g : Gathers) → Result Scalar g.Reported → Pos → Res
     → Result (Unit {0}) g.Reported
 bound_in g of at a = both g of a ▷ λ p. is_of g p.0 at p.1
 
-abbrev pub ordered_if : (g : Gathers) → Pos → Ordinal → Ordinal → Option (Option TypeNo)
-    → Result (Unit {0}) g.Reported
-ordered_if g at a b None = Ok tt
-ordered_if g at a b (Some sort) = bounds_in_order g at a.number b.number
-
--- the order of two bounds that go together
-abbrev pub alike_ordered : (g : Gathers) → Pos → Result Ordinal g.Reported
-    → Result Ordinal g.Reported → Result (Unit {0}) g.Reported
-alike_ordered g at low high =
-    both g low high ▷ λ p. ordered_if g at p.0 p.1 (common p.0.sort p.1.sort)
-
 abbrev pub are_bounds : (g : Gathers) → Result Scalar g.Reported → Pos → Result Ordinal g.Reported
     → Pos → Result Ordinal g.Reported → Result (Unit {0}) g.Reported
 are_bounds g of at low at' high =
     beside g (beside g (bound_in g of at low) (bound_in g of at' high))
-    (alike_ordered g at low high)
+    (are_ordered g at low high)
 
 abbrev pub subrange_within : (g : Gathers) → Result (Scalar × (Ordinal × Ordinal)) g.Reported
     → Result (Unit {0}) g.Reported → Result Scalar g.Reported

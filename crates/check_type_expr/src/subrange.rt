@@ -2,23 +2,15 @@
 
 ghost use Rattle.std.specs.Prelude.{◌≡◌};
 ghost use Rattle.check_scope.specs.Elaborated.{least, ◌▷◌};
-ghost use Rattle.check_type_expr.specs.Subranges.{ordinal_in, bound_of, number_base, base_of, fits_at, between, subrange_between, bounds_in_order, is_of_base, is_of, bound_in, alike_ordered, are_bounds, subrange_within, under};
+ghost use Rattle.check_type_expr.specs.Subranges.{bound_of, number_base, base_of, between, subrange_between, is_of, bound_in, are_bounds, subrange_within, under};
 
-use check_const_ops::{Operand, Ordinal, common, fits, operand_of};
+use check_const_ops::{
+    Ordinal, are_ordered, bounds_in_order, common, fits_base, is_of_base, operand_of, ordinal_in,
+};
 use check_scope::{Elaborated, beside, both, report};
 use m2_rule::Rule;
 use m2_tree::Pos;
-use typed_tree::{CARDINAL, INTEGER, Scalar, TypeNo, Value, are_same, is_numeric};
-
-fn ordinal_in(at: Pos, x: Option<Operand>) -> Elaborated<Ordinal>
-    ensures { result ≡ ordinal_in least at x }
-{
-    match x {
-        None => report(at, Rule::WrongType),
-        Some(Operand::Set(_)) => report(at, Rule::WrongType),
-        Some(Operand::Scalar(a)) => Ok(a),
-    }
-}
+use typed_tree::{CARDINAL, INTEGER, Scalar, TypeNo, Value};
 
 /// A bound, which is a scalar.
 pub fn bound_of(at: Pos, value: Elaborated<Value>) -> Elaborated<Ordinal>
@@ -45,30 +37,6 @@ fn base_of(sort: Option<TypeNo>, low: i64) -> TypeNo
     }
 }
 
-/// A bound that takes the base, if it is a number without a type.
-fn fits_at(at: Pos, base: TypeNo, a: Ordinal) -> Elaborated<()>
-    ensures { result ≡ fits_at least at base a.sort a.number }
-{
-    match a.sort {
-        Some(_) => Ok(()),
-        None => {
-            if !fits(Some(base), a.number) {
-                return report(at, Rule::OutOfRange);
-            }
-            Ok(())
-        }
-    }
-}
-
-fn bounds_in_order(at: Pos, low: i64, high: i64) -> Elaborated<()>
-    ensures { result ≡ bounds_in_order least at low high }
-{
-    if high < low {
-        return report(at, Rule::EmptyRange);
-    }
-    Ok(())
-}
-
 fn between(
     at: Pos,
     a: Ordinal,
@@ -82,7 +50,7 @@ fn between(
         None => report(high_at, Rule::WrongType),
         Some(sort) => {
             let base = base_of(sort, a.number);
-            let fit = beside(fits_at(at, base, a), fits_at(high_at, base, b));
+            let fit = beside(fits_base(at, base, a), fits_base(high_at, base, b));
             match beside(bounds_in_order(at, a.number, b.number), fit) {
                 Err(breach) => Err(breach),
                 Ok(()) => Ok(Scalar {
@@ -110,16 +78,6 @@ pub fn subrange_between(
     }
 }
 
-/// Whether a bound is of this base type.
-fn is_of_base(base: TypeNo, sort: Option<TypeNo>) -> bool
-    ensures { result ≡ is_of_base base sort }
-{
-    match sort {
-        None => is_numeric(base),
-        Some(t) => are_same(t, base),
-    }
-}
-
 fn is_of(of: Scalar, at: Pos, a: Ordinal) -> Elaborated<()>
     ensures { result ≡ is_of least of at a }
 {
@@ -141,19 +99,6 @@ fn bound_in(of: Elaborated<Scalar>, at: Pos, a: Elaborated<Ordinal>) -> Elaborat
     }
 }
 
-/// The order of two bounds that go together.
-fn alike_ordered(at: Pos, low: Elaborated<Ordinal>, high: Elaborated<Ordinal>) -> Elaborated<()>
-    ensures { result ≡ alike_ordered least at low high }
-{
-    match both(low, high) {
-        Err(breach) => Err(breach),
-        Ok((a, b)) => match common(a.sort, b.sort) {
-            None => Ok(()),
-            Some(_) => bounds_in_order(at, a.number, b.number),
-        },
-    }
-}
-
 fn are_bounds(
     of: Elaborated<Scalar>,
     at: Pos,
@@ -164,7 +109,7 @@ fn are_bounds(
     ensures { result ≡ are_bounds least of at low high_at high }
 {
     let within = beside(bound_in(of, at, low), bound_in(of, high_at, high));
-    beside(within, alike_ordered(at, low, high))
+    beside(within, are_ordered(at, low, high))
 }
 
 fn subrange_within(

@@ -5,8 +5,8 @@ use Rattle.std.specs.Str.{bytes_eq}
 use Rattle.def_grammar.specs.declared.kind.Kind.{Kind}
 use Rattle.def_grammar.specs.declared.kind.Kind.TheVariants as the
 use Rattle.m2_tree.specs.declared.token.Token.{Token}
-use Rattle.def_grammar.specs.declared.refusal.Fault.{Fault}
-use Rattle.def_grammar.specs.declared.refusal.Fault.TheVariants.{Unfit, Misnamed, TooDeep}
+use Rattle.def_grammar.specs.declared.refusal.GrammarRule.{GrammarRule}
+use Rattle.def_grammar.specs.declared.refusal.GrammarRule.TheVariants.{Unfit, Misnamed, TooDeep}
 use Rattle.def_grammar.specs.Grammar.{Ty, El, Gr, ◌·◌, ◌∣◌, many}
 use Rattle.def_grammar.specs.Ebnf.{grammar}
 use Rattle.def_grammar.specs.Trees.{name_of, tree}
@@ -20,7 +20,7 @@ use Rattle.def_grammar.proofs.First.{FirstOf, first_of_text, is-among, of_word}
 use Rattle.def_grammar.proofs.Knot.{read_rule-is}
 use Rattle.def_grammar.proofs.Turns.{many-is}
 
-abbrev pub IsRule : Fault → Type 0
+abbrev pub IsRule : GrammarRule → Type 0
 IsRule Unfit = ⊥
 IsRule Misnamed = Unit {0}
 IsRule TooDeep = Unit {0}

@@ -4,8 +4,8 @@ use Rattle.std.proofs.lemmas.List.{length-append, append-nil, append_cancel_righ
 use Rattle.std.proofs.lemmas.Bool.{cases_lt}
 use Rattle.m2_tree.specs.declared.token.Token.{Token}
 use Rattle.m2_tree.specs.declared.decl.Module.{Module}
-use Rattle.def_grammar.specs.declared.refusal.Fault.{Fault}
-use Rattle.def_grammar.specs.declared.refusal.Fault.TheVariants.{Unfit, Misnamed, TooDeep}
+use Rattle.def_grammar.specs.declared.refusal.GrammarRule.{GrammarRule}
+use Rattle.def_grammar.specs.declared.refusal.GrammarRule.TheVariants.{Unfit, Misnamed, TooDeep}
 use Rattle.def_grammar.specs.Rule.{module_rule}
 use Rattle.def_grammar.specs.Grammar.{rule}
 use Rattle.def_grammar.specs.declared.refusal.ParseRefusal.{ParseRefusal}
@@ -74,10 +74,10 @@ unfit_least ts front at other e o r =
       | inr le ↦ le
     ]
 
-stops : (ts at other : List Token) (f g : Fault) → outcome_of ts ≡ Err (at, f) → BreaksRule ts other g → Fails {A = Module} (Err (at, f)) other g
+stops : (ts at other : List Token) (f g : GrammarRule) → outcome_of ts ≡ Err (at, f) → BreaksRule ts other g → Fails {A = Module} (Err (at, f)) other g
 stops ts at other f g e b = subst (λ (o : Outcome Module). Fails o other g) e (trips b refl)
 
-broken_least : (ts at other : List Token) (f g : Fault) → outcome_of ts ≡ Err (at, f) → BreaksRule ts other g → length other ≤ length at
+broken_least : (ts at other : List Token) (f g : GrammarRule) → outcome_of ts ≡ Err (at, f) → BreaksRule ts other g → length other ≤ length at
 broken_least ts at other f g e b = fails_within (at, f) other g (stops ts at other f g e b)
 
 -- ---- the tokens are refused
@@ -92,25 +92,25 @@ unfit_here ts (t ∷ at) front e is = λ o.
     let moved = subst (λ (x : Outcome Module). Moves t at o.0 x (outcome_of (front ++ t ∷ o.0))) here ((rule_steady max_nesting module_rule).moves t at o.0 front) [] refl in
     no_err (outcome_of (front ++ t ∷ o.0)) (t ∷ o.0) o.1 moved (meets (front ++ t ∷ o.0) o.1 (subst (λ (us : List Token). IsModule us o.1) (append_assoc front (t ∷ []) o.0) o.2))
 
-refused_by : (ts at : List Token) (f : Fault) → outcome_of ts ≡ Err (at, f) → Right (rule module_rule) max_nesting ts (Err (at, f)) → IsRefused ts at f
+refused_by : (ts at : List Token) (f : GrammarRule) → outcome_of ts ≡ Err (at, f) → Right (rule module_rule) max_nesting ts (Err (at, f)) → IsRefused ts at f
 refused_by ts at Unfit e r = (r.0.front, r.0.parts, leads_open ts at r.0, unfit_here ts at r.0.front r.0.parts e)
 refused_by ts at Misnamed e r = r.1
 refused_by ts at TooDeep e r = r.1
 
-pub refused : (ts at : List Token) (f : Fault) → outcome_of ts ≡ Err (at, f) → IsRefused ts at f
+pub refused : (ts at : List Token) (f : GrammarRule) → outcome_of ts ≡ Err (at, f) → IsRefused ts at f
 refused ts at f e = refused_by ts at f e (right_at ts (Err (at, f)) e)
 
-least_by : (ts at : List Token) (f : Fault) → outcome_of ts ≡ Err (at, f) → Right (rule module_rule) max_nesting ts (Err (at, f)) → (other : List Token) (g : Fault) → IsRefused ts other g → length other ≤ length at
+least_by : (ts at : List Token) (f : GrammarRule) → outcome_of ts ≡ Err (at, f) → Right (rule module_rule) max_nesting ts (Err (at, f)) → (other : List Token) (g : GrammarRule) → IsRefused ts other g → length other ≤ length at
 least_by ts at f e r other Unfit x = unfit_least ts r.0.front at other r.0.parts (leads_open ts at r.0) x
 least_by ts at f e r other Misnamed x = broken_least ts at other f Misnamed e x
 least_by ts at f e r other TooDeep x = broken_least ts at other f TooDeep e x
 
-pub least : (ts at : List Token) (f : Fault) → outcome_of ts ≡ Err (at, f) → IsLeast ts at
+pub least : (ts at : List Token) (f : GrammarRule) → outcome_of ts ≡ Err (at, f) → IsLeast ts at
 least ts at f e = least_by ts at f e (right_at ts (Err (at, f)) e)
 
 -- ---- a module, and tokens behind it
 
-no_break : (ts rest : List Token) (m : Module) (at : List Token) (f : Fault) → outcome_of ts ≡ Ok (m, rest) → BreaksRule ts at f → ⊥
+no_break : (ts rest : List Token) (m : Module) (at : List Token) (f : GrammarRule) → outcome_of ts ≡ Ok (m, rest) → BreaksRule ts at f → ⊥
 no_break ts rest m at f e x = subst (λ (o : Outcome Module). Fails o at f) e (trips x refl)
 
 pub is_module : (ts : List Token) (m : Module) → outcome_of ts ≡ Ok (m, []) → IsModule ts m
@@ -141,7 +141,7 @@ module _ (ts : List Token) (m : Module) (t : Token) (us : List Token) (e : outco
   pub rest_refused : IsRefused ts (t ∷ us) Unfit
   rest_refused = let r = rest_takes in (r.text, r.parts, rest_open r, rest_unfit r.text r.parts)
 
-  rest_least_by : (r : Takes (rule module_rule) m ts (t ∷ us)) (other : List Token) (g : Fault) → IsRefused ts other g → length other ≤ length (t ∷ us)
+  rest_least_by : (r : Takes (rule module_rule) m ts (t ∷ us)) (other : List Token) (g : GrammarRule) → IsRefused ts other g → length other ≤ length (t ∷ us)
   rest_least_by r other Unfit x = unfit_least ts r.text (t ∷ us) other r.parts (rest_open r) x
   rest_least_by r other Misnamed x = absurd (no_break ts (t ∷ us) m other Misnamed e x)
   rest_least_by r other TooDeep x = absurd (no_break ts (t ∷ us) m other TooDeep e x)
@@ -151,32 +151,32 @@ module _ (ts : List Token) (m : Module) (t : Token) (us : List Token) (e : outco
 
 -- ---- what has a tree and breaks no rule is read
 
-broken : (ts at : List Token) (f : Fault) → IsRule f → IsRefused ts at f → BreaksRule ts at f
-broken ts at Unfit x r = absurd x
-broken ts at Misnamed x r = r
-broken ts at TooDeep x r = r
+breaks_here : (ts at : List Token) (f : GrammarRule) → IsRule f → IsRefused ts at f → BreaksRule ts at f
+breaks_here ts at Unfit x r = absurd x
+breaks_here ts at Misnamed x r = r
+breaks_here ts at TooDeep x r = r
 
-answers_by : (ts : List Token) (m : Module) (o : Outcome Module) → outcome_of ts ≡ o → ((at : List Token) (f : Fault) → BreaksRule ts at f → ⊥) → Meets o m [] → o ≡ Ok (m, [])
+answers_by : (ts : List Token) (m : Module) (o : Outcome Module) → outcome_of ts ≡ o → ((at : List Token) (f : GrammarRule) → BreaksRule ts at f → ⊥) → Meets o m [] → o ≡ Ok (m, [])
 answers_by ts m o e a (inl d) = d
 answers_by ts m (Ok p) e a (inr t) = absurd t
-answers_by ts m (Err d) e a (inr t) = absurd (a d.0 d.1 (broken ts d.0 d.1 t.0 (refused ts d.0 d.1 e)))
+answers_by ts m (Err d) e a (inr t) = absurd (a d.0 d.1 (breaks_here ts d.0 d.1 t.0 (refused ts d.0 d.1 e)))
 
 pub answers : (ts : List Token) (m : Module) → IsTree ts m → outcome_of ts ≡ Ok (m, [])
 answers ts m p = answers_by ts m (outcome_of ts) refl p.1 (meets ts m p.0)
 
 -- ---- what the parser reports
 
-pub reported : (ts at : List Token) (f : Fault) (r : ParseRefusal) → outcome_of ts ≡ Err (at, f) → r.pos ≡ place_of at → r.number ≡ number_of f at → IsReported ts r
-reported ts at f r e p n = record { at = at; fault = f; refused = refused ts at f e; least = least ts at f e; pos = p; number = n }
+pub reported : (ts at : List Token) (f : GrammarRule) (r : ParseRefusal) → outcome_of ts ≡ Err (at, f) → r.pos ≡ place_of at → r.number ≡ number_of f at → IsReported ts r
+reported ts at f r e p n = record { at = at; broken = f; refused = refused ts at f e; least = least ts at f e; pos = p; number = n }
 
 pub reported_rest : (ts rest : List Token) (m : Module) (r : ParseRefusal) → outcome_of ts ≡ Ok (m, rest) → (rest ≡ [] → ⊥) → r.pos ≡ place_of rest → r.number ≡ number_of Unfit rest → IsReported ts r
 reported_rest ts [] m r e ne p n = absurd (ne refl)
-reported_rest ts (t ∷ us) m r e ne p n = record { at = t ∷ us; fault = Unfit; refused = rest_refused ts m t us e; least = rest_least ts m t us e; pos = p; number = n }
+reported_rest ts (t ∷ us) m r e ne p n = record { at = t ∷ us; broken = Unfit; refused = rest_refused ts m t us e; least = rest_least ts m t us e; pos = p; number = n }
 
-err_clash : (o : Outcome Module) (d : List Token × Fault) (m : Module) → o ≡ Err d → o ≡ Ok (m, []) → ⊥
+err_clash : (o : Outcome Module) (d : List Token × GrammarRule) (m : Module) → o ≡ Err d → o ≡ Ok (m, []) → ⊥
 err_clash o d m e f = cc
 
-pub none_refused : (ts at : List Token) (f : Fault) (m : Module) → outcome_of ts ≡ Err (at, f) → IsTree ts m → ⊥
+pub none_refused : (ts at : List Token) (f : GrammarRule) (m : Module) → outcome_of ts ≡ Err (at, f) → IsTree ts m → ⊥
 none_refused ts at f m e p = err_clash (outcome_of ts) (at, f) m e (answers ts m p)
 
 pub none_rest : (ts rest : List Token) (m n : Module) → outcome_of ts ≡ Ok (m, rest) → (rest ≡ [] → ⊥) → IsTree ts n → ⊥
@@ -196,20 +196,20 @@ one_tree ts m n e p = sym (ap (tree_of n) e) ∙ ap (tree_of n) (answers ts n p)
 pub at_most_one : (ts : List Token) (m n : Module) → IsTree ts m → IsTree ts n → m ≡ n
 at_most_one ts m n p q = one_tree ts m n (answers ts m p) q
 
-no_refusal : (ts at : List Token) (f : Fault) (m : Module) → IsTree ts m → IsRefused ts at f → ⊥
+no_refusal : (ts at : List Token) (f : GrammarRule) (m : Module) → IsTree ts m → IsRefused ts at f → ⊥
 no_refusal ts at Unfit m p r = not_unfit ts r.0 at m r.1 p.0 r.3
 no_refusal ts at Misnamed m p r = p.1 at Misnamed r
 no_refusal ts at TooDeep m p r = p.1 at TooDeep r
 
 pub never_both : (ts : List Token) (m : Module) (r : ParseRefusal) → IsTree ts m → IsReported ts r → ⊥
-never_both ts m r p reported = no_refusal ts reported.at reported.fault m p reported.refused
+never_both ts m r p reported = no_refusal ts reported.at reported.broken m p reported.refused
 
 -- ---- one refusal
 
 placed_at : (ts at front tail : List Token) (next : Token) → ts ≡ front ++ next ∷ tail → at ≡ next ∷ tail → ts ≡ front ++ at
 placed_at ts at front tail next e h = e ∙ ap (λ (us : List Token). front ++ us) (sym h)
 
-placed : (ts at : List Token) (f : Fault) → IsRefused ts at f → (front : List Token) × (ts ≡ front ++ at)
+placed : (ts at : List Token) (f : GrammarRule) → IsRefused ts at f → (front : List Token) × (ts ≡ front ++ at)
 placed ts at Unfit r = (r.0, r.1)
 placed ts at Misnamed r = let o = onward r in (o.front, placed_at ts at o.front o.tail o.next o.parts o.here)
 placed ts at TooDeep r = let o = onward r in (o.front, placed_at ts at o.front o.tail o.next o.parts o.here)
@@ -221,7 +221,7 @@ same_rest (t ∷ a) b [] d e le ge = absurd (omega (arith, ap length e, length-a
 same_rest (t ∷ a) b (u ∷ c) d e le ge = let same : a ++ b ≡ c ++ d = cc in same_rest a b c d same le ge
 
 -- a token at which a rule is broken fits
-fits : (ts at : List Token) (f : Fault) → BreaksRule ts at f → IsRefused ts at Unfit → ⊥
+fits : (ts at : List Token) (f : GrammarRule) → BreaksRule ts at f → IsRefused ts at Unfit → ⊥
 fits ts at f b r =
     let o = onward b in
     let whole : r.0 ++ o.next ∷ o.tail ≡ o.front ++ o.next ∷ o.tail = subst (λ (us : List Token). r.0 ++ us ≡ o.front ++ o.next ∷ o.tail) o.here (sym r.1 ∙ o.parts) in
@@ -232,12 +232,12 @@ one_rule_by : (ts at : List Token) (o : Outcome Module) → outcome_of ts ≡ o 
 one_rule_by ts at (Ok p) e l b c x y = x
 one_rule_by ts at (Err d) e l b c (inl lt) y = let h = l d.0 d.1 (refused ts d.0 d.1 e) in absurd (omega arith)
 one_rule_by ts at (Err d) e l b c (inr x) (inl lt) = let h = l d.0 d.1 (refused ts d.0 d.1 e) in absurd (omega arith)
-one_rule_by ts at (Err d) e l b c (inr x) (inr y) = let same : Misnamed ≡ TooDeep = ap (λ (d : List Token × Fault). d.1) (sym x ∙ y) in absurd cc
+one_rule_by ts at (Err d) e l b c (inr x) (inr y) = let same : Misnamed ≡ TooDeep = ap (λ (d : List Token × GrammarRule). d.1) (sym x ∙ y) in absurd cc
 
 one_rule : (ts at : List Token) → IsLeast ts at → BreaksRule ts at Misnamed → BreaksRule ts at TooDeep → ⊥
 one_rule ts at l b c = one_rule_by ts at (outcome_of ts) refl l b c (trips b refl) (trips c refl)
 
-one_fault : (ts at : List Token) (f g : Fault) → IsLeast ts at → IsRefused ts at f → IsRefused ts at g → f ≡ g
+one_fault : (ts at : List Token) (f g : GrammarRule) → IsLeast ts at → IsRefused ts at f → IsRefused ts at g → f ≡ g
 one_fault ts at Unfit Unfit l r s = refl
 one_fault ts at Unfit Misnamed l r s = absurd (fits ts at Misnamed s r)
 one_fault ts at Unfit TooDeep l r s = absurd (fits ts at TooDeep s r)
@@ -248,13 +248,13 @@ one_fault ts at TooDeep Unfit l r s = absurd (fits ts at TooDeep r s)
 one_fault ts at TooDeep Misnamed l r s = absurd (one_rule ts at l s r)
 one_fault ts at TooDeep TooDeep l r s = refl
 
-same_place : (ts at bt : List Token) (f g : Fault) → IsRefused ts at f → IsLeast ts at → IsRefused ts bt g → IsLeast ts bt → at ≡ bt
+same_place : (ts at bt : List Token) (f g : GrammarRule) → IsRefused ts at f → IsLeast ts at → IsRefused ts bt g → IsLeast ts bt → at ≡ bt
 same_place ts at bt f g r l s m =
     let p = placed ts at f r in
     let q = placed ts bt g s in
     same_rest p.0 at q.0 bt (sym p.1 ∙ q.1) (m at f r) (l bt g s)
 
-reported_once : (ts : List Token) (r q : ParseRefusal) (x : IsReported ts r) (y : IsReported ts q) → x.at ≡ y.at → x.fault ≡ y.fault → r ≡ q
+reported_once : (ts : List Token) (r q : ParseRefusal) (x : IsReported ts r) (y : IsReported ts q) → x.at ≡ y.at → x.broken ≡ y.broken → r ≡ q
 reported_once ts r q x y e f =
     let pos : r.pos ≡ q.pos = x.pos ∙ ap place_of e ∙ sym y.pos in
     let number : r.number ≡ q.number = x.number ∙ ap₂ number_of f e ∙ sym y.number in
@@ -262,5 +262,5 @@ reported_once ts r q x y e f =
 
 pub refused_once : (ts : List Token) (r q : ParseRefusal) → IsReported ts r → IsReported ts q → r ≡ q
 refused_once ts r q x y =
-    let e = same_place ts x.at y.at x.fault y.fault x.refused x.least y.refused y.least in
-    reported_once ts r q x y e (one_fault ts x.at x.fault y.fault x.least x.refused (subst (λ (us : List Token). IsRefused ts us y.fault) (sym e) y.refused))
+    let e = same_place ts x.at y.at x.broken y.broken x.refused x.least y.refused y.least in
+    reported_once ts r q x y e (one_fault ts x.at x.broken y.broken x.least x.refused (subst (λ (us : List Token). IsRefused ts us y.broken) (sym e) y.refused))

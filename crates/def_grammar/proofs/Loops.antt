@@ -5,7 +5,7 @@ use Rattle.std.proofs.lemmas.List.{append-nil}
 use Rattle.std.specs.Prelude.{map, option_to_list}
 use Rattle.def_grammar.specs.declared.kind.Kind.{Kind}
 use Rattle.m2_tree.specs.declared.token.Token.{Token}
-use Rattle.def_grammar.specs.declared.refusal.Fault.{Fault}
+use Rattle.def_grammar.specs.declared.refusal.GrammarRule.{GrammarRule}
 use Rattle.def_grammar.specs.Grammar.{Ty, El, Gr, many, nest, lead, trail, ◌·◌}
 use Rattle.def_grammar.specs.Trees.{with_first, flatten_lists, present, ident_of}
 use Rattle.def_grammar.specs.Kinds.{kind_of}
@@ -50,7 +50,7 @@ module _ {a : Ty} {B : Type 0} (g : Gr a) (collect : List (El a) → List B) (it
   pub loop_stop : begins (first g) ts ≡ false → gather_turns collect front (read (many g) n ts) ≡ Ok (front, ts)
   loop_stop b = rw (many-is g n e ts, b) (ap (λ ys. Ok (ys, ts)) (ap (λ ys. front ++ ys) c.empty ∙ append-nil front))
 
-  pub loop_fail : (d : List Token × Fault) → begins (first g) ts ≡ true → read g n ts ≡ Err d → gather_turns collect front (read (many g) n ts) ≡ Err d
+  pub loop_fail : (d : List Token × GrammarRule) → begins (first g) ts ≡ true → read g n ts ≡ Err d → gather_turns collect front (read (many g) n ts) ≡ Err d
   loop_fail d b r = rw (many-is g n e ts, b, r) refl
 
 pub plain : {A : Type 0} → Collects {A = A} (λ xs. xs) (λ x. x ∷ [])
@@ -109,7 +109,7 @@ words-is t (Err e) = refl
 
 -- ---- a level of nesting
 
-enter_by : {A : Type 0} (b : Bool) (ts : List Token) (e d : List Token × Fault) (p : ℕ → Reader A) → cond {A = Outcome A} b (Err e) (Err d) ≡ and_then (cond b (Err e) (Err d)) p
+enter_by : {A : Type 0} (b : Bool) (ts : List Token) (e d : List Token × GrammarRule) (p : ℕ → Reader A) → cond {A = Outcome A} b (Err e) (Err d) ≡ and_then (cond b (Err e) (Err d)) p
 enter_by true ts e d p = refl
 enter_by false ts e d p = refl
 

@@ -2,7 +2,7 @@
 use Rattle.std.proofs.Common.{◌≡◌, Bool, true, false, cond, List, [], ◌∷◌, Ok, Err, refl, subst, inl, inr}
 use Rattle.def_grammar.specs.declared.kind.Kind.{Kind}
 use Rattle.m2_tree.specs.declared.token.Token.{Token}
-use Rattle.def_grammar.specs.declared.refusal.Fault.TheVariants.{Unfit}
+use Rattle.def_grammar.specs.declared.refusal.GrammarRule.TheVariants.{Unfit}
 use Rattle.def_grammar.specs.Spelling.{Among, here, there}
 use Rattle.def_grammar.specs.Kinds.{kind_of, same_kind}
 use Rattle.def_grammar.specs.Reading.{Outcome, is_among, one_token}

@@ -3,7 +3,7 @@ use Rattle.std.proofs.Common.{◌≡◌, ℕ, List, [], ◌∷◌, ◌++◌, Som
 use Rattle.std.proofs.lemmas.List.{append-nil}
 use Rattle.m2_tree.specs.declared.token.Token.{Token}
 use Rattle.def_grammar.specs.declared.kind.Kind.TheVariants as the
-use Rattle.def_grammar.specs.declared.refusal.Fault.{Fault}
+use Rattle.def_grammar.specs.declared.refusal.GrammarRule.{GrammarRule}
 use Rattle.def_grammar.specs.Grammar.{Ty, El, Gr}
 use Rattle.def_grammar.specs.Trees.{tree}
 use Rattle.def_grammar.specs.Spelling.{Spells, made, pair, left, right, before, behind, there_is, none, more, nested, closed, Breaks, too_deep, misnamed, in_rule, in_first, in_second, in_left, in_right, in_rest, in_front, in_opt, in_turn_now, in_turn_later, in_nest, in_named}
@@ -24,7 +24,7 @@ pub record Onward {a : Ty} (g : Gr a) (ts at : List Token) : Type 0 where
 later : (us ts front : List Token) (next : Token) (tail : List Token) → ts ≡ front ++ next ∷ tail → us ++ ts ≡ (us ++ front) ++ next ∷ tail
 later us ts front next tail e = ap (λ (vs : List Token). us ++ vs) e ∙ sym (append_assoc us front (next ∷ tail))
 
-pub onward : {a : Ty} {g : Gr a} {n : ℕ} {ts at : List Token} {f : Fault} → Breaks a g n ts at f → Onward g ts at
+pub onward : {a : Ty} {g : Gr a} {n : ℕ} {ts at : List Token} {f : GrammarRule} → Breaks a g n ts at f → Onward g ts at
 onward (too_deep {t = t} {ts = ts} x) = record { front = []; next = t; tail = ts; parts = refl; here = refl; rest = x.1; value = x.0; spelt = nested x.2 }
 onward (misnamed {x = x} {ts = ts} t u us ti p ui d) = record { front = t ∷ ts; next = u; tail = us; parts = refl; here = refl; rest = []; value = (t, x); spelt = closed t u ti p ui }
 onward (in_rule {r = r} p) = let o = onward p in record { front = o.front; next = o.next; tail = o.tail; parts = o.parts; here = o.here; rest = o.rest; value = tree r o.value; spelt = made o.spelt }

@@ -5,8 +5,8 @@ use Rattle.std.specs.Str.{bytes_eq}
 use Rattle.def_grammar.specs.declared.kind.Kind.{Kind}
 use Rattle.def_grammar.specs.declared.kind.Kind.TheVariants as the
 use Rattle.m2_tree.specs.declared.token.Token.{Token}
-use Rattle.def_grammar.specs.declared.refusal.Fault.{Fault}
-use Rattle.def_grammar.specs.declared.refusal.Fault.TheVariants.{Unfit, Misnamed, TooDeep}
+use Rattle.def_grammar.specs.declared.refusal.GrammarRule.{GrammarRule}
+use Rattle.def_grammar.specs.declared.refusal.GrammarRule.TheVariants.{Unfit, Misnamed, TooDeep}
 use Rattle.def_grammar.specs.Rule.{Rule}
 use Rattle.def_grammar.specs.Grammar.{Ty, El, Gr, token, both, tok, rule, ◌·◌, ◌∣◌, lead, trail, opt, many, nest, named}
 use Rattle.def_grammar.specs.Ebnf.{grammar}
@@ -35,12 +35,12 @@ pub record Leads {a : Ty} (g : Gr a) (ts at : List Token) : Type 0 where
   pub value : El a
   pub spelt : Spells a g value (front ++ rest)
 
-abbrev pub IfBroken : Fault → Type 0 → Type 0
+abbrev pub IfBroken : GrammarRule → Type 0 → Type 0
 IfBroken Unfit P = Unit {0}
 IfBroken Misnamed P = P
 IfBroken TooDeep P = P
 
-if_broken : (f : Fault) {P Q : Type 0} → (P → Q) → IfBroken f P → IfBroken f Q
+if_broken : (f : GrammarRule) {P Q : Type 0} → (P → Q) → IfBroken f P → IfBroken f Q
 if_broken Unfit h p = tt
 if_broken Misnamed h p = h p
 if_broken TooDeep h p = h p
@@ -55,9 +55,9 @@ IsRight g n p = (ts : List Token) → Right g n ts (p ts)
 -- ---- one token
 
 -- a part that can be completed is completed from its beginning
-at_once : {a : Ty} (g : Gr a) (n : ℕ) (ts : List Token) (e : List Token × Fault) → Filled g → e ≡ (ts, Unfit) → Right g n ts (Err e)
+at_once : {a : Ty} (g : Gr a) (n : ℕ) (ts : List Token) (e : List Token × GrammarRule) → Filled g → e ≡ (ts, Unfit) → Right g n ts (Err e)
 at_once g n ts e fill is =
-    subst (λ (e : List Token × Fault). Right g n ts (Err e)) (sym is)
+    subst (λ (e : List Token × GrammarRule). Right g n ts (Err e)) (sym is)
     (record { front = []; parts = refl; rest = fill.text; value = fill.value; spelt = fill.spelt }, tt)
 
 tok_right : (k : Kind) (ks : List Kind) (n : ℕ) (ts : List Token) (o : Outcome Token) → Filled (tok k ks) → OneOf (k ∷ ks) ts o → Right (tok k ks) n ts o
@@ -127,7 +127,7 @@ module _ {a : Ty} (k : Kind) (g : Gr a) (n : ℕ) where
     spelt = behind p.0 t.spelt (among_one (kind_of p.0) k r.1);
   }
   behind_second x ts mid (Err e) t r =
-      subst (λ (d : List Token × Fault). Right (trail g k) n ts (Err d)) (sym r)
+      subst (λ (d : List Token × GrammarRule). Right (trail g k) n ts (Err d)) (sym r)
       (record { front = t.text; parts = t.parts; rest = token_of k ∷ []; value = x; spelt = behind (token_of k) t.spelt (kind_token k) }, tt)
 
   behind_right : (ts : List Token) (o : Outcome (El a)) → Right g n ts o → Right (trail g k) n ts (and_then o (λ x mid. and_then (one_token (k ∷ []) mid) (λ t rest. Ok (x, rest))))
@@ -218,7 +218,7 @@ module _ {a : Ty} (g : Gr a) (n : ℕ) where
       → Right (named g) n (t ∷ mid) (and_then (and_then o (λ u after. cond (bytes_eq (name_of t) (name_of u)) (Ok (u, after)) (Err (rest, Misnamed)))) (λ u after. Ok ((t, x), after)))
   named_closed t x mid rest (Ok p) ti s r = named_third t x mid rest p.1 p.0 (bytes_eq (name_of t) (name_of p.0)) refl ti (among_one (kind_of p.0) the.Name r.1) s r.0
   named_closed t x mid rest (Err e) ti s r =
-      subst (λ (d : List Token × Fault). Right (named g) n (t ∷ mid) (Err d)) (sym r)
+      subst (λ (d : List Token × GrammarRule). Right (named g) n (t ∷ mid) (Err d)) (sym r)
       (record { front = t ∷ s.text; parts = ap (λ (us : List Token). t ∷ us) s.parts; rest = token_of the.Name ∷ []; value = (t, x); spelt = closed t (token_of the.Name) ti s.spelt refl }, tt)
 
   named_second : (t : Token) (mid : List Token) (o : Outcome (El a)) → (kind_of t) ≡ the.Name → Right g n mid o

@@ -5,8 +5,8 @@ use Rattle.std.specs.Str.{bytes_eq}
 use Rattle.def_grammar.specs.declared.kind.Kind.{Kind}
 use Rattle.def_grammar.specs.declared.kind.Kind.TheVariants as the
 use Rattle.m2_tree.specs.declared.token.Token.{Token}
-use Rattle.def_grammar.specs.declared.refusal.Fault.{Fault}
-use Rattle.def_grammar.specs.declared.refusal.Fault.TheVariants.{Unfit, Misnamed, TooDeep}
+use Rattle.def_grammar.specs.declared.refusal.GrammarRule.{GrammarRule}
+use Rattle.def_grammar.specs.declared.refusal.GrammarRule.TheVariants.{Unfit, Misnamed, TooDeep}
 use Rattle.def_grammar.specs.Rule.{Rule}
 use Rattle.def_grammar.specs.Grammar.{Ty, Gr, tok, rule, ◌·◌, ◌∣◌, lead, trail, opt, many, nest, named}
 use Rattle.def_grammar.specs.Ebnf.{grammar}
@@ -84,7 +84,7 @@ steady_then p f s h = record {
 ok_moves : {A : Type 0} (x : A) (t : Token) (tail other front : List Token) → Moves t tail other (Ok (x, front ++ t ∷ tail)) (Ok (x, front ++ t ∷ other))
 ok_moves x t tail other front = λ left e. ap (λ us. Ok (x, us)) (same_left front left t tail other e)
 
-err_moves : {A : Type 0} (f : Fault) (t : Token) (tail other front : List Token) → Moves {A = A} t tail other (Err (front ++ t ∷ tail, f)) (Err (front ++ t ∷ other, f))
+err_moves : {A : Type 0} (f : GrammarRule) (t : Token) (tail other front : List Token) → Moves {A = A} t tail other (Err (front ++ t ∷ tail, f)) (Err (front ++ t ∷ other, f))
 err_moves f t tail other front = λ left e. ap (λ us. Err (us, f)) (same_left front left t tail other e)
 
 -- the token itself was taken
@@ -94,7 +94,7 @@ past_moves x t tail other o = λ left e. absurd (omega (arith, ap length e, leng
 steady_ok : {A : Type 0} (x : A) → IsSteady (λ ts. Ok (x, ts))
 steady_ok x = record { trims = λ ts. ([], refl); moves = ok_moves x }
 
-steady_err : {A : Type 0} (f : Fault) → IsSteady {A = A} (λ ts. Err (ts, f))
+steady_err : {A : Type 0} (f : GrammarRule) → IsSteady {A = A} (λ ts. Err (ts, f))
 steady_err f = record { trims = λ ts. ([], refl); moves = err_moves f }
 
 steady_cond : {A : Type 0} (ks : List Kind) (p q : Reader A) → IsSteady p → IsSteady q → IsSteady (λ ts. cond (begins ks ts) (p ts) (q ts))

@@ -5,8 +5,8 @@ use Rattle.std.proofs.lemmas.Slice.Eq.{bytes_eq-Decides}
 use Rattle.std.specs.Str.{bytes_eq}
 use Rattle.def_grammar.specs.declared.kind.Kind.TheVariants as the
 use Rattle.m2_tree.specs.declared.token.Token.{Token}
-use Rattle.def_grammar.specs.declared.refusal.Fault.{Fault}
-use Rattle.def_grammar.specs.declared.refusal.Fault.TheVariants.{Misnamed}
+use Rattle.def_grammar.specs.declared.refusal.GrammarRule.{GrammarRule}
+use Rattle.def_grammar.specs.declared.refusal.GrammarRule.TheVariants.{Misnamed}
 use Rattle.def_grammar.specs.Grammar.{Ty, Gr, ◌·◌}
 use Rattle.def_grammar.specs.Ebnf.{grammar}
 use Rattle.def_grammar.specs.Trees.{name_of}
@@ -30,7 +30,7 @@ later_begins : {a : Ty} (g : Gr a) (us ts : List Token) → FirstOf g us → beg
 later_begins g [] ts f e = e
 later_begins g (u ∷ us) ts f e = f
 
-breaks_begins : {a : Ty} {g : Gr a} {n : ℕ} {ts at : List Token} {f : Fault} → Breaks a g n ts at f → begins (first g) ts ≡ true
+breaks_begins : {a : Ty} {g : Gr a} {n : ℕ} {ts at : List Token} {f : GrammarRule} → Breaks a g n ts at f → begins (first g) ts ≡ true
 breaks_begins (too_deep x) = first_of_text x.2
 breaks_begins (misnamed t u us ti p ui d) = of_word t the.Name ti
 breaks_begins (in_rule {r = r} {ts = ts} p) = within-among (kind_at ts) (first (grammar r).form) (starters r) (tabled r).firsts (breaks_begins p)
@@ -46,7 +46,7 @@ breaks_begins (in_turn_later {g = g} {us = us} {ts = ts} q p) = later_begins g u
 breaks_begins (in_nest p) = breaks_begins p
 breaks_begins (in_named {t = t} is p) = of_word t the.Name is
 
-breaks_within : {a : Ty} {g : Gr a} {n : ℕ} {ts at : List Token} {f : Fault} → Breaks a g n ts at f → length at ≤ length ts
+breaks_within : {a : Ty} {g : Gr a} {n : ℕ} {ts at : List Token} {f : GrammarRule} → Breaks a g n ts at f → length at ≤ length ts
 breaks_within (too_deep x) = omega arith
 breaks_within (misnamed {ts = ts} t u us ti p ui d) = omega (arith, length-append ts (u ∷ us))
 breaks_within (in_rule p) = breaks_within p
@@ -63,24 +63,24 @@ breaks_within (in_nest p) = breaks_within p
 breaks_within (in_named is p) = let h = breaks_within p in omega arith
 
 -- the reader stops before, or here and for this fault
-abbrev pub Fails : {A : Type 0} → Outcome A → List Token → Fault → Type 0
+abbrev pub Fails : {A : Type 0} → Outcome A → List Token → GrammarRule → Type 0
 Fails (Ok p) at f = ⊥
 Fails (Err e) at f = (length at < length e.0) ⊎ (e ≡ (at, f))
 
-pub fails_within : (d : List Token × Fault) (at : List Token) (f : Fault) → (length at < length d.0) ⊎ (d ≡ (at, f)) → length at ≤ length d.0
+pub fails_within : (d : List Token × GrammarRule) (at : List Token) (f : GrammarRule) → (length at < length d.0) ⊎ (d ≡ (at, f)) → length at ≤ length d.0
 fails_within d at f (inl lt) = omega arith
 fails_within d at f (inr e) = rw e (omega arith)
 
-and_fails : {A B : Type 0} (o : Outcome A) (p : A → Reader B) (at : List Token) (f : Fault) → Fails o at f → Fails (and_then o p) at f
+and_fails : {A B : Type 0} (o : Outcome A) (p : A → Reader B) (at : List Token) (f : GrammarRule) → Fails o at f → Fails (and_then o p) at f
 and_fails (Ok q) p at f h = absurd h
 and_fails (Err e) p at f h = h
 
-then_fails : {A B : Type 0} (o : Outcome A) (p : A → Reader B) (x : A) (mid at : List Token) (f : Fault) → Meets o x mid → length at ≤ length mid → Fails (p x mid) at f → Fails (and_then o p) at f
+then_fails : {A B : Type 0} (o : Outcome A) (p : A → Reader B) (x : A) (mid at : List Token) (f : GrammarRule) → Meets o x mid → length at ≤ length mid → Fails (p x mid) at f → Fails (and_then o p) at f
 then_fails o p x mid at f (inl e) le h = subst (λ r. Fails (and_then r p) at f) (sym e) h
 then_fails (Ok q) p x mid at f (inr t) le h = absurd t
 then_fails (Err e) p x mid at f (inr t) le h = inl (omega (arith, t.1))
 
-pub trips : {a : Ty} {g : Gr a} {n : ℕ} {ts at : List Token} {f : Fault} → Breaks a g n ts at f → one_ahead g ≡ true → Fails (read g n ts) at f
+pub trips : {a : Ty} {g : Gr a} {n : ℕ} {ts at : List Token} {f : GrammarRule} → Breaks a g n ts at f → one_ahead g ≡ true → Fails (read g n ts) at f
 trips (too_deep x) l = rw (first_of_text x.2) (inr refl)
 trips (misnamed {g = g} {n = n} {x = x} {ts = ts} t u us ti p ui d) l =
     let b = and_both (one_ahead g) _ l in

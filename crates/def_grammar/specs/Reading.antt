@@ -7,8 +7,8 @@ use Rattle.m2_tree.specs.declared.token.Lexeme.{Lexeme}
 use Rattle.m2_tree.specs.declared.token.Token.{Token}
 use Rattle.def_grammar.specs.declared.kind.Kind.{Kind}
 use Rattle.def_grammar.specs.declared.kind.Kind.TheVariants as the
-use Rattle.def_grammar.specs.declared.refusal.Fault.{Fault}
-use Rattle.def_grammar.specs.declared.refusal.Fault.TheVariants.{Unfit, Misnamed, TooDeep}
+use Rattle.def_grammar.specs.declared.refusal.GrammarRule.{GrammarRule}
+use Rattle.def_grammar.specs.declared.refusal.GrammarRule.TheVariants.{Unfit, Misnamed, TooDeep}
 use Rattle.def_grammar.specs.declared.refusal.Stop.{Stop}
 use Rattle.def_grammar.specs.declared.refusal.Stop.TheVariants.{NoMemory, Refused}
 use Rattle.def_grammar.specs.Kinds.{kind_said, kind_of, same_kind}
@@ -51,7 +51,7 @@ first g = first_by starters g
 -- ---- readers
 
 abbrev pub Outcome : Type 0 → Type 0
-Outcome A = Result (A × List Token) (List Token × Fault)
+Outcome A = Result (A × List Token) (List Token × GrammarRule)
 
 -- what comes of a list: the value with what is left, or what was left at the fault, and which one
 -- it is

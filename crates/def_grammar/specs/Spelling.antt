@@ -4,8 +4,8 @@ use Rattle.std.proofs.Common.{inl, inr}
 use Rattle.def_grammar.specs.declared.kind.Kind.{Kind}
 use Rattle.def_grammar.specs.declared.kind.Kind.TheVariants as the
 use Rattle.m2_tree.specs.declared.token.Token.{Token}
-use Rattle.def_grammar.specs.declared.refusal.Fault.{Fault}
-use Rattle.def_grammar.specs.declared.refusal.Fault.TheVariants.{Misnamed, TooDeep}
+use Rattle.def_grammar.specs.declared.refusal.GrammarRule.{GrammarRule}
+use Rattle.def_grammar.specs.declared.refusal.GrammarRule.TheVariants.{Misnamed, TooDeep}
 use Rattle.def_grammar.specs.Kinds.{kind_of}
 use Rattle.def_grammar.specs.Rule.{Rule}
 use Rattle.def_grammar.specs.Grammar.{Ty, El, Gr, tok, rule, ◌·◌, ◌∣◌, lead, trail, opt, many, nest, named}
@@ -52,7 +52,7 @@ CanBegin {a} g t = (x : El a) × (ts : List Token) × Spells a g x (t ∷ ts)
 -- Where the tokens, as far as they are a text of the part or the beginning of one, break a rule on
 -- names or on nesting: `at` is what is left of them from that place on. The number says how many
 -- levels of nesting are left.
-pub data Breaks : (a : Ty) → Gr a → ℕ → List Token → List Token → Fault → Type 0 where
+pub data Breaks : (a : Ty) → Gr a → ℕ → List Token → List Token → GrammarRule → Type 0 where
   -- a part that counts begins, and no level is left for it
   too_deep : {a : Ty} {g : Gr a} {t : Token} {ts : List Token} → CanBegin g t
       → Breaks _ (nest g) 0 (t ∷ ts) (t ∷ ts) TooDeep
@@ -65,27 +65,28 @@ pub data Breaks : (a : Ty) → Gr a → ℕ → List Token → List Token → Fa
       → name_of t ≢ name_of u
       → Breaks _ (named g) n (t ∷ ts ++ u ∷ us) (u ∷ us) Misnamed
   -- in a part
-  in_rule : {r : Rule} {n : ℕ} {ts at : List Token} {f : Fault}
+  in_rule : {r : Rule} {n : ℕ} {ts at : List Token} {f : GrammarRule}
       → Breaks _ (grammar r).form n ts at f → Breaks _ (rule r) n ts at f
-  in_first : {a b : Ty} {g : Gr a} {h : Gr b} {n : ℕ} {ts at : List Token} {f : Fault}
+  in_first : {a b : Ty} {g : Gr a} {h : Gr b} {n : ℕ} {ts at : List Token} {f : GrammarRule}
       → Breaks _ g n ts at f → Breaks _ (g · h) n ts at f
-  in_second : {a b : Ty} {g : Gr a} {h : Gr b} {n : ℕ} {x : El a} {us ts at : List Token}
-      {f : Fault} → Spells _ g x us → Breaks _ h n ts at f → Breaks _ (g · h) n (us ++ ts) at f
-  in_left : {a b : Ty} {g : Gr a} {h : Gr b} {n : ℕ} {ts at : List Token} {f : Fault}
+  in_second :
+      {a b : Ty} {g : Gr a} {h : Gr b} {n : ℕ} {x : El a} {us ts at : List Token} {f : GrammarRule}
+      → Spells _ g x us → Breaks _ h n ts at f → Breaks _ (g · h) n (us ++ ts) at f
+  in_left : {a b : Ty} {g : Gr a} {h : Gr b} {n : ℕ} {ts at : List Token} {f : GrammarRule}
       → Breaks _ g n ts at f → Breaks _ (g ∣ h) n ts at f
-  in_right : {a b : Ty} {g : Gr a} {h : Gr b} {n : ℕ} {ts at : List Token} {f : Fault}
+  in_right : {a b : Ty} {g : Gr a} {h : Gr b} {n : ℕ} {ts at : List Token} {f : GrammarRule}
       → Breaks _ h n ts at f → Breaks _ (g ∣ h) n ts at f
-  in_rest : {a : Ty} {k : Kind} {g : Gr a} {n : ℕ} {t : Token} {ts at : List Token} {f : Fault}
-      → kind_of t ≡ k → Breaks _ g n ts at f → Breaks _ (lead k g) n (t ∷ ts) at f
-  in_front : {a : Ty} {k : Kind} {g : Gr a} {n : ℕ} {ts at : List Token} {f : Fault}
+  in_rest : {a : Ty} {k : Kind} {g : Gr a} {n : ℕ} {t : Token} {ts at : List Token}
+      {f : GrammarRule} → kind_of t ≡ k → Breaks _ g n ts at f → Breaks _ (lead k g) n (t ∷ ts) at f
+  in_front : {a : Ty} {k : Kind} {g : Gr a} {n : ℕ} {ts at : List Token} {f : GrammarRule}
       → Breaks _ g n ts at f → Breaks _ (trail g k) n ts at f
-  in_opt : {a : Ty} {g : Gr a} {n : ℕ} {ts at : List Token} {f : Fault} → Breaks _ g n ts at f
+  in_opt : {a : Ty} {g : Gr a} {n : ℕ} {ts at : List Token} {f : GrammarRule} → Breaks _ g n ts at f
       → Breaks _ (opt g) n ts at f
-  in_turn_now : {a : Ty} {g : Gr a} {n : ℕ} {ts at : List Token} {f : Fault} → Breaks _ g n ts at f
-      → Breaks _ (many g) n ts at f
-  in_turn_later : {a : Ty} {g : Gr a} {n : ℕ} {x : El a} {us ts at : List Token} {f : Fault}
+  in_turn_now : {a : Ty} {g : Gr a} {n : ℕ} {ts at : List Token} {f : GrammarRule}
+      → Breaks _ g n ts at f → Breaks _ (many g) n ts at f
+  in_turn_later : {a : Ty} {g : Gr a} {n : ℕ} {x : El a} {us ts at : List Token} {f : GrammarRule}
       → Spells _ g x us → Breaks _ (many g) n ts at f → Breaks _ (many g) n (us ++ ts) at f
-  in_nest : {a : Ty} {g : Gr a} {n : ℕ} {ts at : List Token} {f : Fault} → Breaks _ g n ts at f
-      → Breaks _ (nest g) (suc n) ts at f
-  in_named : {a : Ty} {g : Gr a} {n : ℕ} {t : Token} {ts at : List Token} {f : Fault}
+  in_nest : {a : Ty} {g : Gr a} {n : ℕ} {ts at : List Token} {f : GrammarRule}
+      → Breaks _ g n ts at f → Breaks _ (nest g) (suc n) ts at f
+  in_named : {a : Ty} {g : Gr a} {n : ℕ} {t : Token} {ts at : List Token} {f : GrammarRule}
       → kind_of t ≡ the.Name → Breaks _ g n ts at f → Breaks _ (named g) n (t ∷ ts) at f

@@ -10,4 +10,4 @@ mod refusal;
 
 pub use kind::Kind;
 pub use laws::{one_refusal, one_tree, plain_factor, tree_or_refusal};
-pub use refusal::{Fault, ParseError, ParseRefusal, Stop};
+pub use refusal::{GrammarRule, ParseError, ParseRefusal, Stop};

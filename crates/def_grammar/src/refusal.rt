@@ -9,7 +9,7 @@ use thiserror::Error;
 
 /// Which rule a list of tokens breaks.
 #[derive(Clone, Copy, Debug, PartialEq, Eq)]
-pub enum Fault {
+pub enum GrammarRule {
     /// No module goes on with this token.
     Unfit,
     /// The closing name is not the opening one.
@@ -23,7 +23,7 @@ pub enum Fault {
 pub enum Stop {
     /// Memory ran out.
     NoMemory,
-    Refused(Fault),
+    Refused(GrammarRule),
 }
 
 impl From<AllocError> for Stop {

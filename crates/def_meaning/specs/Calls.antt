@@ -50,7 +50,8 @@ with_passed false activation e (Variable l) =
     named_also e (At (variable_at activation (length e.names)))
     (copy_whole (variable_at activation (length e.names)) l e.store)
 with_passed true activation e (Array l high) = named_also e (Elements l high) e.store
-with_passed false activation e (Array l high) = copied_also e high (copy_whole (e.next ∷ []) l e.store)
+with_passed false activation e (Array l high) =
+    copied_also e high (copy_whole (e.next ∷ []) l e.store)
 with_passed is_var activation e (Text text) =
     copied_also e (length (argument_text text) - 1) (overlay (e.next ∷ []) (character text) e.store)
 

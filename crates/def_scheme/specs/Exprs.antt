@@ -233,7 +233,9 @@ capital_code t =
 
 abbrev pub ord_check : Types → TypeNo → List Instr
 ord_check types t =
-    if are_same (base_of types t) integer then check_code (pos 0) (pos 2147483647) range_fault else []
+    if are_same (base_of types t) integer
+    then check_code (pos 0) (pos 2147483647) range_fault
+    else []
 
 -- the base type of a result is checked with that of its operands
 abbrev pub behind : Coded → (Types → List Instr) → Coded
@@ -304,7 +306,8 @@ expr_layer (layer.Call t c) = part_of t c
 
 abbrev pub global_code : TypedModule → Variable → List Instr
 global_code m v =
-    GlobalGet (base_global m v.home) ∷ raise_address (offset (variables_row m v.home) (v.number ∷ []))
+    GlobalGet (base_global m v.home)
+    ∷ raise_address (offset (variables_row m v.home) (v.number ∷ []))
 
 abbrev pub with_code : Option ℕ → List Instr
 with_code None = []
@@ -344,7 +347,8 @@ passed_text text =
 abbrev pub argument_layer : Argument-F Coded Coded Coded Linked Part Coded → Coded
 argument_layer (layer.Value t e) = behind e.code (λ types. check_taken types t e.constant e.of)
 argument_layer (layer.Place d) = d ⨾ plain (extend_word ∷ [])
-argument_layer (layer.Array t d) = behind d (λ types. extend_word ∷ I64Const (high_index types t) ∷ [])
+argument_layer (layer.Array t d) =
+    behind d (λ types. extend_word ∷ I64Const (high_index types t) ∷ [])
 argument_layer (layer.Open slot) =
     with_setting (λ s. plain (open_address s slot ++ (extend_word ∷ high_code s slot)))
 argument_layer (layer.Text text) = passed_text (argument_text text)

@@ -70,8 +70,8 @@ limit_check =
 
 abbrev pub enter_code : (top : ℕ) → (bytes : ℕ) → List Instr
 enter_code top bytes =
-    LocalGet 0 ∷ (raise_address bytes ++ (LocalTee top ∷ (limit_check ++ (LocalGet 0 ∷ I32Const bytes
-    ∷ Call fill ∷ []))))
+    LocalGet 0 ∷ (raise_address bytes ++ (LocalTee top ∷ (limit_check ++ (LocalGet 0
+    ∷ I32Const bytes ∷ Call fill ∷ []))))
 
 abbrev pub link_kept : Routine → List Instr
 link_kept r = if nat_lt 1 r.level then LocalGet 0 ∷ LocalGet 1 ∷ Store width.Eight ∷ [] else []
@@ -161,8 +161,8 @@ module _ (numbered : Numbered) (m : TypedModule) where
 
   abbrev pub routine_coded : Routine → (text : ℕ) → List Instr × Counts
   routine_coded r at =
-      function_code (frame m.types r ∷ frames_around m r.level r.around) (suc (numbers_of m.types r)) at
-      r.body
+      function_code (frame m.types r ∷ frames_around m r.level r.around)
+      (suc (numbers_of m.types r)) at r.body
 
   abbrev pub routine_function : Which → Routine → Function
   routine_function w r =

@@ -147,8 +147,8 @@ in_block x s c = let inner = x s c in (block inner.0, inner.1)
 abbrev pub jump_arms : List Arm → Coded → Coded
 jump_arms [] inner = inner
 jump_arms (x ∷ xs) inner =
-    jump_arms xs
-    (in_block inner ⨾ within (length xs + 2) (λ code. code) x.code ⨾ plain (Br (length xs + 1) ∷ []))
+    jump_arms xs (in_block inner ⨾ within (length xs + 2) (λ code. code) x.code
+    ⨾ plain (Br (length xs + 1) ∷ []))
 
 abbrev pub table_code : (t : ℕ) → List Arm → Coded → Coded
 table_code t arms otherwise =
@@ -179,8 +179,8 @@ for_turn d t by n body =
     body ⨾ behind d (λ types. load_code types t)
     ⨾ plain (number by ∷ operation Add ∷ LocalGet n ∷ relation (passes by) ∷ BrIf 1 ∷ []) ⨾ d
     ⨾ behind d (λ types. load_code types t) ⨾ with_setting (λ s.
-    plain (number by ∷ operation Add ∷ (in_type s.home.types t range_fault ++ (store_code s.home.types t
-    ++ Br 0 ∷ []))))
+    plain (number by ∷ operation Add ∷ (in_type s.home.types t range_fault
+    ++ (store_code s.home.types t ++ Br 0 ∷ []))))
 
 abbrev pub for_code : Coded → TypeNo → Part → Part → (by : ℤ) → Coded → Coded
 for_code d t start limit by body =
@@ -235,8 +235,8 @@ member_code o d x =
 -- the characters are copied, and the rest of the array is filled with 0C
 abbrev pub text_copied : (at bytes rest w : ℕ) → List Instr
 text_copied at bytes rest w =
-    text_code at ++ (I32Const bytes ∷ Call copy ∷ LocalGet w ∷ (raise_address bytes ++ (I32Const rest
-    ∷ Call fill ∷ [])))
+    text_code at ++ (I32Const bytes ∷ Call copy ∷ LocalGet w ∷ (raise_address bytes
+    ++ (I32Const rest ∷ Call fill ∷ [])))
 
 abbrev pub copy_text_code : Coded → TypeNo → List ℕ → Coded
 copy_text_code d t text =

@@ -142,7 +142,7 @@ impl<'a> Home<'a> {
     }
 
     /// A procedure of the module, with its frame.
-    pub fn framed(&self, which: Which) -> Option<Framed<'_>>
+    pub fn frame_of(&self, which: Which) -> Option<Framed<'_>>
         ensures { MatchOption result (routine_of self.now which ≡ None)
             (λ f. (routine_of self.now which ≡ Some f.routine.now) × IsFramed self.now.types f) }
     {

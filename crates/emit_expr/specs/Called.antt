@@ -51,5 +51,6 @@ open_code s slot = open_address s slot ++ (extend_word ∷ high_code s slot)
 -- a string with its bytes
 abbrev pub with_passed : List ℕ → Drafted → Drafted
 with_passed text d =
-    put (text_code d.counts.texts ++ (extend_word ∷ I64Const (length (argument_text text) - 1) ∷ []))
+    put
+    (text_code d.counts.texts ++ (extend_word ∷ I64Const (length (argument_text text) - 1) ∷ []))
     (next_text (length (argument_text text)) d)

@@ -77,7 +77,7 @@ fn framed_at<'a>(home: &'a Home<'_>, around: Option<Which>) -> Option<Framed<'a>
 {
     match around {
         None => None,
-        Some(which) => home.framed(which),
+        Some(which) => home.frame_of(which),
     }
 }
 
@@ -220,7 +220,7 @@ pub fn routine_function(
     ensures { let numbers = numbering_of home.now in
         IfOk result (λ f. f ≡ routine_function numbers home.now which routine.now) }
 {
-    match home.framed(which) {
+    match home.frame_of(which) {
         None => unreachable!(),
         Some(framed) => framed_function(alloc, home, framed, texts),
     }

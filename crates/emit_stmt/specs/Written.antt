@@ -73,7 +73,8 @@ for_turned s p t by n d = for_next s p t by (for_passed s p t by n d)
 
 abbrev pub arm_begun : (t : ℕ) → Drafted → TypedArm → Drafted
 arm_begun t d x =
-    closed_block (place_of (open_draft d)) None (put (tests_code t x.labels) (open_draft (open_draft d)))
+    closed_block (place_of (open_draft d)) None
+    (put (tests_code t x.labels) (open_draft (open_draft d)))
 
 unfoldable pub with_arm : (t : ℕ) → Setting → Drafted → TypedArm → Drafted
 with_arm t s d x =

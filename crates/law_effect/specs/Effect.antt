@@ -198,7 +198,8 @@ module _ (modules : List WModule) (fx : Fixed) where
 
   -- Calls that nest at most d deep, where functions that serve the others do not count. These call
   -- as deep as they need to.
-  unfoldable pub nest_calls : (serves : (k f : ℕ) → Bool) (extra : (k f : ℕ) → ℕ) (n d : ℕ) → Calling
+  unfoldable pub nest_calls : (serves : (k f : ℕ) → Bool) (extra : (k f : ℕ) → ℕ) (n d : ℕ)
+      → Calling
   nest_calls serves extra n zero k f t args bytes out =
       if serves k f then calling extra n (suc (suc n)) k f t args bytes out else StillRunning out
   nest_calls serves extra n (suc d) k f t args bytes out =

@@ -57,8 +57,8 @@ Leads modules fx least m a code c first (Branched k st stack) =
     Reaches modules c first (branch_by (store_of fx st.bytes) (frame m a [] st stack) a.callers k).0
     st.out
 Leads modules fx least m a code c first (Returned st stack) =
-    Reaches modules c first (branch_to (store_of fx st.bytes) (frame m a [] st stack) a.callers None).0
-    st.out
+    Reaches modules c first
+    (branch_to (store_of fx st.bytes) (frame m a [] st stack) a.callers None).0 st.out
 Leads modules fx least m a code c first (Ended k out) = Reaches modules c first (Over k) out
 Leads modules fx least m a code c first (Traps out) = Reaches modules c first Trapped out
 Leads modules fx least m a code c first (StillRunning out) = GoesOn modules least c first out
@@ -89,7 +89,8 @@ abbrev pub Runs : Type 0
 Runs =
     (modules : List WModule) (fx : Fixed) (extra : (k f : ℕ) → ℕ) (n m f : ℕ) (t : Typed)
     (bytes : List ℕ)
-    → RunLeads modules n (length t.type.results) (Going (store_of fx bytes) (enter_function m t []) [])
+    → RunLeads modules n (length t.type.results)
+    (Going (store_of fx bytes) (enter_function m t []) [])
     (calling modules fx extra n (suc n) m f t [] bytes [])
 
 -- what the effect of such a run's function says that the run comes to, unless it still runs
@@ -156,7 +157,8 @@ NestedRuns =
     → n ≤ d
     → serves m f ≡ false
     → (t : Typed) (bytes : List ℕ)
-    → RunLeads modules n (length t.type.results) (Going (store_of fx bytes) (enter_function m t []) [])
+    → RunLeads modules n (length t.type.results)
+    (Going (store_of fx bytes) (enter_function m t []) [])
     (nest_calls modules fx serves extra n (suc d) m f t [] bytes [])
 
 abbrev pub NestedOnly : Type 0

@@ -22,7 +22,7 @@ use Rattle.def_grammar.specs.Ebnf.{grammar, symbol, selector, expr, stmt, stmts,
 use Rattle.def_grammar.specs.Trees.{ident_of, literal_said, with_first, present, flatten_lists, is_there, sign_of, add_operand, multiply_operand, selectors_of, contents_with, tree}
 use Rattle.def_grammar.specs.Spelling.{Spells, one, made, pair, left, right, before, behind, absent, there_is, none, more, nested, closed}
 use Rattle.def_grammar.specs.Spelling.{Breaks, too_deep, in_rule, in_first, in_second, in_left, in_right, in_rest, in_front, in_opt, in_turn_now, in_turn_later, in_nest, in_named}
-use Rattle.def_grammar.specs.declared.refusal.Fault.TheVariants.{TooDeep}
+use Rattle.def_grammar.specs.declared.refusal.GrammarRule.TheVariants.{TooDeep}
 use Rattle.def_grammar.specs.Reading.{nullable}
 use Rattle.def_grammar.specs.Refusal.{IsTree, max_nesting}
 use Rattle.def_grammar.proofs.Truth.{and_both}

@@ -29,4 +29,5 @@ FewTypesFit = (m : TypedModule) → types_count (signatures_needed m) ≤ few_en
 
 -- The types that a well formed module needs count at most two for each that it counts.
 abbrev pub TypesAreFew : Type 0
-TypesAreFew = (m : TypedModule) → IsWellFormed m → types_count (signatures_needed m) ≤ 2 * counts_in m
+TypesAreFew =
+    (m : TypedModule) → IsWellFormed m → types_count (signatures_needed m) ≤ 2 * counts_in m

@@ -1,5 +1,5 @@
 -- Labels of CASE.
-use Rattle.std.specs.Prelude.{ℤ, Bool, false, not, int_lt, List, [], Option, Some, None, Result}
+use Rattle.std.specs.Prelude.{ℤ, Bool, false, not, List, [], Option, Some, None, Result}
 use Rattle.m2_rule.specs.declared.rule.Rule.TheVariants as rule
 use Rattle.m2_tree.specs.declared.pos.Pos.{Pos}
 use Rattle.m2_tree.specs.declared.expr.Item.{Item, out-Item}
@@ -9,11 +9,8 @@ use Rattle.typed_tree.specs.declared.known_types.Types.{Types}
 use Rattle.check_scope.specs.declared.meaningless.Meaningless.{Meaningless}
 use Rattle.check_scope.specs.declared.scope.Scope.{Scope}
 use Rattle.check_const_ops.specs.declared.operand.Ordinal.{Ordinal}
-use Rattle.check_const_ops.specs.declared.operand.Operand.{Operand}
-use Rattle.check_const_ops.specs.declared.operand.Operand.TheVariants as operand
 use Rattle.check_const_ops.specs.Operands.{operand_of}
-use Rattle.check_const_ops.specs.Numbers.{fits}
-use Rattle.check_const_ops.specs.Common.{common}
+use Rattle.check_const_ops.specs.Bounds.{is_of_base}
 use Rattle.check_operator.specs.declared.class.Class.{Class}
 use Rattle.check_operator.specs.declared.class.Class.TheVariants as class
 use Rattle.check_operator.specs.declared.computed.Computed.{Computed}
@@ -26,7 +23,7 @@ use Rattle.check_stmt_parts.specs.Ranges.{enter_range}
 use Rattle.m2_rule.specs.declared.breach.Breach.{Breach}
 use Rattle.check_scope.specs.Elaborated.{every, least}
 use Rattle.law_least_definition.specs.Least.{Reports, fine}
-use Rattle.check_stmt_parts.specs.Labels.{suits_selector, ordinal_in, of_type, no_constant, value_bound, variable_bound, bound_by, bound_in, bound_of, is_of_base, number_fits, suits_base, bound_suits, single, ordered_if, are_ordered, label_range, label_between, Labels, with_new, with_label, item_label, with_item, labels_in}
+use Rattle.check_stmt_parts.specs.Labels.{suits_selector, of_type, no_constant, value_bound, variable_bound, bound_by, bound_in, bound_of, suits_base, bound_suits, single, label_range, label_between, Labels, with_new, with_label, item_label, with_item, labels_in}
 use Rattle.law_least_definition.proofs.Forms.{beside_reports, both_reports, fold_keeps, then_reports, reported_reports, where_reports}
 use Rattle.law_least_definition.proofs.Exprs.{meant_beside}
 use Rattle.law_least_body.proofs.Arounds.{meant_if_beside}
@@ -35,12 +32,7 @@ use Rattle.law_least_definition.specs.Beside.{Optionwise, nothing, something, So
 use Rattle.law_least_definition.proofs.Constants.{parts}
 use Rattle.law_least_definition.proofs.Pieces.{MeantBeside, meants}
 use Rattle.law_least_definition.specs.Least.{is_refused}
-use Rattle.law_least_definition.proofs.Making.{KeptBeside, is_kept}
-
-pub ordinal_in_reports : (at : Pos) → (p1 : Option Operand) → Reports (ordinal_in least at p1) (ordinal_in every at p1)
-ordinal_in_reports at None = reported_reports at rule.WrongType
-ordinal_in_reports at (Some (operand.Set bits)) = reported_reports at rule.WrongType
-ordinal_in_reports at (Some (operand.Scalar a)) = fine a
+use Rattle.law_least_definition.proofs.Making.{KeptBeside, is_kept, ordinal_in_reports, fits_base_reports, are_ordered_reports}
 
 pub of_type_reports : (alike : Bool) → (at : Pos) → Reports (of_type least alike at) (of_type every alike at)
 of_type_reports alike at = where_reports (not alike) at rule.WrongType (fine tt)
@@ -81,26 +73,15 @@ bound_in_reports types base label at (is_headless f fs p) = no_constant_reports 
 pub bound_of_reports : {s : Scope Breach} {s' : Scope (List Breach)} → ScopeBeside s s' → (base : Option TypeNo) → (label : Pos) → {x : Meant Breach} {x' : Meant (List Breach)} → MeantBeside x x' → Reports (bound_of least s base label x) (bound_of every s' base label x')
 bound_of_reports (scopes tables types vars procs {level = level} {withs = withs} own outer) base label (meants (parts x_at x_p x_n) x_m) = bound_in_reports types base label x_at (x_m _ _ (scopes tables types vars procs {level = level} {withs = withs} own outer))
 
-pub number_fits_reports : (base : TypeNo) → (at : Pos) → (a : Ordinal) → (p3 : Option TypeNo) → Reports (number_fits least base at a p3) (number_fits every base at a p3)
-number_fits_reports base at a None = where_reports (not (fits (Some base) a.number)) at rule.OutOfRange (fine tt)
-number_fits_reports base at a (Some t) = fine tt
-
 pub suits_base_reports : (base : Option TypeNo) → (at : Pos) → (a : Ordinal) → Reports (suits_base least base at a) (suits_base every base at a)
 suits_base_reports None at a = fine tt
-suits_base_reports (Some base) at a = where_reports (not (is_of_base base a.sort)) at rule.WrongType (number_fits_reports base at a a.sort)
+suits_base_reports (Some base) at a = where_reports (not (is_of_base base a.sort)) at rule.WrongType (fits_base_reports at base a.sort a.number)
 
 pub bound_suits_reports : (base : Option TypeNo) → (at : Pos) → {a : Result Ordinal Breach} {a' : Result Ordinal (List Breach)} → Reports a a' → Reports (bound_suits least base at a) (bound_suits every base at a')
 bound_suits_reports base at a = then_reports a (λ v. suits_base_reports base at v)
 
 pub single_reports : (base : Option TypeNo) → (at : Pos) → {a : Result Ordinal Breach} {a' : Result Ordinal (List Breach)} → Reports a a' → Reports (single least base at a) (single every base at a')
 single_reports base at a = then_reports (both_reports a (bound_suits_reports base at a)) (λ p. fine _)
-
-pub ordered_if_reports : (at : Pos) → (a : Ordinal) → (b : Ordinal) → (p3 : Option (Option TypeNo)) → Reports (ordered_if least at a b p3) (ordered_if every at a b p3)
-ordered_if_reports at a b None = fine tt
-ordered_if_reports at a b (Some sort) = where_reports (int_lt b.number a.number) at rule.EmptyRange (fine tt)
-
-pub are_ordered_reports : (at : Pos) → {a : Result Ordinal Breach} {a' : Result Ordinal (List Breach)} → Reports a a' → {b : Result Ordinal Breach} {b' : Result Ordinal (List Breach)} → Reports b b' → Reports (are_ordered least at a b) (are_ordered every at a' b')
-are_ordered_reports at a b = then_reports (both_reports a b) (λ p. ordered_if_reports at p.0 p.1 (common p.0.sort p.1.sort))
 
 pub spanned_reports : (base : Option TypeNo) → (at : Pos) → {a : Result Ordinal Breach} {a' : Result Ordinal (List Breach)} → Reports a a' → (at' : Pos) → {b : Result Ordinal Breach} {b' : Result Ordinal (List Breach)} → Reports b b' → Reports (label_range least base at a at' b) (label_range every base at a' at' b')
 spanned_reports base at a at' b = then_reports (both_reports (both_reports a b) (beside_reports (beside_reports (bound_suits_reports base at a) (bound_suits_reports base at' b)) (are_ordered_reports at a b))) (λ p. fine _)

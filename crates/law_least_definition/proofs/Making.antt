@@ -31,15 +31,17 @@ use Rattle.check_const_ops.specs.declared.operand.Operand.TheVariants as operand
 use Rattle.check_const_ops.specs.Operands.{operand_of}
 use Rattle.check_const_ops.specs.Numbers.{is_between, fits}
 use Rattle.check_const_ops.specs.Common.{common}
+use Rattle.check_const_ops.specs.Bounds.{are_ordered, bounds_in_order, fits_base, is_of_base, ordered_if, ordinal_in}
 use Rattle.check_type_expr.specs.declared.field.Fields.{Fields}
 use Rattle.check_type_expr.specs.Named.{first_of, type_meant, in_module, of_module, named_type}
-use Rattle.check_type_expr.specs.Subranges.{ordinal_in, bound_of, bounds_in_order, base_of, fits_at, subrange_of_base, between, subrange_between, is_of_base, is_of, bound_in, ordered_if, alike_ordered, under}
+use Rattle.check_type_expr.specs.Subranges.{bound_of, base_of, subrange_of_base, between, subrange_between, is_of, bound_in, under}
 use Rattle.check_type_expr.specs.Fields.{no_fields, with_field, with_name}
 use Rattle.check_type_expr.specs.Headings.{formal_of, result_in, result_of, procedure_made, with_parameter, procedure_type, with_section, heading_of, with_names, names_of}
 use Rattle.check_type_expr.specs.Made.{with_shape, with_made, reported_at, enumeration_constant, enumeration_scalar, enumerate_name, enumeration_of, enumeration}
 use Rattle.law_least_definition.specs.Least.{Reports, fine, is_refused}
 use Rattle.law_least_definition.specs.Beside.{ScopeBeside, scopes, StateBeside}
 use Rattle.law_least_definition.proofs.Forms.{reported_reports, where_reports, both_reports, then_reports, of_sort_reports, beside_reports, cond_keeps, fold_keeps}
+use Rattle.law_least_definition.proofs.Values.{ordered_reports}
 use Rattle.law_least_definition.proofs.Scopes.{goes, looked_up_sought, declared_goes}
 use Rattle.law_least_definition.proofs.Constants.{member_reports}
 
@@ -78,7 +80,7 @@ named_type_reports b q = of_module_reports b q.module q.name
 
 -- ---- subranges
 
-ordinal_in_reports : (at : Pos) (x : Option Operand) → Reports (ordinal_in least at x) (ordinal_in every at x)
+pub ordinal_in_reports : (at : Pos) (x : Option Operand) → Reports (ordinal_in least at x) (ordinal_in every at x)
 ordinal_in_reports at None = reported_reports at rule.WrongType
 ordinal_in_reports at (Some (operands.Set bits)) = reported_reports at rule.WrongType
 ordinal_in_reports at (Some (operands.Scalar a)) = fine a
@@ -86,15 +88,12 @@ ordinal_in_reports at (Some (operands.Scalar a)) = fine a
 pub bound_of_reports : (at : Pos) {v : Result Value Breach} {v' : Result Value (List Breach)} → Reports v v' → Reports (bound_of least at v) (bound_of every at v')
 bound_of_reports at p = then_reports p (λ x. ordinal_in_reports at (operand_of x))
 
-ordered_reports : (at : Pos) (low high : ℤ) → Reports (bounds_in_order least at low high) (bounds_in_order every at low high)
-ordered_reports at low high = where_reports (int_lt high low) at rule.EmptyRange (fine tt)
-
-fits_at_reports : (at : Pos) (base : TypeNo) (sort : Option TypeNo) (n : ℤ) → Reports (fits_at least at base sort n) (fits_at every at base sort n)
-fits_at_reports at base (Some t) n = fine tt
-fits_at_reports at base None n = where_reports (not (fits (Some base) n)) at rule.OutOfRange (fine tt)
+pub fits_base_reports : (at : Pos) (base : TypeNo) (sort : Option TypeNo) (n : ℤ) → Reports (fits_base least at base sort n) (fits_base every at base sort n)
+fits_base_reports at base (Some t) n = fine tt
+fits_base_reports at base None n = where_reports (not (fits (Some base) n)) at rule.OutOfRange (fine tt)
 
 based_reports : (at : Pos) (a : Ordinal) (at' : Pos) (b : Ordinal) (base : TypeNo) → Reports (subrange_of_base least at a at' b base) (subrange_of_base every at a at' b base)
-based_reports at a at' b base = then_reports (beside_reports (ordered_reports at a.number b.number) (beside_reports (fits_at_reports at base a.sort a.number) (fits_at_reports at' base b.sort b.number))) (λ u. fine _)
+based_reports at a at' b base = then_reports (beside_reports (ordered_reports at a.number b.number) (beside_reports (fits_base_reports at base a.sort a.number) (fits_base_reports at' base b.sort b.number))) (λ u. fine _)
 
 between_reports : (at : Pos) (a : Ordinal) (at' : Pos) (b : Ordinal) (sort : Option (Option TypeNo)) → Reports (between least at a at' b sort) (between every at a at' b sort)
 between_reports at a at' b None = reported_reports at' rule.WrongType
@@ -114,12 +113,12 @@ ordered_if_reports : (at : Pos) (a b : Ordinal) (sort : Option (Option TypeNo)) 
 ordered_if_reports at a b None = fine tt
 ordered_if_reports at a b (Some sort) = ordered_reports at a.number b.number
 
-alike_ordered_reports : (at : Pos) {a : Result Ordinal Breach} {a' : Result Ordinal (List Breach)} → Reports a a' → {b : Result Ordinal Breach} {b' : Result Ordinal (List Breach)} → Reports b b' → Reports (alike_ordered least at a b) (alike_ordered every at a' b')
-alike_ordered_reports at p q = then_reports (both_reports p q) (λ x. ordered_if_reports at x.0 x.1 (common x.0.sort x.1.sort))
+pub are_ordered_reports : (at : Pos) {a : Result Ordinal Breach} {a' : Result Ordinal (List Breach)} → Reports a a' → {b : Result Ordinal Breach} {b' : Result Ordinal (List Breach)} → Reports b b' → Reports (are_ordered least at a b) (are_ordered every at a' b')
+are_ordered_reports at p q = then_reports (both_reports p q) (λ x. ordered_if_reports at x.0 x.1 (common x.0.sort x.1.sort))
 
 pub under_reports : {of : Result Scalar Breach} {of' : Result Scalar (List Breach)} → Reports of of' → (at : Pos) {a : Result Ordinal Breach} {a' : Result Ordinal (List Breach)} → Reports a a'
     → (at' : Pos) {b : Result Ordinal Breach} {b' : Result Ordinal (List Breach)} → Reports b b' → Reports (under least of at a at' b) (under every of' at a' at' b')
-under_reports o at p at' q = then_reports (both_reports (both_reports o (both_reports p q)) (beside_reports (beside_reports (bound_in_reports o at p) (bound_in_reports o at' q)) (alike_ordered_reports at p q))) (λ x. fine _)
+under_reports o at p at' q = then_reports (both_reports (both_reports o (both_reports p q)) (beside_reports (beside_reports (bound_in_reports o at p) (bound_in_reports o at' q)) (are_ordered_reports at p q))) (λ x. fine _)
 
 -- ---- a value, and what is reported of it
 

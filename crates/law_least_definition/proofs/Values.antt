@@ -23,8 +23,9 @@ use Rattle.check_const_ops.specs.Operands.{operand_of, is_number, is_truth}
 use Rattle.check_const_ops.specs.Numbers.{fits, is_between, number_at, whole_arithmetic, evaluated_at, quotient, remainder}
 use Rattle.check_const_ops.specs.Common.{common}
 use Rattle.check_const_ops.specs.Standards.{scalar_part, whole_number, absolute_part, absolute, is_char, capital_part, capital, character_part, character, odd_part, is_odd, ordinal_part, ordinal_of, converted_part, conversion_of}
-use Rattle.check_const_ops.specs.Sets.{set_related, on_sets, member_of, member, ordinal_or_refusal, element, is_element, single, is_unlike, bounds_in_order, alike_in_order, span_of}
+use Rattle.check_const_ops.specs.Sets.{set_related, on_sets, member_of, member, ordinal_or_refusal, element, is_element, single, is_unlike, alike_in_order, span_of}
 use Rattle.check_const_ops.specs.Operate.{takes, ordinal_result, divisor, is_misfit, fitting, ordinal_operation, on_scalars, binary, constant_operation, is_signed, signed_scalar, signed_value, with_sign, negated_value, negation}
+use Rattle.check_const_ops.specs.Bounds.{bounds_in_order}
 use Rattle.law_least_definition.specs.Least.{Reports, fine}
 use Rattle.law_least_definition.proofs.Forms.{reported_reports, where_reports, both_reports, then_reports, beside_reports, cond_keeps}
 
@@ -135,7 +136,7 @@ is_element_reports at a = where_reports (not (is_between (pos 0) a.number (pos 3
 pub single_reports : (at : Pos) (v : Value) → Reports (single least at v) (single every at v)
 single_reports at v = then_reports (element_reports at v) (λ a. then_reports (is_element_reports at a) (λ u. fine _))
 
-ordered_reports : (at : Pos) (low high : ℤ) → Reports (bounds_in_order least at low high) (bounds_in_order every at low high)
+pub ordered_reports : (at : Pos) (low high : ℤ) → Reports (bounds_in_order least at low high) (bounds_in_order every at low high)
 ordered_reports at low high = where_reports (int_lt high low) at rule.EmptyRange (fine tt)
 
 related_reports : (at at' : Pos) (a b : Ordinal) → Reports (alike_in_order least at at' a b) (alike_in_order every at at' a b)

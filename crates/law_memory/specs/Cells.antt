@@ -52,7 +52,8 @@ lower_cell (Callable h) n = n
 -- the operand that is loaded from place a, if it is there
 abbrev pub fetch_cell : Scalar → ℕ → List ℕ → Option ℕ
 fetch_cell c a m =
-    option_map (λ bytes. raise_cell c (load_number (load_of c) bytes)) (bytes_at (load_size (load_of c)) a m)
+    option_map (λ bytes. raise_cell c (load_number (load_of c) bytes))
+    (bytes_at (load_size (load_of c)) a m)
 
 -- the memory with this operand stored at place a
 abbrev pub put : Scalar → ℕ → ℕ → List ℕ → List ℕ

@@ -97,7 +97,8 @@ WritesHidden =
     → component (row world) to ≡ Some (Hidden n)
     → length ys ≡ n
     → ((j : ℕ) → j < length ys → get_or ys j 0 < 256)
-    → Holds p world (overlay to (λ r k. get_or ys k 0) x) s (paste_items m (offset (row world) to) ys)
+    → Holds p world (overlay to (λ r k. get_or ys k 0) x) s
+    (paste_items m (offset (row world) to) ys)
 
 -- an address or a HIGH in such room is read as it was written
 abbrev pub ReadsAddress : Type 0

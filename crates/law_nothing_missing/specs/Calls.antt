@@ -79,7 +79,8 @@ module _ (lacking : ℕ) where
         else runs_in ask
         (world
         ++ frame c.types c.routine ∷ copies_of c.types (formals_of c.types c.routine.heading) vs)
-        c next (enter_call c.types c.routine next vs st.store) (left - storage_need c.types c.routine vs) st
+        c next (enter_call c.types c.routine next vs st.store)
+        (left - storage_need c.types c.routine vs) st
 
     abbrev pub runs : (World → Asks) → World → Callee → List Passed → (next left : ℕ) → State
         → Answer ℤ

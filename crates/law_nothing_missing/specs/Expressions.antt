@@ -104,8 +104,8 @@ module _ (lacking : ℕ) where
         is_procedure_type c.types c.routine.heading
         && (not wanted || is_function c.types c.routine)
 
-    abbrev pub call_with : (wanted : Bool) → Option Callee → List (Gives Passed) → Environment → State
-        → Answer ℤ
+    abbrev pub call_with : (wanted : Bool) → Option Callee → List (Gives Passed) → Environment
+        → State → Answer ℤ
     call_with wanted None args a st = lacks st
     call_with wanted (Some c) args a st =
         if_provided (suits_call wanted c) (meaning.call_with p ask (Some c) args a) st
@@ -142,8 +142,8 @@ module _ (lacking : ℕ) where
         (call_with wanted (module_callee p (module_place p f.home) f.number) args a) st
     call_layer (layer.Nested f args) wanted a st =
         if_provided (nat_lt f.up (length a.frames))
-        (call_with wanted (nested_in a.place (slice_get p a.place) (drop f.up a.frames) f.number) args
-        a)
+        (call_with wanted (nested_in a.place (slice_get p a.place) (drop f.up a.frames) f.number)
+        args a)
         st
     call_layer (layer.Variable t d args) wanted a st =
         (d a st ▷ at_cell) ▷ λ l st. asked_value wanted (st.store l) args a st

@@ -59,7 +59,8 @@ module _ (lacking : ℕ) (p : Modules) (ask : Asks) (world : World) (n : ℕ) (f
   step_layer (step.Change o d t e) a st =
       cell d a st ▷ λ l st.
       value lacking p ask world e a st ▷ λ by st.
-      if_provided lacking (are_ranged a.types t) (recheck_value a.types t (change_by o (st.store l) by)) st
+      if_provided lacking (are_ranged a.types t)
+      (recheck_value a.types t (change_by o (st.store l) by)) st
       ▷ λ v st.
       Value Normal (store_number l v st)
   step_layer (step.Membership o d e) a st =

@@ -19,6 +19,7 @@ use Rattle.check_const_ops.specs.declared.operand.Operand.TheVariants as operand
 use Rattle.check_const_ops.specs.declared.operand.Ordinal.{Ordinal}
 use Rattle.check_const_ops.specs.Operands.{operand_of}
 use Rattle.check_const_ops.specs.Common.{common}
+use Rattle.check_const_ops.specs.Bounds.{are_ordered, fits_base, is_of_base, ordered_if, ordinal_in}
 use Rattle.check_operator.specs.Classes.{class_at}
 use Rattle.check_operator.specs.declared.class.Class.{Class}
 use Rattle.check_operator.specs.declared.class.Class.TheVariants as class
@@ -38,7 +39,7 @@ use Rattle.law_programs.specs.Typing.{ValueTyped, DesignatedTyped, IsTyped, Expr
 use Rattle.law_programs.proofs.Operators.{where_not}
 use Rattle.check_stmt_parts.specs.Lists.{with_next}
 use Rattle.check_stmt_parts.specs.Simple.{meant_if}
-use Rattle.check_stmt_parts.specs.Labels.{ordinal_in, of_type, no_constant, value_bound, variable_bound, bound_by, bound_in, bound_of, is_of_base, number_fits, suits_base, bound_suits, single, ordered_if, are_ordered, label_range, label_between, Labels, with_label, item_label, with_item, labels_in}
+use Rattle.check_stmt_parts.specs.Labels.{of_type, no_constant, value_bound, variable_bound, bound_by, bound_in, bound_of, suits_base, bound_suits, single, label_range, label_between, Labels, with_label, item_label, with_item, labels_in}
 use Rattle.law_programs.specs.TypingStmts.{fits_if, fits_label}
 use Rattle.law_programs.proofs.StmtsSteps.{small}
 
@@ -128,7 +129,7 @@ module _ (g : Gathers) (x : Context) (ws : List Ty) (opens : ℕ → Bool) (s : 
   single_typed base at {a = a} p = then_holds (both_holds g p (any_holds (bound_suits g (Some base) at a))) (λ v k. fine (record { low = v.0.number; high = v.0.number }) (label_of v.0 v.0 k.0 k.0 (at_itself v.0.number)))
 
   suits_typed : (base : TypeNo) (at : Pos) (a : Ordinal) → Holds (λ u. is_of_base base a.sort ≡ true) (suits_base g (Some base) at a)
-  suits_typed base at a = where_not g (is_of_base base a.sort) at rule.WrongType (λ e. then_any e (number_fits g base at a a.sort)) where
+  suits_typed base at a = where_not g (is_of_base base a.sort) at rule.WrongType (λ e. then_any e (fits_base g at base a.sort a.number)) where
     then_any : {P : Type 0} → P → (r : Result (Unit {0}) g.Reported) → Holds (λ u. P) r
     then_any p (Ok u) = fine u p
     then_any p (Err e) = broken e

@@ -241,8 +241,11 @@ pub record IsTyped (g : Gathers) (x : Context) (ws : List Ty) (opens : ℕ → B
 -- what the checker makes of an expression
 abbrev pub ExpressionsAreTyped : Gathers → Type 0
 ExpressionsAreTyped g =
-    (x : Context) (ws : List Ty) (opens : ℕ → Bool) (s : Scope g.Reported) → IsTyped g x ws opens s
-    → (e : Expr) → fits_whole e ≡ true → Holds (DesignatedTyped x ws opens) ((meanings_of g e).means s)
+    (x : Context) (ws : List Ty) (opens : ℕ → Bool) (s : Scope g.Reported)
+    → IsTyped g x ws opens s
+    → (e : Expr)
+    → fits_whole e ≡ true
+    → Holds (DesignatedTyped x ws opens) ((meanings_of g e).means s)
 
 -- and of a designator
 abbrev pub DesignatorsAreTyped : Gathers → Type 0

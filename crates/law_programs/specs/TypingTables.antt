@@ -114,7 +114,8 @@ declared_in s m b =
 
 -- and the bodies
 abbrev pub walked_in : Scope least.Reported → Module → Block → Checked least.Reported
-walked_in s m b = walk_body least (elaborate_body least) (modules_in s) (procedure_ends (decls_in b)) s m b
+walked_in s m b =
+    walk_body least (elaborate_body least) (modules_in s) (procedure_ends (decls_in b)) s m b
 
 -- A body begins in this scope, with this block, and comes to this module. No rule is broken. The
 -- types of the block's end are those of the module. The block's names stand under their numbers,

@@ -89,5 +89,6 @@ BodiesBehave =
     → (bytes : List ℕ)
     → IsHeld g (first_state p) bytes
     → Behaves modules
-    (Going (store_of fx bytes) (enter_function m (run_typed index (size (row g.base)) type bs) []) [])
+    (Going (store_of fx bytes) (enter_function m (run_typed index (size (row g.base)) type bs) [])
+    [])
     (run p pages)

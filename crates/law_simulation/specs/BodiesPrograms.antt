@@ -23,8 +23,8 @@ more_turns k f = if serving k f then 2 ^ 32 else 0
 pub record IsTypedProgram (p : Program) (pages n : ℕ) : Type 0 where
   pub linked : AreLinked (all p pages) (fixtures_of p pages) serving more_turns n (65536 * pages) p
       (ground p pages).base (ground p pages).texts
-  pub procedures : AreTyped (all p pages) (fixtures_of p pages) serving more_turns n (65536 * pages) p
-      (ground p pages).base (ground p pages).texts
+  pub procedures : AreTyped (all p pages) (fixtures_of p pages) serving more_turns n (65536 * pages)
+      p (ground p pages).base (ground p pages).texts
   pub bodies : (place : ℕ) (m : TypedModule)
       → slice_get p place ≡ Some m
       → IsTypedMain (all p pages) (fixtures_of p pages) serving more_turns n (65536 * pages) p

@@ -149,8 +149,9 @@ OpenArrays =
     → HasFrames k kss
     → (slot : Slot) (t : Ty)
     → kind_at kss slot ≡ Some (Open t)
-    → Locates k (Array (suc (high_of (slot_named k.around slot))) t) (code.root_layer (root.Open slot))
-    (λ a s. Value (meaning.root_layer p ask (root.Open slot) a) s)
+    → Locates k (Array (suc (high_of (slot_named k.around slot))) t)
+    (code.root_layer (root.Open slot)) (λ a s.
+    Value (meaning.root_layer p ask (root.Open slot) a) s)
 
 abbrev pub OpenElements : Type 0
 OpenElements =

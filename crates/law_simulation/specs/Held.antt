@@ -122,8 +122,8 @@ HeldAssigns =
     → tree k.setting.home.types t ≡ Cell (Callable h)
     → Locates k (Cell (Callable h)) d found
     → AgreesHeld k h e value
-    → Executes k function (d ⨾ e ⨾ with_setting (λ s. plain (cells.store_code s.home.types t))) (λ a s.
-    found a s ▷ λ l s. value a s ▷ λ v s. answer.Value Normal (store_number l v s))
+    → Executes k function (d ⨾ e ⨾ with_setting (λ s. plain (cells.store_code s.home.types t)))
+    (λ a s. found a s ▷ λ l s. value a s ▷ λ v s. answer.Value Normal (store_number l v s))
 
 -- for a value formal
 abbrev pub HeldPasses : Type 0

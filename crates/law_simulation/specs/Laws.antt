@@ -364,8 +364,8 @@ Assigns =
     → IsCell k.setting.home.types t c
     → Locates k (Cell c) d found
     → Agrees k t e value
-    → Executes k function (d ⨾ e ⨾ with_setting (λ s. plain (cells.store_code s.home.types t))) (λ a s.
-    found a s ▷ λ l s. value a s ▷ λ v s. answer.Value Normal (store_number l v s))
+    → Executes k function (d ⨾ e ⨾ with_setting (λ s. plain (cells.store_code s.home.types t)))
+    (λ a s. found a s ▷ λ l s. value a s ▷ λ v s. answer.Value Normal (store_number l v s))
 
 -- INC and DEC of a scalar variable, whose base is a scalar type, too
 abbrev pub Changes : Type 0
@@ -383,7 +383,8 @@ Changes =
     → Executes k function (change_code o d t x.code) (λ a s.
     found a s ▷ λ l s.
     value a s ▷ λ by s.
-    recheck_value a.types t (change_by o (s.store l) by) s ▷ λ v s. answer.Value Normal (store_number l v s))
+    recheck_value a.types t (change_by o (s.store l) by) s ▷ λ v s.
+    answer.Value Normal (store_number l v s))
 
 -- INCL and EXCL
 abbrev pub Memberships : Type 0

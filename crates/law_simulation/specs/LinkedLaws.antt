@@ -22,7 +22,8 @@ ModulesLinked =
     → ((place : ℕ) (m : TypedModule) → slice_get p place ≡ Some m → IsCoherent p place m)
     → (place : ℕ) (m : TypedModule)
     → slice_get p place ≡ Some m
-    → IsLinked p (ground p pages).base (ground p pages).texts (all p pages) (fixtures_of p pages) place m
+    → IsLinked p (ground p pages).base (ground p pages).texts (all p pages) (fixtures_of p pages)
+    place m
 
 -- there is room for the data and the least stack, and the modules are as the checker leaves them
 abbrev pub TypedBehave : Type 0

@@ -146,7 +146,10 @@ module _ (p : Modules) (world : List Ty) (x : Location → ℕ → ℕ) where
       (component (row world) l ≡ Some (Array (suc high) t)) × (0 < length l) × (high < 2 ^ 32)
       × (vs ≡ I64 (offset (row world) l) ∷ I64 high ∷ [])
   IsPassed (ByArray is_var t) (Text text) vs =
-      (is_var ≡ false) × (t ≡ Cell (Natural 255)) × (a : ℕ) × IsPlaced world x (argument_text text) a
+      (is_var ≡ false)
+      × (t ≡ Cell (Natural 255))
+      × (a : ℕ)
+      × IsPlaced world x (argument_text text) a
       × (vs ≡ I64 a ∷ I64 (length (argument_text text) - 1) ∷ [])
 
   pub data ArePassed : Forms → List Passed → List Value → Type 0 where

@@ -148,9 +148,11 @@ module _ (x : Context) where
           → IsExpr ws a a (expr.Constant t n) t
       Load : (a b : ℕ) (t : TypeNo) (c : Scalar) (d : Place) → IsCell types t c
           → IsPlace ws a b d (Cell c) → IsExpr ws a b (expr.Load t d) t
-      ProcedureValue :
-          (a b : ℕ) (t : TypeNo) (h : Heading) (e : TypedExpr) → IsProcedureExpr ws a b e h
-          → (expr_part (numbering_of x.home) e).of ≡ t → scalar_at types t ≡ None → IsExpr ws a b e t
+      ProcedureValue : (a b : ℕ) (t : TypeNo) (h : Heading) (e : TypedExpr)
+          → IsProcedureExpr ws a b e h
+          → (expr_part (numbering_of x.home) e).of ≡ t
+          → scalar_at types t ≡ None
+          → IsExpr ws a b e t
       Plus : (a b : ℕ) (t u : TypeNo) (e : TypedExpr) → IsExpr ws a b e u → AreAmong types u t
           → IsExpr ws a b (expr.Plus t e) t
       Negate : (a b : ℕ) (u : TypeNo) (e : TypedExpr) → IsExpr ws a b e u

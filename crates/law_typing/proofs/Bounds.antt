@@ -16,11 +16,12 @@ use Rattle.check_scope.specs.declared.scope.Scope.{Scope}
 use Rattle.check_scope.specs.Elaborated.{Gathers, report}
 use Rattle.check_const_ops.specs.declared.operand.Operand.{Operand}
 use Rattle.check_const_ops.specs.declared.operand.Ordinal.{Ordinal}
+use Rattle.check_const_ops.specs.Bounds.{ordinal_in}
 use Rattle.check_operator.specs.declared.class.Class.{Class}
 use Rattle.check_operator.specs.declared.computed.Computed.{Computed}
 use Rattle.check_operator.specs.declared.computed.Designated.{Designated}
 use Rattle.check_expr.specs.Meanings.{meanings_of}
-use Rattle.check_stmt_parts.specs.Labels.{suits_selector, ordinal_in, no_constant, value_bound, variable_bound, bound_by, bound_in, bound_of}
+use Rattle.check_stmt_parts.specs.Labels.{suits_selector, no_constant, value_bound, variable_bound, bound_by, bound_in, bound_of}
 use Rattle.def_typing.specs.Shapes.{shape_at}
 use Rattle.def_typing.specs.Amounts.{Constant, Value}
 use Rattle.def_typing.specs.Operators.{◌!◌, Kind, Scalar, operand}

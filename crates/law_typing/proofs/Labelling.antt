@@ -14,9 +14,10 @@ use Rattle.check_scope.specs.Elaborated.{Gathers, reported_where, beside}
 use Rattle.check_const_ops.specs.declared.operand.Ordinal.{Ordinal}
 use Rattle.check_const_ops.specs.Numbers.{fits}
 use Rattle.check_const_ops.specs.Common.{common}
+use Rattle.check_const_ops.specs.Bounds.{are_ordered, fits_base, is_of_base, ordered_if}
 use Rattle.check_expr.specs.Meanings.{meanings_of}
 use Rattle.check_stmt_parts.specs.Simple.{meant_if}
-use Rattle.check_stmt_parts.specs.Labels.{bound_of, is_of_base, number_fits, suits_base, bound_suits, single, ordered_if, are_ordered, label_range, label_between, item_label}
+use Rattle.check_stmt_parts.specs.Labels.{bound_of, suits_base, bound_suits, single, label_range, label_between, item_label}
 use Rattle.def_typing.specs.Amounts.{Constant, IsWhole, whole, GoTogether, same_type, number_right, InRange, Suits, has_type, not_asked, takes_type}
 use Rattle.def_typing.specs.Operators.{◌!◌}
 use Rattle.def_typing.specs.Things.{Standing}
@@ -70,7 +71,7 @@ module _ (g : Gathers) (j : Judges g) (lawful : Lawful g j) (O : Breach → Type
   abbrev Mis : Pos → Option TypeNo → Number → Breach → Type 0
   Mis at base p f = Misfits at base p.0 p.1 f
 
-  number_checks : (at : Pos) (base : TypeNo) (a : Ordinal) (sort : Option TypeNo) → IsOfBase (Some base) sort → Checks g j lawful O {A = Unit {0}} (Suits (Some base) (Constant sort a.number)) (λ f. (Suits (Some base) (Constant sort a.number) → ⊥) × (f ≡ at ! rule.OutOfRange)) (number_fits g base at a sort)
+  number_checks : (at : Pos) (base : TypeNo) (a : Ordinal) (sort : Option TypeNo) → IsOfBase (Some base) sort → Checks g j lawful O {A = Unit {0}} (Suits (Some base) (Constant sort a.number)) (λ f. (Suits (Some base) (Constant sort a.number) → ⊥) × (f ≡ at ! rule.OutOfRange)) (fits_base g at base sort a.number)
   number_checks at base a None w = where_checks g j lawful O tt (fits (Some base) a.number) at rule.OutOfRange (suits_decided a.number (number_goes w))
   number_checks at base a (Some t) w = passes tt has_type (λ f z. z.0 has_type)
 

@@ -21,10 +21,11 @@ use Rattle.check_const_ops.specs.declared.operand.Operand.{Operand}
 use Rattle.check_const_ops.specs.Operands.{operand_of}
 use Rattle.check_const_ops.specs.Numbers.{is_between, fits}
 use Rattle.check_const_ops.specs.Common.{common}
+use Rattle.check_const_ops.specs.Bounds.{bounds_in_order, fits_base, is_of_base, ordered_if, ordinal_in}
 use Rattle.check_const.specs.Parts.{constant}
 use Rattle.check_expr.specs.Meanings.{part}
 use Rattle.check_type_expr.specs.Named.{first_of}
-use Rattle.check_type_expr.specs.Subranges.{ordinal_in, bound_of, bounds_in_order, base_of, fits_at, between, subrange_between, is_of_base, is_of, ordered_if, are_bounds, under}
+use Rattle.check_type_expr.specs.Subranges.{bound_of, base_of, between, subrange_between, is_of, are_bounds, under}
 use Rattle.check_type_expr.specs.Made.{scalar_or, scalar_named, subrange}
 use Rattle.def_typing.specs.Shapes.{shape_at, IsMade}
 use Rattle.def_typing.specs.Amounts as amounts
@@ -144,11 +145,11 @@ module _ (g : Gathers) (j : Judges g) (lawful : Lawful g j) (O : Breach → Type
     order_tests true e = stopped g j lawful O at rule.EmptyRange (λ c. c e) (e, refl) (λ f z. z.1)
     order_tests false e = passes tt (λ z. let w : true ≡ false = sym z ∙ e in absurd cc) (λ f z. let w : true ≡ false = sym z.0 ∙ e in absurd cc)
 
-    fit_tests : (spot : Pos) (base : TypeNo) (sort : Option TypeNo) (k : ℤ) → (sort ≡ None → IsWhole base) → Tests g j lawful O (Suits (Some base) (Constant sort k)) (λ f. (Suits (Some base) (Constant sort k) → ⊥) × (f ≡ spot ! rule.OutOfRange)) (fits_at g spot base sort k)
+    fit_tests : (spot : Pos) (base : TypeNo) (sort : Option TypeNo) (k : ℤ) → (sort ≡ None → IsWhole base) → Tests g j lawful O (Suits (Some base) (Constant sort k)) (λ f. (Suits (Some base) (Constant sort k) → ⊥) × (f ≡ spot ! rule.OutOfRange)) (fits_base g spot base sort k)
     fit_tests spot base (Some u) k w = passes tt has_type (λ f z. z.0 has_type)
     fit_tests spot base None k w = where_checks g j lawful O tt (fits (Some base) k) spot rule.OutOfRange (suits_decided k (w refl))
 
-    all_tests : (base : TypeNo) → (s ≡ None → IsWhole base) → (t ≡ None → IsWhole base) → Tests g j lawful O (Fine lim base) (NotFine at at' lim base) (beside g (bounds_in_order g at n m) (beside g (fits_at g at base s n) (fits_at g at' base t m)))
+    all_tests : (base : TypeNo) → (s ≡ None → IsWhole base) → (t ≡ None → IsWhole base) → Tests g j lawful O (Fine lim base) (NotFine at at' lim base) (beside g (bounds_in_order g at n m) (beside g (fits_base g at base s n) (fits_base g at' base t m)))
     all_tests base w v = checks_as g j lawful O (λ p. record { upward = p.0; low_suits = p.1.0; high_suits = p.1.1 }) (λ q. (q.upward, (q.low_suits, q.high_suits))) (λ f z. z) (λ f z. z)
         (beside_checks g j lawful O (order_tests (int_lt m n) refl) (beside_checks g j lawful O (fit_tests at base s n w) (fit_tests at' base t m v)))
 

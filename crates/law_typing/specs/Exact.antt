@@ -521,11 +521,14 @@ SelectorsAreExact g j =
 abbrev pub BoundsAreExact : (g : Gathers) → Judges g → Type 0
 BoundsAreExact g j =
     (names : Ident → Standing) (exports : ℕ → Ident → Standing) (s : Scope g.Reported)
-    → Knows g j names exports s → (base : Option TypeNo) (label : Pos) (e : Expr) → IsPlain e
+    → Knows g j names exports s
+    → (base : Option TypeNo) (label : Pos) (e : Expr)
+    → IsPlain e
     → Answers g j (Repeats g j names s)
     (λ (a : Ordinal) (p : Option TypeNo × ℤ). (a.sort ≡ p.0) × (a.number ≡ p.1))
     (λ p. IsLabelBound s.types names exports e p.0 p.1)
-    (BrokenLabelBound s.types names exports base label e) (bound_of g s base label (meanings_of g e))
+    (BrokenLabelBound s.types names exports base label e)
+    (bound_of g s base label (meanings_of g e))
 
 -- Names of types are answered exactly.
 abbrev pub TypeNamesAreExact : (g : Gathers) → Judges g → Type 0

@@ -29,9 +29,10 @@ use Rattle.check_const_ops.specs.declared.operand.Operand.TheVariants as operand
 use Rattle.check_const_ops.specs.Operands.{letter, letter_operand, operand_of}
 use Rattle.check_const_ops.specs.Numbers.{is_between, fits as number_fits}
 use Rattle.check_const_ops.specs.Common.{common}
+use Rattle.check_const_ops.specs.Bounds.{fits_base, is_of_base, ordered_if, ordinal_in}
 use Rattle.check_expr.specs.Meanings.{part}
 use Rattle.check_type_expr.specs.Named.{first_of, named_type}
-use Rattle.check_type_expr.specs.Subranges.{ordinal_in, number_base, fits_at, subrange_of_base, between, subrange_between, is_of_base, are_bounds, ordered_if, subrange_within, under}
+use Rattle.check_type_expr.specs.Subranges.{number_base, subrange_of_base, between, subrange_between, are_bounds, subrange_within, under}
 use Rattle.check_type_expr.specs.Made.{scalar_or, scalar_named, bound_at, subrange}
 use Rattle.law_well_formed.specs.Formed.{Holds, fine, broken}
 use Rattle.law_well_formed.proofs.Basics.{then_holds, holds_weaker, reported_holds, both_holds, any_holds}
@@ -205,13 +206,13 @@ module _ (types : Types) where
     ordinal_ranged at (Some (operands.Set bits)) p = reported_holds g at rule.WrongType
     ordinal_ranged at (Some (operands.Scalar a)) p = fine a p
 
-    based_ranged : (at at' : Pos) (a b : Ordinal) (base : TypeNo) → Holds (λ x. IsNumber types base base a.number) (fits_at g at base a.sort a.number) → Holds (λ x. IsNumber types base base b.number) (fits_at g at' base b.sort b.number)
+    based_ranged : (at at' : Pos) (a b : Ordinal) (base : TypeNo) → Holds (λ x. IsNumber types base base a.number) (fits_base g at base a.sort a.number) → Holds (λ x. IsNumber types base base b.number) (fits_base g at' base b.sort b.number)
         → Holds SubRanged (subrange_of_base g at a at' b base)
     based_ranged at at' a b base p q =
         then_holds (beside_holds g (test_holds g (int_lt b.number a.number) at rule.EmptyRange) (beside_holds g p q)) (λ x k.
         fine (record { base = base; low = a.number; high = b.number }) (record { low = k.1.0; high = k.1.1; some = not_less b.number a.number k.0 }))
 
-    fits_none : (at : Pos) (base : TypeNo) (n : ℤ) → is_numeric base ≡ true → Holds (λ x. IsNumber types base base n) (fits_at g at base None n)
+    fits_none : (at : Pos) (base : TypeNo) (n : ℤ) → is_numeric base ≡ true → Holds (λ x. IsNumber types base base n) (fits_base g at base None n)
     fits_none at base n i = holds_weaker (λ x k. fits_number base n i (not_false (number_fits (Some base) n) k)) (test_holds g (not (number_fits (Some base) n)) at rule.OutOfRange)
 
     base_numeric : (b : Bool) → is_numeric (cond b integer cardinal) ≡ true

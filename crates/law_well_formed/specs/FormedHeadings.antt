@@ -112,7 +112,8 @@ HeadingsStay g =
     (ends : List ℕ) (a : Scope g.Reported) (first : ℕ) (before : List Decl) (d : Decl)
     (rest : List Decl)
     → a.withs ≡ []
-    → (declared_by g ends (course_begin g ends a first before d rest) (all g ends a first before d rest)).1
+    → (declared_by g ends (course_begin g ends a first before d rest)
+    (all g ends a first before d rest)).1
     ≡ Ok tt
     → (w : Scope g.Reported)
     → IsBehind (end g ends a first before d rest) w

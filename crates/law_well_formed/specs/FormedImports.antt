@@ -48,4 +48,5 @@ pub record StandsOnImports (m : Module) (own : Option Table) (t : TypedModule) :
 abbrev pub ModulesNameImports : Gathers → Type 0
 ModulesNameImports g =
     (elaborates : Elaborates g.Reported) (number : ℕ) (m : Module) (own : Option Table)
-    (tables : List Table) → IfOk (body_module g elaborates number m own tables) (StandsOnImports m own)
+    (tables : List Table)
+    → IfOk (body_module g elaborates number m own tables) (StandsOnImports m own)

@@ -104,4 +104,5 @@ BodiesAreFormed g =
     → fits_module m ≡ true
     → OwnFormed types_of number own
     → TablesFormed types_of number tables
-    → Holds (λ t. AreRanged t.types × AreOrdered t.types) (body_module g elaborates number m own tables)
+    → Holds (λ t. AreRanged t.types × AreOrdered t.types)
+    (body_module g elaborates number m own tables)

@@ -49,5 +49,6 @@ abbrev pub AreNumberedBy : List TypeNo → List (List ℕ × Meaning) → Type 0
 AreNumberedBy hs es = AllByRecursion (λ e. IsNumbered hs e.1) es
 
 abbrev pub TablesNumberProcedures : Gathers → Type 0
-TablesNumberProcedures g = (home : ℕ) (m : Module) (tables : List Table)
-    → IfOk (definition_table g home m tables) (λ t. AreNumberedBy (exported_headings t.exported) t.exported)
+TablesNumberProcedures g =
+    (home : ℕ) (m : Module) (tables : List Table) → IfOk (definition_table g home m tables) (λ t.
+    AreNumberedBy (exported_headings t.exported) t.exported)

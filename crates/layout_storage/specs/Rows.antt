@@ -29,5 +29,5 @@ with_variable types r t = with_part r (cap_size (size (tree types t)))
 -- part by part
 abbrev pub row_of_frame : Types → Routine → Row
 row_of_frame types r =
-    fold (with_variable types) (fold (with_formal types) (begin_row 16) (formals_of types r.heading))
-    r.variables
+    fold (with_variable types)
+    (fold (with_formal types) (begin_row 16) (formals_of types r.heading)) r.variables

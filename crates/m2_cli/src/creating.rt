@@ -2,7 +2,7 @@
 
 use anyhow::Result;
 use command_words::{COMMAND_LINE, FAILED};
-use m2_scan::{Fault, ScanError, scan};
+use m2_scan::{TokenRule, ScanError, scan};
 use m2_tree::{Lexeme, MAX_NAME, Token, is_console};
 use std::alloc::{AllocError, Global};
 use std::fs::File;
@@ -101,8 +101,8 @@ fn name_fault(alloc: Global, name: &str) -> Option<&'static str> {
     match scan(alloc, name.as_bytes()) {
         Ok(tokens) => token_fault(name, &tokens),
         Err(ScanError::NoMemory) => Some("cannot be looked at: no memory left (90)"),
-        Err(ScanError::Refused(refusal)) => match refusal.fault {
-            Fault::LongName => Some("has more than 64 letters and digits"),
+        Err(ScanError::Refused(refusal)) => match refusal.broken {
+            TokenRule::LongName => Some("has more than 64 letters and digits"),
             _ => Some(NO_NAME),
         },
     }

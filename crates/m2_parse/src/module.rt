@@ -12,7 +12,7 @@ ghost use Rattle.def_grammar.specs.Refusal.{max_nesting, Answers, IsTree, Parses
 ghost use Rattle.def_grammar.specs.Reading.{is_among, read, read_rule, Reads, ReadsAs};
 
 use crate::decl::{begins_decl, block, def};
-use def_grammar::{Fault, Kind, ParseError, Stop};
+use def_grammar::{GrammarRule, Kind, ParseError, Stop};
 use m2_tree::{Block, Contents, Def, Ident, Import, Module, Symbol, Token};
 use parse_expr::Cursor;
 use std::alloc::Global;
@@ -173,11 +173,11 @@ pub fn parse(alloc: Global, tokens: &[Token]) -> Result<Module, ParseError>
     match module(&mut cursor) {
         Ok(module) => {
             if !cursor.is_at_end() {
-                return Err(ParseError::Refused(cursor.refusal(Fault::Unfit)));
+                return Err(ParseError::Refused(cursor.refusal(GrammarRule::Unfit)));
             }
             Ok(module)
         }
         Err(Stop::NoMemory) => Err(ParseError::NoMemory),
-        Err(Stop::Refused(fault)) => Err(ParseError::Refused(cursor.refusal(fault))),
+        Err(Stop::Refused(broken)) => Err(ParseError::Refused(cursor.refusal(broken))),
     }
 }

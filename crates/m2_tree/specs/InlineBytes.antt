@@ -15,6 +15,6 @@ pub kept_whole : (n : Inside)
 kept_whole n h =
     let fits : n.len ≤ length n.bytes = omega (arith, h.1) in
     let e = length-take-le n.len n.bytes fits in
-    let p :
-    (length (take n.len n.bytes), fill_place (take n.len n.bytes)) ≡ (n.len, n.bytes) = cc (h.2, e) in
+    let p : (length (take n.len n.bytes), fill_place (take n.len n.bytes)) ≡ (n.len, n.bytes) =
+    cc (h.2, e) in
     ap (λ (p : ℕ × List ℕ). record { len = p.0; bytes = p.1 }) p

@@ -23,7 +23,8 @@ breaches_of (Err breaches) = breaches
 
 abbrev pub broken_in_body : Module → (number : ℕ) → List Table → List Breach
 broken_in_body m number tables =
-    let own = own_table m tables in breaches_of (body_module every number m own (tables_behind own tables))
+    let own = own_table m tables in
+    breaches_of (body_module every number m own (tables_behind own tables))
 
 -- all rules of definitions and bodies that a module breaks, beside the tables of those that it
 -- needs
@@ -46,4 +47,5 @@ ReportsLeast breaches jobs.Blocked = Unit {0}
 abbrev pub IsLeastReported : Module → Type 0
 IsLeastReported m =
     (number : ℕ) (needed : List Compiled)
-    → ReportsLeast (all_broken m number (tables_of needed) m.contents) (compilation_of m number needed)
+    → ReportsLeast (all_broken m number (tables_of needed) m.contents)
+    (compilation_of m number needed)

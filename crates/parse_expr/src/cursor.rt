@@ -21,7 +21,7 @@ ghost use Rattle.def_grammar.specs.Reading.{
 };
 
 use crate::begins::{begins_simple, begins_type, kind_of};
-use def_grammar::{Fault, Kind, ParseRefusal, Stop};
+use def_grammar::{GrammarRule, Kind, ParseRefusal, Stop};
 use m2_tree::{Expr, Ident, Lexeme, Pos, Symbol, Token};
 use std::alloc::Global;
 use std::marker::Model;
@@ -120,7 +120,7 @@ impl<'a> Cursor<'a> {
                 self.rest = rest;
                 Ok(token.pos)
             }
-            _ => Err(Stop::Refused(Fault::Unfit)),
+            _ => Err(Stop::Refused(GrammarRule::Unfit)),
         }
     }
 
@@ -165,7 +165,7 @@ impl<'a> Cursor<'a> {
         ensures { ReadsAs ident_of (one_token (the.Name ∷ []) self.old) result self.new }
     {
         let [token, rest @ ..] = self.rest else {
-            return Err(Stop::Refused(Fault::Unfit));
+            return Err(Stop::Refused(GrammarRule::Unfit));
         };
         match &token.lexeme {
             Lexeme::Name(name) => {
@@ -180,7 +180,7 @@ impl<'a> Cursor<'a> {
             | Lexeme::Char(_)
             | Lexeme::Text(_)
             | Lexeme::Symbol(_)
-            | Lexeme::End => Err(Stop::Refused(Fault::Unfit)),
+            | Lexeme::End => Err(Stop::Refused(GrammarRule::Unfit)),
         }
     }
 
@@ -190,14 +190,14 @@ impl<'a> Cursor<'a> {
         ensures { ReadsAs literal_of (one_token literals self.old) result self.new }
     {
         let [token, rest @ ..] = self.rest else {
-            return Err(Stop::Refused(Fault::Unfit));
+            return Err(Stop::Refused(GrammarRule::Unfit));
         };
         let value = match &token.lexeme {
             Lexeme::Number(number) => Expr::Number(token.pos, *number),
             Lexeme::Char(code) => Expr::Char(token.pos, *code),
             Lexeme::Text(text) => Expr::Text(token.pos, text.clone()?),
             Lexeme::Name(_) | Lexeme::Symbol(_) | Lexeme::End => {
-                return Err(Stop::Refused(Fault::Unfit));
+                return Err(Stop::Refused(GrammarRule::Unfit));
             }
         };
         self.rest = rest;
@@ -212,8 +212,10 @@ impl<'a> Cursor<'a> {
             return Ok(room - 1);
         }
         match self.rest {
-            [token, ..] if is_symbol(&token.lexeme, symbol) => Err(Stop::Refused(Fault::TooDeep)),
-            _ => Err(Stop::Refused(Fault::Unfit)),
+            [token, ..] if is_symbol(&token.lexeme, symbol) => Err(Stop::Refused(
+                GrammarRule::TooDeep,
+            )),
+            _ => Err(Stop::Refused(GrammarRule::Unfit)),
         }
     }
 
@@ -226,9 +228,9 @@ impl<'a> Cursor<'a> {
         }
         match self.rest {
             [token, ..] if begins_type(kind_of(&token.lexeme)) => {
-                Err(Stop::Refused(Fault::TooDeep))
+                Err(Stop::Refused(GrammarRule::TooDeep))
             }
-            _ => Err(Stop::Refused(Fault::Unfit)),
+            _ => Err(Stop::Refused(GrammarRule::Unfit)),
         }
     }
 
@@ -241,9 +243,9 @@ impl<'a> Cursor<'a> {
         }
         match self.rest {
             [token, ..] if begins_simple(kind_of(&token.lexeme)) => {
-                Err(Stop::Refused(Fault::TooDeep))
+                Err(Stop::Refused(GrammarRule::TooDeep))
             }
-            _ => Err(Stop::Refused(Fault::Unfit)),
+            _ => Err(Stop::Refused(GrammarRule::Unfit)),
         }
     }
 
@@ -253,12 +255,12 @@ impl<'a> Cursor<'a> {
         ensures { ReadsAs (λ t. tt) (closing opening.now.name self.old) result self.new }
     {
         let [token, rest @ ..] = self.rest else {
-            return Err(Stop::Refused(Fault::Unfit));
+            return Err(Stop::Refused(GrammarRule::Unfit));
         };
         match &token.lexeme {
             Lexeme::Name(name) => {
                 if opening.name.as_bytes() != name.as_bytes() {
-                    return Err(Stop::Refused(Fault::Misnamed));
+                    return Err(Stop::Refused(GrammarRule::Misnamed));
                 }
                 self.rest = rest;
                 Ok(())
@@ -267,7 +269,7 @@ impl<'a> Cursor<'a> {
             | Lexeme::Char(_)
             | Lexeme::Text(_)
             | Lexeme::Symbol(_)
-            | Lexeme::End => Err(Stop::Refused(Fault::Unfit)),
+            | Lexeme::End => Err(Stop::Refused(GrammarRule::Unfit)),
         }
     }
 
@@ -277,7 +279,7 @@ impl<'a> Cursor<'a> {
         ensures { ReadsAs (λ t. tt) (one_token (the.End ∷ []) self.old) result self.new }
     {
         let [token, rest @ ..] = self.rest else {
-            return Err(Stop::Refused(Fault::Unfit));
+            return Err(Stop::Refused(GrammarRule::Unfit));
         };
         match &token.lexeme {
             Lexeme::End => {
@@ -288,7 +290,7 @@ impl<'a> Cursor<'a> {
             | Lexeme::Number(_)
             | Lexeme::Char(_)
             | Lexeme::Text(_)
-            | Lexeme::Symbol(_) => Err(Stop::Refused(Fault::Unfit)),
+            | Lexeme::Symbol(_) => Err(Stop::Refused(GrammarRule::Unfit)),
         }
     }
 
@@ -299,19 +301,19 @@ impl<'a> Cursor<'a> {
         self.rest.is_empty()
     }
 
-    /// What is reported of a fault at the next token.
-    pub fn refusal(&self, fault: Fault) -> ParseRefusal
+    /// What is reported if this rule is broken at the next token.
+    pub fn refusal(&self, broken: GrammarRule) -> ParseRefusal
         ensures pos { result.pos ≡ place_of self.now }
-        ensures number { result.number ≡ number_of fault self.now }
+        ensures number { result.number ≡ number_of broken self.now }
     {
         let (pos, unfit) = match self.rest {
             [] => (Pos { line: 1, col: 1 }, 10),
             [token, ..] => (token.pos, unfit_number(&token.lexeme)),
         };
-        let number = match fault {
-            Fault::Unfit => unfit,
-            Fault::Misnamed => 11,
-            Fault::TooDeep => 12,
+        let number = match broken {
+            GrammarRule::Unfit => unfit,
+            GrammarRule::Misnamed => 11,
+            GrammarRule::TooDeep => 12,
         };
         ParseRefusal { pos, number }
     }

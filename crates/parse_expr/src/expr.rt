@@ -166,7 +166,7 @@ impl Cursor<'_> {
                 Ok(value)
             }
             Kind::Name => {
-                let value = self.named(room)?;
+                let value = self.name_use(room)?;
                 Ok(value)
             }
             Kind::Symbol(Symbol::LeftBrace) => {
@@ -178,7 +178,7 @@ impl Cursor<'_> {
                 Ok(value)
             }
             _ => {
-                let value = self.bracketed(room)?;
+                let value = self.bracket_expr(room)?;
                 Ok(value)
             }
         }
@@ -196,7 +196,7 @@ impl Cursor<'_> {
     }
 
     #[cycle(expr)]
-    fn bracketed(&mut self, room: usize) -> Result<Expr, Stop>
+    fn bracket_expr(&mut self, room: usize) -> Result<Expr, Stop>
         ensures { ReadsAs (λ p. Expr.Bracketed p.0.pos p.1)
             (read (nest (symbol LeftParen · expr ◂ RightParen)) room self.old) result self.new }
     {
@@ -210,7 +210,7 @@ impl Cursor<'_> {
     /// What a name begins: a set with its type, or a use with arguments.
     #[cycle(expr)]
     #[tactic(auto, using(def_grammar::proofs::Truth::kinds))]
-    fn named(&mut self, room: usize) -> Result<Expr, Stop>
+    fn name_use(&mut self, room: usize) -> Result<Expr, Stop>
         ensures { ReadsAs (λ p. begun_by (ident_of p.0) p.1)
             (read (ident · (set ∣ selectors · opt args)) room self.old) result self.new }
     {

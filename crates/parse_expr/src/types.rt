@@ -100,7 +100,7 @@ impl Cursor<'_> {
 
     /// A name, or a name of a module.
     #[tactic(auto, using(def_grammar::proofs::Rules::qual_is))]
-    fn qualified(&mut self) -> Result<Qualified, Stop>
+    fn qualified_name(&mut self) -> Result<Qualified, Stop>
         ensures { Reads (read_rule 0 qual_rule self.old) result self.new }
     {
         let first = self.ident()?;
@@ -125,7 +125,7 @@ impl Cursor<'_> {
         if !self.eat(Symbol::Colon) {
             return Ok(None);
         }
-        let name = self.qualified()?;
+        let name = self.qualified_name()?;
         Ok(Some(name))
     }
 
@@ -146,7 +146,7 @@ impl Cursor<'_> {
         ensures { Reads (read_rule 0 formal_rule self.old) result self.new }
     {
         let is_open = self.open_array()?;
-        let of = self.qualified()?;
+        let of = self.qualified_name()?;
         Ok(FormalType { is_open, of })
     }
 
@@ -227,7 +227,7 @@ impl Cursor<'_> {
         ensures { ReadsAs (λ p. named_simple p.0 p.1) (read (qual · opt range) room self.old) result
             self.new }
     {
-        let name = self.qualified()?;
+        let name = self.qualified_name()?;
         if !self.sees(Symbol::LeftBracket) {
             return Ok(Simple::Named(name));
         }
@@ -278,13 +278,13 @@ impl Cursor<'_> {
             let found = self.simple(inner)?;
             return Ok(TypeExpr::Simple(found));
         }
-        let found = self.structured(inner)?;
+        let found = self.structure_type(inner)?;
         Ok(found)
     }
 
     #[cycle(types)]
     #[tactic(auto, using(def_grammar::proofs::Flat::procedure_type_flat))]
-    fn structured(&mut self, room: usize) -> Result<TypeExpr, Stop>
+    fn structure_type(&mut self, room: usize) -> Result<TypeExpr, Stop>
         ensures { ReadsAs structured_of (read structured_type room self.old) result self.new }
     {
         if self.sees(Symbol::Array) {

@@ -5,7 +5,8 @@ use Rattle.plain_steps.specs.declared.entering.Request.{Request}
 use Rattle.plain_values.specs.Surroundings.{argument_sent}
 
 unfoldable pub need_of : Request → ℕ
-need_of q = storage_need q.callee.home.body.now.types q.callee.routine.now (map argument_sent q.passed)
+need_of q =
+    storage_need q.callee.home.body.now.types q.callee.routine.now (map argument_sent q.passed)
 
 pub record IsTooSmall (q : Request) : Type 0 where
   pub less : q.left < need_of q

@@ -95,8 +95,8 @@ keep_blanks home bs = record { home = home; blanks = bs }
 abbrev pub with_made : Types → List Kept → (home : ℕ) → List Blank → Made → List Blank
 with_made types before home bs m =
     bs
-    ++ shape_blank types (keep_blanks home bs ∷ before) (record { home = Module home; number = length bs })
-    m.shape
+    ++ shape_blank types (keep_blanks home bs ∷ before)
+    (record { home = Module home; number = length bs }) m.shape
     ∷ []
 
 abbrev pub module_blanks : Types → List Kept → (home : ℕ) → List Made → List Blank

@@ -109,7 +109,8 @@ reached_in a c l st = component_value (modules_of a.program.now) (asks_of a) c l
 
 unfoldable pub components_in : Around → List Component → Location → Meant → Given Location
 components_in a cs l st =
-    one_by_one (map (component_value (modules_of a.program.now) (asks_of a)) cs) l (surroundings a) st
+    one_by_one (map (component_value (modules_of a.program.now) (asks_of a)) cs) l (surroundings a)
+    st
 
 unfoldable pub given_in : Around → Argument → Meant → Given Sent
 given_in a x st = argument_value (modules_of a.program.now) (asks_of a) x (surroundings a) st

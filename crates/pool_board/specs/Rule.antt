@@ -12,7 +12,8 @@ use Rattle.pool_board.specs.Graph.{waiting_of, targets_of}
 
 -- how often the edge was counted
 abbrev pub count_of_edge : ℕ → ℕ → List Counted → ℕ
-count_of_edge from edge counts = weigh (λ c. if (c.from == from) && (c.edge == edge) then 1 else 0) counts
+count_of_edge from edge counts =
+    weigh (λ c. if (c.from == from) && (c.edge == edge) then 1 else 0) counts
 
 -- the job to which a counted edge goes
 abbrev pub target_of : List (List ℕ) → Counted → ℕ
@@ -46,7 +47,8 @@ pub record IsConsistent (graph : List (List ℕ)) (had met : List ℕ) (counts :
   -- a job that was found taken was had
   pub met_had : (job : ℕ) → 0 < times job met → 0 < times job had
   -- no edge was counted twice, and only edges were
-  pub edges : (from edge : ℕ) → 0 < count_of_edge from edge counts → edge < length (targets_of graph from)
+  pub edges : (from edge : ℕ) → 0 < count_of_edge from edge counts
+      → edge < length (targets_of graph from)
   pub counted_once : (from edge : ℕ) → count_of_edge from edge counts ≤ 1
   -- where c of the p edges to a job were counted, the numbers left are p - 1 down to p - c, each
   -- once

@@ -40,7 +40,8 @@ abbrev pub less_one : Record → Record
 less_one v = record_of (v.share - 1) v.had v.met v.counts
 
 abbrev pub join_records : Record → Record → Record
-join_records v w = record_of (v.share + w.share) (v.had ++ w.had) (v.met ++ w.met) (v.counts ++ w.counts)
+join_records v w =
+    record_of (v.share + w.share) (v.had ++ w.had) (v.met ++ w.met) (v.counts ++ w.counts)
 
 -- The seat may count the edge down, at this word
 pub record Counts (table : TableId) (graph : List (List ℕ)) (from edge waiting : ℕ) (seat : TableId)

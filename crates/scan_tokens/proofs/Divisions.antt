@@ -6,8 +6,8 @@ use Rattle.m2_tree.specs.declared.token.Lexeme.{Lexeme}
 use Rattle.m2_tree.specs.declared.token.Lexeme.TheVariants as lexeme
 use Rattle.scan_tokens.specs.declared.class.Class.{Class}
 use Rattle.scan_tokens.specs.declared.class.Class.TheVariants.{Letter, Digit, Quote, Other}
-use Rattle.scan_tokens.specs.declared.refusal.Fault.{Fault}
-use Rattle.scan_tokens.specs.declared.refusal.Fault.TheVariants.{TooLong, StrayByte, OpenComment, OpenString, BadNumber, LargeNumber, LongName}
+use Rattle.scan_tokens.specs.declared.refusal.TokenRule.{TokenRule}
+use Rattle.scan_tokens.specs.declared.refusal.TokenRule.TheVariants.{TooLong, StrayByte, OpenComment, OpenString, BadNumber, LargeNumber, LongName}
 use Rattle.scan_tokens.specs.declared.number.Numeral.{Numeral}
 use Rattle.scan_tokens.specs.Numbers.{Writes, limit}
 use Rattle.scan_tokens.specs.Symbols.{sign_of}
@@ -152,7 +152,7 @@ run_stuck k rest w more (b ∷ v) after m r e l d j h =
     means_at k b v (b ∷ v) [] m (sym (append-nil (b ∷ v))) r.0 (subst P same h)
 
 -- Where something is refused, no member stands.
-pub refuses_stuck : (fault : Fault) (rest before : Text) → RefusesIn fault rest before → IsStuck rest
+pub refuses_stuck : (broken : TokenRule) (rest before : Text) → RefusesIn broken rest before → IsStuck rest
 refuses_stuck TooLong rest before r w more m e l h = r
 refuses_stuck StrayByte rest before (inl r) w more m e l h = stray_stuck r.0 r.1 w more m (sym r.2 ∙ e) r.4 l.form
 refuses_stuck StrayByte rest before (inr r) w more m e l h =
@@ -174,7 +174,7 @@ refuses_stuck LongName rest before r w more m e l h =
     omega (arith, k.0, r.5)
 
 -- Something stands where something is refused.
-pub refuses_some : (fault : Fault) (rest before : Text) → RefusesIn fault rest before → rest ≡ [] → ⊥
+pub refuses_some : (broken : TokenRule) (rest before : Text) → RefusesIn broken rest before → rest ≡ [] → ⊥
 refuses_some TooLong rest before r e = r
 refuses_some StrayByte rest before (inl r) e = let f : r.0 ∷ r.1 ≡ [] = sym r.2 ∙ e in cc
 refuses_some StrayByte rest before (inr r) e = let f : r.0 ∷ r.2 ++ r.1 ∷ r.3 ≡ [] = sym r.8 ∙ e in cc

@@ -12,8 +12,8 @@ use Rattle.m2_tree.specs.declared.token.Lexeme.TheVariants as lexeme
 use Rattle.m2_tree.specs.Limits.{max_name}
 use Rattle.scan_tokens.specs.declared.class.Class.{Class}
 use Rattle.scan_tokens.specs.declared.class.Class.TheVariants.{Space, Letter, Digit, Quote, Other}
-use Rattle.scan_tokens.specs.declared.refusal.Fault.{Fault}
-use Rattle.scan_tokens.specs.declared.refusal.Fault.TheVariants.{TooLong, StrayByte, OpenComment, OpenString, BadNumber, LargeNumber, LongName}
+use Rattle.scan_tokens.specs.declared.refusal.TokenRule.{TokenRule}
+use Rattle.scan_tokens.specs.declared.refusal.TokenRule.TheVariants.{TooLong, StrayByte, OpenComment, OpenString, BadNumber, LargeNumber, LongName}
 use Rattle.scan_tokens.specs.declared.refusal.ScanError.{ScanError}
 use Rattle.scan_tokens.specs.declared.refusal.ScanError.TheVariants.{Refused}
 use Rattle.scan_tokens.specs.Bytes.{Text, class, in_run, is_run_byte, is_printable, is_inside, is_line_end}
@@ -71,14 +71,14 @@ right_is pos q w h line col = same_place line col ∙ sym (over_line pos w h)
 
 -- ---- stops
 
-pub stops_at : (text before : Text) (pos q : Pos) (fault : Fault) (e : ScanError) → e ≡ Refused (record { pos = q; fault = fault }) → RefusesIn fault text before → q ≡ over pos before
-    → ((f : Fault) (other : Text) → RefusesIn f text other → length before ≤ length other) → Stops text pos e
-stops_at text before pos q fault e is h at least =
+pub stops_at : (text before : Text) (pos q : Pos) (broken : TokenRule) (e : ScanError) → e ≡ Refused (record { pos = q; broken = broken }) → RefusesIn broken text before → q ≡ over pos before
+    → ((f : TokenRule) (other : Text) → RefusesIn f text other → length before ≤ length other) → Stops text pos e
+stops_at text before pos q broken e is h at least =
     let P : ScanError → Type 0 = λ e. Stops text pos e in
     subst P (sym is) (before, h, at, least)
 
-pub stops_here : (text : Text) (pos : Pos) (fault : Fault) (e : ScanError) → e ≡ Refused (record { pos = pos; fault = fault }) → RefusesIn fault text [] → Stops text pos e
-stops_here text pos fault e is h = stops_at text [] pos pos fault e is h refl (λ f other k. omega arith)
+pub stops_here : (text : Text) (pos : Pos) (broken : TokenRule) (e : ScanError) → e ≡ Refused (record { pos = pos; broken = broken }) → RefusesIn broken text [] → Stops text pos e
+stops_here text pos broken e is h = stops_at text [] pos pos broken e is h refl (λ f other k. omega arith)
 
 -- ---- spaces
 
@@ -132,12 +132,12 @@ pub number_taken : (text run rest : Text) (n : ℕ) (pos q : Pos) (l : Lexeme) �
 number_taken text run rest n pos q l f s line col =
     (run, f.is, omega (arith, f.some, f.count), longest_number text run rest f.is f.most f.runs, s, right_is pos q run f.line line (col ∙ ap (λ n. pos.col + n) (sym f.count)))
 
-pub name_stops : (text : Text) (n : ℕ) (pos : Pos) (e : ScanError) → Begins Letter text → n ≡ prefix_len is_run_byte text → max_name < n → e ≡ Refused (record { pos = pos; fault = LongName }) → Stops text pos e
+pub name_stops : (text : Text) (n : ℕ) (pos : Pos) (e : ScanError) → Begins Letter text → n ≡ prefix_len is_run_byte text → max_name < n → e ≡ Refused (record { pos = pos; broken = LongName }) → Stops text pos e
 name_stops text n pos e h len long is =
     let f = run_front Letter text (take n text) (drop n text) n refl h len refl refl in
     stops_here text pos LongName e is (take n text, drop n text, (f.is, longest_name text (take n text) (drop n text) f.is f.most f.runs), f.runs, refl, omega (arith, f.count))
 
-pub number_stops : (text run rest : Text) (n : ℕ) (pos : Pos) (fault : Fault) (e : ScanError) → IsFront Digit text run rest n → RefusesNumber run fault → e ≡ Refused (record { pos = pos; fault = fault }) → Stops text pos e
+pub number_stops : (text run rest : Text) (n : ℕ) (pos : Pos) (broken : TokenRule) (e : ScanError) → IsFront Digit text run rest n → RefusesNumber run broken → e ≡ Refused (record { pos = pos; broken = broken }) → Stops text pos e
 number_stops text run rest n pos BadNumber e f h is = stops_here text pos BadNumber e is (run, rest, (f.is, longest_number text run rest f.is f.most f.runs), f.runs, refl, h)
 number_stops text run rest n pos LargeNumber e f h is = stops_here text pos LargeNumber e is (run, rest, (f.is, longest_number text run rest f.is f.most f.runs), f.runs, refl, h.0, h.1, h.2, h.3)
 number_stops text run rest n pos TooLong e f h is = absurd h
@@ -190,7 +190,7 @@ sign_taken text rest pos q s h no_comment no_pair found e line col =
     let whole : text ≡ b ∷ rest = h.2 ∙ ap (λ t. b ∷ t) (sym tail) in
     (b ∷ [], whole, omega arith, longest_sign b s rest h.3 sign (alone_before text b rest whole no_comment no_pair), inr sign, right_is pos q (b ∷ []) (sign_is (b ∷ []) s sign).line line col)
 
-pub stray_stops : (text : Text) (pos : Pos) (e : ScanError) → Begins Other text → sign_of (get_or text 0 0 ∷ []) ≡ None → e ≡ Refused (record { pos = pos; fault = StrayByte }) → Stops text pos e
+pub stray_stops : (text : Text) (pos : Pos) (e : ScanError) → Begins Other text → sign_of (get_or text 0 0 ∷ []) ≡ None → e ≡ Refused (record { pos = pos; broken = StrayByte }) → Stops text pos e
 stray_stops text pos e h none is =
     let b = h.0 in
     let first : get_or text 0 0 ≡ b = ap (λ (t : Text). get_or t 0 0) h.2 in
@@ -213,7 +213,7 @@ string_closed q behind w inside more n e k len why =
     elim why [ inl all ↦ omega arith | inr other ↦ other at ]
 
 pub string_open : (text behind : Text) (q : ℕ) (n : ℕ) (pos : Pos) (e : ScanError) → Begins Quote text → behind ≡ drop 1 text → q ≡ get_or text 0 0 → n ≡ prefix_len (is_inside q) behind
-    → ((n ≡ length behind) ⊎ (get_or behind n 0 ≢ q)) → e ≡ Refused (record { pos = pos; fault = OpenString }) → Stops text pos e
+    → ((n ≡ length behind) ⊎ (get_or behind n 0 ≢ q)) → e ≡ Refused (record { pos = pos; broken = OpenString }) → Stops text pos e
 string_open text behind q n pos e h tail first len why is =
     let b = h.0 in
     let same : q ≡ b = first ∙ ap (λ (t : Text). get_or t 0 0) h.2 in
@@ -290,7 +290,7 @@ run_no_quote k [] r q t more e c apart = r
 run_no_quote k (x ∷ w) r q t more e c apart = apart (sym c ∙ ap class (same_head e) ∙ r.0)
 
 -- A string that is closed has no refusal before its first byte that may not stand there.
-stray_least : (text inside rest : Text) (q n : ℕ) (fault : Fault) (other : Text) → IsString text inside rest q n → RefusesIn fault text other → prefix_len is_printable inside < length inside → prefix_len is_printable inside < length other
+stray_least : (text inside rest : Text) (q n : ℕ) (broken : TokenRule) (other : Text) → IsString text inside rest q n → RefusesIn broken text other → prefix_len is_printable inside < length inside → prefix_len is_printable inside < length other
 stray_least text inside rest q n TooLong other s h few = absurd h
 stray_least text inside rest q n StrayByte other s (inl k) few =
     let same : k.0 ≡ q = same_head (sym k.2 ∙ s.is) in
@@ -314,7 +314,7 @@ stray_least text inside rest q n LargeNumber other s h few = absurd (run_no_quot
 stray_least text inside rest q n LongName other s h few = absurd (run_no_quote Letter h.0 h.3 q ((inside ++ q ∷ []) ++ rest) h.1 (sym s.is ∙ h.2.0) s.quote (λ e. cc))
 
 pub string_stops : (text inside rest : Text) (q n good : ℕ) (pos p : Pos) (e : ScanError) → IsString text inside rest q n → good ≡ prefix_len is_printable inside → good < n
-    → p.line ≡ pos.line → p.col ≡ pos.col + (good + 1) → e ≡ Refused (record { pos = p; fault = StrayByte }) → Stops text pos e
+    → p.line ≡ pos.line → p.col ≡ pos.col + (good + 1) → e ≡ Refused (record { pos = p; broken = StrayByte }) → Stops text pos e
 string_stops text inside rest q n good pos p e s len few line col is =
     let within : good < length inside = omega (arith, s.count) in
     let front = take good inside in

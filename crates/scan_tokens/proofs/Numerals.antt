@@ -5,8 +5,8 @@ use Rattle.std.proofs.lemmas.Bool.{eqb-true}
 use Rattle.std.proofs.lemmas.List.{same_from_push, append_cancel_right}
 use Rattle.scan_tokens.specs.declared.number.Numeral.{Numeral}
 use Rattle.scan_tokens.specs.declared.number.Numeral.TheVariants.{Decimal, Octal, Hexadecimal, Code}
-use Rattle.scan_tokens.specs.declared.refusal.Fault.{Fault}
-use Rattle.scan_tokens.specs.declared.refusal.Fault.TheVariants.{TooLong, StrayByte, OpenComment, OpenString, BadNumber, LargeNumber, LongName}
+use Rattle.scan_tokens.specs.declared.refusal.TokenRule.{TokenRule}
+use Rattle.scan_tokens.specs.declared.refusal.TokenRule.TheVariants.{TooLong, StrayByte, OpenComment, OpenString, BadNumber, LargeNumber, LongName}
 use Rattle.scan_tokens.specs.Bytes.{Text}
 use Rattle.scan_tokens.specs.Numbers.{RefusesNumber, Writes, base, suffix, digit, is_digit_of, value}
 use Rattle.scan_tokens.specs.Steps.{form_by, RefusesDigits}
@@ -43,8 +43,8 @@ same_digits : (form other : Numeral) (digits others : Text) → form ≡ other �
 same_digits form other digits others same e =
     append_cancel_right digits others (suffix form) (e ∙ ap (λ f. others ++ suffix f) (sym same))
 
-pub refused_digits : (form : Numeral) (w digits front : Text) (c : ℕ) (fault : Fault)
-    → w ≡ front ++ c ∷ [] → form ≡ form_by c → w ≡ digits ++ suffix form → RefusesDigits form digits fault → RefusesNumber w fault
+pub refused_digits : (form : Numeral) (w digits front : Text) (c : ℕ) (broken : TokenRule)
+    → w ≡ front ++ c ∷ [] → form ≡ form_by c → w ≡ digits ++ suffix form → RefusesDigits form digits broken → RefusesNumber w broken
 refused_digits form w digits front c BadNumber e is d h = λ other n k.
     let same : other ≡ form = written_last other w n front c k e ∙ sym is in
     let digits_same = same_digits other form k.0 digits same (sym k.1 ∙ d) in

@@ -4,8 +4,8 @@ use Rattle.m2_tree.specs.declared.pos.Pos.{Pos}
 use Rattle.m2_tree.specs.declared.token.Token.{Token}
 use Rattle.m2_tree.specs.declared.token.Lexeme.{Lexeme}
 use Rattle.m2_tree.specs.declared.token.Lexeme.TheVariants as lexeme
-use Rattle.scan_tokens.specs.declared.refusal.Fault.{Fault}
-use Rattle.scan_tokens.specs.declared.refusal.Fault.TheVariants.{TooLong}
+use Rattle.scan_tokens.specs.declared.refusal.TokenRule.{TokenRule}
+use Rattle.scan_tokens.specs.declared.refusal.TokenRule.TheVariants.{TooLong}
 use Rattle.scan_tokens.specs.declared.refusal.ScanRefusal.{ScanRefusal}
 use Rattle.scan_tokens.specs.declared.refusal.ScanError.{ScanError}
 use Rattle.scan_tokens.specs.declared.refusal.ScanError.TheVariants.{Refused, NoMemory}
@@ -60,12 +60,12 @@ ends text rest pos tokens more s e d =
       d ∙ ap (λ ts. ts ++ tokens_at pos (Some lexeme.End)) s.found ∙ ap (λ p. tokens_behind [] s.members ++ tokens_at p (Some lexeme.End)) (s.at ∙ ap place (sym whole)),
     )
 
-least : (text rest : Text) (ms : List Member) (before : Text) (here : Fault) (fault : Fault) (other : Text) → Divides text ms rest → RefusesIn here rest before
-    → ((f : Fault) (o : Text) → RefusesIn f rest o → length before ≤ length o) → HasFault text fault other → length (bytes_of ms ++ before) ≤ length other
-least text rest ms before here fault other d h first k =
-    let same = stuck_once text ms k.3.0 rest k.1 (refuses_stuck here rest before h) (refuses_stuck fault k.1 k.2 k.4) d k.3.1 in
-    let P : Text → Type 0 = λ r. RefusesIn fault r k.2 in
-    let le = first fault k.2 (subst P (sym same.1) k.4) in
+least : (text rest : Text) (ms : List Member) (before : Text) (here : TokenRule) (broken : TokenRule) (other : Text) → Divides text ms rest → RefusesIn here rest before
+    → ((f : TokenRule) (o : Text) → RefusesIn f rest o → length before ≤ length o) → HasFault text broken other → length (bytes_of ms ++ before) ≤ length other
+least text rest ms before here broken other d h first k =
+    let same = stuck_once text ms k.3.0 rest k.1 (refuses_stuck here rest before h) (refuses_stuck broken k.1 k.2 k.4) d k.3.1 in
+    let P : Text → Type 0 = λ r. RefusesIn broken r k.2 in
+    let le = first broken k.2 (subst P (sym same.1) k.4) in
     let front : bytes_of ms ≡ k.0 = ap bytes_of same.0 ∙ sym k.3.2 in
     omega (arith, le, ap length k.5, ap length front, length-append (bytes_of ms) before, length-append k.0 k.2)
 
@@ -78,7 +78,7 @@ stops text rest pos tokens (Refused r) s h =
       front ++ h.0,
       (front, rest, h.0, (s.members, s.divides, refl), h.1, refl),
       h.2 ∙ ap (λ p. over p h.0) s.at ∙ sym (place_over front h.0),
-      λ fault other k. least text rest s.members h.0 r.fault fault other s.divides h.1 h.3 k,
+      λ broken other k. least text rest s.members h.0 r.broken broken other s.divides h.1 h.3 k,
     )
 
 pub tokens_once : (text : Text) (ts us : List Token) → HasTokens text ts → HasTokens text us → ts ≡ us
@@ -89,10 +89,10 @@ pub never_both : (text : Text) (ts : List Token) (r : ScanRefusal) → length te
 never_both text ts r small h (inl k) = omega (arith, small, k.0)
 never_both text ts r small h (inr k) =
     let f = k.2 in
-    let same = stuck_once text h.0 f.3.0 [] f.1 end_stuck (refuses_stuck r.fault f.1 f.2 f.4) h.1 f.3.1 in
-    refuses_some r.fault f.1 f.2 f.4 (sym same.1)
+    let same = stuck_once text h.0 f.3.0 [] f.1 end_stuck (refuses_stuck r.broken f.1 f.2 f.4) h.1 f.3.1 in
+    refuses_some r.broken f.1 f.2 f.4 (sym same.1)
 
-pub too_long : (text : Text) (e : ScanError) → max_text < length text → e ≡ Refused (record { pos = record { line = 1; col = 1 }; fault = TooLong }) → IfRefused (Refuses text) e
+pub too_long : (text : Text) (e : ScanError) → max_text < length text → e ≡ Refused (record { pos = record { line = 1; col = 1 }; broken = TooLong }) → IfRefused (Refuses text) e
 too_long text e h is =
     let P : ScanError → Type 0 = λ e. IfRefused (Refuses text) e in
     subst P (sym is) (inl (h, refl, sym place_start))

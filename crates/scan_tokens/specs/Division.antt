@@ -8,8 +8,8 @@ use Rattle.m2_tree.specs.declared.token.Lexeme.TheVariants as lexeme
 use Rattle.m2_tree.specs.Limits.{max_name}
 use Rattle.scan_tokens.specs.declared.class.Class.TheVariants.{Letter, Digit, Quote}
 use Rattle.scan_tokens.specs.declared.number.Numeral.{Numeral}
-use Rattle.scan_tokens.specs.declared.refusal.Fault.{Fault}
-use Rattle.scan_tokens.specs.declared.refusal.Fault.TheVariants.{TooLong, StrayByte, OpenComment, OpenString, BadNumber, LargeNumber, LongName}
+use Rattle.scan_tokens.specs.declared.refusal.TokenRule.{TokenRule}
+use Rattle.scan_tokens.specs.declared.refusal.TokenRule.TheVariants.{TooLong, StrayByte, OpenComment, OpenString, BadNumber, LargeNumber, LongName}
 use Rattle.scan_tokens.specs.declared.refusal.ScanRefusal.{ScanRefusal}
 use Rattle.scan_tokens.specs.Bytes.{Text, class, is_inside, is_printable, is_line_end}
 use Rattle.scan_tokens.specs.Forms.{IsRun, IsQuoted, IsClosed, IsForm, IsLongest, IsMember, Member}
@@ -66,7 +66,7 @@ StandsRun rest w more = (rest ≡ w ++ more) × IsLongest w more
 
 -- What is refused where `rest` is what is left: `before` stands between this place and the refused
 -- one.
-abbrev pub RefusesIn : Fault → Text → Text → Type 0
+abbrev pub RefusesIn : TokenRule → Text → Text → Type 0
 RefusesIn TooLong rest before = ⊥
 -- a byte that begins no member, or one that may not stand in a string and stands in one
 RefusesIn StrayByte rest before =
@@ -99,17 +99,18 @@ RefusesIn LongName rest before =
     × (max_name < length w)
 
 -- The text has this fault behind `front`.
-abbrev pub HasFault : Text → Fault → Text → Type 0
-HasFault text fault front =
+abbrev pub HasFault : Text → TokenRule → Text → Type 0
+HasFault text broken front =
     (reached : Text) × (rest : Text) × (before : Text) × Reaches text reached rest
-    × RefusesIn fault rest before × (front ≡ reached ++ before)
+    × RefusesIn broken rest before × (front ≡ reached ++ before)
 
 -- The refusal of a text: that it is too long, or else the fault with the least place.
 abbrev pub Refuses : Text → ScanRefusal → Type 0
 Refuses text r =
-    ((max_text < length text) × (r.fault ≡ TooLong) × (r.pos ≡ place []))
+    ((max_text < length text) × (r.broken ≡ TooLong) × (r.pos ≡ place []))
     ⊎ ((length text ≤ max_text)
     × (front : Text)
-    × HasFault text r.fault front
+    × HasFault text r.broken front
     × (r.pos ≡ place front)
-    × ((fault : Fault) (other : Text) → HasFault text fault other → length front ≤ length other))
+    × ((broken : TokenRule) (other : Text) → HasFault text broken other
+    → length front ≤ length other))

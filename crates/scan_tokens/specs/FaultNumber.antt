@@ -1,9 +1,9 @@
 -- The numbers by which the refusals of a text are reported.
 use Rattle.std.specs.Prelude.{ℕ}
-use Rattle.scan_tokens.specs.declared.refusal.Fault.{Fault}
-use Rattle.scan_tokens.specs.declared.refusal.Fault.TheVariants.{TooLong, StrayByte, OpenComment, OpenString, BadNumber, LargeNumber, LongName}
+use Rattle.scan_tokens.specs.declared.refusal.TokenRule.{TokenRule}
+use Rattle.scan_tokens.specs.declared.refusal.TokenRule.TheVariants.{TooLong, StrayByte, OpenComment, OpenString, BadNumber, LargeNumber, LongName}
 
-abbrev pub number_of : Fault → ℕ
+abbrev pub number_of : TokenRule → ℕ
 number_of TooLong = 1
 number_of StrayByte = 2
 number_of OpenComment = 3

@@ -3,8 +3,8 @@ use Rattle.std.specs.Prelude.{◌≡◌, ◌≤◌, ℕ, ◌+◌, ◌-◌, ◌*�
 use Rattle.std.specs.List.{list_all}
 use Rattle.scan_tokens.specs.declared.number.Numeral.{Numeral}
 use Rattle.scan_tokens.specs.declared.number.Numeral.TheVariants.{Decimal, Octal, Hexadecimal, Code}
-use Rattle.scan_tokens.specs.declared.refusal.Fault.{Fault}
-use Rattle.scan_tokens.specs.declared.refusal.Fault.TheVariants.{BadNumber, LargeNumber}
+use Rattle.scan_tokens.specs.declared.refusal.TokenRule.{TokenRule}
+use Rattle.scan_tokens.specs.declared.refusal.TokenRule.TheVariants.{BadNumber, LargeNumber}
 use Rattle.scan_tokens.specs.Bytes.{Text, is_digit}
 
 abbrev pub base : Numeral → ℕ
@@ -42,7 +42,7 @@ Writes w form n =
     × (list_all (is_digit_of (base form)) digits ≡ true) × (n ≡ value (base form) digits)
 
 -- what is wrong with digits and letters that are no number
-abbrev pub RefusesNumber : Text → Fault → Type 0
+abbrev pub RefusesNumber : Text → TokenRule → Type 0
 RefusesNumber w BadNumber = (form : Numeral) (n : ℕ) → Writes w form n → ⊥
 RefusesNumber w LargeNumber = (form : Numeral) × (n : ℕ) × Writes w form n × (limit form ≤ n)
 RefusesNumber w _ = ⊥

@@ -8,8 +8,8 @@ use Rattle.m2_tree.specs.declared.token.Symbol.{Symbol}
 use Rattle.scan_tokens.specs.declared.class.Class.{Class}
 use Rattle.scan_tokens.specs.declared.number.Numeral.{Numeral}
 use Rattle.scan_tokens.specs.declared.number.Numeral.TheVariants.{Decimal, Octal, Hexadecimal, Code}
-use Rattle.scan_tokens.specs.declared.refusal.Fault.{Fault}
-use Rattle.scan_tokens.specs.declared.refusal.Fault.TheVariants.{BadNumber, LargeNumber}
+use Rattle.scan_tokens.specs.declared.refusal.TokenRule.{TokenRule}
+use Rattle.scan_tokens.specs.declared.refusal.TokenRule.TheVariants.{BadNumber, LargeNumber}
 use Rattle.scan_tokens.specs.declared.refusal.ScanError.{ScanError}
 use Rattle.scan_tokens.specs.declared.refusal.ScanRefusal.{ScanRefusal}
 use Rattle.scan_tokens.specs.declared.refusal.ScanError.TheVariants.{Refused, NoMemory}
@@ -52,8 +52,11 @@ Adds text pos rest after before tokens =
 abbrev pub Stops : Text → Pos → ScanError → Type 0
 Stops text pos NoMemory = Unit {0}
 Stops text pos (Refused r) =
-    (before : Text) × RefusesIn r.fault text before × (r.pos ≡ over pos before)
-    × ((fault : Fault) (other : Text) → RefusesIn fault text other → length before ≤ length other)
+    (before : Text)
+    × RefusesIn r.broken text before
+    × (r.pos ≡ over pos before)
+    × ((broken : TokenRule) (other : Text) → RefusesIn broken text other
+    → length before ≤ length other)
 
 -- how a number is written, by its last byte
 abbrev pub form_by : ℕ → Numeral
@@ -61,7 +64,7 @@ form_by c =
     if c == 66 then Octal else if c == 72 then Hexadecimal else if c == 67 then Code else Decimal
 
 -- what is wrong with the digits of a number
-abbrev pub RefusesDigits : Numeral → Text → Fault → Type 0
+abbrev pub RefusesDigits : Numeral → Text → TokenRule → Type 0
 RefusesDigits form digits BadNumber = list_all (is_digit_of (base form)) digits ≡ false
 RefusesDigits form digits LargeNumber =
     (list_all (is_digit_of (base form)) digits ≡ true) × (limit form ≤ value (base form) digits)

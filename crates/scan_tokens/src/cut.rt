@@ -1,6 +1,6 @@
 //! Cuts the member at the front of a text.
 
-ghost use Rattle.std.specs.Prelude.{◌≡◌, ◌≤◌, ◌<◌, ◌++◌, ◌↔◌, IfOk, IfErr, IsTrue, OnOk, Some, None, length, vec_len, vec_capacity};
+ghost use Rattle.std.specs.Prelude.{◌≡◌, ◌≤◌, ◌<◌, ◌++◌, ◌↔◌, IfOk, IfErr, IsTrue, OnOk, Some, None, length};
 ghost use Rattle.m2_tree.specs.Limits.{max_name};
 ghost use Rattle.scan_tokens.specs.declared.class.Class.TheVariants as class;
 ghost use Rattle.scan_tokens.specs.declared.refusal.ScanError.TheVariants.{Refused};
@@ -12,7 +12,7 @@ use crate::class::{Class, class_of};
 use crate::comment::{behind, comment_end, right};
 use crate::lengths::{inside_len, printable_len, run_len};
 use crate::number::number_of;
-use crate::refusal::{Fault, ScanError, ScanRefusal};
+use crate::refusal::{ScanError, ScanRefusal, TokenRule};
 use crate::symbols::{pair_of, single_of, word_of};
 use m2_tree::{Lexeme, MAX_NAME, Name, Pos, Quoted, Symbol, Token};
 use std::alloc::{AllocError, Global};
@@ -24,30 +24,19 @@ pub struct Cut<'a> {
     pub pos: Pos,
 }
 
-/// Makes room for one more token. It is rarely called, so it stands apart. The only error is that memory ran out.
-#[inline(never)]
-fn make_room(tokens: &mut Vec<Token>) -> Result<(), AllocError>
-    ensures same { tokens.new.items ≡ tokens.old.items }
-    ensures room { OnOk result (vec_len tokens.new < vec_capacity tokens.new) }
-{
-    tokens.reserve(1)
-}
-
 /// Adds a token. The only error is that memory ran out.
 pub fn put(tokens: &mut Vec<Token>, lexeme: Lexeme, pos: Pos) -> Result<(), AllocError>
     ensures { OnOk result (tokens.new.items ≡ tokens.old.items ++ tokens_at pos (Some lexeme)) }
 {
-    if tokens.len() == tokens.capacity() {
-        make_room(tokens)?;
-    }
+    tokens.reserve(1)?;
     tokens.push_reserved(Token { lexeme, pos });
     Ok(())
 }
 
-pub fn scan_refusal(pos: Pos, fault: Fault) -> ScanError
-    ensures { result ≡ Refused (record { pos = pos; fault = fault }) }
+pub fn scan_refusal(pos: Pos, broken: TokenRule) -> ScanError
+    ensures { result ≡ Refused (record { pos = pos; broken = broken }) }
 {
-    ScanError::Refused(ScanRefusal { pos, fault })
+    ScanError::Refused(ScanRefusal { pos, broken })
 }
 
 /// The reserved word or the name that letters and digits are. The only error is that memory ran out.
@@ -76,7 +65,7 @@ fn cut_name<'a>(
 {
     let len = run_len(text);
     if len > MAX_NAME {
-        return Err(scan_refusal(pos, Fault::LongName));
+        return Err(scan_refusal(pos, TokenRule::LongName));
     }
     let (run, rest) = text.split_at(len);
     let lexeme = word_lexeme(alloc, run)?;
@@ -97,7 +86,7 @@ fn cut_number<'a>(text: &'a [u8], pos: Pos, tokens: &mut Vec<Token>) -> Result<C
     let len = run_len(text);
     let (run, rest) = text.split_at(len);
     match number_of(run) {
-        Err(fault) => Err(scan_refusal(pos, fault)),
+        Err(broken) => Err(scan_refusal(pos, broken)),
         Ok(token) => {
             put(tokens, token, pos)?;
             Ok(Cut {
@@ -124,12 +113,12 @@ fn cut_string<'a>(
     let (_, behind) = text.split_at(1);
     let len = inside_len(quote, behind);
     if len == behind.len() || behind[len] != quote {
-        return Err(scan_refusal(pos, Fault::OpenString));
+        return Err(scan_refusal(pos, TokenRule::OpenString));
     }
     let (inside, _) = behind.split_at(len);
     let good = printable_len(inside);
     if good < len {
-        return Err(scan_refusal(right(pos, good + 1), Fault::StrayByte));
+        return Err(scan_refusal(right(pos, good + 1), TokenRule::StrayByte));
     }
     let bytes = Quoted::new(alloc, inside)?;
     let (_, rest) = text.split_at(len + 2);
@@ -155,7 +144,7 @@ fn cut_comment(text: &[u8], pos: Pos) -> Result<Cut<'_>, ScanError>
 {
     let (_, behind) = text.split_at(2);
     match comment_end(behind, right(pos, 2)) {
-        None => Err(scan_refusal(pos, Fault::OpenComment)),
+        None => Err(scan_refusal(pos, TokenRule::OpenComment)),
         Some((rest, pos)) => Ok(Cut { rest, pos }),
     }
 }
@@ -200,7 +189,7 @@ fn cut_single<'a>(text: &'a [u8], pos: Pos, tokens: &mut Vec<Token>) -> Result<C
     ensures refused { IfErr result (Stops text.now pos) }
 {
     match single_of(text[0]) {
-        None => Err(scan_refusal(pos, Fault::StrayByte)),
+        None => Err(scan_refusal(pos, TokenRule::StrayByte)),
         Some(symbol) => {
             let (_, rest) = text.split_at(1);
             put(tokens, Lexeme::Symbol(symbol), pos)?;

@@ -7,7 +7,7 @@ ghost use Rattle.scan_tokens.specs.Forms.{IsRun, Spells};
 ghost use Rattle.scan_tokens.specs.Numbers.{base, limit, digit, is_digit_of, value, suffix, RefusesNumber};
 ghost use Rattle.scan_tokens.specs.Steps.{form_by, RefusesDigits};
 
-use crate::refusal::Fault;
+use crate::refusal::TokenRule;
 use m2_tree::Lexeme;
 
 /// The ways to write a number.
@@ -54,7 +54,7 @@ fn digit_of(byte: u8) -> u64
 }
 
 /// The value of digits that are written so.
-fn value_of(form: Numeral, digits: &[u8]) -> Result<u32, Fault>
+fn value_of(form: Numeral, digits: &[u8]) -> Result<u32, TokenRule>
     ensures digits { IfOk result (λ n. list_all (is_digit_of (base form)) digits.now ≡ true) }
     ensures value { IfOk result (λ n. n ≡ value (base form) digits.now) }
     ensures small { IfOk result (λ n. n < limit form) }
@@ -66,12 +66,12 @@ fn value_of(form: Numeral, digits: &[u8]) -> Result<u32, Fault>
     for byte in digits {
         let digit = digit_of(*byte);
         if digit >= base {
-            return Err(Fault::BadNumber);
+            return Err(TokenRule::BadNumber);
         }
         value = (value * base + digit).min(limit);
     }
     if value >= limit {
-        return Err(Fault::LargeNumber);
+        return Err(TokenRule::LargeNumber);
     }
     Ok(value as u32)
 }
@@ -93,14 +93,14 @@ fn split(run: &[u8]) -> (Numeral, &[u8])
 
 /// The number or character that digits and letters are, of which the first is a digit. The errors are that they are no
 /// number, and that it is too large.
-pub fn number_of(run: &[u8]) -> Result<Lexeme, Fault>
+pub fn number_of(run: &[u8]) -> Result<Lexeme, TokenRule>
     requires { IsRun class.Digit run.now }
     ensures ok { IfOk result (λ token. Spells run.now token) }
     ensures err { IfErr result (RefusesNumber run.now) }
 {
     let (form, digits) = split(run);
     match value_of(form, digits) {
-        Err(fault) => Err(fault),
+        Err(broken) => Err(broken),
         Ok(value) => match form {
             Numeral::Code => Ok(Lexeme::Char(value as u8)),
             _ => Ok(Lexeme::Number(value)),

@@ -9,7 +9,7 @@ use thiserror::Error;
 
 /// A rule of the language that a text can break before there are tokens.
 #[derive(Clone, Copy, Debug, PartialEq, Eq)]
-pub enum Fault {
+pub enum TokenRule {
     /// The text has more than 1048576 bytes. It is reported at 1:1, and before all others.
     TooLong,
     /// A byte that begins no token, or that may not stand in a string.
@@ -26,7 +26,7 @@ pub enum Fault {
     LongName,
 }
 
-impl Fault {
+impl TokenRule {
     ghost use Rattle.scan_tokens.specs.FaultNumber.{number_of};
 
     /// The number by which the refusal is reported, from 1 to 7.
@@ -34,13 +34,13 @@ impl Fault {
         ensures { result ≡ number_of self }
     {
         match self {
-            Fault::TooLong => 1,
-            Fault::StrayByte => 2,
-            Fault::OpenComment => 3,
-            Fault::OpenString => 4,
-            Fault::BadNumber => 5,
-            Fault::LargeNumber => 6,
-            Fault::LongName => 7,
+            TokenRule::TooLong => 1,
+            TokenRule::StrayByte => 2,
+            TokenRule::OpenComment => 3,
+            TokenRule::OpenString => 4,
+            TokenRule::BadNumber => 5,
+            TokenRule::LargeNumber => 6,
+            TokenRule::LongName => 7,
         }
     }
 }
@@ -49,14 +49,14 @@ impl Fault {
 #[derive(Clone, Copy, Debug, PartialEq, Eq)]
 pub struct ScanRefusal {
     pub pos: Pos,
-    pub fault: Fault,
+    pub broken: TokenRule,
 }
 
 /// Why a text has no tokens.
 #[derive(Debug, Drop, Error)]
 pub enum ScanError {
     /// The least refused place of the text.
-    #[error("{}:{}: refusal {}", .0.pos.line, .0.pos.col, .0.fault.number())]
+    #[error("{}:{}: refusal {}", .0.pos.line, .0.pos.col, .0.broken.number())]
     Refused(ScanRefusal),
     /// Memory ran out.
     #[error("refusal 90")]

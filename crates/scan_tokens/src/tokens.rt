@@ -10,7 +10,7 @@ ghost use Rattle.scan_tokens.specs.Division.{Divides, HasTokens, Refuses, max_te
 ghost use Rattle.scan_tokens.specs.Steps.{IfRefused};
 
 use crate::cut::{next_cut, put, scan_refusal};
-use crate::refusal::{Fault, ScanError};
+use crate::refusal::{ScanError, TokenRule};
 use m2_tree::{Lexeme, Pos, Token};
 use std::alloc::Global;
 
@@ -36,7 +36,7 @@ pub fn scan(alloc: Global, text: &[u8]) -> Result<Vec<Token>, ScanError>
 {
     let mut pos = Pos { line: 1, col: 1 };
     if text.len() > MAX_TEXT {
-        return Err(scan_refusal(pos, Fault::TooLong));
+        return Err(scan_refusal(pos, TokenRule::TooLong));
     }
     let mut tokens = Vec::new(alloc);
     let mut rest = text;

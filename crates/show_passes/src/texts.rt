@@ -21,7 +21,7 @@ pub fn tokens_of(alloc: Global, text: &[u8]) -> Result<Shown<Vec<Token>>, AllocE
     match scan(alloc, text) {
         Ok(tokens) => Ok(Shown::Made(tokens)),
         Err(ScanError::Refused(refusal)) => {
-            Ok(Shown::Refused(refusal.pos, refusal.fault.number()))
+            Ok(Shown::Refused(refusal.pos, refusal.broken.number()))
         }
         Err(ScanError::NoMemory) => Err(AllocError),
     }

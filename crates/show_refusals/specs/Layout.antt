@@ -36,7 +36,8 @@ blanks_under text = replicate (length text) 32
 
 -- in red if colour is asked for
 abbrev pub paint_mark : Bool → List ℕ → List ℕ
-paint_mark colour mark = if colour then (27 ∷ codes "[1;31m") ++ mark ++ (27 ∷ codes "[0m") else mark
+paint_mark colour mark =
+    if colour then (27 ∷ codes "[1;31m") ++ mark ++ (27 ∷ codes "[0m") else mark
 
 -- the mark under a token that takes the columns between two texts: at least one sign
 abbrev pub mark : (before through : List ℕ) → List ℕ
@@ -46,7 +47,8 @@ mark before through = replicate (max (length through - length before) 1) 94
 abbrev pub mark_row : (colour : Bool) (gutter front bytes : List ℕ) (start end : ℕ) → List ℕ
 mark_row colour gutter front bytes start end =
     let before = show_source front (take start bytes) in
-    blanks_under (gutter ++ before) ++ paint_mark colour (mark before (show_source front (take end bytes)))
+    blanks_under (gutter ++ before)
+    ++ paint_mark colour (mark before (show_source front (take end bytes)))
 
 -- a line of source behind its number, and under it the row with the mark
 abbrev pub picture : (colour : Bool) (number : ℕ) (front bytes back : List ℕ) (start end : ℕ)

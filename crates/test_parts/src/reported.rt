@@ -20,7 +20,7 @@ pub fn outcome(alloc: Global, text: &[u8]) -> Reported {
             return Reported::Refused {
                 line: refusal.pos.line,
                 col: refusal.pos.col,
-                number: refusal.fault.number(),
+                number: refusal.broken.number(),
             };
         }
         Err(ScanError::NoMemory) => return Reported::NoMemory,

@@ -8,7 +8,7 @@ fn reported(alloc: Global, text: &[u8]) -> Result<(u32, u32, u32), AllocError> {
     match scan(alloc, text) {
         Ok(_) => Ok((0, 0, 0)),
         Err(ScanError::Refused(refusal)) => {
-            Ok((refusal.pos.line, refusal.pos.col, refusal.fault.number()))
+            Ok((refusal.pos.line, refusal.pos.col, refusal.broken.number()))
         }
         Err(ScanError::NoMemory) => Ok((0, 0, 90)),
     }

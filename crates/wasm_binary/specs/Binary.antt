@@ -131,7 +131,8 @@ export_kind = record {
 }
 
 unfoldable pub export : Format Export
-export = as_value (λ p. record { name = p.0; kind = p.1 }) (λ e. (e.name, e.kind)) (name · export_kind)
+export =
+    as_value (λ p. record { name = p.0; kind = p.1 }) (λ e. (e.name, e.kind)) (name · export_kind)
 
 unfoldable pub element : Format Element
 element =

@@ -174,7 +174,8 @@ abbrev pub Sequence : Type 0
 Sequence = List Instr × Ending
 
 abbrev pub instr_of : (nested_instruction : ℕ → List ℕ → Reading Instr) → ℕ → List ℕ → Reading Instr
-instr_of nested_instruction b bytes = if opens b then nested_instruction b bytes else plain_of b bytes
+instr_of nested_instruction b bytes =
+    if opens b then nested_instruction b bytes else plain_of b bytes
 
 -- at most so many instructions and what ends them, where `opened` reads an instruction that holds
 -- others

@@ -53,7 +53,8 @@ BoundsReturn =
     → (v lo hi k : ℕ) (below : List Value) (rest : List Instr)
     → is_less w64 v lo ≡ false
     → is_less w64 hi v ≡ false
-    → Leads modules 17 (Going st (with now (bounds_before lo hi k g rest) (below ++ I64 v ∷ [])) callers)
+    → Leads modules 17
+    (Going st (with now (bounds_before lo hi k g rest) (below ++ I64 v ∷ [])) callers)
     (Going st (with now rest (below ++ I64 v ∷ [])) callers)
 
 -- a call of fill, where the bytes are there, clears them

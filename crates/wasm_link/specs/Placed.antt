@@ -30,7 +30,8 @@ items_of None = None
 items_of (Some v) = Some v.items
 
 -- a list with others from a place on, if it reaches so far
-abbrev pub write_items : {A : Type 0} → (place : ℕ) → (items others : List A) → Result (List A) WFault
+abbrev pub write_items : {A : Type 0} → (place : ℕ) → (items others : List A)
+    → Result (List A) WFault
 write_items place items others =
     if nat_le (place + length others) (length items)
     then Ok (paste_items items place others)

@@ -85,7 +85,8 @@ abbrev pub link_answer : List WModule → Store → List ℕ → Option Extern
 link_answer modules st name =
     option_and_then
     (λ (i : Instance).
-    option_and_then (λ (m : WModule). option_and_then (λ k. extern_of i k) (export_named name m.exports))
+    option_and_then
+    (λ (m : WModule). option_and_then (λ k. extern_of i k) (export_named name m.exports))
     (slice_get modules 0))
     (slice_get st.instances 0)
 
@@ -247,7 +248,8 @@ with_bytes l memory at (Some m) bytes =
     if nat_le (at + length bytes) (length m.bytes)
     then Ok (record l {
       store = record l.store {
-        memories = slice_set l.store.memories memory (record m { bytes = paste_items m.bytes at bytes });
+        memories =
+            slice_set l.store.memories memory (record m { bytes = paste_items m.bytes at bytes });
       };
     })
     else Err SegmentOutside

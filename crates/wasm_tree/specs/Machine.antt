@@ -248,10 +248,12 @@ keep_operands height split = take height split.0 ++ split.1
 -- a branch that finds a label, the last of those before and itself, or goes out of the function
 -- where there is none
 abbrev pub branch_to : Store → Activation → List Activation → Option (List Label × Label) → Progress
-branch_to st now callers None = or_trap (split_end now.arity now.stack) (λ p. return_to st callers p.1)
+branch_to st now callers None =
+    or_trap (split_end now.arity now.stack) (λ p. return_to st callers p.1)
 branch_to st now callers (Some l) =
     or_trap (split_end l.1.arity now.stack) (λ p. (
-      Going st (record now { labels = l.0; rest = l.1.again; stack = keep_operands l.1.height p }) callers,
+      Going st (record now { labels = l.0; rest = l.1.again; stack = keep_operands l.1.height p })
+          callers,
       [],
     ))
 
@@ -339,7 +341,8 @@ calculation numeric.I64Eqz stack = one_i64 stack (λ n. I32 (truth (n == 0)))
 calculation (numeric.I64Relation r) stack =
     two_i64 stack (λ n m. Some (I32 (truth (compares w64 r n m))))
 calculation numeric.I32Add stack = two_i32 stack (λ n m. I32 ((n + m) % 2 ^ 32))
-calculation (numeric.I64Operation o) stack = two_i64 stack (λ n m. option_map I64 (operation_result o n m))
+calculation (numeric.I64Operation o) stack =
+    two_i64 stack (λ n m. option_map I64 (operation_result o n m))
 calculation numeric.I32WrapI64 stack = one_i64 stack (λ n. I32 (n % 2 ^ 32))
 calculation numeric.I64ExtendI32S stack = one_i32 stack (λ n. I64 (extend_number n))
 calculation numeric.I64ExtendI32U stack = one_i32 stack (λ n. I64 n)
@@ -401,7 +404,8 @@ begun_layer modules st now callers i (layer.I64Const n) = push_value st now call
 begun_layer modules st now callers i (layer.Numeric o) =
     or_trap (calculation o now.stack) (λ p. push_value st (record now { stack = p.0 }) callers p.1)
 
-abbrev pub begin_instruction : List WModule → Store → Activation → List Activation → Instr → Progress
+abbrev pub begin_instruction : List WModule → Store → Activation → List Activation → Instr
+    → Progress
 begin_instruction modules st now callers i = begun_layer modules st now callers i (out-Instr i)
 
 -- ---- reductions
@@ -414,7 +418,8 @@ end_block st now callers (Some l) =
 
 abbrev pub next : List WModule → Store → Activation → List Activation → List Instr → Progress
 next modules st now callers [] = end_block st now callers (split_last now.labels)
-next modules st now callers (i ∷ rest) = begin_instruction modules st (record now { rest = rest }) callers i
+next modules st now callers (i ∷ rest) =
+    begin_instruction modules st (record now { rest = rest }) callers i
 
 -- one reduction
 unfoldable pub reduce : List WModule → Config → Progress

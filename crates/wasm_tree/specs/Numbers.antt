@@ -51,7 +51,8 @@ operation_result DivS n m =
     then None
     else division_of m (cast_unsigned w64 (int_div (cast_signed w64 n) (cast_signed w64 m)))
 operation_result DivU n m = division_of m (n / m)
-operation_result RemS n m = division_of m (cast_unsigned w64 (int_rem (cast_signed w64 n) (cast_signed w64 m)))
+operation_result RemS n m =
+    division_of m (cast_unsigned w64 (int_rem (cast_signed w64 n) (cast_signed w64 m)))
 operation_result RemU n m = division_of m (n % m)
 operation_result And n m = Some (bit_and n m)
 operation_result Or n m = Some (bit_or n m)

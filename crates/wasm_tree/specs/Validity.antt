@@ -91,8 +91,11 @@ local_types groups = flat_map (λ g. replicate g.count g.value_type) groups
 
 -- what the code of a function may name
 abbrev pub function_context : Context → FuncType → List Locals → Context
-function_context c t groups =
-    record c { locals = t.params ++ local_types groups; labels = t.results ∷ []; returns = t.results }
+function_context c t groups = record c {
+  locals = t.params ++ local_types groups;
+  labels = t.results ∷ [];
+  returns = t.results;
+}
 
 -- within a block, to which a branch takes these
 abbrev pub within : List ValueType → Context → Context

@@ -11,7 +11,8 @@ open_instruction op.Unreachable rest = layer.Unreachable
 open_instruction (op.Block t n) rest = layer.Block t (tree (take n rest))
 open_instruction (op.Loop t n) rest = layer.Loop t (tree (take n rest))
 open_instruction (op.If t n) rest = layer.If t (tree (take n rest)) None
-open_instruction (op.IfElse t n m) rest = layer.If t (tree (take n rest)) (Some (tree (take m (drop n rest))))
+open_instruction (op.IfElse t n m) rest =
+    layer.If t (tree (take n rest)) (Some (tree (take m (drop n rest))))
 open_instruction (op.Br l) rest = layer.Br l
 open_instruction (op.BrIf l) rest = layer.BrIf l
 open_instruction (op.BrTable n l) rest = layer.BrTable (map label_of (take n rest)) l

@@ -1,7 +1,7 @@
 use Rattle.std.proofs.Common.{◌≡◌, take}
 use Rattle.std.specs.List.{fold}
 use Rattle.check_expr.specs.Meanings.{constant_pick_in}
-use Rattle.check_expr.proofs.fixed.picked.Given as goal
+use Rattle.check_expr.proofs.fixed.selection.Given as goal
 
 abbrev pub invariant-loop-selector : goal.invariant-loop-selector
 invariant-loop-selector l = l.denotation ≡ fold (constant_pick_in l.scope) l.fn.first (take l.selector-index l.selectors)

@@ -4,7 +4,7 @@ use Rattle.std.specs.Vec.Iter.{into_iter_items, into_iter_len}
 use Rattle.once_cell.specs.Once.{cell_name}
 use Rattle.pool_board.specs.Results.{AreCoherent}
 use Rattle.m2_pool.specs.Settled.{IsAnswered}
-use Rattle.m2_pool.proofs.gather.gathered.Given as goal
+use Rattle.m2_pool.proofs.gather.gather_results.Given as goal
 
 abbrev pub invariant-loop-place : goal.invariant-loop-place
 invariant-loop-place g l = record {

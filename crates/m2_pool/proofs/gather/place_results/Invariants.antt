@@ -4,7 +4,7 @@ use Rattle.std.specs.Vec.Iter.{into_iter_items, into_iter_len}
 use Rattle.once_cell.specs.Once.{cell_name}
 use Rattle.pool_board.specs.Lists.{times}
 use Rattle.pool_board.specs.Results.{IsRan, IsMade}
-use Rattle.m2_pool.proofs.gather.placed.Given as goal
+use Rattle.m2_pool.proofs.gather.place_results.Given as goal
 
 abbrev pub invariant-loop-ran : goal.invariant-loop-ran
 invariant-loop-ran g l = record {

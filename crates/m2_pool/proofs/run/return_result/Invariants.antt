@@ -4,7 +4,7 @@ use Rattle.std.specs.Vec.Iter.{into_iter_items, into_iter_len}
 use Rattle.once_cell.specs.Once.{cell_name}
 use Rattle.pool_board.specs.Seats.{SeatState, IsWorked, all_had}
 use Rattle.pool_board.specs.Results.{IsRan, IsMade}
-use Rattle.m2_pool.proofs.run.returned.Given as goal
+use Rattle.m2_pool.proofs.run.return_result.Given as goal
 
 abbrev pub invariant-loop-one : goal.invariant-loop-one
 invariant-loop-one g l = record {

@@ -1,7 +1,7 @@
 use Rattle.std.proofs.Common.{◌≡◌, ◌≤◌, length, vec_capacity}
 use Rattle.std.specs.Slots.{slots_items}
 use Rattle.pool_board.specs.Seats.{unset}
-use Rattle.pool_board.proofs.board.unclaimed.Given as goal
+use Rattle.pool_board.proofs.board.unclaimed_jobs.Given as goal
 
 abbrev pub invariant-loop-job : goal.invariant-loop-job
 invariant-loop-job l = record {

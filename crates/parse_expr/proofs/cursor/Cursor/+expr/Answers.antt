@@ -127,24 +127,24 @@ negation-returns t c =
     let w = c.in_ok-pos.ensures in
     ((w.0, c.in_ok-operand.operand), first_of (search rules, grind (arith, common_steps)), first_of (search rules, grind (arith, common_steps)))
 
-pub bracketed-returns : goal.bracketed-returns
-bracketed-returns t c =
+pub bracket_expr-returns : goal.bracket_expr-returns
+bracket_expr-returns t c =
     let e = group_is c.args.room c.args.self.now in
     let w = c.in_ok-pos.ensures in
     ((w.0, c.in_ok-value.value), first_of (search rules, grind (arith, common_steps)), first_of (search rules, grind (arith, common_steps)))
 
-pub named-returns-then-sees : goal.named-returns-then-sees
-named-returns-then-sees t c =
+pub name_use-returns-then-sees : goal.name_use-returns-then-sees
+name_use-returns-then-sees t c =
     let w = c.in_ok-name.ensures in
     ((w.0, inl (c.in_ok-brace.brace, c.in_ok-brace.elements)), first_of (search rules, grind (arith, common_steps)), rw w.2 refl)
 
-pub named-returns-then-sees-2 : goal.named-returns-then-sees-2
-named-returns-then-sees-2 t c =
+pub name_use-returns-then-sees-2 : goal.name_use-returns-then-sees-2
+name_use-returns-then-sees-2 t c =
     let w = c.in_ok-name.ensures in
     ((w.0, inr (c.in_ok-selectors.selectors, Some c.in_ok-args.args)), first_of (search rules, grind (arith, common_steps)), rw (c.in_ok-boxed.ensures, w.2) refl)
 
-pub named-returns : goal.named-returns
-named-returns t c =
+pub name_use-returns : goal.name_use-returns
+name_use-returns t c =
     let w = c.in_ok-name.ensures in
     ((w.0, inr (c.in_ok-selectors.selectors, None)), first_of (search rules, grind (arith, common_steps)), rw w.2 refl)
 

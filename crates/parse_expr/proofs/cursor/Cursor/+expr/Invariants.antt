@@ -11,8 +11,8 @@ use Rattle.parse_expr.proofs.cursor.Cursor.+expr.Given as goal
 abbrev pub decreases-args : goal.decreases-args
 decreases-args l = l.room * 32 + 10
 
-abbrev pub decreases-bracketed : goal.decreases-bracketed
-decreases-bracketed l = l.room * 32 + 15
+abbrev pub decreases-bracket_expr : goal.decreases-bracket_expr
+decreases-bracket_expr l = l.room * 32 + 15
 
 abbrev pub decreases-expr : goal.decreases-expr
 decreases-expr l = l.room * 32 + 22
@@ -32,8 +32,8 @@ decreases-item l = l.room * 32 + 24
 abbrev pub decreases-items : goal.decreases-items
 decreases-items l = l.room * 32 + 25
 
-abbrev pub decreases-named : goal.decreases-named
-decreases-named l = l.room * 32 + 15
+abbrev pub decreases-name_use : goal.decreases-name_use
+decreases-name_use l = l.room * 32 + 15
 
 abbrev pub decreases-negation : goal.decreases-negation
 decreases-negation l = l.room * 32 + 15

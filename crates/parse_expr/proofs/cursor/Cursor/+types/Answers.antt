@@ -43,24 +43,24 @@ inner_array-returns t c =
     let e = rules_of.inner_dims_is c.args.room c.args.self.now in
     ((c.in_ok-index.index, c.in_ok-index.element), first_of (search rules, grind (arith, common_steps)), first_of (search rules, grind (arith, common_steps)))
 
-pub structured-returns-then-sees : goal.structured-returns-then-sees
-structured-returns-then-sees t c =
+pub structure_type-returns-then-sees : goal.structure_type-returns-then-sees
+structure_type-returns-then-sees t c =
     let w = c.in_ok-pos.ensures in
     (inl (w.0, (c.in_ok-index.index, c.in_ok-index.element)), first_of (search rules, grind (arith, common_steps)), first_of (search rules, grind (arith, common_steps)))
 
-pub structured-returns-then-sees-2 : goal.structured-returns-then-sees-2
-structured-returns-then-sees-2 t c =
+pub structure_type-returns-then-sees-2 : goal.structure_type-returns-then-sees-2
+structure_type-returns-then-sees-2 t c =
     let v = c.in_ok-pos-2.ensures in
     let w = c.in_ok-fields.ensures in
     (inr (inl (v.0, w.0)), first_of (search rules, grind (arith, common_steps)), first_of (search rules, grind (arith, common_steps)))
 
-pub structured-returns : goal.structured-returns
-structured-returns t c =
+pub structure_type-returns : goal.structure_type-returns
+structure_type-returns t c =
     let e = procedure_type_flat c.args.room c.args.self.now in
     let w = c.in_ok-found.ensures in
     (inr (inr w.0), first_of (search rules, grind (arith, common_steps)), first_of (search rules, grind (arith, common_steps)))
 
-pub structured-returns-in_err-found : goal.structured-returns-in_err-found
-structured-returns-in_err-found t c =
+pub structure_type-returns-in_err-found : goal.structure_type-returns-in_err-found
+structure_type-returns-in_err-found t c =
     let e = procedure_type_flat c.args.room c.args.self.now in
     first_of (search rules, grind (arith, common_steps))

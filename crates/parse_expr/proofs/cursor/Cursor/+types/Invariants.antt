@@ -21,8 +21,8 @@ decreases-inner_array l = l.room * 32 + 21
 abbrev pub decreases-maybe_field : goal.decreases-maybe_field
 decreases-maybe_field l = l.room * 32 + 23
 
-abbrev pub decreases-structured : goal.decreases-structured
-decreases-structured l = l.room * 32 + 25
+abbrev pub decreases-structure_type : goal.decreases-structure_type
+decreases-structure_type l = l.room * 32 + 25
 
 abbrev pub decreases-type_expr : goal.decreases-type_expr
 decreases-type_expr l = l.room * 32 + 20
