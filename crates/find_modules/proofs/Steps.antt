@@ -56,22 +56,22 @@ module _ (gives : Folders) (count : ℕ) where
   -- ---- modules that are added
 
   pub none_added : (ms : List FoundModule) → AreAdded gives count [] ms ms
-  none_added ms = record { more = []; behind = sym (append-nil ms); new_names = refl; find_name = All-nil (λ m. AreSources gives count m.name m.sources) }
+  none_added ms = record { more = []; behind = sym (append-nil ms); new_names = refl; found = All-nil (λ m. AreSources gives count m.name m.sources) }
 
   pub one_known : (name : List ℕ) (ms : List FoundModule) → (is_console name || is_among name (map name_of ms)) ≡ true → AreAdded gives count (name ∷ []) ms ms
   one_known name ms known = record {
     more = [];
     behind = sym (append-nil ms);
     new_names = ap (λ b. if b then map name_of ms else (map name_of ms ++ name ∷ [])) (sym known);
-    find_name = All-nil (λ m. AreSources gives count m.name m.sources);
+    found = All-nil (λ m. AreSources gives count m.name m.sources);
   }
 
   pub one_added : (name : List ℕ) (old new : List FoundModule) (m : FoundModule) → (is_console name || is_among name (map name_of old)) ≡ false → new ≡ old ++ m ∷ [] → m.name ≡ name → AreSources gives count name m.sources → AreAdded gives count (name ∷ []) old new
-  one_added name old new m unknown behind named find_name = record {
+  one_added name old new m unknown behind named found = record {
     more = m ∷ [];
     behind = behind;
     new_names = ap (map name_of) behind ∙ map-append name_of old (m ∷ []) ∙ ap (λ n. map name_of old ++ n ∷ []) named ∙ ap (λ b. if b then map name_of old else (map name_of old ++ name ∷ [])) (sym unknown);
-    find_name = All-cons (λ m. AreSources gives count m.name m.sources) m [] (subst (λ n. AreSources gives count n m.sources) (sym named) find_name) (All-nil (λ m. AreSources gives count m.name m.sources));
+    found = All-cons (λ m. AreSources gives count m.name m.sources) m [] (subst (λ n. AreSources gives count n m.sources) (sym named) found) (All-nil (λ m. AreSources gives count m.name m.sources));
   }
 
   both_added : (some others : List (List ℕ)) (old between new : List FoundModule) → AreAdded gives count some old between → AreAdded gives count others between new → AreAdded gives count (some ++ others) old new
@@ -79,7 +79,7 @@ module _ (gives : Folders) (count : ℕ) where
     more = a.more ++ b.more;
     behind = b.behind ∙ ap (λ ms. ms ++ b.more) a.behind ∙ append_assoc old a.more b.more;
     new_names = b.new_names ∙ ap (λ ns. fold with_name ns others) a.new_names ∙ sym (fold-append with_name (map name_of old) some others);
-    find_name = All-append (λ m. AreSources gives count m.name m.sources) a.more b.more a.found b.found;
+    found = All-append (λ m. AreSources gives count m.name m.sources) a.more b.more a.found b.found;
   }
 
   pub one_more_added : (names : List (List ℕ)) (i : ℕ) (name : List ℕ) (old between new : List FoundModule) → i < length names → name ≡ get_or names i name → AreAdded gives count (take i names) old between → AreAdded gives count (name ∷ []) between new → AreAdded gives count (take (i + 1) names) old new
@@ -98,7 +98,7 @@ module _ (gives : Folders) (count : ℕ) where
     pub program_imports : Imports program own
     pub modules_import : ModulesImport (take at modules) others
     pub once : map name_of modules ≡ each_once (own ++ others)
-    pub find_name : AreFound gives count modules
+    pub found : AreFound gives count modules
     pub within : at ≤ length modules
 
   pub at_begin : (program : List ℕ) (own : List (List ℕ)) (old modules : List FoundModule) → old ≡ [] → Imports program own → AreAdded gives count own old modules → IsSoFar program 0 modules
@@ -108,7 +108,7 @@ module _ (gives : Folders) (count : ℕ) where
     program_imports = imports;
     modules_import = NoModule;
     once = a.new_names ∙ ap (λ ms. fold with_name (map name_of ms) own) empty ∙ ap each_once (sym (append-nil own));
-    find_name = subst (AreFound gives count) (sym (a.behind ∙ ap (λ ms. ms ++ a.more) empty)) a.found;
+    found = subst (AreFound gives count) (sym (a.behind ∙ ap (λ ms. ms ++ a.more) empty)) a.found;
     within = omega arith;
   }
 
@@ -127,7 +127,7 @@ module _ (gives : Folders) (count : ℕ) where
         program_imports = s.program_imports;
         modules_import = subst (λ ms. ModulesImport ms (s.others ++ names)) (taken old a.more new at m a.behind l e) (imports_behind (take at old) s.others m names s.modules_import imports);
         once = a.new_names ∙ ap (λ ns. fold with_name ns names) s.once ∙ sym (fold-append with_name [] (s.own ++ s.others) names) ∙ ap each_once (append_assoc s.own s.others names);
-        find_name = subst (AreFound gives count) (sym a.behind) (All-append (λ m. AreSources gives count m.name m.sources) old a.more s.found a.found);
+        found = subst (AreFound gives count) (sym a.behind) (All-append (λ m. AreSources gives count m.name m.sources) old a.more s.found a.found);
         within = omega arith;
       }
 
@@ -138,7 +138,7 @@ module _ (gives : Folders) (count : ℕ) where
     program_imports = s.program_imports;
     modules_import = subst (λ ms. ModulesImport ms s.others) (take_all at modules l) s.modules_import;
     once = s.once;
-    find_name = s.found;
+    found = s.found;
   }
 
   pub begun : (program : List ℕ) (own slice : List (List ℕ)) (old modules : List FoundModule) → old ≡ [] → slice ≡ own → Imports program own → AreAdded gives count slice old modules → IsSoFar program 0 modules

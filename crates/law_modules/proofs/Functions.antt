@@ -88,7 +88,7 @@ module _ (m : TypedModule) where
   abbrev made : (n : ℕ) (gives : Bool) (frames : List Ty) (a k : ℕ) → Body
   made n gives frames a k = record {
     home = m;
-    numbering_of = numbering_of m;
+    numbered = numbering_of m;
     known = signatures_needed m;
     frames = frames;
     arguments = suc n;

@@ -181,9 +181,9 @@ module _ (p : Program) (pages spare : ℕ) (room : bytes_in p + spare ≡ 65536 
       let new : List (Option ℕ) = somes_from (first_address + 5) (slots b) in
       let old : old_slots ≡ front ++ (part ++ back) = ap (λ (r : List (Option ℕ)). front ++ r) (sym (replicate-append-replicate (slots b) (slots_in rest) None)) in
       let many : length part ≡ length new = length-replicate (slots b) None ∙ sym (somes_length (first_address + 5) (slots b)) in
-      let export_named : new ≡ somes_from (3 + counts before + 5) (slots b) = ap (λ (n : ℕ). somes_from (n + 5) (slots b)) address in
+      let is_named : new ≡ somes_from (3 + counts before + 5) (slots b) = ap (λ (n : ℕ). somes_from (n + 5) (slots b)) address in
       paste_at old_slots front part back new (1 + slots_in before) old (omega (arith, filled_length 3 before)) many
-      ∙ sym (append_assoc front new back) ∙ ap (λ (s : List (Option ℕ)). None ∷ ((table_slots 3 before ++ s) ++ back)) export_named ∙ ap (λ (s : List (Option ℕ)). None ∷ (s ++ back)) (sym (filled_more 3 before b))
+      ∙ sym (append_assoc front new back) ∙ ap (λ (s : List (Option ℕ)). None ∷ ((table_slots 3 before ++ s) ++ back)) is_named ∙ ap (λ (s : List (Option ℕ)). None ∷ (s ++ back)) (sym (filled_more 3 before b))
 
   slots_fit : leb (1 + slots_in before + length (somes_from (first_address + 5) (slots b))) (length old_slots) ≡ true
   slots_fit =
@@ -326,7 +326,7 @@ module _ (p : Program) (pages spare : ℕ) (room : bytes_in p + spare ≡ 65536 
 
 -- ---- run
 
-run_found : (g : ℕ) (p : Program) → export_named (codes "run") (exports_from g (map part_of p) ++ run_export ∷ []) ≡ Some (exported.Function 0)
+run_found : (g : ℕ) (p : Program) → is_named (codes "run") (exports_from g (map part_of p) ++ run_export ∷ []) ≡ Some (exported.Function 0)
 run_found g [] = refl
 run_found g (b ∷ bs) = run_found (g + 3) bs
 

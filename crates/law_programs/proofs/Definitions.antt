@@ -160,7 +160,7 @@ module _ (g : Gathers) where
     done_same = q.done_same ∙ p.done_same;
     front = λ h. q.front (p.front h);
     settled = λ y h. q.settled y (p.settled y h);
-    begin_name = λ y h. let k = or_none (same_name y x) (has y names) h in q.begun y k.1 ∙ p.begun y (ap (λ (b : Bool). b || false) k.0);
+    begun = λ y h. let k = or_none (same_name y x) (has y names) h in q.begun y k.1 ∙ p.begun y (ap (λ (b : Bool). b || false) k.0);
   }
 
   started : (names : List Ident) (st : State (Unit {0}) g.Reported) → (fold (begun_name g) st names).1 ≡ Ok tt → Started st.0 (fold (begun_name g) st names).0 names

@@ -54,7 +54,7 @@ pub record Stays {T : Type 0} (names : List (List ℕ)) (s s' : Scope T) : Type 
   pub done_same : done s'.own ≡ done s.own
   pub front : InFront s.own → InFront s'.own
   pub settled : (y : List ℕ) → SettledIn s.own y → SettledIn s'.own y
-  pub begin_name : (y : List ℕ) → has y names ≡ false → is_begun (find_name y s'.own) ≡ is_begun (find_name y s.own)
+  pub begun : (y : List ℕ) → has y names ≡ false → is_begun (find_name y s'.own) ≡ is_begun (find_name y s.own)
 
 or_none : (a b : Bool) → (a || b) ≡ false → (a ≡ false) × (b ≡ false)
 or_none true b h = absurd cc
@@ -62,7 +62,7 @@ or_none false b h = (refl, h)
 
 module _ {T : Type 0} where
   pub same_stays : (names : List (List ℕ)) (s : Scope T) → Stays names s s
-  same_stays names s = record { variables = refl; procedures = refl; done_same = refl; front = λ p. p; settled = λ y h. h; begin_name = λ y h. refl }
+  same_stays names s = record { variables = refl; procedures = refl; done_same = refl; front = λ p. p; settled = λ y h. h; begun = λ y h. refl }
 
   infixl 10 ◌⨾◌
   pub ◌⨾◌ : {names : List (List ℕ)} {a b c : Scope T} → Stays names b c → Stays names a b → Stays names a c
@@ -72,11 +72,11 @@ module _ {T : Type 0} where
     done_same = q.done_same ∙ p.done_same;
     front = λ h. q.front (p.front h);
     settled = λ y h. q.settled y (p.settled y h);
-    begin_name = λ y h. q.begun y h ∙ p.begun y h;
+    begun = λ y h. q.begun y h ∙ p.begun y h;
   }
 
   pub stays_for : (names : List (List ℕ)) {a b : Scope T} → Stays [] a b → Stays names a b
-  stays_for names p = record { variables = p.variables; procedures = p.procedures; done_same = p.done_same; front = p.front; settled = p.settled; begin_name = λ y h. p.begun y refl }
+  stays_for names p = record { variables = p.variables; procedures = p.procedures; done_same = p.done_same; front = p.front; settled = p.settled; begun = λ y h. p.begun y refl }
 
   -- ---- a name is entered
 
@@ -87,7 +87,7 @@ module _ {T : Type 0} where
     done_same = other_done name k s.own n u;
     front = λ p. other_front name k s.own n u p;
     settled = λ y h. settled_kept y name k s.own u h;
-    begin_name = λ y h. begun_kept y name k s.own b v;
+    begun = λ y h. begun_kept y name k s.own b v;
   }
 
   own_stays : (name : List ℕ) (k : Known T) (s : Scope T) → counted_of k ≡ [] → holds_of is_settled (find_name name s.own) ≡ false → Stays (name ∷ []) s (with_known name k s)
@@ -97,7 +97,7 @@ module _ {T : Type 0} where
     done_same = other_done name k s.own n u;
     front = λ p. other_front name k s.own n u p;
     settled = λ y h. settled_kept y name k s.own u h;
-    begin_name = λ y h. ap is_begun (found_other name k s.own y (or_none (same_name y name) false h).0);
+    begun = λ y h. ap is_begun (found_other name k s.own y (or_none (same_name y name) false h).0);
   }
 
   either : (names : List (List ℕ)) (s : Scope T) (b : Bool) {A : Type 0} (x y : State A T) → (b ≡ true → Stays names s x.0) → Stays names s y.0 → Stays names s (cond b x y).0
@@ -136,7 +136,7 @@ module _ {T : Type 0} where
   -- ---- types that are made
 
   shape_stays : (s : Scope T) (m : Made) → Stays [] s (with_shape s m)
-  shape_stays s m = record { variables = refl; procedures = refl; done_same = refl; front = λ p. p; settled = λ y h. h; begin_name = λ y h. refl }
+  shape_stays s m = record { variables = refl; procedures = refl; done_same = refl; front = λ p. p; settled = λ y h. h; begun = λ y h. refl }
 
   pub made_stays : (s : Scope T) (r : Result Made T) → Stays [] s (with_made s r).0
   made_stays s (Ok m) = shape_stays s m

@@ -253,9 +253,9 @@ module _ (fs : List (List ℕ × Tree)) (files : List ℕ) (jobs : List (List �
 
   implementation_named : (o : Table) (block : Block) → own ≡ Some o → b.tree.contents ≡ contents.Implementation block → NamesStand x opens (implementation_scope o ts) b.tree block
   implementation_named o block q e =
-      let find_name = subst (λ (c : Contents). BegunAt least (elaborate_body least) (elaborated_formed least) b.job b.tree own ts m c) e (begun fs files jobs starts graph each fit m b) in
+      let found = subst (λ (c : Contents). BegunAt least (elaborate_body least) (elaborated_formed least) b.job b.tree own ts m c) e (begun fs files jobs starts graph each fit m b) in
       let h : HasBegun least (implementation_scope o ts) b.tree block o.exported m
-      = subst (λ (u : Table). HasBegun least (implementation_scope u ts) b.tree block u.exported m) (same_Some find_name.0 o (sym find_name.1 ∙ q)) find_name.2 in
+      = subst (λ (u : Table). HasBegun least (implementation_scope u ts) b.tree block u.exported m) (same_Some found.0 o (sym found.1 ∙ q)) found.2 in
       let k : AreForOwn (Some o) imported
       = subst (λ (w : Option Table). AreForOwn w imported) q (subst (λ (c : Contents). AreFor b.job own imported c) e (for_it fs files jobs starts graph each fit m b)) in
       names_stand (implementation_scope o ts) block o.exported refl

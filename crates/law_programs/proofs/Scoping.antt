@@ -192,10 +192,10 @@ module _ (x : Context) (opens : ℕ → Bool) (ks : Kinds) where
   meaning_within : (level : ℕ) (kss : List Kinds) (m : Meaning) → MeaningIn x opens level kss m → MeaningIn within opens level kss m
   meaning_within level kss (meaning.Constant v) p = p
   meaning_within level kss (meaning.Type t n) p = tt
-  meaning_within level kss (meaning.Variable v) p = record { sight_of = p.known; type = p.type; there = p.there }
+  meaning_within level kss (meaning.Variable v) p = record { known = p.known; type = p.type; there = p.there }
   meaning_within level kss (meaning.Local v) p = p
   meaning_within level kss (meaning.Field f) p = p
-  meaning_within level kss (meaning.Procedure f) p = record { sight_of = p.known; home = p.home; there = p.there; routine = p.routine; is = p.is; outermost = p.outermost; forms = p.forms; result = p.result; heading = p.heading }
+  meaning_within level kss (meaning.Procedure f) p = record { known = p.known; home = p.home; there = p.there; routine = p.routine; is = p.is; outermost = p.outermost; forms = p.forms; result = p.result; heading = p.heading }
   meaning_within level kss (meaning.LocalProcedure f) p = (p.0, p.1, record { there = p.2.there; routine = p.2.routine; is = p.2.is; kinds = p.2.kinds; forms = p.2.forms; result = p.2.result; heading = p.2.heading })
   meaning_within level kss meaning.Ahead p = tt
   meaning_within level kss (meaning.Standard f) p = tt

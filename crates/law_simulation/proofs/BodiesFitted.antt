@@ -275,7 +275,7 @@ module _ (modules : List WModule) (fx : Fixed) (serves : (k f : ℕ) → Bool) (
         slots = slot_here;
         texts = text_here;
         modules = module_here;
-        nest_calls = inner_here;
+        nested = inner_here;
         callees = callee_here;
         signed = λ t s. g.types (of_heading m.types t) s;
       }

@@ -72,7 +72,7 @@ module _ (world : List Ty) (x : Location → ℕ → ℕ) where
     pub frame : slice_get frames up ≡ Some (frame_kinds kinds)
     pub there : slice_get kinds number ≡ Some kind
     pub name : Named
-    pub slot_named : slice_get (or_empty (slice_get nss up)) number ≡ Some name
+    pub named : slice_get (or_empty (slice_get nss up)) number ≡ Some name
     pub is : IsNamed world x root number kind name
 
   pub found : (kss : List Kinds) (frames : List Ty) (nss : Frames) (roots : List ℕ) → IsChain world x kss nss roots → AreFrames kss frames → (up number : ℕ) (kind : Kind) → slice_get (or_none (slice_get kss up)) number ≡ Some kind
@@ -81,10 +81,10 @@ module _ (world : List Ty) (x : Location → ℕ → ℕ) where
   found _ [] _ _ (chain_more ks kss ns nss root roots type names link chain) known up number kind e = absurd known
   found _ (t ∷ ts) _ _ (chain_more ks kss ns nss root roots type names link chain) known zero number kind e =
       let p = named_at root 0 ks ns names number kind e in
-      record { root = root; kinds = ks; at = refl; type = type; frame = ap Some known.0; there = e; name = p.0; slot_named = p.1; is = subst (λ (j : ℕ). IsNamed world x root j kind p.0) (omega arith) p.2 }
+      record { root = root; kinds = ks; at = refl; type = type; frame = ap Some known.0; there = e; name = p.0; named = p.1; is = subst (λ (j : ℕ). IsNamed world x root j kind p.0) (omega arith) p.2 }
   found _ (t ∷ ts) _ _ (chain_more ks kss ns nss root roots type names link chain) known (suc up) number kind e =
       let p = found kss ts nss roots chain known.1 up number kind e in
-      record { root = p.root; kinds = p.kinds; at = p.at; type = p.type; frame = p.frame; there = p.there; name = p.name; slot_named = p.named; is = p.is }
+      record { root = p.root; kinds = p.kinds; at = p.at; type = p.type; frame = p.frame; there = p.there; name = p.name; named = p.named; is = p.is }
 
 module _ (k : Scene) (set : IsSet k) where
   pub place_fits : (s : Source) (st : Target) → Stands k s st → (l : Location) (t : Ty) → component (row k.world) l ≡ Some t → place k l < 2 ^ 32

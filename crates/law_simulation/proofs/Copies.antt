@@ -205,21 +205,21 @@ module _ (k : Scene) (set : IsSet k) (at : ℕ) (text : List ℕ) (is : IsText k
   string_path a w more st rest stack inner room source small long =
       let has = set.helpers in
       let teed : Target = record st { locals = slice_set st.locals w (I32 a) } in
-      let copy_whole : Target = record teed { bytes = copied_bytes bytes a (is.base + at) st.bytes } in
+      let filled : Target = record teed { bytes = copied_bytes bytes a (is.base + at) st.bytes } in
       let filling : List Instr = instr.I32Const more ∷ instr.Call 3 ∷ rest in
       let behind : List Instr = instr.LocalGet w ∷ (raise_address bytes ++ filling) in
-      let same_length : length copy_whole.bytes ≡ length st.bytes = copied_length bytes a (is.base + at) st.bytes (omega (arith, room)) in
+      let same_length : length filled.bytes ≡ length st.bytes = copied_length bytes a (is.base + at) st.bytes (omega (arith, room)) in
       tee_runs k.modules k.fixed k.turns (calls k) k.own (text_code at ++ (instr.I32Const bytes ∷ instr.Call 2 ∷ behind)) st w (I32 a) stack inner
       ∙ global_runs k.modules k.fixed k.turns (calls k) k.own (raise_address at ++ (instr.I32Const bytes ∷ instr.Call 2 ∷ behind)) teed 2 (I32 is.base) (stack ++ I32 a ∷ []) (is.there st.bytes)
       ∙ raised_runs k has set.small set.room is.base at (is.base + at) (instr.I32Const bytes ∷ instr.Call 2 ∷ behind) teed (stack ++ I32 a ∷ []) refl (omega (arith, source, long))
       ∙ i32_runs k.modules k.fixed k.turns (calls k) k.own (instr.Call 2 ∷ behind) teed bytes ((stack ++ I32 a ∷ []) ++ I32 (is.base + at) ∷ [])
       ∙ ap (runs k (instr.Call 2 ∷ behind) teed) (three_pushed k set stack (I32 a) (I32 (is.base + at)) (I32 bytes))
       ∙ copy_here k set a (is.base + at) bytes teed behind stack (omega (arith, room)) (omega (arith, source)) small long
-      ∙ get_runs k.modules k.fixed k.turns (calls k) k.own (raise_address bytes ++ filling) copy_whole w (I32 a) stack (get_set st.locals w (I32 a) inner)
-      ∙ raised_runs k has set.small set.room a bytes (a + bytes) filling copy_whole stack refl (omega (arith, room, long))
-      ∙ i32_runs k.modules k.fixed k.turns (calls k) k.own (instr.Call 3 ∷ rest) copy_whole more (stack ++ I32 (a + bytes) ∷ [])
-      ∙ ap (runs k (instr.Call 3 ∷ rest) copy_whole) (two_pushed k set stack (I32 (a + bytes)) (I32 more))
-      ∙ fill_here k set (a + bytes) more copy_whole rest stack (omega (arith, room, same_length)) (omega (arith, long, same_length))
+      ∙ get_runs k.modules k.fixed k.turns (calls k) k.own (raise_address bytes ++ filling) filled w (I32 a) stack (get_set st.locals w (I32 a) inner)
+      ∙ raised_runs k has set.small set.room a bytes (a + bytes) filling filled stack refl (omega (arith, room, long))
+      ∙ i32_runs k.modules k.fixed k.turns (calls k) k.own (instr.Call 3 ∷ rest) filled more (stack ++ I32 (a + bytes) ∷ [])
+      ∙ ap (runs k (instr.Call 3 ∷ rest) filled) (two_pushed k set stack (I32 (a + bytes)) (I32 more))
+      ∙ fill_here k set (a + bytes) more filled rest stack (omega (arith, room, same_length)) (omega (arith, long, same_length))
 
   -- what stands in the array then
   string_bytes : (a more : ℕ) (m : List ℕ) → a + (bytes + more) ≤ length m → (is.base + (at + bytes) ≤ a) ⊎ (a + (bytes + more) ≤ is.base + at) → ((j : ℕ) → j < bytes → byte (is.base + at + j) m ≡ get_or text j 0)

@@ -377,7 +377,7 @@ module _ (x : Context) (ask : Asks) where
     pub placed : List Linked
     pub same : (t : TypeNo) → chain_type t placed ≡ chain_type t ls
     pub pins : Pins a b (chain_code ls) (chain_code placed)
-    pub link_of : (k : Scene) → Fits x ask ws k → AreLinked k t placed fs
+    pub linked : (k : Scene) → Fits x ask ws k → AreLinked k t placed fs
 
   module _ (ws : List Ty) where
     abbrev pub LinkOf : (a b : ℕ) → TypeNo → Link → TypeNo → Type 0
@@ -444,7 +444,7 @@ module _ (x : Context) (ask : Asks) where
     })
 
     no_links_made : (a : ℕ) (t : TypeNo) → MadeLinks ws a a t t [] []
-    no_links_made a t = record { of = refl; placed = []; same = λ t. refl; pins = pins_plain a []; link_of = λ k fit. none_linked t }
+    no_links_made a t = record { of = refl; placed = []; same = λ t. refl; pins = pins_plain a []; linked = λ k fit. none_linked t }
 
     more_links_made : (a b c : ℕ) (t u v : TypeNo) (l : Linked) (ls : List Linked) (f : Continues) (fs : List Continues) → MadeLink ws a b t u l f → MadeLinks ws b c u v ls fs → MadeLinks ws a c t v (l ∷ ls) (f ∷ fs)
     more_links_made a b c t u v l ls f fs m ms = record {
@@ -452,7 +452,7 @@ module _ (x : Context) (ask : Asks) where
       placed = record l { code = m.placed } ∷ ms.placed;
       same = λ t. ms.same l.of;
       pins = pins_then m.pins ms.pins;
-      link_of = λ k fit. more_linked t (record l { code = m.placed }) ms.placed f fs (m.goes k fit) (subst (λ (w : TypeNo). AreLinked k w ms.placed fs) (sym m.of) (ms.linked k fit));
+      linked = λ k fit. more_linked t (record l { code = m.placed }) ms.placed f fs (m.goes k fit) (subst (λ (w : TypeNo). AreLinked k w ms.placed fs) (sym m.of) (ms.linked k fit));
     }
 
     chain_made : (a b c : ℕ) (u t : TypeNo) (e : TypedExpr) (ls : List Link) → Expr ws a b e u → MadeLinks ws b c u t (map (link_part N) ls) (map (link_value P ask) ls) → Expr ws a c (expr.Chain e ls) t

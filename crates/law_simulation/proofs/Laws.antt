@@ -259,16 +259,16 @@ returns k = return_executes k false refl
 
 pub lone_ifs : LoneIfs
 lone_ifs k set function e value x step he hx =
-    let choose_arm : ℤ → Does = λ v a s. if is_true v then step a s else Value Normal s in
-    with_executes k function boolean e (plain (wrap_word ∷ []) ⨾ if_only x) value choose_arm he (if_only_executes k function set.helpers set.small x step hx)
+    let either : ℤ → Does = λ v a s. if is_true v then step a s else Value Normal s in
+    with_executes k function boolean e (plain (wrap_word ∷ []) ⨾ if_only x) value either he (if_only_executes k function set.helpers set.small x step hx)
 
 pub rows : Rows
 rows k function x y step next hx hy = then_executes k function x y step next hx hy
 
 pub ifs : Ifs
 ifs k set function e value x y step other he hx hy =
-    let choose_arm : ℤ → Does = λ v a s. if is_true v then step a s else other a s in
-    with_executes k function boolean e (plain (wrap_word ∷ []) ⨾ if_else x y) value choose_arm he (if_else_executes k function set.helpers set.small x y step other hx hy)
+    let either : ℤ → Does = λ v a s. if is_true v then step a s else other a s in
+    with_executes k function boolean e (plain (wrap_word ∷ []) ⨾ if_else x y) value either he (if_else_executes k function set.helpers set.small x y step other hx hy)
 
 pub withs : Withs
 withs k function t d x found step hd growing hx =

@@ -121,9 +121,9 @@ module _ (x : Context) (ask : Asks) (result : Result) (n : ℕ) where
   -- ---- what is shown of a statement
 
   pub record MadeStmt (ws : List Ty) (l : Bool) (a b : ℕ) (c : Coded) (d : Does) : Type 0 where
-    pub overlay : Coded
-    pub pins : Pins a b c overlay
-    pub executes : (k : Scene) → Suited ws k → Executes k F overlay d
+    pub placed : Coded
+    pub pins : Pins a b c placed
+    pub executes : (k : Scene) → Suited ws k → Executes k F placed d
     pub stays : l ≡ false → Stays d
 
   abbrev pub Stmt : (ws : List Ty) (l : Bool) (a b : ℕ) → TypedStmt → Type 0
@@ -156,12 +156,12 @@ module _ (x : Context) (ask : Asks) (result : Result) (n : ℕ) where
   given_code t e c = behind c (λ types. check_taken types t (expr_part N e).constant (expr_part N e).of)
 
   record MadeGiven (ws : List Ty) (a b : ℕ) (e : TypedExpr) (t : TypeNo) : Type 0 where
-    overlay : Coded
-    pins : Pins a b (expr_part N e).code overlay
-    agrees : (k : Scene) → Fits x ask ws k → Agrees k t (given_code t e overlay) (given_value t e)
+    placed : Coded
+    pins : Pins a b (expr_part N e).code placed
+    agrees : (k : Scene) → Fits x ask ws k → Agrees k t (given_code t e placed) (given_value t e)
 
   given_made : (ws : List Ty) (a b : ℕ) (e : TypedExpr) (t : TypeNo) → IsGiven x result ws a b e t → MadeGiven ws a b e t
-  given_made ws a b e t h = let m = expr_made x ask ws a b e h.of h.is in record { overlay = m.placed; pins = m.pins; agrees = λ k fit. taken_agrees x ask ws a b t h.of e m h.taken k fit }
+  given_made ws a b e t h = let m = expr_made x ask ws a b e h.of h.is in record { placed = m.placed; pins = m.pins; agrees = λ k fit. taken_agrees x ask ws a b t h.of e m h.taken k fit }
 
   given_pins : {ws : List Ty} {a b : ℕ} {e : TypedExpr} {t : TypeNo} (m : MadeGiven ws a b e t) → Pins a b (given_code t e (expr_part N e).code) (given_code t e m.placed)
   given_pins {b = b} {e = e} {t = t} m = pins_then m.pins (pins_setting (λ s. pins_plain b (check_taken s.home.types t (expr_part N e).constant (expr_part N e).of)))
@@ -170,12 +170,12 @@ module _ (x : Context) (ask : Asks) (result : Result) (n : ℕ) where
   held_pins {b = b} t e m = pins_then m.pins (pins_setting (λ s. pins_plain b (check_taken s.home.types t (expr_part N e).constant (expr_part N e).of)))
 
   record MadeTest (ws : List Ty) (a b : ℕ) (e : TypedExpr) : Type 0 where
-    overlay : Coded
-    pins : Pins a b (expr_part N e).code overlay
-    agrees : (k : Scene) → Fits x ask ws k → Agrees k boolean overlay (value P ask e)
+    placed : Coded
+    pins : Pins a b (expr_part N e).code placed
+    agrees : (k : Scene) → Fits x ask ws k → Agrees k boolean placed (value P ask e)
 
   test_made : (ws : List Ty) (a b : ℕ) (e : TypedExpr) → IsTest x result ws a b e → MadeTest ws a b e
-  test_made ws a b e h = let m = expr_made x ask ws a b e h.of h.is in record { overlay = m.placed; pins = m.pins; agrees = λ k fit. agrees_as x ask m boolean h.among k fit }
+  test_made ws a b e h = let m = expr_made x ask ws a b e h.of h.is in record { placed = m.placed; pins = m.pins; agrees = λ k fit. agrees_as x ask m boolean h.among k fit }
 
   -- ---- one layer
 
@@ -205,7 +205,7 @@ module _ (x : Context) (ask : Asks) (result : Result) (n : ℕ) where
 
     assign_made : (a b c : ℕ) (d : Place) (t : TypeNo) (r : Scalar) (e : TypedExpr) → IsCell x.home.types t r → Placed ws a b d (Cell r) → MadeGiven ws b c e t → Stmt ws l a c (stmt.Assign d t e)
     assign_made a b c d t r e cell m q = from_stmt ws l a c (stmt.Assign d t e) (step.Assign d t e) (stmt.outs-Assign d t e) (record {
-      overlay = m.placed ⨾ given_code t e q.placed ⨾ with_setting (λ s. plain (cells.store_code s.home.types t));
+      placed = m.placed ⨾ given_code t e q.placed ⨾ with_setting (λ s. plain (cells.store_code s.home.types t));
       pins = pins_then m.pins (pins_then (given_pins q) (pins_setting (λ s. pins_plain c (cells.store_code s.home.types t))));
       executes = λ k fit.
           assigned_alike k (m.placed ⨾ given_code t e q.placed ⨾ with_setting (λ s. plain (cells.store_code s.home.types t))) d t e
@@ -215,7 +215,7 @@ module _ (x : Context) (ask : Asks) (result : Result) (n : ℕ) where
 
     assign_procedure_made : (a b c : ℕ) (d : Place) (t : TypeNo) (h : Heading) (e : TypedExpr) → tree x.home.types t ≡ Cell (Callable h) → scalar_at x.home.types t ≡ None → Placed ws a b d (Cell (Callable h)) → Held ws b c e h → Stmt ws l a c (stmt.Assign d t e)
     assign_procedure_made a b c d t h e type none m q = from_stmt ws l a c (stmt.Assign d t e) (step.Assign d t e) (stmt.outs-Assign d t e) (record {
-      overlay = m.placed ⨾ given_code t e q.placed ⨾ with_setting (λ s. plain (cells.store_code s.home.types t));
+      placed = m.placed ⨾ given_code t e q.placed ⨾ with_setting (λ s. plain (cells.store_code s.home.types t));
       pins = pins_then m.pins (pins_then (held_pins t e q) (pins_setting (λ s. pins_plain c (cells.store_code s.home.types t))));
       executes = λ k fit.
           assigned_alike k (m.placed ⨾ given_code t e q.placed ⨾ with_setting (λ s. plain (cells.store_code s.home.types t))) d t e
@@ -225,7 +225,7 @@ module _ (x : Context) (ask : Asks) (result : Result) (n : ℕ) where
 
     copy_made : (a b c : ℕ) (d e : Place) (t : TypeNo) → IsPlain (tree x.home.types t) → Placed ws a b d (tree x.home.types t) → Placed ws b c e (tree x.home.types t) → Stmt ws l a c (stmt.Copy d e t)
     copy_made a b c d e t is m q = from_stmt ws l a c (stmt.Copy d e t) (step.Copy d e t) (stmt.outs-Copy d e t) (record {
-      overlay = m.placed ⨾ behind q.placed (λ types. instr.I32Const (size (tree types t)) ∷ instr.Call copy ∷ []);
+      placed = m.placed ⨾ behind q.placed (λ types. instr.I32Const (size (tree types t)) ∷ instr.Call copy ∷ []);
       pins = pins_then m.pins (pins_then q.pins (pins_setting (λ s. pins_plain c (instr.I32Const (size (tree s.home.types t)) ∷ instr.Call copy ∷ []))));
       executes = λ k fit.
           copies k fit.fits.set F t m.placed q.placed (locate P ask d) (locate P ask e) (here x ask ws k fit.fits (λ h. IsPlain (tree h.types t)) is)
@@ -236,7 +236,7 @@ module _ (x : Context) (ask : Asks) (result : Result) (n : ℕ) where
 
     copy_text_made : (a b i : ℕ) (d : Place) (t : TypeNo) (text : List ℕ) → tree x.home.types t ≡ Array i (Cell (Natural 255)) → length text ≤ i → HasText x b text → Placed ws a b d (tree x.home.types t) → Stmt ws l a (b + length text) (stmt.CopyText d t text)
     copy_text_made a b i d t text array less has m = from_stmt ws l a (b + length text) (stmt.CopyText d t text) (step.CopyText d t text) (stmt.outs-CopyText d t text) (record {
-      overlay = m.placed ⨾ with_address (λ w. plain (instr.LocalTee w ∷ []) ⨾ with_setting (λ s. plain (text_copied b (length text) (size (tree s.home.types t) - length text) w)));
+      placed = m.placed ⨾ with_address (λ w. plain (instr.LocalTee w ∷ []) ⨾ with_setting (λ s. plain (text_copied b (length text) (size (tree s.home.types t) - length text) w)));
       pins = pins_then m.pins (pins_address (λ w. pins_then (pins_plain b (instr.LocalTee w ∷ []))
           (pins_text b (length text) (λ at. with_setting (λ s. plain (text_copied at (length text) (size (tree s.home.types t) - length text) w))) (pins_setting (λ s. pins_plain (b + length text) (text_copied b (length text) (size (tree s.home.types t) - length text) w))))));
       executes = λ k fit. strings k fit.fits.set F t i b m.placed (locate P ask d) text (here x ask ws k fit.fits (λ h. tree h.types t ≡ Array i (Cell (Natural 255))) array) less (fit.fits.texts b text has)
@@ -246,7 +246,7 @@ module _ (x : Context) (ask : Asks) (result : Result) (n : ℕ) where
 
     call_stmt_made : (a b : ℕ) (c : Call) → MadeCall x ask ws a b None (call_code N c) (call_value P ask c) → Stmt ws l a b (stmt.Call c)
     call_stmt_made a b c m = from_stmt ws l a b (stmt.Call c) (step.Call c) (stmt.outs-Call c) (record {
-      overlay = m.placed;
+      placed = m.placed;
       pins = m.pins;
       executes = λ k fit. call_executes k F m.placed (call_value P ask c) (m.calls k fit.fits);
       stays = λ e' a s. with_stays (call_value P ask c a s) (λ v s. Value Normal s) (λ v s. refl);
@@ -254,7 +254,7 @@ module _ (x : Context) (ask : Asks) (result : Result) (n : ℕ) where
 
     put_made : (a b : ℕ) (e : TypedExpr) → MadeGiven ws a b e char → Stmt ws l a b (stmt.Put e)
     put_made a b e q = from_stmt ws l a b (stmt.Put e) (step.Put e) (stmt.outs-Put e) (record {
-      overlay = given_code char e q.placed ⨾ plain (instr.Call put ∷ []);
+      placed = given_code char e q.placed ⨾ plain (instr.Call put ∷ []);
       pins = pins_then (given_pins q) (pins_plain b (instr.Call put ∷ []));
       executes = λ k fit.
           executes_alike k F (given_code char e q.placed ⨾ plain (instr.Call put ∷ []))
@@ -269,7 +269,7 @@ module _ (x : Context) (ask : Asks) (result : Result) (n : ℕ) where
     change_made : (a b c : ℕ) (o : Change) (d : Place) (t u : TypeNo) (r : Scalar) (e : TypedExpr) → IsCell x.home.types t r → (scalar_at x.home.types t ≡ None → ⊥) → (scalar_at x.home.types (base_of x.home.types t) ≡ None → ⊥)
         → Placed ws a b d (Cell r) → Expr ws b c e u → Stmt ws l a c (stmt.Change o d t e)
     change_made a b c o d t u r e cell ranged based m q = from_stmt ws l a c (stmt.Change o d t e) (step.Change o d t e) (stmt.outs-Change o d t e) (record {
-      overlay = change_code o m.placed t q.placed;
+      placed = change_code o m.placed t q.placed;
       pins = pins_then m.pins (pins_address (λ w. pins_then (pins_plain b (instr.LocalSet w ∷ [])) (pins_then q.pins (pins_number (λ i. pins_then (pins_plain c (instr.LocalSet i ∷ [])) (pins_setting (λ s. pins_plain c (change_instructions o w i s.home.types t))))))));
       executes = λ k fit. laws.changes k fit.fits.set F o t r m.placed (as_part x ask (expr_part N e) q.placed) (locate P ask d) (value P ask e) (here x ask ws k fit.fits (λ h. IsCell h.types t r) cell)
           (here x ask ws k fit.fits (λ h. scalar_at h.types t ≡ None → ⊥) ranged) (here x ask ws k fit.fits (λ h. scalar_at h.types (base_of h.types t) ≡ None → ⊥) based) (m.locates k fit.fits) (q.agrees k fit.fits) (agrees_beside x ask q k fit.fits);
@@ -280,7 +280,7 @@ module _ (x : Context) (ask : Asks) (result : Result) (n : ℕ) where
 
     member_made : (a b c : ℕ) (o : Membership) (d : Place) (u : TypeNo) (r : Scalar) (e : TypedExpr) → IsCell x.home.types bitset r → Placed ws a b d (Cell r) → Expr ws b c e u → Stmt ws l a c (stmt.Membership o d e)
     member_made a b c o d u r e cell m q = from_stmt ws l a c (stmt.Membership o d e) (step.Membership o d e) (stmt.outs-Membership o d e) (record {
-      overlay = member_code o m.placed q.placed;
+      placed = member_code o m.placed q.placed;
       pins = pins_then m.pins (pins_address (λ w. pins_then (pins_plain b (instr.LocalSet w ∷ [])) (pins_then q.pins (pins_then (pins_plain c (check_code (pos 0) (pos 31) 1))
           (pins_number (λ i. pins_then (pins_plain c (instr.LocalSet i ∷ [])) (pins_setting (λ s. pins_plain c (with_member o w i s.home.types)))))))));
       executes = λ k fit. laws.memberships k fit.fits.set F o r m.placed (as_part x ask (expr_part N e) q.placed) (locate P ask d) (value P ask e) (here x ask ws k fit.fits (λ h. IsCell h.types bitset r) cell)
@@ -291,11 +291,11 @@ module _ (x : Context) (ask : Asks) (result : Result) (n : ℕ) where
     })
 
     halt_made : (a : ℕ) → Stmt ws l a a stmt.Halt
-    halt_made a = from_stmt ws l a a stmt.Halt step.Halt stmt.outs-Halt (record { overlay = plain (fault 9); pins = pins_plain a (fault 9); executes = λ k fit. laws.halts k fit.fits.set F; stays = λ e' a s. refl })
+    halt_made a = from_stmt ws l a a stmt.Halt step.Halt stmt.outs-Halt (record { placed = plain (fault 9); pins = pins_plain a (fault 9); executes = λ k fit. laws.halts k fit.fits.set F; stays = λ e' a s. refl })
 
     return_made : (a : ℕ) → result ≡ None → Stmt ws l a a stmt.Return
     return_made a none = from_stmt ws l a a stmt.Return step.Return stmt.outs-Return (record {
-      overlay = plain (instr.Return ∷ []);
+      placed = plain (instr.Return ∷ []);
       pins = pins_plain a (instr.Return ∷ []);
       executes = λ k fit. subst (λ (r : Result). Executes k (is_there r) (plain (instr.Return ∷ [])) (λ a s. Value (Returned (pos 0)) s)) (sym none) (laws.returns k);
       stays = λ e' a s. refl;
@@ -314,7 +314,7 @@ module _ (x : Context) (ask : Asks) (result : Result) (n : ℕ) where
 
     give_made : (a b : ℕ) (t : TypeNo) (r : Scalar) (e : TypedExpr) → result ≡ Some (tree x.home.types t) → IsCell x.home.types t r → MadeGiven ws a b e t → Stmt ws l a b (stmt.Give t e)
     give_made a b t r e is cell q = from_stmt ws l a b (stmt.Give t e) (step.Give t e) (stmt.outs-Give t e) (record {
-      overlay = given_code t e q.placed ⨾ plain (instr.Return ∷ []);
+      placed = given_code t e q.placed ⨾ plain (instr.Return ∷ []);
       pins = pins_then (given_pins q) (pins_plain b (instr.Return ∷ []));
       executes = λ k fit.
           subst (λ (r : Result). Executes k (is_there r) (given_code t e q.placed ⨾ plain (instr.Return ∷ [])) (λ a s. value P ask e a s ▷ λ v s. as_type a.types t v s ▷ λ v s. Value (Returned v) s)) (sym is)
@@ -325,7 +325,7 @@ module _ (x : Context) (ask : Asks) (result : Result) (n : ℕ) where
 
     give_procedure_made : (a b : ℕ) (t : TypeNo) (h : Heading) (e : TypedExpr) → result ≡ Some (Cell (Callable h)) → scalar_at x.home.types t ≡ None → Held ws a b e h → Stmt ws l a b (stmt.Give t e)
     give_procedure_made a b t h e is none q = from_stmt ws l a b (stmt.Give t e) (step.Give t e) (stmt.outs-Give t e) (record {
-      overlay = given_code t e q.placed ⨾ plain (instr.Return ∷ []);
+      placed = given_code t e q.placed ⨾ plain (instr.Return ∷ []);
       pins = pins_then (held_pins t e q) (pins_plain b (instr.Return ∷ []));
       executes = λ k fit.
           subst (λ (r : Result). Executes k (is_there r) (given_code t e q.placed ⨾ plain (instr.Return ∷ [])) (λ a s. value P ask e a s ▷ λ v s. as_type a.types t v s ▷ λ v s. Value (Returned v) s)) (sym is)
@@ -337,11 +337,11 @@ module _ (x : Context) (ask : Asks) (result : Result) (n : ℕ) where
     -- ---- rows
 
     no_rows_made : (a : ℕ) → Rows ws l a a []
-    no_rows_made a = record { overlay = nothing; pins = pins_plain a []; executes = λ k fit. nothing_executes k F; stays = λ e' a s. refl }
+    no_rows_made a = record { placed = nothing; pins = pins_plain a []; executes = λ k fit. nothing_executes k F; stays = λ e' a s. refl }
 
     more_rows_made : (a b c : ℕ) (s : TypedStmt) (ss : List TypedStmt) → Stmt ws l a b s → Rows ws l b c ss → Rows ws l a c (s ∷ ss)
     more_rows_made a b c s ss m ms = record {
-      overlay = m.placed ⨾ ms.placed;
+      placed = m.placed ⨾ ms.placed;
       pins = pins_then m.pins ms.pins;
       executes = λ k fit. then_executes k F m.placed ms.placed (does P ask n s) (rows_do ss) (m.executes k fit) (ms.executes k fit);
       stays = λ e' a st. then_stays (does P ask n s a st) (rows_do ss a) (m.stays e' a st) (ms.stays e' a);
@@ -351,7 +351,7 @@ module _ (x : Context) (ask : Asks) (result : Result) (n : ℕ) where
 
     if_made : (a b c : ℕ) (e : TypedExpr) (body : List TypedStmt) → MadeTest ws a b e → Rows ws l b c body → Stmt ws l a c (stmt.If e body None)
     if_made a b c e body q m = from_stmt ws l a c (stmt.If e body None) (step.If e body None) (stmt.outs-If e body None) (record {
-      overlay = q.placed ⨾ plain (wrap_word ∷ []) ⨾ if_only m.placed;
+      placed = q.placed ⨾ plain (wrap_word ∷ []) ⨾ if_only m.placed;
       pins = pins_then q.pins (pins_then (pins_plain b (wrap_word ∷ [])) (pins_within 1 (λ c. instr.If None c None ∷ []) m.pins));
       executes = λ k fit. laws.lone_ifs k fit.fits.set F q.placed (value P ask e) m.placed (rows_do body) (q.agrees k fit.fits) (m.executes k fit);
       stays = λ e' a s. with_stays (value P ask e a s) (λ v s. if is_true v then rows_do body a s else Value Normal s) (λ v s. if_stays (is_true v) (rows_do body a s) (Value Normal s) (m.stays e' a s) refl);
@@ -359,7 +359,7 @@ module _ (x : Context) (ask : Asks) (result : Result) (n : ℕ) where
 
     if_else_made : (a b c z : ℕ) (e : TypedExpr) (body others : List TypedStmt) → MadeTest ws a b e → Rows ws l b c body → Rows ws l c z others → Stmt ws l a z (stmt.If e body (Some others))
     if_else_made a b c z e body others q m o = from_stmt ws l a z (stmt.If e body (Some others)) (step.If e body (Some others)) (stmt.outs-If e body (Some others)) (record {
-      overlay = q.placed ⨾ plain (wrap_word ∷ []) ⨾ if_else m.placed o.placed;
+      placed = q.placed ⨾ plain (wrap_word ∷ []) ⨾ if_else m.placed o.placed;
       pins = pins_then q.pins (pins_then (pins_plain b (wrap_word ∷ [])) (pins_if_else m.pins o.pins));
       executes = λ k fit. laws.ifs k fit.fits.set F q.placed (value P ask e) m.placed o.placed (rows_do body) (rows_do others) (q.agrees k fit.fits) (m.executes k fit) (o.executes k fit);
       stays = λ e' a s. with_stays (value P ask e a s) (λ v s. if is_true v then rows_do body a s else rows_do others a s) (λ v s. if_stays (is_true v) (rows_do body a s) (rows_do others a s) (m.stays e' a s) (o.stays e' a s));
@@ -369,7 +369,7 @@ module _ (x : Context) (ask : Asks) (result : Result) (n : ℕ) where
 
     while_made : (a b c : ℕ) (e : TypedExpr) (body : List TypedStmt) → MadeTest ws a b e → Rows ws l b c body → Stmt ws l a c (stmt.While e body)
     while_made a b c e body q m = from_stmt ws l a c (stmt.While e body) (step.While e body) (stmt.outs-While e body) (record {
-      overlay = within 2 block_loop (q.placed ⨾ plain (is_zero ∷ instr.BrIf 1 ∷ []) ⨾ m.placed ⨾ plain (instr.Br 0 ∷ []));
+      placed = within 2 block_loop (q.placed ⨾ plain (is_zero ∷ instr.BrIf 1 ∷ []) ⨾ m.placed ⨾ plain (instr.Br 0 ∷ []));
       pins = pins_within 2 block_loop (pins_then q.pins (pins_then (pins_plain b (is_zero ∷ instr.BrIf 1 ∷ [])) (pins_then m.pins (pins_plain c (instr.Br 0 ∷ [])))));
       executes = λ k fit.
           let list : Coded = within 2 block_loop (q.placed ⨾ plain (is_zero ∷ instr.BrIf 1 ∷ []) ⨾ m.placed ⨾ plain (instr.Br 0 ∷ [])) in
@@ -379,7 +379,7 @@ module _ (x : Context) (ask : Asks) (result : Result) (n : ℕ) where
 
     repeat_made : (a b c : ℕ) (body : List TypedStmt) (e : TypedExpr) → Rows ws l a b body → MadeTest ws b c e → Stmt ws l a c (stmt.Repeat body e)
     repeat_made a b c body e m q = from_stmt ws l a c (stmt.Repeat body e) (step.Repeat body e) (stmt.outs-Repeat body e) (record {
-      overlay = within 1 loop (m.placed ⨾ q.placed ⨾ plain (is_zero ∷ instr.BrIf 0 ∷ []));
+      placed = within 1 loop (m.placed ⨾ q.placed ⨾ plain (is_zero ∷ instr.BrIf 0 ∷ []));
       pins = pins_within 1 loop (pins_then m.pins (pins_then q.pins (pins_plain c (is_zero ∷ instr.BrIf 0 ∷ []))));
       executes = λ k fit.
           let list : Coded = within 1 loop (m.placed ⨾ q.placed ⨾ plain (is_zero ∷ instr.BrIf 0 ∷ [])) in
@@ -389,7 +389,7 @@ module _ (x : Context) (ask : Asks) (result : Result) (n : ℕ) where
 
     loop_made : (a b : ℕ) (body : List TypedStmt) → Rows ws true a b body → Stmt ws l a b (stmt.Loop body)
     loop_made a b body m = from_stmt ws l a b (stmt.Loop body) (step.Loop body) (stmt.outs-Loop body) (record {
-      overlay = leaving 1 block_loop (m.placed ⨾ plain (instr.Br 0 ∷ []));
+      placed = leaving 1 block_loop (m.placed ⨾ plain (instr.Br 0 ∷ []));
       pins = pins_leaving 1 block_loop (pins_then m.pins (pins_plain b (instr.Br 0 ∷ [])));
       executes = λ k fit.
           subst (λ (i : ℕ). Executes k F (leaving 1 block_loop (m.placed ⨾ plain (instr.Br 0 ∷ []))) (λ a s. loop_outcome i (rows_do body a) s)) fit.turns (laws.loops k fit.fits.set F m.placed (rows_do body) (m.executes k fit));
@@ -400,7 +400,7 @@ module _ (x : Context) (ask : Asks) (result : Result) (n : ℕ) where
 
     with_made : (a b c : ℕ) (t : Ty) (d : Place) (body : List TypedStmt) → Placed ws a b d t → Rows (ws ++ t ∷ []) l b c body → Stmt ws l a c (stmt.With d body)
     with_made a b c t d body q m = from_stmt ws l a c (stmt.With d body) (step.With d body) (stmt.outs-With d body) (record {
-      overlay = q.placed ⨾ with_address (λ w. plain (instr.LocalSet w ∷ []) ⨾ under w m.placed);
+      placed = q.placed ⨾ with_address (λ w. plain (instr.LocalSet w ∷ []) ⨾ under w m.placed);
       pins = pins_then q.pins (pins_address (λ w. pins_then (pins_plain b (instr.LocalSet w ∷ [])) (pins_under w m.pins)));
       executes = λ k fit. laws.withs k F t q.placed m.placed (locate P ask d) (rows_do body) (q.locates k fit.fits)
           (λ w e c. (pins_under w m.pins).grows (inside k e) c)
@@ -411,7 +411,7 @@ module _ (x : Context) (ask : Asks) (result : Result) (n : ℕ) where
   -- within a LOOP
   exit_made : (ws : List Ty) (a : ℕ) → Stmt ws true a a stmt.Exit
   exit_made ws a = from_stmt ws true a a stmt.Exit step.Exit stmt.outs-Exit (record {
-    overlay = with_setting (λ s. plain (instr.Br s.exit ∷ []));
+    placed = with_setting (λ s. plain (instr.Br s.exit ∷ []));
     pins = pins_setting (λ s. pins_plain a (instr.Br s.exit ∷ []));
     executes = λ k fit. laws.exits k F;
     stays = λ e' a s. cc e';
@@ -471,7 +471,7 @@ module _ (x : Context) (ask : Asks) (result : Result) (n : ℕ) where
   for_made : (ws : List Ty) (l : Bool) (a b c z : ℕ) (d : Place) (t u : TypeNo) (r : Scalar) (start limit : TypedExpr) (by : ℤ) (body : List TypedStmt) → IsCell x.home.types t r → (scalar_at x.home.types t ≡ None → ⊥) → IsControl x d (Cell r)
       → negsuc 2147483647 ≤ℤ by → by ≤ℤ pos 4294967295 → MadeGiven ws a b start t → Expr ws b c limit u → Rows ws l c z body → Stmt ws l a z (stmt.For d t start limit by body)
   for_made ws l a b c z d t u r start limit by body cell ranged control low high q v m = from_stmt ws l a z (stmt.For d t start limit by body) (step.For d t start limit by body) (stmt.outs-For d t start limit by body) (record {
-    overlay = for_code variable t (as_part x ask (expr_part N start) q.placed) (as_part x ask (expr_part N limit) v.placed) by m.placed;
+    placed = for_code variable t (as_part x ask (expr_part N start) q.placed) (as_part x ask (expr_part N limit) v.placed) by m.placed;
     pins = pins_for (place_code N d) variable t (expr_part N start) (expr_part N limit) q.placed v.placed by (rows_code body) m.placed g.pins q.pins v.pins m.pins;
     executes = λ k fit.
         let list : Coded = for_code variable t (as_part x ask (expr_part N start) q.placed) (as_part x ask (expr_part N limit) v.placed) by m.placed in
@@ -509,19 +509,19 @@ module _ (x : Context) (ask : Asks) (result : Result) (n : ℕ) where
 
   -- arms, with their texts placed: their labels are the same
   record MadeArms (ws : List Ty) (l : Bool) (a b : ℕ) (xs : List steps.Arm) (ys : List statements.Arm) : Type 0 where
-    overlay : List steps.Arm
-    count : length overlay ≡ length xs
-    labels : all_labels overlay ≡ all_labels xs
-    targets : (v : ℤ) → target overlay v ≡ target xs v
+    placed : List steps.Arm
+    count : length placed ≡ length xs
+    labels : all_labels placed ≡ all_labels xs
+    targets : (v : ℤ) → target placed v ≡ target xs v
     -- in a chain of tests, and behind a jump
-    tested : (t : ℕ) → Pins a b (all_coded (map (arm_code t) xs)) (all_coded (map (arm_code t) overlay))
-    jumped : (z : ℕ) (inner inner' : Coded) → Pins z a inner inner' → Pins z b (jump_arms xs inner) (jump_arms overlay inner')
-    arms : (k : Scene) → Suited ws k → AreArms k F overlay ys
+    tested : (t : ℕ) → Pins a b (all_coded (map (arm_code t) xs)) (all_coded (map (arm_code t) placed))
+    jumped : (z : ℕ) (inner inner' : Coded) → Pins z a inner inner' → Pins z b (jump_arms xs inner) (jump_arms placed inner')
+    arms : (k : Scene) → Suited ws k → AreArms k F placed ys
     stays : l ≡ false → (v : ℤ) (other : Does) → Stays other → Stays (choose_arm v ys other)
 
   no_arms_made : (ws : List Ty) (l : Bool) (a : ℕ) → MadeArms ws l a a [] []
   no_arms_made ws l a = record {
-    overlay = [];
+    placed = [];
     count = refl;
     labels = refl;
     targets = λ v. refl;
@@ -537,7 +537,7 @@ module _ (x : Context) (ask : Asks) (result : Result) (n : ℕ) where
   more_arms_made : (ws : List Ty) (l : Bool) (a b c : ℕ) (ls : List Label) (y : Coded) (d : Does) (xs : List steps.Arm) (ys : List statements.Arm) → AreLabels ls → MadeStmt ws l a b y d → MadeArms ws l b c xs ys
       → MadeArms ws l a c (record { labels = ls; code = y } ∷ xs) (record { labels = ls; does = d } ∷ ys)
   more_arms_made ws l a b c ls y d xs ys are m ms = record {
-    overlay = record { labels = ls; code = m.placed } ∷ ms.placed;
+    placed = record { labels = ls; code = m.placed } ∷ ms.placed;
     count = ap suc ms.count;
     labels = ap (λ (more : List Label). ls ++ more) ms.labels;
     targets = λ v. ap (λ (i : ℕ). if has_label v (record { labels = ls; code = y }) then 0 else suc i) (ms.targets v);
@@ -602,18 +602,18 @@ module _ (x : Context) (ask : Asks) (result : Result) (n : ℕ) where
 
   case_made : (ws : List Ty) (l : Bool) (a b c : ℕ) (u : TypeNo) (e : TypedExpr) (arms : List TypedArm) → Expr ws a b e u → MadeArms ws l b c (map (armed N) arms) (map (arm_does P ask n) arms) → Stmt ws l a c (stmt.Case e arms None)
   case_made ws l a b c u e arms q m = from_stmt ws l a c (stmt.Case e arms None) (step.Case e arms None) (stmt.outs-Case e arms None) (record {
-    overlay = case_code q.placed m.placed o.placed;
+    placed = case_code q.placed m.placed o.placed;
     pins = case_pins ws l a b c c e u q (map (armed N) arms) (map (arm_does P ask n) arms) m (else_code None) (or_else None) o;
     executes = case_executes ws l a b c c e u q (map (armed N) arms) (map (arm_does P ask n) arms) m (else_code None) (or_else None) o;
     stays = case_stays ws l a b c c e u q (map (armed N) arms) (map (arm_does P ask n) arms) m (else_code None) (or_else None) o;
   })
     where
       o : MadeStmt ws l c c (else_code None) (or_else None)
-      o = record { overlay = else_code None; pins = pins_plain c (fault 5); executes = λ k fit. laws.unlabelled k fit.fits.set F; stays = λ e a s. refl }
+      o = record { placed = else_code None; pins = pins_plain c (fault 5); executes = λ k fit. laws.unlabelled k fit.fits.set F; stays = λ e a s. refl }
 
   case_else_made : (ws : List Ty) (l : Bool) (a b c z : ℕ) (u : TypeNo) (e : TypedExpr) (arms : List TypedArm) (others : List TypedStmt) → Expr ws a b e u → MadeArms ws l b c (map (armed N) arms) (map (arm_does P ask n) arms) → Rows ws l c z others → Stmt ws l a z (stmt.Case e arms (Some others))
   case_else_made ws l a b c z u e arms others q m o = from_stmt ws l a z (stmt.Case e arms (Some others)) (step.Case e arms (Some others)) (stmt.outs-Case e arms (Some others)) (record {
-    overlay = case_code q.placed m.placed o.placed;
+    placed = case_code q.placed m.placed o.placed;
     pins = case_pins ws l a b c z e u q (map (armed N) arms) (map (arm_does P ask n) arms) m (rows_code others) (rows_do others) o;
     executes = case_executes ws l a b c z e u q (map (armed N) arms) (map (arm_does P ask n) arms) m (rows_code others) (rows_do others) o;
     stays = case_stays ws l a b c z e u q (map (armed N) arms) (map (arm_does P ask n) arms) m (rows_code others) (rows_do others) o;

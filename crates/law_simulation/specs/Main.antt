@@ -59,13 +59,13 @@ pub record IsMain (k : Scene) (p : Modules) (ask : Asks) (m : TypedModule) (plac
   pub code : t.function.body.code ≡ enter_code 1 (size body_row) ++ ((coded_main m text).0 ++ [])
   pub addresses : (coded_main m text).1.addresses ≡ addresses_in m.body
   -- the code with its texts where they are
-  pub overlay : Coded
-  pub same : overlay (setting m (body_row ∷ []) 1 (addresses_in m.body)) (from_text text)
+  pub placed : Coded
+  pub same : placed (setting m (body_row ∷ []) 1 (addresses_in m.body)) (from_text text)
       ≡ coded_main m text
   pub executes : IsSet (main_scene k m text base texts (body_environment p place m left))
       → HasFrames (main_scene k m text base texts (body_environment p place m left)) []
       → HasTop (main_scene k m text base texts (body_environment p place m left)) base texts
-      → Executes (main_scene k m text base texts (body_environment p place m left)) false overlay
+      → Executes (main_scene k m text base texts (body_environment p place m left)) false placed
       (body_does p k.turns ask m.body)
 
 -- The function of a body does what its statements do.

@@ -610,7 +610,7 @@ module _ (g : Gathers) (j : Judges g) (lawful : Lawful g j) (exports : ℕ → I
   block_answers = record {
     whole = all_of_it.0;
     in_text = all_of_it.1;
-    report = reports all_of_it.2.1;
+    reported = reports all_of_it.2.1;
     types = all_of_it.2.0.same.types;
     stand = (standings g j exports outside start taken (is_nested start) block knows no_withs all_of_it.2.0, all_stand g j exports outside start taken (is_nested start) block knows no_withs all_of_it.2.0);
     owned = λ outers own owns all. owning g j exports outside start taken (is_nested start) block knows no_withs all_of_it.2.0 outers owns own all;

@@ -109,7 +109,7 @@ module _ (g : Gathers) (ends : List ℕ) (a : Scope g.Reported) (first : ℕ) (b
       let f : is_free (Some k) ≡ true = ap is_free (sym e ∙ same) ∙ later_marks.free name h in
       absurd (unfree k s f)
 
-  settled_block : (name : List ℕ) (k : Known g.Reported) → is_settled k ≡ true → find_name name here.own ≡ Some k → in_block name (record { names = last.own; names_before = before_it }) ≡ Some (k, true)
+  settled_block : (name : List ℕ) (k : Known g.Reported) → is_settled k ≡ true → find_name name here.own ≡ Some k → in_block name (record { names = last.own; seen = before_it }) ≡ Some (k, true)
   settled_block name k s e =
       let first_found = marked_before name k s e (find_name name u.own) refl in
       let in_marks = later_marks.keeps.there name first_found.0 first_found.1 in
@@ -123,7 +123,7 @@ module _ (g : Gathers) (ends : List ℕ) (a : Scope g.Reported) (first : ℕ) (b
   none_marked name e None h = h
   none_marked name e (Some k) h = let t = to_here.keeps.there name k h in absurd (let z : Some t.0 ≡ None = sym t.1 ∙ e in cc)
 
-  absent_block : (name : List ℕ) → find_name name here.own ≡ None → in_block name (record { names = last.own; names_before = before_it }) ≡ None
+  absent_block : (name : List ℕ) → find_name name here.own ≡ None → in_block name (record { names = last.own; seen = before_it }) ≡ None
   absent_block name e =
       let n : find_name name m.own ≡ None = none_marked name e (find_name name m.own) refl in
       let at_end : find_name name last.own ≡ None = whole.others a name n ∙ n in
@@ -133,17 +133,17 @@ module _ (g : Gathers) (ends : List ℕ) (a : Scope g.Reported) (first : ℕ) (b
     abbrev inner : Scope g.Reported
     inner = inwards w before_it
 
-    block_is : (name : List ℕ) → in_block name (record { names = w.own; names_before = before_it }) ≡ in_block name (record { names = last.own; names_before = before_it })
-    block_is name = ap (λ (es : List (List ℕ × Known g.Reported)). in_block name (record { names = es; names_before = before_it })) behind.own
+    block_is : (name : List ℕ) → in_block name (record { names = w.own; seen = before_it }) ≡ in_block name (record { names = last.own; seen = before_it })
+    block_is name = ap (λ (es : List (List ℕ × Known g.Reported)). in_block name (record { names = es; seen = before_it })) behind.own
 
     around_is : (name : List ℕ) → known_outside name w.outer ≡ known_outside name here.outer
     around_is name = ap (λ (bs : List (Block g.Reported)). known_outside name bs) (behind.outer ∙ to_last.outer)
 
-    inner_known : (name : List ℕ) → sight_of name inner ≡ or_outside (in_block name (record { names = last.own; names_before = before_it })) (known_outside name here.outer)
+    inner_known : (name : List ℕ) → sight_of name inner ≡ or_outside (in_block name (record { names = last.own; seen = before_it })) (known_outside name here.outer)
     inner_known name =
-        outside_last name w.outer (record { names = w.own; names_before = before_it }) None
+        outside_last name w.outer (record { names = w.own; seen = before_it }) None
         ∙ ap (λ (o : Sight g.Reported). or_outside o (known_outside name w.outer)) (block_is name)
-        ∙ ap (λ (far : Sight g.Reported). or_outside (in_block name (record { names = last.own; names_before = before_it })) far) (around_is name)
+        ∙ ap (λ (far : Sight g.Reported). or_outside (in_block name (record { names = last.own; seen = before_it })) far) (around_is name)
 
     -- what is known there of a name that is settled, or not the block's
     known_settled : (name : List ℕ) (k : Known g.Reported) → is_settled k ≡ true → find_name name here.own ≡ Some k → sight_of name inner ≡ Some (k, true)

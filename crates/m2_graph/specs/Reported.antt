@@ -55,11 +55,11 @@ pub record IsReportedCycle (modules : List Module) (node : ℕ) (pos : Pos) : Ty
 -- of its imports
 abbrev pub AreCycles : List Module → Option (ℕ × Pos) → Type 0
 AreCycles modules None = (node : ℕ) → ¬ Leads (links modules) node node
-AreCycles modules (Some report_of) = IsReportedCycle modules report_of.0 report_of.1
+AreCycles modules (Some cycle) = IsReportedCycle modules cycle.0 cycle.1
 
 abbrev pub cycle_breaches : Option (ℕ × Pos) → ℕ → List Breach
 cycle_breaches None number = []
-cycle_breaches (Some report_of) number = breach_where (report_of.0 == number) report_of.1 rule.Cycle
+cycle_breaches (Some cycle) number = breach_where (cycle.0 == number) cycle.1 rule.Cycle
 
 -- ---- refusals
 

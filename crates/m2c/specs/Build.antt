@@ -164,7 +164,7 @@ pub record AreUnread (files : List SourceFile) (refusals : List Refusal) : Type 
   pub reads : List Read
   pub are_read : AreRead files reads
   pub some : refused_of files reads ≢ []
-  pub report_of : AreReported (refused_of files reads) refusals
+  pub reported : AreReported (refused_of files reads) refusals
 
 -- each text has a tree, and imports break rules
 abbrev pub AreUngraphed : List SourceFile → Vec Refusal → Type 0
@@ -189,7 +189,7 @@ pub record AreUncompiled (files : List SourceFile) (refusals : List Refusal) : T
   pub graph : HaveGraph files trees numbers all_jobs starts
   pub least : All (λ f. IsLeastReported f.1) trees
   pub some : refused_by trees numbers all_jobs ≢ []
-  pub report_of : AreReported (refused_by trees numbers all_jobs) refusals
+  pub reported : AreReported (refused_by trees numbers all_jobs) refusals
 
 -- the bytes of the variables and texts of a program, and of the least stack that it may have
 abbrev pub data_and_stack : Modules → ℕ
@@ -217,7 +217,7 @@ pub record IsTooLarge (files : List SourceFile) (pages : ℕ) (refusals : List R
   pub program : Modules
   pub typed : AreTyped (modules trees) numbers all_jobs starts program
   pub too_large : 65536 * pages < data_and_stack program
-  pub report_of :
+  pub reported :
       AreReported (reported_at (program_file trees) 1 1 (number_of rule.LargeProgram) ∷ []) refusals
 
 -- No module breaks a rule. Those that are reached are compiled to valid modules, which link and do

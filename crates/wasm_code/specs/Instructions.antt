@@ -173,20 +173,20 @@ ending_of b = if b == 0x0B then Some End else (if b == 0x05 then Some Else else 
 abbrev pub Sequence : Type 0
 Sequence = List Instr × Ending
 
-abbrev pub instr_of : (nested_instruction : ℕ → List ℕ → Reading Instr) → ℕ → List ℕ → Reading Instr
-instr_of nested_instruction b bytes =
-    if opens b then nested_instruction b bytes else plain_of b bytes
+abbrev pub instr_of : (nested : ℕ → List ℕ → Reading Instr) → ℕ → List ℕ → Reading Instr
+instr_of nested b bytes =
+    if opens b then nested b bytes else plain_of b bytes
 
--- at most so many instructions and what ends them, where `opened` reads an instruction that holds
+-- at most so many instructions and what ends them, where `nested` reads an instruction that holds
 -- others
-unfoldable pub sequence : (nested_instruction : ℕ → List ℕ → Reading Instr) (most : ℕ) → List ℕ
+unfoldable pub sequence : (nested : ℕ → List ℕ → Reading Instr) (most : ℕ) → List ℕ
     → Reading Sequence
-sequence nested_instruction zero bytes = Err Malformed
-sequence nested_instruction (suc most) [] = Err Malformed
-sequence nested_instruction (suc most) (b ∷ bytes) = elim (ending_of b) [
+sequence nested zero bytes = Err Malformed
+sequence nested (suc most) [] = Err Malformed
+sequence nested (suc most) (b ∷ bytes) = elim (ending_of b) [
   | Some e ↦ Ok (([], e), bytes)
-  | None ↦ instr_of nested_instruction b bytes >>= λ i.
-      sequence nested_instruction most i.1 >>= λ s.
+  | None ↦ instr_of nested b bytes >>= λ i.
+      sequence nested most i.1 >>= λ s.
       Ok ((i.0 ∷ s.0.0, s.0.1), s.1)
 ]
 

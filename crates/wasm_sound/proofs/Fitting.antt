@@ -178,8 +178,8 @@ module _ (modules : List WModule) (all : All ModuleFits modules) (st : Store) (c
   memory_fits m p e =
       let i = then_some (λ (j : Instance). option_and_then (λ (a : ℕ). option_map (λ (memory : Memory). (a, memory)) (slice_get st.memories a)) (slice_get j.memories 0)) (instance_of st m) p e in
       let a = then_some (λ (a : ℕ). option_map (λ (memory : Memory). (a, memory)) (slice_get st.memories a)) (slice_get i.0.memories 0) p i.2 in
-      let branch_to = map_some (λ (memory : Memory). (a.0, memory)) (slice_get st.memories a.0) p a.2 in
-      subst (λ (q : ℕ × Memory). All IsByte q.1.bytes) branch_to.2 (at (λ (k : Memory). All IsByte k.bytes) st.memories a.0 branch_to.0 store.memories branch_to.1)
+      let memory_at = map_some (λ (memory : Memory). (a.0, memory)) (slice_get st.memories a.0) p a.2 in
+      subst (λ (q : ℕ × Memory). All IsByte q.1.bytes) memory_at.2 (at (λ (k : Memory). All IsByte k.bytes) st.memories a.0 memory_at.0 store.memories memory_at.1)
 
   loads_fit : (a : Activation) (kind : Load) (place : ℕ) (m : ℕ × Memory) → ActivationFits a → All IsByte m.1.bytes → ConfigFits (loads st a callers kind place m).0
   loads_fit a kind place m h g = go (nat_le (place + load_size kind) (length m.1.bytes))

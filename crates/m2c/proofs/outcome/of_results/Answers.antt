@@ -36,7 +36,7 @@ returns-then-not-is_empty c =
           let zero : vec_len rs ≡ 0 = omega (arith, rs.ok.0, ap (λ (xs : List Refusal). length xs) none) in
           let empty : c.is_empty.result ≡ true = c.is_empty.ensures ∙ eq-eqb (vec_len rs) 0 zero in
           absurd (let other = c.if-not-is_empty.true in cc);
-      report_of = (rs.items, all, c.in_ok-in_order.ensures);
+      reported = (rs.items, all, c.in_ok-in_order.ensures);
     })))
 
 pub program-requires-clause-none : goal.program-requires-clause-none
