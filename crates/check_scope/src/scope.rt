@@ -266,7 +266,7 @@ fn with_known(
     name: &[u8],
     known: Known<Breach>,
 ) -> Result<(), AllocError>
-    ensures { OnOk result (scope.new ≡ with_known name.now sight_of scope.old) }
+    ensures { OnOk result (scope.new ≡ with_known name.now known scope.old) }
 {
     scope.own.enter(alloc, name, known)
 }
@@ -396,7 +396,7 @@ pub fn mark(
     name: &Ident,
     known: Known<Breach>,
 ) -> Result<(), AllocError>
-    ensures { OnOk result (scope.new ≡ mark_name name.now sight_of scope.old) }
+    ensures { OnOk result (scope.new ≡ mark_name name.now known scope.old) }
 {
     match scope.own.find(name.name.as_bytes()) {
         Some(_) => Ok(()),
