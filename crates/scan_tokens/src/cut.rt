@@ -1,6 +1,6 @@
 //! Cuts the member at the front of a text.
 
-ghost use Rattle.std.specs.Prelude.{◌≡◌, ◌≤◌, ◌<◌, ◌++◌, ◌↔◌, IfOk, IfErr, IsTrue, OnOk, Some, None, length, vec_len, vec_capacity};
+ghost use Rattle.std.specs.Prelude.{◌≡◌, ◌≤◌, ◌<◌, ◌++◌, ◌↔◌, IfOk, IfErr, IsTrue, OnOk, Some, None, length};
 ghost use Rattle.m2_tree.specs.Limits.{max_name};
 ghost use Rattle.scan_tokens.specs.declared.class.Class.TheVariants as class;
 ghost use Rattle.scan_tokens.specs.declared.refusal.ScanError.TheVariants.{Refused};
@@ -24,22 +24,11 @@ pub struct Cut<'a> {
     pub pos: Pos,
 }
 
-/// Makes room for one more token. It is rarely called, so it stands apart. The only error is that memory ran out.
-#[inline(never)]
-fn make_room(tokens: &mut Vec<Token>) -> Result<(), AllocError>
-    ensures same { tokens.new.items ≡ tokens.old.items }
-    ensures room { OnOk result (vec_len tokens.new < vec_capacity tokens.new) }
-{
-    tokens.reserve(1)
-}
-
 /// Adds a token. The only error is that memory ran out.
 pub fn put(tokens: &mut Vec<Token>, lexeme: Lexeme, pos: Pos) -> Result<(), AllocError>
     ensures { OnOk result (tokens.new.items ≡ tokens.old.items ++ tokens_at pos (Some lexeme)) }
 {
-    if tokens.len() == tokens.capacity() {
-        make_room(tokens)?;
-    }
+    tokens.reserve(1)?;
     tokens.push_reserved(Token { lexeme, pos });
     Ok(())
 }
