@@ -33,7 +33,7 @@ impl Model for Draft {
 }
 
 /// For how many more operations there is room at least, if a list is full. Most functions have more than these.
-const MORE_OPS: usize = 64;
+const MORE_OPS: usize = 32;
 
 /// Makes room for more operations. It is rarely called, so it stands apart.
 #[inline(never)]
