@@ -132,20 +132,14 @@ fn known_in<'a>(scope: &'a Scope<Breach>, name: &[u8]) -> Sight<'a>
     }
 }
 
-fn meaning_copy(means: &Elaborated<Meaning>) -> Result<Elaborated<Meaning>, AllocError>
-    ensures { IfOk result (λ m. m ≡ means.now) }
-{
-    match means {
-        Err(breach) => Ok(Err(*breach)),
-        Ok(meaning) => Ok(Ok(meaning.copy()?)),
-    }
-}
-
 /// What a declaration says of a name.
 fn declared_means(means: &Elaborated<Meaning>) -> Result<Sought<Meaning>, AllocError>
     ensures { IfOk result (λ m. m ≡ plain means.now) }
 {
-    Ok(plain(meaning_copy(means)?))
+    match means {
+        Err(breach) => Ok(Err(Meaningless::Broken(*breach))),
+        Ok(meaning) => Ok(Ok(meaning.copy()?)),
+    }
 }
 
 /// What a heading says of a procedure.
