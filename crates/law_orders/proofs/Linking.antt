@@ -202,8 +202,8 @@ module _ (p : Program) (pages : ℕ) (trees : List WModule) (le : 1 ≤ pages) (
   abbrev places_of : List ℕ
   places_of = own_places p b.name ++ imported_places p (imported_names b)
 
-  abbrev there : Store
-  there = store_with p pages fs old_slots old_bytes instances
+  abbrev begun_with : Store
+  begun_with = store_with p pages fs old_slots old_bytes instances
 
   -- the module's functions, slots and bytes are these
   abbrev state : (m : ℕ) → List (Option ℕ) → List ℕ → Linked
@@ -234,19 +234,19 @@ module _ (p : Program) (pages : ℕ) (trees : List WModule) (le : 1 ≤ pages) (
       (rw (text_value, bytes_fit (c ∷ cs) many) (ap (λ (s : List ℕ). Ok (state m new_slots s)) (bytes_pasted (c ∷ cs) many))) (step_none with_segment after)
 
   -- imports alone
-  abbrev got : Instance
-  got = record { functions = 0 ∷ 1 ∷ []; tables = 0 ∷ []; memories = 0 ∷ []; globals = places_of }
+  abbrev host_only : Instance
+  host_only = record { functions = 0 ∷ 1 ∷ []; tables = 0 ∷ []; memories = 0 ∷ []; globals = places_of }
 
-  all_there : (m : ℕ) → with_functions m 0 (functions b) (record { store = there; instance = got }) ≡ state m old_slots old_bytes
-  all_there m = functions_added m 0 (functions b) (record { store = there; instance = got })
+  all_there : (m : ℕ) → with_functions m 0 (functions b) (record { store = begun_with; instance = host_only }) ≡ state m old_slots old_bytes
+  all_there m = functions_added m 0 (functions b) (record { store = begun_with; instance = host_only })
 
   pub body_linked : (m : ℕ) → length old_bytes ≡ 65536 * pages → All (IsAmong (names p)) (imported_names b)
-      → linked_one (typed_link p pages ∷ trees) m (typed_module b) there ≡ Ok (store_with p pages (fs ++ own_from m 0 (count b)) new_slots (blank (text b)) (instances ++ module_instance p address b ∷ []))
+      → linked_one (typed_link p pages ∷ trees) m (typed_module b) begun_with ≡ Ok (store_with p pages (fs ++ own_from m 0 (count b)) new_slots (blank (text b)) (instances ++ module_instance p address b ∷ []))
   body_linked m size among =
       let own : IsAmong (names p) b.name = subst (λ (q : Program). IsAmong (names q) b.name) (sym is) (own_among before rest b) in
       let half : Linked = state m old_slots old_bytes in
       let slotted : Linked = state m new_slots old_bytes in
       let last : Linked = state m new_slots (blank (text b)) in
-      linked_by (typed_link p pages ∷ trees) m (typed_module b) there got half half half slotted last (body_imported p pages trees b le fs old_slots old_bytes instances size own among)
-      (step_none _ (with_functions m 0 (functions b) (record { store = there; instance = got })) ∙ ap Ok (all_there m)) (step_none _ half) (step_none _ half)
+      linked_by (typed_link p pages ∷ trees) m (typed_module b) begun_with host_only half half half slotted last (body_imported p pages trees b le fs old_slots old_bytes instances size own among)
+      (step_none _ (with_functions m 0 (functions b) (record { store = begun_with; instance = host_only })) ∙ ap Ok (all_there m)) (step_none _ half) (step_none _ half)
       (step_on with_element element [] half slotted (Ok slotted) (slot_filled m) (step_none with_element slotted)) (text_placed m (text b) (text_length (module_texts b)))

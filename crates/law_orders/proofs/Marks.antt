@@ -159,11 +159,11 @@ get_more [] ys i x e = absurd cc
 get_more (y ∷ xs) ys zero x e = e
 get_more (y ∷ xs) ys (suc i) x e = get_more xs ys i x e
 
-get_behind : {A : Type 0} (xs ys : List A) (i : ℕ) → slice_get (xs ++ ys) (length xs + i) ≡ slice_get ys i
+pub get_behind : {A : Type 0} (xs ys : List A) (i : ℕ) → slice_get (xs ++ ys) (length xs + i) ≡ slice_get ys i
 get_behind [] ys i = ap (slice_get ys) (omega arith)
 get_behind (x ∷ xs) ys i = let e : suc (length xs) + i ≡ suc (length xs + i) = omega arith in ap (slice_get (x ∷ (xs ++ ys))) e ∙ get_behind xs ys i
 
-own_at : (m first n i : ℕ) → i < n → slice_get (own_from m first n) i ≡ Some (Own m (first + i))
+pub own_at : (m first n i : ℕ) → i < n → slice_get (own_from m first n) i ≡ Some (Own m (first + i))
 own_at m first zero i lt = absurd (omega (arith, lt))
 own_at m first (suc n) zero lt = ap (λ (k : ℕ). Some (Own m k)) (omega arith)
 own_at m first (suc n) (suc i) lt = own_at m (suc first) n i (omega (arith, lt)) ∙ ap (λ (k : ℕ). Some (Own m k)) (omega arith)

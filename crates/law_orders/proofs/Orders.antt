@@ -42,11 +42,6 @@ past (x ∷ xs) [] k l e = absurd (omega (arith, l))
 past (x ∷ xs) (y ∷ ys) zero l e = absurd cc
 past (x ∷ xs) (y ∷ ys) (suc k) l e = past xs ys k (omega (arith, l)) e
 
-numbers_past : (a n j : ℕ) → nat_lt j n ≡ false → slice_get (numbers_from a n) j ≡ None
-numbers_past a zero j e = refl
-numbers_past a (suc n) zero e = absurd cc
-numbers_past a (suc n) (suc j) e = numbers_past (suc a) n j e
-
 order_length : (p q : Program) → IsOrder p q → length q ≡ length p
 order_length _ _ NoModules = refl
 order_length _ _ (OneModule before rest q b o) =
@@ -130,7 +125,7 @@ number_past [] k n e = refl
 number_past (x ∷ ms) zero n e = absurd cc
 number_past (x ∷ ms) (suc k) n e = number_past ms k n e
 
-number_in : Marks → ℕ → ℕ
+pub number_in : Marks → ℕ → ℕ
 number_in ms zero = zero
 number_in ms (suc k) = suc (number_from ms k k)
 
@@ -139,30 +134,39 @@ number_in ms (suc k) = suc (number_from ms k k)
 own_callee : (m n index : ℕ) → Option Callee
 own_callee m n zero = Some Put
 own_callee m n (suc zero) = Some Stop
-own_callee m n (suc (suc j)) = if nat_lt j n then Some (Own m j) else None
+own_callee m n (suc (suc j)) = slice_get (own_from m 0 n) j
+
+row_is : (fs : List Callee) (m n first a : ℕ) → ((i : ℕ) → i < n → slice_get (behind_host fs) (a + i) ≡ Some (Own m (first + i))) → (j : ℕ) → option_and_then (λ x. slice_get (behind_host fs) x) (slice_get (numbers_from a n) j) ≡ slice_get (own_from m first n) j
+row_is fs m zero first a f j = refl
+row_is fs m (suc n) first a f zero =
+    let e : a ≡ a + 0 = omega arith in let g : first + 0 ≡ first = omega arith in
+    ap (slice_get (behind_host fs)) e ∙ f 0 (omega arith) ∙ ap (λ (k : ℕ). Some (Own m k)) g
+row_is fs m (suc n) first a f (suc j) =
+    row_is fs m n (suc first) (suc a) (λ i lt.
+    let e : suc a + i ≡ a + suc i = omega arith in let g : first + suc i ≡ suc first + i = omega arith in
+    ap (slice_get (behind_host fs)) e ∙ f (suc i) (omega (arith, lt)) ∙ ap (λ (k : ℕ). Some (Own m k)) g) j
+
+row_renumbered : (number : ℕ → ℕ) (m n first j : ℕ) → slice_get (own_from (number m) first n) j ≡ option_map (renumbered number) (slice_get (own_from m first n) j)
+row_renumbered number m zero first j = refl
+row_renumbered number m (suc n) first zero = refl
+row_renumbered number m (suc n) first (suc j) = row_renumbered number m n (suc first) j
 
 module _ (p : Program) (pages : ℕ) (fs : List Callee) (ss : List (Option ℕ)) (bytes : List ℕ) (is : List Instance) (trees : List WModule) (b : TypedModule) (a m : ℕ) (placed : IsPlaced p fs is trees b a m) where
   callee_is : (index : ℕ) → callee_at (store_with p pages fs ss bytes is) (suc m) index ≡ own_callee (suc m) (count b) index
   unfolding own_callee
   callee_is index = ap (λ (o : Option Instance). option_and_then (λ (i : Instance). option_and_then (λ x. slice_get (behind_host fs) x) (slice_get i.functions index)) o) placed.instance ∙ by index
     where
-      own : (j : ℕ) (t : Bool) → nat_lt j (count b) ≡ t → option_and_then (λ x. slice_get (behind_host fs) x) (slice_get (numbers_from a (count b)) j) ≡ (if t then Some (Own (suc m) j) else None)
-      own j true e = ap (option_and_then (λ x. slice_get (behind_host fs) x)) (number_at a (count b) j (ltb-true j (count b) e)) ∙ placed.functions j (ltb-true j (count b) e)
-      own j false e = ap (option_and_then (λ x. slice_get (behind_host fs) x)) (numbers_past a (count b) j e)
-
       by : (index : ℕ) → option_and_then (λ x. slice_get (behind_host fs) x) (slice_get (0 ∷ 1 ∷ numbers_from a (count b)) index) ≡ own_callee (suc m) (count b) index
       by zero = refl
       by (suc zero) = refl
-      by (suc (suc j)) = own j (nat_lt j (count b)) refl
+      by (suc (suc j)) =
+          row_is fs (suc m) (count b) 0 a (λ i lt. placed.functions i lt ∙ (let e : i ≡ 0 + i = omega arith in ap (λ (k : ℕ). Some (Own (suc m) k)) e)) j
 
 own_renumbered : (number : ℕ → ℕ) (m n index : ℕ) → own_callee (number m) n index ≡ option_map (renumbered number) (own_callee m n index)
 unfolding own_callee
 own_renumbered number m n zero = refl
 own_renumbered number m n (suc zero) = refl
-own_renumbered number m n (suc (suc j)) = by (nat_lt j n) where
-  by : (t : Bool) → (if t then Some (Own (number m) j) else None) ≡ option_map (renumbered number) (if t then Some (Own m j) else None)
-  by true = refl
-  by false = refl
+own_renumbered number m n (suc (suc j)) = row_renumbered number m n 0 j
 
 -- the function in a slot
 abbrev in_row : List Callee → List (Option ℕ) → (slot : ℕ) → Option Callee
@@ -193,7 +197,7 @@ module _ (p : Program) (pages : ℕ) (fs gs : List Callee) (is js : List Instanc
     m₂ : ℕ
     one : IsPlaced p fs is trees home a₁ k
     two : IsPlaced p gs js others home a₂ m₂
-    is : number_from all_marks k k ≡ m₂
+    same : number_from all_marks k k ≡ m₂
 
   -- the marks from a place on
   abbrev FromHere : Marks → ℕ → Type 0
@@ -216,7 +220,7 @@ module _ (p : Program) (pages : ℕ) (fs gs : List Callee) (is js : List Instanc
       let same : d ≡ c = cc in
       let z : m + 0 ≡ m = omega arith in
       subst (λ (i : ℕ). BothAt i) (sym z)
-      (record { home = c; a₁ = a; a₂ = w.0; m₂ = w.1; one = h.0; two = subst (λ (x : TypedModule). IsPlaced p gs js others x w.0 w.1) same g.0; is = mark_here d w ms m t })
+      (record { home = c; a₁ = a; a₂ = w.0; m₂ = w.1; one = h.0; two = subst (λ (x : TypedModule). IsPlaced p gs js others x w.0 w.1) same g.0; same = mark_here d w ms m t })
   both_at (c ∷ bs) ((d, Some w) ∷ ms) a m e l h g t (suc k) b at =
       let rest : homes ms ≡ bs = cc in
       let z : m + suc k ≡ suc m + k = omega arith in
@@ -226,7 +230,7 @@ module _ (p : Program) (pages : ℕ) (fs gs : List Callee) (is js : List Instanc
 
   slots_alike : (bs : Program) (ms : Marks) (a m : ℕ) → homes ms ≡ bs → left ms ≡ [] → AllMarked p fs is trees (marks_from a m bs) → AllMarked p gs js others ms → FromHere ms m
       → (slot : ℕ) → in_row gs (marked_slots ms) slot ≡ option_map (renumbered number) (in_row fs (table_slots a bs) slot)
-  unfolding marks_from
+  unfolding marks_from number_in
   slots_alike [] [] a m e l h g t slot = refl
   slots_alike [] (x ∷ ms) a m e l h g t slot = absurd cc
   slots_alike (c ∷ bs) [] a m e l h g t slot = absurd cc
@@ -240,7 +244,6 @@ module _ (p : Program) (pages : ℕ) (fs gs : List Callee) (is js : List Instanc
       (slots_alike bs ms (a + count c) (suc m) rest l h.1 g.1 (from_next (d, Some w) ms m t)) slot)
     where
       one : (i : ℕ) → i < slots c → IsPlaced p gs js others c w.0 w.1 → number_from all_marks m m ≡ w.1 → slice_get (behind_host gs) (w.0 + 5 + i) ≡ option_map (renumbered number) (slice_get (behind_host fs) (a + 5 + i))
-      unfolding number_in
       one i lt two q =
           let within : 5 + i < count c = (let n = enough c in omega (arith, n, lt)) in
           let x : w.0 + 5 + i ≡ w.0 + (5 + i) = omega arith in
@@ -276,7 +279,7 @@ module _ (p : Program) (pages spare : ℕ) (room : bytes_in p + spare ≡ 65536 
   unfolding linked_one each
   first_alike = refl
 
-  rest_linked : (result : Store) × (linked_from (all_in p pages q) 1 trees start ≡ Ok result) × AllLinked p pages spare trees result
+  pub rest_linked : (result : Store) × (linked_from (all_in p pages q) 1 trees start ≡ Ok result) × AllLinked p pages spare trees result
   rest_linked =
       order_linked p pages spare room le distinct trees q p o [] [] (unmarked p) (left_unmarked p) (homes_unmarked p) (none_marked p (Own 0 0 ∷ []) [] trees p) [] refl refl
       (order_all (λ b. All (IsAmong (names p)) (imported_names b)) p q o among)
@@ -376,7 +379,7 @@ module _ (p : Program) (pages spare : ℕ) (room : bytes_in p + spare ≡ 65536 
   trees_alike zero = refl
   trees_alike (suc k) = by (found k) where
     by : Found k → slice_get trees (number_from l.marks k k) ≡ slice_get (map typed_module p) k
-    by (InBoth x) = ap (slice_get trees) x.is ∙ x.two.tree ∙ sym x.one.tree
+    by (InBoth x) = ap (slice_get trees) x.same ∙ x.two.tree ∙ sym x.one.tree
     by (InNone x) = ap (slice_get trees) x.same ∙ x.tree' ∙ sym x.tree
 
   functions_alike : (m index : ℕ) → callee_at new (σ m) index ≡ option_map (renumbered σ) (callee_at old m index)
@@ -386,8 +389,8 @@ module _ (p : Program) (pages spare : ℕ) (room : bytes_in p + spare ≡ 65536 
   functions_alike (suc k) index = by (found k) where
     by : Found k → callee_at new (σ (suc k)) index ≡ option_map (renumbered σ) (callee_at old (suc k) index)
     by (InBoth x) =
-        ap (λ (n : ℕ). callee_at new (suc n) index) x.is ∙ callee_is p pages gs (marked_slots l.marks) bytes l.instances trees x.home x.a₂ x.m₂ x.two index
-        ∙ ap (λ (n : ℕ). own_callee (suc n) (count x.home) index) (sym x.is) ∙ own_renumbered σ (suc k) (count x.home) index
+        ap (λ (n : ℕ). callee_at new (suc n) index) x.same ∙ callee_is p pages gs (marked_slots l.marks) bytes l.instances trees x.home x.a₂ x.m₂ x.two index
+        ∙ ap (λ (n : ℕ). own_callee (suc n) (count x.home) index) (sym x.same) ∙ own_renumbered σ (suc k) (count x.home) index
         ∙ sym (ap (option_map (renumbered σ)) (callee_is p pages fs ss bytes is (map typed_module p) x.home x.a₁ k x.one index))
     by (InNone x) =
         ap (λ (n : ℕ). callee_at new (suc n) index) x.same ∙ none gs l.instances x.two ∙ sym (ap (option_map (renumbered σ)) (none fs is x.one))
@@ -412,7 +415,7 @@ module _ (p : Program) (pages spare : ℕ) (room : bytes_in p + spare ≡ 65536 
   slots_are (suc k) slot = by (found k) where
     by : Found k → through gs (marked_slots l.marks) slot (slice_get l.instances (number_from l.marks k k)) ≡ option_map (renumbered σ) (through fs ss slot (slice_get is k))
     by (InBoth x) =
-        ap (through gs (marked_slots l.marks) slot) (ap (slice_get l.instances) x.is ∙ x.two.instance) ∙ rows_alike slot ∙ sym (ap (λ (i : Option Instance). option_map (renumbered σ) (through fs ss slot i)) x.one.instance)
+        ap (through gs (marked_slots l.marks) slot) (ap (slice_get l.instances) x.same ∙ x.two.instance) ∙ rows_alike slot ∙ sym (ap (λ (i : Option Instance). option_map (renumbered σ) (through fs ss slot i)) x.one.instance)
     by (InNone x) =
         ap (through gs (marked_slots l.marks) slot) (ap (slice_get l.instances) x.same ∙ x.two) ∙ sym (ap (λ (i : Option Instance). option_map (renumbered σ) (through fs ss slot i)) x.one)
 
@@ -424,7 +427,7 @@ module _ (p : Program) (pages spare : ℕ) (room : bytes_in p + spare ≡ 65536 
   globals_are zero index = refl
   globals_are (suc k) index = by (found k) where
     by : Found k → global_of index (slice_get l.instances (number_from l.marks k k)) ≡ global_of index (slice_get is k)
-    by (InBoth x) = ap (global_of index) (ap (slice_get l.instances) x.is ∙ x.two.instance) ∙ sym (ap (global_of index) x.one.instance)
+    by (InBoth x) = ap (global_of index) (ap (slice_get l.instances) x.same ∙ x.two.instance) ∙ sym (ap (global_of index) x.one.instance)
     by (InNone x) = ap (global_of index) (ap (slice_get l.instances) x.same ∙ x.two) ∙ sym (ap (global_of index) x.one)
 
   abbrev memory_in : List Memory → Option Instance → Option (ℕ × Memory)
@@ -435,7 +438,7 @@ module _ (p : Program) (pages spare : ℕ) (room : bytes_in p + spare ≡ 65536 
   memories_are zero ms = refl
   memories_are (suc k) ms = by (found k) where
     by : Found k → memory_in ms (slice_get l.instances (number_from l.marks k k)) ≡ memory_in ms (slice_get is k)
-    by (InBoth x) = ap (memory_in ms) (ap (slice_get l.instances) x.is ∙ x.two.instance) ∙ sym (ap (memory_in ms) x.one.instance)
+    by (InBoth x) = ap (memory_in ms) (ap (slice_get l.instances) x.same ∙ x.two.instance) ∙ sym (ap (memory_in ms) x.one.instance)
     by (InNone x) = ap (memory_in ms) (ap (slice_get l.instances) x.same ∙ x.two) ∙ sym (ap (memory_in ms) x.one)
 
   pub alike_so : AreAlike σ (all p pages) (all_in p pages q) old new

@@ -14,19 +14,23 @@ use Rattle.wasm_tree.specs.declared.store.Callee.TheVariants.{Put, Stop, Own}
 use Rattle.wasm_tree.specs.declared.store.Memory.{Memory}
 use Rattle.wasm_tree.specs.declared.store.Store.{Store}
 use Rattle.wasm_tree.specs.Numbers.{load_size, store_bytes}
-use Rattle.wasm_tree.specs.Machine
-use Rattle.wasm_tree.specs.Machine.{Label, Activation, Config, Going, Over, Trapped, Progress, trap_now, split_last, split_end, topmost, top_i32, top_i64, or_trap, callee_at, callee_in, global_at, memory_of, Typed, own_function, type_at, callee_type, agree, enter_function, stop_with, call_function, call_typed, push_value, return_to, inside, branch_to, branch_by, branched_if, with_local, bytes_at, paste_items, loads, stores, calculation, results_of, side, begun_layer, begin_instruction, end_block, next, reduce, run}
+use Rattle.wasm_tree.specs.Machine.{Label, Activation, Config, Going, Over, Trapped, Progress, trap_now, split_last, split_end, topmost, top_i32, top_i64, or_trap, callee_at, callee_in, global_at, memory_of, Typed, own_function, type_at, callee_type, agree, enter_function, stop_with, call_function, call_typed, push_value, return_to, inside, keep_operands, branch_to, branch_by, branched_if, with_local, bytes_at, paste_items, loads, stores, calculation, results_of, side, begun_layer, begin_instruction, end_block, next, reduce, run}
 use Rattle.law_orders.specs.Renumbered.{renumbered, moved, AreAlike, SameConfig, BothGo, BothEnd, BothTrap, SameProgress, RunsAreAlike}
 
 map_end : {A B : Type 0} (f : A → B) (xs : List A) (x : A) → map f (xs ++ x ∷ []) ≡ map f xs ++ f x ∷ []
 map_end f [] x = refl
-map_end f (y ∷ xs) x = ap (λ (ys : List _). f y ∷ ys) (map_end f xs x)
+map_end {B = B} f (y ∷ xs) x = ap (λ (ys : List B). f y ∷ ys) (map_end f xs x)
 
-split_mapped : {A B : Type 0} (f : A → B) (xs : List A) → split_last (map f xs) ≡ option_map {U = List B × B} (λ p. (map f p.0, f p.1)) (split_last xs)
+abbrev both_mapped : {A B : Type 0} → (A → B) → List A × A → List B × B
+both_mapped f p = (map f p.0, f p.1)
+
+split_mapped : {A B : Type 0} (f : A → B) (xs : List A) → split_last (map f xs) ≡ option_map (both_mapped f) (split_last xs)
 split_mapped f [] = refl
-split_mapped {A = A} {B = B} f (x ∷ xs) = ap (λ (o : Option (List B × B)). elim o [ None ↦ Some ([], f x) | Some p ↦ Some (f x ∷ p.0, p.1) ]) (split_mapped f xs) ∙ by (split_last xs) where
-  by : (o : Option (List A × A)) → elim (option_map {U = List B × B} (λ p. (map f p.0, f p.1)) o) [ None ↦ Some ([], f x) | Some p ↦ Some (f x ∷ p.0, p.1) ]
-      ≡ option_map {U = List B × B} (λ p. (map f p.0, f p.1)) (elim o [ None ↦ Some ([], x) | Some p ↦ Some (x ∷ p.0, p.1) ])
+split_mapped {A = A} {B = B} f (x ∷ xs) = ap (λ (o : Option (List B × B)). front_first o) (split_mapped f xs) ∙ by (split_last xs) where
+  front_first : Option (List B × B) → Option (List B × B)
+  front_first o = elim o [ None ↦ Some ([], f x) | Some p ↦ Some (f x ∷ p.0, p.1) ]
+
+  by : (o : Option (List A × A)) → front_first (option_map (both_mapped f) o) ≡ option_map (both_mapped f) (elim o [ None ↦ Some ([], x) | Some p ↦ Some (x ∷ p.0, p.1) ])
   by None = refl
   by (Some p) = refl
 
@@ -55,7 +59,7 @@ module _ (number : ℕ → ℕ) (modules others : List WModule) (st new : Store)
 
   -- what stands for the same is found
   or_is : {A : Type 0} (o q : Option A) (f g : A → Progress) → q ≡ o → ((x : A) → P (f x) (g x)) → P (or_trap o f) (or_trap q g)
-  or_is o q f g e k = subst (λ (q : Option _). P (or_trap o f) (or_trap q g)) (sym e) (or_same o f g k)
+  or_is {A = A} o q f g e k = subst (λ (q : Option A). P (or_trap o f) (or_trap q g)) (sym e) (or_same o f g k)
 
   or_callee : (o q : Option Callee) (f g : Callee → Progress) → q ≡ option_map (renumbered number) o → ((x : Callee) → P (f x) (g (renumbered number x))) → P (or_trap o f) (or_trap q g)
   or_callee o q f g e k = subst (λ (q : Option Callee). P (or_trap o f) (or_trap q g)) (sym e) (by o) where
@@ -88,7 +92,7 @@ module _ (number : ℕ → ℕ) (modules others : List WModule) (st new : Store)
         (by (split_last callers))
       where
         by : (o : Option (List Activation × Activation)) → P (elim o [ None ↦ (Over 0, []) | Some p ↦ (Going (old_at ms) (record p.1 { stack = p.1.stack ++ results }) p.0, []) ])
-            (elim (option_map {U = List Activation × Activation} (λ p. (all_moved p.0, moved number p.1)) o) [ None ↦ (Over 0, []) | Some p ↦ (Going (new_at ms) (record p.1 { stack = p.1.stack ++ results }) p.0, []) ])
+            (elim (option_map (both_mapped (moved number)) o) [ None ↦ (Over 0, []) | Some p ↦ (Going (new_at ms) (record p.1 { stack = p.1.stack ++ results }) p.0, []) ])
         by None = record { config = BothEnd 0; printed = refl }
         by (Some p) = go ms (record p.1 { stack = p.1.stack ++ results }) p.0 []
 
@@ -115,7 +119,7 @@ module _ (number : ℕ → ℕ) (modules others : List WModule) (st new : Store)
 
     branches_to : (now : Activation) (callers : List Activation) (o : Option (List Label × Label)) → P (branch_to (old_at ms) now callers o) (branch_to (new_at ms) (moved number now) (all_moved callers) o)
     branches_to now callers None = or_same (split_end now.arity now.stack) _ _ (λ p. returns callers p.1)
-    branches_to now callers (Some l) = or_same (split_end l.1.arity now.stack) _ _ (λ p. go ms (record now { labels = l.0; rest = l.1.again; stack = Machine.keep_operands l.1.height p }) callers [])
+    branches_to now callers (Some l) = or_same (split_end l.1.arity now.stack) _ _ (λ p. go ms (record now { labels = l.0; rest = l.1.again; stack = keep_operands l.1.height p }) callers [])
 
     branches_by : (now : Activation) (callers : List Activation) (label : ℕ) → P (branch_by (old_at ms) now callers label) (branch_by (new_at ms) (moved number now) (all_moved callers) label)
     branches_by now callers label = if_same (nat_le label (length now.labels)) _ _ _ _ (branches_to now callers (split_last (take (length now.labels - label) now.labels))) both_trap
