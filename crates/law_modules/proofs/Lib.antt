@@ -15,6 +15,6 @@ mod Names
 pub mod LinkModule
 pub mod Modules
 pub mod Stores
-mod Links
+pub mod Links
 pub mod Placed
 pub mod Known

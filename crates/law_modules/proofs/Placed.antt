@@ -61,7 +61,7 @@ own_among (x ∷ before) rest b = by (bytes_eq x.name b.name) refl (own_among be
     by false e h = rw e h
 
 -- functions are added one by one
-functions_added : (m first : ℕ) (fs : List Function) (l : Linked)
+pub functions_added : (m first : ℕ) (fs : List Function) (l : Linked)
     → with_functions m first fs l ≡ record {
       store = record l.store { functions = l.store.functions ++ own_from m first (length fs) };
       instance = record l.instance { functions = l.instance.functions ++ numbers_from (length l.store.functions) (length fs) };
@@ -102,7 +102,7 @@ paste_part {A = A} (x ∷ front) part back new e =
     let i : suc (length front) + length new ≡ suc (length front + length new) = omega arith in
     ap (λ (n : ℕ). (take (suc (length front)) (x ∷ (front ++ (part ++ back))) ++ new) ++ drop n (x ∷ (front ++ (part ++ back)))) i ∙ ap (λ (r : List A). x ∷ r) (paste_part front part back new e)
 
-paste_at : {A : Type 0} (xs front part back new : List A) (n : ℕ) → xs ≡ front ++ (part ++ back) → n ≡ length front → length part ≡ length new → paste_items xs n new ≡ front ++ (new ++ back)
+pub paste_at : {A : Type 0} (xs front part back new : List A) (n : ℕ) → xs ≡ front ++ (part ++ back) → n ≡ length front → length part ≡ length new → paste_items xs n new ≡ front ++ (new ++ back)
 paste_at xs front part back new n is at e = ap (λ (ys : List _). paste_items ys n new) is ∙ ap (λ (m : ℕ). paste_items (front ++ (part ++ back)) m new) at ∙ paste_part front part back new e
 
 -- ---- the functions of a module
@@ -124,7 +124,7 @@ number_at a (suc n) zero lt = ap Some (omega arith)
 number_at a (suc n) (suc k) lt = number_at (suc a) n k (omega (arith, lt)) ∙ ap Some (omega arith)
 
 -- the addresses of functions in a row
-addresses_are : (i : Instance) (a all n k : ℕ) → i.functions ≡ 0 ∷ 1 ∷ numbers_from a all → k + n ≤ all → addresses i (range_with_len (2 + k) n) ≡ Some (somes_from (a + k) n)
+pub addresses_are : (i : Instance) (a all n k : ℕ) → i.functions ≡ 0 ∷ 1 ∷ numbers_from a all → k + n ≤ all → addresses i (range_with_len (2 + k) n) ≡ Some (somes_from (a + k) n)
 addresses_are i a all zero k is le = refl
 addresses_are i a all (suc n) k is le =
     let here : slice_get i.functions (2 + k) ≡ Some (a + k) = (let e : 2 + k ≡ suc (suc k) = omega arith in ap (λ (fs : List ℕ). slice_get fs (2 + k)) is ∙ ap (λ (j : ℕ). slice_get (0 ∷ 1 ∷ numbers_from a all) j) e ∙ number_at a all k (omega (arith, le))) in
@@ -320,13 +320,13 @@ module _ (p : Program) (pages spare : ℕ) (room : bytes_in p + spare ≡ 65536 
       let next : suc m ≡ 1 + length (before ++ b ∷ []) = omega (arith, e, length-append before (b ∷ [])) in
       rw here (bodies_linked (before ++ b ∷ []) rest (is ∙ sym (append_assoc before (b ∷ []) rest)) (suc m) next (All-tail (λ b. All (IsAmong (names p)) (imported_names b)) b rest among))
 
-  all_linked : All (λ b. All (IsAmong (names p)) (imported_names b)) p → linked_from (all p pages) 0 (all p pages) host_store ≡ Ok (store p pages spare p [])
+  pub all_linked : All (λ b. All (IsAmong (names p)) (imported_names b)) p → linked_from (all p pages) 0 (all p pages) host_store ≡ Ok (store p pages spare p [])
   unfolding linked_from
   all_linked among = rw (first_linked p pages spare room) (bodies_linked [] p refl 1 refl among)
 
 -- ---- run
 
-run_found : (g : ℕ) (p : Program) → is_named (codes "run") (exports_from g (map part_of p) ++ run_export ∷ []) ≡ Some (exported.Function 0)
+pub run_found : (g : ℕ) (p : Program) → export_named (codes "run") (exports_from g (map part_of p) ++ run_export ∷ []) ≡ Some (exported.Function 0)
 run_found g [] = refl
 run_found g (b ∷ bs) = run_found (g + 3) bs
 

@@ -21,6 +21,7 @@ use Rattle.law_simulation.specs.StmtsTyped.{AreStmts}
 use Rattle.law_simulation.specs.TreesTyped.{Context}
 use Rattle.law_simulation.specs.Linked as linked
 use Rattle.law_simulation.specs.Linked.{Spot, context}
+use Rattle.law_modules.specs.There.{are_types}
 use Rattle.law_nothing_missing.specs.Worlds.{World}
 use Rattle.law_nothing_missing.specs.Calls as strict
 use Rattle.law_nothing_missing.specs.Calls.{all_suit, copies_of, calling as strict_calling}
@@ -61,7 +62,11 @@ module _ (p : Modules) (lacking n : ℕ) (base : List Ty) (texts : Location → 
   abbrev pub AreKnown : Type 0
   AreKnown = (place : ℕ) (m : TypedModule) → slice_get p place ≡ Some m → (kinds : List Kinds) (world : World) → HasBase p world → Knows (context p base texts place m kinds) world
 
-  module _ (typed : AreTyped) (known : AreKnown) where
+  -- the types of the variables of procedures are there
+  abbrev pub AreKept : Type 0
+  AreKept = (o : Spot p) → are_types o.home.types o.routine.variables ≡ true
+
+  module _ (typed : AreTyped) (known : AreKnown) (kept : AreKept) where
     -- one call, where those in its body are the same
     call_same : (d : ℕ) (o : Spot p) (frames : Frames) (world : World) → HasBase p world → AreFrames world (linked.environment_of o.home o.routine) frames
         → ((w : World) → HasBase p w → AllSame p w (strict_calling lacking p n d w) (calling p n d))
@@ -91,8 +96,11 @@ module _ (p : Modules) (lacking n : ℕ) (base : List Ty) (texts : Location → 
         let t = typed o in
         let body = stmts_same (context_of o) lacking w (strict_calling lacking p n d w) (calling p n d) (known o.place m o.there (kinds_of m.types r ∷ linked.environment_of m r) w there) (below w there) result (is_function m.types r) kind n
         [] false t.0 t.1 r.body t.2 a fit (record st { store = e.store }) q.fine in
-        let fresh : (nat_eq (length world) (length world) && all_suit m.types world fs vs) ≡ true = ap (λ (b : Bool). b && all_suit m.types world fs vs) (eq-eqb (length world) (length world) refl) ∙ all_given_suit p m.types world fs vs given in
-        same_provided p world lacking (nat_eq (length world) (length world) && all_suit m.types world fs vs) (strict.runs_with lacking p n (strict_calling lacking p n d) world c vs (length world) left) st fresh
+        let fresh : (nat_eq (length world) (length world) && all_suit m.types world fs vs && are_types m.types r.variables) ≡ true
+        = ap (λ (b : Bool). b && all_suit m.types world fs vs && are_types m.types r.variables) (eq-eqb (length world) (length world) refl)
+        ∙ ap (λ (b : Bool). b && are_types m.types r.variables) (all_given_suit p m.types world fs vs given)
+        ∙ kept o in
+        same_provided p world lacking (nat_eq (length world) (length world) && all_suit m.types world fs vs && are_types m.types r.variables) (strict.runs_with lacking p n (strict_calling lacking p n d) world c vs (length world) left) st fresh
         (same_if p world (nat_lt left (storage_need m.types r vs)) (ends storage_fault st.out refl) (result_same p lacking world more (is_function m.types r) result kind _ _ body))
 
     pub all_calls_same : (d : ℕ) (world : World) → HasBase p world → AllSame p world (strict_calling lacking p n d world) (calling p n d)

@@ -1,6 +1,6 @@
 -- Whole programs: the strict run is the run.
 use Rattle.std.proofs.Common.{◌≡◌, ℕ, zero, suc, ◌-◌, ◌<◌, ℤ, pos, Bool, true, false, ◌==◌, ◌||◌, List, [], ◌∷◌, ◌++◌, map, length, Option, Some, None, if◌then◌else◌, refl, sym, ap, subst, ◌∙◌, append_assoc, length-append, arith}
-use Rattle.std.specs.Prelude.{slice_get}
+use Rattle.std.specs.Prelude.{slice_get, ◌&&◌}
 use Rattle.std.specs.List.{list_any}
 use Rattle.std.proofs.lemmas.Bool.{eqb-true, eq-eqb, ltb-true}
 use Rattle.typed_tree.specs.declared.meaning.Variable.{Variable}
@@ -32,17 +32,18 @@ use Rattle.law_simulation.specs.Knows.{IsKnown, Knows as KnowsImport}
 use Rattle.law_simulation.specs.Modules.{AreModules, AreTypedModules}
 use Rattle.law_simulation.proofs.Globals.{each_at, import_of}
 use Rattle.law_nothing_missing.specs.Worlds.{World, component_in, type_at}
-use Rattle.law_nothing_missing.specs.Expressions.{is_module}
+use Rattle.law_modules.specs.There.{are_types, are_whole}
+use Rattle.law_nothing_missing.specs.Expressions.{is_module, if_provided}
 use Rattle.law_nothing_missing.specs.Calls.{calling as strict_calling}
 use Rattle.law_nothing_missing.specs.Runs as strict
-use Rattle.law_nothing_missing.specs.Runs.{first_world, strict_run}
+use Rattle.law_nothing_missing.specs.Runs.{first_world, has_types, all_have_types, strict_run}
 use Rattle.law_nothing_missing.specs.Laws.{StrictRuns, NothingLacks}
 use Rattle.law_nothing_missing.proofs.Worlds.{none_some, there_more, IsFine}
 use Rattle.law_nothing_missing.proofs.Same.{IsEnd, SameEnd, goes, leaves, returns, stops, unfinished}
 use Rattle.law_nothing_missing.proofs.Frames.{no_pairs, IsGood}
 use Rattle.law_nothing_missing.proofs.Exprs.{AllSame, Fits}
 use Rattle.law_nothing_missing.proofs.Stmts.{stmts_same}
-use Rattle.law_nothing_missing.proofs.Procedures.{HasBase, AreTyped, AreKnown, all_calls_same}
+use Rattle.law_nothing_missing.proofs.Procedures.{HasBase, AreTyped, AreKnown, AreKept, all_calls_same}
 
 -- the same outcome, and a number of the language, where it is one
 abbrev IsWithin : Outcome → Type 0
@@ -147,11 +148,14 @@ module _ (p : Program) (pages : ℕ) (modules : AreModules p) where
     all_typed : AreTyped p lacking n base texts
     all_typed o = let t = (typed o.place o.home o.there).procedures o.at o.routine o.is in (text_of o.home o.at, t.0, t.1)
 
+    all_kept : AreKept p lacking n base texts
+    all_kept o = (typed o.place o.home o.there).kept o.at o.routine o.is
+
     first_base : HasBase p (first_world p)
     first_base = record { more = frame_of [] ∷ []; is = refl }
 
     all_asked : AllSame p (first_world p) (strict_calling lacking p n n (first_world p)) (calling p n n)
-    all_asked = all_calls_same p lacking n base texts all_typed (all_known lacking n) n (first_world p) first_base
+    all_asked = all_calls_same p lacking n base texts all_typed (all_known lacking n) all_kept n (first_world p) first_base
 
     -- what comes after a body
     body_then : (y z : Outcome) (f g : State → Outcome) → SameEnd p (first_world p) false (IsGood p None) y z → ((st : State) → IsFine p (first_world p) st.store → SameRun (f st) (g st)) → SameRun (strict.then_body lacking y f) (meaning.then_body z g)
@@ -182,9 +186,25 @@ module _ (p : Program) (pages : ℕ) (modules : AreModules p) where
         get_here [] rest m = refl
         get_here (x ∷ before) rest m = get_here before rest m
 
+-- ---- the types of variables
+
+both_true : (a b : Bool) → a ≡ true → b ≡ true → (a && b) ≡ true
+both_true true b h k = k
+both_true false b h k = cc h
+
+all_by_place : (ms : Modules) → ((k : ℕ) (m : TypedModule) → slice_get ms k ≡ Some m → has_types m ≡ true) → all_have_types ms ≡ true
+all_by_place [] h = refl
+all_by_place (m ∷ ms) h = both_true (has_types m) (all_have_types ms) (h 0 m refl) (all_by_place ms (λ k x e. h (suc k) x e))
+
+types_there : (p : Program) (pages : ℕ) → AreModules p → AreTypedModules p pages → all_have_types p ≡ true
+types_there p pages modules typed =
+    all_by_place p (λ k m e. both_true (are_whole m.types) (are_types m.types m.variables) (modules k m e).whole (typed k m e).variables)
+
 same_run : (p : Program) (pages : ℕ) → AreModules p → AreTypedModules p pages → (lacking n : ℕ) → SameRun (strict_run lacking p pages n) (run p pages n)
 unfolding strict_run run
-same_run p pages modules typed lacking n = bodies_same p pages modules typed lacking n (storage p pages - body_frame) [] p refl (first_state p) (first_fine p)
+same_run p pages modules typed lacking n =
+    subst (λ (b : Bool). SameRun (if_provided lacking b (strict.bodies lacking p n (storage p pages - body_frame) 0 p) (first_state p)) (run p pages n)) (sym (types_there p pages modules typed))
+    (bodies_same p pages modules typed lacking n (storage p pages - body_frame) [] p refl (first_state p) (first_fine p))
 
 pub strict_runs : StrictRuns
 strict_runs p pages modules typed lacking n = (same_run p pages modules typed lacking n).is

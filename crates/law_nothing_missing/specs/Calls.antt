@@ -1,5 +1,6 @@
 -- What calls do, where nothing that they ask for may be missing: the arguments are those that the
--- formals ask for, and a new instance gets a number that no other has.
+-- formals ask for, a new instance gets a number that no other has, and the types of its variables
+-- are there.
 use Rattle.std.specs.Prelude.{ℕ, zero, suc, ◌-◌, ◌==◌, ℤ, Bool, true, false, not, ◌&&◌, nat_lt, List, [], ◌∷◌, ◌++◌, map, length, Some, None, if◌then◌else◌}
 use Rattle.typed_tree.specs.declared.shape.Formal.{Formal}
 use Rattle.typed_tree.specs.declared.known_types.Types.{Types}
@@ -15,6 +16,7 @@ use Rattle.def_meaning.specs.Expressions.{Asks}
 use Rattle.def_meaning.specs.Statements.{in_turn}
 use Rattle.def_meaning.specs.Calls as meaning
 use Rattle.def_meaning.specs.Calls.{Entered, storage_need, is_function, enter_call, environment_of}
+use Rattle.law_modules.specs.There.{are_types}
 use Rattle.law_nothing_missing.specs.Worlds.{World, type_at, is_cell, is_like}
 use Rattle.law_nothing_missing.specs.Expressions.{lacks, if_provided}
 use Rattle.law_nothing_missing.specs.Statements.{does}
@@ -86,7 +88,9 @@ module _ (lacking : ℕ) where
         → Answer ℤ
     runs ask world c vs next left st =
         if_provided lacking
-        (next == length world && all_suit c.types world (formals_of c.types c.routine.heading) vs)
+        (next == length world
+        && all_suit c.types world (formals_of c.types c.routine.heading) vs
+        && are_types c.types c.routine.variables)
         (runs_with ask world c vs next left) st
 
     unfoldable pub calling : (d : ℕ) → World → Asks

@@ -6,7 +6,7 @@
 //! - `specs/Laws` has the law.
 #![tactic(auto)]
 
-ghost use Rattle.law_nothing_missing.specs.Laws.{StrictRuns, NothingLacks, MissingLacks};
+ghost use Rattle.law_nothing_missing.specs.Laws.{StrictRuns, NothingLacks, MissingLacks, UnknownLacks, NamedLacks, LocalLacks, FiveIsNone};
 
 /// The strict run of a program, which ends with a number of its own where something is lacking.
 pub fn whole_run_laws()
@@ -14,6 +14,13 @@ pub fn whole_run_laws()
     ensures runs { StrictRuns }
     // It does not end with that number.
     ensures nothing { NothingLacks }
-    // A program that prints a variable of a module that is not there does.
+    // A program that prints a variable of a module that is not there does,
     ensures missing { MissingLacks }
+    // and so does one with a variable whose type is not there, or with a type that names one,
+    ensures unknown { UnknownLacks }
+    ensures named { NamedLacks }
+    // and a call of a procedure with such a variable.
+    ensures local { LocalLacks }
+    // No predeclared type has the number 5.
+    ensures five { FiveIsNone }
 {}

@@ -16,6 +16,7 @@ use Rattle.law_well_formed.specs.FormedKnown.{fits_module}
 use Rattle.law_well_formed.specs.FormedFrames.{IsNested, AreNested}
 use Rattle.law_well_formed.proofs.Rooms.{frames_have_room}
 use Rattle.law_well_formed.proofs.FramesModules.{modules_nested}
+use Rattle.law_well_formed.proofs.Whole.{types_whole}
 use Rattle.build_jobs.specs.Own.{own_table, tables_behind}
 use Rattle.build_jobs.specs.Compiling.{tables_of, typed_body}
 use Rattle.build_jobs.specs.Encoded.{needed_of}
@@ -75,4 +76,5 @@ module _ (fs : List (List ℕ × Module)) (files : List ℕ) (jobs : List (List 
           outermost = there.nested.outermost;
           inside = λ k d l. inside_of m _ (there.nested.inside k d l);
           texts = texts_bytes fs files jobs starts graph each fit whole p b pages room most place m e;
+          whole = types_whole m.types known.1.1;
         }

@@ -73,7 +73,7 @@ module _ (types_of : ℕ → List Made) (below : ℕ) (t : Table) (f : TableForm
     by j n false g = g
 
     from : (h : Home) (n : ℕ) → is_known_from only h n ≡ true → is_among_from es h n ≡ true
-    from Predeclared n g = refl
+    from Predeclared n g = g
     from (Module j) n g = by j n (j == below) g
 
   free_from : (ms : List ModuleTypes) → AllByRecursion (λ m. (m.number < below) × (m.made ≡ types_of m.number)) ms → at below (entries_of ms) ≡ None

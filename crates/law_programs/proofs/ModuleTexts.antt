@@ -66,7 +66,7 @@ module _ (z : Stage) (typed : AreBodiesTyped z z.home.body) (provided : AreProvi
       let x : Context = stands z (kinds_of m.types r ∷ environment_of m r) in
       let has = provided.procedures w r is (kinds_of m.types r ∷ environment_of m r) in
       texts_bytes x (text_of m w) (text_of m w + characters (body_texts r.body)) (text_of m w) (body_texts r.body)
-      (stmts_small x (result_of m.types r.heading) [] false (text_of m w) (text_of m w + characters (body_texts r.body)) r.body (typed.procedures w r is (text_of m w) has))
+      (stmts_small x (result_of m.types r.heading) [] false (text_of m w) (text_of m w + characters (body_texts r.body)) r.body ((typed.procedures w r is).0 (text_of m w) has))
       (omega arith) (omega arith) has.texts
 
   which_bytes : (w : Which) (o : Option Routine) → routine_of m w ≡ o → AreBytes (all_characters (which_texts m w))

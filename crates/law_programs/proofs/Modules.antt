@@ -10,6 +10,7 @@ use Rattle.m2_tree.specs.declared.decl.Decl.{Decl, Decl-F, out-Decl, map-Decl, f
 use Rattle.m2_tree.specs.declared.decl.Decl.TheOpen as layer
 use Rattle.m2_tree.specs.declared.decl.Block.{Block, out-Block}
 use Rattle.typed_tree.specs.declared.known_types.Types.{Types}
+use Rattle.typed_tree.specs.declared.shape.Made.{Made}
 use Rattle.typed_tree.specs.declared.statement.TypedStmt.{TypedStmt}
 use Rattle.typed_tree.specs.declared.typed_module.Routine.{Routine}
 use Rattle.typed_tree.specs.declared.typed_module.TypedModule.{TypedModule}
@@ -51,6 +52,8 @@ use Rattle.law_well_formed.proofs.Heads.{awaits_kept, ModuleHeadsIn, heads_in}
 use Rattle.law_well_formed.proofs.ModulesProcedures.{Headings, NumbersOf, count_of, NumbersIn, Stands}
 use Rattle.law_well_formed.proofs.ModulesSteps.{bodies_are}
 use Rattle.law_well_formed.specs.FormedRanges.{itself}
+use Rattle.law_well_formed.specs.Ordered.{AreKnown}
+use Rattle.law_well_formed.proofs.OrderTypes.{all_kept, made_known}
 use Rattle.law_well_formed.proofs.RangesTypes.{both_left, both_right}
 use Rattle.law_programs.specs.Typing.{IsTyped}
 use Rattle.law_programs.specs.TypingStmts.{StmtsTyped}
@@ -121,7 +124,7 @@ unfilled_headings (h ∷ hs) (suc n) t e = unfilled_headings hs n t e
 unfilled_bodies : (z : Stage) (hs : List TypeNo) → AllBodies z (map empty_routine hs)
 unfilled_bodies z [] n r e = absurd cc
 unfilled_bodies z (h ∷ hs) zero r e =
-    subst (λ (x : Routine). BodyTyped z x) (same_Some (empty_routine h) r e) (row_typed (stands z (kinds_of z.home.types (empty_routine h) ∷ environment_of z.home (empty_routine h))) (result_of z.home.types h) [] false [] tt)
+    subst (λ (x : Routine). BodyTyped z x) (same_Some (empty_routine h) r e) (row_typed (stands z (kinds_of z.home.types (empty_routine h) ∷ environment_of z.home (empty_routine h))) (result_of z.home.types h) [] false [] tt, tt)
 unfilled_bodies z (h ∷ hs) (suc n) r e = unfilled_bodies z hs n r e
 
 module _ (g : Gathers) (elaborates : Elaborates g.Reported) (forms : FormsStatements g elaborates) (writes : TypesStatements g elaborates) (base : Types) (words : WordsStay g) (ends : List ℕ) (keeps : LocalsStay g) (headings : HeadingsAgree g) where
@@ -310,8 +313,19 @@ module _ (g : Gathers) (elaborates : Elaborates g.Reported) (forms : FormsStatem
       by_which (which.Module n) r e = all.1 (unfilled_bodies z d.0.procedures) n r (ap (λ (rs : List Routine). slice_get rs n) has.procedures ∙ e)
       by_which (which.Local n) r e = all.0 n r (omega arith) (ap (λ (rs : List Routine). slice_get rs n) has.locals ∙ e)
 
+      stay : (t : TypeNo) (x : Made) → made_at d.0.types t ≡ Some x → made_at z.home.types t ≡ Some x
+      stay t x e = subst (λ (ty : Types). made_at ty t ≡ Some x) has.types (end_keeps.types t x e)
+
+      variables_known : AreKnown z.home.types z.home.variables
+      variables_known =
+          subst (λ (us : List TypeNo). AreKnown z.home.types us) has.variables (all_kept d.0.types z.home.types (made_known d.0.types z.home.types stay) d.0.variables has.known.ordered.variables)
+
       pub module_typed : (ss : List TypedStmt) → statements_of elaborates end.scope None body ≡ Ok ss → AreBodiesTyped z ss
-      module_typed ss e = record { procedures = by_which; body = holds_at (statements_of elaborates end.scope None body) body_holds ss e }
+      module_typed ss e = record {
+        procedures = by_which;
+        body = holds_at (statements_of elaborates end.scope None body) body_holds ss e;
+        variables = variables_known;
+      }
 
 pub modules_typed : (g : Gathers) → ModulesAreTyped g
 modules_typed g base modules s m b fit begins ok z staged has ss e =

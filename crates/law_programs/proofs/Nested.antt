@@ -37,6 +37,8 @@ use Rattle.law_well_formed.proofs.Places.{set_other, set_same}
 use Rattle.law_well_formed.proofs.Scopes.{formals_formed, formals_await}
 use Rattle.law_well_formed.proofs.Checks.{nonzero, Placed, there, past, placed, holds_at, begun_locals, entry, inner, ended, inside, around_it, procedure_keeps, inner_ok, body_ok, nested_count}
 use Rattle.law_well_formed.proofs.RangesBlocks.{left_ranged}
+use Rattle.law_well_formed.specs.Ordered.{AreKnown}
+use Rattle.law_well_formed.proofs.OrderTypes.{all_kept, known_behind, made_known}
 use Rattle.law_well_formed.proofs.OrderBlocks.{left_ordered}
 use Rattle.law_well_formed.specs.FormedNumbers.{all_formals}
 use Rattle.law_well_formed.proofs.Entered.{procedure_entered}
@@ -74,7 +76,11 @@ module _ (g : Gathers) (elaborates : Elaborates g.Reported) (base : Types) (word
   procedure_known ok k =
       let e = b.known own returns first (inner_ok g elaborates ends h block ks f around seen w ok) (entered_known g base words w.scope seen h k) in
       let o = (entry g elaborates ends h block ks f around seen w).1.outside in
-      record { ranged = left_ranged o last.scope e.ranged; ordered = left_ordered base o last.scope e.ordered; words = words.left o last.scope e.words }
+      record {
+        ranged = left_ranged o last.scope e.ranged;
+        ordered = left_ordered base o last.scope e.ordered (all_kept w.scope.types last.scope.types (made_known w.scope.types last.scope.types stays.types) w.scope.variables k.ordered.variables);
+        words = words.left o last.scope e.words;
+      }
 
   module _ (level : (w.scope.level == 0) ≡ false) (deep : 1 < length w.scope.outer) (is_deep : IsDeep w) (l : ℕ) (t : TypeNo)
       (head : find_name h.name.name w.scope.own ≡ Some (Headed (Ok (meaning.LocalProcedure (record { level = l; number = length w.bodies.locals; heading = t })))))
@@ -191,11 +197,18 @@ module _ (g : Gathers) (elaborates : Elaborates g.Reported) (base : Types) (word
       inner_typed : AddsTyped g z first last × Holds (StmtsTyped (stands_in z first.scope.level own) (result_of types t) [] false) (inner g elaborates ends h block ks f around seen w).1
       inner_typed = b.typed fs own returns first enters (inner_ok g elaborates ends h block ks f around seen w ok) z staged inner_serves frame (result_of types t) agreed.1
 
+      new_known : AreKnown types new.variables
+      new_known =
+          let e = b.known own returns first (inner_ok g elaborates ends h block ks f around seen w ok) enters.known in
+          all_kept last.scope.types types (made_known last.scope.types types serves.types) new.variables (known_behind last.scope.types (entry g elaborates ends h block ks f around seen w).1.formals last.scope.variables e.ordered.variables)
+
       new_typed : BodyTyped z new
-      new_typed =
-          subst (λ (k : List Kinds). StmtsTyped (stands z k) (result_of types t) [] false (body_ok g elaborates ends h block ks f around seen w ok).0)
-          (frames ∙ ap (λ (n : ℕ). kinds_of types new ∷ kinds_around z.home n around) (sym new_level))
-          (holds_at (inner g elaborates ends h block ks f around seen w).1 inner_typed.1 (body_ok g elaborates ends h block ks f around seen w ok).0 (body_ok g elaborates ends h block ks f around seen w ok).1)
+      new_typed = (
+        subst (λ (k : List Kinds). StmtsTyped (stands z k) (result_of types t) [] false (body_ok g elaborates ends h block ks f around seen w ok).0)
+        (frames ∙ ap (λ (n : ℕ). kinds_of types new ∷ kinds_around z.home n around) (sym new_level))
+        (holds_at (inner g elaborates ends h block ks f around seen w).1 inner_typed.1 (body_ok g elaborates ends h block ks f around seen w ok).0 (body_ok g elaborates ends h block ks f around seen w ok).1),
+        new_known,
+      )
 
       typed_at : (k : ℕ) (r : Routine) → slice_get behind.bodies.locals k ≡ Some r → Placed (length w.bodies.locals) k → BodyTyped z r
       typed_at k r e (there q) = subst (λ (x : Routine). BodyTyped z x) (same_Some new r (sym get_new ∙ ap (λ (n : ℕ). slice_get behind.bodies.locals n) (sym q) ∙ e)) new_typed

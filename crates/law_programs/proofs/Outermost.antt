@@ -48,6 +48,8 @@ use Rattle.law_well_formed.specs.FormedNumbers.{all_formals}
 use Rattle.law_well_formed.proofs.Entered.{procedure_entered}
 use Rattle.law_programs.specs.TypingStmts.{StmtsTyped, AreReturned}
 use Rattle.law_programs.specs.Words.{WordsStay}
+use Rattle.law_well_formed.specs.Ordered.{AreKnown}
+use Rattle.law_well_formed.proofs.OrderTypes.{all_kept, known_behind, made_known}
 use Rattle.law_programs.specs.TypingBodies.{Stage, stands, stands_in, StageTyped, BodyTyped, NamesThere, BlocksThere, HeadingAgrees, ScopeKnown, Serves, AddsTyped, HasFrame, Enters, TypedBlock}
 use Rattle.law_programs.proofs.Shifting.{names_deeper, blocks_deeper}
 use Rattle.law_programs.proofs.Scopes.{blocks_more}
@@ -190,11 +192,18 @@ module _ (g : Gathers) (elaborates : Elaborates g.Reported) (base : Types) (word
       inner_typed : AddsTyped g z first last × Holds (StmtsTyped (stands_in z first.scope.level own) (result_of types p.heading) [] false) (inner g elaborates ends h block ks f None seen w).1
       inner_typed = b.typed fs own returns first enters (inner_ok g elaborates ends h block ks f None seen w ok) z staged inner_serves frame (result_of types p.heading) agreed.1
 
+      new_known : AreKnown types new.variables
+      new_known =
+          let e = b.known own returns first (inner_ok g elaborates ends h block ks f None seen w ok) enters.known in
+          all_kept last.scope.types types (made_known last.scope.types types serves.types) new.variables (known_behind last.scope.types (entry g elaborates ends h block ks f None seen w).1.formals last.scope.variables e.ordered.variables)
+
       new_typed : BodyTyped z new
-      new_typed =
-          subst (λ (k : List Kinds). StmtsTyped (stands z k) (result_of types p.heading) [] false statements)
-          (frames ∙ ap (λ (n : ℕ). kinds_of types new ∷ kinds_around z.home n None) (sym new_level))
-          (holds_at (inner g elaborates ends h block ks f None seen w).1 inner_typed.1 statements (body_ok g elaborates ends h block ks f None seen w ok).1)
+      new_typed = (
+        subst (λ (k : List Kinds). StmtsTyped (stands z k) (result_of types p.heading) [] false statements)
+        (frames ∙ ap (λ (n : ℕ). kinds_of types new ∷ kinds_around z.home n None) (sym new_level))
+        (holds_at (inner g elaborates ends h block ks f None seen w).1 inner_typed.1 statements (body_ok g elaborates ends h block ks f None seen w ok).1),
+        new_known,
+      )
 
       pub outermost_adds : AddsTyped g z w behind
       outermost_adds k r a e = inner_typed.0 k r (subst (λ (rs : Bodies). length rs.locals ≤ k) (sym first_bodies) a) (sym (ap (λ (rs : List Routine). slice_get rs k) locals_are) ∙ e)

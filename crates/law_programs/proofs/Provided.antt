@@ -24,6 +24,7 @@ use Rattle.law_simulation.specs.Linked.{text_of, environment_of}
 use Rattle.law_simulation.specs.Modules.{IsTypedModule}
 use Rattle.law_programs.specs.Wanted.{TextStands, TextsStand, AreNeeded, Has}
 use Rattle.law_programs.specs.Asked.{wanted_by}
+use Rattle.law_well_formed.proofs.Whole.{types_known}
 use Rattle.law_programs.specs.TypingBodies.{Stage, stands, AreBodiesTyped}
 use Rattle.law_programs.specs.TypingWants.{AreOrdered, IsProvided, AreProvided, stage_at}
 
@@ -168,6 +169,8 @@ module _ (z : Stage) (ordered : AreOrdered z.home) where
 module _ (p : Program) (pages place : ℕ) (m : TypedModule) (opens : ℕ → Bool) (typed : AreBodiesTyped (stage_at p pages place m opens) m.body) (provided : AreProvided (stage_at p pages place m opens)) where
   pub module_typed : IsTypedModule p pages place m
   module_typed = record {
-    procedures = λ w r is. (text_of m w + characters (body_texts r.body), typed.procedures w r is (text_of m w) (provided.procedures w r is (kinds_of m.types r ∷ environment_of m r)));
+    procedures = λ w r is. (text_of m w + characters (body_texts r.body), (typed.procedures w r is).0 (text_of m w) (provided.procedures w r is (kinds_of m.types r ∷ environment_of m r)));
     body = (characters (routines_texts m) + characters (body_texts m.body), typed.body (characters (routines_texts m)) (provided.body []));
+    kept = λ w r is. types_known m.types r.variables (typed.procedures w r is).1;
+    variables = types_known m.types m.variables typed.variables;
   }

@@ -129,7 +129,7 @@ module _ (types_of : ℕ → List Made) (below : ℕ) (t : Table) (f : TableForm
     by j n false g = g
 
     from : (h : Home) (n : ℕ) → is_known_from only h n ≡ true → is_among_from (entries_of t.reached) h n ≡ true
-    from Predeclared n g = refl
+    from Predeclared n g = g
     from (Module j) n g = by j n (j == below) g
 
   variable_known : (types : Types) (m : Meaning) (ts : List TypeNo) → ExportsOrdered types (([], m) ∷ []) → AreKnown types ts → AreKnown types (with_variable_of ts m)

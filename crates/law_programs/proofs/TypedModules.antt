@@ -113,6 +113,7 @@ module _ (p : Program) (pages place : ℕ) (m : TypedModule) (there : slice_get 
       types = sym st.types;
       procedures = sym st.procedures;
       locals = sym st.locals;
+      variables = sym st.variables;
       known = st.known;
       names = names_are;
       outer = stand.outer;

@@ -62,6 +62,7 @@ use Rattle.law_well_formed.specs.FormedScopes.{AreFormedNames}
 use Rattle.law_well_formed.specs.FormedBodies.{Keeps, Begins}
 use Rattle.law_well_formed.specs.FormedNumbers.{IsNumbered, all_formals}
 use Rattle.law_well_formed.specs.FormedRanges.{itself, fits_constant, fits_type_decl, fits_variables, ScopeRanged}
+use Rattle.law_well_formed.specs.Ordered.{AreKnown}
 use Rattle.law_well_formed.specs.FormedOrder.{ScopeOrdered}
 use Rattle.law_programs.specs.Typing.{TypesTyped, MeaningTyped, IsTyped}
 use Rattle.law_programs.specs.TypingStmts.{fits_stmt, StmtsTyped, AreReturned}
@@ -113,11 +114,12 @@ pub record StageTyped (z : Stage) : Type 0 where
   pub all : TypesTyped z.home.types
   pub room : length (all_characters (module_texts z.home)) ≤ 2 ^ 32
 
--- the body of a procedure is typed
+-- the body of a procedure is typed, and the types of its variables are known
 abbrev pub BodyTyped : Stage → Routine → Type 0
 BodyTyped z r =
     StmtsTyped (stands z (kinds_of z.home.types r ∷ environment_of z.home r))
     (result_of z.home.types r.heading) [] false r.body
+    × AreKnown z.home.types r.variables
 
 -- what statements are elaborated to be is typed, where names mean what is there
 abbrev pub TypesStatements : (g : Gathers) → Elaborates g.Reported → Type 0
@@ -371,23 +373,25 @@ pub record ModuleBegins {T : Type 0} (s : Scope T) : Type 0 where
   pub awaits : AwaitsOwn s
   pub apart : AwaitsApart s
 
--- The names of a module, of what stands around it, and of its open modules mean what is there, and
--- it has what the walk over its bodies leads to.
+-- The names of a module, of what stands around it, and of its open modules mean what is there. It
+-- has what the walk over its bodies leads to, and the variables that it declares.
 pub record HasModule (g : Gathers) (base : Types) (z : Stage) (d : Scope g.Reported)
     (w : Walk g.Reported) : Type 0 where
   pub types : w.scope.types ≡ z.home.types
   pub procedures : w.bodies.procedures ≡ z.home.procedures
   pub locals : w.bodies.locals ≡ z.home.locals
+  pub variables : d.variables ≡ z.home.variables
   pub known : ScopeKnown base d
   pub names : NamesThere (stands z []) z.opens 0 d.own
   pub outer : BlocksThere (stands z []) z.opens 0 d.outer
   pub members : (k : ℕ) (name : Ident) → z.opens k ≡ true
       → Holds (MeaningThere (stands z []) z.opens 0) (member g d.tables k name)
 
--- the bodies of all procedures of a module, and its own
+-- the bodies of all procedures of a module, and its own, with the types of its variables
 pub record AreBodiesTyped (z : Stage) (ss : List TypedStmt) : Type 0 where
   pub procedures : (w : Which) (r : Routine) → routine_of z.home w ≡ Some r → BodyTyped z r
   pub body : StmtsTyped (stands z []) None [] false ss
+  pub variables : AreKnown z.home.types z.home.variables
 
 -- The bodies of a module are typed, where its declarations and bodies break no rule.
 abbrev pub ModulesAreTyped : Gathers → Type 0

@@ -1,5 +1,5 @@
 -- What is known of the modules of a program, and of the trees of their bodies.
-use Rattle.std.specs.Prelude.{◌≡◌, ℕ, ◌<◌, ◌^◌, false, [], ◌∷◌, All, Some, None, slice_get}
+use Rattle.std.specs.Prelude.{◌≡◌, ℕ, ◌<◌, ◌^◌, true, false, [], ◌∷◌, All, Some, None, slice_get}
 use Rattle.typed_tree.specs.declared.typed_module.Routine.{Routine}
 use Rattle.typed_tree.specs.declared.typed_module.Which.{Which}
 use Rattle.typed_tree.specs.declared.typed_module.TypedModule.{TypedModule}
@@ -15,6 +15,7 @@ use Rattle.law_simulation.specs.RunsPrograms.{ground}
 use Rattle.law_simulation.specs.StmtsTyped.{AreStmts}
 use Rattle.law_simulation.specs.Linked.{environment_of, text_of, context}
 use Rattle.law_modules.specs.Ranges.{AreRanged}
+use Rattle.law_modules.specs.There.{are_types, are_whole}
 use Rattle.law_simulation.specs.Knows.{IsCoherent}
 
 -- it stands in a procedure
@@ -37,11 +38,13 @@ pub record IsModule (p : Program) (place : ℕ) (m : TypedModule) : Type 0 where
   pub outermost : All (λ r. r.around ≡ None) m.procedures
   pub inside : All (IsInside m) m.locals
   pub texts : All (λ b. b < 256) (text m)
+  pub whole : are_whole m.types ≡ true
 
 abbrev pub AreModules : Program → Type 0
 AreModules p = (place : ℕ) (m : TypedModule) → slice_get p place ≡ Some m → IsModule p place m
 
--- the bodies of its procedures and its own are typed, with their texts where they stand among all
+-- The bodies of its procedures and its own are typed, with their texts where they stand among all.
+-- The types of its variables and of those of its procedures are there.
 pub record IsTypedModule (p : Program) (pages place : ℕ) (m : TypedModule) : Type 0 where
   pub procedures : (w : Which) (r : Routine)
       → routine_of m w ≡ Some r
@@ -53,6 +56,9 @@ pub record IsTypedModule (p : Program) (pages place : ℕ) (m : TypedModule) : T
   pub body : (to : ℕ)
       × AreStmts (context p (ground p pages).base (ground p pages).texts place m []) None [] false
       (characters (routines_texts m)) to m.body
+  pub kept : (w : Which) (r : Routine) → routine_of m w ≡ Some r
+      → are_types m.types r.variables ≡ true
+  pub variables : are_types m.types m.variables ≡ true
 
 abbrev pub AreTypedModules : Program → (pages : ℕ) → Type 0
 AreTypedModules p pages =

@@ -58,7 +58,7 @@ known_within before so w h own u e = from u.home u.number e where
   by k n false g = there k n g
 
   from : (home : Home) (n : ℕ) → is_known_from (made_by h own before) home n ≡ true → is_known_from (made_by h own so) home n ≡ true
-  from Predeclared n g = refl
+  from Predeclared n g = g
   from (Module k) n g = by k n (k == h) g
 
 pub ordered_within : (before so : List (ℕ × List Made)) → Within before so → (h : ℕ) (ms own : List Made) → AreOrderedFrom before h own ms → AreOrderedFrom so h own ms

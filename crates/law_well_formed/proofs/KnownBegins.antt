@@ -10,6 +10,7 @@ use Rattle.typed_tree.specs.declared.shape.Shape.{Shape}
 use Rattle.typed_tree.specs.declared.shape.Shape.TheVariants as shape
 use Rattle.typed_tree.specs.declared.shape.Made.{Made}
 use Rattle.typed_tree.specs.declared.meaning.Meaning.{Meaning}
+use Rattle.typed_tree.specs.declared.meaning.Meaning.TheVariants as meaning
 use Rattle.typed_tree.specs.declared.table.ModuleTypes.{ModuleTypes}
 use Rattle.typed_tree.specs.declared.table.Table.{Table}
 use Rattle.typed_tree.specs.declared.known_types.Types.{Types}
@@ -21,7 +22,7 @@ use Rattle.check_scope.specs.declared.known.Known.TheVariants.{Declared}
 use Rattle.check_scope.specs.declared.known.Origin.TheVariants.{Here}
 use Rattle.check_scope.specs.declared.scope.Scope.{Scope}
 use Rattle.check_definition.specs.Predeclared.{console, with_table, others_of, predeclared_block, first_scope}
-use Rattle.check_body.specs.Own.{with_own_name, own_names, exported_variables, exported_headings, with_field_copy, shape_copy, made_copy, types_made_in, own_types, implementation_scope}
+use Rattle.check_body.specs.Own.{with_own_name, own_names, with_variable_of, with_exported_variable, exported_variables, exported_headings, with_field_copy, shape_copy, made_copy, types_made_in, own_types, implementation_scope}
 use Rattle.law_well_formed.specs.Formed.{fine}
 use Rattle.law_well_formed.proofs.Order.{has, keys, other_way, has_more}
 use Rattle.law_modules.specs.Ranges.{AreRangedFrom}
@@ -29,10 +30,10 @@ use Rattle.law_well_formed.specs.FormedRanges.{AllBased, NamesRanged, BlocksRang
 use Rattle.law_well_formed.proofs.RangesTypes.{Kept, blocks_kept}
 use Rattle.law_well_formed.proofs.RangesMade.{names_more}
 use Rattle.law_well_formed.proofs.RangesTables.{first_ranged, others_of_ranged}
-use Rattle.law_well_formed.specs.Ordered.{AreOrderedFrom, BeginsWith}
+use Rattle.law_well_formed.specs.Ordered.{AreKnown, AreOrderedFrom, BeginsWith}
 use Rattle.law_well_formed.proofs.Trees.{at, fold_more}
-use Rattle.law_well_formed.specs.FormedOrder.{StandOnce, FieldsOnce, AllOnce, NamesOrdered, ExportsOrdered, TablesOrdered, ScopeOrdered}
-use Rattle.law_well_formed.proofs.OrderTypes.{started_here}
+use Rattle.law_well_formed.specs.FormedOrder.{StandOnce, FieldsOnce, AllOnce, MeaningOrdered, NamesOrdered, ExportsOrdered, TablesOrdered, ScopeOrdered}
+use Rattle.law_well_formed.proofs.OrderTypes.{started_here, known_more}
 use Rattle.law_well_formed.proofs.Named.{names_more as ordered_more}
 use Rattle.law_well_formed.proofs.OrderTables.{predeclared_ordered, first_ordered}
 use Rattle.law_well_formed.specs.FormedKnown.{HasReached, TableFormed, TablesFormed}
@@ -157,6 +158,23 @@ begun_scope {T = T} own others t ts = record (first_scope {T = T} t.number ts) {
   own = own_names t.exported;
 }
 
+module _ (types : Types) where
+  variable_known : (m : Meaning) (us : List TypeNo) → MeaningOrdered types m → AreKnown types us → AreKnown types (with_variable_of us m)
+  variable_known (meaning.Variable v) us p h = known_more types us v.of h p
+  variable_known (meaning.Constant v) us p h = h
+  variable_known (meaning.Type t n) us p h = h
+  variable_known (meaning.Local v) us p h = h
+  variable_known (meaning.Field f) us p h = h
+  variable_known (meaning.Procedure f) us p h = h
+  variable_known (meaning.LocalProcedure f) us p h = h
+  variable_known meaning.Ahead us p h = h
+  variable_known (meaning.Standard f) us p h = h
+  variable_known (meaning.Module k) us p h = h
+
+  variables_known : (es : List (List ℕ × Meaning)) (us : List TypeNo) → ExportsOrdered types es → AreKnown types us → AreKnown types (fold with_exported_variable us es)
+  variables_known [] us p h = h
+  variables_known (e ∷ es) us p h = variables_known es (with_variable_of us e.1) p.1 (variable_known e.1 us p.0 h)
+
 module _ (types : Types) {T : Type 0} where
   names_ordered : (es : List (List ℕ × Meaning)) (ns : List (List ℕ × Known T)) → ExportsOrdered types es → NamesOrdered types ns → NamesOrdered types (fold with_own_name ns es)
   names_ordered [] ns p h = h
@@ -258,6 +276,7 @@ module _ (types_of : ℕ → List Made) (below : ℕ) (t : Table) (ts : List Tab
       names = names_ordered begun_types t.exported [] (q.exports begun_types own_has).0 tt;
       outer = (predeclared_ordered begun_types T, tt);
       tables = tables_ordered begun_types types_of below ts p tables_have;
+      variables = variables_known begun_types t.exported [] (q.exports begun_types own_has).0 tt;
     };
   }
 

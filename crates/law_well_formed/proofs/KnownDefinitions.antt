@@ -112,7 +112,7 @@ module _ (a b : Types) (has : HasReached b (reached_of a)) where
   all_stay : StayKnown a b
   all_stay t e = from t.home t.number e where
     from : (h : Home) (n : ℕ) → is_known_from a h n ≡ true → is_known_from b h n ≡ true
-    from home.Predeclared n g = refl
+    from home.Predeclared n g = g
     from (home.Module k) n g = let x = some_of (made_in a k n) g in ap is_some (made_stays k n x.0 x.1)
 
   ranges_kept : Kept a b

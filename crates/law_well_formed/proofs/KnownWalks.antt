@@ -1,5 +1,5 @@
 -- The bodies of procedures keep what a scope knows of types.
-use Rattle.std.proofs.Common.{◌≡◌, ℕ, ◌+◌, Bool, true, false, ◌&&◌, List, [], ◌∷◌, ◌++◌, length, Option, Some, None, Result, refl, sym, ap, subst, ◌∙◌}
+use Rattle.std.proofs.Common.{◌≡◌, ℕ, suc, ◌+◌, ◌<◌, Bool, true, false, ◌&&◌, List, [], ◌∷◌, ◌++◌, length, Option, Some, None, Result, refl, sym, ap, subst, ◌∙◌, arith}
 use Rattle.std.specs.Prelude.{map, slice_get}
 use Rattle.std.specs.List.{AllByRecursion, fold, list_all}
 use Rattle.std.specs.Option.{unwrap_or}
@@ -29,8 +29,10 @@ use Rattle.check_block.specs.Declarations.{Course, Declared, decl_layer, with_de
 use Rattle.check_body.specs.Own.{implementation_scope}
 use Rattle.check_body.specs.declared.procedure.Walk.{Walk}
 use Rattle.check_body.specs.Elaborating.{Elaborates}
+use Rattle.check_block.specs.declared.inner.Outside.{Outside}
+use Rattle.check_block.specs.Inner.{left_procedure}
 use Rattle.check_body.specs.Inside.{which_of, begun_procedure, reported_in}
-use Rattle.check_body.specs.Bodies.{ChecksBlock, Steps, marked_by, declared_by, checked_by, with_body, begun_from, procedure_checked, steps_layer, block_layer, steps, checks_block, checks_decl}
+use Rattle.check_body.specs.Bodies.{Checked, ChecksBlock, Steps, marked_by, declared_by, checked_by, with_body, begun_from, procedure_checked, steps_layer, block_layer, steps, checks_block, checks_decl}
 use Rattle.check_body.specs.Checked.{walk_body, of_body, of_implementation, of_contents, body_module}
 use Rattle.law_well_formed.specs.Formed.{Holds, fine, broken}
 use Rattle.law_well_formed.proofs.Basics.{then_holds, holds_weaker, both_holds, any_holds, reported_holds}
@@ -39,8 +41,9 @@ use Rattle.law_well_formed.specs.FormedRanges.{itself, fits_decl, fits_decl_laye
 use Rattle.law_well_formed.proofs.RangesTypes.{both_left, both_right}
 use Rattle.law_well_formed.proofs.RangesMade.{beside_then, const_holds}
 use Rattle.law_well_formed.proofs.RangesBlocks.{block_ranged, module_ranged, entered_ranged, left_ranged}
-use Rattle.law_well_formed.specs.Ordered.{AreOrdered}
-use Rattle.law_well_formed.specs.FormedOrder.{ScopeOrdered}
+use Rattle.law_well_formed.specs.Ordered.{AreKnown, AreOrdered}
+use Rattle.law_well_formed.specs.FormedOrder.{StartedFrom, ScopeOrdered}
+use Rattle.law_well_formed.proofs.OrderTypes.{known_kept, all_kept, based_here}
 use Rattle.law_well_formed.proofs.OrderBlocks.{block_ordered, module_ordered, entered_ordered, left_ordered}
 use Rattle.law_well_formed.specs.FormedKnown.{fits_within_layer, fits_block_layer, fits_within, fits_block, fits_contents, TableFormed, TablesFormed, OwnFormed}
 use Rattle.law_well_formed.proofs.Gathered.{each_more}
@@ -54,32 +57,74 @@ then_two : {A T : Type 0} {base : Types} {s : Scope T} {r : Result A T} → Hold
 then_two (fine x a) (fine _ b) = fine x (record { ranged = a; ordered = b })
 then_two (broken e) b = broken e
 
-module _ (g : Gathers) (elaborates : Elaborates g.Reported) (ends : List ℕ) (base : Types) where
+holds_both : {A T : Type 0} {P Q : A → Type 0} {r : Result A T} → Holds P r → Holds Q r → Holds (λ x. P x × Q x) r
+holds_both (fine x p) (fine _ q) = fine x (p, q)
+holds_both (broken e) q = broken e
+
+module _ (g : Gathers) (elaborates : Elaborates g.Reported) (ends : List ℕ) where
   -- the scope of a walk, where no rule is broken
-  abbrev WalkFormed : Walk g.Reported → Type 0
-  WalkFormed w = Holds (λ x. ScopeFormed base w.scope) w.so_far
+  abbrev WalkFormed : Types → Walk g.Reported → Type 0
+  WalkFormed base w = Holds (λ x. ScopeFormed base w.scope) w.so_far
 
   abbrev CheckFormed : (ℕ → Walk g.Reported → Walk g.Reported) → Type 0
-  CheckFormed f = (seen : ℕ) (w : Walk g.Reported) → WalkFormed w → WalkFormed (f seen w)
+  CheckFormed f = (base : Types) (seen : ℕ) (w : Walk g.Reported) → WalkFormed base w → WalkFormed base (f seen w)
 
   abbrev StepFormed : Steps g.Reported → Type 0
   StepFormed x = (around : Option Which) → CheckFormed (checked_by x around)
 
   abbrev BlockFormed : ChecksBlock g.Reported → Type 0
-  BlockFormed block = (around : Option Which) (returns : Option (Result TypeNo g.Reported)) (w : Walk g.Reported) → WalkFormed w → WalkFormed (block around returns w).0
+  BlockFormed block = (base : Types) (around : Option Which) (returns : Option (Result TypeNo g.Reported)) (w : Walk g.Reported) → WalkFormed base w → WalkFormed base (block around returns w).0
 
   -- ---- procedures
 
-  procedure_formed : (h : Heading) (block : ChecksBlock g.Reported) → BlockFormed block → (around : Option Which) → CheckFormed (procedure_checked g elaborates ends h block around)
-  procedure_formed h block f around seen w p =
-      let b = begun_procedure g w seen h in
-      let e = block (which_of b.1.procedure) b.1.returns b.0 in
-      beside_then g (reported_in e.1) (f (which_of b.1.procedure) b.1.returns b.0 (holds_weaker (λ x k. record { ranged = entered_ranged g w.scope seen h k.ranged; ordered = entered_ordered base g w.scope seen h k.ordered }) p)) (λ k.
-      const_holds (record { ranged = left_ranged b.1.outside e.0.scope k.ranged; ordered = left_ordered base b.1.outside e.0.scope k.ordered }) (reported_in e.1))
+  entered_formed : (base : Types) (w : Walk g.Reported) (seen : ℕ) (h : Heading) → ScopeFormed base w.scope → ScopeFormed base (begun_procedure g w seen h).0.scope
+  entered_formed base w seen h k = record { ranged = entered_ranged g w.scope seen h k.ranged; ordered = entered_ordered base g w.scope seen h k.ordered }
 
-  bodies_formed : {X : Type 0} (checks : X → ℕ → Walk g.Reported → Walk g.Reported) (seen : List ℕ) (xs : List X) → AllByRecursion (λ x. CheckFormed (checks x)) xs → (st : Walk g.Reported × ℕ) → WalkFormed st.0 → WalkFormed (fold (with_body checks seen) st xs).0
-  bodies_formed checks seen [] h st p = p
-  bodies_formed checks seen (x ∷ xs) h st p = bodies_formed checks seen xs h.1 (with_body checks seen st x) (h.0 (unwrap_or (slice_get seen st.1) 0) st.0 p)
+  -- behind the procedure, where its walk began with the types outside it
+  left_formed : (base : Types) (o : Outside) (s : Scope g.Reported) (outer : Types) → ScopeFormed base s → StartedFrom outer s.types → AreKnown outer o.variables → ScopeFormed base (left_procedure o s)
+  left_formed base o s outer k started v = record {
+    ranged = left_ranged o s k.ranged;
+    ordered = left_ordered base o s k.ordered (all_kept outer s.types (known_kept outer s.types started) o.variables v);
+  }
+
+  module _ (h : Heading) (block : ChecksBlock g.Reported) (f : BlockFormed block) (around : Option Which) (seen : ℕ) (w : Walk g.Reported) where
+    abbrev first : Walk g.Reported
+    first = (begun_procedure g w seen h).0
+
+    abbrev last : Checked g.Reported
+    last = block (which_of (begun_procedure g w seen h).1.procedure) (begun_procedure g w seen h).1.returns first
+
+    inner_formed : (base : Types) → WalkFormed base first → WalkFormed base last.0
+    inner_formed base p = f base (which_of (begun_procedure g w seen h).1.procedure) (begun_procedure g w seen h).1.returns first p
+
+    abbrev Behind : Type 0
+    Behind = StartedFrom w.scope.types last.0.scope.types × AreKnown w.scope.types w.scope.variables
+
+    -- where a rule was broken before, one is broken in the end: else the walk began in two modules
+    never_begun : (base : Types) → StartedFrom base last.0.scope.types → StartedFrom (record { home = suc base.home; own = []; others = [] }) last.0.scope.types → Behind
+    never_begun base p q = let a = p.home in let b = q.home in absurd (let clash : base.home < base.home = omega (arith, a, b) in omega (arith, clash))
+
+    behind_by : {P : Type 0} → (r : Result (Unit {0}) g.Reported) → w.so_far ≡ r → Holds (λ x. P) r → (P → ScopeFormed w.scope.types w.scope) → Holds (λ x. Behind) last.0.so_far
+    behind_by _ e (fine x p) k =
+        holds_weaker (λ x z. (z.ordered.started, (k p).ordered.variables)) (inner_formed w.scope.types (const_holds (entered_formed w.scope.types w seen h (k p)) w.so_far))
+    behind_by _ e (broken x) k =
+        let any : (base : Types) → WalkFormed base first = λ base. subst (λ (r : Result (Unit {0}) g.Reported). Holds (λ x. ScopeFormed base first.scope) r) (sym e) (broken x) in
+        let base : Types = w.scope.types in
+        let other : Types = record { home = suc base.home; own = []; others = [] } in
+        holds_weaker (λ x z. never_begun base z.0.ordered.started z.1.ordered.started) (holds_both (inner_formed base (any base)) (inner_formed other (any other)))
+
+  procedure_formed : (h : Heading) (block : ChecksBlock g.Reported) → BlockFormed block → (around : Option Which) → CheckFormed (procedure_checked g elaborates ends h block around)
+  procedure_formed h block f around base seen w p =
+      let b = begun_procedure g w seen h in
+      let e = last h block f around seen w in
+      let one = inner_formed h block f around seen w base (holds_weaker (λ x k. entered_formed base w seen h k) p) in
+      let two = behind_by h block f around seen w w.so_far refl p (λ k. record { ranged = k.ranged; ordered = based_here base w.scope k.ordered }) in
+      beside_then g (reported_in e.1) (holds_both one two) (λ k. const_holds (left_formed base b.1.outside e.0.scope w.scope.types k.0 k.1.0 k.1.1) (reported_in e.1))
+
+  bodies_formed : (base : Types) {X : Type 0} (checks : X → ℕ → Walk g.Reported → Walk g.Reported) (seen : List ℕ) (xs : List X) → AllByRecursion (λ x. CheckFormed (checks x)) xs → (st : Walk g.Reported × ℕ)
+      → WalkFormed base st.0 → WalkFormed base (fold (with_body checks seen) st xs).0
+  bodies_formed base checks seen [] h st p = p
+  bodies_formed base checks seen (x ∷ xs) h st p = bodies_formed base checks seen xs h.1 (with_body checks seen st x) (h.0 base (unwrap_or (slice_get seen st.1) 0) st.0 p)
 
   -- ---- steps as declarations
 
@@ -191,9 +236,9 @@ module _ (g : Gathers) (elaborates : Elaborates g.Reported) (ends : List ℕ) (b
   abbrev decls_of : List SD → List Decl
   decls_of xs = map (λ (x : SD). x.0) xs
 
-  declared_formed : (ds : List Decl) → list_all itself (map fits_within ds) ≡ true → (st : State (Unit {0}) g.Reported) (first : ℕ) → Holds (λ x. ScopeFormed base st.0) st.1
+  declared_formed : (base : Types) (ds : List Decl) → list_all itself (map fits_within ds) ≡ true → (st : State (Unit {0}) g.Reported) (first : ℕ) → Holds (λ x. ScopeFormed base st.0) st.1
       → Holds (λ x. ScopeFormed base (declared_block g ends st first ds).0) (declared_block g ends st first ds).1
-  declared_formed ds e st first p =
+  declared_formed base ds e st first p =
       then_two (block_ranged g ends st first ds (decls_fit ds e) (holds_weaker (λ x k. k.ranged) p)) (block_ordered base g ends st first ds (holds_weaker (λ x k. k.ordered) p))
 
   all_steps : (xs : List SD) → list_all itself (map fits_within (decls_of xs)) ≡ true → (around : Option Which) → AllByRecursion (λ x. CheckFormed (checked_by x around)) (map steps_of (decls_of xs))
@@ -202,19 +247,19 @@ module _ (g : Gathers) (elaborates : Elaborates g.Reported) (ends : List ℕ) (b
       (x.1 (both_left (fits_within x.0) (list_all itself (map fits_within (decls_of xs))) e) around, all_steps xs (both_right (fits_within x.0) (list_all itself (map fits_within (decls_of xs))) e) around)
 
   block_formed : (xs : List SD) (body : Option (List Stmt)) → list_all itself (map fits_within (decls_of xs)) ≡ true → BlockFormed (block_layer g elaborates ends (record { decls = map steps_of (decls_of xs); body = body }))
-  block_formed xs body e around returns w p =
+  block_formed xs body e base around returns w p =
       let first : ℕ = length w.bodies.locals in
       let is : all_declared marked_by declared_by (w.scope, w.so_far) first (map steps_of (decls_of xs)) ≡ declared_block g ends (w.scope, w.so_far) first (decls_of xs) = declared_same (decls_of xs) (w.scope, w.so_far) first in
-      let start : WalkFormed (begun_from (all_declared marked_by declared_by (w.scope, w.so_far) first (map steps_of (decls_of xs))) w.bodies)
-      = subst (λ (d : Declared g.Reported). WalkFormed (begun_from d w.bodies)) (sym is) (declared_formed (decls_of xs) e (w.scope, w.so_far) first p) in
-      bodies_formed (λ (x : Steps g.Reported). checked_by x around) (all_declared marked_by declared_by (w.scope, w.so_far) first (map steps_of (decls_of xs))).2 (map steps_of (decls_of xs)) (all_steps xs e around)
+      let start : WalkFormed base (begun_from (all_declared marked_by declared_by (w.scope, w.so_far) first (map steps_of (decls_of xs))) w.bodies)
+      = subst (λ (d : Declared g.Reported). WalkFormed base (begun_from d w.bodies)) (sym is) (declared_formed base (decls_of xs) e (w.scope, w.so_far) first p) in
+      bodies_formed base (λ (x : Steps g.Reported). checked_by x around) (all_declared marked_by declared_by (w.scope, w.so_far) first (map steps_of (decls_of xs))).2 (map steps_of (decls_of xs)) (all_steps xs e around)
       (begun_from (all_declared marked_by declared_by (w.scope, w.so_far) first (map steps_of (decls_of xs))) w.bodies, 0) start
 
   step_at : (y : Decl-F SD SB) → fits_within_layer (elaborated (bare y)) ≡ true → StepFormed (steps_layer g elaborates ends (opened (bare y)))
-  step_at (layer.Constants cs) e = λ around seen w p. p
-  step_at (layer.Types ts) e = λ around seen w p. p
-  step_at (layer.Variables vs) e = λ around seen w p. p
-  step_at (layer.Procedure h b) e = λ around seen w p. procedure_formed h (block_of b.0) (b.1 e) around seen w p
+  step_at (layer.Constants cs) e = λ around base seen w p. p
+  step_at (layer.Types ts) e = λ around base seen w p. p
+  step_at (layer.Variables vs) e = λ around base seen w p. p
+  step_at (layer.Procedure h b) e = λ around base seen w p. procedure_formed h (block_of b.0) (b.1 e) around base seen w p
 
   step_decl : (x : Decl-F Decl Block) (y : Decl-F SD SB) → bare y ≡ x → PD (roll-Decl x)
   step_decl x y q =
@@ -236,12 +281,12 @@ module _ (g : Gathers) (elaborates : Elaborates g.Reported) (ends : List ℕ) (b
   all_decls (d ∷ ds) e around =
       (decl_formed d (both_left (fits_within d) (list_all itself (map fits_within ds)) e) around, all_decls ds (both_right (fits_within d) (list_all itself (map fits_within ds)) e) around)
 
-  pub walked_formed : (modules : List (List ℕ × ℕ)) (s : Scope g.Reported) (m : Module) (b : Block) → fits_block b ≡ true → ScopeFormed base s → WalkFormed (walk_body g elaborates modules ends s m b).0
-  walked_formed modules s m b e h =
+  pub walked_formed : (base : Types) (modules : List (List ℕ × ℕ)) (s : Scope g.Reported) (m : Module) (b : Block) → fits_block b ≡ true → ScopeFormed base s → WalkFormed base (walk_body g elaborates modules ends s m b).0
+  walked_formed base modules s m b e h =
       let ds : List Decl = (out-Block b).decls in
       let fit : list_all itself (map fits_within ds) ≡ true = sym (fits_at_block b (out-Block b) refl) ∙ e in
       let d : Declared g.Reported = declared_module g modules ends s m ds in
-      bodies_formed (λ (x : Decl). checks_decl g elaborates ends x None) d.2 ds (all_decls ds fit None) (_, 0) (then_two (module_ranged g modules ends s m ds (decls_fit ds fit) h.ranged) (module_ordered base g modules ends s m ds h.ordered))
+      bodies_formed base (λ (x : Decl). checks_decl g elaborates ends x None) d.2 ds (all_decls ds fit None) (_, 0) (then_two (module_ranged g modules ends s m ds (decls_fit ds fit) h.ranged) (module_ordered base g modules ends s m ds h.ordered))
 
 module _ (g : Gathers) (elaborates : Elaborates g.Reported) where
   abbrev TypesFormed : TypedModule → Type 0

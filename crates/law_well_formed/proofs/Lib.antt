@@ -42,6 +42,7 @@ pub mod RangesBlocks
 pub mod RangesTables
 pub mod Trees
 pub mod Shaped
+pub mod Whole
 pub mod OrderTypes
 pub mod Cells
 pub mod Prefixes

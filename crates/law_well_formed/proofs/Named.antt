@@ -162,7 +162,7 @@ names_more types name k [] p all = (p, tt)
 names_more types name k (e ∷ es) p all = names_by types (same_name name e.0) k e es (enter_name name k es) p all (names_more types name k es p all.1)
 
 pub known_ordered : {T : Type 0} (base : Types) (s : Scope T) (name : List ℕ) (k : Known T) → ScopeOrdered base s → KnownOrdered s.types k → ScopeOrdered base (with_known name k s)
-known_ordered base s name k h p = record { started = h.started; types = h.types; once = h.once; names = names_more s.types name k s.own p h.names; outer = h.outer; tables = h.tables }
+known_ordered base s name k h p = record { started = h.started; types = h.types; once = h.once; names = names_more s.types name k s.own p h.names; outer = h.outer; tables = h.tables; variables = h.variables }
 
 module _ (g : Gathers) where
   -- what is asked of a scope holds of it with one name more

@@ -22,12 +22,13 @@ use Rattle.m2_tree.specs.declared.decl.Simple.TheVariants as simple
 use Rattle.m2_tree.specs.declared.decl.TypeExpr.{TypeExpr, TypeExpr-F, out-TypeExpr, roll-TypeExpr, out-roll-TypeExpr, map-TypeExpr, fold_out-TypeExpr, ind-TypeExpr}
 use Rattle.m2_tree.specs.declared.decl.TypeExpr.TheOpen as layer
 use Rattle.m2_tree.specs.declared.decl.Field.{Field, Field-F, out-Field, roll-Field, out-roll-Field, map-Field, fold_out-Field}
+use Rattle.typed_tree.specs.declared.types.TypeNo.{TypeNo}
 use Rattle.typed_tree.specs.declared.shape.Formal.{Formal}
 use Rattle.typed_tree.specs.declared.meaning.Meaning.{Meaning}
 use Rattle.typed_tree.specs.declared.meaning.Meaning.TheVariants as meaning
 use Rattle.typed_tree.specs.declared.table.Table.{Table}
 use Rattle.typed_tree.specs.declared.known_types.Types.{Types}
-use Rattle.law_well_formed.specs.Ordered.{is_known}
+use Rattle.law_well_formed.specs.Ordered.{is_known, AreKnown}
 use Rattle.typed_tree.specs.Names.{find_name, enter_name, place_of}
 use Rattle.check_scope.specs.Elaborated.{Gathers, report}
 use Rattle.check_scope.specs.Scopes.{State, is_free, with_known, is_again, import_name}
@@ -47,11 +48,12 @@ use Rattle.check_definition.specs.Compiled.{declared_in}
 use Rattle.check_block.specs.Naming.{marked_layer, marked_decl, with_marks, all_marked}
 use Rattle.check_block.specs.Declarations.{Course, with_decl, declared_block, declared_module}
 use Rattle.check_block.specs.declared.inner.Outside.{Outside}
-use Rattle.check_block.specs.Inner.{inwards, formal_meaning, Formals, with_formal, with_section, entered_procedure, split_last, pop_block, left_procedure}
+use Rattle.check_block.specs.Inner.{inwards, formal_meaning, with_formal_type, Formals, with_formal, with_section, entered_procedure, split_last, pop_block, left_procedure}
 use Rattle.law_well_formed.specs.Formed.{Holds, fine, broken}
 use Rattle.law_well_formed.proofs.Basics.{then_holds, holds_weaker}
 use Rattle.law_well_formed.proofs.RangesMade.{beside_then, const_holds}
 use Rattle.law_well_formed.specs.FormedOrder.{MeaningOrdered, KnownOrdered, NamesOrdered, BlocksOrdered, ExportsOrdered, TablesOrdered, ScopeOrdered, StateOrdered}
+use Rattle.law_well_formed.proofs.OrderTypes.{known_more}
 use Rattle.law_well_formed.proofs.Named.{names_more, known_ordered, marked_ordered}
 use Rattle.law_well_formed.proofs.OrderMade.{formal_ordered}
 use Rattle.law_well_formed.proofs.OrderDeclarations.{def_ordered, decl_ordered}
@@ -272,6 +274,7 @@ module _ (base : Types) where
     names = tt;
     outer = blocks_more s.types s.outer (record { names = s.own; seen = seen }) h.outer h.names;
     tables = h.tables;
+    variables = tt;
   }
 
   formal_by : {T : Type 0} (types : Types) (b : Bool) (name : List ℕ) (k : Known T) (ns : List (List ℕ × Known T)) → KnownOrdered types k → NamesOrdered types ns → NamesOrdered types (cond b ns (enter_name name k ns))
@@ -285,6 +288,14 @@ module _ (base : Types) where
       (formal_by types (is_some (find_name x.name fs.0)) x.name (Declared Here (formal_meaning level (length fs.1) f)) fs.0
       (then_holds p (λ u k. fine _ k)) h)
 
+  type_formals : {T : Type 0} (types : Types) (ts : List TypeNo) (f : Result Formal T) → Holds (λ x. is_known types x.of ≡ true) f → AreKnown types ts → AreKnown types (with_formal_type ts f)
+  type_formals types ts _ (fine f p) h = known_more types ts f.of h p
+  type_formals types ts _ (broken e) h = h
+
+  types_formals : {T : Type 0} (types : Types) (level : ℕ) (f : Result Formal T) → Holds (λ x. is_known types x.of ≡ true) f → (names : List Ident) (fs : Formals T) → AreKnown types fs.1 → AreKnown types (fold (with_formal level f) fs names).1
+  types_formals types level f p [] fs h = h
+  types_formals types level f p (x ∷ xs) fs h = types_formals types level f p xs (with_formal level f fs x) (type_formals types fs.1 f p h)
+
   left_by : {T : Type 0} (types : Types) (bs : List (Block T)) → BlocksOrdered types bs → BlocksOrdered types (pop_block (split_last bs)).0 × NamesOrdered types (pop_block (split_last bs)).1
   left_by types [] p = (tt, tt)
   left_by types (b ∷ bs) p = last b (split_last bs) p.0 (left_by types bs p.1) where
@@ -293,15 +304,27 @@ module _ (base : Types) where
     last b None p q = (tt, p)
     last b (Some x) p q = ((p, q.0), q.1)
 
-  pub left_ordered : {T : Type 0} (o : Outside) (s : Scope T) → ScopeOrdered base s → ScopeOrdered base (left_procedure o s)
-  left_ordered o s h = let k = left_by s.types s.outer h.outer in record { started = h.started; types = h.types; once = h.once; names = k.1; outer = k.0; tables = h.tables }
+  pub left_ordered : {T : Type 0} (o : Outside) (s : Scope T) → ScopeOrdered base s → AreKnown s.types o.variables → ScopeOrdered base (left_procedure o s)
+  left_ordered o s h v = let k = left_by s.types s.outer h.outer in record { started = h.started; types = h.types; once = h.once; names = k.1; outer = k.0; tables = h.tables; variables = v }
 
   module _ (g : Gathers) where
     sections_formals : (s : Scope g.Reported) → ScopeOrdered base s → (xs : List Section) (fs : Formals g.Reported) → NamesOrdered s.types fs.0 → NamesOrdered s.types (fold (with_section g s) fs xs).0
     sections_formals s p [] fs h = h
     sections_formals s p (x ∷ xs) fs h = sections_formals s p xs (with_section g s fs x) (names_formals s.types s.level (formal_of g s x.is_var x.of) (formal_ordered g base s p x.is_var x.of) x.names fs h)
 
+    sections_types : (s : Scope g.Reported) → ScopeOrdered base s → (xs : List Section) (fs : Formals g.Reported) → AreKnown s.types fs.1 → AreKnown s.types (fold (with_section g s) fs xs).1
+    sections_types s p [] fs h = h
+    sections_types s p (x ∷ xs) fs h = sections_types s p xs (with_section g s fs x) (types_formals s.types s.level (formal_of g s x.is_var x.of) (formal_ordered g base s p x.is_var x.of) x.names fs h)
+
     pub entered_ordered : (s : Scope g.Reported) (seen : ℕ) (h : Heading) → ScopeOrdered base s → ScopeOrdered base (entered_procedure g s seen h).0
     entered_ordered s seen h p =
         let k : ScopeOrdered base (inwards s seen) = inwards_ordered s seen p in
-        record { started = k.started; types = k.types; once = k.once; names = sections_formals (inwards s seen) k h.formals ([], []) tt; outer = k.outer; tables = k.tables }
+        record {
+          started = k.started;
+          types = k.types;
+          once = k.once;
+          names = sections_formals (inwards s seen) k h.formals ([], []) tt;
+          outer = k.outer;
+          tables = k.tables;
+          variables = sections_types (inwards s seen) k h.formals ([], []) tt;
+        }

@@ -38,6 +38,7 @@ use Rattle.law_well_formed.proofs.Basics.{then_holds, holds_weaker, any_holds}
 use Rattle.law_well_formed.proofs.RangesMade.{beside_then, const_holds}
 use Rattle.law_well_formed.specs.Ordered.{is_known}
 use Rattle.law_well_formed.specs.FormedOrder.{MeaningOrdered, ScopeOrdered, StateOrdered, MadeOrdered}
+use Rattle.law_well_formed.proofs.OrderTypes.{known_more}
 use Rattle.law_well_formed.proofs.Named.{FoundOrdered, name_found, known_ordered, unless_ordered, finished_as, finished_ordered}
 use Rattle.law_well_formed.proofs.OrderMade.{made_ordered, heading_ordered, type_of_ordered}
 
@@ -79,16 +80,20 @@ module _ (base : Types) where
   abbrev pub TypeIn : {T : Type 0} → Result TypeNo T → Scope T → Type 0
   TypeIn t s = ScopeOrdered base s × Holds (λ u. is_known s.types u ≡ true) t
 
-  variable_type_ordered : {T : Type 0} (s : Scope T) (t : Result TypeNo T) → ScopeOrdered base s → ScopeOrdered base (with_variable_type s t)
-  variable_type_ordered s (Ok t) h = record { started = h.started; types = h.types; once = h.once; names = h.names; outer = h.outer; tables = h.tables }
-  variable_type_ordered s (Err e) h = h
+  variable_known : {T : Type 0} (s : Scope T) (t : Result TypeNo T) → Holds (λ u. is_known s.types u ≡ true) t → ScopeOrdered base s → ScopeOrdered base (with_variable_type s t)
+  variable_known s _ (fine t p) h =
+      record { started = h.started; types = h.types; once = h.once; names = h.names; outer = h.outer; tables = h.tables; variables = known_more s.types s.variables t h.variables p }
+  variable_known s _ (broken e) h = h
+
+  variable_stays : {T : Type 0} (s : Scope T) (t : Result TypeNo T) → Holds (λ u. is_known s.types u ≡ true) t → Holds (λ u. is_known (with_variable_type s t).types u ≡ true) t
+  variable_stays s _ (fine t p) = fine t p
+  variable_stays s _ (broken e) = broken e
 
   variable_type_in : {T : Type 0} (s : Scope T) (t : Result TypeNo T) → TypeIn t s → TypeIn t (with_variable_type s t)
-  variable_type_in s (Ok t) h = (variable_type_ordered s (Ok t) h.0, h.1)
-  variable_type_in s (Err e) h = h
+  variable_type_in s t h = (variable_known s t h.1 h.0, variable_stays s t h.1)
 
   procedure_type_in : {T : Type 0} (s : Scope T) (t : Result TypeNo T) → TypeIn t s → TypeIn t (with_procedure_type s t)
-  procedure_type_in s (Ok t) h = (record { started = h.0.started; types = h.0.types; once = h.0.once; names = h.0.names; outer = h.0.outer; tables = h.0.tables }, h.1)
+  procedure_type_in s (Ok t) h = (record { started = h.0.started; types = h.0.types; once = h.0.once; names = h.0.names; outer = h.0.outer; tables = h.0.tables; variables = h.0.variables }, h.1)
   procedure_type_in s (Err e) h = h
 
   variable_in : {T : Type 0} (s : Scope T) (name : Ident) (t : Result TypeNo T) (r : Result Meaning T) → TypeIn t s → Holds (MeaningOrdered s.types) r → TypeIn t (finish_name s name r)

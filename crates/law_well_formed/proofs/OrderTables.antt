@@ -59,6 +59,7 @@ first_ordered {T = T} home tables p q r = record {
   names = tt;
   outer = (predeclared_ordered (first_types home tables) T, tt);
   tables = r;
+  variables = tt;
 }
 
 -- ---- exports

@@ -1,7 +1,7 @@
 -- Types that stay known, and one type more.
-use Rattle.std.proofs.Common.{◌≡◌, ℕ, ◌==◌, Bool, true, false, List, [], ◌∷◌, ◌++◌, length, Option, Some, None, refl, sym, ap, subst, ◌∙◌}
+use Rattle.std.proofs.Common.{◌≡◌, ℕ, zero, suc, ◌==◌, Bool, true, false, List, [], ◌∷◌, ◌++◌, length, Option, Some, None, refl, sym, ap, subst, ◌∙◌}
 use Rattle.std.proofs.lemmas.List.{append-nil, append_assoc}
-use Rattle.std.specs.Prelude.{slice_get, cond}
+use Rattle.std.specs.Prelude.{slice_get, cond, drop}
 use Rattle.std.specs.Option.{is_some}
 use Rattle.typed_tree.specs.declared.types.Home.{Home}
 use Rattle.typed_tree.specs.declared.types.Home.TheVariants.{Predeclared, Module}
@@ -11,7 +11,7 @@ use Rattle.typed_tree.specs.declared.meaning.Meaning.{Meaning}
 use Rattle.typed_tree.specs.declared.meaning.Meaning.TheVariants as meaning
 use Rattle.typed_tree.specs.declared.table.Table.{Table}
 use Rattle.typed_tree.specs.declared.known_types.Types.{Types}
-use Rattle.typed_tree.specs.Known.{in_list}
+use Rattle.typed_tree.specs.Known.{in_list, made_in, made_at}
 use Rattle.check_scope.specs.declared.known.Known.{Known}
 use Rattle.check_scope.specs.declared.known.Known.TheVariants.{Later, Ahead, Begun, Headed, Declared}
 use Rattle.check_scope.specs.declared.scope.Block.{Block}
@@ -19,7 +19,7 @@ use Rattle.check_scope.specs.declared.scope.Scope.{Scope}
 use Rattle.check_type_expr.specs.Made.{next_type, with_shape}
 use Rattle.law_well_formed.proofs.Basics.{holds_weaker}
 use Rattle.law_well_formed.specs.Ordered.{is_known_from, is_known, AreKnown, Follows, AreOrderedFrom, BeginsWith}
-use Rattle.law_well_formed.proofs.Trees.{at, itself, get_more, append_more}
+use Rattle.law_well_formed.proofs.Trees.{at, some_of, itself, get_more, append_more}
 use Rattle.law_well_formed.specs.FormedOrder.{FieldsOnce, AllOnce, StartedFrom, MeaningOrdered, KnownOrdered, NamesOrdered, BlocksOrdered, ExportsOrdered, TablesOrdered, ScopeOrdered}
 
 -- ---- further types
@@ -49,7 +49,7 @@ known_kept a b p t e = from t.home t.number e where
       ap (λ (h : ℕ). there_in k n h b.own b.others) p.home ∙ ap (λ (ms : List Made). there_in k n a.home ms b.others) p.own ∙ ap (λ (es : List (ℕ × List Made)). there_in k n a.home (a.own ++ p.more) es) p.others
 
   from : (h : Home) (n : ℕ) → is_known_from a h n ≡ true → is_known_from b h n ≡ true
-  from Predeclared n g = refl
+  from Predeclared n g = g
   from (Module k) n g = same k n ∙ by (k == a.home) n (in_list n (at k a.others)) g
 
 -- all types that are known stay known
@@ -96,6 +96,24 @@ module _ (a b : Types) (p : StayKnown a b) where
   tables_kept [] h = tt
   tables_kept (t ∷ ts) h = (exports_kept t.exported h.0, tables_kept ts h.1)
 
+-- ---- the types of variables
+
+pub known_more : (types : Types) (ts : List TypeNo) (t : TypeNo) → AreKnown types ts → is_known types t ≡ true → AreKnown types (ts ++ t ∷ [])
+known_more types [] t h p = (p, tt)
+known_more types (u ∷ ts) t h p = (h.0, known_more types ts t h.1 p)
+
+pub known_behind : (types : Types) (n : ℕ) (ts : List TypeNo) → AreKnown types ts → AreKnown types (drop n ts)
+known_behind types zero ts h = h
+known_behind types (suc n) [] h = tt
+known_behind types (suc n) (t ∷ ts) h = known_behind types n ts h.1
+
+-- what is made there stays known where all that is made stays
+pub made_known : (a b : Types) → ((t : TypeNo) (x : Made) → made_at a t ≡ Some x → made_at b t ≡ Some x) → StayKnown a b
+made_known a b keep t e = from t.home t.number e where
+  from : (h : Home) (n : ℕ) → is_known_from a h n ≡ true → is_known_from b h n ≡ true
+  from Predeclared n g = g
+  from (Module k) n g = let x = some_of (made_in a k n) g in ap is_some (keep (record { home = Module k; number = n }) x.0 x.1)
+
 -- ---- one type more
 
 pub more_started : {T : Type 0} (s : Scope T) (m : Made) → StartedFrom s.types (with_shape s m).types
@@ -135,6 +153,7 @@ scope_more base s m h p =
       names = names_kept s.types now stay s.own h.names;
       outer = blocks_kept s.types now stay s.outer h.outer;
       tables = tables_kept s.types now stay s.tables h.tables;
+      variables = all_kept s.types now stay s.variables h.variables;
     }
 
 last_there : (xs : List Made) (x : Made) → is_some (slice_get (xs ++ x ∷ []) (length xs)) ≡ true
@@ -147,7 +166,7 @@ next_known s m =
 
 -- the same scope, as it began later
 pub based_on : {T : Type 0} (base later : Types) (s : Scope T) → StartedFrom base later → ScopeOrdered later s → ScopeOrdered base s
-based_on base later s p h = record { started = started_from base later s.types p h.started; types = h.types; once = h.once; names = h.names; outer = h.outer; tables = h.tables }
+based_on base later s p h = record { started = started_from base later s.types p h.started; types = h.types; once = h.once; names = h.names; outer = h.outer; tables = h.tables; variables = h.variables }
 
 pub based_here : {T : Type 0} (base : Types) (s : Scope T) → ScopeOrdered base s → ScopeOrdered s.types s
-based_here base s h = record { started = started_here s.types; types = h.types; once = h.once; names = h.names; outer = h.outer; tables = h.tables }
+based_here base s h = record { started = started_here s.types; types = h.types; once = h.once; names = h.names; outer = h.outer; tables = h.tables; variables = h.variables }

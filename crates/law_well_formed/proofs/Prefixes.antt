@@ -74,7 +74,7 @@ module _ (P : TypeNo → Type 0) (plain : (n : ℕ) → P (type_no Predeclared n
     by j n false g = g
 
     from : (h : Home) (n : ℕ) → is_known_from (made_by k [] before) h n ≡ true → is_among_from before h n ≡ true
-    from Predeclared n g = refl
+    from Predeclared n g = g
     from (Module j) n g = by j n (j == k) g
 
   with_own : (before : List (ℕ × List Made)) (k : ℕ) (all : List Made) → at k before ≡ None → HoldIn before k all → Hold (before ++ (k, all) ∷ [])
@@ -93,7 +93,7 @@ module _ (P : TypeNo → Type 0) (plain : (n : ℕ) → P (type_no Predeclared n
     by j n false i g = other j n i (at j before) refl g
 
     from : (h : Home) (n : ℕ) → is_among_from (before ++ (k, all) ∷ []) h n ≡ true → is_known_from (made_by k all before) h n ≡ true
-    from Predeclared n g = refl
+    from Predeclared n g = g
     from (Module j) n g = by j n (j == k) refl g
 
   module _ (es : List (ℕ × List Made)) (steps : (before rest : List (ℕ × List Made)) (k : ℕ) (all : List Made) → before ++ (k, all) ∷ rest ≡ es → at k before ≡ None → Steps before k all) where

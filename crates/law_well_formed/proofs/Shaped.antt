@@ -17,7 +17,7 @@ use Rattle.law_well_formed.proofs.Trees.{at, at_placed, get_more, long_more, app
 
 -- ---- lists of facts
 
-all_weaker : {X : Type 0} (p q : X → Bool) → ((x : X) → p x ≡ true → q x ≡ true) → (xs : List X) → AllByRecursion (λ x. p x ≡ true) xs → AllByRecursion (λ x. q x ≡ true) xs
+pub all_weaker : {X : Type 0} (p q : X → Bool) → ((x : X) → p x ≡ true → q x ≡ true) → (xs : List X) → AllByRecursion (λ x. p x ≡ true) xs → AllByRecursion (λ x. q x ≡ true) xs
 all_weaker p q k [] h = tt
 all_weaker p q k (x ∷ xs) h = (k x h.0, all_weaker p q k xs h.1)
 
@@ -85,7 +85,7 @@ module _ (types : Types) where
         = subst (λ (i : ℕ). slice_get its i ≡ Some (shape_tree types ((k, its) ∷ first) (record { home = Module k; number = i }) m.shape)) (omega arith) one in
         two ∙ ap Some (shape_same types (is_known (made_by k names.own p.before)) ((k, its) ∷ first) (other_trees types) (seen_alike names.own) (record { home = Module k; number = n }) m.shape names.known)
 
-    others_named : (n : ℕ) (m : Made) → slice_get ms n ≡ Some m → AllByRecursion (λ u. is_among types.others u ≡ true) (named_by m.shape)
+    pub others_named : (n : ℕ) (m : Made) → slice_get ms n ≡ Some m → AllByRecursion (λ u. is_among types.others u ≡ true) (named_by m.shape)
     others_named n m g =
         let names = other_names n m g in
         all_weaker (is_known (made_by k names.own p.before)) (is_among types.others) (λ u e.
@@ -141,7 +141,7 @@ module _ (types : Types) where
       from Predeclared n g = refl
       from (Module j) n g = by j n (j == types.home) refl (among_of j n g)
 
-    all_known : (u : TypeNo) → is_among types.others u ≡ true → is_known types u ≡ true
+    pub all_known : (u : TypeNo) → is_among types.others u ≡ true → is_known types u ≡ true
     all_known u e = from u.home u.number e where
       here : (n : ℕ) → Among types.home n → is_some (slice_get types.own n) ≡ true
       here n a =
@@ -153,7 +153,7 @@ module _ (types : Types) where
       by j n false q g = g
 
       from : (h : Home) (n : ℕ) → is_among_from types.others h n ≡ true → is_known_from types h n ≡ true
-      from Predeclared n g = refl
+      from Predeclared n g = g
       from (Module j) n g = by j n (j == types.home) refl g
 
     -- a type of the module itself
@@ -164,7 +164,7 @@ module _ (types : Types) where
       by j n false g = g
 
       from : (h : Home) (n : ℕ) → is_known_from (made_by types.home own types.others) h n ≡ true → is_known_from types h n ≡ true
-      from Predeclared n g = refl
+      from Predeclared n g = g
       from (Module j) n g = by j n (j == types.home) g
 
     own_shaped : (n : ℕ) (m : Made) → slice_get types.own n ≡ Some m → slice_get own_trees n ≡ Some (shape_tree types all_trees (record { home = Module types.home; number = n }) m.shape)

@@ -1,7 +1,7 @@
 -- The trees of types that stand in order.
 use Rattle.std.proofs.Common.{◌≡◌, ℕ, zero, suc, ◌+◌, ◌==◌, Bool, true, false, cond, List, [], ◌∷◌, ◌++◌, length, Option, Some, None, refl, sym, ap, subst, ◌∙◌, arith}
 use Rattle.std.proofs.lemmas.Bool.{eqb-true, eqb-false}
-use Rattle.std.specs.Prelude.{slice_get, nat_eq, map}
+use Rattle.std.specs.Prelude.{slice_get, nat_eq, nat_lt, map}
 use Rattle.std.specs.List.{AllByRecursion, fold}
 use Rattle.std.specs.Map.{lookup}
 use Rattle.std.specs.Option.{is_some}
@@ -16,6 +16,7 @@ use Rattle.typed_tree.specs.declared.known_types.Types.{Types}
 use Rattle.typed_tree.specs.Known.{scalar_at, in_list}
 use Rattle.layout_storage.specs.Types.{Ty, Callable, Cell, Array, Heading, Function, Takes, row}
 use Rattle.layout_storage.specs.Shapes.{Trees, or_nothing, in_module, tree_in, passing_of, result_tree, heading_tree, shape_tree, with_made, module_trees, with_module, elements_of}
+use Rattle.law_modules.specs.There.{predeclared_types}
 use Rattle.law_well_formed.specs.Ordered.{result_named, named_by, is_known_from, is_known, AreOrderedFrom, OthersOrdered, AreOrdered}
 
 -- ---- numbers and lists
@@ -123,7 +124,7 @@ placed types h k ms e = placed_from [] types.others k ms h.others refl e
 -- ---- types among the others
 
 abbrev pub is_among_from : List (ℕ × List Made) → Home → ℕ → Bool
-is_among_from others Predeclared n = true
+is_among_from others Predeclared n = nat_lt n predeclared_types
 is_among_from others (Module k) n = is_some (in_list n (at k others))
 
 abbrev pub is_among : List (ℕ × List Made) → TypeNo → Bool
@@ -153,7 +154,7 @@ known_among before rest k own more f u e = from u.home u.number e where
   by j n false q g = there j n g
 
   from : (h : Home) (n : ℕ) → is_known_from (made_by k own before) h n ≡ true → is_among_from (before ++ (k, own ++ more) ∷ rest) h n ≡ true
-  from Predeclared n g = refl
+  from Predeclared n g = g
   from (Module j) n g = by j n (j == k) refl g
 
 -- ---- trees that are alike at what is known

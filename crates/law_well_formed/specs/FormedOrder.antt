@@ -32,7 +32,7 @@ use Rattle.check_block.specs.Declarations.{Course, with_decl, declared_block, de
 use Rattle.check_block.specs.declared.inner.Outside.{Outside}
 use Rattle.check_block.specs.Inner.{entered_procedure, left_procedure}
 use Rattle.law_well_formed.specs.Formed.{Holds}
-use Rattle.law_well_formed.specs.Ordered.{is_known, OthersOrdered, BeginsWith, AreOrdered}
+use Rattle.law_well_formed.specs.Ordered.{is_known, AreKnown, OthersOrdered, BeginsWith, AreOrdered}
 
 -- ---- types
 
@@ -102,7 +102,7 @@ module _ (types : Types) where
 -- ---- scopes
 
 -- The types that a scope knows are those, and further types of the module. They stand in order, and
--- its names mean such types.
+-- its names and the types of its variables mean such types.
 pub record ScopeOrdered {T : Type 0} (base : Types) (s : Scope T) : Type 0 where
   pub started : StartedFrom base s.types
   pub types : AreOrdered s.types
@@ -110,6 +110,7 @@ pub record ScopeOrdered {T : Type 0} (base : Types) (s : Scope T) : Type 0 where
   pub names : NamesOrdered s.types s.own
   pub outer : BlocksOrdered s.types s.outer
   pub tables : TablesOrdered s.types s.tables
+  pub variables : AreKnown s.types s.variables
 
 -- where no rule is broken
 abbrev pub StateOrdered : {A T : Type 0} → Types → State A T → Type 0
@@ -167,11 +168,11 @@ EnteredAreOrdered g =
     (base : Types) (s : Scope g.Reported) (seen : ℕ) (h : Heading) → ScopeOrdered base s
     → ScopeOrdered base (entered_procedure g s seen h).0
 
--- and the way back
+-- and the way back, if the types of the variables outside are known there
 abbrev pub LeftAreOrdered : Gathers → Type 0
 LeftAreOrdered g =
     (base : Types) (o : Outside) (s : Scope g.Reported) → ScopeOrdered base s
-    → ScopeOrdered base (left_procedure o s)
+    → AreKnown s.types o.variables → ScopeOrdered base (left_procedure o s)
 
 -- ---- where a module begins, and what it exports
 

@@ -3,7 +3,6 @@
 use Rattle.std.specs.Prelude.{◌≡◌, ℕ, ◌+◌, ◌*◌, ◌≤◌, Bool, true, List, [], ◌∷◌, ◌++◌, map, Option, Some, None, nat_eq}
 use Rattle.std.specs.List.{AllByRecursion}
 use Rattle.std.specs.Map.{lookup}
-use Rattle.std.specs.Option.{is_some}
 use Rattle.typed_tree.specs.declared.types.Home.{Home}
 use Rattle.typed_tree.specs.declared.types.Home.TheVariants.{Predeclared, Module}
 use Rattle.typed_tree.specs.declared.types.TypeNo.{TypeNo}
@@ -11,34 +10,20 @@ use Rattle.typed_tree.specs.declared.shape.Shape.{Shape}
 use Rattle.typed_tree.specs.declared.shape.Shape.TheVariants as shape
 use Rattle.typed_tree.specs.declared.shape.Made.{Made}
 use Rattle.typed_tree.specs.declared.known_types.Types.{Types}
-use Rattle.typed_tree.specs.Known.{made_in, made_at, cells_at}
+use Rattle.typed_tree.specs.Known.{made_at, cells_at}
 use Rattle.check_type_expr.specs.Cells.{count_at}
 use Rattle.layout_storage.specs.Shapes.{shape_tree, known_trees, tree}
-
--- ---- the types that a type names
-
-abbrev pub result_named : Option TypeNo → List TypeNo
-result_named None = []
-result_named (Some t) = t ∷ []
-
--- a shape names these types; what a scalar type computes in is no part of it
-abbrev pub named_by : Shape → List TypeNo
-named_by (shape.Scalar s) = []
-named_by shape.Set = []
-named_by (shape.Array i e) = i ∷ e ∷ []
-named_by (shape.Record fs) = map (λ f. f.1) fs
-named_by (shape.Procedure p) = map (λ f. f.of) p.formals ++ result_named p.result
-named_by (shape.Open e) = e ∷ []
+use Rattle.law_modules.specs.There.{is_type_from, is_type, are_whole}
+pub use Rattle.law_modules.specs.There.{result_named, named_by}
 
 -- ---- types that are known
 
 abbrev pub is_known_from : Types → Home → ℕ → Bool
-is_known_from types Predeclared n = true
-is_known_from types (Module home) n = is_some (made_in types home n)
+is_known_from types home n = is_type_from types home n
 
 -- a type is predeclared, or it stands among these types
 abbrev pub is_known : Types → TypeNo → Bool
-is_known types t = is_known_from types t.home t.number
+is_known types t = is_type types t
 
 abbrev pub AreKnown : Types → List TypeNo → Type 0
 AreKnown types ts = AllByRecursion (λ t. is_known types t ≡ true) ts
@@ -111,3 +96,7 @@ abbrev pub NamedAreKnown : Type 0
 NamedAreKnown =
     (types : Types) → AreOrdered types → (t : TypeNo) (m : Made) → made_at types t ≡ Some m
     → AreKnown types (named_by m.shape)
+
+-- Each type that is known names types that are there.
+abbrev pub TypesAreWhole : Type 0
+TypesAreWhole = (types : Types) → AreOrdered types → are_whole types ≡ true

@@ -123,7 +123,7 @@ ghost use Rattle.law_well_formed.specs.FormedScopes.{DeclarationsLead};
 ghost use Rattle.law_well_formed.specs.FormedStmts.{StatementsAreFormed};
 ghost use Rattle.law_well_formed.specs.FormedTables.{TablesExportOwn, TablesNumberProcedures};
 ghost use Rattle.law_well_formed.specs.FormedSizes.{TypesFit, BodiesHaveSizes};
-ghost use Rattle.law_well_formed.specs.Ordered.{NamedAreKnown, TreesAreByShape};
+ghost use Rattle.law_well_formed.specs.Ordered.{NamedAreKnown, TreesAreByShape, TypesAreWhole};
 ghost use Rattle.check_scope.specs.Elaborated.{least, every};
 
 /// What the checker makes of expressions is well formed.
@@ -237,8 +237,10 @@ pub fn block_range_laws()
 pub fn ordered_laws()
     // The tree of a type is by its shape,
     ensures trees { TreesAreByShape }
-    // and the types that it names are known.
+    // the types that it names are known,
     ensures named { NamedAreKnown }
+    // and are there.
+    ensures whole { TypesAreWhole }
 {}
 
 /// Declarations lead from scopes whose types stand in order to such scopes. That is so where the least broken rule is

@@ -10,10 +10,10 @@ pub returns-clause-every_entered : goal.returns-clause-every_entered
 returns-clause-every_entered c = λ base s seen x h. entered_ordered base every s seen x h
 
 pub returns-clause-least_left : goal.returns-clause-least_left
-returns-clause-least_left c = λ base o s h. left_ordered base o s h
+returns-clause-least_left c = λ base o s h k. left_ordered base o s h k
 
 pub returns-clause-every_left : goal.returns-clause-every_left
-returns-clause-every_left c = λ base o s h. left_ordered base o s h
+returns-clause-every_left c = λ base o s h k. left_ordered base o s h k
 
 pub returns-clause-least_first : goal.returns-clause-least_first
 returns-clause-least_first c = λ home tables p q r. first_ordered home tables p q r

@@ -1,0 +1,5 @@
+pub mod Renumbered
+pub mod Behaving
+pub mod Linking
+pub mod Marks
+pub mod Orders

@@ -1,0 +1,2 @@
+pub mod Renumbered
+pub mod Orders
