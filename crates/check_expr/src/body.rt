@@ -4,10 +4,9 @@ ghost use Rattle.std.specs.Prelude.{◌≡◌, [], Ok, IfOk, map};
 ghost use Rattle.std.specs.List.{fold};
 ghost use Rattle.check_scope.specs.Elaborated.{least};
 ghost use Rattle.check_const.specs.Calls.{sort_of};
-ghost use Rattle.check_const.specs.Parts.{sign_place};
 ghost use Rattle.check_const.specs.Parts as constants;
 ghost use Rattle.check_call.specs.Functions.{form_of};
-ghost use Rattle.check_expr.specs.Meanings.{part, meanings_of, picks, head, item, as_constant, value_of, actual_in, look_in, breaches_in_all, wrong_count, routine_called, unary, bound, conversion, high, signed_first, relation, by_form, callee_value, call_in_expression, factor_in, term_in, pick_in, constant_factor_in, constant_term_in, item_in};
+ghost use Rattle.check_expr.specs.Meanings.{part, meanings_of, picks, head, item, as_constant, value_of, actual_in, look_in, breaches_in_all, wrong_count, routine_called, unary, bound, conversion, high, by_form, callee_value, call_in_expression, factor_in, term_in, pick_in, constant_factor_in, constant_term_in, item_in};
 
 use crate::fixed::denotation;
 use crate::pieces::{
@@ -36,7 +35,7 @@ use check_scope::{
     reported_beside,
 };
 use m2_rule::{Breach, Rule};
-use m2_tree::{AddOp, Designator, Expr, Item, MulOp, Operator, Pos, RelOp, Selector, Sign};
+use m2_tree::{AddOp, Designator, Expr, Item, MulOp, Operator, Pos, Selector};
 use std::alloc::{AllocError, Global};
 use tree_parts::Items;
 use typed_tree::{Argument, CHAR, Formal, Scalar, Standard, TypeNo, Value};
@@ -98,71 +97,28 @@ fn composition(
             }
         },
         Expr::Term(first, rest) => {
-            Ok(of_computed(product(alloc, scope, first.get(), rest.as_slice())?))
+            let first = first.get();
+            let left = value_of(alloc, scope, first)?;
+            let product = factors(alloc, scope, place_of(first), left, rest.as_slice())?;
+            Ok(of_computed(product))
         }
         Expr::Sum(sign, first, rest) => {
-            Ok(of_computed(sum(alloc, scope, *sign, first.get(), rest.as_slice())?))
+            let first = first.get();
+            let value = value_of(alloc, scope, first)?;
+            let left = signed_first(alloc, *sign, value)?;
+            let at = sign_place(*sign, place_of(first));
+            Ok(of_computed(terms(alloc, scope, at, left, rest.as_slice())?))
         }
         Expr::Relation(first, operator, second) => {
-            Ok(of_computed(relation(alloc, scope, first.get(), operator, second.get())?))
+            let first = first.get();
+            let second = second.get();
+            let left = value_of(alloc, scope, first)?;
+            let right = value_of(alloc, scope, second)?;
+            let types = &scope.types;
+            let value = relation_value(alloc, types, first, left, operator, second, right)?;
+            Ok(of_computed(value))
         }
     }
-}
-
-/// A product: the first factor, and the others with their operators.
-#[cycle(body)]
-#[inline(never)]
-fn product(
-    alloc: Global,
-    scope: &Scope<Breach>,
-    first: &Expr,
-    rest: &[(Operator<MulOp>, Expr)],
-) -> Result<Elaborated<Computed>, AllocError>
-    ensures { let m = meanings_of least first.now in
-        IfOk result
-        (λ v. v ≡ fold (factor_in scope.now m.fixed.at) (value_of least scope.now m) rest.now) }
-{
-    let left = value_of(alloc, scope, first)?;
-    factors(alloc, scope, place_of(first), left, rest)
-}
-
-/// A sum: the first term, which may have a sign, and the others with their operators.
-#[cycle(body)]
-#[inline(never)]
-fn sum(
-    alloc: Global,
-    scope: &Scope<Breach>,
-    sign: Option<Operator<Sign>>,
-    first: &Expr,
-    rest: &[(Operator<AddOp>, Expr)],
-) -> Result<Elaborated<Computed>, AllocError>
-    ensures { let m = meanings_of least first.now in
-        IfOk result (λ v. v ≡ fold (term_in scope.now (sign_place sign m.fixed.at))
-        (signed_first least sign (value_of least scope.now m)) rest.now) }
-{
-    let value = value_of(alloc, scope, first)?;
-    let left = signed_first(alloc, sign, value)?;
-    let at = sign_place(sign, place_of(first));
-    terms(alloc, scope, at, left, rest)
-}
-
-/// A relation between two values.
-#[cycle(body)]
-#[inline(never)]
-fn relation(
-    alloc: Global,
-    scope: &Scope<Breach>,
-    first: &Expr,
-    operator: &Operator<RelOp>,
-    second: &Expr,
-) -> Result<Elaborated<Computed>, AllocError>
-    ensures { let a = meanings_of least first.now in
-        let b = meanings_of least second.now in
-        IfOk result (λ v. v ≡ relation least scope.now a operator.now b) }
-{
-    let left = value_of(alloc, scope, first)?;
-    let right = value_of(alloc, scope, second)?;
-    relation_value(alloc, &scope.types, first, left, operator, second, right)
 }
 
 /// The value of an expression.
@@ -201,14 +157,24 @@ fn operation_value(
 {
     match e {
         Expr::Not(at, inner) => {
-            let value = value_of(alloc, scope, inner.get())?;
-            negation(alloc, *at, value)
+            let operand = value_of(alloc, scope, inner.get())?;
+            negation(alloc, *at, operand)
         }
         Expr::Bracketed(_, inner) => value_of(alloc, scope, inner.get()),
-        Expr::Term(first, rest) => product(alloc, scope, first.get(), rest.as_slice()),
-        Expr::Sum(sign, first, rest) => sum(alloc, scope, *sign, first.get(), rest.as_slice()),
-        Expr::Relation(first, operator, second) => {
-            relation(alloc, scope, first.get(), operator, second.get())
+        Expr::Term(front, rest) => {
+            let factor = value_of(alloc, scope, front.get())?;
+            factors(alloc, scope, place_of(front.get()), factor, rest.as_slice())
+        }
+        Expr::Sum(sign, front, rest) => {
+            let term = value_of(alloc, scope, front.get())?;
+            let start = signed_first(alloc, *sign, term)?;
+            let place = sign_place(*sign, place_of(front.get()));
+            terms(alloc, scope, place, start, rest.as_slice())
+        }
+        Expr::Relation(a, operator, b) => {
+            let x = value_of(alloc, scope, a.get())?;
+            let y = value_of(alloc, scope, b.get())?;
+            relation_value(alloc, &scope.types, a.get(), x, operator, b.get(), y)
         }
         Expr::Number(_, _)
         | Expr::Char(_, _)

@@ -34,7 +34,8 @@ pub fn statements(
 {
     let mut done = Ok(Items::from_vec(Vec::with_capacity(alloc, body.len())?));
     for written in body {
-        done = with_next(done, statement(alloc, scope, around, written)?)?;
+        let elaborated = statement(alloc, scope, around, written)?;
+        done = with_next(done, elaborated)?;
     }
     Ok(done)
 }
@@ -365,7 +366,8 @@ fn arms(
     let mut ranges = Ranges::new(alloc);
     let mut done = Ok(Items::from_vec(Vec::with_capacity(alloc, all.len())?));
     for written in all {
-        done = with_next(done, arm(alloc, scope, around, written, base, &mut ranges)?)?;
+        let elaborated = arm(alloc, scope, around, written, base, &mut ranges)?;
+        done = with_next(done, elaborated)?;
     }
     Ok(done)
 }
