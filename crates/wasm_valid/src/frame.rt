@@ -15,7 +15,7 @@ ghost use Rattle.wasm_valid.specs.Typing.{change, change_of, call_change, called
 use crate::code_scope::Scope;
 use crate::grouped::{Groups, in_groups};
 use crate::operands::Effect;
-use tree_parts::at;
+use tree_parts::{Items, at};
 use wasm_tree::{Numeric, Op, ValueType, label_of};
 
 /// What the code of one function may name, but for the labels of its blocks.
@@ -223,33 +223,37 @@ fn with_memory<'a>(scope: &Scope<'_>, effect: Effect<'a>) -> Option<Effect<'a>>
 }
 
 /// What the instruction does to the operands, whatever code stands inside it. Nothing where it names what is not there.
-pub fn effect_of<'a>(frame: &Frame<'a>, blocks: &[Option<ValueType>], op: Op) -> Option<Effect<'a>>
+pub fn effect_of<'a>(
+    frame: &Frame<'a>,
+    blocks: &Items<Option<ValueType>>,
+    op: &Op,
+) -> Option<Effect<'a>>
     ensures { (rest : List Op)
-        → option_map change_of result ≡ change (frame_context frame.now blocks.now) (open_instruction op rest) }
+        → option_map change_of result ≡ change (frame_context frame.now blocks.now) (open_instruction op.now rest) }
 {
     let narrow = Some(ValueType::I32);
     let wide = Some(ValueType::I64);
     match op {
         Op::Unreachable => Some(Effect::Leaves(None, None)),
-        Op::Block(given, _) => Some(Effect::Takes(None, None, given)),
-        Op::Loop(given, _) => Some(Effect::Takes(None, None, given)),
-        Op::If(given, _) => Some(Effect::Takes(None, narrow, given)),
-        Op::IfElse(given, _, _) => Some(Effect::Takes(None, narrow, given)),
-        Op::Br(l) => branch(blocks, l),
-        Op::BrIf(l) => branch_if(blocks, l),
-        Op::BrTable(_, last) => branch_table(blocks, last),
+        Op::Block(given, _) => Some(Effect::Takes(None, None, *given)),
+        Op::Loop(given, _) => Some(Effect::Takes(None, None, *given)),
+        Op::If(given, _) => Some(Effect::Takes(None, narrow, *given)),
+        Op::IfElse(given, _, _) => Some(Effect::Takes(None, narrow, *given)),
+        Op::Br(l) => branch(blocks.as_slice(), *l),
+        Op::BrIf(l) => branch_if(blocks.as_slice(), *l),
+        Op::BrTable(_, last) => branch_table(blocks.as_slice(), *last),
         Op::Return => Some(Effect::Leaves(None, frame.returns)),
-        Op::Call(function) => call(&frame.scope, function),
-        Op::CallIndirect(type_index) => call_slot(&frame.scope, type_index),
+        Op::Call(function) => call(&frame.scope, *function),
+        Op::CallIndirect(type_index) => call_slot(&frame.scope, *type_index),
         Op::Drop => Some(Effect::Drops),
-        Op::LocalGet(x) => gives(local(frame, x)),
-        Op::LocalSet(x) => takes(local(frame, x)),
-        Op::LocalTee(x) => keeps(local(frame, x)),
-        Op::GlobalGet(g) => gives(global(&frame.scope, g)),
+        Op::LocalGet(x) => gives(local(frame, *x)),
+        Op::LocalSet(x) => takes(local(frame, *x)),
+        Op::LocalTee(x) => keeps(local(frame, *x)),
+        Op::GlobalGet(g) => gives(global(&frame.scope, *g)),
         Op::Load(_) => with_memory(&frame.scope, Effect::Takes(None, narrow, wide)),
         Op::Store(_) => with_memory(&frame.scope, Effect::Takes(narrow, wide, None)),
         Op::I32Const(_) => Some(Effect::Takes(None, None, narrow)),
         Op::I64Const(_) => Some(Effect::Takes(None, None, wide)),
-        Op::Numeric(numeric) => Some(numeric_effect(numeric)),
+        Op::Numeric(numeric) => Some(numeric_effect(*numeric)),
     }
 }

@@ -17,15 +17,26 @@ use std::alloc::Global;
 use tree_parts::Items;
 use wasm_tree::{Op, ValueType, WFault, behind, first_of, split_ops};
 
+/// The first of a list, and those behind it.
+#[inline(always)]
+fn front_of(ops: &[Op]) -> Option<(&Op, &[Op])>
+    ensures { MatchOption result (ops.now ≡ []) (λ x. ops.now ≡ x.0.now ∷ x.1.now) }
+{
+    match ops {
+        [] => None,
+        [op, rest @ ..] => Some((op, rest)),
+    }
+}
+
 /// What the instruction does to the operands, whatever code stands inside it.
 fn step(
     frame: &Frame<'_>,
-    blocks: &[Option<ValueType>],
-    op: Op,
+    blocks: &Items<Option<ValueType>>,
+    op: &Op,
     operands: &mut Operands,
 ) -> Result<(), WFault>
     ensures { (rest : List Op)
-        → Steps result (MayRule (change (frame_context frame.now blocks.now) (open_instruction op rest)))
+        → Steps result (MayRule (change (frame_context frame.now blocks.now) (open_instruction op.now rest)))
         operands.old operands.new }
 {
     match effect_of(frame, blocks, op) {
@@ -65,13 +76,13 @@ fn check_inside(
     spares: &mut Spares,
     frame: &Frame<'_>,
     blocks: &mut Items<Option<ValueType>>,
-    op: Op,
+    op: &Op,
     rest: &[Op],
 ) -> Result<(), WFault>
-    ensures fits { Decides result (CodeFits (frame_context frame.now blocks.old) (open_instruction op rest.now)) }
+    ensures fits { Decides result (CodeFits (frame_context frame.now blocks.old) (open_instruction op.now rest.now)) }
     ensures blocks { OnOk result (blocks.new ≡ blocks.old) }
 {
-    match op {
+    match *op {
         Op::Block(t, n) => check_block(spares, frame, blocks, split_ops(rest, n).0, t, t),
         Op::Loop(t, n) => check_block(spares, frame, blocks, split_ops(rest, n).0, None, t),
         Op::If(t, n) => {
@@ -139,10 +150,10 @@ pub fn check_code(
 {
     let mut operands = no_operands(spares);
     let mut rest = code;
-    'ops: while let Some((op, others)) = first_of(rest) {
+    'ops: while let Some((op, others)) = front_of(rest) {
         check_inside(spares, frame, blocks, op, others)?;
-        step(frame, blocks.as_slice(), op, &mut operands)?;
-        rest = behind(op, others);
+        step(frame, blocks, op, &mut operands)?;
+        rest = behind(*op, others);
     }
     let decided = check_last(&mut operands, given);
     spares.keep(operands);
