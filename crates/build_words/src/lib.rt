@@ -1,9 +1,8 @@
 //! The words that the command lines of programs over builds share: the options of a build, and the files of a program.
 #![tactic(auto)]
 
-use anyhow::Result;
 use clap::{Arg, ArgAction, ArgMatches};
-use command_words::{COMMAND_LINE, Words, are_named, number_option, strings_of};
+use command_words::{COMMAND_LINE, Exit, are_named, number_option, strings_of};
 use m2c::{MAX_PAGES, MAX_WORKERS, Options};
 use std::alloc::Global;
 
@@ -51,31 +50,34 @@ pub fn files_word<'a>(alloc: Global) -> Arg<'a> {
 }
 
 /// The pages of memory. A number that they cannot be is reported.
-pub fn pages_of<R: Eprint>(rt: &R, program: &str, matches: &ArgMatches) -> Option<u32> {
+pub fn pages_of<R: Eprint>(rt: &R, program: &str, matches: &ArgMatches) -> Result<u32, Exit> {
     let text = matches.get_str(MEMORY).unwrap_or("");
-    let pages = number_option(rt, program, MEMORY, text, u64::from(MAX_PAGES))?;
-    Some(pages as u32)
+    match number_option(rt, program, MEMORY, text, u64::from(MAX_PAGES)) {
+        None => Err(Exit::Reported(COMMAND_LINE)),
+        Some(pages) => Ok(pages as u32),
+    }
 }
 
 /// The workers and the pages. A number that they cannot be is reported.
-pub fn options_of<R: Eprint>(rt: &R, program: &str, matches: &ArgMatches) -> Option<Options> {
+pub fn options_of<R: Eprint>(rt: &R, program: &str, matches: &ArgMatches) -> Result<Options, Exit> {
     let text = matches.get_str(WORKERS).unwrap_or("");
-    let workers = number_option(rt, program, WORKERS, text, MAX_WORKERS as u64)?;
-    let pages = pages_of(rt, program, matches)?;
-    Some(Options {
-        workers: workers as usize,
-        pages,
-    })
+    match number_option(rt, program, WORKERS, text, MAX_WORKERS as u64) {
+        None => Err(Exit::Reported(COMMAND_LINE)),
+        Some(workers) => Ok(Options {
+            workers: workers as usize,
+            pages: pages_of(rt, program, matches)?,
+        }),
+    }
 }
 
 /// The files of a program. An empty name is reported.
-pub fn files_of<R>(rt: &R, program: &str, matches: &ArgMatches) -> Result<Words<Vec<String>>>
+pub fn files_of<R>(rt: &R, program: &str, matches: &ArgMatches) -> Result<Vec<String>, Exit>
 where
     R: Eprint + AllocGlobal,
 {
     let files = matches.get_strs(FILE).unwrap_or(&[]);
     if !are_named(rt, program, FILE, files) {
-        return Ok(Words::Reported(COMMAND_LINE));
+        return Err(Exit::Reported(COMMAND_LINE));
     }
-    Ok(Words::Read(strings_of(rt.alloc(), files)?))
+    Ok(strings_of(rt.alloc(), files)?)
 }

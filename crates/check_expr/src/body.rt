@@ -4,15 +4,16 @@ ghost use Rattle.std.specs.Prelude.{◌≡◌, [], Ok, IfOk, map};
 ghost use Rattle.std.specs.List.{fold};
 ghost use Rattle.check_scope.specs.Elaborated.{least};
 ghost use Rattle.check_const.specs.Calls.{sort_of};
+ghost use Rattle.check_const.specs.Parts.{sign_place};
 ghost use Rattle.check_const.specs.Parts as constants;
 ghost use Rattle.check_call.specs.Functions.{form_of};
-ghost use Rattle.check_expr.specs.Meanings.{part, meanings_of, picks, head, item, as_constant, value_of, actual_in, look_in, breaches_in_all, wrong_count, routine_called, unary, bound, conversion, high, by_form, callee_value, call_in_expression, factor_in, term_in, pick_in, constant_factor_in, constant_term_in, item_in};
+ghost use Rattle.check_expr.specs.Meanings.{part, meanings_of, picks, head, item, as_constant, value_of, actual_in, look_in, breaches_in_all, wrong_count, routine_called, unary, bound, conversion, high, signed_first, relation, by_form, callee_value, call_in_expression, factor_in, term_in, pick_in, constant_factor_in, constant_term_in, item_in};
 
 use crate::fixed::denotation;
 use crate::pieces::{
     argument_by, breaches_in, call_given, field_at, first_name, first_of, formals_of, high_at,
     index_at, of_computed, place_of, related_parts, relation_value, signed_first, type_at, type_of,
-    unary_of, value_standing,
+    unary_of,
 };
 use check_call::{
     Called, Callee, Form, Unary, bound_at, callee_of, conversion_at, form_of, function_of,
@@ -27,12 +28,15 @@ use check_const_ops::{
     add_op, constant_operation as combined_constants, mul_op, negation as negated_constant,
     number_value, span_of,
 };
-use check_operator::{Computed, Designated, negation, operation_between, signature_of};
+use check_operator::{
+    Computed, Designated, negation, operation_between, signature_of, value_at_place,
+};
 use check_scope::{
-    Elaborated, Scope, Sought, beside, of_heading, plain, refusal_beside, report, reported_beside,
+    Elaborated, Meaningless, Scope, Sought, beside, of_heading, plain, refusal_beside, report,
+    reported_beside,
 };
 use m2_rule::{Breach, Rule};
-use m2_tree::{AddOp, Designator, Expr, Item, MulOp, Operator, Pos, Selector};
+use m2_tree::{AddOp, Designator, Expr, Item, MulOp, Operator, Pos, RelOp, Selector, Sign};
 use std::alloc::{AllocError, Global};
 use tree_parts::Items;
 use typed_tree::{Argument, CHAR, Formal, Scalar, Standard, TypeNo, Value};
@@ -94,28 +98,71 @@ fn composition(
             }
         },
         Expr::Term(first, rest) => {
-            let first = first.get();
-            let left = value_of(alloc, scope, first)?;
-            let product = factors(alloc, scope, place_of(first), left, rest.as_slice())?;
-            Ok(of_computed(product))
+            Ok(of_computed(product(alloc, scope, first.get(), rest.as_slice())?))
         }
         Expr::Sum(sign, first, rest) => {
-            let first = first.get();
-            let value = value_of(alloc, scope, first)?;
-            let left = signed_first(alloc, *sign, value)?;
-            let at = sign_place(*sign, place_of(first));
-            Ok(of_computed(terms(alloc, scope, at, left, rest.as_slice())?))
+            Ok(of_computed(sum(alloc, scope, *sign, first.get(), rest.as_slice())?))
         }
         Expr::Relation(first, operator, second) => {
-            let first = first.get();
-            let second = second.get();
-            let left = value_of(alloc, scope, first)?;
-            let right = value_of(alloc, scope, second)?;
-            let types = &scope.types;
-            let value = relation_value(alloc, types, first, left, operator, second, right)?;
-            Ok(of_computed(value))
+            Ok(of_computed(relation(alloc, scope, first.get(), operator, second.get())?))
         }
     }
+}
+
+/// A product: the first factor, and the others with their operators.
+#[cycle(body)]
+#[inline(never)]
+fn product(
+    alloc: Global,
+    scope: &Scope<Breach>,
+    first: &Expr,
+    rest: &[(Operator<MulOp>, Expr)],
+) -> Result<Elaborated<Computed>, AllocError>
+    ensures { let m = meanings_of least first.now in
+        IfOk result
+        (λ v. v ≡ fold (factor_in scope.now m.fixed.at) (value_of least scope.now m) rest.now) }
+{
+    let left = value_of(alloc, scope, first)?;
+    factors(alloc, scope, place_of(first), left, rest)
+}
+
+/// A sum: the first term, which may have a sign, and the others with their operators.
+#[cycle(body)]
+#[inline(never)]
+fn sum(
+    alloc: Global,
+    scope: &Scope<Breach>,
+    sign: Option<Operator<Sign>>,
+    first: &Expr,
+    rest: &[(Operator<AddOp>, Expr)],
+) -> Result<Elaborated<Computed>, AllocError>
+    ensures { let m = meanings_of least first.now in
+        IfOk result (λ v. v ≡ fold (term_in scope.now (sign_place sign m.fixed.at))
+        (signed_first least sign (value_of least scope.now m)) rest.now) }
+{
+    let value = value_of(alloc, scope, first)?;
+    let left = signed_first(alloc, sign, value)?;
+    let at = sign_place(sign, place_of(first));
+    terms(alloc, scope, at, left, rest)
+}
+
+/// A relation between two values.
+#[cycle(body)]
+#[inline(never)]
+fn relation(
+    alloc: Global,
+    scope: &Scope<Breach>,
+    first: &Expr,
+    operator: &Operator<RelOp>,
+    second: &Expr,
+) -> Result<Elaborated<Computed>, AllocError>
+    ensures { let a = meanings_of least first.now in
+        let b = meanings_of least second.now in
+        IfOk result (λ v. v ≡ relation least scope.now a operator.now b) }
+{
+    let left = value_of(alloc, scope, first)?;
+    let right = value_of(alloc, scope, second)?;
+    relation_value(alloc, &scope.types, first, left, operator, second, right)
 }
 
 /// The value of an expression.
@@ -127,8 +174,64 @@ pub fn value_of(
 ) -> Result<Elaborated<Computed>, AllocError>
     ensures { IfOk result (λ v. v ≡ value_of least scope.now (meanings_of least e.now)) }
 {
-    let designated = stands_for(alloc, scope, e)?;
-    Ok(value_standing(&scope.types, place_of(e), designated))
+    match e {
+        Expr::Not(_, _)
+        | Expr::Bracketed(_, _)
+        | Expr::Term(_, _)
+        | Expr::Sum(_, _, _)
+        | Expr::Relation(_, _, _) => operation_value(alloc, scope, e),
+        Expr::Number(_, _)
+        | Expr::Char(_, _)
+        | Expr::Text(_, _)
+        | Expr::Set(_, _, _)
+        | Expr::Use(_, _) => standing_value(alloc, scope, e),
+    }
+}
+
+/// The same, of an expression with operators.
+#[cycle(body)]
+#[inline(never)]
+#[tactic(auto, using(crate::proofs::Variants::values))]
+fn operation_value(
+    alloc: Global,
+    scope: &Scope<Breach>,
+    e: &Expr,
+) -> Result<Elaborated<Computed>, AllocError>
+    ensures { IfOk result (λ v. v ≡ value_of least scope.now (meanings_of least e.now)) }
+{
+    match e {
+        Expr::Not(at, inner) => {
+            let value = value_of(alloc, scope, inner.get())?;
+            negation(alloc, *at, value)
+        }
+        Expr::Bracketed(_, inner) => value_of(alloc, scope, inner.get()),
+        Expr::Term(first, rest) => product(alloc, scope, first.get(), rest.as_slice()),
+        Expr::Sum(sign, first, rest) => sum(alloc, scope, *sign, first.get(), rest.as_slice()),
+        Expr::Relation(first, operator, second) => {
+            relation(alloc, scope, first.get(), operator, second.get())
+        }
+        Expr::Number(_, _)
+        | Expr::Char(_, _)
+        | Expr::Text(_, _)
+        | Expr::Set(_, _, _)
+        | Expr::Use(_, _) => standing_value(alloc, scope, e),
+    }
+}
+
+/// What an expression stands for, taken as a value.
+#[cycle(body)]
+fn standing_value(
+    alloc: Global,
+    scope: &Scope<Breach>,
+    e: &Expr,
+) -> Result<Elaborated<Computed>, AllocError>
+    ensures { IfOk result (λ v. v ≡ value_of least scope.now (meanings_of least e.now)) }
+{
+    match stands_for(alloc, scope, e)? {
+        Ok(designated) => Ok(value_at_place(&scope.types, place_of(e), designated)),
+        Err(Meaningless::Broken(breach)) => Ok(Err(breach)),
+        Err(Meaningless::Headless(breach)) => Ok(Err(breach)),
+    }
 }
 
 /// What a designator stands for.

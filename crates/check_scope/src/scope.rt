@@ -132,20 +132,14 @@ fn known_in<'a>(scope: &'a Scope<Breach>, name: &[u8]) -> Sight<'a>
     }
 }
 
-fn meaning_copy(means: &Elaborated<Meaning>) -> Result<Elaborated<Meaning>, AllocError>
-    ensures { IfOk result (λ m. m ≡ means.now) }
-{
-    match means {
-        Err(breach) => Ok(Err(*breach)),
-        Ok(meaning) => Ok(Ok(meaning.copy()?)),
-    }
-}
-
 /// What a declaration says of a name.
 fn declared_means(means: &Elaborated<Meaning>) -> Result<Sought<Meaning>, AllocError>
     ensures { IfOk result (λ m. m ≡ plain means.now) }
 {
-    Ok(plain(meaning_copy(means)?))
+    match means {
+        Err(breach) => Ok(Err(Meaningless::Broken(*breach))),
+        Ok(meaning) => Ok(Ok(meaning.copy()?)),
+    }
 }
 
 /// What a heading says of a procedure.
@@ -272,7 +266,7 @@ fn with_known(
     name: &[u8],
     known: Known<Breach>,
 ) -> Result<(), AllocError>
-    ensures { OnOk result (scope.new ≡ with_known name.now sight_of scope.old) }
+    ensures { OnOk result (scope.new ≡ with_known name.now known scope.old) }
 {
     scope.own.enter(alloc, name, known)
 }
@@ -402,7 +396,7 @@ pub fn mark(
     name: &Ident,
     known: Known<Breach>,
 ) -> Result<(), AllocError>
-    ensures { OnOk result (scope.new ≡ mark_name name.now sight_of scope.old) }
+    ensures { OnOk result (scope.new ≡ mark_name name.now known scope.old) }
 {
     match scope.own.find(name.name.as_bytes()) {
         Some(_) => Ok(()),

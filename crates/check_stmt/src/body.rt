@@ -32,10 +32,9 @@ pub fn statements(
     ensures stays { OnOk result (scope.new ≡ scope.old) }
     ensures means { IfOk result (λ j. j ≡ statements least scope.old around.now body.now) }
 {
-    let mut done = Ok(Items::new(alloc));
+    let mut done = Ok(Items::from_vec(Vec::with_capacity(alloc, body.len())?));
     for written in body {
-        let elaborated = statement(alloc, scope, around, written)?;
-        done = with_next(done, elaborated)?;
+        done = with_next(done, statement(alloc, scope, around, written)?)?;
     }
     Ok(done)
 }
@@ -364,10 +363,9 @@ fn arms(
     ensures means { IfOk result (λ j. j ≡ arms least scope.old around.now base all.now) }
 {
     let mut ranges = Ranges::new(alloc);
-    let mut done = Ok(Items::new(alloc));
+    let mut done = Ok(Items::from_vec(Vec::with_capacity(alloc, all.len())?));
     for written in all {
-        let elaborated = arm(alloc, scope, around, written, base, &mut ranges)?;
-        done = with_next(done, elaborated)?;
+        done = with_next(done, arm(alloc, scope, around, written, base, &mut ranges)?)?;
     }
     Ok(done)
 }

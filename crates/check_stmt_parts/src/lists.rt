@@ -5,6 +5,7 @@ ghost use Rattle.check_scope.specs.Elaborated.{least};
 ghost use Rattle.check_stmt_parts.specs.Lists.{with_next, standing, if_statement, chosen_else, base_in, case_statement, arm_of, repeated_while, repeated_until, loop_statement, within, reported_in};
 
 use check_scope::{Elaborated, both};
+use m2_rule::lesser;
 use std::alloc::{AllocError, Global};
 use tree_parts::Items;
 use typed_tree::{Label, Place, TypeNo, TypedArm, TypedExpr, TypedStmt};
@@ -16,12 +17,18 @@ pub fn with_next<A: Drop>(
 ) -> Result<Elaborated<Items<A>>, AllocError>
     ensures { IfOk result (λ j. j ≡ with_next least done next) }
 {
-    match both(done, next) {
-        Err(breach) => Ok(Err(breach)),
-        Ok((mut all, last)) => {
-            all.push(last)?;
-            Ok(Ok(all))
-        }
+    match next {
+        Ok(last) => match done {
+            Ok(mut all) => {
+                all.push(last)?;
+                Ok(Ok(all))
+            }
+            Err(first) => Ok(Err(first)),
+        },
+        Err(breach) => match done {
+            Ok(_) => Ok(Err(breach)),
+            Err(first) => Ok(Err(lesser(first, breach))),
+        },
     }
 }
 

@@ -164,7 +164,7 @@ pub fn is_record(types: &Types, t: TypeNo) -> bool
 }
 
 fn record_by(types: &Types, at: Pos, designated: Designated) -> Elaborated<(TypeNo, Place)>
-    ensures { result ≡ record_by least types.now at designation }
+    ensures { result ≡ record_by least types.now at designated }
 {
     match designated {
         Designated::Variable(t, place) => {

@@ -1,6 +1,7 @@
 //! The words of a command line, as the programs read them.
 #![tactic(auto)]
 
+mod exit;
 mod options;
 
 ghost use Rattle.command_words.specs.Words.{number_of};
@@ -9,12 +10,13 @@ ghost use Rattle.std.specs.Prelude.{◌≡◌, ◌≤◌};
 ghost use Rattle.std.specs.Char.{is_ascii_digit};
 ghost use Rattle.std.specs.List.{list_all};
 
+pub use exit::Exit;
 pub use options::{
     are_named, is_named, matches_of, number_option, steps_of, steps_option, strings_of,
 };
 use std::env::FillError;
 use std::rt::Env;
-use std::{env, io, str};
+use std::{env, str};
 
 /// The version of all programs.
 pub const VERSION: &str = "0.1.0";
@@ -55,15 +57,6 @@ pub fn number(text: &str, most: u64) -> Option<u64>
     }
 }
 
-/// What reading the command line comes to.
-#[derive(Drop)]
-pub enum Words<T> {
-    /// What is read of it.
-    Read(T),
-    /// Nothing is to be done, and it is reported why: the status.
-    Reported(u8),
-}
-
 /// Where the first word stands that is no UTF-8 text. A word longer than 4096 bytes is passed over.
 fn first_that_is_no_text<R: Env + AllocGlobal>(rt: &R) -> Option<usize> {
     let mut bytes = vec![in rt.alloc(); 0; LONGEST_WORD].ok()?;
@@ -82,18 +75,18 @@ fn first_that_is_no_text<R: Env + AllocGlobal>(rt: &R) -> Option<usize> {
 }
 
 /// The words of the command line of this program, of which the first is its name. A word that is no UTF-8 text is reported
-/// on standard error, by its place; the name stands at place 0. The only error is that memory ran out.
+/// on standard error, by its place; the name stands at place 0. Nothing else is reported but that memory ran out.
 pub fn command_line<R: Env + Eprint + AllocGlobal>(
     rt: &R,
     program: &str,
-) -> io::Result<Words<Vec<String>>> {
+) -> Result<Vec<String>, Exit> {
     match env::args(rt) {
-        Ok(words) => Ok(Words::Read(words.collect(rt.alloc())?)),
+        Ok(words) => Ok(words.collect(rt.alloc())?),
         Err(error) => match first_that_is_no_text(rt) {
-            None => Err(error),
+            None => Err(error.into()),
             Some(at) => {
                 let _ = eprintln!(rt; "{program}: word {at} of the command line is no UTF-8 text");
-                Ok(Words::Reported(COMMAND_LINE))
+                Err(Exit::Reported(COMMAND_LINE))
             }
         },
     }

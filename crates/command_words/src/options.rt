@@ -5,8 +5,7 @@ ghost use Rattle.std.specs.List.{list_all};
 ghost use Rattle.std.specs.Option.{IfSome};
 ghost use Rattle.std.specs.Prelude.{◌≡◌, ◌≤◌, map, IfOk, string_bytes};
 
-use crate::{COMMAND_LINE, FAILED, Words, number};
-use anyhow::Result;
+use crate::{COMMAND_LINE, Exit, FAILED, number};
 use clap::error::ErrorKind;
 use clap::{Arg, ArgMatches, Command, Error};
 use std::alloc::{AllocError, Global};
@@ -26,12 +25,12 @@ pub fn matches_of<'a, R: Print + Eprint>(
     rt: &R,
     command: Command<'a>,
     words: &'a [String],
-) -> Result<Words<ArgMatches<'a>>> {
+) -> Result<ArgMatches<'a>, Exit> {
     match command.try_get_matches_from(words) {
-        Ok(matches) => Ok(Words::Read(matches)),
+        Ok(matches) => Ok(matches),
         Err(error) => {
             error.print(rt)?;
-            Ok(Words::Reported(status_of(&error)))
+            Err(Exit::Reported(status_of(&error)))
         }
     }
 }
@@ -108,12 +107,7 @@ pub fn steps_option<'a>(alloc: Global) -> Arg<'a> {
 }
 
 /// The most reductions that are asked for. A number that they cannot be is reported.
-pub fn steps_of<R: Eprint>(rt: &R, program: &str, matches: &ArgMatches) -> Option<u64> {
-    number_option(
-        rt,
-        program,
-        STEPS,
-        matches.get_str(STEPS).unwrap_or(""),
-        MOST_STEPS,
-    )
+pub fn steps_of<R: Eprint>(rt: &R, program: &str, matches: &ArgMatches) -> Result<u64, Exit> {
+    let text = matches.get_str(STEPS).unwrap_or("");
+    number_option(rt, program, STEPS, text, MOST_STEPS).ok_or(Exit::Reported(COMMAND_LINE))
 }

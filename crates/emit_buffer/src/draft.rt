@@ -1,6 +1,6 @@
 //! Code in the making, in one list of operations.
 
-ghost use Rattle.std.specs.Prelude.{◌≡◌, ◌∷◌, [], true, IfOk, OnOk, slice_set};
+ghost use Rattle.std.specs.Prelude.{◌≡◌, ◌∷◌, [], ◌<◌, true, vec_len, vec_capacity, IfOk, OnOk, slice_set};
 ghost use Rattle.def_scheme.specs.Coded.{address_local, number_local};
 ghost use Rattle.def_scheme.specs.Functions.{from_text};
 ghost use Rattle.emit_buffer.specs.Frames.{setting_of};
@@ -30,6 +30,18 @@ impl Model for Draft {
       ops = d.ops.items;
       counts = record { addresses = d.addresses; numbers = d.numbers; texts = d.texts };
     } };
+}
+
+/// For how many more operations there is room at least, if a list is full. Most functions have more than these.
+const MORE_OPS: usize = 32;
+
+/// Makes room for more operations. It is rarely called, so it stands apart.
+#[inline(never)]
+fn make_room(ops: &mut Vec<Op>) -> Result<(), AllocError>
+    ensures same { ops.new.items ≡ ops.old.items }
+    ensures room { OnOk result (vec_len ops.new < vec_capacity ops.new) }
+{
+    ops.reserve(MORE_OPS)
 }
 
 impl Draft {
@@ -91,7 +103,10 @@ impl Draft {
     fn append(&mut self, op: Op) -> Result<(), AllocError>
         ensures { OnOk result (self.new ≡ with_ops (op ∷ []) self.old) }
     {
-        self.ops.push(op)?;
+        if self.ops.len() == self.ops.capacity() {
+            make_room(&mut self.ops)?;
+        }
+        self.ops.push_reserved(op);
         Ok(())
     }
 

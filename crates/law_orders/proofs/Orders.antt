@@ -24,7 +24,7 @@ use Rattle.law_modules.specs.Linked.{Program, names, imported_names, all, variab
 use Rattle.law_modules.proofs.Links.{first_linked}
 use Rattle.law_modules.proofs.Placed.{enough, number_at, run_found, modules_link}
 use Rattle.law_simulation.specs.Behaves.{Behaves}
-use Rattle.law_orders.specs.Renumbered.{renumbered, AreAlike, SameConfig, BothGo}
+use Rattle.law_orders.specs.Renumbered.{renumber, AreAlike, SameConfig, BothGo}
 use Rattle.law_orders.specs.Orders.{IsOrder, NoModules, OneModule, all_in, LinksAlike, OrdersLinkAlike, OrdersBehave}
 use Rattle.law_orders.proofs.Linking.{store_with}
 use Rattle.law_orders.proofs.Marks.{Mark, Marks, homes, unmarked, with_left, left, marked_slots, marked_bytes, homes_unmarked, left_unmarked, slots_unmarked, bytes_unmarked, behind_host, get_more, get_behind, own_at, IsPlaced, AllMarked, AllLinked, order_linked}
@@ -146,7 +146,7 @@ row_is fs m (suc n) first a f (suc j) =
     let e : suc a + i ≡ a + suc i = omega arith in let g : first + suc i ≡ suc first + i = omega arith in
     ap (slice_get (behind_host fs)) e ∙ f (suc i) (omega (arith, lt)) ∙ ap (λ (k : ℕ). Some (Own m k)) g) j
 
-row_renumbered : (number : ℕ → ℕ) (m n first j : ℕ) → slice_get (own_from (number m) first n) j ≡ option_map (renumbered number) (slice_get (own_from m first n) j)
+row_renumbered : (number : ℕ → ℕ) (m n first j : ℕ) → slice_get (own_from (number m) first n) j ≡ option_map (renumber number) (slice_get (own_from m first n) j)
 row_renumbered number m zero first j = refl
 row_renumbered number m (suc n) first zero = refl
 row_renumbered number m (suc n) first (suc j) = row_renumbered number m n (suc first) j
@@ -162,7 +162,7 @@ module _ (p : Program) (pages : ℕ) (fs : List Callee) (ss : List (Option ℕ))
       by (suc (suc j)) =
           row_is fs (suc m) (count b) 0 a (λ i lt. placed.functions i lt ∙ (let e : i ≡ 0 + i = omega arith in ap (λ (k : ℕ). Some (Own (suc m) k)) e)) j
 
-own_renumbered : (number : ℕ → ℕ) (m n index : ℕ) → own_callee (number m) n index ≡ option_map (renumbered number) (own_callee m n index)
+own_renumbered : (number : ℕ → ℕ) (m n index : ℕ) → own_callee (number m) n index ≡ option_map (renumber number) (own_callee m n index)
 unfolding own_callee
 own_renumbered number m n zero = refl
 own_renumbered number m n (suc zero) = refl
@@ -172,16 +172,16 @@ own_renumbered number m n (suc (suc j)) = row_renumbered number m n 0 j
 abbrev in_row : List Callee → List (Option ℕ) → (slot : ℕ) → Option Callee
 in_row fs ss slot = option_and_then (λ a. slice_get (behind_host fs) a) (function_in_slot (slice_get ss slot))
 
-row_alike : (number : ℕ → ℕ) (fs gs : List Callee) (n x y : ℕ) (xs ys : List (Option ℕ)) → ((i : ℕ) → i < n → slice_get (behind_host gs) (y + i) ≡ option_map (renumbered number) (slice_get (behind_host fs) (x + i)))
-    → ((slot : ℕ) → in_row gs ys slot ≡ option_map (renumbered number) (in_row fs xs slot)) → (slot : ℕ) → in_row gs (somes_from y n ++ ys) slot ≡ option_map (renumbered number) (in_row fs (somes_from x n ++ xs) slot)
+row_alike : (number : ℕ → ℕ) (fs gs : List Callee) (n x y : ℕ) (xs ys : List (Option ℕ)) → ((i : ℕ) → i < n → slice_get (behind_host gs) (y + i) ≡ option_map (renumber number) (slice_get (behind_host fs) (x + i)))
+    → ((slot : ℕ) → in_row gs ys slot ≡ option_map (renumber number) (in_row fs xs slot)) → (slot : ℕ) → in_row gs (somes_from y n ++ ys) slot ≡ option_map (renumber number) (in_row fs (somes_from x n ++ xs) slot)
 row_alike number fs gs zero x y xs ys f rest slot = rest slot
 row_alike number fs gs (suc n) x y xs ys f rest zero =
     let e : y + 0 ≡ y = omega arith in let g : x + 0 ≡ x = omega arith in
-    ap (slice_get (behind_host gs)) (sym e) ∙ f 0 (omega arith) ∙ ap (λ (k : ℕ). option_map (renumbered number) (slice_get (behind_host fs) k)) g
+    ap (slice_get (behind_host gs)) (sym e) ∙ f 0 (omega arith) ∙ ap (λ (k : ℕ). option_map (renumber number) (slice_get (behind_host fs) k)) g
 row_alike number fs gs (suc n) x y xs ys f rest (suc slot) =
     row_alike number fs gs n (suc x) (suc y) xs ys (λ i lt.
     let e : suc y + i ≡ y + suc i = omega arith in let g : x + suc i ≡ suc x + i = omega arith in
-    ap (slice_get (behind_host gs)) e ∙ f (suc i) (omega (arith, lt)) ∙ ap (λ (k : ℕ). option_map (renumbered number) (slice_get (behind_host fs) k)) g) rest slot
+    ap (slice_get (behind_host gs)) e ∙ f (suc i) (omega (arith, lt)) ∙ ap (λ (k : ℕ). option_map (renumber number) (slice_get (behind_host fs) k)) g) rest slot
 
 -- ---- two orders
 
@@ -229,7 +229,7 @@ module _ (p : Program) (pages : ℕ) (fs gs : List Callee) (is js : List Instanc
   -- ---- slots
 
   slots_alike : (bs : Program) (ms : Marks) (a m : ℕ) → homes ms ≡ bs → left ms ≡ [] → AllMarked p fs is trees (marks_from a m bs) → AllMarked p gs js others ms → FromHere ms m
-      → (slot : ℕ) → in_row gs (marked_slots ms) slot ≡ option_map (renumbered number) (in_row fs (table_slots a bs) slot)
+      → (slot : ℕ) → in_row gs (marked_slots ms) slot ≡ option_map (renumber number) (in_row fs (table_slots a bs) slot)
   unfolding marks_from number_in
   slots_alike [] [] a m e l h g t slot = refl
   slots_alike [] (x ∷ ms) a m e l h g t slot = absurd cc
@@ -239,17 +239,17 @@ module _ (p : Program) (pages : ℕ) (fs gs : List Callee) (is js : List Instanc
       let same : d ≡ c = cc in
       let rest : homes ms ≡ bs = cc in
       let two : IsPlaced p gs js others c w.0 w.1 = subst (λ (x : TypedModule). IsPlaced p gs js others x w.0 w.1) same g.0 in
-      subst (λ (x : TypedModule). in_row gs (somes_from (w.0 + 5) (slots x) ++ marked_slots ms) slot ≡ option_map (renumbered number) (in_row fs (somes_from (a + 5) (slots c) ++ table_slots (a + count c) bs) slot)) (sym same)
+      subst (λ (x : TypedModule). in_row gs (somes_from (w.0 + 5) (slots x) ++ marked_slots ms) slot ≡ option_map (renumber number) (in_row fs (somes_from (a + 5) (slots c) ++ table_slots (a + count c) bs) slot)) (sym same)
       (row_alike number fs gs (slots c) (a + 5) (w.0 + 5) (table_slots (a + count c) bs) (marked_slots ms) (λ i lt. one i lt two (mark_here d w ms m t))
       (slots_alike bs ms (a + count c) (suc m) rest l h.1 g.1 (from_next (d, Some w) ms m t)) slot)
     where
-      one : (i : ℕ) → i < slots c → IsPlaced p gs js others c w.0 w.1 → number_from all_marks m m ≡ w.1 → slice_get (behind_host gs) (w.0 + 5 + i) ≡ option_map (renumbered number) (slice_get (behind_host fs) (a + 5 + i))
+      one : (i : ℕ) → i < slots c → IsPlaced p gs js others c w.0 w.1 → number_from all_marks m m ≡ w.1 → slice_get (behind_host gs) (w.0 + 5 + i) ≡ option_map (renumber number) (slice_get (behind_host fs) (a + 5 + i))
       one i lt two q =
           let within : 5 + i < count c = (let n = enough c in omega (arith, n, lt)) in
           let x : w.0 + 5 + i ≡ w.0 + (5 + i) = omega arith in
           let y : a + 5 + i ≡ a + (5 + i) = omega arith in
           ap (slice_get (behind_host gs)) x ∙ two.functions (5 + i) within ∙ ap (λ (k : ℕ). Some (Own (suc k) (5 + i))) (sym q)
-          ∙ sym (ap (λ (k : ℕ). option_map (renumbered number) (slice_get (behind_host fs) k)) y ∙ ap (option_map (renumbered number)) (h.0.functions (5 + i) within))
+          ∙ sym (ap (λ (k : ℕ). option_map (renumber number) (slice_get (behind_host fs) k)) y ∙ ap (option_map (renumber number)) (h.0.functions (5 + i) within))
 
 -- ---- all modules are linked
 
@@ -382,42 +382,42 @@ module _ (p : Program) (pages spare : ℕ) (room : bytes_in p + spare ≡ 65536 
     by (InBoth x) = ap (slice_get trees) x.same ∙ x.two.tree ∙ sym x.one.tree
     by (InNone x) = ap (slice_get trees) x.same ∙ x.tree' ∙ sym x.tree
 
-  functions_alike : (m index : ℕ) → callee_at new (σ m) index ≡ option_map (renumbered σ) (callee_at old m index)
+  functions_alike : (m index : ℕ) → callee_at new (σ m) index ≡ option_map (renumber σ) (callee_at old m index)
   unfolding number_in
   functions_alike zero zero = refl
   functions_alike zero (suc index) = refl
   functions_alike (suc k) index = by (found k) where
-    by : Found k → callee_at new (σ (suc k)) index ≡ option_map (renumbered σ) (callee_at old (suc k) index)
+    by : Found k → callee_at new (σ (suc k)) index ≡ option_map (renumber σ) (callee_at old (suc k) index)
     by (InBoth x) =
         ap (λ (n : ℕ). callee_at new (suc n) index) x.same ∙ callee_is p pages gs (marked_slots l.marks) bytes l.instances trees x.home x.a₂ x.m₂ x.two index
         ∙ ap (λ (n : ℕ). own_callee (suc n) (count x.home) index) (sym x.same) ∙ own_renumbered σ (suc k) (count x.home) index
-        ∙ sym (ap (option_map (renumbered σ)) (callee_is p pages fs ss bytes is (map typed_module p) x.home x.a₁ k x.one index))
+        ∙ sym (ap (option_map (renumber σ)) (callee_is p pages fs ss bytes is (map typed_module p) x.home x.a₁ k x.one index))
     by (InNone x) =
-        ap (λ (n : ℕ). callee_at new (suc n) index) x.same ∙ none gs l.instances x.two ∙ sym (ap (option_map (renumbered σ)) (none fs is x.one))
+        ap (λ (n : ℕ). callee_at new (suc n) index) x.same ∙ none gs l.instances x.two ∙ sym (ap (option_map (renumber σ)) (none fs is x.one))
       where
         none : (cs : List Callee) (js : List Instance) → slice_get js k ≡ None → option_and_then (λ (i : Instance). option_and_then (λ a. slice_get (behind_host cs) a) (slice_get i.functions index)) (slice_get js k) ≡ None
         none cs js e = ap (option_and_then (λ (i : Instance). option_and_then (λ a. slice_get (behind_host cs) a) (slice_get i.functions index))) e
 
-  rows_alike : (slot : ℕ) → in_row gs (None ∷ marked_slots l.marks) slot ≡ option_map (renumbered σ) (in_row fs (None ∷ ss) slot)
+  rows_alike : (slot : ℕ) → in_row gs (None ∷ marked_slots l.marks) slot ≡ option_map (renumber σ) (in_row fs (None ∷ ss) slot)
   rows_alike zero = refl
   rows_alike (suc slot) =
       slots_alike p pages fs gs is l.instances (map typed_module p) trees l.marks p l.marks 3 0 l.homes_are l.none_left first_marks l.placed from_start slot
-      ∙ ap (λ (xs : List (Option ℕ)). option_map (renumbered σ) (in_row fs xs slot)) (sym (append-nil (table_slots 3 p)))
+      ∙ ap (λ (xs : List (Option ℕ)). option_map (renumber σ) (in_row fs xs slot)) (sym (append-nil (table_slots 3 p)))
 
   abbrev through : List Callee → List (Option ℕ) → ℕ → Option Instance → Option Callee
   through cs xs slot i =
       option_and_then (λ (i : Instance). option_and_then (λ t. option_and_then (λ (table : Table). option_and_then (λ a. slice_get (behind_host cs) a) (function_in_slot (slice_get table.slots slot)))
       (slice_get (record { slots = None ∷ xs; max = Some (1 + slots_in p) } ∷ []) t)) (slice_get i.tables 0)) i
 
-  slots_are : (m slot : ℕ) → callee_in new (σ m) slot ≡ option_map (renumbered σ) (callee_in old m slot)
+  slots_are : (m slot : ℕ) → callee_in new (σ m) slot ≡ option_map (renumber σ) (callee_in old m slot)
   unfolding number_in
   slots_are zero slot = rows_alike slot
   slots_are (suc k) slot = by (found k) where
-    by : Found k → through gs (marked_slots l.marks) slot (slice_get l.instances (number_from l.marks k k)) ≡ option_map (renumbered σ) (through fs ss slot (slice_get is k))
+    by : Found k → through gs (marked_slots l.marks) slot (slice_get l.instances (number_from l.marks k k)) ≡ option_map (renumber σ) (through fs ss slot (slice_get is k))
     by (InBoth x) =
-        ap (through gs (marked_slots l.marks) slot) (ap (slice_get l.instances) x.same ∙ x.two.instance) ∙ rows_alike slot ∙ sym (ap (λ (i : Option Instance). option_map (renumbered σ) (through fs ss slot i)) x.one.instance)
+        ap (through gs (marked_slots l.marks) slot) (ap (slice_get l.instances) x.same ∙ x.two.instance) ∙ rows_alike slot ∙ sym (ap (λ (i : Option Instance). option_map (renumber σ) (through fs ss slot i)) x.one.instance)
     by (InNone x) =
-        ap (through gs (marked_slots l.marks) slot) (ap (slice_get l.instances) x.same ∙ x.two) ∙ sym (ap (λ (i : Option Instance). option_map (renumbered σ) (through fs ss slot i)) x.one)
+        ap (through gs (marked_slots l.marks) slot) (ap (slice_get l.instances) x.same ∙ x.two) ∙ sym (ap (λ (i : Option Instance). option_map (renumber σ) (through fs ss slot i)) x.one)
 
   abbrev global_of : ℕ → Option Instance → Option Value
   global_of index i = option_and_then (λ (i : Instance). option_and_then (λ a. slice_get (link_values p pages) a) (slice_get i.globals index)) i

@@ -15,7 +15,7 @@ use Rattle.wasm_tree.specs.declared.store.Memory.{Memory}
 use Rattle.wasm_tree.specs.declared.store.Store.{Store}
 use Rattle.wasm_tree.specs.Numbers.{load_size, store_bytes}
 use Rattle.wasm_tree.specs.Machine.{Label, Activation, Config, Going, Over, Trapped, Progress, trap_now, split_last, split_end, topmost, top_i32, top_i64, or_trap, callee_at, callee_in, global_at, memory_of, Typed, own_function, type_at, callee_type, agree, enter_function, stop_with, call_function, call_typed, push_value, return_to, inside, keep_operands, branch_to, branch_by, branched_if, with_local, bytes_at, paste_items, loads, stores, calculation, results_of, side, begun_layer, begin_instruction, end_block, next, reduce, run}
-use Rattle.law_orders.specs.Renumbered.{renumbered, moved, AreAlike, SameConfig, BothGo, BothEnd, BothTrap, SameProgress, RunsAreAlike}
+use Rattle.law_orders.specs.Renumbered.{renumber, renumber_activation, AreAlike, SameConfig, BothGo, BothEnd, BothTrap, SameProgress, RunsAreAlike}
 
 map_end : {A B : Type 0} (f : A → B) (xs : List A) (x : A) → map f (xs ++ x ∷ []) ≡ map f xs ++ f x ∷ []
 map_end f [] x = refl
@@ -45,12 +45,12 @@ module _ (number : ℕ → ℕ) (modules others : List WModule) (st new : Store)
   new_at ms = record new { memories = ms }
 
   abbrev all_moved : List Activation → List Activation
-  all_moved callers = map (moved number) callers
+  all_moved callers = map (renumber_activation number) callers
 
   both_trap : P trap_now trap_now
   both_trap = record { config = BothTrap; printed = refl }
 
-  go : (ms : List Memory) (now : Activation) (callers : List Activation) (out : List ℕ) → P (Going (old_at ms) now callers, out) (Going (new_at ms) (moved number now) (all_moved callers), out)
+  go : (ms : List Memory) (now : Activation) (callers : List Activation) (out : List ℕ) → P (Going (old_at ms) now callers, out) (Going (new_at ms) (renumber_activation number now) (all_moved callers), out)
   go ms now callers out = record { config = BothGo ms now callers; printed = refl }
 
   or_same : {A : Type 0} (o : Option A) (f g : A → Progress) → ((x : A) → P (f x) (g x)) → P (or_trap o f) (or_trap o g)
@@ -61,9 +61,9 @@ module _ (number : ℕ → ℕ) (modules others : List WModule) (st new : Store)
   or_is : {A : Type 0} (o q : Option A) (f g : A → Progress) → q ≡ o → ((x : A) → P (f x) (g x)) → P (or_trap o f) (or_trap q g)
   or_is {A = A} o q f g e k = subst (λ (q : Option A). P (or_trap o f) (or_trap q g)) (sym e) (or_same o f g k)
 
-  or_callee : (o q : Option Callee) (f g : Callee → Progress) → q ≡ option_map (renumbered number) o → ((x : Callee) → P (f x) (g (renumbered number x))) → P (or_trap o f) (or_trap q g)
+  or_callee : (o q : Option Callee) (f g : Callee → Progress) → q ≡ option_map (renumber number) o → ((x : Callee) → P (f x) (g (renumber number x))) → P (or_trap o f) (or_trap q g)
   or_callee o q f g e k = subst (λ (q : Option Callee). P (or_trap o f) (or_trap q g)) (sym e) (by o) where
-    by : (o : Option Callee) → P (or_trap o f) (or_trap (option_map (renumbered number) o) g)
+    by : (o : Option Callee) → P (or_trap o f) (or_trap (option_map (renumber number) o) g)
     by None = both_trap
     by (Some x) = k x
 
@@ -77,22 +77,22 @@ module _ (number : ℕ → ℕ) (modules others : List WModule) (st new : Store)
   type_same : (m t : ℕ) → type_at others (number m) t ≡ type_at modules m t
   type_same m t = rw (alike.trees m) refl
 
-  callee_same : (c : Callee) → callee_type others (renumbered number c) ≡ callee_type modules c
+  callee_same : (c : Callee) → callee_type others (renumber number c) ≡ callee_type modules c
   callee_same Put = refl
   callee_same Stop = refl
   callee_same (Own m f) = rw (own_same m f) refl
 
   module _ (ms : List Memory) where
-    pushes : (now : Activation) (callers : List Activation) (v : Value) → P (push_value (old_at ms) now callers v) (push_value (new_at ms) (moved number now) (all_moved callers) v)
+    pushes : (now : Activation) (callers : List Activation) (v : Value) → P (push_value (old_at ms) now callers v) (push_value (new_at ms) (renumber_activation number now) (all_moved callers) v)
     pushes now callers v = go ms (record now { stack = now.stack ++ v ∷ [] }) callers []
 
     returns : (callers : List Activation) (results : List Value) → P (return_to (old_at ms) callers results) (return_to (new_at ms) (all_moved callers) results)
     returns callers results =
-        subst (λ (o : Option (List Activation × Activation)). P (return_to (old_at ms) callers results) (elim o [ None ↦ (Over 0, []) | Some p ↦ (Going (new_at ms) (record p.1 { stack = p.1.stack ++ results }) p.0, []) ])) (sym (split_mapped (moved number) callers))
+        subst (λ (o : Option (List Activation × Activation)). P (return_to (old_at ms) callers results) (elim o [ None ↦ (Over 0, []) | Some p ↦ (Going (new_at ms) (record p.1 { stack = p.1.stack ++ results }) p.0, []) ])) (sym (split_mapped (renumber_activation number) callers))
         (by (split_last callers))
       where
         by : (o : Option (List Activation × Activation)) → P (elim o [ None ↦ (Over 0, []) | Some p ↦ (Going (old_at ms) (record p.1 { stack = p.1.stack ++ results }) p.0, []) ])
-            (elim (option_map (both_mapped (moved number)) o) [ None ↦ (Over 0, []) | Some p ↦ (Going (new_at ms) (record p.1 { stack = p.1.stack ++ results }) p.0, []) ])
+            (elim (option_map (both_mapped (renumber_activation number)) o) [ None ↦ (Over 0, []) | Some p ↦ (Going (new_at ms) (record p.1 { stack = p.1.stack ++ results }) p.0, []) ])
         by None = record { config = BothEnd 0; printed = refl }
         by (Some p) = go ms (record p.1 { stack = p.1.stack ++ results }) p.0 []
 
@@ -102,43 +102,43 @@ module _ (number : ℕ → ℕ) (modules others : List WModule) (st new : Store)
       by true = BothEnd k
       by false = BothTrap
 
-    calls : (now : Activation) (callers : List Activation) (c : Callee) → P (call_function modules (old_at ms) now callers c) (call_function others (new_at ms) (moved number now) (all_moved callers) (renumbered number c))
+    calls : (now : Activation) (callers : List Activation) (c : Callee) → P (call_function modules (old_at ms) now callers c) (call_function others (new_at ms) (renumber_activation number now) (all_moved callers) (renumber number c))
     calls now callers Put = or_same (top_i64 now.stack) _ _ (λ p. go ms (record now { stack = p.0 }) callers _)
     calls now callers Stop = or_same (top_i64 now.stack) _ _ (λ p. record { config = stops p.1; printed = refl })
     calls now callers (Own m f) =
         or_is (own_function modules m f) (own_function others (number m) f) _ _ (own_same m f) (λ t.
         or_same (split_end (length t.type.params) now.stack) _ _ (λ p.
-        subst (λ (xs : List Activation). P (Going (old_at ms) (enter_function m t p.1) (callers ++ record now { stack = p.0 } ∷ []), []) (Going (new_at ms) (moved number (enter_function m t p.1)) xs, []))
-        (map_end (moved number) callers (record now { stack = p.0 })) (go ms (enter_function m t p.1) (callers ++ record now { stack = p.0 } ∷ []) [])))
+        subst (λ (xs : List Activation). P (Going (old_at ms) (enter_function m t p.1) (callers ++ record now { stack = p.0 } ∷ []), []) (Going (new_at ms) (renumber_activation number (enter_function m t p.1)) xs, []))
+        (map_end (renumber_activation number) callers (record now { stack = p.0 })) (go ms (enter_function m t p.1) (callers ++ record now { stack = p.0 } ∷ []) [])))
 
-    calls_typed : (now : Activation) (callers : List Activation) (t u : Option FuncType) (c : Callee) → u ≡ t → P (call_typed modules (old_at ms) now callers t c) (call_typed others (new_at ms) (moved number now) (all_moved callers) u (renumbered number c))
+    calls_typed : (now : Activation) (callers : List Activation) (t u : Option FuncType) (c : Callee) → u ≡ t → P (call_typed modules (old_at ms) now callers t c) (call_typed others (new_at ms) (renumber_activation number now) (all_moved callers) u (renumber number c))
     calls_typed now callers t u c e =
-        subst (λ (b : Bool). P (call_typed modules (old_at ms) now callers t c) (if b then call_function others (new_at ms) (moved number now) (all_moved callers) (renumbered number c) else trap_now))
-        (sym (ap (λ (x : Option FuncType). agree x (callee_type others (renumbered number c))) e ∙ ap (agree t) (callee_same c)))
+        subst (λ (b : Bool). P (call_typed modules (old_at ms) now callers t c) (if b then call_function others (new_at ms) (renumber_activation number now) (all_moved callers) (renumber number c) else trap_now))
+        (sym (ap (λ (x : Option FuncType). agree x (callee_type others (renumber number c))) e ∙ ap (agree t) (callee_same c)))
         (if_same (agree t (callee_type modules c)) _ _ _ _ (calls now callers c) both_trap)
 
-    branches_to : (now : Activation) (callers : List Activation) (o : Option (List Label × Label)) → P (branch_to (old_at ms) now callers o) (branch_to (new_at ms) (moved number now) (all_moved callers) o)
+    branches_to : (now : Activation) (callers : List Activation) (o : Option (List Label × Label)) → P (branch_to (old_at ms) now callers o) (branch_to (new_at ms) (renumber_activation number now) (all_moved callers) o)
     branches_to now callers None = or_same (split_end now.arity now.stack) _ _ (λ p. returns callers p.1)
     branches_to now callers (Some l) = or_same (split_end l.1.arity now.stack) _ _ (λ p. go ms (record now { labels = l.0; rest = l.1.again; stack = keep_operands l.1.height p }) callers [])
 
-    branches_by : (now : Activation) (callers : List Activation) (label : ℕ) → P (branch_by (old_at ms) now callers label) (branch_by (new_at ms) (moved number now) (all_moved callers) label)
+    branches_by : (now : Activation) (callers : List Activation) (label : ℕ) → P (branch_by (old_at ms) now callers label) (branch_by (new_at ms) (renumber_activation number now) (all_moved callers) label)
     branches_by now callers label = if_same (nat_le label (length now.labels)) _ _ _ _ (branches_to now callers (split_last (take (length now.labels - label) now.labels))) both_trap
 
-    begins : (now : Activation) (callers : List Activation) (arity : ℕ) (again body : List Instr) → P (inside (old_at ms) now callers arity again body) (inside (new_at ms) (moved number now) (all_moved callers) arity again body)
+    begins : (now : Activation) (callers : List Activation) (arity : ℕ) (again body : List Instr) → P (inside (old_at ms) now callers arity again body) (inside (new_at ms) (renumber_activation number now) (all_moved callers) arity again body)
     begins now callers arity again body =
         go ms (record now { labels = now.labels ++ record { arity = arity; height = length now.stack; again = again; rest = now.rest } ∷ []; rest = body }) callers []
 
-    sets : (now : Activation) (callers : List Activation) (x : ℕ) (v : Value) → P (with_local (old_at ms) now callers x v) (with_local (new_at ms) (moved number now) (all_moved callers) x v)
+    sets : (now : Activation) (callers : List Activation) (x : ℕ) (v : Value) → P (with_local (old_at ms) now callers x v) (with_local (new_at ms) (renumber_activation number now) (all_moved callers) x v)
     sets now callers x v = if_same (nat_lt x (length now.locals)) _ _ _ _ (go ms (record now { locals = slice_set now.locals x v }) callers []) both_trap
 
-    loaded : (now : Activation) (callers : List Activation) (kind : Load) (place : ℕ) (m : ℕ × Memory) → P (loads (old_at ms) now callers kind place m) (loads (new_at ms) (moved number now) (all_moved callers) kind place m)
+    loaded : (now : Activation) (callers : List Activation) (kind : Load) (place : ℕ) (m : ℕ × Memory) → P (loads (old_at ms) now callers kind place m) (loads (new_at ms) (renumber_activation number now) (all_moved callers) kind place m)
     loaded now callers kind place m = or_same (bytes_at (load_size kind) place m.1.bytes) _ _ (λ bytes. pushes now callers _)
 
-    stored : (now : Activation) (callers : List Activation) (place : ℕ) (bytes : List ℕ) (m : ℕ × Memory) → P (stores (old_at ms) now callers place bytes m) (stores (new_at ms) (moved number now) (all_moved callers) place bytes m)
+    stored : (now : Activation) (callers : List Activation) (place : ℕ) (bytes : List ℕ) (m : ℕ × Memory) → P (stores (old_at ms) now callers place bytes m) (stores (new_at ms) (renumber_activation number now) (all_moved callers) place bytes m)
     stored now callers place bytes m =
         if_same (nat_le (place + length bytes) (length m.1.bytes)) _ _ _ _ (go (slice_set ms m.0 (record m.1 { bytes = paste_items m.1.bytes place bytes })) now callers []) both_trap
 
-    layer_same : (now : Activation) (callers : List Activation) (i : Instr) (x : layer.Instr-F Instr) → P (begun_layer modules (old_at ms) now callers i x) (begun_layer others (new_at ms) (moved number now) (all_moved callers) i x)
+    layer_same : (now : Activation) (callers : List Activation) (i : Instr) (x : layer.Instr-F Instr) → P (begun_layer modules (old_at ms) now callers i x) (begun_layer others (new_at ms) (renumber_activation number now) (all_moved callers) i x)
     layer_same now callers i layer.Unreachable = both_trap
     layer_same now callers i (layer.Block t body) = begins now callers (results_of t) now.rest body
     layer_same now callers i (layer.Loop t body) = begins now callers 0 (i ∷ now.rest) body
@@ -168,11 +168,11 @@ module _ (number : ℕ → ℕ) (modules others : List WModule) (st new : Store)
     layer_same now callers i (layer.I64Const n) = pushes now callers (I64 n)
     layer_same now callers i (layer.Numeric o) = or_same (calculation o now.stack) _ _ (λ p. pushes (record now { stack = p.0 }) callers p.1)
 
-    ends : (now : Activation) (callers : List Activation) (o : Option (List Label × Label)) → P (end_block (old_at ms) now callers o) (end_block (new_at ms) (moved number now) (all_moved callers) o)
+    ends : (now : Activation) (callers : List Activation) (o : Option (List Label × Label)) → P (end_block (old_at ms) now callers o) (end_block (new_at ms) (renumber_activation number now) (all_moved callers) o)
     ends now callers None = branches_to now callers None
     ends now callers (Some l) = go ms (record now { labels = l.0; rest = l.1.rest }) callers []
 
-    next_same : (now : Activation) (callers : List Activation) (is : List Instr) → P (next modules (old_at ms) now callers is) (next others (new_at ms) (moved number now) (all_moved callers) is)
+    next_same : (now : Activation) (callers : List Activation) (is : List Instr) → P (next modules (old_at ms) now callers is) (next others (new_at ms) (renumber_activation number now) (all_moved callers) is)
     next_same now callers [] = ends now callers (split_last now.labels)
     next_same now callers (i ∷ rest) = layer_same (record now { rest = rest }) callers i (out-Instr i)
 

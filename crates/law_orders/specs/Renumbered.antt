@@ -10,22 +10,22 @@ use Rattle.wasm_tree.specs.Machine.{Activation, Config, Going, Over, Trapped, Pr
 
 -- the number of each instance is another one
 module _ (number : ℕ → ℕ) where
-  abbrev pub renumbered : Callee → Callee
-  renumbered Put = Put
-  renumbered Stop = Stop
-  renumbered (Own m f) = Own (number m) f
+  abbrev pub renumber : Callee → Callee
+  renumber Put = Put
+  renumber Stop = Stop
+  renumber (Own m f) = Own (number m) f
 
-  abbrev pub moved : Activation → Activation
-  moved a = record a { instance = number a.instance }
+  abbrev pub renumber_activation : Activation → Activation
+  renumber_activation a = record a { instance = number a.instance }
 
   -- Each index of an instance stands for the same in both stores: for the same function of the
   -- same module, and for the same global and memory.
   pub record AreAlike (modules others : List WModule) (st new : Store) : Type 0 where
     pub trees : (m : ℕ) → slice_get others (number m) ≡ slice_get modules m
     pub functions : (m index : ℕ)
-        → callee_at new (number m) index ≡ option_map renumbered (callee_at st m index)
+        → callee_at new (number m) index ≡ option_map renumber (callee_at st m index)
     pub slots : (m slot : ℕ)
-        → callee_in new (number m) slot ≡ option_map renumbered (callee_in st m slot)
+        → callee_in new (number m) slot ≡ option_map renumber (callee_in st m slot)
     pub globals : (m index : ℕ) → global_at new (number m) index ≡ global_at st m index
     pub memories : (m : ℕ) (ms : List Memory)
         → memory_of (record new { memories = ms }) (number m)
@@ -35,7 +35,8 @@ module _ (number : ℕ → ℕ) where
   pub data SameConfig (st new : Store) : Config → Config → Type 0 where
     BothGo : (ms : List Memory) (now : Activation) (callers : List Activation)
         → SameConfig st new (Going (record st { memories = ms }) now callers)
-        (Going (record new { memories = ms }) (moved now) (map moved callers))
+        (Going (record new { memories = ms }) (renumber_activation now)
+        (map renumber_activation callers))
     BothEnd : (k : ℕ) → SameConfig st new (Over k) (Over k)
     BothTrap : SameConfig st new Trapped Trapped
 

@@ -131,12 +131,12 @@ module _ {T : Type 0} where
   is_taken (Headed r) = true
   is_taken (Declared o r) = true
 
-  abbrev pub picked : (Known T → Bool) → Option (Known T) → Bool
-  picked pick None = false
-  picked pick (Some k) = pick k
+  abbrev pub holds_of : (Known T → Bool) → Option (Known T) → Bool
+  holds_of pick None = false
+  holds_of pick (Some k) = pick k
 
   abbrev pub TakenIn : List (List ℕ × Known T) → List ℕ → Type 0
-  TakenIn es name = picked is_taken (find_name name es) ≡ true
+  TakenIn es name = holds_of is_taken (find_name name es) ≡ true
 
   pub free_untaken : (k : Known T) → is_free (Some k) ≡ true → is_taken k ≡ false
   free_untaken Later h = refl
@@ -145,11 +145,11 @@ module _ {T : Type 0} where
   free_untaken (Headed r) h = absurd cc
   free_untaken (Declared o r) h = absurd cc
 
-  other_value : (c : Bool) (v k : Known T) (o : Option (Known T)) → is_taken k ≡ true → picked is_taken (cond c (Some v) o) ≡ true → picked is_taken (cond c (Some k) o) ≡ true
+  other_value : (c : Bool) (v k : Known T) (o : Option (Known T)) → is_taken k ≡ true → holds_of is_taken (cond c (Some v) o) ≡ true → holds_of is_taken (cond c (Some k) o) ≡ true
   other_value true v k o h p = h
   other_value false v k o h p = p
 
-  other_rest : (c : Bool) (v : Known T) (o o' : Option (Known T)) → (picked is_taken o ≡ true → picked is_taken o' ≡ true) → picked is_taken (cond c (Some v) o) ≡ true → picked is_taken (cond c (Some v) o') ≡ true
+  other_rest : (c : Bool) (v : Known T) (o o' : Option (Known T)) → (holds_of is_taken o ≡ true → holds_of is_taken o' ≡ true) → holds_of is_taken (cond c (Some v) o) ≡ true → holds_of is_taken (cond c (Some v) o') ≡ true
   other_rest true v o o' f p = p
   other_rest false v o o' f p = f p
 
@@ -161,11 +161,11 @@ module _ {T : Type 0} where
   taken_entered y name k [] h p = absurd cc
   taken_entered y name k (e ∷ es) h p = taken_by y name k e es (same_name name e.0) h p (taken_entered y name k es h)
 
-  here_taken : (c : Bool) (k : Known T) (o : Option (Known T)) → c ≡ true → is_taken k ≡ true → picked is_taken (cond c (Some k) o) ≡ true
+  here_taken : (c : Bool) (k : Known T) (o : Option (Known T)) → c ≡ true → is_taken k ≡ true → holds_of is_taken (cond c (Some k) o) ≡ true
   here_taken true k o e h = h
   here_taken false k o e h = absurd cc
 
-  there_taken : (c : Bool) (v : Known T) (o : Option (Known T)) → c ≡ false → picked is_taken o ≡ true → picked is_taken (cond c (Some v) o) ≡ true
+  there_taken : (c : Bool) (v : Known T) (o : Option (Known T)) → c ≡ false → holds_of is_taken o ≡ true → holds_of is_taken (cond c (Some v) o) ≡ true
   there_taken true v o e h = absurd cc
   there_taken false v o e h = h
 
@@ -227,14 +227,14 @@ module _ {T : Type 0} where
   order_same n c k e es None true a b h i d p = entered_by (number_of k) (is_taken k) n c _ _ _ h i p
   order_same n c k e es None false a b h i d p = entered_by (number_of k) (is_taken k) n c _ _ _ h i (order_none n c es p.1 p.0)
 
-  order_by : (n c : ℕ) (name : List ℕ) (k : Known T) (e : List ℕ × Known T) (es : List (List ℕ × Known T)) (b : Bool) → number_of k ≡ None → is_taken k ≡ true → picked is_done (cond b (Some e.1) (find_name name es)) ≡ false
-      → Order n c (e ∷ es) → (picked is_done (find_name name es) ≡ false → (i : ℕ) → Order i c es → Order i c (enter_name name k es)) → Order n c (cond b ((e.0, k) ∷ es) (e ∷ enter_name name k es))
+  order_by : (n c : ℕ) (name : List ℕ) (k : Known T) (e : List ℕ × Known T) (es : List (List ℕ × Known T)) (b : Bool) → number_of k ≡ None → is_taken k ≡ true → holds_of is_done (cond b (Some e.1) (find_name name es)) ≡ false
+      → Order n c (e ∷ es) → (holds_of is_done (find_name name es) ≡ false → (i : ℕ) → Order i c es → Order i c (enter_name name k es)) → Order n c (cond b ((e.0, k) ∷ es) (e ∷ enter_name name k es))
   order_by n c name k e es true h i d p f = order_same n c k e es (number_of e.1) (is_taken e.1) refl refl h i d p
   order_by n c name k e es false h i d p f =
       order_map (number_of e.1) (is_taken e.1) n c (Order n c es) (Order (suc n) c es) (NoneDone es) (Order n c (enter_name name k es)) (Order (suc n) c (enter_name name k es)) (NoneDone (enter_name name k es))
       (f d n) (f d (suc n)) (none_entered name k es h) p
 
-  pub order_entered : (name : List ℕ) (k : Known T) (es : List (List ℕ × Known T)) → number_of k ≡ None → is_taken k ≡ true → picked is_done (find_name name es) ≡ false → (n c : ℕ) → Order n c es → Order n c (enter_name name k es)
+  pub order_entered : (name : List ℕ) (k : Known T) (es : List (List ℕ × Known T)) → number_of k ≡ None → is_taken k ≡ true → holds_of is_done (find_name name es) ≡ false → (n c : ℕ) → Order n c es → Order n c (enter_name name k es)
   order_entered name k [] h i d n c p = entered_by (number_of k) (is_taken k) n c _ _ _ h i p
   order_entered name k (e ∷ es) h i d n c p = order_by n c name k e es (same_name name e.0) h i d p (λ z j q. order_entered name k es h i z j c q)
 
@@ -263,11 +263,11 @@ module _ {T : Type 0} where
   first_by n c k e es None true a b h p = absurd cc
   first_by n c k e es None false a b h p = next_by n c (number_of k) (is_taken k) h _ _ _ (sym p.0) (order_none (suc n) (suc c) es p.1 (ap suc p.0))
 
-  entry_taken : (b : Bool) (k : Known T) (o : Option (Known T)) → b ≡ true → picked is_taken (cond b (Some k) o) ≡ true → is_taken k ≡ true
+  entry_taken : (b : Bool) (k : Known T) (o : Option (Known T)) → b ≡ true → holds_of is_taken (cond b (Some k) o) ≡ true → is_taken k ≡ true
   entry_taken true k o e h = h
   entry_taken false k o e h = absurd cc
 
-  rest_taken : (b : Bool) (k : Known T) (o : Option (Known T)) → b ≡ false → picked is_taken (cond b (Some k) o) ≡ true → picked is_taken o ≡ true
+  rest_taken : (b : Bool) (k : Known T) (o : Option (Known T)) → b ≡ false → holds_of is_taken (cond b (Some k) o) ≡ true → holds_of is_taken o ≡ true
   rest_taken true k o e h = absurd cc
   rest_taken false k o e h = h
 

@@ -4,7 +4,7 @@ use crate::finding::{Program, find_program};
 use crate::pages::say_pages;
 use crate::showing::show;
 use anyhow::Result;
-use command_words::{FAILED, Words};
+use command_words::{Exit, FAILED};
 use explain_types::type_words;
 use m2_tree::Refusal;
 use m2c::{Open, Options, Outcome, SourceFile, build};
@@ -104,26 +104,23 @@ where
 }
 
 /// Finds and builds the program of this file. What is refused, and what failed, is reported: the status.
-pub fn build_program<R>(rt: &R, setting: &Setting, path: &str) -> Result<Words<Modules>>
+pub fn build_program<R>(rt: &R, setting: &Setting, path: &str) -> Result<Modules, Exit>
 where
     R: Files + Print + Eprint + AllocGlobal + Threads + Sync,
 {
-    let program = match find_program(rt, setting, path)? {
-        Words::Read(program) => program,
-        Words::Reported(status) => return Ok(Words::Reported(status)),
-    };
+    let program = find_program(rt, setting, path)?;
     match build(rt, rt.alloc(), &program.files, setting.options, &Open) {
         Ok(Outcome::Refused(refusals)) => {
-            Ok(Words::Reported(show_refused(rt, setting, &program, &refusals)?))
+            Err(Exit::Reported(show_refused(rt, setting, &program, &refusals)?))
         }
-        Ok(Outcome::Built { link, modules }) => Ok(Words::Read(Modules {
+        Ok(Outcome::Built { link, modules }) => Ok(Modules {
             files: program.files,
             link,
             others: modules,
-        })),
+        }),
         Err(fault) => {
             say_fault(rt, path, ProgramFault::from(fault));
-            Ok(Words::Reported(FAILED))
+            Err(Exit::Reported(FAILED))
         }
     }
 }

@@ -2,7 +2,7 @@
 
 use anyhow::Result;
 use command_words::{COMMAND_LINE, FAILED};
-use m2_scan::{TokenRule, ScanError, scan};
+use m2_scan::{ScanError, TokenRule, scan};
 use m2_tree::{Lexeme, MAX_NAME, Token, is_console};
 use std::alloc::{AllocError, Global};
 use std::fs::File;

@@ -2,7 +2,7 @@
 
 use crate::places::Places;
 use anyhow::Result;
-use command_words::{FAILED, Words};
+use command_words::{Exit, FAILED};
 use find_modules::{FindFault, FoundModule, Part, Sources, find};
 use m2_tree::Name;
 use m2c::SourceFile;
@@ -145,20 +145,20 @@ fn found_for<R: Files + Eprint + AllocGlobal>(
     setting: &Setting,
     path: &str,
     text: Vec<u8>,
-) -> Result<Words<Program>> {
+) -> Result<Program, Exit> {
     let places = Places::of(rt, path, &setting.libraries)?;
     match find(rt.alloc(), &places, &text) {
         Ok(modules) => {
             let program = program_of(rt, &places, path, text)?;
-            Ok(Words::Read(with_modules(rt, setting, &places, modules, program)?))
+            Ok(with_modules(rt, setting, &places, modules, program)?)
         }
         Err(FindFault::NoMemory) => {
             let _ = eprintln!(rt; "{PROGRAM}: no memory left (90)");
-            Ok(Words::Reported(FAILED))
+            Err(Exit::Reported(FAILED))
         }
         Err(FindFault::Unread(words)) => {
             let _ = eprintln!(rt; "{PROGRAM}: cannot read {words}");
-            Ok(Words::Reported(FAILED))
+            Err(Exit::Reported(FAILED))
         }
     }
 }
@@ -168,12 +168,12 @@ pub fn find_program<R: Files + Eprint + AllocGlobal>(
     rt: &R,
     setting: &Setting,
     path: &str,
-) -> Result<Words<Program>> {
+) -> Result<Program, Exit> {
     match fs::read(rt, path) {
         Ok(text) => found_for(rt, setting, path, text),
         Err(error) => {
             let _ = eprintln!(rt; "{PROGRAM}: cannot read {path}: {error}");
-            Ok(Words::Reported(FAILED))
+            Err(Exit::Reported(FAILED))
         }
     }
 }

@@ -28,14 +28,14 @@ use crate::passes::show_pass;
 use crate::running::run_file;
 use crate::saving::build_into;
 use anyhow::Result;
-use command_words::{FAILED, Words};
+use command_words::{Exit, FAILED};
 use std::process::ExitCode;
 use std::rt::{Env, Files};
 use std::thread::Threads;
 use tool_words::{Asked, PROGRAM, read_command_line};
 
 /// Does what was asked for, and answers the status. An error if memory or a stream failed.
-fn answer<R, P>(rt: &R, asked: &Asked, out: P) -> Result<u8>
+fn answer<R, P>(rt: &R, asked: &Asked, out: P) -> Result<u8, Exit>
 where
     R: Files + Print + Eprint + AllocGlobal + Threads + Sync,
     P: Print + Drop,
@@ -58,24 +58,22 @@ where
             setting,
         } => show_pass(rt, setting, *pass, program.as_str()),
         Asked::Explain { topic } => Ok(explain(rt, topic.as_str())),
-        Asked::New { name } => create(rt, name.as_str()),
+        Asked::New { name } => Ok(create(rt, name.as_str())?),
     }
 }
 
 /// Does what the words ask for, and answers the status.
-fn elaborate<R, P>(rt: &R, out: P) -> Result<u8>
+fn elaborate<R, P>(rt: &R, out: P) -> Result<u8, Exit>
 where
     R: Files + Env + Print + Eprint + AllocGlobal + Threads + Sync,
     P: Print + Drop,
 {
-    match read_command_line(rt)? {
-        Words::Reported(status) => Ok(status),
-        Words::Read(asked) => answer(rt, &asked, out),
-    }
+    let asked = read_command_line(rt)?;
+    answer(rt, &asked, out)
 }
 
 fn main(rt: HostRuntime) -> ExitCode {
-    match elaborate(&rt, rt.stdout()) {
+    match elaborate(&rt, rt.stdout()).or_else(Exit::status) {
         Ok(status) => ExitCode::from(status),
         Err(error) => {
             let _ = eprintln!(rt; "{PROGRAM}: {error}");

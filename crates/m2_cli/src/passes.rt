@@ -5,7 +5,7 @@ use crate::finding::Program;
 use crate::output::say_output_fault;
 use crate::showing::show;
 use anyhow::Result;
-use command_words::{FAILED, Words};
+use command_words::{Exit, FAILED};
 use m2_tree::{Pos, Refusal};
 use m2c::{Open, Options, Outcome, SourceFile, build};
 use mark_statements::marked_text;
@@ -80,12 +80,12 @@ fn show_text<R: Print + Eprint + AllocGlobal>(
 }
 
 /// The text of a file. If it cannot be read, that is reported.
-fn text_of<R: Files + Eprint + AllocGlobal>(rt: &R, path: &str) -> Words<Vec<u8>> {
+fn text_of<R: Files + Eprint + AllocGlobal>(rt: &R, path: &str) -> Result<Vec<u8>, Exit> {
     match fs::read(rt, path) {
-        Ok(text) => Words::Read(text),
+        Ok(text) => Ok(text),
         Err(error) => {
             let _ = eprintln!(rt; "{PROGRAM}: cannot read {path}: {error}");
-            Words::Reported(FAILED)
+            Err(Exit::Reported(FAILED))
         }
     }
 }
@@ -147,14 +147,11 @@ fn types_of(alloc: Global, built: &Modules) -> Result<Vec<u8>> {
 }
 
 /// Shows the types or the code of the program of this file with all its modules. The status.
-fn show_whole<R>(rt: &R, setting: &Setting, pass: Pass, path: &str) -> Result<u8>
+fn show_whole<R>(rt: &R, setting: &Setting, pass: Pass, path: &str) -> Result<u8, Exit>
 where
     R: Files + Print + Eprint + AllocGlobal + Threads + Sync,
 {
-    let built = match build_program(rt, setting, path)? {
-        Words::Reported(status) => return Ok(status),
-        Words::Read(built) => built,
-    };
+    let built = build_program(rt, setting, path)?;
     let page = if pass == Pass::Types {
         types_of(rt.alloc(), &built)?
     } else {
@@ -164,20 +161,17 @@ where
 }
 
 /// Shows what a pass makes of the program of this file. The status.
-pub fn show_pass<R>(rt: &R, setting: &Setting, pass: Pass, path: &str) -> Result<u8>
+pub fn show_pass<R>(rt: &R, setting: &Setting, pass: Pass, path: &str) -> Result<u8, Exit>
 where
     R: Files + Print + Eprint + AllocGlobal + Threads + Sync,
 {
     if pass == Pass::Types || pass == Pass::Code {
         return show_whole(rt, setting, pass, path);
     }
-    let text = match text_of(rt, path) {
-        Words::Read(text) => text,
-        Words::Reported(status) => return Ok(status),
-    };
+    let text = text_of(rt, path)?;
     let made = match pass {
         Pass::Tokens => show_text_tokens(rt.alloc(), &text)?,
         Pass::Tree | Pass::Types | Pass::Code => show_text_tree(rt.alloc(), &text)?,
     };
-    show_text(rt, setting, path, text, made)
+    Ok(show_text(rt, setting, path, text, made)?)
 }

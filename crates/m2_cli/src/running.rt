@@ -7,7 +7,7 @@ use crate::finding::{Program as FoundProgram, find_program};
 use crate::output::say_output_fault;
 use crate::screen::Screen;
 use anyhow::Result;
-use command_words::{FAILED, Words};
+use command_words::{Exit, FAILED};
 use m2c::Open;
 use run_directory::end_word;
 use run_program::{End, Instances, Loaded, Program, load_program};
@@ -177,17 +177,14 @@ where
 
 /// Builds the program of this file in memory, and executes it for at most so many reductions. It prints on this stream. The
 /// status.
-pub fn run_file<R, P>(rt: &R, setting: &Setting, path: &str, steps: u64, out: P) -> Result<u8>
+pub fn run_file<R, P>(rt: &R, setting: &Setting, path: &str, steps: u64, out: P) -> Result<u8, Exit>
 where
     R: Files + Print + Eprint + AllocGlobal + Threads + Sync,
     P: Print + Drop,
 {
-    let found = match find_program(rt, setting, path)? {
-        Words::Read(found) => found,
-        Words::Reported(status) => return Ok(status),
-    };
+    let found = find_program(rt, setting, path)?;
     match load_program(rt, rt.alloc(), &found.files, setting.options, &Open) {
-        Ok(loaded) => finish(rt, setting, path, &found, loaded, steps, out),
+        Ok(loaded) => Ok(finish(rt, setting, path, &found, loaded, steps, out)?),
         Err(fault) => {
             say_fault(rt, path, fault);
             Ok(FAILED)

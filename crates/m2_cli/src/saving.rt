@@ -1,8 +1,7 @@
 //! `m2 build`: the modules of a program, written into a folder.
 
 use crate::building::{Modules, build_program};
-use anyhow::Result;
-use command_words::{FAILED, Words};
+use command_words::{Exit, FAILED};
 use m2c::{SaveFault, save};
 use std::rt::Files;
 use std::thread::Threads;
@@ -30,12 +29,10 @@ fn save_modules<R: Files + Eprint + AllocGlobal>(rt: &R, modules: &Modules, out:
 }
 
 /// Builds the program of this file, and writes its modules into this folder. The status.
-pub fn build_into<R>(rt: &R, setting: &Setting, program: &str, out: &str) -> Result<u8>
+pub fn build_into<R>(rt: &R, setting: &Setting, program: &str, out: &str) -> Result<u8, Exit>
 where
     R: Files + Print + Eprint + AllocGlobal + Threads + Sync,
 {
-    match build_program(rt, setting, program)? {
-        Words::Reported(status) => Ok(status),
-        Words::Read(modules) => Ok(save_modules(rt, &modules, out)),
-    }
+    let modules = build_program(rt, setting, program)?;
+    Ok(save_modules(rt, &modules, out))
 }

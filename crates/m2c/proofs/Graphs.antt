@@ -1,6 +1,6 @@
 -- Graphs, as the build goes on with them.
-use Rattle.std.proofs.Common.{◌≡◌, ℕ, ◌≤◌, ◌<◌, ◌+◌, ◌*◌, true, List, [], ◌∷◌, ◌++◌, length, map, Option, refl, ap, sym, subst, ◌∙◌, arith}
-use Rattle.std.specs.Prelude.{All, slice_get}
+use Rattle.std.proofs.Common.{◌≡◌, ◌≢◌, ◌⊎◌, inl, inr, ℕ, ◌≤◌, ◌<◌, ◌+◌, ◌*◌, Bool, true, false, List, [], ◌∷◌, ◌++◌, length, map, Option, refl, ap, sym, subst, ◌∙◌, arith}
+use Rattle.std.specs.Prelude.{All, slice_get, nat_lt}
 use Rattle.std.specs.List.{list_all}
 use Rattle.std.specs.Option.{option_and_then}
 use Rattle.std.specs.Borrow.{Bor}
@@ -27,6 +27,7 @@ use Rattle.build_jobs.specs.Borrowed.{borrow_trees, modules_borrowed}
 use Rattle.m2c.specs.Modules.{result_of, module_in, modules_at}
 use Rattle.m2c.specs.Build.{AreEncoded as BytesEncode}
 use Rattle.m2c.specs.Build.{Reported, AreReported, reported_at, built_of, named_bytes, modules, refusal_in, refused_from, refused_by, start_modules, program_file, HaveGraph, IsTooLarge, IsProgram}
+use Rattle.m2c.specs.Outcomes.{IsLarge, HasModules, GraphsHaveOutcomes}
 use Rattle.law_modules.specs.Linked.{IsLinkable, all}
 use Rattle.law_well_formed.proofs.RangesTypes.{both_left, both_right}
 use Rattle.law_simulation.specs.Modules.{AreModules, AreTypedModules}
@@ -196,3 +197,35 @@ module _ (files : List SourceFile) (fs : List (List ℕ × Module)) (numbers : L
     too_large = subst (λ (n : ℕ). 65536 * pages < n + 4096) (begin_is its.program) (subst (λ (n : ℕ). 65536 * pages < n) data_is more);
     reported = reported;
   }
+
+  -- there are modules for it, if it fits
+  pub has_modules : (pages : ℕ) → 1 ≤ pages → pages ≤ 1024 → stack_begin (parts those) + 4096 ≤ 65536 * pages → HasModules files pages
+  has_modules pages least most fits =
+      let p : Modules = its.program in
+      let fits_all : stack_begin (map part_of p) + 4096 ≤ 65536 * pages = subst (λ (n : ℕ). n ≤ 65536 * pages) data_is fits in
+      let encoded : list_all module_fits (all p pages) ≡ true = encodings files fs numbers jobs starts have none pages least most fits_all in
+      let same : link_of (parts those) pages ≡ typed_link p pages = ap (λ (ms : List ModuleBytes). link_of (parts ms) pages) its.are ∙ ap (λ (ps : List Part). link_of ps pages) (parts_emitted p) in
+      let link_fits : module_fits (link_of (parts those) pages) ≡ true = ap module_fits same ∙ both_left (module_fits (typed_link p pages)) (list_all module_fits (map typed_module p)) encoded in record {
+        link = module_bytes (link_of (parts those) pages);
+        built = map named_bytes those;
+        is_program = is_program pages least most fits (module_bytes (link_of (parts those) pages)) (map named_bytes those) (record { fits = link_fits; encoding = refl }) refl;
+      }
+
+  is_large : (pages : ℕ) → 65536 * pages < stack_begin (parts those) + 4096 → IsLarge fs numbers jobs starts pages
+  is_large pages more = record {
+    program = its.program;
+    typed = its.typed;
+    too_large = subst (λ (n : ℕ). 65536 * pages < n + 4096) (begin_is its.program) (subst (λ (n : ℕ). 65536 * pages < n) data_is more);
+  }
+
+  pub by_size : (pages : ℕ) → 1 ≤ pages → pages ≤ 1024 → IsLarge fs numbers jobs starts pages ⊎ HasModules files pages
+  by_size pages least most = by (nat_lt (65536 * pages) (stack_begin (parts those) + 4096)) refl where
+    by : (b : Bool) → nat_lt (65536 * pages) (stack_begin (parts those) + 4096) ≡ b → IsLarge fs numbers jobs starts pages ⊎ HasModules files pages
+    by true e = inl (is_large pages (omega (arith, e)))
+    by false e = inr (has_modules pages least most (omega (arith, e)))
+
+pub graphs_have_outcomes : GraphsHaveOutcomes
+graphs_have_outcomes files fs numbers jobs starts have pages least most = by (refused_by fs numbers jobs) refl where
+  by : (rs : List Reported) → refused_by fs numbers jobs ≡ rs → (refused_by fs numbers jobs ≢ []) ⊎ (IsLarge fs numbers jobs starts pages ⊎ HasModules files pages)
+  by [] none = inr (by_size files fs numbers jobs starts have none pages least most)
+  by (r ∷ rs) some = inl (λ none. let no : r ∷ rs ≡ [] = sym some ∙ none in absurd cc)

@@ -2,6 +2,7 @@
 
 ghost use Rattle.m2c.specs.Build.{OneOutcome};
 ghost use Rattle.m2c.specs.Encodings.{ProgramsFit};
+ghost use Rattle.m2c.specs.Outcomes.{GraphsHaveOutcomes};
 
 /// Files have at most one outcome in a number of pages. It does not matter who asks for it, or with which workers.
 pub fn outcome_laws()
@@ -11,4 +12,10 @@ pub fn outcome_laws()
 /// Every program of which nothing is reported has an encoding: the numbers of its code, types, locals and blocks fit.
 pub fn encoding_laws()
     ensures { ProgramsFit }
+{}
+
+/// Files that have a graph have an outcome in every number of pages: modules break rules, or the data of the program does
+/// not fit, or there are modules for it.
+pub fn graph_laws()
+    ensures { GraphsHaveOutcomes }
 {}

@@ -3,7 +3,7 @@
 use anyhow::Result;
 use build_words::{files_of, files_word, memory_option, options_of, out_option, workers_option};
 use clap::{ArgMatches, Command};
-use command_words::{COMMAND_LINE, VERSION, Words, command_line, is_named, matches_of};
+use command_words::{COMMAND_LINE, Exit, VERSION, command_line, is_named, matches_of};
 use m2c::Options;
 use std::alloc::Global;
 use std::rt::Env;
@@ -31,32 +31,22 @@ fn command<'a>(alloc: Global) -> Result<Command<'a>> {
 }
 
 /// What the options and names ask for. Numbers that they cannot take, and empty names, are reported.
-fn request<R: Eprint + AllocGlobal>(rt: &R, matches: &ArgMatches) -> Result<Words<Asked>> {
-    let Some(options) = options_of(rt, PROGRAM, matches) else {
-        return Ok(Words::Reported(COMMAND_LINE));
-    };
+fn request<R: Eprint + AllocGlobal>(rt: &R, matches: &ArgMatches) -> Result<Asked, Exit> {
+    let options = options_of(rt, PROGRAM, matches)?;
     let out = matches.get_str("out").unwrap_or("");
     if !is_named(rt, PROGRAM, "--out", out) {
-        return Ok(Words::Reported(COMMAND_LINE));
+        return Err(Exit::Reported(COMMAND_LINE));
     }
-    match files_of(rt, PROGRAM, matches)? {
-        Words::Reported(status) => Ok(Words::Reported(status)),
-        Words::Read(files) => Ok(Words::Read(Asked {
-            options,
-            out: String::from_str(rt.alloc(), out)?,
-            files,
-        })),
-    }
+    Ok(Asked {
+        options,
+        out: String::from_str(rt.alloc(), out)?,
+        files: files_of(rt, PROGRAM, matches)?,
+    })
 }
 
 /// What the command line asks for.
-pub fn read_command_line<R: Env + Print + Eprint + AllocGlobal>(rt: &R) -> Result<Words<Asked>> {
-    let words = match command_line(rt, PROGRAM)? {
-        Words::Read(words) => words,
-        Words::Reported(status) => return Ok(Words::Reported(status)),
-    };
-    match matches_of(rt, command(rt.alloc())?, &words)? {
-        Words::Read(matches) => request(rt, &matches),
-        Words::Reported(status) => Ok(Words::Reported(status)),
-    }
+pub fn read_command_line<R: Env + Print + Eprint + AllocGlobal>(rt: &R) -> Result<Asked, Exit> {
+    let words = command_line(rt, PROGRAM)?;
+    let matches = matches_of(rt, command(rt.alloc())?, &words)?;
+    request(rt, &matches)
 }

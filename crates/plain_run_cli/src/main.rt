@@ -9,7 +9,7 @@ mod words;
 
 use crate::words::{Asked, read_command_line};
 use anyhow::{Context, Result};
-use command_words::{FAILED, Words};
+use command_words::FAILED;
 use m2c::{Open, Options, Outcome, SourceFile, build};
 use plain_run::{Report, Stop, run as run_program};
 use run_directory::end_word;
@@ -103,9 +103,9 @@ fn elaborate<R: Files + Print + Eprint + AllocGlobal + Threads + Sync>(
 
 /// Does what the words ask for, and answers the status.
 fn run<R: Files + Env + Print + Eprint + AllocGlobal + Threads + Sync>(rt: &R) -> Result<u8> {
-    match read_command_line(rt)? {
-        Words::Reported(status) => Ok(status),
-        Words::Read(asked) => elaborate(rt, &asked),
+    match read_command_line(rt) {
+        Ok(asked) => elaborate(rt, &asked),
+        Err(exit) => exit.status(),
     }
 }
 

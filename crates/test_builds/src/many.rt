@@ -1,7 +1,7 @@
 //! Programs of many files.
 
 use crate::gates::Always;
-use crate::rows::executed;
+use crate::rows::execute_modules;
 use anyhow::{Result, bail};
 use m2c::{Options, Outcome, SourceFile, build};
 use std::alloc::{AllocError, Global};
@@ -76,7 +76,7 @@ fn bytes_of(
 }
 
 /// What so many workers build of files; executed, it is to print a byte for each module, and P last.
-fn built<R: Threads + Sync>(
+fn build_many<R: Threads + Sync>(
     rt: &R,
     alloc: Global,
     files: &[SourceFile],
@@ -85,7 +85,7 @@ fn built<R: Threads + Sync>(
     let Outcome::Built { link, modules } = outcome(rt, alloc, files, workers)? else {
         bail!("the files are refused");
     };
-    let (status, printed) = executed(alloc, &link, &modules);
+    let (status, printed) = execute_modules(alloc, &link, &modules);
     let count = printed.len();
     if status != 0 || count != modules.len() || printed.last() != Some(&b'P') {
         bail!("status {status}, with {count} bytes printed");
@@ -96,9 +96,9 @@ fn built<R: Threads + Sync>(
 /// 1023 files are built, with the same bytes by 1, 2, 8 and 64 workers.
 pub fn one_thousand_and_twenty_three_files<R: Threads + Sync>(rt: &R, alloc: Global) -> Result<()> {
     let files = many(alloc, 511)?;
-    let first = built(rt, alloc, &files, 1)?;
+    let first = build_many(rt, alloc, &files, 1)?;
     for workers in [2, 8, 64] {
-        let other = built(rt, alloc, &files, workers)?;
+        let other = build_many(rt, alloc, &files, workers)?;
         if other.as_slice() != first.as_slice() {
             bail!("{workers} workers build other modules");
         }

@@ -24,7 +24,7 @@ pub fn files_of(alloc: Global, texts: &[(&str, &str)]) -> Result<Vec<SourceFile>
 }
 
 /// The status with which modules end, and what they print.
-pub fn executed(alloc: Global, link: &[u8], modules: &[(String, Vec<u8>)]) -> (u8, Vec<u8>) {
+pub fn execute_modules(alloc: Global, link: &[u8], modules: &[(String, Vec<u8>)]) -> (u8, Vec<u8>) {
     let mut folder = Folder { link, modules };
     let mut out = Screen::new(alloc);
     let mut err = Screen::new(alloc);
@@ -48,7 +48,7 @@ fn check<R: Threads + Sync>(
     let Outcome::Built { link, modules } = outcome else {
         bail!("the files are refused");
     };
-    let (status, bytes) = executed(alloc, &link, &modules);
+    let (status, bytes) = execute_modules(alloc, &link, &modules);
     if status != 0 || bytes.as_slice() != printed {
         let count = bytes.len();
         bail!("status {status}, with {count} bytes printed");

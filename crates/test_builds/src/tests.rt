@@ -48,7 +48,7 @@ fn options(workers: usize) -> Options {
 }
 
 /// What is reported of the files, a line for each refusal, or nothing where they are built.
-fn reported<R: Threads + Sync + AllocGlobal, G: Gate + Sync>(
+fn report_of<R: Threads + Sync + AllocGlobal, G: Gate + Sync>(
     rt: &R,
     files: &[SourceFile],
     options: Options,
@@ -73,7 +73,7 @@ fn expect_with<R: Threads + Sync + Abort + AllocGlobal>(
     expected: &str,
 ) {
     let files = files_of(rt.alloc(), texts).expect(rt, "memory");
-    let text = reported(rt, &files, options, &Always(true)).expect(rt, "an answer");
+    let text = report_of(rt, &files, options, &Always(true)).expect(rt, "an answer");
     assert!(rt;
         text.as_str() == expected,
         "expected {expected}, reported {text}"
@@ -124,7 +124,7 @@ fn a_text_has_up_to_a_mebibyte(rt: HostRuntime) {
     expect_first_of(&rt, &most, &Always(true));
     let more = with_spaces(rt.alloc(), LONGEST + 1).expect(&rt, "memory");
     for workers in [1, 8] {
-        let text = reported(&rt, &more, options(workers), &Always(true)).expect(&rt, "an answer");
+        let text = report_of(&rt, &more, options(workers), &Always(true)).expect(&rt, "an answer");
         assert!(rt; text.as_str() == "m.mod:1:1: refusal 1;", "{text}");
     }
 }
@@ -387,7 +387,7 @@ fn workers_meet_at_the_gate(rt: HostRuntime) {
     let texts = [("n.mod", EMPTY), ("m.mod", FIRST)];
     let files = files_of(rt.alloc(), &texts).expect(&rt, "memory");
     let gate = Meeting::after(0);
-    let text = reported(&rt, &files, options(2), &gate).expect(&rt, "an answer");
+    let text = report_of(&rt, &files, options(2), &gate).expect(&rt, "an answer");
     assert!(rt; text.as_str() == "n.mod:1:8: refusal 23;");
     assert!(rt; gate.met());
 }
@@ -397,7 +397,7 @@ fn each_job_of_both_rounds_comes_to_the_gate(rt: HostRuntime) {
     let files = files_of(rt.alloc(), &FIVE).expect(&rt, "memory");
     for workers in [1, 2] {
         let gate = Counting::new();
-        let text = reported(&rt, &files, options(workers), &gate);
+        let text = report_of(&rt, &files, options(workers), &gate);
         assert!(rt; text.is_ok() && gate.asked() == 10, "{workers}");
     }
 }
@@ -406,7 +406,7 @@ fn each_job_of_both_rounds_comes_to_the_gate(rt: HostRuntime) {
 fn workers_meet_in_the_second_round(rt: HostRuntime) {
     let files = files_of(rt.alloc(), &FIVE).expect(&rt, "memory");
     let gate = Meeting::after(5);
-    let text = reported(&rt, &files, options(2), &gate);
+    let text = report_of(&rt, &files, options(2), &gate);
     assert!(rt; text.is_ok() && gate.met());
 }
 

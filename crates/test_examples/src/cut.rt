@@ -36,7 +36,7 @@ fn check_beginnings(alloc: Global, bytes: &[u8], modules: &[usize]) -> Result<u6
 }
 
 /// What comes of two files: the status, and what is on the two streams.
-fn reported(alloc: Global, link: &[u8], body: &[u8]) -> Result<String> {
+fn report_cut(alloc: Global, link: &[u8], body: &[u8]) -> Result<String> {
     let mut dir = Pair { link, body };
     let mut out = Screen::new(alloc);
     let mut err = Screen::new(alloc);
@@ -47,7 +47,7 @@ fn reported(alloc: Global, link: &[u8], body: &[u8]) -> Result<String> {
 }
 
 fn check_row(alloc: Global, link: &[u8], body: &[u8], expected: &str) -> Result<()> {
-    let text = reported(alloc, link, body)?;
+    let text = report_cut(alloc, link, body)?;
     if text.as_str() != expected {
         bail!("expected {expected}, reported {text}");
     }

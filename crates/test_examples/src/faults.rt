@@ -8,7 +8,7 @@ use wasm_tree::WFault;
 use wasm_valid::validate;
 
 /// Reads the bytes as a module, and validates it.
-fn elaborated(alloc: Global, bytes: &[u8]) -> Result<(), WFault> {
+fn elaborate_text(alloc: Global, bytes: &[u8]) -> Result<(), WFault> {
     let tree = read_module(alloc, bytes)?;
     validate(alloc, tree)?;
     Ok(())
@@ -26,7 +26,7 @@ fn word_of(elaborated: Result<(), WFault>) -> &'static str {
 
 /// Whether the bytes are a valid module: `ok`, or the number of the refusal.
 pub fn answer_to(alloc: Global, bytes: &[u8]) -> &'static str {
-    word_of(elaborated(alloc, bytes))
+    word_of(elaborate_text(alloc, bytes))
 }
 
 /// A line names a file and says `ok`, or the refusal; what follows explains it.

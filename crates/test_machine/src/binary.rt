@@ -63,7 +63,7 @@ fn expect_again(rt: &impl Abort, alloc: Global, code: &[u8]) {
 }
 
 /// So many instructions with this beginning, each but the first inside another.
-fn nested(alloc: Global, beginning: &[u8], count: u32) -> Result<Vec<u8>, AllocError> {
+fn nest_blocks(alloc: Global, beginning: &[u8], count: u32) -> Result<Vec<u8>, AllocError> {
     let mut code = Vec::new(alloc);
     for _ in 0..count {
         code.extend_from_slice(beginning)?;
@@ -151,9 +151,9 @@ fn blocks_nest_4096_deep(rt: HostRuntime) {
     let alloc = rt.alloc();
     let beginnings: [&[u8]; 3] = [b"\x02\x40", b"\x03\x7E", b"\x04\x40\x05"];
     for beginning in beginnings {
-        let deepest = nested(alloc, beginning, 4096).expect(&rt, "memory");
+        let deepest = nest_blocks(alloc, beginning, 4096).expect(&rt, "memory");
         expect_again(&rt, alloc, &deepest);
-        let deeper = nested(alloc, beginning, 4097).expect(&rt, "memory");
+        let deeper = nest_blocks(alloc, beginning, 4097).expect(&rt, "memory");
         expect(&rt, alloc, &deeper, 81);
     }
 }

@@ -129,7 +129,7 @@ fn two<'a>(alloc: Global, link: &'a [u8], body: &'a [u8]) -> Folder<'a> {
 }
 
 /// What comes of a folder: the status, and what is on the two streams.
-fn reported(
+fn report_of(
     alloc: Global,
     folder: &mut Folder<'_>,
     steps: u64,
@@ -157,7 +157,7 @@ fn executes_the_first_program(rt: HostRuntime) -> Result<(), Fail> {
         (1000, 0, "3||refusal 91\n"),
     ];
     for (steps, room, expected) in rows {
-        let text = reported(alloc, &mut two(alloc, &LINK, &BODY), steps, room)?;
+        let text = report_of(alloc, &mut two(alloc, &LINK, &BODY), steps, room)?;
         assert!(rt; text.as_str() == expected, "{steps}: {text}");
     }
     Ok(())
@@ -173,7 +173,7 @@ fn reports_what_is_wrong_with_files(rt: HostRuntime) -> Result<(), Fail> {
         (&HEADER, &BODY, "3||link: refusal 83\n"),
     ];
     for (link, body, expected) in rows {
-        let text = reported(alloc, &mut two(alloc, link, body), 100, 100)?;
+        let text = report_of(alloc, &mut two(alloc, link, body), 100, 100)?;
         assert!(rt; text.as_str() == expected, "{text}");
     }
     Ok(())
@@ -199,7 +199,7 @@ fn each_write_fails_in_turn(rt: HostRuntime) {
 }
 
 /// What is reported of these files of link, M and N, and which files were asked for.
-fn asked(
+fn ask_of(
     alloc: Global,
     link: Option<&[u8]>,
     first: Option<&[u8]>,
@@ -211,7 +211,7 @@ fn asked(
         second,
         asked: String::new(alloc),
     };
-    let text = reported(alloc, &mut folder, 100, 100)?;
+    let text = report_of(alloc, &mut folder, 100, 100)?;
     let asked = folder.asked;
     format!(in alloc; "{text}|{asked}")
 }
@@ -269,7 +269,7 @@ fn reads_a_module_after_the_one_before_is_valid(rt: HostRuntime) -> Result<(), F
         ),
     ];
     for (link, first, second, expected) in rows {
-        let text = asked(alloc, link, first, second)?;
+        let text = ask_of(alloc, link, first, second)?;
         assert!(rt; text.as_str() == expected, "{text}");
     }
     Ok(())

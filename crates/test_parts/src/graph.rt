@@ -71,7 +71,7 @@ fn trees_of(alloc: Global, rows: &[Row<'_>]) -> Result<Vec<Module>, AllocError> 
     Ok(trees)
 }
 
-fn borrowed<'r, 't>(
+fn borrow_trees<'r, 't>(
     alloc: Global,
     rows: &[Row<'r>],
     trees: &'t [Module],
@@ -85,7 +85,7 @@ fn borrowed<'r, 't>(
 
 fn graph_of(alloc: Global, rows: &[Row<'_>]) -> Result<Graph, GraphError> {
     let trees = trees_of(alloc, rows)?;
-    let files = borrowed(alloc, rows, &trees)?;
+    let files = borrow_trees(alloc, rows, &trees)?;
     Graph::of(alloc, &files)
 }
 

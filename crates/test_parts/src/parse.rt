@@ -6,7 +6,7 @@ use std::process::Abort;
 use std::test::Fail;
 
 /// What is reported of a text that is refused.
-fn refused(line: u32, col: u32, number: u32) -> Reported {
+fn refusal_at(line: u32, col: u32, number: u32) -> Reported {
     Reported::Refused { line, col, number }
 }
 
@@ -69,7 +69,7 @@ fn refuses(rt: HostRuntime) -> Result<(), Fail> {
     for (text, refusal) in rows.iter() {
         let (line, col, number) = *refusal;
         assert!(rt;
-            outcome(rt.alloc(), text.as_bytes()) == refused(line, col, number),
+            outcome(rt.alloc(), text.as_bytes()) == refusal_at(line, col, number),
             "{text}"
         );
     }
@@ -124,7 +124,7 @@ fn counts_nesting(rt: HostRuntime) {
             rt.alloc(),
             nested,
             most.saturating_add(1),
-            refused(1, *col, 12),
+            refusal_at(1, *col, 12),
         );
     }
 }

@@ -4,7 +4,7 @@ use std::alloc::{AllocError, Global};
 use std::test::Fail;
 
 /// Line, column and number of the refusal, or zeros where there are tokens.
-fn reported(alloc: Global, text: &[u8]) -> Result<(u32, u32, u32), AllocError> {
+fn report_of(alloc: Global, text: &[u8]) -> Result<(u32, u32, u32), AllocError> {
     match scan(alloc, text) {
         Ok(_) => Ok((0, 0, 0)),
         Err(ScanError::Refused(refusal)) => {
@@ -101,7 +101,7 @@ fn refuses(rt: HostRuntime) -> Result<(), Fail> {
         ),
     ];
     for (text, want) in rows {
-        assert_eq!(rt; reported(rt.alloc(), text)?, want, "at {text:?}");
+        assert_eq!(rt; report_of(rt.alloc(), text)?, want, "at {text:?}");
     }
     Ok(())
 }
@@ -180,8 +180,8 @@ fn divides(rt: HostRuntime) -> Result<(), Fail> {
 #[test]
 fn bounds_the_text(rt: HostRuntime) -> Result<(), Fail> {
     let mut text = vec![in rt.alloc(); b' '; MAX_TEXT]?;
-    assert_eq!(rt; reported(rt.alloc(), text.as_slice())?, (0, 0, 0));
+    assert_eq!(rt; report_of(rt.alloc(), text.as_slice())?, (0, 0, 0));
     text.push(b'_')?;
-    assert_eq!(rt; reported(rt.alloc(), text.as_slice())?, (1, 1, 1));
+    assert_eq!(rt; report_of(rt.alloc(), text.as_slice())?, (1, 1, 1));
     Ok(())
 }

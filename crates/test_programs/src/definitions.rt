@@ -22,7 +22,7 @@ fn tree_of(alloc: Global, text: &[u8]) -> Result<Module> {
     }
 }
 
-fn shared(alloc: Global, tables: &Items<Shared<Table>>) -> Result<Items<Shared<Table>>> {
+fn share_tables(alloc: Global, tables: &Items<Shared<Table>>) -> Result<Items<Shared<Table>>> {
     let mut copies = Items::new(alloc);
     for table in tables.as_slice() {
         copies.push(table.share()?)?;
@@ -30,18 +30,18 @@ fn shared(alloc: Global, tables: &Items<Shared<Table>>) -> Result<Items<Shared<T
     Ok(copies)
 }
 
-fn compiled(
+fn compile_text(
     alloc: Global,
     tables: &Items<Shared<Table>>,
     text: &[u8],
 ) -> Result<Elaborated<Table>> {
     let number = u32::try_from(tables.len())?;
-    let tables = shared(alloc, tables)?;
+    let tables = share_tables(alloc, tables)?;
     let tree = tree_of(alloc, text)?;
     Ok(compile_definition(alloc, number, &tree, tables)?)
 }
 
-fn reported(alloc: Global, elaborated: &Elaborated<Table>) -> Result<String> {
+fn report_of(alloc: Global, elaborated: &Elaborated<Table>) -> Result<String> {
     match elaborated {
         Ok(_) => Ok(String::from_str(alloc, "ok")?),
         Err(fault) => Ok(format!(in alloc;
@@ -69,7 +69,7 @@ fn empty_row(alloc: Global) -> Row {
 
 /// Takes the text as one that the next may import.
 fn with_import(alloc: Global, row: &mut Row) -> Result<()> {
-    let Ok(table) = compiled(alloc, &row.tables, row.text.as_bytes())? else {
+    let Ok(table) = compile_text(alloc, &row.tables, row.text.as_bytes())? else {
         bail!("a definition that is imported is refused");
     };
     row.tables.push(Shared::new(alloc, table)?)?;
@@ -89,12 +89,12 @@ fn with_line(row: &mut Row, line: &str) -> Result<()> {
 
 /// What is reported of a row's last text.
 fn answer_to(alloc: Global, row: &Row) -> Result<String> {
-    let elaborated = compiled(alloc, &row.tables, row.text.as_bytes())?;
-    reported(alloc, &elaborated)
+    let elaborated = compile_text(alloc, &row.tables, row.text.as_bytes())?;
+    report_of(alloc, &elaborated)
 }
 
 /// Compares what is reported of a row's last text with what is expected.
-fn counted(rt: &HostRuntime, count: Count, row: &Row) -> Result<Count> {
+fn count_row(rt: &HostRuntime, count: Count, row: &Row) -> Result<Count> {
     let answer = answer_to(rt.alloc(), row)?;
     let is_right = answer.as_str() == row.expected.as_str();
     if !is_right {
@@ -111,7 +111,7 @@ fn with_next(rt: &HostRuntime, row: &mut Row, count: Count, line: &str) -> Resul
     match line {
         "%+" => with_import(rt.alloc(), row)?,
         "%%" => {
-            let count = counted(rt, count, row)?;
+            let count = count_row(rt, count, row)?;
             *row = empty_row(rt.alloc());
             return Ok(count);
         }

@@ -126,7 +126,7 @@ fn has_pieces(pieces: &[Expected], name: &str, bytes: &[u8]) -> bool {
 }
 
 /// What is wrong with a module that was built, if something is.
-fn compared(program: &Program, name: &str, bytes: &[u8]) -> Option<&'static str> {
+fn difference_of(program: &Program, name: &str, bytes: &[u8]) -> Option<&'static str> {
     if !program.modules.is_empty() && !is_expected(&program.modules, name, bytes) {
         return Some("a module has other bytes, or is not expected");
     }
@@ -146,12 +146,12 @@ fn compared_all(
         return Some("some modules are missing");
     }
     for module in modules {
-        let wrong = compared(program, module.0.as_str(), &module.1);
+        let wrong = difference_of(program, module.0.as_str(), &module.1);
         if wrong.is_some() {
             return wrong;
         }
     }
-    compared(program, "link", link)
+    difference_of(program, "link", link)
 }
 
 /// The line on standard error with which a program of this end ends.
@@ -178,7 +178,7 @@ fn is_repeated(bytes: &[u8], piece: &[u8]) -> bool {
 }
 
 /// What is wrong with how the modules ended, if something is.
-fn ended(program: &Program, status: u8, out: &[u8], err: &[u8]) -> Option<&'static str> {
+fn end_difference(program: &Program, status: u8, out: &[u8], err: &[u8]) -> Option<&'static str> {
     if status > 1 || err != last_words(program.end).as_bytes() {
         return Some("it ends otherwise");
     }
@@ -200,7 +200,7 @@ fn went_on(program: &Program, status: u8, out: &[u8], err: &[u8]) -> Option<&'st
 }
 
 /// What is wrong with what modules do, if something is.
-fn executed(
+fn execute_modules(
     alloc: Global,
     program: &Program,
     link: &[u8],
@@ -215,7 +215,7 @@ fn executed(
     if goes_on {
         return went_on(program, status, out.bytes.as_slice(), err.bytes.as_slice());
     }
-    ended(program, status, out.bytes.as_slice(), err.bytes.as_slice())
+    end_difference(program, status, out.bytes.as_slice(), err.bytes.as_slice())
 }
 
 /// What is wrong with what was built, if something is.
@@ -229,11 +229,11 @@ fn decided_built(
     if wrong.is_some() {
         return wrong;
     }
-    executed(alloc, program, link, modules)
+    execute_modules(alloc, program, link, modules)
 }
 
 /// What is wrong with a program, if something is: it is built with so many workers, compared and executed.
-pub fn decided<R: Threads + Sync + Eprint>(
+pub fn decide_row<R: Threads + Sync + Eprint>(
     rt: &R,
     alloc: Global,
     program: &Program,
@@ -255,7 +255,7 @@ pub fn decided<R: Threads + Sync + Eprint>(
 }
 
 /// The bytes of link, and behind them those of each module.
-fn joined(alloc: Global, link: &[u8], modules: &[(String, Vec<u8>)]) -> Result<Vec<u8>> {
+fn join_modules(alloc: Global, link: &[u8], modules: &[(String, Vec<u8>)]) -> Result<Vec<u8>> {
     let mut all = Vec::from_slice(alloc, link)?;
     for module in modules {
         all.extend_from_slice(&module.1)?;
@@ -277,7 +277,7 @@ fn bytes_by<R: Threads + Sync>(
     };
     match build(rt, alloc, &program.files, options, &Always(is_open))? {
         Outcome::Refused(_) => Ok(Vec::new(alloc)),
-        Outcome::Built { link, modules } => joined(alloc, &link, &modules),
+        Outcome::Built { link, modules } => join_modules(alloc, &link, &modules),
     }
 }
 

@@ -1,7 +1,7 @@
 //! The programs of `data/programs.txt` and `data/rows-programs.txt`.
 
 use crate::count::Count;
-use crate::program::{Expected, Program, decided, is_built_otherwise, no_program};
+use crate::program::{Expected, Program, decide_row, is_built_otherwise, no_program};
 use anyhow::{Context, Result, bail};
 use m2c::SourceFile;
 use std::alloc::Global;
@@ -30,7 +30,7 @@ impl Drop for Reading {
     }
 }
 
-fn begun(alloc: Global) -> Reading {
+fn begin_reading(alloc: Global) -> Reading {
     Reading {
         program: no_program(alloc),
         name: String::new(alloc),
@@ -112,14 +112,14 @@ fn with_line(alloc: Global, reading: &mut Reading, line: &str) -> Result<()> {
     Ok(())
 }
 
-fn counted<R: Threads + Sync + Eprint>(
+fn count_program<R: Threads + Sync + Eprint>(
     rt: &R,
     alloc: Global,
     count: Count,
     program: &Program,
 ) -> Result<Count> {
     for workers in [1, 8] {
-        if let Some(wrong) = decided(rt, alloc, program, workers)? {
+        if let Some(wrong) = decide_row(rt, alloc, program, workers)? {
             eprintln!(rt; "{}: {wrong}", program.name)?;
             return Ok(count.with(false));
         }
@@ -143,8 +143,8 @@ fn with_next<R: Threads + Sync + Eprint>(
         with_line(alloc, reading, line)?;
         return Ok(count);
     }
-    let count = counted(rt, alloc, count, &reading.program)?;
-    *reading = begun(alloc);
+    let count = count_program(rt, alloc, count, &reading.program)?;
+    *reading = begin_reading(alloc);
     Ok(count)
 }
 
@@ -157,7 +157,7 @@ pub fn check_all<R: Threads + Sync + Files + Eprint + AllocGlobal>(
     let bytes = fs::read(rt, name).context("cannot read the programs")?;
     let all = String::from_utf8(bytes)?;
     let mut count = Count::none();
-    let mut reading = begun(alloc);
+    let mut reading = begin_reading(alloc);
     for line in all.as_str().lines() {
         count = with_next(rt, alloc, &mut reading, count, line)?;
     }

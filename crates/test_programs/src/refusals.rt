@@ -79,7 +79,12 @@ fn with_line(alloc: Global, row: &mut Row, line: &str) -> Result<()> {
 }
 
 /// What so many workers report of the files, a line for each refusal.
-fn reported<R: Threads + Sync>(rt: &R, alloc: Global, row: &Row, workers: usize) -> Result<String> {
+fn report_of<R: Threads + Sync>(
+    rt: &R,
+    alloc: Global,
+    row: &Row,
+    workers: usize,
+) -> Result<String> {
     let options = Options {
         workers,
         pages: row.pages,
@@ -95,7 +100,7 @@ fn reported<R: Threads + Sync>(rt: &R, alloc: Global, row: &Row, workers: usize)
     Ok(text)
 }
 
-fn counted<R: Threads + Sync + Eprint>(
+fn count_refusal<R: Threads + Sync + Eprint>(
     rt: &R,
     alloc: Global,
     count: Count,
@@ -103,7 +108,7 @@ fn counted<R: Threads + Sync + Eprint>(
     workers: &[usize],
 ) -> Result<Count> {
     for workers in workers {
-        let answer = reported(rt, alloc, row, *workers)?;
+        let answer = report_of(rt, alloc, row, *workers)?;
         if answer.as_str() != row.expected.as_str() {
             eprintln!(rt; "expected {}, reported {answer}", row.expected)?;
             return Ok(count.with(false));
@@ -126,7 +131,7 @@ fn with_next<R: Threads + Sync + Eprint>(
         return Ok(count);
     }
     with_file(alloc, row)?;
-    let count = counted(rt, alloc, count, row, workers)?;
+    let count = count_refusal(rt, alloc, count, row, workers)?;
     *row = empty_row(alloc);
     Ok(count)
 }

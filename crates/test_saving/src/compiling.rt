@@ -54,7 +54,7 @@ fn names_of(alloc: Global, texts: &[(&str, &str)]) -> Result<Vec<String>, AllocE
 }
 
 /// Compiles these files.
-fn compiled<R: Threads + Sync + Abort + AllocGlobal>(
+fn compile_text<R: Threads + Sync + Abort + AllocGlobal>(
     rt: &R,
     texts: &[(&str, &str)],
     options: Options,
@@ -121,7 +121,7 @@ fn expect<R: Threads + Sync + Abort + AllocGlobal>(
     trouble: Trouble,
     wanted: Wanted<'_>,
 ) {
-    let came = compiled(rt, texts, options, trouble);
+    let came = compile_text(rt, texts, options, trouble);
     let status = came.status;
     assert!(rt; status == wanted.status, "status {status}");
     assert!(rt; came.asked.as_str() == wanted.asked, "other files");
@@ -197,7 +197,7 @@ fn a_stream_of_refusals_that_fails_is_left_alone(rt: HostRuntime) {
     let mut trouble = NONE;
     for room in 0..REPORTED.len() {
         trouble.out_room = room;
-        let came = compiled(&rt, &WRONG, workers(1), trouble);
+        let came = compile_text(&rt, &WRONG, workers(1), trouble);
         assert!(&rt; came.status == 3 && came.failures == 1 && came.calls.is_empty());
         assert!(&rt; came.out.as_slice() == &REPORTED.as_bytes()[..room]);
         assert!(&rt; came.err.as_slice() == b"cannot write to standard output\n".as_slice());
@@ -211,17 +211,17 @@ fn a_failure_of_the_words_changes_no_status(rt: HostRuntime) {
     let words = b"cannot read P.mod\n";
     for room in 0..words.len() {
         trouble.err_room = room;
-        let came = compiled(&rt, &CYCLE, workers(1), trouble);
+        let came = compile_text(&rt, &CYCLE, workers(1), trouble);
         assert!(&rt; came.status == 3 && came.failures == 1);
         assert!(&rt; came.err.as_slice() == &words[..room]);
     }
     trouble.read = 0;
     trouble.err_room = 0;
-    assert!(&rt; compiled(&rt, &CYCLE, workers(0), trouble).status == 2);
-    assert!(&rt; compiled(&rt, &CYCLE, workers(1), trouble).status == 0);
-    assert!(&rt; compiled(&rt, &WRONG, workers(1), trouble).status == 1);
+    assert!(&rt; compile_text(&rt, &CYCLE, workers(0), trouble).status == 2);
+    assert!(&rt; compile_text(&rt, &CYCLE, workers(1), trouble).status == 0);
+    assert!(&rt; compile_text(&rt, &WRONG, workers(1), trouble).status == 1);
     trouble.write = 2;
-    assert!(&rt; compiled(&rt, &CYCLE, workers(1), trouble).status == 3);
+    assert!(&rt; compile_text(&rt, &CYCLE, workers(1), trouble).status == 3);
 }
 
 #[test]

@@ -41,7 +41,7 @@ fn files_of(alloc: Global, texts: &[(&str, &str)]) -> Result<Vec<SourceFile>, Al
 }
 
 /// What is built of the three modules.
-fn built<R: Threads + Sync + Abort + AllocGlobal>(rt: &R) -> (Vec<u8>, Vec<(String, Vec<u8>)>) {
+fn build_all<R: Threads + Sync + Abort + AllocGlobal>(rt: &R) -> (Vec<u8>, Vec<(String, Vec<u8>)>) {
     let files = files_of(rt.alloc(), &CYCLE).expect(rt, "memory");
     let options = Options {
         workers: 4,
@@ -59,7 +59,7 @@ fn built<R: Threads + Sync + Abort + AllocGlobal>(rt: &R) -> (Vec<u8>, Vec<(Stri
 /// The calls if the write of this number fails. The second removal of link may fail too.
 fn expect_calls<R: Threads + Sync + Abort + AllocGlobal>(rt: &R, failing: usize, calls: &str) {
     let alloc = rt.alloc();
-    let (link, modules) = built(rt);
+    let (link, modules) = build_all(rt);
     let mut dir = Notes::new(alloc, failing);
     dir.put("link.wasm", b"old").expect(rt, "memory");
     let answer = save(alloc, &link, &modules, &mut dir);
@@ -99,7 +99,7 @@ fn stops_at_a_write_that_fails(rt: HostRuntime) {
 #[test]
 fn saves_what_can_be_executed(rt: HostRuntime) {
     let alloc = rt.alloc();
-    let (link, modules) = built(&rt);
+    let (link, modules) = build_all(&rt);
     let mut dir = Notes::new(alloc, 0);
     dir.put("link.wasm", b"old").expect(&rt, "memory");
     save(alloc, &link, &modules, &mut dir).expect(&rt, "a folder");
@@ -123,7 +123,7 @@ fn saves_what_can_be_executed(rt: HostRuntime) {
 #[test]
 fn an_old_link_that_cannot_be_removed_ends_it(rt: HostRuntime) {
     let alloc = rt.alloc();
-    let (link, modules) = built(&rt);
+    let (link, modules) = build_all(&rt);
     let mut dir = Notes::new(alloc, 0);
     dir.remove_nothing();
     let answer = save(alloc, &link, &modules, &mut dir);

@@ -2,7 +2,7 @@
 
 use crate::PROGRAM;
 use anyhow::Result;
-use command_words::{COMMAND_LINE, FAILED, Words, are_named, strings_of};
+use command_words::{COMMAND_LINE, Exit, FAILED, are_named, strings_of};
 use std::env::VarError;
 use std::rt::{Env, Files};
 use std::{env, fs};
@@ -50,7 +50,7 @@ fn add_folders<R: AllocGlobal>(rt: &R, text: &str, folders: &mut Vec<String>) ->
 }
 
 /// Adds the folders of the variable. A value that is no text is reported.
-fn with_variable<R>(rt: &R, folders: Vec<String>) -> Result<Words<Vec<String>>>
+fn with_variable<R>(rt: &R, folders: Vec<String>) -> Result<Vec<String>, Exit>
 where
     R: Env + Eprint + AllocGlobal,
 {
@@ -60,23 +60,23 @@ where
         Err(VarError::NotPresent) => {}
         Err(error) => {
             let _ = eprintln!(rt; "{PROGRAM}: the variable {VARIABLE}: {error}");
-            return Ok(Words::Reported(FAILED));
+            return Err(Exit::Reported(FAILED));
         }
     }
-    Ok(Words::Read(folders))
+    Ok(folders)
 }
 
 /// The folders in which modules are looked for behind that of the program: those behind `--lib` as they are given, and
 /// then those of the variable `M2_LIB`. An empty name, and a folder behind `--lib` that is not there, are reported.
-pub fn libraries_of<R>(rt: &R, names: &[&str]) -> Result<Words<Vec<String>>>
+pub fn libraries_of<R>(rt: &R, names: &[&str]) -> Result<Vec<String>, Exit>
 where
     R: Files + Env + Eprint + AllocGlobal,
 {
     if !are_named(rt, PROGRAM, "--lib", names) {
-        return Ok(Words::Reported(COMMAND_LINE));
+        return Err(Exit::Reported(COMMAND_LINE));
     }
     if !are_folders(rt, names) {
-        return Ok(Words::Reported(FAILED));
+        return Err(Exit::Reported(FAILED));
     }
     with_variable(rt, strings_of(rt.alloc(), names)?)
 }

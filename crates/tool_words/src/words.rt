@@ -7,11 +7,14 @@ use anyhow::Result;
 use build_words::{memory_option, options_of, out_option, workers_option};
 use clap::{Arg, ArgAction, ArgMatches, Command};
 use command_words::{
-    COMMAND_LINE, VERSION, Words, are_named, command_line, is_named, matches_of, steps_of,
+    COMMAND_LINE, Exit, VERSION, are_named, command_line, is_named, matches_of, steps_of,
     steps_option, strings_of,
 };
 use std::alloc::Global;
 use std::rt::{Env, Files};
+
+/// The name of the word for the program's file.
+const FILE: &str = "PROGRAM";
 
 /// The options that say how a program is found and built.
 fn with_setting<'a>(alloc: Global, command: Command<'a>) -> Result<Command<'a>> {
@@ -51,7 +54,7 @@ fn with_setting<'a>(alloc: Global, command: Command<'a>) -> Result<Command<'a>> 
 
 /// The word for the program's file.
 fn program_word<'a>(alloc: Global) -> Arg<'a> {
-    Arg::new(alloc, "PROGRAM")
+    Arg::new(alloc, FILE)
         .required(true)
         .help("The file of the program module; what it imports is found")
 }
@@ -162,103 +165,69 @@ fn style_of<R: Eprint>(rt: &R, matches: &ArgMatches) -> Option<Style> {
 }
 
 /// How programs are found and built. What cannot be had is reported.
-fn setting_of<R>(rt: &R, matches: &ArgMatches) -> Result<Words<Setting>>
+fn setting_of<R>(rt: &R, matches: &ArgMatches) -> Result<Setting, Exit>
 where
     R: Files + Env + Eprint + AllocGlobal,
 {
-    let Some(options) = options_of(rt, PROGRAM, matches) else {
-        return Ok(Words::Reported(COMMAND_LINE));
-    };
+    let options = options_of(rt, PROGRAM, matches)?;
     let Some(style) = style_of(rt, matches) else {
-        return Ok(Words::Reported(COMMAND_LINE));
+        return Err(Exit::Reported(COMMAND_LINE));
     };
     let folders = matches.get_strs("lib").unwrap_or(&[]);
-    match libraries_of(rt, folders)? {
-        Words::Reported(status) => Ok(Words::Reported(status)),
-        Words::Read(libraries) => Ok(Words::Read(Setting {
-            options,
-            libraries,
-            is_verbose: matches.get_flag("verbose"),
-            style,
-        })),
-    }
+    Ok(Setting {
+        options,
+        libraries: libraries_of(rt, folders)?,
+        is_verbose: matches.get_flag("verbose"),
+        style,
+    })
 }
 
 /// The value of an option or a word that names a file or a folder. An empty name is reported.
-fn name_of<R>(rt: &R, matches: &ArgMatches, id: &str, said: &str) -> Result<Words<String>>
+fn name_of<R>(rt: &R, matches: &ArgMatches, id: &str, said: &str) -> Result<String, Exit>
 where
     R: Eprint + AllocGlobal,
 {
     let name = matches.get_str(id).unwrap_or("");
     if !is_named(rt, PROGRAM, said, name) {
-        return Ok(Words::Reported(COMMAND_LINE));
+        return Err(Exit::Reported(COMMAND_LINE));
     }
-    Ok(Words::Read(String::from_str(rt.alloc(), name)?))
+    Ok(String::from_str(rt.alloc(), name)?)
 }
 
-/// The program's file, and how it is found and built.
-fn program_of<R>(rt: &R, matches: &ArgMatches) -> Result<Words<(String, Setting)>>
+fn run_asked<R>(rt: &R, matches: &ArgMatches) -> Result<Asked, Exit>
 where
     R: Files + Env + Eprint + AllocGlobal,
 {
-    let program = match name_of(rt, matches, "PROGRAM", "PROGRAM")? {
-        Words::Read(program) => program,
-        Words::Reported(status) => return Ok(Words::Reported(status)),
-    };
-    match setting_of(rt, matches)? {
-        Words::Read(setting) => Ok(Words::Read((program, setting))),
-        Words::Reported(status) => Ok(Words::Reported(status)),
-    }
+    Ok(Asked::Run {
+        steps: steps_of(rt, PROGRAM, matches)?,
+        program: name_of(rt, matches, FILE, FILE)?,
+        setting: setting_of(rt, matches)?,
+    })
 }
 
-fn run_asked<R>(rt: &R, matches: &ArgMatches) -> Result<Words<Asked>>
+fn build_asked<R>(rt: &R, matches: &ArgMatches) -> Result<Asked, Exit>
 where
     R: Files + Env + Eprint + AllocGlobal,
 {
-    let Some(steps) = steps_of(rt, PROGRAM, matches) else {
-        return Ok(Words::Reported(COMMAND_LINE));
-    };
-    match program_of(rt, matches)? {
-        Words::Reported(status) => Ok(Words::Reported(status)),
-        Words::Read((program, setting)) => Ok(Words::Read(Asked::Run {
-            program,
-            setting,
-            steps,
-        })),
-    }
+    Ok(Asked::Build {
+        out: name_of(rt, matches, "out", "--out")?,
+        program: name_of(rt, matches, FILE, FILE)?,
+        setting: setting_of(rt, matches)?,
+    })
 }
 
-fn build_asked<R>(rt: &R, matches: &ArgMatches) -> Result<Words<Asked>>
+fn check_asked<R>(rt: &R, matches: &ArgMatches) -> Result<Asked, Exit>
 where
     R: Files + Env + Eprint + AllocGlobal,
 {
-    let out = match name_of(rt, matches, "out", "--out")? {
-        Words::Read(out) => out,
-        Words::Reported(status) => return Ok(Words::Reported(status)),
-    };
-    match program_of(rt, matches)? {
-        Words::Reported(status) => Ok(Words::Reported(status)),
-        Words::Read((program, setting)) => Ok(Words::Read(Asked::Build {
-            program,
-            setting,
-            out,
-        })),
+    let programs = matches.get_strs(FILE).unwrap_or(&[]);
+    if !are_named(rt, PROGRAM, FILE, programs) {
+        return Err(Exit::Reported(COMMAND_LINE));
     }
-}
-
-fn check_asked<R>(rt: &R, matches: &ArgMatches) -> Result<Words<Asked>>
-where
-    R: Files + Env + Eprint + AllocGlobal,
-{
-    let programs = matches.get_strs("PROGRAM").unwrap_or(&[]);
-    if !are_named(rt, PROGRAM, "PROGRAM", programs) {
-        return Ok(Words::Reported(COMMAND_LINE));
-    }
-    let programs = strings_of(rt.alloc(), programs)?;
-    match setting_of(rt, matches)? {
-        Words::Read(setting) => Ok(Words::Read(Asked::Check { programs, setting })),
-        Words::Reported(status) => Ok(Words::Reported(status)),
-    }
+    Ok(Asked::Check {
+        programs: strings_of(rt.alloc(), programs)?,
+        setting: setting_of(rt, matches)?,
+    })
 }
 
 /// The pass of this name. Any other word is reported.
@@ -275,21 +244,18 @@ fn pass_of<R: Eprint>(rt: &R, word: &str) -> Option<Pass> {
     }
 }
 
-fn show_asked<R>(rt: &R, matches: &ArgMatches) -> Result<Words<Asked>>
+fn show_asked<R>(rt: &R, matches: &ArgMatches) -> Result<Asked, Exit>
 where
     R: Files + Env + Eprint + AllocGlobal,
 {
     let Some(pass) = pass_of(rt, matches.get_str("PASS").unwrap_or("")) else {
-        return Ok(Words::Reported(COMMAND_LINE));
+        return Err(Exit::Reported(COMMAND_LINE));
     };
-    match program_of(rt, matches)? {
-        Words::Reported(status) => Ok(Words::Reported(status)),
-        Words::Read((program, setting)) => Ok(Words::Read(Asked::Show {
-            pass,
-            program,
-            setting,
-        })),
-    }
+    Ok(Asked::Show {
+        pass,
+        program: name_of(rt, matches, FILE, FILE)?,
+        setting: setting_of(rt, matches)?,
+    })
 }
 
 /// The words of a topic, with a blank between two.
@@ -304,25 +270,24 @@ fn topic_of(alloc: Global, words: &[&str]) -> Result<String> {
     Ok(topic)
 }
 
-fn explain_asked(alloc: Global, matches: &ArgMatches) -> Result<Words<Asked>> {
+fn explain_asked(alloc: Global, matches: &ArgMatches) -> Result<Asked, Exit> {
     let words = matches.get_strs("TOPIC").unwrap_or(&[]);
-    Ok(Words::Read(Asked::Explain {
+    Ok(Asked::Explain {
         topic: topic_of(alloc, words)?,
-    }))
+    })
 }
 
-fn new_asked<R>(rt: &R, matches: &ArgMatches) -> Result<Words<Asked>>
+fn new_asked<R>(rt: &R, matches: &ArgMatches) -> Result<Asked, Exit>
 where
     R: Eprint + AllocGlobal,
 {
-    match name_of(rt, matches, "NAME", "NAME")? {
-        Words::Read(name) => Ok(Words::Read(Asked::New { name })),
-        Words::Reported(status) => Ok(Words::Reported(status)),
-    }
+    Ok(Asked::New {
+        name: name_of(rt, matches, "NAME", "NAME")?,
+    })
 }
 
 /// What a subcommand asks for.
-fn request<R>(rt: &R, matches: &ArgMatches) -> Result<Words<Asked>>
+fn request<R>(rt: &R, matches: &ArgMatches) -> Result<Asked, Exit>
 where
     R: Files + Env + Eprint + AllocGlobal,
 {
@@ -333,21 +298,16 @@ where
         Some(("show", inner)) => show_asked(rt, inner),
         Some(("explain", inner)) => explain_asked(rt.alloc(), inner),
         Some(("new", inner)) => new_asked(rt, inner),
-        _ => Ok(Words::Reported(COMMAND_LINE)),
+        _ => Err(Exit::Reported(COMMAND_LINE)),
     }
 }
 
 /// What the command line asks for.
-pub fn read_command_line<R>(rt: &R) -> Result<Words<Asked>>
+pub fn read_command_line<R>(rt: &R) -> Result<Asked, Exit>
 where
     R: Files + Env + Print + Eprint + AllocGlobal,
 {
-    let words = match command_line(rt, PROGRAM)? {
-        Words::Read(words) => words,
-        Words::Reported(status) => return Ok(Words::Reported(status)),
-    };
-    match matches_of(rt, command(rt.alloc())?, &words)? {
-        Words::Read(matches) => request(rt, &matches),
-        Words::Reported(status) => Ok(Words::Reported(status)),
-    }
+    let words = command_line(rt, PROGRAM)?;
+    let matches = matches_of(rt, command(rt.alloc())?, &words)?;
+    request(rt, &matches)
 }

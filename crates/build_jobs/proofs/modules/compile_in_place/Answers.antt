@@ -10,7 +10,7 @@ use Rattle.build_jobs.specs.Jobs.{compile_in_place}
 use Rattle.build_jobs.specs.ModuleEncoded.{IsEncoded}
 use Rattle.build_jobs.specs.Encoded.{encoded_in}
 use Rattle.build_jobs.specs.Borrowed.{modules_borrowed}
-use Rattle.build_jobs.proofs.modules.compiled_in.Goals as goal
+use Rattle.build_jobs.proofs.modules.compile_in_place.Goals as goal
 
 abbrev tree_of : Bor (List ℕ) × Bor Module → Module
 tree_of t = t.1.now

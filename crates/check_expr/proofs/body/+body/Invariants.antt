@@ -4,7 +4,7 @@ use Rattle.check_expr.specs.Meanings.{factor_in, term_in, pick_in, actual_in, lo
 use Rattle.check_expr.proofs.body.+body.Given as goal
 
 abbrev pub invariant-selection-loop-selector : goal.invariant-selection-loop-selector
-invariant-selection-loop-selector l = l.designation ≡ fold (pick_in l.scope) l.fn.first (take l.selector-index l.selectors)
+invariant-selection-loop-selector l = l.designated ≡ fold (pick_in l.scope) l.fn.first (take l.selector-index l.selectors)
 
 abbrev pub invariant-factors-loop-operator : goal.invariant-factors-loop-operator
 invariant-factors-loop-operator l = l.value ≡ fold (factor_in l.scope l.at) l.fn.left (take l.operator-index l.rest)

@@ -4,4 +4,4 @@ use Rattle.check_expr.specs.Meanings.{constant_pick_in}
 use Rattle.check_expr.proofs.fixed.selection.Given as goal
 
 abbrev pub invariant-loop-selector : goal.invariant-loop-selector
-invariant-loop-selector l = l.denotation ≡ fold (constant_pick_in l.scope) l.fn.first (take l.selector-index l.selectors)
+invariant-loop-selector l = l.denoted ≡ fold (constant_pick_in l.scope) l.fn.first (take l.selector-index l.selectors)

@@ -5,7 +5,7 @@ use Rattle.pool_board.specs.Graph.{prerequisites_of}
 use Rattle.pool_board.specs.Results.{items_at}
 use Rattle.m2_pool.proofs.Items.{next_in}
 use Rattle.m2_pool.proofs.Gathering.{Answers, answers_more, next_result, no_places_yet, none_yet, of_answers, settled_too, kept_from}
-use Rattle.m2_pool.proofs.gather.gathered.Goals as goal
+use Rattle.m2_pool.proofs.gather.gather_results.Goals as goal
 
 pub loop-place-init : goal.loop-place-init
 loop-place-init g c =

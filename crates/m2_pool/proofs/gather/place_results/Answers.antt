@@ -5,7 +5,7 @@ use Rattle.once_cell.specs.Once.{cell_name}
 use Rattle.pool_board.specs.Results.{IsRan, IsMade}
 use Rattle.m2_pool.proofs.Items.{next_in}
 use Rattle.m2_pool.proofs.Places.{placed_in}
-use Rattle.m2_pool.proofs.gather.placed.Goals as goal
+use Rattle.m2_pool.proofs.gather.place_results.Goals as goal
 
 pub loop-ran-preserved : goal.loop-ran-preserved
 loop-ran-preserved g c =

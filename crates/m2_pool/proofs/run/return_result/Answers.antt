@@ -7,7 +7,7 @@ use mathlib.Core.List.{map-append}
 use Rattle.pool_board.specs.Seats.{SeatState, IsWorked, all_had}
 use Rattle.pool_board.specs.Results.{IsRan, IsMade}
 use Rattle.m2_pool.proofs.Items.{next_in, together_push}
-use Rattle.m2_pool.proofs.run.returned.Goals as goal
+use Rattle.m2_pool.proofs.run.return_result.Goals as goal
 
 pub loop-one-preserved : goal.loop-one-preserved
 loop-one-preserved g c =

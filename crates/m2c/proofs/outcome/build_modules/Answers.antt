@@ -11,7 +11,7 @@ use Rattle.m2c.proofs.Graphs.{is_program}
 use Rattle.m2c.proofs.Borrowed.{copies_borrowed}
 use Rattle.m2c.proofs.Named.{borrowed_named, started_named}
 use Rattle.m2c.specs.Names.{IsName}
-use Rattle.m2c.proofs.outcome.built.Goals as goal
+use Rattle.m2c.proofs.outcome.build_modules.Goals as goal
 
 abbrev items_of : Vec ℕ → List ℕ
 items_of v = v.items

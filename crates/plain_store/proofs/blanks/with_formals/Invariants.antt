@@ -3,4 +3,4 @@ use Rattle.plain_store.specs.Blanks.{formal_blank}
 use Rattle.plain_store.proofs.blanks.with_formals.Given as goal
 
 abbrev pub invariant-loop-formal : goal.invariant-loop-formal
-invariant-loop-formal l = l.all ≡ l.fn.before ++ map (formal_blank l.all_blanks) (take l.formal-index l.formals)
+invariant-loop-formal l = l.all ≡ l.fn.before ++ map (formal_blank l.known) (take l.formal-index l.formals)

@@ -2,7 +2,7 @@ use Rattle.std.proofs.Common.{◌≡◌, ℤ, w64, to_z, of_z, rules, [], ◌∷
 use Rattle.plain_store.specs.declared.held.Held.{Held}
 use Rattle.plain_store.specs.Contents.{spread}
 use Rattle.plain_store.proofs.Spreads.{is_longer}
-use Rattle.plain_store.proofs.opened_tree.grown.Goals as goal
+use Rattle.plain_store.proofs.opened_tree.grow_tree.Goals as goal
 
 pub returns : goal.returns
 returns c =

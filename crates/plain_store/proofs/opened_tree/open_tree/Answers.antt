@@ -3,7 +3,7 @@ use Rattle.plain_store.specs.declared.held.Held.{Held}
 use Rattle.plain_store.specs.declared.held.Held.TheVariants.{Same}
 use Rattle.plain_store.specs.Contents.{spread}
 use Rattle.plain_store.proofs.Spreads.{says_by, opened_same, opened_parts, opened_array_by}
-use Rattle.plain_store.proofs.opened_tree.opened.Goals as goal
+use Rattle.plain_store.proofs.opened_tree.open_tree.Goals as goal
 
 pub returns-in-Same : goal.returns-in-Same
 returns-in-Same c =

@@ -1,6 +1,6 @@
 use Rattle.std.proofs.Common.{◌≡◌, w64, to_z, of_z, rules}
 use Rattle.plain_store.proofs.Stores.{ok_assigned}
-use Rattle.plain_store.proofs.variables.assigned.Goals as goal
+use Rattle.plain_store.proofs.variables.assign_number.Goals as goal
 
 pub returns : goal.returns
 returns c =

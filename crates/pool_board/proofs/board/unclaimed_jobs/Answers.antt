@@ -1,8 +1,8 @@
 use Rattle.std.proofs.Common.{◌≡◌, ℕ, List, [], ◌∷◌, ◌++◌, length, sym, ap, ◌∙◌, arith, length-append, vec_capacity, get_or}
 use Rattle.std.specs.Slots.{slots_items}
 use Rattle.pool_board.proofs.Tallied.{unset_more, unset_same, word_at}
-use Rattle.pool_board.proofs.board.unclaimed.Goals as goal
-use Rattle.pool_board.proofs.board.unclaimed.Goals.{then-word-eq0, else-word-eq0}
+use Rattle.pool_board.proofs.board.unclaimed_jobs.Goals as goal
+use Rattle.pool_board.proofs.board.unclaimed_jobs.Goals.{then-word-eq0, else-word-eq0}
 
 pub loop-job-preserved : goal.loop-job-preserved
 loop-job-preserved c =

@@ -3,8 +3,8 @@ use Rattle.scan_tokens.specs.declared.class.Class.TheVariants.{Letter}
 use Rattle.scan_tokens.proofs.Fronts.{run_front, name_stops, name_taken}
 use Rattle.scan_tokens.proofs.cut.cut_name.Goals as goal
 
-pub returns-then-len-gt-MAX_NAME-clause-scan_refusal : goal.returns-then-len-gt-MAX_NAME-clause-scan_refusal
-returns-then-len-gt-MAX_NAME-clause-scan_refusal c =
+pub returns-then-len-gt-MAX_NAME-clause-refused : goal.returns-then-len-gt-MAX_NAME-clause-refused
+returns-then-len-gt-MAX_NAME-clause-refused c =
     name_stops c.args.text.now c.run_len-len.result c.args.pos c.scan_refusal.result c.requires.begins c.run_len-len.ensures.value c.if-len-gt-MAX_NAME.true c.scan_refusal.ensures
 
 pub word_lexeme-requires-clause-letter : goal.word_lexeme-requires-clause-letter

@@ -7,8 +7,8 @@ pub number_of-requires : goal.number_of-requires
 number_of-requires c =
     (run_front Digit c.args.text.now c.split_at.result.0.now c.split_at.result.1.now c.run_len-len.result refl c.requires.begins c.run_len-len.ensures.value c.split_at.ensures.front c.split_at.ensures.back).runs
 
-pub returns-in-Err-clause-scan_refusal : goal.returns-in-Err-clause-scan_refusal
-returns-in-Err-clause-scan_refusal c =
+pub returns-in-Err-clause-refused : goal.returns-in-Err-clause-refused
+returns-in-Err-clause-refused c =
     let front = run_front Digit c.args.text.now c.split_at.result.0.now c.split_at.result.1.now c.run_len-len.result refl c.requires.begins c.run_len-len.ensures.value c.split_at.ensures.front c.split_at.ensures.back in
     number_stops c.args.text.now c.split_at.result.0.now c.split_at.result.1.now c.run_len-len.result c.args.pos c.in-Err.broken c.scan_refusal.result front c.in-Err.ensures.err c.scan_refusal.ensures
 

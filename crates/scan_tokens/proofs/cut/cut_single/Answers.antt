@@ -3,8 +3,8 @@ use Rattle.m2_tree.specs.declared.token.Lexeme.TheVariants as lexeme
 use Rattle.scan_tokens.proofs.Fronts.{sign_taken, stray_stops}
 use Rattle.scan_tokens.proofs.cut.cut_single.Goals as goal
 
-pub returns-in-None-clause-scan_refusal : goal.returns-in-None-clause-scan_refusal
-returns-in-None-clause-scan_refusal c = stray_stops c.args.text.now c.args.pos c.scan_refusal.result c.requires.begins (sym c.in-None.ensures) c.scan_refusal.ensures
+pub returns-in-None-clause-refused : goal.returns-in-None-clause-refused
+returns-in-None-clause-refused c = stray_stops c.args.text.now c.args.pos c.scan_refusal.result c.requires.begins (sym c.in-None.ensures) c.scan_refusal.ensures
 
 pub returns-in_ok-put-in-Some-clause-taken : goal.returns-in_ok-put-in-Some-clause-taken
 returns-in_ok-put-in-Some-clause-taken c = (

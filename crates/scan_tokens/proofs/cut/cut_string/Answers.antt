@@ -4,8 +4,8 @@ use Rattle.scan_tokens.proofs.Fronts.{string_open, string_is, string_stops, stri
 use Rattle.scan_tokens.proofs.cut.cut_string.Goals as goal
 use Rattle.scan_tokens.proofs.cut.cut_string.Goals.{then-len-behind-via-then-len-behind, then-len-behind-via-else-len-behind+then-behind-len}
 
-pub returns-then-len-behind-clause-scan_refusal : goal.returns-then-len-behind-clause-scan_refusal
-returns-then-len-behind-clause-scan_refusal c =
+pub returns-then-len-behind-clause-refused : goal.returns-then-len-behind-clause-refused
+returns-then-len-behind-clause-refused c =
     let text = c.args.text.now in
     let behind = c.split_at.result.1.now in
     let len = c.inside_len-len.result in
@@ -13,8 +13,8 @@ returns-then-len-behind-clause-scan_refusal c =
     elim c.then-len-behind.branch [ then-len-behind-via-then-len-behind w ↦ inl w.if-len-behind.true | then-len-behind-via-else-len-behind+then-behind-len w ↦ inr w.if-behind-len.true ] in
     string_open text behind (get_or text 0 0) len c.args.pos c.scan_refusal.result c.requires.begins c.split_at.ensures.back refl c.inside_len-len.ensures.value why c.scan_refusal.ensures
 
-pub returns-then-good-len-clause-scan_refusal : goal.returns-then-good-len-clause-scan_refusal
-returns-then-good-len-clause-scan_refusal c =
+pub returns-then-good-len-clause-refused : goal.returns-then-good-len-clause-refused
+returns-then-good-len-clause-refused c =
     let text = c.args.text.now in
     let behind = c.split_at.result.1.now in
     let inside = c.split_at-2.result.0.now in

@@ -6,16 +6,16 @@ use Rattle.m2_tree.specs.declared.token.Token.{Token}
 use Rattle.scan_tokens.proofs.Scanned.{Scanned, begins, goes_on, ends, stops, tokens_once, too_long, only_memory, only_refusal, never_both}
 use Rattle.scan_tokens.proofs.tokens.scan.Goals as goal
 
-pub returns-then-text-gt-MAX_TEXT-clause-scan_refusal : goal.returns-then-text-gt-MAX_TEXT-clause-scan_refusal
-returns-then-text-gt-MAX_TEXT-clause-scan_refusal c = too_long c.args.text.now c.scan_refusal.result c.if-text-gt-MAX_TEXT.true c.scan_refusal.ensures
+pub returns-then-text-gt-MAX_TEXT-clause-refused : goal.returns-then-text-gt-MAX_TEXT-clause-refused
+returns-then-text-gt-MAX_TEXT-clause-refused c = too_long c.args.text.now c.scan_refusal.result c.if-text-gt-MAX_TEXT.true c.scan_refusal.ensures
 
 pub loop-rest-init : goal.loop-rest-init
 loop-rest-init c =
     let P : List Token → Type 0 = λ ts. Scanned c.args.text.now c.args.text.now (record { line = 1; col = 1 }) ts in
     subst P (sym c.new-tokens.ensures.items) (begins c.args.text.now c.if-text-gt-MAX_TEXT.false)
 
-pub returns-in_err-cut-clause-scan_refusal : goal.returns-in_err-cut-clause-scan_refusal
-returns-in_err-cut-clause-scan_refusal c =
+pub returns-in_err-cut-clause-refused : goal.returns-in_err-cut-clause-refused
+returns-in_err-cut-clause-refused c =
     let p = err_from_is_err_and c.from_residual.result c.from_residual.ensures.1 in
     rw (p.1, p.2) (stops c.args.text.now c.loop-rest.rest.now c.loop-rest.pos c.loop-rest.tokens.items _ c.loop-rest.invariant c.in_err-cut.ensures.refused)
 

@@ -40,7 +40,7 @@ returns-clause-each c = λ job low.
     let w : After-free = (goal.at.returns-clause-each c).After-free in
     let had : List ℕ = all_had c.args.seats.items in
     let same : times job c.unclaimed_jobs.new.list.items ≡ times job (without had (length c.args.self.graph)) = ap (times job) (left w) in
-    let lists : one_list (map (λ l. l.items) c.join_all-whole.new.lists.items) ≡ had = ap one_list c.join_all-whole.ensures.lists ∙ one_list-map (λ (s : SeatState). s.had) c.args.seats.items in
+    let lists : one_list (map (λ l. l.items) c.join_all-whole.new.lists.items) ≡ had = ap one_list c.join_all-whole.ensures.lists ∙ listed-map (λ (s : SeatState). s.had) c.args.seats.items in
     let lists_times = ap (times job) lists in
     omega (arith, weigh-append (λ y. bit (eqb y job)) (one_list (map (λ l. l.items) c.join_all-whole.new.lists.items)) c.unclaimed_jobs.new.list.items, each_job had (length c.args.self.graph) job low ((closed w).consistent.once job))
 

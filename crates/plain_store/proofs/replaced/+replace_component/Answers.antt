@@ -3,7 +3,7 @@ use Rattle.std.proofs.Math.Seq.{drop-cons}
 use Rattle.plain_store.specs.declared.held.Held.TheVariants.{Same}
 use Rattle.plain_store.specs.Contents.{contents}
 use Rattle.plain_store.proofs.Puts.{whole, ok_put}
-use Rattle.plain_store.proofs.replaced.+replaced.Goals as goal
+use Rattle.plain_store.proofs.replaced.+replace_component.Goals as goal
 
 pub returns-then-from-to : goal.returns-then-from-to
 returns-then-from-to t c = whole c.args.to.now c.args.from (contents c.args.new) (contents c.args.held) c.if-from-to.true
