@@ -270,7 +270,8 @@ module _ (p : Program) (pages spare : ℕ) (room : bytes_in p + spare ≡ 65536 
       → (result : Store) × (linked_from (typed_link p pages ∷ trees) (suc (length is)) (map typed_module q) (state fs ms is) ≡ Ok result) × AllLinked p pages spare trees result
   unfolding linked_from
   order_linked _ _ NoModules fs is ms todo here placed before counted rest among = (
-    state fs ms is, refl,
+    state fs ms is,
+    refl,
     record {
       functions = fs;
       instances = is;

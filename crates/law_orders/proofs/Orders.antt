@@ -91,9 +91,9 @@ module _ (p : Program) where
       let e : suc (suc m) ≡ suc m + 1 = omega arith in (
         here,
         subst (λ (xs : List Callee). AllMarked p xs (is ++ i ∷ instances p (a + count b) bs) (trees ++ typed_module b ∷ map typed_module bs) (marks_from (a + count b) (suc m) bs)) (append_assoc fs own (owns (suc m + 1) bs))
-        (subst (λ (k : ℕ). AllMarked p (fs' ++ owns k bs) (is ++ i ∷ instances p (a + count b) bs) (trees ++ typed_module b ∷ map typed_module bs) (marks_from (a + count b) (suc m) bs)) e
-        (subst (λ (xs : List Instance). AllMarked p (fs' ++ owns (suc (suc m)) bs) xs (trees ++ typed_module b ∷ map typed_module bs) (marks_from (a + count b) (suc m) bs)) (append_assoc is (i ∷ []) (instances p (a + count b) bs))
-        (subst (λ (xs : List WModule). AllMarked p (fs' ++ owns (suc (suc m)) bs) (is' ++ instances p (a + count b) bs) xs (marks_from (a + count b) (suc m) bs)) (append_assoc trees (typed_module b ∷ []) (map typed_module bs)) next))),
+            (subst (λ (k : ℕ). AllMarked p (fs' ++ owns k bs) (is ++ i ∷ instances p (a + count b) bs) (trees ++ typed_module b ∷ map typed_module bs) (marks_from (a + count b) (suc m) bs)) e
+            (subst (λ (xs : List Instance). AllMarked p (fs' ++ owns (suc (suc m)) bs) xs (trees ++ typed_module b ∷ map typed_module bs) (marks_from (a + count b) (suc m) bs)) (append_assoc is (i ∷ []) (instances p (a + count b) bs))
+            (subst (λ (xs : List WModule). AllMarked p (fs' ++ owns (suc (suc m)) bs) (is' ++ instances p (a + count b) bs) xs (marks_from (a + count b) (suc m) bs)) (append_assoc trees (typed_module b ∷ []) (map typed_module bs)) next))),
       )
     where
       at : {A : Type 0} (xs : List A) (x : A) (ys : List A) (k : ℕ) → k ≡ length xs → slice_get (xs ++ x ∷ ys) k ≡ Some x

@@ -205,8 +205,8 @@ module _ (g : Gathers) (elaborates : Elaborates g.Reported) (base : Types) (word
       new_typed : BodyTyped z new
       new_typed = (
         subst (λ (k : List Kinds). StmtsTyped (stands z k) (result_of types t) [] false (body_ok g elaborates ends h block ks f around seen w ok).0)
-        (frames ∙ ap (λ (n : ℕ). kinds_of types new ∷ kinds_around z.home n around) (sym new_level))
-        (holds_at (inner g elaborates ends h block ks f around seen w).1 inner_typed.1 (body_ok g elaborates ends h block ks f around seen w ok).0 (body_ok g elaborates ends h block ks f around seen w ok).1),
+            (frames ∙ ap (λ (n : ℕ). kinds_of types new ∷ kinds_around z.home n around) (sym new_level))
+            (holds_at (inner g elaborates ends h block ks f around seen w).1 inner_typed.1 (body_ok g elaborates ends h block ks f around seen w ok).0 (body_ok g elaborates ends h block ks f around seen w ok).1),
         new_known,
       )
 

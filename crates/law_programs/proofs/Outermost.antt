@@ -200,8 +200,8 @@ module _ (g : Gathers) (elaborates : Elaborates g.Reported) (base : Types) (word
       new_typed : BodyTyped z new
       new_typed = (
         subst (λ (k : List Kinds). StmtsTyped (stands z k) (result_of types p.heading) [] false statements)
-        (frames ∙ ap (λ (n : ℕ). kinds_of types new ∷ kinds_around z.home n None) (sym new_level))
-        (holds_at (inner g elaborates ends h block ks f None seen w).1 inner_typed.1 statements (body_ok g elaborates ends h block ks f None seen w ok).1),
+            (frames ∙ ap (λ (n : ℕ). kinds_of types new ∷ kinds_around z.home n None) (sym new_level))
+            (holds_at (inner g elaborates ends h block ks f None seen w).1 inner_typed.1 statements (body_ok g elaborates ends h block ks f None seen w ok).1),
         new_known,
       )
 
