@@ -6,4 +6,4 @@
 //! The crate behind this one is internal. Users name this one and `m2_tree`.
 #![tactic(auto)]
 
-pub use scan_tokens::{TokenRule, MAX_TEXT, ScanError, ScanRefusal, scan};
+pub use scan_tokens::{MAX_TEXT, ScanError, ScanRefusal, TokenRule, scan};

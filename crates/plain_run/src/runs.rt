@@ -20,8 +20,8 @@ use plain_steps::simple::{
 };
 use plain_store::state::{Answer, Outcome, RunFault, State, Stop, deeper, load};
 use plain_values::checks::{
-    Operands, capital, character, combined_with, comparison_value, denial_of, distance,
-    inclusion_value, is_in, negation_of, odd, operated_with, ordinal, value_as, within,
+    Operands, capital, character, combined_with, comparison_holds, denial_of, distance,
+    inclusion_holds, is_in, negation_of, odd, operated_with, ordinal, value_as, within,
 };
 use plain_values::operators::{is_true, truth};
 use plain_values::places::{
@@ -54,11 +54,11 @@ pub fn value<'a>(
             Answer::Stopped(stop) => Ok(Answer::Stopped(stop)),
         },
         TypedExpr::Compare(o, a, b) => {
-            Ok(comparison_value(*o, operands(around, room, a.get(), b.get(), st)?, st))
+            Ok(comparison_holds(*o, operands(around, room, a.get(), b.get(), st)?, st))
         }
         TypedExpr::Not(a) => Ok(denial_of(value(around, room, a.get(), st)?, st)),
         TypedExpr::Include(o, a, b) => {
-            Ok(inclusion_value(*o, operands(around, room, a.get(), b.get(), st)?, st))
+            Ok(inclusion_holds(*o, operands(around, room, a.get(), b.get(), st)?, st))
         }
         TypedExpr::In(a, b) => in_value(around, room, a.get(), b.get(), st),
         _ => function_value(around, room, e, st),
