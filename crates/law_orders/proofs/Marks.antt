@@ -16,7 +16,7 @@ use Rattle.def_scheme.specs.Modules.{slots, typed_module, typed_link}
 use Rattle.law_modules.specs.Linked.{Program, names, imported_names, variables, text, count, own_from, somes_from, module_instance, link_instance, slots_in, bytes_in, IsAmong}
 use Rattle.law_modules.proofs.Stores.{text_length, somes_length}
 use Rattle.law_modules.proofs.Placed.{enough}
-use Rattle.law_orders.specs.Orders.{IsOrder, NoModules, OneModule}
+use Rattle.law_orders.specs.Order.{IsOrder, NoModules, OneModule}
 use Rattle.law_orders.proofs.Linking.{store_with, body_linked}
 
 -- the address of its first function, and its number, if it is linked

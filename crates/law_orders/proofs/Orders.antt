@@ -25,7 +25,8 @@ use Rattle.law_modules.proofs.Links.{first_linked}
 use Rattle.law_modules.proofs.Placed.{enough, number_at, run_found, modules_link}
 use Rattle.law_simulation.specs.Behaves.{Behaves}
 use Rattle.law_orders.specs.Renumbered.{renumber, AreAlike, SameConfig, BothGo}
-use Rattle.law_orders.specs.Orders.{IsOrder, NoModules, OneModule, all_in, LinksAlike, OrdersLinkAlike, OrdersBehave}
+use Rattle.law_orders.specs.Order.{IsOrder, NoModules, OneModule}
+use Rattle.law_orders.specs.Orders.{all_in, LinksAlike, OrdersLinkAlike, OrdersBehave}
 use Rattle.law_orders.proofs.Linking.{store_with}
 use Rattle.law_orders.proofs.Marks.{Mark, Marks, homes, unmarked, with_left, left, marked_slots, marked_bytes, homes_unmarked, left_unmarked, slots_unmarked, bytes_unmarked, behind_host, get_more, get_behind, own_at, IsPlaced, AllMarked, AllLinked, order_linked}
 use Rattle.law_orders.proofs.Behaving.{behaves_so}

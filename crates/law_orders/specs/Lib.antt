@@ -1,2 +1,3 @@
 pub mod Renumbered
+pub mod Order
 pub mod Orders

@@ -1,21 +1,15 @@
 -- The modules of a program in any order, link first: bodies import from link and the host alone.
-use Rattle.std.specs.Prelude.{◌≡◌, ℕ, List, [], ◌∷◌, ◌++◌, map, Ok}
+use Rattle.std.specs.Prelude.{◌≡◌, ℕ, List, ◌∷◌, map, Ok}
 use Rattle.wasm_tree.specs.declared.module.WModule.{WModule}
 use Rattle.wasm_tree.specs.declared.store.Store.{Store}
 use Rattle.wasm_tree.specs.Machine.{Config, Going}
 use Rattle.wasm_tree.specs.Linking.{link}
 use Rattle.def_meaning.specs.Outcome.{Outcome}
-use Rattle.typed_tree.specs.declared.typed_module.TypedModule.{TypedModule}
 use Rattle.def_scheme.specs.Modules.{typed_module, typed_link}
 use Rattle.law_modules.specs.Linked.{Program, all, linked_store, begin, IsLinkable}
 use Rattle.law_simulation.specs.Behaves.{Behaves}
+use Rattle.law_orders.specs.Order.{IsOrder}
 use Rattle.law_orders.specs.Renumbered.{AreAlike, SameConfig}
-
--- the second list has the modules of the first one, each once, in any order
-pub data IsOrder : Program → Program → Type 0 where
-  NoModules : IsOrder [] []
-  OneModule : (before rest q : Program) (b : TypedModule) → IsOrder (before ++ rest) q
-      → IsOrder (before ++ b ∷ rest) (b ∷ q)
 
 -- the module link, and those of the bodies in this order
 abbrev pub all_in : (p : Program) → (pages : ℕ) → (q : Program) → List WModule

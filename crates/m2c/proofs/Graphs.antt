@@ -17,6 +17,7 @@ use Rattle.wasm_tree.specs.Validity.{IsValid}
 use Rattle.m2_tree.specs.declared.refusal.Refusal.{Refusal}
 use Rattle.typed_tree.specs.declared.typed_module.TypedModule.{TypedModule}
 use Rattle.def_meaning.specs.Environment.{Modules}
+use Rattle.def_meaning.specs.Runs.{run}
 use Rattle.def_scheme.specs.Modules.{Part, typed_module, typed_link, part_of, link_of, stack_begin}
 use Rattle.m2_emit.specs.declared.emitted.ModuleBytes.{ModuleBytes}
 use Rattle.m2_emit.specs.Emitted.{emitted, parts}
@@ -32,6 +33,7 @@ use Rattle.law_modules.specs.Linked.{IsLinkable, all}
 use Rattle.law_well_formed.proofs.RangesTypes.{both_left, both_right}
 use Rattle.law_simulation.specs.Modules.{AreModules, AreTypedModules}
 use Rattle.law_simulation.proofs.LinkedPrograms.{typed_behave}
+use Rattle.law_orders.proofs.Orders.{orders_behave}
 use Rattle.law_nothing_missing.proofs.Programs.{strict_runs, nothing_lacks}
 use Rattle.law_modules.proofs.Placed.{modules_link}
 use Rattle.law_programs.proofs.Links.{slots_few, link_valid}
@@ -157,7 +159,8 @@ module _ (files : List SourceFile) (fs : List (List ℕ × Module)) (numbers : L
       let encoded : list_all module_fits (all p pages) ≡ true = encodings files fs numbers jobs starts have none pages least most fits_all in
       let bodies : AreFit p = bodies_fit p (both_right (module_fits (typed_link p pages)) (list_all module_fits (map typed_module p)) encoded) in
       let codes : map (λ m. m.1) built ≡ map module_bytes (map typed_module p) = ap (λ (ms : List (List ℕ × List ℕ)). map (λ m. m.1) ms) built_whole ∙ seconds p in
-      let bodies_encoded : BytesEncode (map (λ m. m.1) built) (map typed_module p) = subst (λ (bs : List (List ℕ)). BytesEncode bs (map typed_module p)) (sym codes) (all_encoded p bodies) in record {
+      let bodies_encoded : BytesEncode (map (λ m. m.1) built) (map typed_module p) = subst (λ (bs : List (List ℕ)). BytesEncode bs (map typed_module p)) (sym codes) (all_encoded p bodies) in
+      let behaves = typed_behave p pages linkable fits_all most (slots_few p pages link_encoded.fits) modules_are typed_are in record {
         trees = fs;
         numbers = numbers;
         all_jobs = jobs;
@@ -175,7 +178,8 @@ module _ (files : List SourceFile) (fs : List (List ℕ × Module)) (numbers : L
           no_others = λ others h. one_encoded (link ∷ map (λ m. m.1) built) others (typed_link p pages ∷ map typed_module p) h (link_encoded, bodies_encoded);
         };
         links = (_, modules_link p pages linkable);
-        behaves = typed_behave p pages linkable fits_all most (slots_few p pages link_encoded.fits) modules_are typed_are;
+        behaves = behaves;
+        orders = λ others order. orders_behave p pages linkable (run p pages) behaves.0 behaves.1 behaves.2 others order;
         strict = λ lacking n. strict_runs p pages modules_are typed_are lacking n;
         whole = λ lacking n above out e. nothing_lacks p pages modules_are typed_are lacking n above out e;
         valid = All-cons IsValid (typed_link p pages) (map typed_module p)

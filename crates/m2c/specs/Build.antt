@@ -25,6 +25,7 @@ use Rattle.law_nothing_missing.specs.Runs.{strict_run}
 use Rattle.def_scheme.specs.Modules.{typed_module, typed_link}
 use Rattle.m2_emit.specs.declared.emitted.ModuleBytes.{ModuleBytes}
 use Rattle.law_simulation.specs.Behaves.{Behaves}
+use Rattle.law_orders.specs.Order.{IsOrder}
 use Rattle.build_jobs.specs.declared.file.SourceFile.{SourceFile}
 use Rattle.m2c.specs.declared.files.Outcome.{Outcome}
 use Rattle.m2c.specs.declared.files.Outcome.TheVariants as outcome
@@ -222,8 +223,9 @@ pub record IsTooLarge (files : List SourceFile) (pages : ℕ) (refusals : List R
 
 -- No module breaks a rule. Those that are reached are compiled to valid modules, which link and do
 -- what the program does by the language's definition: they print the same bytes and end with the
--- same number, and they go on where it goes on. Nothing that the program's run asks for is missing:
--- it is the strict run, and ends with no number that stands for a lack.
+-- same number, and they go on where it goes on. Behind link they may stand in any order. Nothing
+-- that the program's run asks for is missing: it is the strict run, and ends with no number that
+-- stands for a lack.
 pub record IsProgram (files : List SourceFile) (pages : ℕ) (link : List ℕ)
     (built : List (List ℕ × List ℕ)) : Type 0 where
   pub trees : List (List ℕ × Module)
@@ -241,6 +243,9 @@ pub record IsProgram (files : List SourceFile) (pages : ℕ) (link : List ℕ)
   pub valid : All IsValid (typed_link program pages ∷ map typed_module program)
   pub behaves : (c : Config) × (linked (typed_link program pages ∷ map typed_module program) ≡ Ok c)
       × Behaves (typed_link program pages ∷ map typed_module program) c (run program pages)
+  pub orders : (others : Modules) → IsOrder program others → (c : Config)
+      × (linked (typed_link program pages ∷ map typed_module others) ≡ Ok c)
+      × Behaves (typed_link program pages ∷ map typed_module others) c (run program pages)
   pub strict : (lacking n : ℕ) → strict_run lacking program pages n ≡ run program pages n
   pub whole : (lacking n : ℕ) → halt_status < lacking → (out : List ℕ)
       → strict_run lacking program pages n ≢ Ended lacking out
