@@ -2,8 +2,9 @@
 //!
 //! - `specs/Renumbered` says which configurations differ in the numbers of their instances alone, and `proofs/Renumbered` that
 //!   their runs are alike, reduction for reduction.
-//! - `specs/Order` says which lists of modules are orders of a program, and `specs/Orders` what they do. `proofs/Linking` links one body, whichever were linked
-//!   before it, `proofs/Marks` all of them in any order, and `proofs/Orders` compares two orders.
+//! - `specs/Order` says which lists of modules are orders of a program, and `specs/Orders` what they do. `proofs/Linking`
+//!   links one body, whichever were linked before it, `proofs/Marks` all of them in any order, and `proofs/Orders` compares
+//!   two orders.
 #![tactic(auto)]
 
 ghost use Rattle.law_orders.specs.Orders.{OrdersBehave, OrdersLinkAlike};
