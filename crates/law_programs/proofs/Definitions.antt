@@ -80,7 +80,7 @@ has_middle name pre post = list_any-append (λ (k : List ℕ). same_name name k)
 module _ {T : Type 0} where
   -- ---- names that are taken, and not begun, are settled
 
-  taken_settled : (o : Option (Known T)) → order.picked is_taken o ≡ true → is_begun o ≡ false → holds_of is_settled o ≡ true
+  taken_settled : (o : Option (Known T)) → order.holds_of is_taken o ≡ true → is_begun o ≡ false → holds_of is_settled o ≡ true
   taken_settled None e b = absurd cc
   taken_settled (Some Later) e b = absurd cc
   taken_settled (Some Ahead) e b = absurd cc
