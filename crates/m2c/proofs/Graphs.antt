@@ -10,6 +10,7 @@ use Rattle.wasm_binary.proofs.LawsModule.{one_module}
 use Rattle.m2_graph.specs.Jobs.{ArePlaces, place_of}
 use Rattle.std.proofs.lemmas.List.{length-map}
 use Rattle.std.proofs.lemmas.List.Elements.{All-cons}
+use Rattle.std.proofs.lemmas.Bool.{ltb-true, ltb-false}
 use Rattle.m2_rule.specs.RuleNumber.{number_of}
 use Rattle.m2_rule.specs.declared.rule.Rule.TheVariants as rule
 use Rattle.wasm_tree.specs.declared.module.WModule.{WModule}
@@ -225,8 +226,8 @@ module _ (files : List SourceFile) (fs : List (List ℕ × Module)) (numbers : L
   pub by_size : (pages : ℕ) → 1 ≤ pages → pages ≤ 1024 → IsLarge fs numbers jobs starts pages ⊎ HasModules files pages
   by_size pages least most = by (nat_lt (65536 * pages) (stack_begin (parts those) + 4096)) refl where
     by : (b : Bool) → nat_lt (65536 * pages) (stack_begin (parts those) + 4096) ≡ b → IsLarge fs numbers jobs starts pages ⊎ HasModules files pages
-    by true e = inl (is_large pages (omega (arith, e)))
-    by false e = inr (has_modules pages least most (omega (arith, e)))
+    by true e = inl (is_large pages (ltb-true (65536 * pages) (stack_begin (parts those) + 4096) e))
+    by false e = inr (has_modules pages least most (ltb-false (65536 * pages) (stack_begin (parts those) + 4096) e))
 
 pub graphs_have_outcomes : GraphsHaveOutcomes
 graphs_have_outcomes files fs numbers jobs starts have pages least most = by (refused_by fs numbers jobs) refl where
