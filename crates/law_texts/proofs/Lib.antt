@@ -1,0 +1,4 @@
+pub mod Trees
+pub mod Comments
+pub mod Members
+pub mod Texts
