@@ -1,9 +1,9 @@
 -- A comment ends, or it does not.
-use Rattle.std.proofs.Common.{◌≡◌, ◌≢◌, ◌≤◌, ℕ, zero, suc, eqb, [], ◌∷◌, ◌++◌, length, ◌⊎◌, inl, inr, ap, sym, refl, ◌∙◌, subst, arith}
+use Rattle.std.proofs.Common.{◌≡◌, ◌≢◌, ◌≤◌, ℕ, zero, suc, eqb, [], ◌∷◌, length, ◌⊎◌, inl, inr, sym, refl, subst, arith}
 use Rattle.std.proofs.lemmas.Bool.{eqb-true, eqb-false, cases_Bool}
 use Rattle.m2_tree.specs.declared.pos.Pos.{Pos}
 use Rattle.scan_tokens.specs.Bytes.{Text}
-use Rattle.scan_tokens.specs.Forms.{IsClosed, opening, closing}
+use Rattle.scan_tokens.specs.Forms.{opening, closing}
 use Rattle.scan_tokens.specs.Steps.{over, Closes, NeverCloses}
 use Rattle.scan_tokens.proofs.Lists.{same_head}
 use Rattle.scan_tokens.proofs.Levels.{Ends, one_level, from_one_level, no_levels_left, open_enters, open_leaves, close_enters, close_leaves, other_enters, other_leaves, not_at_end, not_at_last}

@@ -1,5 +1,5 @@
 -- At the front of a text that is not empty stands a member, or something that is refused.
-use Rattle.std.proofs.Common.{◌≡◌, ◌≢◌, ◌≤◌, ◌<◌, ℕ, ◌+◌, Bool, true, false, eqb, [], ◌∷◌, ◌++◌, length, take, drop, get_or, Option, Some, None, ◌⊎◌, inl, inr, ap, sym, refl, ◌∙◌, subst, append-nil, arith}
+use Rattle.std.proofs.Common.{◌≡◌, ◌≢◌, ◌≤◌, ◌<◌, ℕ, ◌+◌, false, eqb, [], ◌∷◌, ◌++◌, length, take, drop, get_or, Option, Some, None, ◌⊎◌, inl, inr, ap, sym, refl, ◌∙◌, subst, append-nil, arith}
 use Rattle.std.specs.List.{list_all, prefix_len}
 use Rattle.std.proofs.lemmas.Bool.{eqb-true, eqb-false, cases_Bool, cases_lt}
 use Rattle.m2_tree.specs.declared.pos.Pos.{Pos}
@@ -19,10 +19,10 @@ use Rattle.scan_tokens.specs.Bytes.{Text, class, is_run_byte, is_printable, is_i
 use Rattle.scan_tokens.specs.Symbols.{word_of, sign_of}
 use Rattle.scan_tokens.specs.Numbers.{Writes, RefusesNumber, base, limit, suffix, is_digit_of, value}
 use Rattle.scan_tokens.specs.Forms.{IsRun, Spells}
-use Rattle.scan_tokens.specs.Steps.{form_by, place_after, Begins, Opens, IsPair, RefusesDigits, Takes, Stops, Closes, NeverCloses}
+use Rattle.scan_tokens.specs.Steps.{form_by, place_after, Begins, Opens, IsPair, Takes, Stops, Closes, NeverCloses}
 use Rattle.scan_tokens.proofs.Meanings.{named, numbered, last_of}
 use Rattle.scan_tokens.proofs.Numerals.{refused_digits}
-use Rattle.scan_tokens.proofs.Fronts.{space_taken, IsFront, run_front, name_taken, name_stops, number_taken, number_stops, comment_taken, pair_taken, sign_taken, stray_stops, stops_here, IsString, string_open, string_is, string_taken, string_stops}
+use Rattle.scan_tokens.proofs.Fronts.{space_taken, IsFront, run_front, name_taken, name_stops, number_taken, number_stops, comment_taken, pair_taken, sign_taken, stray_stops, stops_here, string_open, string_is, string_taken, string_stops}
 use Rattle.law_texts.proofs.Comments.{same_two, closes}
 
 -- a member, or what is refused

@@ -12,6 +12,7 @@ pub mod Ranks
 pub mod Alike
 pub mod Encodings
 pub mod Graphs
+pub mod Readings
 pub mod Named
 pub mod Borrowed
 pub mod Sums

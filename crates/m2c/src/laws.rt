@@ -3,6 +3,7 @@
 ghost use Rattle.m2c.specs.Build.{OneOutcome};
 ghost use Rattle.m2c.specs.Encodings.{ProgramsFit};
 ghost use Rattle.m2c.specs.Outcomes.{GraphsHaveOutcomes};
+ghost use Rattle.m2c.specs.Readings.{FilesAreRead};
 
 /// Files have at most one outcome in a number of pages. It does not matter who asks for it, or with which workers.
 pub fn outcome_laws()
@@ -18,4 +19,9 @@ pub fn encoding_laws()
 /// not fit, or there are modules for it.
 pub fn graph_laws()
     ensures { GraphsHaveOutcomes }
+{}
+
+/// Of each file a tree or a refusal is read, whatever its bytes are.
+pub fn reading_laws()
+    ensures { FilesAreRead }
 {}
