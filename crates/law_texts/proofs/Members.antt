@@ -82,10 +82,10 @@ number_spells w Hexadecimal n r h lt = (r, (Hexadecimal, (λ e. cc), h), lt)
 number_spells w Code n r h lt = (r, h, lt)
 
 -- a number or a character, or what is wrong with it
-abbrev IsOrNo : Text → Type 0
-IsOrNo w = ((l : Lexeme) × Spells w l) ⊎ ((broken : TokenRule) × RefusesNumber w broken)
+abbrev NumberOrFault : Text → Type 0
+NumberOrFault w = ((l : Lexeme) × Spells w l) ⊎ ((broken : TokenRule) × RefusesNumber w broken)
 
-number_by : (w front digits : Text) (c : ℕ) (form : Numeral) → w ≡ front ++ c ∷ [] → form ≡ form_by c → w ≡ digits ++ suffix form → IsRun Digit w → IsOrNo w
+number_by : (w front digits : Text) (c : ℕ) (form : Numeral) → w ≡ front ++ c ∷ [] → form ≡ form_by c → w ≡ digits ++ suffix form → IsRun Digit w → NumberOrFault w
 number_by w front digits c form e is d r =
     elim (cases_Bool (list_all (is_digit_of (base form)) digits)) [
       | inl all ↦
@@ -96,14 +96,14 @@ number_by w front digits c form e is d r =
       | inr wrong ↦ inr (BadNumber, refused_digits form w digits front c BadNumber e is d wrong)
     ]
 
-number_of : (w : Text) → IsRun Digit w → IsOrNo w
+number_of : (w : Text) → IsRun Digit w → NumberOrFault w
 number_of [] r = absurd r
 number_of (b ∷ v) r =
     let l = last_of b v in
     let d = digits_of l.0 l.1 in
     number_by (b ∷ v) l.0 d.0 l.1 (form_by l.1) l.2 refl (l.2 ∙ d.1) r
 
-number_cut_by : (text : Text) (pos : Pos) (n : ℕ) → IsFront Digit text (take n text) (drop n text) n → IsOrNo (take n text) → Cut text pos
+number_cut_by : (text : Text) (pos : Pos) (n : ℕ) → IsFront Digit text (take n text) (drop n text) n → NumberOrFault (take n text) → Cut text pos
 unfolding refusal_at right
 number_cut_by text pos n f (inl h) = inl (Some h.0, drop n text, right pos n, number_taken text (take n text) (drop n text) n pos (right pos n) h.0 f h.1 refl refl)
 number_cut_by text pos n f (inr h) = inr (refusal_at pos h.0, number_stops text (take n text) (drop n text) n pos h.0 (Refused (refusal_at pos h.0)) f h.1 refl)
@@ -173,15 +173,15 @@ pair_cut b c t pos h no_comment None e =
     single_cut b (c ∷ t) pos h no_comment (λ x y u d. ap sign_of (sym (same_pair b c x y t u d)) ∙ e) (sign_of (b ∷ [])) refl
 pair_cut b c t pos h no_comment (Some s) e = inl (Some (lexeme.Symbol s), t, right pos 2, pair_taken (b ∷ c ∷ t) t pos (right pos 2) s (b, c, t, refl, e) refl refl refl)
 
-opens_not : (b c : ℕ) (t : Text) → (b ∷ c ∷ [] ≢ 40 ∷ 42 ∷ []) → Opens (b ∷ c ∷ t) → ⊥
-opens_not b c t other o = other (same_pair b c 40 42 t o.0 o.1)
+opens_no_comment : (b c : ℕ) (t : Text) → (b ∷ c ∷ [] ≢ 40 ∷ 42 ∷ []) → Opens (b ∷ c ∷ t) → ⊥
+opens_no_comment b c t other o = other (same_pair b c 40 42 t o.0 o.1)
 
 other_cut : (b : ℕ) (rest : Text) (pos : Pos) → Begins Other (b ∷ rest) → Cut (b ∷ rest) pos
 other_cut b [] pos h = single_cut b [] pos h (λ o. (let e : b ∷ [] ≡ 40 ∷ 42 ∷ o.0 = o.1 in cc)) (λ x y u d. absurd cc) (sign_of (b ∷ [])) refl
 other_cut b (c ∷ t) pos h =
     elim (same_two b c 40 42) [
       | inl e ↦ comment_cut (b ∷ c ∷ t) pos (t, (let d : b ∷ c ∷ t ≡ 40 ∷ 42 ∷ t = cc (e.0, e.1) in d))
-      | inr other ↦ pair_cut b c t pos h (opens_not b c t other) (sign_of (b ∷ c ∷ [])) refl
+      | inr other ↦ pair_cut b c t pos h (opens_no_comment b c t other) (sign_of (b ∷ c ∷ [])) refl
     ]
 
 -- ---- all of them

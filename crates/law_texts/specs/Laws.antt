@@ -26,9 +26,9 @@ IsParsed tokens (Err refusal) = IsReported tokens refusal
 -- every text has tokens or a refusal, and only one of them
 abbrev pub TextsAreScanned : Type 0
 TextsAreScanned =
-    (text : Text) → (scanned : Result (List Token) ScanRefusal) × IsOnly (IsScanned text) scanned
+    (text : Text) → (answer : Result (List Token) ScanRefusal) × IsOnly (IsScanned text) answer
 
 -- every list of tokens has a tree or a refusal, and only one of them
 abbrev pub TokensAreParsed : Type 0
 TokensAreParsed =
-    (tokens : List Token) → (parsed : Result Module ParseRefusal) × IsOnly (IsParsed tokens) parsed
+    (tokens : List Token) → (answer : Result Module ParseRefusal) × IsOnly (IsParsed tokens) answer
