@@ -15,7 +15,7 @@ use Rattle.m2_tree.specs.declared.pos.Pos.{Pos}
 use Rattle.m2_rule.specs.declared.breach.Breach.{Breach}
 use Rattle.m2_graph.specs.Files.{File, trees}
 use Rattle.m2_tree.specs.Names.{same_name, is_console}
-use Rattle.m2_graph.specs.Imports.{imports_of, is_definition, is_implementation, defines, implements, definition_of, first_that}
+use Rattle.m2_graph.specs.Imports.{imports_of, is_definition, is_program, is_implementation, defines, implements, definition_of, first_that}
 use Rattle.m2_graph.specs.Refused.{breach_where, first_place, least_of, is_bad_import, import_breaches, are_one_part, is_second, is_repeated, is_second_program, is_without_program, is_built_in, is_lone, max_files, breaches_of}
 use Rattle.m2_rule.specs.Breaches.{breach}
 use Rattle.m2_graph.specs.Reported.{Reported, reported_at, cycle_breaches, refused_from, refused_of, IsReported}
@@ -27,6 +27,7 @@ use Rattle.law_graph.proofs.Passing.{some_that, none_that, among_taken}
 pub record Fine (modules before : List Module) (given : ℕ) (m : Module) : Type 0 where
   pub imports : (x : Ident) → Among (imports_of m) x → is_bad_import modules m x.name ≡ false
   pub first : is_repeated before m ≡ false
+  pub program : is_without_program modules before ≡ false
   pub whole : is_lone modules m ≡ false
   pub counted : (given == max_files) ≡ false
 
@@ -73,6 +74,7 @@ fine_one modules before given m cycle e =
     record {
       imports = λ x i. filter_none (λ (y : Ident). is_bad_import modules m y.name) (imports_of m) x (map_none (λ (y : Ident). breach y.pos rule.MissingModule) (filter (λ (y : Ident). is_bad_import modules m y.name) (imports_of m)) u.0) i;
       first = where_none (is_repeated before m) m.name.pos rule.SecondFile u.1;
+      program = where_none (is_without_program modules before) first_place rule.ProgramCount s.1;
       whole = where_none (is_lone modules m) m.name.pos rule.LonelyModule r.1;
       counted = where_none (given == max_files) first_place rule.FileCount q.1;
     }
@@ -97,6 +99,20 @@ fine_of (g ∷ fs) cycle e k f at = fine_from (trees (g ∷ fs)) cycle [] (g ∷
 
 pub fine_file : (fs : List File) → IsReported fs [] → (k : ℕ) (f : File) → slice_get fs k ≡ Some f → Fine (trees fs) (take k (trees fs)) f.given f.tree
 fine_file fs h k f at = fine_of fs h.0 (sym h.2) k f at
+
+-- ---- the program module
+
+some_program : (modules : List Module) → is_without_program modules [] ≡ false → (i : ℕ) × (first_that is_program modules ≡ Some i)
+some_program modules e = some_that is_program modules (not_false (is_some (first_that is_program modules)) e)
+  where
+    not_false : (b : Bool) → (true && not b) ≡ false → b ≡ true
+    not_false true h = refl
+    not_false false h = sym h
+
+-- there is one
+pub program_of : (fs : List File) → IsReported fs [] → (i : ℕ) × (first_that is_program (trees fs) ≡ Some i)
+program_of [] h = absurd (let e : [] ≡ refused_of [] h.0 = h.2 in cc)
+program_of (f ∷ fs) h = some_program (trees (f ∷ fs)) (fine_file (f ∷ fs) h 0 f refl).program
 
 -- ---- the modules of such files
 

@@ -13,3 +13,10 @@ pub mod Starting
 pub mod Reached
 pub mod Started
 pub mod Defined
+pub mod Inserting
+pub mod Entering
+pub mod Leading
+pub mod Returning
+pub mod Numbering
+pub mod Turned
+pub mod Outcomes

@@ -1,2 +1,3 @@
 pub mod Started
 pub mod Defined
+pub mod Outcomes

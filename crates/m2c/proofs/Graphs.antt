@@ -1,5 +1,5 @@
 -- Graphs, as the build goes on with them.
-use Rattle.std.proofs.Common.{◌≡◌, ◌≢◌, ◌⊎◌, inl, inr, ℕ, ◌≤◌, ◌<◌, ◌+◌, ◌*◌, Bool, true, false, List, [], ◌∷◌, ◌++◌, length, map, Option, refl, ap, sym, subst, ◌∙◌, arith}
+use Rattle.std.proofs.Common.{◌≡◌, ◌⊎◌, inl, inr, ℕ, ◌≤◌, ◌<◌, ◌+◌, ◌*◌, Bool, true, false, List, [], ◌∷◌, ◌++◌, length, map, Option, refl, ap, sym, subst, ◌∙◌, arith}
 use Rattle.std.specs.Prelude.{All, slice_get, nat_lt}
 use Rattle.std.specs.List.{list_all}
 use Rattle.std.specs.Option.{option_and_then}
@@ -7,6 +7,7 @@ use Rattle.std.specs.Borrow.{Bor}
 use Rattle.m2_tree.specs.declared.decl.Module.{Module}
 use Rattle.wasm_binary.specs.Binary.{module_encoding, module_fits, Encodes}
 use Rattle.wasm_binary.proofs.LawsModule.{one_module}
+use Rattle.m2_graph.specs.Files.{number_files}
 use Rattle.m2_graph.specs.Jobs.{ArePlaces, place_of}
 use Rattle.std.proofs.lemmas.List.{length-map}
 use Rattle.std.proofs.lemmas.List.Elements.{All-cons}
@@ -28,8 +29,8 @@ use Rattle.build_jobs.specs.Jobs.{all_compiled}
 use Rattle.build_jobs.specs.Borrowed.{borrow_trees, modules_borrowed}
 use Rattle.m2c.specs.Modules.{result_of, module_in, modules_at}
 use Rattle.m2c.specs.Build.{AreEncoded as BytesEncode}
-use Rattle.m2c.specs.Build.{Reported, AreReported, reported_at, built_of, named_bytes, modules, refusal_in, refused_from, refused_by, start_modules, program_file, HaveGraph, IsTooLarge, IsProgram}
-use Rattle.m2c.specs.Outcomes.{IsLarge, HasModules, GraphsHaveOutcomes}
+use Rattle.m2c.specs.Build.{Reported, AreReported, reported_at, built_of, named_bytes, modules, refusal_in, refused_from, refused_of, refused_by, trees_of, start_modules, program_file, AreTrees, HaveGraph, IsTooLarge, IsProgram}
+use Rattle.m2c.specs.Outcomes.{BreakImports, BreakRules, AreLarge, HaveModules, HaveOutcome, FilesHaveOutcomes}
 use Rattle.law_modules.specs.Linked.{IsLinkable, all}
 use Rattle.law_well_formed.proofs.RangesTypes.{both_left, both_right}
 use Rattle.law_simulation.specs.Modules.{AreModules, AreTypedModules}
@@ -37,6 +38,7 @@ use Rattle.law_simulation.proofs.LinkedPrograms.{typed_behave}
 use Rattle.law_orders.proofs.Orders.{orders_behave}
 use Rattle.law_nothing_missing.proofs.Programs.{strict_runs, nothing_lacks}
 use Rattle.law_modules.proofs.Placed.{modules_link}
+use Rattle.law_graph.proofs.Outcomes.{graph_or_refused}
 use Rattle.law_programs.proofs.Links.{slots_few, link_valid}
 use Rattle.m2c.proofs.Least.{all_least}
 use Rattle.m2c.proofs.Valid.{all_valid}
@@ -204,7 +206,7 @@ module _ (files : List SourceFile) (fs : List (List ℕ × Module)) (numbers : L
   }
 
   -- there are modules for it, if it fits
-  pub has_modules : (pages : ℕ) → 1 ≤ pages → pages ≤ 1024 → stack_begin (parts those) + 4096 ≤ 65536 * pages → HasModules files pages
+  pub has_modules : (pages : ℕ) → 1 ≤ pages → pages ≤ 1024 → stack_begin (parts those) + 4096 ≤ 65536 * pages → HaveModules files pages
   has_modules pages least most fits =
       let p : Modules = its.program in
       let fits_all : stack_begin (map part_of p) + 4096 ≤ 65536 * pages = subst (λ (n : ℕ). n ≤ 65536 * pages) data_is fits in
@@ -216,21 +218,49 @@ module _ (files : List SourceFile) (fs : List (List ℕ × Module)) (numbers : L
         is_program = is_program pages least most fits (module_bytes (link_of (parts those) pages)) (map named_bytes those) (record { fits = link_fits; encoding = refl }) refl;
       }
 
-  is_large : (pages : ℕ) → 65536 * pages < stack_begin (parts those) + 4096 → IsLarge fs numbers jobs starts pages
+  is_large : (pages : ℕ) → 65536 * pages < stack_begin (parts those) + 4096 → AreLarge files pages
   is_large pages more = record {
+    trees = fs;
+    numbers = numbers;
+    all_jobs = jobs;
+    starts = starts;
+    graph = have;
+    none = none;
     program = its.program;
     typed = its.typed;
     too_large = subst (λ (n : ℕ). 65536 * pages < n + 4096) (begin_is its.program) (subst (λ (n : ℕ). 65536 * pages < n) data_is more);
   }
 
-  pub by_size : (pages : ℕ) → 1 ≤ pages → pages ≤ 1024 → IsLarge fs numbers jobs starts pages ⊎ HasModules files pages
+  pub by_size : (pages : ℕ) → 1 ≤ pages → pages ≤ 1024 → AreLarge files pages ⊎ HaveModules files pages
   by_size pages least most = by (nat_lt (65536 * pages) (stack_begin (parts those) + 4096)) refl where
-    by : (b : Bool) → nat_lt (65536 * pages) (stack_begin (parts those) + 4096) ≡ b → IsLarge fs numbers jobs starts pages ⊎ HasModules files pages
+    by : (b : Bool) → nat_lt (65536 * pages) (stack_begin (parts those) + 4096) ≡ b → AreLarge files pages ⊎ HaveModules files pages
     by true e = inl (is_large pages (ltb-true (65536 * pages) (stack_begin (parts those) + 4096) e))
     by false e = inr (has_modules pages least most (ltb-false (65536 * pages) (stack_begin (parts those) + 4096) e))
 
-pub graphs_have_outcomes : GraphsHaveOutcomes
-graphs_have_outcomes files fs numbers jobs starts have pages least most = by (refused_by fs numbers jobs) refl where
-  by : (rs : List Reported) → refused_by fs numbers jobs ≡ rs → (refused_by fs numbers jobs ≢ []) ⊎ (IsLarge fs numbers jobs starts pages ⊎ HasModules files pages)
-  by [] none = inr (by_size files fs numbers jobs starts have none pages least most)
+module _ (files : List SourceFile) (pages : ℕ) (least : 1 ≤ pages) (most : pages ≤ 1024) where
+  -- files with a graph
+  with_graph : (fs : List (List ℕ × Module)) (numbers : List ℕ) (jobs : List (List ℕ)) (starts : List ℕ) → HaveGraph files fs numbers jobs starts → BreakRules files ⊎ (AreLarge files pages ⊎ HaveModules files pages)
+  with_graph fs numbers jobs starts have = by (refused_by fs numbers jobs) refl where
+    by : (rs : List Reported) → refused_by fs numbers jobs ≡ rs → BreakRules files ⊎ (AreLarge files pages ⊎ HaveModules files pages)
+    by [] none = inr (by_size files fs numbers jobs starts have none pages least most)
+    by (r ∷ rs) some = inl (record {
+      trees = fs;
+      numbers = numbers;
+      all_jobs = jobs;
+      starts = starts;
+      graph = have;
+      some = λ none. let no : r ∷ rs ≡ [] = sym some ∙ none in absurd cc;
+    })
+
+  -- files whose texts have trees
+  with_trees : (fs : List (List ℕ × Module)) → AreTrees files fs → BreakImports files ⊎ (BreakRules files ⊎ (AreLarge files pages ⊎ HaveModules files pages))
+  with_trees fs are = elim (graph_or_refused (number_files 0 fs)) [
+    | inl g ↦ inr (with_graph fs g.numbers g.jobs g.starts (record { are_trees = are; is_graph = g.is_graph; each = g.each }))
+    | inr r ↦ inl (record { trees = fs; are_trees = are; refused = r })
+  ]
+
+pub files_have_outcomes : FilesHaveOutcomes
+files_have_outcomes files reads are pages least most = by (refused_of files reads) refl where
+  by : (rs : List Reported) → refused_of files reads ≡ rs → HaveOutcome files reads pages
+  by [] none = inr (with_trees files pages least most (trees_of files reads) (record { reads = reads; are_read = are; fine = none; all = refl }))
   by (r ∷ rs) some = inl (λ none. let no : r ∷ rs ≡ [] = sym some ∙ none in absurd cc)

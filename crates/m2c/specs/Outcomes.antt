@@ -1,33 +1,63 @@
--- Files that have a graph have an outcome, in every number of pages.
+-- All files that are read have an outcome, in every number of pages.
 use Rattle.std.specs.Prelude.{◌≡◌, ◌≢◌, ◌⊎◌, ℕ, ◌*◌, ◌<◌, ◌≤◌, List, []}
 use Rattle.m2_tree.specs.declared.decl.Module.{Module}
+use Rattle.m2_graph.specs.Files.{number_files}
+use Rattle.law_graph.specs.Outcomes.{AreRefused}
 use Rattle.def_meaning.specs.Environment.{Modules}
 use Rattle.def_scheme.specs.Modules.{max_pages}
 use Rattle.build_jobs.specs.declared.file.SourceFile.{SourceFile}
+use Rattle.build_jobs.specs.declared.reading.Read.{Read}
+use Rattle.build_jobs.specs.Reading.{AreRead}
 use Rattle.m2c.specs.Modules.{AreTyped}
-use Rattle.m2c.specs.Build.{modules, refused_by, data_and_stack, HaveGraph, IsProgram}
+use Rattle.m2c.specs.Build.{modules, refused_of, refused_by, data_and_stack, AreTrees, HaveGraph, IsProgram}
 
--- the data of the program does not fit into the pages
-pub record IsLarge (trees : List (List ℕ × Module)) (numbers : List ℕ) (all_jobs : List (List ℕ))
-    (starts : List ℕ) (pages : ℕ) : Type 0 where
+-- Each text has a tree, and imports break rules.
+pub record BreakImports (files : List SourceFile) : Type 0 where
+  pub trees : List (List ℕ × Module)
+  pub are_trees : AreTrees files trees
+  pub refused : AreRefused (number_files 0 trees)
+
+-- The files have a graph, and modules break rules.
+pub record BreakRules (files : List SourceFile) : Type 0 where
+  pub trees : List (List ℕ × Module)
+  pub numbers : List ℕ
+  pub all_jobs : List (List ℕ)
+  pub starts : List ℕ
+  pub graph : HaveGraph files trees numbers all_jobs starts
+  pub some : refused_by trees numbers all_jobs ≢ []
+
+-- No module breaks a rule, but the data of the program does not fit into the pages.
+pub record AreLarge (files : List SourceFile) (pages : ℕ) : Type 0 where
+  pub trees : List (List ℕ × Module)
+  pub numbers : List ℕ
+  pub all_jobs : List (List ℕ)
+  pub starts : List ℕ
+  pub graph : HaveGraph files trees numbers all_jobs starts
+  pub none : refused_by trees numbers all_jobs ≡ []
   pub program : Modules
   pub typed : AreTyped (modules trees) numbers all_jobs starts program
   pub too_large : 65536 * pages < data_and_stack program
 
--- there are modules for the program: the bytes of link, and a name and bytes for each other
-pub record HasModules (files : List SourceFile) (pages : ℕ) : Type 0 where
+-- There are modules for the program: the bytes of link, and a name and bytes for each other.
+pub record HaveModules (files : List SourceFile) (pages : ℕ) : Type 0 where
   pub link : List ℕ
   pub built : List (List ℕ × List ℕ)
   pub is_program : IsProgram files pages link built
 
--- Modules break rules, or the data of the program does not fit, or there are modules for it.
-abbrev pub GraphsHaveOutcomes : Type 0
-GraphsHaveOutcomes =
-    (files : List SourceFile) (trees : List (List ℕ × Module)) (numbers : List ℕ)
-    (all_jobs : List (List ℕ)) (starts : List ℕ)
-    → HaveGraph files trees numbers all_jobs starts
+-- Texts break rules, or imports do, or modules do, or the data of the program does not fit, or
+-- there are modules for it.
+abbrev pub HaveOutcome : List SourceFile → List Read → (pages : ℕ) → Type 0
+HaveOutcome files reads pages =
+    (refused_of files reads ≢ [])
+    ⊎ (BreakImports files
+    ⊎ (BreakRules files ⊎ (AreLarge files pages ⊎ HaveModules files pages)))
+
+-- All files that are read have an outcome in every number of pages that there may be.
+abbrev pub FilesHaveOutcomes : Type 0
+FilesHaveOutcomes =
+    (files : List SourceFile) (reads : List Read)
+    → AreRead files reads
     → (pages : ℕ)
     → 1 ≤ pages
     → pages ≤ max_pages
-    → (refused_by trees numbers all_jobs ≢ [])
-    ⊎ (IsLarge trees numbers all_jobs starts pages ⊎ HasModules files pages)
+    → HaveOutcome files reads pages

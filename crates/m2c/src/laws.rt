@@ -2,7 +2,7 @@
 
 ghost use Rattle.m2c.specs.Build.{OneOutcome};
 ghost use Rattle.m2c.specs.Encodings.{ProgramsFit};
-ghost use Rattle.m2c.specs.Outcomes.{GraphsHaveOutcomes};
+ghost use Rattle.m2c.specs.Outcomes.{FilesHaveOutcomes};
 ghost use Rattle.m2c.specs.Readings.{FilesAreRead};
 
 /// Files have at most one outcome in a number of pages. It does not matter who asks for it, or with which workers.
@@ -15,10 +15,10 @@ pub fn encoding_laws()
     ensures { ProgramsFit }
 {}
 
-/// Files that have a graph have an outcome in every number of pages: modules break rules, or the data of the program does
-/// not fit, or there are modules for it.
-pub fn graph_laws()
-    ensures { GraphsHaveOutcomes }
+/// All files that are read have an outcome in every number of pages: texts break rules, or imports do, or modules do, or
+/// the data of the program does not fit, or there are modules for it.
+pub fn files_laws()
+    ensures { FilesHaveOutcomes }
 {}
 
 /// Of each file a tree or a refusal is read, whatever its bytes are.

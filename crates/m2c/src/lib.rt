@@ -17,7 +17,7 @@ mod texts;
 pub use build_jobs::SourceFile;
 pub use compiling::compile;
 pub use files::{BuildFault, MAX_PAGES, Options, Outcome, build};
-pub use laws::{encoding_laws, graph_laws, outcome_laws, reading_laws};
+pub use laws::{encoding_laws, files_laws, outcome_laws, reading_laws};
 pub use m2_tree::Refusal;
 pub use pool_board::{Gate, MAX_WORKERS, Open};
 pub use run_directory::{InDir, Sink, execute};
