@@ -30,7 +30,7 @@ use Rattle.build_jobs.specs.Borrowed.{borrow_trees, modules_borrowed}
 use Rattle.m2c.specs.Modules.{result_of, module_in, modules_at}
 use Rattle.m2c.specs.Build.{AreEncoded as BytesEncode}
 use Rattle.m2c.specs.Build.{Reported, AreReported, reported_at, built_of, named_bytes, modules, refusal_in, refused_from, refused_of, refused_by, trees_of, start_modules, program_file, AreTrees, HaveGraph, IsTooLarge, IsProgram}
-use Rattle.m2c.specs.Outcomes.{BreakImports, BreakRules, AreLarge, HaveModules, HaveOutcome, FilesHaveOutcomes}
+use Rattle.m2c.specs.Outcomes.{BreakTexts, BreakImports, BreakRules, AreLarge, HaveModules, HaveOutcome, FilesHaveOutcomes}
 use Rattle.law_modules.specs.Linked.{IsLinkable, all}
 use Rattle.law_well_formed.proofs.RangesTypes.{both_left, both_right}
 use Rattle.law_simulation.specs.Modules.{AreModules, AreTypedModules}
@@ -41,6 +41,7 @@ use Rattle.law_modules.proofs.Placed.{modules_link}
 use Rattle.law_graph.proofs.Outcomes.{graph_or_refused}
 use Rattle.law_programs.proofs.Links.{slots_few, link_valid}
 use Rattle.m2c.proofs.Least.{all_least}
+use Rattle.m2c.proofs.Readings.{files_are_read}
 use Rattle.m2c.proofs.Valid.{all_valid}
 use Rattle.m2c.proofs.Programs.{AreBuilt}
 use Rattle.m2c.proofs.Encodings.{as_many, whole, bodies_few, begin_is, linkable, modules_are, typed_are, encodings}
@@ -259,8 +260,12 @@ module _ (files : List SourceFile) (pages : ℕ) (least : 1 ≤ pages) (most : p
     | inr r ↦ inl (record { trees = fs; are_trees = are; refused = r })
   ]
 
-pub files_have_outcomes : FilesHaveOutcomes
-files_have_outcomes files reads are pages least most = by (refused_of files reads) refl where
-  by : (rs : List Reported) → refused_of files reads ≡ rs → HaveOutcome files reads pages
+-- of files that are read
+outcome_of : (files : List SourceFile) (reads : List Read) → AreRead files reads → (pages : ℕ) → 1 ≤ pages → pages ≤ max_pages → HaveOutcome files pages
+outcome_of files reads are pages least most = by (refused_of files reads) refl where
+  by : (rs : List Reported) → refused_of files reads ≡ rs → HaveOutcome files pages
   by [] none = inr (with_trees files pages least most (trees_of files reads) (record { reads = reads; are_read = are; fine = none; all = refl }))
-  by (r ∷ rs) some = inl (λ none. let no : r ∷ rs ≡ [] = sym some ∙ none in absurd cc)
+  by (r ∷ rs) some = inl (record { reads = reads; are_read = are; some = λ none. let no : r ∷ rs ≡ [] = sym some ∙ none in absurd cc })
+
+pub files_have_outcomes : FilesHaveOutcomes
+files_have_outcomes files pages least most = let r = files_are_read files in outcome_of files r.0 r.1 pages least most

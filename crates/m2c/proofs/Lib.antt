@@ -13,6 +13,7 @@ pub mod Alike
 pub mod Encodings
 pub mod Graphs
 pub mod Readings
+pub mod Unread
 pub mod Named
 pub mod Borrowed
 pub mod Sums

@@ -1,4 +1,4 @@
--- All files that are read have an outcome, in every number of pages.
+-- All files have an outcome, in every number of pages.
 use Rattle.std.specs.Prelude.{◌≡◌, ◌≢◌, ◌⊎◌, ℕ, ◌*◌, ◌<◌, ◌≤◌, List, []}
 use Rattle.m2_tree.specs.declared.decl.Module.{Module}
 use Rattle.m2_graph.specs.Files.{number_files}
@@ -10,6 +10,12 @@ use Rattle.build_jobs.specs.declared.reading.Read.{Read}
 use Rattle.build_jobs.specs.Reading.{AreRead}
 use Rattle.m2c.specs.Modules.{AreTyped}
 use Rattle.m2c.specs.Build.{modules, refused_of, refused_by, data_and_stack, AreTrees, HaveGraph, IsProgram}
+
+-- Texts break rules of tokens or of the grammar.
+pub record BreakTexts (files : List SourceFile) : Type 0 where
+  pub reads : List Read
+  pub are_read : AreRead files reads
+  pub some : refused_of files reads ≢ []
 
 -- Each text has a tree, and imports break rules.
 pub record BreakImports (files : List SourceFile) : Type 0 where
@@ -46,18 +52,13 @@ pub record HaveModules (files : List SourceFile) (pages : ℕ) : Type 0 where
 
 -- Texts break rules, or imports do, or modules do, or the data of the program does not fit, or
 -- there are modules for it.
-abbrev pub HaveOutcome : List SourceFile → List Read → (pages : ℕ) → Type 0
-HaveOutcome files reads pages =
-    (refused_of files reads ≢ [])
+abbrev pub HaveOutcome : List SourceFile → (pages : ℕ) → Type 0
+HaveOutcome files pages =
+    BreakTexts files
     ⊎ (BreakImports files
     ⊎ (BreakRules files ⊎ (AreLarge files pages ⊎ HaveModules files pages)))
 
--- All files that are read have an outcome in every number of pages that there may be.
+-- All files have an outcome in every number of pages that there may be.
 abbrev pub FilesHaveOutcomes : Type 0
 FilesHaveOutcomes =
-    (files : List SourceFile) (reads : List Read)
-    → AreRead files reads
-    → (pages : ℕ)
-    → 1 ≤ pages
-    → pages ≤ max_pages
-    → HaveOutcome files reads pages
+    (files : List SourceFile) (pages : ℕ) → 1 ≤ pages → pages ≤ max_pages → HaveOutcome files pages

@@ -3,7 +3,7 @@
 ghost use Rattle.m2c.specs.Build.{OneOutcome};
 ghost use Rattle.m2c.specs.Encodings.{ProgramsFit};
 ghost use Rattle.m2c.specs.Outcomes.{FilesHaveOutcomes};
-ghost use Rattle.m2c.specs.Readings.{FilesAreRead};
+ghost use Rattle.m2c.specs.Readings.{FilesAreRead, TreesOrRefusals};
 
 /// Files have at most one outcome in a number of pages. It does not matter who asks for it, or with which workers.
 pub fn outcome_laws()
@@ -15,13 +15,16 @@ pub fn encoding_laws()
     ensures { ProgramsFit }
 {}
 
-/// All files that are read have an outcome in every number of pages: texts break rules, or imports do, or modules do, or
-/// the data of the program does not fit, or there are modules for it.
+/// All files have an outcome in every number of pages: texts break rules, or imports do, or modules do, or the data of the
+/// program does not fit, or there are modules for it.
 pub fn files_laws()
     ensures { FilesHaveOutcomes }
 {}
 
-/// Of each file a tree or a refusal is read, whatever its bytes are.
+/// What is read of files, whatever their bytes are.
 pub fn reading_laws()
-    ensures { FilesAreRead }
+    // Of each file a tree or a refusal is read.
+    ensures read { FilesAreRead }
+    // All texts have trees, or some are refused, and these refusals are reported.
+    ensures answered { TreesOrRefusals }
 {}
