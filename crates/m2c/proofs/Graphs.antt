@@ -20,11 +20,13 @@ use Rattle.m2_tree.specs.declared.refusal.Refusal.{Refusal}
 use Rattle.typed_tree.specs.declared.typed_module.TypedModule.{TypedModule}
 use Rattle.def_meaning.specs.Environment.{Modules}
 use Rattle.def_meaning.specs.Runs.{run}
-use Rattle.def_scheme.specs.Modules.{Part, typed_module, typed_link, part_of, link_of, stack_begin}
+use Rattle.def_scheme.specs.Modules.{Part, typed_module, typed_link, part_of, link_of, stack_begin, max_pages}
 use Rattle.m2_emit.specs.declared.emitted.ModuleBytes.{ModuleBytes}
 use Rattle.m2_emit.specs.Emitted.{emitted, parts}
 use Rattle.build_jobs.specs.declared.file.SourceFile.{SourceFile}
 use Rattle.build_jobs.specs.declared.outcome.Compiled.{Compiled}
+use Rattle.build_jobs.specs.declared.reading.Read.{Read}
+use Rattle.build_jobs.specs.Reading.{AreRead}
 use Rattle.build_jobs.specs.Jobs.{all_compiled}
 use Rattle.build_jobs.specs.Borrowed.{borrow_trees, modules_borrowed}
 use Rattle.m2c.specs.Modules.{result_of, module_in, modules_at}
