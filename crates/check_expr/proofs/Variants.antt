@@ -20,6 +20,7 @@ use Rattle.typed_tree.specs.declared.shape.Formal.{Formal}
 use Rattle.typed_tree.specs.declared.computed.Argument.{Argument}
 use Rattle.m2_rule.specs.declared.breach.Breach.{Breach}
 use Rattle.check_scope.specs.declared.scope.Scope.{Scope}
+use Rattle.typed_tree.specs.declared.known_types.Types.{Types}
 use Rattle.check_scope.specs.declared.meaningless.Meaningless.{Meaningless}
 use Rattle.check_scope.specs.Elaborated.{least, ◌▷◌}
 use Rattle.typed_tree.specs.declared.types.TypeNo.{TypeNo}
@@ -36,7 +37,7 @@ use Rattle.check_const.specs.Parts as constants
 use Rattle.check_operator.specs.declared.computed.Computed.{Computed}
 use Rattle.check_operator.specs.declared.computed.Designated.{Designated}
 use Rattle.check_operator.specs.Signs.{negation}
-use Rattle.check_expr.specs.Meanings.{Meant, Picks, meanings_of, picks, head, item, part, type_of, names_by, with_look, breaches_in_all, look_in, constant_factor_in, constant_term_in, constant_pick_in, item_in, of_computed, signed_first, relation, first_name, field_at, index_at, as_constant, value_of, factor, term, with_actual, factor_in, term_in, pick_in, actual_in, use_with}
+use Rattle.check_expr.specs.Meanings.{Meant, Picks, meanings_of, picks, head, item, part, type_of, names_by, with_look, breaches_in_all, look_in, value_standing, constant_factor_in, constant_term_in, constant_pick_in, item_in, of_computed, signed_first, relation, relation_value, first_name, field_at, index_at, as_constant, value_of, factor, term, with_actual, factor_in, term_in, pick_in, actual_in, use_with}
 use Rattle.check_expr.proofs.Layers.{at, at_selector, at_designator, at_item}
 
 pub fold_mapped : {A X Y : Type 0} (f : A → Y → A) (h : X → Y) (a : A) (xs : List X) → fold f a (map h xs) ≡ fold (λ v x. f v (h x)) a xs
@@ -141,6 +142,36 @@ module _ (s : Scope Breach) where
 
   pub means_Relation : (a : Expr) (o : Operator RelOp) (b : Expr) → (meanings_of least (Relation a o b)).means s ≡ of_computed (relation least s (meanings_of least a) o (meanings_of least b))
   means_Relation a o b = ap (λ (x : Meant Breach). x.means s) (at (Relation a o b) (layer.Relation a o b) (outs-Relation a o b))
+
+-- ---- what is computed is its own value
+
+value_again : (types : Types) (p : Pos) (v : Result Computed Breach) → value_standing least types p (of_computed v) ≡ v
+value_again types p (Ok v) = refl
+value_again types p (Err b) = refl
+
+value_by : (s : Scope Breach) (e : Expr) (v : Result Computed Breach) → (meanings_of least e).means s ≡ of_computed v → value_of least s (meanings_of least e) ≡ v
+value_by s e v h = ap (value_standing least s.types (meanings_of least e).fixed.at) h ∙ value_again s.types (meanings_of least e).fixed.at v
+
+module _ (s : Scope Breach) where
+  pub value_Not : (p : Pos) (e : Expr) → value_of least s (meanings_of least (Not p e)) ≡ negation least p (value_of least s (meanings_of least e))
+  value_Not p e = value_by s (Not p e) _ (means_Not s p e)
+
+  pub value_Bracketed : (p : Pos) (e : Expr) → value_of least s (meanings_of least (Bracketed p e)) ≡ value_of least s (meanings_of least e)
+  value_Bracketed p e = value_by s (Bracketed p e) _ (means_Bracketed s p e)
+
+  pub value_Term : (e : Expr) (rest : List (Operator MulOp × Expr)) →
+      value_of least s (meanings_of least (Term e rest)) ≡ fold (factor_in s (meanings_of least e).fixed.at) (value_of least s (meanings_of least e)) rest
+  value_Term e rest = value_by s (Term e rest) _ (means_Term s e rest)
+
+  pub value_Sum : (o : Option (Operator Sign)) (e : Expr) (rest : List (Operator AddOp × Expr)) →
+      value_of least s (meanings_of least (Sum o e rest))
+      ≡ fold (term_in s (sign_place o (meanings_of least e).fixed.at)) (signed_first least o (value_of least s (meanings_of least e))) rest
+  value_Sum o e rest = value_by s (Sum o e rest) _ (means_Sum s o e rest)
+
+  pub value_Relation : (a : Expr) (o : Operator RelOp) (b : Expr) → value_of least s (meanings_of least (Relation a o b)) ≡ relation least s (meanings_of least a) o (meanings_of least b)
+  value_Relation a o b = value_by s (Relation a o b) _ (means_Relation s a o b)
+
+pub ruleset value_rules = (value_Not, value_Bracketed, value_Term, value_Sum, value_Relation)
 
 -- ---- constant expressions
 
@@ -296,3 +327,14 @@ relation_is s e a o b a1 b1 r x y h h1 h2 hx hy hr =
     ∙ ap (λ (c : Expr). constants.relation_value least o (part least c).at (constant least s (part least c)) (part least b1).at (constant least s (part least b1))) h1
     ∙ ap (λ (c : Expr). constants.relation_value least o (part least a).at (constant least s (part least a)) (part least c).at (constant least s (part least c))) h2
     ∙ sym (denotes_Relation s a o b) ∙ ap (λ (e : Expr). (part least e).denotes s) (sym h)
+
+-- the same of values
+pub relation_by : (s : Scope Breach) (e a : Expr) (o : Operator RelOp) (b a1 b1 : Expr) (v x y : Result Computed Breach)
+    → e ≡ Relation a o b → a1 ≡ a → b1 ≡ b → x ≡ value_of least s (meanings_of least a1) → y ≡ value_of least s (meanings_of least b1)
+    → v ≡ relation_value least s.types o (meanings_of least a1).fixed.at x (meanings_of least b1).fixed.at y → v ≡ value_of least s (meanings_of least e)
+relation_by s e a o b a1 b1 v x y h h1 h2 hx hy hv =
+    hv ∙ ap (λ (x : Result Computed Breach). relation_value least s.types o (meanings_of least a1).fixed.at x (meanings_of least b1).fixed.at y) hx
+    ∙ ap (λ (y : Result Computed Breach). relation_value least s.types o (meanings_of least a1).fixed.at (value_of least s (meanings_of least a1)) (meanings_of least b1).fixed.at y) hy
+    ∙ ap (λ (c : Expr). relation_value least s.types o (meanings_of least c).fixed.at (value_of least s (meanings_of least c)) (meanings_of least b1).fixed.at (value_of least s (meanings_of least b1))) h1
+    ∙ ap (λ (c : Expr). relation_value least s.types o (meanings_of least a).fixed.at (value_of least s (meanings_of least a)) (meanings_of least c).fixed.at (value_of least s (meanings_of least c))) h2
+    ∙ sym (value_Relation s a o b) ∙ ap (λ (e : Expr). value_of least s (meanings_of least e)) (sym h)

@@ -12,7 +12,7 @@ use crate::fixed::denotation;
 use crate::pieces::{
     argument_by, breaches_in, call_given, field_at, first_name, first_of, formals_of, high_at,
     index_at, of_computed, place_of, related_parts, relation_value, signed_first, type_at, type_of,
-    unary_of, value_standing,
+    unary_of,
 };
 use check_call::{
     Called, Callee, Form, Unary, bound_at, callee_of, conversion_at, form_of, function_of,
@@ -27,9 +27,12 @@ use check_const_ops::{
     add_op, constant_operation as combined_constants, mul_op, negation as negated_constant,
     number_value, span_of,
 };
-use check_operator::{Computed, Designated, negation, operation_between, signature_of};
+use check_operator::{
+    Computed, Designated, negation, operation_between, signature_of, value_at_place,
+};
 use check_scope::{
-    Elaborated, Scope, Sought, beside, of_heading, plain, refusal_beside, report, reported_beside,
+    Elaborated, Meaningless, Scope, Sought, beside, of_heading, plain, refusal_beside, report,
+    reported_beside,
 };
 use m2_rule::{Breach, Rule};
 use m2_tree::{AddOp, Designator, Expr, Item, MulOp, Operator, Pos, Selector};
@@ -127,8 +130,78 @@ pub fn value_of(
 ) -> Result<Elaborated<Computed>, AllocError>
     ensures { IfOk result (λ v. v ≡ value_of least scope.now (meanings_of least e.now)) }
 {
-    let designated = stands_for(alloc, scope, e)?;
-    Ok(value_standing(&scope.types, place_of(e), designated))
+    match e {
+        Expr::Not(_, _)
+        | Expr::Bracketed(_, _)
+        | Expr::Term(_, _)
+        | Expr::Sum(_, _, _)
+        | Expr::Relation(_, _, _) => operation_value(alloc, scope, e),
+        Expr::Number(_, _)
+        | Expr::Char(_, _)
+        | Expr::Text(_, _)
+        | Expr::Set(_, _, _)
+        | Expr::Use(_, _) => standing_value(alloc, scope, e),
+    }
+}
+
+/// The same, of an expression with operators.
+#[cycle(body)]
+#[inline(never)]
+#[tactic(auto, using(crate::proofs::Variants::value_rules))]
+fn operation_value(
+    alloc: Global,
+    scope: &Scope<Breach>,
+    e: &Expr,
+) -> Result<Elaborated<Computed>, AllocError>
+    ensures { IfOk result (λ v. v ≡ value_of least scope.now (meanings_of least e.now)) }
+{
+    match e {
+        Expr::Not(at, inner) => {
+            let operand = value_of(alloc, scope, inner.get())?;
+            negation(alloc, *at, operand)
+        }
+        Expr::Bracketed(_, inner) => value_of(alloc, scope, inner.get()),
+        Expr::Term(front, rest) => {
+            let factor = value_of(alloc, scope, front.get())?;
+            factors(alloc, scope, place_of(front.get()), factor, rest.as_slice())
+        }
+        Expr::Sum(sign, front, rest) => {
+            let term = value_of(alloc, scope, front.get())?;
+            let start = signed_first(alloc, *sign, term)?;
+            let place = sign_place(*sign, place_of(front.get()));
+            terms(alloc, scope, place, start, rest.as_slice())
+        }
+        Expr::Relation(a, operator, b) => {
+            let a = a.get();
+            let b = b.get();
+            let x = value_of(alloc, scope, a)?;
+            let y = value_of(alloc, scope, b)?;
+            let types = &scope.types;
+            let value = relation_value(alloc, types, a, x, operator, b, y)?;
+            Ok(value)
+        }
+        Expr::Number(_, _)
+        | Expr::Char(_, _)
+        | Expr::Text(_, _)
+        | Expr::Set(_, _, _)
+        | Expr::Use(_, _) => standing_value(alloc, scope, e),
+    }
+}
+
+/// What an expression stands for, taken as a value.
+#[cycle(body)]
+fn standing_value(
+    alloc: Global,
+    scope: &Scope<Breach>,
+    e: &Expr,
+) -> Result<Elaborated<Computed>, AllocError>
+    ensures { IfOk result (λ v. v ≡ value_of least scope.now (meanings_of least e.now)) }
+{
+    match stands_for(alloc, scope, e)? {
+        Ok(designated) => Ok(value_at_place(&scope.types, place_of(e), designated)),
+        Err(Meaningless::Broken(breach)) => Ok(Err(breach)),
+        Err(Meaningless::Headless(breach)) => Ok(Err(breach)),
+    }
 }
 
 /// What a designator stands for.

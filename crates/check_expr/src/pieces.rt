@@ -5,7 +5,7 @@ ghost use Rattle.std.specs.Option.{option_copied};
 ghost use Rattle.check_scope.specs.Elaborated.{least, of_sort, of_heading, ◌▷◌};
 ghost use Rattle.check_const.specs.Parts as constants;
 ghost use Rattle.check_call.specs.Functions.{type_named, high_of, unary_at};
-ghost use Rattle.check_expr.specs.Meanings.{part, meanings_of, head, of_computed, value_standing, signed_first, relation_value, first_name, member_of, field_of, field_at, index_at, formals_of, passed_for, argument_by, call_given, type_in, type_of};
+ghost use Rattle.check_expr.specs.Meanings.{part, meanings_of, head, of_computed, signed_first, relation_value, first_name, member_of, field_of, field_at, index_at, formals_of, passed_for, argument_by, call_given, type_in, type_of};
 ghost use Rattle.m2_rule.specs.declared.rule.Rule.TheVariants as rule;
 
 use check_call::{Callee, Unary, actual, call_by, high_of, type_named, unary_at};
@@ -13,9 +13,11 @@ use check_const::{Denoted, member, set_place, sign_place};
 use check_const_ops::BinaryOp;
 use check_operator::{
     Computed, Designated, designated_by, element_at_index, field, function_result, indices,
-    operation_between, value_at_place, with_sign,
+    operation_between, with_sign,
 };
-use check_scope::{Elaborated, Scope, Sought, looked_up, of_heading, of_sort, plain, report};
+use check_scope::{
+    Elaborated, Meaningless, Scope, Sought, looked_up, of_heading, of_sort, plain, report,
+};
 use m2_rule::{Breach, Rule};
 use m2_tree::{Designator, Expr, Ident, Operator, Pos, RelOp, Sign};
 use std::alloc::{AllocError, Global};
@@ -56,20 +58,6 @@ pub fn of_computed(value: Elaborated<Computed>) -> Sought<Designated>
     match value {
         Err(breach) => plain(Err(breach)),
         Ok(value) => Ok(Designated::Value(value)),
-    }
-}
-
-/// What stands at a place, taken as a value.
-pub fn value_standing(
-    types: &Types,
-    at: Pos,
-    designated: Sought<Designated>,
-) -> Elaborated<Computed>
-    ensures { result ≡ value_standing least types.now at designated }
-{
-    match of_heading(designated) {
-        Err(breach) => Err(breach),
-        Ok(designated) => value_at_place(types, at, designated),
     }
 }
 
@@ -125,7 +113,10 @@ pub fn first_name(
 {
     match looked_up(scope, name)? {
         Err(meaningless) => Ok(Err(meaningless)),
-        Ok(meaning) => Ok(plain(designated_by(alloc, scope.level, name.pos, meaning)?)),
+        Ok(meaning) => match designated_by(alloc, scope.level, name.pos, meaning)? {
+            Err(breach) => Ok(Err(Meaningless::Broken(breach))),
+            Ok(designated) => Ok(Ok(designated)),
+        },
     }
 }
 

@@ -1,10 +1,12 @@
 //! Folders and streams of the system, for the programs.
 #![tactic(auto)]
 
+mod notes;
 mod reading;
 mod stream;
 mod writing;
 
+pub use notes::{NotedBytes, NotedCalls};
 pub use reading::InFolder;
 pub use stream::{ByteStream, LineStream};
 pub use writing::OutFolder;

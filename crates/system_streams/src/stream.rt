@@ -1,7 +1,8 @@
 //! Streams over standard output or standard error.
 
-ghost use Rattle.std.specs.Prelude.{◌≡◌};
+ghost use Rattle.std.specs.Prelude.{◌≡◌, [], ◌++◌};
 
+use crate::notes::{NotedBytes, no_bytes, with_bytes};
 use run_directory::Sink;
 use std::alloc::Global;
 
@@ -11,30 +12,40 @@ pub struct ByteStream<P> {
     to: P,
     /// How often it failed.
     pub failures: u64,
+    /// The bytes that it wrote, each by a call that answered 1. Clauses alone speak of them.
+    pub written: NotedBytes,
 }
 
 impl<P> ByteStream<P> {
-    /// A stream that did not fail.
+    /// A stream that did not fail, and wrote nothing.
     pub fn new(to: P) -> ByteStream<P>
-        ensures { result.failures ≡ 0 }
+        ensures failures { result.failures ≡ 0 }
+        ensures written { result.written.bytes ≡ [] }
     {
-        ByteStream { to, failures: 0 }
+        ByteStream {
+            to,
+            failures: 0,
+            written: no_bytes(),
+        }
     }
 }
 
 impl<P: Print> Sink for ByteStream<P> {
-    ghost use Rattle.std.specs.Prelude.{None};
+    ghost use Rattle.std.specs.Prelude.{Some};
 
     ghost failed = { λ s. s.failures };
 
-    ghost reported = { λ _. None };
+    ghost reported = { λ s. Some s.written.bytes };
 
     fn take(&mut self, byte: u8) -> bool {
-        let is_taken = matches!(self.to.write_some(&[byte]), Ok(1));
-        if !is_taken {
+        let bytes = [byte];
+        let is_written = matches!(self.to.write_some(&bytes), Ok(1));
+        if is_written {
+            self.written = with_bytes(&self.written, &bytes);
+        } else {
             self.failures += 1;
         }
-        is_taken
+        is_written
     }
 
     fn failures(&self) -> u64 {
@@ -49,53 +60,55 @@ pub struct LineStream<P> {
     line: Vec<u8>,
     /// How often it failed.
     pub failures: u64,
+    /// The bytes that it took. Clauses alone speak of them.
+    pub taken: NotedBytes,
+    /// The lines that it wrote, each by a call that answered that all of it is written. Clauses alone speak of them.
+    pub written: NotedBytes,
+    /// Until it fails, it wrote what it took, but for the line that has not ended.
+    ghost in_order: { (failures ≡ 0) → taken.bytes ≡ written.bytes ++ line.items },
 }
 
 impl<P: Print> LineStream<P> {
-    /// A stream that did not fail, and took nothing.
+    /// A stream that did not fail, and took and wrote nothing.
     pub fn new(alloc: Global, to: P) -> LineStream<P>
-        ensures { result.failures ≡ 0 }
+        ensures failures { result.failures ≡ 0 }
+        ensures taken { result.taken.bytes ≡ [] }
+        ensures written { result.written.bytes ≡ [] }
     {
         LineStream {
             to,
             line: Vec::new(alloc),
             failures: 0,
+            taken: no_bytes(),
+            written: no_bytes(),
         }
-    }
-
-    /// Writes the line that has ended. False if that failed.
-    fn write_line(&mut self) -> bool
-        ensures { self.new.failures ≡ self.old.failures }
-    {
-        let is_written = self.to.write_all(&self.line).is_ok();
-        self.line.clear();
-        is_written
-    }
-
-    /// Keeps a byte, and writes the line that it ends. False if that failed.
-    fn keep(&mut self, byte: u8) -> bool
-        ensures { self.new.failures ≡ self.old.failures }
-    {
-        if self.line.push(byte).is_err() {
-            return false;
-        }
-        byte != b'\n' || self.write_line()
     }
 }
 
 impl<P: Print> Sink for LineStream<P> {
-    ghost use Rattle.std.specs.Prelude.{None};
+    ghost use Rattle.std.specs.Prelude.{Some};
 
     ghost failed = { λ s. s.failures };
 
-    ghost reported = { λ _. None };
+    ghost reported = { λ s. Some s.taken.bytes };
 
     fn take(&mut self, byte: u8) -> bool {
-        let is_taken = self.keep(byte);
-        if !is_taken {
+        if self.line.push(byte).is_err() {
             self.failures += 1;
+            return false;
         }
-        is_taken
+        if byte == b'\n' {
+            let is_written = self.to.write_all(&self.line).is_ok();
+            if !is_written {
+                self.failures += 1;
+                self.line.clear();
+                return false;
+            }
+            self.written = with_bytes(&self.written, &self.line);
+            self.line.clear();
+        }
+        self.taken = with_bytes(&self.taken, &[byte]);
+        true
     }
 
     fn failures(&self) -> u64 {

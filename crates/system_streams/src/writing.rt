@@ -1,7 +1,8 @@
 //! Where modules are saved.
 
-ghost use Rattle.std.specs.Prelude.{◌≡◌};
+ghost use Rattle.std.specs.Prelude.{◌≡◌, []};
 
+use crate::notes::{NotedCalls, no_calls, with_removal, with_write};
 use std::rt::Files;
 use std::{fs, io};
 use write_directory::OutDir;
@@ -14,18 +15,22 @@ pub struct OutFolder<'a, R> {
     fault: String,
     /// How often it failed.
     pub failures: u64,
+    /// What it was asked to do, in order and with its answers. Clauses alone speak of it.
+    pub noted: NotedCalls,
 }
 
 impl<'a, R: Files + AllocGlobal> OutFolder<'a, R> {
-    /// The folder of this path, which did not fail.
+    /// The folder of this path, which did not fail, and was asked for nothing.
     pub fn at(rt: &'a R, path: &'a str) -> OutFolder<'a, R>
-        ensures { result.failures ≡ 0 }
+        ensures failures { result.failures ≡ 0 }
+        ensures noted { result.noted.calls ≡ [] }
     {
         OutFolder {
             rt,
             path,
             fault: String::new(rt.alloc()),
             failures: 0,
+            noted: no_calls(),
         }
     }
 
@@ -57,7 +62,8 @@ impl<'a, R: Files + AllocGlobal> OutFolder<'a, R> {
 
     /// Notes what failed, if nothing did before.
     fn note(&mut self, doing: &str, name: &str, error: io::Error)
-        ensures { self.new.failures ≡ self.old.failures }
+        ensures failures { self.new.failures ≡ self.old.failures }
+        ensures noted { self.new.noted.calls ≡ self.old.noted.calls }
     {
         if !self.fault.is_empty() {
             return;
@@ -70,19 +76,22 @@ impl<'a, R: Files + AllocGlobal> OutFolder<'a, R> {
 }
 
 impl<R: Files + AllocGlobal> OutDir for OutFolder<'_, R> {
-    ghost use Rattle.std.specs.Prelude.{None};
+    ghost use Rattle.std.specs.Prelude.{Some};
 
     ghost failed = { λ f. f.failures };
 
-    // A folder notes no calls.
-    ghost calls = { λ _. None };
+    ghost calls = { λ f. Some f.noted.calls };
 
     fn remove(&mut self, name: &str) -> bool {
         match self.remove_file(name) {
-            Ok(()) => true,
+            Ok(()) => {
+                self.noted = with_removal(&self.noted, name, true);
+                true
+            }
             Err(error) => {
                 self.note("remove", name, error);
                 self.failures += 1;
+                self.noted = with_removal(&self.noted, name, false);
                 false
             }
         }
@@ -90,10 +99,14 @@ impl<R: Files + AllocGlobal> OutDir for OutFolder<'_, R> {
 
     fn write(&mut self, name: &str, bytes: &[u8]) -> bool {
         match self.write_file(name, bytes) {
-            Ok(()) => true,
+            Ok(()) => {
+                self.noted = with_write(&self.noted, name, bytes, true);
+                true
+            }
             Err(error) => {
                 self.note("write", name, error);
                 self.failures += 1;
+                self.noted = with_write(&self.noted, name, bytes, false);
                 false
             }
         }
