@@ -22,7 +22,7 @@ use Rattle.m2c.specs.declared.files.Outcome.{Outcome}
 use Rattle.m2c.specs.declared.files.Outcome.TheVariants as outcome
 use Rattle.build_jobs.specs.Encoded.{needed_of}
 use Rattle.m2c.specs.Modules.{IsTyped, AreTyped}
-use Rattle.m2c.specs.Build.{Reported, report_of, reported_at, AreReported, refused_of, refused_by, built_of, name_bytes, modules, data_and_stack, program_file, AreUnread, AreUngraphed, AreUncompiled, HaveGraph, IsTooLarge, IsProgram, IsBuilt, AreAlike}
+use Rattle.m2c.specs.Build.{Reported, report_of, reported_at, AreReported, refused_of, refused_by, built_of, name_bytes, modules, data_and_stack, program_file, AreUngraphed, HaveGraph, IsProgram, IsBuilt, AreAlike}
 use Rattle.m2c.proofs.Same.{same_refused, one_trees, trees_or_refused}
 use Rattle.m2c.proofs.Ranks.{one_order}
 

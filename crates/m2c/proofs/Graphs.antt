@@ -1,6 +1,6 @@
 -- Graphs, as the build goes on with them.
 use Rattle.std.proofs.Common.{◌≡◌, ◌⊎◌, inl, inr, ℕ, ◌≤◌, ◌<◌, ◌+◌, ◌*◌, Bool, true, false, List, [], ◌∷◌, ◌++◌, length, map, Option, refl, ap, sym, subst, ◌∙◌, arith}
-use Rattle.std.specs.Prelude.{All, slice_get, nat_lt}
+use Rattle.std.specs.Prelude.{slice_get, nat_lt}
 use Rattle.std.specs.List.{list_all}
 use Rattle.std.specs.Option.{option_and_then}
 use Rattle.std.specs.Borrow.{Bor}
@@ -32,7 +32,7 @@ use Rattle.build_jobs.specs.Borrowed.{borrow_trees, modules_borrowed}
 use Rattle.m2c.specs.Modules.{result_of, module_in, modules_at}
 use Rattle.m2c.specs.Build.{AreEncoded as BytesEncode}
 use Rattle.m2c.specs.Build.{Reported, AreReported, reported_at, built_of, named_bytes, modules, refusal_in, refused_from, refused_of, refused_by, trees_of, start_modules, program_file, AreTrees, HaveGraph, IsTooLarge, IsProgram}
-use Rattle.m2c.specs.Outcomes.{BreakTexts, BreakImports, BreakRules, AreLarge, HaveModules, HaveOutcome, FilesHaveOutcomes}
+use Rattle.m2c.specs.Outcomes.{BreakImports, BreakRules, AreLarge, HaveModules, HaveOutcome, FilesHaveOutcomes}
 use Rattle.law_modules.specs.Linked.{IsLinkable, all}
 use Rattle.law_well_formed.proofs.RangesTypes.{both_left, both_right}
 use Rattle.law_simulation.specs.Modules.{AreModules, AreTypedModules}

@@ -11,8 +11,8 @@ use Rattle.law_texts.proofs.Texts.{texts_are_scanned}
 use Rattle.law_texts.proofs.Trees.{tokens_are_parsed}
 use Rattle.build_jobs.specs.declared.reading.Read.{Read}
 use Rattle.build_jobs.specs.declared.reading.Read.TheVariants.{Parsed, Refused}
-use Rattle.build_jobs.specs.Reading.{AreTokens, IsRead}
-use Rattle.m2c.specs.Readings.{FilesAreRead}
+use Rattle.build_jobs.specs.declared.file.SourceFile.{SourceFile}
+use Rattle.build_jobs.specs.Reading.{AreTokens, IsRead, AreRead}
 
 abbrev HasRead : List ℕ → Type 0
 HasRead text = (r : Read) × IsRead text r
@@ -29,7 +29,7 @@ text_read text (Err r) h = (Refused r.pos (number_of r.broken), inl (record { re
 file_read : (text : List ℕ) → HasRead text
 file_read text = let s = texts_are_scanned text in text_read text s.0 s.1.has
 
-pub files_are_read : FilesAreRead
+pub files_are_read : (files : List SourceFile) → (reads : List Read) × AreRead files reads
 files_are_read [] = ([], tt)
 files_are_read (f ∷ fs) =
     let r = file_read f.bytes.items in

@@ -3,7 +3,7 @@
 ghost use Rattle.m2c.specs.Build.{OneOutcome};
 ghost use Rattle.m2c.specs.Encodings.{ProgramsFit};
 ghost use Rattle.m2c.specs.Outcomes.{FilesHaveOutcomes};
-ghost use Rattle.m2c.specs.Readings.{FilesAreRead, TreesOrRefusals};
+ghost use Rattle.m2c.specs.Readings.{TreesOrRefusals};
 
 /// Files have at most one outcome in a number of pages. It does not matter who asks for it, or with which workers.
 pub fn outcome_laws()
@@ -21,10 +21,7 @@ pub fn files_laws()
     ensures { FilesHaveOutcomes }
 {}
 
-/// What is read of files, whatever their bytes are.
+/// All texts have trees, or some are refused, and these refusals are reported. It does not matter what their bytes are.
 pub fn reading_laws()
-    // Of each file a tree or a refusal is read.
-    ensures read { FilesAreRead }
-    // All texts have trees, or some are refused, and these refusals are reported.
-    ensures answered { TreesOrRefusals }
+    ensures { TreesOrRefusals }
 {}
