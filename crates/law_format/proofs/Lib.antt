@@ -1,1 +1,3 @@
 pub mod Stops
+pub mod Combined
+pub mod Numbers

@@ -1,7 +1,7 @@
 -- The places in which the bytes of an encoding stand: an opcode, a section number, a value type, or
 -- another byte. The definitions follow the format: the bytes are those of the encoding.
 use Rattle.std.specs.Prelude.{ℕ, List, [], ◌∷◌, ◌++◌, length, map, Option, Some, None}
-use Rattle.std.specs.List.{concat, flat_map}
+use Rattle.std.specs.List.{flat_map}
 use Rattle.wasm_tree.specs.declared.fault.WFault.{WFault}
 use Rattle.wasm_tree.specs.declared.fault.WFault.TheVariants.{Malformed, OutsideProfile}
 use Rattle.wasm_tree.specs.declared.kinds.ValueType.{ValueType}
@@ -77,17 +77,17 @@ opcode b bytes = (Opcode, b) ∷ others bytes
 
 abbrev pub else_cells : Option (List (List Cell)) → List Cell
 else_cells None = []
-else_cells (Some is) = (Opcode, 0x05) ∷ concat is
+else_cells (Some is) = (Opcode, 0x05) ∷ flat_map (λ i. i) is
 
 -- an instruction, where each one inside it is given by its cells
 abbrev pub cells_step : Instr-F (List Cell) → List Cell
 cells_step layer.Unreachable = opcode 0x00 []
 cells_step (layer.Block t is) =
-    (Opcode, 0x02) ∷ (block_type_cells t ++ (concat is ++ opcode 0x0B []))
+    (Opcode, 0x02) ∷ (block_type_cells t ++ (flat_map (λ i. i) is ++ opcode 0x0B []))
 cells_step (layer.Loop t is) =
-    (Opcode, 0x03) ∷ (block_type_cells t ++ (concat is ++ opcode 0x0B []))
-cells_step (layer.If t is others) =
-    (Opcode, 0x04) ∷ (block_type_cells t ++ (concat is ++ (else_cells others ++ opcode 0x0B [])))
+    (Opcode, 0x03) ∷ (block_type_cells t ++ (flat_map (λ i. i) is ++ opcode 0x0B []))
+cells_step (layer.If t is third) =
+    (Opcode, 0x04) ∷ (block_type_cells t ++ (flat_map (λ i. i) is ++ (else_cells third ++ opcode 0x0B [])))
 cells_step (layer.Br l) = opcode 0x0C (unsigned.encoding l)
 cells_step (layer.BrIf l) = opcode 0x0D (unsigned.encoding l)
 cells_step (layer.BrTable ls l) = opcode 0x0E ((vector unsigned).encoding ls ++ unsigned.encoding l)
