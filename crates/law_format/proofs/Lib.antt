@@ -1,3 +1,4 @@
 pub mod Stops
 pub mod Combined
 pub mod Numbers
+pub mod Signed
