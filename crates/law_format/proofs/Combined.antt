@@ -12,13 +12,13 @@ use Rattle.wasm_code.proofs.LawsParts.{skip_ok, skip_same, before_law, behind_la
 use Rattle.law_format.specs.Places.{Place, OtherByte, fault_at, Cell, bytes_of, all_at, others, vector_cells}
 use Rattle.law_format.proofs.Stops.{bytes-append, bytes-all, How, Stop, stop_at, Stopping, into}
 
-abbrev failed : {A : Type 0} → WFault → Result A WFault
+abbrev pub failed : {A : Type 0} → WFault → Result A WFault
 failed f = Err f
 
 pub err_is : {A : Type 0} (f g : WFault) → failed {A = A} f ≡ failed {A = A} g → f ≡ g
 err_is f g e = cc
 
-ok_no_err : {A : Type 0} (x : A) (f : WFault) → ◌≡◌ {A = Result A WFault} (Ok x) (Err f) → ⊥
+pub ok_no_err : {A : Type 0} (x : A) (f : WFault) → ◌≡◌ {A = Result A WFault} (Ok x) (Err f) → ⊥
 ok_no_err x f e = cc
 
 -- a step behind which nothing fails
@@ -123,7 +123,7 @@ only_law byte = record {
 pub only_stops : (byte : ℕ) → Stopping (only byte) (λ u. (OtherByte, byte) ∷ [])
 only_stops byte = record { law = only_law byte; spelled = λ u. refl; some = tt; some_fits = refl; stops = λ bytes fault fits e. only_stops_at byte bytes fault e }
 
-bind_same : {A : Type 0} (r : Reading A) → r ≡ (r >>= λ x. Ok (x.0, x.1))
+pub bind_same : {A : Type 0} (r : Reading A) → r ≡ (r >>= λ x. Ok (x.0, x.1))
 bind_same (Ok x) = refl
 bind_same (Err f) = refl
 

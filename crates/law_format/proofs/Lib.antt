@@ -2,3 +2,4 @@ pub mod Stops
 pub mod Combined
 pub mod Numbers
 pub mod Signed
+pub mod Widths

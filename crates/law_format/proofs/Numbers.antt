@@ -23,7 +23,7 @@ ranged least end read = read >>= λ n. cond (in_range least end n.0) (Ok n) (Err
 abbrev pub numbers : (k most least end : ℕ) → Format ℕ
 numbers k most least end = record { encoding = groups k; reading = λ bytes. ranged least end (groups_at most bytes); fits = in_range least end }
 
-abbrev cells : ℕ → ℕ → List Cell
+abbrev pub cells : ℕ → ℕ → List Cell
 cells k n = others (groups k n)
 
 range_from : (least end n : ℕ) → least ≤ n → n < end → in_range least end n ≡ true
@@ -90,7 +90,7 @@ groups_malformed (suc most) (b ∷ bytes) f e = elim (cases_lt b 128) [
   | inr large ↦ joined_malformed (b - 128) (groups_at most bytes) f (groups_malformed most bytes) (rw (le-ltb b 128 large) at e)
 ]
 
-ranged_malformed : (least end : ℕ) (r : Reading ℕ) (f : WFault) → ((g : WFault) → r ≡ Err g → g ≡ Malformed) → ranged least end r ≡ Err f → f ≡ Malformed
+pub ranged_malformed : (least end : ℕ) (r : Reading ℕ) (f : WFault) → ((g : WFault) → r ≡ Err g → g ≡ Malformed) → ranged least end r ≡ Err f → f ≡ Malformed
 ranged_malformed least end (Ok x) f h e = elim (cases_Bool (in_range least end x.0)) [
   | inl yes' ↦ absurd (absent x f (rw yes' at e))
   | inr no' ↦ sym (err_is Malformed f (rw no' at e))

@@ -59,7 +59,7 @@ signed_numbers k most q reach but = record {
   fits = reached q reach but;
 }
 
-abbrev cells : (k q : ℕ) → ℕ → List Cell
+abbrev pub cells : (k q : ℕ) → ℕ → List Cell
 cells k q n = others (signed_groups k (256 * q + 255) n)
 
 abbrev malformed : Reading ℕ
@@ -82,7 +82,7 @@ abbrev put_low : (q low : ℕ) → Reading ℕ → Reading ℕ
 put_low q low read = read >>= λ h. Ok (value_of q low h.0, h.1)
 
 -- what may be left out: nothing, 0, or the greatest number
-abbrev IsBut : (q but : ℕ) → Type 0
+abbrev pub IsBut : (q but : ℕ) → Type 0
 IsBut q but = (but ≡ 0) ⊎ (256 * q + 255 ≤ but)
 
 not_but : (q but n : ℕ) → IsBut q but → 64 ≤ n → n ≤ 256 * q + 191 → eqb n but ≡ false
@@ -393,11 +393,11 @@ unequal n m e h = absurd (true_false (sym (eq-eqb n m h) ∙ e))
     true_false : true ≡ false → ⊥
     true_false e = cc
 
-record Reaches (q reach but n : ℕ) : Type 0 where
-  other : n ≢ but
-  where_it_is : (n < reach) ⊎ ((256 * q + 256 - reach ≤ n) × (n < 256 * q + 256))
+pub record Reaches (q reach but n : ℕ) : Type 0 where
+  pub other : n ≢ but
+  pub where_it_is : (n < reach) ⊎ ((256 * q + 256 - reach ≤ n) × (n < 256 * q + 256))
 
-reaches : (q reach but n : ℕ) → reached q reach but n ≡ true → Reaches q reach but n
+pub reaches : (q reach but n : ℕ) → reached q reach but n ≡ true → Reaches q reach but n
 reaches q reach but n e = elim (cases_lt n reach) [
   | inl lt ↦ record { other = unequal n but (not_true (eqb n but) (rw (lt-ltb n reach lt) at e)); where_it_is = inl lt }
   | inr ge ↦
@@ -514,7 +514,7 @@ useless_is q low = elim (cases_lt low 64) [
     le_same e = omega (arith, e)
 
 -- how far numbers reach that take one group more than so many
-abbrev reach_of : (base groups : ℕ) → ℕ
+abbrev pub reach_of : (base groups : ℕ) → ℕ
 reach_of base groups = base * 128 ^ groups
 
 reach_step : (base j : ℕ) → reach_of base (suc j) ≡ 128 * reach_of base j
