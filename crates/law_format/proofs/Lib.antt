@@ -3,3 +3,4 @@ pub mod Combined
 pub mod Numbers
 pub mod Signed
 pub mod Widths
+pub mod Names
