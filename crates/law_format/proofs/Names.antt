@@ -13,8 +13,8 @@ use Rattle.wasm_code.specs.Parts.{that, close_part, with_size, bytes_left, name}
 use Rattle.wasm_code.proofs.Laws.{IsBytes, IsBytes-tail, IsBytes-take, IsBytes-after, Law}
 use Rattle.wasm_code.proofs.LawsParts.{that_law, sized_law, bytes_left_law, name_law, are_bytes}
 use Rattle.law_format.specs.Places.{OtherByte, Cell, bytes_of, others, plain}
-use Rattle.law_format.proofs.Stops.{bytes-append, bytes-all, all-append, How, Stop, stop_at, Stopping, into}
-use Rattle.law_format.proofs.Combined.{err_is, ok_no_err, bind_same, bound, seen}
+use Rattle.law_format.proofs.Stops.{bytes-append, bytes-all, all-append, How, Stop, stop_at, Stopping, takes_from, into}
+use Rattle.law_format.proofs.Combined.{err_is, ok_no_err, bind_same, bound_stops, seen}
 use Rattle.law_format.proofs.Widths.{unsigned_stops}
 
 -- ---- whether some bytes make a text complete
@@ -261,14 +261,12 @@ module _ (test : List ℕ → Bool) (passes : (n : ℕ) → test (letters n) ≡
 
   pub counted_stops : Stopping (counted test) (plain (counted test))
   counted_stops = record {
-    law = that_law test (with_size bytes_left) (sized_law bytes_left bytes_left_law);
-    spelled = λ t. bytes-all OtherByte ((counted test).encoding t);
+    takes = takes_from (counted test) (plain (counted test)) (that_law test (with_size bytes_left) (sized_law bytes_left bytes_left_law)) (λ t. bytes-all OtherByte ((counted test).encoding t));
     some = letters 0;
     some_fits = and_from _ _ (and_from _ _ (letters-fit 0) (lt-ltb (length (letters 0)) (2 ^ 32) (omega (arith, letters-length 0)))) (passes 0);
     stops =
-        bound unsigned (plain unsigned) unsigned_stops (texts test) (λ n. others) (counted test) (plain (counted test)) (λ n t. t) letters
-        (λ n h. and_from _ _ (eq-eqb (length (letters n)) n (letters-length n)) (and_from _ _ (letters-fit n) (passes n)))
-        (λ n h. texts_stop n) (λ n t h g. text_cells n t g) text_counted (λ bs. counted_of (unsigned.reading bs));
+        bound_stops unsigned (plain unsigned) unsigned_stops (texts test) (λ n. others) (counted test) (plain (counted test)) (λ n t. t) (λ n t h g. text_cells n t g) text_counted (λ bs. counted_of (unsigned.reading bs)) letters
+        (λ n h. and_from _ _ (eq-eqb (length (letters n)) n (letters-length n)) (and_from _ _ (letters-fit n) (passes n))) (λ n h. texts_stop n);
   }
 
 pub name_stops : Stopping name (plain name)
@@ -282,13 +280,5 @@ any_text (Err f) = refl
 
 pub bytes_stops : Stopping (with_size bytes_left) (plain (with_size bytes_left))
 bytes_stops =
-    let any = counted_stops (λ t. true) (λ n. refl) in
-    record {
-      law = sized_law bytes_left bytes_left_law;
-      spelled = any.spelled;
-      some = [];
-      some_fits = refl;
-      stops =
-          seen (counted (λ t. true)) (plain (with_size bytes_left)) any (with_size bytes_left) (plain (with_size bytes_left)) (λ t. t) (λ t h. refl) (λ t h. (and_parts _ _ h).0)
-          (λ bs. any_text ((with_size bytes_left).reading bs));
-    }
+    seen (counted (λ t. true)) (plain (with_size bytes_left)) (counted_stops (λ t. true) (λ n. refl)) (with_size bytes_left) (plain (with_size bytes_left)) (λ t. t) (λ t h. refl) (λ t h. (and_parts _ _ h).0)
+    (λ bs. any_text ((with_size bytes_left).reading bs))

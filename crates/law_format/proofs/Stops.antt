@@ -43,12 +43,37 @@ pub record Stop {A : Type 0} (p : Format A) (cells : A → List Cell) (bytes : L
 pub stop_at : {A : Type 0} (p : Format A) (cells : A → List Cell) (bytes same : List ℕ) (fault : WFault) → bytes ≡ same → Stop p cells same fault → Stop p cells bytes fault
 stop_at p cells bytes same fault e s = subst (λ (b : List ℕ). Stop p cells b fault) (sym e) s
 
+-- what a reading took from the front, whatever follows
+pub record Front {A : Type 0} (p : Format A) (cells : A → List Cell) (bytes : List ℕ) (x : A) (rest : List ℕ) : Type 0 where
+  pub parts : bytes ≡ bytes_of (cells x) ++ rest
+  pub rest_fits : IsBytes rest
+  pub fits : p.fits x ≡ true
+  pub again : (follow : List ℕ) → IsBytes follow → p.reading (bytes_of (cells x) ++ follow) ≡ Ok (x, follow)
+
+pub front_at : {A : Type 0} (p : Format A) (cells : A → List Cell) (bytes : List ℕ) (x y : A) (b c : List ℕ) → (x ≡ y) × (b ≡ c) → Front p cells bytes x b → Front p cells bytes y c
+front_at p cells bytes x y b c is t = subst (λ z. Front p cells bytes z c) is.0 (subst (λ r. Front p cells bytes x r) is.1 t)
+
+abbrev pub Takes : {A : Type 0} → Format A → (A → List Cell) → Type 0
+Takes {A} p cells = (bytes : List ℕ) (x : A) (rest : List ℕ) → IsBytes bytes → p.reading bytes ≡ Ok (x, rest) → Front p cells bytes x rest
+
+abbrev pub Stops : {A : Type 0} → Format A → (A → List Cell) → Type 0
+Stops p cells = (bytes : List ℕ) (fault : WFault) → IsBytes bytes → p.reading bytes ≡ Err fault → Stop p cells bytes fault
+
 pub record Stopping {A : Type 0} (p : Format A) (cells : A → List Cell) : Type 0 where
-  pub law : Law p
-  pub spelled : (x : A) → bytes_of (cells x) ≡ p.encoding x
+  pub takes : Takes p cells
+  pub stops : Stops p cells
   pub some : A
   pub some_fits : p.fits some ≡ true
-  pub stops : (bytes : List ℕ) (fault : WFault) → IsBytes bytes → p.reading bytes ≡ Err fault → Stop p cells bytes fault
+
+pub takes_from : {A : Type 0} (p : Format A) (cells : A → List Cell) → Law p → ((x : A) → bytes_of (cells x) ≡ p.encoding x) → Takes p cells
+takes_from p cells law spelled bytes x rest fits e =
+    let t = law.takes bytes x rest fits e in
+    record {
+      parts = t.parts ∙ ap (λ (b : List ℕ). b ++ rest) (sym (spelled x));
+      rest_fits = t.rest_fits;
+      fits = t.fits;
+      again = λ follow g. ap (λ (b : List ℕ). p.reading (b ++ follow)) (spelled x) ∙ law.again x follow t.fits;
+    }
 
 IsBytes-behind : (xs ys : List ℕ) → IsBytes (xs ++ ys) → IsBytes ys
 IsBytes-behind xs ys h = IsBytes-after (xs ++ ys) xs ys refl h

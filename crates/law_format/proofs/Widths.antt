@@ -9,7 +9,7 @@ use Rattle.wasm_code.proofs.Laws.{IsBytes, Law}
 use Rattle.wasm_code.proofs.LawsNumber.{groups_take, unsigned_law, signed_take, signed32_law, signed64_law}
 use Rattle.wasm_code.proofs.LawsParts.{that_law}
 use Rattle.law_format.specs.Places.{OtherByte, Cell, bytes_of, others, plain}
-use Rattle.law_format.proofs.Stops.{bytes-all, Stop, Stopping, into}
+use Rattle.law_format.proofs.Stops.{bytes-all, Stop, Stopping, takes_from, into}
 use Rattle.law_format.proofs.Combined.{err_is, ok_no_err}
 use Rattle.law_format.proofs.Numbers.{in_range, ranged, numbers, numbers_stop}
 use Rattle.law_format.proofs.Signed.{reached, reaching, signed_numbers, signed_stop, Reaches, reaches}
@@ -31,7 +31,7 @@ unsigned_stop bytes fault fits e =
     (numbers_stop 9 5 0 (2 ^ 32) bytes fault (omega arith) (omega arith) (omega arith) (omega arith) fits (ap (ranged 0 (2 ^ 32)) e))
 
 pub unsigned_stops : Stopping unsigned (plain unsigned)
-unsigned_stops = record { law = unsigned_law; spelled = λ n. bytes-all OtherByte (unsigned.encoding n); some = 0; some_fits = refl; stops = unsigned_stop }
+unsigned_stops = record { takes = takes_from unsigned (plain unsigned) unsigned_law (λ n. bytes-all OtherByte (unsigned.encoding n)); some = 0; some_fits = refl; stops = unsigned_stop }
 
 -- ---- numbers of a range, of which one is 0 or 1
 
@@ -56,8 +56,7 @@ module _ (least end : ℕ) (small : least ≤ 1) (some : least < end) (room : en
 
   pub between_stops : Stopping (between least end) (plain unsigned)
   between_stops = record {
-    law = between_law;
-    spelled = λ n. bytes-all OtherByte (unsigned.encoding n);
+    takes = takes_from (between least end) (plain unsigned) between_law (λ n. bytes-all OtherByte (unsigned.encoding n));
     some = least;
     some_fits = and_from _ _ (le-leb least least (omega arith)) (lt-ltb least end some);
     stops = λ bytes fault fits e. numbers_stop 9 5 least end bytes fault (omega arith) small some room fits e;
@@ -103,7 +102,7 @@ signed32_stop bytes fault fits e =
     (signed_stop (2 ^ 24 - 1) 8 (omega arith) (omega arith) 4 4 (2 ^ 32) bytes fault (omega arith) (inr (omega arith)) (omega arith) fits (ap (reaching (2 ^ 24 - 1) (8 * 128 ^ 4) (2 ^ 32)) e))
 
 pub signed32_stops : Stopping signed32 (plain signed32)
-signed32_stops = record { law = signed32_law; spelled = λ n. bytes-all OtherByte (signed32.encoding n); some = 0; some_fits = refl; stops = signed32_stop }
+signed32_stops = record { takes = takes_from signed32 (plain signed32) signed32_law (λ n. bytes-all OtherByte (signed32.encoding n)); some = 0; some_fits = refl; stops = signed32_stop }
 
 signed64_stop : (bytes : List ℕ) (fault : WFault) → IsBytes bytes → signed64.reading bytes ≡ Err fault → Stop signed64 (plain signed64) bytes fault
 signed64_stop bytes fault fits e =
@@ -114,4 +113,4 @@ signed64_stop bytes fault fits e =
     (signed_stop (2 ^ 56 - 1) 1 (omega arith) (omega arith) 9 9 (2 ^ 64) bytes fault (omega arith) (inr (omega arith)) (omega arith) fits (ap (reaching (2 ^ 56 - 1) (1 * 128 ^ 9) (2 ^ 64)) e))
 
 pub signed64_stops : Stopping signed64 (plain signed64)
-signed64_stops = record { law = signed64_law; spelled = λ n. bytes-all OtherByte (signed64.encoding n); some = 0; some_fits = refl; stops = signed64_stop }
+signed64_stops = record { takes = takes_from signed64 (plain signed64) signed64_law (λ n. bytes-all OtherByte (signed64.encoding n)); some = 0; some_fits = refl; stops = signed64_stop }
