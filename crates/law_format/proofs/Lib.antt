@@ -4,3 +4,5 @@ pub mod Numbers
 pub mod Signed
 pub mod Widths
 pub mod Names
+pub mod Tagged
+pub mod Entries
