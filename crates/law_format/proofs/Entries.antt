@@ -175,13 +175,20 @@ func_type_stops =
     (before_stops 0x60 (vector value_type · vector value_type) (λ x. vector_cells value_type_cells x.0 ++ vector_cells value_type_cells x.1)
     (then_stops (vector value_type) (vector value_type) (vector_cells value_type_cells) (vector_cells value_type_cells) types types))
 
-two_plain : {A B : Type 0} (p : Format A) (q : Format B) → Stopping p (plain p) → Stopping q (plain q) → Stopping (p · q) (plain (p · q))
+pub two_plain : {A B : Type 0} (p : Format A) (q : Format B) → Stopping p (plain p) → Stopping q (plain q) → Stopping (p · q) (plain (p · q))
 two_plain p q sp sq =
     seen (p · q) (λ x. plain p x.0 ++ plain q x.1) (then_stops p q (plain p) (plain q) sp sq) (p · q) (plain (p · q)) (λ x. x) (λ x h. all-append OtherByte (p.encoding x.0) (q.encoding x.1)) (λ x h. h) (λ bs. bind_same ((p · q).reading bs))
 
 limits_start : Start limits (plain limits) OtherByte
 unfolding limits
 limits_start = record { value = record { min = 0; max = None }; fits = refl; byte = 0x00; rest = plain unsigned 0; begins = refl }
+
+pub plain_entries : (xs : List ℕ) → vector_cells (plain unsigned) xs ≡ plain (vector unsigned) xs
+plain_entries xs = ap (λ (t : List Cell). plain unsigned (length xs) ++ t) (each xs) ∙ sym (all-append OtherByte (unsigned.encoding (length xs)) (flat_map unsigned.encoding xs))
+  where
+    each : (xs : List ℕ) → flat_map (plain unsigned) xs ≡ others (flat_map unsigned.encoding xs)
+    each [] = refl
+    each (x ∷ xs) = ap (λ (t : List Cell). plain unsigned x ++ t) (each xs) ∙ sym (all-append OtherByte (unsigned.encoding x) (flat_map unsigned.encoding xs))
 
 -- ---- a byte and two parts behind it
 

@@ -6,3 +6,5 @@ pub mod Widths
 pub mod Names
 pub mod Tagged
 pub mod Entries
+pub mod Celled
+pub mod Plain
