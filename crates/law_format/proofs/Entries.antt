@@ -133,9 +133,9 @@ module _ {A : Type 0} (p : Format A) (cp : A → List Cell) (sp : Stopping p cp)
 
   pub vector_stops : Stopping (vector p) (vector_cells cp)
   vector_stops = record {
-    takes = bound_takes unsigned (plain unsigned) unsigned_stops (many_of p) (λ n. flat_map cp) (vector p) counted_cells (λ n xs. xs) (λ n xs h g. vector_made n xs g) vector_fit (λ bs. vector_reads p (unsigned.reading bs)) (λ n h. many_takes p cp sp n);
+    takes = bound_takes unsigned (plain unsigned) unsigned_stops (many_of p) (λ n. flat_map cp) (vector p) counted_cells (λ n xs. xs) (λ n xs h g. vector_made n xs g) vector_fit (λ bs g. vector_reads p (unsigned.reading bs)) (λ n h. many_takes p cp sp n);
     stops =
-        bound_stops unsigned (plain unsigned) unsigned_stops (many_of p) (λ n. flat_map cp) (vector p) counted_cells (λ n xs. xs) (λ n xs h g. vector_made n xs g) vector_fit (λ bs. vector_reads p (unsigned.reading bs))
+        bound_stops unsigned (plain unsigned) unsigned_stops (many_of p) (λ n. flat_map cp) (vector p) counted_cells (λ n xs. xs) (λ n xs h g. vector_made n xs g) vector_fit (λ bs g. vector_reads p (unsigned.reading bs))
         (copies p cp sp) (λ n h. copies_fit p cp sp n) (λ n h. many_stop p cp sp n);
     some = [];
     some_fits = refl;
@@ -156,10 +156,10 @@ module _ {A : Type 0} (p : Format A) (cp : A → List Cell) (sp : Stopping p cp)
   entries_stops = record {
     takes =
         bound_takes (between 1 (2 ^ 32)) (plain unsigned) some_entries (many_of p) (λ n. flat_map cp) (entries p) counted_cells (λ n xs. xs) (λ n xs h g. vector_made n xs g) entries_fit
-        (λ bs. entries_reads p (unsigned.reading bs) (groups_below 5 bs)) (λ n h. many_takes p cp sp n);
+        (λ bs g. entries_reads p (unsigned.reading bs) (groups_below 5 bs)) (λ n h. many_takes p cp sp n);
     stops =
         bound_stops (between 1 (2 ^ 32)) (plain unsigned) some_entries (many_of p) (λ n. flat_map cp) (entries p) counted_cells (λ n xs. xs) (λ n xs h g. vector_made n xs g) entries_fit
-        (λ bs. entries_reads p (unsigned.reading bs) (groups_below 5 bs)) (copies p cp sp) (λ n h. copies_fit p cp sp n) (λ n h. many_stop p cp sp n);
+        (λ bs g. entries_reads p (unsigned.reading bs) (groups_below 5 bs)) (copies p cp sp) (λ n h. copies_fit p cp sp n) (λ n h. many_stop p cp sp n);
     some = sp.some ∷ [];
     some_fits = and_from _ _ sp.some_fits refl;
   }

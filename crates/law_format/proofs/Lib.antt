@@ -8,3 +8,4 @@ pub mod Tagged
 pub mod Entries
 pub mod Celled
 pub mod Plain
+pub mod Sequences

@@ -265,7 +265,7 @@ module _ (test : List ℕ → Bool) (passes : (n : ℕ) → test (letters n) ≡
     some = letters 0;
     some_fits = and_from _ _ (and_from _ _ (letters-fit 0) (lt-ltb (length (letters 0)) (2 ^ 32) (omega (arith, letters-length 0)))) (passes 0);
     stops =
-        bound_stops unsigned (plain unsigned) unsigned_stops (texts test) (λ n. others) (counted test) (plain (counted test)) (λ n t. t) (λ n t h g. text_cells n t g) text_counted (λ bs. counted_of (unsigned.reading bs)) letters
+        bound_stops unsigned (plain unsigned) unsigned_stops (texts test) (λ n. others) (counted test) (plain (counted test)) (λ n t. t) (λ n t h g. text_cells n t g) text_counted (λ bs g. counted_of (unsigned.reading bs)) letters
         (λ n h. and_from _ _ (eq-eqb (length (letters n)) n (letters-length n)) (and_from _ _ (letters-fit n) (passes n))) (λ n h. texts_stop n);
   }
 
