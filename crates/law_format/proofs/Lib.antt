@@ -9,3 +9,4 @@ pub mod Entries
 pub mod Celled
 pub mod Plain
 pub mod Sequences
+pub mod Nested

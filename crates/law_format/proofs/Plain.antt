@@ -181,7 +181,7 @@ module _ (allow : Bool) (levels : ℕ) where
   numeric_reads I64ExtendI32S bs = refl
   numeric_reads I64ExtendI32U bs = refl
 
-  start : Start this item_cells Opcode
+  pub start : Start this item_cells Opcode
   start = record { value = inr End; fits = refl; byte = 0x0B; rest = []; begins = refl }
 
   abbrev Here : ℕ → Type 0
