@@ -10,3 +10,4 @@ pub mod Celled
 pub mod Plain
 pub mod Sequences
 pub mod Nested
+pub mod LocalGroups

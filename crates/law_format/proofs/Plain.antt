@@ -121,6 +121,15 @@ zeros_as : (i : Instr) (r : Reading (Unit {0})) → with_rest i (r >>= zero_next
 zeros_as i (Ok s) = zeros_last i s.0 (skip 0x00 s.1)
 zeros_as i (Err f) = refl
 
+pub plain_vector : Stopping (vector unsigned) (plain (vector unsigned))
+plain_vector =
+    seen (vector unsigned) (vector_cells (plain unsigned)) (vector_stops unsigned (plain unsigned) unsigned_stops) (vector unsigned) (plain (vector unsigned)) (λ x. x) (λ x h. sym (plain_entries x)) (λ x h. h) (λ bs. bind_same ((vector unsigned).reading bs))
+
+behind_zero : Stopping (unsigned ◂ 0x00) (plain (unsigned ◂ 0x00))
+behind_zero =
+    seen (unsigned ◂ 0x00) (λ x. plain unsigned x ++ (OtherByte, 0x00) ∷ []) (behind_stops 0x00 unsigned (plain unsigned) unsigned_stops) (unsigned ◂ 0x00) (plain (unsigned ◂ 0x00)) (λ x. x) (λ x h. all-append OtherByte (unsigned.encoding x) (0x00 ∷ [])) (λ x h. h)
+    (λ bs. bind_same ((unsigned ◂ 0x00).reading bs))
+
 module _ (allow : Bool) (levels : ℕ) where
   abbrev this : Format Item
   this = item allow levels
@@ -249,15 +258,6 @@ module _ (allow : Bool) (levels : ℕ) where
 
   abbrev table : List ℕ × ℕ → Instr
   table p = BrTable p.0 p.1
-
-  plain_vector : Stopping (vector unsigned) (plain (vector unsigned))
-  plain_vector =
-      seen (vector unsigned) (vector_cells (plain unsigned)) (vector_stops unsigned (plain unsigned) unsigned_stops) (vector unsigned) (plain (vector unsigned)) (λ x. x) (λ x h. sym (plain_entries x)) (λ x h. h) (λ bs. bind_same ((vector unsigned).reading bs))
-
-  behind_zero : Stopping (unsigned ◂ 0x00) (plain (unsigned ◂ 0x00))
-  behind_zero =
-      seen (unsigned ◂ 0x00) (λ x. plain unsigned x ++ (OtherByte, 0x00) ∷ []) (behind_stops 0x00 unsigned (plain unsigned) unsigned_stops) (unsigned ◂ 0x00) (plain (unsigned ◂ 0x00)) (λ x. x) (λ x h. all-append OtherByte (unsigned.encoding x) (0x00 ∷ [])) (λ x h. h)
-      (λ bs. bind_same ((unsigned ◂ 0x00).reading bs))
 
   at_Unreachable : Here 0x00
   unfolding plain_of variable_of
