@@ -150,7 +150,7 @@ module _ {A : Type 0} (p : Format A) (cp : A → List Cell) (sp : Stopping p cp)
       and_from _ _ (lt-ltb 0 (length xs) (omega arith)) (vector_fit n xs k.1 g)
 
   abbrev some_entries : Stopping (between 1 (2 ^ 32)) (plain unsigned)
-  some_entries = between_stops 1 (2 ^ 32) (omega arith) (omega arith) (omega arith)
+  some_entries = between_stops 1 (2 ^ 32) (omega arith) (omega arith)
 
   pub entries_stops : Stopping (entries p) (vector_cells cp)
   entries_stops = record {

@@ -124,7 +124,7 @@ group_stops zero before room = record {
     no_locals-fit' : (groups_of 0 before).fits [] ≡ true
     no_locals-fit' = rw (lt-ltb (before + 0) (2 ^ 32) (omega arith)) refl
 group_stops (suc count) before room =
-    let numbers' = between_stops 0 (2 ^ 32 - before) (omega arith) (omega arith) (omega arith) in
+    let numbers' = between_stops 0 (2 ^ 32 - before) (omega arith) (omega arith) in
     let inner = λ (n : ℕ) (h : in_range 0 (2 ^ 32 - before) n ≡ true). then_stops value_type (groups_of count (before + n)) value_type_cells all_groups value_type_stops (group_stops count (before + n) (in_room count before n h)) in
     record {
       takes =

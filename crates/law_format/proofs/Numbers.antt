@@ -1,5 +1,5 @@
 -- Where readings of numbers stop: at the first byte behind which no number of the range can come.
-use Rattle.std.proofs.Common.{◌≡◌, ℕ, zero, suc, ◌+◌, ◌-◌, ◌*◌, ◌/◌, ◌%◌, ◌^◌, ◌<◌, ◌≤◌, Bool, true, false, cond, leb, ltb, ◌&&◌, List, [], ◌∷◌, ◌++◌, Ok, Err, refl, sym, ap, subst, ◌∙◌, append-nil, arith, inl, inr}
+use Rattle.std.proofs.Common.{◌≡◌, ℕ, zero, suc, ◌+◌, ◌-◌, ◌*◌, ◌/◌, ◌%◌, ◌^◌, ◌<◌, ◌≤◌, max, Bool, true, false, cond, leb, ltb, ◌&&◌, List, [], ◌∷◌, ◌++◌, Ok, Err, refl, sym, ap, subst, ◌∙◌, append-nil, arith, inl, inr}
 use Rattle.std.proofs.lemmas.Bool.{cases_lt, cases_Bool, lt-ltb, le-ltb, ltb-true, ltb-false, le-leb, lt-leb, leb-true, and_parts, and_from}
 use Rattle.wasm_tree.specs.declared.fault.WFault.{WFault}
 use Rattle.wasm_tree.specs.declared.fault.WFault.TheVariants.{Malformed}
@@ -32,35 +32,59 @@ range_from least end n le lt = and_from _ _ (le-leb least n le) (lt-ltb n end lt
 abbrev malformed : Reading ℕ
 malformed = Err Malformed
 
+in_bounds : (least end n : ℕ) → in_range least end n ≡ true → (least ≤ n) × (n < end)
+in_bounds least end n e =
+    let f = and_parts (leb least n) (ltb n end) e in
+    (leb-true least n f.0, ltb-true n end f.1)
+
 -- how many numbers stand for the groups above the lowest
 abbrev above : (end low : ℕ) → ℕ
 above end low = (end - low + 127) / 128
 
+-- the least of them
+abbrev from : (least low : ℕ) → ℕ
+from least low = max 1 ((least - low + 127) / 128)
+
 abbrev put_low : ℕ → Reading ℕ → Reading ℕ
 put_low low read = read >>= λ h. Ok (low + 128 * h.0, h.1)
 
-joined_at : (least end low h : ℕ) (bs : List ℕ) → least ≤ 1 → end ≤ 2 ^ 32 → ranged least end (join_groups low h bs) ≡ put_low low (ranged 1 (above end low) (Ok (h, bs)))
-joined_at least end low zero bs small room = refl
-joined_at least end low (suc h) bs small room =
-    elim (cases_lt (low + 128 * suc h) end) [
-      | inl lt ↦
-          let one : suc h < above end low = omega arith in
-          rw (lt-ltb (low + 128 * suc h) (2 ^ 32) (omega arith), le-leb least (low + 128 * suc h) (omega arith), lt-ltb (low + 128 * suc h) end lt, le-leb 1 (suc h) (omega arith), lt-ltb (suc h) (above end low) one) refl
-      | inr ge ↦
-          let one : above end low ≤ suc h = omega arith in
-          elim (cases_lt (low + 128 * suc h) (2 ^ 32)) [
-            | inl fits ↦ rw (lt-ltb (low + 128 * suc h) (2 ^ 32) fits, le-leb least (low + 128 * suc h) (omega arith), le-ltb (low + 128 * suc h) end ge, le-leb 1 (suc h) (omega arith), le-ltb (suc h) (above end low) one) refl
-            | inr large ↦ rw (le-ltb (low + 128 * suc h) (2 ^ 32) large, le-leb 1 (suc h) (omega arith), le-ltb (suc h) (above end low) one) refl
-          ]
+below_range : (least end n : ℕ) (bs : List ℕ) → n < least → ranged least end (Ok (n, bs)) ≡ malformed
+below_range least end n bs lt = rw (lt-leb least n lt) refl
+
+past_range : (least end n : ℕ) (bs : List ℕ) → end ≤ n → ranged least end (Ok (n, bs)) ≡ malformed
+past_range least end n bs le = elim (cases_lt n least) [
+  | inl lt ↦ below_range least end n bs lt
+  | inr ge ↦ rw (le-leb least n ge, le-ltb n end le) refl
+]
+
+inside_range : (least end n : ℕ) (bs : List ℕ) → least ≤ n → n < end → ranged least end (Ok (n, bs)) ≡ Ok (n, bs)
+inside_range least end n bs le lt = rw (le-leb least n le, lt-ltb n end lt) refl
+
+joined_at : (least end low h : ℕ) (bs : List ℕ) → end ≤ 2 ^ 32 → ranged least end (join_groups low h bs) ≡ put_low low (ranged (from least low) (above end low) (Ok (h, bs)))
+joined_at least end low zero bs room = sym (ap (put_low low) (below_range (from least low) (above end low) 0 bs (omega arith)))
+joined_at least end low (suc h) bs room =
+    let n : ℕ = low + 128 * suc h in
+    elim (cases_lt (low + 128 * suc h) (2 ^ 32)) [
+      | inr large ↦
+          rw (le-ltb (low + 128 * suc h) (2 ^ 32) large) (sym (ap (put_low low) (past_range (from least low) (above end low) (suc h) bs (omega arith))))
+      | inl fits ↦
+          rw (lt-ltb (low + 128 * suc h) (2 ^ 32) fits) (elim (cases_lt (low + 128 * suc h) end) [
+            | inr ge ↦ past_range least end n bs ge ∙ sym (ap (put_low low) (past_range (from least low) (above end low) (suc h) bs (omega arith)))
+            | inl lt ↦
+                elim (cases_lt (low + 128 * suc h) least) [
+                  | inl less ↦ below_range least end n bs less ∙ sym (ap (put_low low) (below_range (from least low) (above end low) (suc h) bs (omega arith)))
+                  | inr more ↦ inside_range least end n bs more lt ∙ sym (ap (put_low low) (inside_range (from least low) (above end low) (suc h) bs (omega arith) (omega arith)))
+                ]
+          ])
     ]
 
-joined_of : (least end low : ℕ) → least ≤ 1 → end ≤ 2 ^ 32 → (r : Reading ℕ) → ranged least end (r >>= λ high. join_groups low high.0 high.1) ≡ put_low low (ranged 1 (above end low) r)
-joined_of least end low small room (Ok x) = joined_at least end low x.0 x.1 small room
-joined_of least end low small room (Err f) = refl
+joined_of : (least end low : ℕ) → end ≤ 2 ^ 32 → (r : Reading ℕ) → ranged least end (r >>= λ high. join_groups low high.0 high.1) ≡ put_low low (ranged (from least low) (above end low) r)
+joined_of least end low room (Ok x) = joined_at least end low x.0 x.1 room
+joined_of least end low room (Err f) = refl
 
-more_groups : (most least end b : ℕ) (bs : List ℕ) → least ≤ 1 → end ≤ 2 ^ 32 → 128 ≤ b → ranged least end (groups_at (suc most) (b ∷ bs)) ≡ put_low (b - 128) (ranged 1 (above end (b - 128)) (groups_at most bs))
+more_groups : (most least end b : ℕ) (bs : List ℕ) → end ≤ 2 ^ 32 → 128 ≤ b → ranged least end (groups_at (suc most) (b ∷ bs)) ≡ put_low (b - 128) (ranged (from least (b - 128)) (above end (b - 128)) (groups_at most bs))
 unfolding groups_at
-more_groups most least end b bs small room large = rw (le-ltb b 128 large) (joined_of least end (b - 128) small room (groups_at most bs))
+more_groups most least end b bs room large = rw (le-ltb b 128 large) (joined_of least end (b - 128) room (groups_at most bs))
 
 one_group : (most least end b : ℕ) (bs : List ℕ) → b < 128 → ranged least end (groups_at (suc most) (b ∷ bs)) ≡ ranged least end (Ok (b, bs))
 unfolding groups_at
@@ -100,11 +124,13 @@ ranged_malformed least end (Err g) f h e = sym (err_is g f e) ∙ h g refl
 abbrev failing : WFault → Reading ℕ
 failing f = Err f
 
--- nothing is below 1 and at least 1
-ranged_none : (end : ℕ) (r : Reading ℕ) → end ≤ 1 → ((g : WFault) → r ≡ Err g → g ≡ Malformed) → ranged 1 end r ≡ malformed
-ranged_none end (Ok (zero, bs)) le h = refl
-ranged_none end (Ok (suc n, bs)) le h = rw (le-leb 1 (suc n) (omega arith), le-ltb (suc n) end (omega arith)) refl
-ranged_none end (Err g) le h = ap failing (h g refl)
+-- nothing is in an empty range
+ranged_none : (least end : ℕ) (r : Reading ℕ) → end ≤ least → ((g : WFault) → r ≡ Err g → g ≡ Malformed) → ranged least end r ≡ malformed
+ranged_none least end (Ok x) le h = elim (cases_lt x.0 least) [
+  | inl lt ↦ below_range least end x.0 x.1 lt
+  | inr ge ↦ past_range least end x.0 x.1 (omega arith)
+]
+ranged_none least end (Err g) le h = ap failing (h g refl)
 
 -- ---- where they stop
 
@@ -120,19 +146,30 @@ large_is k low high n small more is =
     let rest : n / 128 ≡ high = omega arith in
     rw (le-ltb n 128 large, first, rest) refl
 
-module _ (k most least end : ℕ) (small : least ≤ 1) (some : least < end) where
+record FirstCell (k n : ℕ) : Type 0 where
+  byte : ℕ
+  rest : List Cell
+  is : cells (suc k) n ≡ (OtherByte, byte) ∷ rest
+
+first_cell : (k n : ℕ) → FirstCell k n
+unfolding groups
+first_cell k n = elim (cases_lt n 128) [
+  | inl lt ↦ record { byte = n; rest = []; is = ap others (small_is k n lt) }
+  | inr ge ↦ record { byte = 128 + n % 128; rest = cells k (n / 128); is = rw (le-ltb n 128 ge) refl }
+]
+
+module _ (k most least end : ℕ) (some : least < end) where
   abbrev this : Format ℕ
   this = numbers (suc k) most least end
 
   least_fits : in_range least end least ≡ true
   least_fits = range_from least end least (omega arith) some
 
-  -- the least number is one byte
-  least_cells : cells (suc k) least ≡ (OtherByte, least) ∷ []
-  least_cells = ap others (small_is k least (omega arith))
+  first : FirstCell k least
+  first = first_cell k least
 
   missing : (fault : WFault) → this.reading [] ≡ Err fault → (fault ≡ Malformed) → Stop this (cells (suc k)) [] fault
-  missing fault e is = record { front = []; at = []; parts = refl; value = least; fits = least_fits; next = (OtherByte, least); rest = []; begins = least_cells; how = is }
+  missing fault e is = record { front = []; at = []; parts = refl; value = least; fits = least_fits; next = (OtherByte, first.byte); rest = first.rest; begins = first.is; how = is }
 
   decided : (b : ℕ) (bs : List ℕ) (fault : WFault) → fault ≡ Malformed → ((follow : List ℕ) → IsBytes (b ∷ follow) → this.reading (b ∷ follow) ≡ malformed) → Stop this (cells (suc k)) (b ∷ bs) fault
   decided b bs fault is h = record {
@@ -141,9 +178,9 @@ module _ (k most least end : ℕ) (small : least ≤ 1) (some : least < end) whe
     parts = refl;
     value = least;
     fits = least_fits;
-    next = (OtherByte, least);
-    rest = [];
-    begins = least_cells;
+    next = (OtherByte, first.byte);
+    rest = first.rest;
+    begins = first.is;
     how = (is, λ follow fits. h follow fits ∙ ap failing (sym is));
   }
 
@@ -162,40 +199,39 @@ unfolding groups_at
 no_bytes zero = refl
 no_bytes (suc most) = refl
 
-pub numbers_stop : (k most least end : ℕ) (bytes : List ℕ) (fault : WFault) → most ≤ k → least ≤ 1 → least < end → end ≤ 2 ^ 32 → IsBytes bytes → ranged least end (groups_at most bytes) ≡ Err fault
+pub numbers_stop : (k most least end : ℕ) (bytes : List ℕ) (fault : WFault) → most ≤ k → least < end → end ≤ 2 ^ 32 → IsBytes bytes → ranged least end (groups_at most bytes) ≡ Err fault
     → Stop (numbers (suc k) most least end) (cells (suc k)) bytes fault
-numbers_stop k most least end [] fault le small some room fits e =
-    missing k most least end small some fault e (ranged_malformed least end (groups_at most []) fault (groups_malformed most []) e)
-numbers_stop k zero least end (b ∷ bs) fault le small some room fits e =
-    decided k 0 least end small some b bs fault (ranged_malformed least end (groups_at 0 (b ∷ bs)) fault (groups_malformed 0 (b ∷ bs)) e) (λ follow g. ap (ranged least end) (zero_groups (b ∷ follow)))
-numbers_stop zero (suc most) least end (b ∷ bs) fault le small some room fits e = absurd (omega arith)
-numbers_stop (suc k) (suc most) least end (b ∷ bs) fault le small some room fits e =
+numbers_stop k most least end [] fault le some room fits e =
+    missing k most least end some fault e (ranged_malformed least end (groups_at most []) fault (groups_malformed most []) e)
+numbers_stop k zero least end (b ∷ bs) fault le some room fits e =
+    decided k 0 least end some b bs fault (ranged_malformed least end (groups_at 0 (b ∷ bs)) fault (groups_malformed 0 (b ∷ bs)) e) (λ follow g. ap (ranged least end) (zero_groups (b ∷ follow)))
+numbers_stop zero (suc most) least end (b ∷ bs) fault le some room fits e = absurd (omega arith)
+numbers_stop (suc k) (suc most) least end (b ∷ bs) fault le some room fits e =
     let is : fault ≡ Malformed = ranged_malformed least end (groups_at (suc most) (b ∷ bs)) fault (groups_malformed (suc most) (b ∷ bs)) e in
     elim (cases_lt b 128) [
       | inl lt ↦
-          decided (suc k) (suc most) least end small some b bs fault is
+          decided (suc k) (suc most) least end some b bs fault is
           (λ follow g. one_group most least end b follow lt ∙ one_fails least end b bs follow fault (sym (one_group most least end b bs lt) ∙ e))
       | inr large ↦
           let low : ℕ = b - 128 in
-          elim (cases_lt 1 (above end low)) [
+          elim (cases_lt (from least low) (above end low)) [
             | inr none ↦
-                decided (suc k) (suc most) least end small some b bs fault is
-                (λ follow g. more_groups most least end b follow small room large ∙ ap (put_low low) (ranged_none (above end low) (groups_at most follow) none (groups_malformed most follow)))
+                decided (suc k) (suc most) least end some b bs fault is
+                (λ follow g. more_groups most least end b follow room large ∙ ap (put_low low) (ranged_none (from least low) (above end low) (groups_at most follow) none (groups_malformed most follow)))
             | inl more ↦
-                let inner : ranged 1 (above end low) (groups_at most bs) ≡ Err fault = bind_err (ranged 1 (above end low) (groups_at most bs)) (λ h. (low + 128 * h.0, h.1)) fault (sym (more_groups most least end b bs small room large) ∙ e) in
-                let s = numbers_stop k most 1 (above end low) bs fault (omega arith) (omega arith) more (omega arith) (IsBytes-tail b bs fits) inner in
-                into (numbers (suc k) most 1 (above end low)) (cells (suc k)) (numbers (suc (suc k)) (suc most) least end) (cells (suc (suc k))) ((OtherByte, b) ∷ []) (λ h. low + 128 * h) (λ h. [])
+                let inner : ranged (from least low) (above end low) (groups_at most bs) ≡ Err fault =
+                bind_err (ranged (from least low) (above end low) (groups_at most bs)) (λ h. (low + 128 * h.0, h.1)) fault (sym (more_groups most least end b bs room large) ∙ e) in
+                let s = numbers_stop k most (from least low) (above end low) bs fault (omega arith) more (omega arith) (IsBytes-tail b bs fits) inner in
+                let range = λ (h : ℕ) (g : in_range (from least low) (above end low) h ≡ true). in_bounds (from least low) (above end low) h g in
+                into (numbers (suc k) most (from least low) (above end low)) (cells (suc k)) (numbers (suc (suc k)) (suc most) least end) (cells (suc (suc k))) ((OtherByte, b) ∷ []) (λ h. low + 128 * h) (λ h. [])
                 (λ h g.
-                    let f = and_parts (leb 1 h) (ltb h (above end low)) g in
-                    let one : 1 ≤ h = leb-true 1 h f.0 in
+                    let one : 1 ≤ h = omega (arith, (range h g).0) in
                     let first : 128 + low ≡ b = omega arith in
                     ap others (large_is (suc k) low h (low + 128 * h) (omega (arith, fits 0)) one refl) ∙ ap (λ (c : ℕ). (OtherByte, c) ∷ cells (suc k) h) first ∙ ap (λ (t : List Cell). (OtherByte, b) ∷ t) (sym (append-nil (cells (suc k) h))))
                 (λ h g.
-                    let f = and_parts (leb 1 h) (ltb h (above end low)) g in
-                    let one : 1 ≤ h = leb-true 1 h f.0 in
-                    let less : h < above end low = ltb-true h (above end low) f.1 in
-                    range_from least end (low + 128 * h) (omega arith) (omega arith))
-                (λ t f g h. more_groups most least end b t small room large ∙ ap (put_low low) h)
+                    let r = range h g in
+                    range_from least end (low + 128 * h) (omega (arith, r.0)) (omega (arith, r.1)))
+                (λ t f g h. more_groups most least end b t room large ∙ ap (put_low low) h)
                 bs fault s
           ]
     ]

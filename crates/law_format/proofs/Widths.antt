@@ -28,17 +28,17 @@ unsigned_stop bytes fault fits e =
     (λ n h. (and_parts _ _ h).1)
     (λ bs f g h. unsigned_reads bs f g (groups_at 5 bs) refl h)
     bytes fault
-    (numbers_stop 9 5 0 (2 ^ 32) bytes fault (omega arith) (omega arith) (omega arith) (omega arith) fits (ap (ranged 0 (2 ^ 32)) e))
+    (numbers_stop 9 5 0 (2 ^ 32) bytes fault (omega arith) (omega arith) (omega arith) fits (ap (ranged 0 (2 ^ 32)) e))
 
 pub unsigned_stops : Stopping unsigned (plain unsigned)
 unsigned_stops = record { takes = takes_from unsigned (plain unsigned) unsigned_law (λ n. bytes-all OtherByte (unsigned.encoding n)); some = 0; some_fits = refl; stops = unsigned_stop }
 
--- ---- numbers of a range, of which one is 0 or 1
+-- ---- numbers of a range
 
 abbrev pub between : (least end : ℕ) → Format ℕ
 between least end = numbers 10 5 least end
 
-module _ (least end : ℕ) (small : least ≤ 1) (some : least < end) (room : end ≤ 2 ^ 32) where
+module _ (least end : ℕ) (some : least < end) (room : end ≤ 2 ^ 32) where
   between_fits : (n : ℕ) → in_range least end n ≡ true → unsigned.fits n ≡ true
   between_fits n e =
       let f = and_parts (leb least n) (ltb n end) e in
@@ -59,7 +59,7 @@ module _ (least end : ℕ) (small : least ≤ 1) (some : least < end) (room : en
     takes = takes_from (between least end) (plain unsigned) between_law (λ n. bytes-all OtherByte (unsigned.encoding n));
     some = least;
     some_fits = and_from _ _ (le-leb least least (omega arith)) (lt-ltb least end some);
-    stops = λ bytes fault fits e. numbers_stop 9 5 least end bytes fault (omega arith) small some room fits e;
+    stops = λ bytes fault fits e. numbers_stop 9 5 least end bytes fault (omega arith) some room fits e;
   }
 
 -- ---- signed numbers
