@@ -11,3 +11,4 @@ pub mod Plain
 pub mod Sequences
 pub mod Nested
 pub mod LocalGroups
+pub mod Breaks
