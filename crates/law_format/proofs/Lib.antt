@@ -12,3 +12,4 @@ pub mod Sequences
 pub mod Nested
 pub mod LocalGroups
 pub mod Breaks
+pub mod Contents
