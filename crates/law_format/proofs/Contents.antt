@@ -8,29 +8,35 @@ use Rattle.wasm_tree.specs.Format.{Format, Reading, ◌>>=◌}
 use Rattle.wasm_code.specs.Number.{unsigned}
 use Rattle.wasm_code.specs.Parts.{close_part}
 use Rattle.wasm_code.proofs.Laws.{IsBytes, IsBytes-take, IsBytes-drop, IsBytes-after, bind_ok, guard_ok, ok_is, read_is}
-use Rattle.law_format.specs.Places.{Cell, bytes_of, plain}
+use Rattle.wasm_code.proofs.LawsNumber.{unsigned_law}
+use Rattle.law_format.specs.Places.{OtherByte, Cell, bytes_of, plain}
 use Rattle.law_format.specs.Layouts.{Sized, Mark, Byte, Opens, Closes, Last, marked, flat, room, within, part_marks}
-use Rattle.law_format.proofs.Stops.{How, Stop, Front, Stopping}
+use Rattle.law_format.proofs.Stops.{bytes-all, How, Stop, Front, Stopping}
 use Rattle.law_format.proofs.Combined.{IsBytes-joined, failed, err_is, ok_no_err, bind_err}
 use Rattle.law_format.proofs.Widths.{unsigned_stops}
 use Rattle.law_format.proofs.Breaks.{flat-append, flat-marked, marked-append, then_room, room-append, room_free, room_under, Wrong, TooLarge, Why, Break, break_at, break_into, kept_opened, opened_front, break_within}
 
 -- what was taken, whatever follows, with each stated size kept
-pub record Kept {X L F : Type 0} (m : L → List Mark) (ok : L → Type 0) (is : X → L → Type 0) (free : List ℕ → Reading F) (bytes : List ℕ) (x : X) (rest : List ℕ) : Type 0 where
+pub record Kept {X L F : Type 0} (m : L → List Mark) (ok : L → Type 0) (is : X → L → Type 0) (free : List ℕ → Reading F) (res : L → F) (bytes : List ℕ) (x : X) (rest : List ℕ) : Type 0 where
   pub value : L
   pub fits : ok value
   pub same : is x value
   pub parts : bytes ≡ flat (m value) ++ rest
   pub rest_fits : IsBytes rest
   pub kept : room [] (m value) ≡ Some []
-  pub result : F
-  pub again : (follow : List ℕ) → IsBytes follow → free (flat (m value) ++ follow) ≡ Ok (result, follow)
+  pub again : (follow : List ℕ) → IsBytes follow → free (flat (m value) ++ follow) ≡ Ok (res value, follow)
 
-pub record Content {X L F : Type 0} (real : List ℕ → Reading X) (m : L → List Mark) (ok : L → Type 0) (is : X → L → Type 0) (free : List ℕ → Reading F) : Type 0 where
-  pub takes : (bytes : List ℕ) (x : X) (rest : List ℕ) → IsBytes bytes → real bytes ≡ Ok (x, rest) → Kept m ok is free bytes x rest
+-- a reading of parts with sizes, and one that leaves the sizes free
+pub record Content {X L F : Type 0} (real : List ℕ → Reading X) (m : L → List Mark) (ok : L → Type 0) (is : X → L → Type 0) (free : List ℕ → Reading F) (res : L → F) : Type 0 where
+  pub takes : (bytes : List ℕ) (x : X) (rest : List ℕ) → IsBytes bytes → real bytes ≡ Ok (x, rest) → Kept m ok is free res bytes x rest
   pub breaks : (bytes : List ℕ) (fault : WFault) → IsBytes bytes → real bytes ≡ Err fault → Break m ok free bytes fault
+  pub whole : (l : L) → ok l → (follow : List ℕ) → free (flat (m l) ++ follow) ≡ Ok (res l, follow)
   pub some : L
   pub some_fits : ok some
+
+-- what fits is read again
+abbrev pub Whole : {A : Type 0} → Format A → (A → List Cell) → Type 0
+Whole {A} p cells = (x : A) → p.fits x ≡ true → (follow : List ℕ) → p.reading (bytes_of (cells x) ++ follow) ≡ Ok (x, follow)
 
 -- ---- a part in which no other states its size
 
@@ -43,6 +49,9 @@ module _ {A : Type 0} (p : Format A) (cells : A → List Cell) where
 
   abbrev pub plain_is : A → A → Type 0
   plain_is x y = x ≡ y
+
+  abbrev pub plain_res : A → A
+  plain_res x = x
 
   plain_why : (front : List Cell) (next : Cell) (at : List ℕ) (fault : WFault) → How p.reading (bytes_of front) next.0 at fault → Wrong p.reading (flat (marked front)) next.0 at fault
   plain_why front next [] fault h = h
@@ -63,7 +72,7 @@ module _ {A : Type 0} (p : Format A) (cells : A → List Cell) where
     why = plain_why s.front s.next s.at fault s.how;
   }
 
-  plain_kept : (bytes : List ℕ) (x : A) (rest : List ℕ) → Front p cells bytes x rest → Kept plain_marks plain_fits plain_is p.reading bytes x rest
+  plain_kept : (bytes : List ℕ) (x : A) (rest : List ℕ) → Front p cells bytes x rest → Kept plain_marks plain_fits plain_is p.reading plain_res bytes x rest
   plain_kept bytes x rest f = record {
     value = x;
     fits = f.fits;
@@ -71,17 +80,20 @@ module _ {A : Type 0} (p : Format A) (cells : A → List Cell) where
     parts = f.parts ∙ ap (λ (t : List ℕ). t ++ rest) (sym (flat-marked (cells x)));
     rest_fits = f.rest_fits;
     kept = room_free (cells x);
-    result = x;
     again = λ follow g. ap (λ (t : List ℕ). p.reading (t ++ follow)) (flat-marked (cells x)) ∙ f.again follow g;
   }
 
-  pub plain_content : Stopping p cells → Content p.reading plain_marks plain_fits plain_is p.reading
-  plain_content s = record {
+  pub plain_content : Stopping p cells → Whole p cells → Content p.reading plain_marks plain_fits plain_is p.reading plain_res
+  plain_content s w = record {
     takes = λ bytes x rest fits e. plain_kept bytes x rest (s.takes bytes x rest fits e);
     breaks = λ bytes fault fits e. plain_break bytes fault (s.stops bytes fault fits e);
+    whole = λ x fits follow. ap (λ (t : List ℕ). p.reading (t ++ follow)) (flat-marked (cells x)) ∙ w x fits follow;
     some = s.some;
     some_fits = s.some_fits;
   }
+
+pub unsigned_whole : Whole unsigned (plain unsigned)
+unsigned_whole n fits follow = ap (λ (t : List ℕ). unsigned.reading (t ++ follow)) (bytes-all OtherByte (unsigned.encoding n)) ∙ unsigned_law.again n follow fits
 
 -- ---- a part behind its size
 
@@ -114,7 +126,7 @@ positive_room : (k : ℕ) → 0 < k → TooLarge (k ∷ [])
 positive_room zero lt = absurd (omega arith)
 positive_room (suc k) lt = tt
 
-module _ {X L F : Type 0} (real : List ℕ → Reading X) (m : L → List Mark) (ok : L → Type 0) (is : X → L → Type 0) (free : List ℕ → Reading F) where
+module _ {X L F : Type 0} (real : List ℕ → Reading X) (m : L → List Mark) (ok : L → Type 0) (is : X → L → Type 0) (free : List ℕ → Reading F) (res : L → F) where
   abbrev close_next : ℕ × List ℕ → X × List ℕ → Reading X
   close_next n x = close_part n.0 n.1 x.1 >>= λ rest. Ok (x.0, rest)
 
@@ -135,6 +147,9 @@ module _ {X L F : Type 0} (real : List ℕ → Reading X) (m : L → List Mark) 
 
   abbrev pub sized_is : X → Sized L → Type 0
   sized_is x p = is x p.content
+
+  abbrev pub sized_res : Sized L → F
+  sized_res p = res p.content
 
   abbrev head : ℕ → List Mark
   head n = marked (plain unsigned n)
@@ -157,14 +172,14 @@ module _ {X L F : Type 0} (real : List ℕ → Reading X) (m : L → List Mark) 
   free_behind : (bytes : List ℕ) (n : ℕ) (after : List ℕ) → Front unsigned (plain unsigned) bytes n after → (bs : List ℕ) → IsBytes bs → sized_free (bytes_of (plain unsigned n) ++ bs) ≡ free bs
   free_behind bytes n after t bs g = ap (λ (r : Reading ℕ). r >>= free_next) (t.again bs g)
 
-  module _ (c : Content real m ok is free) where
+  module _ (c : Content real m ok is free res) where
     abbrev Broken : List ℕ → WFault → Type 0
     Broken bytes fault = Break (part_marks m) sized_fits sized_free bytes fault
 
     in_size : (bytes : List ℕ) (fault : WFault) → IsBytes bytes → unsigned.reading bytes ≡ Err fault → Broken bytes fault
     in_size bytes fault fits e =
         break_into unsigned.reading sized_free [] (λ bs f g h. ap (λ (r : Reading ℕ). r >>= free_next) h) (plain_marks unsigned (plain unsigned)) (plain_fits unsigned (plain unsigned)) (part_marks m) sized_fits (λ n. sized_of n c.some)
-        (λ n. Opens n ∷ (m c.some ++ Closes ∷ [])) refl (λ n h. refl) (λ n h. (h, c.some_fits)) bytes fault ((plain_content unsigned (plain unsigned) unsigned_stops).breaks bytes fault fits e)
+        (λ n. Opens n ∷ (m c.some ++ Closes ∷ [])) refl (λ n h. refl) (λ n h. (h, c.some_fits)) bytes fault ((plain_content unsigned (plain unsigned) unsigned_stops unsigned_whole).breaks bytes fault fits e)
 
     in_content : (bytes : List ℕ) (n : ℕ) (after : List ℕ) (fault : WFault) → Front unsigned (plain unsigned) bytes n after → real (take n after) ≡ Err fault → Broken bytes fault
     in_content bytes n after fault t e =
@@ -172,7 +187,7 @@ module _ {X L F : Type 0} (real : List ℕ → Reading X) (m : L → List Mark) 
         (break_within m ok free (part_marks m) sized_fits sized_free (head n) n (sized_of n) (room_free (plain unsigned n)) (λ x h. opened n x) (λ x h. (t.fits, h))
         (λ bs f g h. ap (λ (b : List ℕ). sized_free (b ++ bs)) (head_flat n) ∙ free_behind bytes n after t bs g ∙ h) after fault (c.breaks (take n after) fault (IsBytes-take n after t.rest_fits) e))
 
-    at_close : (bytes : List ℕ) (n : ℕ) (after : List ℕ) (x : X) (left : List ℕ) (fault : WFault) → Front unsigned (plain unsigned) bytes n after → Kept m ok is free (take n after) x left → close_part n after left ≡ Err fault → Broken bytes fault
+    at_close : (bytes : List ℕ) (n : ℕ) (after : List ℕ) (x : X) (left : List ℕ) (fault : WFault) → Front unsigned (plain unsigned) bytes n after → Kept m ok is free res (take n after) x left → close_part n after left ≡ Err fault → Broken bytes fault
     at_close bytes n after x left fault t v e =
         let u = unclosed n after left fault e in
         let k : ℕ = n - length (flat (m v.value)) in
@@ -198,8 +213,8 @@ module _ {X L F : Type 0} (real : List ℕ → Reading X) (m : L → List Mark) 
           why = (positive_room k (elim u.more [ inl some ↦ omega (arith, min'.0) | inr short ↦ omega (arith, min'.1) ]), u.is);
         }
 
-    sized_kept : (bytes : List ℕ) (n : ℕ) (after : List ℕ) (x : X) (left rest : List ℕ) → Front unsigned (plain unsigned) bytes n after → Kept m ok is free (take n after) x left → close_part n after left ≡ Ok rest
-        → Kept (part_marks m) sized_fits sized_is sized_free bytes x rest
+    sized_kept : (bytes : List ℕ) (n : ℕ) (after : List ℕ) (x : X) (left rest : List ℕ) → Front unsigned (plain unsigned) bytes n after → Kept m ok is free res (take n after) x left → close_part n after left ≡ Ok rest
+        → Kept (part_marks m) sized_fits sized_is sized_free sized_res bytes x rest
     sized_kept bytes n after x left rest t v e =
         let k = closed n after left rest e in
         let text : take n after ≡ flat (m v.value) = v.parts ∙ ap (λ (b : List ℕ). flat (m v.value) ++ b) k.0 ∙ append-nil (flat (m v.value)) in
@@ -219,7 +234,6 @@ module _ {X L F : Type 0} (real : List ℕ → Reading X) (m : L → List Mark) 
                 room-append [] (head n) (Opens n ∷ []) ∙ ap (λ (o : Option (List ℕ)). then_room o (Opens n ∷ [])) (room_free (plain unsigned n))
               )
               ∙ room-append (n ∷ []) (m v.value) (Closes ∷ []) ∙ ap (λ (o : Option (List ℕ)). then_room o (Closes ∷ [])) (room_under (m v.value) [] [] n 0 v.kept len);
-          result = v.result;
           again = λ follow g.
               let inner : IsBytes (flat (m v.value) ++ follow) = IsBytes-joined (flat (m v.value)) rest follow (subst IsBytes split t.rest_fits) g in
               ap sized_free (around follow) ∙ free_behind bytes n after t (flat (m v.value) ++ follow) inner ∙ v.again follow g;
@@ -234,7 +248,7 @@ module _ {X L F : Type 0} (real : List ℕ → Reading X) (m : L → List Mark) 
     sized_breaks bytes fault fits (Err f) e h = in_size bytes fault fits (e ∙ ap (λ (g : WFault). failed {A = ℕ × List ℕ} g) (err_is {A = X × List ℕ} f fault h))
     sized_breaks bytes fault fits (Ok n) e h = in_order bytes n.0 n.1 fault (unsigned_stops.takes bytes n.0 n.1 fits e) (real (take n.0 n.1)) refl h
 
-    sized_takes : (bytes : List ℕ) (x : X) (rest : List ℕ) → IsBytes bytes → sized_real bytes ≡ Ok (x, rest) → Kept (part_marks m) sized_fits sized_is sized_free bytes x rest
+    sized_takes : (bytes : List ℕ) (x : X) (rest : List ℕ) → IsBytes bytes → sized_real bytes ≡ Ok (x, rest) → Kept (part_marks m) sized_fits sized_is sized_free sized_res bytes x rest
     sized_takes bytes x rest fits e =
         let a = bind_ok (unsigned.reading bytes) size_next (x, rest) e in
         let b = bind_ok (real (take a.0.0 a.0.1)) (close_next a.0) (x, rest) a.2 in
@@ -242,15 +256,18 @@ module _ {X L F : Type 0} (real : List ℕ → Reading X) (m : L → List Mark) 
         let same = read_is b.0.0 x d.0 rest d.2 in
         let t = unsigned_stops.takes bytes a.0.0 a.0.1 fits a.1 in
         let v = c.takes (take a.0.0 a.0.1) b.0.0 b.0.1 (IsBytes-take a.0.0 a.0.1 t.rest_fits) b.1 in
-        subst (λ (y : X). Kept (part_marks m) sized_fits sized_is sized_free bytes y rest) same.0 (sized_kept bytes a.0.0 a.0.1 b.0.0 b.0.1 rest t v (d.1 ∙ ap (λ (r : List ℕ). done r) same.1))
+        subst (λ (y : X). Kept (part_marks m) sized_fits sized_is sized_free sized_res bytes y rest) same.0 (sized_kept bytes a.0.0 a.0.1 b.0.0 b.0.1 rest t v (d.1 ∙ ap (λ (r : List ℕ). done r) same.1))
       where
         done : List ℕ → Result (List ℕ) WFault
         done r = Ok r
 
-    pub sized_content : Content sized_real (part_marks m) sized_fits sized_is sized_free
+    pub sized_content : Content sized_real (part_marks m) sized_fits sized_is sized_free sized_res
     sized_content = record {
       takes = sized_takes;
       breaks = λ bytes fault fits e. sized_breaks bytes fault fits (unsigned.reading bytes) refl e;
+      whole = λ p fits follow.
+          ap (λ (t : List ℕ). sized_free (t ++ follow)) (part_flat p.size p.content) ∙ ap sized_free (append_assoc (bytes_of (plain unsigned p.size)) (flat (m p.content)) follow)
+          ∙ ap (λ (r : Reading ℕ). r >>= free_next) (unsigned_whole p.size fits.0 (flat (m p.content) ++ follow)) ∙ c.whole p.content fits.1 follow;
       some = sized_of 0 c.some;
       some_fits = (refl, c.some_fits);
     }
