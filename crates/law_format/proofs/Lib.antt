@@ -13,3 +13,4 @@ pub mod Nested
 pub mod LocalGroups
 pub mod Breaks
 pub mod Contents
+pub mod Bodies
