@@ -14,3 +14,4 @@ pub mod LocalGroups
 pub mod Breaks
 pub mod Contents
 pub mod Bodies
+pub mod Chains
