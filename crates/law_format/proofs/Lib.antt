@@ -15,3 +15,4 @@ pub mod Breaks
 pub mod Contents
 pub mod Bodies
 pub mod Chains
+pub mod Spelled
