@@ -16,3 +16,4 @@ pub mod Contents
 pub mod Bodies
 pub mod Chains
 pub mod Spelled
+pub mod Spellings
