@@ -190,6 +190,13 @@ past_other k (b ∷ bytes) h = ne_eqb b k (omega arith)
 
 -- ---- a section, which may be left out
 
+abbrev pub real_section : {A : Type 0} → ℕ → Format A → (List A → List ℕ → Ends) → List ℕ → Ends
+real_section k p real bytes = (section k p).reading bytes >>= λ x. real x.0 x.1
+
+abbrev pub free_section : {A : Type 0} → ℕ → Format A → (List A → List ℕ → Ends) → List ℕ → Ends
+free_section k p free [] = free [] []
+free_section k p free (b ∷ bytes) = cond (eqb b k) ((unsigned.reading bytes >>= λ n. (entries p).reading n.1) >>= λ x. free x.0 x.1) (free [] (b ∷ bytes))
+
 abbrev pub Good : {A : Type 0} → Format A → List A → Type 0
 Good p xs = part_fits (entries p).fits 0 xs ≡ true
 
@@ -236,20 +243,19 @@ module _ {A Y : Type 0} (k : ℕ) (p : Format A) (cells : A → List Cell) (stop
   abbrev free_next : Entries × List ℕ → Ends
   free_next x = free x.0 x.1
 
-  abbrev pub section_real : List ℕ → Ends
-  section_real bytes = (section k p).reading bytes >>= λ x. real x.0 x.1
+  abbrev section_real : List ℕ → Ends
+  section_real bytes = real_section k p real bytes
 
-  abbrev pub section_free : List ℕ → Ends
-  section_free [] = free [] []
-  section_free (b ∷ bytes) = cond (eqb b k) (part_free bytes >>= λ x. free x.0 x.1) (free [] (b ∷ bytes))
+  abbrev section_free : List ℕ → Ends
+  section_free bytes = free_section k p free bytes
 
-  abbrev pub section_y : Type 0
+  abbrev section_y : Type 0
   section_y = Sized Entries × Y
 
-  abbrev pub section_m : section_y → List Mark
+  abbrev section_m : section_y → List Mark
   section_m y = section_marks k (entry_marks cells) y.0 ++ m y.1
 
-  abbrev pub section_ok : section_y → Type 0
+  abbrev section_ok : section_y → Type 0
   section_ok y = section_fits p y.0 × ok y.0.content y.1
 
   abbrev absent : Sized Entries
@@ -337,7 +343,7 @@ module _ {A Y : Type 0} (k : ℕ) (p : Format A) (cells : A → List Cell) (stop
   pub section_is_past : (before : ℕ) → before < k → (y : Sized Entries × Y) → section_fits p y.0 × ok y.0.content y.1 → Past before (flat (section_marks k (entry_marks cells) y.0 ++ m y.1))
   section_is_past before lt y h = section_past before y.0.size y.0.content y.1 lt h.1
 
-  pub section_chain : Chain section_real section_free section_m section_ok
+  pub section_chain : Chain (real_section k p real) (free_section k p free) (λ (y : Sized (List A) × Y). section_marks k (entry_marks cells) y.0 ++ m y.1) (λ (y : Sized (List A) × Y). section_fits p y.0 × ok y.0.content y.1)
   section_chain = record {
     breaks = section_breaks;
     whole = λ y h. section_whole y.0.size y.0.content y.1 h.0 h.1;

@@ -17,3 +17,4 @@ pub mod Bodies
 pub mod Chains
 pub mod Spelled
 pub mod Spellings
+pub mod CodeSection
