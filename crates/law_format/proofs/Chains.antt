@@ -203,7 +203,7 @@ Good p xs = part_fits (entries p).fits 0 xs ≡ true
 module _ {A Y : Type 0} (k : ℕ) (p : Format A) (cells : A → List Cell) (stopping : Stopping (entries p) (vector_cells cells)) (whole_entries : Whole (entries p) (vector_cells cells))
     (real free : List A → List ℕ → Ends) (m : Y → List Mark) (ok : List A → Y → Type 0)
     (next : (xs : List A) → Good p xs → Chain (real xs) (free xs) m (ok xs)) (some : List A → Y) (some_fits : (xs : List A) → Good p xs → ok xs (some xs))
-    (past : (xs : List A) (y : Y) → ok xs y → Past k (flat (m y))) where
+    (past : (y : Y) → ok [] y → Past k (flat (m y))) where
   abbrev Entries : Type 0
   Entries = List A
 
@@ -328,7 +328,7 @@ module _ {A Y : Type 0} (k : ℕ) (p : Format A) (cells : A → List Cell) (stop
   ]
 
   section_whole : (size : ℕ) (xs : Entries) (y : Y) → section_fits p (record { size = size; content = xs }) → ok xs y → section_free (flat (section_marks k (entry_marks cells) (record { size = size; content = xs }) ++ m y)) ≡ Ok tt
-  section_whole size [] y h g = free_else (flat (m y)) (past_other k (flat (m y)) (past [] y g)) ∙ (next [] refl).whole y g
+  section_whole size [] y h g = free_else (flat (m y)) (past_other k (flat (m y)) (past y g)) ∙ (next [] refl).whole y g
   section_whole size (x ∷ xs) y h g =
       let s : Sized Entries = record { size = size; content = x ∷ xs } in
       let f = and_parts (unsigned.fits size) ((entries p).fits (x ∷ xs)) h in
@@ -337,7 +337,7 @@ module _ {A Y : Type 0} (k : ℕ) (p : Format A) (cells : A → List Cell) (stop
       ∙ (next (x ∷ xs) good).whole y g
 
   section_past : (before size : ℕ) (xs : Entries) (y : Y) → before < k → ok xs y → Past before (flat (section_marks k (entry_marks cells) (record { size = size; content = xs }) ++ m y))
-  section_past before size [] y lt g = Past-less before k (flat (m y)) lt (past [] y g)
+  section_past before size [] y lt g = Past-less before k (flat (m y)) lt (past y g)
   section_past before size (x ∷ xs) y lt g = lt
 
   pub section_is_past : (before : ℕ) → before < k → (y : Sized Entries × Y) → section_fits p y.0 × ok y.0.content y.1 → Past before (flat (section_marks k (entry_marks cells) y.0 ++ m y.1))

@@ -18,3 +18,5 @@ pub mod Chains
 pub mod Spelled
 pub mod Spellings
 pub mod CodeSection
+pub mod Modules
+pub mod Deciding

@@ -133,7 +133,7 @@ table_type_spelling = plain_spelling table_type (λ t h. table_bytes t)
 pub memory_type_spelling : Spelling memory_type (plain memory_type)
 memory_type_spelling = plain_spelling memory_type (λ t h. memory_bytes t)
 
-fit_bytes : (bytes : List ℕ) → list_all (λ b. ltb b 256) bytes ≡ true → IsBytes bytes
+pub fit_bytes : (bytes : List ℕ) → list_all (λ b. ltb b 256) bytes ≡ true → IsBytes bytes
 fit_bytes [] h = no_bytes
 fit_bytes (b ∷ bytes) h =
     let f = and_parts (ltb b 256) (list_all (λ b. ltb b 256) bytes) h in
