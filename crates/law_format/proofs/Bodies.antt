@@ -1,25 +1,23 @@
 -- Where readings stop of the bodies of functions, each behind its size.
-use Rattle.std.proofs.Common.{◌≡◌, ◌⊎◌, ℕ, zero, suc, ◌+◌, ◌^◌, ◌<◌, ◌≤◌, Bool, true, false, cond, eqb, leb, ltb, ◌&&◌, List, [], ◌∷◌, ◌++◌, length, take, Option, Some, None, Result, Ok, Err, refl, sym, ap, subst, ◌∙◌, append_assoc, append-nil, arith, inl, inr}
+use Rattle.std.proofs.Common.{◌≡◌, ℕ, zero, suc, ◌^◌, ◌<◌, ◌≤◌, true, false, cond, eqb, leb, ltb, List, [], ◌∷◌, ◌++◌, length, Option, Ok, Err, refl, sym, ap, subst, ◌∙◌, append_assoc, append-nil, arith, inl, inr}
 use Rattle.std.specs.List.{flat_map, list_all}
-use Rattle.std.proofs.lemmas.Bool.{cases_Bool, eqb-true, eq-eqb, ne_eqb, le-leb, lt-ltb, leb-true, ltb-true, and_parts, and_from}
+use Rattle.std.proofs.lemmas.Bool.{cases_Bool, eqb-true, eq-eqb, le-leb, lt-ltb, leb-true, ltb-true, and_parts, and_from}
 use Rattle.wasm_tree.specs.declared.fault.WFault.{WFault}
 use Rattle.wasm_tree.specs.declared.fault.WFault.TheVariants.{Malformed}
 use Rattle.wasm_tree.specs.declared.module.Body.{Body}
 use Rattle.wasm_tree.specs.declared.module.Function.{Function}
-use Rattle.wasm_tree.specs.Format.{Format, Reading, ◌>>=◌}
+use Rattle.wasm_tree.specs.Format.{Reading, ◌>>=◌}
 use Rattle.wasm_code.specs.Number.{unsigned}
-use Rattle.wasm_code.specs.Parts.{with_size, close_part}
 use Rattle.wasm_binary.specs.Binary.{body, bodies, code_entries, code_content}
 use Rattle.wasm_code.proofs.Laws.{IsBytes, bind_ok, read_is}
-use Rattle.law_format.specs.Places.{Cell, bytes_of, plain, locals_cells, code_cells}
-use Rattle.law_format.specs.Layouts.{Sized, Mark, Opens, Closes, marked, flat, room, part_marks, body_cells, bodies_marks, body_content, body_fits}
-use Rattle.law_format.proofs.Stops.{Front, Stopping}
+use Rattle.law_format.specs.Places.{plain}
+use Rattle.law_format.specs.Layouts.{Sized, Mark, marked, flat, room, part_marks, body_cells, bodies_marks, body_content, body_fits}
 use Rattle.law_format.proofs.Combined.{IsBytes-joined, failed, err_is, ok_no_err, bind_err, bind_same}
 use Rattle.law_format.proofs.Numbers.{in_range, ranged}
 use Rattle.law_format.proofs.Widths.{between, between_stops}
 use Rattle.law_format.proofs.LocalGroups.{body_stops}
 use Rattle.law_format.proofs.Breaks.{flat-append, then_room, room-append, Break, break_at, break_into}
-use Rattle.law_format.proofs.Contents.{Kept, Content, Whole, plain_marks, plain_fits, plain_is, plain_res, plain_content, sized_real, sized_free, sized_fits, sized_is, sized_res, sized_content, unsigned_whole}
+use Rattle.law_format.proofs.Contents.{Kept, Content, Whole, plain_marks, plain_fits, plain_is, plain_res, plain_content, sized_fits, sized_content, unsigned_whole}
 
 -- ---- one part and then another
 

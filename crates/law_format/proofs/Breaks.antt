@@ -1,15 +1,11 @@
 -- Where readings stop of parts within their stated sizes.
-use Rattle.std.proofs.Common.{◌≡◌, ◌⊎◌, ℕ, zero, suc, ◌+◌, ◌-◌, ◌<◌, ◌≤◌, Bool, true, false, cond, List, [], ◌∷◌, ◌++◌, length, map, take, drop, Option, Some, None, Result, Ok, Err, refl, sym, ap, subst, ◌∙◌, append_assoc, append-nil, arith, inl, inr}
-use Rattle.std.proofs.lemmas.Bool.{cases_lt}
-use Rattle.std.proofs.lemmas.List.{length-append, take_at, drop_at, take-append-drop, take_all}
+use Rattle.std.proofs.Common.{◌≡◌, ℕ, zero, suc, ◌+◌, ◌-◌, ◌≤◌, List, [], ◌∷◌, ◌++◌, length, take, drop, Option, Some, None, Result, Err, refl, sym, ap, subst, ◌∙◌, append_assoc, arith}
+use Rattle.std.proofs.lemmas.List.{length-append, drop_at, take-append-drop}
 use Rattle.wasm_tree.specs.declared.fault.WFault.{WFault}
 use Rattle.wasm_tree.specs.declared.fault.WFault.TheVariants.{Malformed}
-use Rattle.wasm_tree.specs.Format.{Format, Reading, ◌>>=◌}
-use Rattle.wasm_code.proofs.Laws.{IsBytes, IsBytes-tail, IsBytes-take, IsBytes-after, bind_ok, read_is}
-use Rattle.law_format.specs.Places.{Place, SectionNumber, OtherByte, fault_at, Cell, bytes_of}
+use Rattle.wasm_code.proofs.Laws.{IsBytes, IsBytes-after}
+use Rattle.law_format.specs.Places.{Place, SectionNumber, fault_at, Cell, bytes_of}
 use Rattle.law_format.specs.Layouts.{Mark, Byte, Opens, Closes, Last, marked, flat, spend, room, within}
-use Rattle.law_format.proofs.Stops.{Stop, Front, Stopping}
-use Rattle.law_format.proofs.Combined.{IsBytes-joined, failed, err_is, bind_err}
 
 -- ---- marks
 

@@ -1,6 +1,5 @@
 -- Where readings of sections stop, one behind the other up to the end.
-use Rattle.std.proofs.Common.{◌≡◌, ◌⊎◌, ℕ, zero, suc, ◌+◌, ◌<◌, ◌≤◌, Bool, true, false, cond, eqb, ltb, ◌&&◌, List, [], ◌∷◌, ◌++◌, length, take, Option, Some, None, Result, Ok, Err, refl, sym, ap, subst, ◌∙◌, append_assoc, append-nil, arith, inl, inr}
-use Rattle.std.specs.List.{list_all}
+use Rattle.std.proofs.Common.{◌≡◌, ℕ, zero, suc, ◌<◌, true, false, cond, eqb, List, [], ◌∷◌, ◌++◌, take, Result, Ok, Err, refl, sym, ap, subst, ◌∙◌, append-nil, arith, inl, inr}
 use Rattle.std.proofs.lemmas.Bool.{cases_Bool, eqb-true, eq-eqb, ne_eqb, and_parts, and_from}
 use Rattle.wasm_tree.specs.declared.fault.WFault.{WFault}
 use Rattle.wasm_tree.specs.declared.fault.WFault.TheVariants.{Malformed, OutsideProfile}
@@ -8,14 +7,14 @@ use Rattle.wasm_tree.specs.Format.{Format, Reading, ◌>>=◌, skip}
 use Rattle.wasm_code.specs.Number.{unsigned}
 use Rattle.wasm_code.specs.Parts.{entries, with_size, section}
 use Rattle.wasm_binary.specs.Binary.{at_end}
-use Rattle.wasm_code.proofs.Laws.{IsBytes, IsBytes-tail, bind_ok}
+use Rattle.wasm_code.proofs.Laws.{IsBytes, IsBytes-tail}
 use Rattle.wasm_code.proofs.LawsParts.{Past, Past-less}
-use Rattle.law_format.specs.Places.{Place, SectionNumber, OtherByte, fault_at, Cell, bytes_of, vector_cells}
-use Rattle.law_format.specs.Layouts.{Sized, Mark, Byte, Opens, Closes, Last, marked, flat, room, within, part_marks, if_some, section_marks, entry_marks, part_fits, section_fits}
+use Rattle.law_format.specs.Places.{Place, SectionNumber, OtherByte, Cell, vector_cells}
+use Rattle.law_format.specs.Layouts.{Sized, Mark, Byte, Opens, Closes, Last, marked, flat, within, part_marks, if_some, section_marks, entry_marks, part_fits, section_fits}
 use Rattle.law_format.proofs.Stops.{Stopping}
 use Rattle.law_format.proofs.Combined.{failed, err_is, ok_no_err}
-use Rattle.law_format.proofs.Breaks.{flat-append, then_room, room-append, Wrong, Behind, Why, Break, break_at, break_into, why_into}
-use Rattle.law_format.proofs.Contents.{Kept, Content, Whole, plain_marks, plain_fits, plain_is, plain_res, plain_content, sized_real, sized_free, sized_fits, sized_is, sized_res, sized_content}
+use Rattle.law_format.proofs.Breaks.{flat-append, Wrong, Behind, Why, Break, break_at, break_into}
+use Rattle.law_format.proofs.Contents.{Kept, Content, Whole, plain_content, sized_content}
 
 abbrev pub Ends : Type 0
 Ends = Result (Unit {0}) WFault

@@ -1,39 +1,24 @@
 -- Where the reading of modules stops.
-use Rattle.std.proofs.Common.{◌≡◌, ◌⊎◌, ℕ, zero, suc, ◌+◌, ◌^◌, ◌<◌, ◌≤◌, Bool, true, false, cond, eqb, ltb, ◌&&◌, List, [], ◌∷◌, ◌++◌, length, Option, Some, None, Result, Ok, Err, refl, sym, ap, subst, ◌∙◌, append_assoc, append-nil, arith, inl, inr}
+use Rattle.std.proofs.Common.{◌≡◌, ℕ, suc, ◌^◌, ◌<◌, true, false, cond, eqb, List, [], ◌∷◌, ◌++◌, length, Ok, Err, refl, sym, ap, ◌∙◌, append-nil, arith, inl, inr}
 use Rattle.std.specs.List.{list_all}
-use Rattle.std.proofs.lemmas.Bool.{cases_Bool, eqb-true, eq-eqb, ltb-true, and_parts, and_from}
+use Rattle.std.proofs.lemmas.Bool.{cases_Bool, eqb-true, and_parts, and_from}
 use Rattle.wasm_tree.specs.declared.fault.WFault.{WFault}
 use Rattle.wasm_tree.specs.declared.fault.WFault.TheVariants.{Malformed, OutsideProfile}
-use Rattle.wasm_tree.specs.declared.kinds.FuncType.{FuncType}
-use Rattle.wasm_tree.specs.declared.kinds.TableType.{TableType}
-use Rattle.wasm_tree.specs.declared.kinds.MemoryType.{MemoryType}
-use Rattle.wasm_tree.specs.declared.module.Import.{Import}
-use Rattle.wasm_tree.specs.declared.module.Global.{Global}
-use Rattle.wasm_tree.specs.declared.module.Export.{Export}
-use Rattle.wasm_tree.specs.declared.module.Element.{Element}
 use Rattle.wasm_tree.specs.declared.module.Body.{Body}
-use Rattle.wasm_tree.specs.declared.module.Data.{Data}
 use Rattle.wasm_tree.specs.declared.module.Function.{Function}
-use Rattle.wasm_tree.specs.Format.{Format, Reading, ◌>>=◌, skip}
+use Rattle.wasm_tree.specs.Format.{Reading, ◌>>=◌}
 use Rattle.wasm_code.specs.Number.{unsigned}
-use Rattle.wasm_code.specs.Parts.{entries, section}
-use Rattle.wasm_binary.specs.Binary.{header, skip_all, func_type, table_type, memory_type, import, global, export, element, data_segment, code_content, code_section, at_end, module_at}
-use Rattle.wasm_code.proofs.Laws.{IsBytes, IsBytes-tail, Law}
-use Rattle.wasm_code.proofs.LawsNumber.{unsigned_law}
-use Rattle.wasm_code.proofs.LawsParts.{Past, Past-less}
-use Rattle.wasm_binary.proofs.LawsKinds.{func_type_law, table_type_law, memory_type_law}
-use Rattle.wasm_binary.proofs.LawsBinary.{import_law, global_law, export_law, element_law, data_segment_law}
-use Rattle.law_format.specs.Places.{Place, SectionNumber, OtherByte, fault_at, Cell, plain, func_type_cells, import_cells, global_cells, element_cells, data_cells}
-use Rattle.law_format.specs.Layouts.{Sized, Mark, Byte, Opens, Closes, Last, flat, room, part_marks, if_some, section_marks, entry_marks, bodies_marks, part_fits, section_fits, body_fits}
-use Rattle.law_format.proofs.Combined.{failed, err_is, ok_no_err}
-use Rattle.law_format.proofs.Widths.{unsigned_stops}
-use Rattle.law_format.proofs.Entries.{entries_stops, func_type_stops, table_type_stops, memory_type_stops, import_stops, export_stops}
-use Rattle.law_format.proofs.LocalGroups.{global_stops, element_stops, data_stops}
+use Rattle.wasm_binary.specs.Binary.{code_content, code_section}
+use Rattle.wasm_code.proofs.Laws.{IsBytes, IsBytes-tail}
+use Rattle.wasm_code.proofs.LawsParts.{Past}
+use Rattle.law_format.specs.Places.{SectionNumber}
+use Rattle.law_format.specs.Layouts.{Sized, Mark, Byte, flat, part_marks, if_some, section_marks, bodies_marks, part_fits, body_fits}
+use Rattle.law_format.proofs.Combined.{failed, err_is}
 use Rattle.law_format.proofs.Breaks.{flat-append, Break, break_at, break_into}
 use Rattle.law_format.proofs.Contents.{Kept, Content}
 use Rattle.law_format.proofs.Bodies.{bodies_ok, counted_free, code_content_is}
-use Rattle.law_format.proofs.Chains.{Ends, Chain, end_marks, always, end_chain, skip_chain, Good, real_section, free_section, section_chain, section_is_past}
-use Rattle.law_format.proofs.Spellings.{entries_whole, unsigned_spelling, func_type_spelling, import_spelling, table_type_spelling, memory_type_spelling, global_spelling, export_spelling, element_spelling, data_spelling, body_whole}
+use Rattle.law_format.proofs.Chains.{Ends, Chain}
+use Rattle.law_format.proofs.Spellings.{body_whole}
 
 -- ---- the code section, and what is behind it
 

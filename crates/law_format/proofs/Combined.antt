@@ -1,16 +1,15 @@
 -- Where readings of formats stop that are put together.
-use Rattle.std.proofs.Common.{◌≡◌, ℕ, zero, suc, ◌^◌, ◌<◌, Bool, true, false, cond, eqb, ltb, ◌&&◌, List, [], ◌∷◌, ◌++◌, length, map, replicate, Result, Ok, Err, refl, sym, ap, subst, ◌∙◌, append_assoc, append-nil, arith, inl, inr}
+use Rattle.std.proofs.Common.{◌≡◌, ℕ, zero, suc, true, eqb, ◌&&◌, List, [], ◌∷◌, ◌++◌, length, Result, Ok, Err, refl, sym, ap, subst, ◌∙◌, append_assoc, append-nil, inl, inr}
 use Rattle.std.specs.List.{flat_map, list_all}
 use Rattle.std.proofs.lemmas.Bool.{eqb-true, eq-eqb, and_parts, and_from, cases_Bool}
 use Rattle.wasm_tree.specs.declared.fault.WFault.{WFault}
-use Rattle.wasm_tree.specs.declared.fault.WFault.TheVariants.{Malformed, OutsideProfile}
+use Rattle.wasm_tree.specs.declared.fault.WFault.TheVariants.{Malformed}
 use Rattle.wasm_tree.specs.Format.{Format, Reading, ◌>>=◌, skip}
-use Rattle.wasm_code.specs.Number.{unsigned}
-use Rattle.wasm_code.specs.Parts.{◌▸◌, ◌◂◌, ◌·◌, as_value, many, vector}
-use Rattle.wasm_code.proofs.Laws.{IsBytes, IsBytes-tail, IsBytes-after, Taken, Law, bind_ok, read_is}
-use Rattle.wasm_code.proofs.LawsParts.{skip_ok, skip_same, before_law, behind_law, then_law, seen_law, vector_law}
-use Rattle.law_format.specs.Places.{Place, OtherByte, fault_at, Cell, bytes_of, all_at, others, vector_cells}
-use Rattle.law_format.proofs.Stops.{bytes-append, bytes-all, How, Stop, stop_at, Front, front_at, Takes, Stops, Stopping, takes_from, into}
+use Rattle.wasm_code.specs.Parts.{◌▸◌, ◌◂◌, ◌·◌, as_value, many}
+use Rattle.wasm_code.proofs.Laws.{IsBytes, IsBytes-tail, IsBytes-after, Law, bind_ok, read_is}
+use Rattle.wasm_code.proofs.LawsParts.{skip_ok, skip_same}
+use Rattle.law_format.specs.Places.{OtherByte, Cell, bytes_of}
+use Rattle.law_format.proofs.Stops.{bytes-append, Stop, stop_at, Front, front_at, Takes, Stops, Stopping, takes_from, into}
 
 abbrev pub failed : {A : Type 0} → WFault → Result A WFault
 failed f = Err f

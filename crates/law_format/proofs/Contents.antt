@@ -1,20 +1,20 @@
 -- Where readings stop of parts behind their sizes, and of several of them.
-use Rattle.std.proofs.Common.{◌≡◌, ◌⊎◌, ℕ, zero, suc, ◌+◌, ◌-◌, ◌<◌, ◌≤◌, Bool, true, false, cond, eqb, leb, ◌&&◌, List, [], ◌∷◌, ◌++◌, length, map, take, drop, Option, Some, None, Result, Ok, Err, refl, sym, ap, subst, ◌∙◌, append_assoc, append-nil, arith, inl, inr}
-use Rattle.std.proofs.lemmas.Bool.{cases_lt, cases_Bool, eqb-true, leb-true, eq-eqb, ne_eqb, lt-leb, le-leb, and_parts}
+use Rattle.std.proofs.Common.{◌≡◌, ◌⊎◌, ℕ, zero, suc, ◌+◌, ◌-◌, ◌<◌, ◌≤◌, true, eqb, leb, ◌&&◌, List, [], ◌∷◌, ◌++◌, length, take, drop, Option, Some, Result, Ok, Err, refl, sym, ap, subst, ◌∙◌, append_assoc, append-nil, arith, inl, inr}
+use Rattle.std.proofs.lemmas.Bool.{cases_lt, eqb-true, leb-true, eq-eqb, ne_eqb, lt-leb, le-leb, and_parts}
 use Rattle.std.proofs.lemmas.List.{length-append, take-append-drop, nil_from_length, length-take-le}
 use Rattle.wasm_tree.specs.declared.fault.WFault.{WFault}
 use Rattle.wasm_tree.specs.declared.fault.WFault.TheVariants.{Malformed}
 use Rattle.wasm_tree.specs.Format.{Format, Reading, ◌>>=◌}
 use Rattle.wasm_code.specs.Number.{unsigned}
 use Rattle.wasm_code.specs.Parts.{close_part}
-use Rattle.wasm_code.proofs.Laws.{IsBytes, IsBytes-take, IsBytes-drop, IsBytes-after, bind_ok, guard_ok, ok_is, read_is}
+use Rattle.wasm_code.proofs.Laws.{IsBytes, IsBytes-take, IsBytes-drop, bind_ok, guard_ok, ok_is, read_is}
 use Rattle.wasm_code.proofs.LawsNumber.{unsigned_law}
 use Rattle.law_format.specs.Places.{OtherByte, Cell, bytes_of, plain}
-use Rattle.law_format.specs.Layouts.{Sized, Mark, Byte, Opens, Closes, Last, marked, flat, room, within, part_marks}
+use Rattle.law_format.specs.Layouts.{Sized, Mark, Byte, Opens, Closes, marked, flat, room, part_marks}
 use Rattle.law_format.proofs.Stops.{bytes-all, How, Stop, Front, Stopping}
 use Rattle.law_format.proofs.Combined.{IsBytes-joined, failed, err_is, ok_no_err, bind_err}
 use Rattle.law_format.proofs.Widths.{unsigned_stops}
-use Rattle.law_format.proofs.Breaks.{flat-append, flat-marked, marked-append, then_room, room-append, room_free, room_under, Wrong, TooLarge, Why, Break, break_at, break_into, kept_opened, opened_front, break_within}
+use Rattle.law_format.proofs.Breaks.{flat-append, flat-marked, marked-append, then_room, room-append, room_free, room_under, Wrong, TooLarge, Break, break_at, break_into, opened_front, break_within}
 
 -- what was taken, whatever follows, with each stated size kept
 pub record Kept {X L F : Type 0} (m : L → List Mark) (ok : L → Type 0) (is : X → L → Type 0) (free : List ℕ → Reading F) (res : L → F) (bytes : List ℕ) (x : X) (rest : List ℕ) : Type 0 where

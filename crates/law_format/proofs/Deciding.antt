@@ -1,20 +1,19 @@
 -- The first fault of bytes that encode no module.
-use Rattle.std.proofs.Common.{◌≡◌, ℕ, zero, suc, ◌<◌, ◌^◌, Bool, true, false, ◌&&◌, List, [], ◌∷◌, ◌++◌, length, Some, Result, Ok, Err, refl, sym, ap, subst, ◌∙◌, arith}
+use Rattle.std.proofs.Common.{◌≡◌, ℕ, zero, suc, ◌<◌, true, List, [], ◌∷◌, ◌++◌, length, Result, Ok, Err, refl, sym, ap, subst, ◌∙◌, arith}
 use Rattle.std.specs.List.{flat_map, list_all}
-use Rattle.std.proofs.lemmas.Bool.{and_parts, and_from}
+use Rattle.std.proofs.lemmas.Bool.{and_parts}
 use Rattle.wasm_tree.specs.declared.fault.WFault.{WFault}
-use Rattle.wasm_tree.specs.declared.fault.WFault.TheVariants.{Malformed}
 use Rattle.wasm_tree.specs.declared.module.Body.{Body}
 use Rattle.wasm_tree.specs.Format.{Format}
 use Rattle.wasm_code.specs.Number.{unsigned}
 use Rattle.wasm_code.specs.Parts.{entries}
-use Rattle.wasm_binary.specs.Binary.{header, func_type, table_type, memory_type, import, global, export, element, data_segment, module_at}
+use Rattle.wasm_binary.specs.Binary.{header, func_type, table_type, memory_type, import, global, export, element, data_segment}
 use Rattle.wasm_code.proofs.Laws.{IsBytes}
-use Rattle.law_format.specs.Places.{Place, SectionNumber, fault_at, Cell, bytes_of, others, plain, vector_cells, func_type_cells, import_cells, global_cells, element_cells, data_cells}
-use Rattle.law_format.specs.Layouts.{Sized, Mark, Byte, Opens, Closes, Last, marked, flat, room, within, part_marks, if_some, section_marks, entry_marks, body_cells, bodies_marks, Layout, layout_marks, Fits, part_fits, section_fits, body_content, body_fits}
-use Rattle.law_format.specs.FirstFault.{Begins, CannotStand, Decides, Missing, Misplaced, Behind, Left, FirstFault, FirstFaultDecides}
+use Rattle.law_format.specs.Places.{Cell, bytes_of, others, plain, vector_cells, func_type_cells, import_cells, global_cells, element_cells, data_cells}
+use Rattle.law_format.specs.Layouts.{Sized, Mark, Byte, Opens, Closes, Last, marked, flat, within, part_marks, section_marks, entry_marks, body_cells, bodies_marks, Layout, layout_marks, Fits, part_fits, body_content, body_fits}
+use Rattle.law_format.specs.FirstFault.{CannotStand, Decides, Missing, Misplaced, Behind, Left, FirstFaultDecides}
 use Rattle.law_format.proofs.Combined.{ok_no_err}
-use Rattle.law_format.proofs.Breaks.{flat-append, flat-marked, Why, Break}
+use Rattle.law_format.proofs.Breaks.{flat-append, flat-marked, Why}
 use Rattle.law_format.proofs.Spelled.{no_bytes, more_bytes, both_bytes, unsigned_bytes}
 use Rattle.law_format.proofs.Spellings.{fit_bytes, Spelling, cells_bytes, entries_spelling, unsigned_spelling, func_type_spelling, import_spelling, table_type_spelling, memory_type_spelling, global_spelling, export_spelling, element_spelling, data_spelling, body_spelling}
 use Rattle.law_format.proofs.Modules.{Y1, m1, m2, m3, m4, m5, m6, m7, m9, m10, m11, ok1, ok2, ok3, ok4, ok5, ok6, ok7, ok9, ok10, ok11, free1, skipping, module_chain, module_break}

@@ -1,35 +1,26 @@
 -- Where readings of types stop, of vectors, and of what is imported and exported.
-use Rattle.std.proofs.Common.{◌≡◌, ◌⊎◌, ℕ, zero, suc, ◌+◌, ◌*◌, ◌-◌, ◌^◌, ◌<◌, ◌≤◌, Bool, true, false, cond, eqb, leb, ltb, ◌&&◌, List, [], ◌∷◌, ◌++◌, length, Option, Some, None, Result, Ok, Err, refl, sym, ap, subst, ◌∙◌, append_assoc, append-nil, arith, inl, inr}
+use Rattle.std.proofs.Common.{◌≡◌, ℕ, zero, suc, ◌+◌, ◌*◌, ◌-◌, ◌^◌, ◌<◌, ◌≤◌, Bool, true, eqb, leb, ltb, ◌&&◌, List, [], ◌∷◌, ◌++◌, length, Some, None, Ok, Err, refl, sym, ap, subst, ◌∙◌, arith, inl, inr}
 use Rattle.std.specs.List.{flat_map, list_all}
-use Rattle.std.proofs.lemmas.Bool.{eqb-true, eq-eqb, cases_Bool, cases_lt, lt-ltb, le-ltb, ltb-true, le-leb, leb-true, and_parts, and_from}
-use Rattle.wasm_tree.specs.declared.fault.WFault.{WFault}
-use Rattle.wasm_tree.specs.declared.fault.WFault.TheVariants.{Malformed, OutsideProfile}
-use Rattle.wasm_tree.specs.declared.kinds.ValueType.{ValueType}
+use Rattle.std.proofs.lemmas.Bool.{eqb-true, cases_lt, lt-ltb, le-ltb, ltb-true, le-leb, leb-true, and_parts, and_from}
+use Rattle.wasm_tree.specs.declared.fault.WFault.TheVariants.{Malformed}
 use Rattle.wasm_tree.specs.declared.kinds.ValueType.TheVariants.{I32, I64}
-use Rattle.wasm_tree.specs.declared.kinds.FuncType.{FuncType}
 use Rattle.wasm_tree.specs.declared.kinds.Limits.{Limits}
-use Rattle.wasm_tree.specs.declared.kinds.TableType.{TableType}
-use Rattle.wasm_tree.specs.declared.kinds.MemoryType.{MemoryType}
-use Rattle.wasm_tree.specs.declared.module.ImportKind.{ImportKind}
 use Rattle.wasm_tree.specs.declared.module.ImportKind.TheVariants as imported
-use Rattle.wasm_tree.specs.declared.module.Import.{Import}
-use Rattle.wasm_tree.specs.declared.module.ExportKind.{ExportKind}
 use Rattle.wasm_tree.specs.declared.module.ExportKind.TheVariants as exported
-use Rattle.wasm_tree.specs.declared.module.Export.{Export}
 use Rattle.wasm_tree.specs.Format.{Format, Reading, ◌>>=◌, skip}
 use Rattle.wasm_code.specs.Number.{groups_at, join_groups, unsigned}
-use Rattle.wasm_code.specs.Parts.{◌▸◌, ◌◂◌, ◌·◌, as_value, many, vector, positive, entries, name}
+use Rattle.wasm_code.specs.Parts.{◌▸◌, ◌◂◌, ◌·◌, many, vector, positive, entries, name}
 use Rattle.wasm_code.specs.Instructions.{value_type, block_type}
 use Rattle.wasm_binary.specs.Binary.{func_type, limits, table_type, memory_type, import_kind, import, export_kind, export}
-use Rattle.wasm_code.proofs.Laws.{IsBytes, bind_ok, guard_ok, read_is}
+use Rattle.wasm_code.proofs.Laws.{bind_ok, guard_ok, read_is}
 use Rattle.wasm_code.proofs.LawsTagged.{read_as}
-use Rattle.law_format.specs.Places.{Place, TypeOfValue, OtherByte, Cell, bytes_of, all_at, others, plain, value_type_cells, block_type_cells, vector_cells, func_type_cells, import_kind_cells, import_cells}
-use Rattle.law_format.proofs.Stops.{all-append, Stop, Front, Takes, Stops, Stopping, into}
+use Rattle.law_format.specs.Places.{TypeOfValue, OtherByte, Cell, others, plain, value_type_cells, block_type_cells, vector_cells, func_type_cells, import_kind_cells, import_cells}
+use Rattle.law_format.proofs.Stops.{all-append, Stopping}
 use Rattle.law_format.proofs.Combined.{bind_same, bound_takes, bound_stops, seen, then_stops, value_stops, before_stops, behind_stops, many_of, copies, copies_fit, many_takes, many_stop}
 use Rattle.law_format.proofs.Numbers.{in_range, ranged}
 use Rattle.law_format.proofs.Widths.{unsigned_stops, between, between_stops}
 use Rattle.law_format.proofs.Names.{name_stops}
-use Rattle.law_format.proofs.Tagged.{tag_is, nothing, nothing_stops, Start, At, at_same, no_tag, tags, tag, tag_start}
+use Rattle.law_format.proofs.Tagged.{tag_is, nothing, nothing_stops, Start, At, at_same, no_tag, tags, tag}
 
 -- ---- value types
 

@@ -1,17 +1,13 @@
 -- Where readings of locals stop, of bodies, and of the entries with code inside.
-use Rattle.std.proofs.Common.{◌≡◌, ◌⊎◌, ℕ, zero, suc, ◌+◌, ◌-◌, ◌^◌, ◌<◌, ◌≤◌, Bool, true, false, cond, leb, ltb, eqb, ◌&&◌, List, [], ◌∷◌, ◌++◌, length, Result, Ok, Err, refl, sym, ap, subst, ◌∙◌, append_assoc, arith, inl, inr}
+use Rattle.std.proofs.Common.{◌≡◌, ℕ, zero, suc, ◌+◌, ◌-◌, ◌^◌, ◌<◌, true, cond, leb, ltb, eqb, ◌&&◌, List, [], ◌∷◌, ◌++◌, length, Ok, Err, refl, ap, ◌∙◌, append_assoc, arith, inl, inr}
 use Rattle.std.specs.List.{flat_map}
 use Rattle.std.proofs.lemmas.Bool.{cases_lt, lt-ltb, le-ltb, ltb-true, le-leb, eqb-true, eq-eqb, and_parts, and_from}
 use Rattle.std.proofs.lemmas.List.Sums.{sum_by-cons}
 use Rattle.wasm_tree.specs.declared.fault.WFault.TheVariants.{Malformed}
 use Rattle.wasm_tree.specs.declared.kinds.ValueType.{ValueType}
 use Rattle.wasm_tree.specs.declared.kinds.ValueType.TheVariants.{I32}
-use Rattle.wasm_tree.specs.declared.instr.Instr.{Instr}
 use Rattle.wasm_tree.specs.declared.module.Locals.{Locals}
 use Rattle.wasm_tree.specs.declared.module.Body.{Body}
-use Rattle.wasm_tree.specs.declared.module.Global.{Global}
-use Rattle.wasm_tree.specs.declared.module.Element.{Element}
-use Rattle.wasm_tree.specs.declared.module.Data.{Data}
 use Rattle.wasm_tree.specs.Format.{Format, Reading, ◌>>=◌}
 use Rattle.wasm_code.specs.Number.{unsigned}
 use Rattle.wasm_code.specs.Parts.{◌◂◌, ◌·◌, as_value, vector, with_size, bytes_left}
@@ -19,13 +15,13 @@ use Rattle.wasm_code.specs.Instructions.{value_type, code}
 use Rattle.wasm_binary.specs.Binary.{global, element, data_segment, locals_at, locals_encoding, local_count, locals}
 use Rattle.wasm_code.proofs.Laws.{read_is}
 use Rattle.wasm_code.proofs.LawsTagged.{value_type_fits}
-use Rattle.law_format.specs.Places.{OtherByte, Cell, plain, value_type_cells, vector_cells, code_cells, global_cells, element_cells, data_cells, group_cells, locals_cells}
-use Rattle.law_format.proofs.Stops.{Front, front_at, Takes, Stops, Stopping}
-use Rattle.law_format.proofs.Combined.{ok_no_err, bind_same, bound_takes, bound_stops, then_stops, value_stops, behind_stops, seen}
+use Rattle.law_format.specs.Places.{OtherByte, Cell, plain, value_type_cells, code_cells, global_cells, element_cells, data_cells, group_cells, locals_cells}
+use Rattle.law_format.proofs.Stops.{front_at, Stopping}
+use Rattle.law_format.proofs.Combined.{ok_no_err, bind_same, bound_takes, bound_stops, then_stops, value_stops, behind_stops}
 use Rattle.law_format.proofs.Numbers.{in_range, ranged}
 use Rattle.law_format.proofs.Widths.{unsigned_stops, between, between_stops}
 use Rattle.law_format.proofs.Names.{bytes_stops}
-use Rattle.law_format.proofs.Entries.{value_type_stops, vector_stops, plain_entries}
+use Rattle.law_format.proofs.Entries.{value_type_stops}
 use Rattle.law_format.proofs.Plain.{plain_vector}
 use Rattle.law_format.proofs.Nested.{code_stops}
 

@@ -1,19 +1,19 @@
 -- Where readings of texts stop that state how many bytes they have.
-use Rattle.std.proofs.Common.{◌≡◌, ◌⊎◌, ℕ, zero, suc, ◌+◌, ◌-◌, ◌^◌, ◌<◌, ◌≤◌, Bool, true, false, cond, leb, ltb, eqb, ◌&&◌, ◌||◌, List, [], ◌∷◌, ◌++◌, length, get_or, take, drop, Ok, Err, refl, sym, ap, subst, ◌∙◌, append_assoc, append-nil, arith, inl, inr, IsAscii, IsUtf8, take_all}
+use Rattle.std.proofs.Common.{◌≡◌, ℕ, zero, suc, ◌+◌, ◌^◌, ◌<◌, ◌≤◌, Bool, true, false, cond, ltb, eqb, ◌&&◌, ◌||◌, List, [], ◌∷◌, ◌++◌, length, get_or, take, drop, Ok, Err, refl, sym, ap, subst, ◌∙◌, append_assoc, append-nil, arith, inl, inr}
 use Rattle.std.specs.List.{list_all}
 use Rattle.std.specs.Str.{is_utf8}
-use Rattle.std.proofs.lemmas.Bool.{cases_lt, cases_Bool, lt-ltb, le-ltb, ltb-true, ltb-false, le-leb, lt-leb, leb-true, eqb-true, eq-eqb, and_parts, and_from}
-use Rattle.std.proofs.lemmas.List.{length-append, take_at, drop_at, take-append-drop, length-take-le}
+use Rattle.std.proofs.lemmas.Bool.{cases_lt, cases_Bool, lt-ltb, ltb-true, le-leb, lt-leb, eqb-true, eq-eqb, and_parts, and_from}
+use Rattle.std.proofs.lemmas.List.{length-append, take_at, length-take-le}
 use Rattle.std.proofs.lemmas.Str.{is_utf8-from_IsUtf8, IsUtf8-from_ascii}
 use Rattle.wasm_tree.specs.declared.fault.WFault.{WFault}
 use Rattle.wasm_tree.specs.declared.fault.WFault.TheVariants.{Malformed}
 use Rattle.wasm_tree.specs.Format.{Format, Reading, ◌>>=◌}
 use Rattle.wasm_code.specs.Number.{unsigned}
 use Rattle.wasm_code.specs.Parts.{that, close_part, with_size, bytes_left, name}
-use Rattle.wasm_code.proofs.Laws.{IsBytes, IsBytes-tail, IsBytes-take, IsBytes-after, Law}
-use Rattle.wasm_code.proofs.LawsParts.{that_law, sized_law, bytes_left_law, name_law, are_bytes}
-use Rattle.law_format.specs.Places.{OtherByte, Cell, bytes_of, others, plain}
-use Rattle.law_format.proofs.Stops.{bytes-append, bytes-all, all-append, How, Stop, stop_at, Stopping, takes_from, into}
+use Rattle.wasm_code.proofs.Laws.{IsBytes, IsBytes-tail, IsBytes-take, IsBytes-after}
+use Rattle.wasm_code.proofs.LawsParts.{that_law, sized_law, bytes_left_law, are_bytes}
+use Rattle.law_format.specs.Places.{OtherByte, others, plain}
+use Rattle.law_format.proofs.Stops.{bytes-all, all-append, How, Stop, stop_at, Stopping, takes_from}
 use Rattle.law_format.proofs.Combined.{err_is, ok_no_err, bind_same, bound_stops, seen}
 use Rattle.law_format.proofs.Widths.{unsigned_stops}
 

@@ -1,9 +1,8 @@
 -- Where readings of code stop, with blocks at every depth.
-use Rattle.std.proofs.Common.{◌≡◌, ◌⊎◌, ℕ, zero, suc, Bool, true, false, cond, eqb, ◌&&◌, List, [], ◌∷◌, ◌++◌, Option, Some, None, Result, Ok, Err, refl, sym, ap, subst, ◌∙◌, append_assoc, append-nil, inl, inr}
+use Rattle.std.proofs.Common.{◌≡◌, ℕ, zero, suc, Bool, true, false, ◌&&◌, List, [], ◌∷◌, ◌++◌, Option, Some, None, Ok, Err, refl, sym, ap, ◌∙◌, append_assoc, append-nil, inl, inr}
 use Rattle.std.specs.List.{flat_map}
-use Rattle.std.proofs.lemmas.Bool.{cases_Bool, and_parts, and_from}
-use Rattle.wasm_tree.specs.declared.fault.WFault.{WFault}
-use Rattle.wasm_tree.specs.declared.fault.WFault.TheVariants.{Malformed, OutsideProfile}
+use Rattle.std.proofs.lemmas.Bool.{and_parts, and_from}
+use Rattle.wasm_tree.specs.declared.fault.WFault.TheVariants.{OutsideProfile}
 use Rattle.wasm_tree.specs.declared.kinds.ValueType.{ValueType}
 use Rattle.wasm_tree.specs.declared.instr.Instr.{Instr}
 use Rattle.wasm_tree.specs.declared.instr.Instr.TheVariants.{Block, Loop, If}
@@ -16,9 +15,9 @@ use Rattle.wasm_code.proofs.Laws.{read_is}
 use Rattle.wasm_code.proofs.LawsTagged.{read_as}
 use Rattle.wasm_code.proofs.Fitting.{all_fit, fits-Block, fits-Loop, fits-If-None, fits-If-Some}
 use Rattle.law_format.specs.Places.{Opcode, Cell, block_type_cells, opcode, instr_cells, code_cells}
-use Rattle.law_format.proofs.Stops.{Stop, Front, front_at, Takes, Stops, Stopping}
+use Rattle.law_format.proofs.Stops.{front_at, Takes, Stops, Stopping}
 use Rattle.law_format.proofs.Combined.{ok_no_err, bound_takes, bound_stops, then_stops, seen}
-use Rattle.law_format.proofs.Tagged.{nothing, nothing_stops, Start, At, no_tag, tag}
+use Rattle.law_format.proofs.Tagged.{nothing, nothing_stops, At, no_tag, tag}
 use Rattle.law_format.proofs.Entries.{block_type_stops}
 use Rattle.law_format.proofs.Celled.{celled-Block, celled-Loop, celled-If-None, celled-If-Some}
 use Rattle.law_format.proofs.Plain.{Item, ending_byte, item_cells, ends, with_instr, item, start, items}

@@ -1,14 +1,13 @@
 -- Where readings of numbers stop: at the first byte behind which no number of the range can come.
-use Rattle.std.proofs.Common.{◌≡◌, ℕ, zero, suc, ◌+◌, ◌-◌, ◌*◌, ◌/◌, ◌%◌, ◌^◌, ◌<◌, ◌≤◌, max, Bool, true, false, cond, leb, ltb, ◌&&◌, List, [], ◌∷◌, ◌++◌, Ok, Err, refl, sym, ap, subst, ◌∙◌, append-nil, arith, inl, inr}
-use Rattle.std.proofs.lemmas.Bool.{cases_lt, cases_Bool, lt-ltb, le-ltb, ltb-true, ltb-false, le-leb, lt-leb, leb-true, and_parts, and_from}
+use Rattle.std.proofs.Common.{◌≡◌, ℕ, zero, suc, ◌+◌, ◌-◌, ◌*◌, ◌/◌, ◌%◌, ◌^◌, ◌<◌, ◌≤◌, max, Bool, true, cond, leb, ltb, ◌&&◌, List, [], ◌∷◌, Ok, Err, refl, sym, ap, ◌∙◌, append-nil, arith, inl, inr}
+use Rattle.std.proofs.lemmas.Bool.{cases_lt, cases_Bool, lt-ltb, le-ltb, ltb-true, le-leb, lt-leb, leb-true, and_parts, and_from}
 use Rattle.wasm_tree.specs.declared.fault.WFault.{WFault}
 use Rattle.wasm_tree.specs.declared.fault.WFault.TheVariants.{Malformed}
 use Rattle.wasm_tree.specs.Format.{Format, Reading, ◌>>=◌}
-use Rattle.wasm_code.specs.Number.{groups, join_groups, groups_at, unsigned}
-use Rattle.wasm_code.proofs.Laws.{IsBytes, IsBytes-tail, IsBytes-after, Law, bind_ok, guard_ok, read_is}
-use Rattle.wasm_code.proofs.LawsNumber.{groups_take, groups_again, unsigned_law}
-use Rattle.law_format.specs.Places.{Place, OtherByte, fault_at, Cell, bytes_of, others}
-use Rattle.law_format.proofs.Stops.{bytes-all, How, Stop, Stopping, into}
+use Rattle.wasm_code.specs.Number.{groups, join_groups, groups_at}
+use Rattle.wasm_code.proofs.Laws.{IsBytes, IsBytes-tail}
+use Rattle.law_format.specs.Places.{OtherByte, Cell, others}
+use Rattle.law_format.proofs.Stops.{Stop, into}
 use Rattle.law_format.proofs.Combined.{err_is, bind_err}
 
 -- ---- numbers of a range

@@ -1,5 +1,5 @@
 -- Where readings of instructions stop that hold no others.
-use Rattle.std.proofs.Common.{◌≡◌, ◌⊎◌, ℕ, Bool, true, false, cond, eqb, ◌&&◌, List, [], ◌∷◌, ◌++◌, Option, Some, None, Result, Ok, Err, refl, sym, ap, subst, ◌∙◌, inl, inr}
+use Rattle.std.proofs.Common.{◌≡◌, ◌⊎◌, ℕ, Bool, true, false, cond, eqb, List, [], ◌∷◌, ◌++◌, Option, Some, None, Result, Ok, Err, refl, sym, ap, ◌∙◌, inl, inr}
 use Rattle.std.proofs.lemmas.Bool.{eqb-true, cases_Bool}
 use Rattle.wasm_tree.specs.declared.fault.WFault.{WFault}
 use Rattle.wasm_tree.specs.declared.fault.WFault.TheVariants.{OutsideProfile}
@@ -19,7 +19,7 @@ use Rattle.wasm_code.specs.declared.code.Ending.TheVariants.{End, Else}
 use Rattle.wasm_code.specs.Number.{unsigned, signed32, signed64}
 use Rattle.wasm_code.specs.Opcode.{find_opcode, tests, calculations, loads as all_loads, widths, numeric_opcode, load_opcode, store_opcode, numeric_of, load_of, store_of}
 use Rattle.wasm_code.specs.Parts.{◌◂◌, ◌·◌, vector}
-use Rattle.wasm_code.specs.Instructions.{instr_fits, memory_of, variable_of, plain_of, opens, ending_of, instr_of, nested_instruction, no_offset}
+use Rattle.wasm_code.specs.Instructions.{instr_fits, memory_of, variable_of, plain_of, ending_of, instr_of, nested_instruction, no_offset}
 use Rattle.wasm_code.proofs.LawsTagged.{read_as}
 use Rattle.wasm_code.proofs.Fitting.{fits-Unreachable, fits-Br, fits-BrIf, fits-BrTable, fits-Return, fits-Call, fits-CallIndirect, fits-Drop, fits-LocalGet, fits-LocalSet, fits-LocalTee, fits-GlobalGet, fits-Load, fits-Store, fits-I32Const, fits-I64Const, fits-Numeric}
 use Rattle.law_format.specs.Places.{Opcode, OtherByte, Cell, bytes_of, others, plain, vector_cells, opcode, instr_cells}

@@ -1,5 +1,5 @@
 -- Where readings of sequences of instructions stop.
-use Rattle.std.proofs.Common.{◌≡◌, ◌⊎◌, ℕ, zero, suc, ◌+◌, ◌<◌, ◌≤◌, Bool, true, false, cond, eqb, ◌&&◌, List, [], ◌∷◌, ◌++◌, length, map, Option, Some, None, Result, Ok, Err, refl, sym, ap, subst, ◌∙◌, append_assoc, arith, inl, inr}
+use Rattle.std.proofs.Common.{◌≡◌, ℕ, zero, suc, ◌+◌, ◌<◌, ◌≤◌, Bool, true, false, cond, ◌&&◌, List, [], ◌∷◌, ◌++◌, length, Option, Some, None, Ok, Err, refl, sym, ap, subst, ◌∙◌, append_assoc, arith, inl, inr}
 use Rattle.std.specs.List.{flat_map}
 use Rattle.std.proofs.lemmas.Bool.{cases_Bool, and_parts, and_from}
 use Rattle.std.proofs.lemmas.List.{length-append}
@@ -7,15 +7,15 @@ use Rattle.wasm_tree.specs.declared.fault.WFault.{WFault}
 use Rattle.wasm_tree.specs.declared.fault.WFault.TheVariants.{Malformed, OutsideProfile}
 use Rattle.wasm_tree.specs.declared.instr.Instr.{Instr, Instr-F, out-Instr, map-Instr, fold_out-Instr}
 use Rattle.wasm_tree.specs.declared.instr.Instr.TheOpen as layer
-use Rattle.wasm_tree.specs.Format.{Format, Reading, ◌>>=◌, byte_at}
+use Rattle.wasm_tree.specs.Format.{Format, Reading, ◌>>=◌}
 use Rattle.wasm_code.specs.declared.code.Ending.{Ending}
 use Rattle.wasm_code.specs.declared.code.Ending.TheVariants.{End, Else}
-use Rattle.wasm_code.specs.Instructions.{encoding_step, instr_encoding, instr_fits, ending_of, Sequence, instr_of, sequence, nested_instruction, code_in}
-use Rattle.wasm_code.proofs.Laws.{IsBytes, IsBytes-tail, Taken, read_is}
+use Rattle.wasm_code.specs.Instructions.{encoding_step, instr_encoding, ending_of, Sequence, instr_of, sequence, nested_instruction, code_in}
+use Rattle.wasm_code.proofs.Laws.{IsBytes, IsBytes-tail, read_is}
 use Rattle.wasm_code.proofs.LawsCode.{instr_takes}
 use Rattle.wasm_code.proofs.Fitting.{all_fit}
 use Rattle.law_format.specs.Places.{Opcode, Cell, bytes_of, cells_step, instr_cells}
-use Rattle.law_format.proofs.Stops.{Stop, Front, front_at, Takes, Stops, Stopping}
+use Rattle.law_format.proofs.Stops.{Stop, Front, front_at, Stopping}
 use Rattle.law_format.proofs.Combined.{err_is, ok_no_err, bound_takes_at, bound_stops_at}
 use Rattle.law_format.proofs.Plain.{Item, ending_byte, item_cells, ends, ended, with_instr, item_behind, item_fits, item}
 

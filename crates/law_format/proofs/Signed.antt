@@ -1,14 +1,14 @@
 -- Where readings of signed numbers stop.
-use Rattle.std.proofs.Common.{◌≡◌, ◌≢◌, ◌⊎◌, ℕ, zero, suc, ◌+◌, ◌-◌, ◌*◌, ◌/◌, ◌%◌, ◌^◌, ◌<◌, ◌≤◌, Bool, true, false, cond, not, leb, ltb, eqb, ◌&&◌, List, [], ◌∷◌, ◌++◌, Ok, Err, refl, sym, ap, subst, ◌∙◌, append-nil, arith, inl, inr, pow-suc}
-use Rattle.std.proofs.lemmas.Bool.{cases_lt, cases_Bool, lt-ltb, le-ltb, ltb-true, ltb-false, le-leb, lt-leb, leb-true, eqb-true, eq-eqb, ne_eqb, and_parts, and_from}
+use Rattle.std.proofs.Common.{◌≡◌, ◌≢◌, ◌⊎◌, ℕ, zero, suc, ◌+◌, ◌-◌, ◌*◌, ◌/◌, ◌%◌, ◌^◌, ◌<◌, ◌≤◌, Bool, true, false, cond, not, leb, ltb, eqb, List, [], ◌∷◌, Ok, Err, refl, sym, ap, subst, ◌∙◌, append-nil, arith, inl, inr, pow-suc}
+use Rattle.std.proofs.lemmas.Bool.{cases_lt, cases_Bool, lt-ltb, le-ltb, le-leb, lt-leb, eq-eqb, ne_eqb}
 use Rattle.wasm_tree.specs.declared.fault.WFault.{WFault}
 use Rattle.wasm_tree.specs.declared.fault.WFault.TheVariants.{Malformed}
 use Rattle.wasm_tree.specs.Format.{Format, Reading, ◌>>=◌}
-use Rattle.wasm_code.specs.Number.{shift_group, signed_groups, signed_joined, signed_groups_at, signed32, signed64}
-use Rattle.wasm_code.proofs.Laws.{IsBytes, IsBytes-tail, Law}
-use Rattle.wasm_code.proofs.LawsNumber.{signed_take, signed32_law, signed64_law}
-use Rattle.law_format.specs.Places.{Place, OtherByte, Cell, bytes_of, others}
-use Rattle.law_format.proofs.Stops.{bytes-all, Stop, Stopping, into}
+use Rattle.wasm_code.specs.Number.{shift_group, signed_groups, signed_joined, signed_groups_at}
+use Rattle.wasm_code.proofs.Laws.{IsBytes, IsBytes-tail}
+use Rattle.wasm_code.proofs.LawsNumber.{signed_take}
+use Rattle.law_format.specs.Places.{OtherByte, Cell, others}
+use Rattle.law_format.proofs.Stops.{Stop, into}
 use Rattle.law_format.proofs.Combined.{err_is, bind_err}
 
 -- ---- how the groups of a number are joined, where the greatest number is 256 * q + 255

@@ -1,12 +1,11 @@
 -- The cells of an encoding are its bytes, and these are below 256.
-use Rattle.std.proofs.Common.{◌≡◌, ◌⊎◌, ℕ, zero, suc, ◌+◌, ◌-◌, ◌*◌, ◌/◌, ◌%◌, ◌^◌, ◌<◌, ◌≤◌, Bool, true, false, cond, leb, ltb, eqb, ◌&&◌, List, [], ◌∷◌, ◌++◌, length, map, get_or, Option, Some, None, refl, sym, ap, subst, ◌∙◌, append_assoc, arith, inl, inr}
+use Rattle.std.proofs.Common.{◌≡◌, ℕ, zero, suc, ◌+◌, ◌-◌, ◌/◌, ◌%◌, ◌^◌, ◌<◌, ◌≤◌, Bool, true, false, List, [], ◌∷◌, ◌++◌, length, map, Option, Some, None, refl, sym, ap, subst, ◌∙◌, append_assoc, arith, inl, inr}
 use Rattle.std.specs.List.{concat, flat_map, list_all}
-use Rattle.std.proofs.lemmas.Bool.{cases_lt, lt-ltb, le-ltb, ltb-true, le-leb, lt-leb, and_parts, and_from}
+use Rattle.std.proofs.lemmas.Bool.{cases_lt, lt-ltb, le-ltb, ltb-true, le-leb, lt-leb, and_parts}
 use Rattle.wasm_tree.specs.declared.kinds.ValueType.{ValueType}
 use Rattle.wasm_tree.specs.declared.kinds.ValueType.TheVariants.{I32, I64}
 use Rattle.wasm_tree.specs.declared.instr.Relation.{Relation}
 use Rattle.wasm_tree.specs.declared.instr.Relation.TheVariants as rel
-use Rattle.wasm_tree.specs.declared.instr.Operation.{Operation}
 use Rattle.wasm_tree.specs.declared.instr.Operation.TheVariants as op
 use Rattle.wasm_tree.specs.declared.instr.Numeric as numeric
 use Rattle.wasm_tree.specs.declared.instr.Numeric.TheVariants.{I32Eqz, I32Relation, I64Eqz, I64Relation, I32Add, I64Operation, I32WrapI64, I64ExtendI32S, I64ExtendI32U}
@@ -21,7 +20,7 @@ use Rattle.wasm_code.specs.Opcode.{relation_number, numeric_opcode, load_opcode,
 use Rattle.wasm_code.specs.Parts.{vector}
 use Rattle.wasm_code.specs.Instructions.{value_type, block_type, encoding_step, instr_encoding, fits_step, instr_fits, code}
 use Rattle.wasm_code.proofs.Laws.{IsBytes, IsBytes-tail}
-use Rattle.law_format.specs.Places.{Opcode, TypeOfValue, OtherByte, Cell, bytes_of, all_at, others, block_type_cells, opcode, cells_step, instr_cells, code_cells}
+use Rattle.law_format.specs.Places.{Opcode, TypeOfValue, OtherByte, Cell, bytes_of, block_type_cells, opcode, cells_step, instr_cells, code_cells}
 use Rattle.law_format.proofs.Stops.{bytes-append, bytes-all}
 
 -- ---- bytes

@@ -1,10 +1,8 @@
 -- What fits is read again from its cells, and these are bytes.
-use Rattle.std.proofs.Common.{◌≡◌, ℕ, ◌<◌, Bool, true, false, eqb, ltb, ◌&&◌, List, [], ◌∷◌, ◌++◌, length, Option, Some, None, Ok, refl, sym, ap, subst, ◌∙◌, append_assoc, arith}
+use Rattle.std.proofs.Common.{◌≡◌, ℕ, ◌<◌, true, ltb, List, [], ◌∷◌, ◌++◌, length, Option, Some, None, refl, sym, ap, subst, ◌∙◌, arith}
 use Rattle.std.specs.List.{flat_map, list_all}
 use Rattle.std.specs.Str.{is_utf8}
-use Rattle.std.proofs.lemmas.Bool.{ltb-true, and_parts, and_from}
-use Rattle.wasm_tree.specs.declared.kinds.ValueType.{ValueType}
-use Rattle.wasm_tree.specs.declared.kinds.FuncType.{FuncType}
+use Rattle.std.proofs.lemmas.Bool.{ltb-true, and_parts}
 use Rattle.wasm_tree.specs.declared.kinds.Limits.{Limits}
 use Rattle.wasm_tree.specs.declared.kinds.TableType.{TableType}
 use Rattle.wasm_tree.specs.declared.kinds.MemoryType.{MemoryType}
@@ -12,26 +10,18 @@ use Rattle.wasm_tree.specs.declared.module.ImportKind.{ImportKind}
 use Rattle.wasm_tree.specs.declared.module.ImportKind.TheVariants as imported
 use Rattle.wasm_tree.specs.declared.module.ExportKind.{ExportKind}
 use Rattle.wasm_tree.specs.declared.module.ExportKind.TheVariants as exported
-use Rattle.wasm_tree.specs.declared.module.Import.{Import}
 use Rattle.wasm_tree.specs.declared.module.Export.{Export}
-use Rattle.wasm_tree.specs.declared.module.Global.{Global}
-use Rattle.wasm_tree.specs.declared.module.Element.{Element}
 use Rattle.wasm_tree.specs.declared.module.Locals.{Locals}
-use Rattle.wasm_tree.specs.declared.module.Body.{Body}
-use Rattle.wasm_tree.specs.declared.module.Data.{Data}
 use Rattle.wasm_tree.specs.Format.{Format}
 use Rattle.wasm_code.specs.Number.{unsigned}
-use Rattle.wasm_code.specs.Parts.{◌▸◌, ◌◂◌, ◌·◌, as_value, that, vector, entries, with_size, bytes_left, name}
+use Rattle.wasm_code.specs.Parts.{◌▸◌, ◌◂◌, ◌·◌, as_value, vector, entries, with_size, bytes_left, name}
 use Rattle.wasm_code.specs.Instructions.{value_type, code}
 use Rattle.wasm_binary.specs.Binary.{func_type, limits, table_type, memory_type, import_kind, import, global, export_kind, export, element, locals_encoding, locals, data_segment}
 use Rattle.wasm_code.proofs.Laws.{IsBytes, Law}
-use Rattle.wasm_code.proofs.LawsNumber.{unsigned_law}
-use Rattle.wasm_code.proofs.LawsParts.{before_law, behind_law, then_law, seen_law, that_law, vector_law, entries_law, sized_law, bytes_left_law, name_law}
-use Rattle.wasm_code.proofs.LawsTagged.{value_type_law, value_type_fits}
+use Rattle.wasm_code.proofs.LawsParts.{then_law, seen_law, entries_law}
 use Rattle.wasm_code.proofs.LawsCode.{code_law}
-use Rattle.wasm_binary.proofs.LawsKinds.{func_type_law, limits_law, table_type_law, memory_type_law}
-use Rattle.wasm_binary.proofs.LawsBinary.{import_kind_law, import_law, global_law, export_kind_law, export_law, element_law, locals_law, data_segment_law}
-use Rattle.law_format.specs.Places.{Place, TypeOfValue, OtherByte, Cell, bytes_of, others, plain, value_type_cells, vector_cells, func_type_cells, import_kind_cells, import_cells, global_cells, element_cells, data_cells, group_cells, locals_cells, code_cells}
+use Rattle.wasm_binary.proofs.LawsBinary.{locals_law}
+use Rattle.law_format.specs.Places.{TypeOfValue, OtherByte, Cell, bytes_of, others, plain, value_type_cells, vector_cells, func_type_cells, import_kind_cells, import_cells, global_cells, element_cells, data_cells, group_cells, locals_cells, code_cells}
 use Rattle.law_format.specs.Layouts.{body_cells, body_content}
 use Rattle.law_format.proofs.Stops.{bytes-append, bytes-all}
 use Rattle.law_format.proofs.Contents.{Whole}

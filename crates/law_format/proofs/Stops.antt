@@ -1,11 +1,10 @@
 -- Where a reading stops, for formats that are put together.
-use Rattle.std.proofs.Common.{◌≡◌, ℕ, zero, suc, ◌+◌, ◌<◌, ◌≤◌, Bool, true, false, cond, eqb, ◌&&◌, ◌⊎◌, List, [], ◌∷◌, ◌++◌, length, map, replicate, Result, Ok, Err, refl, sym, ap, subst, ◌∙◌, append_assoc, append-nil, arith, inl, inr}
-use Rattle.std.specs.List.{flat_map, list_all}
+use Rattle.std.proofs.Common.{◌≡◌, ℕ, true, List, [], ◌∷◌, ◌++◌, Ok, Err, refl, sym, ap, subst, ◌∙◌, append_assoc}
 use Rattle.wasm_tree.specs.declared.fault.WFault.{WFault}
-use Rattle.wasm_tree.specs.declared.fault.WFault.TheVariants.{Malformed, OutsideProfile}
-use Rattle.wasm_tree.specs.Format.{Format, Reading, ◌>>=◌, skip}
-use Rattle.wasm_code.proofs.Laws.{IsBytes, IsBytes-tail, IsBytes-after, Taken, Law, bind_ok, read_is}
-use Rattle.law_format.specs.Places.{Place, Opcode, SectionNumber, TypeOfValue, OtherByte, fault_at, Cell, bytes_of, all_at, others}
+use Rattle.wasm_tree.specs.declared.fault.WFault.TheVariants.{Malformed}
+use Rattle.wasm_tree.specs.Format.{Format, Reading}
+use Rattle.wasm_code.proofs.Laws.{IsBytes, IsBytes-after, Law}
+use Rattle.law_format.specs.Places.{Place, fault_at, Cell, bytes_of, all_at}
 
 -- ---- lists of cells
 

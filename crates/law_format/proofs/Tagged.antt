@@ -1,13 +1,13 @@
 -- Where readings stop of parts that a first byte tells apart.
-use Rattle.std.proofs.Common.{◌≡◌, ◌⊎◌, ℕ, Bool, true, false, cond, eqb, List, [], ◌∷◌, ◌++◌, Result, Ok, Err, refl, sym, ap, subst, ◌∙◌, append-nil, inl, inr}
+use Rattle.std.proofs.Common.{◌≡◌, ◌⊎◌, ℕ, true, false, eqb, List, [], ◌∷◌, ◌++◌, Ok, Err, refl, sym, ap, subst, ◌∙◌, append-nil, inl, inr}
 use Rattle.std.proofs.lemmas.Bool.{eqb-true, cases_Bool}
 use Rattle.wasm_tree.specs.declared.fault.WFault.{WFault}
 use Rattle.wasm_tree.specs.declared.fault.WFault.TheVariants.{Malformed}
-use Rattle.wasm_tree.specs.Format.{Format, Reading, ◌>>=◌, skip}
+use Rattle.wasm_tree.specs.Format.{Format}
 use Rattle.wasm_code.proofs.Laws.{IsBytes, IsBytes-tail, bind_ok, read_is}
 use Rattle.wasm_code.proofs.LawsTagged.{read_as}
 use Rattle.law_format.specs.Places.{Place, fault_at, Cell, bytes_of}
-use Rattle.law_format.proofs.Stops.{Stop, stop_at, Front, front_at, Takes, Stops, Stopping, into}
+use Rattle.law_format.proofs.Stops.{Stop, Front, front_at, Takes, Stops, Stopping, into}
 use Rattle.law_format.proofs.Combined.{failed, err_is, ok_no_err, bind_err}
 
 pub tag_is : (b k : ℕ) → (b ≡ k) ⊎ (eqb b k ≡ false)

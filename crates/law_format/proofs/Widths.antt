@@ -1,18 +1,17 @@
 -- Where readings of numbers of 32 and 64 bits stop, and of the numbers of a range.
-use Rattle.std.proofs.Common.{◌≡◌, ◌⊎◌, ℕ, zero, suc, ◌+◌, ◌-◌, ◌*◌, ◌^◌, ◌<◌, ◌≤◌, Bool, true, false, cond, leb, ltb, eqb, ◌&&◌, List, [], ◌∷◌, ◌++◌, Ok, Err, refl, sym, ap, subst, ◌∙◌, append-nil, arith, inl, inr}
-use Rattle.std.proofs.lemmas.Bool.{cases_lt, lt-ltb, le-ltb, ltb-true, ltb-false, le-leb, ne_eqb, and_parts, and_from}
+use Rattle.std.proofs.Common.{◌≡◌, ℕ, ◌+◌, ◌-◌, ◌*◌, ◌^◌, ◌<◌, ◌≤◌, true, leb, ltb, List, [], Ok, Err, refl, sym, ap, append-nil, arith, inl, inr}
+use Rattle.std.proofs.lemmas.Bool.{cases_lt, lt-ltb, le-ltb, ltb-true, le-leb, ne_eqb, and_parts, and_from}
 use Rattle.wasm_tree.specs.declared.fault.WFault.{WFault}
-use Rattle.wasm_tree.specs.Format.{Format, Reading, ◌>>=◌}
-use Rattle.wasm_code.specs.Number.{groups, groups_at, unsigned, signed_groups_at, signed32, signed64}
-use Rattle.wasm_code.specs.Parts.{that}
+use Rattle.wasm_tree.specs.Format.{Format, Reading}
+use Rattle.wasm_code.specs.Number.{groups_at, unsigned, signed_groups_at, signed32, signed64}
 use Rattle.wasm_code.proofs.Laws.{IsBytes, Law}
 use Rattle.wasm_code.proofs.LawsNumber.{groups_take, unsigned_law, signed_take, signed32_law, signed64_law}
 use Rattle.wasm_code.proofs.LawsParts.{that_law}
-use Rattle.law_format.specs.Places.{OtherByte, Cell, bytes_of, others, plain}
+use Rattle.law_format.specs.Places.{OtherByte, plain}
 use Rattle.law_format.proofs.Stops.{bytes-all, Stop, Stopping, takes_from, into}
-use Rattle.law_format.proofs.Combined.{err_is, ok_no_err}
+use Rattle.law_format.proofs.Combined.{ok_no_err}
 use Rattle.law_format.proofs.Numbers.{in_range, ranged, numbers, numbers_stop}
-use Rattle.law_format.proofs.Signed.{reached, reaching, signed_numbers, signed_stop, Reaches, reaches}
+use Rattle.law_format.proofs.Signed.{reached, reaching, signed_numbers, signed_stop, reaches}
 
 -- ---- numbers below 2 ^ 32
 

@@ -1,10 +1,10 @@
 -- When a byte decides that bytes encode no module, and which fault that is.
-use Rattle.std.specs.Prelude.{◌≡◌, ℕ, zero, suc, ◌<◌, List, [], ◌∷◌, ◌++◌, get_or, Some, Err}
+use Rattle.std.specs.Prelude.{◌≡◌, ℕ, suc, ◌<◌, List, [], ◌∷◌, ◌++◌, get_or, Some, Err}
 use Rattle.wasm_tree.specs.declared.fault.WFault.{WFault}
 use Rattle.wasm_tree.specs.declared.fault.WFault.TheVariants.{Malformed}
 use Rattle.wasm_binary.specs.Binary.{module_at}
 use Rattle.law_format.specs.Places.{Place, SectionNumber, fault_at, Cell}
-use Rattle.law_format.specs.Layouts.{Mark, Byte, Opens, Closes, Last, Layout, Fits, layout_marks, flat, room, within}
+use Rattle.law_format.specs.Layouts.{Mark, Byte, Closes, Last, Layout, Fits, layout_marks, flat, room, within}
 
 -- some module, whatever sizes are stated of its parts, begins with these marks, and this one is next
 pub record Begins (front : List Mark) (next : Mark) : Type 0 where

@@ -1,6 +1,6 @@
 -- Modules with the sizes that are stated of their parts, and these as bytes with their places. Here
 -- a stated size may be any number below 2 ^ 32, whatever the part takes.
-use Rattle.std.specs.Prelude.{◌≡◌, ℕ, zero, suc, ◌^◌, Bool, true, ◌&&◌, List, [], ◌∷◌, ◌++◌, length, map, take, Option, Some, None}
+use Rattle.std.specs.Prelude.{◌≡◌, ℕ, zero, suc, Bool, true, ◌&&◌, List, [], ◌∷◌, ◌++◌, length, map, take, Option, Some, None}
 use Rattle.std.specs.List.{flat_map, list_all}
 use Rattle.wasm_tree.specs.declared.kinds.FuncType.{FuncType}
 use Rattle.wasm_tree.specs.declared.kinds.TableType.{TableType}
@@ -16,7 +16,7 @@ use Rattle.wasm_code.specs.Number.{unsigned}
 use Rattle.wasm_code.specs.Parts.{◌·◌, as_value, entries}
 use Rattle.wasm_code.specs.Instructions.{code}
 use Rattle.wasm_binary.specs.Binary.{header, func_type, table_type, memory_type, import, global, export, element, locals, data_segment}
-use Rattle.law_format.specs.Places.{Place, SectionNumber, Cell, others, plain, vector_cells, func_type_cells, import_cells, global_cells, element_cells, data_cells, locals_cells, code_cells}
+use Rattle.law_format.specs.Places.{SectionNumber, Cell, others, plain, vector_cells, func_type_cells, import_cells, global_cells, element_cells, data_cells, locals_cells, code_cells}
 
 -- a part, and how many bytes are stated of it
 pub record Sized (A : Type 0) : Type 0 where
