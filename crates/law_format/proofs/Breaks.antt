@@ -222,7 +222,7 @@ module _ {L F G K : Type 0} (m : L → List Mark) (ok : L → Type 0) (free : Li
       let len : length (take n after) ≡ length (flat s.front) + length s.at = ap length s.parts ∙ length-append (flat s.front) s.at in
       let is : n ≡ length (flat s.front) + k = omega (arith, length-take-min n after) in
       let window : take k (s.at ++ drop n after) ≡ s.at = same_behind (flat s.front) (take k (s.at ++ drop n after)) s.at (
-        sym (take_front (flat s.front) (s.at ++ drop n after) n k is) ∙ ap (take n) (sym whole_text) ∙ s.parts
+      sym (take_front (flat s.front) (s.at ++ drop n after) n k is) ∙ ap (take n) (sym whole_text) ∙ s.parts
       ) in
       record {
         front = pre ++ s.front;

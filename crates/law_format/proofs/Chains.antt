@@ -272,12 +272,11 @@ module _ {A Y : Type 0} (k : ℕ) (p : Format A) (cells : A → List Cell) (stop
         where
           none : true ≡ false → ⊥
           none e = cc
-      by_content (x ∷ xs) e =
-          (
-            subst (λ (t : Entries). part_fits (entries p).fits s.size t ≡ true) (sym e) (and_from _ _ h.0 (subst (λ (t : Entries). (entries p).fits t ≡ true) e h.1)),
-            ap (λ (t : Entries). if_some t (Byte (SectionNumber, k) ∷ part_marks ms s)) e,
-            subst (λ (t : Entries). part_fits (entries p).fits 0 t ≡ true) (sym e) (and_from _ _ refl (subst (λ (t : Entries). (entries p).fits t ≡ true) e h.1)),
-          )
+      by_content (x ∷ xs) e = (
+        subst (λ (t : Entries). part_fits (entries p).fits s.size t ≡ true) (sym e) (and_from _ _ h.0 (subst (λ (t : Entries). (entries p).fits t ≡ true) e h.1)),
+        ap (λ (t : Entries). if_some t (Byte (SectionNumber, k) ∷ part_marks ms s)) e,
+        subst (λ (t : Entries). part_fits (entries p).fits 0 t ≡ true) (sym e) (and_from _ _ refl (subst (λ (t : Entries). (entries p).fits t ≡ true) e h.1)),
+      )
 
   free_at : (bs : List ℕ) → section_free (k ∷ bs) ≡ (part_free bs >>= free_next)
   free_at bs = rw (eq-eqb k k refl) refl

@@ -231,7 +231,7 @@ module _ {X L F : Type 0} (real : List ℕ → Reading X) (m : L → List Mark) 
           rest_fits = subst IsBytes k.2 (IsBytes-drop n after t.rest_fits);
           kept =
               ap (room []) (opened n v.value) ∙ room-append [] pre (m v.value ++ Closes ∷ []) ∙ ap (λ (o : Option (List ℕ)). then_room o (m v.value ++ Closes ∷ [])) (
-                room-append [] (head n) (Opens n ∷ []) ∙ ap (λ (o : Option (List ℕ)). then_room o (Opens n ∷ [])) (room_free (plain unsigned n))
+              room-append [] (head n) (Opens n ∷ []) ∙ ap (λ (o : Option (List ℕ)). then_room o (Opens n ∷ [])) (room_free (plain unsigned n))
               )
               ∙ room-append (n ∷ []) (m v.value) (Closes ∷ []) ∙ ap (λ (o : Option (List ℕ)). then_room o (Closes ∷ [])) (room_under (m v.value) [] [] n 0 v.kept len);
           again = λ follow g.

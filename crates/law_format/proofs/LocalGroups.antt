@@ -111,7 +111,7 @@ all_groups ls = flat_map group_cells ls
 group_stops : (count before : ℕ) → before < 2 ^ 32 → Stopping (groups_of count before) (λ ls. flat_map group_cells ls)
 unfolding locals_at
 group_stops zero before room = record {
-  takes = λ bytes ls rest fits e. front_at (groups_of 0 before) all_groups bytes [] ls bytes rest (read_is [] ls bytes rest e) (record { parts = refl; rest_fits = fits; fits = no_locals-fit' ; again = λ follow h. refl });
+  takes = λ bytes ls rest fits e. front_at (groups_of 0 before) all_groups bytes [] ls bytes rest (read_is [] ls bytes rest e) (record { parts = refl; rest_fits = fits; fits = no_locals-fit'; again = λ follow h. refl });
   stops = λ bytes fault fits e. absurd (ok_no_err ([], bytes) fault e);
   some = [];
   some_fits = no_locals-fit';

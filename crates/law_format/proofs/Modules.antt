@@ -31,7 +31,6 @@ use Rattle.law_format.proofs.LocalGroups.{global_stops, element_stops, data_stop
 use Rattle.law_format.proofs.Breaks.{Break}
 use Rattle.law_format.proofs.Chains.{Ends, Chain, end_marks, always, end_chain, skip_chain, Good, real_section, free_section, section_chain, section_is_past}
 use Rattle.law_format.proofs.Spellings.{entries_whole, unsigned_spelling, func_type_spelling, import_spelling, table_type_spelling, memory_type_spelling, global_spelling, export_spelling, element_spelling, data_spelling}
-
 use Rattle.law_format.proofs.CodeSection.{code_free, code_chain, code_is_past}
 
 -- ---- data

@@ -224,12 +224,12 @@ numbers_stop (suc k) (suc most) least end (b ∷ bs) fault le some room fits e =
                 let range = λ (h : ℕ) (g : in_range (from least low) (above end low) h ≡ true). in_bounds (from least low) (above end low) h g in
                 into (numbers (suc k) most (from least low) (above end low)) (cells (suc k)) (numbers (suc (suc k)) (suc most) least end) (cells (suc (suc k))) ((OtherByte, b) ∷ []) (λ h. low + 128 * h) (λ h. [])
                 (λ h g.
-                    let one : 1 ≤ h = omega (arith, (range h g).0) in
-                    let first : 128 + low ≡ b = omega arith in
-                    ap others (large_is (suc k) low h (low + 128 * h) (omega (arith, fits 0)) one refl) ∙ ap (λ (c : ℕ). (OtherByte, c) ∷ cells (suc k) h) first ∙ ap (λ (t : List Cell). (OtherByte, b) ∷ t) (sym (append-nil (cells (suc k) h))))
+                let one : 1 ≤ h = omega (arith, (range h g).0) in
+                let first : 128 + low ≡ b = omega arith in
+                ap others (large_is (suc k) low h (low + 128 * h) (omega (arith, fits 0)) one refl) ∙ ap (λ (c : ℕ). (OtherByte, c) ∷ cells (suc k) h) first ∙ ap (λ (t : List Cell). (OtherByte, b) ∷ t) (sym (append-nil (cells (suc k) h))))
                 (λ h g.
-                    let r = range h g in
-                    range_from least end (low + 128 * h) (omega (arith, r.0)) (omega (arith, r.1)))
+                let r = range h g in
+                range_from least end (low + 128 * h) (omega (arith, r.0)) (omega (arith, r.1)))
                 (λ t f g h. more_groups most least end b t room large ∙ ap (put_low low) h)
                 bs fault s
           ]

@@ -99,8 +99,8 @@ room levels (suc k) zero (b ∷ bs) fits h g = absurd (omega arith)
 room levels (suc k) (suc j) (b ∷ bs) fits h g =
     step_is levels k b bs
     ∙ step_same levels k j (ending_of b) bs (instr_of (nested_instruction levels) b bs) (λ i rest e.
-      let s = shorter levels b bs i rest fits e in
-      room levels k j rest s.fits (omega (arith, s.less)) (omega (arith, s.less)))
+    let s = shorter levels b bs i rest fits e in
+    room levels k j rest s.fits (omega (arith, s.less)) (omega (arith, s.less)))
     ∙ sym (step_is levels j b bs)
 
 -- ---- sequences

@@ -447,7 +447,7 @@ encoded_high k q b low h first small least top le =
     let half : (256 * q + 255) / 2 < low + 128 * (h - (254 * q + 254)) = omega (arith, half_is q) in
     let back : (low + 128 * (h - (254 * q + 254))) / 128 + (254 * q + 254) ≡ h = omega arith in
     rw (lt-leb h q (omega arith)) (
-      groups_of k q n (omega arith) le ∙ cons_groups k q b low h n first (omega arith) (shifted_high (256 * q + 255) n half ∙ ap (λ (c : ℕ). n / 128 + c) (less_128 q) ∙ back)
+    groups_of k q n (omega arith) le ∙ cons_groups k q b low h n first (omega arith) (shifted_high (256 * q + 255) n half ∙ ap (λ (c : ℕ). n / 128 + c) (less_128 q) ∙ back)
     )
 
 module _ (k q reach but b low h : ℕ) (first : b ≡ 128 + low) (small : low < 128) (room : reach ≤ q + 1) where
@@ -543,21 +543,21 @@ module _ (q base : ℕ) (some : 1 ≤ base) (room : base ≤ 64) where
     | inl less ↦
         decided k (suc j) q (reach_of base j) but o b bs fault (is_malformed j but (b ∷ bs) fault e)
         (λ follow g.
-            ap (reaching q (reach_of base j) but) (signed_one q j b follow less)
-            ∙ known_fails q (reach_of base j) but b bs follow fault (sym (ap (reaching q (reach_of base j) but) (signed_one q j b bs less)) ∙ e))
+        ap (reaching q (reach_of base j) but) (signed_one q j b follow less)
+        ∙ known_fails q (reach_of base j) but b bs follow fault (sym (ap (reaching q (reach_of base j) but) (signed_one q j b bs less)) ∙ e))
     | inr le ↦
         decided k (suc j) q (reach_of base j) but o b bs fault (is_malformed j but (b ∷ bs) fault e)
         (λ follow g.
-            ap (reaching q (reach_of base j) but) (signed_minus q j b follow le lt)
-            ∙ known_fails q (reach_of base j) but (b + (256 * q + 128)) bs follow fault (sym (ap (reaching q (reach_of base j) but) (signed_minus q j b bs le lt)) ∙ e))
+        ap (reaching q (reach_of base j) but) (signed_minus q j b follow le lt)
+        ∙ known_fails q (reach_of base j) but (b + (256 * q + 128)) bs follow fault (sym (ap (reaching q (reach_of base j) but) (signed_minus q j b bs le lt)) ∙ e))
   ]
 
   last_group : (k but b : ℕ) (bs : List ℕ) (fault : WFault) → One k 1 q (reach_of base 0) but → 128 ≤ b → reading 0 but (b ∷ bs) ≡ Err fault → Stops k 0 but (b ∷ bs) fault
   last_group k but b bs fault o large e =
       decided k 1 q (reach_of base 0) but o b bs fault (is_malformed 0 but (b ∷ bs) fault e)
       (λ follow g.
-          ap (reaching q (reach_of base 0) but) (signed_more q 0 b follow large)
-          ∙ none_of q (reach_of base 0) (b - 128) but (omega (arith, g 0)) (omega arith) (signed_groups_at 0 (256 * q + 255) follow) (signed_malformed q 0 follow))
+      ap (reaching q (reach_of base 0) but) (signed_more q 0 b follow large)
+      ∙ none_of q (reach_of base 0) (b - 128) but (omega (arith, g 0)) (omega arith) (signed_groups_at 0 (256 * q + 255) follow) (signed_malformed q 0 follow))
 
   pub signed_stop : (k j but : ℕ) (bytes : List ℕ) (fault : WFault) → j ≤ k → IsBut q but → reach_of base j ≤ 128 * (q + 1) → IsBytes bytes → reading j but bytes ≡ Err fault → Stops k j but bytes fault
   signed_stop k j but [] fault le is far fits e = missing k (suc j) q (reach_of base j) but (one k (suc j) q (reach_of base j) but is (reach_some base j some) far) fault (is_malformed j but [] fault e)

@@ -195,9 +195,9 @@ tail_spelled b bytes = ap (λ (t : List ℕ). b ∷ t) (bytes-all OtherByte byte
 block_spelled : (b : ℕ) (t : Option ValueType) (ss : List S) (cells : List Cell) (end : List ℕ) → bytes_of cells ≡ end → bytes_of ((Opcode, b) ∷ (block_type_cells t ++ (cells_in ss ++ cells))) ≡ b ∷ ((block_type.encoding t ++ bytes_in ss) ++ end)
 block_spelled b t ss cells end e =
     ap (λ (r : List ℕ). b ∷ r) (
-      bytes-append (block_type_cells t) (cells_in ss ++ cells) ∙ ap (λ (r : List ℕ). r ++ bytes_of (cells_in ss ++ cells)) (bytes-all TypeOfValue (block_type.encoding t))
-      ∙ ap (λ (r : List ℕ). block_type.encoding t ++ r) (bytes-append (cells_in ss) cells ∙ ap (λ (r : List ℕ). r ++ bytes_of cells) (each_spelled ss) ∙ ap (λ (r : List ℕ). bytes_in ss ++ r) e)
-      ∙ sym (append_assoc (block_type.encoding t) (bytes_in ss) end)
+    bytes-append (block_type_cells t) (cells_in ss ++ cells) ∙ ap (λ (r : List ℕ). r ++ bytes_of (cells_in ss ++ cells)) (bytes-all TypeOfValue (block_type.encoding t))
+    ∙ ap (λ (r : List ℕ). block_type.encoding t ++ r) (bytes-append (cells_in ss) cells ∙ ap (λ (r : List ℕ). r ++ bytes_of cells) (each_spelled ss) ∙ ap (λ (r : List ℕ). bytes_in ss ++ r) e)
+    ∙ sym (append_assoc (block_type.encoding t) (bytes_in ss) end)
     )
 
 spelled_step : (y : Instr-F S) → IsSpelled y

@@ -87,10 +87,13 @@ module _ {A B : Type 0} (p : Format A) (cells : A → List Cell) (q : Format B) 
     (reads : (bs : List ℕ) (f : WFault) → IsBytes bs → p.reading bs ≡ Err f → q.reading (bytes_of pre ++ bs) ≡ Err f) where
   how_into : (front : List Cell) (place : Place) (at : List ℕ) (fault : WFault) → How p.reading (bytes_of front) place at fault → How q.reading (bytes_of (pre ++ front)) place at fault
   how_into front place [] fault h = h
-  how_into front place (b ∷ more) fault h = (h.0, λ follow fits.
-      let same : bytes_of (pre ++ front) ++ (b ∷ follow) ≡ bytes_of pre ++ (bytes_of front ++ (b ∷ follow)) = ap (λ (r : List ℕ). r ++ (b ∷ follow)) (bytes-append pre front) ∙ append_assoc (bytes_of pre) (bytes_of front) (b ∷ follow) in
-      let inner : IsBytes (bytes_of front ++ (b ∷ follow)) = IsBytes-behind (bytes_of pre) (bytes_of front ++ (b ∷ follow)) (subst IsBytes same fits) in
-      ap q.reading same ∙ reads (bytes_of front ++ (b ∷ follow)) fault inner (h.1 follow inner))
+  how_into front place (b ∷ more) fault h = (
+    h.0,
+    λ follow fits.
+        let same : bytes_of (pre ++ front) ++ (b ∷ follow) ≡ bytes_of pre ++ (bytes_of front ++ (b ∷ follow)) = ap (λ (r : List ℕ). r ++ (b ∷ follow)) (bytes-append pre front) ∙ append_assoc (bytes_of pre) (bytes_of front) (b ∷ follow) in
+        let inner : IsBytes (bytes_of front ++ (b ∷ follow)) = IsBytes-behind (bytes_of pre) (bytes_of front ++ (b ∷ follow)) (subst IsBytes same fits) in
+        ap q.reading same ∙ reads (bytes_of front ++ (b ∷ follow)) fault inner (h.1 follow inner),
+  )
 
   pub into : (bytes : List ℕ) (fault : WFault) → Stop p cells bytes fault → Stop q whole (bytes_of pre ++ bytes) fault
   into bytes fault s = record {

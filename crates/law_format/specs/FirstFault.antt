@@ -6,7 +6,8 @@ use Rattle.wasm_binary.specs.Binary.{module_at}
 use Rattle.law_format.specs.Places.{Place, SectionNumber, fault_at, Cell}
 use Rattle.law_format.specs.Layouts.{Mark, Byte, Closes, Last, Layout, Fits, layout_marks, flat, room, within}
 
--- some module, whatever sizes are stated of its parts, begins with these marks, and this one is next
+-- some module, whatever sizes are stated of its parts, begins with these marks, and this one is
+-- next
 pub record Begins (front : List Mark) (next : Mark) : Type 0 where
   pub layout : Layout
   pub fits : Fits layout

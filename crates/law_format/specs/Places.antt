@@ -87,7 +87,8 @@ cells_step (layer.Block t is) =
 cells_step (layer.Loop t is) =
     (Opcode, 0x03) ∷ (block_type_cells t ++ (flat_map (λ i. i) is ++ opcode 0x0B []))
 cells_step (layer.If t is third) =
-    (Opcode, 0x04) ∷ (block_type_cells t ++ (flat_map (λ i. i) is ++ (else_cells third ++ opcode 0x0B [])))
+    (Opcode, 0x04) ∷ (block_type_cells t ++ (flat_map (λ i. i) is ++ (else_cells third
+    ++ opcode 0x0B [])))
 cells_step (layer.Br l) = opcode 0x0C (unsigned.encoding l)
 cells_step (layer.BrIf l) = opcode 0x0D (unsigned.encoding l)
 cells_step (layer.BrTable ls l) = opcode 0x0E ((vector unsigned).encoding ls ++ unsigned.encoding l)
