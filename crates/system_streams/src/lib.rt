@@ -6,7 +6,7 @@ mod reading;
 mod stream;
 mod writing;
 
-pub use notes::{NotedBytes, NotedCalls};
+pub use notes::Notes;
 pub use reading::InFolder;
 pub use stream::{ByteStream, LineStream};
 pub use writing::OutFolder;

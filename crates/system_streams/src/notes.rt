@@ -6,66 +6,46 @@ ghost use Rattle.write_directory.specs.Calls.{Call, Remove, Write};
 
 use std::marker::Model;
 
-/// Bytes that the system took. They take no room, and nothing that runs depends on them.
+/// Notes of what the system did. They take no room, and nothing that runs depends on them.
 #[derive(Drop)]
-pub struct NotedBytes {
-    /// The bytes, in order.
+pub struct Notes {
+    /// The bytes that it took, in order.
     pub ghost bytes: { List ℕ },
-}
-
-impl Model for NotedBytes {
-    ghost also_owns = { λ _. ftrue };
-}
-
-/// No bytes.
-pub fn no_bytes() -> NotedBytes
-    ensures { result.bytes ≡ [] }
-{
-    NotedBytes {}
-}
-
-/// The bytes that are noted, and more behind them. It does nothing.
-#[inline(always)]
-pub fn with_bytes(noted: &NotedBytes, more: &[u8]) -> NotedBytes
-    ensures { result.bytes ≡ noted.now.bytes ++ more.now }
-{
-    let _ = (noted, more);
-    NotedBytes {}
-}
-
-/// Calls with which a folder asked the system to remove or to write files. They take no room, and nothing that runs depends
-/// on them.
-#[derive(Drop)]
-pub struct NotedCalls {
-    /// The calls, in order and with their answers.
+    /// The files that it was asked to remove or to write, in order and with its answers.
     pub ghost calls: { List Call },
 }
 
-impl Model for NotedCalls {
+impl Model for Notes {
     ghost also_owns = { λ _. ftrue };
 }
 
-/// No calls.
-pub fn no_calls() -> NotedCalls
-    ensures { result.calls ≡ [] }
+/// No notes.
+pub fn nothing() -> Notes
+    ensures { (result.bytes ≡ []) × (result.calls ≡ []) }
 {
-    NotedCalls {}
+    Notes {}
 }
 
-/// The calls that are noted, and a removal behind them. It does nothing.
+/// The notes, and bytes behind them. It does nothing.
 #[inline(always)]
-pub fn with_removal(noted: &NotedCalls, name: &str, is_done: bool) -> NotedCalls
-    ensures { result.calls ≡ noted.now.calls ++ Remove name.now is_done ∷ [] }
+pub fn with_bytes(_notes: &Notes, _more: &[u8]) -> Notes
+    ensures { result.bytes ≡ _notes.now.bytes ++ _more.now }
 {
-    let _ = (noted, name, is_done);
-    NotedCalls {}
+    Notes {}
 }
 
-/// The calls that are noted, and a write behind them. It does nothing.
+/// The notes, and a removal behind them. It does nothing.
 #[inline(always)]
-pub fn with_write(noted: &NotedCalls, name: &str, bytes: &[u8], is_done: bool) -> NotedCalls
-    ensures { result.calls ≡ noted.now.calls ++ Write name.now bytes.now is_done ∷ [] }
+pub fn with_removal(_notes: &Notes, _name: &[u8], _is_done: bool) -> Notes
+    ensures { result.calls ≡ _notes.now.calls ++ Remove _name.now _is_done ∷ [] }
 {
-    let _ = (noted, name, bytes, is_done);
-    NotedCalls {}
+    Notes {}
+}
+
+/// The notes, and a write behind them. It does nothing.
+#[inline(always)]
+pub fn with_write(_notes: &Notes, _name: &[u8], _bytes: &[u8], _is_done: bool) -> Notes
+    ensures { result.calls ≡ _notes.now.calls ++ Write _name.now _bytes.now _is_done ∷ [] }
+{
+    Notes {}
 }

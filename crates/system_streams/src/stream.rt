@@ -2,7 +2,7 @@
 
 ghost use Rattle.std.specs.Prelude.{◌≡◌, [], ◌++◌};
 
-use crate::notes::{NotedBytes, no_bytes, with_bytes};
+use crate::notes::{Notes, nothing, with_bytes};
 use run_directory::Sink;
 use std::alloc::Global;
 
@@ -13,7 +13,7 @@ pub struct ByteStream<P> {
     /// How often it failed.
     pub failures: u64,
     /// The bytes that it wrote, each by a call that answered 1. Clauses alone speak of them.
-    pub written: NotedBytes,
+    pub written: Notes,
 }
 
 impl<P> ByteStream<P> {
@@ -25,7 +25,7 @@ impl<P> ByteStream<P> {
         ByteStream {
             to,
             failures: 0,
-            written: no_bytes(),
+            written: nothing(),
         }
     }
 }
@@ -61,9 +61,9 @@ pub struct LineStream<P> {
     /// How often it failed.
     pub failures: u64,
     /// The bytes that it took. Clauses alone speak of them.
-    pub taken: NotedBytes,
+    pub taken: Notes,
     /// The lines that it wrote, each by a call that answered that all of it is written. Clauses alone speak of them.
-    pub written: NotedBytes,
+    pub written: Notes,
     /// Until it fails, it wrote what it took, but for the line that has not ended.
     ghost in_order: { (failures ≡ 0) → taken.bytes ≡ written.bytes ++ line.items },
 }
@@ -79,8 +79,8 @@ impl<P: Print> LineStream<P> {
             to,
             line: Vec::new(alloc),
             failures: 0,
-            taken: no_bytes(),
-            written: no_bytes(),
+            taken: nothing(),
+            written: nothing(),
         }
     }
 }

@@ -2,7 +2,7 @@
 
 ghost use Rattle.std.specs.Prelude.{◌≡◌, []};
 
-use crate::notes::{NotedCalls, no_calls, with_removal, with_write};
+use crate::notes::{Notes, nothing, with_removal, with_write};
 use std::rt::Files;
 use std::{fs, io};
 use write_directory::OutDir;
@@ -16,7 +16,7 @@ pub struct OutFolder<'a, R> {
     /// How often it failed.
     pub failures: u64,
     /// What it was asked to do, in order and with its answers. Clauses alone speak of it.
-    pub noted: NotedCalls,
+    pub noted: Notes,
 }
 
 impl<'a, R: Files + AllocGlobal> OutFolder<'a, R> {
@@ -30,7 +30,7 @@ impl<'a, R: Files + AllocGlobal> OutFolder<'a, R> {
             path,
             fault: String::new(rt.alloc()),
             failures: 0,
-            noted: no_calls(),
+            noted: nothing(),
         }
     }
 
@@ -85,13 +85,13 @@ impl<R: Files + AllocGlobal> OutDir for OutFolder<'_, R> {
     fn remove(&mut self, name: &str) -> bool {
         match self.remove_file(name) {
             Ok(()) => {
-                self.noted = with_removal(&self.noted, name, true);
+                self.noted = with_removal(&self.noted, name.as_bytes(), true);
                 true
             }
             Err(error) => {
                 self.note("remove", name, error);
                 self.failures += 1;
-                self.noted = with_removal(&self.noted, name, false);
+                self.noted = with_removal(&self.noted, name.as_bytes(), false);
                 false
             }
         }
@@ -100,13 +100,13 @@ impl<R: Files + AllocGlobal> OutDir for OutFolder<'_, R> {
     fn write(&mut self, name: &str, bytes: &[u8]) -> bool {
         match self.write_file(name, bytes) {
             Ok(()) => {
-                self.noted = with_write(&self.noted, name, bytes, true);
+                self.noted = with_write(&self.noted, name.as_bytes(), bytes, true);
                 true
             }
             Err(error) => {
                 self.note("write", name, error);
                 self.failures += 1;
-                self.noted = with_write(&self.noted, name, bytes, false);
+                self.noted = with_write(&self.noted, name.as_bytes(), bytes, false);
                 false
             }
         }
