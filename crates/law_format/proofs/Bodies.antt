@@ -11,7 +11,7 @@ use Rattle.wasm_code.specs.Number.{unsigned}
 use Rattle.wasm_binary.specs.Binary.{body, bodies, code_entries, code_content}
 use Rattle.wasm_code.proofs.Laws.{IsBytes, bind_ok, read_is}
 use Rattle.law_format.specs.Places.{plain}
-use Rattle.law_format.specs.Layouts.{Sized, Mark, marked, flat, room, part_marks, body_cells, bodies_marks, body_content, body_fits}
+use Rattle.law_format.specs.Layouts.{Part, Mark, byte_marks, flat, room, part_marks, body_cells, bodies_marks, body_content, body_fits}
 use Rattle.law_format.proofs.Combined.{IsBytes-joined, failed, err_is, ok_no_err, bind_err, bind_same}
 use Rattle.law_format.proofs.Numbers.{in_range, ranged}
 use Rattle.law_format.proofs.Widths.{between, between_stops}
@@ -113,25 +113,25 @@ same_content real same m ok is free res h c = record {
 -- ---- bodies
 
 abbrev one_marks : Body → List Mark
-one_marks b = marked (body_cells b)
+one_marks b = byte_marks (body_cells b)
 
-abbrev body_marks : Sized Body → List Mark
+abbrev body_marks : Part Body → List Mark
 body_marks s = part_marks one_marks s
 
-abbrev body_ok : Sized Body → Type 0
+abbrev body_ok : Part Body → Type 0
 body_ok s = sized_fits body_content.reading one_marks (plain_fits body_content body_cells) (plain_is body_content body_cells) body_content.reading (plain_res body_content body_cells) s
 
-abbrev body_is : Body → Sized Body → Type 0
+abbrev body_is : Body → Part Body → Type 0
 body_is b s = b ≡ s.content
 
 abbrev free_body : List ℕ → Reading Body
 free_body bytes = unsigned.reading bytes >>= λ n. body_content.reading n.1
 
-abbrev body_res : Sized Body → Body
+abbrev body_res : Part Body → Body
 body_res s = s.content
 
 abbrev Bodies : Type 0
-Bodies = List (Sized Body)
+Bodies = List (Part Body)
 
 abbrev pub bodies_ok : ℕ → Bodies → Type 0
 bodies_ok count bs = (length bs ≡ count) × (list_all body_fits bs ≡ true)
@@ -157,10 +157,10 @@ module _ (body_whole : Whole body_content body_cells) where
   unfolding body
   sized_body = sized_content body_content.reading one_marks (plain_fits body_content body_cells) (plain_is body_content body_cells) body_content.reading (plain_res body_content body_cells) (plain_content body_content body_cells body_stops body_whole)
 
-  more_fit : (count : ℕ) (a : Sized Body) (bs : Bodies) → body_ok a → bodies_ok count bs → bodies_ok (suc count) (a ∷ bs)
+  more_fit : (count : ℕ) (a : Part Body) (bs : Bodies) → body_ok a → bodies_ok count bs → bodies_ok (suc count) (a ∷ bs)
   more_fit count a bs h g = (ap suc g.0, and_from _ _ (and_from _ _ h.0 h.1) g.1)
 
-  first_fits : (count : ℕ) (a : Sized Body) (bs : Bodies) → bodies_ok (suc count) (a ∷ bs) → body_ok a × bodies_ok count bs
+  first_fits : (count : ℕ) (a : Part Body) (bs : Bodies) → bodies_ok (suc count) (a ∷ bs) → body_ok a × bodies_ok count bs
   first_fits count a bs h =
       let f = and_parts (body_fits a) (list_all body_fits bs) h.1 in
       let g = and_parts (unsigned.fits a.size) (body_content.fits a.content) f.0 in
@@ -251,8 +251,8 @@ module _ (body_whole : Whole body_content body_cells) (types : List ℕ) (room :
       let small : unsigned.fits n ≡ true = lt-ltb n (2 ^ 32) (omega arith) in
       ap (ranged count (suc count)) (unsigned_whole n small follow) ∙ rw fits refl
 
-  entries_made : (n : ℕ) (bs : Bodies) → in_range count (suc count) n ≡ true → bodies_ok count bs → bodies_marks bs ≡ marked (plain unsigned n) ++ all_marks bs
-  entries_made n bs h g = ap (λ (k : ℕ). marked (plain unsigned k) ++ all_marks bs) (g.0 ∙ sym (exact n h))
+  entries_made : (n : ℕ) (bs : Bodies) → in_range count (suc count) n ≡ true → bodies_ok count bs → bodies_marks bs ≡ byte_marks (plain unsigned n) ++ all_marks bs
+  entries_made n bs h g = ap (λ (k : ℕ). byte_marks (plain unsigned k) ++ all_marks bs) (g.0 ∙ sym (exact n h))
 
   count_content : Content (between count (suc count)).reading (plain_marks (between count (suc count)) (plain unsigned)) (plain_fits (between count (suc count)) (plain unsigned)) (plain_is (between count (suc count)) (plain unsigned)) (between count (suc count)).reading
       (plain_res (between count (suc count)) (plain unsigned))
@@ -280,16 +280,16 @@ module _ (body_whole : Whole body_content body_cells) (types : List ℕ) (room :
   unfolding code_entries
   code_entries_content = same_content _ (code_entries types) bodies_marks (bodies_ok count) any_bodies (counted_free count) nothing_left (λ bs. count_reads types (unsigned.reading bs)) counted
 
-  abbrev pub code_fits : Sized Bodies → Type 0
+  abbrev pub code_fits : Part Bodies → Type 0
   code_fits s = (unsigned.fits s.size ≡ true) × bodies_ok count s.content
 
-  abbrev pub any_code : List Function → Sized Bodies → Type 0
+  abbrev pub any_code : List Function → Part Bodies → Type 0
   any_code fs s = Unit {0}
 
   abbrev pub code_free : List ℕ → Reading (Unit {0})
   code_free bytes = unsigned.reading bytes >>= λ n. counted_free count n.1
 
-  abbrev pub code_res : Sized Bodies → Unit {0}
+  abbrev pub code_res : Part Bodies → Unit {0}
   code_res s = tt
 
   pub code_content_is : Content (code_content types) (part_marks bodies_marks) (λ s. (unsigned.fits s.size ≡ true) × bodies_ok (length types) s.content) (λ fs s. Unit {0}) (λ bytes. unsigned.reading bytes >>= λ n. counted_free (length types) n.1) (λ s. tt)

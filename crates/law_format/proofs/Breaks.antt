@@ -5,7 +5,7 @@ use Rattle.wasm_tree.specs.declared.fault.WFault.{WFault}
 use Rattle.wasm_tree.specs.declared.fault.WFault.TheVariants.{Malformed}
 use Rattle.wasm_code.proofs.Laws.{IsBytes, IsBytes-after}
 use Rattle.law_format.specs.Places.{Place, SectionNumber, fault_at, Cell, bytes_of}
-use Rattle.law_format.specs.Layouts.{Mark, Byte, Opens, Closes, Last, marked, flat, spend, room, within}
+use Rattle.law_format.specs.Layouts.{Mark, Byte, Opens, Closes, Last, byte_marks, flat, spend, room, within}
 
 -- ---- marks
 
@@ -16,13 +16,13 @@ flat-append (Opens size ∷ xs) ys = flat-append xs ys
 flat-append (Closes ∷ xs) ys = flat-append xs ys
 flat-append (Last ∷ xs) ys = flat-append xs ys
 
-pub flat-marked : (cells : List Cell) → flat (marked cells) ≡ bytes_of cells
-flat-marked [] = refl
-flat-marked (c ∷ cells) = ap (λ (t : List ℕ). c.1 ∷ t) (flat-marked cells)
+pub flat-byte_marks : (cells : List Cell) → flat (byte_marks cells) ≡ bytes_of cells
+flat-byte_marks [] = refl
+flat-byte_marks (c ∷ cells) = ap (λ (t : List ℕ). c.1 ∷ t) (flat-byte_marks cells)
 
-pub marked-append : (xs ys : List Cell) → marked (xs ++ ys) ≡ marked xs ++ marked ys
-marked-append [] ys = refl
-marked-append (x ∷ xs) ys = ap (λ (t : List Mark). Byte x ∷ t) (marked-append xs ys)
+pub byte_marks-append : (xs ys : List Cell) → byte_marks (xs ++ ys) ≡ byte_marks xs ++ byte_marks ys
+byte_marks-append [] ys = refl
+byte_marks-append (x ∷ xs) ys = ap (λ (t : List Mark). Byte x ∷ t) (byte_marks-append xs ys)
 
 -- ---- rooms
 
@@ -47,7 +47,7 @@ room-append (zero ∷ rooms) (Closes ∷ xs) ys = room-append rooms xs ys
 room-append (suc n ∷ rooms) (Closes ∷ xs) ys = refl
 room-append rooms (Last ∷ xs) ys = room-append rooms xs ys
 
-pub room_free : (cells : List Cell) → room [] (marked cells) ≡ Some []
+pub room_free : (cells : List Cell) → room [] (byte_marks cells) ≡ Some []
 room_free [] = refl
 room_free (c ∷ cells) = room_free cells
 

@@ -10,7 +10,7 @@ use Rattle.wasm_binary.specs.Binary.{at_end}
 use Rattle.wasm_code.proofs.Laws.{IsBytes, IsBytes-tail}
 use Rattle.wasm_code.proofs.LawsParts.{Past, Past-less}
 use Rattle.law_format.specs.Places.{Place, SectionNumber, OtherByte, Cell, vector_cells}
-use Rattle.law_format.specs.Layouts.{Sized, Mark, Byte, Opens, Closes, Last, marked, flat, within, part_marks, if_some, section_marks, entry_marks, part_fits, section_fits}
+use Rattle.law_format.specs.Layouts.{Part, Mark, Byte, Opens, Closes, Last, byte_marks, flat, within, part_marks, if_some, section_marks, entry_marks, part_fits, section_fits}
 use Rattle.law_format.proofs.Stops.{Stopping}
 use Rattle.law_format.proofs.Combined.{failed, err_is, ok_no_err}
 use Rattle.law_format.proofs.Breaks.{flat-append, Wrong, Behind, Why, Break, break_at, break_into}
@@ -210,7 +210,7 @@ module _ {A Y : Type 0} (k : ℕ) (p : Format A) (cells : A → List Cell) (stop
   entry_cells xs = vector_cells cells xs
 
   abbrev ms : Entries → List Mark
-  ms xs = marked (entry_cells xs)
+  ms xs = byte_marks (entry_cells xs)
 
   abbrev fits_entries : Entries → Type 0
   fits_entries xs = (entries p).fits xs ≡ true
@@ -224,13 +224,13 @@ module _ {A Y : Type 0} (k : ℕ) (p : Format A) (cells : A → List Cell) (stop
   abbrev part_free : List ℕ → Reading Entries
   part_free bytes = unsigned.reading bytes >>= λ n. (entries p).reading n.1
 
-  abbrev part_ok : Sized Entries → Type 0
+  abbrev part_ok : Part Entries → Type 0
   part_ok s = (unsigned.fits s.size ≡ true) × ((entries p).fits s.content ≡ true)
 
-  abbrev part_is : Entries → Sized Entries → Type 0
+  abbrev part_is : Entries → Part Entries → Type 0
   part_is x s = x ≡ s.content
 
-  abbrev part_res : Sized Entries → Entries
+  abbrev part_res : Part Entries → Entries
   part_res s = s.content
 
   content : Content (with_size (entries p)).reading (part_marks ms) part_ok part_is part_free part_res
@@ -249,7 +249,7 @@ module _ {A Y : Type 0} (k : ℕ) (p : Format A) (cells : A → List Cell) (stop
   section_free bytes = free_section k p free bytes
 
   abbrev section_y : Type 0
-  section_y = Sized Entries × Y
+  section_y = Part Entries × Y
 
   abbrev section_m : section_y → List Mark
   section_m y = section_marks k (entry_marks cells) y.0 ++ m y.1
@@ -257,14 +257,14 @@ module _ {A Y : Type 0} (k : ℕ) (p : Format A) (cells : A → List Cell) (stop
   abbrev section_ok : section_y → Type 0
   section_ok y = section_fits p y.0 × ok y.0.content y.1
 
-  abbrev absent : Sized Entries
+  abbrev absent : Part Entries
   absent = record { size = 0; content = [] }
 
   abbrev Broken : List ℕ → WFault → Type 0
   Broken bytes fault = Break section_m section_ok section_free bytes fault
 
   -- the section is there
-  filled : (s : Sized Entries) → part_ok s → (section_fits p s) × (section_marks k (entry_marks cells) s ≡ Byte (SectionNumber, k) ∷ part_marks ms s) × Good p s.content
+  filled : (s : Part Entries) → part_ok s → (section_fits p s) × (section_marks k (entry_marks cells) s ≡ Byte (SectionNumber, k) ∷ part_marks ms s) × Good p s.content
   filled s h = by_content s.content refl
     where
       by_content : (xs : Entries) → s.content ≡ xs → (section_fits p s) × (section_marks k (entry_marks cells) s ≡ Byte (SectionNumber, k) ∷ part_marks ms s) × Good p s.content
@@ -303,7 +303,7 @@ module _ {A Y : Type 0} (k : ℕ) (p : Format A) (cells : A → List Cell) (stop
 
   behind_section : (bs : List ℕ) (x : Entries) (mid : List ℕ) (fault : WFault) → Kept (part_marks ms) part_ok part_is part_free part_res bs x mid → real x mid ≡ Err fault → Broken (k ∷ bs) fault
   behind_section bs x mid fault v e =
-      let s : Sized Entries = v.value in
+      let s : Part Entries = v.value in
       let f = filled s v.fits in
       let pre : List Mark = Byte (SectionNumber, k) ∷ part_marks ms s in
       let same : real s.content mid ≡ Err fault = subst (λ (t : Entries). real t mid ≡ Err fault) v.same e in
@@ -328,7 +328,7 @@ module _ {A Y : Type 0} (k : ℕ) (p : Format A) (cells : A → List Cell) (stop
   section_whole : (size : ℕ) (xs : Entries) (y : Y) → section_fits p (record { size = size; content = xs }) → ok xs y → section_free (flat (section_marks k (entry_marks cells) (record { size = size; content = xs }) ++ m y)) ≡ Ok tt
   section_whole size [] y h g = free_else (flat (m y)) (past_other k (flat (m y)) (past y g)) ∙ (next [] refl).whole y g
   section_whole size (x ∷ xs) y h g =
-      let s : Sized Entries = record { size = size; content = x ∷ xs } in
+      let s : Part Entries = record { size = size; content = x ∷ xs } in
       let f = and_parts (unsigned.fits size) ((entries p).fits (x ∷ xs)) h in
       let good : Good p (x ∷ xs) = and_from _ _ refl f.1 in
       ap (λ (t : List ℕ). section_free (k ∷ t)) (flat-append (part_marks ms s) (m y)) ∙ free_at (flat (part_marks ms s) ++ flat (m y)) ∙ ap (λ (r : Reading Entries). r >>= free_next) (content.whole s (f.0, f.1) (flat (m y)))
@@ -338,10 +338,10 @@ module _ {A Y : Type 0} (k : ℕ) (p : Format A) (cells : A → List Cell) (stop
   section_past before size [] y lt g = Past-less before k (flat (m y)) lt (past y g)
   section_past before size (x ∷ xs) y lt g = lt
 
-  pub section_is_past : (before : ℕ) → before < k → (y : Sized Entries × Y) → section_fits p y.0 × ok y.0.content y.1 → Past before (flat (section_marks k (entry_marks cells) y.0 ++ m y.1))
+  pub section_is_past : (before : ℕ) → before < k → (y : Part Entries × Y) → section_fits p y.0 × ok y.0.content y.1 → Past before (flat (section_marks k (entry_marks cells) y.0 ++ m y.1))
   section_is_past before lt y h = section_past before y.0.size y.0.content y.1 lt h.1
 
-  pub section_chain : Chain (real_section k p real) (free_section k p free) (λ (y : Sized (List A) × Y). section_marks k (entry_marks cells) y.0 ++ m y.1) (λ (y : Sized (List A) × Y). section_fits p y.0 × ok y.0.content y.1)
+  pub section_chain : Chain (real_section k p real) (free_section k p free) (λ (y : Part (List A) × Y). section_marks k (entry_marks cells) y.0 ++ m y.1) (λ (y : Part (List A) × Y). section_fits p y.0 × ok y.0.content y.1)
   section_chain = record {
     breaks = section_breaks;
     whole = λ y h. section_whole y.0.size y.0.content y.1 h.0 h.1;

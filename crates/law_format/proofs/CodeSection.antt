@@ -12,7 +12,7 @@ use Rattle.wasm_binary.specs.Binary.{code_content, code_section}
 use Rattle.wasm_code.proofs.Laws.{IsBytes, IsBytes-tail}
 use Rattle.wasm_code.proofs.LawsParts.{Past}
 use Rattle.law_format.specs.Places.{SectionNumber}
-use Rattle.law_format.specs.Layouts.{Sized, Mark, Byte, flat, part_marks, if_some, section_marks, bodies_marks, part_fits, body_fits}
+use Rattle.law_format.specs.Layouts.{Part, Mark, Byte, flat, part_marks, if_some, section_marks, bodies_marks, part_fits, body_fits}
 use Rattle.law_format.proofs.Combined.{failed, err_is}
 use Rattle.law_format.proofs.Breaks.{flat-append, Break, break_at, break_into}
 use Rattle.law_format.proofs.Contents.{Kept, Content}
@@ -24,7 +24,7 @@ use Rattle.law_format.proofs.Spellings.{body_whole}
 
 module _ {Y : Type 0} (real free : List ℕ → Ends) (m : Y → List Mark) (ok : Y → Type 0) (c : Chain real free m ok) where
   abbrev Code : Type 0
-  Code = Sized (List (Sized Body))
+  Code = Part (List (Part Body))
 
   abbrev code_next : List Function × List ℕ → Ends
   code_next x = real x.1
@@ -61,7 +61,7 @@ module _ {Y : Type 0} (real free : List ℕ → Ends) (m : Y → List Mark) (ok 
   abbrev any_res : Code → Unit {0}
   any_res s = tt
 
-  code_filled : (n size : ℕ) (bs : List (Sized Body)) → part_ok (suc n) (record { size = size; content = bs }) → (part_fits (list_all body_fits) size bs ≡ true) × (if_some bs (Byte (SectionNumber, 10) ∷ part_marks bodies_marks (record { size = size; content = bs })) ≡ Byte (SectionNumber, 10) ∷ part_marks bodies_marks (record { size = size; content = bs }))
+  code_filled : (n size : ℕ) (bs : List (Part Body)) → part_ok (suc n) (record { size = size; content = bs }) → (part_fits (list_all body_fits) size bs ≡ true) × (if_some bs (Byte (SectionNumber, 10) ∷ part_marks bodies_marks (record { size = size; content = bs })) ≡ Byte (SectionNumber, 10) ∷ part_marks bodies_marks (record { size = size; content = bs }))
   code_filled n size [] h = absurd (omega (arith, h.1.0))
   code_filled n size (b ∷ bs) h = (and_from _ _ h.0 h.1.1, refl)
 
@@ -146,7 +146,7 @@ module _ {Y : Type 0} (real free : List ℕ → Ends) (m : Y → List Mark) (ok 
           }
     ]
 
-    code_whole : (size : ℕ) (bs : List (Sized Body)) (y : Y) → code_ok types (record { size = size; content = bs }, y) → code_free types (flat (code_m (record { size = size; content = bs }, y))) ≡ Ok tt
+    code_whole : (size : ℕ) (bs : List (Part Body)) (y : Y) → code_ok types (record { size = size; content = bs }, y) → code_free types (flat (code_m (record { size = size; content = bs }, y))) ≡ Ok tt
     code_whole size [] y h = absurd (omega (arith, h.1))
     code_whole size (b ∷ bs) y h =
         let s : Code = record { size = size; content = b ∷ bs } in
@@ -162,11 +162,11 @@ module _ {Y : Type 0} (real free : List ℕ → Ends) (m : Y → List Mark) (ok 
       some_fits = filled_ok some_code content.some_fits c.some c.some_fits;
     }
 
-  none_whole : (size : ℕ) (bs : List (Sized Body)) (y : Y) → code_ok [] (record { size = size; content = bs }, y) → free (flat (code_m (record { size = size; content = bs }, y))) ≡ Ok tt
+  none_whole : (size : ℕ) (bs : List (Part Body)) (y : Y) → code_ok [] (record { size = size; content = bs }, y) → free (flat (code_m (record { size = size; content = bs }, y))) ≡ Ok tt
   none_whole size [] y h = c.whole y h.2
   none_whole size (b ∷ bs) y h = absurd (omega (arith, h.1))
 
-  pub code_chain : (types : List ℕ) → length types < 2 ^ 32 → Chain (λ bytes. code_section types bytes >>= λ x. real x.1) (code_free types) (λ (y : Sized (List (Sized Body)) × Y). section_marks 10 bodies_marks y.0 ++ m y.1) (code_ok types)
+  pub code_chain : (types : List ℕ) → length types < 2 ^ 32 → Chain (λ bytes. code_section types bytes >>= λ x. real x.1) (code_free types) (λ (y : Part (List (Part Body)) × Y). section_marks 10 bodies_marks y.0 ++ m y.1) (code_ok types)
   code_chain [] few = record {
     breaks = λ bytes fault fits e.
         break_into free (code_free []) [] (λ bs f g h. h) m ok code_m (code_ok []) (λ y. (no_code, y)) (λ y. []) refl (λ y h. sym (append-nil (m y))) (λ y h. (refl, refl, h)) bytes fault (c.breaks bytes fault fits e);
@@ -176,9 +176,9 @@ module _ {Y : Type 0} (real free : List ℕ → Ends) (m : Y → List Mark) (ok 
   }
   code_chain (t ∷ ts) few = some_chain t ts few
 
-  code_past : (types : List ℕ) (size : ℕ) (bs : List (Sized Body)) (y : Y) → ((y : Y) → ok y → Past 9 (flat (m y))) → code_ok types (record { size = size; content = bs }, y) → Past 9 (flat (code_m (record { size = size; content = bs }, y)))
+  code_past : (types : List ℕ) (size : ℕ) (bs : List (Part Body)) (y : Y) → ((y : Y) → ok y → Past 9 (flat (m y))) → code_ok types (record { size = size; content = bs }, y) → Past 9 (flat (code_m (record { size = size; content = bs }, y)))
   code_past types size [] y past h = past y h.2
   code_past types size (b ∷ bs) y past h = omega arith
 
-  pub code_is_past : (types : List ℕ) → ((y : Y) → ok y → Past 9 (flat (m y))) → (y : Sized (List (Sized Body)) × Y) → code_ok types y → Past 9 (flat (section_marks 10 bodies_marks y.0 ++ m y.1))
+  pub code_is_past : (types : List ℕ) → ((y : Y) → ok y → Past 9 (flat (m y))) → (y : Part (List (Part Body)) × Y) → code_ok types y → Past 9 (flat (section_marks 10 bodies_marks y.0 ++ m y.1))
   code_is_past types past y h = code_past types y.0.size y.0.content y.1 past h

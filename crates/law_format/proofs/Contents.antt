@@ -10,11 +10,11 @@ use Rattle.wasm_code.specs.Parts.{close_part}
 use Rattle.wasm_code.proofs.Laws.{IsBytes, IsBytes-take, IsBytes-drop, bind_ok, guard_ok, ok_is, read_is}
 use Rattle.wasm_code.proofs.LawsNumber.{unsigned_law}
 use Rattle.law_format.specs.Places.{OtherByte, Cell, bytes_of, plain}
-use Rattle.law_format.specs.Layouts.{Sized, Mark, Byte, Opens, Closes, marked, flat, room, part_marks}
+use Rattle.law_format.specs.Layouts.{Part, Mark, Byte, Opens, Closes, byte_marks, flat, room, part_marks}
 use Rattle.law_format.proofs.Stops.{bytes-all, How, Stop, Front, Stopping}
 use Rattle.law_format.proofs.Combined.{IsBytes-joined, failed, err_is, ok_no_err, bind_err}
 use Rattle.law_format.proofs.Widths.{unsigned_stops}
-use Rattle.law_format.proofs.Breaks.{flat-append, flat-marked, marked-append, then_room, room-append, room_free, room_under, Wrong, TooLarge, Break, break_at, break_into, opened_front, break_within}
+use Rattle.law_format.proofs.Breaks.{flat-append, flat-byte_marks, byte_marks-append, then_room, room-append, room_free, room_under, Wrong, TooLarge, Break, break_at, break_into, opened_front, break_within}
 
 -- what was taken, whatever follows, with each stated size kept
 pub record Kept {X L F : Type 0} (m : L → List Mark) (ok : L → Type 0) (is : X → L → Type 0) (free : List ℕ → Reading F) (res : L → F) (bytes : List ℕ) (x : X) (rest : List ℕ) : Type 0 where
@@ -42,7 +42,7 @@ Whole {A} p cells = (x : A) → p.fits x ≡ true → (follow : List ℕ) → p.
 
 module _ {A : Type 0} (p : Format A) (cells : A → List Cell) where
   abbrev pub plain_marks : A → List Mark
-  plain_marks x = marked (cells x)
+  plain_marks x = byte_marks (cells x)
 
   abbrev pub plain_fits : A → Type 0
   plain_fits x = p.fits x ≡ true
@@ -53,20 +53,20 @@ module _ {A : Type 0} (p : Format A) (cells : A → List Cell) where
   abbrev pub plain_res : A → A
   plain_res x = x
 
-  plain_why : (front : List Cell) (next : Cell) (at : List ℕ) (fault : WFault) → How p.reading (bytes_of front) next.0 at fault → Wrong p.reading (flat (marked front)) next.0 at fault
+  plain_why : (front : List Cell) (next : Cell) (at : List ℕ) (fault : WFault) → How p.reading (bytes_of front) next.0 at fault → Wrong p.reading (flat (byte_marks front)) next.0 at fault
   plain_why front next [] fault h = h
-  plain_why front next (b ∷ more) fault h = (h.0, λ follow fits. ap (λ (t : List ℕ). p.reading (t ++ (b ∷ follow))) (flat-marked front) ∙ h.1 follow (subst (λ (t : List ℕ). IsBytes (t ++ (b ∷ follow))) (flat-marked front) fits))
+  plain_why front next (b ∷ more) fault h = (h.0, λ follow fits. ap (λ (t : List ℕ). p.reading (t ++ (b ∷ follow))) (flat-byte_marks front) ∙ h.1 follow (subst (λ (t : List ℕ). IsBytes (t ++ (b ∷ follow))) (flat-byte_marks front) fits))
 
   plain_break : (bytes : List ℕ) (fault : WFault) → Stop p cells bytes fault → Break plain_marks plain_fits p.reading bytes fault
   plain_break bytes fault s = record {
-    front = marked s.front;
+    front = byte_marks s.front;
     at = s.at;
-    parts = s.parts ∙ ap (λ (t : List ℕ). t ++ s.at) (sym (flat-marked s.front));
+    parts = s.parts ∙ ap (λ (t : List ℕ). t ++ s.at) (sym (flat-byte_marks s.front));
     value = s.value;
     fits = s.fits;
     next = Byte s.next;
-    rest = marked s.rest;
-    begins = ap marked s.begins ∙ marked-append s.front (s.next ∷ s.rest);
+    rest = byte_marks s.rest;
+    begins = ap byte_marks s.begins ∙ byte_marks-append s.front (s.next ∷ s.rest);
     rooms = [];
     kept = room_free s.front;
     why = plain_why s.front s.next s.at fault s.how;
@@ -77,17 +77,17 @@ module _ {A : Type 0} (p : Format A) (cells : A → List Cell) where
     value = x;
     fits = f.fits;
     same = refl;
-    parts = f.parts ∙ ap (λ (t : List ℕ). t ++ rest) (sym (flat-marked (cells x)));
+    parts = f.parts ∙ ap (λ (t : List ℕ). t ++ rest) (sym (flat-byte_marks (cells x)));
     rest_fits = f.rest_fits;
     kept = room_free (cells x);
-    again = λ follow g. ap (λ (t : List ℕ). p.reading (t ++ follow)) (flat-marked (cells x)) ∙ f.again follow g;
+    again = λ follow g. ap (λ (t : List ℕ). p.reading (t ++ follow)) (flat-byte_marks (cells x)) ∙ f.again follow g;
   }
 
   pub plain_content : Stopping p cells → Whole p cells → Content p.reading plain_marks plain_fits plain_is p.reading plain_res
   plain_content s w = record {
     takes = λ bytes x rest fits e. plain_kept bytes x rest (s.takes bytes x rest fits e);
     breaks = λ bytes fault fits e. plain_break bytes fault (s.stops bytes fault fits e);
-    whole = λ x fits follow. ap (λ (t : List ℕ). p.reading (t ++ follow)) (flat-marked (cells x)) ∙ w x fits follow;
+    whole = λ x fits follow. ap (λ (t : List ℕ). p.reading (t ++ follow)) (flat-byte_marks (cells x)) ∙ w x fits follow;
     some = s.some;
     some_fits = s.some_fits;
   }
@@ -142,23 +142,23 @@ module _ {X L F : Type 0} (real : List ℕ → Reading X) (m : L → List Mark) 
   abbrev pub sized_free : List ℕ → Reading F
   sized_free bytes = unsigned.reading bytes >>= λ n. free n.1
 
-  abbrev pub sized_fits : Sized L → Type 0
+  abbrev pub sized_fits : Part L → Type 0
   sized_fits p = (unsigned.fits p.size ≡ true) × ok p.content
 
-  abbrev pub sized_is : X → Sized L → Type 0
+  abbrev pub sized_is : X → Part L → Type 0
   sized_is x p = is x p.content
 
-  abbrev pub sized_res : Sized L → F
+  abbrev pub sized_res : Part L → F
   sized_res p = res p.content
 
   abbrev head : ℕ → List Mark
-  head n = marked (plain unsigned n)
+  head n = byte_marks (plain unsigned n)
 
-  abbrev sized_of : ℕ → L → Sized L
+  abbrev sized_of : ℕ → L → Part L
   sized_of n x = record { size = n; content = x }
 
   head_flat : (n : ℕ) → flat (head n ++ Opens n ∷ []) ≡ bytes_of (plain unsigned n)
-  head_flat n = flat-append (head n) (Opens n ∷ []) ∙ append-nil (flat (head n)) ∙ flat-marked (plain unsigned n)
+  head_flat n = flat-append (head n) (Opens n ∷ []) ∙ append-nil (flat (head n)) ∙ flat-byte_marks (plain unsigned n)
 
   opened : (n : ℕ) (x : L) → part_marks m (sized_of n x) ≡ (head n ++ Opens n ∷ []) ++ (m x ++ Closes ∷ [])
   opened n x = sym (append_assoc (head n) (Opens n ∷ []) (m x ++ Closes ∷ []))

@@ -10,10 +10,10 @@ use Rattle.wasm_code.specs.Parts.{entries}
 use Rattle.wasm_binary.specs.Binary.{header, func_type, table_type, memory_type, import, global, export, element, data_segment}
 use Rattle.wasm_code.proofs.Laws.{IsBytes}
 use Rattle.law_format.specs.Places.{Cell, bytes_of, others, plain, vector_cells, func_type_cells, import_cells, global_cells, element_cells, data_cells}
-use Rattle.law_format.specs.Layouts.{Sized, Mark, Byte, Opens, Closes, Last, marked, flat, within, part_marks, section_marks, entry_marks, body_cells, bodies_marks, Layout, layout_marks, Fits, part_fits, body_content, body_fits}
-use Rattle.law_format.specs.FirstFault.{CannotStand, Decides, Missing, Misplaced, Behind, Left, FirstFaultDecides}
+use Rattle.law_format.specs.Layouts.{Part, Mark, Byte, Opens, Closes, Last, byte_marks, flat, within, part_marks, section_marks, entry_marks, body_cells, bodies_marks, Layout, layout_marks, Fits, part_fits, body_content, body_fits}
+use Rattle.law_format.specs.FirstFault.{CannotStand, Decides, NoByte, WrongByte, ByteBehind, BytesLeft, FirstFaultDecides}
 use Rattle.law_format.proofs.Combined.{ok_no_err}
-use Rattle.law_format.proofs.Breaks.{flat-append, flat-marked, Why}
+use Rattle.law_format.proofs.Breaks.{flat-append, flat-byte_marks, Why}
 use Rattle.law_format.proofs.Spelled.{no_bytes, more_bytes, both_bytes, unsigned_bytes}
 use Rattle.law_format.proofs.Spellings.{fit_bytes, Spelling, cells_bytes, entries_spelling, unsigned_spelling, func_type_spelling, import_spelling, table_type_spelling, memory_type_spelling, global_spelling, export_spelling, element_spelling, data_spelling, body_spelling}
 use Rattle.law_format.proofs.Modules.{Y1, m1, m2, m3, m4, m5, m6, m7, m9, m10, m11, ok1, ok2, ok3, ok4, ok5, ok6, ok7, ok9, ok10, ok11, free1, skipping, module_chain, module_break}
@@ -36,7 +36,7 @@ abbrev of_layout : Layout → Y1
 of_layout l = (l.types, (l.imports, (l.functions, (l.tables, (l.memories, (l.globals, (l.exports, (l.elements, (l.bodies, (l.segments, tt))))))))))
 
 abbrev all_marks : Y1 → List Mark
-all_marks y = marked (others header) ++ m1 y
+all_marks y = byte_marks (others header) ++ m1 y
 
 same_marks : (y : Y1) → layout_marks (to_layout y) ≡ all_marks y
 unfolding m1 m2 m3 m4 m5 m6 m7 m9 m10 m11
@@ -68,11 +68,11 @@ ok_of l f = (f.types, (f.imports, (f.functions, (f.tables, (f.memories, (f.globa
 
 -- ---- a module's marks are bytes
 
-part_bytes : {A : Type 0} (marks : A → List Mark) (p : Sized A) → IsBytes (flat (marks p.content)) → IsBytes (flat (part_marks marks p))
+part_bytes : {A : Type 0} (marks : A → List Mark) (p : Part A) → IsBytes (flat (marks p.content)) → IsBytes (flat (part_marks marks p))
 part_bytes marks p h =
     let inner : IsBytes (flat (marks p.content ++ Closes ∷ [])) = subst IsBytes (sym (flat-append (marks p.content) (Closes ∷ []))) (both_bytes (flat (marks p.content)) [] h no_bytes) in
-    let size : IsBytes (flat (marked (plain unsigned p.size))) = subst IsBytes (sym (flat-marked (plain unsigned p.size))) (cells_bytes_plain p.size) in
-    subst IsBytes (sym (flat-append (marked (plain unsigned p.size)) (Opens p.size ∷ (marks p.content ++ Closes ∷ [])))) (both_bytes (flat (marked (plain unsigned p.size))) (flat (marks p.content ++ Closes ∷ [])) size inner)
+    let size : IsBytes (flat (byte_marks (plain unsigned p.size))) = subst IsBytes (sym (flat-byte_marks (plain unsigned p.size))) (cells_bytes_plain p.size) in
+    subst IsBytes (sym (flat-append (byte_marks (plain unsigned p.size)) (Opens p.size ∷ (marks p.content ++ Closes ∷ [])))) (both_bytes (flat (byte_marks (plain unsigned p.size))) (flat (marks p.content ++ Closes ∷ [])) size inner)
   where
     cells_bytes_plain : (n : ℕ) → IsBytes (bytes_of (plain unsigned n))
     cells_bytes_plain n = subst IsBytes (sym (unsigned_spelling.spelled n)) (unsigned_bytes n)
@@ -82,36 +82,33 @@ section_bytes k p cells s small size [] h = no_bytes
 section_bytes k p cells s small size (x ∷ xs) h =
     let f = and_parts (unsigned.fits size) ((entries p).fits (x ∷ xs)) h in
     more_bytes k (flat (part_marks (entry_marks cells) (record { size = size; content = x ∷ xs }))) small
-    (part_bytes (entry_marks cells) (record { size = size; content = x ∷ xs }) (subst IsBytes (sym (flat-marked (vector_cells cells (x ∷ xs)))) (cells_bytes (entries p) (vector_cells cells) (entries_spelling p cells s) (x ∷ xs) f.1)))
+    (part_bytes (entry_marks cells) (record { size = size; content = x ∷ xs }) (subst IsBytes (sym (flat-byte_marks (vector_cells cells (x ∷ xs)))) (cells_bytes (entries p) (vector_cells cells) (entries_spelling p cells s) (x ∷ xs) f.1)))
 
-one_body : Sized Body → List Mark
-one_body b = part_marks (λ b. marked (body_cells b)) b
-
-bodies_bytes : (bs : List (Sized Body)) → list_all body_fits bs ≡ true → IsBytes (flat (flat_map (part_marks (λ (b : Body). marked (body_cells b))) bs))
+bodies_bytes : (bs : List (Part Body)) → list_all body_fits bs ≡ true → IsBytes (flat (flat_map (part_marks (λ (b : Body). byte_marks (body_cells b))) bs))
 bodies_bytes [] h = no_bytes
 bodies_bytes (b ∷ bs) h =
     let f = and_parts (body_fits b) (list_all body_fits bs) h in
     let g = and_parts (unsigned.fits b.size) (body_content.fits b.content) f.0 in
-    let one : IsBytes (flat (part_marks (λ (b : Body). marked (body_cells b)) b)) =
-    part_bytes (λ (b : Body). marked (body_cells b)) b (subst IsBytes (sym (flat-marked (body_cells b.content))) (cells_bytes body_content body_cells body_spelling b.content g.1)) in
-    subst IsBytes (sym (flat-append (part_marks (λ (b : Body). marked (body_cells b)) b) (flat_map (part_marks (λ (b : Body). marked (body_cells b))) bs)))
-    (both_bytes (flat (part_marks (λ (b : Body). marked (body_cells b)) b)) (flat (flat_map (part_marks (λ (b : Body). marked (body_cells b))) bs)) one (bodies_bytes bs f.1))
+    let one : IsBytes (flat (part_marks (λ (b : Body). byte_marks (body_cells b)) b)) =
+    part_bytes (λ (b : Body). byte_marks (body_cells b)) b (subst IsBytes (sym (flat-byte_marks (body_cells b.content))) (cells_bytes body_content body_cells body_spelling b.content g.1)) in
+    subst IsBytes (sym (flat-append (part_marks (λ (b : Body). byte_marks (body_cells b)) b) (flat_map (part_marks (λ (b : Body). byte_marks (body_cells b))) bs)))
+    (both_bytes (flat (part_marks (λ (b : Body). byte_marks (body_cells b)) b)) (flat (flat_map (part_marks (λ (b : Body). byte_marks (body_cells b))) bs)) one (bodies_bytes bs f.1))
 
-code_bytes : (size : ℕ) (bs : List (Sized Body)) → part_fits (list_all body_fits) size bs ≡ true → IsBytes (flat (section_marks 10 bodies_marks (record { size = size; content = bs })))
+code_bytes : (size : ℕ) (bs : List (Part Body)) → part_fits (list_all body_fits) size bs ≡ true → IsBytes (flat (section_marks 10 bodies_marks (record { size = size; content = bs })))
 code_bytes size [] h = no_bytes
 code_bytes size (b ∷ bs) h =
     let f = and_parts (unsigned.fits size) (list_all body_fits (b ∷ bs)) h in
-    let count : List Mark = marked (plain unsigned (length (b ∷ bs))) in
-    let each : List Mark = flat_map (part_marks (λ (b : Body). marked (body_cells b))) (b ∷ bs) in
-    let counted : IsBytes (flat count) = subst IsBytes (sym (flat-marked (plain unsigned (length (b ∷ bs))) ∙ unsigned_spelling.spelled (length (b ∷ bs)))) (unsigned_bytes (length (b ∷ bs))) in
+    let count : List Mark = byte_marks (plain unsigned (length (b ∷ bs))) in
+    let each : List Mark = flat_map (part_marks (λ (b : Body). byte_marks (body_cells b))) (b ∷ bs) in
+    let counted : IsBytes (flat count) = subst IsBytes (sym (flat-byte_marks (plain unsigned (length (b ∷ bs))) ∙ unsigned_spelling.spelled (length (b ∷ bs)))) (unsigned_bytes (length (b ∷ bs))) in
     more_bytes 10 (flat (part_marks bodies_marks (record { size = size; content = b ∷ bs }))) (omega arith)
     (part_bytes bodies_marks (record { size = size; content = b ∷ bs }) (subst IsBytes (sym (flat-append count each)) (both_bytes (flat count) (flat each) counted (bodies_bytes (b ∷ bs) f.1))))
 
 both_flat : (xs ys : List Mark) → IsBytes (flat xs) → IsBytes (flat ys) → IsBytes (flat (xs ++ ys))
 both_flat xs ys h g = subst IsBytes (sym (flat-append xs ys)) (both_bytes (flat xs) (flat ys) h g)
 
-header_bytes : IsBytes (flat (marked (others header)))
-header_bytes = fit_bytes (flat (marked (others header))) refl
+header_bytes : IsBytes (flat (byte_marks (others header)))
+header_bytes = fit_bytes (flat (byte_marks (others header))) refl
 
 layout_bytes : (l : Layout) → Fits l → IsBytes (flat (layout_marks l))
 layout_bytes l f =
@@ -146,7 +143,7 @@ layout_bytes l f =
     let s1 : List Mark = section_marks 1 (entry_marks func_type_cells) l.types in
     let from1 : List Mark = s1 ++ from2 in
     let b1 : IsBytes (flat from1) = both_flat s1 from2 (section_bytes 1 func_type func_type_cells func_type_spelling (omega arith) l.types.size l.types.content f.types) b2 in
-    both_flat (marked (others header)) from1 header_bytes b1
+    both_flat (byte_marks (others header)) from1 header_bytes b1
 
 -- ---- the first fault
 
@@ -165,15 +162,15 @@ cannot_stand front b fault h place g =
 too_large : (front : List Mark) (rooms window : List ℕ) (fault : WFault) → Why free (flat front) Closes rooms window fault → Decides front Closes rooms window fault
 too_large front [] window fault h = absurd h.0
 too_large front (zero ∷ rooms) window fault h = absurd h.0
-too_large front (suc n ∷ rooms) window fault h = subst (λ (f : WFault). Decides front Closes (suc n ∷ rooms) window f) (sym h.1) (Left n rooms window)
+too_large front (suc n ∷ rooms) window fault h = subst (λ (f : WFault). Decides front Closes (suc n ∷ rooms) window f) (sym h.1) (BytesLeft n rooms window)
 
 decided : (front : List Mark) (next : Mark) (rooms window : List ℕ) (fault : WFault) → Why free (flat front) next rooms window fault → Decides front next rooms window fault
-decided front (Byte cell) rooms [] fault h = subst (λ (f : WFault). Decides front (Byte cell) rooms [] f) (sym h) (Missing cell rooms)
-decided front (Byte (place, c)) rooms (b ∷ more) fault h = subst (λ (f : WFault). Decides front (Byte (place, c)) rooms (b ∷ more) f) (sym h.0) (Misplaced place c b more rooms (cannot_stand front b fault h.1))
+decided front (Byte cell) rooms [] fault h = subst (λ (f : WFault). Decides front (Byte cell) rooms [] f) (sym h) (NoByte cell rooms)
+decided front (Byte (place, c)) rooms (b ∷ more) fault h = subst (λ (f : WFault). Decides front (Byte (place, c)) rooms (b ∷ more) f) (sym h.0) (WrongByte place c b more rooms (cannot_stand front b fault h.1))
 decided front (Opens size) rooms window fault h = absurd h
 decided front Closes rooms window fault h = too_large front rooms window fault h
 decided front Last rooms [] fault h = absurd h
-decided front Last rooms (b ∷ more) fault h = subst (λ (f : WFault). Decides front Last rooms (b ∷ more) f) (sym h.0) (Behind b more rooms (cannot_stand front b fault h.1))
+decided front Last rooms (b ∷ more) fault h = subst (λ (f : WFault). Decides front Last rooms (b ∷ more) f) (sym h.0) (ByteBehind b more rooms (cannot_stand front b fault h.1))
 
 pub first_fault_decides : FirstFaultDecides
 first_fault_decides bytes fits fault e =

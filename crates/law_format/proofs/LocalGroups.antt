@@ -7,15 +7,15 @@ use Rattle.wasm_tree.specs.declared.fault.WFault.TheVariants.{Malformed}
 use Rattle.wasm_tree.specs.declared.kinds.ValueType.{ValueType}
 use Rattle.wasm_tree.specs.declared.kinds.ValueType.TheVariants.{I32}
 use Rattle.wasm_tree.specs.declared.module.Locals.{Locals}
-use Rattle.wasm_tree.specs.declared.module.Body.{Body}
 use Rattle.wasm_tree.specs.Format.{Format, Reading, ◌>>=◌}
 use Rattle.wasm_code.specs.Number.{unsigned}
-use Rattle.wasm_code.specs.Parts.{◌◂◌, ◌·◌, as_value, vector, with_size, bytes_left}
+use Rattle.wasm_code.specs.Parts.{◌◂◌, ◌·◌, vector, with_size, bytes_left}
 use Rattle.wasm_code.specs.Instructions.{value_type, code}
 use Rattle.wasm_binary.specs.Binary.{global, element, data_segment, locals_at, locals_encoding, local_count, locals}
 use Rattle.wasm_code.proofs.Laws.{read_is}
 use Rattle.wasm_code.proofs.LawsTagged.{value_type_fits}
 use Rattle.law_format.specs.Places.{OtherByte, Cell, plain, value_type_cells, code_cells, global_cells, element_cells, data_cells, group_cells, locals_cells}
+use Rattle.law_format.specs.Layouts.{body_content}
 use Rattle.law_format.proofs.Stops.{front_at, Stopping}
 use Rattle.law_format.proofs.Combined.{ok_no_err, bind_same, bound_takes, bound_stops, then_stops, value_stops, behind_stops}
 use Rattle.law_format.proofs.Numbers.{in_range, ranged}
@@ -160,13 +160,7 @@ locals_stops = record {
   some_fits = refl;
 }
 
--- ---- what stands in a body behind its size
-
-abbrev pub body_content : Format Body
-body_content = as_value (λ p. record { locals = p.0; code = p.1 }) (λ b. (b.locals, b.code)) (locals · code)
-
-abbrev pub body_cells : Body → List Cell
-body_cells b = locals_cells b.locals ++ code_cells b.code
+-- ---- bodies
 
 pub body_stops : Stopping body_content (λ b. locals_cells b.locals ++ code_cells b.code)
 body_stops =

@@ -23,7 +23,7 @@ use Rattle.wasm_code.proofs.LawsParts.{Past}
 use Rattle.wasm_binary.proofs.LawsKinds.{func_type_law, table_type_law, memory_type_law}
 use Rattle.wasm_binary.proofs.LawsBinary.{import_law, global_law, export_law, element_law, data_segment_law}
 use Rattle.law_format.specs.Places.{others, plain, func_type_cells, import_cells, global_cells, element_cells, data_cells}
-use Rattle.law_format.specs.Layouts.{Sized, Mark, marked, flat, section_marks, entry_marks, bodies_marks, part_fits, section_fits, body_fits}
+use Rattle.law_format.specs.Layouts.{Part, Mark, byte_marks, flat, section_marks, entry_marks, bodies_marks, part_fits, section_fits, body_fits}
 use Rattle.law_format.proofs.Combined.{failed, err_is, ok_no_err}
 use Rattle.law_format.proofs.Widths.{unsigned_stops}
 use Rattle.law_format.proofs.Entries.{entries_stops, func_type_stops, table_type_stops, memory_type_stops, import_stops, export_stops}
@@ -36,7 +36,7 @@ use Rattle.law_format.proofs.CodeSection.{code_free, code_chain, code_is_past}
 -- ---- data
 
 abbrev pub Y11 : Type 0
-Y11 = Sized (List Data) × Unit {0}
+Y11 = Part (List Data) × Unit {0}
 
 pub real11 : List ℕ → Ends
 real11 = real_section 11 data_segment (λ xs. at_end)
@@ -61,7 +61,7 @@ past11 = section_is_past 11 data_segment data_cells (entries_stops data_segment 
 -- ---- code
 
 abbrev pub Y10 : Type 0
-Y10 = Sized (List (Sized Body)) × Y11
+Y10 = Part (List (Part Body)) × Y11
 
 pub real10 : List ℕ → List ℕ → Ends
 real10 types bytes = code_section types bytes >>= λ x. real11 x.1
@@ -86,7 +86,7 @@ past10 types y h = code_is_past real11 free11 m11 ok11 chain11 types past11 y h
 -- ---- elements
 
 abbrev pub Y9 : Type 0
-Y9 = Sized (List Element) × Y10
+Y9 = Part (List Element) × Y10
 
 pub real9 : List ℕ → List ℕ → Ends
 real9 types = real_section 9 element (λ xs. real10 types)
@@ -111,7 +111,7 @@ past9 types few = section_is_past 9 element element_cells (entries_stops element
 -- ---- exports
 
 abbrev pub Y7 : Type 0
-Y7 = Sized (List Export) × Y9
+Y7 = Part (List Export) × Y9
 
 pub real7 : List ℕ → List ℕ → Ends
 real7 types = real_section 7 export (λ xs. real9 types)
@@ -136,7 +136,7 @@ past7 types few = section_is_past 7 export (plain export) (entries_stops export 
 -- ---- globals
 
 abbrev pub Y6 : Type 0
-Y6 = Sized (List Global) × Y7
+Y6 = Part (List Global) × Y7
 
 pub real6 : List ℕ → List ℕ → Ends
 real6 types = real_section 6 global (λ xs. real7 types)
@@ -161,7 +161,7 @@ past6 types few = section_is_past 6 global global_cells (entries_stops global gl
 -- ---- memories
 
 abbrev pub Y5 : Type 0
-Y5 = Sized (List MemoryType) × Y6
+Y5 = Part (List MemoryType) × Y6
 
 pub real5 : List ℕ → List ℕ → Ends
 real5 types = real_section 5 memory_type (λ xs. real6 types)
@@ -186,7 +186,7 @@ past5 types few = section_is_past 5 memory_type (plain memory_type) (entries_sto
 -- ---- tables
 
 abbrev pub Y4 : Type 0
-Y4 = Sized (List TableType) × Y5
+Y4 = Part (List TableType) × Y5
 
 pub real4 : List ℕ → List ℕ → Ends
 real4 types = real_section 4 table_type (λ xs. real5 types)
@@ -245,7 +245,7 @@ past_uses : (y : Y4) → ok4 [] y → Past 3 (flat (m4 y))
 past_uses y h = past4 [] none_few y h
 
 abbrev pub Y3 : Type 0
-Y3 = Sized (List ℕ) × Y4
+Y3 = Part (List ℕ) × Y4
 
 pub real3 : List ℕ → Ends
 real3 = real_section 3 unsigned real4
@@ -270,7 +270,7 @@ past3 = section_is_past 3 unsigned (plain unsigned) (entries_stops unsigned (pla
 -- ---- imports
 
 abbrev pub Y2 : Type 0
-Y2 = Sized (List Import) × Y3
+Y2 = Part (List Import) × Y3
 
 pub real2 : List ℕ → Ends
 real2 = real_section 2 import (λ xs. real3)
@@ -295,7 +295,7 @@ past2 = section_is_past 2 import import_cells (entries_stops import import_cells
 -- ---- types
 
 abbrev pub Y1 : Type 0
-Y1 = Sized (List FuncType) × Y2
+Y1 = Part (List FuncType) × Y2
 
 pub real1 : List ℕ → Ends
 real1 = real_section 1 func_type (λ xs. real2)
@@ -335,10 +335,10 @@ skipping_is (h ∷ hs) next bytes = inner (skip h bytes) (λ rest. skipping_is h
     inner (Ok s) k = k s.1
     inner (Err f) k = refl
 
-skipping_chain : (hs : List ℕ) → Chain (skipping hs real1) (skipping hs free1) (λ y. marked (others hs) ++ m1 y) ok1
+skipping_chain : (hs : List ℕ) → Chain (skipping hs real1) (skipping hs free1) (λ y. byte_marks (others hs) ++ m1 y) ok1
 unfolding skipping
 skipping_chain [] = chain1
-skipping_chain (h ∷ hs) = skip_chain h (skipping hs real1) (skipping hs free1) (λ y. marked (others hs) ++ m1 y) ok1 (skipping_chain hs)
+skipping_chain (h ∷ hs) = skip_chain h (skipping hs real1) (skipping hs free1) (λ y. byte_marks (others hs) ++ m1 y) ok1 (skipping_chain hs)
 
 -- a module read by its sections, and what is left of it is its end
 bind_fails : {A B : Type 0} (r : Result A WFault) (f : A → Result B WFault) (g : A → Ends) (fault : WFault) → (r >>= f) ≡ Err fault → ((x : A) → f x ≡ Err fault → g x ≡ Err fault) → (r >>= g) ≡ Err fault
@@ -365,9 +365,9 @@ module_fails bytes fault e =
     bind_fails ((section 11 data_segment).reading functions.1) _ _ fault e10 (λ segments e11.
     end_fails (at_end segments.1) _ fault e11)))))))))))
 
-pub module_chain : Chain (skipping header real1) (skipping header free1) (λ y. marked (others header) ++ m1 y) ok1
+pub module_chain : Chain (skipping header real1) (skipping header free1) (λ y. byte_marks (others header) ++ m1 y) ok1
 module_chain = skipping_chain header
 
-pub module_break : (bytes : List ℕ) (fault : WFault) → IsBytes bytes → module_at bytes ≡ Err fault → Break (λ y. marked (others header) ++ m1 y) ok1 (skipping header free1) bytes fault
+pub module_break : (bytes : List ℕ) (fault : WFault) → IsBytes bytes → module_at bytes ≡ Err fault → Break (λ y. byte_marks (others header) ++ m1 y) ok1 (skipping header free1) bytes fault
 unfolding header_real
 module_break bytes fault fits e = module_chain.breaks bytes fault fits (skipping_is header real1 bytes ∙ module_fails bytes fault e)

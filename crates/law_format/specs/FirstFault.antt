@@ -22,15 +22,15 @@ CannotStand front b = (place : Place) → ¬ (Begins front (Byte (place, b)))
 -- within these sizes, and the fault.
 pub data Decides (front : List Mark) : Mark → List ℕ → List ℕ → WFault → Type 0 where
   -- a byte is missing: there is none, or a stated size is used up
-  Missing : (cell : Cell) (rooms : List ℕ) → Decides front (Byte cell) rooms [] Malformed
+  NoByte : (cell : Cell) (rooms : List ℕ) → Decides front (Byte cell) rooms [] Malformed
   -- the next byte cannot stand there
-  Misplaced : (place : Place) (c b : ℕ) (more rooms : List ℕ) → CannotStand front b
+  WrongByte : (place : Place) (c b : ℕ) (more rooms : List ℕ) → CannotStand front b
       → Decides front (Byte (place, c)) rooms (b ∷ more) (fault_at place)
-  -- a byte stands behind the module, where a section number might stand
-  Behind : (b : ℕ) (more rooms : List ℕ) → CannotStand front b
+  -- a byte stands behind the module, in the place of a section number
+  ByteBehind : (b : ℕ) (more rooms : List ℕ) → CannotStand front b
       → Decides front Last rooms (b ∷ more) (fault_at SectionNumber)
   -- a part ends before its stated size
-  Left : (n : ℕ) (rooms bytes : List ℕ) → Decides front Closes (suc n ∷ rooms) bytes Malformed
+  BytesLeft : (n : ℕ) (rooms bytes : List ℕ) → Decides front Closes (suc n ∷ rooms) bytes Malformed
 
 -- Behind these marks, in which each stated size is kept, the fault is decided.
 pub record FirstFault (bytes : List ℕ) (fault : WFault) : Type 0 where

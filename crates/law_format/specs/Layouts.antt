@@ -19,20 +19,20 @@ use Rattle.wasm_binary.specs.Binary.{header, func_type, table_type, memory_type,
 use Rattle.law_format.specs.Places.{SectionNumber, Cell, others, plain, vector_cells, func_type_cells, import_cells, global_cells, element_cells, data_cells, locals_cells, code_cells}
 
 -- a part, and how many bytes are stated of it
-pub record Sized (A : Type 0) : Type 0 where
+pub record Part (A : Type 0) : Type 0 where
   pub size : ℕ
   pub content : A
 
--- A byte with its place, the begin of a part that is stated to take so many bytes, the end of a
--- part, or the end of the module.
+-- a byte with its place, the begin of a part with its stated size, the end of a part, or the end of
+-- the module
 pub data Mark : Type 0 where
   Byte : (cell : Cell) → Mark
   Opens : (size : ℕ) → Mark
   Closes : Mark
   Last : Mark
 
-abbrev pub marked : List Cell → List Mark
-marked cells = map Byte cells
+abbrev pub byte_marks : List Cell → List Mark
+byte_marks cells = map Byte cells
 
 -- the bytes of these marks
 abbrev pub flat : List Mark → List ℕ
@@ -44,41 +44,42 @@ flat (Last ∷ marks) = flat marks
 
 -- ---- the marks of a module
 
-abbrev pub part_marks : {A : Type 0} → (A → List Mark) → Sized A → List Mark
+abbrev pub part_marks : {A : Type 0} → (A → List Mark) → Part A → List Mark
 part_marks marks p =
-    marked (plain unsigned p.size) ++ (Opens p.size ∷ (marks p.content ++ Closes ∷ []))
+    byte_marks (plain unsigned p.size) ++ (Opens p.size ∷ (marks p.content ++ Closes ∷ []))
 
 -- what has no entry is left out
 abbrev pub if_some : {A : Type 0} → List A → List Mark → List Mark
 if_some [] marks = []
 if_some (x ∷ xs) marks = marks
 
-abbrev pub section_marks : {A : Type 0} → (number : ℕ) → (List A → List Mark) → Sized (List A)
+abbrev pub section_marks : {A : Type 0} → (number : ℕ) → (List A → List Mark) → Part (List A)
     → List Mark
 section_marks number marks s =
     if_some s.content (Byte (SectionNumber, number) ∷ part_marks marks s)
 
 abbrev pub entry_marks : {A : Type 0} → (A → List Cell) → List A → List Mark
-entry_marks cells xs = marked (vector_cells cells xs)
+entry_marks cells xs = byte_marks (vector_cells cells xs)
 
 abbrev pub body_cells : Body → List Cell
 body_cells b = locals_cells b.locals ++ code_cells b.code
 
-abbrev pub bodies_marks : List (Sized Body) → List Mark
+abbrev pub bodies_marks : List (Part Body) → List Mark
 bodies_marks bs =
-    marked (plain unsigned (length bs)) ++ flat_map (part_marks (λ b. marked (body_cells b))) bs
+    byte_marks (plain unsigned (length bs))
+    ++ flat_map (part_marks (λ b. byte_marks (body_cells b))) bs
 
 pub record Layout : Type 0 where
-  pub types : Sized (List FuncType)
-  pub imports : Sized (List Import)
-  pub functions : Sized (List ℕ)
-  pub tables : Sized (List TableType)
-  pub memories : Sized (List MemoryType)
-  pub globals : Sized (List Global)
-  pub exports : Sized (List Export)
-  pub elements : Sized (List Element)
-  pub bodies : Sized (List (Sized Body))
-  pub segments : Sized (List Data)
+  pub types : Part (List FuncType)
+  pub imports : Part (List Import)
+  pub functions : Part (List ℕ)
+  pub tables : Part (List TableType)
+  pub memories : Part (List MemoryType)
+  pub globals : Part (List Global)
+  pub exports : Part (List Export)
+  pub elements : Part (List Element)
+  pub bodies : Part (List (Part Body))
+  pub segments : Part (List Data)
 
 abbrev pub last_marks : Layout → List Mark
 last_marks l =
@@ -95,7 +96,7 @@ middle_marks l =
 
 abbrev pub layout_marks : Layout → List Mark
 layout_marks l =
-    marked (others header)
+    byte_marks (others header)
     ++ (section_marks 1 (entry_marks func_type_cells) l.types
     ++ (section_marks 2 (entry_marks import_cells) l.imports
     ++ (section_marks 3 (entry_marks (plain unsigned)) l.functions ++ middle_marks l)))
@@ -107,7 +108,7 @@ abbrev pub part_fits : {A : Type 0} → (List A → Bool) → (size : ℕ) → L
 part_fits fits size [] = true
 part_fits fits size (x ∷ xs) = unsigned.fits size && fits (x ∷ xs)
 
-abbrev pub section_fits : {A : Type 0} → Format A → Sized (List A) → Type 0
+abbrev pub section_fits : {A : Type 0} → Format A → Part (List A) → Type 0
 section_fits p s = part_fits (entries p).fits s.size s.content ≡ true
 
 -- what stands in a body behind its size
@@ -115,7 +116,7 @@ abbrev pub body_content : Format Body
 body_content =
     as_value (λ p. record { locals = p.0; code = p.1 }) (λ b. (b.locals, b.code)) (locals · code)
 
-abbrev pub body_fits : Sized Body → Bool
+abbrev pub body_fits : Part Body → Bool
 body_fits b = unsigned.fits b.size && body_content.fits b.content
 
 pub record Fits (l : Layout) : Type 0 where

@@ -79,7 +79,7 @@ abbrev pub else_cells : Option (List (List Cell)) → List Cell
 else_cells None = []
 else_cells (Some is) = (Opcode, 0x05) ∷ flat_map (λ i. i) is
 
--- an instruction, where each one inside it is given by its cells
+-- an instruction, from the cells of each one inside it
 abbrev pub cells_step : Instr-F (List Cell) → List Cell
 cells_step layer.Unreachable = opcode 0x00 []
 cells_step (layer.Block t is) =
