@@ -79,11 +79,8 @@ fn holds_others(op: &Op) -> bool
         → (behind op.now rest ≡ rest) × ((c : Context) → CodeFits c (open_instruction op.now rest)) }
 {
     match op {
-        Op::Block(_, _)
-        | Op::Loop(_, _)
-        | Op::If(_, _)
-        | Op::IfElse(_, _, _)
-        | Op::BrTable(_, _) => true,
+        Op::Block(_, _) | Op::Loop(_, _) | Op::If(_, _) | Op::IfElse(_, _, _) | Op::BrTable(_, _) =>
+            true,
         Op::Unreachable
         | Op::Br(_)
         | Op::BrIf(_)
