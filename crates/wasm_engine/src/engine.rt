@@ -298,6 +298,7 @@ impl<'a> Instances<'a> {
 }
 
 /// Makes reductions up to this many, or up to the first one that prints, ends the run or traps.
+#[inline(always)]
 fn go<'a>(
     alloc: Global,
     modules: &'a [ValidModule],
@@ -314,8 +315,15 @@ fn go<'a>(
     loop {
         let (count, reduced) = several(alloc, modules, table, machine, left)?;
         left -= count;
-        if reduced != Reduced::On || left == 0 {
-            return Ok((most - left, reduced));
+        match reduced {
+            Reduced::On => {
+                if left == 0 {
+                    return Ok((most, Reduced::On));
+                }
+            }
+            Reduced::Printed(_) | Reduced::Over(_) | Reduced::Trapped => {
+                return Ok((most - left, reduced));
+            }
         }
     }
 }

@@ -7,6 +7,7 @@ ghost use Rattle.wasm_tree.specs.Numbers.{truth, compares, operation_result, ext
 use wasm_tree::{Load, Operation, Relation};
 
 /// 1 where it holds, else 0.
+#[inline(always)]
 pub fn truth(holds: bool) -> u32
     ensures { result ≡ truth holds }
 {
@@ -14,6 +15,7 @@ pub fn truth(holds: bool) -> u32
 }
 
 /// Whether two numbers of 32 bits compare so.
+#[inline(always)]
 pub fn compares_32(relation: Relation, n: u32, m: u32) -> bool
     ensures { result ≡ compares w32 relation n m }
 {
@@ -32,6 +34,7 @@ pub fn compares_32(relation: Relation, n: u32, m: u32) -> bool
 }
 
 /// Whether two numbers of 64 bits compare so.
+#[inline(always)]
 pub fn compares_64(relation: Relation, n: u64, m: u64) -> bool
     ensures { result ≡ compares w64 relation n m }
 {
@@ -85,6 +88,7 @@ fn division_of(operation: Operation, n: u64, m: u64) -> Option<u64>
 }
 
 /// What is made of two numbers of 64 bits, or nothing where it is not defined.
+#[inline(always)]
 pub fn operation_result(operation: Operation, n: u64, m: u64) -> Option<u64>
     ensures { result ≡ operation_result operation n m }
 {

@@ -223,6 +223,7 @@ fn with_memory<'a>(scope: &Scope<'_>, effect: Effect<'a>) -> Option<Effect<'a>>
 }
 
 /// What the instruction does to the operands, whatever code stands inside it. Nothing where it names what is not there.
+#[inline(always)]
 pub fn effect_of<'a>(
     frame: &Frame<'a>,
     blocks: &Items<Option<ValueType>>,

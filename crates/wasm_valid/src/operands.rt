@@ -58,6 +58,7 @@ impl Spares {
 }
 
 /// Takes all operands off the list.
+#[inline(always)]
 fn empty(known: &mut Items<ValueType>)
     ensures { known.new ≡ [] }
 {
@@ -67,6 +68,7 @@ fn empty(known: &mut Items<ValueType>)
 }
 
 /// No operands.
+#[inline(always)]
 pub fn no_operands(spares: &mut Spares) -> Operands
     ensures { (result.known ≡ []) × (result.any_below ≡ false) }
 {
@@ -88,6 +90,7 @@ fn is_same(left: ValueType, right: ValueType) -> bool
 }
 
 /// Takes an operand of this type.
+#[inline(always)]
 fn take(operands: &mut Operands, wanted: ValueType) -> bool
     ensures { TakesIf result operands.old operands.new (wanted ∷ []) }
 {
@@ -98,6 +101,7 @@ fn take(operands: &mut Operands, wanted: ValueType) -> bool
 }
 
 /// Takes operands of these types, the last of them first.
+#[inline(always)]
 fn take_all(operands: &mut Operands, wanted: &[ValueType]) -> bool
     ensures { TakesIf result operands.old operands.new wanted.now }
 {
@@ -112,6 +116,7 @@ fn take_all(operands: &mut Operands, wanted: &[ValueType]) -> bool
 }
 
 /// Takes any operand.
+#[inline(always)]
 fn drop_one(operands: &mut Operands) -> Result<(), WFault>
     ensures steps { Steps result (Rule Drops) operands.old operands.new }
     ensures memory { result ≢ Err WFault.NoMemory }
@@ -124,6 +129,7 @@ fn drop_one(operands: &mut Operands) -> Result<(), WFault>
 }
 
 /// Puts operands of these types on top.
+#[inline(always)]
 fn put_all(operands: &mut Operands, given: &[ValueType]) -> Result<(), WFault>
     ensures { Settles result (Puts operands.old operands.new given.now) ⊥ }
 {
@@ -134,6 +140,7 @@ fn put_all(operands: &mut Operands, given: &[ValueType]) -> Result<(), WFault>
 }
 
 /// Takes the second list and then the first, and puts the third on top.
+#[inline(always)]
 fn exchange(
     operands: &mut Operands,
     first: &[ValueType],
@@ -197,6 +204,7 @@ fn exchange_few(
 }
 
 /// Takes the second and then the first, each where there is one. Any operands may stand behind it.
+#[inline(always)]
 fn leave(
     operands: &mut Operands,
     first: Option<ValueType>,
@@ -224,6 +232,7 @@ pub fn types_of(value_type: &Option<ValueType>) -> &[ValueType]
 }
 
 /// What the effect does to the operands. `Invalid` where they are other ones.
+#[inline(always)]
 pub fn affect(operands: &mut Operands, effect: Effect<'_>) -> Result<(), WFault>
     ensures { Steps result (Rule (change_of effect.entry)) operands.old operands.new }
 {
@@ -244,6 +253,7 @@ pub fn affect(operands: &mut Operands, effect: Effect<'_>) -> Result<(), WFault>
 }
 
 /// Whether the operands may be these alone.
+#[inline(always)]
 pub fn may_be(operands: &mut Operands, wanted: &[ValueType]) -> bool
     ensures { IsTrue result ↔ Stands operands.old wanted.now }
 {

@@ -1,9 +1,9 @@
 //! Which operands code takes and gives (Core 1.0, section 3.3).
 
-ghost use Rattle.std.specs.Prelude.{◌≢◌, Err, ◌≡◌, ◌++◌, ◌∷◌, [], List, map, true, All, IsTrue, OnOk, MatchOption, ◌↔◌, slice_get};
+ghost use Rattle.std.specs.Prelude.{◌≢◌, Err, ◌≡◌, ◌++◌, ◌∷◌, [], List, map, true, All, IfOk, IsTrue, OnOk, MatchOption, ◌↔◌, false, slice_get};
 ghost use Rattle.wasm_tree.specs.declared.code.Op.{Op};
 ghost use Rattle.wasm_tree.specs.Code.{tree, behind, label_of};
-ghost use Rattle.wasm_tree.specs.Validity.{Leads, is_constant, IsConstant, IsConstantOf, result_types, within};
+ghost use Rattle.wasm_tree.specs.Validity.{Context, Leads, is_constant, IsConstant, IsConstantOf, result_types, within};
 ghost use Rattle.wasm_valid.specs.CodeScope.{scope_of};
 ghost use Rattle.wasm_valid.specs.Framed.{frame_context, labels_of};
 ghost use Rattle.wasm_valid.specs.Opened.{open_instruction};
@@ -29,6 +29,7 @@ fn front_of(ops: &[Op]) -> Option<(&Op, &[Op])>
 }
 
 /// What the instruction does to the operands, whatever code stands inside it.
+#[inline(always)]
 fn step(
     frame: &Frame<'_>,
     blocks: &Items<Option<ValueType>>,
@@ -59,6 +60,7 @@ fn check_labels(blocks: &[Option<ValueType>], branches: &[Op], last: u32) -> Res
 }
 
 /// Whether the operands may be these alone.
+#[inline(always)]
 fn check_last(operands: &mut Operands, wanted: Option<ValueType>) -> Result<(), WFault>
     ensures fits { Decides result (Stands operands.old (result_types wanted)) }
     ensures memory { result ≢ Err WFault.NoMemory }
@@ -70,8 +72,58 @@ fn check_last(operands: &mut Operands, wanted: Option<ValueType>) -> Result<(), 
     }
 }
 
+/// Whether others stand inside the instruction, or labels.
+#[inline(always)]
+fn holds_others(op: &Op) -> bool
+    ensures { (rest : List Op) → result ≡ false
+        → (behind op.now rest ≡ rest) × ((c : Context) → CodeFits c (open_instruction op.now rest)) }
+{
+    match op {
+        Op::Block(_, _) | Op::Loop(_, _) | Op::If(_, _) | Op::IfElse(_, _, _) | Op::BrTable(_, _) =>
+            true,
+        Op::Unreachable
+        | Op::Br(_)
+        | Op::BrIf(_)
+        | Op::Return
+        | Op::Call(_)
+        | Op::CallIndirect(_)
+        | Op::Drop
+        | Op::LocalGet(_)
+        | Op::LocalSet(_)
+        | Op::LocalTee(_)
+        | Op::GlobalGet(_)
+        | Op::Load(_)
+        | Op::Store(_)
+        | Op::I32Const(_)
+        | Op::I64Const(_)
+        | Op::Numeric(_) => false,
+    }
+}
+
+/// Checks what stands inside an instruction, at the front of the rest, and answers what stands behind it.
+#[cycle(code)]
+#[inline(always)]
+fn check_front<'a>(
+    spares: &mut Spares,
+    frame: &Frame<'_>,
+    blocks: &mut Items<Option<ValueType>>,
+    op: &Op,
+    rest: &'a [Op],
+) -> Result<&'a [Op], WFault>
+    ensures fits { Decides result (CodeFits (frame_context frame.now blocks.old) (open_instruction op.now rest.now)) }
+    ensures blocks { OnOk result (blocks.new ≡ blocks.old) }
+    ensures behind { IfOk result (λ x. x.now ≡ behind op.now rest.now) }
+{
+    if holds_others(op) {
+        check_inside(spares, frame, blocks, op, rest)?;
+        return Ok(behind(*op, rest));
+    }
+    Ok(rest)
+}
+
 /// Whether the code inside an instruction fits, which stands at the front of the rest.
 #[cycle(code)]
+#[inline(never)]
 fn check_inside(
     spares: &mut Spares,
     frame: &Frame<'_>,
@@ -151,9 +203,9 @@ pub fn check_code(
     let mut operands = no_operands(spares);
     let mut rest = code;
     'ops: while let Some((op, others)) = front_of(rest) {
-        check_inside(spares, frame, blocks, op, others)?;
+        let next = check_front(spares, frame, blocks, op, others)?;
         step(frame, blocks, op, &mut operands)?;
-        rest = behind(*op, others);
+        rest = next;
     }
     let decided = check_last(&mut operands, given);
     spares.keep(operands);
