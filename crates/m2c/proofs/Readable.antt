@@ -1,48 +1,53 @@
 -- Files that are there, and the first that is not.
-use Rattle.std.proofs.Common.{◌≡◌, ℕ, ◌<◌, suc, List, [], ◌∷◌, ◌++◌, length, take, drop, map, get_or, Some, None, sym, subst}
-use Rattle.run_directory.specs.Directory.{Files, Stays}
+use Rattle.std.proofs.Common.{◌≡◌, ℕ, ◌<◌, suc, List, [], ◌∷◌, ◌++◌, length, take, drop, map, get_or, Option, Some, None, refl, sym, subst}
+use Rattle.run_directory.specs.Directory.{Files, Reading, Read, HasRead}
+use Rattle.run_directory.proofs.Readings.{none_read, more_read}
 use Rattle.run_directory.proofs.Missing.{map_one_between}
 use Rattle.build_jobs.specs.declared.file.SourceFile.{SourceFile}
 use Rattle.m2c.specs.declared.ending.Ending.{Ending}
-use Rattle.m2c.specs.declared.ending.Ending.TheVariants.{Unbuilt, Unread, Refused, Saved}
 use Rattle.m2c.specs.Compiles.{IsGiven, AreGiven, Empty, More, Lacks, FirstLack}
 
-and_one : (gives : Files) (names : List (List ℕ)) (files : List SourceFile) (name : List ℕ) (file : SourceFile) → AreGiven gives names files → IsGiven gives name file → AreGiven gives (names ++ name ∷ []) (files ++ file ∷ [])
-and_one gives _ _ name file Empty h = More name file [] [] h Empty
-and_one gives _ _ name file (More n f ns fs first others) h = More n f (ns ++ name ∷ []) (fs ++ file ∷ []) first (and_one gives ns fs name file others h)
+and_one : (reads : List Reading) (names : List (List ℕ)) (files : List SourceFile) (reading : Reading) (name : List ℕ) (file : SourceFile) → AreGiven reads names files → IsGiven reading name file
+    → AreGiven (reads ++ reading ∷ []) (names ++ name ∷ []) (files ++ file ∷ [])
+and_one _ _ _ reading name file Empty h = More reading name file [] [] [] h Empty
+and_one _ _ _ reading name file (More r n f rs ns fs first others) h = More r n f (rs ++ reading ∷ []) (ns ++ name ∷ []) (fs ++ file ∷ []) first (and_one rs ns fs reading name file others h)
 
--- what is lacking later is lacking now
-lacks_before : (now later : Files) (stays : Stays now later) (name : List ℕ) (e : Ending) → Lacks later name e → Lacks now name e
-lacks_before now later stays name (Unread reported) h = (h.0, stays name None h.1)
-lacks_before now later stays name (Unbuilt fault) h = h
-lacks_before now later stays name (Refused all) h = h
-lacks_before now later stays name (Saved answer) h = h
+module _ {I : Type 0} (readings : I → Option (List Reading)) (gives : I → Files) where
+  -- the files of these names are there
+  abbrev pub GivenSoFar : (dir now : I) (names : List (List ℕ)) (files : List SourceFile) → Type 0
+  GivenSoFar dir now names files = (reads : List Reading) × HasRead readings gives reads dir now × AreGiven reads names files
 
--- the files of these names are there
-abbrev pub GivenSoFar : (now later : Files) (names : List (List ℕ)) (files : List SourceFile) → Type 0
-GivenSoFar now later names files = Stays now later × AreGiven now names files
+  pub none_so_far : (dir : I) (files : List SourceFile) → files ≡ [] → GivenSoFar dir dir [] files
+  none_so_far dir files e = ([], none_read readings gives dir, subst (λ (fs : List SourceFile). AreGiven [] [] fs) (sym e) Empty)
 
-pub none_so_far : (now : Files) (files : List SourceFile) → files ≡ [] → GivenSoFar now now [] files
-none_so_far now files e = ((λ name bytes h. h), subst (λ (fs : List SourceFile). AreGiven now [] fs) (sym e) Empty)
+  pub one_behind : (dir now after : I) (names more : List (List ℕ)) (name : List ℕ) (files new : List SourceFile) → GivenSoFar dir now names files → more ≡ names ++ name ∷ []
+      → (reading : Reading) × HasRead readings gives (reading ∷ []) now after × (file : SourceFile) × (new ≡ files ++ file ∷ []) × IsGiven reading name file → GivenSoFar dir after more new
+  one_behind dir now after names more name files new so_far is found = (
+    so_far.0 ++ found.0 ∷ [],
+    more_read readings gives so_far.0 (found.0 ∷ []) dir now after so_far.1 found.1,
+    subst (λ (ns : List (List ℕ)). AreGiven (so_far.0 ++ found.0 ∷ []) ns new) (sym is)
+        (subst (λ (fs : List SourceFile). AreGiven (so_far.0 ++ found.0 ∷ []) (names ++ name ∷ []) fs) (sym found.3)
+        (and_one so_far.0 names files found.0 name found.2 so_far.2 found.4)),
+  )
 
-pub one_behind : (now later after : Files) (names more : List (List ℕ)) (name : List ℕ) (files new : List SourceFile) → GivenSoFar now later names files → Stays later after → more ≡ names ++ name ∷ []
-    → (file : SourceFile) × (new ≡ files ++ file ∷ []) × IsGiven later name file → GivenSoFar now after more new
-one_behind now later after names more name files new so_far stays is found = (
-  (λ n b h. so_far.0 n b (stays n b h)),
-  subst (λ (ns : List (List ℕ)). AreGiven now ns new) (sym is)
-      (subst (λ (fs : List SourceFile). AreGiven now (names ++ name ∷ []) fs) (sym found.1)
-      (and_one now names files name found.0 so_far.1 (found.2.0, so_far.0 name (Some found.0.bytes.items) found.2.1))),
-)
-
--- all before one that is not there are there
-pub stops_at : {X : Type 0} (f : X → List ℕ) (xs : List X) (k : ℕ) (x : X) (name : List ℕ) → k < length xs → x ≡ get_or xs k x → name ≡ f x
-    → (now later : Files) (files : List SourceFile) → GivenSoFar now later (map f (take k xs)) files → (e : Ending) → Lacks later name e → FirstLack now (map f xs) e
-stops_at f xs k x name h is of now later files so_far e lacks = record {
-  before = map f (take k xs);
-  name = name;
-  after = map f (drop (suc k) xs);
-  are = map_one_between f xs k x name h is of;
-  files = files;
-  there = so_far.1;
-  lacks = lacks_before now later so_far.0 name e lacks;
-}
+  -- all before one that is not there are there
+  pub stops_at : {X : Type 0} (f : X → List ℕ) (xs : List X) (k : ℕ) (x : X) (name : List ℕ) → k < length xs → x ≡ get_or xs k x → name ≡ f x
+      → (dir now after : I) (files : List SourceFile) → GivenSoFar dir now (map f (take k xs)) files
+      → (e : Ending) → (reading : Reading) × HasRead readings gives (reading ∷ []) now after × Lacks reading name e
+      → (reads : List Reading) × HasRead readings gives reads dir after × FirstLack reads (map f xs) e
+  stops_at f xs k x name h is of dir now after files so_far e lacking = (
+    so_far.0 ++ lacking.0 ∷ [],
+    more_read readings gives so_far.0 (lacking.0 ∷ []) dir now after so_far.1 lacking.1,
+    record {
+      before = map f (take k xs);
+      name = name;
+      after = map f (drop (suc k) xs);
+      are = map_one_between f xs k x name h is of;
+      reads_before = so_far.0;
+      last = lacking.0;
+      all_reads = refl;
+      files = files;
+      there = so_far.2;
+      lacks = lacking.2;
+    },
+  )

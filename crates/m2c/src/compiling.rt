@@ -82,8 +82,9 @@ fn ending_of<'n, R: Threads + Sync, I: InDir, D: OutDir, S: Sink>(
 ) -> Ending<'n>
     requires dir { D.failed dir.old + 2 < 2 ^ 64 }
     requires out { S.failed out.old + 1 < 2 ^ 64 }
-    ensures { Comes D.calls D.failed S.reported S.failed I.gives (map string_bytes names.now) options
-        result files.old files.new dir.old dir.new out.old out.new }
+    ensures { Comes D.calls D.failed S.reported S.failed I.readings I.gives
+        (map string_bytes names.now) options result files.old files.new dir.old dir.new out.old
+        out.new }
 {
     if let Err(fault) = check_options(options) {
         return Ending::Unbuilt(fault);
@@ -115,9 +116,9 @@ pub fn compile<R: Threads + Sync, I: InDir, D: OutDir, S: Sink, E: Sink>(
     requires dir { D.failed dir.old + 2 < 2 ^ 64 }
     requires out { S.failed out.old + 1 < 2 ^ 64 }
     requires err { E.failed err.old + 1 < 2 ^ 64 }
-    ensures { Compiles D.calls D.failed S.reported S.failed I.gives I.in_front I.behind E.reported
-        E.failed (map string_bytes names.now) options result files.old files.new dir.old dir.new
-        out.old out.new err.old err.new }
+    ensures { Compiles D.calls D.failed S.reported S.failed I.readings I.gives I.in_front I.behind
+        E.reported E.failed (map string_bytes names.now) options result files.old files.new dir.old
+        dir.new out.old out.new err.old err.new }
 {
     let ending = ending_of(rt, alloc, names, options, files, dir, out);
     write_ending(err, files, options, ending)

@@ -1,8 +1,8 @@
 //! The files that are compiled.
 
-ghost use Rattle.std.specs.Prelude.{◌≡◌, ◌++◌, ◌∷◌, [], map, IfOk, IfErr};
+ghost use Rattle.std.specs.Prelude.{◌≡◌, ◌++◌, ◌∷◌, [], List, map, IfOk, IfErr};
 ghost use Rattle.std.specs.String.{string_bytes};
-ghost use Rattle.run_directory.specs.Directory.{Stays};
+ghost use Rattle.run_directory.specs.Directory.{Reading, HasRead};
 ghost use Rattle.build_jobs.specs.declared.file.SourceFile.{SourceFile};
 ghost use Rattle.m2c.specs.Compiles.{IsGiven, AreGiven, Lacks, FirstLack};
 
@@ -20,11 +20,15 @@ fn add_file<'n, I: InDir>(
     files: &mut Vec<SourceFile>,
 ) -> Result<(), Ending<'n>>
     ensures ok { IfOk result (λ _.
-        (file : SourceFile)
+        (reading : Reading)
+        × HasRead I.readings I.gives (reading ∷ []) dir.old dir.new
+        × (file : SourceFile)
         × (files.new.items ≡ files.old.items ++ file ∷ [])
-        × IsGiven (I.gives dir.old) name.now file) }
-    ensures err { IfErr result (λ e. Lacks (I.gives dir.old) name.now e) }
-    ensures stays { Stays (I.gives dir.old) (I.gives dir.new) }
+        × IsGiven reading name.now file) }
+    ensures err { IfErr result (λ e.
+        (reading : Reading)
+        × HasRead I.readings I.gives (reading ∷ []) dir.old dir.new
+        × Lacks reading name.now e) }
 {
     let Some(bytes) = dir.read(alloc, name) else {
         return Err(Ending::Unread(name));
@@ -45,9 +49,13 @@ pub fn read_files<'n, I: InDir>(
     names: &'n [String],
 ) -> Result<Vec<SourceFile>, Ending<'n>>
     ensures ok { IfOk result (λ files.
-        AreGiven (I.gives dir.old) (map string_bytes names.now) files.items) }
+        (reads : List Reading)
+        × HasRead I.readings I.gives reads dir.old dir.new
+        × AreGiven reads (map string_bytes names.now) files.items) }
     ensures err { IfErr result (λ e.
-        FirstLack (I.gives dir.old) (map string_bytes names.now) e) }
+        (reads : List Reading)
+        × HasRead I.readings I.gives reads dir.old dir.new
+        × FirstLack reads (map string_bytes names.now) e) }
 {
     let mut files = Vec::new(alloc);
     for name in names {

@@ -1,4 +1,5 @@
 pub mod Saying
+pub mod Readings
 pub mod Missing
 mod Running
 mod Words

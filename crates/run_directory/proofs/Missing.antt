@@ -1,5 +1,5 @@
 -- Modules of a directory that are there, and those that are not.
-use Rattle.std.proofs.Common.{◌≡◌, ℕ, ◌+◌, ◌<◌, suc, ◌⊎◌, inl, inr, List, [], ◌∷◌, ◌++◌, length, take, drop, map, get_or, Option, Some, None, refl, sym, ap, subst, ◌∙◌, append_assoc}
+use Rattle.std.proofs.Common.{◌≡◌, ℕ, ◌+◌, ◌<◌, suc, ◌⊎◌, inl, inr, List, [], ◌∷◌, ◌++◌, length, take, drop, map, get_or, Option, Some, refl, sym, ap, subst, ◌∙◌, append_assoc}
 use Rattle.std.specs.Borrow.{Bor}
 use Rattle.std.proofs.lemmas.List.{map_more, map-append, append-nil, take-append-drop}
 use Rattle.std.proofs.Math.Seq.{drop-cons}
@@ -11,77 +11,78 @@ use Rattle.wasm_tree.specs.Linking.{link_name}
 use Rattle.wasm_binary.specs.Binary.{Encodes, module_at}
 use Rattle.wasm_tree.specs.Validity.{IsValid}
 use Rattle.run_directory.specs.declared.report.Report.{Report}
-use Rattle.run_directory.specs.declared.report.Report.TheVariants.{Ran, Unread, Refused, Broken}
-use Rattle.run_directory.specs.Directory.{Files, Stays, file_of, module_names, IsModule, AreModules, Empty, More}
-use Rattle.run_directory.specs.Reported.{IsOf, IsMissing, FirstMissing, IsRefused, Unencoded, NotValid, Memory, ComesOf, Comes}
+use Rattle.run_directory.specs.declared.report.Report.TheVariants.{Refused}
+use Rattle.run_directory.specs.Directory.{Files, Reading, Read, HasRead, file_of, module_names, IsModule, AreModules, Empty, More}
+use Rattle.run_directory.specs.Reported.{IsMissing, FirstMissing, IsRefused, Unencoded, NotValid, Memory, ComesOf, Comes}
+use Rattle.run_directory.proofs.Readings.{none_read, more_read}
 
-module _ (gives : Files) (name : Bor (List ℕ)) (bytes slice : List ℕ) (given : gives (file_of name.now) (Some bytes)) (same : slice ≡ bytes) where
-  pub unencoded : (fault : WFault) → Fails fault (module_at slice) → IsMissing gives name.now (Refused name fault)
-  unencoded Malformed e = (refl, Unencoded Malformed bytes given (ap module_at (sym same) ∙ e))
-  unencoded OutsideProfile e = (refl, Unencoded OutsideProfile bytes given (ap module_at (sym same) ∙ e))
-  unencoded Invalid e = (refl, Unencoded Invalid bytes given (ap module_at (sym same) ∙ e))
-  unencoded Unlinked e = (refl, Unencoded Unlinked bytes given (ap module_at (sym same) ∙ e))
-  unencoded SegmentOutside e = (refl, Unencoded SegmentOutside bytes given (ap module_at (sym same) ∙ e))
-  unencoded NoMemory e = (refl, Memory)
+module _ (name : Bor (List ℕ)) (bytes slice : List ℕ) (same : slice ≡ bytes) where
+  abbrev reads : List Reading
+  reads = Read (file_of name.now) (Some bytes) ∷ []
 
-  pub not_valid : (tree : WModule) (fault : WFault) → Encodes slice tree → ((fault ≡ Invalid) × (IsValid tree → ⊥)) ⊎ (fault ≡ NoMemory) → IsMissing gives name.now (Refused name fault)
-  not_valid tree fault s (inl e) = (refl, subst (λ (f : WFault). IsRefused gives (file_of name.now) f) (sym e.0) (NotValid bytes tree given (subst (λ (b : List ℕ). Encodes b tree) same s) e.1))
-  not_valid tree fault s (inr e) = (refl, subst (λ (f : WFault). IsRefused gives (file_of name.now) f) (sym e) Memory)
+  pub unencoded : (fault : WFault) → Fails fault (module_at slice) → IsMissing reads name.now (Refused name fault)
+  unencoded Malformed e = (refl, Unencoded bytes Malformed (ap module_at (sym same) ∙ e))
+  unencoded OutsideProfile e = (refl, Unencoded bytes OutsideProfile (ap module_at (sym same) ∙ e))
+  unencoded Invalid e = (refl, Unencoded bytes Invalid (ap module_at (sym same) ∙ e))
+  unencoded Unlinked e = (refl, Unencoded bytes Unlinked (ap module_at (sym same) ∙ e))
+  unencoded SegmentOutside e = (refl, Unencoded bytes SegmentOutside (ap module_at (sym same) ∙ e))
+  unencoded NoMemory e = (refl, Memory bytes)
 
--- ---- what was seen later holds now
+  pub not_valid : (tree : WModule) (fault : WFault) → Encodes slice tree → ((fault ≡ Invalid) × (IsValid tree → ⊥)) ⊎ (fault ≡ NoMemory) → IsMissing reads name.now (Refused name fault)
+  not_valid tree fault s (inl e) = (refl, subst (λ (f : WFault). IsRefused (file_of name.now) reads f) (sym e.0) (NotValid bytes tree (subst (λ (b : List ℕ). Encodes b tree) same s) e.1))
+  not_valid tree fault s (inr e) = (refl, subst (λ (f : WFault). IsRefused (file_of name.now) reads f) (sym e) (Memory bytes))
 
-module _ (now later : Files) (stays : Stays now later) where
-  refused_before : (file : List ℕ) (f : WFault) → IsRefused later file f → IsRefused now file f
-  refused_before file _ Memory = Memory
-  refused_before file _ (Unencoded fault bytes given e) = Unencoded fault bytes (stays file (Some bytes) given) e
-  refused_before file _ (NotValid bytes tree given s n) = NotValid bytes tree (stays file (Some bytes) given) s n
-
-  pub missing_before : (name : List ℕ) (r : Report) → IsMissing later name r → IsMissing now name r
-  missing_before name (Unread reported) h = (h.0, stays (file_of name) None h.1)
-  missing_before name (Refused reported fault) h = (h.0, refused_before (file_of name) fault h.1)
-  missing_before name (Ran end) h = h
-  missing_before name (Broken fault) h = h
-
-  pub module_before : (name : List ℕ) (tree : WModule) → IsModule later name tree → IsModule now name tree
-  module_before name tree h = record { bytes = h.bytes; given = stays (file_of name) (Some h.bytes) h.given; encoded = h.encoded; valid = h.valid }
-
-  all_before : (names : List (List ℕ)) (trees : List WModule) → AreModules later names trees → AreModules now names trees
-  all_before _ _ Empty = Empty
-  all_before _ _ (More n t ns ts first others) = More n t ns ts (module_before n t first) (all_before ns ts others)
-
-  first_before : (names : List (List ℕ)) (r : Report) → FirstMissing later names r → FirstMissing now names r
-  first_before names r h = record { before = h.before; name = h.name; after = h.after; are = h.are; trees = h.trees; there = all_before h.before h.trees h.there; missing = missing_before h.name r h.missing }
-
-  -- what comes of the modules behind link
-  pub comes_behind : {S : Type 0} (reported : S → Option (List ℕ)) (failed : S → ℕ) (link_tree : WModule) → IsModule now link_name link_tree → (steps : ℕ) (r : Report) (before after : S) (first : List WModule) (names : List (List ℕ)) → first ≡ link_tree ∷ [] → names ≡ module_names link_tree.exports
-      → ComesOf reported failed later first names steps r before after → Comes reported failed now steps r before after
-  comes_behind reported failed link_tree held steps r before after first names alone are (inl h) =
-      inl (link_tree, held, inl (h.0, subst (λ (ns : List (List ℕ)). AreModules now ns h.0) are (all_before names h.0 h.1), subst (λ (ts : List WModule). IsOf reported failed (ts ++ h.0) steps r before after) alone h.2))
-  comes_behind reported failed link_tree held steps r before after first names alone are (inr h) = inl (link_tree, held, inr (subst (λ (ns : List (List ℕ)). FirstMissing now ns r) are (first_before names r h.0), h.1))
+-- memory was refused behind a module that is there
+pub refused_behind : (reading : Reading) (name : Bor (List ℕ)) (tree : WModule) → IsModule reading name.now tree → IsMissing (reading ∷ []) name.now (Refused name NoMemory)
+refused_behind reading name tree h = (refl, subst (λ (r : Reading). IsRefused (file_of name.now) (r ∷ []) NoMemory) (sym h.is_read) (Memory h.bytes))
 
 -- ---- the modules so far
 
-and_one : (gives : Files) (names : List (List ℕ)) (trees : List WModule) (name : List ℕ) (tree : WModule) → AreModules gives names trees → IsModule gives name tree → AreModules gives (names ++ name ∷ []) (trees ++ tree ∷ [])
-and_one gives _ _ name tree Empty h = More name tree [] [] h Empty
-and_one gives _ _ name tree (More n t ns ts first others) h = More n t (ns ++ name ∷ []) (ts ++ tree ∷ []) first (and_one gives ns ts name tree others h)
+and_one : (reads : List Reading) (names : List (List ℕ)) (trees : List WModule) (reading : Reading) (name : List ℕ) (tree : WModule) → AreModules reads names trees → IsModule reading name tree
+    → AreModules (reads ++ reading ∷ []) (names ++ name ∷ []) (trees ++ tree ∷ [])
+and_one _ _ _ reading name tree Empty h = More reading name tree [] [] [] h Empty
+and_one _ _ _ reading name tree (More r n t rs ns ts first others) h = More r n t (rs ++ reading ∷ []) (ns ++ name ∷ []) (ts ++ tree ∷ []) first (and_one rs ns ts reading name tree others h)
 
--- behind the first ones the modules of these names
-abbrev pub NamedSoFar : (now later : Files) (first : List WModule) (names : List (List ℕ)) (modules : List WModule) → Type 0
-NamedSoFar now later first names modules = Stays now later × ((others : List WModule) × (modules ≡ first ++ others) × AreModules now names others)
+module _ {D : Type 0} (readings : D → Option (List Reading)) (gives : D → Files) where
+  -- behind the first ones the modules of these names
+  abbrev pub NamedSoFar : (dir now : D) (first : List WModule) (names : List (List ℕ)) (modules : List WModule) → Type 0
+  NamedSoFar dir now first names modules =
+      (reads : List Reading) × HasRead readings gives reads dir now
+      × (others : List WModule) × (modules ≡ first ++ others) × AreModules reads names others
 
-pub none_so_far : (now : Files) (first : List WModule) → NamedSoFar now now first [] first
-none_so_far now first = ((λ name bytes h. h), ([], sym (append-nil first), Empty))
+  pub none_so_far : (dir : D) (first : List WModule) → NamedSoFar dir dir first [] first
+  none_so_far dir first = ([], none_read readings gives dir, [], sym (append-nil first), Empty)
 
-pub one_behind : (now later after : Files) (first : List WModule) (names more : List (List ℕ)) (name : List ℕ) (modules new : List WModule) → NamedSoFar now later first names modules → Stays later after → more ≡ names ++ name ∷ []
-    → (tree : WModule) × (new ≡ modules ++ tree ∷ []) × IsModule later name tree → NamedSoFar now after first more new
-one_behind now later after first names more name modules new so_far stays is found = (
-  (λ n b h. so_far.0 n b (stays n b h)),
-  (
-    so_far.1.0 ++ found.0 ∷ [],
-    found.1 ∙ ap (λ (ms : List WModule). ms ++ found.0 ∷ []) so_far.1.1 ∙ append_assoc first so_far.1.0 (found.0 ∷ []),
-    subst (λ (ns : List (List ℕ)). AreModules now ns (so_far.1.0 ++ found.0 ∷ [])) (sym is) (and_one now names so_far.1.0 name found.0 so_far.1.2 (module_before now later so_far.0 name found.0 found.2)),
-  ),
-)
+  pub one_behind : (dir now after : D) (first : List WModule) (names more : List (List ℕ)) (name : List ℕ) (modules new : List WModule) → NamedSoFar dir now first names modules → more ≡ names ++ name ∷ []
+      → (reading : Reading) × HasRead readings gives (reading ∷ []) now after × (tree : WModule) × (new ≡ modules ++ tree ∷ []) × IsModule reading name tree → NamedSoFar dir after first more new
+  one_behind dir now after first names more name modules new so_far is found = (
+    so_far.0 ++ found.0 ∷ [],
+    more_read readings gives so_far.0 (found.0 ∷ []) dir now after so_far.1 found.1,
+    so_far.2 ++ found.2 ∷ [],
+    found.3 ∙ ap (λ (ms : List WModule). ms ++ found.2 ∷ []) so_far.3 ∙ append_assoc first so_far.2 (found.2 ∷ []),
+    subst (λ (ns : List (List ℕ)). AreModules (so_far.0 ++ found.0 ∷ []) ns (so_far.2 ++ found.2 ∷ [])) (sym is)
+        (and_one so_far.0 names so_far.2 found.0 name found.2 so_far.4 found.4),
+  )
+
+  -- what comes of the modules behind link
+  pub comes_behind : {S : Type 0} (reported : S → Option (List ℕ)) (failed : S → ℕ) (dir now after : D) (link_tree : WModule)
+      → (reading : Reading) × HasRead readings gives (reading ∷ []) dir now × IsModule reading link_name link_tree
+      → (steps : ℕ) (r : Report) (before out : S) (first : List WModule) (names : List (List ℕ)) → first ≡ link_tree ∷ [] → names ≡ module_names link_tree.exports
+      → (reads : List Reading) × HasRead readings gives reads now after × ComesOf reported failed reads first names steps r before out
+      → (reads : List Reading) × HasRead readings gives reads dir after × Comes reported failed reads steps r before out
+  comes_behind reported failed dir now after link_tree held steps r before out first names alone are h = (
+    held.0 ∷ h.0,
+    more_read readings gives (held.0 ∷ []) h.0 dir now after held.1 h.1,
+    inl (record {
+      link_tree = link_tree;
+      first = held.0;
+      others = h.0;
+      all_reads = refl;
+      link_is = held.2;
+      comes = subst (λ (ns : List (List ℕ)). ComesOf reported failed h.0 (link_tree ∷ []) ns steps r before out) are
+          (subst (λ (ts : List WModule). ComesOf reported failed h.0 ts names steps r before out) alone h.2);
+    }),
+  )
 
 -- ---- a list that is looked at through f
 
@@ -97,14 +98,24 @@ module _ {X Y : Type 0} (f : X → Y) (xs : List X) (k : ℕ) (x : X) (y : Y) (h
       ∙ ap (λ (z : Y). map f (take k xs) ++ z ∷ map f (drop (suc k) xs)) (sym (of ∙ ap f is))
 
 -- all before one that is missing are there
-pub stops_at : {X : Type 0} (f : X → List ℕ) (xs : List X) (k : ℕ) (x : X) (name : List ℕ) → k < length xs → x ≡ get_or xs k x → name ≡ f x
-    → (now later : Files) (first modules : List WModule) → NamedSoFar now later first (map f (take k xs)) modules → (r : Report) → IsMissing later name r → FirstMissing now (map f xs) r
-stops_at f xs k x name h is of now later first modules so_far r missing = record {
-  before = map f (take k xs);
-  name = name;
-  after = map f (drop (suc k) xs);
-  are = map_one_between f xs k x name h is of;
-  trees = so_far.1.0;
-  there = so_far.1.2;
-  missing = missing_before now later so_far.0 name r missing;
-}
+module _ {D : Type 0} (readings : D → Option (List Reading)) (gives : D → Files) where
+  pub stops_at : {X : Type 0} (f : X → List ℕ) (xs : List X) (k : ℕ) (x : X) (name : List ℕ) → k < length xs → x ≡ get_or xs k x → name ≡ f x
+      → (dir now after : D) (first modules : List WModule) → NamedSoFar readings gives dir now first (map f (take k xs)) modules
+      → (r : Report) → (reads : List Reading) × HasRead readings gives reads now after × IsMissing reads name r
+      → (reads : List Reading) × HasRead readings gives reads dir after × FirstMissing reads (map f xs) r
+  stops_at f xs k x name h is of dir now after first modules so_far r missing = (
+    so_far.0 ++ missing.0,
+    more_read readings gives so_far.0 missing.0 dir now after so_far.1 missing.1,
+    record {
+      before = map f (take k xs);
+      name = name;
+      after = map f (drop (suc k) xs);
+      are = map_one_between f xs k x name h is of;
+      reads_before = so_far.0;
+      last = missing.0;
+      all_reads = refl;
+      trees = so_far.2;
+      there = so_far.4;
+      missing = missing.2;
+    },
+  )

@@ -1,7 +1,8 @@
 -- The modules of a directory.
-use Rattle.std.specs.Prelude.{ℕ, Bool, false, not, ◌&&◌, List, [], ◌∷◌, ◌++◌, length, take, drop, Option, Some, None, nat_le, if◌then◌else◌, codes}
+use Rattle.std.specs.Prelude.{◌≡◌, ℕ, Bool, false, not, ◌&&◌, List, [], ◌∷◌, ◌++◌, length, take, drop, Option, Some, None, nat_le, if◌then◌else◌, codes}
+use Rattle.std.specs.Global.{Vec}
 use Rattle.std.specs.Borrow.{Bor}
-use Rattle.std.specs.List.{flat_map, list_all}
+use Rattle.std.specs.List.{flat_map, list_all, AllByRecursion}
 use Rattle.std.specs.Option.{option_to_list}
 use Rattle.std.specs.Char.{is_ascii_alphabetic, is_ascii_alphanumeric}
 use Rattle.std.specs.Str.{bytes_eq}
@@ -47,20 +48,50 @@ Files = List ℕ → Option (List ℕ) → Type 0
 abbrev pub Stays : (now later : Files) → Type 0
 Stays now later = (name : List ℕ) (bytes : Option (List ℕ)) → later name bytes → now name bytes
 
+-- ---- what was read
+
+-- a file was asked for by this name, and gave these bytes, or nothing
+pub data Reading : Type 0 where
+  Read : (name : List ℕ) → (bytes : Option (List ℕ)) → Reading
+
+-- what a call that read a file answered
+abbrev pub items_of : Option (Vec ℕ) → Option (List ℕ)
+items_of None = None
+items_of (Some bytes) = Some bytes.items
+
+-- the readings with others behind them, where they are noted
+abbrev pub with_readings : Option (List Reading) → List Reading → Option (List Reading)
+with_readings None more = None
+with_readings (Some readings) more = Some (readings ++ more)
+
+-- it is one that may be
+abbrev pub MayBe : (gives : Files) → Reading → Type 0
+MayBe gives (Read name bytes) = gives name bytes
+
+-- From before to after a directory was asked for these files, in their order, and for no other.
+pub record HasRead {D : Type 0} (readings : D → Option (List Reading)) (gives : D → Files)
+    (reads : List Reading) (before after : D) : Type 0 where
+  pub noted : readings after ≡ with_readings (readings before) reads
+  pub may_be : AllByRecursion (MayBe (gives before)) reads
+  pub stays : Stays (gives before) (gives after)
+
+-- ---- the modules that were read
+
 abbrev pub file_of : List ℕ → List ℕ
 file_of name = name ++ codes ".wasm"
 
--- the file of the module of this name encodes it, and it is valid
-pub record IsModule (gives : Files) (name : List ℕ) (tree : WModule) : Type 0 where
+-- the file of the module of this name was read, it encodes the module, and the module is valid
+pub record IsModule (reading : Reading) (name : List ℕ) (tree : WModule) : Type 0 where
   pub bytes : List ℕ
-  pub given : gives (file_of name) (Some bytes)
+  pub is_read : reading ≡ Read (file_of name) (Some bytes)
   pub encoded : Encodes bytes tree
   pub valid : IsValid tree
 
 -- each name's module, in their order
-pub data AreModules (gives : Files) : List (List ℕ) → List WModule → Type 0 where
-  Empty : AreModules gives [] []
-  More : (name : List ℕ) (tree : WModule) (names : List (List ℕ)) (trees : List WModule)
-      → IsModule gives name tree
-      → AreModules gives names trees
-      → AreModules gives (name ∷ names) (tree ∷ trees)
+pub data AreModules : List Reading → List (List ℕ) → List WModule → Type 0 where
+  Empty : AreModules [] [] []
+  More : (reading : Reading) (name : List ℕ) (tree : WModule) (reads : List Reading)
+      (names : List (List ℕ)) (trees : List WModule)
+      → IsModule reading name tree
+      → AreModules reads names trees
+      → AreModules (reading ∷ reads) (name ∷ names) (tree ∷ trees)

@@ -16,7 +16,7 @@ use Rattle.wasm_engine.specs.Instances.{IsEnd}
 use Rattle.wasm_engine.specs.Reported.{with_bytes}
 use Rattle.run_directory.specs.declared.report.Report.{Report}
 use Rattle.run_directory.specs.declared.report.Report.TheVariants.{Ran, Unread, Refused, Broken}
-use Rattle.run_directory.specs.Directory.{Files, file_of, module_names, IsModule, AreModules}
+use Rattle.run_directory.specs.Directory.{Files, Reading, Read, HasRead, file_of, module_names, IsModule, AreModules}
 
 -- ---- the status and the words
 
@@ -141,61 +141,81 @@ IsOf reported failed trees steps (Unread name) before after = ⊥
 
 -- ---- what is missing
 
--- memory was refused for a file, or its bytes encode no module, or one that is not valid
-pub data IsRefused (gives : Files) (file : List ℕ) : WFault → Type 0 where
-  Memory : IsRefused gives file faults.NoMemory
-  Unencoded : (fault : WFault) (bytes : List ℕ) → gives file (Some bytes)
-      → module_at bytes ≡ Err fault → IsRefused gives file fault
-  NotValid : (bytes : List ℕ) (tree : WModule) → gives file (Some bytes) → Encodes bytes tree
-      → (IsValid tree → ⊥) → IsRefused gives file faults.Invalid
+-- memory was refused for a file, before it was asked for or behind it, or its bytes encode no
+-- module, or one that is not valid
+pub data IsRefused (file : List ℕ) : List Reading → WFault → Type 0 where
+  Unasked : IsRefused file [] faults.NoMemory
+  Memory : (bytes : List ℕ) → IsRefused file (Read file (Some bytes) ∷ []) faults.NoMemory
+  Unencoded : (bytes : List ℕ) (fault : WFault) → module_at bytes ≡ Err fault
+      → IsRefused file (Read file (Some bytes) ∷ []) fault
+  NotValid : (bytes : List ℕ) (tree : WModule) → Encodes bytes tree → (IsValid tree → ⊥)
+      → IsRefused file (Read file (Some bytes) ∷ []) faults.Invalid
 
--- the module of this name is not there, and the report names it
-abbrev pub IsMissing : (gives : Files) (name : List ℕ) → Report → Type 0
-IsMissing gives name (Unread reported) = (reported.now ≡ name) × gives (file_of name) None
-IsMissing gives name (Refused reported fault) =
-    (reported.now ≡ name) × IsRefused gives (file_of name) fault
-IsMissing gives name (Ran end) = ⊥
-IsMissing gives name (Broken fault) = ⊥
+-- by these readings the module of this name is not there, and the report names it
+abbrev pub IsMissing : (reads : List Reading) (name : List ℕ) → Report → Type 0
+IsMissing reads name (Unread reported) =
+    (reported.now ≡ name) × (reads ≡ Read (file_of name) None ∷ [])
+IsMissing reads name (Refused reported fault) =
+    (reported.now ≡ name) × IsRefused (file_of name) reads fault
+IsMissing reads name (Ran end) = ⊥
+IsMissing reads name (Broken fault) = ⊥
 
--- of the modules of these names the report names the first that is not there
-pub record FirstMissing (gives : Files) (names : List (List ℕ)) (report : Report) : Type 0 where
+-- of the modules of these names the report names the first that is not there, and it is the last
+-- that was asked for
+pub record FirstMissing (reads : List Reading) (names : List (List ℕ)) (report : Report)
+    : Type 0 where
   pub before : List (List ℕ)
   pub name : List ℕ
   pub after : List (List ℕ)
   pub are : names ≡ before ++ name ∷ after
+  pub reads_before : List Reading
+  pub last : List Reading
+  pub all_reads : reads ≡ reads_before ++ last
   pub trees : List WModule
-  pub there : AreModules gives before trees
-  pub missing : IsMissing gives name report
+  pub there : AreModules reads_before before trees
+  pub missing : IsMissing last name report
 
 -- ---- what comes of a directory
 
 -- what comes of modules that are there, and of those of these names behind them: these are there as
 -- well and the report is of all, or it names the first that is not
-abbrev pub ComesOf : {S : Type 0} → (S → Option (List ℕ)) → (S → ℕ) → Files → (first : List WModule)
-    (names : List (List ℕ)) (steps : ℕ) → Report → (before after : S) → Type 0
-ComesOf reported failed gives first names steps report before after =
-    ((others : List WModule) × AreModules gives names others
+abbrev pub ComesOf : {S : Type 0} → (S → Option (List ℕ)) → (S → ℕ) → (reads : List Reading)
+    (first : List WModule) (names : List (List ℕ)) (steps : ℕ) → Report → (before after : S)
+    → Type 0
+ComesOf reported failed reads first names steps report before after =
+    ((others : List WModule) × AreModules reads names others
     × IsOf reported failed (first ++ others) steps report before after)
-    ⊎ (FirstMissing gives names report × Printed reported failed [] before after)
+    ⊎ (FirstMissing reads names report × Printed reported failed [] before after)
 
--- link is there, and behind it come the modules that its exports name; or the report names link
-abbrev pub Comes : {S : Type 0} → (S → Option (List ℕ)) → (S → ℕ) → Files → (steps : ℕ) → Report
-    → (before after : S) → Type 0
-Comes reported failed gives steps report before after =
-    ((link_tree : WModule)
-    × IsModule gives link_name link_tree
-    × ComesOf reported failed gives (link_tree ∷ []) (module_names link_tree.exports) steps report
-    before after)
-    ⊎ (IsMissing gives link_name report × Printed reported failed [] before after)
+-- link is there, and behind it come the modules that its exports name
+pub record ComesOfLink {S : Type 0} (reported : S → Option (List ℕ)) (failed : S → ℕ)
+    (reads : List Reading) (steps : ℕ) (report : Report) (before after : S) : Type 0 where
+  pub link_tree : WModule
+  pub first : Reading
+  pub others : List Reading
+  pub all_reads : reads ≡ first ∷ others
+  pub link_is : IsModule first link_name link_tree
+  pub comes : ComesOf reported failed others (link_tree ∷ []) (module_names link_tree.exports) steps
+      report before after
 
--- the status and the words are those of a report that comes
-pub record Executes {S E : Type 0} (reported : S → Option (List ℕ)) (failed : S → ℕ)
-    (reported_words : E → Option (List ℕ)) (failed_words : E → ℕ) (gives : Files)
-    (front reason : List ℕ) (steps : ℕ) (answer : ℕ) (before after : S)
-    (words_before words_after : E) : Type 0 where
+-- that, or the report names link
+abbrev pub Comes : {S : Type 0} → (S → Option (List ℕ)) → (S → ℕ) → (reads : List Reading)
+    (steps : ℕ) → Report → (before after : S) → Type 0
+Comes reported failed reads steps report before after =
+    ComesOfLink reported failed reads steps report before after
+    ⊎ (IsMissing reads link_name report × Printed reported failed [] before after)
+
+-- Files of a directory are read, and a report comes of them. The status and the words are those of
+-- the report.
+pub record Executes {D S E : Type 0} (readings : D → Option (List Reading)) (gives : D → Files)
+    (front reason : D → List ℕ) (reported : S → Option (List ℕ)) (failed : S → ℕ)
+    (reported_words : E → Option (List ℕ)) (failed_words : E → ℕ) (steps : ℕ) (answer : ℕ)
+    (dir dir_after : D) (before after : S) (words_before words_after : E) : Type 0 where
   pub report : Report
-  pub comes : Comes reported failed gives steps report before after
+  pub reads : List Reading
+  pub has_read : HasRead readings gives reads dir dir_after
+  pub comes : Comes reported failed reads steps report before after
   pub answers : answer ≡ status report
   pub all_said : Bool
-  pub says :
-      Says reported_words failed_words all_said (words front reason report) words_before words_after
+  pub says : Says reported_words failed_words all_said
+      (words (front dir_after) (reason dir_after) report) words_before words_after

@@ -3,7 +3,7 @@
 ghost use Rattle.std.specs.Prelude.{◌≡◌, ◌∷◌, [], ◌++◌, List, Some, map, IfOk, IfErr};
 ghost use Rattle.std.specs.String.{string_bytes};
 ghost use Rattle.wasm_tree.specs.declared.module.WModule.{WModule};
-ghost use Rattle.run_directory.specs.Directory.{file_of, IsModule, AreModules, Stays};
+ghost use Rattle.run_directory.specs.Directory.{Reading, Read, HasRead, file_of, IsModule, AreModules};
 ghost use Rattle.run_directory.specs.Reported.{IsMissing, FirstMissing};
 
 use crate::dir::InDir;
@@ -15,9 +15,12 @@ use wasm_valid::{ValidModule, validate};
 
 /// The bytes of a module's file.
 fn bytes_of<'n, D: InDir>(alloc: Global, dir: &mut D, name: &'n str) -> Result<Vec<u8>, Report<'n>>
-    ensures ok { IfOk result (λ bytes. D.gives dir.old (file_of name.now) (Some bytes.items)) }
-    ensures err { IfErr result (λ r. IsMissing (D.gives dir.old) name.now r) }
-    ensures stays { Stays (D.gives dir.old) (D.gives dir.new) }
+    ensures ok { IfOk result (λ bytes. HasRead D.readings D.gives
+        (Read (file_of name.now) (Some bytes.items) ∷ []) dir.old dir.new) }
+    ensures err { IfErr result (λ r.
+        (reads : List Reading)
+        × HasRead D.readings D.gives reads dir.old dir.new
+        × IsMissing reads name.now r) }
 {
     let Ok(file) = format!(in alloc; "{name}.wasm") else {
         return Err(Report::Refused(name, WFault::NoMemory));
@@ -34,9 +37,14 @@ pub fn module_of<'n, D: InDir>(
     dir: &mut D,
     name: &'n str,
 ) -> Result<ValidModule, Report<'n>>
-    ensures ok { IfOk result (λ tree. IsModule (D.gives dir.old) name.now tree) }
-    ensures err { IfErr result (λ r. IsMissing (D.gives dir.old) name.now r) }
-    ensures stays { Stays (D.gives dir.old) (D.gives dir.new) }
+    ensures ok { IfOk result (λ tree.
+        (reading : Reading)
+        × HasRead D.readings D.gives (reading ∷ []) dir.old dir.new
+        × IsModule reading name.now tree) }
+    ensures err { IfErr result (λ r.
+        (reads : List Reading)
+        × HasRead D.readings D.gives reads dir.old dir.new
+        × IsMissing reads name.now r) }
 {
     let bytes = bytes_of(alloc, dir, name)?;
     let tree = match read_module(alloc, &bytes) {
@@ -56,11 +64,15 @@ fn add_module<'n, D: InDir>(
     modules: &mut Vec<ValidModule>,
 ) -> Result<(), Report<'n>>
     ensures ok { IfOk result (λ _.
-        (tree : WModule)
+        (reading : Reading)
+        × HasRead D.readings D.gives (reading ∷ []) dir.old dir.new
+        × (tree : WModule)
         × (modules.new.items ≡ modules.old.items ++ tree ∷ [])
-        × IsModule (D.gives dir.old) name.now tree) }
-    ensures err { IfErr result (λ r. IsMissing (D.gives dir.old) name.now r) }
-    ensures stays { Stays (D.gives dir.old) (D.gives dir.new) }
+        × IsModule reading name.now tree) }
+    ensures err { IfErr result (λ r.
+        (reads : List Reading)
+        × HasRead D.readings D.gives reads dir.old dir.new
+        × IsMissing reads name.now r) }
 {
     let module = module_of(alloc, dir, name)?;
     if modules.push(module).is_err() {
@@ -86,10 +98,15 @@ pub fn modules_of<'n, D: InDir>(
     names: &'n [String],
 ) -> Result<Vec<ValidModule>, Report<'n>>
     ensures ok { IfOk result (λ v.
-        (others : List WModule)
+        (reads : List Reading)
+        × HasRead D.readings D.gives reads dir.old dir.new
+        × (others : List WModule)
         × (v.items ≡ first.items ++ others)
-        × AreModules (D.gives dir.old) (map string_bytes names.now) others) }
-    ensures err { IfErr result (λ r. FirstMissing (D.gives dir.old) (map string_bytes names.now) r) }
+        × AreModules reads (map string_bytes names.now) others) }
+    ensures err { IfErr result (λ r.
+        (reads : List Reading)
+        × HasRead D.readings D.gives reads dir.old dir.new
+        × FirstMissing reads (map string_bytes names.now) r) }
 {
     let mut modules = first;
     for name in names {

@@ -1,7 +1,8 @@
 //! The run of a directory's modules.
 
-ghost use Rattle.std.specs.Prelude.{◌≡◌, ◌+◌, ◌<◌, ◌^◌, map};
+ghost use Rattle.std.specs.Prelude.{◌≡◌, ◌+◌, ◌<◌, ◌^◌, List, map};
 ghost use Rattle.std.specs.String.{string_bytes};
+ghost use Rattle.run_directory.specs.Directory.{Reading, HasRead};
 ghost use Rattle.run_directory.specs.Reported.{IsOf, ComesOf, Executes};
 
 use crate::dir::InDir;
@@ -43,8 +44,10 @@ fn run_named<'n, D: InDir, S: Sink>(
     out: &mut S,
 ) -> Report<'n>
     requires { S.failed out.old + 1 < 2 ^ 64 }
-    ensures { ComesOf S.reported S.failed (D.gives dir.old) first.items (map string_bytes names.now) steps
-        result out.old out.new }
+    ensures { (reads : List Reading)
+        × HasRead D.readings D.gives reads dir.old dir.new
+        × ComesOf S.reported S.failed reads first.items (map string_bytes names.now) steps result
+        out.old out.new }
 {
     match modules_of(alloc, dir, first, names) {
         Ok(modules) => run_all(alloc, &modules, steps, out),
@@ -69,8 +72,8 @@ pub fn execute<D: InDir, S: Sink, E: Sink>(
 ) -> u8
     requires out { S.failed out.old + 1 < 2 ^ 64 }
     requires err { E.failed err.old + 1 < 2 ^ 64 }
-    ensures { Executes S.reported S.failed E.reported E.failed (D.gives dir.old)
-        (D.in_front dir.new) (D.behind dir.new) steps result out.old out.new err.old err.new }
+    ensures { Executes D.readings D.gives D.in_front D.behind S.reported S.failed E.reported E.failed
+        steps result dir.old dir.new out.old out.new err.old err.new }
 {
     let link = match module_of(alloc, dir, "link") {
         Ok(link) => link,

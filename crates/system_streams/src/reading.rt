@@ -1,5 +1,8 @@
 //! Where files are read from.
 
+ghost use Rattle.std.specs.Prelude.{◌≡◌, []};
+
+use crate::notes::{Notes, nothing, with_failed_reading, with_reading};
 use run_directory::InDir;
 use std::alloc::Global;
 use std::rt::Files;
@@ -12,26 +15,34 @@ pub struct InFolder<'a, R> {
     path: Option<&'a str>,
     front: &'a str,
     reason: String,
+    /// What it was asked to read, in order and with what it gave. Clauses alone speak of it.
+    pub noted: Notes,
 }
 
 impl<'a, R: Files + AllocGlobal> InFolder<'a, R> {
-    /// The folder of this path, with what stands in front of messages on its files.
-    pub fn at(rt: &'a R, path: &'a str, front: &'a str) -> InFolder<'a, R> {
+    /// The folder of this path, with what stands in front of messages on its files. It was asked for nothing.
+    pub fn at(rt: &'a R, path: &'a str, front: &'a str) -> InFolder<'a, R>
+        ensures { result.noted.readings ≡ [] }
+    {
         InFolder {
             rt,
             path: Some(path),
             front,
             reason: String::new(rt.alloc()),
+            noted: nothing(),
         }
     }
 
-    /// The files whose names are their paths, with what stands in front of messages on them.
-    pub fn of_paths(rt: &'a R, front: &'a str) -> InFolder<'a, R> {
+    /// The files whose names are their paths, with what stands in front of messages on them. It was asked for nothing.
+    pub fn of_paths(rt: &'a R, front: &'a str) -> InFolder<'a, R>
+        ensures { result.noted.readings ≡ [] }
+    {
         InFolder {
             rt,
             path: None,
             front,
             reason: String::new(rt.alloc()),
+            noted: nothing(),
         }
     }
 
@@ -48,10 +59,13 @@ impl<'a, R: Files + AllocGlobal> InFolder<'a, R> {
 }
 
 impl<R: Files + AllocGlobal> InDir for InFolder<'_, R> {
+    ghost use Rattle.std.specs.Prelude.{Some};
     ghost use Rattle.std.specs.String.{string_bytes};
+    ghost use Rattle.system_streams.specs.Folders.{any_files};
 
-    // Of what a file holds, nothing is known.
-    ghost gives = { λ _ _ _. Unit {0} };
+    ghost readings = { λ f. Some f.noted.readings };
+
+    ghost gives = { λ f. any_files };
 
     ghost in_front = { λ f. f.front.now };
 
@@ -59,8 +73,12 @@ impl<R: Files + AllocGlobal> InDir for InFolder<'_, R> {
 
     fn read(&mut self, alloc: Global, name: &str) -> Option<Vec<u8>> {
         match self.bytes_of(alloc, name) {
-            Ok(bytes) => Some(bytes),
+            Ok(bytes) => {
+                self.noted = with_reading(&self.noted, name.as_bytes(), &bytes);
+                Some(bytes)
+            }
             Err(error) => {
+                self.noted = with_failed_reading(&self.noted, name.as_bytes());
                 self.reason = format!(in alloc; ": {error}").ok()?;
                 None
             }
