@@ -1,6 +1,6 @@
 -- Files that are there, and the first that is not.
-use Rattle.std.proofs.Common.{◌≡◌, ℕ, ◌<◌, suc, List, [], ◌∷◌, ◌++◌, length, take, drop, map, get_or, Option, Some, None, refl, sym, subst}
-use Rattle.run_directory.specs.Directory.{Files, Reading, Read, HasRead}
+use Rattle.std.proofs.Common.{◌≡◌, ℕ, ◌<◌, suc, List, [], ◌∷◌, ◌++◌, length, take, drop, map, get_or, Option, refl, sym, subst}
+use Rattle.run_directory.specs.Directory.{Files, Reading, HasRead}
 use Rattle.run_directory.proofs.Readings.{none_read, more_read}
 use Rattle.run_directory.proofs.Missing.{map_one_between}
 use Rattle.build_jobs.specs.declared.file.SourceFile.{SourceFile}
