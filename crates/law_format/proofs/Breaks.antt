@@ -95,7 +95,7 @@ within_under (m ∷ rooms) n bytes = ap (take m) (within_under rooms n bytes)
 
 -- What decides, where these bytes are still within all stated sizes.
 abbrev pub Wrong : {F : Type 0} → (List ℕ → Result F WFault) → List ℕ → Place → List ℕ → WFault → Type 0
-Wrong free front place [] fault = fault ≡ Malformed
+Wrong free front place [] fault = (fault ≡ Malformed) × (IsBytes front → free front ≡ Err fault)
 Wrong free front place (b ∷ more) fault = (fault ≡ fault_at place) × ((follow : List ℕ) → IsBytes (front ++ (b ∷ follow)) → free (front ++ (b ∷ follow)) ≡ Err fault)
 
 abbrev pub Behind : {F : Type 0} → (List ℕ → Result F WFault) → List ℕ → List ℕ → WFault → Type 0
@@ -145,7 +145,13 @@ module _ {F G : Type 0} (free : List ℕ → Result F WFault) (all : List ℕ �
       ap all same ∙ reads (flat front ++ (b ∷ follow)) fault inner (h follow inner)
 
   pub wrong_into : (front : List Mark) (place : Place) (window : List ℕ) (fault : WFault) → Wrong free (flat front) place window fault → Wrong all (flat (pre ++ front)) place window fault
-  wrong_into front place [] fault h = h
+  wrong_into front place [] fault h = (
+    h.0,
+    λ fits.
+        let same : flat (pre ++ front) ≡ flat pre ++ flat front = flat-append pre front in
+        let inner : IsBytes (flat front) = IsBytes-behind (flat pre) (flat front) (subst IsBytes same fits) in
+        ap all same ∙ reads (flat front) fault inner (h.1 inner),
+  )
   wrong_into front place (b ∷ more) fault h = (h.0, decided_into front b fault h.1)
 
   behind_into : (front : List Mark) (window : List ℕ) (fault : WFault) → Behind free (flat front) window fault → Behind all (flat (pre ++ front)) window fault

@@ -165,7 +165,7 @@ too_large front (zero ∷ rooms) window fault h = absurd h.0
 too_large front (suc n ∷ rooms) window fault h = subst (λ (f : WFault). Decides front Closes (suc n ∷ rooms) window f) (sym h.1) (BytesLeft n rooms window)
 
 decided : (front : List Mark) (next : Mark) (rooms window : List ℕ) (fault : WFault) → Why free (flat front) next rooms window fault → Decides front next rooms window fault
-decided front (Byte cell) rooms [] fault h = subst (λ (f : WFault). Decides front (Byte cell) rooms [] f) (sym h) (NoByte cell rooms)
+decided front (Byte cell) rooms [] fault h = subst (λ (f : WFault). Decides front (Byte cell) rooms [] f) (sym h.0) (NoByte cell rooms)
 decided front (Byte (place, c)) rooms (b ∷ more) fault h = subst (λ (f : WFault). Decides front (Byte (place, c)) rooms (b ∷ more) f) (sym h.0) (WrongByte place c b more rooms (cannot_stand front b fault h.1))
 decided front (Opens size) rooms window fault h = absurd h
 decided front Closes rooms window fault h = too_large front rooms window fault h

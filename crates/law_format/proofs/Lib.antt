@@ -19,4 +19,6 @@ pub mod Spelled
 pub mod Spellings
 pub mod CodeSection
 pub mod Modules
+pub mod Meeting
+pub mod MeetingCode
 pub mod Deciding
