@@ -21,4 +21,10 @@ pub mod CodeSection
 pub mod Modules
 pub mod Meeting
 pub mod MeetingCode
+pub mod MeetingEntries
+pub mod Endings
+pub mod Joining
+pub mod EncodedModules
+pub mod OneFault
 pub mod Deciding
+pub mod Readers

@@ -8,9 +8,17 @@
 //!   `proofs/Modules` where parts with their sizes, sections and modules do, and `proofs/Deciding` is the law.
 #![tactic(auto)]
 
-ghost use Rattle.law_format.specs.FirstFault.{FirstFaultDecides};
+ghost use Rattle.law_format.specs.FirstFault.{FirstFaultDecides, OneFault, ModulesHaveNone, ReaderAnswersFirst};
 
 /// If bytes encode no module, the first byte that cannot continue an encoding, or that breaks a stated size, decides.
 pub fn fault_laws()
     ensures { FirstFaultDecides }
+{}
+
+/// No bytes have two such faults, and bytes that encode a module have none: the reader answers a fault exactly if the
+/// bytes have it.
+pub fn one_fault_laws()
+    ensures one { OneFault }
+    ensures none { ModulesHaveNone }
+    ensures exact { ReaderAnswersFirst }
 {}
