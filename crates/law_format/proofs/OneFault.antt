@@ -104,7 +104,7 @@ pub record Reached (bytes : List ℕ) : Type 0 where
   pub next : Mark
   pub begins : Begins front next
 
-pub reached : (bytes : List ℕ) (fault : WFault) → FirstFault bytes fault → Reached bytes
+abbrev pub reached : (bytes : List ℕ) (fault : WFault) → FirstFault bytes fault → Reached bytes
 reached bytes fault s = record { front = s.front; at = s.at; parts = s.parts; rooms = s.rooms; kept = s.kept; next = s.next; begins = s.begins }
 
 pub inner_of : (front : List Mark) (next : Mark) → Begins front next → Inner front
@@ -307,7 +307,6 @@ pub reason_of : (bytes : List ℕ) (fault : WFault) (s : FirstFault bytes fault)
 reason_of bytes fault s = reason s.front s.next s.rooms (within s.rooms s.at) fault s.decides
 
 pub one_fault : OneFault
-unfolding reached
 one_fault bytes one other s t =
     let a = reached bytes one s in
     let b = reached bytes other t in

@@ -74,7 +74,7 @@ module _ (bytes : List ℕ) (m : WModule) (enc : Encodes bytes m) (fault : WFaul
       none_behind k.next k.more a.at (same_behind (flat b.front) [] (flat (k.next ∷ k.more) ++ a.at) text) (inner_behind b.front (k.next ∷ k.more) (subst Inner k.longer (inner_of a.front a.next a.begins))) (subst (λ (n : Mark). Beside n k.next) l k.turn)
 
 pub modules_have_none : ModulesHaveNone
-unfolding reached whole_module
+unfolding whole_module
 modules_have_none bytes m enc fault s =
     let a = reached bytes fault s in
     let b = whole_module bytes m enc in
