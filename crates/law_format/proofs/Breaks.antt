@@ -51,10 +51,10 @@ pub room_free : (cells : List Cell) → room [] (byte_marks cells) ≡ Some []
 room_free [] = refl
 room_free (c ∷ cells) = room_free cells
 
-some_is : {A : Type 0} (x y : A) → ◌≡◌ {A = Option A} (Some x) (Some y) → x ≡ y
+pub some_is : {A : Type 0} (x y : A) → ◌≡◌ {A = Option A} (Some x) (Some y) → x ≡ y
 some_is x y e = cc
 
-no_room : (rooms : List ℕ) → ◌≡◌ {A = Rooms} None (Some rooms) → ⊥
+pub no_room : (rooms : List ℕ) → ◌≡◌ {A = Rooms} None (Some rooms) → ⊥
 no_room rooms e = cc
 
 abbrev more_room : ℕ → Rooms → Rooms
@@ -189,7 +189,7 @@ take_front [] bs m k e = ap (λ (c : ℕ). take c bs) (e ∙ omega arith)
 take_front (d ∷ done) bs zero k e = absurd (omega arith)
 take_front (d ∷ done) bs (suc m) k e = ap (λ (t : List ℕ). d ∷ t) (take_front done bs m k (omega arith))
 
-same_behind : (front x y : List ℕ) → front ++ x ≡ front ++ y → x ≡ y
+pub same_behind : (front x y : List ℕ) → front ++ x ≡ front ++ y → x ≡ y
 same_behind front x y e = sym (drop_at front x (length front) refl) ∙ ap (drop (length front)) e ∙ drop_at front y (length front) refl
 
 too_large_under : (rooms : List ℕ) (k : ℕ) → TooLarge rooms → TooLarge (rooms ++ k ∷ [])

@@ -124,7 +124,7 @@ none_taken : (n : ℕ) → ◌≡◌ {A = List ℕ} (take n []) []
 none_taken zero = refl
 none_taken (suc n) = refl
 
-within_none : (rooms : List ℕ) → within rooms [] ≡ []
+pub within_none : (rooms : List ℕ) → within rooms [] ≡ []
 within_none [] = refl
 within_none (n ∷ rooms) = ap (take n) (within_none rooms) ∙ none_taken n
 

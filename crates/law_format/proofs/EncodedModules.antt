@@ -1,5 +1,5 @@
 -- The marks of a module that is encoded: their bytes are the encoding, and each stated size is kept.
-use Rattle.std.proofs.Common.{◌≡◌, ℕ, ◌+◌, ◌^◌, Bool, true, ltb, ◌&&◌, List, [], ◌∷◌, ◌++◌, length, map, Option, Some, None, refl, sym, ap, subst, ◌∙◌, append_assoc, append-nil, arith}
+use Rattle.std.proofs.Common.{◌≡◌, ℕ, ◌^◌, true, ltb, List, [], ◌∷◌, ◌++◌, length, map, Option, Some, refl, sym, ap, ◌∙◌, append_assoc, append-nil, arith}
 use Rattle.std.specs.List.{flat_map, list_all}
 use Rattle.std.proofs.lemmas.Bool.{and_parts, and_from}
 use Rattle.std.proofs.lemmas.List.{length-map}
@@ -10,8 +10,8 @@ use Rattle.wasm_tree.specs.Format.{Format}
 use Rattle.wasm_code.specs.Number.{unsigned}
 use Rattle.wasm_code.specs.Parts.{entries, section}
 use Rattle.wasm_binary.specs.Binary.{header, func_type, table_type, memory_type, import, global, export, element, body, data_segment, body_encoding, bodies_encoding, code_encoding, types_of, first_sections, middle_sections, last_sections, module_encoding, module_fits}
-use Rattle.law_format.specs.Places.{SectionNumber, OtherByte, Cell, bytes_of, others, plain, vector_cells, func_type_cells, import_cells, global_cells, element_cells, data_cells}
-use Rattle.law_format.specs.Layouts.{Part, Mark, Byte, Opens, Closes, Last, byte_marks, flat, room, part_marks, section_marks, entry_marks, body_cells, bodies_marks, Layout, layout_marks, last_marks, middle_marks, Fits, part_fits, section_fits, body_content, body_fits}
+use Rattle.law_format.specs.Places.{OtherByte, Cell, others, plain, vector_cells, func_type_cells, import_cells, global_cells, element_cells, data_cells}
+use Rattle.law_format.specs.Layouts.{Part, Mark, Opens, Closes, Last, byte_marks, flat, room, part_marks, section_marks, entry_marks, body_cells, bodies_marks, Layout, layout_marks, Fits, part_fits, section_fits, body_content, body_fits}
 use Rattle.law_format.proofs.Stops.{bytes-all}
 use Rattle.law_format.proofs.Breaks.{flat-append, flat-byte_marks, then_room, room-append, room_free, room_under}
 use Rattle.law_format.proofs.Spellings.{Spelling, entries_spelling, unsigned_spelling, func_type_spelling, import_spelling, table_type_spelling, memory_type_spelling, global_spelling, export_spelling, element_spelling, data_spelling, body_spelling}

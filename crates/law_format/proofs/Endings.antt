@@ -3,9 +3,8 @@ use Rattle.std.proofs.Common.{◌≡◌, ℕ, List, [], ◌∷◌, ◌++◌, len
 use Rattle.std.specs.List.{flat_map}
 use Rattle.wasm_tree.specs.declared.module.Body.{Body}
 use Rattle.wasm_code.specs.Number.{unsigned}
-use Rattle.wasm_binary.specs.Binary.{header}
+use Rattle.wasm_binary.specs.Binary.{header, table_type, memory_type, export}
 use Rattle.law_format.specs.Places.{Cell, others, plain, vector_cells, func_type_cells, import_cells, global_cells, element_cells, data_cells}
-use Rattle.wasm_binary.specs.Binary.{table_type, memory_type, export}
 use Rattle.law_format.specs.Layouts.{Part, Mark, Byte, Opens, Closes, Last, byte_marks, part_marks, section_marks, entry_marks, body_cells, bodies_marks, Layout, layout_marks}
 
 -- none of these marks is the end of the module
@@ -97,7 +96,7 @@ inner_cons (Opens size) xs ys h g = g h
 inner_cons Closes xs ys h g = g h
 inner_cons Last xs ys h g = absurd h
 
-inner_tail : (m : Mark) (xs : List Mark) → Inner (m ∷ xs) → Inner xs
+pub inner_tail : (m : Mark) (xs : List Mark) → Inner (m ∷ xs) → Inner xs
 inner_tail (Byte cell) xs h = h
 inner_tail (Opens size) xs h = h
 inner_tail Closes xs h = h

@@ -1,5 +1,5 @@
 -- The marks of two modules: where they differ first, a byte differs, in the same place, or one of them ends.
-use Rattle.std.proofs.Common.{◌≡◌, ◌⊎◌, ℕ, ◌^◌, ◌<◌, Bool, true, ltb, List, [], ◌∷◌, ◌++◌, length, refl, sym, ap, subst, ◌∙◌, arith, inl, inr}
+use Rattle.std.proofs.Common.{◌≡◌, ◌⊎◌, ℕ, ◌^◌, ◌<◌, Bool, true, ltb, List, [], ◌∷◌, ◌++◌, length, refl, sym, ap, ◌∙◌, arith, inl, inr}
 use Rattle.std.specs.List.{flat_map, list_all}
 use Rattle.std.proofs.lemmas.Bool.{and_parts}
 use Rattle.wasm_tree.specs.declared.module.Body.{Body}
@@ -125,8 +125,11 @@ sections_join k marks fit m n (x ∷ xs) [] r s inner h g lr ls j = left_out_too
 sections_join k marks fit m n (x ∷ xs) (y ∷ ys) r s inner h g lr ls j =
     let f = and_parts (unsigned.fits m) (fit (x ∷ xs)) h in
     let e = and_parts (unsigned.fits n) (fit (y ∷ ys)) g in
-    inr (refl, join_then (part_marks marks (record { size = m; content = x ∷ xs })) (part_marks marks (record { size = n; content = y ∷ ys })) r s
-    (parts_join marks (record { size = m; content = x ∷ xs }) (record { size = n; content = y ∷ ys }) f.0 e.0 (inner f.1 e.1)) j)
+    inr (
+      refl,
+      join_then (part_marks marks (record { size = m; content = x ∷ xs })) (part_marks marks (record { size = n; content = y ∷ ys })) r s
+          (parts_join marks (record { size = m; content = x ∷ xs }) (record { size = n; content = y ∷ ys }) f.0 e.0 (inner f.1 e.1)) j,
+    )
 
 entries_join : {A : Type 0} (k : ℕ) (p : Format A) (cells : A → List Cell) → Meets p cells → (s t : Part (List A)) (x y : List Mark) → section_fits p s → section_fits p t → Later k x → Later k y → Join x y
     → Join (section_marks k (entry_marks cells) s ++ x) (section_marks k (entry_marks cells) t ++ y)

@@ -1,7 +1,7 @@
 -- Two encodings of code: where they differ first, a byte differs, and in the same place.
-use Rattle.std.proofs.Common.{◌≡◌, ◌⊎◌, ℕ, zero, suc, Bool, true, false, cond, eqb, ◌&&◌, List, [], ◌∷◌, ◌++◌, Option, Some, None, refl, sym, ap, subst, ◌∙◌, append_assoc, inl, inr}
+use Rattle.std.proofs.Common.{◌≡◌, ◌⊎◌, ℕ, zero, suc, Bool, true, false, cond, eqb, List, [], ◌∷◌, ◌++◌, Option, Some, None, refl, sym, ap, subst, ◌∙◌, append_assoc, inl, inr}
 use Rattle.std.specs.List.{flat_map}
-use Rattle.std.proofs.lemmas.Bool.{and_parts, and_from}
+use Rattle.std.proofs.lemmas.Bool.{and_parts}
 use Rattle.wasm_tree.specs.declared.kinds.ValueType.{ValueType}
 use Rattle.wasm_tree.specs.declared.kinds.ValueType.TheVariants.{I32, I64}
 use Rattle.wasm_tree.specs.declared.instr.Relation.TheVariants as rel
@@ -455,9 +455,6 @@ what_meets levels nested Ending x y p q = absurd p
 two_seen : (levels : ℕ) → NestedMeet levels → (i j : Instr) → Seen levels i → Seen levels j → Meet (instr_cells i) (instr_cells j)
 two_seen levels nested i j s t = meet_as ((Opcode, s.byte) ∷ s.rest) ((Opcode, t.byte) ∷ t.rest) (instr_cells i) (instr_cells j) s.is t.is (by_byte (same_number s.byte t.byte))
   where
-    cell : ℕ → Cell
-    cell b = (Opcode, b)
-
     by_byte : (s.byte ≡ t.byte) ⊎ (s.byte ≡ t.byte → ⊥) → Meet ((Opcode, s.byte) ∷ s.rest) ((Opcode, t.byte) ∷ t.rest)
     by_byte (inl e) = inr (ap (λ (b : ℕ). (Opcode, b)) e, what_meets levels nested (shape_of s.byte) s.rest t.rest s.what (subst (λ (b : ℕ). What levels (shape_of b) t.rest) (sym e) t.what))
     by_byte (inr ne) = inl (refl, ne)

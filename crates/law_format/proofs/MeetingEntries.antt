@@ -1,25 +1,22 @@
 -- Two entries of a section: where their encodings differ first, a byte differs, and in the same place.
-use Rattle.std.proofs.Common.{◌≡◌, ◌⊎◌, ℕ, ◌+◌, ◌^◌, ◌<◌, true, ltb, List, [], ◌∷◌, ◌++◌, length, refl, ap, subst, ◌∙◌, arith, inl, inr}
-use Rattle.std.specs.List.{flat_map, list_all}
+use Rattle.std.proofs.Common.{◌≡◌, ◌+◌, ◌^◌, ◌<◌, true, ltb, List, [], ◌∷◌, ◌++◌, length, refl, arith, inl, inr}
+use Rattle.std.specs.List.{list_all}
 use Rattle.std.proofs.lemmas.Bool.{ltb-true, lt-ltb, and_parts, and_from}
 use Rattle.std.proofs.lemmas.List.Sums.{sum_by-cons}
-use Rattle.wasm_tree.specs.declared.kinds.ValueType.{ValueType}
-use Rattle.wasm_tree.specs.declared.module.ImportKind.{ImportKind}
 use Rattle.wasm_tree.specs.declared.module.ImportKind.TheVariants as imported
 use Rattle.wasm_tree.specs.declared.module.Locals.{Locals}
 use Rattle.wasm_tree.specs.Format.{Format}
 use Rattle.wasm_code.specs.Number.{unsigned}
-use Rattle.wasm_code.specs.Parts.{◌▸◌, ◌◂◌, ◌·◌, as_value, vector, with_size, bytes_left, name}
+use Rattle.wasm_code.specs.Parts.{◌◂◌, ◌·◌, as_value, vector, with_size, bytes_left, name}
 use Rattle.wasm_code.specs.Instructions.{value_type, code}
-use Rattle.wasm_binary.specs.Binary.{func_type, table_type, import_kind, import, global, element, local_count, locals, data_segment}
+use Rattle.wasm_binary.specs.Binary.{func_type, import_kind, import, global, element, local_count, locals, data_segment}
 use Rattle.wasm_code.proofs.LawsNumber.{unsigned_law}
 use Rattle.wasm_code.proofs.LawsParts.{vector_law, sized_law, bytes_left_law, name_law}
 use Rattle.wasm_code.proofs.LawsTagged.{value_type_law, value_type_fits}
-use Rattle.wasm_binary.proofs.LawsKinds.{table_type_law}
 use Rattle.wasm_binary.proofs.LawsBinary.{import_kind_law}
-use Rattle.law_format.specs.Places.{TypeOfValue, OtherByte, Cell, others, plain, value_type_cells, vector_cells, func_type_cells, import_kind_cells, import_cells, global_cells, element_cells, data_cells, group_cells, locals_cells, code_cells}
+use Rattle.law_format.specs.Places.{TypeOfValue, OtherByte, plain, value_type_cells, vector_cells, func_type_cells, import_kind_cells, import_cells, global_cells, element_cells, data_cells, group_cells, locals_cells, code_cells}
 use Rattle.law_format.specs.Layouts.{body_cells, body_content}
-use Rattle.law_format.proofs.Meeting.{Meet, meet_same, meet_then, Meets, place_meets, plain_meets, then_meets, seen_meets, counted_meet, vector_meets}
+use Rattle.law_format.proofs.Meeting.{meet_same, meet_then, Meets, place_meets, plain_meets, then_meets, seen_meets, counted_meet, vector_meets}
 use Rattle.law_format.proofs.MeetingCode.{code_meets}
 
 value_type_meets : Meets value_type value_type_cells
@@ -59,7 +56,6 @@ unfolding import
 import_meets =
     seen_meets (λ p. record { module_name = p.0; name = p.1.0; kind = p.1.1 }) (λ i. (i.module_name, (i.name, i.kind))) (name · (name · import_kind)) (λ x. plain name x.0 ++ (plain name x.1.0 ++ import_kind_cells x.1.1))
     (then_meets name (name · import_kind) (plain name) (λ x. plain name x.0 ++ import_kind_cells x.1) name_meets (then_meets name import_kind (plain name) import_kind_cells name_meets import_kind_meets))
-
 
 immutable_meets : Meets (value_type ◂ 0x00) (λ t. value_type_cells t ++ (OtherByte, 0x00) ∷ [])
 immutable_meets t u h g = meet_then (value_type_cells t) (value_type_cells u) ((OtherByte, 0x00) ∷ []) ((OtherByte, 0x00) ∷ []) (value_type_meets t u h g) (meet_same ((OtherByte, 0x00) ∷ []))

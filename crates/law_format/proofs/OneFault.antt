@@ -2,11 +2,11 @@
 use Rattle.std.proofs.Common.{◌≡◌, ◌⊎◌, ℕ, zero, suc, List, [], ◌∷◌, ◌++◌, take, Option, Some, None, refl, sym, ap, subst, ◌∙◌, append_assoc, inl, inr}
 use Rattle.wasm_tree.specs.declared.fault.WFault.{WFault}
 use Rattle.wasm_tree.specs.declared.fault.WFault.TheVariants.{Malformed}
-use Rattle.law_format.specs.Places.{Place, SectionNumber, fault_at, Cell}
-use Rattle.law_format.specs.Layouts.{Mark, Byte, Opens, Closes, Last, flat, spend, room, within, Layout, layout_marks}
+use Rattle.law_format.specs.Places.{SectionNumber, fault_at, Cell}
+use Rattle.law_format.specs.Layouts.{Mark, Byte, Opens, Closes, Last, flat, spend, room, within, layout_marks}
 use Rattle.law_format.specs.FirstFault.{Begins, CannotStand, Decides, NoByte, WrongByte, ByteBehind, BytesLeft, FirstFault, OneFault}
-use Rattle.law_format.proofs.Breaks.{flat-append, then_room, room-append}
-use Rattle.law_format.proofs.Endings.{Inner, Ended, layout_ended, inner_front}
+use Rattle.law_format.proofs.Breaks.{flat-append, then_room, room-append, some_is, no_room, same_behind}
+use Rattle.law_format.proofs.Endings.{Inner, layout_ended, inner_tail, inner_front}
 use Rattle.law_format.proofs.Joining.{Turn, Join, layouts_join}
 
 -- ---- two fronts of the same bytes
@@ -79,12 +79,6 @@ flat_rest (Byte c) f g at bt e = more_bytes c.1 c.1 (flat f ++ at) (flat g ++ bt
 flat_rest (Opens k) f g at bt e = e
 flat_rest Closes f g at bt e = e
 flat_rest Last f g at bt e = e
-
-inner_tail : (m : Mark) (xs : List Mark) → Inner (m ∷ xs) → Inner xs
-inner_tail (Byte cell) xs h = h
-inner_tail (Opens size) xs h = h
-inner_tail Closes xs h = h
-inner_tail Last xs h = absurd h
 
 compare : (f g : List Mark) (x y : Mark) (r s : List Mark) (at bt : List ℕ) → Inner f → Inner g → flat f ++ at ≡ flat g ++ bt → Join (f ++ (x ∷ r)) (g ++ (y ∷ s)) → Compared f g x y
 compare [] [] x y r s at bt hf hg e j = inl (refl, beside x y j)
@@ -164,7 +158,6 @@ last_place : (c : Cell) → Beside (Byte c) Last → c.0 ≡ SectionNumber
 last_place c (inl t) = t
 last_place c (inr e) = absurd (byte_not_last c e)
 
-
 byte_closes : (c : Cell) → Beside (Byte c) Closes → ⊥
 byte_closes c (inl t) = t
 byte_closes c (inr e) = byte_not_closes c e
@@ -213,12 +206,6 @@ same_fault fx fy Last Last rooms (k ∷ w) f g a b t = a.0 ∙ sym b.0
 abbrev Rooms : Type 0
 Rooms = Option (List ℕ)
 
-some_is : (x y : List ℕ) → ◌≡◌ {A = Rooms} (Some x) (Some y) → x ≡ y
-some_is x y e = cc
-
-no_room : (rooms : List ℕ) → ◌≡◌ {A = Rooms} None (Some rooms) → ⊥
-no_room rooms e = cc
-
 spent : (o : Rooms) (more : List Mark) (rb : List ℕ) → elim o [ Some left ↦ room left more | None ↦ None ] ≡ Some rb → (left : List ℕ) × (o ≡ Some left)
 spent (Some left) more rb e = (left, refl)
 spent None more rb e = absurd (no_room rb e)
@@ -260,10 +247,6 @@ goes_on front Last (Byte d) rooms (b ∷ w) fault more rb at bt a e h g begins i
 goes_on front Last (Opens n) rooms w fault more rb at bt a e h g begins inner t = last_opens n t
 goes_on front Last Closes rooms w fault more rb at bt a e h g begins inner t = closes_last (beside_back Last Closes t)
 goes_on front Last Last rooms w fault more rb at bt a e h g begins inner t = inner
-
-pub same_behind : (front x y : List ℕ) → front ++ x ≡ front ++ y → x ≡ y
-same_behind [] x y e = e
-same_behind (b ∷ front) x y e = same_behind front x y (more_bytes b b (front ++ x) (front ++ y) e)
 
 pub inner_behind : (xs ys : List Mark) → Inner (xs ++ ys) → Inner ys
 inner_behind [] ys h = h

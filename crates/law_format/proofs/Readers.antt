@@ -1,26 +1,24 @@
 -- Bytes that encode a module have no first fault, so the reader answers the first fault.
-use Rattle.std.proofs.Common.{◌≡◌, ◌⊎◌, ◌↔◌, ℕ, zero, suc, List, [], ◌∷◌, ◌++◌, take, Option, Some, None, Ok, Err, refl, sym, ap, subst, ◌∙◌, append_assoc, inl, inr}
+use Rattle.std.proofs.Common.{◌≡◌, ℕ, List, [], ◌∷◌, ◌++◌, Option, Some, None, Ok, Err, refl, sym, ap, subst, ◌∙◌, append_assoc, inl, inr}
 use Rattle.wasm_tree.specs.declared.fault.WFault.{WFault}
 use Rattle.wasm_tree.specs.declared.module.WModule.{WModule}
 use Rattle.wasm_tree.specs.Format.{Reading}
 use Rattle.wasm_binary.specs.Binary.{module_at, Encodes}
 use Rattle.wasm_code.proofs.Laws.{IsBytes}
 use Rattle.wasm_binary.proofs.LawsModule.{module_takes}
-use Rattle.law_format.specs.Layouts.{Mark, Byte, Opens, Closes, Last, flat, room, within, layout_marks}
+use Rattle.law_format.specs.Layouts.{Mark, Byte, Opens, Closes, Last, flat, room, within}
 use Rattle.law_format.specs.FirstFault.{Begins, FirstFault, ModulesHaveNone, ReaderAnswersFirst}
-use Rattle.law_format.proofs.Breaks.{flat-append, then_room, room-append}
+use Rattle.law_format.proofs.Breaks.{flat-append, then_room, room-append, no_room, same_behind}
+use Rattle.law_format.proofs.Chains.{within_none}
 use Rattle.law_format.proofs.Endings.{Inner, layout_ended}
 use Rattle.law_format.proofs.EncodedModules.{layout_of, module_kept, module_flat, layout_fits}
-use Rattle.law_format.proofs.OneFault.{Beside, Shorter, Compared, Reached, reached, compared, Reason, reason_of, longer_goes_on, same_rest, closes_last, last_opens, beside_back, no_byte, same_behind, inner_of, inner_behind, one_fault}
+use Rattle.law_format.proofs.OneFault.{Beside, Compared, Reached, reached, compared, Reason, reason_of, longer_goes_on, same_rest, closes_last, last_opens, beside_back, no_byte, inner_of, inner_behind, one_fault}
 use Rattle.law_format.proofs.Deciding.{first_fault_decides}
 
 -- ---- a whole module is reached
 
 abbrev Rooms : Type 0
 Rooms = Option (List ℕ)
-
-no_room : (rooms : List ℕ) → ◌≡◌ {A = Rooms} None (Some rooms) → ⊥
-no_room rooms e = cc
 
 room_before : (o : Rooms) → then_room o (Last ∷ []) ≡ Some [] → o ≡ Some []
 room_before (Some rooms) e = e
@@ -38,14 +36,6 @@ whole_module bytes m s =
       next = Last;
       begins = record { layout = layout_of m; fits = layout_fits m s.fits; rest = []; marks = e.whole };
     }
-
-none_taken : (n : ℕ) → ◌≡◌ {A = List ℕ} (take n []) []
-none_taken zero = refl
-none_taken (suc n) = refl
-
-within_none : (rooms : List ℕ) → within rooms [] ≡ []
-within_none [] = refl
-within_none (n ∷ rooms) = ap (take n) (within_none rooms) ∙ none_taken n
 
 -- no reason is left where a module ends
 none_at_end : (front : List Mark) (x : Mark) (rooms : List ℕ) (fault : WFault) → Reason front x rooms [] fault → Begins front Last → Beside x Last → ⊥

@@ -63,7 +63,7 @@ abbrev pub ModulesHaveNone : Type 0
 ModulesHaveNone =
     (bytes : List ℕ) (m : WModule) → Encodes bytes m → (fault : WFault) → ¬ (FirstFault bytes fault)
 
--- so the reader answers a fault exactly if it is the first one
+-- so the reader answers a fault exactly if it is the first fault of these bytes
 abbrev pub ReaderAnswersFirst : Type 0
 ReaderAnswersFirst =
     (bytes : List ℕ) → ((i : ℕ) → get_or bytes i 0 < 256) → (fault : WFault)
