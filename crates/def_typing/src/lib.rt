@@ -1,5 +1,5 @@
 //! The rules of the language as rules: what expressions have, and which rules are broken in them and in statements. There is
-//! no code here, only definitions. Enumerations, records, imports, and calls in constant expressions are not there yet.
+//! no code here, only definitions. Records, imports, and calls in constant expressions are not there yet.
 //!
 //! - `specs/Shapes` says how types are made, and which headings agree.
 //! - `specs/Amounts` has operators on scalars, and `specs/Operators` operators on all values.

@@ -36,8 +36,9 @@ pub mod Obeying
 pub mod TypeNaming
 pub mod Heading
 pub mod Subranges
-pub mod TypeReading
 pub mod Entering
+pub mod Enumerating
+pub mod TypeReading
 pub mod Declaring
 pub mod Beginning
 pub mod Sayings

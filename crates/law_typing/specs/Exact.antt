@@ -351,12 +351,12 @@ mutual
     one_arm : {x : Arm} {xs : List Arm} → ArePlainStmts (out-Arm x).body → ArePlainArms xs
         → ArePlainArms (x ∷ xs)
 
--- ---- declarations of which this is known: constants call nothing, and types are names or
--- subranges
+-- ---- declarations of which this is known: constants and bounds call nothing, and no type is a
+-- record
 
 abbrev pub IsPlainSimple : Simple → Type 0
 IsPlainSimple (simple.Named q) = Unit {0}
-IsPlainSimple (simple.Enumeration at names) = ⊥
+IsPlainSimple (simple.Enumeration at names) = Unit {0}
 IsPlainSimple (simple.Subrange of at low high) = IsCallFree low × IsCallFree high
 
 pub data IsPlainType : TypeExpr → Type 0 where
