@@ -1,5 +1,5 @@
--- Types as they are written, and which rules are broken in them. Records are not there yet.
-use Rattle.std.specs.Prelude.{◌≡◌, ◌⊎◌, ℕ, ◌+◌, ◌*◌, pos, ◌-ℤ◌, Bool, true, false, ◌||◌, cond, nat_lt, int_lt, unsigned_abs, List, [], ◌∷◌, ◌++◌, length, Option, Some, None, slice_get}
+-- Types as they are written, what they add to what is known, and which rules are broken in them.
+use Rattle.std.specs.Prelude.{◌≡◌, ◌⊎◌, ℕ, ◌+◌, ◌*◌, pos, ◌-ℤ◌, Bool, true, false, ◌||◌, cond, nat_lt, int_lt, unsigned_abs, List, [], ◌∷◌, ◌++◌, length, map, Option, Some, None, slice_get}
 use Rattle.std.specs.Option.{is_some}
 use Rattle.m2_rule.specs.declared.rule.Rule.TheVariants as rule
 use Rattle.m2_rule.specs.declared.breach.Breach.{Breach}
@@ -11,7 +11,7 @@ use Rattle.m2_tree.specs.declared.decl.Simple.{Simple}
 use Rattle.m2_tree.specs.declared.decl.Simple.TheVariants as simple
 use Rattle.m2_tree.specs.declared.decl.TypeExpr.{TypeExpr, TypeExpr-F, out-TypeExpr, fold-TypeExpr}
 use Rattle.m2_tree.specs.declared.decl.TypeExpr.TheOpen as layer
-use Rattle.m2_tree.specs.declared.decl.Field.{Field, Field-F, fold-Field}
+use Rattle.m2_tree.specs.declared.decl.Field.{Field, Field-F, out-Field, fold-Field}
 use Rattle.typed_tree.specs.declared.types.Home.TheVariants.{Module}
 use Rattle.typed_tree.specs.declared.types.TypeNo.{TypeNo}
 use Rattle.typed_tree.specs.declared.shape.Scalar.{Scalar as Range}
@@ -200,62 +200,119 @@ abbrev pub array_added : Setting → Added → Added → TypeNo → TypeNo → A
 array_added w a b i t =
     both_added a (both_added b (type_added (array_made (behind (behind w a) b).types i t)))
 
+-- ---- records
+
+abbrev pub field_names : List Field → List Ident
+field_names [] = []
+field_names (f ∷ fs) = (out-Field f).names ++ field_names fs
+
+-- fields of one type
+abbrev pub fields_of : List Ident → TypeNo → List (List ℕ × TypeNo)
+fields_of xs t = map (λ x. (x.name, t)) xs
+
+abbrev pub record_made : List (List ℕ × TypeNo) → ℕ → Made
+record_made fields n = record { shape = shape.Record fields; cells = n }
+
 -- ---- all types
 
 module _ (exports : ℕ → Ident → Standing) where
-  pub data IsTypeOf : Setting → TypeExpr → Added → TypeNo → Type 0 where
-    is_simple : {w : Setting} {e : TypeExpr} {x : Simple} {a : Added} {t : TypeNo}
-        → out-TypeExpr e ≡ layer.Simple x → IsSimpleType exports w x a t → IsTypeOf w e a t
-    -- An array has at most 131072 cells.
-    is_array : {w : Setting} {e of : TypeExpr} {at : Pos} {index : Simple} {a b : Added}
-        {i t : TypeNo} → out-TypeExpr e ≡ layer.Array at index of
-        → IsSimpleType exports w index a i → IsIndex (behind w a).types i
-        → IsTypeOf (behind w a) of b t
-        → nat_lt 131072 (size_of (behind (behind w a) b).types i t) ≡ false
-        → IsTypeOf w e (array_added w a b i t) (next_type (behind (behind w a) b).types)
-    is_procedure : {w : Setting} {e : TypeExpr} {at : Pos} {xs : List Parameter}
-        {q : Option Qualified} {s : Signature} → out-TypeExpr e ≡ layer.Procedure at xs q
-        → AreParameters w.types w.names exports xs s.formals
-        → GivesBack w.types w.names exports q s.result
-        → IsTypeOf w e (type_added (procedure_made s)) (next_type w.types)
+  mutual
+    pub data IsTypeOf : Setting → TypeExpr → Added → TypeNo → Type 0 where
+      is_simple : {w : Setting} {e : TypeExpr} {x : Simple} {a : Added} {t : TypeNo}
+          → out-TypeExpr e ≡ layer.Simple x → IsSimpleType exports w x a t → IsTypeOf w e a t
+      -- An array has at most 131072 cells.
+      is_array : {w : Setting} {e of : TypeExpr} {at : Pos} {index : Simple} {a b : Added}
+          {i t : TypeNo} → out-TypeExpr e ≡ layer.Array at index of
+          → IsSimpleType exports w index a i → IsIndex (behind w a).types i
+          → IsTypeOf (behind w a) of b t
+          → nat_lt 131072 (size_of (behind (behind w a) b).types i t) ≡ false
+          → IsTypeOf w e (array_added w a b i t) (next_type (behind (behind w a) b).types)
+      is_procedure : {w : Setting} {e : TypeExpr} {at : Pos} {xs : List Parameter}
+          {q : Option Qualified} {s : Signature} → out-TypeExpr e ≡ layer.Procedure at xs q
+          → AreParameters w.types w.names exports xs s.formals
+          → GivesBack w.types w.names exports q s.result
+          → IsTypeOf w e (type_added (procedure_made s)) (next_type w.types)
+      -- A record has at most 131072 cells, and no name twice.
+      is_record : {w : Setting} {e : TypeExpr} {at : Pos} {fields : List Field} {a : Added}
+          {list : List (List ℕ × TypeNo)} {n : ℕ} → out-TypeExpr e ≡ layer.Record at fields
+          → AreFields w fields a list n → ((f : Breach) → Twice (λ n. ⊥) (field_names fields) f → ⊥)
+          → nat_lt 131072 n ≡ false
+          → IsTypeOf w e (both_added a (type_added (record_made list n)))
+          (next_type (behind w a).types)
 
-  -- what it adds, whether rules are broken in it or not
-  pub data Adds : Setting → TypeExpr → Added → Type 0 where
-    simple_adds : {w : Setting} {e : TypeExpr} {x : Simple} {a : Added}
-        → out-TypeExpr e ≡ layer.Simple x → SimpleAdds exports w x a → Adds w e a
-    right_adds : {w : Setting} {e : TypeExpr} {a : Added} {t : TypeNo} → IsTypeOf w e a t
-        → Adds w e a
-    -- If rules are broken in an array, only its parts add something.
-    parts_add : {w : Setting} {e of : TypeExpr} {at : Pos} {index : Simple} {a b : Added}
-        → out-TypeExpr e ≡ layer.Array at index of
-        → ((c : Added) (t : TypeNo) → IsTypeOf w e c t → ⊥) → SimpleAdds exports w index a
-        → Adds (behind w a) of b → Adds w e (both_added a b)
-    no_procedure : {w : Setting} {e : TypeExpr} {at : Pos} {xs : List Parameter}
-        {q : Option Qualified} → out-TypeExpr e ≡ layer.Procedure at xs q
-        → ((c : Added) (t : TypeNo) → IsTypeOf w e c t → ⊥) → Adds w e nothing_added
+    -- what fields add, which types they have, and how many cells
+    pub data AreFields : Setting → List Field → Added → List (List ℕ × TypeNo) → ℕ → Type 0 where
+      no_field : {w : Setting} → AreFields w [] nothing_added [] 0
+      a_field : {w : Setting} {f : Field} {rest : List Field} {a b : Added} {t : TypeNo}
+          {ns : List (List ℕ × TypeNo)} {n : ℕ} → IsTypeOf w (out-Field f).of a t
+          → AreFields (behind w a) rest b ns n
+          → AreFields w (f ∷ rest) (both_added a b) (fields_of (out-Field f).names t ++ ns)
+          (length (out-Field f).names * cells_at (behind w a).types t + n)
 
-  pub data BrokenType : Setting → TypeExpr → Breach → Type 0 where
-    in_simple : {w : Setting} {e : TypeExpr} {x : Simple} {f : Breach}
-        → out-TypeExpr e ≡ layer.Simple x → BrokenSimpleType exports w x f → BrokenType w e f
-    in_parameter : {w : Setting} {e : TypeExpr} {at : Pos} {xs : List Parameter}
-        {q : Option Qualified} {x : Parameter} {f : Breach}
-        → out-TypeExpr e ≡ layer.Procedure at xs q → Among x xs
-        → BrokenTypeName w.names exports x.of.of f → BrokenType w e f
-    at_result : {w : Setting} {e : TypeExpr} {at : Pos} {xs : List Parameter}
-        {q : Option Qualified} {f : Breach} → out-TypeExpr e ≡ layer.Procedure at xs q
-        → BrokenResult w.types w.names exports q f → BrokenType w e f
-    in_index : {w : Setting} {e of : TypeExpr} {at : Pos} {index : Simple} {f : Breach}
-        → out-TypeExpr e ≡ layer.Array at index of → BrokenSimpleType exports w index f
-        → BrokenType w e f
-    no_index : {w : Setting} {e of : TypeExpr} {at : Pos} {index : Simple} {a : Added} {i : TypeNo}
-        → out-TypeExpr e ≡ layer.Array at index of → IsSimpleType exports w index a i
-        → (IsIndex (behind w a).types i → ⊥) → BrokenType w e (place_of index ! rule.NoIndex)
-    in_elements : {w : Setting} {e of : TypeExpr} {at : Pos} {index : Simple} {a : Added}
-        {f : Breach} → out-TypeExpr e ≡ layer.Array at index of → SimpleAdds exports w index a
-        → BrokenType (behind w a) of f → BrokenType w e f
-    too_large : {w : Setting} {e of : TypeExpr} {at : Pos} {index : Simple} {a b : Added}
-        {i t : TypeNo} → out-TypeExpr e ≡ layer.Array at index of
-        → IsSimpleType exports w index a i → IsIndex (behind w a).types i
-        → IsTypeOf (behind w a) of b t
-        → nat_lt 131072 (size_of (behind (behind w a) b).types i t) ≡ true
-        → BrokenType w e (at ! rule.LargeType)
+  mutual
+    -- what it adds, whether rules are broken in it or not
+    pub data Adds : Setting → TypeExpr → Added → Type 0 where
+      simple_adds : {w : Setting} {e : TypeExpr} {x : Simple} {a : Added}
+          → out-TypeExpr e ≡ layer.Simple x → SimpleAdds exports w x a → Adds w e a
+      right_adds : {w : Setting} {e : TypeExpr} {a : Added} {t : TypeNo} → IsTypeOf w e a t
+          → Adds w e a
+      -- If rules are broken in an array, only its parts add something.
+      parts_add : {w : Setting} {e of : TypeExpr} {at : Pos} {index : Simple} {a b : Added}
+          → out-TypeExpr e ≡ layer.Array at index of
+          → ((c : Added) (t : TypeNo) → IsTypeOf w e c t → ⊥) → SimpleAdds exports w index a
+          → Adds (behind w a) of b → Adds w e (both_added a b)
+      no_procedure : {w : Setting} {e : TypeExpr} {at : Pos} {xs : List Parameter}
+          {q : Option Qualified} → out-TypeExpr e ≡ layer.Procedure at xs q
+          → ((c : Added) (t : TypeNo) → IsTypeOf w e c t → ⊥) → Adds w e nothing_added
+      fields_add : {w : Setting} {e : TypeExpr} {at : Pos} {fields : List Field} {a : Added}
+          → out-TypeExpr e ≡ layer.Record at fields
+          → ((c : Added) (t : TypeNo) → IsTypeOf w e c t → ⊥) → FieldsAdd w fields a → Adds w e a
+
+    pub data FieldsAdd : Setting → List Field → Added → Type 0 where
+      nothing_adds : {w : Setting} → FieldsAdd w [] nothing_added
+      each_adds : {w : Setting} {f : Field} {rest : List Field} {a b : Added}
+          → Adds w (out-Field f).of a → FieldsAdd (behind w a) rest b
+          → FieldsAdd w (f ∷ rest) (both_added a b)
+
+  mutual
+    pub data BrokenType : Setting → TypeExpr → Breach → Type 0 where
+      in_simple : {w : Setting} {e : TypeExpr} {x : Simple} {f : Breach}
+          → out-TypeExpr e ≡ layer.Simple x → BrokenSimpleType exports w x f → BrokenType w e f
+      in_parameter : {w : Setting} {e : TypeExpr} {at : Pos} {xs : List Parameter}
+          {q : Option Qualified} {x : Parameter} {f : Breach}
+          → out-TypeExpr e ≡ layer.Procedure at xs q → Among x xs
+          → BrokenTypeName w.names exports x.of.of f → BrokenType w e f
+      at_result : {w : Setting} {e : TypeExpr} {at : Pos} {xs : List Parameter}
+          {q : Option Qualified} {f : Breach} → out-TypeExpr e ≡ layer.Procedure at xs q
+          → BrokenResult w.types w.names exports q f → BrokenType w e f
+      in_index : {w : Setting} {e of : TypeExpr} {at : Pos} {index : Simple} {f : Breach}
+          → out-TypeExpr e ≡ layer.Array at index of → BrokenSimpleType exports w index f
+          → BrokenType w e f
+      no_index : {w : Setting} {e of : TypeExpr} {at : Pos} {index : Simple} {a : Added} {i : TypeNo}
+          → out-TypeExpr e ≡ layer.Array at index of → IsSimpleType exports w index a i
+          → (IsIndex (behind w a).types i → ⊥) → BrokenType w e (place_of index ! rule.NoIndex)
+      in_elements : {w : Setting} {e of : TypeExpr} {at : Pos} {index : Simple} {a : Added}
+          {f : Breach} → out-TypeExpr e ≡ layer.Array at index of → SimpleAdds exports w index a
+          → BrokenType (behind w a) of f → BrokenType w e f
+      too_large : {w : Setting} {e of : TypeExpr} {at : Pos} {index : Simple} {a b : Added}
+          {i t : TypeNo} → out-TypeExpr e ≡ layer.Array at index of
+          → IsSimpleType exports w index a i → IsIndex (behind w a).types i
+          → IsTypeOf (behind w a) of b t
+          → nat_lt 131072 (size_of (behind (behind w a) b).types i t) ≡ true
+          → BrokenType w e (at ! rule.LargeType)
+      in_fields : {w : Setting} {e : TypeExpr} {at : Pos} {fields : List Field} {f : Breach}
+          → out-TypeExpr e ≡ layer.Record at fields → BrokenFields w fields f → BrokenType w e f
+      field_twice : {w : Setting} {e : TypeExpr} {at : Pos} {fields : List Field} {f : Breach}
+          → out-TypeExpr e ≡ layer.Record at fields → Twice (λ n. ⊥) (field_names fields) f
+          → BrokenType w e f
+      too_many_cells : {w : Setting} {e : TypeExpr} {at : Pos} {fields : List Field} {a : Added}
+          {list : List (List ℕ × TypeNo)} {n : ℕ} → out-TypeExpr e ≡ layer.Record at fields
+          → AreFields w fields a list n → ((f : Breach) → Twice (λ n. ⊥) (field_names fields) f → ⊥)
+          → nat_lt 131072 n ≡ true → BrokenType w e (at ! rule.LargeType)
+
+    pub data BrokenFields : Setting → List Field → Breach → Type 0 where
+      in_first : {w : Setting} {f : Field} {rest : List Field} {b : Breach}
+          → BrokenType w (out-Field f).of b → BrokenFields w (f ∷ rest) b
+      in_later : {w : Setting} {f : Field} {rest : List Field} {a : Added} {b : Breach}
+          → Adds w (out-Field f).of a → BrokenFields (behind w a) rest b
+          → BrokenFields w (f ∷ rest) b

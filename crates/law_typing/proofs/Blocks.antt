@@ -63,7 +63,8 @@ use Rattle.law_typing.proofs.Beginning.{Adding, adding_name, added, clash, There
 use Rattle.law_typing.proofs.Sayings.{Set, Saids, said_constant, said_type, said_variables, said_procedure, Exactly, saying, saying_heading, says_tells, more_answers, constant_says, of_type_says, variables_say, procedure_says}
 use Rattle.def_typing.specs.TypeExprs.{Twice, constants_in, with_types, next_type, Added, nothing_added, Setting, IsTypeOf, Adds, BrokenType}
 use Rattle.law_typing.proofs.Enumerating.{MadeType, scope_with, Enters, Frees}
-use Rattle.law_typing.proofs.TypeReading.{no_types, no_made, Read as Read_type, type_read}
+use Rattle.law_typing.proofs.TypeReading.{no_types, no_made, Read as Read_type}
+use Rattle.law_typing.proofs.Recording.{type_read}
 use Rattle.law_typing.proofs.Marking.{block_begins}
 
 module _ (g : Gathers) (j : Judges g) (lawful : Lawful g j) (exports : ℕ → Ident → Standing) (outside : Ident → Standing) (start : Scope g.Reported) (taken : List ℕ → Bool) (nested : Bool) (block : List Declaration)

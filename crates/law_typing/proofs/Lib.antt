@@ -42,5 +42,6 @@ pub mod TypeReading
 pub mod Declaring
 pub mod Beginning
 pub mod Sayings
+pub mod Recording
 pub mod Marking
 pub mod Blocks

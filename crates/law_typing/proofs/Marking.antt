@@ -6,7 +6,7 @@ use Rattle.m2_tree.specs.declared.name.Ident.{Ident}
 use Rattle.m2_tree.specs.declared.decl.Constant.{Constant}
 use Rattle.m2_tree.specs.declared.decl.TypeDecl.{TypeDecl}
 use Rattle.m2_tree.specs.declared.decl.Variables.{Variables}
-use Rattle.m2_tree.specs.declared.decl.Field.{Field}
+use Rattle.m2_tree.specs.declared.decl.Field.{Field, out-Field, fold_out-Field}
 use Rattle.m2_tree.specs.declared.decl.Simple.{Simple}
 use Rattle.m2_tree.specs.declared.decl.Simple.TheVariants as simple
 use Rattle.m2_tree.specs.declared.decl.TypeExpr.{TypeExpr, TypeExpr-F, out-TypeExpr, map-TypeExpr, fold_out-TypeExpr}
@@ -25,13 +25,14 @@ use Rattle.check_definition.specs.Marking.{Marks, marked_later, marked_in, marke
 use Rattle.check_block.specs.Naming.{marked_layer, marked_decl, with_marks, all_marked}
 use Rattle.def_typing.specs.Things.{Standing}
 use Rattle.def_typing.specs.Parts.{Among, here, later, Named}
-use Rattle.def_typing.specs.TypeExprs.{constants_listed, constants_in}
+use Rattle.def_typing.specs.TypeExprs.{constants_listed, all_listed, constants_in, constants_in_field}
 use Rattle.def_typing.specs.Declarations.{Declaration, OfConstant, OfType, OfVariables, OfProcedure, names_of, constants_of, declared_by, declarations_of, Declares, AnyDeclares, IsFirst, at_first, later_on, There}
 use Rattle.law_typing.specs.Judging.{Judges}
-use Rattle.law_typing.specs.Exact.{TakenAs, is_taken, not_taken, IsPlainType, plain_simple, plain_array, plain_procedure, IsPlainLayer, ArePlainDecls}
+use Rattle.law_typing.specs.Exact.{TakenAs, is_taken, not_taken, IsPlainType, plain_simple, plain_array, plain_record, plain_procedure, ArePlainFields, no_plain_field, one_plain_field, IsPlainLayer, ArePlainDecls}
 use Rattle.law_typing.proofs.Combining.{Decided, holds, fails_it}
 use Rattle.law_typing.proofs.Entering.{Compared, are_one, are_two, compared, among_decided, entered_all}
 use Rattle.law_typing.proofs.TypeReading.{constants_at}
+use Rattle.law_typing.proofs.Recording.{field_constants}
 use Rattle.law_typing.proofs.Declaring.{any_first, mark_of, KnownAs, outer, ahead, Same, KnowsBlock}
 use Rattle.law_typing.proofs.Beginning.{clash}
 
@@ -97,11 +98,22 @@ module _ {T : Type 0} where
   simple_marks (simple.Enumeration at names) s = refl
   simple_marks (simple.Subrange of at low high) s = refl
 
-  type_marked : (e : TypeExpr) → IsPlainType e → (s : Scope T) → marked_in e s ≡ marked s (constants_in e)
-  type_marked e (plain_simple {x = x} h i) s = ap (λ (m : Marks T). m s) (marks_at e (layer.Simple x) h) ∙ simple_marks x s ∙ sym (ap (λ (xs : List Ident). marked s xs) (constants_at e (layer.Simple x) h))
-  type_marked e (plain_procedure {at = at} {xs = xs} {q = q} h) s = ap (λ (m : Marks T). m s) (marks_at e (layer.Procedure at xs q) h) ∙ sym (ap (λ (xs : List Ident). marked s xs) (constants_at e (layer.Procedure at xs q) h))
-  type_marked e (plain_array {of = of} {at = at} {index = x} h i k) s = ap (λ (m : Marks T). m s) (marks_at e (layer.Array at x of) h) ∙ ap (λ (t : Scope T). marked_in of t) (simple_marks x s) ∙ type_marked of k (marked s (constants_listed x))
-      ∙ fold_both marked_later s (constants_listed x) (constants_in of) ∙ sym (ap (λ (xs : List Ident). marked s xs) (constants_at e (layer.Array at x of) h))
+  fields_marks : (f : Field) → marked_field {T = T} f ≡ marked_in (out-Field f).of
+  unfolding marked_in marked_field
+  fields_marks f = fold_out-Field (Marks T) (Marks T) marking.type_layer marking.field_layer f
+
+  mutual
+    type_marked : (e : TypeExpr) → IsPlainType e → (s : Scope T) → marked_in e s ≡ marked s (constants_in e)
+    type_marked e (plain_simple {x = x} h i) s = ap (λ (m : Marks T). m s) (marks_at e (layer.Simple x) h) ∙ simple_marks x s ∙ sym (ap (λ (xs : List Ident). marked s xs) (constants_at e (layer.Simple x) h))
+    type_marked e (plain_procedure {at = at} {xs = xs} {q = q} h) s = ap (λ (m : Marks T). m s) (marks_at e (layer.Procedure at xs q) h) ∙ sym (ap (λ (xs : List Ident). marked s xs) (constants_at e (layer.Procedure at xs q) h))
+    type_marked e (plain_array {of = of} {at = at} {index = x} h i k) s = ap (λ (m : Marks T). m s) (marks_at e (layer.Array at x of) h) ∙ ap (λ (t : Scope T). marked_in of t) (simple_marks x s) ∙ type_marked of k (marked s (constants_listed x))
+        ∙ fold_both marked_later s (constants_listed x) (constants_in of) ∙ sym (ap (λ (xs : List Ident). marked s xs) (constants_at e (layer.Array at x of) h))
+    type_marked e (plain_record {at = at} {fields = fs} h i) s = ap (λ (m : Marks T). m s) (marks_at e (layer.Record at fs) h) ∙ fields_marked fs i s ∙ sym (ap (λ (xs : List Ident). marked s xs) (constants_at e (layer.Record at fs) h))
+
+    fields_marked : (fs : List Field) → ArePlainFields fs → (s : Scope T) → fold marking.then_marks s (map marked_field fs) ≡ marked s (all_listed (map constants_in_field fs))
+    fields_marked [] no_plain_field s = refl
+    fields_marked (f ∷ fs) (one_plain_field i k) s = ap (λ (t : Scope T). fold marking.then_marks t (map marked_field fs)) (ap (λ (m : Marks T). m s) (fields_marks f) ∙ type_marked (out-Field f).of i s ∙ ap (λ (xs : List Ident). marked s xs) (sym (field_constants f)))
+        ∙ fields_marked fs k (marked s (constants_in_field f)) ∙ fold_both marked_later s (constants_in_field f) (all_listed (map constants_in_field fs))
 
 module _ (g : Gathers) (j : Judges g) (exports : ℕ → Ident → Standing) (outside : Ident → Standing) (start : Scope g.Reported) (taken : List ℕ → Bool) (nested : Bool) (block : List Declaration)
     (takes : (n : List ℕ) → TakenAs g j (taken n) (find_name n start.own)) where

@@ -71,7 +71,7 @@ pub constants_at : (e : TypeExpr) (x : TypeExpr-F TypeExpr Field) → out-TypeEx
 unfolding constants_in constants_in_field
 constants_at e x h = fold_out-TypeExpr (List Ident) (List Ident) constants_layer constants_of_field e ∙ ap (λ (y : TypeExpr-F TypeExpr Field). constants_layer (map-TypeExpr TypeExpr Field (List Ident) (List Ident) constants_in constants_in_field y)) h
 
-constants_as : {xs ys : List Ident} (bs : List (List ℕ × rules.Member)) → xs ≡ ys → ((n : List ℕ) → Decided (Named ys n) (is_some (find_name n bs))) → (n : List ℕ) → Decided (Named xs n) (is_some (find_name n bs))
+pub constants_as : {xs ys : List Ident} (bs : List (List ℕ × rules.Member)) → xs ≡ ys → ((n : List ℕ) → Decided (Named ys n) (is_some (find_name n bs))) → (n : List ℕ) → Decided (Named xs n) (is_some (find_name n bs))
 constants_as bs e h n = subst (λ (xs : List Ident). Decided (Named xs n) (is_some (find_name n bs))) (sym e) (h n)
 
 module _ (g : Gathers) (j : Judges g) (lawful : Lawful g j) (exports : ℕ → Ident → Standing) (s : Scope g.Reported) where
@@ -233,6 +233,7 @@ module _ (g : Gathers) (j : Judges g) (lawful : Lawful g j) (exports : ℕ → I
     simple_out {a = a} {t = t} (is_simple q m) = subst (λ (y : Simple). IsSimpleType exports w y a t) (same_simple e h q) m
     simple_out (rules.is_array q m i n l) = let z = sym h ∙ q in absurd cc
     simple_out (rules.is_procedure q m n) = let z = sym h ∙ q in absurd cc
+    simple_out (rules.is_record q m d l) = let z = sym h ∙ q in absurd cc
 
     fails_out : (f : Breach) → BrokenType exports w e f → BrokenSimpleType exports w x f
     fails_out f (rules.in_parameter q m b) = let z = sym h ∙ q in absurd cc
@@ -241,6 +242,9 @@ module _ (g : Gathers) (j : Judges g) (lawful : Lawful g j) (exports : ℕ → I
     fails_out f (rules.no_index q m n) = let z = sym h ∙ q in absurd cc
     fails_out f (rules.in_elements q m b) = let z = sym h ∙ q in absurd cc
     fails_out f (rules.too_large q m i n l) = let z = sym h ∙ q in absurd cc
+    fails_out f (rules.in_fields q m) = let z = sym h ∙ q in absurd cc
+    fails_out f (rules.field_twice q d) = let z = sym h ∙ q in absurd cc
+    fails_out f (rules.too_many_cells q m d l) = let z = sym h ∙ q in absurd cc
     fails_out f (in_simple q b) = subst (λ (y : Simple). BrokenSimpleType exports w y f) (same_simple e h q) b
 
     adds_out : {a : Added} → Adds exports w e a → SimpleAdds exports w x a ⊎ ((t : TypeNo) × IsSimpleType exports w x a t)
@@ -248,8 +252,9 @@ module _ (g : Gathers) (j : Judges g) (lawful : Lawful g j) (exports : ℕ → I
     adds_out (rules.right_adds {t = t} m) = inr (t, simple_out m)
     adds_out (rules.parts_add q n m b) = let z = sym h ∙ q in absurd cc
     adds_out (rules.no_procedure q n) = let z = sym h ∙ q in absurd cc
+    adds_out (rules.fields_add q n m) = let z = sym h ∙ q in absurd cc
 
-  simple_type_read : (e : TypeExpr) (x : Simple) → out-TypeExpr e ≡ layer.Simple x → IsPlainSimple x → Read e (type_of g e s)
+  pub simple_type_read : (e : TypeExpr) (x : Simple) → out-TypeExpr e ≡ layer.Simple x → IsPlainSimple x → Read e (type_of g e s)
   simple_type_read e x h i = let q = simple_read x i in
       subst (λ (m : Makes g). Read e (m s)) (sym (type_at e (layer.Simple x) h))
       (record {
@@ -266,7 +271,7 @@ module _ (g : Gathers) (j : Judges g) (lawful : Lawful g j) (exports : ℕ → I
 -- ---- how large arrays are
 
 -- a size as it is counted, and as it is
-data SizeIs (n m : ℕ) : Type 0 where
+pub data SizeIs (n m : ℕ) : Type 0 where
   size_same : n ≡ m → SizeIs n m
   size_large : nat_lt 131072 n ≡ true → nat_lt 131072 m ≡ true → SizeIs n m
 
@@ -325,7 +330,7 @@ index_place (simple.Subrange (Some q) at low high) = place_same q.module q.name
 
 assoc_made : (own ms ns rest : List Made) → ((own ++ ms) ++ ns) ++ rest ≡ own ++ (ms ++ (ns ++ rest))
 assoc_made own ms ns rest = append_assoc (own ++ ms) ns rest ∙ append_assoc own ms (ns ++ rest)
-more_repeated : {g : Gathers} {j : Judges g} {A K : Type 0} {Is : A → K → Type 0} {M : K → Type 0} {B Q U : Breach → Type 0} {r : Result A g.Reported} → ((f : Breach) → Q f → U f) → Answers g j Q Is M B r → Answers g j U Is M B r
+pub more_repeated : {g : Gathers} {j : Judges g} {A K : Type 0} {Is : A → K → Type 0} {M : K → Type 0} {B Q U : Breach → Type 0} {r : Result A g.Reported} → ((f : Breach) → Q f → U f) → Answers g j Q Is M B r → Answers g j U Is M B r
 more_repeated h (means a k i m u n) = means a k i m u n
 more_repeated h (refuses r c n) = refuses r (record { only = λ f m. elim (c.only f m) [ inl b ↦ inl b | inr o ↦ inr (h f o) ]; each = c.each }) n
 
@@ -499,6 +504,7 @@ module _ (g : Gathers) (j : Judges g) (lawful : Lawful g j) (exports : ℕ → I
     whole_out : {n : Added} {t : TypeNo} → Whole (n, t) → (k : Both) × (Index k.0 × Elements k.1) × (Small k × (◌≡◌ {A = MadeType} (n, t) (result k)))
     whole_out (is_simple q m) = let z = sym h ∙ q in absurd cc
     whole_out (rules.is_procedure q m n) = let z = sym h ∙ q in absurd cc
+    whole_out (rules.is_record q m d l) = let z = sym h ∙ q in absurd cc
     whole_out (rules.is_array {a = c} {b = d} {i = i} {t = u} q m w n l) = let z = indexed q m in (((c, i), (d, u)), ((z, w), elemented q z n), (l, refl))
 
     fails_in : (f : Breach) → PartsFail f → WholeFails f
@@ -511,6 +517,9 @@ module _ (g : Gathers) (j : Judges g) (lawful : Lawful g j) (exports : ℕ → I
     whole_fails f (in_simple q b) = let z = sym h ∙ q in absurd cc
     whole_fails f (rules.in_parameter q m b) = let z = sym h ∙ q in absurd cc
     whole_fails f (rules.at_result q b) = let z = sym h ∙ q in absurd cc
+    whole_fails f (rules.in_fields q m) = let z = sym h ∙ q in absurd cc
+    whole_fails f (rules.field_twice q d) = let z = sym h ∙ q in absurd cc
+    whole_fails f (rules.too_many_cells q m d l) = let z = sym h ∙ q in absurd cc
     whole_fails f (rules.in_index q b) = inl (inl (inl (subst (λ (y : Simple). BrokenSimpleType exports w y f) (same_index q) b)))
     whole_fails f (rules.no_index {a = c} {i = i} q m n) = inl (inl (inr ((c, i), indexed q m, (n, ap (λ (y : Simple). place_of y ! rule.NoIndex) (same_index q)))))
     whole_fails f (rules.in_elements {a = c} q m b) = inl (inr (subst (λ (c : Added). BrokenType exports (behind w c) of f) (index_adds q m) (subst (λ (u : TypeExpr). BrokenType exports (behind w c) u f) (same_of q) b)))
@@ -546,6 +555,7 @@ module _ (g : Gathers) (j : Judges g) (lawful : Lawful g j) (exports : ℕ → I
     made_only v (rules.right_adds {a = d} {t = t} m) = one_added g j lawful exports s v (d, t) m
     made_only (means t k i m u n) (rules.parts_add q none y z) = absurd (none k.0 k.1 m)
     made_only (means t k i m u n) (rules.no_procedure q none) = absurd (none k.0 k.1 m)
+    made_only (means t k i m u n) (rules.fields_add q none y) = absurd (none k.0 k.1 m)
 
     none_whole : {c : Added} {r : g.Reported} → Answers g j R (Is c) Whole WholeFails (Err r) → (d : Added) (t : TypeNo) → IsTypeOf exports w e d t → ⊥
     none_whole (refuses r c n) d t m = n (d, t) m
@@ -561,6 +571,7 @@ module _ (g : Gathers) (j : Judges g) (lawful : Lawful g j) (exports : ℕ → I
     unmade_only v (rules.right_adds {a = d} {t = t} m) = absurd (none_whole v d t m)
     unmade_only v (rules.parts_add {a = c} {b = d} q none y z) = parts_only (index_adds q y) (subst (λ (u : TypeExpr). Adds exports (behind w c) u d) (same_of q) z)
     unmade_only v (rules.no_procedure q none) = let z = sym h ∙ q in absurd cc
+    unmade_only v (rules.fields_add q none y) = let z = sym h ∙ q in absurd cc
 
   abbrev with_own_types : List Made → Scope g.Reported
   with_own_types ms = record s { own = elements.own; types = record s.types { own = ms } }
@@ -634,6 +645,7 @@ module _ (g : Gathers) (j : Judges g) (lawful : Lawful g j) (exports : ℕ → I
     signed : {a : Added} {t : TypeNo} → IsTypeOf exports w e a t → (x : Signature) × Sig x × ((a ≡ type_added (procedure_made x)) × (t ≡ next_type w.types))
     signed (is_simple v m) = let z = sym h ∙ v in absurd cc
     signed (rules.is_array v m i n l) = let z = sym h ∙ v in absurd cc
+    signed (rules.is_record v m d l) = let z = sym h ∙ v in absurd cc
     signed (rules.is_procedure {s = x} v m n) = (x, (subst (λ (xs : List Parameter). AreParameters w.types w.names exports xs x.formals) (same_parameters v) m, subst (λ (r : Option Qualified). GivesBack w.types w.names exports r x.result) (same_result v) n), (refl, refl))
 
     sig_in : (f : Breach) → SigFails f → BrokenType exports w e f
@@ -648,6 +660,9 @@ module _ (g : Gathers) (j : Judges g) (lawful : Lawful g j) (exports : ℕ → I
     sig_out (rules.no_index v m n) = let z = sym h ∙ v in absurd cc
     sig_out (rules.in_elements v m b) = let z = sym h ∙ v in absurd cc
     sig_out (rules.too_large v m i n l) = let z = sym h ∙ v in absurd cc
+    sig_out (rules.in_fields v m) = let z = sym h ∙ v in absurd cc
+    sig_out (rules.field_twice v d) = let z = sym h ∙ v in absurd cc
+    sig_out (rules.too_many_cells v m d l) = let z = sym h ∙ v in absurd cc
 
     signed_there : (m : Made) → SigSo (Ok m) → Answers g j Rep (Is (type_added m)) Typed (BrokenType exports w e) (Ok (next_type w.types))
     signed_there m (means _ x i (y, v) u c) = means (next_type w.types) (type_added m, next_type w.types) refl
@@ -667,6 +682,7 @@ module _ (g : Gathers) (j : Judges g) (lawful : Lawful g j) (exports : ℕ → I
     typed_only v (rules.right_adds {a = d} {t = t} m) = one_added g j lawful exports s v (d, t) m
     typed_only v (rules.parts_add p n y z) = let z = sym h ∙ p in absurd cc
     typed_only (means t k i m u c) (rules.no_procedure p n) = absurd (n k.0 k.1 m)
+    typed_only v (rules.fields_add p n y) = let z = sym h ∙ p in absurd cc
 
     untyped_added : {a : Added} {r : g.Reported} → Answers g j Rep (Is a) Typed (BrokenType exports w e) (Err r) → Adds exports w e nothing_added
     untyped_added (refuses r c n) = rules.no_procedure h (λ a t m. n (a, t) m)
@@ -676,6 +692,7 @@ module _ (g : Gathers) (j : Judges g) (lawful : Lawful g j) (exports : ℕ → I
     untyped_only (refuses r c n) (rules.right_adds {a = d} {t = t} m) = absurd (n (d, t) m)
     untyped_only v (rules.parts_add p n y z) = let z = sym h ∙ p in absurd cc
     untyped_only v (rules.no_procedure p n) = refl
+    untyped_only v (rules.fields_add p n y) = let z = sym h ∙ p in absurd cc
 
   signed_read : (r : Result Made g.Reported) → ((names : Ident → Standing) (there : List ℕ → Bool) → Knows g j names exports s → SigSo (set_in s names there) r) → Read g j lawful exports s e (with_made s r)
   signed_read (Ok m) v = record {
@@ -701,11 +718,3 @@ module _ (g : Gathers) (j : Judges g) (lawful : Lawful g j) (exports : ℕ → I
 
   pub procedure_read : Read g j lawful exports s e (type_of g e s)
   procedure_read = subst (λ (m : Makes g). Read g j lawful exports s e (m s)) (sym (type_at g j lawful exports s e (layer.Procedure at ps q) h)) (signed_read (procedure_type g s ps q) (λ names there k. procedure_type_answers g j lawful names exports s k ps q))
-
--- ---- all types
-
-module _ (g : Gathers) (j : Judges g) (lawful : Lawful g j) (exports : ℕ → Ident → Standing) where
-  pub type_read : {e : TypeExpr} → IsPlainType e → (s : Scope g.Reported) → s.withs ≡ [] → Read g j lawful exports s e (type_of g e s)
-  type_read {e = e} (plain_simple {x = x} h i) s n = simple_type_read g j lawful exports s e x h i
-  type_read {e = e} (plain_array {of = of} {at = at} {index = x} h i k) s n = let r = simple_read g j lawful exports s x i in array_read g j lawful exports s n e at x of h r (type_read k (scope_with s r.adds.makes r.own) n)
-  type_read {e = e} (plain_procedure {at = at} {xs = xs} {q = q} h) s n = procedure_read g j lawful exports s e at xs q h
