@@ -110,7 +110,7 @@ abbrev pub enumeration_added : TypeNo → List Ident → Added
 enumeration_added t xs =
     record { makes = enumeration_made t xs ∷ []; brings = members_from t 0 xs }
 
--- where a type stands: the types that are known, what names stand for, and which are taken
+-- where a type stands: the types that are known, what names stand for, and which names are there
 pub record Setting : Type 0 where
   pub types : Types
   pub names : Ident → Standing
@@ -264,6 +264,7 @@ module _ (exports : ℕ → Ident → Standing) where
       no_procedure : {w : Setting} {e : TypeExpr} {at : Pos} {xs : List Parameter}
           {q : Option Qualified} → out-TypeExpr e ≡ layer.Procedure at xs q
           → ((c : Added) (t : TypeNo) → IsTypeOf w e c t → ⊥) → Adds w e nothing_added
+      -- The same of a record and its fields.
       fields_add : {w : Setting} {e : TypeExpr} {at : Pos} {fields : List Field} {a : Added}
           → out-TypeExpr e ≡ layer.Record at fields
           → ((c : Added) (t : TypeNo) → IsTypeOf w e c t → ⊥) → FieldsAdd w fields a → Adds w e a
@@ -288,9 +289,10 @@ module _ (exports : ℕ → Ident → Standing) where
       in_index : {w : Setting} {e of : TypeExpr} {at : Pos} {index : Simple} {f : Breach}
           → out-TypeExpr e ≡ layer.Array at index of → BrokenSimpleType exports w index f
           → BrokenType w e f
-      no_index : {w : Setting} {e of : TypeExpr} {at : Pos} {index : Simple} {a : Added} {i : TypeNo}
-          → out-TypeExpr e ≡ layer.Array at index of → IsSimpleType exports w index a i
-          → (IsIndex (behind w a).types i → ⊥) → BrokenType w e (place_of index ! rule.NoIndex)
+      no_index : {w : Setting} {e of : TypeExpr} {at : Pos} {index : Simple} {a : Added}
+          {i : TypeNo} → out-TypeExpr e ≡ layer.Array at index of
+          → IsSimpleType exports w index a i → (IsIndex (behind w a).types i → ⊥)
+          → BrokenType w e (place_of index ! rule.NoIndex)
       in_elements : {w : Setting} {e of : TypeExpr} {at : Pos} {index : Simple} {a : Added}
           {f : Breach} → out-TypeExpr e ≡ layer.Array at index of → SimpleAdds exports w index a
           → BrokenType (behind w a) of f → BrokenType w e f

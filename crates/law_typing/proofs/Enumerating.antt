@@ -1,5 +1,5 @@
 -- The constants of an enumeration are entered into the scope, and known behind it.
-use Rattle.std.proofs.Common.{◌≡◌, ℕ, Bool, true, false, cond, List, [], ◌∷◌, ◌++◌, Option, Some, None, Result, Ok, Err, ◌⊎◌, inl, inr, refl, sym, ap, subst, ◌∙◌}
+use Rattle.std.proofs.Common.{◌≡◌, ℕ, Bool, true, false, cond, List, [], ◌∷◌, ◌++◌, Option, Some, None, Result, Ok, ◌⊎◌, inl, inr, refl, sym, ap, subst, ◌∙◌}
 use Rattle.std.specs.Prelude.{◌+◌, ◌||◌, not, pos, slice_get}
 use Rattle.std.specs.List.{fold}
 use Rattle.std.specs.Option.{is_some}
@@ -9,21 +9,18 @@ use Rattle.m2_rule.specs.declared.rule.Rule.TheVariants as rule
 use Rattle.m2_tree.specs.declared.pos.Pos.{Pos}
 use Rattle.m2_tree.specs.declared.name.Ident.{Ident}
 use Rattle.m2_tree.specs.Names.{same_name}
-use Rattle.m2_tree.specs.declared.decl.Simple.{Simple}
 use Rattle.m2_tree.specs.declared.decl.Simple.TheVariants as simple
 use Rattle.typed_tree.specs.declared.types.TypeNo.{TypeNo}
 use Rattle.typed_tree.specs.declared.shape.Made.{Made}
-use Rattle.typed_tree.specs.declared.known_types.Types.{Types}
 use Rattle.typed_tree.specs.declared.meaning.Meaning.{Meaning}
 use Rattle.typed_tree.specs.Names.{find_name, enter_name}
 use Rattle.check_scope.specs.declared.known.Known.{Known}
 use Rattle.check_scope.specs.declared.known.Known.TheVariants as known
 use Rattle.check_scope.specs.declared.known.Origin.TheVariants.{Here}
 use Rattle.check_scope.specs.declared.meaningless.Meaningless.{Meaningless}
-use Rattle.check_scope.specs.declared.meaningless.Meaningless.TheVariants as meaningless
 use Rattle.check_scope.specs.declared.scope.OpenedRecord.{OpenedRecord}
 use Rattle.check_scope.specs.declared.scope.Scope.{Scope}
-use Rattle.check_scope.specs.Elaborated.{Gathers, report, beside, ◌▷◌}
+use Rattle.check_scope.specs.Elaborated.{Gathers, report, beside}
 use Rattle.check_scope.specs.Scopes.{State, is_free, with_known, declare_name, looked_up, means_as, means_or, or_around, known_outside, open_field}
 use Rattle.check_type_expr.specs.Made.{next_type as next_in, with_shape, too_many, reported_at, enumeration_constant, enumeration_scalar, enumerate_name, enumeration_of, enumeration}
 use Rattle.def_typing.specs.Operators.{◌!◌}

@@ -1,6 +1,6 @@
 -- Records are answered exactly.
-use Rattle.std.proofs.Common.{◌≡◌, ℕ, suc, Bool, true, false, cond, List, [], ◌∷◌, ◌++◌, length, Option, Some, None, Result, Ok, Err, ◌⊎◌, inl, inr, refl, sym, ap, subst, ◌∙◌, arith}
-use Rattle.std.specs.Prelude.{◌+◌, ◌*◌, not, map, nat_lt}
+use Rattle.std.proofs.Common.{◌≡◌, ℕ, suc, Bool, true, false, cond, List, [], ◌∷◌, ◌++◌, length, Some, Result, Ok, Err, ◌⊎◌, inl, inr, refl, sym, ap, subst, ◌∙◌, arith}
+use Rattle.std.specs.Prelude.{◌+◌, ◌*◌, map, nat_lt}
 use Rattle.std.specs.List.{fold}
 use Rattle.std.specs.Option.{is_some}
 use Rattle.std.proofs.lemmas.Bool.Decides.{nat_tests}
@@ -9,8 +9,8 @@ use Rattle.m2_rule.specs.declared.rule.Rule.TheVariants as rule
 use Rattle.m2_tree.specs.declared.pos.Pos.{Pos}
 use Rattle.m2_tree.specs.declared.name.Ident.{Ident}
 use Rattle.m2_tree.specs.Names.{same_name}
-use Rattle.m2_tree.specs.declared.decl.Field.{Field, Field-F, out-Field, map-Field, fold_out-Field}
-use Rattle.m2_tree.specs.declared.decl.TypeExpr.{TypeExpr, TypeExpr-F, out-TypeExpr}
+use Rattle.m2_tree.specs.declared.decl.Field.{Field, out-Field, map-Field, fold_out-Field}
+use Rattle.m2_tree.specs.declared.decl.TypeExpr.{TypeExpr, out-TypeExpr}
 use Rattle.m2_tree.specs.declared.decl.TypeExpr.TheOpen as layer
 use Rattle.typed_tree.specs.declared.types.TypeNo.{TypeNo}
 use Rattle.typed_tree.specs.declared.shape.Made.{Made}
@@ -19,12 +19,11 @@ use Rattle.typed_tree.specs.Names.{find_name, enter_name}
 use Rattle.typed_tree.specs.Known.{cells_at}
 use Rattle.check_scope.specs.declared.known.Known.{Known}
 use Rattle.check_scope.specs.declared.scope.Scope.{Scope}
-use Rattle.check_scope.specs.Elaborated.{Gathers, report, reported_where, beside, ◌▷◌}
-use Rattle.check_scope.specs.Scopes.{State}
+use Rattle.check_scope.specs.Elaborated.{Gathers, report, reported_where, beside}
 use Rattle.check_type_expr.specs.declared.field.Fields.{Fields}
 use Rattle.check_type_expr.specs.Cells.{plus}
 use Rattle.check_type_expr.specs.Fields.{no_fields, with_field, with_name}
-use Rattle.check_type_expr.specs.Made.{Makes, MakesFields, type_layer, field_layer, type_of, field_list, field_type, nothing_of, fields_named, then_fields, record_in, record_of, record_type, with_made}
+use Rattle.check_type_expr.specs.Made.{Makes, MakesFields, type_layer, field_layer, type_of, field_list, field_type, nothing_of, fields_named, then_fields, record_of, record_type, with_made}
 use Rattle.def_typing.specs.Operators.{◌!◌}
 use Rattle.def_typing.specs.Things.{Standing}
 use Rattle.def_typing.specs.Parts.{Named}
@@ -32,7 +31,7 @@ use Rattle.def_typing.specs.TypeExprs as rules
 use Rattle.def_typing.specs.TypeExprs.{Twice, all_listed, constants_in, constants_in_field, with_types, next_type, Added, nothing_added, type_added, both_added, Setting, behind, field_names, fields_of, record_made, IsTypeOf, AreFields, Adds, FieldsAdd, BrokenType, BrokenFields}
 use Rattle.law_typing.specs.Judging.{Judges, Answers, means, refuses}
 use Rattle.law_typing.specs.Exact.{Knows, Repeats, IsPlainType, plain_simple, plain_array, plain_record, plain_procedure, ArePlainFields, no_plain_field, one_plain_field}
-use Rattle.law_typing.proofs.Combining.{Lawful, Decided, holds, fails_it, decided_as, Checks, passes, stops, checks_as, more_checks, stopped, beside_checks, then_checked, exact, declined}
+use Rattle.law_typing.proofs.Combining.{Lawful, Decided, holds, fails_it, decided_as, Checks, passes, stops, checks_as, stopped, beside_checks, then_checked, exact, declined}
 use Rattle.law_typing.proofs.Entering.{entered_all}
 use Rattle.law_typing.proofs.Heading.{nil_right, append_assoc}
 use Rattle.law_typing.proofs.Beginning.{Adding}

@@ -2,7 +2,7 @@
 use Rattle.std.proofs.Common.{◌≡◌, ℕ, List, [], ◌∷◌, Option, Result, Ok, Err, inl, inr, refl, sym, ap, subst, ◌∙◌, arith, zero, suc, Bool, true, false, cond, Some, None, ◌++◌, ◌⊎◌}
 use Rattle.std.specs.Prelude.{nat_lt, int_lt, not, unsigned_abs, ◌-ℤ◌, ◌+◌, ◌*◌}
 use Rattle.std.proofs.lemmas.Bool.Decides.{nat_tests}
-use Rattle.check_type_expr.specs.Cells.{count_up, count_of, count_at, array_cells, is_index_scalar, is_index as is_index_of}
+use Rattle.check_type_expr.specs.Cells.{count_up, count_of, count_at, is_index_scalar, is_index as is_index_of}
 use Rattle.m2_rule.specs.declared.rule.Rule.TheVariants as rule
 use Rattle.check_scope.specs.Elaborated.{report, reported_where, ◌▷◌}
 use Rattle.def_typing.specs.Amounts.{IsWhole}
@@ -37,7 +37,7 @@ use Rattle.def_typing.specs.Subranges.{IsSubrange, BrokenSubrange}
 use Rattle.def_typing.specs.TypeExprs as rules
 use Rattle.def_typing.specs.TypeExprs.{constants_listed, constants_layer, constants_of_field, constants_in, constants_in_field, with_types, next_type, range_made, Added, nothing_added, type_added, both_added, array_added, Setting, behind, IsIndex, values_in, size_of, array_made, place_of, IsSimpleType, SimpleAdds, BrokenSimpleType, IsTypeOf, is_simple, Adds, BrokenType, in_simple}
 use Rattle.law_typing.specs.Judging.{Judges, Answers, means, refuses}
-use Rattle.law_typing.specs.Exact.{Knows, Repeats, IsPlainSimple, IsPlainType, plain_simple, plain_array, plain_procedure}
+use Rattle.law_typing.specs.Exact.{Knows, Repeats, IsPlainSimple}
 use Rattle.law_typing.proofs.Combining.{Lawful, Decided, holds, fails_it, decided_as, declined, exact, both_answer, then_answer, where_answers}
 use Rattle.m2_tree.specs.declared.decl.Parameter.{Parameter}
 use Rattle.typed_tree.specs.declared.shape.Signature.{Signature}
@@ -330,6 +330,7 @@ index_place (simple.Subrange (Some q) at low high) = place_same q.module q.name
 
 assoc_made : (own ms ns rest : List Made) → ((own ++ ms) ++ ns) ++ rest ≡ own ++ (ms ++ (ns ++ rest))
 assoc_made own ms ns rest = append_assoc (own ++ ms) ns rest ∙ append_assoc own ms (ns ++ rest)
+
 pub more_repeated : {g : Gathers} {j : Judges g} {A K : Type 0} {Is : A → K → Type 0} {M : K → Type 0} {B Q U : Breach → Type 0} {r : Result A g.Reported} → ((f : Breach) → Q f → U f) → Answers g j Q Is M B r → Answers g j U Is M B r
 more_repeated h (means a k i m u n) = means a k i m u n
 more_repeated h (refuses r c n) = refuses r (record { only = λ f m. elim (c.only f m) [ inl b ↦ inl b | inr o ↦ inr (h f o) ]; each = c.each }) n
