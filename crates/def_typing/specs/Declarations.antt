@@ -142,11 +142,20 @@ module _ (exports : ℕ → Ident → Standing) (w : Setting) where
         → Says nested (OfProcedure h) (type_added (procedure_made s))
         (Known (procedure nested (next_type w.types)))
 
-  -- what it adds, whether rules are broken in it or not, unless it is a procedure
-  pub data Brings : Declaration → Added → Type 0 where
-    constant_brings : {c : Constant} → Brings (OfConstant c) nothing_added
-    type_brings : {d : TypeDecl} {a : Added} → Adds exports w d.of a → Brings (OfType d) a
-    variables_bring : {v : Variables} {a : Added} → Adds exports w v.of a → Brings (OfVariables v) a
+  -- what it adds behind names that are there, whether rules are broken in it or not
+  pub data Brings (There : List ℕ → Type 0) : Declaration → Added → Type 0 where
+    constant_brings : {c : Constant} → Brings There (OfConstant c) nothing_added
+    type_brings : {d : TypeDecl} {a : Added} → Adds exports w d.of a → Brings There (OfType d) a
+    variables_bring : {v : Variables} {a : Added} → Adds exports w v.of a
+        → Brings There (OfVariables v) a
+    procedure_brings : {h : Heading} {s : Signature} → (There h.name.name → ⊥)
+        → IsHeading w.types w.names exports h s
+        → Brings There (OfProcedure h) (type_added (procedure_made s))
+    -- A procedure makes no type if its name is there, or if rules are broken in its heading.
+    name_there : {h : Heading} → There h.name.name → Brings There (OfProcedure h) nothing_added
+    no_heading : {h : Heading}
+        → ((s : Signature) → IsHeading w.types w.names exports h s → ⊥)
+        → Brings There (OfProcedure h) nothing_added
 
   pub data Misdeclares : Declaration → Breach → Type 0 where
     in_constant : {c : Constant} {f : Breach} → BrokenAsConstant w.types w.names exports c.value f
@@ -172,6 +181,9 @@ module _ (types : Types) (exports : ℕ → Ident → Standing) (outside : Ident
     there = λ n. is_among n (names_of d) || (taken n || is_there front n);
   }
 
+  abbrev pub There : List Declared → List ℕ → Type 0
+  There front n = (taken n ≡ true) ⊎ IsThere front n
+
   mutual
     -- what a name stands for behind these declarations
     pub data StandsFor : List Declared → Ident → Standing → Type 0 where
@@ -192,11 +204,12 @@ module _ (types : Types) (exports : ℕ → Ident → Standing) (outside : Ident
           → (taken name.name ≡ false → AnyDeclares block name.name → ⊥)
           → StandsFor front name (outside name)
 
-    -- what a declaration adds behind these, unless it is a procedure
+    -- what a declaration adds behind these
     pub data IsAdded : List Declared → Declared → Type 0 where
       is_added : {front : List Declared} {d : Declared} {names : Ident → Standing}
           → ((x : Ident) → StandsFor front x (names x))
-          → Brings exports (setting front d.what names) d.what d.adds → IsAdded front d
+          → Brings exports (setting front d.what names) (There front) d.what d.adds
+          → IsAdded front d
 
     -- what a declaration says of its own names behind these
     pub data Means : List Declared → Declared → Standing → Type 0 where
@@ -226,8 +239,11 @@ module _ (types : Types) (exports : ℕ → Ident → Standing) (outside : Ident
     of_outside : (taken name.name ≡ false → AnyDeclares block name.name → ⊥)
         → IsOwn outer front name (outer name)
 
-  abbrev pub There : List Declared → List ℕ → Type 0
-  There front n = (taken n ≡ true) ⊎ IsThere front n
+  -- Each declaration adds what the rules say.
+  pub data AllAdded : List Declared → Type 0 where
+    nothing_declared : AllAdded []
+    each_added : {front : List Declared} {d : Declared} → IsAdded front d → AllAdded front
+        → AllAdded (d ∷ front)
 
   -- the refusals in declarations
   pub data BrokenIn : List Declared → Breach → Type 0 where

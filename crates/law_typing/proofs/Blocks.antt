@@ -48,20 +48,21 @@ use Rattle.check_block.specs.declared.heading.Standing.{Standing as Place}
 use Rattle.check_block.specs.declared.heading.Standing.TheVariants as place
 use Rattle.check_block.specs.Headings.{standing_of, new_procedure, with_new, headed_as, with_heading}
 use Rattle.def_typing.specs.Operators.{◌!◌}
+use Rattle.def_typing.specs.Headings.{procedure_made}
 use Rattle.def_typing.specs.Things as things
 use Rattle.def_typing.specs.Things.{Standing, Undeclared, Unknown}
 use Rattle.def_typing.specs.Parts.{Among, here, later, Named}
 use Rattle.def_typing.specs.Declarations as rules
-use Rattle.def_typing.specs.Declarations.{Declaration, OfConstant, OfType, OfVariables, OfProcedure, declared_by, declarations_of, names_of, constants_of, names_in, formals_in, Declares, AnyDeclares, Declared as Resolved, in_order, IsThere, types_behind, procedure, is_variables, in_front_of, without, Brings, Misdeclares, BrokenIn}
-use Rattle.law_typing.specs.Judging.{Judges, Answers, Reports, reports_nothing, reports_broken}
+use Rattle.def_typing.specs.Declarations.{Declaration, OfConstant, OfType, OfVariables, OfProcedure, declared_by, declarations_of, names_of, constants_of, names_in, formals_in, Declares, AnyDeclares, Declared as Resolved, in_order, IsThere, types_behind, procedure, is_variables, in_front_of, without, Says, Brings, Misdeclares, AllAdded, BrokenIn}
+use Rattle.law_typing.specs.Judging.{Judges, Answers, means, refuses, Reports, reports_nothing, reports_broken}
 use Rattle.law_typing.specs.Exact.{standing, is_own_variable, TakenAs, Knows, Repeats, IsCallFree, IsPlainType, IsPlainLayer, ArePlainDecls, is_nested, IsBlockExact}
 use Rattle.law_typing.proofs.Combining.{Lawful, Decided, fails_it, Tells, silent, tells, tells_as, beside_tells, accounts_as, accounts_one}
 use Rattle.law_typing.proofs.Heading.{nil_right, append_assoc}
 use Rattle.law_typing.proofs.Entering.{named_left, entered_all}
-use Rattle.law_typing.proofs.Declaring.{All, Elsewhere, Saying, KnownAs, Same, KnowsBlock, knowing, repeating, standings, all_stand, home_same, owning, some_own}
+use Rattle.law_typing.proofs.Declaring.{All, Added as Added_there, Elsewhere, Saying, KnownAs, Same, KnowsBlock, knowing, repeating, standings, all_stand, home_same, owning, some_own}
 use Rattle.law_typing.proofs.Beginning.{Adding, adding_name, added, clash, Theres, free_now, widen, begin_one, begin_all, place_is, PlaceIs, place_free, place_taken, MidAs, is_done, is_other, KnowsMid, mid_begins, mid_as, finish_one, finish_end}
 use Rattle.law_typing.proofs.Sayings.{Set, Saids, said_constant, said_type, said_variables, said_procedure, Exactly, saying, saying_heading, says_tells, more_answers, constant_says, of_type_says, variables_say, procedure_says}
-use Rattle.def_typing.specs.TypeExprs.{Twice, constants_in, with_types, next_type, Added, nothing_added, Setting, IsTypeOf, Adds, BrokenType}
+use Rattle.def_typing.specs.TypeExprs.{Twice, constants_in, with_types, next_type, Added, nothing_added, type_added, Setting, IsTypeOf, Adds, BrokenType}
 use Rattle.law_typing.proofs.Enumerating.{MadeType, scope_with, Enters, Frees}
 use Rattle.law_typing.proofs.TypeReading.{no_types, no_made, Read as Read_type}
 use Rattle.law_typing.proofs.Recording.{type_read}
@@ -93,6 +94,9 @@ module _ (g : Gathers) (j : Judges g) (lawful : Lawful g j) (exports : ℕ → I
   abbrev SetAt : List Resolved → Declaration → (Ident → Standing) → Setting
   SetAt = Set g j lawful exports outside start taken nested block
 
+  abbrev Add : List Resolved → Resolved → Type 0
+  Add = Added_there g j exports outside start taken nested block
+
   abbrev Told : List Resolved → Result (Unit {0}) g.Reported → Type 0
   Told front r = Tells g j lawful Rep (BI front) r
 
@@ -101,7 +105,7 @@ module _ (g : Gathers) (j : Judges g) (lawful : Lawful g j) (exports : ℕ → I
 
   -- behind one declaration more
   abbrev Stepped : List Resolved → Resolved → List Declaration → State (Unit {0}) g.Reported → Type 0
-  Stepped front d ds st = KB (d ∷ front) ds (Th (d ∷ front)) st.0 × Told (d ∷ front) st.1
+  Stepped front d ds st = KB (d ∷ front) ds (Th (d ∷ front)) st.0 × Told (d ∷ front) st.1 × Add front d
 
   -- ---- what is reported
 
@@ -171,7 +175,7 @@ module _ (g : Gathers) (j : Judges g) (lawful : Lawful g j) (exports : ℕ → I
       frees_here : Frees s (SetAt front d.what names_here).there
       frees_here n = free_now g j lawful exports outside start taken nested block takes front (names_of d.what) n (k.within n) (λ h. k.in_block n (d.what, here, named_left (constants_of d.what) h)) (k.own n)
 
-      begun_mid : {t : Scope g.Reported} (own : List (List ℕ × Known g.Reported)) → t ≡ scope_with s d.adds.makes own → Enters d.adds.brings s.own own → ((n : List ℕ) → Decided (Named (constants_of d.what) n) (is_some (find_name n d.adds.brings))) → Brings exports (SetAt front d.what names_here) d.what d.adds → Mid (λ n. ⊥) t
+      begun_mid : {t : Scope g.Reported} (own : List (List ℕ × Known g.Reported)) → t ≡ scope_with s d.adds.makes own → Enters d.adds.brings s.own own → ((n : List ℕ) → Decided (Named (constants_of d.what) n) (is_some (find_name n d.adds.brings))) → Brings exports (SetAt front d.what names_here) (Th front) d.what d.adds → Mid (λ n. ⊥) t
       begun_mid own e enters constants b = subst (λ (t : Scope g.Reported). Mid (λ n. ⊥) t) (sym e) (mid_begins g j lawful exports outside start taken nested block takes front d ds Begun k.includes
           (λ n h. adding_name (names_of d.what) (Th front) n h.0 h.1 h.2) (λ n h. added (names_of d.what) (Th front) n h) (λ n h. k.in_block n (d.what, here, h)) (rules.is_added stand_here b) constants k
           (record { withs = k.same.withs; outer = k.same.outer; types = ap (λ (t : Types). with_types t d.adds.makes) k.same.types; tables = k.same.tables; level = k.same.level }) enters)
@@ -238,6 +242,7 @@ module _ (g : Gathers) (j : Judges g) (lawful : Lawful g j) (exports : ℕ → I
           ended front (plain_one (OfConstant c)) ds refl refl refl b.0 (mid_as g j lawful exports outside start taken nested block takes front (plain_one (OfConstant c)) ds (Adding (c.name ∷ []) (Th front)) (λ n z. only_name z) (λ n z. name_only z)
               (one_finished front (plain_one (OfConstant c)) ds refl refl refl b.0 c.name here (says_it front (plain_one (OfConstant c)) ds refl refl refl b.0 said_constant (λ v. meaning.Constant v) (λ v. refl) (λ v. refl) (λ v. refl) (λ v. refl) h) (λ n. ⊥) (begun_mid front (plain_one (OfConstant c)) ds refl refl refl b.0 (begin_name g _ c.name).0.own (no_made (begin_name g _ c.name).0) (λ n. refl) (λ n. fails_it (λ z. elim z.1 [ ])) rules.constant_brings))),
           told_one front (plain_one (OfConstant c)) ds refl refl refl refl t b.1 (telling front (plain_one (OfConstant c)) ds refl refl refl b.0 said_constant h),
+          rules.is_added (stand_here front (plain_one (OfConstant c)) ds refl refl refl b.0) rules.constant_brings,
         )
 
   -- ---- types
@@ -259,7 +264,7 @@ module _ (g : Gathers) (j : Judges g) (lawful : Lawful g j) (exports : ℕ → I
     abbrev names_in_type : Ident → Standing
     names_in_type = names_here front one ds refl refl refl k
 
-    type_brings : Brings exports (SetAt front (OfType d) names_in_type) (OfType d) read.adds
+    type_brings : Brings exports (SetAt front (OfType d) names_in_type) (Th front) (OfType d) read.adds
     type_brings = rules.type_brings (subst (λ (types : Types). Adds exports (at_types types names_in_type (SetAt front (OfType d) names_in_type).there) d.of read.adds) k.same.types
         (read.added names_in_type (SetAt front (OfType d) names_in_type).there (Read front one ds refl refl refl k (stand_here front one ds refl refl refl k)) (frees_here front one ds refl refl refl k)))
 
@@ -274,6 +279,7 @@ module _ (g : Gathers) (j : Judges g) (lawful : Lawful g j) (exports : ℕ → I
           (one_finished front one ds refl refl refl k d.name here (says_it front one ds refl refl refl k (said_type read.adds) (λ t. meaning.Type t (brings_with d.of)) (λ t. refl) (λ t. refl) (λ t. refl) (λ t. refl) h) (λ n. ⊥)
           (begun_mid front one ds refl refl refl k read.own read.is read.enters read.constants type_brings))),
       told_one front one ds refl refl refl refl t w (telling front one ds refl refl refl k (said_type read.adds) h),
+      rules.is_added (stand_here front one ds refl refl refl k) type_brings,
     )
 
   abbrev One : List Resolved → Declaration → List Declaration → State (Unit {0}) g.Reported → Type 0
@@ -293,7 +299,7 @@ module _ (g : Gathers) (j : Judges g) (lawful : Lawful g j) (exports : ℕ → I
     abbrev names_in_list : Ident → Standing
     names_in_list = names_here front many ds refl refl refl k
 
-    variables_bring : Brings exports (SetAt front (OfVariables v) names_in_list) (OfVariables v) read.adds
+    variables_bring : Brings exports (SetAt front (OfVariables v) names_in_list) (Th front) (OfVariables v) read.adds
     variables_bring = rules.variables_bring (subst (λ (types : Types). Adds exports (at_types types names_in_list (SetAt front (OfVariables v) names_in_list).there) v.of read.adds) k.same.types
         (read.added names_in_list (SetAt front (OfVariables v) names_in_list).there (Read front many ds refl refl refl k (stand_here front many ds refl refl refl k)) (frees_here front many ds refl refl refl k)))
 
@@ -343,10 +349,10 @@ module _ (g : Gathers) (j : Judges g) (lawful : Lawful g j) (exports : ℕ → I
     own_local t e l a = let z : t.level ≡ start.level = l in grind (arith, nat_tests, z)
 
     module_ended : {b : Result (Unit {0}) g.Reported} → Tells g j lawful (O front) (λ f. BI front f ⊎ Twice (Th front) v.names f) b → Stepped front many ds (fold (finished_variable q.1) q.0 v.names, beside g b (nothing_of q.1))
-    module_ended t = (variables_ended variable_made (λ t a. refl) (λ t a. refl) own_made, variables_told t)
+    module_ended t = (variables_ended variable_made (λ t a. refl) (λ t a. refl) own_made, variables_told t, rules.is_added (stand_here front many ds refl refl refl k) variables_bring)
 
     local_ended : {b : Result (Unit {0}) g.Reported} → Tells g j lawful (O front) (λ f. BI front f ⊎ Twice (Th front) v.names f) b → Stepped front many ds (fold (finished_local q.1) q.0 v.names, beside g b (nothing_of q.1))
-    local_ended t = (variables_ended local_made (λ t a. refl) (λ t a. refl) own_local, variables_told t)
+    local_ended t = (variables_ended local_made (λ t a. refl) (λ t a. refl) own_local, variables_told t, rules.is_added (stand_here front many ds refl refl refl k) variables_bring)
 
   begun_list : (front : List Resolved) (v : Variables) (ds : List Declaration) {s : Scope g.Reported} {r : Result (Unit {0}) g.Reported} → KB front (OfVariables v ∷ ds) (Th front) s → Told front r
       → KB front (OfVariables v ∷ ds) (Adding v.names (Th front)) (fold (begun_name g) (s, r) v.names).0 × Tells g j lawful (O front) (λ f. BI front f ⊎ Twice (Th front) v.names f) (fold (begun_name g) (s, r) v.names).1
@@ -557,26 +563,42 @@ module _ (g : Gathers) (j : Judges g) (lawful : Lawful g j) (exports : ℕ → I
 
     -- all of it
     abbrev DoneHeading : State (Unit {0}) g.Reported → Result (Unit {0}) g.Reported → Type 0
-    DoneHeading st r = (ms : List Made) × KB (heading_with ms ∷ front) ds (Th (heading_with ms ∷ front)) st.0 × Told (heading_with ms ∷ front) (beside g r (beside g (formals_told g h) st.1))
+    DoneHeading st r = (ms : List Made) × KB (heading_with ms ∷ front) ds (Th (heading_with ms ∷ front)) st.0 × Told (heading_with ms ∷ front) (beside g r (beside g (formals_told g h) st.1)) × Add front (heading_with ms)
+
+    -- the type that it makes
+    abbrev BringsHere : Added → Type 0
+    BringsHere a = Brings exports (SetAt front (OfProcedure h) names_now) (Th front) (OfProcedure h) a
+
+    heading_brings : {a : Added} {s : Standing} → (Th front h.name.name → ⊥) → Says exports (SetAt front (OfProcedure h) names_now) nested (OfProcedure h) a s → BringsHere a
+    heading_brings new (rules.a_procedure i) = rules.procedure_brings new i
+
+    made_brings : (m : Made) → (Th front h.name.name → ⊥) → Answers g j (O front) (λ a k. k ≡ said a) (λ k. Says exports (SetAt front (OfProcedure h) names_now) nested (OfProcedure h) k.0 k.1) (Misdeclares exports (SetAt front (OfProcedure h) names_now) (OfProcedure h)) (Ok m) → BringsHere (heading_adds (m ∷ []))
+    made_brings m new (means _ k i z u n) = subst BringsHere (ap (λ (x : Saids). x.0) i) (heading_brings new z)
+
+    none_brings : (r : g.Reported) → Answers g j (O front) (λ a k. k ≡ said a) (λ k. Says exports (SetAt front (OfProcedure h) names_now) nested (OfProcedure h) k.0 k.1) (Misdeclares exports (SetAt front (OfProcedure h) names_now) (OfProcedure h)) (Err r) → BringsHere nothing_added
+    none_brings r (refuses _ c n) = rules.no_heading (λ x i. n (type_added (procedure_made x), things.Known (procedure nested (next_type (T front)))) (rules.a_procedure i))
 
     new_by : (n : ℕ) (made : Result Made g.Reported) → ExactHeading made → (Th front h.name.name → ⊥) → {r : Result (Unit {0}) g.Reported} → Told front r → DoneHeading (with_new s h.name.name n made) r
-    new_by n (Ok m) x new t = (m ∷ [], made_ends n m x new (s.level == 0) refl level_same, told_new (m ∷ []) new t (formals_tell (O front) h) (telling_heading x))
-    new_by n (Err e) x new t = ([], none_ends n e x new (s.level == 0) refl level_same, told_new [] new t (formals_tell (O front) h) (telling_heading x))
+    new_by n (Ok m) x new t = (m ∷ [], made_ends n m x new (s.level == 0) refl level_same, told_new (m ∷ []) new t (formals_tell (O front) h) (telling_heading x), rules.is_added stand_now (made_brings m new (x names_now stand_now)))
+    new_by n (Err e) x new t = ([], none_ends n e x new (s.level == 0) refl level_same, told_new [] new t (formals_tell (O front) h) (telling_heading x), rules.is_added stand_now (none_brings e (x names_now stand_now)))
 
     headed_by : (n : ℕ) (made : Result Made g.Reported) → ExactHeading made → {pl : Place} → PlaceIs g j lawful exports outside start taken nested block takes front (Th front) k.includes h.name.name (k.in_block h.name.name (OfProcedure h, here, (h.name, here, refl))) pl → {r : Result (Unit {0}) g.Reported} → Told front r → DoneHeading (headed_as g s h n made pl) r
     headed_by n made x (place_free new) t = new_by n made x new t
-    headed_by n made x (place_taken th) t = ([], taken_ends th, told_taken th t (formals_tell (O front) h) (telling_heading x))
+    headed_by n made x (place_taken th) t = ([], taken_ends th, told_taken th t (formals_tell (O front) h) (telling_heading x), rules.is_added stand_now (rules.name_there th))
 
     declare_procedure : (n : ℕ) {r : Result (Unit {0}) g.Reported} → Told front r → (ms : List Made) × Stepped front (heading_with ms) ds ((with_heading g s n h).0, beside g r (with_heading g s n h).1)
-    declare_procedure n t = let q = headed_by n (heading_of g s h) procedure_exact (place_is g j lawful exports outside start taken nested block takes front (Th front) k.includes h.name.name (k.in_block h.name.name (OfProcedure h, here, (h.name, here, refl))) (λ d i t c. theres_apart t c) (k.own h.name.name)) t in (q.0, (q.1, q.2))
+    declare_procedure n t = let q = headed_by n (heading_of g s h) procedure_exact (place_is g j lawful exports outside start taken nested block takes front (Th front) k.includes h.name.name (k.in_block h.name.name (OfProcedure h, here, (h.name, here, refl))) (λ d i t c. theres_apart t c) (k.own h.name.name)) t in (q.0, (q.1, q.2, q.3))
 
   -- ---- one declaration after another
 
+  abbrev AddAll : List Resolved → Type 0
+  AddAll = AllAdded start.types exports outside taken nested block
+
   abbrev Ran : List Resolved → List Declaration → List Declaration → State (Unit {0}) g.Reported → Type 0
-  Ran front xs rest st = (fs : List Resolved) × (in_order fs ≡ in_order front ++ xs) × (KB fs rest (Th fs) st.0 × Told fs st.1)
+  Ran front xs rest st = (fs : List Resolved) × (in_order fs ≡ in_order front ++ xs) × (KB fs rest (Th fs) st.0 × Told fs st.1 × (AddAll front → AddAll fs))
 
   ran_nothing : {front : List Resolved} {rest : List Declaration} {s : Scope g.Reported} {r : Result (Unit {0}) g.Reported} → KB front rest (Th front) s → Told front r → Ran front [] rest (s, r)
-  ran_nothing {front = front} k t = (front, sym (nil_right (in_order front)), (k, t))
+  ran_nothing {front = front} k t = (front, sym (nil_right (in_order front)), (k, t, λ a. a))
 
   in_order_more : (front fs : List Resolved) (d : Resolved) (xs : List Declaration) {x : Declaration} → d.what ≡ x → in_order fs ≡ in_order (d ∷ front) ++ xs → in_order fs ≡ in_order front ++ x ∷ xs
   in_order_more front fs d xs e q = q ∙ append_assoc (in_order front) (d.what ∷ []) xs ∙ ap (λ (x : Declaration). in_order front ++ x ∷ xs) e
@@ -590,7 +612,7 @@ module _ (g : Gathers) (j : Judges g) (lawful : Lawful g j) (exports : ℕ → I
     section_ran [] h front rest k t = ran_nothing k t
     section_ran (x ∷ xs) h front rest {s = s} {r = r} k t = let q = h x here front (map of xs ++ rest) s r k t in
         let z = section_ran xs (λ y m. h y (later m)) (q.0 ∷ front) rest q.2.0 q.2.1 in
-        (z.0, in_order_more front z.0 q.0 (map of xs) q.1 z.1, z.2)
+        (z.0, in_order_more front z.0 q.0 (map of xs) q.1 z.1, (z.2.0, z.2.1, λ a. z.2.2 (rules.each_added q.2.2 a)))
 
   -- ---- all of a block
 
@@ -605,7 +627,7 @@ module _ (g : Gathers) (j : Judges g) (lawful : Lawful g j) (exports : ℕ → I
 
     procedure_ran : (h : Heading) (n : ℕ) (front : List Resolved) (rest : List Declaration) {s : Scope g.Reported} {r : Result (Unit {0}) g.Reported} → KB front (OfProcedure h ∷ rest) (Th front) s → Told front r
         → Ran front (OfProcedure h ∷ []) rest ((with_heading g s n h).0, beside g r (with_heading g s n h).1)
-    procedure_ran h n front rest k t = let q = declare_procedure level front h rest k n t in (record { what = OfProcedure h; adds = record { makes = q.0; brings = [] } } ∷ front, refl, q.1)
+    procedure_ran h n front rest k t = let q = declare_procedure level front h rest k n t in (record { what = OfProcedure h; adds = record { makes = q.0; brings = [] } } ∷ front, refl, (q.1.0, q.1.1, λ a. rules.each_added q.1.2 a))
 
     layer_ran : (y : Decl-F Decl Block) → IsPlainLayer y → (front : List Resolved) (rest : List Declaration) (n : ℕ) {s : Scope g.Reported} {r : Result (Unit {0}) g.Reported} → KB front (declared_by y ++ rest) (Th front) s → Told front r
         → Ran front (declared_by y) rest ((decl_layer g ends (s, r, n) y).0, (decl_layer g ends (s, r, n) y).1)
@@ -619,7 +641,7 @@ module _ (g : Gathers) (j : Judges g) (lawful : Lawful g j) (exports : ℕ → I
     all_ran [] i front n k t = ran_nothing k t
     all_ran (d ∷ ds) i front n k t = let q = layer_ran (out-Decl d) (i d here) front (declarations_of ds) n k t in
         let z = all_ran ds (λ c m. i c (later m)) q.0 _ q.2.0 q.2.1 in
-        (z.0, z.1 ∙ ap (λ (xs : List Declaration). xs ++ declarations_of ds) q.1 ∙ append_assoc (in_order front) (declared_by (out-Decl d)) (declarations_of ds), z.2)
+        (z.0, z.1 ∙ ap (λ (xs : List Declaration). xs ++ declarations_of ds) q.1 ∙ append_assoc (in_order front) (declared_by (out-Decl d)) (declarations_of ds), (z.2.0, z.2.1, λ a. z.2.2 (q.2.2 a)))
 
 module _ (g : Gathers) (j : Judges g) (lawful : Lawful g j) (exports : ℕ → Ident → Standing) (outside : Ident → Standing) (start : Scope g.Reported) (taken : List ℕ → Bool) (knows : Knows g j outside exports start) (no_withs : start.withs ≡ []) (takes : (n : List ℕ) → TakenAs g j (taken n) (find_name n start.own)) (ends : List ℕ) (first : ℕ) (ds : List Decl) (plain : ArePlainDecls ds) where
   abbrev block : List Declaration
@@ -641,6 +663,7 @@ module _ (g : Gathers) (j : Judges g) (lawful : Lawful g j) (exports : ℕ → I
     in_text = all_of_it.1;
     reported = reports all_of_it.2.1;
     types = all_of_it.2.0.same.types;
+    added = all_of_it.2.2 rules.nothing_declared;
     stand = (standings g j exports outside start taken (is_nested start) block knows no_withs all_of_it.2.0, all_stand g j exports outside start taken (is_nested start) block knows no_withs all_of_it.2.0);
     owned = λ outers own owns all. owning g j exports outside start taken (is_nested start) block knows no_withs all_of_it.2.0 outers owns own all;
     own = λ outers owns. some_own g j exports outside start taken (is_nested start) block knows no_withs all_of_it.2.0 outers owns;

@@ -89,7 +89,7 @@ use Rattle.typed_tree.specs.Names.{find_name}
 use Rattle.check_block.specs.Declarations.{declared_block}
 use Rattle.check_block.specs.Headings.{standing_from}
 use Rattle.check_block.specs.declared.heading.Standing.TheVariants as heading
-use Rattle.def_typing.specs.Declarations.{Declared as Resolved, declarations_of, in_order, types_behind, AllStand, IsOwn, BrokenIn}
+use Rattle.def_typing.specs.Declarations.{Declared as Resolved, declarations_of, in_order, types_behind, AllStand, IsOwn, AllAdded, BrokenIn}
 use Rattle.check_stmt.specs.Statements.{stmt}
 use Rattle.def_typing.specs.Statements.{arguments, labels_of, Spot, Obeys, Broken}
 use Rattle.check_expr.specs.Meanings.{meanings_of, head, part, value_of}
@@ -416,6 +416,8 @@ pub record IsBlockExact (g : Gathers) (j : Judges g) (exports : ℕ → Ident �
       (BrokenIn s.types exports outside taken (is_nested s) (declarations_of ds) whole)
       (declared_block g ends (s, Ok tt) first ds).1
   pub types : (declared_block g ends (s, Ok tt) first ds).0.types ≡ types_behind s.types whole
+  -- Each declaration adds the types and constants that the rules say.
+  pub added : AllAdded s.types exports outside taken (is_nested s) (declarations_of ds) whole
   -- Each name stands for something behind them.
   pub stand : (names : Ident → Standing)
       × AllStand s.types exports outside taken (is_nested s) (declarations_of ds) whole names
