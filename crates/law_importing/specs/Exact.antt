@@ -1,0 +1,87 @@
+-- What a scope knows behind imports, and what is proved of it.
+use Rattle.std.specs.Prelude.{◌≡◌, ◌⊎◌, ℕ, Bool, true, false, List, [], Option, Some, Result, Ok}
+use Rattle.std.specs.List.{fold}
+use Rattle.m2_tree.specs.declared.name.Ident.{Ident}
+use Rattle.m2_tree.specs.declared.decl.Import.{Import}
+use Rattle.typed_tree.specs.declared.meaning.Meaning.{Meaning}
+use Rattle.typed_tree.specs.declared.table.Table.{Table}
+use Rattle.typed_tree.specs.Names.{find_name}
+use Rattle.check_scope.specs.declared.known.Origin.{Origin}
+use Rattle.check_scope.specs.declared.known.Origin.TheVariants.{Here, Module, Export}
+use Rattle.check_scope.specs.declared.known.Known.{Known}
+use Rattle.check_scope.specs.declared.known.Known.TheVariants.{Declared}
+use Rattle.check_scope.specs.declared.scope.Scope.{Scope}
+use Rattle.check_scope.specs.Scopes.{State, is_free}
+use Rattle.check_scope.specs.Elaborated.{Gathers}
+use Rattle.check_definition.specs.Importing.{numbered_modules, with_import}
+use Rattle.def_typing.specs.Things.{Standing}
+use Rattle.def_typing.specs.Imports as rules
+use Rattle.def_typing.specs.Imports.{Imported, all_imported, Itself, Exported, Brings, BrokenIn}
+use Rattle.law_typing.specs.Judging.{Judges, Reports}
+use Rattle.law_typing.specs.Exact.{standing, Knows, TakenAs}
+
+abbrev pub origin : rules.Origin → Origin
+origin (Itself k) = Module k
+origin (Exported k) = Export k
+
+-- whether the module's own definition declares a name, by what is known of it before the imports
+pub data OwnAs {T : Type 0} : Bool → Option (Known T) → Type 0 where
+  is_own : {m : Result Meaning T} → OwnAs true (Some (Declared Here m))
+  -- Nothing is known of it, or it is declared behind the imports.
+  not_own : {k : Option (Known T)} → is_free k ≡ true → OwnAs false k
+
+-- what a name stands for behind imports
+pub data StandsFor (tables : List Table) (own : List ℕ → Bool) (front : List Imported)
+    (outside : Ident → Standing) (name : Ident) : Standing → Type 0 where
+  imported : (s : rules.Origin) (m : Meaning) → Brings tables own front name.name s m
+      → StandsFor tables own front outside name (standing m)
+  from_outside : ((s : rules.Origin) (m : Meaning) → Brings tables own front name.name s m → ⊥)
+      → StandsFor tables own front outside name (outside name)
+
+-- what is elaborated
+abbrev pub imported_all : (g : Gathers) → Scope g.Reported → List Import
+    → State (Unit {0}) g.Reported
+imported_all g s imports = fold (with_import g (numbered_modules s.tables).0) (s, Ok tt) imports
+
+-- what is known behind imports
+pub record AreImportsExact (g : Gathers) (j : Judges g) (own : List ℕ → Bool)
+    (s : Scope g.Reported) (imports : List Import) : Type 0 where
+  -- Exactly the broken rules are reported.
+  pub reported : Reports g j (λ f. ⊥) (BrokenIn s.tables own (all_imported imports))
+      (imported_all g s imports).1
+  -- The scope knows what is imported, and of all other names what it knew before.
+  pub brought : (n : List ℕ) (u : rules.Origin) (m : Meaning)
+      → Brings s.tables own (all_imported imports) n u m
+      → find_name n (imported_all g s imports).0.own ≡ Some (Declared (origin u) (Ok m))
+  pub other : (n : List ℕ)
+      → ((u : rules.Origin) (m : Meaning) → Brings s.tables own (all_imported imports) n u m → ⊥)
+      → find_name n (imported_all g s imports).0.own ≡ find_name n s.own
+  -- A name is imported or not.
+  pub decided : (n : List ℕ)
+      → ((u : rules.Origin) × (m : Meaning) × Brings s.tables own (all_imported imports) n u m)
+      ⊎ ((u : rules.Origin) (m : Meaning) → Brings s.tables own (all_imported imports) n u m → ⊥)
+  -- Nothing but names is new in the scope.
+  pub rest : (imported_all g s imports).0
+      ≡ record s { own = (imported_all g s imports).0.own }
+  -- Each name stands for something behind imports, and whatever names stand for, the scope knows it.
+  pub stand : (outside : Ident → Standing) → (names : Ident → Standing)
+      × ((name : Ident)
+      → StandsFor s.tables own (all_imported imports) outside name (names name))
+  pub known : (exports : ℕ → Ident → Standing) (outside names : Ident → Standing)
+      → Knows g j outside exports s → s.withs ≡ []
+      → ((name : Ident)
+      → StandsFor s.tables own (all_imported imports) outside name (names name))
+      → Knows g j names exports (imported_all g s imports).0
+  -- It is known which names are taken for the declarations that follow.
+  pub takes : (before : List ℕ → Bool)
+      → ((n : List ℕ) → TakenAs g j (before n) (find_name n s.own))
+      → (taken : List ℕ → Bool)
+      × ((n : List ℕ) → TakenAs g j (taken n) (find_name n (imported_all g s imports).0.own))
+
+-- Imports are elaborated exactly, in the scope of a module in which its own definition alone
+-- declares names.
+abbrev pub ImportsAreExact : (g : Gathers) → Judges g → Type 0
+ImportsAreExact g j =
+    (own : List ℕ → Bool) (s : Scope g.Reported)
+    → ((n : List ℕ) → OwnAs (own n) (find_name n s.own))
+    → (imports : List Import) → AreImportsExact g j own s imports

@@ -1,0 +1,21 @@
+//! Laws alone: the checker answers the imports of a module exactly as the rules of the language say.
+//!
+//! `def_typing` has the rules: what names stand for behind imports (`Brings`), and which rules are broken in them (`BrokenIn`).
+//! These laws hold of the elaboration in `check_definition`, of all that it gathers and of the least refusal alike. They speak
+//! of all imports, whatever the tables have.
+//!
+//! - `specs/Exact` says what a scope knows behind imports, and what is proved of it.
+//! - `proofs/Tables` finds modules and entries by their names, `proofs/Importing` goes from one import to the next, and
+//!   `proofs/Behind` says what is known behind all of them.
+#![tactic(auto)]
+
+ghost use Rattle.check_scope.specs.Elaborated.{every, least};
+ghost use Rattle.law_typing.specs.Judging.{all_of_them, the_least};
+ghost use Rattle.law_importing.specs.Exact.{ImportsAreExact};
+
+/// What is reported of the imports of a module are exactly the rules that are broken in them, and behind them the scope knows
+/// exactly what they bring. The module's own definition alone may have declared names before.
+pub fn import_laws()
+    ensures every_rule { ImportsAreExact every all_of_them }
+    ensures least_rule { ImportsAreExact least the_least }
+{}
