@@ -42,7 +42,7 @@ Entry = List ℕ × Meaning
 abbrev pub IsEntry : List ℕ → List Entry → Entry → ℕ → Type 0
 IsEntry name es e k = IsFoundAt (λ e. e.0 ≡ name) e es k
 
--- A table has the constants of an enumeration behind its type, and says how many names that makes.
+-- How many entries come with a name: the constants of an enumeration stand behind its type.
 abbrev pub names_with : Meaning → ℕ
 names_with (meaning.Type t n) = n
 names_with other = 1
@@ -54,7 +54,7 @@ pub data Origin : Type 0 where
   Itself : ℕ → Origin
   Exported : ℕ → Origin
 
--- the tables of the definitions that can be imported, and the names that the own definition has
+-- tables: of the definitions that can be imported. own: the names that the own definition declares
 module _ (tables : List Table) (own : List ℕ → Bool) where
   abbrev pub IsTable : Ident → Table → ℕ → Type 0
   IsTable name t k = IsFoundAt (λ t. t.name ≡ name.name) t tables k
@@ -81,7 +81,7 @@ module _ (tables : List Table) (own : List ℕ → Bool) where
       is_there : There n o m → More x n o m
       is_given : IsNew n → Gives x n o m → More x n o m
 
-    -- The name is there for another declaration.
+    -- whether a name is there for another declaration: one of the own definition, or an import
     pub data IsOther (n : List ℕ) (o : Origin) : Type 0 where
       of_own : own n ≡ true → IsOther n o
       of_import : {p : Origin} {m : Meaning} → There n p m → (p ≡ o → ⊥) → IsOther n o
@@ -114,6 +114,7 @@ module _ (tables : List Table) (own : List ℕ → Bool) where
   Brings [] n o m = ⊥
   Brings (x ∷ front) n o m = More (Brings front) x n o m
 
+  -- the refusals in these imports
   abbrev pub BrokenIn : List Imported → Breach → Type 0
   BrokenIn [] f = ⊥
   BrokenIn (x ∷ front) f = BrokenIn front f ⊎ Misimports (Brings front) x f

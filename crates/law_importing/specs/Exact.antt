@@ -3,6 +3,7 @@ use Rattle.std.specs.Prelude.{◌≡◌, ◌⊎◌, ℕ, Bool, true, false, List
 use Rattle.std.specs.List.{fold}
 use Rattle.m2_tree.specs.declared.name.Ident.{Ident}
 use Rattle.m2_tree.specs.declared.decl.Import.{Import}
+use Rattle.m2_tree.specs.declared.decl.Decl.{Decl}
 use Rattle.typed_tree.specs.declared.meaning.Meaning.{Meaning}
 use Rattle.typed_tree.specs.declared.table.Table.{Table}
 use Rattle.typed_tree.specs.Names.{find_name}
@@ -13,12 +14,14 @@ use Rattle.check_scope.specs.declared.known.Known.TheVariants.{Declared}
 use Rattle.check_scope.specs.declared.scope.Scope.{Scope}
 use Rattle.check_scope.specs.Scopes.{State, is_free}
 use Rattle.check_scope.specs.Elaborated.{Gathers}
+use Rattle.check_definition.specs.Predeclared.{first_scope}
 use Rattle.check_definition.specs.Importing.{numbered_modules, with_import}
 use Rattle.def_typing.specs.Things.{Standing}
+use Rattle.def_typing.specs.Parts.{Among}
 use Rattle.def_typing.specs.Imports as rules
 use Rattle.def_typing.specs.Imports.{Imported, all_imported, Itself, Exported, Brings, BrokenIn}
 use Rattle.law_typing.specs.Judging.{Judges, Reports}
-use Rattle.law_typing.specs.Exact.{standing, Knows, TakenAs}
+use Rattle.law_typing.specs.Exact.{standing, is_own_variable, Knows, KnowsOwn, TakenAs, ArePlainDecls, IsBlockExact}
 
 abbrev pub origin : rules.Origin → Origin
 origin (Itself k) = Module k
@@ -37,6 +40,20 @@ pub data StandsFor (tables : List Table) (own : List ℕ → Bool) (front : List
       → StandsFor tables own front outside name (standing m)
   from_outside : ((s : rules.Origin) (m : Meaning) → Brings tables own front name.name s m → ⊥)
       → StandsFor tables own front outside name (outside name)
+
+-- whether it is a variable that counts as the module's own: no imported one does
+pub data IsOwn (tables : List Table) (own : List ℕ → Bool) (front : List Imported)
+    (outer : Ident → Bool) (name : Ident) : Bool → Type 0 where
+  is_imported : (o : rules.Origin) (m : Meaning) → Brings tables own front name.name o m
+      → IsOwn tables own front outer name false
+  of_outside : ((o : rules.Origin) (m : Meaning) → Brings tables own front name.name o m → ⊥)
+      → IsOwn tables own front outer name (outer name)
+
+-- No table exports a variable of the module itself.
+abbrev pub AreForeign : {T : Type 0} → Scope T → Type 0
+AreForeign s =
+    (t : Table) → Among t s.tables → (e : rules.Entry) → Among e t.exported
+    → is_own_variable s e.1 ≡ false
 
 -- what is elaborated
 abbrev pub imported_all : (g : Gathers) → Scope g.Reported → List Import
@@ -72,11 +89,28 @@ pub record AreImportsExact (g : Gathers) (j : Judges g) (own : List ℕ → Bool
       → ((name : Ident)
       → StandsFor s.tables own (all_imported imports) outside name (names name))
       → Knows g j names exports (imported_all g s imports).0
+  -- It is known which variables count as own ones.
+  pub counts : (outer : Ident → Bool) → (mine : Ident → Bool)
+      × ((name : Ident)
+      → IsOwn s.tables own (all_imported imports) outer name (mine name))
+  pub counted : AreForeign s → (outer mine : Ident → Bool) → s.withs ≡ [] → KnowsOwn g j outer s
+      → ((name : Ident)
+      → IsOwn s.tables own (all_imported imports) outer name (mine name))
+      → KnowsOwn g j mine (imported_all g s imports).0
   -- It is known which names are taken for the declarations that follow.
   pub takes : (before : List ℕ → Bool)
       → ((n : List ℕ) → TakenAs g j (before n) (find_name n s.own))
       → (taken : List ℕ → Bool)
       × ((n : List ℕ) → TakenAs g j (taken n) (find_name n (imported_all g s imports).0.own))
+  -- So the block behind imports is elaborated exactly.
+  pub block : (exports : ℕ → Ident → Standing) (outside names : Ident → Standing)
+      → Knows g j outside exports s → s.withs ≡ []
+      → ((name : Ident)
+      → StandsFor s.tables own (all_imported imports) outside name (names name))
+      → (taken : List ℕ → Bool)
+      → ((n : List ℕ) → TakenAs g j (taken n) (find_name n (imported_all g s imports).0.own))
+      → (ends : List ℕ) (first : ℕ) (ds : List Decl) → ArePlainDecls ds
+      → IsBlockExact g j exports names (imported_all g s imports).0 taken ends first ds
 
 -- Imports are elaborated exactly, in the scope of a module in which its own definition alone
 -- declares names.
@@ -85,3 +119,9 @@ ImportsAreExact g j =
     (own : List ℕ → Bool) (s : Scope g.Reported)
     → ((n : List ℕ) → OwnAs (own n) (find_name n s.own))
     → (imports : List Import) → AreImportsExact g j own s imports
+
+-- The same where a program module begins.
+abbrev pub FirstImportsAreExact : (g : Gathers) → Judges g → Type 0
+FirstImportsAreExact g j =
+    (home : ℕ) (tables : List Table) (imports : List Import)
+    → AreImportsExact g j (λ n. false) (first_scope home tables) imports

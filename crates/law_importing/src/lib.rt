@@ -11,11 +11,18 @@
 
 ghost use Rattle.check_scope.specs.Elaborated.{every, least};
 ghost use Rattle.law_typing.specs.Judging.{all_of_them, the_least};
-ghost use Rattle.law_importing.specs.Exact.{ImportsAreExact};
+ghost use Rattle.law_importing.specs.Exact.{ImportsAreExact, FirstImportsAreExact};
 
 /// What is reported of the imports of a module are exactly the rules that are broken in them, and behind them the scope knows
-/// exactly what they bring. The module's own definition alone may have declared names before.
+/// exactly what they bring. The module's own definition alone may have declared names before. So what `block_laws` asks for is
+/// known where the declarations of the module begin.
 pub fn import_laws()
     ensures every_rule { ImportsAreExact every all_of_them }
     ensures least_rule { ImportsAreExact least the_least }
+{}
+
+/// The same where a program module begins: nothing is declared there but what every module knows.
+pub fn first_import_laws()
+    ensures every_rule { FirstImportsAreExact every all_of_them }
+    ensures least_rule { FirstImportsAreExact least the_least }
 {}
