@@ -26,10 +26,10 @@ use Rattle.law_typing.specs.Exact.{standing, is_own_variable, Sees, sees, Export
 use Rattle.law_typing.proofs.Blocks.{block_answers}
 use Rattle.def_typing.specs.Parts.{Among, here, later}
 use Rattle.law_typing.proofs.Combining.{Lawful, Tells, silent, tells}
-use Rattle.def_typing.specs.Imports.{Imported, all_imported, IsFoundAt, found_here, found_later, names_with, Origin, Itself, Exported, Gives, gives_module, gives_names, is_there, is_given, Brings, BrokenIn}
+use Rattle.def_typing.specs.Imports.{Imported, all_imported, IsFoundAt, found_here, found_later, names_with, Origin, Itself, Exported, Gives, gives_module, gives_names, is_there, is_given, Brings}
 use Rattle.law_importing.specs.Exact as exact
 use Rattle.law_importing.specs.Exact.{origin, OwnAs, not_own, StandsFor, AreForeign, imported_all, AreImportsExact}
-use Rattle.law_importing.proofs.Importing.{Tell, KnownBy, brought_in, as_before, Knowing, Behind, knows_imports}
+use Rattle.law_importing.proofs.Importing.{KnownBy, brought_in, as_before, Behind, knows_imports}
 
 same_meaning : {R : Type 0} {a b : Meaning} → ◌≡◌ {A = Result Meaning R} (Ok a) (Ok b) → a ≡ b
 same_meaning e = cc

@@ -1,5 +1,5 @@
 -- A scope knows what each import brings, and what is refused of it.
-use Rattle.std.proofs.Common.{◌≡◌, ℕ, suc, Bool, true, false, cond, List, [], ◌∷◌, map, Option, Some, None, Result, Ok, Err, ◌⊎◌, inl, inr, refl, sym, ap, subst, ◌∙◌, arith, ◌++◌, append_assoc}
+use Rattle.std.proofs.Common.{◌≡◌, ℕ, suc, Bool, true, false, cond, List, [], ◌∷◌, map, Option, Some, None, Result, Ok, ◌⊎◌, inl, inr, refl, sym, ap, subst, ◌∙◌, arith, ◌++◌, append_assoc}
 use Rattle.std.specs.Prelude.{take, drop, reverse, slice_get, not, ◌==◌}
 use Rattle.std.specs.List.{fold, flat_map}
 use Rattle.std.proofs.lemmas.Bool.Decides.{nat_tests}
@@ -12,13 +12,12 @@ use Rattle.m2_tree.specs.declared.decl.Import.{Import}
 use Rattle.typed_tree.specs.declared.meaning.Meaning.{Meaning}
 use Rattle.typed_tree.specs.declared.meaning.Meaning.TheVariants as meaning
 use Rattle.typed_tree.specs.declared.table.Table.{Table}
-use Rattle.typed_tree.specs.Names.{find_name, place_of}
+use Rattle.typed_tree.specs.Names.{find_name}
 use Rattle.m2_tree.specs.Names.{same_name}
 use Rattle.check_scope.specs.declared.known.Known.{Known}
 use Rattle.check_scope.specs.declared.known.Known.TheVariants as known
-use Rattle.check_scope.specs.declared.known.Origin.TheVariants.{Here}
 use Rattle.check_scope.specs.declared.scope.Scope.{Scope}
-use Rattle.check_scope.specs.Elaborated.{Gathers, report, reported_where, beside}
+use Rattle.check_scope.specs.Elaborated.{Gathers, report, reported_where}
 use Rattle.check_scope.specs.Scopes.{State, is_free, is_one_origin, is_again, with_known, import_name}
 use Rattle.check_definition.specs.Importing.{with_module_as, module_found, with_module_name, with_entry, brings_of, brings_in, reported_of_taken, unless_taken, from_place, with_from, exports_of, from_module, with_imports, with_import, numbered_modules}
 use Rattle.def_typing.specs.Operators.{◌!◌}
@@ -27,9 +26,9 @@ use Rattle.law_typing.proofs.Combining.{Lawful, Decided, holds, fails_it, decide
 use Rattle.law_typing.proofs.Entering.{entered_all, name_decided}
 use Rattle.law_typing.proofs.Beginning.{clash}
 use Rattle.std.proofs.lemmas.List.{reverse-append, append-nil}
-use Rattle.def_typing.specs.Imports.{Imported, OfModule, FromModule, OfName, parts_of, all_imported, IsFoundAt, found_here, found_later, IsEntry, names_with, Origin, Itself, Exported, IsTable, Gives, gives_module, gives_names, IsNew, More, is_there, is_given, IsOther, of_own, of_import, Misimports, no_module, not_from, not_exported, module_twice, name_twice, constant_twice, Brings, BrokenIn}
+use Rattle.def_typing.specs.Imports.{Imported, OfModule, FromModule, OfName, parts_of, all_imported, found_here, found_later, IsEntry, names_with, Origin, Itself, Exported, IsTable, Gives, gives_module, gives_names, IsNew, More, is_there, is_given, IsOther, of_own, of_import, Misimports, no_module, not_from, not_exported, module_twice, name_twice, constant_twice, Brings, BrokenIn}
 use Rattle.law_importing.specs.Exact.{origin, OwnAs, is_own, not_own}
-use Rattle.law_importing.proofs.Tables.{found_same, found_get, Found, is_found, is_nowhere, found_position, not_later, Named, module_found_by}
+use Rattle.law_importing.proofs.Tables.{found_same, found_get, Found, is_found, is_nowhere, found_position, Named, module_found_by}
 
 -- ---- where names come from
 
