@@ -1,3 +1,4 @@
 pub mod Tables
 pub mod Importing
 pub mod Behind
+pub mod Defining

@@ -4,6 +4,7 @@ use Rattle.std.specs.List.{fold}
 use Rattle.m2_tree.specs.declared.name.Ident.{Ident}
 use Rattle.m2_tree.specs.declared.decl.Import.{Import}
 use Rattle.m2_tree.specs.declared.decl.Decl.{Decl}
+use Rattle.m2_tree.specs.declared.decl.Def.{Def}
 use Rattle.typed_tree.specs.declared.meaning.Meaning.{Meaning}
 use Rattle.typed_tree.specs.declared.table.Table.{Table}
 use Rattle.typed_tree.specs.Names.{find_name}
@@ -15,6 +16,7 @@ use Rattle.check_scope.specs.declared.scope.Scope.{Scope}
 use Rattle.check_scope.specs.Scopes.{State, is_free}
 use Rattle.check_scope.specs.Elaborated.{Gathers}
 use Rattle.check_definition.specs.Predeclared.{first_scope}
+use Rattle.check_definition.specs.Marking.{marked_def}
 use Rattle.check_definition.specs.Importing.{numbered_modules, with_import}
 use Rattle.def_typing.specs.Things.{Standing}
 use Rattle.def_typing.specs.Parts.{Among}
@@ -125,3 +127,13 @@ abbrev pub FirstImportsAreExact : (g : Gathers) → Judges g → Type 0
 FirstImportsAreExact g j =
     (home : ℕ) (tables : List Table) (imports : List Import)
     → AreImportsExact g j (λ n. false) (first_scope home tables) imports
+
+-- The same in a definition, where the names that it declares are marked before its imports.
+abbrev pub DefinitionImportsAreExact : (g : Gathers) → Judges g → Type 0
+DefinitionImportsAreExact g j =
+    (home : ℕ) (tables : List Table) (defs : List Def) (imports : List Import)
+    → (fold marked_def (first_scope {T = g.Reported} home tables) defs
+    ≡ record (first_scope home tables) {
+      own = (fold marked_def (first_scope {T = g.Reported} home tables) defs).own;
+    })
+    × AreImportsExact g j (λ n. false) (fold marked_def (first_scope home tables) defs) imports

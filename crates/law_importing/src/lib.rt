@@ -5,17 +5,17 @@
 //! of all imports, whatever the tables have.
 //!
 //! - `specs/Exact` says what a scope knows behind imports, and what is proved of it.
-//! - `proofs/Tables` finds modules and entries by their names, `proofs/Importing` goes from one import to the next, and
-//!   `proofs/Behind` says what is known behind all of them.
+//! - `proofs/Tables` finds modules and entries by their names, `proofs/Importing` goes from one import to the next,
+//!   `proofs/Behind` says what is known behind all of them, and `proofs/Defining` what is known before those of a definition.
 #![tactic(auto)]
 
 ghost use Rattle.check_scope.specs.Elaborated.{every, least};
 ghost use Rattle.law_typing.specs.Judging.{all_of_them, the_least};
-ghost use Rattle.law_importing.specs.Exact.{ImportsAreExact, FirstImportsAreExact};
+ghost use Rattle.law_importing.specs.Exact.{ImportsAreExact, FirstImportsAreExact, DefinitionImportsAreExact};
 
 /// What is reported of the imports of a module are exactly the rules that are broken in them, and behind them the scope knows
-/// exactly what they bring. The module's own definition alone may have declared names before. So what `block_laws` asks for is
-/// known where the declarations of the module begin.
+/// exactly what they bring. The module's own definition alone may have declared names before. If it awaits no procedure, what
+/// `block_laws` asks for is known where the declarations of the module begin.
 pub fn import_laws()
     ensures every_rule { ImportsAreExact every all_of_them }
     ensures least_rule { ImportsAreExact least the_least }
@@ -25,4 +25,10 @@ pub fn import_laws()
 pub fn first_import_laws()
     ensures every_rule { FirstImportsAreExact every all_of_them }
     ensures least_rule { FirstImportsAreExact least the_least }
+{}
+
+/// The same in a definition: of the names that it declares it is known before its imports that they come later.
+pub fn definition_import_laws()
+    ensures every_rule { DefinitionImportsAreExact every all_of_them }
+    ensures least_rule { DefinitionImportsAreExact least the_least }
 {}
