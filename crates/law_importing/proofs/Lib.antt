@@ -2,3 +2,4 @@ pub mod Tables
 pub mod Importing
 pub mod Behind
 pub mod Defining
+pub mod Implementing

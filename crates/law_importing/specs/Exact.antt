@@ -1,13 +1,14 @@
 -- What a scope knows behind imports, and what is proved of it.
 use Rattle.std.specs.Prelude.{◌≡◌, ◌⊎◌, ℕ, Bool, true, false, List, [], Option, Some, Result, Ok}
 use Rattle.std.specs.List.{fold}
+use Rattle.std.specs.Option.{is_some}
 use Rattle.m2_tree.specs.declared.name.Ident.{Ident}
 use Rattle.m2_tree.specs.declared.decl.Import.{Import}
 use Rattle.m2_tree.specs.declared.decl.Decl.{Decl}
 use Rattle.m2_tree.specs.declared.decl.Def.{Def}
 use Rattle.typed_tree.specs.declared.meaning.Meaning.{Meaning}
 use Rattle.typed_tree.specs.declared.table.Table.{Table}
-use Rattle.typed_tree.specs.Names.{find_name}
+use Rattle.typed_tree.specs.Names.{find_name, enter_name}
 use Rattle.check_scope.specs.declared.known.Origin.{Origin}
 use Rattle.check_scope.specs.declared.known.Origin.TheVariants.{Here, Module, Export}
 use Rattle.check_scope.specs.declared.known.Known.{Known}
@@ -137,3 +138,15 @@ DefinitionImportsAreExact g j =
       own = (fold marked_def (first_scope {T = g.Reported} home tables) defs).own;
     })
     × AreImportsExact g j (λ n. false) (fold marked_def (first_scope home tables) defs) imports
+
+-- a name of the module's own definition
+abbrev pub with_declared : {T : Type 0} → List (List ℕ × Known T) → rules.Entry
+    → List (List ℕ × Known T)
+with_declared names e = enter_name e.0 (Declared Here (Ok e.1)) names
+
+-- The same in an implementation, where its own definition has declared what it exports.
+abbrev pub ImplementationImportsAreExact : (g : Gathers) → Judges g → Type 0
+ImplementationImportsAreExact g j =
+    (exported : List rules.Entry) (s : Scope g.Reported)
+    → s.own ≡ fold with_declared [] exported
+    → (imports : List Import) → AreImportsExact g j (λ n. is_some (find_name n exported)) s imports
