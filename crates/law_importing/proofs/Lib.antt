@@ -3,3 +3,4 @@ pub mod Importing
 pub mod Behind
 pub mod Defining
 pub mod Implementing
+pub mod Following

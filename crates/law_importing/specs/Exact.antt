@@ -19,12 +19,15 @@ use Rattle.check_scope.specs.Elaborated.{Gathers}
 use Rattle.check_definition.specs.Predeclared.{first_scope}
 use Rattle.check_definition.specs.Marking.{marked_def}
 use Rattle.check_definition.specs.Importing.{numbered_modules, with_import}
+use Rattle.check_block.specs.Declarations.{declared_block}
+use Rattle.def_typing.specs.Declarations as blocks
+use Rattle.def_typing.specs.Declarations.{Declared as Resolved, declarations_of, in_order}
 use Rattle.def_typing.specs.Things.{Standing}
 use Rattle.def_typing.specs.Parts.{Among}
 use Rattle.def_typing.specs.Imports as rules
 use Rattle.def_typing.specs.Imports.{Imported, all_imported, Itself, Exported, Brings, BrokenIn}
 use Rattle.law_typing.specs.Judging.{Judges, Reports}
-use Rattle.law_typing.specs.Exact.{standing, is_own_variable, Knows, KnowsOwn, TakenAs, ArePlainDecls, IsBlockExact}
+use Rattle.law_typing.specs.Exact.{standing, is_own_variable, Knows, KnowsOwn, Repeats, TakenAs, ArePlainDecls, is_nested, IsBlockExact}
 
 abbrev pub origin : rules.Origin → Origin
 origin (Itself k) = Module k
@@ -150,3 +153,23 @@ ImplementationImportsAreExact g j =
     (exported : List rules.Entry) (s : Scope g.Reported)
     → s.own ≡ fold with_declared [] exported
     → (imports : List Import) → AreImportsExact g j (λ n. is_some (find_name n exported)) s imports
+
+-- What is reported of imports and of the block behind them are exactly the broken rules of both.
+abbrev pub FollowingBlocksAreExact : (g : Gathers) → Judges g → Type 0
+FollowingBlocksAreExact g j =
+    (own : List ℕ → Bool) (s : Scope g.Reported)
+    → ((n : List ℕ) → OwnAs (own n) (find_name n s.own))
+    → (imports : List Import) (exports : ℕ → Ident → Standing) (outside names : Ident → Standing)
+    → Knows g j outside exports s → s.withs ≡ []
+    → ((name : Ident) → StandsFor s.tables own (all_imported imports) outside name (names name))
+    → (taken : List ℕ → Bool)
+    → ((n : List ℕ) → TakenAs g j (taken n) (find_name n (imported_all g s imports).0.own))
+    → (ends : List ℕ) (first : ℕ) (ds : List Decl) → ArePlainDecls ds
+    → (whole : List Resolved) × (in_order whole ≡ declarations_of ds)
+    × Reports g j (Repeats g j names (imported_all g s imports).0)
+    (λ f. BrokenIn s.tables own (all_imported imports) f
+    ⊎ blocks.BrokenIn (imported_all g s imports).0.types exports names taken
+    (is_nested (imported_all g s imports).0) (declarations_of ds) whole f)
+    (declared_block g ends (imported_all g s imports) first ds).1
+    × ((declared_block g ends (imported_all g s imports) first ds).0
+    ≡ (declared_block g ends ((imported_all g s imports).0, Ok tt) first ds).0)

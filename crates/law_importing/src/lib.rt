@@ -6,13 +6,13 @@
 //!
 //! - `specs/Exact` says what a scope knows behind imports, and what is proved of it.
 //! - `proofs/Tables` finds modules and entries by their names, `proofs/Importing` goes from one import to the next,
-//!   `proofs/Behind` says what is known behind all of them, `proofs/Defining` what is known before those of a definition, and
-//!   `proofs/Implementing` what is known before those of an implementation.
+//!   `proofs/Behind` says what is known behind all of them, `proofs/Defining` what is known before those of a definition, `proofs/Implementing`
+//!   what is known before those of an implementation, and `proofs/Following` what is reported of the block behind imports.
 #![tactic(auto)]
 
 ghost use Rattle.check_scope.specs.Elaborated.{every, least};
 ghost use Rattle.law_typing.specs.Judging.{all_of_them, the_least};
-ghost use Rattle.law_importing.specs.Exact.{ImportsAreExact, FirstImportsAreExact, DefinitionImportsAreExact, ImplementationImportsAreExact};
+ghost use Rattle.law_importing.specs.Exact.{ImportsAreExact, FirstImportsAreExact, DefinitionImportsAreExact, ImplementationImportsAreExact, FollowingBlocksAreExact};
 
 /// What is reported of the imports of a module are exactly the rules that are broken in them, and behind them the scope knows
 /// exactly what they bring. The module's own definition alone may have declared names before. If it awaits no procedure, what
@@ -38,4 +38,11 @@ pub fn definition_import_laws()
 pub fn implementation_import_laws()
     ensures every_rule { ImplementationImportsAreExact every all_of_them }
     ensures least_rule { ImplementationImportsAreExact least the_least }
+{}
+
+/// What is reported of imports and of the declarations behind them are exactly the rules that are broken in both, if the
+/// declarations are as `block_laws` has them.
+pub fn following_block_laws()
+    ensures every_rule { FollowingBlocksAreExact every all_of_them }
+    ensures least_rule { FollowingBlocksAreExact least the_least }
 {}
