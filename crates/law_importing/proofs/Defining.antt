@@ -30,7 +30,7 @@ use Rattle.law_importing.proofs.Behind.{imports_answer}
 abbrev AreFree : {T : Type 0} → Scope T → Type 0
 AreFree s = (n : List ℕ) → is_free (find_name n s.own) ≡ true
 
--- names alone are new, and only such as are declared later
+-- Names alone are new, and all of them are declared later.
 record Leaves {T : Type 0} (s t : Scope T) : Type 0 where
   rest : t ≡ record s { own = t.own }
   free : AreFree s → AreFree t

@@ -118,8 +118,7 @@ pub record AreImportsExact (g : Gathers) (j : Judges g) (own : List ℕ → Bool
       → (ends : List ℕ) (first : ℕ) (ds : List Decl) → ArePlainDecls ds
       → IsBlockExact g j exports names (imported_all g s imports).0 taken ends first ds
 
--- Imports are elaborated exactly, in the scope of a module in which its own definition alone
--- declares names.
+-- Imports are elaborated exactly, if the module's own definition alone has declared names before.
 abbrev pub ImportsAreExact : (g : Gathers) → Judges g → Type 0
 ImportsAreExact g j =
     (own : List ℕ → Bool) (s : Scope g.Reported)
